@@ -1,0 +1,52 @@
+-- The frames that a world uses: one for each tag that stands at a holder. A holder is a context's own cell, or a key of a group.
+use Rattle.std.specs.Prelude.{ℕ, ◌++◌, Bool, true, List, [], ◌∷◌, Option, None, Some, count_by, nat_lt}
+use Rattle.std.specs.List.{flat_map, range_with_len}
+use Rattle.std.specs.Ordering.{is_eq}
+use Rattle.std.specs.FinMap as fm
+use Rattle.std.specs.FinSet as set
+use Rattle.lwc_base.specs.declared.cell.Cell.{Cell}
+use Rattle.lwc_base.specs.declared.cell.Cell.TheVariants.{Own, Common}
+use Rattle.lwc_base.specs.declared.name.Tag.{Tag}
+use Rattle.lwc_base.specs.declared.page.PageValue.{PageValue}
+use Rattle.lwc_base.specs.declared.page.PageValue.TheVariants.{Zero, Data}
+use Rattle.lwc_base.specs.Names.{tag_cmp}
+use Rattle.lwc_base.specs.World.{World, Context, Group}
+
+-- the tag of a value, if there is a value and it is not zeros
+abbrev pub tag_of : Option PageValue → List Tag
+tag_of None = []
+tag_of (Some Zero) = []
+tag_of (Some (Data tag bytes)) = tag ∷ []
+
+-- the value of a page that is a holder: the cell is the context's own
+abbrev pub own_value : Option (Cell PageValue) → Option PageValue
+own_value None = None
+own_value (Some (Own value)) = Some value
+own_value (Some (Common g)) = None
+
+-- the tags of a context's own pages, one for each page that has one
+unfoldable pub tags_of_context : ℕ → Context → List Tag
+tags_of_context pages x = flat_map (λ p. tag_of (own_value (x.page p))) (range_with_len 0 pages)
+
+-- the tags of a group's pages, one for each page that has one
+unfoldable pub tags_of_group : ℕ → Group → List Tag
+tags_of_group pages x = flat_map (λ p. tag_of (x.page p)) (range_with_len 0 pages)
+
+-- the tags of all holders, one for each holder that has one
+unfoldable pub tags : World → List Tag
+tags w =
+    flat_map (λ e. tags_of_context w.pages e.1) (fm.entries w.contexts)
+    ++ flat_map (λ e. tags_of_group w.pages e.1) (fm.entries w.groups)
+
+-- how many different tags stand at holders
+unfoldable pub used : World → ℕ
+used w = set.len (set.from_list {R = tag_cmp} (tags w))
+
+-- whether a tag stands at more holders than one
+abbrev pub is_shared_tag : World → Tag → Bool
+is_shared_tag w tag = nat_lt 1 (count_by (λ t. is_eq (tag_cmp t tag)) (tags w))
+
+-- whether a store to the page parts it, so that it takes a tag of its own: it is zeros, or its tag stands at another holder too
+unfoldable pub is_parting : World → PageValue → Bool
+is_parting w Zero = true
+is_parting w (Data tag bytes) = is_shared_tag w tag

@@ -1,0 +1,11 @@
+pub mod Cells
+pub mod Faults
+pub mod Frames
+pub mod Mapping
+pub mod Memory
+pub mod Names
+pub mod Pages
+pub mod Registers
+pub mod Store
+pub mod Summaries
+pub mod World

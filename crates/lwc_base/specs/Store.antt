@@ -1,0 +1,72 @@
+-- The store of bytes: which pages part, when there are too few frames, and what stands there afterwards.
+use Rattle.std.specs.Prelude.{ℕ, ◌+◌, ◌-◌, ◌*◌, ◌&&◌, if◌then◌else◌, Bool, not, List, [], ◌∷◌, count_by, length, map, nat_le, nat_lt, slice_index, unwrap_or}
+use Rattle.std.specs.List.{range_with_len}
+use Rattle.lwc_base.specs.declared.name.Name.{Name}
+use Rattle.lwc_base.specs.declared.name.Tag.{Tag}
+use Rattle.lwc_base.specs.declared.page.PageValue.{PageValue}
+use Rattle.lwc_base.specs.declared.page.PageValue.TheVariants.{Zero, Data}
+use Rattle.lwc_base.specs.declared.page.TheConstants.{PAGE_BYTES}
+use Rattle.lwc_base.specs.Cells.{page_at, put_page}
+use Rattle.lwc_base.specs.Frames.{is_parting, used}
+use Rattle.lwc_base.specs.Memory.{touched, is_present}
+use Rattle.lwc_base.specs.Pages.{bytes_of}
+use Rattle.lwc_base.specs.World.{World, count_on}
+
+-- bytes that are stored: what they are, and the address of the first
+pub record Piece : Type 0 where
+  pub at : ℕ
+  pub bytes : List ℕ
+
+-- the byte at an address once a piece is there: the piece's where it covers the address, else the old one
+abbrev pub byte_after : Piece → ℕ → ℕ → ℕ
+byte_after piece at old = if nat_le piece.at at && nat_lt at (piece.at + length piece.bytes) then slice_index piece.bytes (at - piece.at) else old
+
+-- the bytes of a page once a piece is there
+unfoldable pub bytes_after : Piece → ℕ → List ℕ → List ℕ
+bytes_after piece p old = map (λ i. byte_after piece (p * PAGE_BYTES + i) (slice_index old i)) (range_with_len 0 (length old))
+
+-- what stands under a page of a context that is present
+abbrev pub value_at : World → Name → ℕ → PageValue
+value_at w c p = unwrap_or (page_at w c p) Zero
+
+-- new bytes of a page: under a new tag where it parts, and else under its own
+abbrev pub stored_value : Bool → Tag → PageValue → List ℕ → PageValue
+stored_value parting new Zero bytes = Data new bytes
+stored_value parting new (Data tag old) bytes = Data (if parting then new else tag) bytes
+
+-- the new value of each page that a piece touches; those that part take the job's tags from number k on, in the order of the pages
+abbrev pub plan : World → Name → ℕ → Piece → ℕ → List ℕ → List (ℕ × PageValue)
+plan w c job piece k [] = []
+plan w c job piece k (p ∷ ps) =
+    let value = value_at w c p in
+    let parting = is_parting w value in
+    (p, stored_value parting (record { job = job; k = k }) value (bytes_after piece p (bytes_of value)))
+    ∷ plan w c job piece (if parting then k + 1 else k) ps
+
+-- pages of a context get new values, one after another
+abbrev pub put_pages : World → Name → List (ℕ × PageValue) → World
+put_pages w c [] = w
+put_pages w c (v ∷ vs) = put_pages (put_page w c v.0 v.1) c vs
+
+-- how a store ends: a touched page is absent, there are too few frames, or it is done
+pub data Stored : Type 0 where
+  Absent : Stored
+  Full : Stored
+  Done : World → Stored
+
+-- how many of the pages that a piece touches part
+unfoldable pub parting_count : World → Name → Piece → ℕ
+parting_count w c piece = count_by (λ p. is_parting w (value_at w c p)) (touched piece.at (length piece.bytes))
+
+-- the world once a piece is there: each touched page has its new value, and the job has taken a tag for each that parted
+unfoldable pub after_store : World → Name → ℕ → Piece → World
+after_store w c job piece =
+    count_on (put_pages w c (plan w c job piece (w.next job).tags (touched piece.at (length piece.bytes)))) job
+    (λ n. record n { tags = n.tags + parting_count w c piece })
+
+-- the store of a piece in a context, for a job
+unfoldable pub store : World → Name → ℕ → Piece → Stored
+store w c job piece =
+    if not (is_present w c piece.at (length piece.bytes)) then Absent
+    else (if nat_lt w.frames (used w + parting_count w c piece) then Full
+    else Done (after_store w c job piece))

@@ -1,0 +1,103 @@
+-- The world: contexts and groups by name, what each job has counted, and how many frames and pages there are.
+use Rattle.std.specs.Prelude.{ℕ, ◌+◌, ◌==◌, if◌then◌else◌, Option, None, Some, unwrap_or}
+use Rattle.std.specs.FinMap as fm
+use Rattle.lwc_base.specs.declared.cell.Cell.{Cell}
+use Rattle.lwc_base.specs.declared.cell.Cell.TheVariants.{Own}
+use Rattle.lwc_base.specs.declared.descriptor.Descriptor.{Descriptor}
+use Rattle.lwc_base.specs.declared.descriptor.Descriptor.TheVariants.{Empty}
+use Rattle.lwc_base.specs.declared.name.Name.{Name}
+use Rattle.lwc_base.specs.declared.page.PageValue.{PageValue}
+use Rattle.lwc_base.specs.declared.regs.Regs.{Regs}
+use Rattle.lwc_base.specs.Names.{name_cmp}
+use Rattle.lwc_base.specs.Registers.{fresh_registers}
+
+-- a context: under each key its cell, where a page may be absent; the registers that it begins with; and those that it keeps for some threads
+pub record Context : Type 0 where
+  pub page : ℕ → Option (Cell PageValue)
+  pub slot : ℕ → Cell Descriptor
+  pub uid : Cell ℕ
+  pub entry : Regs
+  pub saved : ℕ → Option Regs
+
+-- a group: the values that contexts have in common, under the keys that it has
+pub record Group : Type 0 where
+  pub page : ℕ → Option PageValue
+  pub slot : ℕ → Option Descriptor
+  pub uid : Option ℕ
+
+-- how many contexts, groups and tags a job has named, each the number of the next one
+pub record Counters : Type 0 where
+  pub contexts : ℕ
+  pub groups : ℕ
+  pub tags : ℕ
+
+-- the world, with what each job has counted, and how many frames and pages there are
+pub record World : Type 0 where
+  pub contexts : fm.FinMap name_cmp Context
+  pub groups : fm.FinMap name_cmp Group
+  pub next : ℕ → Counters
+  pub frames : ℕ
+  pub pages : ℕ
+
+-- a context of its own as it is made: no page, empty slots, and the uid
+abbrev pub new_context : ℕ → Regs → Context
+new_context uid entry = record {
+  page = λ p. None;
+  slot = λ n. Own Empty;
+  uid = Own uid;
+  entry = entry;
+  saved = λ t. None;
+}
+
+-- a group with nothing in it
+abbrev pub new_group : Group
+new_group = record { page = λ p. None; slot = λ n. None; uid = None }
+
+-- the context of a name, and one with nothing in it where no context has that name
+unfoldable pub context : World → Name → Context
+context w c = unwrap_or (fm.get w.contexts c) (new_context 0 (fresh_registers 0))
+
+-- the group of a name, and one with nothing in it where no group has that name
+unfoldable pub group : World → Name → Group
+group w g = unwrap_or (fm.get w.groups g) new_group
+
+-- the world with a change of the context that was found, if one was
+abbrev pub changed_context : World → Name → (Context → Context) → Option Context → World
+changed_context w c change None = w
+changed_context w c change (Some x) = record w { contexts = fm.insert w.contexts c (change x) }
+
+-- one context is changed; a name that no context has changes nothing
+unfoldable pub change_context : World → Name → (Context → Context) → World
+change_context w c change = changed_context w c change (fm.get w.contexts c)
+
+-- the world with a change of the group that was found, if one was
+abbrev pub changed_group : World → Name → (Group → Group) → Option Group → World
+changed_group w g change None = w
+changed_group w g change (Some x) = record w { groups = fm.insert w.groups g (change x) }
+
+-- one group is changed; a name that no group has changes nothing
+unfoldable pub change_group : World → Name → (Group → Group) → World
+change_group w g change = changed_group w g change (fm.get w.groups g)
+
+-- what a job has counted is changed
+unfoldable pub count_on : World → ℕ → (Counters → Counters) → World
+count_on w job change = record w { next = λ j. if j == job then change (w.next j) else w.next j }
+
+-- a world of so many frames and pages, without contexts and groups, in which nothing has been counted
+unfoldable pub empty_world : ℕ → ℕ → World
+empty_world frames pages = record {
+  contexts = fm.empty;
+  groups = fm.empty;
+  next = λ j. record { contexts = 0; groups = 0; tags = 0 };
+  frames = frames;
+  pages = pages;
+}
+
+-- the next name of a job's contexts
+abbrev pub next_context : World → ℕ → Name
+next_context w job = record { job = job; k = (w.next job).contexts }
+
+-- the job makes its next context, which is this one
+unfoldable pub add_context : World → ℕ → Context → World
+add_context w job x =
+    count_on (record w { contexts = fm.insert w.contexts (next_context w job) x }) job (λ n. record n { contexts = n.contexts + 1 })

@@ -1,0 +1,22 @@
+//! Plain types of the kernel, and the definitions of its world: contexts, groups, what stands under a key, frames, and the store of bytes.
+#![tactic(auto)]
+
+pub mod cell;
+pub mod descriptor;
+pub mod fault;
+pub mod memory;
+pub mod name;
+pub mod page;
+pub mod range;
+pub mod regs;
+pub mod size;
+
+pub use cell::Cell;
+pub use descriptor::{Cap, Descriptor, SLOTS};
+pub use fault::{Fault, ThreadStatus};
+pub use memory::OutOfMemory;
+pub use name::{Name, Tag};
+pub use page::{PAGE_BYTES, PageBytes, PageValue};
+pub use range::Range;
+pub use regs::Regs;
+pub use size::{StoreFault, Summary, WorldSize};

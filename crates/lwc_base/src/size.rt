@@ -1,0 +1,27 @@
+/// How large a world is: its frames, the most contexts and groups that live at once, its jobs, and its pages.
+#[derive(Clone, Copy, Debug, PartialEq, Eq)]
+pub struct WorldSize {
+    pub frames: u32,
+    pub contexts: u32,
+    pub groups: u32,
+    pub jobs: u32,
+    pub pages: u32,
+}
+
+/// What a report says of a context: how many pages are present, how many slots are not empty, and the uid.
+#[derive(Clone, Copy, Debug, PartialEq, Eq)]
+pub struct Summary {
+    pub pages: u32,
+    pub slots: u32,
+    pub uid: u32,
+}
+
+/// Why bytes were not stored.
+#[derive(Clone, Copy, Debug, PartialEq, Eq)]
+pub enum StoreFault {
+    /// A touched page is absent.
+    BadAddress,
+    /// Too few frames are free.
+    NoFrame,
+    OutOfMemory,
+}
