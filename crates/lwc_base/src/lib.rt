@@ -2,21 +2,27 @@
 #![tactic(auto)]
 
 pub mod cell;
+pub mod channels;
 pub mod descriptor;
 pub mod fault;
 pub mod memory;
 pub mod name;
 pub mod page;
 pub mod range;
+pub mod refusal;
 pub mod regs;
+pub mod sequence;
 pub mod size;
 
 pub use cell::Cell;
+pub use channels::{FileImage, Requests};
 pub use descriptor::{Cap, Descriptor, SLOTS};
 pub use fault::{Fault, ThreadStatus};
 pub use memory::OutOfMemory;
 pub use name::{Name, Tag};
 pub use page::{PAGE_BYTES, PageBytes, PageValue};
 pub use range::Range;
+pub use refusal::Refusal;
 pub use regs::Regs;
+pub use sequence::Sequence;
 pub use size::{StoreFault, Summary, WorldSize};

@@ -1,0 +1,76 @@
+ghost use Rattle.std.specs.Prelude.{◌≡◌, ◌<◌, ◌↔◌, List, [], length, slice_get, IsTrue};
+
+use std::marker::Model;
+
+/// A list of values, seen as a list: it is made from a `Vec`, and gives it back.
+#[derive(Debug, Drop)]
+pub struct Sequence<T> {
+    items: Vec<T>,
+}
+
+impl<T> Model for Sequence<T> {
+    ghost Value = { List T };
+
+    ghost view = { λ sequence. sequence.items.items };
+}
+
+impl<T> Sequence<T> {
+    /// The list of a `Vec`. It takes no memory.
+    pub fn of(items: Vec<T>) -> Sequence<T>
+        ensures { result ≡ items.items }
+    {
+        Sequence { items }
+    }
+
+    /// The `Vec` of a list. It takes no memory.
+    pub fn into_vec(self) -> Vec<T>
+        ensures { result.items ≡ self }
+    {
+        self.items
+    }
+
+    /// How many values there are.
+    pub fn len(&self) -> usize
+        ensures { result ≡ length self.now }
+    {
+        self.items.len()
+    }
+
+    /// Whether there are none.
+    pub fn is_empty(&self) -> bool
+        ensures { IsTrue result ↔ (self.now ≡ []) }
+    {
+        self.items.is_empty()
+    }
+
+    /// The values, in order.
+    pub fn as_slice(&self) -> &[T]
+        ensures { result.now ≡ self.now }
+    {
+        self.items.as_slice()
+    }
+
+    /// The value at a place.
+    pub fn get(&self, i: usize) -> &T
+        requires { i < length self.now }
+        ensures { slice_get self.now i ≡ Some result.now }
+    {
+        &self.items[i]
+    }
+}
+
+#[cfg(test)]
+mod tests {
+    use super::*;
+    use std::test::Fail;
+
+    #[test]
+    fn a_vec_goes_in_and_comes_out(rt: HostRuntime) -> Result<(), Fail> {
+        let sequence = Sequence::of(vec![in rt.alloc(); 5u8, 6, 7]?);
+        assert_eq!(rt; sequence.len(), 3);
+        assert!(rt; !sequence.is_empty());
+        assert_eq!(rt; sequence.as_slice(), [5, 6, 7].as_slice());
+        assert_eq!(rt; sequence.into_vec().as_slice(), [5, 6, 7].as_slice());
+        Ok(())
+    }
+}
