@@ -1,0 +1,25 @@
+-- The conditions under which a world is called.
+use Rattle.std.specs.Prelude.{◌≡◌, ◌<◌, ◌≤◌, ◌^◌, ℕ, true}
+use Rattle.std.specs.FinMap as fm
+use Rattle.lwc_base.specs.declared.name.Name.{Name}
+use Rattle.lwc_base.specs.declared.size.WorldSize.{WorldSize}
+use Rattle.lwc_base.specs.World.{World}
+
+-- the sizes that a world may be opened with
+pub record IsSize (size : WorldSize) : Type 0 where
+  pub frames : (1 ≤ size.frames) × (size.frames ≤ 65536)
+  pub contexts : (1 ≤ size.contexts) × (size.contexts ≤ 529)
+  pub groups : (1 ≤ size.groups) × (size.groups ≤ 1024)
+  pub jobs : (1 ≤ size.jobs) × (size.jobs ≤ 1025)
+  pub pages : (1 ≤ size.pages) × (size.pages ≤ 16384)
+
+-- a context of that name is there
+abbrev pub IsLive : World → Name → Type 0
+IsLive w c = fm.contains_key w.contexts c ≡ true
+
+-- the job is one of the world's, and has named fewer contexts, groups and tags than 2^31 each
+pub record MayName (size : WorldSize) (w : World) (job : ℕ) : Type 0 where
+  pub known : job < size.jobs
+  pub contexts : (w.next job).contexts < 2 ^ 31
+  pub groups : (w.next job).groups < 2 ^ 31
+  pub tags : (w.next job).tags < 2 ^ 31

@@ -1,0 +1,11 @@
+pub use Rattle.lwc_base.specs.Cells
+pub use Rattle.lwc_base.specs.Frames
+pub use Rattle.lwc_base.specs.Mapping
+pub use Rattle.lwc_base.specs.Memory
+pub use Rattle.lwc_base.specs.Names
+pub use Rattle.lwc_base.specs.Pages
+pub use Rattle.lwc_base.specs.Registers
+pub use Rattle.lwc_base.specs.Store
+pub use Rattle.lwc_base.specs.Summaries
+pub use Rattle.lwc_base.specs.World
+pub mod Calls

@@ -1,0 +1,7 @@
+//! The face of a world: the calls that every representation of contexts and groups meets, each by the definitions of what it does.
+#![tactic(auto)]
+
+pub mod world;
+
+pub use lwc_base::{StoreFault, Summary, WorldSize};
+pub use world::World;

@@ -1,0 +1,115 @@
+ghost use Rattle.std.specs.Prelude.{◌≡◌, ◌<◌, ◌≤◌, ◌*◌, ◌+◌, ◌↔◌, ℕ, length, is_some, slice_get, IfOk, IfSome, IfNone, OnOk, OnErr};
+ghost use Rattle.std.specs.FinMap as fm;
+ghost use Rattle.lwc_base.specs.World as worlds;
+ghost use Rattle.lwc_base.specs.World.{empty_world, add_context, new_context, next_context};
+ghost use Rattle.lwc_base.specs.Cells.{slot_at, put_slot};
+ghost use Rattle.lwc_base.specs.Frames.{used};
+ghost use Rattle.lwc_base.specs.Mapping.{map_pages};
+ghost use Rattle.lwc_base.specs.Memory.{load};
+ghost use Rattle.lwc_base.specs.Store.{store};
+ghost use Rattle.lwc_base.specs.Store as stores;
+ghost use Rattle.lwc_base.specs.Summaries.{summary_of};
+ghost use Rattle.lwc_base.specs.declared.descriptor.Descriptor.{Descriptor};
+ghost use Rattle.lwc_base.specs.declared.descriptor.TheConstants.{SLOTS};
+ghost use Rattle.lwc_base.specs.declared.page.TheConstants.{PAGE_BYTES};
+ghost use Rattle.lwc_base.specs.declared.size.WorldSize.{WorldSize};
+ghost use Rattle.world_face.specs.Calls.{IsSize, IsLive, MayName};
+
+use lwc_base::{Descriptor, Name, OutOfMemory, Range, Regs, StoreFault, Summary, WorldSize};
+use std::alloc::Global;
+
+/// A world of contexts and groups. What it stands for is `seen`, whichever way it is kept; each call does to
+/// `seen` what its definition says, and leaves all else of it. After an error nothing has changed.
+pub trait World: Sized + Drop + Send + Sync {
+    /// The contexts, the groups, what each job has counted, and the frames and pages.
+    ghost seen: { Self → worlds.World };
+
+    /// The size that the world was opened with, which no call changes.
+    ghost size: { Self → WorldSize };
+
+    /// A world of that size in which nothing is live. The one error is want of memory.
+    fn open(alloc: Global, world_size: &WorldSize) -> Result<Self, OutOfMemory>
+        requires { IsSize world_size.now }
+        ensures opened { IfOk result (λ w. seen w ≡ empty_world world_size.now.frames world_size.now.pages) }
+        ensures sized { IfOk result (λ w. size w ≡ world_size.now) };
+
+    /// How many pages each context may have.
+    fn pages(&self) -> u32
+        ensures { result ≡ (seen self.now).pages };
+
+    /// Makes the first context, for job 0: no page, empty slots, this uid, and the registers that it begins with.
+    /// The one error is want of memory.
+    fn first(&mut self, uid: u32, entry: &Regs) -> Result<Name, OutOfMemory>
+        requires alone { (seen self.old).contexts ≡ fm.empty }
+        requires may { MayName (size self.old) (seen self.old) 0 }
+        ensures name { IfOk result (λ c. c ≡ next_context (seen self.old) 0) }
+        ensures made { OnOk result (seen self.new ≡ add_context (seen self.old) 0 (new_context uid entry.now)) }
+        ensures err { OnErr result (seen self.new ≡ seen self.old) }
+        ensures sized { size self.new ≡ size self.old };
+
+    /// Makes each page of the range a page of zeros of the context's own, whatever it was. The one error is want
+    /// of memory.
+    fn map(&mut self, c: Name, range: Range) -> Result<(), OutOfMemory>
+        requires live { IsLive (seen self.old) c }
+        requires some { range.from < range.to }
+        requires within { range.to ≤ (seen self.old).pages }
+        ensures mapped { OnOk result (seen self.new ≡ map_pages (seen self.old) c range.from range.to) }
+        ensures err { OnErr result (seen self.new ≡ seen self.old) }
+        ensures sized { size self.new ≡ size self.old };
+
+    /// Reads bytes of the context's memory from the address `at` on, as many as `out` has room for. `false` says
+    /// that a page of them is absent, and `out` is then as it was.
+    fn bytes(&self, c: Name, at: u32, out: &mut [u8]) -> bool
+        requires live { IsLive (seen self.now) c }
+        requires within { at + length out.old ≤ (seen self.now).pages * PAGE_BYTES }
+        ensures present { result ≡ is_some (load (seen self.now) c at (length out.old)) }
+        ensures found { IfSome (load (seen self.now) c at (length out.old)) (λ bytes. out.new ≡ bytes) }
+        ensures absent { IfNone (load (seen self.now) c at (length out.old)) (out.new ≡ out.old) };
+
+    /// Stores bytes in the context's memory from the address `at` on, for a job.
+    ///
+    /// # Errors
+    ///
+    /// `BadAddress` where a touched page is absent; else `NoFrame` where the frames in use and the pages that part
+    /// are more than the frames; or want of memory.
+    fn store(&mut self, c: Name, at: u32, piece: &[u8], job: u32) -> Result<(), StoreFault>
+        requires live { IsLive (seen self.old) c }
+        requires within { at + length piece.now ≤ (seen self.old).pages * PAGE_BYTES }
+        requires short { length piece.now ≤ PAGE_BYTES }
+        requires may { MayName (size self.old) (seen self.old) job }
+        ensures done { OnOk result (store (seen self.old) c job (record { at = at; bytes = piece.now }) ≡ stores.Done (seen self.new)) }
+        ensures bad_address { (result ≡ Err StoreFault.BadAddress) ↔ (store (seen self.old) c job (record { at = at; bytes = piece.now }) ≡ stores.Absent) }
+        ensures no_frame { (result ≡ Err StoreFault.NoFrame) ↔ (store (seen self.old) c job (record { at = at; bytes = piece.now }) ≡ stores.Full) }
+        ensures err { OnErr result (seen self.new ≡ seen self.old) }
+        ensures sized { size self.new ≡ size self.old };
+
+    /// What stands under a slot of the context.
+    fn slot(&self, c: Name, n: u8) -> Descriptor
+        requires live { IsLive (seen self.now) c }
+        requires within { n < SLOTS }
+        ensures value { result ≡ slot_at (seen self.now) c n };
+
+    /// Puts another value under a slot of the context.
+    fn set_slot(&mut self, c: Name, n: u8, value: Descriptor)
+        requires live { IsLive (seen self.old) c }
+        requires within { n < SLOTS }
+        ensures put { seen self.new ≡ put_slot (seen self.old) c n value }
+        ensures sized { size self.new ≡ size self.old };
+
+    /// The name of the i-th live context, in the order of names; `None` where there are no more than i.
+    fn nth_context(&self, i: u32) -> Option<Name>
+        ensures { result ≡ slice_get (fm.keys (seen self.now).contexts) i };
+
+    /// What a report says of the context.
+    fn summary(&self, c: Name) -> Summary
+        requires live { IsLive (seen self.now) c }
+        ensures value { result ≡ summary_of (seen self.now) c };
+
+    /// How many groups live.
+    fn group_count(&self) -> u32
+        ensures { result ≡ fm.len (seen self.now).groups };
+
+    /// How many frames are in use, counted anew over the whole world.
+    fn used(&self) -> u32
+        ensures { result ≡ used (seen self.now) };
+}
