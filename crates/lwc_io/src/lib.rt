@@ -3,10 +3,10 @@
 
 mod memory;
 mod outside;
-//mod real;
+mod real;
 mod sure;
 
-pub use memory::{MemoryFiles, NamedFile};
+pub use memory::{MemoryFiles, MemorySink, NamedFile};
 pub use outside::{Failed, Files, Gate, OpenGate, Sink};
-//pub use real::{RealFiles, RealSink};
+pub use real::{RealFiles, RealSink};
 pub use sure::{SureFiles, SureSink};

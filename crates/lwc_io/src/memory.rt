@@ -193,3 +193,123 @@ impl Files for MemoryFiles {
         }
     }
 }
+
+/// A sink in memory, which tells all its bytes. A write fails at the calls that are to fail, and where
+/// there is no memory for the bytes.
+#[derive(Drop)]
+pub struct MemorySink {
+    bytes: Vec<u8>,
+    most: usize,
+    faults: u64,
+    calls: u64,
+    failing: Vec<u64>,
+}
+
+impl Model for MemorySink {
+    ghost use Rattle.std.specs.Prelude.{vec_capacity};
+    ghost use Rattle.lwc_io.specs.Memory.{HeldBytes};
+
+    ghost Value = { HeldBytes };
+
+    ghost view = { λ s. record { bytes = s.bytes.items; room = vec_capacity s.bytes; most = s.most; faults = s.faults; calls = s.calls; failing = s.failing.items } };
+}
+
+impl MemorySink {
+    /// An empty sink that takes at most so many bytes a call. Of the writes, numbered from 0 on, those
+    /// in `failing` are to fail.
+    pub fn new(alloc: Global, most: usize, failing: Vec<u64>) -> Self
+        ensures { result ≡ record { bytes = []; room = result.room; most = most; faults = 0; calls = 0;
+            failing = failing.items } }
+    {
+        MemorySink {
+            bytes: Vec::new(alloc),
+            most,
+            faults: 0,
+            calls: 0,
+            failing,
+        }
+    }
+
+    /// Makes room for so many bytes more, so that no write wants memory before they are taken.
+    ///
+    /// # Errors
+    ///
+    /// `AllocError` if there is no memory for them. The sink is as before.
+    pub fn reserve(&mut self, additional: usize) -> Result<(), AllocError>
+        ensures ok { OnOk result (length self.new.bytes + additional ≤ self.new.room) }
+        ensures same { self.new ≡ record self.old { room = self.new.room } }
+    {
+        self.bytes.reserve(additional)
+    }
+
+    /// All the bytes that it took, in order.
+    pub fn bytes(&self) -> &[u8]
+        ensures { result.now ≡ self.now.bytes }
+    {
+        self.bytes.as_slice()
+    }
+
+    /// How often a write failed.
+    pub fn fault_count(&self) -> u64
+        ensures { result ≡ self.now.faults }
+    {
+        self.faults
+    }
+
+    /// Whether a write of that piece fails, want of memory aside.
+    fn is_to_fail(&self, piece: &[u8]) -> bool
+        ensures { result ≡ write_fails self.now piece.now }
+    {
+        self.failing.contains(&self.calls) || self.most == 0 && !piece.is_empty()
+    }
+
+    /// Counts a call that failed.
+    fn count_fault(&mut self)
+        ensures counted { self.new ≡ wrote_in_vain self.old }
+        ensures never_falls { self.old.faults ≤ self.new.faults }
+    {
+        self.calls = self.calls.saturating_add(1);
+        self.faults = self.faults.saturating_add(1);
+    }
+
+    /// Counts a call and keeps the piece, or neither.
+    fn keep(&mut self, piece: &[u8]) -> Result<(), AllocError>
+        ensures ok { OnOk result (self.new ≡ record (wrote self.old piece.now) { room = self.new.room }) }
+        ensures err { OnErr result (self.new ≡ record self.old { room = self.new.room }) }
+        ensures full { OnErr result (self.old.room < length self.old.bytes + length piece.now) }
+    {
+        self.bytes.extend_from_slice(piece)?;
+        self.calls = self.calls.saturating_add(1);
+        Ok(())
+    }
+}
+
+impl Sink for MemorySink {
+    ghost taken = { λ held. Some held.bytes };
+
+    ghost faults = { λ held. held.faults };
+
+    /// Takes the whole piece, or as much of it as it takes a call.
+    ///
+    /// # Errors
+    ///
+    /// `Failed` if the call is to fail, if the sink takes no bytes and the piece is not empty, and if
+    /// there is no memory for the bytes. It raises the count of faults by one.
+    fn write(&mut self, piece: &[u8]) -> Result<usize, Failed>
+        ensures fails { IsTrue (write_fails self.old piece.now) → IsErr result }
+        ensures only { OnErr result (IsTrue (write_fails self.old piece.now)
+            ⊎ (self.old.room < length self.old.bytes + min self.old.most (length piece.now))) }
+        ensures count { IfOk result (λ n. n ≡ min self.old.most (length piece.now)) }
+        ensures ok { IfOk result (λ n.
+            self.new ≡ record (wrote self.old (take n piece.now)) { room = self.new.room }) }
+        ensures err { OnErr result (self.new ≡ record (wrote_in_vain self.old) { room = self.new.room }) }
+        ensures never_falls { self.old.faults ≤ self.new.faults }
+    {
+        let count = self.most.min(piece.len());
+        if self.is_to_fail(piece) || self.keep(&piece[..count]).is_err() {
+            self.count_fault();
+            return Err(Failed);
+        }
+        Ok(count)
+    }
+}
