@@ -39,7 +39,8 @@ fetched held = record held { calls = one_more held.calls }
 abbrev pub fetched_in_vain : HeldFiles → List ℕ → HeldFiles
 fetched_in_vain held name = record held {
   faults = slice_set held.faults (place_of held.files name) (one_more (faults_of held name));
-  calls = one_more held.calls }
+  calls = one_more held.calls;
+}
 
 -- a sink in memory: its bytes, how many it can keep with no more memory, the most that it takes a call, its faults, the calls so far, and the calls that are to fail
 pub record HeldBytes : Type 0 where

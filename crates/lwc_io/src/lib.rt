@@ -5,6 +5,8 @@ mod memory;
 mod outside;
 mod real;
 mod sure;
+#[cfg(test)]
+mod tests;
 
 pub use memory::{MemoryFiles, MemorySink, NamedFile};
 pub use outside::{Failed, Files, Gate, OpenGate, Sink};

@@ -114,13 +114,13 @@ impl MemoryFiles {
     /// # Errors
     ///
     /// `AllocError` if there is no memory for the counts of faults.
-    pub fn new(
-        alloc: Global,
-        files: Vec<NamedFile>,
-        failing: Vec<u64>,
-    ) -> Result<Self, AllocError>
-        ensures { IfOk result (λ held. held ≡ record { files = files.items;
-            faults = replicate (length files.items + 1) 0; calls = 0; failing = failing.items }) }
+    pub fn new(alloc: Global, files: Vec<NamedFile>, failing: Vec<u64>) -> Result<Self, AllocError>
+        ensures { IfOk result (λ held. held ≡ record {
+          files = files.items;
+          faults = replicate (length files.items + 1) 0;
+          calls = 0;
+          failing = failing.items;
+        }) }
     {
         let faults = Vec::from_elem(alloc, 0, files.len() + 1)?;
         Ok(MemoryFiles {
@@ -218,8 +218,14 @@ impl MemorySink {
     /// An empty sink that takes at most so many bytes a call. Of the writes, numbered from 0 on, those
     /// in `failing` are to fail.
     pub fn new(alloc: Global, most: usize, failing: Vec<u64>) -> Self
-        ensures { result ≡ record { bytes = []; room = result.room; most = most; faults = 0; calls = 0;
-            failing = failing.items } }
+        ensures { result ≡ record {
+          bytes = [];
+          room = result.room;
+          most = most;
+          faults = 0;
+          calls = 0;
+          failing = failing.items;
+        } }
     {
         MemorySink {
             bytes: Vec::new(alloc),

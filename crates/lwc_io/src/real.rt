@@ -1,4 +1,4 @@
-ghost use Rattle.std.specs.Prelude.{◌≡◌, ◌≤◌, ◌<◌, None, length, IfOk};
+ghost use Rattle.std.specs.Prelude.{◌≡◌, ◌<◌, ◌≤◌, None, length, IfOk, OnOk, OnErr};
 ghost use Rattle.lwc_io.specs.Outside.{one_more};
 
 use crate::outside::{Failed, Files, Sink};
@@ -15,17 +15,17 @@ pub struct RealFiles<R> {
 }
 
 impl<R> Model for RealFiles<R> {
-    ghost use Rattle.std.specs.Prelude.{ℕ};
+    ghost use Rattle.lwc_io.specs.Real.{Counted};
 
-    ghost Value = { R × ℕ };
+    ghost Value = { Counted R };
 
-    ghost view = { λ files. (files.rt, files.faults) };
+    ghost view = { λ files. record { inner = files.rt; faults = files.faults } };
 }
 
 impl<R: rt::Files> RealFiles<R> {
     /// The files that the runtime reaches.
     pub fn new(rt: R) -> Self
-        ensures { result ≡ (rt, 0) }
+        ensures { result ≡ record { inner = rt; faults = 0 } }
     {
         RealFiles { rt, faults: 0 }
     }
@@ -56,9 +56,20 @@ fn read_some<R: Read>(reader: &mut R, buffer: &mut [u8]) -> io::Result<usize>
 impl<R: rt::Files> Files for RealFiles<R> {
     ghost file = { λ _ _. None };
 
-    ghost faults = { λ files _. files.1 };
+    ghost faults = { λ files _. files.faults };
 
-    fn fetch(&mut self, name: &str, at: u64, buffer: &mut [u8]) -> Result<usize, Failed> {
+    /// One read at that place, of a file that is opened for it. It may give less than the buffer takes.
+    ///
+    /// # Errors
+    ///
+    /// `Failed` if the system fails to open, seek or read, as where no file has the name or it is a
+    /// folder. It raises the count, which all names share, by one.
+    fn fetch(&mut self, name: &str, at: u64, buffer: &mut [u8]) -> Result<usize, Failed>
+        ensures count { IfOk result (λ n. n ≤ length buffer.new) }
+        ensures ok { OnOk result (self.new ≡ self.old) }
+        ensures err { OnErr result (self.new ≡ record self.old { faults = one_more self.old.faults }) }
+        ensures never_falls { self.old.faults ≤ self.new.faults }
+    {
         match self.read_piece(name, at, buffer) {
             Ok(count) => Ok(count),
             Err(_) => {
@@ -90,24 +101,24 @@ fn write_some<W: Write>(writer: &mut W, piece: &[u8]) -> io::Result<usize>
 }
 
 impl<W> Model for RealSink<W> {
-    ghost use Rattle.std.specs.Prelude.{ℕ};
+    ghost use Rattle.lwc_io.specs.Real.{Counted};
 
-    ghost Value = { W × ℕ };
+    ghost Value = { Counted W };
 
-    ghost view = { λ sink. (sink.writer, sink.faults) };
+    ghost view = { λ sink. record { inner = sink.writer; faults = sink.faults } };
 }
 
 impl<W: Write> RealSink<W> {
     /// A sink that writes to the writer.
     pub fn new(writer: W) -> Self
-        ensures { result ≡ (writer, 0) }
+        ensures { result ≡ record { inner = writer; faults = 0 } }
     {
         RealSink { writer, faults: 0 }
     }
 
     /// The writer, with all that it was given.
     pub fn into_inner(self) -> W
-        ensures { result ≡ self.0 }
+        ensures { result ≡ self.inner }
     {
         let RealSink { writer, faults: _ } = self;
         writer
@@ -117,9 +128,21 @@ impl<W: Write> RealSink<W> {
 impl<W: Write> Sink for RealSink<W> {
     ghost taken = { λ _. None };
 
-    ghost faults = { λ sink. sink.1 };
+    ghost faults = { λ sink. sink.faults };
 
-    fn write(&mut self, piece: &[u8]) -> Result<usize, Failed> {
+    /// One write of the writer's. It may take less than the piece.
+    ///
+    /// # Errors
+    ///
+    /// `Failed` if the writer fails, or takes no byte of a piece that is not empty. It raises the count
+    /// by one.
+    fn write(&mut self, piece: &[u8]) -> Result<usize, Failed>
+        ensures count { IfOk result (λ n. n ≤ length piece.now) }
+        ensures some { IfOk result (λ n. 0 < length piece.now → 0 < n) }
+        ensures ok { OnOk result (self.new.faults ≡ self.old.faults) }
+        ensures err { OnErr result (self.new.faults ≡ one_more self.old.faults) }
+        ensures never_falls { self.old.faults ≤ self.new.faults }
+    {
         match write_some(&mut self.writer, piece) {
             Ok(count) if count > 0 || piece.is_empty() => Ok(count),
             _ => {
