@@ -1,0 +1,5 @@
+//! The call behind the program: it reads a line, the files that the line names, runs what they ask for, and writes the report.
+#![tactic(auto)]
+
+mod reading;
+mod writing;
