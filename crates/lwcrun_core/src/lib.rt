@@ -1,5 +1,6 @@
 //! The call behind the program: it reads a line, the files that the line names, runs what they ask for, and writes the report.
 #![tactic(auto)]
 
+mod numbers;
 mod reading;
 mod writing;
