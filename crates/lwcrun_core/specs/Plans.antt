@@ -1,5 +1,5 @@
 -- What a call of the program asks of the outside, one thing after another, and where that leads.
-use Rattle.std.specs.Prelude.{◌≡◌, ◌⊎◌, ℕ, List, Option, Result, Ok, Err}
+use Rattle.std.specs.Prelude.{◌≡◌, ◌⊎◌, ℕ, List, Option, Some, Result, Ok, Err}
 use Rattle.lwc_io.specs.Outside.{Tells}
 
 -- a file is read and its bytes say how to go on, or an input is refused, or a work is done and its text written
@@ -25,6 +25,16 @@ ComesTo told (Refuse refusal) asked = ⊥
 ComesTo told (Write work) asked = ⊥
 
 -- what follows where an input was accepted; else it is refused
-abbrev pub accepted : {A E R W : Type 0} → (E → R) → Result A E → (A → Plan R W) → Plan R W
-accepted refusal (Ok value) next = next value
-accepted refusal (Err fault) next = Refuse (refusal fault)
+abbrev pub accepted : {A R W : Type 0} → Result A R → (A → Plan R W) → Plan R W
+accepted (Ok value) next = next value
+accepted (Err refusal) next = Refuse refusal
+
+-- where the plan leads over these bytes of the files
+abbrev pub outcome : {R W : Type 0} → (List ℕ → List ℕ) → Plan R W → Result W R
+outcome bytes (Read name next) = outcome bytes (next (bytes name))
+outcome bytes (Refuse refusal) = Err refusal
+outcome bytes (Write work) = Ok work
+
+-- the files tell these bytes, each file that the plan comes to
+abbrev pub AreKnown : {R W : Type 0} → Told → Plan R W → (List ℕ → List ℕ) → Type 0
+AreKnown told p bytes = (q : List ℕ) → ComesTo told p q → told q ≡ Some (bytes q)
