@@ -303,7 +303,7 @@ impl Sink for MemorySink {
     /// there is no memory for the bytes. It raises the count of faults by one.
     fn write(&mut self, piece: &[u8]) -> Result<usize, Failed>
         ensures fails { IsTrue (write_fails self.old piece.now) → IsErr result }
-        ensures only { OnErr result (IsTrue (write_fails self.old piece.now)
+        ensures fails_only { OnErr result (IsTrue (write_fails self.old piece.now)
             ⊎ (self.old.room < length self.old.bytes + min self.old.most (length piece.now))) }
         ensures count { IfOk result (λ n. n ≡ min self.old.most (length piece.now)) }
         ensures ok { IfOk result (λ n.
