@@ -2,8 +2,11 @@
 #![tactic(auto)]
 
 mod fault;
+mod fields;
 mod header;
 mod image;
+mod lists;
+mod parts;
 mod reading;
 mod stop;
 

@@ -1,0 +1,5 @@
+pub mod Push
+pub mod Loops
+pub mod FieldLaws
+pub mod ValueLaws
+pub mod PartLaws
