@@ -3,3 +3,4 @@ pub mod Loops
 pub mod FieldLaws
 pub mod ValueLaws
 pub mod PartLaws
+pub mod WholeLaws

@@ -58,8 +58,17 @@ fn image_of(alloc: Global, bytes: &[u8]) -> Result<Image, ImageFault>
     }
 }
 
-/// The image that these bytes spell.
+/// The image that these bytes spell, all of them.
+///
+/// # Errors
+/// `OutOfMemory`: want of memory. `Refused`: the bytes are no image; the rule that the file breaks first from its first
+/// byte to its last, and the offset in bytes where it does (`image_at`).
 pub fn read_image(alloc: Global, bytes: &[u8]) -> Result<Image, ImageFault>
+    // What is read is within the limits, and these are its bytes.
+    ensures found { IfOk result (λ image. IsImage image × (bytes.now ≡ spelling image)) }
+    // The bytes of an image within the limits are read as that image, unless memory runs out.
+    ensures only { (image : Image) → IsImage image → bytes.now ≡ spelling image → Answers result (Ok image) }
+    // What is answered is what the reading gives, with the first refusal, unless memory runs out.
     ensures exact { Answers result (image_at bytes.now) }
 {
     image_of(alloc, bytes)
