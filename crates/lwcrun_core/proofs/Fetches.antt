@@ -1,8 +1,8 @@
 -- What has been read of a file, piece by piece.
-use Rattle.std.proofs.Common.{◌≡◌, ◌≤◌, ◌<◌, ℕ, ◌+◌, List, [], ◌++◌, Option, None, Some, IfSome, take, drop, length, refl, ap, sym, ◌∙◌, arith, length-append, length-take}
+use Rattle.std.proofs.Common.{◌≡◌, ◌≤◌, ◌<◌, ℕ, ◌+◌, List, [], ◌++◌, Option, None, Some, IfSome, take, drop, length, refl, ap, sym, subst, ◌∙◌, arith, length-append, length-take}
 use Rattle.std.proofs.Math.Nat.{le_trans}
 use Rattle.std.proofs.Math.Seq.{take-add}
-use Rattle.lwc_io.specs.Outside.{IsPiece}
+use Rattle.lwc_io.specs.Outside.{IsPiece, Tells}
 use Rattle.lwcrun_core.specs.Reading.{MayBegin, MayPass}
 
 length-taken : (n : ℕ) (xs : List ℕ) → n ≤ length xs → length (take n xs) ≡ n
@@ -59,3 +59,7 @@ more_read told files mid now faults faults_mid faults_now limit bytes bytes_now 
   never_falls = λ q. le_trans (so_far.never_falls q) (rises q);
   chunk = chunk ∙ so_far.chunk;
 }
+
+-- the same bytes under another name
+pub tells_same : (told : Option (List ℕ)) (bytes now : List ℕ) → now ≡ bytes → Tells told bytes → Tells told now
+tells_same told bytes now is tells = subst (λ xs. Tells told xs) (sym is) tells
