@@ -32,7 +32,7 @@ list_takes : {A : Type 0} (P : List A → Type 0) (spell : A → List ℕ) (read
 unfolding list_at
 list_takes {A} P spell read law zero before bytes xs rest fits p e =
     subst (λ (y : List A × List ℕ). New P spell 0 before bytes y.0 y.1) (ok_is (before, bytes) (xs, rest) e)
-      (record { new = []; all = sym (append-nil before); taken = record { parts = refl; rest_fits = fits }; count = refl; fits = p })
+    (record { new = []; all = sym (append-nil before); taken = record { parts = refl; rest_fits = fits }; count = refl; fits = p })
 list_takes {A} P spell read law (suc n) before bytes xs rest fits p e =
     let b = bind_ok (read before bytes) (λ x. list_at read n (before ++ x.0 ∷ []) x.1) (xs, rest) e in
     let first = law.takes before bytes b.0.0 b.0.1 fits p b.1 in

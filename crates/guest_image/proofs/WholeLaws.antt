@@ -98,7 +98,7 @@ parts_take bytes image fits e =
     let same : header h.0.0 ≡ header (header_of made) = same_header h.0.0 (header_of made) (sym tx.1) (sym tp.1) (sym tf.1) (sym ts.1) (sym te.1) refl in
     let whole : bytes ≡ spelling made = joined bytes h.0.0 made h.0.1 x.0.1 p.0.1 f.0.1 s.0.1 (record { head = th.0; text = tx.0; pages = tp.0; files = tf.0; slots = ts.0; entries = subst (λ (r : List ℕ). Takes s.0.1 (flat_map number t.0.0) r) nothing te.0; same = same }) in
     subst (λ (i : Image). IsImage i × (bytes ≡ spelling i)) g.1
-      (within h.0.0 made th.1 tx.1 tx.2 refl tp.1 tp.2 tf.1 tf.2 ts.1 ts.2 te.1 te.2, whole)
+    (within h.0.0 made th.1 tx.1 tx.2 refl tp.1 tp.2 tf.1 tf.2 ts.1 ts.2 te.1 te.2, whole)
 
 parts_again : (image : Image) → IsImage image → parts_at (spelling image) ≡ Ok image
 unfolding parts_at spelling
@@ -113,12 +113,14 @@ parts_again image is =
     let short : count < 2 ^ 32 = omega (arith, is.text.bounded) in
     let few : length image.files < 2 ^ 32 = omega (arith, is.file_count) in
     let entries : entries_at count (length image.entries) slots-rest ≡ Ok (image.entries, []) = ap (list_at (λ _. entry_at count) (length image.entries) []) (sym (append-nil slots-rest)) ∙ values_again (All (λ e. e < count)) number (λ _. entry_at count) (entries_read count short) image.entries [] is.entries in
-    rw (header_again (header_of image) (body image) fits,
+    rw (
+      header_again (header_of image) (body image) fits,
       values_again (IsCode count) instructions.spelling (λ _. instruction_at count) (code_reads count) image.text text-rest code,
       values_again ArePages page (λ before. page_at (last (page_numbers before)) (ranges (page_numbers before))) pages_read image.pages pages-rest is.pages,
       values_again AreFiles file (λ before. file_at (content before)) files_read image.files files-rest is.files,
       values_again (AreSlots (length image.files)) slot (λ before. slot_at (length image.files) (last (slot_numbers before))) (slots_read (length image.files) few) image.slots slots-rest is.slots,
-      entries) refl
+      entries,
+    ) refl
 
 -- ---- an image is short enough
 
