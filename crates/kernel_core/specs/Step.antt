@@ -1,0 +1,158 @@
+-- One step of a thread.
+use Rattle.std.specs.Prelude.{ℕ, ◌+◌, ◌-◌, ◌*◌, ◌%◌, ◌^◌, ◌==◌, if◌then◌else◌, Bool, List, [], ◌∷◌, length, Option, None, Some, nat_le, slice_get, slice_index, slice_set}
+use Rattle.std.specs.Int.{w64, from_le_bytes, to_le_bytes}
+use Rattle.std.specs.Option.{option_map}
+use Rattle.guest_isa.specs.Instructions.{sx}
+use Rattle.guest_isa.specs.declared.instr.Instr.{Instr}
+use Rattle.guest_isa.specs.declared.op.Op.{Op}
+use Rattle.guest_isa.specs.declared.op.Op.TheVariants.{Ldb, Ldw, Stb, Stw, Sys, Halt}
+use Rattle.guest_machine.specs.Advancing.{advance_of}
+use Rattle.guest_machine.specs.declared.outcome.Advance.{Advance}
+use Rattle.guest_machine.specs.declared.outcome.Next.{Next}
+use Rattle.guest_machine.specs.declared.outcome.Next.TheVariants as next
+use Rattle.kernel_core.specs.Machine.{Machine}
+use Rattle.kernel_core.specs.declared.thread.Thread.{Thread}
+use Rattle.lwc_base.specs.declared.fault.Fault.{Fault}
+use Rattle.lwc_base.specs.declared.fault.Fault.TheVariants as fault
+use Rattle.lwc_base.specs.declared.fault.ThreadStatus.{ThreadStatus}
+use Rattle.lwc_base.specs.declared.fault.ThreadStatus.TheVariants.{Idle, Running, Done, Faulted}
+use Rattle.lwc_base.specs.declared.name.Name.{Name}
+use Rattle.lwc_base.specs.declared.page.TheConstants.{PAGE_BYTES}
+use Rattle.lwc_base.specs.declared.refusal.Refusal.{Refusal}
+use Rattle.lwc_base.specs.declared.refusal.Refusal.TheVariants.{BadCall}
+use Rattle.lwc_base.specs.declared.regs.Regs.{Regs}
+use Rattle.lwc_base.specs.Faults.{refusal_number}
+use Rattle.lwc_base.specs.Memory.{load}
+use Rattle.lwc_base.specs.Store.{Piece, Stored, store}
+use Rattle.lwc_base.specs.Store as stores
+use Rattle.lwc_base.specs.World.{World}
+
+-- what a thread has done in a step: the thread afterwards, and the world
+pub record Acted : Type 0 where
+  pub thread : Thread
+  pub world : World
+
+-- registers at the next instruction
+abbrev pub gone_on : Regs → Regs
+gone_on regs = record regs { pc = (regs.pc + 1) % 2 ^ 64 }
+
+-- registers at the next instruction, with a value in one of them
+abbrev pub answered : Regs → ℕ → ℕ → Regs
+answered regs d value = record { r = slice_set regs.r d value; pc = (regs.pc + 1) % 2 ^ 64 }
+
+-- a thread that goes on with these registers
+abbrev pub with_regs : Thread → Regs → Thread
+with_regs x regs = record x { regs = regs }
+
+-- a thread of another status, whose registers stay, with pc at the instruction
+abbrev pub with_status : Thread → ThreadStatus → Thread
+with_status x status = record x { status = status }
+
+-- a fault ends the thread
+abbrev pub fault_of : World → Thread → Fault → Acted
+fault_of w x f = record { thread = with_status x (Faulted f); world = w }
+
+-- a refusal: r0 says which, and the thread goes on
+abbrev pub refuses : World → Thread → Refusal → Acted
+refuses w x refusal = record { thread = with_regs x (answered x.regs 0 (2 ^ 64 - refusal_number refusal)); world = w }
+
+-- the address that an instruction names: register ra and its signed number
+abbrev pub address : Regs → Instr → ℕ
+address regs i = (slice_index regs.r i.ra + sx i.imm) % 2 ^ 64
+
+-- so many bytes from an address on; none where one of them is past the last page or in an absent page
+unfoldable pub bytes_for : World → Name → ℕ → ℕ → Option (List ℕ)
+bytes_for w c at count = if nat_le (at + count) (w.pages * PAGE_BYTES) then load w c at count else None
+
+-- the byte at an address
+abbrev pub byte_for : World → Name → ℕ → Option ℕ
+byte_for w c at = option_map (λ bytes. slice_index bytes 0) (bytes_for w c at 1)
+
+-- whether an address is one of a word: a multiple of 8
+abbrev pub is_aligned : ℕ → Bool
+is_aligned at = at % 8 == 0
+
+-- the word at an address, lowest byte first; none where the address is not one of a word
+abbrev pub word_for : World → Name → ℕ → Option ℕ
+word_for w c at = if is_aligned at then option_map (from_le_bytes w64) (bytes_for w c at 8) else None
+
+-- the end of a load: a register gets what was found, and where nothing was it is a fault
+abbrev pub loads : World → Thread → ℕ → Option ℕ → Acted
+loads w x d None = fault_of w x fault.BadLoad
+loads w x d (Some value) = record { thread = with_regs x (answered x.regs d value); world = w }
+
+-- the end of a store
+abbrev pub stored : World → Thread → Stored → Acted
+stored w x stores.Absent = fault_of w x fault.BadStore
+stored w x stores.Full = fault_of w x fault.NoFrame
+stored w x (stores.Done after) = record { thread = with_regs x (gone_on x.regs); world = after }
+
+-- bytes are stored for the thread's job in its context; it is a fault where one of them is past the last page
+unfoldable pub keeps : World → Thread → Piece → Acted
+keeps w x piece =
+    if nat_le (piece.at + length piece.bytes) (w.pages * PAGE_BYTES) then stored w x (store w x.context x.job piece)
+    else fault_of w x fault.BadStore
+
+-- the store of a byte
+abbrev pub keeps_byte : World → Thread → ℕ → ℕ → Acted
+keeps_byte w x at value = keeps w x (record { at = at; bytes = value % 256 ∷ [] })
+
+-- the store of a word, lowest byte first; it is a fault where the address is not one of a word
+abbrev pub keeps_word : World → Thread → ℕ → ℕ → Acted
+keeps_word w x at value =
+    if is_aligned at then keeps w x (record { at = at; bytes = to_le_bytes w64 value }) else fault_of w x fault.BadStore
+
+-- a call by its number: so far no number names a call
+unfoldable pub calls : World → Thread → ℕ → Acted
+calls w x number = refuses w x BadCall
+
+-- what a shared instruction does, by its operation; a thread comes to no other here
+unfoldable pub does : World → Thread → Instr → Op → Acted
+does w x i Ldb = loads w x i.rd (byte_for w x.context (address x.regs i))
+does w x i Ldw = loads w x i.rd (word_for w x.context (address x.regs i))
+does w x i Stb = keeps_byte w x (address x.regs i) (slice_index x.regs.r i.rb)
+does w x i Stw = keeps_word w x (address x.regs i) (slice_index x.regs.r i.rb)
+does w x i Sys = calls w x i.imm
+does w x i Halt = record { thread = with_status x (Done 0); world = w }
+does w x i _ = record { thread = x; world = w }
+
+-- what a thread does once it has advanced: nothing more, a fault, or the shared instruction that it has come to
+unfoldable pub acts : World → Thread → Next → Acted
+acts w x next.Pause = record { thread = x; world = w }
+acts w x next.BadPc = fault_of w x fault.BadPc
+acts w x (next.Shared i) = does w x i i.op
+
+-- the status of a thread that has so many steps left: one that is still running with none left is ended by a fault
+abbrev pub status_with : ℕ → ThreadStatus → ThreadStatus
+status_with left Running = if left == 0 then Faulted fault.Budget else Running
+status_with left Idle = Idle
+status_with left (Done code) = Done code
+status_with left (Faulted f) = Faulted f
+
+-- a step is counted: one fewer may be made
+abbrev pub counted : Thread → Thread
+counted x = record x { budget = x.budget - 1; status = status_with (x.budget - 1) x.status }
+
+-- what a running thread does in a step: it advances, acts, and the step is counted
+unfoldable pub moves : World → Thread → Advance → Acted
+moves w x a = let done = acts w (with_regs x a.after) a.next in record done { thread = counted done.thread }
+
+-- the machine with what one of its threads has done
+abbrev pub with_acted : Machine → ℕ → Acted → Machine
+with_acted m t done = record m { threads = slice_set m.threads t done.thread; world = done.world }
+
+-- a step by the status of its thread; an idle thread ends, since no request is left for it
+abbrev pub step_by : Machine → ℕ → Thread → ThreadStatus → Machine
+step_by m t x Running = with_acted m t (moves m.world x (advance_of m.text x.regs))
+step_by m t x Idle = with_acted m t (record { thread = with_status x (Done 0); world = m.world })
+step_by m t x (Done code) = m
+step_by m t x (Faulted f) = m
+
+-- a step of the thread that was found, if one was
+abbrev pub step_at : Machine → ℕ → Option Thread → Machine
+step_at m t None = m
+step_at m t (Some x) = step_by m t x x.status
+
+-- one step of the thread of this number; an ended one changes nothing
+unfoldable pub step : Machine → ℕ → Machine
+step m t = step_at m t (slice_get m.threads t)
