@@ -12,10 +12,12 @@ pub use Rattle.lwc_base.specs.World
 pub use Rattle.world_face.specs.Calls
 pub use Rattle.guest_isa.specs.Instructions
 pub use Rattle.guest_isa.specs.Opcodes
-pub use Rattle.guest_machine.specs.Advancing
+pub use Rattle.guest_machine.specs.Advances
 pub use Rattle.guest_image.specs.Limits
 pub mod Machine
 pub mod Step
 pub mod Runs
 pub mod Start
 pub mod Kernel
+pub mod Ready
+pub mod Steady

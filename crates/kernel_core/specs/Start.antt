@@ -77,12 +77,18 @@ unfoldable pub start_world : Image → ℕ → World
 start_world image frames =
     count_on (add_context (empty_world frames PAGES) 0 (first_context image)) 0 (λ n. record n { tags = length image.pages })
 
--- the machine of a start
-unfoldable pub start : Inputs → Machine
-start inputs = record {
-  threads = first_threads inputs.settings.budget inputs.image.entries;
-  world = start_world inputs.image inputs.settings.frames;
+-- the machine of a run in which the threads and the world stand like this: the text and the files are the image's, and nothing is on the console
+abbrev pub standing : Inputs → List Thread → World → Machine
+standing inputs threads world = record {
+  threads = threads;
+  world = world;
   text = inputs.image.text;
   files = inputs.image.files;
   console = [];
 }
+
+-- the machine of a start
+unfoldable pub start : Inputs → Machine
+start inputs =
+    standing inputs (first_threads inputs.settings.budget inputs.image.entries)
+    (start_world inputs.image inputs.settings.frames)

@@ -6,10 +6,10 @@ use Rattle.guest_isa.specs.Instructions.{sx}
 use Rattle.guest_isa.specs.declared.instr.Instr.{Instr}
 use Rattle.guest_isa.specs.declared.op.Op.{Op}
 use Rattle.guest_isa.specs.declared.op.Op.TheVariants.{Ldb, Ldw, Stb, Stw, Sys, Halt}
-use Rattle.guest_machine.specs.Advancing.{advance_of}
-use Rattle.guest_machine.specs.declared.outcome.Advance.{Advance}
-use Rattle.guest_machine.specs.declared.outcome.Next.{Next}
-use Rattle.guest_machine.specs.declared.outcome.Next.TheVariants as next
+use Rattle.guest_machine.specs.Advances.{advanced}
+use Rattle.guest_machine.specs.declared.progress.Advance.{Advance}
+use Rattle.guest_machine.specs.declared.progress.Next.{Next}
+use Rattle.guest_machine.specs.declared.progress.Next.TheVariants as next
 use Rattle.kernel_core.specs.Machine.{Machine}
 use Rattle.kernel_core.specs.declared.thread.Thread.{Thread}
 use Rattle.lwc_base.specs.declared.fault.Fault.{Fault}
@@ -40,21 +40,25 @@ gone_on regs = record regs { pc = (regs.pc + 1) % 2 ^ 64 }
 abbrev pub answered : Regs → ℕ → ℕ → Regs
 answered regs d value = record { r = slice_set regs.r d value; pc = (regs.pc + 1) % 2 ^ 64 }
 
--- a thread that goes on with these registers
-abbrev pub with_regs : Thread → Regs → Thread
-with_regs x regs = record x { regs = regs }
-
--- a thread of another status, whose registers stay, with pc at the instruction
+-- a thread of another status: its registers stay, with pc at the instruction
 abbrev pub with_status : Thread → ThreadStatus → Thread
 with_status x status = record x { status = status }
 
 -- a fault ends the thread
-abbrev pub fault_of : World → Thread → Fault → Acted
-fault_of w x f = record { thread = with_status x (Faulted f); world = w }
+abbrev pub faulted : Thread → Fault → Thread
+faulted x f = with_status x (Faulted f)
 
--- a refusal: r0 says which, and the thread goes on
-abbrev pub refuses : World → Thread → Refusal → Acted
-refuses w x refusal = record { thread = with_regs x (answered x.regs 0 (2 ^ 64 - refusal_number refusal)); world = w }
+-- the thread goes on with other registers
+abbrev pub with_regs : Thread → Regs → Thread
+with_regs x regs = record x { regs = regs }
+
+-- a call is refused: r0 says why, and the thread goes on
+abbrev pub refused : Thread → Refusal → Thread
+refused x refusal = with_regs x (answered x.regs 0 (2 ^ 64 - refusal_number refusal))
+
+-- the thread did this without a change of the world
+abbrev pub alone : World → Thread → Acted
+alone w x = record { thread = x; world = w }
 
 -- the address that an instruction names: register ra and its signed number
 abbrev pub address : Regs → Instr → ℕ
@@ -77,49 +81,50 @@ abbrev pub word_for : World → Name → ℕ → Option ℕ
 word_for w c at = if is_aligned at then option_map (from_le_bytes w64) (bytes_for w c at 8) else None
 
 -- the end of a load: a register gets what was found, and where nothing was it is a fault
-abbrev pub loads : World → Thread → ℕ → Option ℕ → Acted
-loads w x d None = fault_of w x fault.BadLoad
-loads w x d (Some value) = record { thread = with_regs x (answered x.regs d value); world = w }
+abbrev pub loaded : Thread → ℕ → Option ℕ → Thread
+loaded x d None = faulted x fault.BadLoad
+loaded x d (Some value) = with_regs x (answered x.regs d value)
 
 -- the end of a store
 abbrev pub stored : World → Thread → Stored → Acted
-stored w x stores.Absent = fault_of w x fault.BadStore
-stored w x stores.Full = fault_of w x fault.NoFrame
-stored w x (stores.Done after) = record { thread = with_regs x (gone_on x.regs); world = after }
+stored w x stores.Absent = alone w (faulted x fault.BadStore)
+stored w x stores.Full = alone w (faulted x fault.NoFrame)
+stored w x (stores.Done after) = alone after (with_regs x (gone_on x.regs))
 
--- bytes are stored for the thread's job in its context; it is a fault where one of them is past the last page
-unfoldable pub keeps : World → Thread → Piece → Acted
-keeps w x piece =
+-- bytes are put in memory for the thread's job; it is a fault where one of them is past the last page
+unfoldable pub puts : World → Thread → Piece → Acted
+puts w x piece =
     if nat_le (piece.at + length piece.bytes) (w.pages * PAGE_BYTES) then stored w x (store w x.context x.job piece)
-    else fault_of w x fault.BadStore
+    else alone w (faulted x fault.BadStore)
 
--- the store of a byte
-abbrev pub keeps_byte : World → Thread → ℕ → ℕ → Acted
-keeps_byte w x at value = keeps w x (record { at = at; bytes = value % 256 ∷ [] })
+-- a byte is put: the lowest of a value
+abbrev pub puts_byte : World → Thread → ℕ → ℕ → Acted
+puts_byte w x at value = puts w x (record { at = at; bytes = value % 256 ∷ [] })
 
--- the store of a word, lowest byte first; it is a fault where the address is not one of a word
-abbrev pub keeps_word : World → Thread → ℕ → ℕ → Acted
-keeps_word w x at value =
-    if is_aligned at then keeps w x (record { at = at; bytes = to_le_bytes w64 value }) else fault_of w x fault.BadStore
+-- a word is put, lowest byte first; it is a fault where the address is not one of a word
+abbrev pub puts_word : World → Thread → ℕ → ℕ → Acted
+puts_word w x at value =
+    if is_aligned at then puts w x (record { at = at; bytes = to_le_bytes w64 value })
+    else alone w (faulted x fault.BadStore)
 
 -- a call by its number: so far no number names a call
 unfoldable pub calls : World → Thread → ℕ → Acted
-calls w x number = refuses w x BadCall
+calls w x number = alone w (refused x BadCall)
 
 -- what a shared instruction does, by its operation; a thread comes to no other here
 unfoldable pub does : World → Thread → Instr → Op → Acted
-does w x i Ldb = loads w x i.rd (byte_for w x.context (address x.regs i))
-does w x i Ldw = loads w x i.rd (word_for w x.context (address x.regs i))
-does w x i Stb = keeps_byte w x (address x.regs i) (slice_index x.regs.r i.rb)
-does w x i Stw = keeps_word w x (address x.regs i) (slice_index x.regs.r i.rb)
+does w x i Ldb = alone w (loaded x i.rd (byte_for w x.context (address x.regs i)))
+does w x i Ldw = alone w (loaded x i.rd (word_for w x.context (address x.regs i)))
+does w x i Stb = puts_byte w x (address x.regs i) (slice_index x.regs.r i.rb)
+does w x i Stw = puts_word w x (address x.regs i) (slice_index x.regs.r i.rb)
 does w x i Sys = calls w x i.imm
-does w x i Halt = record { thread = with_status x (Done 0); world = w }
-does w x i _ = record { thread = x; world = w }
+does w x i Halt = alone w (with_status x (Done 0))
+does w x i _ = alone w x
 
 -- what a thread does once it has advanced: nothing more, a fault, or the shared instruction that it has come to
 unfoldable pub acts : World → Thread → Next → Acted
-acts w x next.Pause = record { thread = x; world = w }
-acts w x next.BadPc = fault_of w x fault.BadPc
+acts w x next.Pause = alone w x
+acts w x next.BadPc = alone w (faulted x fault.BadPc)
 acts w x (next.Shared i) = does w x i i.op
 
 -- the status of a thread that has so many steps left: one that is still running with none left is ended by a fault
@@ -143,8 +148,8 @@ with_acted m t done = record m { threads = slice_set m.threads t done.thread; wo
 
 -- a step by the status of its thread; an idle thread ends, since no request is left for it
 abbrev pub step_by : Machine → ℕ → Thread → ThreadStatus → Machine
-step_by m t x Running = with_acted m t (moves m.world x (advance_of m.text x.regs))
-step_by m t x Idle = with_acted m t (record { thread = with_status x (Done 0); world = m.world })
+step_by m t x Running = with_acted m t (moves m.world x (advanced m.text x.regs))
+step_by m t x Idle = with_acted m t (alone m.world (with_status x (Done 0)))
 step_by m t x (Done code) = m
 step_by m t x (Faulted f) = m
 

@@ -1,6 +1,15 @@
 /// How many pages each context may have.
 pub const PAGES: u32 = 1024;
 
+/// The most threads.
+pub const MOST_THREADS: u32 = 16;
+
+/// The most steps that a thread may make.
+pub const MOST_BUDGET: u32 = 100000;
+
+/// The most steps that a kernel keeps.
+pub const MOST_STEPS: u32 = 16000000;
+
 /// What a kernel does: it runs the threads of its image, or serves requests by so many workers.
 #[derive(Clone, Copy, Debug, PartialEq, Eq)]
 pub enum Job {
