@@ -1,1 +1,3 @@
 pub mod Registers
+pub mod Acts
+pub mod Ready

@@ -1,5 +1,5 @@
 ghost use Rattle.std.specs.Prelude.{◌≡◌, ◌<◌, ◌≤◌, ◌+◌, ◌*◌, ◌-◌, ◌==◌, if◌then◌else◌, IsTrue, IfOk, IfSome, OnErr, length, is_some, nat_le, slice_index};
-ghost use Rattle.guest_isa.specs.Instructions.{IsInstruction};
+ghost use Rattle.guest_isa.specs.Instructions.{IsInstruction, IsText};
 ghost use Rattle.guest_machine.specs.Advances.{IfShared, advanced};
 ghost use Rattle.kernel_core.specs.Ready.{CanAct};
 ghost use Rattle.kernel_core.specs.Step as step;
@@ -236,7 +236,8 @@ fn act<W: World>(world: &mut W, thread: &Thread, next: &Next) -> Result<Thread, 
 // begins with the thread's registers, and else computed.
 #[tactic(auto, using(crate::proofs::Registers::shared_are_instructions))]
 fn advance_from(text: &Text, regs: &Regs, proposal: Option<&Advance>) -> Advance
-    requires { IfSome proposal (λ a. a.now ≡ advanced text.now a.now.before) }
+    requires proposal { IfSome proposal (λ a. a.now ≡ advanced text.now a.now.before) }
+    requires text { IsText text.now }
     ensures value { result ≡ advanced text.now regs.now }
     ensures instruction { IfShared result.next IsInstruction }
 {
@@ -247,7 +248,7 @@ fn advance_from(text: &Text, regs: &Regs, proposal: Option<&Advance>) -> Advance
 }
 
 // A step of a running thread. The one error is want of memory, and then nothing has changed.
-#[tactic(auto, unfolding(crate::specs::Step::moves))]
+#[tactic(auto, using(crate::proofs::Acts::budget_of_act), unfolding(crate::specs::Step::moves))]
 pub fn move_on<W: World>(
     world: &mut W,
     text: &Text,
@@ -257,6 +258,7 @@ pub fn move_on<W: World>(
     requires ready { CanAct (W.size world.old) (W.seen world.old) thread.now }
     requires steps { 0 < thread.now.budget }
     requires proposal { IfSome proposal (λ a. a.now ≡ advanced text.now a.now.before) }
+    requires text { IsText text.now }
     ensures done { IfOk result (λ x. moves (W.seen world.old) thread.now (advanced text.now thread.now.regs) ≡ record { thread = x; world = W.seen world.new }) }
     ensures err { OnErr result (W.seen world.new ≡ W.seen world.old) }
     ensures sized { W.size world.new ≡ W.size world.old }
