@@ -1,3 +1,4 @@
 pub mod Registers
 pub mod Acts
 pub mod Ready
+pub mod Runs
