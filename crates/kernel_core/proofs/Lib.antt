@@ -2,3 +2,4 @@ pub mod Registers
 pub mod Acts
 pub mod Ready
 pub mod Runs
+pub mod Steady
