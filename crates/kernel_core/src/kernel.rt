@@ -1,4 +1,4 @@
-ghost use Rattle.std.specs.Prelude.{◌≡◌, ◌<◌, ◌≤◌, ◌+◌, ◌++◌, ◌∷◌, [], false, IfOk, IfSome, OnOk, OnErr, length, vec_len, vec_capacity, Some};
+ghost use Rattle.std.specs.Prelude.{◌≡◌, ◌<◌, ◌≤◌, ◌+◌, ◌^◌, ◌++◌, ◌∷◌, [], false, IfOk, IfSome, OnOk, OnErr, length, vec_len, vec_capacity, Some};
 ghost use Rattle.guest_machine.specs.Advances.{advanced};
 ghost use Rattle.kernel_core.specs.Kernel.{machine_of, stepped, turn_of, view_of, work};
 ghost use Rattle.kernel_core.specs.Machine.{has_ended, is_ended, work_of};
@@ -45,6 +45,15 @@ impl<W: World> Model for Kernel<W> {
     ghost invariant = { λ k. (vec_len k.schedule + k.room ≤ vec_capacity k.schedule) × IsSteady (W.size k.world) (W.seen k.world) k.threads.items k.text k.peak (record { inputs = record { image = k.image.value; requests = k.requests; settings = k.settings }; steps = k.schedule.items; room = k.room }) };
 }
 
+// How many steps the threads may still make.
+#[tactic(auto, unfolding(crate::specs::Machine::work_of))]
+fn work_left(threads: &[Thread]) -> u32
+    requires { work_of threads.now < 2 ^ 32 }
+    ensures { result ≡ work_of threads.now }
+{
+    threads.iter().map(|thread| thread.steps_left()).sum()
+}
+
 // Appends a step to a schedule that has room for it.
 fn append(schedule: &mut Vec<u8>, t: u8)
     requires { vec_len schedule.old < vec_capacity schedule.old }
@@ -58,7 +67,6 @@ fn append(schedule: &mut Vec<u8>, t: u8)
 impl<W: World> Kernel<W> {
     /// One step of thread `t`, which is kept unless the thread had ended. A proposal is used where it begins with the
     /// thread's registers. The one error is want of memory, and then nothing has changed.
-    
     pub fn step(&mut self, t: u32, proposal: Option<&Advance>) -> Result<Turn, OutOfMemory>
         requires within { t < length self.old.inputs.image.entries }
         requires room { is_ended (machine_of self.old) t ≡ false → 0 < self.old.room }
@@ -139,6 +147,6 @@ impl<W: World> Kernel<W> {
     pub fn work(&self) -> u32
         ensures { result ≡ work self.now }
     {
-        self.threads.iter().map(Thread::steps_left).sum()
+        work_left(self.threads.as_slice())
     }
 }
