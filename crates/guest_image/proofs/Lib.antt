@@ -1,0 +1,6 @@
+pub mod Push
+pub mod Loops
+pub mod FieldLaws
+pub mod ValueLaws
+pub mod PartLaws
+pub mod WholeLaws

@@ -1,0 +1,14 @@
+//! The outside as its callers see it: files to fetch from, a sink to write to, and a gate to wait at.
+#![tactic(auto)]
+
+mod memory;
+mod outside;
+mod real;
+mod sure;
+#[cfg(test)]
+mod tests;
+
+pub use memory::{MemoryFiles, MemorySink, NamedFile};
+pub use outside::{Failed, Files, Gate, OpenGate, Sink};
+pub use real::{RealFiles, RealSink};
+pub use sure::{SureFiles, SureSink};

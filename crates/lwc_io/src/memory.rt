@@ -1,0 +1,321 @@
+ghost use Rattle.std.specs.Prelude.{◌≡◌, ℕ, ◌+◌, ◌-◌, ◌<◌, ◌≤◌, ◌↔◌, min, ◌⊎◌, List, [], length, take, replicate, Some, option_copied, IfOk, IfSome, OnOk, OnErr, IsErr, IsTrue, bytes_eq, position, ◌==◌};
+ghost use Rattle.std.specs.List.{list_any};
+ghost use Rattle.lwc_io.specs.Outside.{Rose, IsPiece};
+ghost use Rattle.lwc_io.specs.Memory.{place_of, bytes_of, faults_of, fetch_fails, fetched, fetched_in_vain, write_fails, wrote, wrote_in_vain};
+
+use crate::outside::{Failed, Files, Sink};
+use std::alloc::{AllocError, Global};
+use std::marker::Model;
+
+/// A name, and the bytes of its file.
+#[derive(Drop)]
+pub struct NamedFile {
+    name: String,
+    bytes: Vec<u8>,
+}
+
+impl Model for NamedFile {
+    ghost use Rattle.std.specs.Prelude.{string_bytes};
+    ghost use Rattle.lwc_io.specs.Memory.{Named};
+
+    ghost Value = { Named };
+
+    ghost view = { λ f. record { name = string_bytes f.name; bytes = f.bytes.items } };
+}
+
+impl NamedFile {
+    /// A file of that name with those bytes.
+    ///
+    /// # Errors
+    ///
+    /// `AllocError` if there is no memory for them.
+    pub fn new(alloc: Global, name: &str, bytes: &[u8]) -> Result<Self, AllocError>
+        ensures { IfOk result (λ file. file ≡ record { name = name.now; bytes = bytes.now }) }
+    {
+        let name = String::from_str(alloc, name)?;
+        let bytes = Vec::from_slice(alloc, bytes)?;
+        Ok(NamedFile { name, bytes })
+    }
+
+    /// Whether that is its name.
+    pub fn is_named(&self, name: &str) -> bool
+        ensures { result ≡ bytes_eq self.now.name name.now }
+    {
+        self.name.as_str() == name
+    }
+
+    /// Its bytes.
+    pub fn bytes(&self) -> &[u8]
+        ensures { result.now ≡ self.now.bytes }
+    {
+        self.bytes.as_slice()
+    }
+}
+
+/// The place of the first file of that name.
+fn position_named(files: &[NamedFile], name: &str) -> Option<usize>
+    ensures { result ≡ position (λ file. bytes_eq file.name name.now) files.now }
+{
+    files.iter().position(|file| file.is_named(name))
+}
+
+/// The place of the first file of that name, or the number of files.
+fn place_named(files: &[NamedFile], name: &str) -> usize
+    ensures place { result ≡ place_of files.now name.now }
+    ensures within { result ≤ length files.now }
+{
+    position_named(files, name).unwrap_or(files.len())
+}
+
+/// The bytes of the first file of that name.
+pub(crate) fn bytes_named<'a>(files: &'a [NamedFile], name: &str) -> Option<&'a [u8]>
+    ensures { option_copied result ≡ bytes_of files.now name.now }
+{
+    files.get(place_named(files, name)).map(|file| file.bytes())
+}
+
+/// Puts the bytes from the place `at` on at the front of the buffer, as many as there are and fit.
+pub(crate) fn copy_piece(bytes: &[u8], at: u64, buffer: &mut [u8]) -> usize
+    ensures count { result ≡ min (length buffer.new) (length bytes.now - at) }
+    ensures piece { IsPiece bytes.now at result buffer.new }
+{
+    let start = bytes.len().min(at as usize);
+    let count = buffer.len().min(bytes.len() - start);
+    buffer[..count].copy_from_slice(&bytes[start..start + count]);
+    count
+}
+
+/// Files in memory. Each is told; a fetch fails where no file has the name, and at the calls that are
+/// to fail.
+#[derive(Drop)]
+pub struct MemoryFiles {
+    files: Vec<NamedFile>,
+    // Of each file's name, and last of every other name.
+    faults: Vec<u64>,
+    calls: u64,
+    failing: Vec<u64>,
+}
+
+impl Model for MemoryFiles {
+    ghost use Rattle.std.specs.Prelude.{◌≡◌, ◌+◌, length};
+    ghost use Rattle.lwc_io.specs.Memory.{HeldFiles};
+
+    ghost Value = { HeldFiles };
+
+    ghost view = { λ m. record { files = m.files.items; faults = m.faults.items; calls = m.calls; failing = m.failing.items } };
+
+    ghost invariant = { λ m. length m.faults.items ≡ length m.files.items + 1 };
+}
+
+impl MemoryFiles {
+    /// The given files. Where two have one name, the first is told. Of the fetches, numbered from 0 on,
+    /// those in `failing` are to fail.
+    ///
+    /// # Errors
+    ///
+    /// `AllocError` if there is no memory for the counts of faults.
+    pub fn new(alloc: Global, files: Vec<NamedFile>, failing: Vec<u64>) -> Result<Self, AllocError>
+        ensures { IfOk result (λ held. held ≡ record {
+          files = files.items;
+          faults = replicate (length files.items + 1) 0;
+          calls = 0;
+          failing = failing.items;
+        }) }
+    {
+        let faults = Vec::from_elem(alloc, 0, files.len() + 1)?;
+        Ok(MemoryFiles {
+            files,
+            faults,
+            calls: 0,
+            failing,
+        })
+    }
+
+    /// How often a fetch of that name failed. All names that no file has share one count.
+    pub fn fault_count(&self, name: &str) -> u64
+        ensures { result ≡ faults_of self.now name.now }
+    {
+        self.faults[place_named(&self.files, name)]
+    }
+
+    /// Whether the next call is one of those that are to fail.
+    fn is_to_fail(&self) -> bool
+        ensures { result ≡ list_any (λ call. call == self.now.calls) self.now.failing }
+    {
+        self.failing.contains(&self.calls)
+    }
+
+    /// Counts a call that failed at that name.
+    fn count_fault(&mut self, name: &str)
+        ensures counted { self.new ≡ fetched_in_vain self.old name.now }
+        ensures never_falls { (q : List ℕ) → faults_of self.old q ≤ faults_of self.new q }
+        ensures rose { Rose (faults_of self.old name.now) (faults_of self.new name.now) }
+    {
+        let place = place_named(&self.files, name);
+        self.calls = self.calls.saturating_add(1);
+        self.faults[place] = self.faults[place].saturating_add(1);
+    }
+}
+
+impl Files for MemoryFiles {
+    ghost file = { λ held name. bytes_of held.files name };
+
+    ghost faults = { faults_of };
+
+    /// As many bytes as the file has and the buffer takes.
+    ///
+    /// # Errors
+    ///
+    /// `Failed` exactly if the call is to fail or no file has the name. It raises the count of that name
+    /// by one, and no other; all names that no file has share one count.
+    fn fetch(&mut self, name: &str, at: u64, buffer: &mut [u8]) -> Result<usize, Failed>
+        ensures fails { IsErr result ↔ IsTrue (fetch_fails self.old name.now) }
+        ensures count { IfOk result (λ n. IfSome (bytes_of self.old.files name.now)
+            (λ bytes. n ≡ min (length buffer.new) (length bytes - at))) }
+        ensures piece { IfOk result (λ n. IfSome (bytes_of self.old.files name.now)
+            (λ bytes. IsPiece bytes at n buffer.new)) }
+        ensures ok { OnOk result (self.new ≡ fetched self.old) }
+        ensures err { OnErr result (self.new ≡ fetched_in_vain self.old name.now) }
+        ensures never_falls { (q : List ℕ) → faults_of self.old q ≤ faults_of self.new q }
+        ensures cause { OnErr result (Rose (faults_of self.old name.now) (faults_of self.new name.now)) }
+    {
+        let is_to_fail = self.is_to_fail();
+        match bytes_named(&self.files, name) {
+            Some(bytes) if !is_to_fail => {
+                let count = copy_piece(bytes, at, buffer);
+                self.calls = self.calls.saturating_add(1);
+                Ok(count)
+            }
+            _ => {
+                self.count_fault(name);
+                Err(Failed)
+            }
+        }
+    }
+}
+
+/// A sink in memory, which tells all its bytes. A write fails at the calls that are to fail, and where
+/// there is no memory for the bytes.
+#[derive(Drop)]
+pub struct MemorySink {
+    bytes: Vec<u8>,
+    most: usize,
+    faults: u64,
+    calls: u64,
+    failing: Vec<u64>,
+}
+
+impl Model for MemorySink {
+    ghost use Rattle.std.specs.Prelude.{vec_capacity};
+    ghost use Rattle.lwc_io.specs.Memory.{HeldBytes};
+
+    ghost Value = { HeldBytes };
+
+    ghost view = { λ s. record { bytes = s.bytes.items; room = vec_capacity s.bytes; most = s.most; faults = s.faults; calls = s.calls; failing = s.failing.items } };
+}
+
+impl MemorySink {
+    /// An empty sink that takes at most so many bytes a call. Of the writes, numbered from 0 on, those
+    /// in `failing` are to fail.
+    pub fn new(alloc: Global, most: usize, failing: Vec<u64>) -> Self
+        ensures { result ≡ record {
+          bytes = [];
+          room = result.room;
+          most = most;
+          faults = 0;
+          calls = 0;
+          failing = failing.items;
+        } }
+    {
+        MemorySink {
+            bytes: Vec::new(alloc),
+            most,
+            faults: 0,
+            calls: 0,
+            failing,
+        }
+    }
+
+    /// Makes room for so many bytes more, so that no write wants memory before they are taken.
+    ///
+    /// # Errors
+    ///
+    /// `AllocError` if there is no memory for them. The sink is as before.
+    pub fn reserve(&mut self, additional: usize) -> Result<(), AllocError>
+        ensures ok { OnOk result (length self.new.bytes + additional ≤ self.new.room) }
+        ensures same { self.new ≡ record self.old { room = self.new.room } }
+    {
+        self.bytes.reserve(additional)
+    }
+
+    /// All the bytes that it took, in order.
+    pub fn bytes(&self) -> &[u8]
+        ensures { result.now ≡ self.now.bytes }
+    {
+        self.bytes.as_slice()
+    }
+
+    /// How often a write failed.
+    pub fn fault_count(&self) -> u64
+        ensures { result ≡ self.now.faults }
+    {
+        self.faults
+    }
+
+    /// Whether a write of that piece fails, want of memory aside.
+    fn is_to_fail(&self, piece: &[u8]) -> bool
+        ensures { result ≡ write_fails self.now piece.now }
+    {
+        self.failing.contains(&self.calls) || self.most == 0 && !piece.is_empty()
+    }
+
+    /// Counts a call that failed.
+    fn count_fault(&mut self)
+        ensures counted { self.new ≡ wrote_in_vain self.old }
+        ensures never_falls { self.old.faults ≤ self.new.faults }
+    {
+        self.calls = self.calls.saturating_add(1);
+        self.faults = self.faults.saturating_add(1);
+    }
+
+    /// Counts a call and keeps the piece, or neither.
+    fn keep(&mut self, piece: &[u8]) -> Result<(), AllocError>
+        ensures ok { OnOk result (self.new ≡ record (wrote self.old piece.now) { room = self.new.room }) }
+        ensures err { OnErr result (self.new ≡ record self.old { room = self.new.room }) }
+        ensures full { OnErr result (self.old.room < length self.old.bytes + length piece.now) }
+    {
+        self.bytes.extend_from_slice(piece)?;
+        self.calls = self.calls.saturating_add(1);
+        Ok(())
+    }
+}
+
+impl Sink for MemorySink {
+    ghost taken = { λ held. Some held.bytes };
+
+    ghost faults = { λ held. held.faults };
+
+    /// Takes the whole piece, or as much of it as it takes a call.
+    ///
+    /// # Errors
+    ///
+    /// `Failed` if the call is to fail, if the sink takes no bytes and the piece is not empty, and if
+    /// there is no memory for the bytes. It raises the count of faults by one.
+    fn write(&mut self, piece: &[u8]) -> Result<usize, Failed>
+        ensures fails { IsTrue (write_fails self.old piece.now) → IsErr result }
+        ensures fails_only { OnErr result (IsTrue (write_fails self.old piece.now)
+            ⊎ (self.old.room < length self.old.bytes + min self.old.most (length piece.now))) }
+        ensures count { IfOk result (λ n. n ≡ min self.old.most (length piece.now)) }
+        ensures ok { IfOk result (λ n.
+            self.new ≡ record (wrote self.old (take n piece.now)) { room = self.new.room }) }
+        ensures err { OnErr result (self.new ≡ record (wrote_in_vain self.old) { room = self.new.room }) }
+        ensures never_falls { self.old.faults ≤ self.new.faults }
+    {
+        let count = self.most.min(piece.len());
+        if self.is_to_fail(piece) || self.keep(&piece[..count]).is_err() {
+            self.count_fault();
+            return Err(Failed);
+        }
+        Ok(count)
+    }
+}

@@ -1,0 +1,154 @@
+ghost use Rattle.std.specs.Prelude.{◌≡◌, ◌<◌, ◌≤◌, None, length, IfOk, OnOk, OnErr};
+ghost use Rattle.lwc_io.specs.Outside.{one_more};
+
+use crate::outside::{Failed, Files, Sink};
+use std::fs::File;
+use std::io::{self, ErrorKind, Read, Seek, SeekFrom, Write};
+use std::marker::Model;
+use std::rt;
+
+/// The files of the system, by their paths. What they hold is not told.
+#[derive(Drop)]
+pub struct RealFiles<R> {
+    rt: R,
+    faults: u64,
+}
+
+impl<R> Model for RealFiles<R> {
+    ghost use Rattle.lwc_io.specs.Real.{Counted};
+
+    ghost Value = { Counted R };
+
+    ghost view = { λ files. record { inner = files.rt; faults = files.faults } };
+}
+
+impl<R: rt::Files> RealFiles<R> {
+    /// The files that the runtime reaches.
+    pub fn new(rt: R) -> Self
+        ensures { result ≡ record { inner = rt; faults = 0 } }
+    {
+        RealFiles { rt, faults: 0 }
+    }
+
+    /// Opens the file anew and reads one piece.
+    fn read_piece(&self, name: &str, at: u64, buffer: &mut [u8]) -> io::Result<usize>
+        ensures { IfOk result (λ n. n ≤ length buffer.new) }
+    {
+        let mut file = File::open(&self.rt, name)?;
+        file.seek(SeekFrom::Start(at))?;
+        read_some(&mut file, buffer)
+    }
+}
+
+/// One read, tried again where a signal interrupts it.
+fn read_some<R: Read>(reader: &mut R, buffer: &mut [u8]) -> io::Result<usize>
+    ensures { IfOk result (λ n. n ≤ length buffer.new) }
+{
+    for _ in 0..u64::MAX {
+        match reader.read(buffer) {
+            Err(error) if error.kind() == ErrorKind::Interrupted => {}
+            outcome => return outcome,
+        }
+    }
+    Err(io::Error::from(ErrorKind::Interrupted))
+}
+
+impl<R: rt::Files> Files for RealFiles<R> {
+    ghost file = { λ _ _. None };
+
+    ghost faults = { λ files _. files.faults };
+
+    /// One read at that place, of a file that is opened for it. It may give less than the buffer takes.
+    ///
+    /// # Errors
+    ///
+    /// `Failed` if the system fails to open, seek or read, as where no file has the name or it is a
+    /// folder. It raises the count, which all names share, by one.
+    fn fetch(&mut self, name: &str, at: u64, buffer: &mut [u8]) -> Result<usize, Failed>
+        ensures count { IfOk result (λ n. n ≤ length buffer.new) }
+        ensures ok { OnOk result (self.new ≡ self.old) }
+        ensures err { OnErr result (self.new ≡ record self.old { faults = one_more self.old.faults }) }
+        ensures never_falls { self.old.faults ≤ self.new.faults }
+    {
+        match self.read_piece(name, at, buffer) {
+            Ok(count) => Ok(count),
+            Err(_) => {
+                self.faults = self.faults.saturating_add(1);
+                Err(Failed)
+            }
+        }
+    }
+}
+
+/// A writer of the system. What it took is not told.
+#[derive(Drop)]
+pub struct RealSink<W> {
+    writer: W,
+    faults: u64,
+}
+
+/// One write, tried again where a signal interrupts it.
+fn write_some<W: Write>(writer: &mut W, piece: &[u8]) -> io::Result<usize>
+    ensures { IfOk result (λ n. n ≤ length piece.now) }
+{
+    for _ in 0..u64::MAX {
+        match writer.write(piece) {
+            Err(error) if error.kind() == ErrorKind::Interrupted => {}
+            outcome => return outcome,
+        }
+    }
+    Err(io::Error::from(ErrorKind::Interrupted))
+}
+
+impl<W> Model for RealSink<W> {
+    ghost use Rattle.lwc_io.specs.Real.{Counted};
+
+    ghost Value = { Counted W };
+
+    ghost view = { λ sink. record { inner = sink.writer; faults = sink.faults } };
+}
+
+impl<W: Write> RealSink<W> {
+    /// A sink that writes to the writer.
+    pub fn new(writer: W) -> Self
+        ensures { result ≡ record { inner = writer; faults = 0 } }
+    {
+        RealSink { writer, faults: 0 }
+    }
+
+    /// The writer, with all that it was given.
+    pub fn into_inner(self) -> W
+        ensures { result ≡ self.inner }
+    {
+        let RealSink { writer, faults: _ } = self;
+        writer
+    }
+}
+
+impl<W: Write> Sink for RealSink<W> {
+    ghost taken = { λ _. None };
+
+    ghost faults = { λ sink. sink.faults };
+
+    /// One write of the writer's. It may take less than the piece.
+    ///
+    /// # Errors
+    ///
+    /// `Failed` if the writer fails, or takes no byte of a piece that is not empty. It raises the count
+    /// by one.
+    fn write(&mut self, piece: &[u8]) -> Result<usize, Failed>
+        ensures count { IfOk result (λ n. n ≤ length piece.now) }
+        ensures some { IfOk result (λ n. 0 < length piece.now → 0 < n) }
+        ensures ok { OnOk result (self.new.faults ≡ self.old.faults) }
+        ensures err { OnErr result (self.new.faults ≡ one_more self.old.faults) }
+        ensures never_falls { self.old.faults ≤ self.new.faults }
+    {
+        match write_some(&mut self.writer, piece) {
+            Ok(count) if count > 0 || piece.is_empty() => Ok(count),
+            _ => {
+                self.faults = self.faults.saturating_add(1);
+                Err(Failed)
+            }
+        }
+    }
+}

@@ -1,0 +1,57 @@
+ghost use Rattle.std.specs.Prelude.{◌≡◌, Some, None, unwrap_or, []};
+ghost use Rattle.lwc_io.specs.Memory.{bytes_of};
+
+use crate::memory::{NamedFile, bytes_named, copy_piece};
+use crate::outside::{Failed, Files, Sink};
+use std::marker::Model;
+
+/// Files in memory whose fetches never fail: a name that was not given is an empty file.
+#[derive(Drop)]
+pub struct SureFiles {
+    files: Vec<NamedFile>,
+}
+
+impl Model for SureFiles {
+    ghost use Rattle.std.specs.Prelude.{List};
+    ghost use Rattle.lwc_io.specs.Memory.{Named};
+
+    ghost Value = { List Named };
+
+    ghost view = { λ s. s.files.items };
+}
+
+impl SureFiles {
+    /// The given files. Where two have one name, the first is told.
+    pub fn new(files: Vec<NamedFile>) -> Self
+        ensures { result ≡ files.items }
+    {
+        SureFiles { files }
+    }
+}
+
+impl Files for SureFiles {
+    ghost file = { λ files name. Some (unwrap_or (bytes_of files name) []) };
+
+    ghost faults = { λ _ _. 0 };
+
+    /// As many bytes as the file has and the buffer takes. Never fails.
+    fn fetch(&mut self, name: &str, at: u64, buffer: &mut [u8]) -> Result<usize, Failed> {
+        let bytes = bytes_named(&self.files, name).unwrap_or(&[]);
+        Ok(copy_piece(bytes, at, buffer))
+    }
+}
+
+/// A sink that takes each piece whole and keeps nothing of it. Its writes never fail.
+#[derive(Clone, Copy, Debug, PartialEq, Eq, Default)]
+pub struct SureSink;
+
+impl Sink for SureSink {
+    ghost taken = { λ _. None };
+
+    ghost faults = { λ _. 0 };
+
+    /// Takes the whole piece. Never fails.
+    fn write(&mut self, piece: &[u8]) -> Result<usize, Failed> {
+        Ok(piece.len())
+    }
+}

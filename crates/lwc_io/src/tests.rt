@@ -1,0 +1,130 @@
+use crate::{
+    Failed, Files, Gate, MemoryFiles, MemorySink, NamedFile, OpenGate, RealFiles, RealSink, Sink,
+    SureFiles, SureSink,
+};
+use std::process::Abort;
+use std::test::Fail;
+use std::{env, fs, process};
+
+/// Checks what fetches of two bytes each, at 0, 2, 4 and so on, answer.
+fn check_fetches<F: Files>(
+    rt: &impl Abort,
+    files: &mut F,
+    name: &str,
+    pieces: &[Result<&[u8], Failed>],
+) {
+    let mut at = 0u64;
+    for piece in pieces {
+        let mut buffer = [0u8; 2];
+        let got = files.fetch(name, at, &mut buffer).map(|count| count.min(2));
+        match (got, *piece) {
+            (Ok(count), Ok(bytes)) => assert_eq!(rt; &buffer[..count], bytes, "{name} at {at}"),
+            (got, piece) => {
+                assert_eq!(rt; got.is_err(), piece.is_err(), "{name} at {at}");
+            }
+        }
+        at = at.saturating_add(2);
+    }
+}
+
+#[test]
+fn memory_files_fail_at_the_calls_that_are_to_fail(rt: HostRuntime) -> Result<(), Fail> {
+    let pieces: [Result<&[u8], Failed>; 4] = [Ok(b"ab"), Ok(b"cd"), Ok(b"e"), Ok(b"")];
+    for failing in 0..4usize {
+        let image = NamedFile::new(rt.alloc(), "image", b"abcde")?;
+        let calls = vec![in rt.alloc(); failing as u64]?;
+        let mut files = MemoryFiles::new(rt.alloc(), vec![in rt.alloc(); image]?, calls)?;
+        let mut wanted = pieces;
+        wanted[failing] = Err(Failed);
+        check_fetches(&rt, &mut files, "image", &wanted);
+        check_fetches(&rt, &mut files, "absent", &[Err(Failed), Err(Failed)]);
+        assert_eq!(rt; files.fault_count("image"), 1);
+        assert_eq!(rt; files.fault_count("absent"), 2);
+    }
+    Ok(())
+}
+
+#[test]
+fn sure_files_are_empty_where_none_was_given(rt: HostRuntime) -> Result<(), Fail> {
+    let first = NamedFile::new(rt.alloc(), "image", b"abc")?;
+    let second = NamedFile::new(rt.alloc(), "image", b"second")?;
+    let mut files = SureFiles::new(vec![in rt.alloc(); first, second]?);
+    check_fetches(
+        &rt,
+        &mut files,
+        "image",
+        &[Ok(b"ab"), Ok(b"c"), Ok(b""), Ok(b"")],
+    );
+    check_fetches(&rt, &mut files, "absent", &[Ok(b""), Ok(b"")]);
+    Ok(())
+}
+
+/// Checks what writes of the same piece answer.
+fn check_writes<S: Sink>(
+    rt: &impl Abort,
+    sink: &mut S,
+    piece: &[u8],
+    counts: &[Result<usize, Failed>],
+) {
+    for count in counts {
+        assert_eq!(rt; sink.write(piece), *count);
+    }
+}
+
+#[test]
+fn memory_sink_takes_a_byte_a_call_and_fails_at_the_calls_that_are_to_fail(
+    rt: HostRuntime,
+) -> Result<(), Fail> {
+    for failing in 0..3usize {
+        let calls = vec![in rt.alloc(); failing as u64]?;
+        let mut sink = MemorySink::new(rt.alloc(), 1, calls);
+        sink.reserve(2)?;
+        let mut wanted = [Ok(1), Ok(1), Ok(1)];
+        wanted[failing] = Err(Failed);
+        check_writes(&rt, &mut sink, b"xy", &wanted);
+        assert_eq!(rt; sink.bytes(), b"xx".as_slice());
+        assert_eq!(rt; sink.fault_count(), 1);
+    }
+    Ok(())
+}
+
+#[test]
+fn a_sink_that_takes_nothing_fails(rt: HostRuntime) -> Result<(), Fail> {
+    let mut sink = MemorySink::new(rt.alloc(), 0, Vec::new(rt.alloc()));
+    check_writes(&rt, &mut sink, b"x", &[Err(Failed)]);
+    check_writes(&rt, &mut sink, b"", &[Ok(0)]);
+    let mut none = [];
+    let mut full = RealSink::new(none.as_mut_slice());
+    check_writes(&rt, &mut full, b"x", &[Err(Failed)]);
+    check_writes(&rt, &mut SureSink, b"xyz", &[Ok(3)]);
+    OpenGate.before(&rt, 0, 0);
+    Ok(())
+}
+
+#[test]
+fn real_sink_writes_to_its_writer(rt: HostRuntime) -> Result<(), Fail> {
+    let mut sink = RealSink::new(Vec::new(rt.alloc()));
+    check_writes(&rt, &mut sink, b"ab", &[Ok(2), Ok(2)]);
+    check_writes(&rt, &mut sink, b"", &[Ok(0)]);
+    assert_eq!(rt; sink.into_inner().as_slice(), b"abab".as_slice());
+    Ok(())
+}
+
+#[test]
+fn real_files_read_what_was_written(rt: HostRuntime) -> Result<(), Fail> {
+    let name = format!(in rt.alloc(); "lwc_io-{}", process::id(rt.process()))?;
+    let path = env::temp_dir(&rt)?.join(rt.alloc(), name.as_str())?;
+    let path = path.as_path().as_str();
+    fs::write(&rt, path, b"abcde".as_slice())?;
+    let mut files = RealFiles::new(&rt);
+    check_fetches(
+        &rt,
+        &mut files,
+        path,
+        &[Ok(b"ab"), Ok(b"cd"), Ok(b"e"), Ok(b"")],
+    );
+    fs::remove_file(&rt, path)?;
+    check_fetches(&rt, &mut files, path, &[Err(Failed)]);
+    check_fetches(&rt, &mut files, ".", &[Err(Failed)]);
+    Ok(())
+}
