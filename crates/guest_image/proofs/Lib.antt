@@ -4,3 +4,4 @@ pub mod FieldLaws
 pub mod ValueLaws
 pub mod PartLaws
 pub mod WholeLaws
+pub mod Writes

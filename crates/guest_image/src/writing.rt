@@ -2,8 +2,9 @@ ghost use Rattle.std.specs.Prelude.{◌≡◌, ◌++◌, ◌<◌, ◌^◌, lengt
 ghost use Rattle.std.specs.List.{flat_map};
 ghost use Rattle.guest_isa.specs.Spelling as instructions;
 ghost use Rattle.guest_image.specs.Limits.{IsImage};
-ghost use Rattle.guest_image.specs.Spelling.{number, magic, header, header_of, page, file, file as file_spelling, slot, spelling};
+ghost use Rattle.guest_image.specs.Spelling.{number, flag, magic, header, header_of, page, file, file as file_spelling, slot, spelling};
 
+use crate::header::Header;
 use crate::image::{Image, PageImage, SlotImage};
 use guest_isa::{Text, encode};
 use lwc_base::{FileImage, OutOfMemory};
@@ -16,17 +17,37 @@ fn put_number(out: &mut Vec<u8>, value: u32) -> Result<(), OutOfMemory>
     Ok(())
 }
 
-fn put_header(out: &mut Vec<u8>, image: &Image) -> Result<(), OutOfMemory>
+fn put_flag(out: &mut Vec<u8>, value: bool) -> Result<(), OutOfMemory>
+    ensures { OnOk result (out.new.items ≡ out.old.items ++ flag value) }
+{
+    put_number(out, if value { 1 } else { 0 })
+}
+
+fn header_of(image: &Image) -> Header
     requires { IsImage image.now }
-    ensures { OnOk result (out.new.items ≡ out.old.items ++ header (header_of image.now)) }
+    ensures { result ≡ header_of image.now }
+{
+    Header {
+        instructions: image.text.len() as u32,
+        pages: image.pages.len() as u32,
+        files: image.files.len() as u32,
+        slots: image.slots.len() as u32,
+        threads: image.entries.len() as u32,
+        uid: image.uid,
+    }
+}
+
+fn put_header(out: &mut Vec<u8>, head: &Header) -> Result<(), OutOfMemory>
+    ensures { OnOk result (out.new.items ≡ out.old.items ++ header head.now) }
 {
     out.extend_from_slice(b"LWC1")?;
-    put_number(out, image.text.len() as u32)?;
-    put_number(out, image.pages.len() as u32)?;
-    put_number(out, image.files.len() as u32)?;
-    put_number(out, image.slots.len() as u32)?;
-    put_number(out, image.entries.len() as u32)?;
-    put_number(out, image.uid)
+    put_number(out, head.instructions)?;
+    put_number(out, head.pages)?;
+    put_number(out, head.files)?;
+    put_number(out, head.slots)?;
+    put_number(out, head.threads)?;
+    put_number(out, head.uid)?;
+    Ok(())
 }
 
 fn put_text(out: &mut Vec<u8>, text: &Text) -> Result<(), OutOfMemory>
@@ -53,7 +74,7 @@ fn put_file(out: &mut Vec<u8>, file: &FileImage) -> Result<(), OutOfMemory>
     ensures { OnOk result (out.new.items ≡ out.old.items ++ file_spelling file.now) }
 {
     put_number(out, file.owner)?;
-    put_number(out, u32::from(file.public))?;
+    put_flag(out, file.public)?;
     put_number(out, file.bytes.len() as u32)?;
     out.extend_from_slice(file.bytes.as_slice())?;
     Ok(())
@@ -95,7 +116,7 @@ pub fn write_image(alloc: Global, image: &Image) -> Result<Vec<u8>, OutOfMemory>
     ensures { IfOk result (λ bytes. bytes.items ≡ spelling image.now) }
 {
     let mut out = Vec::new(alloc);
-    put_header(&mut out, image)?;
+    put_header(&mut out, &header_of(image))?;
     put_text(&mut out, &image.text)?;
     put_pages(&mut out, image.pages.as_slice())?;
     put_files(&mut out, image.files.as_slice())?;
