@@ -1,2 +1,3 @@
 pub mod Orders
 pub mod Live
+pub mod OwnCells

@@ -1,6 +1,9 @@
 -- What a list has at each place after one of its places is written.
-use Rattle.std.proofs.Common.{◌≡◌, ℕ, zero, suc, ◌+◌, ◌<◌, ◌≢◌, List, [], ◌∷◌, length, get_or, refl, ap, subst, arith, Bool, true, false, eqb, cond, IsTrue}
-use Rattle.std.specs.Prelude.{replicate}
+use Rattle.std.proofs.Common.{◌≡◌, ℕ, zero, suc, ◌+◌, ◌<◌, ◌≤◌, ◌≢◌, List, [], ◌∷◌, length, get_or, refl, ap, subst, arith, Bool, true, false, eqb, cond, IsTrue}
+use Rattle.std.specs.Prelude.{replicate, count_by}
+use Rattle.std.specs.List.{range_with_len}
+use Rattle.std.proofs.lemmas.List.FromFn.{length-range_with_len}
+use Rattle.std.proofs.lemmas.List.Sums.{count_by-le-length}
 use Rattle.std.proofs.Math.ListN.{set}
 use Rattle.std.proofs.lemmas.Grind.{common_steps}
 use Rattle.std.proofs.lemmas.List.{get_or-set_same, get_or-set_other}
@@ -14,3 +17,7 @@ pub place_of_replicate : {A : Type 0} (count : ℕ) (v : A) (j : ℕ) → get_or
 place_of_replicate zero v j = refl
 place_of_replicate (suc count) v zero = refl
 place_of_replicate (suc count) v (suc j) = place_of_replicate count v j
+
+-- no more of a range are counted than it has
+pub count_of_range : (p : ℕ → Bool) (first count : ℕ) → count_by p (range_with_len first count) ≤ count
+count_of_range p first count = subst (λ n. count_by p (range_with_len first count) ≤ n) (length-range_with_len first count) (count_by-le-length p (range_with_len first count))

@@ -3,6 +3,7 @@
 
 mod counts;
 mod held;
+mod tags;
 mod world;
 
 pub use world::WholeWorld;
