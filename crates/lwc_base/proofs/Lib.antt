@@ -1,3 +1,4 @@
 pub mod Orders
 pub mod Live
 pub mod OwnCells
+pub mod Zeros
