@@ -1,6 +1,6 @@
 -- A field that is read is the field that was written, and what was written is read again.
-use Rattle.std.proofs.Common.{◌≡◌, ℕ, zero, suc, ◌+◌, ◌^◌, ◌<◌, ◌≤◌, Bool, true, false, cond, ltb, eqb, List, [], ◌∷◌, ◌++◌, length, get_or, take, drop, Result, Ok, Err, refl, sym, ap, subst, ◌∙◌, append_assoc, arith, inl, inr, lit<}
-use Rattle.std.specs.Int.{w32, to_le_bytes, from_le_bytes}
+use Rattle.std.proofs.Common.{◌≡◌, ℕ, suc, ◌+◌, ◌^◌, ◌<◌, ◌≤◌, Bool, true, false, cond, ltb, eqb, List, [], ◌∷◌, ◌++◌, length, get_or, take, drop, Result, Ok, Err, refl, sym, ap, subst, ◌∙◌, append_assoc, arith, inl, inr, lit<}
+use Rattle.std.specs.Int.{w32, from_le_bytes}
 use Rattle.std.proofs.lemmas.Bool.{cases_lt, ltb-false, le-ltb, eqb-true, and_parts, and_from, leb-true, le-leb}
 use Rattle.std.proofs.lemmas.List.{take_at, drop_at, take-append-drop, length-append, length-take, get_or-drop, get_or-take, get_or_past}
 use Rattle.std.proofs.lemmas.Nat.{le_bytes_4, from_le_bytes-to_le_bytes_4}
@@ -9,7 +9,7 @@ use Rattle.guest_image.specs.declared.stop.Stop.{Stop}
 use Rattle.guest_image.specs.declared.header.Header.{Header}
 use Rattle.guest_image.specs.Limits.{page_limit}
 use Rattle.guest_image.specs.Spelling.{number, magic, header}
-use Rattle.guest_image.specs.Reading.{◌>>=◌, bytes_at, number_at, number_where, byte_at, magic_at, count_at, header_at, stop, truncated, refused}
+use Rattle.guest_image.specs.Reading.{◌>>=◌, bytes_at, number_at, number_where, byte_at, magic_at, count_at, header_at, stop, refused}
 
 abbrev pub IsBytes : List ℕ → Type 0
 IsBytes bytes = (i : ℕ) → get_or bytes i 0 < 256

@@ -1,9 +1,9 @@
 -- Each list of an image: what is read of it is spelled so and within the limits, and what is spelled so within the limits is read.
-use Rattle.std.proofs.Common.{◌≡◌, ℕ, zero, suc, ◌+◌, ◌^◌, ◌<◌, ◌≤◌, Bool, true, false, ◌&&◌, ltb, leb, eqb, List, [], ◌∷◌, ◌++◌, length, Option, Some, None, Result, Ok, Err, refl, sym, ap, subst, ◌∙◌, arith, All, map}
+use Rattle.std.proofs.Common.{◌≡◌, ℕ, zero, suc, ◌+◌, ◌^◌, ◌<◌, ◌≤◌, Bool, true, false, ◌&&◌, ltb, eqb, List, [], ◌∷◌, ◌++◌, length, Option, Some, None, Ok, refl, sym, ap, subst, ◌∙◌, arith, All}
 use Rattle.std.specs.Prelude.{IsTrue}
 use Rattle.std.proofs.lemmas.Bool.{and_parts, and_from, ltb-true, lt-ltb, leb-true, le-leb}
 use Rattle.std.proofs.lemmas.List.{get_or_append_left, length-append, map_push, map-append}
-use Rattle.std.proofs.lemmas.List.Elements.{All-push, All-contains, All-nil, Contains-push}
+use Rattle.std.proofs.lemmas.List.Elements.{All-push, All-contains, Contains-push}
 use Rattle.std.proofs.lemmas.List.Sums.{sum_by_push, sum_by-append}
 use Rattle.lwc_base.specs.declared.channels.FileImage.{FileImage}
 use Rattle.guest_isa.specs.declared.instr.Instr.{Instr}
@@ -17,7 +17,7 @@ use Rattle.guest_image.specs.declared.image.SlotImage.{SlotImage}
 use Rattle.guest_image.specs.Numbers.{is_above, begins, last, rising, ranges, rising_after, ranges_after}
 use Rattle.guest_image.specs.Limits.{page_limit, range_limit, content_limit, stays_inside, page_numbers, slot_numbers, content, ArePages, AreFiles, AreSlots}
 use Rattle.guest_image.specs.Spelling.{number, flag, page, file, slot}
-use Rattle.guest_image.specs.Reading.{◌>>=◌, stop, bytes_at, number_at, number_where, checked, instruction_at, page_number_at, page_at, public_at, length_at, file_at, slot_number_at, slot_file_at, slot_at, entry_at}
+use Rattle.guest_image.specs.Reading.{stop, bytes_at, number_at, number_where, checked, instruction_at, page_number_at, page_at, public_at, length_at, file_at, slot_number_at, slot_file_at, slot_at, entry_at}
 use Rattle.guest_image.proofs.FieldLaws.{IsBytes, bind_ok, passed, ok_is, Takes, Takes-then, bytes_take, bytes_again, number_takes, number_again, where_takes, where_again}
 use Rattle.guest_image.proofs.ValueLaws.{TakesEach, ReadsEach}
 use Rattle.guest_image.proofs.Push.{rising-push, page_ranges}

@@ -1,10 +1,10 @@
 -- Values one after another: what is read of them is what was written, and what was written is read again.
-use Rattle.std.proofs.Common.{◌≡◌, ℕ, zero, suc, List, [], ◌∷◌, ◌++◌, length, Result, Ok, Err, refl, sym, ap, subst, ◌∙◌, append_assoc}
+use Rattle.std.proofs.Common.{◌≡◌, ℕ, zero, suc, List, [], ◌∷◌, ◌++◌, length, Result, Ok, refl, sym, ap, subst, ◌∙◌, append_assoc}
 use Rattle.std.specs.List.{flat_map}
 use Rattle.std.proofs.lemmas.List.{append-nil}
 use Rattle.std.proofs.lemmas.List.Concat.{flat_map-cons}
 use Rattle.guest_image.specs.declared.stop.Stop.{Stop}
-use Rattle.guest_image.specs.Reading.{◌>>=◌, list_at}
+use Rattle.guest_image.specs.Reading.{list_at}
 use Rattle.guest_image.proofs.FieldLaws.{IsBytes, bind_ok, ok_is, Takes, Takes-then}
 
 -- how a value is read after others

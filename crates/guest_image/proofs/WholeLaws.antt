@@ -1,5 +1,5 @@
 -- The whole image: what is read is an image and its bytes, and the bytes of an image are read.
-use Rattle.std.proofs.Common.{◌≡◌, ℕ, ◌+◌, ◌*◌, ◌^◌, ◌<◌, ◌≤◌, Bool, true, false, cond, eqb, ltb, List, [], ◌∷◌, ◌++◌, length, Result, Ok, Err, refl, sym, ap, subst, ◌∙◌, append_assoc, arith, All, IfOk}
+use Rattle.std.proofs.Common.{◌≡◌, ℕ, ◌+◌, ◌*◌, ◌^◌, ◌<◌, ◌≤◌, Bool, true, false, cond, eqb, ltb, List, [], ◌∷◌, ◌++◌, length, Result, Ok, Err, refl, sym, ap, subst, ◌∙◌, arith, All, IfOk}
 use Rattle.std.specs.List.{flat_map, sum_by}
 use Rattle.std.specs.Prelude.{IsTrue}
 use Rattle.std.proofs.lemmas.Bool.{eqb-true, le-ltb}
@@ -11,7 +11,6 @@ use Rattle.lwc_base.specs.declared.channels.FileImage.{FileImage}
 use Rattle.guest_isa.specs.declared.instr.Instr.{Instr}
 use Rattle.guest_isa.specs.Spelling as instructions
 use Rattle.guest_image.specs.declared.fault.ImageFault.{ImageFault}
-use Rattle.guest_image.specs.declared.fault.ImageFault.TheVariants as faults
 use Rattle.guest_image.specs.declared.fault.ImageRule.TheVariants.{Trailing}
 use Rattle.guest_image.specs.declared.stop.Stop.{Stop}
 use Rattle.guest_image.specs.declared.header.Header.{Header}
@@ -19,9 +18,9 @@ use Rattle.guest_image.specs.declared.image.Image.{Image}
 use Rattle.guest_image.specs.declared.image.PageImage.{PageImage}
 use Rattle.guest_image.specs.declared.image.SlotImage.{SlotImage}
 use Rattle.guest_image.specs.Numbers.{last, ranges, rising_after, ranges_after}
-use Rattle.guest_image.specs.Limits.{page_limit, file_limit, content_limit, stays_inside, page_numbers, slot_numbers, content, ArePages, AreFiles, AreSlots, IsImage}
+use Rattle.guest_image.specs.Limits.{page_limit, file_limit, stays_inside, page_numbers, slot_numbers, content, ArePages, AreFiles, AreSlots, IsImage}
 use Rattle.guest_image.specs.Spelling.{number, header, page, file, slot, header_of, body, spelling}
-use Rattle.guest_image.specs.Reading.{◌>>=◌, stop, header_at, instruction_at, page_at, file_at, slot_at, entry_at, list_at, instructions_at, pages_at, files_at, slots_at, entries_at, parts_at, Refused, in_file, image_at, Answers}
+use Rattle.guest_image.specs.Reading.{stop, header_at, instruction_at, page_at, file_at, slot_at, entry_at, list_at, instructions_at, pages_at, files_at, slots_at, entries_at, parts_at, Refused, in_file, image_at, Answers}
 use Rattle.guest_image.proofs.FieldLaws.{IsBytes, bind_ok, passed, Takes, HeaderFits, header_takes, header_again}
 use Rattle.guest_image.proofs.ValueLaws.{values_take, values_again}
 use Rattle.guest_image.proofs.PartLaws.{IsCode, code_takes, code_reads, pages_take, pages_read, files_take, files_read, slots_take, slots_read, entries_take, entries_read}

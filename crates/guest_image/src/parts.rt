@@ -64,6 +64,7 @@ pub(crate) fn begins(last: Option<u16>, number: u32) -> u16
     }
 }
 
+// A page's number, and the bytes after it.
 #[tactic(auto, unfolding(crate::specs::Reading::number_where))]
 fn page_number_of(last: Option<u16>, ranges: u16, bytes: &[u8]) -> Result<(u16, &[u8]), ReadError>
     requires { ranges ≤ range_limit }
@@ -97,6 +98,7 @@ pub(crate) fn page_of(
     Ok((PageImage { number, bytes }, rest))
 }
 
+// Whether a file is public, and the bytes after it.
 #[tactic(auto, unfolding(crate::specs::Reading::number_where))]
 fn public_of(bytes: &[u8]) -> Result<(bool, &[u8]), ReadError>
     ensures { Gives (λ x. (x.0, x.1.now)) result (public_at bytes.now) }
@@ -109,6 +111,7 @@ fn public_of(bytes: &[u8]) -> Result<(bool, &[u8]), ReadError>
     }
 }
 
+// A file's length, and the bytes after it.
 #[tactic(auto, unfolding(crate::specs::Reading::number_where))]
 fn length_of(content: u64, bytes: &[u8]) -> Result<(u32, &[u8]), ReadError>
     requires { content ≤ content_limit }
@@ -147,6 +150,7 @@ pub(crate) fn file_of(
     Ok((file, rest))
 }
 
+// A slot's number, and the bytes after it.
 #[tactic(auto, unfolding(crate::specs::Reading::number_where))]
 fn slot_number_of(last: Option<u16>, bytes: &[u8]) -> Result<(u8, &[u8]), ReadError>
     ensures { Gives (λ x. (x.0, x.1.now)) result (slot_number_at last bytes.now) }
@@ -159,6 +163,7 @@ fn slot_number_of(last: Option<u16>, bytes: &[u8]) -> Result<(u8, &[u8]), ReadEr
     }
 }
 
+// One of so many files, and the bytes after it.
 #[tactic(auto, unfolding(crate::specs::Reading::number_where))]
 fn slot_file_of(files: u32, bytes: &[u8]) -> Result<(u8, &[u8]), ReadError>
     requires { files ≤ 64 }
