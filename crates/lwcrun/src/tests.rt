@@ -142,3 +142,100 @@ fn guests_run_as_their_schedules_say(rt: HostRuntime) -> Result<(), Fail> {
     }
     Ok(())
 }
+
+/// What is said of a line that is not accepted.
+const USAGE: &str = "lwcrun: usage: lwcrun replay IMAGE SCHEDULE [REQUESTS], run IMAGE, serve IMAGE REQUESTS, asm SOURCE, \
+    dis IMAGE, gen NUMBER; --frames F --budget B --workers W\n";
+
+#[test]
+fn lines_set_frames_and_budget(rt: HostRuntime) -> Result<(), Fail> {
+    let alloc = rt.alloc();
+    let endless = image(alloc, &ENDLESS, &[], &[0])?;
+    let left = call(&rt, &endless, b"0000", &["replay", "guest", "schedule", "--budget", "3"], SURE)?;
+    assert_eq!(rt; left.out.bytes(), b"thread 0 fault 5 ctx 0.0 pc 0\nregs 0 0 0 0 0 0 0 0 0 0 0 0 0 0 0 0 0\n\
+        context 0.0 pages 0 slots 2 uid 0\ngroups 0\nconsole -\nused 0\npeak 0\nsteps 3\nschedule 000\n".as_slice());
+    let two_pages = image(alloc, &STORE_LOAD, &[0, 1], &[0])?;
+    let cases: [(&[&str], ExitStatus, &str); 9] = [
+        (&["replay", "guest", "schedule", "--frames", "1"], ExitStatus::ImageTooLarge, "lwcrun: image has 2 pages, frames are 1\n"),
+        (&["replay", "guest", "schedule", "--frames", "2", "--budget", "0000000003"], ExitStatus::Usage, USAGE),
+        (&["replay", "guest", "schedule", "--frames", "2", "--budget", "000000003"], ExitStatus::Ok, ""),
+        (&["replay", "guest", "schedule", "--frames", "65537"], ExitStatus::Usage, USAGE),
+        (&["replay", "guest", "schedule", "--budget", "0"], ExitStatus::Usage, USAGE),
+        (&["replay", "guest", "schedule", "--budget", "3", "--frames", "2"], ExitStatus::Usage, USAGE),
+        (&["replay", "guest"], ExitStatus::Usage, USAGE),
+        (&["walk", "guest", "schedule"], ExitStatus::Usage, USAGE),
+        (&[], ExitStatus::Usage, USAGE),
+    ];
+    for (words, status, said) in cases {
+        let left = call(&rt, &two_pages, b"000", words, SURE)?;
+        assert_eq!(rt; left.status, status, "{said}");
+        assert_eq!(rt; left.err.bytes(), said.as_bytes());
+        assert_eq!(rt; left.out.bytes().is_empty(), status != ExitStatus::Ok);
+    }
+    Ok(())
+}
+
+#[test]
+fn inputs_are_refused_with_rule_and_offset(rt: HostRuntime) -> Result<(), Fail> {
+    let alloc = rt.alloc();
+    let guest = image(alloc, &STORE_LOAD, &[0], &[0])?;
+    let mut longer = guest.clone()?;
+    longer.push(0)?;
+    let mut other_magic = guest.clone()?;
+    if let Some(first) = other_magic.first_mut() {
+        *first = 0x4d;
+    }
+    let cases: [(&[u8], &str, ExitStatus, &str); 8] = [
+        (guest.get(..3).unwrap_or(&[]), "000", ExitStatus::ImageRefused, "lwcrun: image refused: Truncated at 3\n"),
+        (guest.get(..20).unwrap_or(&[]), "000", ExitStatus::ImageRefused, "lwcrun: image refused: Truncated at 20\n"),
+        (guest.get(..4163).unwrap_or(&[]), "000", ExitStatus::ImageRefused, "lwcrun: image refused: Truncated at 4163\n"),
+        (&longer, "000", ExitStatus::ImageRefused, "lwcrun: image refused: Trailing at 4164\n"),
+        (&other_magic, "0g", ExitStatus::ImageRefused, "lwcrun: image refused: BadMagic at 0\n"),
+        (&guest, "0g", ExitStatus::InputRefused, "lwcrun: input refused: BadThread at 1\n"),
+        (&guest, "1", ExitStatus::InputRefused, "lwcrun: input refused: BadThread at 0\n"),
+        (&guest, "0\t0", ExitStatus::InputRefused, "lwcrun: input refused: BadThread at 1\n"),
+    ];
+    for (bytes, schedule, status, said) in cases {
+        let left = call(&rt, bytes, schedule.as_bytes(), &REPLAY, SURE)?;
+        assert_eq!(rt; left.status, status, "{said}");
+        assert_eq!(rt; left.err.bytes(), said.as_bytes());
+        assert_eq!(rt; left.out.bytes().len(), 0);
+    }
+    Ok(())
+}
+
+#[test]
+fn a_fetch_that_fails_is_said_with_its_file(rt: HostRuntime) -> Result<(), Fail> {
+    let guest = image(rt.alloc(), &STORE_LOAD, &[0], &[0])?;
+    let none = call(&rt, &guest, b"000", &["replay", "none", "schedule"], SURE)?;
+    assert_eq!(rt; none.status, ExitStatus::ReadFault);
+    assert_eq!(rt; none.err.bytes(), b"lwcrun: cannot read none\n".as_slice());
+    // Each file is fetched once for its bytes and once for its end.
+    for fetch in 0..5 {
+        let left = call(&rt, &guest, b"000", &REPLAY, Outside { fetch, ..SURE })?;
+        let said = match fetch {
+            0 | 1 => "lwcrun: cannot read guest\n",
+            2 | 3 => "lwcrun: cannot read schedule\n",
+            _ => "",
+        };
+        assert_eq!(rt; left.err.bytes(), said.as_bytes(), "at fetch {fetch}");
+        assert_eq!(rt; left.status == ExitStatus::Ok, fetch == 4);
+        assert_eq!(rt; left.out.bytes().is_empty(), fetch != 4);
+    }
+    Ok(())
+}
+
+#[test]
+fn a_write_that_fails_leaves_a_front_of_the_text(rt: HostRuntime) -> Result<(), Fail> {
+    let guest = image(rt.alloc(), &STORE_LOAD, &[0], &[0])?;
+    for write in 0..STORED.len() + 1 {
+        let outside = Outside { most: 1, write: write as u64, ..SURE };
+        let left = call(&rt, &guest, b"000", &REPLAY, outside)?;
+        assert_eq!(rt; Some(left.out.bytes()), STORED.as_bytes().get(..write));
+        assert_eq!(rt; left.status == ExitStatus::Ok, write == STORED.len());
+        assert_eq!(rt; left.err.bytes() == b"lwcrun: cannot write\n".as_slice(), write < STORED.len());
+    }
+    let none = call(&rt, &guest, b"000", &REPLAY, Outside { most: 0, ..SURE })?;
+    assert_eq!(rt; none.status, ExitStatus::WriteFault);
+    Ok(())
+}
