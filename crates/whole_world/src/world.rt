@@ -1,4 +1,4 @@
-ghost use Rattle.std.specs.Prelude.{◌≡◌, ◌^◌, ◌<◌, ◌≤◌, IfOk, IsTrue, OnErr, OnOk, replicate, slice_get, vec_len};
+ghost use Rattle.std.specs.Prelude.{◌≡◌, ◌^◌, ◌<◌, ◌≤◌, IfOk, IsTrue, OnErr, OnOk, count_by, nat_lt, replicate, slice_get, vec_len};
 ghost use Rattle.std.specs.Option.{ForSome};
 
 use crate::counts::Counts;
@@ -10,10 +10,10 @@ use std::alloc::Global;
 /// as `size_of`, which no call changes. After an error nothing has changed.
 #[derive(Drop)]
 pub struct WholeWorld {
-    alloc: Global,
-    size: WorldSize,
-    context: Option<Held>,
-    counts: Vec<Counts>,
+    pub(crate) alloc: Global,
+    pub(crate) size: WorldSize,
+    pub(crate) context: Option<Held>,
+    pub(crate) counts: Vec<Counts>,
     ghost counted: { vec_len counts ≡ size.jobs },
     ghost whole: { ForSome context (λ held. vec_len held.pages ≡ size.pages) },
     ghost some_job: { 1 ≤ size.jobs },
@@ -22,12 +22,14 @@ pub struct WholeWorld {
 
 impl WholeWorld {
     ghost use Rattle.std.specs.FinMap as fm;
+    ghost use Rattle.std.specs.List.{range_with_len};
+    ghost use Rattle.lwc_base.specs.declared.name.Tag.{Tag};
     ghost use Rattle.lwc_base.specs.Cells.{put_slot, slot_at};
     ghost use Rattle.lwc_base.specs.Mapping.{map_pages};
-    ghost use Rattle.lwc_base.specs.Frames.{used};
+    ghost use Rattle.lwc_base.specs.Frames.{is_shared_tag, used};
     ghost use Rattle.lwc_base.specs.Summaries.{summary_of};
     ghost use Rattle.lwc_base.specs.World.{add_context, context, count_on, empty_world, is_live, new_context, next_context};
-    ghost use Rattle.whole_world.specs.Copies.{context_of};
+    ghost use Rattle.whole_world.specs.Copies.{context_of, has_tag};
     ghost use Rattle.whole_world.specs.Seen.{counters_of, seen, size_of};
 
     /// A world of a size, without contexts and groups: 1 to 65536 frames, 1 to 529 contexts, 1 to 1024 groups, 1 to
@@ -80,7 +82,7 @@ impl WholeWorld {
 
     /// What a job has counted.
     #[tactic(auto, unfolding(crate::specs::Seen::size_of))]
-    fn counted(&self, job: u32) -> Counts
+    pub(crate) fn counted(&self, job: u32) -> Counts
         requires { job < (size_of self.now).jobs }
         ensures { (seen self.now).next job ≡ counters_of result }
     {
@@ -89,7 +91,7 @@ impl WholeWorld {
 
     /// A job has counted this much.
     #[tactic(auto, unfolding(crate::specs::Seen::size_of))]
-    fn set_counted(&mut self, job: u32, counts: Counts)
+    pub(crate) fn set_counted(&mut self, job: u32, counts: Counts)
         requires { job < (size_of self.old).jobs }
         ensures world { seen self.new ≡ count_on (seen self.old) job (λ _. counters_of counts) }
         ensures size { size_of self.new ≡ size_of self.old }
@@ -125,11 +127,13 @@ impl WholeWorld {
     }
 
     /// What is held of a context.
-    fn held(&self, c: Name) -> &Held
+    pub(crate) fn held(&self, c: Name) -> &Held
         requires live { IsTrue (is_live (seen self.now) c) }
         ensures context { context (seen self.now) c ≡ context_of result.now }
         ensures pages { vec_len result.now.pages ≡ (seen self.now).pages }
         ensures few { vec_len result.now.pages ≤ 16384 }
+        ensures shared { (tag : Tag) → is_shared_tag (seen self.now) tag
+            ≡ nat_lt 1 (count_by (has_tag result.now tag) (range_with_len 0 (vec_len result.now.pages))) }
     {
         match &self.context {
             Some(held) => held,
