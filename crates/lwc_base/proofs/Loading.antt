@@ -1,5 +1,5 @@
 -- The bytes that a load gives.
-use Rattle.std.proofs.Common.{◌≡◌, ℕ, List, Option, Some, None, refl, sym, ap, ◌∙◌, Bool, true, false, cond, map}
+use Rattle.std.proofs.Common.{◌≡◌, ℕ, Some, None, refl, sym, Bool, true, false, map}
 use Rattle.std.specs.Prelude.{if◌then◌else◌}
 use Rattle.std.specs.List.{range_with_len}
 use Rattle.std.proofs.lemmas.Bool.{false≢true}

@@ -1,5 +1,5 @@
 -- Which pages of a context that is held part.
-use Rattle.std.proofs.Common.{◌≡◌, ℕ, ◌/◌, ◌%◌, map, List, [], ◌∷◌, refl, sym, ap, ◌∙◌, Bool, true, false, Option, Some, None, IsTrue}
+use Rattle.std.proofs.Common.{◌≡◌, ℕ, ◌/◌, ◌%◌, map, List, refl, sym, ap, ◌∙◌, true, Option, Some, None, IsTrue}
 use Rattle.std.specs.Prelude.{count_by, nat_lt, is_none, is_some, unwrap_or, slice_index}
 use Rattle.std.specs.List.{list_all, range_with_len}
 use Rattle.std.specs.Option.{option_map, option_map_or}

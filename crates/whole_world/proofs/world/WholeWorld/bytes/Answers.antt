@@ -1,5 +1,5 @@
-use Rattle.std.proofs.Common.{◌≡◌, ◌∙◌, Some, None, Bool, true, false, refl, arith, length}
-use Rattle.lwc_base.specs.Memory.{is_present, load}
+use Rattle.std.proofs.Common.{◌≡◌, ◌∙◌, Some, None, refl, arith, length}
+use Rattle.lwc_base.specs.Memory.{load}
 use Rattle.lwc_base.proofs.Loading.{load-absent}
 use Rattle.lwc_base.proofs.Storing.{is_present-touched}
 use Rattle.whole_world.specs.Seen.{seen, world_of}

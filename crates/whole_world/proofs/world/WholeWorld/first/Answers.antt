@@ -1,5 +1,3 @@
-use Rattle.std.proofs.Common.{◌<◌, arith}
-use Rattle.lwc_base.specs.declared.size.WorldSize.{WorldSize}
 use Rattle.whole_world.specs.Seen.{size_of}
 use Rattle.whole_world.proofs.Alone.{add_context-first}
 use Rattle.whole_world.proofs.world.WholeWorld.first.Goals as goal

@@ -3,7 +3,6 @@ use Rattle.std.specs.Prelude.{count_by, nat_lt}
 use Rattle.std.specs.List.{range_with_len}
 use Rattle.whole_world.specs.Copies.{has_tag}
 use Rattle.whole_world.proofs.Counting.{is_shared_tag-held}
-use Rattle.std.proofs.Common.{rules}
 use Rattle.whole_world.specs.Seen.{seen, world_of}
 use Rattle.whole_world.proofs.Alone.{context-held, none_live}
 use Rattle.whole_world.proofs.world.WholeWorld.held.Goals as goal

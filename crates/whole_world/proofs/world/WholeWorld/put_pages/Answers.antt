@@ -1,4 +1,4 @@
-use Rattle.std.proofs.Common.{◌≡◌, ◌∙◌, ap, sym}
+use Rattle.std.proofs.Common.{◌∙◌, ap, sym}
 use Rattle.std.proofs.lemmas.List.{nil_from_length}
 use Rattle.lwc_base.specs.Store.{put_pages}
 use Rattle.lwc_base.specs.World.{is_live}

@@ -1,8 +1,5 @@
-use Rattle.std.proofs.Common.{◌≡◌, ◌∙◌, ap, sym, ◌+◌, ◌-◌, ◌<◌, ◌≤◌, Bool, true, false, refl, arith, length}
-use Rattle.std.specs.List.{range_with_len}
-use Rattle.lwc_base.specs.Frames.{used}
-use Rattle.lwc_base.specs.Memory.{is_present}
-use Rattle.lwc_base.specs.Store.{store, parting_count, Stored, Absent, Full, Done, after_store}
+use Rattle.std.proofs.Common.{◌≡◌, ◌∙◌, ap, sym, refl, arith}
+use Rattle.lwc_base.specs.Store.{store, parting_count, Absent, Full, Done, after_store}
 use Rattle.lwc_base.proofs.Storing.{store-absent, store-full, store-done, is_present-touched, parting_count-touched, after_store-steps}
 use Rattle.whole_world.specs.Seen.{seen, world_of}
 use Rattle.whole_world.proofs.world.WholeWorld.store.Goals as goal
