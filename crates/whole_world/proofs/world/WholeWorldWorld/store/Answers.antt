@@ -2,7 +2,7 @@ use Rattle.std.proofs.Common.{◌≡◌, ◌∙◌, ap, sym, refl, arith}
 use Rattle.lwc_base.specs.Store.{store, parting_count, Absent, Full, Done, after_store}
 use Rattle.lwc_base.proofs.Storing.{store-absent, store-full, store-done, is_present-touched, parting_count-touched, after_store-steps}
 use Rattle.whole_world.specs.Seen.{seen, world_of}
-use Rattle.whole_world.proofs.world.WholeWorld.store.Goals as goal
+use Rattle.whole_world.proofs.world.WholeWorldWorld.store.Goals as goal
 
 pub touched_pages-pages-requires : goal.touched_pages-pages-requires
 unfolding seen world_of

@@ -4,7 +4,7 @@ use Rattle.lwc_base.proofs.Loading.{load-absent}
 use Rattle.lwc_base.proofs.Storing.{is_present-touched}
 use Rattle.whole_world.specs.Seen.{seen, world_of}
 use Rattle.whole_world.proofs.Parting.{load-held}
-use Rattle.whole_world.proofs.world.WholeWorld.bytes.Goals as goal
+use Rattle.whole_world.proofs.world.WholeWorldWorld.bytes.Goals as goal
 
 pub touched_pages-pages-requires : goal.touched_pages-pages-requires
 unfolding seen world_of
