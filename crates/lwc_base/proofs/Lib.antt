@@ -1,5 +1,7 @@
-pub mod Orders
-pub mod Live
-pub mod OwnCells
-pub mod Zeros
 pub mod Kernel
+pub mod Live
+pub mod Loading
+pub mod Orders
+pub mod OwnCells
+pub mod Storing
+pub mod Zeros

@@ -4,7 +4,7 @@ use Rattle.std.specs.List.{range_with_len}
 use Rattle.whole_world.specs.Copies.{has_last_of_tag}
 use Rattle.whole_world.specs.Seen.{seen}
 use Rattle.whole_world.proofs.Counting.{used-held, used-none}
-use Rattle.whole_world.proofs.world.WholeWorld.used.Goals as goal
+use Rattle.whole_world.proofs.world.WholeWorldWorld.used.Goals as goal
 
 pub returns-in-Some : goal.returns-in-Some
 unfolding seen

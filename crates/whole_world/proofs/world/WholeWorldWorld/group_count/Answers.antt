@@ -1,6 +1,6 @@
 use Rattle.whole_world.specs.Seen.{seen}
 use Rattle.whole_world.proofs.Counting.{groups-none}
-use Rattle.whole_world.proofs.world.WholeWorld.group_count.Goals as goal
+use Rattle.whole_world.proofs.world.WholeWorldWorld.group_count.Goals as goal
 
 pub returns : goal.returns
 unfolding seen

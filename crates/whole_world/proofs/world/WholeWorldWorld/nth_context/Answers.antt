@@ -1,7 +1,7 @@
 use Rattle.std.proofs.Common.{refl}
 use Rattle.whole_world.specs.Seen.{seen}
 use Rattle.whole_world.proofs.Counting.{keys-held, keys-none, first_of_one, later_of_one}
-use Rattle.whole_world.proofs.world.WholeWorld.nth_context.Goals as goal
+use Rattle.whole_world.proofs.world.WholeWorldWorld.nth_context.Goals as goal
 
 pub returns-then-i-eq0 : goal.returns-then-i-eq0
 unfolding seen
