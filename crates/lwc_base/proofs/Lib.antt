@@ -1,3 +1,4 @@
+pub mod Begun
 pub mod Kernel
 pub mod Live
 pub mod Loading
