@@ -14,7 +14,7 @@ pub is_live-add_context : (w : World) (job : ℕ) (x : Context) → is_live (add
 unfolding add_context count_on
 is_live-add_context w job x =
     ap is_some (fm.get-insert name_cmp-total w.contexts (next_context w job) x (next_context w job)
-        ∙ ap (λ b. cond b (Some x) (fm.get w.contexts (next_context w job))) (ap is_eq (tied_itself name_cmp-total (next_context w job))))
+    ∙ ap (λ b. cond b (Some x) (fm.get w.contexts (next_context w job))) (ap is_eq (tied_itself name_cmp-total (next_context w job))))
 
 tags_as_before : (b : Bool) (n : Counters) → (cond b (record n { contexts = n.contexts + 1 }) n).tags ≡ n.tags
 tags_as_before true n = refl

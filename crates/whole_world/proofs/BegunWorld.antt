@@ -1,5 +1,5 @@
 -- What a world has in which a context has been made and its first pages mapped.
-use Rattle.std.proofs.Common.{◌≡◌, ℕ, ◌+◌, ◌≤◌, refl, sym, ap, ◌∙◌, true, arith}
+use Rattle.std.proofs.Common.{◌≡◌, ℕ, ◌≤◌, refl, ap, ◌∙◌, arith}
 use Rattle.std.specs.Prelude.{IsTrue}
 use Rattle.lwc_base.specs.declared.name.Name.{Name}
 use Rattle.lwc_base.specs.Mapping.{map_pages}
@@ -18,7 +18,6 @@ pages-empty frames pages = refl
 module _ (frames pages : ℕ) (opened made mapped : World) (c : Name) (x : Context) (from to : ℕ)
     (is_opened : opened ≡ empty_world frames pages) (is_made : made ≡ add_context opened 0 x) (is_named : c ≡ next_context opened 0)
     (is_mapped : mapped ≡ map_pages made c from to) where
-
   pub live-made : IsTrue (is_live made c)
   live-made = ap (λ w. is_live w c) is_made ∙ ap (is_live (add_context opened 0 x)) is_named ∙ is_live-add_context opened 0 x
 

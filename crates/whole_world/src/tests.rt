@@ -19,7 +19,16 @@ fn begun(alloc: Global, frames: u32) -> Result<(WholeWorld, Name), OutOfMemory>
     ensures groups { IfOk result (λ r. (job : ℕ) → ((seen r.0).next job).groups ≡ 0) }
     ensures tags { IfOk result (λ r. (job : ℕ) → ((seen r.0).next job).tags ≡ 0) }
 {
-    let mut world = WholeWorld::open(alloc, &WorldSize { frames, contexts: 1, groups: 1, jobs: 2, pages: 4 })?;
+    let mut world = WholeWorld::open(
+        alloc,
+        &WorldSize {
+            frames,
+            contexts: 1,
+            groups: 1,
+            jobs: 2,
+            pages: 4,
+        },
+    )?;
     let c = world.first(7, &Regs::fresh(3))?;
     world.map(c, Range { from: 0, to: 2 })?;
     Ok((world, c))
@@ -40,7 +49,10 @@ fn a_store_over_a_border_parts_both_pages(rt: HostRuntime) -> Result<(), Fail> {
 #[test]
 fn a_store_that_finds_too_few_frames_changes_nothing(rt: HostRuntime) -> Result<(), Fail> {
     let (mut world, c) = begun(rt.alloc(), 1)?;
-    assert_eq!(rt; world.store(c, 4092, &[1, 2, 3, 4, 5, 6, 7, 8], 1), Err(StoreFault::NoFrame));
+    assert_eq!(rt;
+        world.store(c, 4092, &[1, 2, 3, 4, 5, 6, 7, 8], 1),
+        Err(StoreFault::NoFrame)
+    );
     assert_eq!(rt; world.used(), 0);
     let mut out = [9; 2];
     assert!(rt; world.bytes(c, 4095, &mut out));
@@ -51,7 +63,10 @@ fn a_store_that_finds_too_few_frames_changes_nothing(rt: HostRuntime) -> Result<
 #[test]
 fn an_absent_page_is_neither_stored_nor_loaded(rt: HostRuntime) -> Result<(), Fail> {
     let (mut world, c) = begun(rt.alloc(), 2)?;
-    assert_eq!(rt; world.store(c, 8191, &[1, 2], 1), Err(StoreFault::BadAddress));
+    assert_eq!(rt;
+        world.store(c, 8191, &[1, 2], 1),
+        Err(StoreFault::BadAddress)
+    );
     let mut out = [9; 2];
     assert!(rt; !world.bytes(c, 8191, &mut out));
     assert_eq!(rt; out, [9, 9]);
@@ -69,6 +84,13 @@ fn a_context_shows_what_it_has(rt: HostRuntime) -> Result<(), Fail> {
     assert_eq!(rt; world.slot(c, 63), Descriptor::Empty);
     world.set_slot(c, 63, Descriptor::Console);
     assert_eq!(rt; world.slot(c, 63), Descriptor::Console);
-    assert_eq!(rt; world.summary(c), Summary { pages: 2, slots: 1, uid: 7 });
+    assert_eq!(rt;
+        world.summary(c),
+        Summary {
+            pages: 2,
+            slots: 1,
+            uid: 7
+        }
+    );
     Ok(())
 }

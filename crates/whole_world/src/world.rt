@@ -108,10 +108,19 @@ impl World for WholeWorld {
 
     fn first(&mut self, uid: u32, entry: &Regs) -> Result<Name, OutOfMemory> {
         let counts = self.counted(0);
-        let name = Name { job: 0, k: counts.contexts };
+        let name = Name {
+            job: 0,
+            k: counts.contexts,
+        };
         let held = Held::new(self.alloc, name, self.size.pages as usize, uid, entry)?;
         self.hold(held);
-        self.set_counted(0, Counts { contexts: counts.contexts + 1, ..counts });
+        self.set_counted(
+            0,
+            Counts {
+                contexts: counts.contexts + 1,
+                ..counts
+            },
+        );
         Ok(name)
     }
 
@@ -146,7 +155,13 @@ impl World for WholeWorld {
         match self.plan(c, at as usize, piece, job, pages) {
             Ok(values) => {
                 self.put_pages(c, values);
-                self.set_counted(job, Counts { tags: counts.tags + parting as u32, ..counts });
+                self.set_counted(
+                    job,
+                    Counts {
+                        tags: counts.tags + parting as u32,
+                        ..counts
+                    },
+                );
                 Ok(())
             }
             Err(OutOfMemory) => Err(StoreFault::OutOfMemory),
@@ -199,7 +214,11 @@ fn nothing_counted(alloc: Global, jobs: u32) -> Result<Vec<Counts>, OutOfMemory>
 {
     let mut counts = Vec::with_capacity(alloc, jobs as usize)?;
     for _ in 0..jobs {
-        counts.push(Counts { contexts: 0, groups: 0, tags: 0 })?;
+        counts.push(Counts {
+            contexts: 0,
+            groups: 0,
+            tags: 0,
+        })?;
     }
     Ok(counts)
 }

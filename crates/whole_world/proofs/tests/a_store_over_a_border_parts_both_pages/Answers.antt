@@ -1,5 +1,5 @@
-use Rattle.std.proofs.Common.{◌≡◌, ◌∙◌, true, arith}
-use Rattle.lwc_base.proofs.Kernel.{GrowsBy, grows-store}
+use Rattle.std.proofs.Common.{◌∙◌, arith}
+use Rattle.lwc_base.proofs.Kernel.{grows-store}
 use Rattle.whole_world.specs.Seen.{seen}
 use Rattle.whole_world.proofs.tests.a_store_over_a_border_parts_both_pages.Goals as goal
 

@@ -1,4 +1,4 @@
-use Rattle.std.proofs.Common.{◌≡◌, ◌∙◌, ap, refl, subst, sym, arith, ◌≤◌, ◌<◌}
+use Rattle.std.proofs.Common.{◌≡◌, ◌∙◌, ap, refl, arith}
 use Rattle.lwc_base.specs.declared.size.WorldSize.{WorldSize}
 use Rattle.lwc_base.specs.World.{World, Counters, empty_world}
 use Rattle.whole_world.specs.Seen.{seen, size_of}
@@ -12,7 +12,7 @@ first-requires-clause-alone c = ap (λ (w : World). w.contexts) c.in_ok-world.en
 pub first-requires-clause-may : goal.first-requires-clause-may
 first-requires-clause-may c =
     let none : (seen c.in_ok-world.world).next 0 ≡ record { contexts = 0; groups = 0; tags = 0 } =
-        ap (λ (w : World). w.next 0) c.in_ok-world.ensures.opened ∙ counts-empty c.args.frames 4 0 in
+    ap (λ (w : World). w.next 0) c.in_ok-world.ensures.opened ∙ counts-empty c.args.frames 4 0 in
     let jobs : (size_of c.in_ok-world.world).jobs ≡ 2 = ap (λ (s : WorldSize). s.jobs) c.in_ok-world.ensures.sized in
     record {
       known = omega (arith, jobs);
