@@ -1,4 +1,4 @@
-ghost use Rattle.std.specs.Prelude.{◌≡◌, ◌<◌, ◌≤◌, ◌+◌, IfOk, OnOk, length, Some};
+ghost use Rattle.std.specs.Prelude.{◌≡◌, ◌≢◌, ◌<◌, ◌≤◌, ◌+◌, IfOk, OnOk, length, Some};
 ghost use Rattle.guest_image.specs.Limits.{IsImage};
 ghost use Rattle.kernel_core.specs.Stages.{with_pages, with_slots};
 ghost use Rattle.kernel_core.specs.Start as start;
@@ -65,6 +65,18 @@ pub fn first_threads(alloc: Global, budget: u32, entries: &[u32]) -> Result<Vec<
     Ok(threads)
 }
 
+// The want of memory that a store of a page that is present, for which there is a frame, may answer.
+fn want_of_memory(fault: StoreFault) -> OutOfMemory
+    requires present { fault ≢ StoreFault.BadAddress }
+    requires frame { fault ≢ StoreFault.NoFrame }
+{
+    match fault {
+        StoreFault::OutOfMemory => OutOfMemory,
+        StoreFault::BadAddress => unreachable!(),
+        StoreFault::NoFrame => unreachable!(),
+    }
+}
+
 // Puts the k-th page of an image: job 0 stores it whole. The one error is want of memory.
 fn put_page<W: World>(world: &mut W, image: &Image, k: usize) -> Result<(), OutOfMemory>
     requires image { IsImage image.now }
@@ -86,8 +98,7 @@ fn put_page<W: World>(world: &mut W, image: &Image, k: usize) -> Result<(), OutO
     let at = u32::from(page.number) * PAGE_BYTES as u32;
     match world.store(FIRST, at, page.bytes.as_slice(), 0) {
         Ok(()) => Ok(()),
-        Err(StoreFault::OutOfMemory) => Err(OutOfMemory),
-        Err(StoreFault::BadAddress | StoreFault::NoFrame) => unreachable!(),
+        Err(fault) => Err(want_of_memory(fault)),
     }
 }
 
