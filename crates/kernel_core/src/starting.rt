@@ -1,4 +1,5 @@
-ghost use Rattle.std.specs.Prelude.{◌≡◌, ◌≢◌, ◌<◌, ◌≤◌, ◌+◌, IfOk, OnOk, length, Some};
+ghost use Rattle.std.specs.Prelude.{◌≡◌, ◌≢◌, ◌==◌, ◌<◌, ◌≤◌, ◌+◌, IfOk, OnOk, length, Some};
+ghost use Rattle.std.specs.List.{find};
 ghost use Rattle.guest_image.specs.Limits.{IsImage};
 ghost use Rattle.kernel_core.specs.Stages.{with_pages, with_slots};
 ghost use Rattle.kernel_core.specs.Start as start;
@@ -22,6 +23,13 @@ const FIRST: Name = Name { job: 0, k: 0 };
 /// How many slots, from 0 on, have the console.
 const CONSOLES: u8 = 2;
 
+// The first of an image's slots that has this number.
+fn slot_of(slots: &[SlotImage], n: u8) -> Option<SlotImage>
+    ensures { result ≡ find (λ slot. slot.slot == n) slots.now }
+{
+    slots.iter().copied().find(|slot| slot.slot == n)
+}
+
 // What stands under a slot at the start.
 #[tactic(auto, unfolding(crate::specs::Start::slot_in))]
 fn slot_value(slots: &[SlotImage], n: u8) -> Descriptor
@@ -30,7 +38,7 @@ fn slot_value(slots: &[SlotImage], n: u8) -> Descriptor
     if n < CONSOLES {
         return Descriptor::Console;
     }
-    match slots.iter().find(|slot| slot.slot == n) {
+    match slot_of(slots, n) {
         Some(slot) => Descriptor::File {
             file: slot.file,
             at: 0,
