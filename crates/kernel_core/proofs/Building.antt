@@ -37,7 +37,7 @@ use Rattle.lwc_base.specs.declared.regs.Regs.{Regs}
 use Rattle.lwc_base.specs.declared.size.WorldSize.{WorldSize}
 use Rattle.world_face.specs.Calls.{MayName}
 
-world_one : (frames tags : ℕ) (x : Context) → world_with frames tags x ≡ one_context frames PAGES tags x
+pub world_one : (frames tags : ℕ) (x : Context) → world_with frames tags x ≡ one_context frames PAGES tags x
 unfolding world_with
 world_one frames tags x =
     ap (λ w. count_on w 0 (λ n. record n { tags = tags })) (one_added frames PAGES x) ∙ one_counts frames PAGES 0 tags x
@@ -55,7 +55,7 @@ pages_begin image frames =
     ∙ ap (one_context frames PAGES 0) (sym (nothing_put image))
     ∙ sym (world_one frames 0 (context_with image []))
 
-enumerate-push : {X : Type 0} (a : ℕ) (xs : List X) (x : X) → enumerate_from a (xs ++ x ∷ []) ≡ enumerate_from a xs ++ (a + length xs, x) ∷ []
+pub enumerate-push : {X : Type 0} (a : ℕ) (xs : List X) (x : X) → enumerate_from a (xs ++ x ∷ []) ≡ enumerate_from a xs ++ (a + length xs, x) ∷ []
 enumerate-push a [] x = ap (λ n. (n, x) ∷ []) (omega arith)
 enumerate-push a (y ∷ ys) x = ap (λ l. (a, y) ∷ l) (enumerate-push (a + 1) ys x ∙ ap (λ n. enumerate_from (a + 1) ys ++ (n, x) ∷ []) (omega arith))
 
@@ -123,10 +123,10 @@ context_after image k x is found =
     let fresh = new_number None 0 image.pages k x is.pages.rise found in
     let count : length (take k image.pages) ≡ k = length-take-le k image.pages (omega arith) in
     let more : take (k + 1) image.pages ≡ take k image.pages ++ x ∷ [] =
-        take_more image.pages k x within ∙ ap (λ y. take k image.pages ++ y ∷ []) (get_or_from_slice_get image.pages k x x found) in
+    take_more image.pages k x within ∙ ap (λ y. take k image.pages ++ y ∷ []) (get_or_from_slice_get image.pages k x x found) in
     let tagged : (q : ℕ) → cond (eqb q x.number) (Some (Own (Data (image_tag k) x.bytes))) (cond (leb x.number q && ltb q (x.number + 1)) (Some (Own Zero)) (page_in (take k image.pages) q)) ≡ page_in (take (k + 1) image.pages) q =
-        λ q. ap (λ n. cond (eqb q x.number) (Some (Own (Data (image_tag n) x.bytes))) (cond (leb x.number q && ltb q (x.number + 1)) (Some (Own Zero)) (page_in (take k image.pages) q))) (sym count)
-            ∙ page_in-push (take k image.pages) x q fresh ∙ ap (λ l. page_in l q) (sym more) in
+    λ q. ap (λ n. cond (eqb q x.number) (Some (Own (Data (image_tag n) x.bytes))) (cond (leb x.number q && ltb q (x.number + 1)) (Some (Own Zero)) (page_in (take k image.pages) q))) (sym count)
+    ∙ page_in-push (take k image.pages) x q fresh ∙ ap (λ l. page_in l q) (sym more) in
     λ i. record (new_context image.uid (fresh_registers (first_entry image))) { page = λ q. tagged q i }
 
 -- a page of an image

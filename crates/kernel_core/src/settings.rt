@@ -1,3 +1,7 @@
+ghost use Rattle.std.specs.Prelude.{◌≡◌};
+
+use lwc_base::OutOfMemory;
+
 /// How many pages each context may have.
 pub const PAGES: u32 = 1024;
 
@@ -34,4 +38,12 @@ pub enum OpenFault {
     OutOfMemory,
     /// The image has more pages than there are frames.
     ImageTooLarge { pages: u32, frames: u32 },
+}
+
+impl From<OutOfMemory> for OpenFault {
+    fn from(_error: OutOfMemory) -> OpenFault
+        ensures { result ≡ OpenFault.OutOfMemory }
+    {
+        OpenFault::OutOfMemory
+    }
 }

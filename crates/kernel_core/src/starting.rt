@@ -9,12 +9,15 @@ ghost use Rattle.lwc_base.specs.declared.descriptor.TheConstants.{SLOTS};
 use crate::settings::{MOST_THREADS, PAGES};
 use crate::thread::Thread;
 use guest_image::{Image, PageImage, SlotImage};
-use lwc_base::{Descriptor, Name, OutOfMemory, PAGE_BYTES, Range, Regs, SLOTS, StoreFault, ThreadStatus};
+use lwc_base::{
+    Descriptor, Name, OutOfMemory, PAGE_BYTES, Range, Regs, SLOTS, StoreFault, ThreadStatus,
+};
 use std::alloc::Global;
 use world_face::{World, WorldSize};
 
 /// The most contexts and groups that live at once.
 const MOST_CONTEXTS: u32 = 529;
+
 const MOST_GROUPS: u32 = 1024;
 
 /// The name of the first context.
@@ -62,7 +65,11 @@ fn first_thread(budget: u32, t: u32, entry: u32) -> Thread
 }
 
 // The threads of a start. The one error is want of memory.
-pub fn first_threads(alloc: Global, budget: u32, entries: &[u32]) -> Result<Vec<Thread>, OutOfMemory>
+pub fn first_threads(
+    alloc: Global,
+    budget: u32,
+    entries: &[u32],
+) -> Result<Vec<Thread>, OutOfMemory>
     requires { length entries.now ≤ 16 }
     ensures { IfOk result (λ threads. threads.items ≡ start.first_threads budget entries.now) }
 {

@@ -15,13 +15,13 @@ first-requires-clause-may g c =
 pub put_pages-requires-clause-frames : goal.put_pages-requires-clause-frames
 put_pages-requires-clause-frames g c =
     let begun = first_made c.args.image.now _ _ _ _ c.in_ok-world.ensures.opened
-        (c.fresh.ensures ∙ ap fresh_registers (c.from.ensures ∙ ap (λ (l : List ℕ). slice_index l 0) c.as_slice.ensures)) c.in_ok-first.ensures.made in
+    (c.fresh.ensures ∙ ap fresh_registers (c.from.ensures ∙ ap (λ (l : List ℕ). slice_index l 0) c.as_slice.ensures)) c.in_ok-first.ensures.made in
     omega (arith, frames_here _ _ _ _ begun, c.requires.fits)
 
 pub put_pages-requires-clause-before : goal.put_pages-requires-clause-before
 put_pages-requires-clause-before g c =
     let begun = first_made c.args.image.now _ _ _ _ c.in_ok-world.ensures.opened
-        (c.fresh.ensures ∙ ap fresh_registers (c.from.ensures ∙ ap (λ (l : List ℕ). slice_index l 0) c.as_slice.ensures)) c.in_ok-first.ensures.made in
+    (c.fresh.ensures ∙ ap fresh_registers (c.from.ensures ∙ ap (λ (l : List ℕ). slice_index l 0) c.as_slice.ensures)) c.in_ok-first.ensures.made in
     let here = as_here _ _ _ _ begun in search rules
 
 pub put_slots-requires-clause-before : goal.put_slots-requires-clause-before
@@ -30,5 +30,5 @@ put_slots-requires-clause-before g c = let here = slots_begin _ _ _ c.in_ok-put_
 pub returns-clause-start : goal.returns-clause-start
 returns-clause-start g c =
     let begun = first_made c.args.image.now _ _ _ _ c.in_ok-world.ensures.opened
-        (c.fresh.ensures ∙ ap fresh_registers (c.from.ensures ∙ ap (λ (l : List ℕ). slice_index l 0) c.as_slice.ensures)) c.in_ok-first.ensures.made in
+    (c.fresh.ensures ∙ ap fresh_registers (c.from.ensures ∙ ap (λ (l : List ℕ). slice_index l 0) c.as_slice.ensures)) c.in_ok-first.ensures.made in
     all_put _ _ _ _ _ c.requires.image begun c.in_ok-put_pages.ensures.put c.put_slots.ensures.put

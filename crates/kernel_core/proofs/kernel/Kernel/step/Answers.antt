@@ -26,10 +26,11 @@ overflow_sub-self g c =
 pub invariant_of-self-in-Some : goal.invariant_of-self-in-Some
 invariant_of-self-in-Some g c =
     let made = made_here _ _ _ _ _ _ _ _ _ _ _ _ c.self.invariant.1 c.self.view_is c.requires.within c.index.ensures c.in_ok-step_thread.ensures.done c.in-Some.is in
-    let some = c.requires.room made.going in
-    (omega (arith, some, ap (λ (h : History). h.room) c.self.view_is, c.self.invariant.0, c.append.ensures.length, c.append.ensures.capacity),
-        steady_as _ _ _ _ _ _ _ _ _ _ c.in_ok-step_thread.ensures.sized c.used.ensures c.max-self-inside.ensures
-        (longer_as _ _ _ _ _ _ c.self.view_is c.append.ensures.steps) (made.steady some))
+    let some = c.requires.room made.going in (
+      omega (arith, some, ap (λ (h : History). h.room) c.self.view_is, c.self.invariant.0, c.append.ensures.length, c.append.ensures.capacity),
+      steady_as _ _ _ _ _ _ _ _ _ _ c.in_ok-step_thread.ensures.sized c.used.ensures c.max-self-inside.ensures
+          (longer_as _ _ _ _ _ _ c.self.view_is c.append.ensures.steps) (made.steady some),
+    )
 
 pub returns-in-None-clause-step : goal.returns-in-None-clause-step
 returns-in-None-clause-step g c =
