@@ -5,6 +5,7 @@ ghost use Rattle.kernel_core.specs.Kernel.{machine_of, opened, stepped, turn_of,
 ghost use Rattle.kernel_core.specs.Machine.{has_ended, is_ended, work_of};
 ghost use Rattle.kernel_core.specs.Runs as runs;
 ghost use Rattle.kernel_core.specs.Start.{start};
+ghost use Rattle.kernel_core.specs.declared.settings.Job.TheVariants as jobs;
 ghost use Rattle.kernel_core.specs.declared.settings.TheConstants.{MOST_BUDGET, MOST_STEPS, MOST_THREADS};
 
 use crate::acting::step_thread;
@@ -122,7 +123,7 @@ impl<W: World> Kernel<W> {
         requires few_frames { settings.now.frames ≤ 65536 }
         requires some_step { 1 ≤ settings.now.budget }
         requires few_steps { settings.now.budget ≤ MOST_BUDGET }
-        requires job { settings.now.job ≡ Job.Run }
+        requires job { settings.now.job ≡ jobs.Run }
         requires requests { requests ≡ [] }
         requires steps { steps ≤ MOST_STEPS }
         ensures opened { IfOk result (λ k. k ≡ opened (record { image = image.now; requests = requests; settings = settings.now }) steps) }
@@ -136,7 +137,10 @@ impl<W: World> Kernel<W> {
                 frames: settings.frames,
             });
         }
-        Ok(Kernel::start(alloc, image, requests, steps, settings)?)
+        match Kernel::start(alloc, image, requests, steps, settings) {
+            Ok(kernel) => Ok(kernel),
+            Err(OutOfMemory) => Err(OpenFault::OutOfMemory),
+        }
     }
 
     /// One step of thread `t`, which is kept unless the thread had ended. A proposal is used where it begins with the

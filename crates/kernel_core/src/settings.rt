@@ -1,7 +1,3 @@
-ghost use Rattle.std.specs.Prelude.{◌≡◌};
-
-use lwc_base::OutOfMemory;
-
 /// How many pages each context may have.
 pub const PAGES: u32 = 1024;
 
@@ -38,12 +34,4 @@ pub enum OpenFault {
     OutOfMemory,
     /// The image has more pages than there are frames.
     ImageTooLarge { pages: u32, frames: u32 },
-}
-
-impl From<OutOfMemory> for OpenFault {
-    fn from(_error: OutOfMemory) -> OpenFault
-        ensures { result ≡ OpenFault.OutOfMemory }
-    {
-        OpenFault::OutOfMemory
-    }
 }
