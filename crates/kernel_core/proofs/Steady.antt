@@ -223,3 +223,9 @@ pub work_here : (size : WorldSize) (w : World) (threads shown : List Thread) (te
 unfolding work
 work_here size w threads shown text most_used result h value steady is same sum =
     sum ∙ ap work_of same ∙ ap (λ (m : Machine). work_of m.threads) steady.now ∙ ap work is
+
+-- nothing is on the console
+pub console_here : (size : WorldSize) (w : World) (threads : List Thread) (text : List Instr) (most_used : ℕ) (console shown : List ℕ) (h value : History) →
+    IsSteady size w threads text most_used h → h ≡ value → console ≡ [] → shown ≡ console → shown ≡ (machine_of value).console
+console_here size w threads text most_used console shown h value steady is none same =
+    same ∙ none ∙ ap (λ (m : Machine). m.console) steady.now ∙ ap (λ k. (machine_of k).console) is

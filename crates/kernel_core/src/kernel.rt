@@ -31,13 +31,14 @@ pub struct Kernel<W: World> {
     text: Text,
     world: W,
     threads: Vec<Thread>,
+    console: Vec<u8>,
     schedule: Vec<u8>,
     room: u32,
     peak: u32,
 }
 
 impl<W: World> Model for Kernel<W> {
-    ghost use Rattle.std.specs.Prelude.{◌+◌, ◌≤◌, vec_len, vec_capacity};
+    ghost use Rattle.std.specs.Prelude.{◌≡◌, ◌+◌, ◌≤◌, [], vec_len, vec_capacity};
     ghost use Rattle.kernel_core.specs.Kernel.{History};
 
     ghost Value = { History };
@@ -46,7 +47,7 @@ impl<W: World> Model for Kernel<W> {
 
     ghost view = { λ k. record { inputs = record { image = k.image.value; requests = k.requests; settings = k.settings }; steps = k.schedule.items; room = k.room } };
 
-    ghost invariant = { λ k. (vec_len k.schedule + k.room ≤ vec_capacity k.schedule) × IsSteady (W.size k.world) (W.seen k.world) k.threads.items k.text k.peak (record { inputs = record { image = k.image.value; requests = k.requests; settings = k.settings }; steps = k.schedule.items; room = k.room }) };
+    ghost invariant = { λ k. (k.console.items ≡ []) × (vec_len k.schedule + k.room ≤ vec_capacity k.schedule) × IsSteady (W.size k.world) (W.seen k.world) k.threads.items k.text k.peak (record { inputs = record { image = k.image.value; requests = k.requests; settings = k.settings }; steps = k.schedule.items; room = k.room }) };
 }
 
 // How many steps the threads may still make.
@@ -89,6 +90,7 @@ impl<W: World> Kernel<W> {
         let world: W = start_world(alloc, image, settings.frames)?;
         let Image { text, .. } = copy_image(alloc, image)?;
         let threads = first_threads(alloc, settings.budget, image.entries.as_slice())?;
+        let console = Vec::new(alloc);
         let schedule = Vec::with_capacity(alloc, steps as usize)?;
         let peak = world.used();
         Ok(Kernel {
@@ -98,6 +100,7 @@ impl<W: World> Kernel<W> {
             text,
             world,
             threads,
+            console,
             schedule,
             room: steps,
             peak,
@@ -204,6 +207,13 @@ impl<W: World> Kernel<W> {
         ensures { result ≡ runs.peak (start self.now.inputs) self.now.steps }
     {
         self.peak
+    }
+
+    /// What has been written to the console. Nothing is so far, since no call is built that writes there.
+    pub fn console(&self) -> &[u8]
+        ensures { result.now ≡ (machine_of self.now).console }
+    {
+        self.console.as_slice()
     }
 
     /// The world in which the threads stand.

@@ -12,6 +12,7 @@ invariant_of-result g c =
     c.requires.image c.in_ok-world.ensures.jobs c.requires.some_step c.requires.few_steps c.requires.steps c.in_ok-schedule.ensures.items
     (c.in_ok-threads.ensures ∙ ap (λ (l : List ℕ). first_threads c.args.settings.now.budget l) c.as_slice.ensures)
     c.in_ok-world.ensures.start (ap (λ (i : Image). i.text) c.in_ok-text.ensures) c.used-peak.ensures in (
+      c.new-console.ensures.items,
       omega (arith, c.in_ok-schedule.ensures.len, c.in_ok-schedule.ensures.exact),
       subst (λ (image : Image). IsSteady (g.W.World.size c.in_ok-world.world) (g.W.World.seen c.in_ok-world.world) c.in_ok-threads.threads.items c.in_ok-text.field-0.text c.used-peak.result
           (record { inputs = record inputs { image = image }; steps = c.in_ok-schedule.schedule.items; room = c.args.steps })) (sym c.of.ensures) steady,
