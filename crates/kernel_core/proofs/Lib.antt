@@ -3,3 +3,5 @@ pub mod Acts
 pub mod Ready
 pub mod Runs
 pub mod Steady
+pub mod Building
+pub mod Started

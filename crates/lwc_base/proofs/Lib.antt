@@ -1,5 +1,8 @@
 pub mod Begun
 pub mod Kernel
+pub mod OneContext
+pub mod OnePage
+pub mod OneUsed
 pub mod Live
 pub mod Loading
 pub mod Orders
