@@ -1,5 +1,5 @@
 -- The world: contexts and groups by name, what each job has counted, and how many frames and pages there are.
-use Rattle.std.specs.Prelude.{ℕ, ◌+◌, ◌==◌, if◌then◌else◌, Option, None, Some, unwrap_or}
+use Rattle.std.specs.Prelude.{ℕ, ◌+◌, ◌==◌, if◌then◌else◌, Bool, Option, None, Some, unwrap_or}
 use Rattle.std.specs.FinMap as fm
 use Rattle.lwc_base.specs.declared.cell.Cell.{Cell}
 use Rattle.lwc_base.specs.declared.cell.Cell.TheVariants.{Own}
@@ -52,6 +52,10 @@ new_context uid entry = record {
 -- a group with nothing in it
 abbrev pub new_group : Group
 new_group = record { page = λ p. None; slot = λ n. None; uid = None }
+
+-- whether a context has the name
+abbrev pub is_live : World → Name → Bool
+is_live w c = fm.contains_key w.contexts c
 
 -- the context of a name, and one with nothing in it where no context has that name
 unfoldable pub context : World → Name → Context

@@ -1,0 +1,15 @@
+//! The instructions of the guest machine, and their bytes.
+#![tactic(auto)]
+
+mod instr;
+mod op;
+mod spelling;
+mod text;
+
+pub use instr::Instr;
+pub use op::{Form, Op};
+pub use spelling::{decode, encode, spelling_is_inverse};
+pub use text::Text;
+
+#[cfg(test)]
+mod tests;

@@ -1,0 +1,60 @@
+ghost use Rattle.std.specs.Prelude.{◌≡◌, ◌<◌, ◌≤◌, length, Some, slice_get};
+ghost use Rattle.guest_isa.specs.Instructions.{IsInstruction, IsText};
+
+use crate::instr::Instr;
+use std::marker::Model;
+
+/// The instructions of a program: 1 to 65536 of them.
+#[derive(Debug, Drop)]
+pub struct Text {
+    list: Vec<Instr>,
+}
+
+impl Model for Text {
+    ghost use Rattle.std.specs.Prelude.{List};
+    ghost use Rattle.guest_isa.specs.declared.instr.Instr.{Instr};
+
+    ghost Value = { List Instr };
+
+    ghost use Rattle.guest_isa.specs.Instructions.{IsText};
+
+    ghost view = { λ t. t.list.items };
+
+    ghost invariant = { λ t. IsText t.list.items };
+}
+
+impl Text {
+    /// The text of these instructions.
+    pub fn of(list: Vec<Instr>) -> Text
+        requires { IsText list.items }
+        ensures { result ≡ list.items }
+    {
+        Text { list }
+    }
+
+    /// The instructions, in the memory that the text was made of.
+    pub fn into_vec(self) -> Vec<Instr>
+        ensures list { result.items ≡ self }
+        ensures text { IsText result.items }
+    {
+        let Text { list } = self;
+        list
+    }
+
+    /// How many instructions there are, 1 to 65536.
+    pub fn len(&self) -> usize
+        ensures length { result ≡ length self.now }
+        ensures text { IsText self.now }
+    {
+        self.list.len()
+    }
+
+    /// The instruction at place i.
+    pub fn get(&self, i: usize) -> &Instr
+        requires { i < length self.now }
+        ensures value { slice_get self.now i ≡ Some result.now }
+        ensures instruction { IsInstruction result.now }
+    {
+        &self.list[i]
+    }
+}

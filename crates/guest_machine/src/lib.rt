@@ -1,0 +1,13 @@
+//! The guest machine: what private instructions do, and how far a thread advances by them.
+#![tactic(auto)]
+
+mod advancing;
+mod effect;
+mod progress;
+
+pub use advancing::{advance, advance_is_determined};
+pub use effect::{Effect, private};
+pub use progress::{Advance, Next};
+
+#[cfg(test)]
+mod tests;

@@ -1,0 +1,20 @@
+-- Runs of the machine over a list of steps, each the number of the thread that makes it.
+use Rattle.std.specs.Prelude.{ℕ, if◌then◌else◌, List, [], ◌∷◌, max}
+use Rattle.kernel_core.specs.Machine.{Machine, is_ended}
+use Rattle.kernel_core.specs.Step.{step}
+use Rattle.lwc_base.specs.Frames.{used}
+
+-- the machine after the steps, one after another
+abbrev pub run : Machine → List ℕ → Machine
+run m [] = m
+run m (t ∷ ts) = run (step m t) ts
+
+-- the steps of threads that had not ended when their turn came
+abbrev pub kept : Machine → List ℕ → List ℕ
+kept m [] = []
+kept m (t ∷ ts) = if is_ended m t then kept m ts else t ∷ kept (step m t) ts
+
+-- the most frames that were used, before the first step and after each
+abbrev pub peak : Machine → List ℕ → ℕ
+peak m [] = used m.world
+peak m (t ∷ ts) = max (used m.world) (peak (step m t) ts)

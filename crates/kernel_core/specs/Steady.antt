@@ -1,0 +1,54 @@
+-- What each kernel keeps true of itself.
+use Rattle.std.specs.Prelude.{◌≡◌, ℕ, ◌+◌, ◌*◌, ◌≤◌, ◌<◌, List, length, All}
+use Rattle.guest_isa.specs.declared.instr.Instr.{Instr}
+use Rattle.kernel_core.specs.Kernel.{History, machine_of}
+use Rattle.kernel_core.specs.Machine.{Machine}
+use Rattle.kernel_core.specs.Runs.{peak}
+use Rattle.kernel_core.specs.Start.{Inputs, standing, start}
+use Rattle.kernel_core.specs.declared.settings.TheConstants.{PAGES, MOST_STEPS, MOST_BUDGET, MOST_THREADS}
+use Rattle.kernel_core.specs.declared.thread.Thread.{Thread}
+use Rattle.lwc_base.specs.declared.fault.ThreadStatus.{ThreadStatus}
+use Rattle.lwc_base.specs.declared.fault.ThreadStatus.TheVariants.{Idle, Running, Done, Faulted}
+use Rattle.lwc_base.specs.declared.size.WorldSize.{WorldSize}
+use Rattle.lwc_base.specs.World.{World, Counters}
+use Rattle.world_face.specs.Calls.{IsLive}
+
+-- a job has counted at most so many of each
+pub record IsCounted (most : ℕ) (n : Counters) : Type 0 where
+  pub contexts : n.contexts ≤ most
+  pub groups : n.groups ≤ most
+  pub tags : n.tags ≤ most
+
+-- a thread that is running may still make a step
+abbrev pub MayStep : ℕ → ThreadStatus → Type 0
+MayStep budget Running = 0 < budget
+MayStep budget Idle = Unit {0}
+MayStep budget (Done code) = Unit {0}
+MayStep budget (Faulted fault) = Unit {0}
+
+-- a thread stands in a live context, for a job of the world's, with a budget in its limits
+pub record StandsWell (size : WorldSize) (w : World) (x : Thread) : Type 0 where
+  pub live : IsLive w x.context
+  pub job : x.job < size.jobs
+  pub budget : x.budget ≤ MOST_BUDGET
+  pub steps : MayStep x.budget x.status
+
+-- the threads and their world are as calls of the world need them
+pub record IsReady (size : WorldSize) (m : Machine) (most : ℕ) : Type 0 where
+  pub pages : m.world.pages ≡ PAGES
+  pub counted : (job : ℕ) → IsCounted most (m.world.next job)
+  pub threads : All (StandsWell size m.world) m.threads
+
+-- after so many steps a job has counted at most this: the image's pages, and two tags a step
+abbrev pub most_after : ℕ → ℕ
+most_after steps = PAGES + 2 * steps
+
+-- a kernel's threads, world, text and peak are those of the machine that it has come to
+pub record IsSteady (size : WorldSize) (world : World) (threads : List Thread) (text : List Instr) (greatest : ℕ) (h : History) : Type 0 where
+  pub now : standing h.inputs threads world ≡ machine_of h
+  pub text : text ≡ h.inputs.image.text
+  pub greatest : greatest ≡ peak (start h.inputs) h.steps
+  pub ready : IsReady size (standing h.inputs threads world) (most_after (length h.steps))
+  pub threads : length threads ≡ length h.inputs.image.entries
+  pub few : length threads ≤ MOST_THREADS
+  pub room : length h.steps + h.room ≤ MOST_STEPS

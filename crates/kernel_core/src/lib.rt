@@ -1,0 +1,11 @@
+//! The kernel: threads that run an image over a world, one step at a time, each step as the machine's definition says.
+#![tactic(auto)]
+
+mod acting;
+pub mod kernel;
+pub mod settings;
+pub mod thread;
+
+pub use kernel::Kernel;
+pub use settings::{Job, MOST_BUDGET, MOST_STEPS, MOST_THREADS, OpenFault, PAGES, Settings};
+pub use thread::{Thread, ThreadView, Turn};

@@ -1,0 +1,93 @@
+ghost use Rattle.std.specs.Prelude.{◌≡◌, ℕ, ◌<◌, ◌≤◌, IfOk, length, replicate, slice_index_or, vec_len, option_copied};
+ghost use Rattle.lwc_base.specs.declared.cell.Cell.TheVariants.{Own};
+ghost use Rattle.lwc_base.specs.World.{new_context};
+ghost use Rattle.lwc_base.specs.Cells.{with_page, with_slot};
+ghost use Rattle.whole_world.specs.Copies.{context_of, held_page};
+
+use lwc_base::{Descriptor, Name, OutOfMemory, PageValue, Regs, Tag};
+use std::alloc::Global;
+
+/// All that one context has, held by itself alone.
+#[derive(Drop)]
+pub struct Held {
+    pub name: Name,
+    pub pages: Vec<Option<PageValue>>,
+    pub slots: [Descriptor; 64],
+    pub uid: u32,
+    pub entry: Regs,
+}
+
+impl Held {
+    /// A context as it is made, with no page of so many present.
+    #[tactic(auto, unfolding(crate::specs::Copies::context_of, crate::specs::Copies::held_page))]
+    pub fn new(alloc: Global, name: Name, pages: usize, uid: u32, entry: &Regs) -> Result<Held, OutOfMemory>
+        ensures name { IfOk result (λ held. held.name ≡ name) }
+        ensures pages { IfOk result (λ held. vec_len held.pages ≡ pages) }
+        ensures context { IfOk result (λ held. context_of held ≡ new_context uid entry.now) }
+    {
+        Ok(Held {
+            name,
+            pages: absent_pages(alloc, pages)?,
+            slots: empty_slots(),
+            uid,
+            entry: *entry,
+        })
+    }
+
+    /// The value of a page, if it is present.
+    #[tactic(auto, unfolding(crate::specs::Copies::held_page))]
+    pub fn page(&self, p: usize) -> Option<&PageValue>
+        ensures { option_copied result ≡ held_page self.now p }
+    {
+        if p < self.pages.len() { self.pages[p].as_ref() } else { None }
+    }
+
+    /// Puts a value under a page.
+    #[tactic(auto, unfolding(crate::specs::Copies::context_of, crate::specs::Copies::held_page))]
+    pub fn set_page(&mut self, p: usize, value: PageValue)
+        requires { p < vec_len self.old.pages }
+        ensures name { self.new.name ≡ self.old.name }
+        ensures pages { vec_len self.new.pages ≡ vec_len self.old.pages }
+        ensures context { context_of self.new ≡ with_page p (Some (Own value)) (context_of self.old) }
+    {
+        self.pages[p] = Some(value);
+    }
+
+    /// What a slot has.
+    #[tactic(auto, unfolding(crate::specs::Copies::context_of))]
+    pub fn slot(&self, n: u8) -> Descriptor
+        requires { n < 64 }
+        ensures { Own result ≡ (context_of self.now).slot n }
+    {
+        self.slots[n as usize]
+    }
+
+    /// Puts a descriptor into a slot.
+    #[tactic(auto, unfolding(crate::specs::Copies::context_of))]
+    pub fn set_slot(&mut self, n: u8, d: Descriptor)
+        requires { n < 64 }
+        ensures name { self.new.name ≡ self.old.name }
+        ensures pages { vec_len self.new.pages ≡ vec_len self.old.pages }
+        ensures context { context_of self.new ≡ with_slot n (Own d) (context_of self.old) }
+        ensures own { (context_of self.old).slot n ≡ Own (slice_index_or self.old.slots n Descriptor.Empty) }
+    {
+        self.slots[n as usize] = d;
+    }
+}
+
+fn empty_slots() -> [Descriptor; 64]
+    ensures { result ≡ replicate 64 Descriptor.Empty }
+{
+    [Descriptor::Empty; 64]
+}
+
+fn absent_pages(alloc: Global, count: usize) -> Result<Vec<Option<PageValue>>, OutOfMemory>
+    ensures absent { IfOk result (λ pages. pages.items ≡ replicate count None) }
+    ensures many { IfOk result (λ pages. vec_len pages ≡ count) }
+{
+    let mut pages = Vec::with_capacity(alloc, count)?;
+    for _ in 0..count {
+        pages.push(None)?;
+    }
+    Ok(pages)
+}
