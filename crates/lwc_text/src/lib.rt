@@ -1,0 +1,8 @@
+//! The texts of a run: the grammars of what it is given, and the report that it ends with.
+#![tactic(auto)]
+
+mod fault;
+mod schedule;
+
+pub use fault::{InputFault, InputRule};
+pub use schedule::{MOST_STEPS, Schedule, read_schedule};
