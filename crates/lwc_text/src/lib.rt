@@ -2,7 +2,9 @@
 #![tactic(auto)]
 
 mod fault;
+mod lines;
 mod schedule;
 
 pub use fault::{InputFault, InputRule};
+pub use lines::{context_line, groups_line, tail_lines};
 pub use schedule::{MOST_STEPS, Schedule, read_schedule};
