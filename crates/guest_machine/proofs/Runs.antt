@@ -1,6 +1,6 @@
 -- The advance of a loop, and the facts of an advance.
-use Rattle.std.proofs.Common.{◌≡◌, ℕ, zero, suc, ◌+◌, ◌<◌, ◌≤◌, Bool, true, false, cond, ◌⊎◌, inl, inr, List, length, Option, Some, None, refl, sym, ap, subst, ◌∙◌, add-one, arith}
-use Rattle.std.specs.Prelude.{slice_get, is_some, unwrap_or, IsTrue}
+use Rattle.std.proofs.Common.{◌≡◌, ℕ, ◌+◌, ◌<◌, ◌≤◌, Bool, true, false, cond, ◌⊎◌, inl, inr, List, length, Option, Some, None, refl, sym, ap, subst, ◌∙◌, add-one, arith}
+use Rattle.std.specs.Prelude.{slice_get, is_some, unwrap_or}
 use Rattle.std.proofs.lemmas.Bool.{cases_lt}
 use Rattle.std.proofs.lemmas.Option.{slice_get_past, slice_get_cases}
 use Rattle.guest_isa.specs.declared.op.Op.{Op}
@@ -13,7 +13,7 @@ use Rattle.guest_machine.specs.declared.progress.Next.TheVariants.{Shared, Pause
 use Rattle.guest_machine.specs.declared.progress.Advance.{Advance}
 use Rattle.guest_machine.specs.Effects.{effect}
 use Rattle.guest_machine.specs.Advances.{after_instruction, after_private, stop_at, stop, least, advanced, PrivateComes, Comes, IsAdvance}
-use Rattle.guest_machine.proofs.Least.{least_is, IsLeast, least_is_least}
+use Rattle.guest_machine.proofs.Least.{least_is, least_is_least}
 
 -- after j instructions from s, all of them private, the registers are t
 pub record IsUnderWay (text : List Instr) (s : Regs) (j : ℕ) (t : Regs) : Type 0 where

@@ -16,7 +16,7 @@ quotient a b = if b == 0 then 2 ^ 64 - 1 else a / b
 abbrev pub remainder : ℕ → ℕ → ℕ
 remainder a b = if b == 0 then a else a % b
 
--- the effect of each private operation, where rd, ra and rb hold d, a and b
+-- the effect of each private operation, where rd, ra and rb hold d, a and b; a shared one is never asked for
 abbrev pub effect_of : Op → ℕ → ℕ → ℕ → ℕ → Effect
 effect_of Li d a b imm = Puts imm
 effect_of Lih d a b imm = Puts (d % 2 ^ 32 + imm * 2 ^ 32)
@@ -46,12 +46,12 @@ abbrev pub next_pc : Regs → ℕ
 next_pc s = (s.pc + 1) % 2 ^ 64
 
 -- the registers after an effect on register rd and pc
-abbrev pub done : Effect → ℕ → Regs → Regs
-done (Puts n) rd s = record { r = slice_set s.r rd n; pc = next_pc s }
-done (Jumps n) rd s = record { r = s.r; pc = n }
-done (Links n) rd s = record { r = slice_set s.r rd (next_pc s); pc = n }
-done Passes rd s = record { r = s.r; pc = next_pc s }
+abbrev pub after_effect : Effect → ℕ → Regs → Regs
+after_effect (Puts n) rd s = record { r = slice_set s.r rd n; pc = next_pc s }
+after_effect (Jumps n) rd s = record { r = s.r; pc = n }
+after_effect (Links n) rd s = record { r = slice_set s.r rd (next_pc s); pc = n }
+after_effect Passes rd s = record { r = s.r; pc = next_pc s }
 
 -- the registers after a private instruction
 unfoldable pub effect : Instr → Regs → Regs
-effect i s = done (effect_of i.op (slice_index s.r i.rd) (slice_index s.r i.ra) (slice_index s.r i.rb) i.imm) i.rd s
+effect i s = after_effect (effect_of i.op (slice_index s.r i.rd) (slice_index s.r i.ra) (slice_index s.r i.rb) i.imm) i.rd s

@@ -15,17 +15,17 @@ use lwc_base::Regs;
 const MOST: usize = 256;
 
 // The instruction that comes next, if it is private, and else why not.
-fn private_at(text: &Text, regs: &Regs) -> Result<Instr, Next>
-    ensures private { IfOk result (λ i. IsInstruction i × (slice_get text.now regs.now.pc ≡ Some i) × (stop text.now regs.now ≡ None)) }
+fn private_at<'a>(text: &'a Text, regs: &Regs) -> Result<&'a Instr, Next>
+    ensures private { IfOk result (λ i. IsInstruction i.now × (slice_get text.now regs.now.pc ≡ Some i.now) × (stop text.now regs.now ≡ None)) }
     ensures stop { IfErr result (λ next. stop text.now regs.now ≡ Some next) }
     ensures shared { IfErr result (λ next. IfShared next (λ i. IsInstruction i × IsTrue (is_shared i.op))) }
 {
     if regs.pc >= text.len() as u64 {
         return Err(Next::BadPc);
     }
-    let i = *text.get(regs.pc as usize);
+    let i = text.get(regs.pc as usize);
     if i.op.is_shared() {
-        Err(Next::Shared(i))
+        Err(Next::Shared(*i))
     } else {
         Ok(i)
     }
@@ -52,7 +52,7 @@ pub fn advance(text: &Text, regs: &Regs) -> Advance
     let mut after = *regs;
     for _done in 0..MOST {
         match private_at(text, &after) {
-            Ok(i) => apply(&i, &mut after),
+            Ok(i) => apply(i, &mut after),
             Err(next) => {
                 return Advance {
                     before: *regs,

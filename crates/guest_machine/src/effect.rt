@@ -1,7 +1,7 @@
 ghost use Rattle.std.specs.Prelude.{◌≡◌, ◌<◌, IsTrue};
 ghost use Rattle.guest_isa.specs.Instructions.{IsInstruction};
 ghost use Rattle.guest_isa.specs.Opcodes.{is_private};
-ghost use Rattle.guest_machine.specs.Effects.{quotient, remainder, effect_of, done, effect};
+ghost use Rattle.guest_machine.specs.Effects.{quotient, remainder, effect_of, after_effect, effect};
 
 use guest_isa::{Instr, Op};
 use lwc_base::Regs;
@@ -58,14 +58,16 @@ fn effect_of(i: &Instr, d: u64, a: u64, b: u64) -> Effect
         Op::Jnz if a != 0 => Effect::Jumps(imm),
         Op::Jal => Effect::Links(imm),
         Op::Jr => Effect::Jumps(a),
-        _ => Effect::Passes,
+        Op::Jz | Op::Jnz => Effect::Passes,
+        // Shared operations are done elsewhere.
+        Op::Ldb | Op::Ldw | Op::Stb | Op::Stw | Op::Sys | Op::Halt => Effect::Passes,
     }
 }
 
-// Does an effect.
-fn put(effect: Effect, rd: u8, regs: &mut Regs)
+// Does an effect on register rd and pc.
+fn carry_out(effect: Effect, rd: u8, regs: &mut Regs)
     requires { rd < 16 }
-    ensures { regs.new ≡ done effect rd regs.old }
+    ensures { regs.new ≡ after_effect effect rd regs.old }
 {
     let next = regs.pc.wrapping_add(1);
     match effect {
@@ -91,7 +93,7 @@ pub(crate) fn apply(i: &Instr, regs: &mut Regs)
     let d = regs.r[i.rd as usize];
     let a = regs.r[i.ra as usize];
     let b = regs.r[i.rb as usize];
-    put(effect_of(i, d, a, b), i.rd, regs);
+    carry_out(effect_of(i, d, a, b), i.rd, regs);
 }
 
 /// The registers after a private instruction.

@@ -1,1 +1,5 @@
 pub mod Registers
+pub mod Acts
+pub mod Ready
+pub mod Runs
+pub mod Steady

@@ -1,5 +1,6 @@
 -- What each kernel keeps true of itself.
 use Rattle.std.specs.Prelude.{◌≡◌, ℕ, ◌+◌, ◌*◌, ◌≤◌, ◌<◌, List, length, All}
+use Rattle.guest_image.specs.Limits.{IsImage}
 use Rattle.guest_isa.specs.declared.instr.Instr.{Instr}
 use Rattle.kernel_core.specs.Kernel.{History, machine_of}
 use Rattle.kernel_core.specs.Machine.{Machine}
@@ -44,11 +45,12 @@ abbrev pub most_after : ℕ → ℕ
 most_after steps = PAGES + 2 * steps
 
 -- a kernel's threads, world, text and peak are those of the machine that it has come to
-pub record IsSteady (size : WorldSize) (world : World) (threads : List Thread) (text : List Instr) (greatest : ℕ) (h : History) : Type 0 where
-  pub now : standing h.inputs threads world ≡ machine_of h
-  pub text : text ≡ h.inputs.image.text
-  pub greatest : greatest ≡ peak (start h.inputs) h.steps
-  pub ready : IsReady size (standing h.inputs threads world) (most_after (length h.steps))
-  pub threads : length threads ≡ length h.inputs.image.entries
-  pub few : length threads ≤ MOST_THREADS
+pub record IsSteady (size : WorldSize) (world : World) (standing_threads : List Thread) (instructions : List Instr) (most_used : ℕ) (h : History) : Type 0 where
+  pub image : IsImage h.inputs.image
+  pub now : standing h.inputs standing_threads world ≡ machine_of h
+  pub text : instructions ≡ h.inputs.image.text
+  pub peak : most_used ≡ peak (start h.inputs) h.steps
+  pub ready : IsReady size (standing h.inputs standing_threads world) (most_after (length h.steps))
+  pub threads : length standing_threads ≡ length h.inputs.image.entries
+  pub few : length standing_threads ≤ MOST_THREADS
   pub room : length h.steps + h.room ≤ MOST_STEPS

@@ -142,21 +142,22 @@ counted x = record x { budget = x.budget - 1; status = status_with (x.budget - 1
 unfoldable pub moves : World → Thread → Advance → Acted
 moves w x a = let done = acts w (with_regs x a.after) a.next in record done { thread = counted done.thread }
 
--- the machine with what one of its threads has done
-abbrev pub with_acted : Machine → ℕ → Acted → Machine
-with_acted m t done = record m { threads = slice_set m.threads t done.thread; world = done.world }
+-- what a thread does in a step, by its status: an idle one ends, since no request is left for it, and an ended one does nothing
+abbrev pub step_of : World → List Instr → Thread → ThreadStatus → Option Acted
+step_of w text x Running = Some (moves w x (advanced text x.regs))
+step_of w text x Idle = Some (alone w (with_status x (Done 0)))
+step_of w text x (Done code) = None
+step_of w text x (Faulted f) = None
 
--- a step by the status of its thread; an idle thread ends, since no request is left for it
-abbrev pub step_by : Machine → ℕ → Thread → ThreadStatus → Machine
-step_by m t x Running = with_acted m t (moves m.world x (advanced m.text x.regs))
-step_by m t x Idle = with_acted m t (alone m.world (with_status x (Done 0)))
-step_by m t x (Done code) = m
-step_by m t x (Faulted f) = m
+-- the machine with what one of its threads has done, if it did something
+abbrev pub with_acted : Machine → ℕ → Option Acted → Machine
+with_acted m t None = m
+with_acted m t (Some done) = record m { threads = slice_set m.threads t done.thread; world = done.world }
 
 -- a step of the thread that was found, if one was
 abbrev pub step_at : Machine → ℕ → Option Thread → Machine
 step_at m t None = m
-step_at m t (Some x) = step_by m t x x.status
+step_at m t (Some x) = with_acted m t (step_of m.world m.text x x.status)
 
 -- one step of the thread of this number; an ended one changes nothing
 unfoldable pub step : Machine → ℕ → Machine

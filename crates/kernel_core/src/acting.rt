@@ -1,9 +1,10 @@
-ghost use Rattle.std.specs.Prelude.{◌≡◌, ◌<◌, ◌≤◌, ◌+◌, ◌*◌, ◌-◌, ◌==◌, if◌then◌else◌, IsTrue, IfOk, IfSome, OnErr, length, is_some, nat_le, slice_index};
-ghost use Rattle.guest_isa.specs.Instructions.{IsInstruction};
+ghost use Rattle.std.specs.Prelude.{◌≡◌, ◌<◌, ◌≤◌, ◌+◌, ◌*◌, ◌-◌, ◌==◌, if◌then◌else◌, IsTrue, IfOk, IfNone, IfSome, OnErr, length, is_some, nat_le, slice_index, option_map};
+ghost use Rattle.guest_isa.specs.Instructions.{IsInstruction, IsText};
 ghost use Rattle.guest_machine.specs.Advances.{IfShared, advanced};
 ghost use Rattle.kernel_core.specs.Ready.{CanAct};
+ghost use Rattle.kernel_core.specs.Steady.{MayStep};
 ghost use Rattle.kernel_core.specs.Step as step;
-ghost use Rattle.kernel_core.specs.Step.{acts, address, answered, byte_for, bytes_for, counted, does, gone_on, moves, puts, puts_byte, puts_word, word_for};
+ghost use Rattle.kernel_core.specs.Step.{acts, address, alone, answered, byte_for, bytes_for, counted, does, gone_on, moves, puts, puts_byte, puts_word, step_of, word_for};
 ghost use Rattle.lwc_base.specs.declared.page.TheConstants.{PAGE_BYTES};
 ghost use Rattle.world_face.specs.Calls.{IsLive};
 
@@ -236,7 +237,8 @@ fn act<W: World>(world: &mut W, thread: &Thread, next: &Next) -> Result<Thread, 
 // begins with the thread's registers, and else computed.
 #[tactic(auto, using(crate::proofs::Registers::shared_are_instructions))]
 fn advance_from(text: &Text, regs: &Regs, proposal: Option<&Advance>) -> Advance
-    requires { IfSome proposal (λ a. a.now ≡ advanced text.now a.now.before) }
+    requires proposal { IfSome proposal (λ a. a.now ≡ advanced text.now a.now.before) }
+    requires text { IsText text.now }
     ensures value { result ≡ advanced text.now regs.now }
     ensures instruction { IfShared result.next IsInstruction }
 {
@@ -247,8 +249,8 @@ fn advance_from(text: &Text, regs: &Regs, proposal: Option<&Advance>) -> Advance
 }
 
 // A step of a running thread. The one error is want of memory, and then nothing has changed.
-#[tactic(auto, unfolding(crate::specs::Step::moves))]
-pub fn move_on<W: World>(
+#[tactic(auto, using(crate::proofs::Acts::budget_of_act), unfolding(crate::specs::Step::moves))]
+fn move_on<W: World>(
     world: &mut W,
     text: &Text,
     thread: &Thread,
@@ -257,6 +259,7 @@ pub fn move_on<W: World>(
     requires ready { CanAct (W.size world.old) (W.seen world.old) thread.now }
     requires steps { 0 < thread.now.budget }
     requires proposal { IfSome proposal (λ a. a.now ≡ advanced text.now a.now.before) }
+    requires text { IsText text.now }
     ensures done { IfOk result (λ x. moves (W.seen world.old) thread.now (advanced text.now thread.now.regs) ≡ record { thread = x; world = W.seen world.new }) }
     ensures err { OnErr result (W.seen world.new ≡ W.seen world.old) }
     ensures sized { W.size world.new ≡ W.size world.old }
@@ -264,4 +267,28 @@ pub fn move_on<W: World>(
     let advance = advance_from(text, &thread.regs, proposal);
     let advanced = thread.with_regs(advance.after);
     Ok(act(world, &advanced, &advance.next)?.counted())
+}
+
+// What a thread does in a step: the thread afterwards, and nothing where it has ended. The one error is want of
+// memory, and then nothing has changed.
+pub fn step_thread<W: World>(
+    world: &mut W,
+    text: &Text,
+    thread: &Thread,
+    proposal: Option<&Advance>,
+) -> Result<Option<Thread>, OutOfMemory>
+    requires ready { CanAct (W.size world.old) (W.seen world.old) thread.now }
+    requires steps { MayStep thread.now.budget thread.now.status }
+    requires proposal { IfSome proposal (λ a. a.now ≡ advanced text.now a.now.before) }
+    requires text { IsText text.now }
+    ensures done { IfOk result (λ after. step_of (W.seen world.old) text.now thread.now thread.now.status ≡ option_map (alone (W.seen world.new)) after) }
+    ensures ended { IfOk result (λ after. IfNone after (W.seen world.new ≡ W.seen world.old)) }
+    ensures err { OnErr result (W.seen world.new ≡ W.seen world.old) }
+    ensures sized { W.size world.new ≡ W.size world.old }
+{
+    match thread.status {
+        ThreadStatus::Running => Ok(Some(move_on(world, text, thread, proposal)?)),
+        ThreadStatus::Idle => Ok(Some(thread.with_status(ThreadStatus::Done { code: 0 }))),
+        ThreadStatus::Done { .. } | ThreadStatus::Faulted { .. } => Ok(None),
+    }
 }

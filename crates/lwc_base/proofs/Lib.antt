@@ -1,2 +1,5 @@
 pub mod Orders
 pub mod Live
+pub mod OwnCells
+pub mod Zeros
+pub mod Kernel

@@ -1,5 +1,6 @@
 -- What a change of values under keys leaves as it was: which names live, what has been counted, and how large the world is.
-use Rattle.std.proofs.Common.{◌≡◌, ℕ, ◌+◌, ◌≤◌, refl, sym, ap, ◌∙◌, Bool, true, false, cond, Option, Some, None, List, [], ◌∷◌, length, arith, IsTrue}
+use Rattle.std.proofs.Common.{◌≡◌, ℕ, ◌+◌, ◌≤◌, refl, sym, ap, ◌∙◌, Bool, true, false, cond, Option, Some, None, List, [], ◌∷◌, length, arith, IsTrue, eqb}
+use Rattle.std.proofs.lemmas.Bool.{eqb-true}
 use Rattle.std.specs.Prelude.{is_some, unwrap_or}
 use Rattle.std.specs.Ordering.{eq_by_cmp, is_eq}
 use Rattle.std.specs.declared.cmp.Ordering.{Ordering}
@@ -95,3 +96,13 @@ values-map_pages w c from to = values-change_context w c _
 pub values-put_pages : (w : World) (c : Name) (values : List (ℕ × PageValue)) → ChangesValuesOnly w (put_pages w c values)
 values-put_pages w c [] = same_world w
 values-put_pages w c (v ∷ vs) = then_changes w (put_page w c v.0 v.1) _ (values-put_page w c v.0 v.1) (values-put_pages (put_page w c v.0 v.1) c vs)
+
+choice_of_same : {A : Type 0} (change : A → A) (f : ℕ → A) (n : A) (job j : ℕ) (b : Bool) → eqb j job ≡ b → change (f job) ≡ n →
+    cond b n (f j) ≡ cond b (change (f j)) (f j)
+choice_of_same change f n job j true same is = sym (ap (λ k. change (f k)) (eqb-true j job same) ∙ is)
+choice_of_same change f n job j false other is = refl
+
+-- a number that is counted on is the changed one
+pub count_on_as : (w : World) (job : ℕ) (change : Counters → Counters) (n : Counters) → change (w.next job) ≡ n → count_on w job (λ _. n) ≡ count_on w job change
+unfolding count_on
+count_on_as w job change n is = λ i. record w { next = λ j. choice_of_same change w.next n job j (eqb j job) refl is i }

@@ -46,13 +46,21 @@ impl PageBytes {
         })
     }
 
+    /// A page of these bytes, which are copied. The one error is want of memory.
+    pub fn from_slice(alloc: Global, bytes: &[u8]) -> Result<PageBytes, OutOfMemory>
+        requires { length bytes.now ≡ PAGE_BYTES }
+        ensures { IfOk result (λ page. page ≡ bytes.now) }
+    {
+        Ok(PageBytes {
+            bytes: Vec::from_slice(alloc, bytes)?,
+        })
+    }
+
     /// A copy of a page's bytes. The one error is want of memory.
     pub fn copy_of(alloc: Global, page: &PageBytes) -> Result<PageBytes, OutOfMemory>
         ensures { IfOk result (λ copy. copy ≡ page.now) }
     {
-        Ok(PageBytes {
-            bytes: Vec::from_slice(alloc, page.as_slice())?,
-        })
+        PageBytes::from_slice(alloc, page.as_slice())
     }
 
     /// The bytes, in order.

@@ -1,7 +1,7 @@
-ghost use Rattle.std.specs.Prelude.{◌≡◌, ℕ, ◌+◌, ◌-◌, ◌<◌, ◌≤◌, ◌↔◌, min, ◌⊎◌, List, [], length, take, replicate, Option, Some, option_map, option_copied, IfOk, IfSome, OnOk, OnErr, IsErr, IsTrue, bytes_eq, position, ◌==◌, slice_index, slice_set};
+ghost use Rattle.std.specs.Prelude.{◌≡◌, ℕ, ◌+◌, ◌-◌, ◌<◌, ◌≤◌, ◌↔◌, min, ◌⊎◌, List, [], length, take, replicate, Some, option_copied, IfOk, IfSome, OnOk, OnErr, IsErr, IsTrue, bytes_eq, position, ◌==◌};
 ghost use Rattle.std.specs.List.{list_any};
 ghost use Rattle.lwc_io.specs.Outside.{Rose, IsPiece};
-ghost use Rattle.lwc_io.specs.Memory.{Named, place_of, bytes_of, faults_of, fetch_fails, fetched, fetched_in_vain, write_fails, wrote, wrote_in_vain};
+ghost use Rattle.lwc_io.specs.Memory.{place_of, bytes_of, faults_of, fetch_fails, fetched, fetched_in_vain, write_fails, wrote, wrote_in_vain};
 
 use crate::outside::{Failed, Files, Sink};
 use std::alloc::{AllocError, Global};
@@ -108,8 +108,8 @@ impl Model for MemoryFiles {
 }
 
 impl MemoryFiles {
-    /// The given files, of which the first counts where two have one name. Of the fetches, numbered from
-    /// 0 on, those in `failing` are to fail.
+    /// The given files. Where two have one name, the first is told. Of the fetches, numbered from 0 on,
+    /// those in `failing` are to fail.
     ///
     /// # Errors
     ///
@@ -167,7 +167,7 @@ impl Files for MemoryFiles {
     /// # Errors
     ///
     /// `Failed` exactly if the call is to fail or no file has the name. It raises the count of that name
-    /// by one, and no other.
+    /// by one, and no other; all names that no file has share one count.
     fn fetch(&mut self, name: &str, at: u64, buffer: &mut [u8]) -> Result<usize, Failed>
         ensures fails { IsErr result ↔ IsTrue (fetch_fails self.old name.now) }
         ensures count { IfOk result (λ n. IfSome (bytes_of self.old.files name.now)
@@ -303,7 +303,7 @@ impl Sink for MemorySink {
     /// there is no memory for the bytes. It raises the count of faults by one.
     fn write(&mut self, piece: &[u8]) -> Result<usize, Failed>
         ensures fails { IsTrue (write_fails self.old piece.now) → IsErr result }
-        ensures only { OnErr result (IsTrue (write_fails self.old piece.now)
+        ensures fails_only { OnErr result (IsTrue (write_fails self.old piece.now)
             ⊎ (self.old.room < length self.old.bytes + min self.old.most (length piece.now))) }
         ensures count { IfOk result (λ n. n ≡ min self.old.most (length piece.now)) }
         ensures ok { IfOk result (λ n.

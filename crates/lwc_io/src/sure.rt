@@ -21,7 +21,7 @@ impl Model for SureFiles {
 }
 
 impl SureFiles {
-    /// The given files. Of two with one name the first counts.
+    /// The given files. Where two have one name, the first is told.
     pub fn new(files: Vec<NamedFile>) -> Self
         ensures { result ≡ files.items }
     {

@@ -97,11 +97,13 @@ fn registers_text(alloc: Global, t: u32, registers: &[u64; 16]) -> Result<String
 
 /// The line of a context.
 #[tactic(auto, unfolding(crate::specs::Lines::context_line))]
-fn context_text(alloc: Global, name: Name, summary: &Summary) -> Result<String, OutOfMemory>
-    ensures { IfOk result (λ line. string_bytes line ≡ context_line name summary.now) }
+fn context_text(alloc: Global, name: Name, summary: Summary) -> Result<String, OutOfMemory>
+    ensures { IfOk result (λ line. string_bytes line ≡ context_line name summary) }
 {
     let name = name_text(alloc, name)?;
-    let Summary { pages, slots, uid } = *summary;
+    let pages = summary.pages;
+    let slots = summary.slots;
+    let uid = summary.uid;
     Ok(format!(in alloc; "context {name} pages {pages} slots {slots} uid {uid}\n")?)
 }
 
@@ -110,7 +112,7 @@ pub fn context_line(out: &mut Vec<u8>, name: Name, summary: &Summary) -> Result<
     ensures ok { OnOk result (out.new.items ≡ out.old.items ++ context_line name summary.now) }
     ensures err { OnErr result (out.new.items ≡ out.old.items) }
 {
-    let line = context_text(*out.allocator(), name, summary)?;
+    let line = context_text(*out.allocator(), name, *summary)?;
     append(out, line.as_str())
 }
 

@@ -1,2 +1,5 @@
+pub mod Decimals
+pub mod Follows
 pub mod Inputs
 pub mod Outputs
+pub mod Promises

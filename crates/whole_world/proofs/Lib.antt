@@ -1,3 +1,5 @@
 pub mod Alone
 pub mod Contexts
+pub mod Counting
+pub mod HeldTags
 pub mod Places

@@ -1,6 +1,9 @@
 -- What a list has at each place after one of its places is written.
-use Rattle.std.proofs.Common.{◌≡◌, ℕ, zero, suc, ◌+◌, ◌<◌, ◌≢◌, List, [], ◌∷◌, length, get_or, refl, ap, subst, arith, Bool, true, false, eqb, cond, IsTrue}
-use Rattle.std.specs.Prelude.{replicate}
+use Rattle.std.proofs.Common.{◌≡◌, ℕ, zero, suc, ◌+◌, ◌<◌, ◌≤◌, ◌≢◌, List, [], ◌∷◌, length, get_or, refl, ap, subst, ◌∙◌, map, add-zero, below_more, arith, Bool, true, false, eqb, cond, IsTrue}
+use Rattle.std.specs.Prelude.{replicate, count_by}
+use Rattle.std.specs.List.{range_with_len}
+use Rattle.std.proofs.lemmas.List.FromFn.{length-range_with_len}
+use Rattle.std.proofs.lemmas.List.Sums.{count_by-le-length}
 use Rattle.std.proofs.Math.ListN.{set}
 use Rattle.std.proofs.lemmas.Grind.{common_steps}
 use Rattle.std.proofs.lemmas.List.{get_or-set_same, get_or-set_other}
@@ -14,3 +17,39 @@ pub place_of_replicate : {A : Type 0} (count : ℕ) (v : A) (j : ℕ) → get_or
 place_of_replicate zero v j = refl
 place_of_replicate (suc count) v zero = refl
 place_of_replicate (suc count) v (suc j) = place_of_replicate count v j
+
+-- no more of a range are counted than it has
+pub count_of_range : (p : ℕ → Bool) (first count : ℕ) → count_by p (range_with_len first count) ≤ count
+count_of_range p first count = subst (λ n. count_by p (range_with_len first count) ≤ n) (length-range_with_len first count) (count_by-le-length p (range_with_len first count))
+
+-- a list that has f at each place, counted from a number on
+pub filled_from : (f : ℕ → ℕ) (a n : ℕ) (xs : List ℕ) → length xs ≡ n → ((k : ℕ) → k < n → get_or xs k 0 ≡ f (a + k)) → xs ≡ map f (range_with_len a n)
+filled_from f a zero [] all each = refl
+filled_from f a (suc n) [] all each = absurd (omega arith)
+filled_from f a zero (x ∷ xs) all each = absurd (omega arith)
+filled_from f a (suc n) (x ∷ xs) all each =
+    let first : x ≡ f a = each 0 (omega arith) ∙ ap f (add-zero a) in
+    let rest : xs ≡ map f (range_with_len (a + 1) n) =
+        filled_from f (a + 1) n xs (omega arith) (λ k h. each (suc k) (omega arith) ∙ ap f (omega arith)) in
+    λ i. first i ∷ rest i
+
+-- a list is written from its front on: each place below i has what f makes of the old number there, and the others have the old ones
+pub record IsWrittenBelow (f : ℕ → ℕ → ℕ) (old : List ℕ) (i : ℕ) (xs : List ℕ) : Type 0 where
+  pub below : (k : ℕ) → k < i → get_or xs k 0 ≡ f k (get_or old k 0)
+  pub above : (k : ℕ) → i ≤ k → get_or xs k 0 ≡ get_or old k 0
+
+-- one more place is written
+pub written_more : (f : ℕ → ℕ → ℕ) (old : List ℕ) (i : ℕ) (xs ys : List ℕ) (b : ℕ) → IsWrittenBelow f old i xs → i < length xs →
+    ys ≡ set xs i b → b ≡ f i (get_or xs i 0) → IsWrittenBelow f old (i + 1) ys
+written_more f old i xs ys b before there is made = record {
+  below = below_more (λ k. get_or ys k 0 ≡ f k (get_or old k 0)) i
+    (λ k h. let other : k ≢ i = omega arith in ap (λ l. get_or l k 0) is ∙ get_or-set_other xs i k b 0 other ∙ before.below k h)
+    (ap (λ l. get_or l i 0) is ∙ get_or-set_same xs i b 0 there ∙ made ∙ ap (f i) (before.above i (omega arith)));
+  above = λ k h. let other : k ≢ i = omega arith in ap (λ l. get_or l k 0) is ∙ get_or-set_other xs i k b 0 other ∙ before.above k (omega arith);
+}
+
+-- once all places are written
+pub written_all : (f : ℕ → ℕ → ℕ) (old : List ℕ) (i : ℕ) (xs : List ℕ) → IsWrittenBelow f old i xs → length xs ≡ length old → length old ≤ i →
+    xs ≡ map (λ k. f k (get_or old k 0)) (range_with_len 0 (length old))
+written_all f old i xs written whole all =
+    filled_from (λ k. f k (get_or old k 0)) 0 (length old) xs whole (λ k h. written.below k (omega arith) ∙ ap (λ n. f n (get_or old n 0)) (omega arith))

@@ -18,12 +18,16 @@ contexts_of (Some held) = fm.insert fm.empty held.name (context_of held)
 abbrev pub counters_of : Counts → Counters
 counters_of counts = record { contexts = counts.contexts; groups = counts.groups; tags = counts.tags }
 
+-- what a job has counted before it has named anything
+abbrev pub nothing_counted : Counts
+nothing_counted = record { contexts = 0; groups = 0; tags = 0 }
+
 -- the world of a size with this context, where the jobs have counted so much
 unfoldable pub world_of : WorldSize → Option Held → List Counts → World
 world_of size context counts = record {
   contexts = contexts_of context;
   groups = fm.empty;
-  next = λ job. counters_of (slice_index_or counts job (record { contexts = 0; groups = 0; tags = 0 }));
+  next = λ job. counters_of (slice_index_or counts job nothing_counted);
   frames = size.frames;
   pages = size.pages;
 }

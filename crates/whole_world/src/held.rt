@@ -1,8 +1,11 @@
-ghost use Rattle.std.specs.Prelude.{◌≡◌, ℕ, ◌<◌, ◌≤◌, IfOk, length, replicate, slice_index_or, vec_len, option_copied};
+ghost use Rattle.std.specs.Prelude.{◌≡◌, ◌<◌, ◌≤◌, IfOk, count_by, is_some, length, not, replicate, slice_index_or, vec_len};
 ghost use Rattle.lwc_base.specs.declared.cell.Cell.TheVariants.{Own};
 ghost use Rattle.lwc_base.specs.World.{new_context};
+ghost use Rattle.std.specs.List.{range_with_len};
+ghost use Rattle.std.specs.Option.{option_copied};
+ghost use Rattle.lwc_base.specs.Summaries.{is_empty};
 ghost use Rattle.lwc_base.specs.Cells.{with_page, with_slot};
-ghost use Rattle.whole_world.specs.Copies.{context_of, held_page};
+ghost use Rattle.whole_world.specs.Copies.{context_of, held_page, with_zeros};
 
 use lwc_base::{Descriptor, Name, OutOfMemory, PageValue, Regs, Tag};
 use std::alloc::Global;
@@ -42,6 +45,31 @@ impl Held {
         if p < self.pages.len() { self.pages[p].as_ref() } else { None }
     }
 
+    /// How many pages are present.
+    #[tactic(auto, using(crate::proofs::Places::count_of_range))]
+    pub fn count_of_present(&self) -> usize
+        ensures present { result ≡ count_by (λ p. is_some (held_page self.now p)) (range_with_len 0 (vec_len self.now.pages)) }
+        ensures few { result ≤ vec_len self.now.pages }
+    {
+        (0..self.pages.len()).filter(|p| self.is_present(*p)).count()
+    }
+
+    /// Whether a page is present.
+    pub fn is_present(&self, p: usize) -> bool
+        ensures { result ≡ is_some (held_page self.now p) }
+    {
+        self.page(p).is_some()
+    }
+
+    /// How many slots are not empty.
+    pub fn count_of_filled(&self) -> usize
+        ensures filled { result ≡ count_by (λ d. not (is_empty d)) self.now.slots }
+        ensures whole { length self.now.slots ≡ 64 }
+        ensures few { result ≤ 64 }
+    {
+        self.slots.iter().filter(|d| !is_empty(d)).count()
+    }
+
     /// Puts a value under a page.
     #[tactic(auto, unfolding(crate::specs::Copies::context_of, crate::specs::Copies::held_page))]
     pub fn set_page(&mut self, p: usize, value: PageValue)
@@ -51,6 +79,19 @@ impl Held {
         ensures context { context_of self.new ≡ with_page p (Some (Own value)) (context_of self.old) }
     {
         self.pages[p] = Some(value);
+    }
+
+    /// Makes each page from one up to and without another a page of zeros.
+    pub fn map(&mut self, from: u16, to: u16)
+        requires order { from ≤ to }
+        requires pages { to ≤ vec_len self.old.pages }
+        ensures name { self.new.name ≡ self.old.name }
+        ensures pages { vec_len self.new.pages ≡ vec_len self.old.pages }
+        ensures context { context_of self.new ≡ with_zeros from to (context_of self.old) }
+    {
+        for p in from..to {
+            self.set_page(p as usize, PageValue::Zero);
+        }
     }
 
     /// What a slot has.
@@ -73,6 +114,12 @@ impl Held {
     {
         self.slots[n as usize] = d;
     }
+}
+
+fn is_empty(d: &Descriptor) -> bool
+    ensures { result ≡ is_empty d.now }
+{
+    matches!(d, Descriptor::Empty)
 }
 
 fn empty_slots() -> [Descriptor; 64]

@@ -3,6 +3,10 @@
 
 mod counts;
 mod held;
+mod loads;
+mod pages;
+mod tags;
+mod touched;
 mod world;
 
 pub use world::WholeWorld;

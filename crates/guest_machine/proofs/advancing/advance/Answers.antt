@@ -6,7 +6,7 @@ pub loop-done-init : goal.loop-done-init
 loop-done-init c = begins c.args.text.now c.args.regs.now
 
 pub loop-done-preserved : goal.loop-done-preserved
-loop-done-preserved c = goes_on c.args.text.now c.args.regs.now c.loop-done.after c.apply.new.regs c.loop-done._done c.in-Ok.i c.loop-done.invariant c.in-Ok.ensures.private.1 c.in-Ok.ensures.private.2 c.apply.ensures
+loop-done-preserved c = goes_on c.args.text.now c.args.regs.now c.loop-done.after c.apply.new.regs c.loop-done._done c.in-Ok.i.now c.loop-done.invariant c.in-Ok.ensures.private.1 c.in-Ok.ensures.private.2 c.apply.ensures
 
 pub returns-in-Err-clause-exact : goal.returns-in-Err-clause-exact
 returns-in-Err-clause-exact c = stopped c.args.text.now c.args.regs.now c.loop-done.after c.loop-done._done c.in-Err.next c.loop-done.invariant (omega arith) c.in-Err.ensures.stop

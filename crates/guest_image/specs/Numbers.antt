@@ -1,0 +1,39 @@
+-- Numbers that stand one after another: whether they rise, and how many ranges they make.
+use Rattle.std.specs.Prelude.{ℕ, ◌+◌, Bool, true, ◌&&◌, nat_lt, ◌==◌, if◌then◌else◌, List, [], ◌∷◌, Option, Some, None}
+
+-- whether n is above the number before it, if there is one
+abbrev pub is_above : Option ℕ → ℕ → Bool
+is_above None n = true
+is_above (Some m) n = nat_lt m n
+
+-- 1 where n begins a range, and 0 where it comes directly after the number before it
+abbrev pub begins : Option ℕ → ℕ → ℕ
+begins None n = 1
+begins (Some m) n = if n == m + 1 then 0 else 1
+
+-- the last number, and before it stands what is given
+unfoldable pub last_after : Option ℕ → List ℕ → Option ℕ
+last_after before [] = before
+last_after before (n ∷ ns) = last_after (Some n) ns
+
+-- whether each number is above the one before it
+unfoldable pub rising_after : Option ℕ → List ℕ → Bool
+rising_after before [] = true
+rising_after before (n ∷ ns) = is_above before n && rising_after (Some n) ns
+
+-- how many numbers begin a range
+unfoldable pub ranges_after : Option ℕ → List ℕ → ℕ
+ranges_after before [] = 0
+ranges_after before (n ∷ ns) = begins before n + ranges_after (Some n) ns
+
+-- the last of the numbers
+abbrev pub last : List ℕ → Option ℕ
+last ns = last_after None ns
+
+-- whether the numbers rise
+abbrev pub rising : List ℕ → Bool
+rising ns = rising_after None ns
+
+-- how many ranges the numbers make: each is a longest run of numbers that follow one another without a gap
+abbrev pub ranges : List ℕ → ℕ
+ranges ns = ranges_after None ns

@@ -1,0 +1,8 @@
+use Rattle.std.proofs.Common.{◌≡◌, ◌≤◌, ◌+◌, ◌^◌, take}
+use Rattle.lwcrun_core.specs.Numbers.{decimal_value}
+use Rattle.lwcrun_core.proofs.Decimals.{IsValueOf}
+use Rattle.lwcrun_core.proofs.numbers.decimal_value.Given as goal
+
+-- the value is that of the digits so far
+abbrev pub invariant-loop-digit : goal.invariant-loop-digit
+invariant-loop-digit l = IsValueOf l.value l.digit-index l.digits

@@ -1,0 +1,111 @@
+ghost use Rattle.std.specs.Prelude.{◌≡◌, ◌↔◌, ℕ, List, Option, Some, None, map, option_map, IfOk, IfErr, string_bytes, IsErrOf};
+ghost use Rattle.lwcrun_core.specs.Lines as Command;
+ghost use Rattle.lwcrun_core.specs.Lines.{asked_by, command_of, settings_of, both_settings};
+
+use crate::numbers::number_within;
+use crate::settings::{Job, Settings};
+use std::alloc::Global;
+
+/// What a line asks for.
+#[derive(Debug, Drop)]
+pub enum Line {
+    /// The run of an image under a schedule, each a file by its name.
+    Replay {
+        image: String,
+        schedule: String,
+        settings: Settings,
+    },
+}
+
+/// Why a line was not read.
+#[derive(Clone, Copy, Debug, PartialEq, Eq)]
+pub enum LineFault {
+    OutOfMemory,
+    /// The words are not those of a line that is accepted.
+    Usage,
+}
+
+/// The frames of a line that names none.
+const FRAMES: u32 = 4096;
+
+/// The budget of a line that names none.
+const BUDGET: u32 = 10000;
+
+/// Frames and budget, where both are there.
+fn both_settings(frames: Option<u32>, budget: Option<u32>) -> Option<Settings>
+    ensures { result ≡ both_settings frames budget }
+{
+    Some(Settings {
+        frames: frames?,
+        budget: budget?,
+        job: Job::Run,
+    })
+}
+
+/// The settings that the words after the files ask for.
+#[tactic(auto, unfolding(crate::specs::Lines::settings_of))]
+fn settings_of(words: &[String]) -> Option<Settings>
+    ensures { result ≡ settings_of (map string_bytes words.now) }
+{
+    match words {
+        [] => both_settings(Some(FRAMES), Some(BUDGET)),
+        [name, value] if name.as_str() == "--frames" => {
+            both_settings(number_within(1, 65536, value.as_str()), Some(BUDGET))
+        }
+        [name, value] if name.as_str() == "--budget" => {
+            both_settings(Some(FRAMES), number_within(1, 100000, value.as_str()))
+        }
+        [first, frames, second, budget] if first.as_str() == "--frames" && second.as_str() == "--budget" => {
+            both_settings(
+                number_within(1, 65536, frames.as_str()),
+                number_within(1, 100000, budget.as_str()),
+            )
+        }
+        _ => None,
+    }
+}
+
+/// The line of a replay: its files, and what the words after them ask for.
+fn replay_line(
+    alloc: Global,
+    image: &str,
+    schedule: &str,
+    settings: Settings,
+) -> Result<Line, LineFault>
+    ensures line { IfOk result (λ line. asked_by line ≡ Command.Replay image.now schedule.now settings) }
+    ensures only { IfErr result (λ fault. fault ≡ LineFault.OutOfMemory) }
+{
+    let Ok(image) = String::from_str(alloc, image) else {
+        return Err(LineFault::OutOfMemory);
+    };
+    let Ok(schedule) = String::from_str(alloc, schedule) else {
+        return Err(LineFault::OutOfMemory);
+    };
+    Ok(Line::Replay {
+        image,
+        schedule,
+        settings,
+    })
+}
+
+/// What the words ask for, the program's name first.
+///
+/// # Errors
+///
+/// `Usage` exactly where the line is not accepted, or want of memory.
+#[tactic(auto, unfolding(crate::specs::Lines::command_of))]
+pub fn read_line(alloc: Global, words: &[String]) -> Result<Line, LineFault>
+    ensures accepted { IfOk result (λ line. command_of (map string_bytes words.now) ≡ Some (asked_by line)) }
+    ensures usage { (result ≡ Err LineFault.Usage) ↔ (command_of (map string_bytes words.now) ≡ None) }
+{
+    let [_program, mode, image, schedule, rest @ ..] = words else {
+        return Err(LineFault::Usage);
+    };
+    if mode.as_str() != "replay" {
+        return Err(LineFault::Usage);
+    }
+    match settings_of(rest) {
+        Some(settings) => replay_line(alloc, image.as_str(), schedule.as_str(), settings),
+        None => Err(LineFault::Usage),
+    }
+}
