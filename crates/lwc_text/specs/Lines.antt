@@ -19,14 +19,14 @@ unfoldable pub steps_text : List ℕ → List ℕ
 steps_text steps = if length steps == 0 then codes "-" else flat_map (λ t. digits 16 false t) steps
 
 -- how a thread stands
-abbrev pub status_text : ThreadStatus → List ℕ
+unfoldable pub status_text : ThreadStatus → List ℕ
 status_text Idle = codes "idle"
 status_text Running = codes "running"
 status_text (Done code) = codes "done " ++ decimal code
 status_text (Faulted fault) = codes "fault " ++ decimal (fault_number fault)
 
 -- a context's name: its job, and its number there
-abbrev pub name_text : Name → List ℕ
+unfoldable pub name_text : Name → List ℕ
 name_text name = decimal name.job ++ codes "." ++ decimal name.k
 
 -- a thread: how it stands, in which context, and which instruction comes next

@@ -44,6 +44,7 @@ fn steps_text(alloc: Global, steps: &[u8]) -> Result<String, OutOfMemory>
 }
 
 /// How a thread stands.
+#[tactic(auto, unfolding(crate::specs::Lines::status_text))]
 fn status_text(alloc: Global, status: ThreadStatus) -> Result<String, OutOfMemory>
     ensures { IfOk result (λ text. string_bytes text ≡ status_text status) }
 {
@@ -59,6 +60,7 @@ fn status_text(alloc: Global, status: ThreadStatus) -> Result<String, OutOfMemor
 }
 
 /// A context's name.
+#[tactic(auto, unfolding(crate::specs::Lines::name_text))]
 fn name_text(alloc: Global, name: Name) -> Result<String, OutOfMemory>
     ensures { IfOk result (λ text. string_bytes text ≡ name_text name) }
 {
@@ -97,13 +99,11 @@ fn registers_text(alloc: Global, t: u32, registers: &[u64; 16]) -> Result<String
 
 /// The line of a context.
 #[tactic(auto, unfolding(crate::specs::Lines::context_line))]
-fn context_text(alloc: Global, name: Name, summary: Summary) -> Result<String, OutOfMemory>
-    ensures { IfOk result (λ line. string_bytes line ≡ context_line name summary) }
+fn context_text(alloc: Global, name: Name, summary: &Summary) -> Result<String, OutOfMemory>
+    ensures { IfOk result (λ line. string_bytes line ≡ context_line name summary.now) }
 {
     let name = name_text(alloc, name)?;
-    let pages = summary.pages;
-    let slots = summary.slots;
-    let uid = summary.uid;
+    let Summary { pages, slots, uid } = *summary;
     Ok(format!(in alloc; "context {name} pages {pages} slots {slots} uid {uid}\n")?)
 }
 
@@ -112,7 +112,7 @@ pub fn context_line(out: &mut Vec<u8>, name: Name, summary: &Summary) -> Result<
     ensures ok { OnOk result (out.new.items ≡ out.old.items ++ context_line name summary.now) }
     ensures err { OnErr result (out.new.items ≡ out.old.items) }
 {
-    let line = context_text(*out.allocator(), name, *summary)?;
+    let line = context_text(*out.allocator(), name, summary)?;
     append(out, line.as_str())
 }
 
