@@ -3,3 +3,6 @@ pub mod Live
 pub mod OwnCells
 pub mod Zeros
 pub mod Kernel
+pub mod OneContext
+pub mod OnePage
+pub mod OneUsed
