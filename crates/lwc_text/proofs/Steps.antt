@@ -9,7 +9,8 @@ use Rattle.lwc_text.specs.declared.fault.InputFault.{InputFault}
 use Rattle.lwc_text.specs.declared.fault.InputFault.TheVariants as faults
 use Rattle.lwc_text.specs.declared.fault.InputRule.{InputRule}
 use Rattle.lwc_text.specs.declared.fault.InputRule.TheVariants.{TooLong, BadThread, TooManySteps}
-use Rattle.lwc_text.specs.declared.schedule.TheConstants.{MOST_BYTES, MOST_STEPS}
+use Rattle.kernel_core.specs.declared.settings.TheConstants.{MOST_STEPS}
+use Rattle.lwc_text.specs.declared.schedule.TheConstants.{MOST_BYTES}
 use Rattle.lwc_text.specs.Inputs.{Refused, at_offset, Fails, ◌>>=◌}
 use Rattle.lwc_text.specs.Schedules.{IsSchedule, digit_number, is_blank, names_thread, numbers, schedule_at, steps_from, with_byte}
 

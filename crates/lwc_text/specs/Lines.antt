@@ -3,10 +3,10 @@ use Rattle.std.specs.Prelude.{ℕ, ◌==◌, false, if◌then◌else◌, List, �
 use Rattle.std.specs.Fmt.{digits}
 use Rattle.std.specs.List.{flat_map}
 use Rattle.hex.specs.Hex.{encode_lower}
+use Rattle.kernel_core.specs.declared.thread.ThreadView.{ThreadView}
 use Rattle.lwc_base.specs.declared.fault.ThreadStatus.{ThreadStatus}
 use Rattle.lwc_base.specs.declared.fault.ThreadStatus.TheVariants.{Idle, Running, Done, Faulted}
 use Rattle.lwc_base.specs.declared.name.Name.{Name}
-use Rattle.lwc_base.specs.declared.regs.Regs.{Regs}
 use Rattle.lwc_base.specs.declared.size.Summary.{Summary}
 use Rattle.lwc_base.specs.Faults.{fault_number}
 
@@ -38,6 +38,10 @@ thread_line t status context pc =
 -- the registers of a thread
 unfoldable pub regs_line : ℕ → List ℕ → List ℕ
 regs_line t registers = codes "regs " ++ decimal t ++ flat_map (λ r. codes " " ++ decimal r) registers ++ codes "\n"
+
+-- the two lines of a thread
+unfoldable pub thread_lines : ℕ → ThreadView → List ℕ
+thread_lines t view = thread_line t view.status view.context view.regs.pc ++ regs_line t view.regs.r
 
 -- a context: how many pages it has, how many slots are filled, and its uid
 unfoldable pub context_line : Name → Summary → List ℕ

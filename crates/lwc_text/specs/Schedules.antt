@@ -4,7 +4,8 @@ use Rattle.std.specs.Option.{option_map_or, option_to_list}
 use Rattle.std.specs.List.{filter_map}
 use Rattle.lwc_text.specs.declared.fault.InputRule.{InputRule}
 use Rattle.lwc_text.specs.declared.fault.InputRule.TheVariants.{TooLong, BadThread, TooManySteps}
-use Rattle.lwc_text.specs.declared.schedule.TheConstants.{MOST_BYTES, MOST_STEPS}
+use Rattle.kernel_core.specs.declared.settings.TheConstants.{MOST_STEPS}
+use Rattle.lwc_text.specs.declared.schedule.TheConstants.{MOST_BYTES}
 use Rattle.lwc_text.specs.Inputs.{Refused, ◌>>=◌, at_offset}
 
 -- whether a byte only parts digits: a space, a carriage return or a line feed

@@ -3,8 +3,10 @@
 
 mod fault;
 mod lines;
+mod reporting;
 mod schedule;
 
 pub use fault::{InputFault, InputRule};
-pub use lines::{context_line, groups_line, tail_lines};
-pub use schedule::{MOST_STEPS, Schedule, read_schedule};
+pub use lines::{context_line, groups_line, tail_lines, thread_lines};
+pub use reporting::report;
+pub use schedule::{Schedule, read_schedule};

@@ -3,9 +3,10 @@
 
 ghost use Rattle.std.specs.Prelude.{◌≡◌, ◌++◌, IfOk, OnOk, OnErr, string_bytes, codes, decimal};
 ghost use Rattle.std.specs.List.{flat_map};
-ghost use Rattle.lwc_text.specs.Lines.{bytes_text, context_line, groups_line, name_text, regs_line, status_text, steps_text, tail_lines, thread_line};
+ghost use Rattle.lwc_text.specs.Lines.{bytes_text, context_line, groups_line, name_text, regs_line, status_text, steps_text, tail_lines, thread_line, thread_lines};
 
-use lwc_base::{Name, OutOfMemory, Regs, Summary, ThreadStatus};
+use kernel_core::ThreadView;
+use lwc_base::{Name, OutOfMemory, Summary, ThreadStatus};
 use std::alloc::Global;
 
 /// Appends a text.
@@ -95,6 +96,26 @@ fn registers_text(alloc: Global, t: u32, registers: &[u64; 16]) -> Result<String
     }
     line.push_str("\n")?;
     Ok(line)
+}
+
+/// The two lines of a thread.
+#[tactic(auto, unfolding(crate::specs::Lines::thread_lines))]
+fn thread_texts(alloc: Global, t: u32, view: &ThreadView) -> Result<String, OutOfMemory>
+    ensures { IfOk result (λ lines. string_bytes lines ≡ thread_lines t view.now) }
+{
+    let mut lines = thread_text(alloc, t, view.status, view.context, view.regs.pc)?;
+    let registers = registers_text(alloc, t, &view.regs.r)?;
+    lines.push_str(registers.as_str())?;
+    Ok(lines)
+}
+
+/// Appends the two lines of a thread (`thread_lines`). The one error is want of memory.
+pub fn thread_lines(out: &mut Vec<u8>, t: u32, view: &ThreadView) -> Result<(), OutOfMemory>
+    ensures ok { OnOk result (out.new.items ≡ out.old.items ++ thread_lines t view.now) }
+    ensures err { OnErr result (out.new.items ≡ out.old.items) }
+{
+    let lines = thread_texts(*out.allocator(), t, view)?;
+    append(out, lines.as_str())
 }
 
 /// The line of a context.

@@ -5,14 +5,12 @@ ghost use Rattle.lwc_text.specs.Inputs.{Answers, Fails, at_offset};
 ghost use Rattle.lwc_text.specs.Schedules.{IsSchedule, digit_number, is_blank, names_thread, schedule_at, steps_from, with_byte};
 
 use crate::fault::{InputFault, InputRule};
+use kernel_core::MOST_STEPS;
 use std::alloc::Global;
 use std::marker::Model;
 
 /// The most bytes of a schedule's text.
 const MOST_BYTES: usize = 16_777_216;
-
-/// The most steps.
-pub const MOST_STEPS: usize = 16_000_000;
 
 /// The steps that are to be made, each the number of the thread that makes it: at most 16000000, each below 16.
 #[derive(Debug, Drop)]
@@ -22,7 +20,7 @@ pub struct Schedule {
 
 impl Model for Schedule {
     ghost use Rattle.std.specs.Prelude.{ℕ, ◌≤◌, ◌<◌, List, All, length};
-    ghost use Rattle.lwc_text.specs.declared.schedule.TheConstants.{MOST_STEPS};
+    ghost use Rattle.kernel_core.specs.declared.settings.TheConstants.{MOST_STEPS};
 
     ghost Value = { List ℕ };
 
@@ -102,7 +100,7 @@ fn read_byte(steps: &mut Vec<u8>, threads: u32, at: u64, byte: u8) -> Result<(),
             });
         }
     };
-    if steps.len() == MOST_STEPS {
+    if steps.len() == MOST_STEPS as usize {
         return Err(InputFault::Refused {
             rule: InputRule::TooManySteps,
             at,
