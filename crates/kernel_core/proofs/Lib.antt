@@ -3,3 +3,4 @@ pub mod Acts
 pub mod Ready
 pub mod Runs
 pub mod Steady
+pub mod Building

@@ -1,23 +1,24 @@
 -- A kernel stays steady over a step, and what the step makes of its history.
-use Rattle.std.proofs.Common.{◌≡◌, ℕ, ◌+◌, ◌-◌, ◌*◌, ◌≤◌, ◌<◌, refl, sym, ap, subst, ◌∙◌, Bool, true, false, cond, Option, Some, None, List, [], ◌∷◌, ◌++◌, length, arith, length-append, get_or}
+use Rattle.std.proofs.Common.{◌≡◌, ℕ, ◌+◌, ◌-◌, ◌*◌, ◌^◌, ◌≤◌, ◌<◌, refl, sym, ap, subst, ◌∙◌, Bool, true, false, cond, Option, Some, None, List, [], ◌∷◌, ◌++◌, length, arith, length-append, get_or}
 use Rattle.std.specs.Prelude.{max, slice_get, slice_set}
 use Rattle.std.specs.List.{sum_by}
 use Rattle.std.specs.Option.{option_map, option_map_or}
 use Rattle.std.proofs.lemmas.Option.{slice_get_within, get_or_from_slice_get, slice_get-get_or}
-use Rattle.std.proofs.lemmas.List.Sums.{sum_by-set}
+use Rattle.std.proofs.lemmas.List.Sums.{sum_by-le, sum_by-set}
 use Rattle.std.proofs.lemmas.List.{length-set}
+use Rattle.std.proofs.lemmas.List.Elements.{All-weaker}
 use Rattle.std.proofs.lemmas.Grind.{get_or-set_at}
 use Rattle.std.proofs.Math.ListN.{set}
 use Rattle.guest_isa.specs.declared.instr.Instr.{Instr}
 use Rattle.kernel_core.proofs.Ready.{IsStep, ready_after_step, stands_well, step_made}
 use Rattle.kernel_core.proofs.Runs.{run-push, peak-push}
-use Rattle.kernel_core.specs.Kernel.{History, machine_of, stepped, turn_of, work}
+use Rattle.kernel_core.specs.Kernel.{History, machine_of, stepped, turn_of, view_of, work}
 use Rattle.kernel_core.specs.Machine.{Machine, has_ended, is_ended, steps_left, work_of}
 use Rattle.kernel_core.specs.Runs.{run, peak}
 use Rattle.kernel_core.specs.Start.{Inputs, standing, start}
-use Rattle.kernel_core.specs.Steady.{IsReady, IsSteady, most_after}
+use Rattle.kernel_core.specs.Steady.{IsReady, IsSteady, StandsWell, most_after}
 use Rattle.kernel_core.specs.Step.{Acted, alone, step, step_at, step_of, with_acted}
-use Rattle.kernel_core.specs.declared.settings.TheConstants.{MOST_STEPS}
+use Rattle.kernel_core.specs.declared.settings.TheConstants.{MOST_BUDGET, MOST_STEPS}
 use Rattle.kernel_core.specs.declared.thread.Thread.{Thread}
 use Rattle.lwc_base.specs.Frames.{used}
 use Rattle.lwc_base.specs.World.{World}
@@ -189,3 +190,36 @@ steady_as size size_now v threads text most_used u most_now h now sized used_is 
     subst (λ (s : WorldSize). IsSteady s v threads text most_now now) (sym sized)
     (subst (λ (n : ℕ). IsSteady size v threads text n now) (sym (most_is ∙ ap (max most_used) used_is))
         (subst (λ (k : History). IsSteady size v threads text (max most_used (used v)) k) (sym is) steady))
+
+-- what can be seen of the thread of a number
+pub view_here : (size : WorldSize) (w : World) (threads : List Thread) (text : List Instr) (most_used t : ℕ) (x : Thread) (h value : History) →
+    IsSteady size w threads text most_used h → h ≡ value → t < length value.inputs.image.entries → x ≡ get_or threads t x →
+    view_of (machine_of value) t ≡ Some (record { status = x.status; context = x.context; regs = x.regs })
+unfolding view_of
+view_here size w threads text most_used t x h value steady is within index =
+    let steady_here = same_history size w threads text most_used h value is steady in
+    ap (λ (m : Machine). view_of m t) (sym steady_here.now)
+    ∙ ap (option_map (λ (y : Thread). record { status = y.status; context = y.context; regs = y.regs })) (thread_found size w threads text most_used t x value steady_here within index)
+
+few_left : (budget : ℕ) (status : ThreadStatus) → budget ≤ MOST_BUDGET → steps_left budget status ≤ MOST_BUDGET
+few_left budget Running few = few
+few_left budget Idle few = omega arith
+few_left budget (Done code) few = omega arith
+few_left budget (Faulted f) few = omega arith
+
+-- the steps that are left fit a number of 32 bits
+pub work_fits : (size : WorldSize) (w : World) (threads shown : List Thread) (text : List Instr) (most_used : ℕ) (h : History) →
+    IsSteady size w threads text most_used h → shown ≡ threads → work_of shown < 2 ^ 32
+unfolding work_of
+work_fits size w threads shown text most_used h steady same =
+    let left = λ (x : Thread). steps_left x.budget x.status in
+    let each = All-weaker (StandsWell size w) (λ x. left x ≤ MOST_BUDGET) (λ x stands. few_left x.budget x.status stands.budget) threads steady.ready.threads in
+    let most : sum_by left threads ≤ length threads * MOST_BUDGET = sum_by-le left MOST_BUDGET threads each in
+    let less : sum_by left threads < 2 ^ 32 = omega (arith, most, steady.few) in
+    subst (λ (l : List Thread). sum_by left l < 2 ^ 32) (sym same) less
+
+pub work_here : (size : WorldSize) (w : World) (threads shown : List Thread) (text : List Instr) (most_used result : ℕ) (h value : History) →
+    IsSteady size w threads text most_used h → h ≡ value → shown ≡ threads → result ≡ work_of shown → result ≡ work value
+unfolding work
+work_here size w threads shown text most_used result h value steady is same sum =
+    sum ∙ ap work_of same ∙ ap (λ (m : Machine). work_of m.threads) steady.now ∙ ap work is

@@ -18,6 +18,7 @@ pub mod Machine
 pub mod Step
 pub mod Runs
 pub mod Start
+pub mod Stages
 pub mod Kernel
 pub mod Ready
 pub mod Steady

@@ -72,10 +72,13 @@ first_thread budget t entry = record {
 unfoldable pub first_threads : ℕ → List ℕ → List Thread
 first_threads budget entries = map (λ e. first_thread budget e.0 e.1) (enumerate_from 0 entries)
 
--- the world of a start: its one context, for whose pages job 0 has taken a tag each
+-- the world whose one context this is, for whose pages job 0 has taken so many tags
+unfoldable pub world_with : ℕ → ℕ → Context → World
+world_with frames tags x = count_on (add_context (empty_world frames PAGES) 0 x) 0 (λ n. record n { tags = tags })
+
+-- the world of a start: its one context, in which each page has a tag of its own
 unfoldable pub start_world : Image → ℕ → World
-start_world image frames =
-    count_on (add_context (empty_world frames PAGES) 0 (first_context image)) 0 (λ n. record n { tags = length image.pages })
+start_world image frames = world_with frames (length image.pages) (first_context image)
 
 -- the machine of a run in which the threads and the world stand like this: the text and the files are the image's, and nothing is on the console
 abbrev pub standing : Inputs → List Thread → World → Machine

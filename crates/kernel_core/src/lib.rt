@@ -4,6 +4,7 @@
 mod acting;
 pub mod kernel;
 pub mod settings;
+mod starting;
 pub mod thread;
 
 pub use kernel::Kernel;

@@ -1,0 +1,246 @@
+-- The world of a start as it is built: one page more, one slot more, and what all of them make.
+use Rattle.std.proofs.Common.{◌≡◌, ℕ, zero, suc, ◌+◌, ◌-◌, ◌*◌, ◌^◌, ◌≤◌, ◌<◌, refl, sym, ap, subst, ◌∙◌, Bool, true, false, cond, eqb, leb, ltb, ◌&&◌, IsTrue, Option, Some, None, List, [], ◌∷◌, ◌++◌, length, map, take, get_or, arith, length-append}
+use Rattle.std.specs.FinMap as fm
+use Rattle.std.specs.Prelude.{All, slice_get, nat_lt}
+use Rattle.std.specs.List.{enumerate_from, find, flat_map, range_with_len}
+use Rattle.std.specs.Option.{option_map, option_map_or, option_or}
+use Rattle.std.proofs.lemmas.Bool.Decides.{nat_tests}
+use Rattle.std.proofs.lemmas.List.{take_more, length-take-le}
+use Rattle.std.proofs.lemmas.List.Elements.{All-get_or}
+use Rattle.std.proofs.lemmas.List.Folds.{find-append}
+use Rattle.std.proofs.lemmas.Option.{slice_get_within, get_or_from_slice_get}
+use Rattle.std.proofs.Math.Seq.{take-length}
+use Rattle.guest_image.specs.Limits.{IsImage, page_numbers}
+use Rattle.guest_image.specs.Numbers.{is_above, rising_after}
+use Rattle.guest_image.specs.declared.image.Image.{Image}
+use Rattle.guest_image.specs.declared.image.PageImage.{PageImage}
+use Rattle.guest_image.specs.declared.image.SlotImage.{SlotImage}
+use Rattle.kernel_core.specs.Stages.{context_with, with_pages, with_slots}
+use Rattle.kernel_core.specs.Start.{first_context, first_entry, image_tag, page_in, slot_in, start_world, world_with}
+use Rattle.kernel_core.specs.declared.settings.TheConstants.{PAGES}
+use Rattle.lwc_base.proofs.OneContext.{first, mapped, map-one, one_added, one_context, one_counts, live-one, put_slot-one, none_counted, one_counted}
+use Rattle.lwc_base.proofs.OnePage.{page_piece, store-one, store_not_absent, store_not_full}
+use Rattle.lwc_base.proofs.OneUsed.{count-mapped, count-with_page, tag_count, used-one}
+use Rattle.lwc_base.specs.Cells.{put_slot, with_page, with_slot}
+use Rattle.lwc_base.specs.Frames.{tag_of, tags_of_context, used}
+use Rattle.lwc_base.specs.Mapping.{map_pages}
+use Rattle.lwc_base.specs.Registers.{fresh_registers}
+use Rattle.lwc_base.specs.Store.{Absent, Full, Done, store}
+use Rattle.lwc_base.specs.World.{World, Context, add_context, count_on, empty_world, new_context}
+use Rattle.lwc_base.specs.declared.cell.Cell.{Cell}
+use Rattle.lwc_base.specs.declared.cell.Cell.TheVariants.{Own}
+use Rattle.lwc_base.specs.declared.descriptor.Descriptor.{Descriptor}
+use Rattle.lwc_base.specs.declared.descriptor.Descriptor.TheVariants.{Empty, File}
+use Rattle.lwc_base.specs.declared.page.PageValue.{PageValue}
+use Rattle.lwc_base.specs.declared.page.PageValue.TheVariants.{Zero, Data}
+use Rattle.lwc_base.specs.declared.size.WorldSize.{WorldSize}
+use Rattle.world_face.specs.Calls.{MayName}
+
+world_one : (frames tags : ℕ) (x : Context) → world_with frames tags x ≡ one_context frames PAGES tags x
+unfolding world_with
+world_one frames tags x =
+    ap (λ w. count_on w 0 (λ n. record n { tags = tags })) (one_added frames PAGES x) ∙ one_counts frames PAGES 0 tags x
+
+-- the first context without pages
+nothing_put : (image : Image) → context_with image [] ≡ new_context image.uid (fresh_registers (first_entry image))
+unfolding context_with page_in
+nothing_put image = refl
+
+-- the world in which the first context was made
+pub pages_begin : (image : Image) (frames : ℕ) → add_context (empty_world frames PAGES) 0 (new_context image.uid (fresh_registers (first_entry image))) ≡ with_pages image frames 0
+unfolding with_pages
+pages_begin image frames =
+    one_added frames PAGES (new_context image.uid (fresh_registers (first_entry image)))
+    ∙ ap (one_context frames PAGES 0) (sym (nothing_put image))
+    ∙ sym (world_one frames 0 (context_with image []))
+
+enumerate-push : {X : Type 0} (a : ℕ) (xs : List X) (x : X) → enumerate_from a (xs ++ x ∷ []) ≡ enumerate_from a xs ++ (a + length xs, x) ∷ []
+enumerate-push a [] x = ap (λ n. (n, x) ∷ []) (omega arith)
+enumerate-push a (y ∷ ys) x = ap (λ l. (a, y) ∷ l) (enumerate-push (a + 1) ys x ∙ ap (λ n. enumerate_from (a + 1) ys ++ (n, x) ∷ []) (omega arith))
+
+cell_of : Option (ℕ × PageImage) → Option (Cell PageValue)
+cell_of found = option_map (λ e. Own (Data (image_tag e.0) e.1.bytes)) found
+
+page_by : (b here : Bool) (n q k : ℕ) (x : PageImage) (found : Option (ℕ × PageImage)) (zeros : Bool) → eqb q n ≡ b → x.number ≡ n → (eqb q n ≡ true → found ≡ None) → (eqb q n ≡ false → zeros ≡ false) →
+    cond b (Some (Own (Data (image_tag k) x.bytes))) (cond zeros (Some (Own Zero)) (cell_of found)) ≡ cell_of (option_or found (cond (eqb x.number q) (Some (k, x)) None))
+unfolding cell_of
+page_by true here n q k x found zeros is number fresh other =
+    let same : eqb x.number q ≡ true = grind (arith, nat_tests) in
+    sym (ap (λ o. cell_of (option_or o (cond (eqb x.number q) (Some (k, x)) None))) (fresh is) ∙ ap (λ c. cell_of (cond c (Some (k, x)) None)) same)
+page_by false here n q k x None zeros is number fresh other =
+    let apart : eqb x.number q ≡ false = grind (arith, nat_tests) in
+    ap (λ c. cond c (Some (Own Zero)) None) (other is) ∙ sym (ap (λ c. cell_of (cond c (Some (k, x)) None)) apart)
+page_by false here n q k x (Some e) zeros is number fresh other =
+    ap (λ c. cond c (Some (Own Zero)) (cell_of (Some e))) (other is)
+
+-- one page more: mapped, and then stored
+page_in-push : (pages : List PageImage) (x : PageImage) (q : ℕ) → find (λ e. eqb e.1.number x.number) (enumerate_from 0 pages) ≡ None →
+    cond (eqb q x.number) (Some (Own (Data (image_tag (length pages)) x.bytes))) (cond (leb x.number q && ltb q (x.number + 1)) (Some (Own Zero)) (page_in pages q)) ≡ page_in (pages ++ x ∷ []) q
+unfolding page_in cell_of
+page_in-push pages x q fresh =
+    page_by (eqb q x.number) true x.number q (length pages) x (find (λ e. eqb e.1.number q) (enumerate_from 0 pages)) (leb x.number q && ltb q (x.number + 1)) refl refl
+    (λ same. let is : q ≡ x.number = grind (arith, nat_tests) in ap (λ m. find (λ (e : ℕ × PageImage). eqb e.1.number m) (enumerate_from 0 pages)) is ∙ fresh)
+    (λ other. grind (arith, nat_tests))
+    ∙ ap cell_of (sym (ap (find (λ e. eqb e.1.number q)) (enumerate-push 0 pages x ∙ ap (λ n. enumerate_from 0 pages ++ (n, x) ∷ []) (omega arith)) ∙ find-append (λ e. eqb e.1.number q) (enumerate_from 0 pages) ((length pages, x) ∷ [])))
+
+above_by : (a b : Bool) → IsTrue (a && b) → IsTrue a × IsTrue b
+above_by true b h = (refl, h)
+above_by false b h = cc
+
+-- in pages that rise, each later one is above what stands before
+later_above : (before : ℕ) (pages : List PageImage) (k : ℕ) (x : PageImage) → IsTrue (rising_after (Some before) (page_numbers pages)) → slice_get pages k ≡ Some x → before < x.number
+unfolding rising_after
+later_above before [] k x rise found = cc
+later_above before (y ∷ ys) zero x rise found =
+    let same : y ≡ x = cc in
+    let up : before < y.number = grind (arith, nat_tests, (above_by (ltb before y.number) _ rise).0) in
+    subst (λ (z : PageImage). before < z.number) same up
+later_above before (y ∷ ys) (suc k) x rise found =
+    let both = above_by (ltb before y.number) _ rise in
+    let up : before < y.number = grind (arith, nat_tests, both.0) in
+    let rest = later_above y.number ys k x both.1 found in
+    omega arith
+
+-- no page before it has its number
+new_number : (before : Option ℕ) (a : ℕ) (pages : List PageImage) (k : ℕ) (x : PageImage) → IsTrue (rising_after before (page_numbers pages)) → slice_get pages k ≡ Some x →
+    find (λ e. eqb e.1.number x.number) (enumerate_from a (take k pages)) ≡ None
+unfolding rising_after
+new_number before a [] k x rise found = cc
+new_number before a (y ∷ ys) zero x rise found = refl
+new_number before a (y ∷ ys) (suc k) x rise found =
+    let rest : IsTrue (rising_after (Some y.number) (page_numbers ys)) = (above_by (is_above before y.number) _ rise).1 in
+    let up = later_above y.number ys k x rest found in
+    let apart : eqb y.number x.number ≡ false = grind (arith, nat_tests) in
+    ap (λ b. cond b (Some (a, y)) (find (λ (e : ℕ × PageImage). eqb e.1.number x.number) (enumerate_from (a + 1) (take k ys)))) apart ∙ new_number (Some y.number) (a + 1) ys k x rest found
+
+-- the context once the k-th page is mapped and stored
+context_after : (image : Image) (k : ℕ) (x : PageImage) → IsImage image → slice_get image.pages k ≡ Some x →
+    with_page x.number (Some (Own (Data (record { job = 0; k = k }) x.bytes))) (mapped x.number (context_with image (take k image.pages))) ≡ context_with image (take (k + 1) image.pages)
+unfolding context_with
+context_after image k x is found =
+    let within = slice_get_within image.pages k x found in
+    let fresh = new_number None 0 image.pages k x is.pages.rise found in
+    let count : length (take k image.pages) ≡ k = length-take-le k image.pages (omega arith) in
+    let more : take (k + 1) image.pages ≡ take k image.pages ++ x ∷ [] =
+        take_more image.pages k x within ∙ ap (λ y. take k image.pages ++ y ∷ []) (get_or_from_slice_get image.pages k x x found) in
+    let tagged : (q : ℕ) → cond (eqb q x.number) (Some (Own (Data (image_tag k) x.bytes))) (cond (leb x.number q && ltb q (x.number + 1)) (Some (Own Zero)) (page_in (take k image.pages) q)) ≡ page_in (take (k + 1) image.pages) q =
+        λ q. ap (λ n. cond (eqb q x.number) (Some (Own (Data (image_tag n) x.bytes))) (cond (leb x.number q && ltb q (x.number + 1)) (Some (Own Zero)) (page_in (take k image.pages) q))) (sym count)
+            ∙ page_in-push (take k image.pages) x q fresh ∙ ap (λ l. page_in l q) (sym more) in
+    λ i. record (new_context image.uid (fresh_registers (first_entry image))) { page = λ q. tagged q i }
+
+-- a page of an image
+pub number_below : (image : Image) (k : ℕ) (x : PageImage) → IsImage image → slice_get image.pages k ≡ Some x → x.number < PAGES
+number_below image k x is found =
+    subst (λ (y : PageImage). y.number < PAGES) (get_or_from_slice_get image.pages k x x found)
+    (All-get_or (λ (y : PageImage). y.number < PAGES) image.pages k x (slice_get_within image.pages k x found) is.pages.numbers)
+
+bytes_whole : (image : Image) (k : ℕ) (x : PageImage) → IsImage image → slice_get image.pages k ≡ Some x → length x.bytes ≡ 4096
+bytes_whole image k x is found =
+    subst (λ (y : PageImage). length y.bytes ≡ 4096) (get_or_from_slice_get image.pages k x x found)
+    (All-get_or (λ (y : PageImage). length y.bytes ≡ 4096) image.pages k x (slice_get_within image.pages k x found) is.pages.whole)
+
+-- a world of one context
+pub record IsOne (w : World) (taken : ℕ) : Type 0 where
+  pub live : fm.contains_key w.contexts first ≡ true
+  pub pages : w.pages ≡ PAGES
+  pub contexts : (w.next 0).contexts ≡ 1
+  pub groups : (w.next 0).groups ≡ 0
+  pub tags : (w.next 0).tags ≡ taken
+
+is_one : (frames tags : ℕ) (x : Context) → IsOne (one_context frames PAGES tags x) tags
+unfolding one_context
+is_one frames tags x = record { live = live-one frames PAGES tags x; pages = refl; contexts = refl; groups = refl; tags = refl }
+
+stands_here : (image : Image) (frames k : ℕ) (w : World) → w ≡ with_pages image frames k → w ≡ one_context frames PAGES k (context_with image (take k image.pages))
+unfolding with_pages
+stands_here image frames k w before = before ∙ world_one frames k (context_with image (take k image.pages))
+
+pub one_here : (image : Image) (frames k : ℕ) (w : World) → w ≡ with_pages image frames k → IsOne w k
+one_here image frames k w before = subst (λ (v : World). IsOne v k) (sym (stands_here image frames k w before)) (is_one frames k (context_with image (take k image.pages)))
+
+stands_mapped : (image : Image) (frames k : ℕ) (x : PageImage) (w v : World) → w ≡ with_pages image frames k → v ≡ map_pages w first x.number (x.number + 1) →
+    v ≡ one_context frames PAGES k (mapped x.number (context_with image (take k image.pages)))
+stands_mapped image frames k x w v before after =
+    after ∙ ap (λ u. map_pages u first x.number (x.number + 1)) (stands_here image frames k w before) ∙ map-one frames PAGES k (context_with image (take k image.pages)) x.number
+
+pub one_mapped : (image : Image) (frames k : ℕ) (x : PageImage) (w v : World) → w ≡ with_pages image frames k → v ≡ map_pages w first x.number (x.number + 1) → IsOne v k
+one_mapped image frames k x w v before after =
+    subst (λ (u : World). IsOne u k) (sym (stands_mapped image frames k x w v before after)) (is_one frames k (mapped x.number (context_with image (take k image.pages))))
+
+zeros_there : (p : ℕ) (x : Context) → (mapped p x).page p ≡ Some (Own Zero)
+zeros_there p x =
+    let inside : (leb p p && ltb p (p + 1)) ≡ true = grind (arith, nat_tests) in
+    ap (λ b. cond b (Some (Own Zero)) (x.page p)) inside
+
+no_tags : (n a : ℕ) → length (flat_map (λ (q : ℕ). tag_of None) (range_with_len a n)) ≤ 0
+no_tags zero a = omega arith
+no_tags (suc n) a = no_tags n (a + 1)
+
+no_pages : (image : Image) → tag_count PAGES (context_with image []) ≤ 0
+unfolding tag_count tags_of_context context_with page_in
+no_pages image = no_tags PAGES 0
+
+one_more : (image : Image) (k : ℕ) (x : PageImage) → IsImage image → slice_get image.pages k ≡ Some x →
+    tag_count PAGES (context_with image (take k image.pages)) ≤ k → tag_count PAGES (context_with image (take (k + 1) image.pages)) ≤ k + 1
+one_more image k x is found before =
+    let had = context_with image (take k image.pages) in
+    let stored = count-with_page PAGES x.number (mapped x.number had) (record { job = 0; k = k }) x.bytes in
+    let zeros = count-mapped PAGES x.number had in
+    subst (λ (y : Context). tag_count PAGES y ≤ k + 1) (context_after image k x is found) (omega (arith, stored, zeros, before))
+
+page_there : (pages : List PageImage) (k : ℕ) → k < length pages → (x : PageImage) × (slice_get pages k ≡ Some x)
+page_there [] k within = absurd (omega arith)
+page_there (x ∷ xs) zero within = (x, refl)
+page_there (x ∷ xs) (suc k) within = page_there xs k (omega arith)
+
+-- no more pages have a tag than are put
+tags_put : (image : Image) (k : ℕ) → IsImage image → k ≤ length image.pages → tag_count PAGES (context_with image (take k image.pages)) ≤ k
+tags_put image zero is within = no_pages image
+tags_put image (suc k) is within =
+    let there = page_there image.pages k (omega arith) in
+    let more = one_more image k there.0 is there.1 (tags_put image k is (omega arith)) in
+    let next : k + 1 ≡ suc k = omega arith in
+    subst (λ (n : ℕ). tag_count PAGES (context_with image (take n image.pages)) ≤ n) next more
+
+-- a frame is left for the page
+frame_left : (image : Image) (frames k : ℕ) (x : PageImage) → IsImage image → slice_get image.pages k ≡ Some x → length image.pages ≤ frames →
+    used (one_context frames PAGES k (mapped x.number (context_with image (take k image.pages)))) < frames
+frame_left image frames k x is found fits =
+    let had = context_with image (take k image.pages) in
+    let within = slice_get_within image.pages k x found in
+    omega (arith, used-one frames PAGES k (mapped x.number had), count-mapped PAGES x.number had, tags_put image k is (omega arith), within, fits)
+
+-- what the store of the page makes
+module _ (image : Image) (frames k : ℕ) (x : PageImage) (w v : World) (number : ℕ) (bytes : List ℕ) (is : IsImage image) (found : slice_get image.pages k ≡ Some x) (before : w ≡ with_pages image frames k)
+    (after : v ≡ map_pages w first x.number (x.number + 1)) (number_is : number ≡ x.number) (bytes_are : bytes ≡ x.bytes) where
+  had : Context
+  had = mapped x.number (context_with image (take k image.pages))
+
+  as_page : store v first 0 (record { at = number * 4096; bytes = bytes }) ≡ store (one_context frames PAGES k had) first 0 (page_piece x.number x.bytes)
+  unfolding had
+  as_page = λ i. store (stands_mapped image frames k x w v before after i) first 0 (record { at = number_is i * 4096; bytes = bytes_are i })
+
+  pub not_absent : store v first 0 (record { at = number * 4096; bytes = bytes }) ≡ Absent → ⊥
+  unfolding had
+  not_absent e = store_not_absent frames PAGES k x.number had x.bytes (bytes_whole image k x is found) (zeros_there x.number (context_with image (take k image.pages))) (sym as_page ∙ e)
+
+  pub not_full : length image.pages ≤ frames → store v first 0 (record { at = number * 4096; bytes = bytes }) ≡ Full → ⊥
+  unfolding had
+  not_full fits e = store_not_full frames PAGES k x.number had x.bytes (bytes_whole image k x is found) (zeros_there x.number (context_with image (take k image.pages)))
+      (frame_left image frames k x is found fits) (sym as_page ∙ e)
+
+  pub page_put : (u : World) → store v first 0 (record { at = number * 4096; bytes = bytes }) ≡ Done u → u ≡ with_pages image frames (k + 1)
+  unfolding had with_pages
+  page_put u done =
+      store-one frames PAGES k x.number had x.bytes u (bytes_whole image k x is found) (zeros_there x.number (context_with image (take k image.pages))) (sym as_page ∙ done)
+      ∙ ap (one_context frames PAGES (k + 1)) (context_after image k x is found)
+      ∙ sym (world_one frames (k + 1) (context_with image (take (k + 1) image.pages)))
+
+-- job 0 may take more tags
+pub may_take : (size : WorldSize) (w : World) (taken : ℕ) → IsOne w taken → taken < 2 ^ 31 → 1 ≤ size.jobs → MayName size w 0
+may_take size w taken one few some = record {
+  known = omega arith;
+  contexts = omega (arith, one.contexts);
+  groups = omega (arith, one.groups);
+  tags = omega (arith, one.tags);
+}
