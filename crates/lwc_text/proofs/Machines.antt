@@ -101,7 +101,7 @@ one_more_context w i c s before now after named is so_far added =
     let keys : List Name = fm.keys w.contexts in
     let found : slice_get keys i ≡ Some c = sym named in
     let next : take (i + 1) keys ≡ take i keys ++ c ∷ [] =
-        take_more keys i c (slice_get_within keys i c found) ∙ ap (λ x. take i keys ++ x ∷ []) (get_or_from_slice_get keys i c c found) in
+    take_more keys i c (slice_get_within keys i c found) ∙ ap (λ x. take i keys ++ x ∷ []) (get_or_from_slice_get keys i c c found) in
     added
     ∙ ap (λ (x : Summary). now ++ context_line c x) is
     ∙ ap (λ l. l ++ context_at w c) so_far

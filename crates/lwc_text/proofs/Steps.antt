@@ -4,7 +4,6 @@ use Rattle.std.proofs.lemmas.Grind.{common_steps}
 use Rattle.std.proofs.lemmas.List.{drop_all}
 use Rattle.std.proofs.lemmas.List.Elements.{All-nil, All-cons, All-head, All-tail}
 use Rattle.std.specs.List.{filter_map, cons_option}
-
 use Rattle.lwc_text.specs.declared.fault.InputFault.{InputFault}
 use Rattle.lwc_text.specs.declared.fault.InputFault.TheVariants as faults
 use Rattle.lwc_text.specs.declared.fault.InputRule.{InputRule}
@@ -66,8 +65,8 @@ are_read threads before at [] all few h =
     record { each = All-nil (Fits threads); named = sym same ∙ sym (append-nil before); few = subst (λ (xs : List ℕ). length xs ≤ MOST_STEPS) same few }
 are_read threads before at (b ∷ bytes) all few h =
     elim (with_byte threads before b) as (λ (r : Result (List ℕ) InputRule). with_byte threads before b ≡ r → (at_offset at r >>= λ more. steps_from threads more (at + 1) bytes) ≡ Ok all → AreRead threads before (b ∷ bytes) all) [
-      Ok more ↦ λ e rest. let one : IsAdded threads before b more = added threads before b more few e in one_more threads before b bytes more all one (are_read threads more (at + 1) bytes all one.few rest)
-    | Err rule ↦ λ e rest. absurd (cc)
+      | Ok more ↦ λ e rest. let one : IsAdded threads before b more = added threads before b more few e in one_more threads before b bytes more all one (are_read threads more (at + 1) bytes all one.few rest)
+      | Err rule ↦ λ e rest. absurd (cc)
     ] refl h
 
 -- bytes that each fit are read to their numbers, where there is room
@@ -114,8 +113,8 @@ is_done threads at before bytes total le so_far =
 numbers_hold : (P : ℕ → Type 0) (b : ℕ) (bytes : List ℕ) → ((t : ℕ) → digit_number b ≡ Some t → P t) → All P (numbers bytes) → All P (numbers (b ∷ bytes))
 numbers_hold P b bytes first rest =
     elim (digit_number b) as (λ (o : Option ℕ). digit_number b ≡ o → All P (cons_option o (numbers bytes))) [
-      None ↦ λ e. rest
-    | Some t ↦ λ e. All-cons P t (numbers bytes) (first t e) rest
+      | None ↦ λ e. rest
+      | Some t ↦ λ e. All-cons P t (numbers bytes) (first t e) rest
     ] refl
 
 digit_is_below : (b t : ℕ) → digit_number b ≡ Some t → t < 16

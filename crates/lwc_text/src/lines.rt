@@ -164,6 +164,61 @@ pub fn tail_lines(
     let console = bytes_text(alloc, console)?;
     let steps = schedule.len();
     let schedule = steps_text(alloc, schedule)?;
-    let lines = format!(in alloc; "console {console}\nused {used}\npeak {peak}\nsteps {steps}\nschedule {schedule}\n")?;
+    let lines = format!(in alloc;
+        "console {console}\nused {used}\npeak {peak}\nsteps {steps}\nschedule {schedule}\n"
+    )?;
     append(out, lines.as_str())
+}
+
+#[cfg(test)]
+mod tests {
+    use super::*;
+    use lwc_base::{Fault, Regs};
+    use std::test::Fail;
+
+    #[test]
+    fn a_thread_has_two_lines(rt: HostRuntime) -> Result<(), Fail> {
+        let context = Name { job: 2, k: 30 };
+        let mut regs = Regs::fresh(3);
+        regs.r[1] = 7;
+        regs.r[15] = u64::MAX;
+        let fault = Fault::NoFrame;
+        for (status, words) in [
+            (ThreadStatus::Idle, "idle"),
+            (ThreadStatus::Running, "running"),
+            (ThreadStatus::Done { code: 9 }, "done 9"),
+            (ThreadStatus::Faulted { fault }, "fault 4"),
+        ] {
+            let view = ThreadView {
+                status,
+                context,
+                regs,
+            };
+            let mut out = Vec::new(rt.alloc());
+            thread_lines(&mut out, 5, &view)?;
+            let want = format!(in rt.alloc();
+                "thread 5 {words} ctx 2.30 pc 3\nregs 5 0 7 0 0 0 0 0 0 0 0 0 0 0 0 0 18446744073709551615\n"
+            )?;
+            assert_eq!(rt; out.as_slice(), want.as_bytes(), "{words}");
+        }
+        Ok(())
+    }
+
+    #[test]
+    fn lines_follow_one_another(rt: HostRuntime) -> Result<(), Fail> {
+        let mut out = Vec::new(rt.alloc());
+        let summary = Summary {
+            pages: 2,
+            slots: 5,
+            uid: 65534,
+        };
+        context_line(&mut out, Name { job: 1, k: 0 }, &summary)?;
+        groups_line(&mut out, 12)?;
+        tail_lines(&mut out, &[0, 0x2a, 0xff], 3, 4, &[0, 10, 15])?;
+        tail_lines(&mut out, &[], 0, 0, &[])?;
+        let want =
+            "context 1.0 pages 2 slots 5 uid 65534\ngroups 12\nconsole 002aff\nused 3\npeak 4\nsteps 3\nschedule 0af\nconsole -\nused 0\npeak 0\nsteps 0\nschedule -\n";
+        assert_eq!(rt; out.as_slice(), want.as_bytes());
+        Ok(())
+    }
 }

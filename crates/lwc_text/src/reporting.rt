@@ -47,7 +47,7 @@ fn context_lines<W: World>(out: &mut Vec<u8>, world: &W) -> Result<(), OutOfMemo
 /// want of memory.
 #[tactic(auto, using(crate::proofs::Machines::nothing_written), unfolding(crate::specs::Report::report_of))]
 pub fn report<W: World>(alloc: Global, k: &Kernel<W>) -> Result<Vec<u8>, OutOfMemory>
-    ensures { IfOk result (λ text. text.items ≡ report_of (machine_of k.now) (runs.peak (start k.now.inputs) k.now.steps) k.now.steps) }
+    ensures exact { IfOk result (λ text. text.items ≡ report_of (machine_of k.now) (runs.peak (start k.now.inputs) k.now.steps) k.now.steps) }
 {
     let world = k.world();
     let mut text = threads_text(alloc, k)?;

@@ -153,3 +153,51 @@ pub fn read_schedule(alloc: Global, bytes: &[u8], threads: u32) -> Result<Schedu
 {
     schedule_of(alloc, threads, bytes)
 }
+
+#[cfg(test)]
+mod tests {
+    use super::*;
+    use std::test::Fail;
+
+    #[test]
+    fn digits_are_steps(rt: HostRuntime) -> Result<(), Fail> {
+        for (text, threads, count, last) in [
+            ("0 0\r\n0", 1, 3, 0),
+            ("f", 16, 1, 15),
+            ("9a", 11, 2, 10),
+        ] {
+            let schedule = read_schedule(rt.alloc(), text.as_bytes(), threads)?;
+            assert_eq!(rt; schedule.len(), count, "in {text:?}");
+            assert_eq!(rt; *schedule.get(count - 1), last, "in {text:?}");
+        }
+        let empty = read_schedule(rt.alloc(), b"", 1)?;
+        assert!(rt; empty.is_empty());
+        Ok(())
+    }
+
+    #[test]
+    fn other_bytes_and_threads_are_refused(rt: HostRuntime) {
+        for (text, threads, at) in [("0g", 1, 1), ("1", 1, 0), ("0\t", 1, 1), ("A", 16, 0)] {
+            let rule = InputRule::BadThread;
+            let fault = read_schedule(rt.alloc(), text.as_bytes(), threads).err();
+            assert_eq!(rt;
+                fault,
+                Some(InputFault::Refused { rule, at }),
+                "in {text:?}"
+            );
+        }
+    }
+
+    #[test]
+    fn limits_are_kept(rt: HostRuntime) -> Result<(), Fail> {
+        for (byte, count, rule, at) in [
+            (b'0', 16_000_001, InputRule::TooManySteps, 16_000_000),
+            (b' ', 16_777_217, InputRule::TooLong, 16_777_216),
+        ] {
+            let bytes = Vec::from_elem(rt.alloc(), byte, count)?;
+            let fault = read_schedule(rt.alloc(), bytes.as_slice(), 1).err();
+            assert_eq!(rt; fault, Some(InputFault::Refused { rule, at }));
+        }
+        Ok(())
+    }
+}
