@@ -1,10 +1,9 @@
 -- What a run leaves of a machine, and its lines one after another.
-use Rattle.std.proofs.Common.{◌≡◌, ℕ, ◌<◌, ◌≤◌, ◌+◌, refl, sym, ap, ◌∙◌, subst, true, List, [], ◌∷◌, ◌++◌, length, Option, Some, None, suc, zero, get_or, take, ⊎_elim, arith, add-one, append-nil, append_assoc}
-use Rattle.std.specs.Prelude.{slice_get, slice_set}
+use Rattle.std.proofs.Common.{◌≡◌, ℕ, ◌≤◌, ◌+◌, refl, sym, ap, ◌∙◌, true, List, [], ◌∷◌, ◌++◌, length, Option, Some, None, suc, zero, take, ⊎_elim, arith, add-one, append-nil, append_assoc}
+use Rattle.std.specs.Prelude.{slice_get}
 use Rattle.std.specs.FinMap as fm
 use Rattle.std.specs.List.{enumerate_from, flat_map, range_with_len}
 use Rattle.std.specs.Option.{option_map_or}
-use Rattle.std.specs.Ordering.{eq_by_cmp}
 use Rattle.std.proofs.lemmas.Cmp.{eq_by_cmp_equiv}
 use Rattle.std.proofs.lemmas.List.{length-map, length-set, take_more, take_all}
 use Rattle.std.proofs.lemmas.List.Concat.{flat_map-append}
@@ -14,12 +13,11 @@ use Rattle.std.proofs.lemmas.Option.{slice_get_cases, slice_get_within, get_or_f
 use Rattle.kernel_core.specs.Kernel.{History, machine_of, view_of}
 use Rattle.kernel_core.specs.Machine.{Machine}
 use Rattle.kernel_core.specs.Runs.{run}
-use Rattle.kernel_core.specs.Start.{Inputs, first_thread, first_threads, start}
+use Rattle.kernel_core.specs.Start.{first_thread, first_threads, start}
 use Rattle.kernel_core.specs.Step.{Acted, step, step_at, step_of, with_acted}
 use Rattle.kernel_core.specs.declared.thread.Thread.{Thread}
 use Rattle.kernel_core.specs.declared.thread.ThreadView.{ThreadView}
 use Rattle.lwc_base.proofs.Orders.{name_cmp-total}
-use Rattle.lwc_base.specs.Names.{name_cmp}
 use Rattle.lwc_base.specs.Summaries.{summary_of}
 use Rattle.lwc_base.specs.World.{World}
 use Rattle.lwc_base.specs.declared.name.Name.{Name}

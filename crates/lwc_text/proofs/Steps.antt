@@ -1,13 +1,11 @@
 -- Reading steps byte by byte.
-use Rattle.std.proofs.Common.{◌≡◌, ℕ, suc, zero, get_or, lit≤, ◌+◌, ◌-◌, ◌≤◌, ◌<◌, Bool, true, false, cond, ◌||◌, not, nat_lt, nat_le, nat_eq, eqb, IsTrue, List, [], ◌∷◌, ◌++◌, length, drop, All, Option, Some, None, Result, Ok, Err, refl, sym, ap, subst, ◌∙◌, arith, rules, append_assoc, append-nil, length-append, add-one, drop-cons}
-use Rattle.std.proofs.lemmas.Grind.{common_steps}
+use Rattle.std.proofs.Common.{◌≡◌, ℕ, get_or, lit≤, ◌+◌, ◌≤◌, ◌<◌, true, ◌||◌, IsTrue, List, [], ◌∷◌, ◌++◌, length, drop, All, Option, Some, None, Result, Ok, Err, refl, sym, ap, subst, ◌∙◌, arith, append_assoc, append-nil, length-append, add-one, drop-cons}
 use Rattle.std.proofs.lemmas.List.{drop_all}
 use Rattle.std.proofs.lemmas.List.Elements.{All-nil, All-cons, All-head, All-tail}
-use Rattle.std.specs.List.{filter_map, cons_option}
+use Rattle.std.specs.List.{cons_option}
 use Rattle.lwc_text.specs.declared.fault.InputFault.{InputFault}
 use Rattle.lwc_text.specs.declared.fault.InputFault.TheVariants as faults
 use Rattle.lwc_text.specs.declared.fault.InputRule.{InputRule}
-use Rattle.lwc_text.specs.declared.fault.InputRule.TheVariants.{TooLong, BadThread, TooManySteps}
 use Rattle.kernel_core.specs.declared.settings.TheConstants.{MOST_STEPS}
 use Rattle.lwc_text.specs.declared.schedule.TheConstants.{MOST_BYTES}
 use Rattle.lwc_text.specs.Inputs.{Refused, at_offset, Fails, ◌>>=◌}
