@@ -1,6 +1,6 @@
 -- A field that is read is the field that was written, and what was written is read again.
-use Rattle.std.proofs.Common.{◌≡◌, ℕ, zero, suc, ◌+◌, ◌^◌, ◌<◌, ◌≤◌, Bool, true, false, cond, ltb, eqb, List, [], ◌∷◌, ◌++◌, length, get_or, take, drop, Result, Ok, Err, refl, sym, ap, subst, ◌∙◌, append_assoc, arith, inl, inr, lit<}
-use Rattle.std.specs.Int.{w32, to_le_bytes, from_le_bytes}
+use Rattle.std.proofs.Common.{◌≡◌, ℕ, suc, ◌+◌, ◌^◌, ◌<◌, ◌≤◌, Bool, true, false, cond, ltb, eqb, List, [], ◌∷◌, ◌++◌, length, get_or, take, drop, Result, Ok, Err, refl, sym, ap, subst, ◌∙◌, append_assoc, arith, inl, inr, lit<}
+use Rattle.std.specs.Int.{w32, from_le_bytes}
 use Rattle.std.proofs.lemmas.Bool.{cases_lt, ltb-false, le-ltb, eqb-true, and_parts, and_from, leb-true, le-leb}
 use Rattle.std.proofs.lemmas.List.{take_at, drop_at, take-append-drop, length-append, length-take, get_or-drop, get_or-take, get_or_past}
 use Rattle.std.proofs.lemmas.Nat.{le_bytes_4, from_le_bytes-to_le_bytes_4}
@@ -9,7 +9,7 @@ use Rattle.guest_image.specs.declared.stop.Stop.{Stop}
 use Rattle.guest_image.specs.declared.header.Header.{Header}
 use Rattle.guest_image.specs.Limits.{page_limit}
 use Rattle.guest_image.specs.Spelling.{number, magic, header}
-use Rattle.guest_image.specs.Reading.{◌>>=◌, bytes_at, number_at, number_where, byte_at, magic_at, count_at, header_at, stop, truncated, refused}
+use Rattle.guest_image.specs.Reading.{◌>>=◌, bytes_at, number_at, number_where, byte_at, magic_at, count_at, header_at, stop, refused}
 
 abbrev pub IsBytes : List ℕ → Type 0
 IsBytes bytes = (i : ℕ) → get_or bytes i 0 < 256
@@ -60,7 +60,7 @@ bytes_take count bytes field rest fits e =
     let g = not_stopped (ltb (length bytes) count) (stop _ []) (take count bytes, drop count bytes) (field, rest) e in
     let long : count ≤ length bytes = ltb-false _ _ g.0 in
     subst (λ (p : List ℕ × List ℕ). Takes bytes p.0 p.1 × (length p.0 ≡ count) × IsBytes p.0) g.1
-      (record { parts = sym (take-append-drop count bytes); rest_fits = IsBytes-drop count bytes fits }, omega (arith, length-take count bytes), IsBytes-take count bytes fits)
+    (record { parts = sym (take-append-drop count bytes); rest_fits = IsBytes-drop count bytes fits }, omega (arith, length-take count bytes), IsBytes-take count bytes fits)
 
 pub bytes_again : (count : ℕ) (field rest : List ℕ) → length field ≡ count → bytes_at count (field ++ rest) ≡ Ok (field, rest)
 bytes_again count field rest len =
@@ -77,7 +77,7 @@ number_takes bytes n rest fits e =
     let back : number (from_le_bytes w32 b.0.0) ≡ b.0.0 = le_bytes_4 b.0.0 _ t.1 t.2 refl in
     let below : from_le_bytes w32 b.0.0 < 2 ^ 32 = omega (arith, t.2 0, t.2 1, t.2 2, t.2 3) in
     subst (λ (p : ℕ × List ℕ). Takes bytes (number p.0) p.1 × (p.0 < 2 ^ 32)) same
-      (subst (λ (f : List ℕ). Takes bytes f b.0.1) (sym back) t.0, below)
+    (subst (λ (f : List ℕ). Takes bytes f b.0.1) (sym back) t.0, below)
 
 pub number_again : (n : ℕ) (rest : List ℕ) → n < 2 ^ 32 → number_at (number n ++ rest) ≡ Ok (n, rest)
 number_again n rest lt = rw (bytes_again 4 (number n) rest refl, from_le_bytes-to_le_bytes_4 n lt) refl
@@ -161,15 +161,17 @@ header_takes bytes h rest fits e =
     let e1 = Takes-then m.0 (number a.0.0) a.0.1 _ u.0.1 ta.0 e2 in
     let e0 = Takes-then bytes magic m.0 _ u.0.1 tm e1 in
     subst (λ (y : Header × List ℕ). Takes bytes (header y.0) y.1 × HeaderFits y.0) (ok_is made (h, rest) u.2)
-      (e0, record { some = ta.1; instructions = ta.2; pages = tb.2; files = tc.2; slots = td.2; some_thread = tt'.1; threads = tt'.2; uid = tu.1 })
+    (e0, record { some = ta.1; instructions = ta.2; pages = tb.2; files = tc.2; slots = td.2; some_thread = tt'.1; threads = tt'.2; uid = tu.1 })
 
 pub header_again : (h : Header) (rest : List ℕ) → HeaderFits h → header_at (header h ++ rest) ≡ Ok (h, rest)
 unfolding header_at
 header_again h rest fits =
-    rw (magic_again (number h.instructions ++ (number h.pages ++ (number h.files ++ (number h.slots ++ (number h.threads ++ (number h.uid ++ rest)))))),
+    rw (
+      magic_again (number h.instructions ++ (number h.pages ++ (number h.files ++ (number h.slots ++ (number h.threads ++ (number h.uid ++ rest)))))),
       count_again 1 65536 h.instructions (number h.pages ++ (number h.files ++ (number h.slots ++ (number h.threads ++ (number h.uid ++ rest))))) (lit< tt) fits.some fits.instructions,
       count_again 0 page_limit h.pages (number h.files ++ (number h.slots ++ (number h.threads ++ (number h.uid ++ rest)))) (lit< tt) (omega arith) fits.pages,
       count_again 0 64 h.files (number h.slots ++ (number h.threads ++ (number h.uid ++ rest))) (lit< tt) (omega arith) fits.files,
       count_again 0 62 h.slots (number h.threads ++ (number h.uid ++ rest)) (lit< tt) (omega arith) fits.slots,
       count_again 1 16 h.threads (number h.uid ++ rest) (lit< tt) fits.some_thread fits.threads,
-      number_again h.uid rest fits.uid) refl
+      number_again h.uid rest fits.uid,
+    ) refl

@@ -1,9 +1,9 @@
 -- Reading values one after another, as a loop does.
-use Rattle.std.proofs.Common.{◌≡◌, ℕ, suc, ◌-◌, ◌+◌, ◌≤◌, ◌<◌, List, [], ◌∷◌, ◌++◌, Result, Ok, Err, refl, sym, ap, ◌∙◌, arith}
+use Rattle.std.proofs.Common.{◌≡◌, ℕ, suc, ◌-◌, ◌+◌, ◌≤◌, ◌<◌, List, [], ◌∷◌, ◌++◌, Result, Ok, Err, refl, sym, ◌∙◌, arith}
 use Rattle.guest_image.specs.declared.stop.Stop.{Stop}
 use Rattle.guest_image.specs.declared.stop.ReadError.{ReadError}
 use Rattle.guest_image.specs.declared.stop.ReadError.TheVariants as errors
-use Rattle.guest_image.specs.Reading.{◌>>=◌, Fails, list_at}
+use Rattle.guest_image.specs.Reading.{Fails, list_at}
 
 pub goes_on : {A : Type 0} (read : List A → List ℕ → Result (A × List ℕ) Stop) (count i : ℕ) (before : List A) (bytes : List ℕ) (x : A) (after : List ℕ) (total : Result (List A × List ℕ) Stop) → i < count → read before bytes ≡ Ok (x, after)
     → list_at read (count - i) before bytes ≡ total → list_at read (count - (i + 1)) (before ++ x ∷ []) after ≡ total

@@ -1,9 +1,9 @@
 -- Each list of an image: what is read of it is spelled so and within the limits, and what is spelled so within the limits is read.
-use Rattle.std.proofs.Common.{◌≡◌, ℕ, zero, suc, ◌+◌, ◌^◌, ◌<◌, ◌≤◌, Bool, true, false, ◌&&◌, ltb, leb, eqb, List, [], ◌∷◌, ◌++◌, length, Option, Some, None, Result, Ok, Err, refl, sym, ap, subst, ◌∙◌, arith, All, map}
+use Rattle.std.proofs.Common.{◌≡◌, ℕ, zero, suc, ◌+◌, ◌^◌, ◌<◌, ◌≤◌, Bool, true, false, ◌&&◌, ltb, eqb, List, [], ◌∷◌, ◌++◌, length, Option, Some, None, Ok, refl, sym, ap, subst, ◌∙◌, arith, All}
 use Rattle.std.specs.Prelude.{IsTrue}
 use Rattle.std.proofs.lemmas.Bool.{and_parts, and_from, ltb-true, lt-ltb, leb-true, le-leb}
 use Rattle.std.proofs.lemmas.List.{get_or_append_left, length-append, map_push, map-append}
-use Rattle.std.proofs.lemmas.List.Elements.{All-push, All-contains, All-nil, Contains-push}
+use Rattle.std.proofs.lemmas.List.Elements.{All-push, All-contains, Contains-push}
 use Rattle.std.proofs.lemmas.List.Sums.{sum_by_push, sum_by-append}
 use Rattle.lwc_base.specs.declared.channels.FileImage.{FileImage}
 use Rattle.guest_isa.specs.declared.instr.Instr.{Instr}
@@ -17,7 +17,7 @@ use Rattle.guest_image.specs.declared.image.SlotImage.{SlotImage}
 use Rattle.guest_image.specs.Numbers.{is_above, begins, last, rising, ranges, rising_after, ranges_after}
 use Rattle.guest_image.specs.Limits.{page_limit, range_limit, content_limit, stays_inside, page_numbers, slot_numbers, content, ArePages, AreFiles, AreSlots}
 use Rattle.guest_image.specs.Spelling.{number, flag, page, file, slot}
-use Rattle.guest_image.specs.Reading.{◌>>=◌, stop, bytes_at, number_at, number_where, checked, instruction_at, page_number_at, page_at, public_at, length_at, file_at, slot_number_at, slot_file_at, slot_at, entry_at}
+use Rattle.guest_image.specs.Reading.{stop, bytes_at, number_at, number_where, checked, instruction_at, page_number_at, page_at, public_at, length_at, file_at, slot_number_at, slot_file_at, slot_at, entry_at}
 use Rattle.guest_image.proofs.FieldLaws.{IsBytes, bind_ok, passed, ok_is, Takes, Takes-then, bytes_take, bytes_again, number_takes, number_again, where_takes, where_again}
 use Rattle.guest_image.proofs.ValueLaws.{TakesEach, ReadsEach}
 use Rattle.guest_image.proofs.Push.{rising-push, page_ranges}
@@ -62,7 +62,7 @@ instruction_takes count bytes i rest fits e =
     let k = checked_takes count bytes (reading a.0.0) b.0 b.1 in
     let s = spelling-reading a.0.0 b.0 t.1 t.2 k.0 in
     subst (λ (y : Instr × List ℕ). Takes bytes (instructions.spelling y.0) y.1 × IsInstruction y.0 × (stays_inside count y.0 ≡ true)) (ok_is (b.0, a.0.1) (i, rest) b.2)
-      (subst (λ (f : List ℕ). Takes bytes f a.0.1) s.1 t.0, s.0, k.1)
+    (subst (λ (f : List ℕ). Takes bytes f a.0.1) s.1 t.0, s.0, k.1)
 
 instruction_again : (count : ℕ) (i : Instr) (rest : List ℕ) → IsInstruction i → stays_inside count i ≡ true → instruction_at count (instructions.spelling i ++ rest) ≡ Ok (i, rest)
 unfolding instruction_at
@@ -71,8 +71,8 @@ instruction_again count i rest is inside = rw (bytes_again 8 (instructions.spell
 pub code_takes : (count : ℕ) → TakesEach (IsCode count) instructions.spelling (λ _. instruction_at count)
 code_takes count = record {
   takes = λ before bytes x rest fits p e.
-    let t = instruction_takes count bytes x rest fits e in
-    (t.0, record { instructions = All-push IsInstruction before x p.instructions t.1; targets = All-push (λ i. IsTrue (stays_inside count i)) before x p.targets t.2 });
+      let t = instruction_takes count bytes x rest fits e in
+      (t.0, record { instructions = All-push IsInstruction before x p.instructions t.1; targets = All-push (λ i. IsTrue (stays_inside count i)) before x p.targets t.2 });
 }
 
 pub code_reads : (count : ℕ) → ReadsEach (IsCode count) instructions.spelling (λ _. instruction_at count)
@@ -101,7 +101,7 @@ page_takes last ranges bytes p rest fits e =
     let front = and_parts _ _ tests.0 in
     let made : PageImage × List ℕ = (record { number = a.0.0; bytes = b.0.0 }, b.0.1) in
     subst (λ (y : PageImage × List ℕ). Takes bytes (page y.0) y.1 × PageFits last ranges y.0) (ok_is made (p, rest) b.2)
-      (Takes-then bytes (number a.0.0) a.0.1 b.0.0 b.0.1 ta.0 tb.0, record { number = ltb-true _ _ front.0; above = front.1; ranges = leb-true _ _ tests.1; whole = tb.1 })
+    (Takes-then bytes (number a.0.0) a.0.1 b.0.0 b.0.1 ta.0 tb.0, record { number = ltb-true _ _ front.0; above = front.1; ranges = leb-true _ _ tests.1; whole = tb.1 })
 
 page_again : (last : Option ℕ) (ranges : ℕ) (p : PageImage) (rest : List ℕ) → PageFits last ranges p → page_at last ranges (page p ++ rest) ≡ Ok (p, rest)
 unfolding page_at
@@ -116,13 +116,15 @@ page_rise pages p = rw map_push (rising-push None (page_numbers pages) p.number)
 pub pages_take : TakesEach ArePages page (λ before. page_at (last (page_numbers before)) (ranges (page_numbers before)))
 pages_take = record {
   takes = λ before bytes x rest fits p e.
-    let t = page_takes (last (page_numbers before)) (ranges (page_numbers before)) bytes x rest fits e in
-    (t.0, record {
-      numbers = All-push (λ p. p.number < page_limit) before x p.numbers t.1.number;
-      rise = page_rise before x ∙ and_from _ _ p.rise t.1.above;
-      ranges = subst (λ (n : ℕ). n ≤ range_limit) (sym (page_ranges before x)) t.1.ranges;
-      whole = All-push (λ p. length p.bytes ≡ 4096) before x p.whole t.1.whole;
-    });
+      let t = page_takes (last (page_numbers before)) (ranges (page_numbers before)) bytes x rest fits e in (
+        t.0,
+        record {
+          numbers = All-push (λ p. p.number < page_limit) before x p.numbers t.1.number;
+          rise = page_rise before x ∙ and_from _ _ p.rise t.1.above;
+          ranges = subst (λ (n : ℕ). n ≤ range_limit) (sym (page_ranges before x)) t.1.ranges;
+          whole = All-push (λ p. length p.bytes ≡ 4096) before x p.whole t.1.whole;
+        },
+      );
 }
 
 pub pages_read : ReadsEach ArePages page (λ before. page_at (last (page_numbers before)) (ranges (page_numbers before)))
@@ -137,9 +139,9 @@ pages_read = record {
     numbers = All-front (λ p. p.number < page_limit) before after p.numbers;
     rise = rising-front None (page_numbers before) (page_numbers after) (ap rising (sym (map-append (λ p. p.number) before after)) ∙ p.rise);
     ranges =
-      let more = ranges-front None (page_numbers before) (page_numbers after) in
-      let same : ranges (page_numbers before ++ page_numbers after) ≤ range_limit = subst (λ (ns : List ℕ). ranges ns ≤ range_limit) (map-append (λ p. p.number) before after) p.ranges in
-      omega arith;
+        let more = ranges-front None (page_numbers before) (page_numbers after) in
+        let same : ranges (page_numbers before ++ page_numbers after) ≤ range_limit = subst (λ (ns : List ℕ). ranges ns ≤ range_limit) (map-append (λ p. p.number) before after) p.ranges in
+        omega arith;
     whole = All-front (λ p. length p.bytes ≡ 4096) before after p.whole;
   };
 }
@@ -190,19 +192,23 @@ file_again : (before : ℕ) (f : FileImage) (rest : List ℕ) → FileFits befor
 unfolding file_at
 file_again before f rest fits =
     let short : length f.bytes < 2 ^ 32 = omega (arith, fits.room) in
-    rw (number_again f.owner (flag f.public ++ (number (length f.bytes) ++ (f.bytes ++ rest))) fits.owner,
+    rw (
+      number_again f.owner (flag f.public ++ (number (length f.bytes) ++ (f.bytes ++ rest))) fits.owner,
       public_again f.public (number (length f.bytes) ++ (f.bytes ++ rest)),
       where_again _ _ (length f.bytes) (f.bytes ++ rest) short (le-leb _ _ fits.room),
-      bytes_again (length f.bytes) f.bytes rest refl) refl
+      bytes_again (length f.bytes) f.bytes rest refl,
+    ) refl
 
 pub files_take : TakesEach AreFiles file (λ before. file_at (content before))
 files_take = record {
   takes = λ before bytes x rest fits p e.
-    let t = file_takes (content before) bytes x rest fits e in
-    (t.0, record {
-      owners = All-push (λ f. f.owner < 2 ^ 32) before x p.owners t.1.owner;
-      content = subst (λ (n : ℕ). n ≤ content_limit) (sym (sum_by_push (λ f. length f.bytes) before x)) t.1.room;
-    });
+      let t = file_takes (content before) bytes x rest fits e in (
+        t.0,
+        record {
+          owners = All-push (λ f. f.owner < 2 ^ 32) before x p.owners t.1.owner;
+          content = subst (λ (n : ℕ). n ≤ content_limit) (sym (sum_by_push (λ f. length f.bytes) before x)) t.1.room;
+        },
+      );
 }
 
 pub files_read : ReadsEach AreFiles file (λ before. file_at (content before))
@@ -237,7 +243,7 @@ slot_takes count last bytes s rest fits e =
     let front = and_parts _ _ tests.0 in
     let made : SlotImage × List ℕ = (record { slot = a.0.0; file = b.0.0 }, b.0.1) in
     subst (λ (y : SlotImage × List ℕ). Takes bytes (slot y.0) y.1 × SlotFits count last y.0) (ok_is made (s, rest) b.2)
-      (Takes-then bytes (number a.0.0) a.0.1 (number b.0.0) b.0.1 ta.0 tb.0, record { from = leb-true _ _ front.0; below = ltb-true _ _ front.1; above = tests.1; file = ltb-true _ _ tb.2 })
+    (Takes-then bytes (number a.0.0) a.0.1 (number b.0.0) b.0.1 ta.0 tb.0, record { from = leb-true _ _ front.0; below = ltb-true _ _ front.1; above = tests.1; file = ltb-true _ _ tb.2 })
 
 slot_again : (count : ℕ) (last : Option ℕ) (s : SlotImage) (rest : List ℕ) → count < 2 ^ 32 → SlotFits count last s → slot_at count last (slot s ++ rest) ≡ Ok (s, rest)
 unfolding slot_at
@@ -253,13 +259,15 @@ slot_rise slots s = rw map_push (rising-push None (slot_numbers slots) s.slot)
 pub slots_take : (count : ℕ) → TakesEach (AreSlots count) slot (λ before. slot_at count (last (slot_numbers before)))
 slots_take count = record {
   takes = λ before bytes x rest fits p e.
-    let t = slot_takes count (last (slot_numbers before)) bytes x rest fits e in
-    (t.0, record {
-      above = All-push (λ s. 2 ≤ s.slot) before x p.above t.1.from;
-      below = All-push (λ s. s.slot < 64) before x p.below t.1.below;
-      rise = slot_rise before x ∙ and_from _ _ p.rise t.1.above;
-      files = All-push (λ s. s.file < count) before x p.files t.1.file;
-    });
+      let t = slot_takes count (last (slot_numbers before)) bytes x rest fits e in (
+        t.0,
+        record {
+          above = All-push (λ s. 2 ≤ s.slot) before x p.above t.1.from;
+          below = All-push (λ s. s.slot < 64) before x p.below t.1.below;
+          rise = slot_rise before x ∙ and_from _ _ p.rise t.1.above;
+          files = All-push (λ s. s.file < count) before x p.files t.1.file;
+        },
+      );
 }
 
 pub slots_read : (count : ℕ) → count < 2 ^ 32 → ReadsEach (AreSlots count) slot (λ before. slot_at count (last (slot_numbers before)))
@@ -283,15 +291,15 @@ slots_read count few = record {
 pub entries_take : (count : ℕ) → TakesEach (All (λ e. e < count)) number (λ _. entry_at count)
 entries_take count = record {
   takes = λ before bytes x rest fits p e.
-    let t = where_takes _ _ bytes x rest fits e in
-    (t.0, All-push (λ e. e < count) before x p (ltb-true _ _ t.2));
+      let t = where_takes _ _ bytes x rest fits e in
+      (t.0, All-push (λ e. e < count) before x p (ltb-true _ _ t.2));
 }
 
 pub entries_read : (count : ℕ) → count < 2 ^ 32 → ReadsEach (All (λ e. e < count)) number (λ _. entry_at count)
 entries_read count few = record {
   reads = λ before x rest p.
-    let lt : x < count = All-last (λ e. e < count) before x p in
-    let small : x < 2 ^ 32 = omega arith in
-    where_again _ _ x rest small (lt-ltb _ _ lt);
+      let lt : x < count = All-last (λ e. e < count) before x p in
+      let small : x < 2 ^ 32 = omega arith in
+      where_again _ _ x rest small (lt-ltb _ _ lt);
   front = λ before after p. All-front (λ e. e < count) before after p;
 }

@@ -1,10 +1,9 @@
 -- One number more: the last number, whether they rise, and their ranges.
-use Rattle.std.proofs.Common.{◌≡◌, ℕ, ◌+◌, Bool, true, ◌&&◌, List, [], ◌∷◌, ◌++◌, Option, Some, None, refl, sym, ap, ◌∙◌, arith, map}
-use Rattle.std.proofs.lemmas.Bool.{and_from}
+use Rattle.std.proofs.Common.{◌≡◌, ℕ, ◌+◌, Bool, true, ◌&&◌, List, [], ◌∷◌, ◌++◌, Option, Some, None, refl, ap, ◌∙◌, arith}
 use Rattle.std.proofs.lemmas.List.{map_push}
 use Rattle.guest_image.specs.declared.image.PageImage.{PageImage}
 use Rattle.guest_image.specs.declared.image.SlotImage.{SlotImage}
-use Rattle.guest_image.specs.Numbers.{is_above, begins, last_after, rising_after, ranges_after, last, rising, ranges}
+use Rattle.guest_image.specs.Numbers.{is_above, begins, last_after, rising_after, ranges_after, last, ranges}
 use Rattle.guest_image.specs.Limits.{page_numbers, slot_numbers}
 
 pub last-push : (before : Option ℕ) (ns : List ℕ) (n : ℕ) → last_after before (ns ++ n ∷ []) ≡ Some n

@@ -1,10 +1,10 @@
 -- Values one after another: what is read of them is what was written, and what was written is read again.
-use Rattle.std.proofs.Common.{◌≡◌, ℕ, zero, suc, List, [], ◌∷◌, ◌++◌, length, Result, Ok, Err, refl, sym, ap, subst, ◌∙◌, append_assoc}
+use Rattle.std.proofs.Common.{◌≡◌, ℕ, zero, suc, List, [], ◌∷◌, ◌++◌, length, Result, Ok, refl, sym, ap, subst, ◌∙◌, append_assoc}
 use Rattle.std.specs.List.{flat_map}
 use Rattle.std.proofs.lemmas.List.{append-nil}
 use Rattle.std.proofs.lemmas.List.Concat.{flat_map-cons}
 use Rattle.guest_image.specs.declared.stop.Stop.{Stop}
-use Rattle.guest_image.specs.Reading.{◌>>=◌, list_at}
+use Rattle.guest_image.specs.Reading.{list_at}
 use Rattle.guest_image.proofs.FieldLaws.{IsBytes, bind_ok, ok_is, Takes, Takes-then}
 
 -- how a value is read after others
@@ -32,7 +32,7 @@ list_takes : {A : Type 0} (P : List A → Type 0) (spell : A → List ℕ) (read
 unfolding list_at
 list_takes {A} P spell read law zero before bytes xs rest fits p e =
     subst (λ (y : List A × List ℕ). New P spell 0 before bytes y.0 y.1) (ok_is (before, bytes) (xs, rest) e)
-      (record { new = []; all = sym (append-nil before); taken = record { parts = refl; rest_fits = fits }; count = refl; fits = p })
+    (record { new = []; all = sym (append-nil before); taken = record { parts = refl; rest_fits = fits }; count = refl; fits = p })
 list_takes {A} P spell read law (suc n) before bytes xs rest fits p e =
     let b = bind_ok (read before bytes) (λ x. list_at read n (before ++ x.0 ∷ []) x.1) (xs, rest) e in
     let first = law.takes before bytes b.0.0 b.0.1 fits p b.1 in

@@ -1,5 +1,5 @@
 -- The whole image: what is read is an image and its bytes, and the bytes of an image are read.
-use Rattle.std.proofs.Common.{◌≡◌, ℕ, ◌+◌, ◌*◌, ◌^◌, ◌<◌, ◌≤◌, Bool, true, false, cond, eqb, ltb, List, [], ◌∷◌, ◌++◌, length, Result, Ok, Err, refl, sym, ap, subst, ◌∙◌, append_assoc, arith, All, IfOk}
+use Rattle.std.proofs.Common.{◌≡◌, ℕ, ◌+◌, ◌*◌, ◌^◌, ◌<◌, ◌≤◌, Bool, true, false, cond, eqb, ltb, List, [], ◌∷◌, ◌++◌, length, Result, Ok, Err, refl, sym, ap, subst, ◌∙◌, arith, All, IfOk}
 use Rattle.std.specs.List.{flat_map, sum_by}
 use Rattle.std.specs.Prelude.{IsTrue}
 use Rattle.std.proofs.lemmas.Bool.{eqb-true, le-ltb}
@@ -11,7 +11,6 @@ use Rattle.lwc_base.specs.declared.channels.FileImage.{FileImage}
 use Rattle.guest_isa.specs.declared.instr.Instr.{Instr}
 use Rattle.guest_isa.specs.Spelling as instructions
 use Rattle.guest_image.specs.declared.fault.ImageFault.{ImageFault}
-use Rattle.guest_image.specs.declared.fault.ImageFault.TheVariants as faults
 use Rattle.guest_image.specs.declared.fault.ImageRule.TheVariants.{Trailing}
 use Rattle.guest_image.specs.declared.stop.Stop.{Stop}
 use Rattle.guest_image.specs.declared.header.Header.{Header}
@@ -19,9 +18,9 @@ use Rattle.guest_image.specs.declared.image.Image.{Image}
 use Rattle.guest_image.specs.declared.image.PageImage.{PageImage}
 use Rattle.guest_image.specs.declared.image.SlotImage.{SlotImage}
 use Rattle.guest_image.specs.Numbers.{last, ranges, rising_after, ranges_after}
-use Rattle.guest_image.specs.Limits.{page_limit, file_limit, content_limit, stays_inside, page_numbers, slot_numbers, content, ArePages, AreFiles, AreSlots, IsImage}
+use Rattle.guest_image.specs.Limits.{page_limit, file_limit, stays_inside, page_numbers, slot_numbers, content, ArePages, AreFiles, AreSlots, IsImage}
 use Rattle.guest_image.specs.Spelling.{number, header, page, file, slot, header_of, body, spelling}
-use Rattle.guest_image.specs.Reading.{◌>>=◌, stop, header_at, instruction_at, page_at, file_at, slot_at, entry_at, list_at, instructions_at, pages_at, files_at, slots_at, entries_at, parts_at, Refused, in_file, image_at, Answers}
+use Rattle.guest_image.specs.Reading.{stop, header_at, instruction_at, page_at, file_at, slot_at, entry_at, list_at, instructions_at, pages_at, files_at, slots_at, entries_at, parts_at, Refused, in_file, image_at, Answers}
 use Rattle.guest_image.proofs.FieldLaws.{IsBytes, bind_ok, passed, Takes, HeaderFits, header_takes, header_again}
 use Rattle.guest_image.proofs.ValueLaws.{values_take, values_again}
 use Rattle.guest_image.proofs.PartLaws.{IsCode, code_takes, code_reads, pages_take, pages_read, files_take, files_read, slots_take, slots_read, entries_take, entries_read}
@@ -98,7 +97,7 @@ parts_take bytes image fits e =
     let same : header h.0.0 ≡ header (header_of made) = same_header h.0.0 (header_of made) (sym tx.1) (sym tp.1) (sym tf.1) (sym ts.1) (sym te.1) refl in
     let whole : bytes ≡ spelling made = joined bytes h.0.0 made h.0.1 x.0.1 p.0.1 f.0.1 s.0.1 (record { head = th.0; text = tx.0; pages = tp.0; files = tf.0; slots = ts.0; entries = subst (λ (r : List ℕ). Takes s.0.1 (flat_map number t.0.0) r) nothing te.0; same = same }) in
     subst (λ (i : Image). IsImage i × (bytes ≡ spelling i)) g.1
-      (within h.0.0 made th.1 tx.1 tx.2 refl tp.1 tp.2 tf.1 tf.2 ts.1 ts.2 te.1 te.2, whole)
+    (within h.0.0 made th.1 tx.1 tx.2 refl tp.1 tp.2 tf.1 tf.2 ts.1 ts.2 te.1 te.2, whole)
 
 parts_again : (image : Image) → IsImage image → parts_at (spelling image) ≡ Ok image
 unfolding parts_at spelling
@@ -113,12 +112,14 @@ parts_again image is =
     let short : count < 2 ^ 32 = omega (arith, is.text.bounded) in
     let few : length image.files < 2 ^ 32 = omega (arith, is.file_count) in
     let entries : entries_at count (length image.entries) slots-rest ≡ Ok (image.entries, []) = ap (list_at (λ _. entry_at count) (length image.entries) []) (sym (append-nil slots-rest)) ∙ values_again (All (λ e. e < count)) number (λ _. entry_at count) (entries_read count short) image.entries [] is.entries in
-    rw (header_again (header_of image) (body image) fits,
+    rw (
+      header_again (header_of image) (body image) fits,
       values_again (IsCode count) instructions.spelling (λ _. instruction_at count) (code_reads count) image.text text-rest code,
       values_again ArePages page (λ before. page_at (last (page_numbers before)) (ranges (page_numbers before))) pages_read image.pages pages-rest is.pages,
       values_again AreFiles file (λ before. file_at (content before)) files_read image.files files-rest is.files,
       values_again (AreSlots (length image.files)) slot (λ before. slot_at (length image.files) (last (slot_numbers before))) (slots_read (length image.files) few) image.slots slots-rest is.slots,
-      entries) refl
+      entries,
+    ) refl
 
 -- ---- an image is short enough
 

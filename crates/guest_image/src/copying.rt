@@ -1,3 +1,5 @@
+//! Copying an image.
+
 ghost use Rattle.std.specs.Prelude.{◌≡◌, IfOk};
 
 use crate::image::{Image, PageImage};

@@ -21,6 +21,7 @@ pub(crate) struct Header {
     pub(crate) uid: u32,
 }
 
+// What follows this byte of the magic.
 fn byte_of(expected: u8, bytes: &[u8]) -> Result<&[u8], ReadError>
     ensures { Gives (λ x. x.now) result (byte_at expected bytes.now) }
 {
@@ -36,6 +37,7 @@ fn byte_of(expected: u8, bytes: &[u8]) -> Result<&[u8], ReadError>
     }
 }
 
+// What follows the magic.
 #[tactic(auto, unfolding(crate::specs::Reading::magic_at))]
 fn magic_of(bytes: &[u8]) -> Result<&[u8], ReadError>
     ensures { Gives (λ x. x.now) result (magic_at bytes.now) }
@@ -46,6 +48,7 @@ fn magic_of(bytes: &[u8]) -> Result<&[u8], ReadError>
     byte_of(b'1', rest)
 }
 
+// A count within its range, and the bytes after it.
 #[tactic(auto, unfolding(crate::specs::Reading::number_where))]
 fn count_of(least: u32, most: u32, bytes: &[u8]) -> Result<(u32, &[u8]), ReadError>
     ensures given { Gives (λ x. (x.0, x.1.now)) result (count_at least most bytes.now) }

@@ -1,3 +1,5 @@
+//! What an image holds.
+
 use guest_isa::Text;
 use lwc_base::{FileImage, PageBytes, Sequence};
 

@@ -17,3 +17,6 @@ pub use fault::{ImageFault, ImageRule};
 pub use image::{Image, PageImage, SlotImage};
 pub use reading::read_image;
 pub use writing::write_image;
+
+#[cfg(test)]
+mod tests;

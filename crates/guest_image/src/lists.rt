@@ -10,6 +10,7 @@ use guest_isa::Text;
 use lwc_base::{FileImage, Sequence};
 use std::alloc::Global;
 
+// So many instructions, and the bytes after them.
 pub(crate) fn text_of(alloc: Global, count: u32, bytes: &[u8]) -> Result<(Text, &[u8]), ReadError>
     requires some { 1 ≤ count }
     requires bounded { count ≤ 65536 }
@@ -25,6 +26,7 @@ pub(crate) fn text_of(alloc: Global, count: u32, bytes: &[u8]) -> Result<(Text, 
     Ok((Text::of(instructions), rest))
 }
 
+// So many pages, and the bytes after them.
 #[tactic(auto, unfolding(crate::specs::Numbers::last_after, crate::specs::Numbers::ranges_after))]
 pub(crate) fn pages_of(
     alloc: Global,
@@ -47,6 +49,7 @@ pub(crate) fn pages_of(
     Ok((Sequence::of(pages), rest))
 }
 
+// So many files, and the bytes after them.
 pub(crate) fn files_of(
     alloc: Global,
     count: u32,
@@ -66,6 +69,7 @@ pub(crate) fn files_of(
     Ok((Sequence::of(files), rest))
 }
 
+// So many slots, each with one of so many files, and the bytes after them.
 #[tactic(auto, unfolding(crate::specs::Numbers::last_after))]
 pub(crate) fn slots_of(
     alloc: Global,
@@ -88,6 +92,7 @@ pub(crate) fn slots_of(
     Ok((Sequence::of(slots), rest))
 }
 
+// So many entries into a text, and the bytes after them.
 pub(crate) fn entries_of(
     alloc: Global,
     instructions: u32,

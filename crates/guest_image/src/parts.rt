@@ -60,16 +60,11 @@ pub(crate) fn begins(last: Option<u16>, number: u32) -> u16
 {
     match last {
         None => 1,
-        Some(last) => {
-            if number == u32::from(last) + 1 {
-                0
-            } else {
-                1
-            }
-        }
+        Some(last) => { if number == u32::from(last) + 1 { 0 } else { 1 } }
     }
 }
 
+// A page's number, and the bytes after it.
 #[tactic(auto, unfolding(crate::specs::Reading::number_where))]
 fn page_number_of(last: Option<u16>, ranges: u16, bytes: &[u8]) -> Result<(u16, &[u8]), ReadError>
     requires { ranges ≤ range_limit }
@@ -103,6 +98,7 @@ pub(crate) fn page_of(
     Ok((PageImage { number, bytes }, rest))
 }
 
+// Whether a file is public, and the bytes after it.
 #[tactic(auto, unfolding(crate::specs::Reading::number_where))]
 fn public_of(bytes: &[u8]) -> Result<(bool, &[u8]), ReadError>
     ensures { Gives (λ x. (x.0, x.1.now)) result (public_at bytes.now) }
@@ -115,6 +111,7 @@ fn public_of(bytes: &[u8]) -> Result<(bool, &[u8]), ReadError>
     }
 }
 
+// A file's length, and the bytes after it.
 #[tactic(auto, unfolding(crate::specs::Reading::number_where))]
 fn length_of(content: u64, bytes: &[u8]) -> Result<(u32, &[u8]), ReadError>
     requires { content ≤ content_limit }
@@ -131,7 +128,11 @@ fn length_of(content: u64, bytes: &[u8]) -> Result<(u32, &[u8]), ReadError>
 
 // A file, after files of so many bytes.
 #[tactic(auto, unfolding(crate::specs::Reading::file_at))]
-pub(crate) fn file_of(alloc: Global, content: u64, bytes: &[u8]) -> Result<(FileImage, &[u8]), ReadError>
+pub(crate) fn file_of(
+    alloc: Global,
+    content: u64,
+    bytes: &[u8],
+) -> Result<(FileImage, &[u8]), ReadError>
     requires { content ≤ content_limit }
     ensures given { Gives (λ x. (x.0, x.1.now)) result (file_at content bytes.now) }
     ensures room { IfOk result (λ x. content + length x.0.bytes ≤ content_limit) }
@@ -149,6 +150,7 @@ pub(crate) fn file_of(alloc: Global, content: u64, bytes: &[u8]) -> Result<(File
     Ok((file, rest))
 }
 
+// A slot's number, and the bytes after it.
 #[tactic(auto, unfolding(crate::specs::Reading::number_where))]
 fn slot_number_of(last: Option<u16>, bytes: &[u8]) -> Result<(u8, &[u8]), ReadError>
     ensures { Gives (λ x. (x.0, x.1.now)) result (slot_number_at last bytes.now) }
@@ -161,6 +163,7 @@ fn slot_number_of(last: Option<u16>, bytes: &[u8]) -> Result<(u8, &[u8]), ReadEr
     }
 }
 
+// One of so many files, and the bytes after it.
 #[tactic(auto, unfolding(crate::specs::Reading::number_where))]
 fn slot_file_of(files: u32, bytes: &[u8]) -> Result<(u8, &[u8]), ReadError>
     requires { files ≤ 64 }
@@ -176,7 +179,11 @@ fn slot_file_of(files: u32, bytes: &[u8]) -> Result<(u8, &[u8]), ReadError>
 
 // A slot, after slots with this last number, with one of so many files.
 #[tactic(auto, unfolding(crate::specs::Reading::slot_at))]
-pub(crate) fn slot_of(files: u32, last: Option<u16>, bytes: &[u8]) -> Result<(SlotImage, &[u8]), ReadError>
+pub(crate) fn slot_of(
+    files: u32,
+    last: Option<u16>,
+    bytes: &[u8],
+) -> Result<(SlotImage, &[u8]), ReadError>
     requires { files ≤ 64 }
     ensures { Gives (λ x. (x.0, x.1.now)) result (slot_at files last bytes.now) }
 {

@@ -1,3 +1,5 @@
+//! Reading an image.
+
 ghost use Rattle.std.specs.Prelude.{◌≡◌, IfOk, Ok, Err};
 ghost use Rattle.guest_image.specs.declared.image.Image.{Image};
 ghost use Rattle.guest_image.specs.Limits.{IsImage};
@@ -15,6 +17,7 @@ use std::alloc::Global;
 /// How many bytes a file of an image may have.
 const FILE_LIMIT: usize = 8_388_608;
 
+// Every part of the file, and nothing after the last.
 #[tactic(auto, unfolding(crate::specs::Reading::parts_at))]
 fn parts_of(alloc: Global, bytes: &[u8]) -> Result<Image, ReadError>
     ensures { Gives (λ image. image) result (parts_at bytes.now) }
@@ -38,6 +41,7 @@ fn parts_of(alloc: Global, bytes: &[u8]) -> Result<Image, ReadError>
     })
 }
 
+// The image, or the first refusal with its offset in the file.
 #[tactic(auto, unfolding(crate::specs::Reading::image_at))]
 fn image_of(alloc: Global, bytes: &[u8]) -> Result<Image, ImageFault>
     ensures { Answers result (image_at bytes.now) }

@@ -1,3 +1,5 @@
+//! Writing an image.
+
 ghost use Rattle.std.specs.Prelude.{◌≡◌, ◌++◌, ◌<◌, ◌^◌, length, OnOk, IfOk, All};
 ghost use Rattle.std.specs.List.{flat_map};
 ghost use Rattle.guest_isa.specs.Spelling as instructions;
@@ -10,6 +12,7 @@ use guest_isa::{Text, encode};
 use lwc_base::{FileImage, OutOfMemory};
 use std::alloc::Global;
 
+// A number, in four bytes.
 fn put_number(out: &mut Vec<u8>, value: u32) -> Result<(), OutOfMemory>
     ensures { OnOk result (out.new.items ≡ out.old.items ++ number value) }
 {
@@ -17,12 +20,14 @@ fn put_number(out: &mut Vec<u8>, value: u32) -> Result<(), OutOfMemory>
     Ok(())
 }
 
+// 1 or 0, in four bytes.
 fn put_flag(out: &mut Vec<u8>, value: bool) -> Result<(), OutOfMemory>
     ensures { OnOk result (out.new.items ≡ out.old.items ++ flag value) }
 {
     put_number(out, if value { 1 } else { 0 })
 }
 
+// How many there are of each part, and the uid.
 fn header_of(image: &Image) -> Header
     requires { IsImage image.now }
     ensures { result ≡ header_of image.now }
@@ -37,6 +42,7 @@ fn header_of(image: &Image) -> Header
     }
 }
 
+// The magic, the counts and the uid.
 fn put_header(out: &mut Vec<u8>, head: &Header) -> Result<(), OutOfMemory>
     ensures { OnOk result (out.new.items ≡ out.old.items ++ header head.now) }
 {
@@ -50,6 +56,7 @@ fn put_header(out: &mut Vec<u8>, head: &Header) -> Result<(), OutOfMemory>
     Ok(())
 }
 
+// The instructions.
 fn put_text(out: &mut Vec<u8>, text: &Text) -> Result<(), OutOfMemory>
     ensures { OnOk result (out.new.items ≡ out.old.items ++ flat_map instructions.spelling text.now) }
 {
@@ -59,6 +66,7 @@ fn put_text(out: &mut Vec<u8>, text: &Text) -> Result<(), OutOfMemory>
     Ok(())
 }
 
+// The pages, each a number and its bytes.
 fn put_pages(out: &mut Vec<u8>, pages: &[PageImage]) -> Result<(), OutOfMemory>
     ensures { OnOk result (out.new.items ≡ out.old.items ++ flat_map page pages.now) }
 {
@@ -69,6 +77,7 @@ fn put_pages(out: &mut Vec<u8>, pages: &[PageImage]) -> Result<(), OutOfMemory>
     Ok(())
 }
 
+// A file: its owner, whether it is public, its length and its bytes.
 fn put_file(out: &mut Vec<u8>, file: &FileImage) -> Result<(), OutOfMemory>
     requires { length file.now.bytes < 2 ^ 32 }
     ensures { OnOk result (out.new.items ≡ out.old.items ++ file_spelling file.now) }
@@ -80,6 +89,7 @@ fn put_file(out: &mut Vec<u8>, file: &FileImage) -> Result<(), OutOfMemory>
     Ok(())
 }
 
+// The files.
 fn put_files(out: &mut Vec<u8>, files: &[FileImage]) -> Result<(), OutOfMemory>
     requires { All (λ f. length f.bytes < 2 ^ 32) files.now }
     ensures { OnOk result (out.new.items ≡ out.old.items ++ flat_map file files.now) }
@@ -90,6 +100,7 @@ fn put_files(out: &mut Vec<u8>, files: &[FileImage]) -> Result<(), OutOfMemory>
     Ok(())
 }
 
+// The slots, each with its file.
 fn put_slots(out: &mut Vec<u8>, slots: &[SlotImage]) -> Result<(), OutOfMemory>
     ensures { OnOk result (out.new.items ≡ out.old.items ++ flat_map slot slots.now) }
 {
@@ -100,6 +111,7 @@ fn put_slots(out: &mut Vec<u8>, slots: &[SlotImage]) -> Result<(), OutOfMemory>
     Ok(())
 }
 
+// Where each thread begins.
 fn put_entries(out: &mut Vec<u8>, entries: &[u32]) -> Result<(), OutOfMemory>
     ensures { OnOk result (out.new.items ≡ out.old.items ++ flat_map number entries.now) }
 {

@@ -6,7 +6,7 @@ use Rattle.std.specs.List.{enumerate_from, find, flat_map, range_with_len}
 use Rattle.std.specs.Option.{option_map, option_map_or, option_or}
 use Rattle.std.proofs.lemmas.Bool.Decides.{nat_tests}
 use Rattle.std.proofs.lemmas.List.{take_more, length-take-le}
-use Rattle.std.proofs.lemmas.List.Elements.{All-get_or}
+use Rattle.std.proofs.lemmas.List.Elements.{All-get_or, All-head, All-tail}
 use Rattle.std.proofs.lemmas.List.Folds.{find-append}
 use Rattle.std.proofs.lemmas.Option.{slice_get_within, get_or_from_slice_get}
 use Rattle.std.proofs.Math.Seq.{take-length}
@@ -30,13 +30,14 @@ use Rattle.lwc_base.specs.World.{World, Context, add_context, count_on, empty_wo
 use Rattle.lwc_base.specs.declared.cell.Cell.{Cell}
 use Rattle.lwc_base.specs.declared.cell.Cell.TheVariants.{Own}
 use Rattle.lwc_base.specs.declared.descriptor.Descriptor.{Descriptor}
-use Rattle.lwc_base.specs.declared.descriptor.Descriptor.TheVariants.{Empty, File}
+use Rattle.lwc_base.specs.declared.descriptor.Descriptor.TheVariants.{Console, Empty, File}
 use Rattle.lwc_base.specs.declared.page.PageValue.{PageValue}
 use Rattle.lwc_base.specs.declared.page.PageValue.TheVariants.{Zero, Data}
+use Rattle.lwc_base.specs.declared.regs.Regs.{Regs}
 use Rattle.lwc_base.specs.declared.size.WorldSize.{WorldSize}
 use Rattle.world_face.specs.Calls.{MayName}
 
-world_one : (frames tags : ℕ) (x : Context) → world_with frames tags x ≡ one_context frames PAGES tags x
+pub world_one : (frames tags : ℕ) (x : Context) → world_with frames tags x ≡ one_context frames PAGES tags x
 unfolding world_with
 world_one frames tags x =
     ap (λ w. count_on w 0 (λ n. record n { tags = tags })) (one_added frames PAGES x) ∙ one_counts frames PAGES 0 tags x
@@ -54,7 +55,7 @@ pages_begin image frames =
     ∙ ap (one_context frames PAGES 0) (sym (nothing_put image))
     ∙ sym (world_one frames 0 (context_with image []))
 
-enumerate-push : {X : Type 0} (a : ℕ) (xs : List X) (x : X) → enumerate_from a (xs ++ x ∷ []) ≡ enumerate_from a xs ++ (a + length xs, x) ∷ []
+pub enumerate-push : {X : Type 0} (a : ℕ) (xs : List X) (x : X) → enumerate_from a (xs ++ x ∷ []) ≡ enumerate_from a xs ++ (a + length xs, x) ∷ []
 enumerate-push a [] x = ap (λ n. (n, x) ∷ []) (omega arith)
 enumerate-push a (y ∷ ys) x = ap (λ l. (a, y) ∷ l) (enumerate-push (a + 1) ys x ∙ ap (λ n. enumerate_from (a + 1) ys ++ (n, x) ∷ []) (omega arith))
 
@@ -122,10 +123,10 @@ context_after image k x is found =
     let fresh = new_number None 0 image.pages k x is.pages.rise found in
     let count : length (take k image.pages) ≡ k = length-take-le k image.pages (omega arith) in
     let more : take (k + 1) image.pages ≡ take k image.pages ++ x ∷ [] =
-        take_more image.pages k x within ∙ ap (λ y. take k image.pages ++ y ∷ []) (get_or_from_slice_get image.pages k x x found) in
+    take_more image.pages k x within ∙ ap (λ y. take k image.pages ++ y ∷ []) (get_or_from_slice_get image.pages k x x found) in
     let tagged : (q : ℕ) → cond (eqb q x.number) (Some (Own (Data (image_tag k) x.bytes))) (cond (leb x.number q && ltb q (x.number + 1)) (Some (Own Zero)) (page_in (take k image.pages) q)) ≡ page_in (take (k + 1) image.pages) q =
-        λ q. ap (λ n. cond (eqb q x.number) (Some (Own (Data (image_tag n) x.bytes))) (cond (leb x.number q && ltb q (x.number + 1)) (Some (Own Zero)) (page_in (take k image.pages) q))) (sym count)
-            ∙ page_in-push (take k image.pages) x q fresh ∙ ap (λ l. page_in l q) (sym more) in
+    λ q. ap (λ n. cond (eqb q x.number) (Some (Own (Data (image_tag n) x.bytes))) (cond (leb x.number q && ltb q (x.number + 1)) (Some (Own Zero)) (page_in (take k image.pages) q))) (sym count)
+    ∙ page_in-push (take k image.pages) x q fresh ∙ ap (λ l. page_in l q) (sym more) in
     λ i. record (new_context image.uid (fresh_registers (first_entry image))) { page = λ q. tagged q i }
 
 -- a page of an image
@@ -244,3 +245,135 @@ may_take size w taken one few some = record {
   groups = omega (arith, one.groups);
   tags = omega (arith, one.tags);
 }
+
+frames-with : (frames tags : ℕ) (x : Context) → (world_with frames tags x).frames ≡ frames
+unfolding one_context
+frames-with frames tags x = ap (λ (w : World). w.frames) (world_one frames tags x)
+
+-- the pages are put so far, and the world has so many frames
+pub frames_here : (image : Image) (frames k : ℕ) (w : World) → w ≡ with_pages image frames k → w.frames ≡ frames
+unfolding with_pages
+frames_here image frames k w before = ap (λ (v : World). v.frames) before ∙ frames-with frames k (context_with image (take k image.pages))
+
+pub as_here : (image : Image) (frames k : ℕ) (w : World) → w ≡ with_pages image frames k → w ≡ with_pages image w.frames k
+as_here image frames k w before = before ∙ ap (λ n. with_pages image n k) (sym (frames_here image frames k w before))
+
+pub one_more_put : (image : Image) (frames k : ℕ) (w v : World) → w ≡ with_pages image frames k → v ≡ with_pages image w.frames (k + 1) → v ≡ with_pages image frames (k + 1)
+one_more_put image frames k w v before after = after ∙ ap (λ n. with_pages image n (k + 1)) (frames_here image frames k w before)
+
+-- the slots are put so far
+slots_frames : (image : Image) (frames n : ℕ) (w : World) → w ≡ with_slots image frames n → w.frames ≡ frames
+unfolding with_slots
+slots_frames image frames n w before = ap (λ (v : World). v.frames) before ∙ frames-with frames (length image.pages) _
+
+pub slots_as_here : (image : Image) (frames n : ℕ) (w : World) → w ≡ with_slots image frames n → w ≡ with_slots image w.frames n
+slots_as_here image frames n w before = before ∙ ap (λ m. with_slots image m n) (sym (slots_frames image frames n w before))
+
+pub one_more_slot : (image : Image) (frames n : ℕ) (w v : World) → w ≡ with_slots image frames n → v ≡ with_slots image w.frames (n + 1) → v ≡ with_slots image frames (n + 1)
+one_more_slot image frames n w v before after = after ∙ ap (λ m. with_slots image m (n + 1)) (slots_frames image frames n w before)
+
+abbrev context_slots : Image → ℕ → Context
+context_slots image n = record (context_with image image.pages) { slot = λ m. cond (ltb m n) (Own (slot_in image.slots m)) (Own Empty) }
+
+pub slots_live : (image : Image) (frames n : ℕ) (w : World) → w ≡ with_slots image frames n → fm.contains_key w.contexts first ≡ true
+unfolding with_slots
+slots_live image frames n w before =
+    ap (λ (v : World). fm.contains_key v.contexts first) (before ∙ world_one frames (length image.pages) _) ∙ live-one frames PAGES (length image.pages) _
+
+alike_by : (m n : ℕ) (a b : Bool) → eqb m n ≡ false → ltb m n ≡ a → ltb m (n + 1) ≡ b → a ≡ b
+alike_by m n true true apart p q = refl
+alike_by m n true false apart p q = absurd (grind (arith, nat_tests))
+alike_by m n false true apart p q = absurd (grind (arith, nat_tests))
+alike_by m n false false apart p q = refl
+
+tests_alike : (m n : ℕ) → eqb m n ≡ false → ltb m n ≡ ltb m (n + 1)
+tests_alike m n apart = alike_by m n (ltb m n) (ltb m (n + 1)) apart refl refl
+
+not_below : {A : Type 0} (n : ℕ) (x y : A) → cond (ltb n n) x y ≡ y
+not_below n x y = let no_less : ltb n n ≡ false = grind (arith, nat_tests) in ap (λ b. cond b x y) no_less
+
+none_below : {A : Type 0} (m : ℕ) (x y : A) → y ≡ cond (ltb m 0) x y
+none_below m x y = let no_less : ltb m 0 ≡ false = grind (arith, nat_tests) in sym (ap (λ b. cond b x y) no_less)
+
+slot_by : (b : Bool) (m n : ℕ) (slots : List SlotImage) → eqb m n ≡ b →
+    cond b (Own (slot_in slots n)) (cond (ltb m n) (Own (slot_in slots m)) (Own Empty)) ≡ cond (ltb m (n + 1)) (Own (slot_in slots m)) (Own Empty)
+slot_by true m n slots is =
+    let same : n ≡ m = grind (arith, nat_tests) in
+    let below : ltb m (n + 1) ≡ true = grind (arith, nat_tests) in
+    ap (λ k. Own (slot_in slots k)) same ∙ sym (ap (λ b. cond b (Own (slot_in slots m)) (Own Empty)) below)
+slot_by false m n slots is =
+    let alike : ltb m n ≡ ltb m (n + 1) = tests_alike m n is in
+    ap (λ b. cond b (Own (slot_in slots m)) (Own Empty)) alike
+
+-- one slot more
+pub slot_put : (image : Image) (frames n : ℕ) (value : Descriptor) (w v : World) → w ≡ with_slots image frames n → value ≡ slot_in image.slots n → v ≡ put_slot w first n value → v ≡ with_slots image frames (n + 1)
+unfolding with_slots
+slot_put image frames n value w v before is put =
+    let had = context_slots image n in
+    let empty : cond (ltb n n) (Own (slot_in image.slots n)) (Own Empty) ≡ Own Empty = not_below n (Own (slot_in image.slots n)) (Own Empty) in
+    let stands : w ≡ one_context frames PAGES (length image.pages) had = before ∙ world_one frames (length image.pages) had in
+    put ∙ (λ i. put_slot (stands i) first n (is i))
+    ∙ put_slot-one frames PAGES (length image.pages) had n Empty (slot_in image.slots n) empty
+    ∙ (λ i. one_context frames PAGES (length image.pages) (record (context_with image image.pages) { slot = λ m. slot_by (eqb m n) m n image.slots refl i }))
+    ∙ sym (world_one frames (length image.pages) (context_slots image (n + 1)))
+
+-- the slots begin where the pages end
+pub slots_begin : (image : Image) (frames : ℕ) (w : World) → w ≡ with_pages image frames (length image.pages) → w ≡ with_slots image w.frames 0
+unfolding with_slots with_pages context_with
+slots_begin image frames w before =
+    before
+    ∙ ap (λ (l : List PageImage). world_with frames (length image.pages) (context_with image l)) (take-length image.pages)
+    ∙ (λ i. world_with frames (length image.pages) (record (context_with image image.pages) { slot = λ m. none_below m (Own (slot_in image.slots m)) (Own Empty) i }))
+    ∙ ap (λ n. world_with n (length image.pages) (context_slots image 0)) (sym (frames_here image frames (length image.pages) w before))
+
+no_such_slot : (slots : List SlotImage) (m : ℕ) → All (λ s. s.slot < 64) slots → 64 ≤ m → find (λ s. eqb s.slot m) slots ≡ None
+no_such_slot [] m below above = refl
+no_such_slot (s ∷ slots) m below above =
+    let here : s.slot < 64 = All-head (λ (x : SlotImage). x.slot < 64) s slots below in
+    let apart : eqb s.slot m ≡ false = grind (arith, nat_tests) in
+    ap (λ b. cond b (Some s) (find (λ (x : SlotImage). eqb x.slot m) slots)) apart ∙ no_such_slot slots m (All-tail (λ (x : SlotImage). x.slot < 64) s slots below) above
+
+nothing_past : (slots : List SlotImage) (m : ℕ) → All (λ s. s.slot < 64) slots → 64 ≤ m → slot_in slots m ≡ Empty
+unfolding slot_in
+nothing_past slots m below above =
+    let third : nat_lt m 2 ≡ false = grind (arith, nat_tests) in
+    ap (λ b. cond b Console (option_map_or (λ (s : SlotImage). File s.file 0) (find (λ (s : SlotImage). eqb s.slot m) slots) Empty)) third
+    ∙ ap (λ o. option_map_or (λ (s : SlotImage). File s.file 0) o Empty) (no_such_slot slots m below above)
+
+all_slots_by : (b : Bool) (slots : List SlotImage) (m : ℕ) → ltb m 64 ≡ b → All (λ s. s.slot < 64) slots → cond b (Own (slot_in slots m)) (Own Empty) ≡ Own (slot_in slots m)
+all_slots_by true slots m is below = refl
+all_slots_by false slots m is below = let above : 64 ≤ m = grind (arith, nat_tests) in ap Own (sym (nothing_past slots m below above))
+
+-- all slots make the start
+pub slots_end : (image : Image) (frames : ℕ) (w : World) → IsImage image → w ≡ with_slots image frames 64 → w ≡ start_world image frames
+unfolding with_slots start_world first_context context_with
+slots_end image frames w is before =
+    before ∙ (λ i. world_with frames (length image.pages) (record (first_context image) { slot = λ m. all_slots_by (ltb m 64) image.slots m refl is.slots.below i }))
+
+-- nothing is live in a world that was opened
+pub none_live : (frames : ℕ) (w : World) → w ≡ empty_world frames PAGES → w.contexts ≡ fm.empty
+unfolding empty_world
+none_live frames w opened = ap (λ (v : World). v.contexts) opened
+
+-- job 0 may make the first context
+pub may_begin : (size : WorldSize) (frames : ℕ) (w : World) → w ≡ empty_world frames PAGES → 1 ≤ size.jobs → MayName size w 0
+unfolding empty_world
+may_begin size frames w opened some = record {
+  known = omega arith;
+  contexts = subst (λ (v : World). (v.next 0).contexts < 2 ^ 31) (sym opened) (omega arith);
+  groups = subst (λ (v : World). (v.next 0).groups < 2 ^ 31) (sym opened) (omega arith);
+  tags = subst (λ (v : World). (v.next 0).tags < 2 ^ 31) (sym opened) (omega arith);
+}
+
+-- the first context is made
+pub first_made : (image : Image) (frames : ℕ) (regs : Regs) (w v : World) → w ≡ empty_world frames PAGES → regs ≡ fresh_registers (first_entry image) →
+    v ≡ add_context w 0 (new_context image.uid regs) → v ≡ with_pages image frames 0
+first_made image frames regs w v opened entry made =
+    made ∙ (λ i. add_context (opened i) 0 (new_context image.uid (entry i))) ∙ pages_begin image frames
+
+-- all pages and all slots make the start
+pub all_put : (image : Image) (frames : ℕ) (begun paged done : World) → IsImage image → begun ≡ with_pages image frames 0 →
+    paged ≡ with_pages image begun.frames (length image.pages) → done ≡ with_slots image paged.frames 64 → done ≡ start_world image frames
+all_put image frames begun paged done is first pages slots =
+    let same : paged.frames ≡ frames = frames_here image begun.frames (length image.pages) paged pages ∙ frames_here image frames 0 begun first in
+    slots_end image frames done is (slots ∙ ap (λ n. with_slots image n 64) same)

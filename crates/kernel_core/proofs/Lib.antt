@@ -4,3 +4,4 @@ pub mod Ready
 pub mod Runs
 pub mod Steady
 pub mod Building
+pub mod Started

@@ -54,7 +54,7 @@ shared_at text pc None all found = tt
 shared_at text pc (Some i) all found =
     shared_by (is_shared i.op) i
     (subst (λ (j : Instr). IsInstruction j) (get_or_from_slice_get text pc i i found)
-        (All-get_or IsInstruction text pc i (slice_get_within text pc i found) all))
+    (All-get_or IsInstruction text pc i (slice_get_within text pc i found) all))
 
 shared_of_advanced : (text : List Instr) (regs : _) → All IsInstruction text → IfShared (advanced text regs).next IsInstruction
 unfolding advanced

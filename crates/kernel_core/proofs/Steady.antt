@@ -57,8 +57,8 @@ stands_after : (h : History) (threads : List Thread) (w v : World) (t : ℕ) (x 
 unfolding step
 stands_after h threads w v t x after now found made =
     sym (ap (λ (m : Machine). step m t) (sym now)
-        ∙ ap (step_at (standing h.inputs threads w) t) found
-        ∙ ap (with_acted (standing h.inputs threads w) t) made)
+    ∙ ap (step_at (standing h.inputs threads w) t) found
+    ∙ ap (with_acted (standing h.inputs threads w) t) made)
 
 machine_after : (h : History) (t : ℕ) → machine_of (longer h t) ≡ step (machine_of h) t
 unfolding machine_of
@@ -115,7 +115,7 @@ made_step size w v threads text most_used t x after h steady found made =
     let made_here : step_of w h.inputs.image.text x x.status ≡ Some (alone v after) = ap (λ (l : List Instr). step_of w l x x.status) (sym steady.text) ∙ made in
     let going : is_ended (machine_of h) t ≡ false = ended_at h threads w t x steady.now found ∙ going_on w text x x.status (alone v after) made in
     let now : standing h.inputs (slice_set threads t after) v ≡ machine_of (longer h t) =
-        stands_after h threads w v t x after steady.now found made_here ∙ sym (machine_after h t) in
+    stands_after h threads w v t x after steady.now found made_here ∙ sym (machine_after h t) in
     let well = stands_well size (standing h.inputs threads w) (most_after (length h.steps)) t x steady.ready found in
     let less = (step_made size w text x (alone v after) well made).left in
     record {
@@ -189,7 +189,7 @@ pub steady_as : (size size_now : WorldSize) (v : World) (threads : List Thread) 
 steady_as size size_now v threads text most_used u most_now h now sized used_is most_is is steady =
     subst (λ (s : WorldSize). IsSteady s v threads text most_now now) (sym sized)
     (subst (λ (n : ℕ). IsSteady size v threads text n now) (sym (most_is ∙ ap (max most_used) used_is))
-        (subst (λ (k : History). IsSteady size v threads text (max most_used (used v)) k) (sym is) steady))
+    (subst (λ (k : History). IsSteady size v threads text (max most_used (used v)) k) (sym is) steady))
 
 -- what can be seen of the thread of a number
 pub view_here : (size : WorldSize) (w : World) (threads : List Thread) (text : List Instr) (most_used t : ℕ) (x : Thread) (h value : History) →
@@ -223,3 +223,9 @@ pub work_here : (size : WorldSize) (w : World) (threads shown : List Thread) (te
 unfolding work
 work_here size w threads shown text most_used result h value steady is same sum =
     sum ∙ ap work_of same ∙ ap (λ (m : Machine). work_of m.threads) steady.now ∙ ap work is
+
+-- nothing is on the console
+pub console_here : (size : WorldSize) (w : World) (threads : List Thread) (text : List Instr) (most_used : ℕ) (console shown : List ℕ) (h value : History) →
+    IsSteady size w threads text most_used h → h ≡ value → console ≡ [] → shown ≡ console → shown ≡ (machine_of value).console
+console_here size w threads text most_used console shown h value steady is none same =
+    same ∙ none ∙ ap (λ (m : Machine). m.console) steady.now ∙ ap (λ k. (machine_of k).console) is

@@ -13,6 +13,10 @@ pub record History : Type 0 where
   pub steps : List ℕ
   pub room : ℕ
 
+-- a kernel that was just opened
+abbrev pub opened : Inputs → ℕ → History
+opened inputs room = record { inputs = inputs; steps = []; room = room }
+
 -- the machine that a kernel has come to
 unfoldable pub machine_of : History → Machine
 machine_of h = run (start h.inputs) h.steps

@@ -155,7 +155,12 @@ impl Thread {
 
 // Puts bytes in memory for the thread's job. The one error is want of memory, and then nothing has changed.
 #[tactic(auto, unfolding(crate::specs::Step::puts))]
-fn put<W: World>(world: &mut W, thread: &Thread, at: u64, bytes: &[u8]) -> Result<Thread, OutOfMemory>
+fn put<W: World>(
+    world: &mut W,
+    thread: &Thread,
+    at: u64,
+    bytes: &[u8],
+) -> Result<Thread, OutOfMemory>
     requires ready { CanAct (W.size world.old) (W.seen world.old) thread.now }
     requires short { length bytes.now ≤ PAGE_BYTES }
     ensures done { IfOk result (λ x. puts (W.seen world.old) thread.now (record { at = at; bytes = bytes.now }) ≡ record { thread = x; world = W.seen world.new }) }
@@ -174,7 +179,12 @@ fn put<W: World>(world: &mut W, thread: &Thread, at: u64, bytes: &[u8]) -> Resul
 }
 
 // Puts the lowest byte of a value.
-fn put_byte<W: World>(world: &mut W, thread: &Thread, at: u64, value: u64) -> Result<Thread, OutOfMemory>
+fn put_byte<W: World>(
+    world: &mut W,
+    thread: &Thread,
+    at: u64,
+    value: u64,
+) -> Result<Thread, OutOfMemory>
     requires { CanAct (W.size world.old) (W.seen world.old) thread.now }
     ensures done { IfOk result (λ x. puts_byte (W.seen world.old) thread.now at value ≡ record { thread = x; world = W.seen world.new }) }
     ensures err { OnErr result (W.seen world.new ≡ W.seen world.old) }
@@ -184,7 +194,12 @@ fn put_byte<W: World>(world: &mut W, thread: &Thread, at: u64, value: u64) -> Re
 }
 
 // Puts a word, lowest byte first.
-fn put_word<W: World>(world: &mut W, thread: &Thread, at: u64, value: u64) -> Result<Thread, OutOfMemory>
+fn put_word<W: World>(
+    world: &mut W,
+    thread: &Thread,
+    at: u64,
+    value: u64,
+) -> Result<Thread, OutOfMemory>
     requires { CanAct (W.size world.old) (W.seen world.old) thread.now }
     ensures done { IfOk result (λ x. puts_word (W.seen world.old) thread.now at value ≡ record { thread = x; world = W.seen world.new }) }
     ensures err { OnErr result (W.seen world.new ≡ W.seen world.old) }

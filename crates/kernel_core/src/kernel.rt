@@ -1,18 +1,22 @@
-ghost use Rattle.std.specs.Prelude.{◌≡◌, ◌<◌, ◌≤◌, ◌+◌, ◌^◌, ◌++◌, ◌∷◌, [], false, IfOk, IfSome, OnOk, OnErr, length, vec_len, vec_capacity, Some};
+ghost use Rattle.std.specs.Prelude.{◌≡◌, ◌<◌, ◌≤◌, ◌+◌, ◌^◌, ◌++◌, ◌∷◌, [], false, IfErr, IfOk, IfSome, OnOk, OnErr, length, vec_len, vec_capacity, Some};
+ghost use Rattle.guest_image.specs.Limits.{IsImage};
 ghost use Rattle.guest_machine.specs.Advances.{advanced};
-ghost use Rattle.kernel_core.specs.Kernel.{machine_of, stepped, turn_of, view_of, work};
+ghost use Rattle.kernel_core.specs.Kernel.{machine_of, opened, stepped, turn_of, view_of, work};
 ghost use Rattle.kernel_core.specs.Machine.{has_ended, is_ended, work_of};
 ghost use Rattle.kernel_core.specs.Runs as runs;
 ghost use Rattle.kernel_core.specs.Start.{start};
-ghost use Rattle.kernel_core.specs.declared.settings.TheConstants.{MOST_STEPS, MOST_THREADS};
+ghost use Rattle.kernel_core.specs.declared.settings.Job.TheVariants as jobs;
+ghost use Rattle.kernel_core.specs.declared.settings.TheConstants.{MOST_BUDGET, MOST_STEPS, MOST_THREADS};
 
 use crate::acting::step_thread;
-use crate::settings::Settings;
+use crate::settings::{OpenFault, Settings};
+use crate::starting::{first_threads, start_world};
 use crate::thread::{Thread, ThreadView, Turn};
-use guest_image::Image;
+use guest_image::{Image, copy_image};
 use guest_isa::Text;
 use guest_machine::Advance;
 use lwc_base::{OutOfMemory, Requests};
+use std::alloc::Global;
 use std::marker::Model;
 use std::snapshot::Snapshot;
 use world_face::World;
@@ -27,13 +31,14 @@ pub struct Kernel<W: World> {
     text: Text,
     world: W,
     threads: Vec<Thread>,
+    console: Vec<u8>,
     schedule: Vec<u8>,
     room: u32,
     peak: u32,
 }
 
 impl<W: World> Model for Kernel<W> {
-    ghost use Rattle.std.specs.Prelude.{◌+◌, ◌≤◌, vec_len, vec_capacity};
+    ghost use Rattle.std.specs.Prelude.{◌≡◌, ◌+◌, ◌≤◌, [], vec_len, vec_capacity};
     ghost use Rattle.kernel_core.specs.Kernel.{History};
 
     ghost Value = { History };
@@ -42,7 +47,7 @@ impl<W: World> Model for Kernel<W> {
 
     ghost view = { λ k. record { inputs = record { image = k.image.value; requests = k.requests; settings = k.settings }; steps = k.schedule.items; room = k.room } };
 
-    ghost invariant = { λ k. (vec_len k.schedule + k.room ≤ vec_capacity k.schedule) × IsSteady (W.size k.world) (W.seen k.world) k.threads.items k.text k.peak (record { inputs = record { image = k.image.value; requests = k.requests; settings = k.settings }; steps = k.schedule.items; room = k.room }) };
+    ghost invariant = { λ k. (k.console.items ≡ []) × (vec_len k.schedule + k.room ≤ vec_capacity k.schedule) × IsSteady (W.size k.world) (W.seen k.world) k.threads.items k.text k.peak (record { inputs = record { image = k.image.value; requests = k.requests; settings = k.settings }; steps = k.schedule.items; room = k.room }) };
 }
 
 // How many steps the threads may still make.
@@ -65,6 +70,82 @@ fn append(schedule: &mut Vec<u8>, t: u8)
 }
 
 impl<W: World> Kernel<W> {
+    // A kernel at the start of an image that has no more pages than there are frames.
+    fn start(
+        alloc: Global,
+        image: &Image,
+        requests: Requests,
+        steps: u32,
+        settings: &Settings,
+    ) -> Result<Kernel<W>, OutOfMemory>
+        requires image { IsImage image.now }
+        requires some_frame { 1 ≤ settings.now.frames }
+        requires few_frames { settings.now.frames ≤ 65536 }
+        requires some_step { 1 ≤ settings.now.budget }
+        requires few_steps { settings.now.budget ≤ MOST_BUDGET }
+        requires steps { steps ≤ MOST_STEPS }
+        requires fits { length image.now.pages ≤ settings.now.frames }
+        ensures { IfOk result (λ k. k ≡ opened (record { image = image.now; requests = requests; settings = settings.now }) steps) }
+    {
+        let world: W = start_world(alloc, image, settings.frames)?;
+        let Image { text, .. } = copy_image(alloc, image)?;
+        let threads = first_threads(alloc, settings.budget, image.entries.as_slice())?;
+        let console = Vec::new(alloc);
+        let schedule = Vec::with_capacity(alloc, steps as usize)?;
+        let peak = world.used();
+        Ok(Kernel {
+            image: Snapshot::of(image),
+            requests,
+            settings: *settings,
+            text,
+            world,
+            threads,
+            console,
+            schedule,
+            room: steps,
+            peak,
+        })
+    }
+
+    /// A kernel at the start of an image, with room for so many steps. The steps of the threads are reserved here, and
+    /// so no step is refused for want of room.
+    ///
+    /// # Errors
+    ///
+    /// `ImageTooLarge` exactly where the image has more pages than there are frames, which is tested before memory is
+    /// taken; and want of memory.
+    pub fn open(
+        alloc: Global,
+        image: &Image,
+        requests: Requests,
+        steps: u32,
+        settings: &Settings,
+    ) -> Result<Kernel<W>, OpenFault>
+        requires image { IsImage image.now }
+        requires some_frame { 1 ≤ settings.now.frames }
+        requires few_frames { settings.now.frames ≤ 65536 }
+        requires some_step { 1 ≤ settings.now.budget }
+        requires few_steps { settings.now.budget ≤ MOST_BUDGET }
+        requires job { settings.now.job ≡ jobs.Run }
+        requires requests { requests ≡ [] }
+        requires steps { steps ≤ MOST_STEPS }
+        ensures opened { IfOk result (λ k. k ≡ opened (record { image = image.now; requests = requests; settings = settings.now }) steps) }
+        ensures too_large { settings.now.frames < length image.now.pages → result ≡ Err (OpenFault.ImageTooLarge (length image.now.pages) settings.now.frames) }
+        ensures fits { length image.now.pages ≤ settings.now.frames → IfErr result (λ fault. fault ≡ OpenFault.OutOfMemory) }
+    {
+        let pages = image.pages.len() as u32;
+        if pages > settings.frames {
+            return Err(OpenFault::ImageTooLarge {
+                pages,
+                frames: settings.frames,
+            });
+        }
+        match Kernel::start(alloc, image, requests, steps, settings) {
+            Ok(kernel) => Ok(kernel),
+            Err(OutOfMemory) => Err(OpenFault::OutOfMemory),
+        }
+    }
+
     /// One step of thread `t`, which is kept unless the thread had ended. A proposal is used where it begins with the
     /// thread's registers. The one error is want of memory, and then nothing has changed.
     pub fn step(&mut self, t: u32, proposal: Option<&Advance>) -> Result<Turn, OutOfMemory>
@@ -126,6 +207,13 @@ impl<W: World> Kernel<W> {
         ensures { result ≡ runs.peak (start self.now.inputs) self.now.steps }
     {
         self.peak
+    }
+
+    /// What has been written to the console. Nothing is so far, since no call is built that writes there.
+    pub fn console(&self) -> &[u8]
+        ensures { result.now ≡ (machine_of self.now).console }
+    {
+        self.console.as_slice()
     }
 
     /// The world in which the threads stand.

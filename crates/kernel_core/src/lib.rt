@@ -3,10 +3,12 @@
 
 mod acting;
 pub mod kernel;
+pub mod laws;
 pub mod settings;
 mod starting;
 pub mod thread;
 
 pub use kernel::Kernel;
+pub use laws::{kept_steps_are_enough, kept_steps_are_kept, next_step_is_kept};
 pub use settings::{Job, MOST_BUDGET, MOST_STEPS, MOST_THREADS, OpenFault, PAGES, Settings};
 pub use thread::{Thread, ThreadView, Turn};

@@ -1,4 +1,5 @@
-ghost use Rattle.std.specs.Prelude.{◌≡◌, ◌≢◌, ◌<◌, ◌≤◌, ◌+◌, IfOk, OnOk, length, Some};
+ghost use Rattle.std.specs.Prelude.{◌≡◌, ◌≢◌, ◌==◌, ◌<◌, ◌≤◌, ◌+◌, IfOk, OnOk, length, Some};
+ghost use Rattle.std.specs.List.{find};
 ghost use Rattle.guest_image.specs.Limits.{IsImage};
 ghost use Rattle.kernel_core.specs.Stages.{with_pages, with_slots};
 ghost use Rattle.kernel_core.specs.Start as start;
@@ -8,12 +9,15 @@ ghost use Rattle.lwc_base.specs.declared.descriptor.TheConstants.{SLOTS};
 use crate::settings::{MOST_THREADS, PAGES};
 use crate::thread::Thread;
 use guest_image::{Image, PageImage, SlotImage};
-use lwc_base::{Descriptor, Name, OutOfMemory, PAGE_BYTES, Range, Regs, SLOTS, StoreFault, ThreadStatus};
+use lwc_base::{
+    Descriptor, Name, OutOfMemory, PAGE_BYTES, Range, Regs, SLOTS, StoreFault, ThreadStatus,
+};
 use std::alloc::Global;
 use world_face::{World, WorldSize};
 
 /// The most contexts and groups that live at once.
 const MOST_CONTEXTS: u32 = 529;
+
 const MOST_GROUPS: u32 = 1024;
 
 /// The name of the first context.
@@ -21,6 +25,13 @@ const FIRST: Name = Name { job: 0, k: 0 };
 
 /// How many slots, from 0 on, have the console.
 const CONSOLES: u8 = 2;
+
+// The first of an image's slots that has this number.
+fn slot_of(slots: &[SlotImage], n: u8) -> Option<SlotImage>
+    ensures { result ≡ find (λ slot. slot.slot == n) slots.now }
+{
+    slots.iter().copied().find(|slot| slot.slot == n)
+}
 
 // What stands under a slot at the start.
 #[tactic(auto, unfolding(crate::specs::Start::slot_in))]
@@ -30,7 +41,7 @@ fn slot_value(slots: &[SlotImage], n: u8) -> Descriptor
     if n < CONSOLES {
         return Descriptor::Console;
     }
-    match slots.iter().find(|slot| slot.slot == n) {
+    match slot_of(slots, n) {
         Some(slot) => Descriptor::File {
             file: slot.file,
             at: 0,
@@ -54,7 +65,11 @@ fn first_thread(budget: u32, t: u32, entry: u32) -> Thread
 }
 
 // The threads of a start. The one error is want of memory.
-pub fn first_threads(alloc: Global, budget: u32, entries: &[u32]) -> Result<Vec<Thread>, OutOfMemory>
+pub fn first_threads(
+    alloc: Global,
+    budget: u32,
+    entries: &[u32],
+) -> Result<Vec<Thread>, OutOfMemory>
     requires { length entries.now ≤ 16 }
     ensures { IfOk result (λ threads. threads.items ≡ start.first_threads budget entries.now) }
 {

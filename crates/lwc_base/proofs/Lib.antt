@@ -1,8 +1,10 @@
-pub mod Orders
-pub mod Live
-pub mod OwnCells
-pub mod Zeros
 pub mod Kernel
 pub mod OneContext
 pub mod OnePage
 pub mod OneUsed
+pub mod Live
+pub mod Loading
+pub mod Orders
+pub mod OwnCells
+pub mod Storing
+pub mod Zeros

@@ -1,7 +1,7 @@
 -- What a change of values under keys leaves as it was: which names live, what has been counted, and how large the world is.
-use Rattle.std.proofs.Common.{◌≡◌, ℕ, ◌+◌, ◌≤◌, refl, sym, ap, ◌∙◌, Bool, true, false, cond, Option, Some, None, List, [], ◌∷◌, length, arith, IsTrue, eqb}
+use Rattle.std.proofs.Common.{◌≡◌, ℕ, refl, sym, ap, ◌∙◌, Bool, true, false, cond, Option, Some, None, List, [], ◌∷◌, eqb}
 use Rattle.std.proofs.lemmas.Bool.{eqb-true}
-use Rattle.std.specs.Prelude.{is_some, unwrap_or}
+use Rattle.std.specs.Prelude.{is_some}
 use Rattle.std.specs.Ordering.{eq_by_cmp, is_eq}
 use Rattle.std.specs.declared.cmp.Ordering.{Ordering}
 use Rattle.std.specs.declared.cmp.Ordering.TheVariants.{Less, Equal, Greater}
@@ -14,8 +14,8 @@ use Rattle.lwc_base.specs.declared.page.PageValue.{PageValue}
 use Rattle.lwc_base.specs.Names.{name_cmp}
 use Rattle.lwc_base.specs.Cells.{put_page_in, put_page, put_slot_in, put_slot}
 use Rattle.lwc_base.specs.Mapping.{map_pages}
-use Rattle.lwc_base.specs.Store.{Piece, put_pages, after_store}
-use Rattle.lwc_base.specs.World.{World, Context, Group, Counters, is_live, context, changed_context, change_context, changed_group, change_group, count_on}
+use Rattle.lwc_base.specs.Store.{put_pages}
+use Rattle.lwc_base.specs.World.{World, Context, Group, Counters, is_live, changed_context, change_context, changed_group, change_group, count_on}
 use Rattle.lwc_base.proofs.Orders.{name_cmp-total, name_cmp-IsAntisymmetric}
 
 equal_of_is_eq : (o : Ordering) → is_eq o ≡ true → o ≡ Equal

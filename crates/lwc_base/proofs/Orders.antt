@@ -1,12 +1,10 @@
 -- The orders of names and of tags are total, and only equal ones tie.
-use Rattle.std.proofs.Common.{◌≡◌, ℕ, ap, refl}
+use Rattle.std.proofs.Common.{ℕ, ap}
 use Rattle.std.specs.Ordering.{nat_cmp}
 use Rattle.std.specs.Cmp.{IsTotalOrder}
 use Rattle.std.proofs.lemmas.Cmp.{then_total, on_total, nat_cmp_total}
 use Rattle.std.specs.FinMap.{IsAntisymmetric}
 use Rattle.std.proofs.lemmas.Map.Lookups.{exact_pairs, exact_unsigned}
-use Rattle.lwc_base.specs.declared.name.Name.{Name}
-use Rattle.lwc_base.specs.declared.name.Tag.{Tag}
 use Rattle.lwc_base.specs.Names.{name_cmp, tag_cmp}
 
 pub name_cmp-total : IsTotalOrder name_cmp

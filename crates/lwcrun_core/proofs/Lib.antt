@@ -1,5 +1,6 @@
 pub mod Decimals
 pub mod Follows
-pub mod Inputs
+pub mod Fetches
 pub mod Outputs
 pub mod Promises
+pub mod Refusals

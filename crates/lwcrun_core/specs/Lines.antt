@@ -1,5 +1,5 @@
 -- What a line of words asks for.
-use Rattle.std.specs.Prelude.{ℕ, Bool, ◌&&◌, if◌then◌else◌, List, [], ◌∷◌, Option, None, Some, bytes_eq, codes, string_bytes}
+use Rattle.std.specs.Prelude.{◌≡◌, ◌≤◌, ℕ, Bool, ◌&&◌, if◌then◌else◌, List, [], ◌∷◌, Option, None, Some, bytes_eq, codes, string_bytes}
 use Rattle.std.specs.Option.{option_map, option_and_then}
 use Rattle.lwcrun_core.specs.declared.settings.Settings.{Settings}
 use Rattle.lwcrun_core.specs.declared.settings.Job.TheVariants.{Run}
@@ -10,6 +10,12 @@ use Rattle.lwcrun_core.specs.Numbers.{number_within}
 -- what is asked for: the run of an image under a schedule, each a file by its name
 pub data Command : Type 0 where
   Replay : List ℕ → List ℕ → Settings → Command
+
+-- settings in their limits, of a run
+pub record IsSettings (settings : Settings) : Type 0 where
+  pub frames : (1 ≤ settings.frames) × (settings.frames ≤ 65536)
+  pub budget : (1 ≤ settings.budget) × (settings.budget ≤ 100000)
+  pub job : settings.job ≡ Run
 
 -- the settings of a run
 abbrev pub run_settings : ℕ → ℕ → Settings
@@ -47,3 +53,7 @@ command_of _ = None
 -- what a line that was read asks for
 abbrev pub asked_by : Line → Command
 asked_by (lines.Replay image schedule settings) = Replay (string_bytes image) (string_bytes schedule) settings
+
+-- the settings of a line that was read
+abbrev pub settings_asked : Line → Settings
+settings_asked (lines.Replay image schedule settings) = settings

@@ -1,6 +1,6 @@
-ghost use Rattle.std.specs.Prelude.{◌≡◌, ◌↔◌, ℕ, List, Option, Some, None, map, option_map, IfOk, IfErr, string_bytes, IsErrOf};
+ghost use Rattle.std.specs.Prelude.{◌≡◌, ◌≤◌, ◌↔◌, Some, None, map, IfSome, IfOk, IfErr, string_bytes};
 ghost use Rattle.lwcrun_core.specs.Lines as Command;
-ghost use Rattle.lwcrun_core.specs.Lines.{asked_by, command_of, settings_of, both_settings};
+ghost use Rattle.lwcrun_core.specs.Lines.{IsSettings, asked_by, settings_asked, command_of, settings_of, both_settings};
 
 use crate::numbers::number_within;
 use crate::settings::{Job, Settings};
@@ -33,7 +33,10 @@ const BUDGET: u32 = 10000;
 
 /// Frames and budget, where both are there.
 fn both_settings(frames: Option<u32>, budget: Option<u32>) -> Option<Settings>
-    ensures { result ≡ both_settings frames budget }
+    requires frames { IfSome frames (λ number. (1 ≤ number) × (number ≤ 65536)) }
+    requires budget { IfSome budget (λ number. (1 ≤ number) × (number ≤ 100000)) }
+    ensures value { result ≡ both_settings frames budget }
+    ensures limits { IfSome result IsSettings }
 {
     Some(Settings {
         frames: frames?,
@@ -45,7 +48,8 @@ fn both_settings(frames: Option<u32>, budget: Option<u32>) -> Option<Settings>
 /// The settings that the words after the files ask for.
 #[tactic(auto, unfolding(crate::specs::Lines::settings_of))]
 fn settings_of(words: &[String]) -> Option<Settings>
-    ensures { result ≡ settings_of (map string_bytes words.now) }
+    ensures value { result ≡ settings_of (map string_bytes words.now) }
+    ensures limits { IfSome result IsSettings }
 {
     match words {
         [] => both_settings(Some(FRAMES), Some(BUDGET)),
@@ -72,7 +76,9 @@ fn replay_line(
     schedule: &str,
     settings: Settings,
 ) -> Result<Line, LineFault>
+    requires limits { IsSettings settings }
     ensures line { IfOk result (λ line. asked_by line ≡ Command.Replay image.now schedule.now settings) }
+    ensures limits { IfOk result (λ line. IsSettings (settings_asked line)) }
     ensures only { IfErr result (λ fault. fault ≡ LineFault.OutOfMemory) }
 {
     let Ok(image) = String::from_str(alloc, image) else {
@@ -96,6 +102,7 @@ fn replay_line(
 #[tactic(auto, unfolding(crate::specs::Lines::command_of))]
 pub fn read_line(alloc: Global, words: &[String]) -> Result<Line, LineFault>
     ensures accepted { IfOk result (λ line. command_of (map string_bytes words.now) ≡ Some (asked_by line)) }
+    ensures limits { IfOk result (λ line. IsSettings (settings_asked line)) }
     ensures usage { (result ≡ Err LineFault.Usage) ↔ (command_of (map string_bytes words.now) ≡ None) }
 {
     let [_program, mode, image, schedule, rest @ ..] = words else {

@@ -1,4 +1,4 @@
-ghost use Rattle.std.specs.Prelude.{◌≡◌, ◌≤◌, true, length};
+ghost use Rattle.std.specs.Prelude.{◌≡◌, ◌≤◌, IfSome, true, length};
 ghost use Rattle.std.specs.List.{list_all};
 ghost use Rattle.lwcrun_core.specs.Numbers.{is_digit, is_number, decimal_value, number_of, number_within};
 
@@ -49,7 +49,8 @@ fn number_of(word: &str) -> Option<u32>
 /// The number that the word spells, if it is one in the range.
 #[tactic(auto, unfolding(crate::specs::Numbers::number_within))]
 pub fn number_within(least: u32, most: u32, word: &str) -> Option<u32>
-    ensures { result ≡ number_within least most word.now }
+    ensures value { result ≡ number_within least most word.now }
+    ensures within { IfSome result (λ number. (least ≤ number) × (number ≤ most)) }
 {
     let number = number_of(word)?;
     if least <= number && number <= most {

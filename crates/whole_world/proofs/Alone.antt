@@ -1,12 +1,11 @@
 -- The world in which one context is held.
-use Rattle.std.proofs.Common.{◌≡◌, ℕ, zero, suc, ◌+◌, ◌<◌, List, [], ◌∷◌, arith, eqb, length, refl, sym, ap, subst, ◌∙◌, Bool, true, false, cond, Option, Some, None, IsTrue, get_or}
+use Rattle.std.proofs.Common.{◌≡◌, ℕ, zero, suc, ◌+◌, ◌<◌, List, [], ◌∷◌, arith, eqb, length, refl, sym, ap, ◌∙◌, Bool, true, false, cond, Option, Some, None, IsTrue, get_or}
 use Rattle.std.specs.Prelude.{is_some, unwrap_or, replicate}
 use Rattle.std.specs.Ordering.{eq_by_cmp, is_eq}
 use Rattle.std.proofs.lemmas.Cmp.{tied_itself}
 use Rattle.std.proofs.lemmas.Bool.{false≢true}
 use Rattle.lwc_base.specs.Registers.{fresh_registers}
 use Rattle.std.specs.FinMap as fm
-use Rattle.lwc_base.specs.declared.cell.Cell.{Cell}
 use Rattle.lwc_base.specs.declared.cell.Cell.TheVariants.{Own}
 use Rattle.lwc_base.specs.declared.descriptor.Descriptor.{Descriptor}
 use Rattle.lwc_base.specs.declared.name.Name.{Name}
@@ -21,7 +20,7 @@ use Rattle.whole_world.specs.declared.counts.Counts.{Counts}
 use Rattle.whole_world.specs.Copies.{context_of, with_zeros}
 use Rattle.lwc_base.specs.Mapping.{map_pages}
 use Rattle.std.proofs.Math.ListN.{set}
-use Rattle.whole_world.specs.Seen.{contexts_of, counters_of, nothing_counted, world_of}
+use Rattle.whole_world.specs.Seen.{counters_of, nothing_counted, world_of}
 use Rattle.whole_world.proofs.Places.{place_after_set, place_of_replicate}
 
 -- what a map of one entry has

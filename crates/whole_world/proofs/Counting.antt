@@ -1,24 +1,19 @@
 -- What is counted in the world in which one context is held.
-use Rattle.std.proofs.Common.{◌≡◌, ℕ, zero, suc, ◌+◌, ◌<◌, List, [], ◌∷◌, ◌++◌, refl, sym, ap, ◌∙◌, Bool, true, false, cond, Option, Some, None, arith, length, get_or, map, append_assoc}
+use Rattle.std.proofs.Common.{◌≡◌, ℕ, zero, suc, ◌+◌, List, [], ◌∷◌, ◌++◌, refl, sym, ap, ◌∙◌, Bool, cond, Option, Some, None, arith, length, get_or, map, append_assoc}
 use Rattle.std.specs.Prelude.{count_by, not, is_some, slice_get, nat_lt}
-use Rattle.std.specs.List.{flat_map, range_with_len, list_any, sum_by}
-use Rattle.std.specs.Option.{option_map}
+use Rattle.std.specs.List.{flat_map, range_with_len}
 use Rattle.std.specs.Ordering.{is_eq}
 use Rattle.std.specs.FinMap as fm
 use Rattle.std.specs.FinSet as set
 use Rattle.std.proofs.lemmas.List.{nil_from_length, append-nil, length_push}
 use Rattle.std.proofs.lemmas.List.Sums.{sum_by-cons}
 use Rattle.std.proofs.Math.Seq.{get_or-append_seam}
-use Rattle.lwc_base.specs.declared.cell.Cell.TheVariants.{Own}
-use Rattle.lwc_base.specs.declared.descriptor.Descriptor.{Descriptor}
 use Rattle.lwc_base.specs.declared.descriptor.Descriptor.TheVariants.{Empty}
-use Rattle.lwc_base.specs.declared.descriptor.TheConstants.{SLOTS}
 use Rattle.lwc_base.specs.declared.name.Name.{Name}
 use Rattle.lwc_base.specs.declared.name.Tag.{Tag}
-use Rattle.lwc_base.specs.declared.size.Summary.{Summary}
 use Rattle.lwc_base.specs.declared.size.WorldSize.{WorldSize}
 use Rattle.lwc_base.specs.Names.{name_cmp, tag_cmp}
-use Rattle.lwc_base.specs.Cells.{page_at, slot_at, uid_at}
+use Rattle.lwc_base.specs.Cells.{page_at, slot_at}
 use Rattle.lwc_base.specs.Frames.{tags_of_context, tags_of_group, tags, used, is_shared_tag}
 use Rattle.lwc_base.specs.Summaries.{is_empty, summary_of}
 use Rattle.lwc_base.specs.World.{World, Context, Group, context}

@@ -1,9 +1,8 @@
 -- The tags that are held, as a list, and what the pages say of it.
-use Rattle.std.proofs.Common.{◌≡◌, ℕ, zero, suc, ◌+◌, ◌-◌, List, [], ◌∷◌, ◌++◌, refl, sym, ap, ◌∙◌, Bool, true, false, cond, Option, Some, None, arith, ◌||◌}
+use Rattle.std.proofs.Common.{◌≡◌, ℕ, zero, suc, ◌+◌, ◌-◌, List, ◌++◌, refl, sym, ap, ◌∙◌, Bool, true, false, cond, Option, Some, None, arith, ◌||◌}
 use Rattle.std.specs.Prelude.{count_by, not}
-use Rattle.std.specs.List.{flat_map, range_with_len, list_any, sum_by}
-use Rattle.std.specs.Option.{option_map}
-use Rattle.std.specs.Ordering.{is_eq, eq_by_cmp}
+use Rattle.std.specs.List.{flat_map, range_with_len, list_any}
+use Rattle.std.specs.Ordering.{is_eq}
 use Rattle.std.specs.Cmp.{eq_by_cmp_equiv}
 use Rattle.std.specs.FinSet as set
 use Rattle.std.proofs.lemmas.List.Folds.{list_any-append}
@@ -12,7 +11,7 @@ use Rattle.lwc_base.specs.declared.name.Tag.{Tag}
 use Rattle.lwc_base.specs.declared.page.PageValue.{PageValue}
 use Rattle.lwc_base.specs.declared.page.PageValue.TheVariants.{Zero, Data}
 use Rattle.lwc_base.specs.Names.{tag_cmp}
-use Rattle.lwc_base.specs.Frames.{tag_of, own_value, tags_of_context}
+use Rattle.lwc_base.specs.Frames.{tag_of, tags_of_context}
 use Rattle.lwc_base.proofs.Orders.{tag_cmp-total}
 use Rattle.lwc_base.proofs.OwnCells.{own_value-own}
 use Rattle.whole_world.specs.declared.held.Held.{Held}

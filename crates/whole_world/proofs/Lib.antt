@@ -2,4 +2,5 @@ pub mod Alone
 pub mod Contexts
 pub mod Counting
 pub mod HeldTags
+pub mod Parting
 pub mod Places

@@ -1,5 +1,5 @@
 -- What a list has at each place after one of its places is written.
-use Rattle.std.proofs.Common.{◌≡◌, ℕ, zero, suc, ◌+◌, ◌<◌, ◌≤◌, ◌≢◌, List, [], ◌∷◌, length, get_or, refl, ap, subst, ◌∙◌, map, add-zero, below_more, arith, Bool, true, false, eqb, cond, IsTrue}
+use Rattle.std.proofs.Common.{◌≡◌, ℕ, zero, suc, ◌+◌, ◌<◌, ◌≤◌, ◌≢◌, List, [], ◌∷◌, length, get_or, refl, ap, subst, ◌∙◌, map, add-zero, below_more, arith, Bool, eqb, cond}
 use Rattle.std.specs.Prelude.{replicate, count_by}
 use Rattle.std.specs.List.{range_with_len}
 use Rattle.std.proofs.lemmas.List.FromFn.{length-range_with_len}

@@ -1,6 +1,6 @@
 -- What the copies that one context holds stand for.
-use Rattle.std.specs.Prelude.{ℕ, ◌+◌, ◌-◌, ◌/◌, ◌%◌, ◌&&◌, if◌then◌else◌, Bool, not, Option, None, Some, nat_le, nat_lt, slice_index, slice_index_or}
-use Rattle.std.specs.List.{list_any, range_with_len}
+use Rattle.std.specs.Prelude.{ℕ, ◌+◌, ◌-◌, ◌/◌, ◌%◌, ◌&&◌, if◌then◌else◌, Bool, not, Option, None, Some, count_by, nat_le, nat_lt, slice_index, slice_index_or}
+use Rattle.std.specs.List.{list_all, list_any, range_with_len}
 use Rattle.std.specs.Ordering.{is_eq}
 use Rattle.std.specs.Option.{option_map, option_map_or}
 use Rattle.lwc_base.specs.declared.page.TheConstants.{PAGE_BYTES}
@@ -32,6 +32,10 @@ context_of held = record {
 -- whether a page has a tag
 unfoldable pub has_tag : Held → Tag → ℕ → Bool
 has_tag held tag p = list_any (λ t. is_eq (tag_cmp t tag)) (tag_of (held_page held p))
+
+-- whether a store to a page parts it: it has no tag, or one that another of so many pages has too
+unfoldable pub parts_page : Held → ℕ → ℕ → Bool
+parts_page held count p = list_all (λ tag. nat_lt 1 (count_by (has_tag held tag) (range_with_len 0 count))) (tag_of (held_page held p))
 
 -- whether a page has a tag that no later page of so many has
 unfoldable pub has_last_of_tag : Held → ℕ → ℕ → Bool

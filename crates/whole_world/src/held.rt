@@ -1,4 +1,4 @@
-ghost use Rattle.std.specs.Prelude.{◌≡◌, ◌<◌, ◌≤◌, IfOk, count_by, is_some, length, not, replicate, slice_index_or, vec_len};
+ghost use Rattle.std.specs.Prelude.{◌≡◌, ◌<◌, ◌≤◌, IfOk, IsTrue, count_by, is_none, is_some, length, not, replicate, slice_index_or, vec_len};
 ghost use Rattle.lwc_base.specs.declared.cell.Cell.TheVariants.{Own};
 ghost use Rattle.lwc_base.specs.World.{new_context};
 ghost use Rattle.std.specs.List.{range_with_len};
@@ -79,6 +79,18 @@ impl Held {
         ensures context { context_of self.new ≡ with_page p (Some (Own value)) (context_of self.old) }
     {
         self.pages[p] = Some(value);
+    }
+
+    /// Puts another value under a page that is present; an absent one stays so.
+    pub fn replace_page(&mut self, p: usize, value: PageValue)
+        ensures name { self.new.name ≡ self.old.name }
+        ensures pages { vec_len self.new.pages ≡ vec_len self.old.pages }
+        ensures present { IsTrue (is_some (held_page self.old p)) → context_of self.new ≡ with_page p (Some (Own value)) (context_of self.old) }
+        ensures absent { IsTrue (is_none (held_page self.old p)) → context_of self.new ≡ context_of self.old }
+    {
+        if p < self.pages.len() && self.is_present(p) {
+            self.set_page(p, value);
+        }
     }
 
     /// Makes each page from one up to and without another a page of zeros.

@@ -5,6 +5,7 @@ mod counts;
 mod held;
 mod loads;
 mod pages;
+mod store;
 mod tags;
 mod touched;
 mod world;

@@ -45,3 +45,23 @@ fn retagged(parting: bool, new: Tag, value: Option<&PageValue>, bytes: PageBytes
         _ => PageValue::Data(new, bytes),
     }
 }
+
+/// The new value of a page that a piece touches (`stored_value` of `bytes_after`), with a new tag for where it parts. The
+/// one error is want of memory.
+pub fn new_value(
+    alloc: Global,
+    parting: bool,
+    new: Tag,
+    p: usize,
+    at: usize,
+    piece: &[u8],
+    old: Option<&PageValue>,
+) -> Result<PageValue, OutOfMemory>
+    requires { p < 2 ^ 32 }
+    ensures { IfOk result (λ value. value ≡ stored_value parting new (unwrap_or (option_copied old.entry) Zero)
+        (bytes_after (record { at = at; bytes = piece.now }) p (bytes_of (unwrap_or (option_copied old.entry) Zero)))) }
+{
+    let mut bytes = copied_bytes(alloc, old)?;
+    put_piece(&mut bytes, p, at, piece);
+    Ok(retagged(parting, new, old, bytes))
+}

@@ -2,7 +2,7 @@ ghost use Rattle.std.specs.Prelude.{◌≡◌, ◌-◌, ◌<◌, ◌≤◌, coun
 ghost use Rattle.std.specs.List.{list_any, range_with_len};
 ghost use Rattle.std.specs.Option.{option_to_list};
 ghost use Rattle.lwc_base.specs.Frames.{tag_of};
-ghost use Rattle.whole_world.specs.Copies.{has_last_of_tag, has_tag, held_page};
+ghost use Rattle.whole_world.specs.Copies.{has_last_of_tag, has_tag, held_page, parts_page};
 
 use crate::held::Held;
 use lwc_base::{PageValue, Tag};
@@ -41,6 +41,17 @@ impl Held {
         ensures { result ≡ count_by (has_tag self.now tag) (range_with_len 0 (vec_len self.now.pages)) }
     {
         (0..self.pages.len()).filter(|p| self.has_tag_at(*p, tag)).count()
+    }
+
+    /// Whether a store to a page parts it.
+    #[tactic(auto, unfolding(crate::specs::Copies::parts_page))]
+    pub fn parts_page(&self, p: usize) -> bool
+        ensures { result ≡ parts_page self.now (vec_len self.now.pages) p }
+    {
+        match self.page_tag(p) {
+            Some(tag) => self.count_of_tag(tag) > 1,
+            None => true,
+        }
     }
 
     /// Whether a page has a tag that no later page has.

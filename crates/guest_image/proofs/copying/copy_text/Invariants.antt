@@ -1,5 +1,4 @@
-use Rattle.std.proofs.Common.{◌≡◌, ◌++◌, take}
-
+use Rattle.std.proofs.Common.{◌≡◌, take}
 use Rattle.guest_image.proofs.copying.copy_text.Given as goal
 
 abbrev pub invariant-loop-i : goal.invariant-loop-i

@@ -1,4 +1,3 @@
-use Rattle.std.proofs.Common.{◌≡◌, ◌++◌, ◌∷◌, []}
 use Rattle.std.proofs.lemmas.Result.{err_from_is_err_and}
 use Rattle.guest_image.specs.Reading.{entry_at, entries_at}
 use Rattle.guest_image.proofs.Loops.{goes_on, ends, is_done}

@@ -1,6 +1,6 @@
-use Rattle.std.proofs.Common.{◌≡◌, ◌++◌, ◌∷◌, [], refl, sym, ◌∙◌, arith}
+use Rattle.std.proofs.Common.{refl, sym}
 use Rattle.std.proofs.lemmas.Result.{err_from_is_err_and}
-use Rattle.guest_image.specs.Numbers.{last, ranges, last_after, ranges_after}
+use Rattle.guest_image.specs.Numbers.{last, ranges}
 use Rattle.guest_image.specs.Limits.{page_numbers}
 use Rattle.guest_image.specs.Reading.{Fails, page_at, pages_at}
 use Rattle.guest_image.proofs.Loops.{goes_on, ends, is_done}

@@ -1,6 +1,6 @@
-use Rattle.std.proofs.Common.{◌≡◌, ◌++◌, ◌∷◌, [], refl, sym, ◌∙◌, arith}
+use Rattle.std.proofs.Common.{sym}
 use Rattle.std.proofs.lemmas.Result.{err_from_is_err_and}
-use Rattle.guest_image.specs.Numbers.{last, last_after}
+use Rattle.guest_image.specs.Numbers.{last}
 use Rattle.guest_image.specs.Limits.{slot_numbers}
 use Rattle.guest_image.specs.Reading.{Fails, slot_at, slots_at}
 use Rattle.guest_image.proofs.Loops.{goes_on, ends, is_done}

@@ -1,5 +1,5 @@
 use Rattle.std.proofs.Common.{◌≡◌, length, arith}
-use Rattle.lwcrun_core.proofs.Inputs.{more_begins}
+use Rattle.lwcrun_core.proofs.Fetches.{more_begins}
 use Rattle.lwcrun_core.proofs.reading.read_piece.Goals as goal
 
 pub returns-in-Ok-extend_from_slice-clause-front : goal.returns-in-Ok-extend_from_slice-clause-front

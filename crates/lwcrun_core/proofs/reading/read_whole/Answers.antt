@@ -1,6 +1,6 @@
 use Rattle.std.proofs.Common.{◌≤◌, ◌+◌, ◌<◌, length, arith, ℕ, List, Option, subst, refl}
 use Rattle.lwcrun_core.specs.Reading.{MayBegin}
-use Rattle.lwcrun_core.proofs.Inputs.{nothing_read, more_read, passes_limit}
+use Rattle.lwcrun_core.proofs.Fetches.{nothing_read, more_read, passes_limit}
 use Rattle.lwcrun_core.proofs.reading.read_whole.Goals as goal
 
 pub loop-bytes-init : goal.loop-bytes-init

@@ -1,5 +1,5 @@
 use Rattle.std.proofs.Common.{◌-◌, ◌+◌, vec_len}
-use Rattle.lwcrun_core.proofs.Inputs.{ReadSoFar}
+use Rattle.lwcrun_core.proofs.Fetches.{ReadSoFar}
 use Rattle.lwcrun_core.proofs.reading.read_whole.Given as goal
 
 -- the file may begin with the bytes that were read, at most one more than the limit

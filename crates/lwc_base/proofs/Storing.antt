@@ -1,0 +1,94 @@
+-- The values that a store puts, one page after another.
+use Rattle.std.proofs.Common.{◌≡◌, ℕ, suc, ◌+◌, ◌-◌, ◌<◌, List, [], ◌∷◌, ◌++◌, refl, sym, ap, ◌∙◌, append_assoc, Bool, true, false, arith, length, ◌≤◌}
+use Rattle.std.proofs.lemmas.Bool.{false≢true, lt-ltb, le-ltb}
+use Rattle.std.specs.Prelude.{if◌then◌else◌, not, count_by, is_some, nat_lt}
+use Rattle.std.specs.List.{range_with_len, list_all}
+use Rattle.lwc_base.specs.declared.name.Name.{Name}
+use Rattle.lwc_base.specs.declared.page.PageValue.{PageValue}
+use Rattle.lwc_base.specs.Cells.{page_at, put_page}
+use Rattle.lwc_base.specs.Frames.{is_parting, used}
+use Rattle.lwc_base.specs.Memory.{touched, is_present}
+use Rattle.lwc_base.proofs.Live.{count_on_as, values-put_pages}
+use Rattle.lwc_base.specs.Pages.{bytes_of}
+use Rattle.lwc_base.specs.Store.{Piece, Stored, Absent, Full, Done, bytes_after, plan, put_pages, stored_value, value_at, parting_count, after_store, store}
+use Rattle.lwc_base.specs.World.{World, Counters, count_on}
+
+-- one page after others
+pub put_pages_push : (w : World) (c : Name) (vs : List (ℕ × PageValue)) (p : ℕ) (value : PageValue) →
+    put_pages w c (vs ++ (p, value) ∷ []) ≡ put_page (put_pages w c vs) c p value
+put_pages_push w c [] p value = refl
+put_pages_push w c (v ∷ vs) p value = put_pages_push (put_page w c v.0 v.1) c vs p value
+
+steps_left : (p end : ℕ) → p < end → suc (end - (p + 1)) ≡ end - p
+steps_left p end within = omega arith
+
+-- the plan goes on behind what is planned already
+pub plan_more : (w : World) (c : Name) (job : ℕ) (piece : Piece) (k next p end : ℕ) (front : List (ℕ × PageValue)) (parting : Bool) (value old : PageValue) →
+    p < end → parting ≡ is_parting w (value_at w c p) → old ≡ value_at w c p → next ≡ (if parting then k + 1 else k) →
+    value ≡ stored_value parting (record { job = job; k = k }) old (bytes_after piece p (bytes_of old)) →
+    (front ++ (p, value) ∷ []) ++ plan w c job piece next (range_with_len (p + 1) (end - (p + 1))) ≡ front ++ plan w c job piece k (range_with_len p (end - p))
+plan_more w c job piece k next p end front parting value old within parts stands counts is =
+    let ps : List ℕ = range_with_len (p + 1) (end - (p + 1)) in
+    let next_is : next ≡ (if is_parting w (value_at w c p) then k + 1 else k) = counts ∙ ap (λ (b : Bool). if b then k + 1 else k) parts in
+    let value_is : value ≡ stored_value (is_parting w (value_at w c p)) (record { job = job; k = k }) (value_at w c p) (bytes_after piece p (bytes_of (value_at w c p))) =
+        is ∙ (λ i. stored_value (parts i) (record { job = job; k = k }) (stands i) (bytes_after piece p (bytes_of (stands i)))) in
+    append_assoc front ((p, value) ∷ []) _
+    ∙ (λ i. front ++ ((p, value_is i) ∷ plan w c job piece (next_is i) ps))
+    ∙ ap (λ n. front ++ plan w c job piece k (range_with_len p n)) (steps_left p end within)
+
+answer-absent : (present full : Bool) (done : Stored) → present ≡ false → (if not present then Absent else (if full then Full else done)) ≡ Absent
+answer-absent true full done absent = absurd (false≢true (sym absent))
+answer-absent false full done absent = refl
+
+answer-full : (present full : Bool) (done : Stored) → present ≡ true → full ≡ true → (if not present then Absent else (if full then Full else done)) ≡ Full
+answer-full true true done there short = refl
+answer-full true false done there short = absurd (false≢true short)
+answer-full false full done there short = absurd (false≢true there)
+
+answer-done : (present full : Bool) (done : Stored) → present ≡ true → full ≡ false → (if not present then Absent else (if full then Full else done)) ≡ done
+answer-done true true done there room = absurd (false≢true (sym room))
+answer-done true false done there room = refl
+answer-done false full done there room = absurd (false≢true there)
+
+-- a store where a touched page is absent
+pub store-absent : (w : World) (c : Name) (job : ℕ) (piece : Piece) → is_present w c piece.at (length piece.bytes) ≡ false → store w c job piece ≡ Absent
+unfolding store
+store-absent w c job piece absent = answer-absent (is_present w c piece.at (length piece.bytes)) (nat_lt w.frames (used w + parting_count w c piece)) (Done (after_store w c job piece)) absent
+
+-- a store that finds too few frames
+pub store-full : (w : World) (c : Name) (job : ℕ) (piece : Piece) → is_present w c piece.at (length piece.bytes) ≡ true →
+    w.frames < used w + parting_count w c piece → store w c job piece ≡ Full
+unfolding store
+store-full w c job piece there short = answer-full (is_present w c piece.at (length piece.bytes)) (nat_lt w.frames (used w + parting_count w c piece)) (Done (after_store w c job piece)) there (lt-ltb w.frames (used w + parting_count w c piece) short)
+
+-- a store that is done
+pub store-done : (w : World) (c : Name) (job : ℕ) (piece : Piece) → is_present w c piece.at (length piece.bytes) ≡ true →
+    used w + parting_count w c piece ≤ w.frames → store w c job piece ≡ Done (after_store w c job piece)
+unfolding store
+store-done w c job piece there room = answer-done (is_present w c piece.at (length piece.bytes)) (nat_lt w.frames (used w + parting_count w c piece)) (Done (after_store w c job piece)) there (le-ltb w.frames (used w + parting_count w c piece) room)
+
+-- whether the touched pages are present, told of the list of them
+pub is_present-touched : (w : World) (c : Name) (at count : ℕ) (ps : List ℕ) (b : Bool) → ps ≡ touched at count →
+    b ≡ list_all (λ p. is_some (page_at w c p)) ps → is_present w c at count ≡ b
+unfolding is_present
+is_present-touched w c at count ps b touches is = sym (is ∙ ap (list_all (λ p. is_some (page_at w c p))) touches)
+
+-- how many of the touched pages part, told of the list of them
+pub parting_count-touched : (w : World) (c : Name) (piece : Piece) (ps : List ℕ) (n : ℕ) → ps ≡ touched piece.at (length piece.bytes) →
+    n ≡ count_by (λ p. is_parting w (value_at w c p)) ps → n ≡ parting_count w c piece
+unfolding parting_count
+parting_count-touched w c piece ps n touches is = is ∙ ap (count_by (λ p. is_parting w (value_at w c p))) touches
+
+-- the world once all values are put, and the tags are counted
+pub after_store-steps : (w put counted : World) (c : Name) (job : ℕ) (piece : Piece) (ps : List ℕ) (values : List (ℕ × PageValue)) (n : Counters) (parting : ℕ) →
+    ps ≡ touched piece.at (length piece.bytes) → values ≡ plan w c job piece (w.next job).tags ps → put ≡ put_pages w c values →
+    w.next job ≡ n → parting ≡ parting_count w c piece →
+    counted ≡ count_on put job (λ _. record n { tags = n.tags + parting }) → counted ≡ after_store w c job piece
+unfolding after_store
+after_store-steps w put counted c job piece ps values n parting touches plans puts had parts counts =
+    let planned : List (ℕ × PageValue) = plan w c job piece (w.next job).tags (touched piece.at (length piece.bytes)) in
+    let put_is : put ≡ put_pages w c planned = puts ∙ ap (put_pages w c) (plans ∙ ap (plan w c job piece (w.next job).tags) touches) in
+    let change : Counters → Counters = λ m. record m { tags = m.tags + parting_count w c piece } in
+    counts
+    ∙ (λ i. count_on (put_is i) job (λ _. record n { tags = n.tags + parts i }))
+    ∙ count_on_as (put_pages w c planned) job change _ (ap change (ap (λ (next : ℕ → Counters). next job) (values-put_pages w c planned).next ∙ had))

@@ -1,0 +1,35 @@
+//! `lwcrun`: runs a guest image under a schedule, and prints what it did.
+#![tactic(auto)]
+
+use lwc_io::{OpenGate, RealFiles, RealSink};
+use lwcrun_core::{ExitStatus, lwcrun};
+use std::env;
+use std::io::{self, ErrorKind};
+use std::process::ExitCode;
+
+#[cfg(test)]
+mod tests;
+
+/// The words of the line, the program's name first.
+fn words<R: Env + AllocGlobal>(rt: &R) -> io::Result<Vec<String>> {
+    Ok(env::args(rt)?.collect(rt.alloc())?)
+}
+
+/// The words of the line, or none where they are not text: a line of no words is not accepted.
+fn words_or_none<R: Env + AllocGlobal>(rt: &R) -> io::Result<Vec<String>> {
+    match words(rt) {
+        Err(error) if error.kind() != ErrorKind::OutOfMemory => Ok(Vec::new(rt.alloc())),
+        words => words,
+    }
+}
+
+fn main(rt: HostRuntime) -> ExitCode {
+    let mut out = RealSink::new(rt.stdout());
+    let mut err = RealSink::new(rt.stderr());
+    let mut files = RealFiles::new(rt);
+    let status = match words_or_none(&rt) {
+        Ok(words) => lwcrun(&rt, rt.alloc(), words.as_slice(), &mut files, &mut out, &mut err, &OpenGate),
+        Err(_) => ExitStatus::NoMemory,
+    };
+    ExitCode::from(status.number())
+}

@@ -1,0 +1,25 @@
+use guest_image::ImageRule;
+
+/// Why an input was refused.
+#[derive(Clone, Copy, Debug, PartialEq, Eq)]
+pub enum Rejection {
+    /// The image is not in its grammar or limits: the rule, and the offset where it is broken first.
+    Image { rule: ImageRule, at: u64 },
+    /// The image has more pages than there are frames.
+    TooLarge { pages: u32, frames: u32 },
+}
+
+/// How a call ends.
+#[derive(Clone, Copy, Debug)]
+pub enum Ending<'a> {
+    /// All was read, run and written.
+    Done,
+    NoMemory,
+    /// The line is not accepted.
+    Usage,
+    /// A fetch of the file of this name failed.
+    Unread(&'a str),
+    /// A write failed.
+    Unwritten,
+    Refused(Rejection),
+}

@@ -1,0 +1,41 @@
+ghost use Rattle.std.specs.Prelude.{◌≡◌, ◌≤◌, ℕ, List};
+ghost use Rattle.lwcrun_core.specs.Images.{image_of};
+ghost use Rattle.lwcrun_core.specs.Parts.{ReadsBy};
+ghost use Rattle.lwcrun_core.specs.Views.{found};
+
+use crate::ending::{Ending, Rejection};
+use crate::reading::{Unread, read_whole};
+use guest_image::{Image, ImageFault, ImageRule, read_image};
+use lwc_io::Files;
+use std::alloc::Global;
+
+/// How many bytes a file of an image may have.
+const IMAGE_LIMIT: usize = 8_388_608;
+
+/// The image in the file of that name, or how the call ends without it.
+pub fn image_in<'a, F: Files>(
+    alloc: Global,
+    files: &mut F,
+    name: &'a str,
+) -> Result<Image, Ending<'a>>
+    ensures reads { ReadsBy image_of (F.file files.old) name.now (F.faults files.old) (F.faults files.new) (found (λ image. image) result) }
+    ensures same { F.file files.new ≡ F.file files.old }
+    ensures never_falls { (q : List ℕ) → F.faults files.old q ≤ F.faults files.new q }
+{
+    let bytes = match read_whole(alloc, files, name, IMAGE_LIMIT) {
+        Ok(bytes) => bytes,
+        Err(Unread::OutOfMemory) => return Err(Ending::NoMemory),
+        Err(Unread::Failed) => return Err(Ending::Unread(name)),
+        Err(Unread::TooLong) => {
+            return Err(Ending::Refused(Rejection::Image {
+                rule: ImageRule::TooLong,
+                at: IMAGE_LIMIT as u64,
+            }));
+        }
+    };
+    match read_image(alloc, &bytes) {
+        Ok(image) => Ok(image),
+        Err(ImageFault::OutOfMemory) => Err(Ending::NoMemory),
+        Err(ImageFault::Refused { rule, at }) => Err(Ending::Refused(Rejection::Image { rule, at })),
+    }
+}
