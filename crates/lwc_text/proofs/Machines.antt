@@ -1,0 +1,118 @@
+-- What a run leaves of a machine, and its lines one after another.
+use Rattle.std.proofs.Common.{◌≡◌, ℕ, ◌≤◌, ◌+◌, refl, sym, ap, ◌∙◌, true, List, [], ◌∷◌, ◌++◌, length, Option, Some, None, suc, zero, take, ⊎_elim, arith, add-one, append-nil, append_assoc}
+use Rattle.std.specs.Prelude.{slice_get}
+use Rattle.std.specs.FinMap as fm
+use Rattle.std.specs.List.{enumerate_from, flat_map, range_with_len}
+use Rattle.std.specs.Option.{option_map_or}
+use Rattle.std.proofs.lemmas.Cmp.{eq_by_cmp_equiv}
+use Rattle.std.proofs.lemmas.List.{length-map, length-set, take_more, take_all}
+use Rattle.std.proofs.lemmas.List.Concat.{flat_map-append}
+use Rattle.std.proofs.lemmas.List.FromFn.{length-enumerate_from}
+use Rattle.std.proofs.lemmas.Map.Views.{list_any-from_Contains}
+use Rattle.std.proofs.lemmas.Option.{slice_get_cases, slice_get_within, get_or_from_slice_get}
+use Rattle.kernel_core.specs.Kernel.{History, machine_of, view_of}
+use Rattle.kernel_core.specs.Machine.{Machine}
+use Rattle.kernel_core.specs.Runs.{run}
+use Rattle.kernel_core.specs.Start.{first_thread, first_threads, start}
+use Rattle.kernel_core.specs.Step.{Acted, step, step_at, step_of, with_acted}
+use Rattle.kernel_core.specs.declared.thread.Thread.{Thread}
+use Rattle.kernel_core.specs.declared.thread.ThreadView.{ThreadView}
+use Rattle.lwc_base.proofs.Orders.{name_cmp-total}
+use Rattle.lwc_base.specs.Summaries.{summary_of}
+use Rattle.lwc_base.specs.World.{World}
+use Rattle.lwc_base.specs.declared.name.Name.{Name}
+use Rattle.lwc_base.specs.declared.size.Summary.{Summary}
+use Rattle.lwc_text.specs.Lines.{context_line, thread_lines}
+use Rattle.lwc_text.specs.Report.{thread_at}
+
+-- as many threads as before, and nothing written to the console
+record Keeps (m n : Machine) : Type 0 where
+  threads : length n.threads ≡ length m.threads
+  console : n.console ≡ m.console
+
+acted_keeps : (m : Machine) (t : ℕ) (done : Option Acted) → Keeps m (with_acted m t done)
+acted_keeps m t None = record { threads = refl; console = refl }
+acted_keeps m t (Some done) = record { threads = length-set m.threads t done.thread; console = refl }
+
+step_at_keeps : (m : Machine) (t : ℕ) (found : Option Thread) → Keeps m (step_at m t found)
+step_at_keeps m t None = record { threads = refl; console = refl }
+step_at_keeps m t (Some x) = acted_keeps m t (step_of m.world m.text x x.status)
+
+step_keeps : (m : Machine) (t : ℕ) → Keeps m (step m t)
+unfolding step
+step_keeps m t = step_at_keeps m t (slice_get m.threads t)
+
+run_keeps : (m : Machine) (ts : List ℕ) → Keeps m (run m ts)
+run_keeps m [] = record { threads = refl; console = refl }
+run_keeps m (t ∷ ts) =
+    let here : Keeps m (step m t) = step_keeps m t in
+    let there : Keeps (step m t) (run (step m t) ts) = run_keeps (step m t) ts in
+    record { threads = there.threads ∙ here.threads; console = there.console ∙ here.console }
+
+-- a run has one thread for each entry of the image
+pub reached_all_threads : (h : History) → length (machine_of h).threads ≡ length h.inputs.image.entries
+unfolding machine_of start first_threads
+reached_all_threads h =
+    (run_keeps (start h.inputs) h.steps).threads
+    ∙ length-map (enumerate_from 0 h.inputs.image.entries) (λ e. first_thread h.inputs.settings.budget e.0 e.1)
+    ∙ length-enumerate_from 0 h.inputs.image.entries
+
+-- a run writes nothing to the console
+pub nothing_written : (h : History) → (machine_of h).console ≡ []
+unfolding machine_of start
+nothing_written h = (run_keeps (start h.inputs) h.steps).console
+
+-- the context of a name among the keys lives
+pub lives : (w : World) (i : ℕ) (c : Name) → slice_get (fm.keys w.contexts) i ≡ Some c → fm.contains_key w.contexts c ≡ true
+lives w i c found =
+    fm.contains_key-keys w.contexts c
+    ∙ list_any-from_Contains (eq_by_cmp_equiv name_cmp-total) c (fm.keys w.contexts) (i, slice_get_within (fm.keys w.contexts) i c found, get_or_from_slice_get (fm.keys w.contexts) i c c found)
+
+-- the last of some pieces
+last_piece : {X : Type 0} (f : X → List ℕ) (xs : List X) (x : X) → flat_map f (xs ++ x ∷ []) ≡ flat_map f xs ++ f x
+last_piece f xs x = flat_map-append f xs (x ∷ []) ∙ ap (λ ys. flat_map f xs ++ ys) (append-nil (f x))
+
+count_on : (a n : ℕ) → range_with_len a (suc n) ≡ range_with_len a n ++ (a + n) ∷ []
+count_on a zero = ap (λ k. k ∷ []) (omega arith)
+count_on a (suc n) = ap (λ l. a ∷ l) (count_on (a + 1) n ∙ ap (λ k. range_with_len (a + 1) n ++ k ∷ []) (omega arith))
+
+-- the lines of one more thread
+pub one_more_thread : (m : Machine) (t : ℕ) (view : ThreadView) (now after : List ℕ) → view_of m t ≡ Some view → now ≡ flat_map (thread_at m) (range_with_len 0 t)
+    → after ≡ now ++ thread_lines t view → after ≡ flat_map (thread_at m) (range_with_len 0 (t + 1))
+one_more_thread m t view now after seen so_far added =
+    let text : thread_at m t ≡ thread_lines t view = ap (λ (o : Option ThreadView). option_map_or (thread_lines t) o []) seen in
+    let next : range_with_len 0 (t + 1) ≡ range_with_len 0 t ++ t ∷ [] = rw add-one (count_on 0 t ∙ ap (λ k. range_with_len 0 t ++ k ∷ []) (omega arith)) in
+    added
+    ∙ ap (λ l. l ++ thread_lines t view) so_far
+    ∙ ap (λ l. flat_map (thread_at m) (range_with_len 0 t) ++ l) (sym text)
+    ∙ sym (last_piece (thread_at m) (range_with_len 0 t) t)
+    ∙ ap (flat_map (thread_at m)) (sym next)
+
+abbrev context_at : World → Name → List ℕ
+context_at w c = context_line c (summary_of w c)
+
+-- the line of one more context
+pub one_more_context : (w : World) (i : ℕ) (c : Name) (s : Summary) (before now after : List ℕ) → Some c ≡ slice_get (fm.keys w.contexts) i → s ≡ summary_of w c
+    → now ≡ before ++ flat_map (context_at w) (take i (fm.keys w.contexts)) → after ≡ now ++ context_line c s
+    → after ≡ before ++ flat_map (context_at w) (take (i + 1) (fm.keys w.contexts))
+one_more_context w i c s before now after named is so_far added =
+    let keys : List Name = fm.keys w.contexts in
+    let found : slice_get keys i ≡ Some c = sym named in
+    let next : take (i + 1) keys ≡ take i keys ++ c ∷ [] =
+    take_more keys i c (slice_get_within keys i c found) ∙ ap (λ x. take i keys ++ x ∷ []) (get_or_from_slice_get keys i c c found) in
+    added
+    ∙ ap (λ (x : Summary). now ++ context_line c x) is
+    ∙ ap (λ l. l ++ context_at w c) so_far
+    ∙ append_assoc before (flat_map (context_at w) (take i keys)) (context_at w c)
+    ∙ ap (λ l. before ++ l) (sym (last_piece (context_at w) (take i keys) c) ∙ ap (flat_map (context_at w)) (sym next))
+
+some_is_not_none : {X : Type 0} (x : X) → Some x ≡ None → ⊥
+some_is_not_none x h = cc
+
+-- the lines of all contexts
+pub all_contexts : (w : World) (i : ℕ) (before now : List ℕ) → slice_get (fm.keys w.contexts) i ≡ None
+    → now ≡ before ++ flat_map (context_at w) (take i (fm.keys w.contexts)) → now ≡ before ++ flat_map (context_at w) (fm.keys w.contexts)
+all_contexts w i before now none so_far =
+    let keys : List Name = fm.keys w.contexts in
+    let past : length keys ≤ i = ⊎_elim (λ p. absurd (some_is_not_none p.0 (sym p.2 ∙ none))) (λ p. p.0) (slice_get_cases keys i).1 in
+    so_far ∙ ap (λ l. before ++ flat_map (context_at w) l) (take_all i keys past)

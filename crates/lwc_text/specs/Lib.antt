@@ -1,0 +1,14 @@
+pub use Rattle.hex.specs.Hex
+pub use Rattle.kernel_core.specs.Kernel
+pub use Rattle.kernel_core.specs.Machine
+pub use Rattle.kernel_core.specs.Runs
+pub use Rattle.kernel_core.specs.Start
+pub use Rattle.lwc_base.specs.Faults
+pub use Rattle.lwc_base.specs.Frames
+pub use Rattle.lwc_base.specs.Summaries
+pub use Rattle.lwc_base.specs.World
+pub mod Rules
+pub mod Inputs
+pub mod Schedules
+pub mod Lines
+pub mod Report

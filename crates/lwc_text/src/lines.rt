@@ -1,0 +1,224 @@
+//! The lines of a report. Each public function appends its lines to a text, and where memory runs out the text is as
+//! it was.
+
+ghost use Rattle.std.specs.Prelude.{◌≡◌, ◌++◌, IfOk, OnOk, OnErr, string_bytes, codes, decimal};
+ghost use Rattle.std.specs.List.{flat_map};
+ghost use Rattle.lwc_text.specs.Lines.{bytes_text, context_line, groups_line, name_text, regs_line, status_text, steps_text, tail_lines, thread_line, thread_lines};
+
+use kernel_core::ThreadView;
+use lwc_base::{Name, OutOfMemory, Summary, ThreadStatus};
+use std::alloc::Global;
+
+/// Appends a text.
+fn append(out: &mut Vec<u8>, text: &str) -> Result<(), OutOfMemory>
+    ensures ok { OnOk result (out.new.items ≡ out.old.items ++ text.now) }
+    ensures err { OnErr result (out.new.items ≡ out.old.items) }
+{
+    out.extend_from_slice(text.as_bytes())?;
+    Ok(())
+}
+
+/// Bytes as lower-case hexadecimal, or a dash.
+#[tactic(auto, unfolding(crate::specs::Lines::bytes_text))]
+fn bytes_text(alloc: Global, bytes: &[u8]) -> Result<String, OutOfMemory>
+    ensures { IfOk result (λ text. string_bytes text ≡ bytes_text bytes.now) }
+{
+    if bytes.is_empty() {
+        return Ok(String::from_str(alloc, "-")?);
+    }
+    Ok(hex::encode(alloc, bytes)?)
+}
+
+/// Steps as hexadecimal digits, or a dash.
+#[tactic(auto, unfolding(crate::specs::Lines::steps_text))]
+fn steps_text(alloc: Global, steps: &[u8]) -> Result<String, OutOfMemory>
+    ensures { IfOk result (λ text. string_bytes text ≡ steps_text steps.now) }
+{
+    if steps.is_empty() {
+        return Ok(String::from_str(alloc, "-")?);
+    }
+    let mut text = String::new(alloc);
+    'steps: for thread in steps {
+        write!(text, "{thread:x}")?;
+    }
+    Ok(text)
+}
+
+/// How a thread stands.
+#[tactic(auto, unfolding(crate::specs::Lines::status_text))]
+fn status_text(alloc: Global, status: ThreadStatus) -> Result<String, OutOfMemory>
+    ensures { IfOk result (λ text. string_bytes text ≡ status_text status) }
+{
+    match status {
+        ThreadStatus::Idle => Ok(String::from_str(alloc, "idle")?),
+        ThreadStatus::Running => Ok(String::from_str(alloc, "running")?),
+        ThreadStatus::Done { code } => Ok(format!(in alloc; "done {code}")?),
+        ThreadStatus::Faulted { fault } => {
+            let number = fault.number();
+            Ok(format!(in alloc; "fault {number}")?)
+        }
+    }
+}
+
+/// A context's name.
+#[tactic(auto, unfolding(crate::specs::Lines::name_text))]
+fn name_text(alloc: Global, name: Name) -> Result<String, OutOfMemory>
+    ensures { IfOk result (λ text. string_bytes text ≡ name_text name) }
+{
+    let Name { job, k } = name;
+    Ok(format!(in alloc; "{job}.{k}")?)
+}
+
+/// The line of a thread.
+#[tactic(auto, unfolding(crate::specs::Lines::thread_line))]
+fn thread_text(
+    alloc: Global,
+    t: u32,
+    status: ThreadStatus,
+    context: Name,
+    pc: u64,
+) -> Result<String, OutOfMemory>
+    ensures { IfOk result (λ line. string_bytes line ≡ thread_line t status context pc) }
+{
+    let status = status_text(alloc, status)?;
+    let context = name_text(alloc, context)?;
+    Ok(format!(in alloc; "thread {t} {status} ctx {context} pc {pc}\n")?)
+}
+
+/// The line of a thread's registers.
+#[tactic(auto, unfolding(crate::specs::Lines::regs_line))]
+fn registers_text(alloc: Global, t: u32, registers: &[u64; 16]) -> Result<String, OutOfMemory>
+    ensures { IfOk result (λ line. string_bytes line ≡ regs_line t registers.now) }
+{
+    let mut line = format!(in alloc; "regs {t}")?;
+    'registers: for value in registers {
+        write!(line, " {value}")?;
+    }
+    line.push_str("\n")?;
+    Ok(line)
+}
+
+/// The two lines of a thread.
+#[tactic(auto, unfolding(crate::specs::Lines::thread_lines))]
+fn thread_texts(alloc: Global, t: u32, view: &ThreadView) -> Result<String, OutOfMemory>
+    ensures { IfOk result (λ lines. string_bytes lines ≡ thread_lines t view.now) }
+{
+    let mut lines = thread_text(alloc, t, view.status, view.context, view.regs.pc)?;
+    let registers = registers_text(alloc, t, &view.regs.r)?;
+    lines.push_str(registers.as_str())?;
+    Ok(lines)
+}
+
+/// Appends the two lines of a thread (`thread_lines`). The one error is want of memory.
+pub fn thread_lines(out: &mut Vec<u8>, t: u32, view: &ThreadView) -> Result<(), OutOfMemory>
+    ensures ok { OnOk result (out.new.items ≡ out.old.items ++ thread_lines t view.now) }
+    ensures err { OnErr result (out.new.items ≡ out.old.items) }
+{
+    let lines = thread_texts(*out.allocator(), t, view)?;
+    append(out, lines.as_str())
+}
+
+/// The line of a context.
+#[tactic(auto, unfolding(crate::specs::Lines::context_line))]
+fn context_text(alloc: Global, name: Name, summary: &Summary) -> Result<String, OutOfMemory>
+    ensures { IfOk result (λ line. string_bytes line ≡ context_line name summary.now) }
+{
+    let name = name_text(alloc, name)?;
+    let Summary { pages, slots, uid } = *summary;
+    Ok(format!(in alloc; "context {name} pages {pages} slots {slots} uid {uid}\n")?)
+}
+
+/// Appends the line of a context (`context_line`). The one error is want of memory.
+pub fn context_line(out: &mut Vec<u8>, name: Name, summary: &Summary) -> Result<(), OutOfMemory>
+    ensures ok { OnOk result (out.new.items ≡ out.old.items ++ context_line name summary.now) }
+    ensures err { OnErr result (out.new.items ≡ out.old.items) }
+{
+    let line = context_text(*out.allocator(), name, summary)?;
+    append(out, line.as_str())
+}
+
+/// Appends the line of how many groups live (`groups_line`). The one error is want of memory.
+#[tactic(auto, unfolding(crate::specs::Lines::groups_line))]
+pub fn groups_line(out: &mut Vec<u8>, groups: u32) -> Result<(), OutOfMemory>
+    ensures ok { OnOk result (out.new.items ≡ out.old.items ++ groups_line groups) }
+    ensures err { OnErr result (out.new.items ≡ out.old.items) }
+{
+    let line = format!(in *out.allocator(); "groups {groups}\n")?;
+    append(out, line.as_str())
+}
+
+/// Appends the last lines (`tail_lines`): what was written to the console, how many frames are in use, the most that
+/// were, and how many steps and which, each a thread's number. The one error is want of memory.
+#[tactic(auto, unfolding(crate::specs::Lines::tail_lines))]
+pub fn tail_lines(
+    out: &mut Vec<u8>,
+    console: &[u8],
+    used: u32,
+    peak: u32,
+    schedule: &[u8],
+) -> Result<(), OutOfMemory>
+    ensures ok { OnOk result (out.new.items ≡ out.old.items ++ tail_lines console.now used peak schedule.now) }
+    ensures err { OnErr result (out.new.items ≡ out.old.items) }
+{
+    let alloc = *out.allocator();
+    let console = bytes_text(alloc, console)?;
+    let steps = schedule.len();
+    let schedule = steps_text(alloc, schedule)?;
+    let lines = format!(in alloc;
+        "console {console}\nused {used}\npeak {peak}\nsteps {steps}\nschedule {schedule}\n"
+    )?;
+    append(out, lines.as_str())
+}
+
+#[cfg(test)]
+mod tests {
+    use super::*;
+    use lwc_base::{Fault, Regs};
+    use std::test::Fail;
+
+    #[test]
+    fn a_thread_has_two_lines(rt: HostRuntime) -> Result<(), Fail> {
+        let context = Name { job: 2, k: 30 };
+        let mut regs = Regs::fresh(3);
+        regs.r[1] = 7;
+        regs.r[15] = u64::MAX;
+        let fault = Fault::NoFrame;
+        for (status, words) in [
+            (ThreadStatus::Idle, "idle"),
+            (ThreadStatus::Running, "running"),
+            (ThreadStatus::Done { code: 9 }, "done 9"),
+            (ThreadStatus::Faulted { fault }, "fault 4"),
+        ] {
+            let view = ThreadView {
+                status,
+                context,
+                regs,
+            };
+            let mut out = Vec::new(rt.alloc());
+            thread_lines(&mut out, 5, &view)?;
+            let want = format!(in rt.alloc();
+                "thread 5 {words} ctx 2.30 pc 3\nregs 5 0 7 0 0 0 0 0 0 0 0 0 0 0 0 0 18446744073709551615\n"
+            )?;
+            assert_eq!(rt; out.as_slice(), want.as_bytes(), "{words}");
+        }
+        Ok(())
+    }
+
+    #[test]
+    fn lines_follow_one_another(rt: HostRuntime) -> Result<(), Fail> {
+        let mut out = Vec::new(rt.alloc());
+        let summary = Summary {
+            pages: 2,
+            slots: 5,
+            uid: 65534,
+        };
+        context_line(&mut out, Name { job: 1, k: 0 }, &summary)?;
+        groups_line(&mut out, 12)?;
+        tail_lines(&mut out, &[0, 0x2a, 0xff], 3, 4, &[0, 10, 15])?;
+        tail_lines(&mut out, &[], 0, 0, &[])?;
+        let want =
+            "context 1.0 pages 2 slots 5 uid 65534\ngroups 12\nconsole 002aff\nused 3\npeak 4\nsteps 3\nschedule 0af\nconsole -\nused 0\npeak 0\nsteps 0\nschedule -\n";
+        assert_eq!(rt; out.as_slice(), want.as_bytes());
+        Ok(())
+    }
+}
