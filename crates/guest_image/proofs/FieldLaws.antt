@@ -155,11 +155,11 @@ header_takes bytes h rest fits e =
     let tt' = count_takes 1 16 d.0.1 t.0.0 t.0.1 td.0.rest_fits t.1 in
     let tu = number_takes t.0.1 u.0.0 u.0.1 tt'.0.rest_fits u.1 in
     let e5 = Takes-then d.0.1 (number t.0.0) t.0.1 (number u.0.0) u.0.1 tt'.0 tu.0 in
-    let e4 = Takes-then c.0.1 (number d.0.0) d.0.1 _ u.0.1 td.0 e5 in
-    let e3 = Takes-then b.0.1 (number c.0.0) c.0.1 _ u.0.1 tc.0 e4 in
-    let e2 = Takes-then a.0.1 (number b.0.0) b.0.1 _ u.0.1 tb.0 e3 in
-    let e1 = Takes-then m.0 (number a.0.0) a.0.1 _ u.0.1 ta.0 e2 in
-    let e0 = Takes-then bytes magic m.0 _ u.0.1 tm e1 in
+    let e4 = Takes-then c.0.1 (number d.0.0) d.0.1 (number t.0.0 ++ number u.0.0) u.0.1 td.0 e5 in
+    let e3 = Takes-then b.0.1 (number c.0.0) c.0.1 (number d.0.0 ++ (number t.0.0 ++ number u.0.0)) u.0.1 tc.0 e4 in
+    let e2 = Takes-then a.0.1 (number b.0.0) b.0.1 (number c.0.0 ++ (number d.0.0 ++ (number t.0.0 ++ number u.0.0))) u.0.1 tb.0 e3 in
+    let e1 = Takes-then m.0 (number a.0.0) a.0.1 (number b.0.0 ++ (number c.0.0 ++ (number d.0.0 ++ (number t.0.0 ++ number u.0.0)))) u.0.1 ta.0 e2 in
+    let e0 = Takes-then bytes magic m.0 (number a.0.0 ++ (number b.0.0 ++ (number c.0.0 ++ (number d.0.0 ++ (number t.0.0 ++ number u.0.0))))) u.0.1 tm e1 in
     subst (λ (y : Header × List ℕ). Takes bytes (header y.0) y.1 × HeaderFits y.0) (ok_is made (h, rest) u.2)
     (e0, record { some = ta.1; instructions = ta.2; pages = tb.2; files = tc.2; slots = td.2; some_thread = tt'.1; threads = tt'.2; uid = tu.1 })
 

@@ -1,5 +1,5 @@
 -- Each list of an image: what is read of it is spelled so and within the limits, and what is spelled so within the limits is read.
-use Rattle.std.proofs.Common.{◌≡◌, ℕ, zero, suc, ◌+◌, ◌^◌, ◌<◌, ◌≤◌, Bool, true, false, ◌&&◌, ltb, eqb, List, [], ◌∷◌, ◌++◌, length, Option, Some, None, Ok, refl, sym, ap, subst, ◌∙◌, arith, All}
+use Rattle.std.proofs.Common.{◌≡◌, ℕ, zero, suc, ◌+◌, ◌^◌, ◌<◌, ◌≤◌, Bool, true, false, cond, ◌&&◌, ltb, eqb, List, [], ◌∷◌, ◌++◌, length, Option, Some, None, Ok, refl, sym, ap, subst, ◌∙◌, arith, All}
 use Rattle.std.specs.Prelude.{IsTrue}
 use Rattle.std.proofs.lemmas.Bool.{and_parts, and_from, ltb-true, lt-ltb, leb-true, le-leb}
 use Rattle.std.proofs.lemmas.List.{get_or_append_left, length-append, map_push, map-append}
@@ -14,7 +14,7 @@ use Rattle.guest_isa.proofs.Inverse.{reading-spelling, spelling-reading}
 use Rattle.guest_image.specs.declared.fault.ImageRule.TheVariants.{BadFile, BadTarget}
 use Rattle.guest_image.specs.declared.image.PageImage.{PageImage}
 use Rattle.guest_image.specs.declared.image.SlotImage.{SlotImage}
-use Rattle.guest_image.specs.Numbers.{is_above, begins, last, rising, ranges, rising_after, ranges_after}
+use Rattle.guest_image.specs.Numbers.{is_above, begins, ranges_with, last, rising, ranges, rising_after, ranges_after}
 use Rattle.guest_image.specs.Limits.{page_limit, range_limit, content_limit, stays_inside, page_numbers, slot_numbers, content, ArePages, AreFiles, AreSlots}
 use Rattle.guest_image.specs.Spelling.{number, flag, page, file, slot}
 use Rattle.guest_image.specs.Reading.{stop, bytes_at, number_at, number_where, checked, instruction_at, page_number_at, page_at, public_at, length_at, file_at, slot_number_at, slot_file_at, slot_at, entry_at}
@@ -38,7 +38,11 @@ rising-front before (n ∷ ns) ms e =
 ranges-front : (before : Option ℕ) (ns ms : List ℕ) → ranges_after before ns ≤ ranges_after before (ns ++ ms)
 unfolding ranges_after
 ranges-front before [] ms = omega arith
-ranges-front before (n ∷ ns) ms = let rest = ranges-front (Some n) ns ms in omega arith
+ranges-front before (n ∷ ns) ms = either (begins before n) (ranges_after (Some n) ns) (ranges_after (Some n) (ns ++ ms)) (ranges-front (Some n) ns ms)
+  where
+    either : (b : Bool) (j k : ℕ) → j ≤ k → cond b (j + 1) j ≤ cond b (k + 1) k
+    either true j k le = omega arith
+    either false j k le = le
 
 -- ---- instructions
 
@@ -87,7 +91,7 @@ code_reads count = record {
 record PageFits (before : Option ℕ) (so_far : ℕ) (p : PageImage) : Type 0 where
   number : p.number < page_limit
   above : is_above before p.number ≡ true
-  ranges : so_far + begins before p.number ≤ range_limit
+  ranges : ranges_with so_far before p.number ≤ range_limit
   whole : length p.bytes ≡ 4096
 
 page_takes : (last : Option ℕ) (ranges : ℕ) (bytes : List ℕ) (p : PageImage) (rest : List ℕ) → IsBytes bytes → page_at last ranges bytes ≡ Ok (p, rest) → Takes bytes (page p) rest × PageFits last ranges p
@@ -182,8 +186,8 @@ file_takes before bytes f rest fits e =
     let td = bytes_take c.0.0 c.0.1 d.0.0 d.0.1 tc.0.rest_fits d.1 in
     let e2 = Takes-then b.0.1 (number c.0.0) c.0.1 d.0.0 d.0.1 tc.0 td.0 in
     let e2' : Takes b.0.1 (number (length d.0.0) ++ d.0.0) d.0.1 = subst (λ (n : ℕ). Takes b.0.1 (number n ++ d.0.0) d.0.1) (sym td.1) e2 in
-    let e1 = Takes-then a.0.1 (flag b.0.0) b.0.1 _ d.0.1 tb e2' in
-    let e0 = Takes-then bytes (number a.0.0) a.0.1 _ d.0.1 ta.0 e1 in
+    let e1 = Takes-then a.0.1 (flag b.0.0) b.0.1 (number (length d.0.0) ++ d.0.0) d.0.1 tb e2' in
+    let e0 = Takes-then bytes (number a.0.0) a.0.1 (flag b.0.0 ++ (number (length d.0.0) ++ d.0.0)) d.0.1 ta.0 e1 in
     let room : before + length d.0.0 ≤ content_limit = subst (λ (n : ℕ). before + n ≤ content_limit) (sym td.1) (leb-true _ _ tc.2) in
     let made : FileImage × List ℕ = (record { owner = a.0.0; public = b.0.0; bytes = d.0.0 }, d.0.1) in
     subst (λ (y : FileImage × List ℕ). Takes bytes (file y.0) y.1 × FileFits before y.0) (ok_is made (f, rest) d.2) (e0, record { owner = ta.1; room = room })

@@ -1,15 +1,19 @@
 -- Numbers that stand one after another: whether they rise, and how many ranges they make.
-use Rattle.std.specs.Prelude.{ℕ, ◌+◌, Bool, true, ◌&&◌, nat_lt, ◌==◌, if◌then◌else◌, List, [], ◌∷◌, Option, Some, None}
+use Rattle.std.specs.Prelude.{ℕ, ◌+◌, Bool, true, not, ◌&&◌, nat_lt, ◌==◌, if◌then◌else◌, List, [], ◌∷◌, Option, Some, None}
 
 -- whether n is above the number before it, if there is one
 abbrev pub is_above : Option ℕ → ℕ → Bool
 is_above None n = true
 is_above (Some m) n = nat_lt m n
 
--- 1 where n begins a range, and 0 where it comes directly after the number before it
-abbrev pub begins : Option ℕ → ℕ → ℕ
-begins None n = 1
-begins (Some m) n = if n == m + 1 then 0 else 1
+-- whether n begins a range: it doesn't come directly after the number before it
+abbrev pub begins : Option ℕ → ℕ → Bool
+begins None n = true
+begins (Some m) n = not (n == m + 1)
+
+-- so many ranges, and one more where n begins one
+abbrev pub ranges_with : ℕ → Option ℕ → ℕ → ℕ
+ranges_with ranges before n = if begins before n then ranges + 1 else ranges
 
 -- the last number, and before it stands what is given
 unfoldable pub last_after : Option ℕ → List ℕ → Option ℕ
@@ -24,7 +28,7 @@ rising_after before (n ∷ ns) = is_above before n && rising_after (Some n) ns
 -- how many numbers begin a range
 unfoldable pub ranges_after : Option ℕ → List ℕ → ℕ
 ranges_after before [] = 0
-ranges_after before (n ∷ ns) = begins before n + ranges_after (Some n) ns
+ranges_after before (n ∷ ns) = ranges_with (ranges_after (Some n) ns) before n
 
 -- the last of the numbers
 abbrev pub last : List ℕ → Option ℕ

@@ -15,7 +15,7 @@ use Rattle.guest_image.specs.declared.header.Header.{Header}
 use Rattle.guest_image.specs.declared.image.Image.{Image}
 use Rattle.guest_image.specs.declared.image.PageImage.{PageImage}
 use Rattle.guest_image.specs.declared.image.SlotImage.{SlotImage}
-use Rattle.guest_image.specs.Numbers.{is_above, begins, last, ranges}
+use Rattle.guest_image.specs.Numbers.{is_above, ranges_with, last, ranges}
 use Rattle.guest_image.specs.Limits.{page_limit, file_limit, range_limit, content_limit, stays_inside, page_numbers, slot_numbers, content}
 
 infixl 10 ◌>>=◌
@@ -90,7 +90,7 @@ instruction_at count bytes = do
 
 -- a page's number: it is below the limit, above the last one, and begins no range too many
 abbrev pub page_number_at : Option ℕ → ℕ → List ℕ → Result (ℕ × List ℕ) Stop
-page_number_at last ranges = number_where (λ n. nat_lt n page_limit && is_above last n && nat_le (ranges + begins last n) range_limit) BadPage
+page_number_at last ranges = number_where (λ n. nat_lt n page_limit && is_above last n && nat_le (ranges_with ranges last n) range_limit) BadPage
 
 -- a page after others: what the last number and the ranges are before it
 unfoldable pub page_at : Option ℕ → ℕ → List ℕ → Result (PageImage × List ℕ) Stop

@@ -4,7 +4,7 @@ ghost use Rattle.std.specs.Prelude.{◌≡◌, ◌≤◌, IfOk};
 ghost use Rattle.guest_image.specs.Reading.{Gives, instructions_at, pages_at, files_at, slots_at, entries_at};
 
 use crate::image::{PageImage, SlotImage};
-use crate::parts::{begins, entry_of, file_of, instruction_of, page_of, slot_of};
+use crate::parts::{entry_of, file_of, instruction_of, page_of, ranges_with, slot_of};
 use crate::stop::ReadError;
 use guest_isa::Text;
 use lwc_base::{FileImage, Sequence};
@@ -41,7 +41,7 @@ pub(crate) fn pages_of(
     let mut rest = bytes;
     for _ in 0..count {
         let (page, after) = page_of(alloc, last, ranges, rest)?;
-        ranges += begins(last, u32::from(page.number));
+        ranges = ranges_with(ranges, last, u32::from(page.number));
         last = Some(page.number);
         pages.push(page)?;
         rest = after;

@@ -2,7 +2,7 @@
 
 ghost use Rattle.std.specs.Prelude.{◌≡◌, ◌+◌, ◌≤◌, length, IfOk};
 ghost use Rattle.guest_isa.specs.Instructions.{IsInstruction};
-ghost use Rattle.guest_image.specs.Numbers.{is_above, begins};
+ghost use Rattle.guest_image.specs.Numbers.{is_above, begins, ranges_with};
 ghost use Rattle.guest_image.specs.Limits.{stays_inside, content_limit, range_limit};
 ghost use Rattle.guest_image.specs.Reading.{Gives, instruction_at, page_number_at, page_at, public_at, length_at, file_at, slot_number_at, slot_file_at, slot_at, entry_at};
 
@@ -54,13 +54,25 @@ fn is_above(last: Option<u16>, number: u32) -> bool
     }
 }
 
-// 1 where a number begins a range, and else 0.
-pub(crate) fn begins(last: Option<u16>, number: u32) -> u16
+// Whether a number begins a range: it doesn't come directly after the number before it.
+fn begins(last: Option<u16>, number: u32) -> bool
     ensures { result ≡ begins last number }
 {
     match last {
-        None => 1,
-        Some(last) => { if number == u32::from(last) + 1 { 0 } else { 1 } }
+        None => true,
+        Some(last) => number != u32::from(last) + 1,
+    }
+}
+
+// So many ranges, and one more where a number begins one.
+pub(crate) fn ranges_with(ranges: u16, last: Option<u16>, number: u32) -> u16
+    requires { ranges ≤ range_limit }
+    ensures { result ≡ ranges_with ranges last number }
+{
+    if begins(last, number) {
+        ranges + 1
+    } else {
+        ranges
     }
 }
 
@@ -69,10 +81,10 @@ pub(crate) fn begins(last: Option<u16>, number: u32) -> u16
 fn page_number_of(last: Option<u16>, ranges: u16, bytes: &[u8]) -> Result<(u16, &[u8]), ReadError>
     requires { ranges ≤ range_limit }
     ensures given { Gives (λ x. (x.0, x.1.now)) result (page_number_at last ranges bytes.now) }
-    ensures room { IfOk result (λ x. ranges + begins last x.0 ≤ range_limit) }
+    ensures room { IfOk result (λ x. ranges_with ranges last x.0 ≤ range_limit) }
 {
     let (number, rest) = number_of(bytes)?;
-    let ranges = ranges + begins(last, number);
+    let ranges = ranges_with(ranges, last, number);
     if number < PAGE_LIMIT && is_above(last, number) && ranges <= RANGE_LIMIT {
         Ok((number as u16, rest))
     } else {
@@ -90,7 +102,7 @@ pub(crate) fn page_of(
 ) -> Result<(PageImage, &[u8]), ReadError>
     requires { ranges ≤ range_limit }
     ensures given { Gives (λ x. (x.0, x.1.now)) result (page_at last ranges bytes.now) }
-    ensures room { IfOk result (λ x. ranges + begins last x.0.number ≤ range_limit) }
+    ensures room { IfOk result (λ x. ranges_with ranges last x.0.number ≤ range_limit) }
 {
     let (number, rest) = page_number_of(last, ranges, bytes)?;
     let (field, rest) = bytes_of(PAGE_BYTES, rest)?;

@@ -1,3 +1,4 @@
+pub mod Begun
 pub mod Kernel
 pub mod OneContext
 pub mod OnePage

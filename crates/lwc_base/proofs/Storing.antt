@@ -31,7 +31,7 @@ plan_more w c job piece k next p end front parting value old within parts stands
     let ps : List ℕ = range_with_len (p + 1) (end - (p + 1)) in
     let next_is : next ≡ (if is_parting w (value_at w c p) then k + 1 else k) = counts ∙ ap (λ (b : Bool). if b then k + 1 else k) parts in
     let value_is : value ≡ stored_value (is_parting w (value_at w c p)) (record { job = job; k = k }) (value_at w c p) (bytes_after piece p (bytes_of (value_at w c p))) =
-        is ∙ (λ i. stored_value (parts i) (record { job = job; k = k }) (stands i) (bytes_after piece p (bytes_of (stands i)))) in
+    is ∙ (λ i. stored_value (parts i) (record { job = job; k = k }) (stands i) (bytes_after piece p (bytes_of (stands i)))) in
     append_assoc front ((p, value) ∷ []) _
     ∙ (λ i. front ++ ((p, value_is i) ∷ plan w c job piece (next_is i) ps))
     ∙ ap (λ n. front ++ plan w c job piece k (range_with_len p n)) (steps_left p end within)

@@ -7,6 +7,8 @@ use Rattle.lwcrun_core.specs.Parts.{Found, ReadsBy}
 use Rattle.lwcrun_core.specs.Parts as parts
 use Rattle.lwcrun_core.specs.Plans.{Plan, Told, LeadsTo, ComesTo, accepted}
 use Rattle.lwcrun_core.specs.Plans as plans
+use Rattle.lwcrun_core.specs.Views.{around}
+use Rattle.lwcrun_core.specs.Writing.{SentInPart}
 
 module _ {A R W : Type 0} (IsText : W → List ℕ → Type 0) (grammar : List ℕ → Result A R) (name : List ℕ) (next : A → Plan R W) where
   -- a file is read by the grammar, and its value says how to go on
@@ -46,3 +48,24 @@ since IsText o p ends.Usage faults earlier h = h
 since IsText o p (ends.Unread asked) faults earlier h = (h.0, Rose-since _ _ _ (earlier asked) h.1, h.2)
 since IsText o p ends.Unwritten faults earlier h = h
 since IsText o p (ends.Refused refusal) faults earlier h = h
+
+module _ {A R W : Type 0} (IsText : W → List ℕ → Type 0) (grammar : List ℕ → Result A R) (name : List ℕ) (next : A → Plan R W) where
+  -- a file whose value was found goes on to the end of what follows from it, from where the reading of it left the files
+  pub reads_on : (told told_mid : Told) (faults faults_mid faults_now : List ℕ → ℕ) (out out_now : Option (List ℕ)) (out_faults out_faults_now : ℕ) (x : A) (e : End R) →
+      ReadsBy grammar told name faults faults_mid (parts.Value x) → told_mid ≡ told → ((q : List ℕ) → faults q ≤ faults_mid q) →
+      Ended IsText (around told_mid faults_mid faults_now out out_now out_faults out_faults_now) (next x) e →
+      Ended IsText (around told faults faults_now out out_now out_faults out_faults_now) (reading IsText grammar name next) e
+  unfolding ReadsBy
+  reads_on told told_mid faults faults_mid faults_now out out_now out_faults out_faults_now x e h same earlier ended =
+      goes_on IsText grammar name next _ e x h.0 h.1 h.2
+      (since IsText _ (next x) e faults earlier (subst (λ t. Ended IsText (around t faults_mid faults_now out out_now out_faults out_faults_now) (next x) e) same ended))
+
+-- a work's text was written
+pub writes : (R : Type 0) {W : Type 0} (IsText : W → List ℕ → Type 0) (o : Outside) (work : W) (text : List ℕ) → IsText work text → o.out_now ≡ grown o.out text → Ended {R = R} IsText o (plans.Write work) ends.Done
+unfolding Ended
+writes R IsText o work text is grew = (work, refl, (text, is, grew))
+
+-- a work's text was not written whole
+pub writes_in_part : (R : Type 0) {W : Type 0} (IsText : W → List ℕ → Type 0) (o : Outside) (work : W) (text : List ℕ) → IsText work text → SentInPart o.out o.out_now text → Rose o.out_faults o.out_faults_now → Ended {R = R} IsText o (plans.Write work) ends.Unwritten
+unfolding Ended
+writes_in_part R IsText o work text is cut rose = (work, refl, (text, is, cut), rose)

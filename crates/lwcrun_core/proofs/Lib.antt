@@ -1,6 +1,9 @@
+pub mod Answered
 pub mod Decimals
-pub mod Follows
 pub mod Fetches
+pub mod Frames
+pub mod Follows
 pub mod Outputs
 pub mod Promises
 pub mod Refusals
+pub mod Replays

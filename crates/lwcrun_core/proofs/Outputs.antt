@@ -12,9 +12,9 @@ grown-grown None text at n = refl
 grown-grown (Some xs) text at n = ap Some (append_assoc xs _ _ ∙ ap (λ ys. xs ++ ys) (sym (take-add at n text)))
 
 -- nothing grown
-pub grown-nothing : (before : Option (List ℕ)) → before ≡ grown before []
-grown-nothing None = refl
-grown-nothing (Some xs) = grind (arith, common_steps)
+pub grown_nothing : (before : Option (List ℕ)) → before ≡ grown before []
+grown_nothing None = refl
+grown_nothing (Some xs) = grind (arith, common_steps)
 
 -- the first `at` bytes of a text have been taken, and no count of faults fell
 pub record SentSoFar (before now : Option (List ℕ)) (faults faults_now at : ℕ) (text : List ℕ) : Type 0 where

@@ -1,10 +1,13 @@
 pub use Rattle.lwc_io.specs.Outside
+pub mod Calls
 pub mod Ends
+pub mod Headline
 pub mod Images
 pub mod Lines
 pub mod Numbers
 pub mod Parts
 pub mod Plans
 pub mod Reading
+pub mod Statuses
 pub mod Views
 pub mod Writing

@@ -1,10 +1,17 @@
 //! The call behind the program: it reads a line, the files that the line names, runs what they ask for, and writes the report.
 #![tactic(auto)]
 
+mod call;
 mod ending;
 mod inputs;
 mod line;
 mod numbers;
 mod reading;
-mod settings;
+mod replaying;
+mod saying;
+mod status;
 mod writing;
+
+pub use call::lwcrun;
+pub use line::{Line, LineFault, read_line};
+pub use status::ExitStatus;

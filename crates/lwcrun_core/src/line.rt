@@ -3,7 +3,7 @@ ghost use Rattle.lwcrun_core.specs.Lines as Command;
 ghost use Rattle.lwcrun_core.specs.Lines.{IsSettings, asked_by, settings_asked, command_of, settings_of, both_settings};
 
 use crate::numbers::number_within;
-use crate::settings::{Job, Settings};
+use kernel_core::{Job, Settings};
 use std::alloc::Global;
 
 /// What a line asks for.

@@ -80,11 +80,11 @@ pub change_context-held : (size : WorldSize) (held new : Held) (counts : List Co
 unfolding change_context world_of
 change_context-held size held new counts c change live name changed =
     sym (ap (changed_context (world_of size (Some held) counts) c change) (found-held size held counts c live)
-        ∙ ap (λ m. record (world_of size (Some held) counts) { contexts = m })
-            (ap (λ q. fm.insert (fm.insert (fm.empty {R = name_cmp}) held.name (context_of held)) q (change (context_of held))) (name_of_live size held counts c live)
-                ∙ insert-one held.name (context_of held) (change (context_of held))
-                ∙ ap (λ q. fm.insert (fm.empty {R = name_cmp}) q (change (context_of held))) (sym name)
-                ∙ ap (fm.insert (fm.empty {R = name_cmp}) new.name) (sym changed)))
+    ∙ ap (λ m. record (world_of size (Some held) counts) { contexts = m })
+    (ap (λ q. fm.insert (fm.insert (fm.empty {R = name_cmp}) held.name (context_of held)) q (change (context_of held))) (name_of_live size held counts c live)
+    ∙ insert-one held.name (context_of held) (change (context_of held))
+    ∙ ap (λ q. fm.insert (fm.empty {R = name_cmp}) q (change (context_of held))) (sym name)
+    ∙ ap (fm.insert (fm.empty {R = name_cmp}) new.name) (sym changed)))
 
 -- what stands under a slot
 pub slot_at-held : (size : WorldSize) (held : Held) (counts : List Counts) (c : Name) (n : ℕ) (d : Descriptor) →
@@ -118,7 +118,7 @@ pub nothing_counted_yet : (size : WorldSize) (counts : List Counts) → counts �
 unfolding world_of empty_world
 nothing_counted_yet size counts nothing =
     let each : (job : ℕ) → get_or counts job (record { contexts = 0; groups = 0; tags = 0 }) ≡ record { contexts = 0; groups = 0; tags = 0 } =
-        λ job. ap (λ l. get_or l job (record { contexts = 0; groups = 0; tags = 0 })) nothing ∙ place_of_replicate size.jobs (record { contexts = 0; groups = 0; tags = 0 }) job in
+    λ job. ap (λ l. get_or l job (record { contexts = 0; groups = 0; tags = 0 })) nothing ∙ place_of_replicate size.jobs (record { contexts = 0; groups = 0; tags = 0 }) job in
     λ i. record (empty_world size.frames size.pages) { next = λ job. counters_of (each job i) }
 
 -- what a job has counted
@@ -133,7 +133,7 @@ pub count_on-counted : (size : WorldSize) (o : Option Held) (counts : List Count
 unfolding world_of count_on
 count_on-counted size o counts job n there =
     let each : (j : ℕ) → counters_of (get_or (set counts job n) j nothing_counted) ≡ cond (eqb j job) (counters_of n) (counters_of (get_or counts j nothing_counted)) =
-        λ j. ap counters_of (place_after_set counts job n j nothing_counted there) ∙ counters_of_choice (eqb j job) n (get_or counts j nothing_counted) in
+    λ j. ap counters_of (place_after_set counts job n j nothing_counted there) ∙ counters_of_choice (eqb j job) n (get_or counts j nothing_counted) in
     λ i. record (world_of size o counts) { next = λ j. each j i }
 
 -- pages that are mapped
@@ -153,8 +153,8 @@ unfolding add_context
 add_context-first w kept counted name x y n none next named same is_kept is_counted =
     let is_next : name ≡ record { job = 0; k = (w.next 0).contexts } = named ∙ ap (λ (m : Counters). record { job = 0; k = m.contexts }) (sym next) in
     let map_is : fm.insert fm.empty name y ≡ fm.insert w.contexts (record { job = 0; k = (w.next 0).contexts }) x =
-        λ i. fm.insert (sym none i) (is_next i) (same i) in
+    λ i. fm.insert (sym none i) (is_next i) (same i) in
     is_counted
     ∙ ap (λ v. count_on v 0 (λ _. counters_of (record n { contexts = n.contexts + 1 }))) (is_kept ∙ ap (λ m. record w { contexts = m }) map_is)
     ∙ count_on_as (record w { contexts = fm.insert w.contexts (record { job = 0; k = (w.next 0).contexts }) x }) 0 (λ m. record m { contexts = m.contexts + 1 }) _
-        (ap (λ (m : Counters). record m { contexts = m.contexts + 1 }) next)
+    (ap (λ (m : Counters). record m { contexts = m.contexts + 1 }) next)

@@ -23,7 +23,7 @@ pub context_of-set_slot : (held : Held) (n : ℕ) (d : Descriptor) → n < lengt
 unfolding context_of held_page
 context_of-set_slot held n d h =
     let slots : (m : ℕ) → Own (get_or (set held.slots n d) m Empty) ≡ cond (eqb m n) (Own d) (Own (get_or held.slots m Empty)) =
-        λ m. ap Own (place_after_set held.slots n d m Empty h) ∙ own_of_choice (eqb m n) d (get_or held.slots m Empty) in
+    λ m. ap Own (place_after_set held.slots n d m Empty h) ∙ own_of_choice (eqb m n) d (get_or held.slots m Empty) in
     λ i. record (context_of held) { slot = λ m. slots m i }
 
 pub context_of-nothing_held : (held : Held) (count : ℕ) → held.pages.items ≡ replicate count None → held.slots ≡ replicate 64 Empty → context_of held ≡ new_context held.uid held.entry

@@ -80,7 +80,7 @@ count_from : {X : Type 0} (p : X → Bool) (front xs : List X) (d : X) (first : 
 count_from p front [] d first at = refl
 count_from p front (x ∷ xs) d first at =
     let later : count_by p xs ≡ count_by (λ n. p (get_or ((front ++ x ∷ []) ++ xs) n d)) (range_with_len (first + 1) (length xs)) =
-        count_from p (front ++ x ∷ []) xs d (first + 1) (length_push front x ∙ ap (λ n. n + 1) at) in
+    count_from p (front ++ x ∷ []) xs d (first + 1) (length_push front x ∙ ap (λ n. n + 1) at) in
     let same : (front ++ x ∷ []) ++ xs ≡ front ++ x ∷ xs = append_assoc front (x ∷ []) xs in
     let here : get_or (front ++ x ∷ xs) first d ≡ x = ap (λ n. get_or (front ++ x ∷ xs) n d) (sym at) ∙ get_or-append_seam front x xs d in
     sum_by-cons (λ y. cond (p y) 1 0) x xs
@@ -102,7 +102,7 @@ summary_of-own w c held pages slots is whole many filled =
     let slot : (n : ℕ) → get_or held.slots n Empty ≡ slot_at w c n = λ n. slot_at-own w c n (context_of held) (get_or held.slots n Empty) is refl in
     let pages_is : pages ≡ count_by (λ p. is_some (page_at w c p)) (range_with_len 0 w.pages) = many ∙ (λ i. count_by (λ p. is_some (page p i)) (range_with_len 0 w.pages)) in
     let slots_is : slots ≡ count_by (λ n. not (is_empty (slot_at w c n))) (range_with_len 0 64) =
-        filled ∙ count_by_places (λ d. not (is_empty d)) held.slots Empty ∙ (λ i. count_by (λ n. not (is_empty (slot n i))) (range_with_len 0 (whole i))) in
+    filled ∙ count_by_places (λ d. not (is_empty d)) held.slots Empty ∙ (λ i. count_by (λ n. not (is_empty (slot n i))) (range_with_len 0 (whole i))) in
     λ i. record { pages = pages_is i; slots = slots_is i; uid = uid_at-own w c (context_of held) held.uid is refl i }
 
 -- a list of one has it first, and nothing after

@@ -72,13 +72,13 @@ one_more_page : (held : Held) (first count total : ℕ) (value : Option PageValu
     set.len (set.from_list {R = tag_cmp} (held_tags held (first + 1) count)) ≡ count_by (has_last_of_tag held total) (range_with_len (first + 1) count) →
     set.len (set.from_list {R = tag_cmp} (tag_of value ++ held_tags held (first + 1) count))
     ≡ cond (list_any (λ tag. not (list_any (has_tag held tag) (range_with_len (first + 1) (total - (first + 1))))) (tag_of value)) 1 0
-        + count_by (has_last_of_tag held total) (range_with_len (first + 1) count)
+    + count_by (has_last_of_tag held total) (range_with_len (first + 1) count)
 one_more_page held first count total None left before = before ∙ omega arith
 one_more_page held first count total (Some Zero) left before = before ∙ omega arith
 one_more_page held first count total (Some (Data tag bytes)) left before =
     set.len-insert tag_cmp-total (set.from_list {R = tag_cmp} (held_tags held (first + 1) count)) tag
     ∙ ap (λ b. cond b (set.len (set.from_list {R = tag_cmp} (held_tags held (first + 1) count))) (set.len (set.from_list {R = tag_cmp} (held_tags held (first + 1) count)) + 1))
-        (contains-held_tags held tag (first + 1) count)
+    (contains-held_tags held tag (first + 1) count)
     ∙ new_where_last (list_any (has_tag held tag) (range_with_len (first + 1) count)) _ _ before
     ∙ ap (λ n. cond (not (list_any (has_tag held tag) (range_with_len (first + 1) n)) || false) 1 0 + count_by (has_last_of_tag held total) (range_with_len (first + 1) count)) (sym left)
 

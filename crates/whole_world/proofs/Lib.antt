@@ -1,4 +1,5 @@
 pub mod Alone
+pub mod BegunWorld
 pub mod Contexts
 pub mod Counting
 pub mod HeldTags

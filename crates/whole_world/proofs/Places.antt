@@ -30,7 +30,7 @@ filled_from f a zero (x ∷ xs) all each = absurd (omega arith)
 filled_from f a (suc n) (x ∷ xs) all each =
     let first : x ≡ f a = each 0 (omega arith) ∙ ap f (add-zero a) in
     let rest : xs ≡ map f (range_with_len (a + 1) n) =
-        filled_from f (a + 1) n xs (omega arith) (λ k h. each (suc k) (omega arith) ∙ ap f (omega arith)) in
+    filled_from f (a + 1) n xs (omega arith) (λ k h. each (suc k) (omega arith) ∙ ap f (omega arith)) in
     λ i. first i ∷ rest i
 
 -- a list is written from its front on: each place below i has what f makes of the old number there, and the others have the old ones
@@ -43,8 +43,8 @@ pub written_more : (f : ℕ → ℕ → ℕ) (old : List ℕ) (i : ℕ) (xs ys :
     ys ≡ set xs i b → b ≡ f i (get_or xs i 0) → IsWrittenBelow f old (i + 1) ys
 written_more f old i xs ys b before there is made = record {
   below = below_more (λ k. get_or ys k 0 ≡ f k (get_or old k 0)) i
-    (λ k h. let other : k ≢ i = omega arith in ap (λ l. get_or l k 0) is ∙ get_or-set_other xs i k b 0 other ∙ before.below k h)
-    (ap (λ l. get_or l i 0) is ∙ get_or-set_same xs i b 0 there ∙ made ∙ ap (f i) (before.above i (omega arith)));
+      (λ k h. let other : k ≢ i = omega arith in ap (λ l. get_or l k 0) is ∙ get_or-set_other xs i k b 0 other ∙ before.below k h)
+      (ap (λ l. get_or l i 0) is ∙ get_or-set_same xs i b 0 there ∙ made ∙ ap (f i) (before.above i (omega arith)));
   above = λ k h. let other : k ≢ i = omega arith in ap (λ l. get_or l k 0) is ∙ get_or-set_other xs i k b 0 other ∙ before.above k (omega arith);
 }
 

@@ -23,7 +23,13 @@ pub struct Held {
 impl Held {
     /// A context as it is made, with no page of so many present.
     #[tactic(auto, unfolding(crate::specs::Copies::context_of, crate::specs::Copies::held_page))]
-    pub fn new(alloc: Global, name: Name, pages: usize, uid: u32, entry: &Regs) -> Result<Held, OutOfMemory>
+    pub fn new(
+        alloc: Global,
+        name: Name,
+        pages: usize,
+        uid: u32,
+        entry: &Regs,
+    ) -> Result<Held, OutOfMemory>
         ensures name { IfOk result (λ held. held.name ≡ name) }
         ensures pages { IfOk result (λ held. vec_len held.pages ≡ pages) }
         ensures context { IfOk result (λ held. context_of held ≡ new_context uid entry.now) }
@@ -42,7 +48,11 @@ impl Held {
     pub fn page(&self, p: usize) -> Option<&PageValue>
         ensures { option_copied result ≡ held_page self.now p }
     {
-        if p < self.pages.len() { self.pages[p].as_ref() } else { None }
+        if p < self.pages.len() {
+            self.pages[p].as_ref()
+        } else {
+            None
+        }
     }
 
     /// How many pages are present.
@@ -51,7 +61,9 @@ impl Held {
         ensures present { result ≡ count_by (λ p. is_some (held_page self.now p)) (range_with_len 0 (vec_len self.now.pages)) }
         ensures few { result ≤ vec_len self.now.pages }
     {
-        (0..self.pages.len()).filter(|p| self.is_present(*p)).count()
+        (0..self.pages.len())
+            .filter(|p| self.is_present(*p))
+            .count()
     }
 
     /// Whether a page is present.

@@ -7,6 +7,8 @@ mod loads;
 mod pages;
 mod store;
 mod tags;
+#[cfg(test)]
+mod tests;
 mod touched;
 mod world;
 

@@ -21,7 +21,11 @@ fn copied_bytes(alloc: Global, value: Option<&PageValue>) -> Result<PageBytes, O
 fn byte_with(at: usize, piece: &[u8], place: usize, old: u8) -> u8
     ensures { result ≡ byte_after (record { at = at; bytes = piece.now }) place old }
 {
-    if at <= place && place - at < piece.len() { piece[place - at] } else { old }
+    if at <= place && place - at < piece.len() {
+        piece[place - at]
+    } else {
+        old
+    }
 }
 
 /// Puts what a piece has of a page into the page's bytes (`bytes_after`).

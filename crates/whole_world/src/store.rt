@@ -29,7 +29,9 @@ impl WholeWorld {
             (range_with_len pages.first (pages.end - pages.first)) }
         ensures few { result ≤ pages.end - pages.first }
     {
-        (pages.first..pages.end).filter(|p| self.is_parting(c, *p)).count()
+        (pages.first..pages.end)
+            .filter(|p| self.is_parting(c, *p))
+            .count()
     }
 
     /// Whether some pages are all present.
@@ -65,7 +67,14 @@ impl WholeWorld {
     }
 
     /// The new value of each page that a piece touches (`plan`). The one error is want of memory.
-    pub(crate) fn plan(&self, c: Name, at: usize, piece: &[u8], job: u32, pages: Touched) -> Result<Vec<(usize, PageValue)>, OutOfMemory>
+    pub(crate) fn plan(
+        &self,
+        c: Name,
+        at: usize,
+        piece: &[u8],
+        job: u32,
+        pages: Touched,
+    ) -> Result<Vec<(usize, PageValue)>, OutOfMemory>
         requires live { IsTrue (is_live (seen self.now) c) }
         requires job { job < (size_of self.now).jobs }
         requires counted { ((seen self.now).next job).tags < 2 ^ 31 }
@@ -78,7 +87,15 @@ impl WholeWorld {
         let mut values = Vec::new(self.alloc);
         for p in pages.first..pages.end {
             let parting = self.is_parting(c, p);
-            let value = new_value(self.alloc, parting, Tag { job, k }, p, at, piece, held.page(p))?;
+            let value = new_value(
+                self.alloc,
+                parting,
+                Tag { job, k },
+                p,
+                at,
+                piece,
+                held.page(p),
+            )?;
             values.push((p, value))?;
             k += u32::from(parting);
         }

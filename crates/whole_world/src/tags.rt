@@ -40,7 +40,9 @@ impl Held {
     pub fn count_of_tag(&self, tag: Tag) -> usize
         ensures { result ≡ count_by (has_tag self.now tag) (range_with_len 0 (vec_len self.now.pages)) }
     {
-        (0..self.pages.len()).filter(|p| self.has_tag_at(*p, tag)).count()
+        (0..self.pages.len())
+            .filter(|p| self.has_tag_at(*p, tag))
+            .count()
     }
 
     /// Whether a store to a page parts it.
@@ -72,6 +74,8 @@ impl Held {
         ensures different { result ≡ count_by (has_last_of_tag self.now (vec_len self.now.pages)) (range_with_len 0 (vec_len self.now.pages)) }
         ensures few { result ≤ vec_len self.now.pages }
     {
-        (0..self.pages.len()).filter(|p| self.is_last_of_tag(*p)).count()
+        (0..self.pages.len())
+            .filter(|p| self.is_last_of_tag(*p))
+            .count()
     }
 }

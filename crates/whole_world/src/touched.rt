@@ -20,6 +20,10 @@ pub fn touched_pages(at: usize, count: usize) -> Touched
     ensures last { result.end ≤ (at + count) / PAGE_BYTES + 1 }
 {
     let first = at / PAGE_BYTES;
-    let end = if count == 0 { first } else { (at + count - 1) / PAGE_BYTES + 1 };
+    let end = if count == 0 {
+        first
+    } else {
+        (at + count - 1) / PAGE_BYTES + 1
+    };
     Touched { first, end }
 }

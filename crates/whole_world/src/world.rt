@@ -108,10 +108,19 @@ impl World for WholeWorld {
 
     fn first(&mut self, uid: u32, entry: &Regs) -> Result<Name, OutOfMemory> {
         let counts = self.counted(0);
-        let name = Name { job: 0, k: counts.contexts };
+        let name = Name {
+            job: 0,
+            k: counts.contexts,
+        };
         let held = Held::new(self.alloc, name, self.size.pages as usize, uid, entry)?;
         self.hold(held);
-        self.set_counted(0, Counts { contexts: counts.contexts + 1, ..counts });
+        self.set_counted(
+            0,
+            Counts {
+                contexts: counts.contexts + 1,
+                ..counts
+            },
+        );
         Ok(name)
     }
 
@@ -146,7 +155,13 @@ impl World for WholeWorld {
         match self.plan(c, at as usize, piece, job, pages) {
             Ok(values) => {
                 self.put_pages(c, values);
-                self.set_counted(job, Counts { tags: counts.tags + parting as u32, ..counts });
+                self.set_counted(
+                    job,
+                    Counts {
+                        tags: counts.tags + parting as u32,
+                        ..counts
+                    },
+                );
                 Ok(())
             }
             Err(OutOfMemory) => Err(StoreFault::OutOfMemory),
@@ -199,41 +214,11 @@ fn nothing_counted(alloc: Global, jobs: u32) -> Result<Vec<Counts>, OutOfMemory>
 {
     let mut counts = Vec::with_capacity(alloc, jobs as usize)?;
     for _ in 0..jobs {
-        counts.push(Counts { contexts: 0, groups: 0, tags: 0 })?;
+        counts.push(Counts {
+            contexts: 0,
+            groups: 0,
+            tags: 0,
+        })?;
     }
     Ok(counts)
-}
-
-#[cfg(test)]
-mod tests {
-    use super::*;
-    use lwc_base::StoreFault;
-    use std::test::Fail;
-
-    const SIZE: WorldSize = WorldSize {
-        frames: 2,
-        contexts: 1,
-        groups: 1,
-        jobs: 2,
-        pages: 4,
-    };
-
-    #[test]
-    fn a_store_over_a_border_parts_both_pages(rt: HostRuntime) -> Result<(), Fail> {
-        let mut world = WholeWorld::open(rt.alloc(), &SIZE)?;
-        let c = world.first(7, &Regs::fresh(3))?;
-        assert_eq!(rt; c, Name { job: 0, k: 0 });
-        world.map(c, Range { from: 0, to: 2 })?;
-        assert_eq!(rt; world.used(), 0);
-        world.store(c, 4092, &[1, 2, 3, 4, 5, 6, 7, 8], 1)?;
-        assert_eq!(rt; world.used(), 2);
-        let mut out = [9; 10];
-        assert!(rt; world.bytes(c, 4091, &mut out));
-        assert_eq!(rt; out, [0, 1, 2, 3, 4, 5, 6, 7, 8, 0]);
-        world.store(c, 4096, &[50], 1)?;
-        assert_eq!(rt; world.used(), 2);
-        assert!(rt; world.bytes(c, 4091, &mut out));
-        assert_eq!(rt; out, [0, 1, 2, 3, 4, 50, 6, 7, 8, 0]);
-        Ok(())
-    }
 }

@@ -19,8 +19,8 @@ loop-preserved c =
     rw c.in_ok-push.ensures.items (record {
       given = goes_on (λ before. page_at (last (page_numbers before)) (ranges (page_numbers before))) c.args.count c.loop.counter c.loop.pages.items c.loop.rest.now c.in_ok-page.page c.in_ok-page.after.now (pages_at c.args.count c.args.bytes.now) c.loop-test.true read c.loop.invariant.given;
       last = sym (last_page c.loop.pages.items c.in_ok-page.page);
-      ranges = rw (page_ranges, ← c.loop.invariant.last, ← c.loop.invariant.ranges, c.begins-ranges.ensures, c.from.ensures) refl;
-      room = rw (c.begins-ranges.ensures, c.from.ensures) c.in_ok-page.ensures.room;
+      ranges = rw (page_ranges, ← c.loop.invariant.last, ← c.loop.invariant.ranges, c.ranges_with-ranges.ensures, c.from.ensures) refl;
+      room = rw (c.ranges_with-ranges.ensures, c.from.ensures) c.in_ok-page.ensures.room;
     })
 
 pub returns : goal.returns

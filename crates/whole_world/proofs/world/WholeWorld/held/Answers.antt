@@ -23,5 +23,5 @@ pub returns-clause-shared : goal.returns-clause-shared
 unfolding seen
 returns-clause-shared c = λ tag.
     rw c.in-Some.is (
-      is_shared_tag-held c.args.self.now.size c.in-Some.held c.args.self.now.counts.items tag
-      ∙ ap (λ n. nat_lt 1 (count_by (has_tag c.in-Some.held tag) (range_with_len 0 n))) (sym (c.args.self.now.whole c.in-Some.held c.in-Some.is)))
+    is_shared_tag-held c.args.self.now.size c.in-Some.held c.args.self.now.counts.items tag
+    ∙ ap (λ n. nat_lt 1 (count_by (has_tag c.in-Some.held tag) (range_with_len 0 n))) (sym (c.args.self.now.whole c.in-Some.held c.in-Some.is)))

@@ -33,13 +33,13 @@ loop-p-preserved c =
     let one : c.from-k.result ≤ 1 = subst (λ n. n ≤ 1) (sym c.from-k.ensures) (at_most_one c.is_parting-parting.result) in
     record {
       planned = ap (λ vs. vs ++ plan (seen c.args.self.now) c.args.c c.args.job (record { at = c.args.at; bytes = c.args.piece.now }) (c.loop-p.k + c.from-k.result) (range_with_len (c.loop-p.p + 1) (c.args.pages.end - (c.loop-p.p + 1)))) c.in_ok-push.ensures.items
-        ∙ plan_more (seen c.args.self.now) c.args.c c.args.job (record { at = c.args.at; bytes = c.args.piece.now }) c.loop-p.k (c.loop-p.k + c.from-k.result) c.loop-p.p c.args.pages.end c.loop-p.values.items
+          ∙ plan_more (seen c.args.self.now) c.args.c c.args.job (record { at = c.args.at; bytes = c.args.piece.now }) c.loop-p.k (c.loop-p.k + c.from-k.result) c.loop-p.p c.args.pages.end c.loop-p.values.items
           c.is_parting-parting.result c.in_ok-value.value (unwrap_or (option_copied c.page.result) Zero)
           (omega (arith, c.loop-p-test.true)) c.is_parting-parting.ensures
           (ap (λ o. unwrap_or o Zero) (c.page.ensures ∙ sym (page_at-held (seen c.args.self.now) c.args.c c.loop-p.p c.held-held.result.now c.held-held.ensures.context)))
           (ap (λ n. c.loop-p.k + n) c.from-k.ensures ∙ counted_on c.is_parting-parting.result c.loop-p.k)
           c.in_ok-value.ensures
-        ∙ c.loop-p.invariant.planned;
+          ∙ c.loop-p.invariant.planned;
       few = omega (arith, one, c.loop-p.invariant.few);
     }
 
@@ -56,4 +56,4 @@ returns c =
     sym (none_left (seen c.args.self.now) c.args.c c.args.job (record { at = c.args.at; bytes = c.args.piece.now }) c.loop-p.k c.loop-p.p c.args.pages.end c.loop-p.values.items c.loop-p-test.false)
     ∙ c.loop-p.invariant.planned
     ∙ ap (λ (n : Counters). plan (seen c.args.self.now) c.args.c c.args.job (record { at = c.args.at; bytes = c.args.piece.now }) n.tags (range_with_len c.args.pages.first (c.args.pages.end - c.args.pages.first)))
-      (sym c.counted-k.ensures)
+    (sym c.counted-k.ensures)

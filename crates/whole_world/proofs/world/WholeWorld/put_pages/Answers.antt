@@ -9,15 +9,15 @@ use Rattle.whole_world.proofs.world.WholeWorld.put_pages.Goals as goal
 pub loop-p-preserved : goal.loop-p-preserved
 loop-p-preserved c = record {
   left = ap (λ w. put_pages w c.args.c c.next.new.self.rest.items) c.put_page.ensures.world
-    ∙ ap (put_pages (seen c.loop-p.self) c.args.c) (sym c.in-Some.ensures.steps.0)
-    ∙ c.loop-p.invariant.left;
+      ∙ ap (put_pages (seen c.loop-p.self) c.args.c) (sym c.in-Some.ensures.steps.0)
+      ∙ c.loop-p.invariant.left;
   live = ap (λ w. is_live w c.args.c) c.put_page.ensures.world
-    ∙ (values-put_page (seen c.loop-p.self) c.args.c c.in-Some.p c.in-Some.value).live c.args.c
-    ∙ c.loop-p.invariant.live;
+      ∙ (values-put_page (seen c.loop-p.self) c.args.c c.in-Some.p c.in-Some.value).live c.args.c
+      ∙ c.loop-p.invariant.live;
   size = c.put_page.ensures.size ∙ c.loop-p.invariant.size;
 }
 
 pub returns-clause-world : goal.returns-clause-world
-returns-clause-world c = 
+returns-clause-world c =
     sym (ap (put_pages (seen c.loop-p.self) c.args.c) (nil_from_length c.loop-p.p-iterator.rest.items (sym c.loop-p.p-iterator.rest.ok.0 ∙ c.in-None.ensures.steps.0)))
     ∙ c.loop-p.invariant.left

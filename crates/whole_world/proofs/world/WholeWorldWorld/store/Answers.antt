@@ -21,7 +21,7 @@ is_full : (c : goal.Then-frames-used) → store (seen c.args.self.now) c.args.c 
 is_full c =
     let there = is_present-touched _ _ _ _ _ _ c.touched_pages-pages.ensures.pages c.are_present.ensures ∙ c.if-not-are_present.false in
     let parts : c.parting_count-parting.result ≡ parting_count (seen c.args.self.now) c.args.c (record { at = c.args.at; bytes = c.args.piece.now }) =
-        parting_count-touched _ _ _ _ _ c.touched_pages-pages.ensures.pages c.parting_count-parting.ensures.parting in
+    parting_count-touched _ _ _ _ _ c.touched_pages-pages.ensures.pages c.parting_count-parting.ensures.parting in
     store-full _ _ _ _ there (omega (arith, parts, c.frames.ensures, c.used.ensures, c.if-frames-used.true))
 
 pub returns-then-frames-used-clause-bad_address : goal.returns-then-frames-used-clause-bad_address
@@ -34,7 +34,7 @@ pub returns-in-Ok-clause-done : goal.returns-in-Ok-clause-done
 returns-in-Ok-clause-done c =
     let there = is_present-touched _ _ _ _ _ _ c.touched_pages-pages.ensures.pages c.are_present.ensures ∙ c.if-not-are_present.false in
     let parts : c.parting_count-parting.result ≡ parting_count (seen c.args.self.now) c.args.c (record { at = c.args.at; bytes = c.args.piece.now }) =
-        parting_count-touched _ _ _ _ _ c.touched_pages-pages.ensures.pages c.parting_count-parting.ensures.parting in
+    parting_count-touched _ _ _ _ _ c.touched_pages-pages.ensures.pages c.parting_count-parting.ensures.parting in
     store-done _ _ _ _ there (omega (arith, parts, c.frames.ensures, c.used.ensures, c.if-frames-used.false))
     ∙ ap Done (sym (after_store-steps _ _ _ _ _ _ _ _ _ _ c.touched_pages-pages.ensures.pages c.in-Ok.ensures c.put_pages.ensures.world c.counted-counts.ensures parts c.set_counted.ensures.world))
 
@@ -49,7 +49,7 @@ would_be_done : (c : goal.In-Err) → store (seen c.args.self.now) c.args.c c.ar
 would_be_done c =
     let there = is_present-touched _ _ _ _ _ _ c.touched_pages-pages.ensures.pages c.are_present.ensures ∙ c.if-not-are_present.false in
     let parts : c.parting_count-parting.result ≡ parting_count (seen c.args.self.now) c.args.c (record { at = c.args.at; bytes = c.args.piece.now }) =
-        parting_count-touched _ _ _ _ _ c.touched_pages-pages.ensures.pages c.parting_count-parting.ensures.parting in
+    parting_count-touched _ _ _ _ _ c.touched_pages-pages.ensures.pages c.parting_count-parting.ensures.parting in
     store-done _ _ _ _ there (omega (arith, parts, c.frames.ensures, c.used.ensures, c.if-frames-used.false))
 
 pub returns-in-Err-clause-bad_address : goal.returns-in-Err-clause-bad_address

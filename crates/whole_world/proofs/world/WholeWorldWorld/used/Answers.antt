@@ -10,9 +10,9 @@ pub returns-in-Some : goal.returns-in-Some
 unfolding seen
 returns-in-Some c =
     rw c.in-Some.is (
-      c.count_of_tags.ensures.different
-      ∙ ap (λ n. count_by (has_last_of_tag c.in-Some.held n) (range_with_len 0 n)) (c.args.self.now.whole c.in-Some.held c.in-Some.is)
-      ∙ sym (used-held c.args.self.now.size c.in-Some.held c.args.self.now.counts.items))
+    c.count_of_tags.ensures.different
+    ∙ ap (λ n. count_by (has_last_of_tag c.in-Some.held n) (range_with_len 0 n)) (c.args.self.now.whole c.in-Some.held c.in-Some.is)
+    ∙ sym (used-held c.args.self.now.size c.in-Some.held c.args.self.now.counts.items))
 
 pub returns-in-None : goal.returns-in-None
 unfolding seen

@@ -1,0 +1,33 @@
+use Rattle.std.proofs.Common.{refl, ap, Err}
+use Rattle.lwcrun_core.specs.Parts.{ReadsBy}
+use Rattle.lwcrun_core.proofs.Fetches.{tells_same}
+use Rattle.lwcrun_core.proofs.Refusals.{too_long_schedule, read_schedule_of, refused_schedule_of}
+use Rattle.lwcrun_core.proofs.inputs.schedule_in.Goals as goal
+
+pub returns-in-Err-OutOfMemory-clause-reads : goal.returns-in-Err-OutOfMemory-clause-reads
+unfolding ReadsBy
+returns-in-Err-OutOfMemory-clause-reads g c = tt
+
+pub returns-in-Err-Failed-clause-reads : goal.returns-in-Err-Failed-clause-reads
+unfolding ReadsBy
+returns-in-Err-Failed-clause-reads g c = (refl, c.in-Err-Failed.ensures.cause (ap Err c.in-Err-Failed.field-0-is))
+
+pub returns-in-Err-TooLong-clause-reads : goal.returns-in-Err-TooLong-clause-reads
+unfolding ReadsBy
+returns-in-Err-TooLong-clause-reads g c =
+    let longer = c.in-Err-TooLong.ensures.too_long (ap Err c.in-Err-TooLong.field-0-is) in
+    (longer.0, longer.1, too_long_schedule _ longer.0 longer.2)
+
+pub returns-in-Ok-read_schedule-clause-reads : goal.returns-in-Ok-read_schedule-clause-reads
+unfolding ReadsBy
+returns-in-Ok-read_schedule-clause-reads g c =
+    (c.deref.result.now, tells_same _ _ _ c.deref.ensures.value c.in-Ok.ensures.bytes, read_schedule_of _ _ _ c.in-Ok-read_schedule.ensures.exact)
+
+pub returns-in-Err-OutOfMemory-read_schedule-clause-reads : goal.returns-in-Err-OutOfMemory-read_schedule-clause-reads
+unfolding ReadsBy
+returns-in-Err-OutOfMemory-read_schedule-clause-reads g c = tt
+
+pub returns-clause-reads : goal.returns-clause-reads
+unfolding ReadsBy
+returns-clause-reads g c =
+    (c.deref.result.now, tells_same _ _ _ c.deref.ensures.value c.in-Ok.ensures.bytes, refused_schedule_of _ _ _ _ _ c.in-Err-Refused.field-0-is c.in-Err-Refused.ensures.exact)

@@ -1,0 +1,18 @@
+use Rattle.std.proofs.Common.{refl, ap, ◌∙◌}
+use Rattle.lwcrun_core.specs.Ends.{Ended}
+use Rattle.lwcrun_core.specs.Headline.{IsText}
+use Rattle.lwcrun_core.specs.declared.ending.Rejection.{Rejection}
+use Rattle.lwcrun_core.proofs.Follows.{writes, writes_in_part}
+use Rattle.lwcrun_core.proofs.replaying.replay_steps.Goals as goal
+
+pub returns-in-Ok-write_whole : goal.returns-in-Ok-write_whole
+returns-in-Ok-write_whole g c told faults faults_now =
+    writes Rejection IsText _ _ _ (c.as_slice.ensures.value ∙ c.in-Ok.ensures) c.in-Ok-write_whole.ensures.sent
+
+pub returns-in-Ok : goal.returns-in-Ok
+returns-in-Ok g c told faults faults_now =
+    writes_in_part Rejection IsText _ _ _ (c.as_slice.ensures.value ∙ c.in-Ok.ensures) c.in-Err-write_whole.ensures.cut c.in-Err-write_whole.ensures.cause
+
+pub returns : goal.returns
+unfolding Ended
+returns g c told faults faults_now = refl
