@@ -25,42 +25,30 @@ use Rattle.lwc_base.specs.declared.size.Summary.{Summary}
 use Rattle.lwc_text.specs.Lines.{context_line, thread_lines}
 use Rattle.lwc_text.specs.Report.{thread_at}
 
--- as many threads as before, and nothing written to the console
-record Keeps (m n : Machine) : Type 0 where
-  threads : length n.threads ≡ length m.threads
-  console : n.console ≡ m.console
+acted_keeps : (m : Machine) (t : ℕ) (done : Option Acted) → length (with_acted m t done).threads ≡ length m.threads
+acted_keeps m t None = refl
+acted_keeps m t (Some done) = length-set m.threads t done.thread
 
-acted_keeps : (m : Machine) (t : ℕ) (done : Option Acted) → Keeps m (with_acted m t done)
-acted_keeps m t None = record { threads = refl; console = refl }
-acted_keeps m t (Some done) = record { threads = length-set m.threads t done.thread; console = refl }
-
-step_at_keeps : (m : Machine) (t : ℕ) (found : Option Thread) → Keeps m (step_at m t found)
-step_at_keeps m t None = record { threads = refl; console = refl }
+step_at_keeps : (m : Machine) (t : ℕ) (found : Option Thread) → length (step_at m t found).threads ≡ length m.threads
+step_at_keeps m t None = refl
 step_at_keeps m t (Some x) = acted_keeps m t (step_of m.world m.text x x.status)
 
-step_keeps : (m : Machine) (t : ℕ) → Keeps m (step m t)
+step_keeps : (m : Machine) (t : ℕ) → length (step m t).threads ≡ length m.threads
 unfolding step
 step_keeps m t = step_at_keeps m t (slice_get m.threads t)
 
-run_keeps : (m : Machine) (ts : List ℕ) → Keeps m (run m ts)
-run_keeps m [] = record { threads = refl; console = refl }
-run_keeps m (t ∷ ts) =
-    let here : Keeps m (step m t) = step_keeps m t in
-    let there : Keeps (step m t) (run (step m t) ts) = run_keeps (step m t) ts in
-    record { threads = there.threads ∙ here.threads; console = there.console ∙ here.console }
+-- a run leaves as many threads as there were
+run_keeps : (m : Machine) (ts : List ℕ) → length (run m ts).threads ≡ length m.threads
+run_keeps m [] = refl
+run_keeps m (t ∷ ts) = run_keeps (step m t) ts ∙ step_keeps m t
 
 -- a run has one thread for each entry of the image
 pub reached_all_threads : (h : History) → length (machine_of h).threads ≡ length h.inputs.image.entries
 unfolding machine_of start first_threads
 reached_all_threads h =
-    (run_keeps (start h.inputs) h.steps).threads
+    run_keeps (start h.inputs) h.steps
     ∙ length-map (enumerate_from 0 h.inputs.image.entries) (λ e. first_thread h.inputs.settings.budget e.0 e.1)
     ∙ length-enumerate_from 0 h.inputs.image.entries
-
--- a run writes nothing to the console
-pub nothing_written : (h : History) → (machine_of h).console ≡ []
-unfolding machine_of start
-nothing_written h = (run_keeps (start h.inputs) h.steps).console
 
 -- the context of a name among the keys lives
 pub lives : (w : World) (i : ℕ) (c : Name) → slice_get (fm.keys w.contexts) i ≡ Some c → fm.contains_key w.contexts c ≡ true

@@ -12,9 +12,6 @@ use lwc_base::OutOfMemory;
 use std::alloc::Global;
 use world_face::World;
 
-/// What was written to the console: no call writes there yet.
-const CONSOLE: [u8; 0] = [];
-
 /// The lines of all threads.
 #[tactic(auto, using(crate::proofs::Machines::one_more_thread, crate::proofs::Machines::reached_all_threads), unfolding(crate::specs::Report::threads_text))]
 fn threads_text<W: World>(alloc: Global, k: &Kernel<W>) -> Result<Vec<u8>, OutOfMemory>
@@ -45,7 +42,7 @@ fn context_lines<W: World>(out: &mut Vec<u8>, world: &W) -> Result<(), OutOfMemo
 /// The report of a run (`report_of`): its threads with their registers, its contexts, how many groups live, what was
 /// written to the console, the frames in use and the most that were, and the steps that were kept. The one error is
 /// want of memory.
-#[tactic(auto, using(crate::proofs::Machines::nothing_written), unfolding(crate::specs::Report::report_of))]
+#[tactic(auto, unfolding(crate::specs::Report::report_of))]
 pub fn report<W: World>(alloc: Global, k: &Kernel<W>) -> Result<Vec<u8>, OutOfMemory>
     ensures exact { IfOk result (λ text. text.items ≡ report_of (machine_of k.now) (runs.peak (start k.now.inputs) k.now.steps) k.now.steps) }
 {
@@ -53,6 +50,6 @@ pub fn report<W: World>(alloc: Global, k: &Kernel<W>) -> Result<Vec<u8>, OutOfMe
     let mut text = threads_text(alloc, k)?;
     context_lines(&mut text, world)?;
     groups_line(&mut text, world.group_count())?;
-    tail_lines(&mut text, &CONSOLE, world.used(), k.peak(), k.schedule())?;
+    tail_lines(&mut text, k.console(), world.used(), k.peak(), k.schedule())?;
     Ok(text)
 }
