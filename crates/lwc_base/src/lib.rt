@@ -10,6 +10,7 @@ pub mod page;
 pub mod range;
 pub mod regs;
 pub mod size;
+pub mod steps;
 
 pub use cell::Cell;
 pub use descriptor::{Cap, Descriptor, SLOTS};
@@ -20,3 +21,4 @@ pub use page::{PAGE_BYTES, PageBytes, PageValue};
 pub use range::Range;
 pub use regs::Regs;
 pub use size::{StoreFault, Summary, WorldSize};
+pub use steps::Steps;
