@@ -1,4 +1,5 @@
 pub mod Cells
+pub mod Counts
 pub mod Faults
 pub mod Frames
 pub mod Mapping

@@ -2,6 +2,7 @@
 #![tactic(auto)]
 
 pub mod cell;
+pub mod counts;
 pub mod descriptor;
 pub mod fault;
 pub mod memory;
@@ -13,6 +14,7 @@ pub mod size;
 pub mod steps;
 
 pub use cell::Cell;
+pub use counts::Counts;
 pub use descriptor::{Cap, Descriptor, SLOTS};
 pub use fault::{Fault, ThreadStatus};
 pub use memory::OutOfMemory;
