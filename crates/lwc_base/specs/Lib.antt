@@ -6,6 +6,7 @@ pub mod Mapping
 pub mod Memory
 pub mod Names
 pub mod Pages
+pub mod Paired
 pub mod Registers
 pub mod Store
 pub mod Summaries

@@ -1,0 +1,13 @@
+use Rattle.std.proofs.Common.{◌≡◌, ◌<◌, arith, ◌∙◌, sym, ap}
+use Rattle.node_pool.specs.Nodes.{entry_of, level_of}
+use Rattle.node_pool.proofs.PoolLemmas.{seen_length, seen_count, seen_inside, seen_node_at, seen_recount, seen_enter, seen_free, seen_taken}
+use Rattle.node_pool.proofs.pool.NodePool.set_entry.Goals as goal
+
+pub index_mut-requires : goal.index_mut-requires
+index_mut-requires c =
+    omega (arith, seen_inside _ _ _ c.args.node.n c.self.view_is c.self.invariant (omega (arith, c.requires.once)), c.self.inside.contents.ok)
+
+pub returns : goal.returns
+returns c =
+    seen_enter _ _ _ _ _ _ _ c.self.view_is c.self.invariant
+    (seen_inside _ _ _ c.args.node.n c.self.view_is c.self.invariant (omega (arith, c.requires.once))) c.index_mut.ensures.value
