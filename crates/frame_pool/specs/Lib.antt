@@ -1,0 +1,4 @@
+pub mod Frame
+pub mod Lending
+pub mod PoolLending
+pub mod View
