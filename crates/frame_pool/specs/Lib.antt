@@ -1,4 +1,3 @@
 pub mod Frame
-pub mod Lending
 pub mod PoolLending
 pub mod View

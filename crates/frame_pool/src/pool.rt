@@ -11,32 +11,13 @@ pub struct FrameNo {
     pub n: u32,
 }
 
-/// What a frame holds beside its count.
-#[derive(Clone, Copy, Drop)]
-struct FrameContent {
-    stamp: Tag,
-    bytes: [u8; PAGE_BYTES],
-}
-
-impl FrameContent {
-    ghost use Rattle.std.specs.Borrow.{sem};
-    ghost use Rattle.frame_pool.specs.Lending.{LendsContent};
-
-    fn bytes_mut(&mut self) -> &mut [u8]
-        ensures* writes_back { sem 𝓛 (LendsContent self.entry result) }
-        ensures value { result.now ≡ self.old.bytes }
-        ensures whole { length result.now ≡ PAGE_BYTES }
-    {
-        self.bytes.as_mut_slice()
-    }
-}
-
 /// Frames in one region, seen as the list of them: of each its count, its stamp and its 4096 bytes.
 /// No call looks for a free frame.
 #[derive(Drop)]
 pub struct Pool {
     counts: Counts,
-    contents: Vec<FrameContent>,
+    stamps: Vec<Tag>,
+    bytes: Vec<[u8; PAGE_BYTES]>,
 }
 
 impl Model for Pool {
@@ -45,12 +26,11 @@ impl Model for Pool {
 
     ghost Value = { List Frame };
 
-    ghost use Rattle.std.specs.Prelude.{◌≡◌, length};
-    ghost use Rattle.frame_pool.specs.View.{seen_frames};
+    ghost use Rattle.frame_pool.specs.View.{seen_frames, IsWhole};
 
-    ghost view = { λ pool. seen_frames pool.counts pool.contents.items };
+    ghost view = { λ pool. seen_frames pool.counts pool.stamps.items pool.bytes.items };
 
-    ghost invariant = { λ pool. length pool.counts ≡ length pool.contents.items };
+    ghost invariant = { λ pool. IsWhole pool.counts pool.stamps.items pool.bytes.items };
 }
 
 impl Pool {
@@ -63,12 +43,13 @@ impl Pool {
         ensures { IfOk result (λ pool. pool ≡ replicate frames (zero_frame 0 (record { job = 0; k = 0 }))) }
     {
         let counts = Counts::open(alloc, frames)?;
-        let empty = FrameContent {
-            stamp: Tag { job: 0, k: 0 },
-            bytes: [0; PAGE_BYTES],
-        };
-        let contents = vec![in alloc; empty; frames as usize]?;
-        Ok(Pool { counts, contents })
+        let stamps = vec![in alloc; Tag { job: 0, k: 0 }; frames as usize]?;
+        let bytes = vec![in alloc; [0; PAGE_BYTES]; frames as usize]?;
+        Ok(Pool {
+            counts,
+            stamps,
+            bytes,
+        })
     }
 
     /// Takes a free frame: it is held once, has the stamp, and all its bytes are 0. None exactly where no frame is free.
@@ -80,10 +61,8 @@ impl Pool {
         ensures taken { IfSome result (λ frame. self.new ≡ slice_set self.old frame.n (zero_frame 1 stamp)) }
     {
         let n = self.counts.take()?;
-        self.contents[n as usize] = FrameContent {
-            stamp,
-            bytes: [0; PAGE_BYTES],
-        };
+        self.stamps[n as usize] = stamp;
+        self.bytes[n as usize] = [0; PAGE_BYTES];
         Some(FrameNo { n })
     }
 
@@ -110,18 +89,16 @@ impl Pool {
         ensures value { result.now ≡ frame_bytes self.now frame.n }
         ensures whole { length result.now ≡ PAGE_BYTES }
     {
-        &self.contents[frame.n as usize].bytes
+        &self.bytes[frame.n as usize]
     }
 
     /// The 4096 bytes of a frame that is held once, to be written.
-    pub fn bytes_mut(&mut self, frame: FrameNo) -> &mut [u8]
+    pub fn bytes_mut(&mut self, frame: FrameNo) -> &mut [u8; PAGE_BYTES]
         requires { frame_count self.old frame.n ≡ 1 }
         ensures* writes_back { sem 𝓛 (LendsBytes self.entry frame.n result) }
         ensures value { result.now ≡ frame_bytes self.old frame.n }
-        ensures whole { length result.now ≡ PAGE_BYTES }
     {
-        let content = &mut self.contents[frame.n as usize];
-        content.bytes_mut()
+        &mut self.bytes[frame.n as usize]
     }
 
     /// Copies the bytes of a held frame into one that is held once.
@@ -131,8 +108,8 @@ impl Pool {
         requires different { from.n ≢ to.n }
         ensures { self.new ≡ refill_frame self.old to.n (frame_bytes self.old from.n) }
     {
-        let bytes = self.contents[from.n as usize].bytes;
-        self.contents[to.n as usize].bytes = bytes;
+        let bytes = self.bytes[from.n as usize];
+        self.bytes[to.n as usize] = bytes;
     }
 
     /// How often a frame is held.
@@ -148,7 +125,7 @@ impl Pool {
         requires { frame.n < length self.now }
         ensures { result ≡ frame_stamp self.now frame.n }
     {
-        self.contents[frame.n as usize].stamp
+        self.stamps[frame.n as usize]
     }
 
     /// How many frames are held.
@@ -156,5 +133,32 @@ impl Pool {
         ensures { result ≡ used_frames self.now }
     {
         self.counts.used()
+    }
+}
+
+#[cfg(test)]
+mod tests {
+    use super::*;
+    use std::test::Fail;
+
+    #[test]
+    fn two_frames_are_taken_and_one_comes_back_zeroed(rt: HostRuntime) -> Result<(), Fail> {
+        let mut pool = Pool::open(rt.alloc(), 2)?;
+        let first = pool.take(Tag { job: 1, k: 0 }).ok_or("none is held")?;
+        let second = pool.take(Tag { job: 1, k: 1 }).ok_or("one is held")?;
+        assert_eq!(rt; pool.take(Tag { job: 1, k: 2 }), None);
+        pool.bytes_mut(first)[4095] = 7;
+        assert!(rt; first != second);
+        pool.copy_to(first, second);
+        assert_eq!(rt; pool.bytes(second)[4095], 7);
+        assert_eq!(rt; pool.stamp(second), Tag { job: 1, k: 1 });
+        pool.hold(first);
+        assert_eq!(rt; (pool.count(first), pool.used()), (2, 2));
+        pool.drop_hold(second);
+        assert_eq!(rt; pool.used(), 1);
+        let third = pool.take(Tag { job: 1, k: 3 }).ok_or("one is held")?;
+        assert_eq!(rt; third, second);
+        assert_eq!(rt; pool.bytes(third)[4095], 0);
+        Ok(())
     }
 }

@@ -1,12 +1,12 @@
 -- What changes of the counts and of the contents are in the list of nodes.
-use Rattle.std.proofs.Common.{◌≡◌, ℕ, ◌+◌, ◌<◌, ◌≤◌, ⊎_elim, Bool, cond, eqb, List, [], length, get_or, set, refl, sym, ◌∙◌, ap, arith}
+use Rattle.std.proofs.Common.{◌≡◌, ℕ, ◌<◌, ◌≤◌, ⊎_elim, cond, eqb, List, [], length, get_or, set, refl, sym, ◌∙◌, ap, arith}
 use Rattle.std.proofs.lemmas.List.{set-get_or, get_or_past}
 use Rattle.std.proofs.lemmas.Bool.{cases_lt}
 use Rattle.lwc_base.specs.Counts.{free_count}
 use Rattle.lwc_base.proofs.StackLemmas.{held-inside}
 use Rattle.lwc_base.proofs.PairedLemmas.{length-paired, get_or-paired, paired-set, sum_by-paired}
 use Rattle.node_pool.specs.declared.pool.NodeContent.{NodeContent}
-use Rattle.node_pool.specs.Nodes.{Node, no_node, node_at, count_of, level_of, entry_of, recount, enter, entered, free_of}
+use Rattle.node_pool.specs.Nodes.{Node, no_node, node_at, count_of, recount, enter, entered, free_of}
 use Rattle.node_pool.specs.View.{seen_node, seen_nodes}
 
 -- a content that stands for none
@@ -22,11 +22,11 @@ node_at-seen counts contents n x e lt = get_or-paired seen_node counts contents 
 pub count_of-seen : (counts : List ℕ) (contents : List NodeContent) (n : ℕ) → length counts ≡ length contents → count_of (seen_nodes counts contents) n ≡ get_or counts n 0
 count_of-seen counts contents n e =
     ⊎_elim
-      (λ lt. ap (λ node. node.count) (node_at-seen counts contents n no_content e lt))
-      (λ past.
-        let seen_past : length (seen_nodes counts contents) ≤ n = omega (arith, length-seen counts contents e, past) in
-        ap (λ node. node.count) (get_or_past (seen_nodes counts contents) n no_node seen_past) ∙ sym (get_or_past counts n 0 past))
-      (cases_lt n (length counts))
+    (λ lt. ap (λ node. node.count) (node_at-seen counts contents n no_content e lt))
+    (λ past.
+    let seen_past : length (seen_nodes counts contents) ≤ n = omega (arith, length-seen counts contents e, past) in
+    ap (λ node. node.count) (get_or_past (seen_nodes counts contents) n no_node seen_past) ∙ sym (get_or_past counts n 0 past))
+    (cases_lt n (length counts))
 
 pub recount-seen : (counts : List ℕ) (contents : List NodeContent) (n c : ℕ) (x : NodeContent) → length counts ≡ length contents → n < length counts → seen_nodes (set counts n c) contents ≡ recount (seen_nodes counts contents) n c
 recount-seen counts contents n c x e lt =

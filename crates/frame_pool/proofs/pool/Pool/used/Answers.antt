@@ -1,7 +1,6 @@
-use Rattle.std.proofs.Common.{◌≡◌, ◌<◌, get_or, arith, ◌∙◌, sym, ap, refl}
-use Rattle.frame_pool.specs.Frame.{refill_frame}
-use Rattle.frame_pool.proofs.PoolLemmas.{seen_length, seen_count, seen_inside, seen_frame_at, seen_recount, seen_refill, seen_free, seen_used, seen_taken}
+use Rattle.std.proofs.Common.{◌∙◌}
+use Rattle.frame_pool.proofs.PoolLemmas.{seen_used}
 use Rattle.frame_pool.proofs.pool.Pool.used.Goals as goal
 
 pub returns : goal.returns
-returns c = c.used.ensures ∙ seen_used _ _ _ c.self.view_is c.self.invariant
+returns c = c.used.ensures ∙ seen_used _ _ _ _ c.self.view_is c.self.invariant

@@ -1,6 +1,4 @@
-use Rattle.std.proofs.Common.{◌≡◌, ◌<◌, arith, ◌∙◌, sym, ap}
-use Rattle.node_pool.specs.Nodes.{entry_of, level_of}
-use Rattle.node_pool.proofs.PoolLemmas.{seen_length, seen_count, seen_inside, seen_node_at, seen_recount, seen_enter, seen_free, seen_taken}
+use Rattle.node_pool.proofs.PoolLemmas.{seen_count, seen_inside, seen_recount}
 use Rattle.node_pool.proofs.pool.NodePool.drop_hold.Goals as goal
 
 pub drop_hold-requires : goal.drop_hold-requires

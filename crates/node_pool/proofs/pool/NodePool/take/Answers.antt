@@ -1,6 +1,5 @@
-use Rattle.std.proofs.Common.{◌≡◌, ◌<◌, arith, ◌∙◌, sym, ap}
-use Rattle.node_pool.specs.Nodes.{entry_of, level_of}
-use Rattle.node_pool.proofs.PoolLemmas.{seen_length, seen_count, seen_inside, seen_node_at, seen_recount, seen_enter, seen_free, seen_taken}
+use Rattle.std.proofs.Common.{arith}
+use Rattle.node_pool.proofs.PoolLemmas.{seen_length, seen_free, seen_taken}
 use Rattle.node_pool.proofs.pool.NodePool.take.Goals as goal
 
 pub returns-in_err-n-clause-full : goal.returns-in_err-n-clause-full
