@@ -1,0 +1,8 @@
+//! Trees of pages over counted nodes and frames: many trees stand in one store, and share what is equal in them.
+#![tactic(auto)]
+
+pub mod cell;
+pub mod store;
+
+pub use cell::PageCell;
+pub use store::{LEAF_LEVEL, PAGES, ROOT_LEVEL, Store};
