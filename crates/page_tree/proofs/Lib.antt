@@ -1,2 +1,4 @@
+pub mod KeepsLemmas
+pub mod RawLemmas
 pub mod SoundLemmas
 pub mod UsesLemmas

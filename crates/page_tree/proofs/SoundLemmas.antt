@@ -99,6 +99,7 @@ module _ (old : List Node) (frames : List Frame) (sound : IsSound old frames) wh
     IsSound-relink =
         record {
           few = omega (arith, change.size, sound.few);
+          few_frames = sound.few_frames;
           shape = λ x lt.
             ⊎_elim
               (λ here. ap (λ y. length (entries_of new y)) here ∙ ap (λ es. length es) change.here ∙ length-set (entries_of old n) i v ∙ sound.shape n inside)
@@ -166,6 +167,7 @@ module _ (old new : List Node) (frames : List Frame) (m : ℕ) (sound : IsSound 
   IsSound-reroot =
       record {
         few = omega (arith, change.size, sound.few);
+        few_frames = sound.few_frames;
         shape = λ x lt. ap (λ es. length es) (change.same x) ∙ sound.shape x (omega (arith, change.size, lt));
         clean = λ x k free.
           entry-same x k ∙ ⊎_elim (λ is. ap (λ y. entry_of old y k) is ∙ change.clean k (ap (λ y. count_of new y) (sym is) ∙ free)) (λ apart. sound.clean x k (sym (change.counts x apart) ∙ free)) (cases_eq x m);
@@ -209,6 +211,7 @@ pub record IsWrite (old new : List Node) (frames frames' : List Frame) (m j v : 
   pub there : (x : ℕ) → x ≢ m → entries_of new x ≡ entries_of old x
   pub counts : (x : ℕ) → count_of new x ≡ count_of old x
   pub level : (x : ℕ) → level_of new x ≡ level_of old x
+  pub frames_size : length frames' ≡ length frames
   pub leaf : level_of old m ≡ 1
   pub held : 0 < count_of old m
   pub leading : (e : ℕ) → 0 < e → uses 2 new e ≡ uses 2 old e
@@ -226,6 +229,7 @@ module _ (old new : List Node) (frames frames' : List Frame) (m j v : ℕ) (soun
   IsSound-write =
       record {
         few = omega (arith, change.size, sound.few);
+        few_frames = omega (arith, change.frames_size, sound.few_frames);
         shape = λ x lt.
           let was = sound.shape x (omega (arith, change.size, lt)) in
           ⊎_elim

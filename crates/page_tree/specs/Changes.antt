@@ -3,7 +3,7 @@ use Rattle.std.specs.Prelude.{◌≡◌, ℕ, ◌+◌, ◌<◌, List, length}
 use Rattle.frame_pool.specs.Frame.{Frame, frame_count, frame_stamp, frame_bytes}
 use Rattle.node_pool.specs.Nodes.{Node, entry_of}
 use Rattle.page_tree.specs.Pages.{entries_of}
-use Rattle.page_tree.specs.Sound.{naming, trees_at, is_root}
+use Rattle.page_tree.specs.Sound.{naming, trees_at, is_root, IsSound}
 
 -- one tree left its root and came to another: the other trees keep their roots, and the entries of these and of their leaves
 pub record KeepsTrees (old new : List Node) (left came : ℕ) : Type 0 where
@@ -17,3 +17,9 @@ pub record KeepsFrames (old new : List Node) (frames frames' : List Frame) : Typ
   pub holds : (f : ℕ) → frame_count frames' f + naming old f ≡ frame_count frames f + naming new f
   pub stamps : (f : ℕ) → frame_stamp frames' f ≡ frame_stamp frames f
   pub bytes : (f : ℕ) → frame_bytes frames' f ≡ frame_bytes frames f
+
+-- a change of one tree that keeps the store sound, the other trees, and the frames
+pub record Keeps (old new : List Node) (frames frames' : List Frame) (left came : ℕ) : Type 0 where
+  pub sound : IsSound new frames'
+  pub trees : KeepsTrees old new left came
+  pub frames_kept : KeepsFrames old new frames frames'

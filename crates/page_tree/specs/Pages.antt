@@ -28,6 +28,10 @@ link_of nodes tree i = if tree == 0 then 0 else entry_of nodes (tree - 1) i
 unfoldable pub cells_of : List Node → ℕ → List ℕ
 cells_of nodes link = if link == 0 then [] else entries_of nodes (link - 1)
 
+-- one entry of one leaf of a tree
+unfoldable pub cell_at : List Node → ℕ → ℕ → ℕ → ℕ
+cell_at nodes tree i j = slice_index (cells_of nodes (link_of nodes tree i)) j
+
 -- what a tree has for a page
 unfoldable pub page : List Node → ℕ → ℕ → PageCell
-page nodes tree p = cell_of (slice_index (cells_of nodes (link_of nodes tree (p / NODE_ENTRIES))) (p % NODE_ENTRIES))
+page nodes tree p = cell_of (cell_at nodes tree (p / NODE_ENTRIES) (p % NODE_ENTRIES))

@@ -29,6 +29,7 @@ naming nodes f = uses LEAF_LEVEL nodes (f + 2)
 -- every entry leads to what is held, each leaf is held as often as entries lead to it and has one place in all trees, and each frame is held as often as entries name it or up to 2^31 times more
 pub record IsSound (nodes : List Node) (frames : List Frame) : Type 0 where
   pub few : length nodes ≤ 65536
+  pub few_frames : length frames ≤ 65536
   pub shape : (n : ℕ) → n < length nodes → length (entries_of nodes n) ≡ NODE_ENTRIES
   pub clean : (n i : ℕ) → count_of nodes n ≡ 0 → entry_of nodes n i ≡ 0
   pub levels : (n : ℕ) → 0 < count_of nodes n → (level_of nodes n ≡ LEAF_LEVEL) ⊎ (level_of nodes n ≡ ROOT_LEVEL)
