@@ -1,5 +1,16 @@
+ghost use Rattle.std.specs.Prelude.{◌≡◌, ℕ, ◌+◌, ◌-◌, ◌^◌, ◌<◌, ◌≤◌, ◌==◌, if◌then◌else◌, IfSome, IfNone, length, List};
+ghost use Rattle.frame_pool.specs.Frame.{frame_count};
+ghost use Rattle.node_pool.specs.declared.pool.TheConstants.{NODE_ENTRIES};
+ghost use Rattle.node_pool.specs.Nodes.{count_of, level_of, entry_of, free_of};
+ghost use Rattle.page_tree.specs.Pages.{cell_at, entry_for, link_of};
+ghost use Rattle.page_tree.specs.Sound.{IsSound, is_root, trees_at};
+ghost use Rattle.page_tree.specs.Steps.{HoldsMore, HoldsLess, IsOwned, IsLeaf, IsPlaced, OwnsLeaf, PutsLeaf};
+
+use crate::cell::{PageCell, cell_from, entry_from};
 use frame_pool::Pool;
-use node_pool::NodePool;
+use lwc_base::Steps;
+use node_pool::{NODE_ENTRIES, NodeNo, NodePool};
+use std::sync::ledger::Ledger;
 
 /// How many pages a tree has.
 pub const PAGES: usize = 1024;
@@ -15,4 +26,112 @@ pub const ROOT_LEVEL: u8 = 2;
 pub struct Store {
     pub frames: Pool,
     pub nodes: NodePool,
+}
+
+/// Holds the frame of a cell once more, if it has one.
+fn hold_cell(frames: &mut Pool, cell: PageCell)
+    requires held { (f : ℕ) → entry_for cell ≡ f + 2 → 0 < frame_count frames.old f }
+    requires fits { (f : ℕ) → entry_for cell ≡ f + 2 → frame_count frames.old f + 1 < 2 ^ 32 }
+    ensures { HoldsMore frames.old frames.new (entry_for cell) }
+{
+    if let PageCell::Frame(frame) = cell {
+        frames.hold(frame);
+    }
+}
+
+/// Holds the frame of a cell once less, if it has one.
+fn drop_cell(frames: &mut Pool, cell: PageCell)
+    requires { (f : ℕ) → entry_for cell ≡ f + 2 → 0 < frame_count frames.old f }
+    ensures { HoldsLess frames.old frames.new (entry_for cell) }
+{
+    if let PageCell::Frame(frame) = cell {
+        frames.drop_hold(frame);
+    }
+}
+
+impl Store {
+    /// The leaf that an entry of a root leads to.
+    pub(crate) fn leaf_at(&self, root: NodeNo, i: usize) -> Option<NodeNo>
+        requires inside { root.n < length self.now.nodes }
+        requires place { i < NODE_ENTRIES }
+        ensures none { IfNone result (entry_of self.now.nodes root.n i ≡ 0) }
+        ensures some { IfSome result (λ leaf. entry_of self.now.nodes root.n i ≡ leaf.n + 1) }
+    {
+        match self.nodes.entry(root, i) {
+            0 => None,
+            link => Some(NodeNo { n: link - 1 }),
+        }
+    }
+
+    /// Lets an empty entry of an owned root lead to a leaf.
+    pub(crate) fn link<L: Ledger>(
+        &mut self,
+        root: NodeNo,
+        i: usize,
+        leaf: NodeNo,
+        steps: &mut Steps<L>,
+    )
+        requires sound { IsSound self.old.nodes self.old.frames }
+        requires own { IsOwned self.old.nodes root.n }
+        requires place { i < NODE_ENTRIES }
+        requires empty { entry_of self.old.nodes root.n i ≡ 0 }
+        requires leaf { IsLeaf self.old.nodes leaf.n }
+        requires placed { IsPlaced self.old.nodes leaf.n i }
+        ensures puts { PutsLeaf self.old.nodes self.new.nodes self.old.frames self.new.frames root.n i
+            (λ j. entry_of self.old.nodes leaf.n j) 0 }
+        ensures leads { entry_of self.new.nodes root.n i ≡ leaf.n + 1 }
+        ensures one_step { steps.new ≡ steps.old + 1 }
+    {
+        self.nodes.hold(leaf, steps);
+        self.nodes.set_entry(root, i, leaf.n + 1);
+    }
+
+    /// Cuts off the leaf that an entry of an owned root leads to, where it is held elsewhere too or has no pages.
+    fn cut<L: Ledger>(&mut self, root: NodeNo, i: usize, leaf: NodeNo, steps: &mut Steps<L>)
+        requires sound { IsSound self.old.nodes self.old.frames }
+        requires own { IsOwned self.old.nodes root.n }
+        requires place { i < NODE_ENTRIES }
+        requires leads { entry_of self.old.nodes root.n i ≡ leaf.n + 1 }
+        requires clean { count_of self.old.nodes leaf.n ≡ 1 → (j : ℕ) → entry_of self.old.nodes leaf.n j ≡ 0 }
+        ensures puts { PutsLeaf self.old.nodes self.new.nodes self.old.frames self.new.frames root.n i (λ j. 0) 0 }
+        ensures empty { entry_of self.new.nodes root.n i ≡ 0 }
+        ensures one_step { steps.new ≡ steps.old + 1 }
+    {
+        self.nodes.drop_hold(leaf, steps);
+        self.nodes.set_entry(root, i, 0);
+    }
+
+    /// Lets an empty entry of an owned root lead to a new leaf, which has no pages.
+    fn new_leaf<L: Ledger>(&mut self, root: NodeNo, i: usize, steps: &mut Steps<L>) -> NodeNo
+        requires sound { IsSound self.old.nodes self.old.frames }
+        requires own { IsOwned self.old.nodes root.n }
+        requires place { i < NODE_ENTRIES }
+        requires empty { entry_of self.old.nodes root.n i ≡ 0 }
+        requires free { 0 < free_of self.old.nodes }
+        ensures puts { PutsLeaf self.old.nodes self.new.nodes self.old.frames self.new.frames root.n i (λ j. 0) 1 }
+        ensures owns { OwnsLeaf self.new.nodes root.n i result.n }
+        ensures one_step { steps.new ≡ steps.old + 1 }
+    {
+        let leaf = self.nodes.take(LEAF_LEVEL, steps).unwrap();
+        self.nodes.set_entry(root, i, leaf.n + 1);
+        leaf
+    }
+
+    /// Writes a cell of an owned leaf: its frame is held once more, and that of the old cell once less.
+    pub(crate) fn write(&mut self, root: NodeNo, i: usize, leaf: NodeNo, j: usize, cell: PageCell)
+        requires sound { IsSound self.old.nodes self.old.frames }
+        requires own { IsOwned self.old.nodes root.n }
+        requires place { i < NODE_ENTRIES }
+        requires owns { OwnsLeaf self.old.nodes root.n i leaf.n }
+        requires cell { j < NODE_ENTRIES }
+        requires held { (f : ℕ) → entry_for cell ≡ f + 2 → 0 < frame_count self.old.frames f }
+        ensures puts { PutsLeaf self.old.nodes self.new.nodes self.old.frames self.new.frames root.n i
+            (λ k. if k == j then entry_for cell else cell_at self.old.nodes (root.n + 1) i k) 0 }
+        ensures owns { OwnsLeaf self.new.nodes root.n i leaf.n }
+    {
+        let old = cell_from(self.nodes.entry(leaf, j));
+        hold_cell(&mut self.frames, cell);
+        self.nodes.set_entry(leaf, j, entry_from(cell));
+        drop_cell(&mut self.frames, old);
+    }
 }

@@ -1,0 +1,73 @@
+-- What the small steps of a change do: words of the functions that trees are made of.
+use Rattle.std.specs.Prelude.{◌≡◌, ◌≢◌, ℕ, ◌+◌, ◌-◌, ◌^◌, ◌<◌, ◌≤◌, ◌==◌, if◌then◌else◌, List, length, Option, Some, None}
+use Rattle.frame_pool.specs.Frame.{Frame, frame_count, frame_stamp, frame_bytes}
+use Rattle.node_pool.specs.declared.pool.NodeNo.{NodeNo}
+use Rattle.node_pool.specs.declared.pool.TheConstants.{NODE_ENTRIES}
+use Rattle.node_pool.specs.Nodes.{Node, count_of, level_of, entry_of, free_of}
+use Rattle.page_tree.specs.declared.store.TheConstants.{LEAF_LEVEL, ROOT_LEVEL}
+use Rattle.page_tree.specs.Pages.{cell_at, link_of}
+use Rattle.page_tree.specs.Sound.{one_if, IsSound}
+use Rattle.page_tree.specs.Changes.{Keeps}
+
+-- a tree, of the root that it has
+abbrev pub tree_of : Option NodeNo → ℕ
+tree_of None = 0
+tree_of (Some root) = root.n + 1
+
+-- a root that one tree has alone
+pub record IsOwned (nodes : List Node) (root : ℕ) : Type 0 where
+  pub level : level_of nodes root ≡ ROOT_LEVEL
+  pub once : count_of nodes root ≡ 1
+
+-- a leaf that is held
+pub record IsLeaf (nodes : List Node) (leaf : ℕ) : Type 0 where
+  pub level : level_of nodes leaf ≡ LEAF_LEVEL
+  pub held : 0 < count_of nodes leaf
+
+-- a leaf has its place in all trees
+abbrev pub IsPlaced : List Node → ℕ → ℕ → Type 0
+IsPlaced nodes leaf i = (root j : ℕ) → level_of nodes root ≡ ROOT_LEVEL → entry_of nodes root j ≡ leaf + 1 → j ≡ i
+
+-- entry i of a root leads to a leaf that is held once
+pub record OwnsLeaf (nodes : List Node) (root i leaf : ℕ) : Type 0 where
+  pub leads : entry_of nodes root i ≡ leaf + 1
+  pub once : count_of nodes leaf ≡ 1
+
+-- the frame that an entry names, if it names one, is held once more
+pub record HoldsMore (frames frames' : List Frame) (e : ℕ) : Type 0 where
+  pub size : length frames' ≡ length frames
+  pub counts : (f : ℕ) → frame_count frames' f ≡ frame_count frames f + one_if (e == f + 2)
+  pub stamps : (f : ℕ) → frame_stamp frames' f ≡ frame_stamp frames f
+  pub bytes : (f : ℕ) → frame_bytes frames' f ≡ frame_bytes frames f
+
+-- the frame that an entry names, if it names one, is held once less
+pub record HoldsLess (frames frames' : List Frame) (e : ℕ) : Type 0 where
+  pub size : length frames' ≡ length frames
+  pub counts : (f : ℕ) → frame_count frames' f + one_if (e == f + 2) ≡ frame_count frames f
+  pub stamps : (f : ℕ) → frame_stamp frames' f ≡ frame_stamp frames f
+  pub bytes : (f : ℕ) → frame_bytes frames' f ≡ frame_bytes frames f
+
+-- leaf i of an owned root has these cells now, its other leaves theirs, and at most so many free nodes were taken
+pub record PutsLeaf (old new : List Node) (frames frames' : List Frame) (root i : ℕ) (cells : ℕ → ℕ) (taken : ℕ) : Type 0 where
+  pub keeps : Keeps old new frames frames' (root + 1) (root + 1)
+  pub own : IsOwned new root
+  pub here : (j : ℕ) → j < NODE_ENTRIES → cell_at new (root + 1) i j ≡ cells j
+  pub there : (k j : ℕ) → k ≢ i → cell_at new (root + 1) k j ≡ cell_at old (root + 1) k j
+  pub free : free_of old ≤ free_of new + taken
+
+-- 1 where the root of a tree must be taken: it is empty, or its root is shared
+unfoldable pub root_short : List Node → ℕ → ℕ
+root_short nodes tree = if tree == 0 then 1 else (if count_of nodes (tree - 1) == 1 then 0 else 1)
+
+-- 1 where a leaf of a tree must be taken: it is absent, or shared by itself or with its root
+unfoldable pub leaf_short : List Node → ℕ → ℕ → ℕ
+leaf_short nodes tree i =
+    if root_short nodes tree == 1 then 1 else (if link_of nodes tree i == 0 then 1 else (if count_of nodes (link_of nodes tree i - 1) == 1 then 0 else 1))
+
+-- a tree has a root of its own now, with the cells that it had
+pub record OwnsRoot (old new : List Node) (frames frames' : List Frame) (tree root : ℕ) : Type 0 where
+  pub keeps : Keeps old new frames frames' tree (root + 1)
+  pub own : IsOwned new root
+  pub cells : (i j : ℕ) → cell_at new (root + 1) i j ≡ cell_at old tree i j
+  pub short : (i : ℕ) → leaf_short new (root + 1) i ≤ leaf_short old tree i
+  pub free : free_of old ≤ free_of new + root_short old tree
