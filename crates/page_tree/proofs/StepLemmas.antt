@@ -10,7 +10,7 @@ use Rattle.page_tree.specs.Changes.{Keeps}
 use Rattle.page_tree.specs.Steps.{IsOwned, IsLeaf, IsPlaced, OwnsLeaf, HoldsMore, HoldsLess, PutsLeaf}
 use Rattle.page_tree.proofs.UsesLemmas.{one_if-yes, one_if-no, one_if-le, uses-enter, uses-enter_other, uses-some, uses-le, inside-count}
 use Rattle.page_tree.proofs.SoundLemmas.{IsRelink, CanRelink, IsWrite, root-not_led_to, leaf-count-le}
-use Rattle.page_tree.proofs.KeepsLemmas.{Keeps-relink, Keeps-write, Keeps-trans, link_of-tree, cell_at-none, cell_at-leaf, cell_at-same, zero_or_more}
+use Rattle.page_tree.proofs.KeepsLemmas.{Keeps-relink, Keeps-write, Keeps-refl, Keeps-trans, link_of-tree, cell_at-none, cell_at-leaf, cell_at-same, zero_or_more}
 use Rattle.page_tree.proofs.RawLemmas.{at-here, at-there, free-entries, IsRelink-made, CanRelink-made, free_of-set, free_of-enter}
 
 -- what a root leads to is another node
@@ -222,7 +222,7 @@ module _ (old : List Node) (frames mid frames' : List Frame) (n i m j v : ℕ) (
   at-written : node_at written m ≡ entered (node_at old m) j v
   at-written = at-here old m (entered (node_at old m) j v) m-inside
 
-  off-written : (x : ℕ) → x ≢ m → node_at written x ≡ node_at old x
+  pub off-written : (x : ℕ) → x ≢ m → node_at written x ≡ node_at old x
   off-written x apart = at-there old m x (entered (node_at old m) j v) apart
 
   kept : {A : Type 0} (f : Node → A) → f (entered (node_at old m) j v) ≡ f (node_at old m) → (x : ℕ) → f (node_at written x) ≡ f (node_at old x)
@@ -291,4 +291,56 @@ PutsLeaf-then a b d fa fb fd n i first second s t ab bd =
       here = bd.here;
       there = λ k j apart. bd.there k j apart ∙ ab.there k j apart;
       free = omega (arith, ab.free, bd.free)
+    }
+
+-- cells from lo up to j are put, and all else is as it was
+pub record PutsUpTo (old new : List Node) (frames frames' : List Frame) (n i leaf : ℕ) (cells : ℕ → ℕ) (lo j : ℕ) : Type 0 where
+  pub keeps : Keeps old new frames frames' (n + 1) (n + 1)
+  pub own : IsOwned new n
+  pub owns : OwnsLeaf new n i leaf
+  pub done : (k : ℕ) → lo ≤ k → k < j → cell_at new (n + 1) i k ≡ cells k
+  pub before : (k : ℕ) → k < lo → cell_at new (n + 1) i k ≡ cell_at old (n + 1) i k
+  pub after : (k : ℕ) → j ≤ k → k < 32 → cell_at new (n + 1) i k ≡ cell_at old (n + 1) i k
+  pub there : (k l : ℕ) → k ≢ i → cell_at new (n + 1) k l ≡ cell_at old (n + 1) k l
+  pub free : free_of old ≤ free_of new
+
+pub PutsUpTo-none : (old : List Node) (frames : List Frame) (n i leaf : ℕ) (cells : ℕ → ℕ) (lo : ℕ) → IsSound old frames → IsOwned old n → OwnsLeaf old n i leaf → PutsUpTo old old frames frames n i leaf cells lo lo
+PutsUpTo-none old frames n i leaf cells lo sound own owns =
+    record {
+      keeps = Keeps-refl old frames (n + 1) sound;
+      own = own;
+      owns = owns;
+      done = λ k from below. absurd (omega (arith, from, below));
+      before = λ k _. refl;
+      after = λ k _ _. refl;
+      there = λ k l _. refl;
+      free = omega arith
+    }
+
+pub PutsUpTo-more : (old mid new : List Node) (frames middle frames' : List Frame) (n i leaf : ℕ) (cells : ℕ → ℕ) (lo j v : ℕ) → PutsUpTo old mid frames middle n i leaf cells lo j → PutsLeaf mid new middle frames' n i (λ k. cond (eqb k j) v (cell_at mid (n + 1) i k)) 0 → OwnsLeaf new n i leaf → v ≡ cells j → lo ≤ j → j < 32 → PutsUpTo old new frames frames' n i leaf cells lo (j + 1)
+PutsUpTo-more old mid new frames middle frames' n i leaf cells lo j v so_far step owns is from inside =
+    let other : (k : ℕ) → k < 32 → k ≢ j → cell_at new (n + 1) i k ≡ cell_at mid (n + 1) i k = λ k lt apart. step.here k lt ∙ cond-false (eqb k j) v (cell_at mid (n + 1) i k) (ne_eqb k j apart) in
+    record {
+      keeps = Keeps-trans old mid new frames middle frames' (n + 1) (n + 1) (n + 1) so_far.keeps step.keeps;
+      own = step.own;
+      owns = owns;
+      done = λ k low below.
+        ⊎_elim
+          (λ here. step.here k (omega (arith, here, inside)) ∙ cond-true (eqb k j) v (cell_at mid (n + 1) i k) (eq-eqb k j here) ∙ is ∙ ap cells (sym here))
+          (λ apart. other k (omega (arith, below, inside)) apart ∙ so_far.done k low (omega (arith, below, apart)))
+          (cases_eq k j);
+      before = λ k low. other k (omega (arith, low, from, inside)) (λ same. absurd (omega (arith, same, low, from))) ∙ so_far.before k low;
+      after = λ k high lt. other k lt (λ same. absurd (omega (arith, same, high))) ∙ so_far.after k (omega (arith, high)) lt;
+      there = λ k l apart. step.there k l apart ∙ so_far.there k l apart;
+      free = omega (arith, so_far.free, step.free)
+    }
+
+pub PutsUpTo-all : (old new : List Node) (frames frames' : List Frame) (n i leaf : ℕ) (cells : ℕ → ℕ) (j : ℕ) → PutsUpTo old new frames frames' n i leaf cells 0 j → 32 ≤ j → PutsLeaf old new frames frames' n i cells 0
+PutsUpTo-all old new frames frames' n i leaf cells j up all =
+    record {
+      keeps = up.keeps;
+      own = up.own;
+      here = λ k lt. up.done k (omega arith) (omega (arith, lt, all));
+      there = up.there;
+      free = omega (arith, up.free)
     }

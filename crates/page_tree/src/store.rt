@@ -1,7 +1,7 @@
-ghost use Rattle.std.specs.Prelude.{◌≡◌, ℕ, ◌+◌, ◌-◌, ◌^◌, ◌<◌, ◌≤◌, ◌==◌, if◌then◌else◌, IfSome, IfNone, length, List};
+ghost use Rattle.std.specs.Prelude.{◌≡◌, ◌≢◌, ℕ, ◌+◌, ◌-◌, ◌^◌, ◌<◌, ◌≤◌, ◌==◌, if◌then◌else◌, IfSome, IfNone, length, List};
 ghost use Rattle.frame_pool.specs.Frame.{frame_count};
 ghost use Rattle.node_pool.specs.declared.pool.TheConstants.{NODE_ENTRIES};
-ghost use Rattle.node_pool.specs.Nodes.{count_of, level_of, entry_of, free_of};
+ghost use Rattle.node_pool.specs.Nodes.{node_at, count_of, level_of, entry_of, free_of};
 ghost use Rattle.page_tree.specs.Pages.{cell_at, entry_for, link_of};
 ghost use Rattle.page_tree.specs.Sound.{IsSound, is_root, trees_at};
 ghost use Rattle.page_tree.specs.Steps.{HoldsMore, HoldsLess, IsOwned, IsLeaf, IsPlaced, OwnsLeaf, PutsLeaf};
@@ -128,10 +128,62 @@ impl Store {
         ensures puts { PutsLeaf self.old.nodes self.new.nodes self.old.frames self.new.frames root.n i
             (λ k. if k == j then entry_for cell else cell_at self.old.nodes (root.n + 1) i k) 0 }
         ensures owns { OwnsLeaf self.new.nodes root.n i leaf.n }
+        ensures others { (x : ℕ) → x ≢ leaf.n → node_at self.new.nodes x ≡ node_at self.old.nodes x }
     {
         let old = cell_from(self.nodes.entry(leaf, j));
         hold_cell(&mut self.frames, cell);
         self.nodes.set_entry(leaf, j, entry_from(cell));
         drop_cell(&mut self.frames, old);
+    }
+}
+
+impl Store {
+    /// Takes all pages from an owned leaf.
+    fn empty_leaf(&mut self, root: NodeNo, i: usize, leaf: NodeNo)
+        requires sound { IsSound self.old.nodes self.old.frames }
+        requires own { IsOwned self.old.nodes root.n }
+        requires place { i < NODE_ENTRIES }
+        requires owns { OwnsLeaf self.old.nodes root.n i leaf.n }
+        ensures puts { PutsLeaf self.old.nodes self.new.nodes self.old.frames self.new.frames root.n i (λ j. 0) 0 }
+        ensures owns { OwnsLeaf self.new.nodes root.n i leaf.n }
+    {
+        'cells: for j in 0..NODE_ENTRIES {
+            self.write(root, i, leaf, j, PageCell::Absent);
+        }
+    }
+
+    /// Cuts off the leaf of an entry of an owned root, and gives up what it holds where nobody else has it.
+    pub(crate) fn unlink<L: Ledger>(&mut self, root: NodeNo, i: usize, steps: &mut Steps<L>)
+        requires sound { IsSound self.old.nodes self.old.frames }
+        requires own { IsOwned self.old.nodes root.n }
+        requires place { i < NODE_ENTRIES }
+        ensures puts { PutsLeaf self.old.nodes self.new.nodes self.old.frames self.new.frames root.n i (λ j. 0) 0 }
+        ensures empty { entry_of self.new.nodes root.n i ≡ 0 }
+        ensures cost { steps.new ≤ steps.old + 1 }
+    {
+        if let Some(leaf) = self.leaf_at(root, i) {
+            if self.nodes.count(leaf) == 1 {
+                self.empty_leaf(root, i, leaf);
+            }
+            self.cut(root, i, leaf, steps);
+        }
+    }
+
+    /// Lets leaf i of an owned root hold the cells of a leaf that is held elsewhere too.
+    fn copy_leaf(&mut self, root: NodeNo, i: usize, leaf: NodeNo, from: NodeNo)
+        requires sound { IsSound self.old.nodes self.old.frames }
+        requires own { IsOwned self.old.nodes root.n }
+        requires place { i < NODE_ENTRIES }
+        requires owns { OwnsLeaf self.old.nodes root.n i leaf.n }
+        requires from { IsLeaf self.old.nodes from.n }
+        requires apart { from.n ≢ leaf.n }
+        ensures puts { PutsLeaf self.old.nodes self.new.nodes self.old.frames self.new.frames root.n i
+            (λ j. entry_of self.old.nodes from.n j) 0 }
+        ensures owns { OwnsLeaf self.new.nodes root.n i leaf.n }
+    {
+        'cells: for j in 0..NODE_ENTRIES {
+            let cell = cell_from(self.nodes.entry(from, j));
+            self.write(root, i, leaf, j, cell);
+        }
     }
 }
