@@ -7,7 +7,7 @@ use Rattle.node_pool.specs.Nodes.{Node, empty_node, no_node, node_at, count_of, 
 use Rattle.page_tree.specs.Pages.{entries_of, link_of, cells_of, cell_at}
 use Rattle.page_tree.specs.Sound.{uses, one_if, naming, IsSound}
 use Rattle.page_tree.specs.Changes.{Keeps}
-use Rattle.page_tree.specs.Steps.{IsOwned, IsLeaf, IsPlaced, OwnsLeaf, HoldsMore, HoldsLess, PutsLeaf}
+use Rattle.page_tree.specs.Steps.{IsOwned, IsLeaf, IsPlaced, OwnsLeaf, HoldsMore, HoldsLess, PutsLeaf, root_short, leaf_short}
 use Rattle.page_tree.proofs.UsesLemmas.{one_if-yes, one_if-no, one_if-le, uses-enter, uses-enter_other, uses-some, uses-le, inside-count}
 use Rattle.page_tree.proofs.SoundLemmas.{IsRelink, CanRelink, IsWrite, root-not_led_to, leaf-count-le}
 use Rattle.page_tree.proofs.KeepsLemmas.{Keeps-relink, Keeps-write, Keeps-refl, Keeps-trans, link_of-tree, cell_at-none, cell_at-leaf, cell_at-same, zero_or_more}
@@ -134,6 +134,11 @@ module _ (old : List Node) (frames : List Frame) (n i m : ℕ) (sound : IsSound 
   pub leads-cut : entry_of cut n i ≡ 0
   leads-cut = leads-relink old cut frames n i 0 sound own change-cut can-cut
 
+  -- the leaf that was cut off is held once less, and is as it was
+  pub left-cut : node_at cut m ≡ counted (node_at old m) (count_of old m - 1)
+  left-cut =
+      at-there (recount old m (count_of old m - 1)) n m (entered (node_at (recount old m (count_of old m - 1)) n) i 0) m-apart' ∙ at-here old m (counted (node_at old m) (count_of old m - 1)) (inside-count old m m-held)
+
 module _ (old : List Node) (frames : List Frame) (n i k : ℕ) (sound : IsSound old frames) (own : IsOwned old n) (place : i < 32) (empty : entry_of old n i ≡ 0) (inside : k < length old) (free : count_of old k ≡ 0) where
   abbrev grown : List Node
   grown = enter (set old k (empty_node 1 1)) n i (k + 1)
@@ -177,6 +182,10 @@ module _ (old : List Node) (frames : List Frame) (n i k : ℕ) (sound : IsSound 
           let b = one_if-yes (k + 1) (k + 1) refl in
           omega (arith, a, b, c, free)
       }
+
+  pub others-grown : (x : ℕ) → x ≢ k → x ≢ n → node_at grown x ≡ node_at old x
+  others-grown x off away =
+      at-there (set old k (empty_node 1 1)) n x (entered (node_at (set old k (empty_node 1 1)) n) i (k + 1)) away ∙ at-there old k x (empty_node 1 1) off
 
 -- a frame can be held once more
 pub frame-fits : (nodes : List Node) (frames : List Frame) (f : ℕ) → IsSound nodes frames → frame_count frames f + 1 < 4294967296
@@ -344,3 +353,60 @@ PutsUpTo-all old new frames frames' n i leaf cells j up all =
       there = up.there;
       free = omega (arith, up.free)
     }
+
+-- an absent leaf is left as it is
+pub PutsLeaf-absent : (old : List Node) (frames : List Frame) (n i : ℕ) → IsSound old frames → IsOwned old n → entry_of old n i ≡ 0 → PutsLeaf old old frames frames n i (λ _. 0) 0
+PutsLeaf-absent old frames n i sound own none =
+    record {
+      keeps = Keeps-refl old frames (n + 1) sound;
+      own = own;
+      here = λ j _. cell_at-none old (n + 1) i j (link_of-tree old n i ∙ none);
+      there = λ k j _. refl;
+      free = omega arith
+    }
+
+-- a leaf without pages has entries that are all 0
+pub empty-entries : (old new : List Node) (frames frames' : List Frame) (n i m : ℕ) → PutsLeaf old new frames frames' n i (λ _. 0) 0 → OwnsLeaf new n i m → (j : ℕ) → entry_of new m j ≡ 0
+empty-entries old new frames frames' n i m puts owns j =
+    ⊎_elim
+      (λ lt. sym (cell_at-leaf new (n + 1) i j m (link_of-tree new n i ∙ owns.leads)) ∙ puts.here j lt)
+      (λ past.
+        let wide = puts.keeps.sound.shape m (inside-count new m (omega (arith, owns.once))) in
+        get_or_past (entries_of new m) j 0 (omega (arith, wide, past)))
+      (cases_lt j 32)
+
+-- a root that one tree has alone is not short
+pub root_short-own : (nodes : List Node) (n : ℕ) → IsOwned nodes n → root_short nodes (n + 1) ≡ 0
+unfolding root_short
+root_short-own nodes n own =
+    cond-false (eqb (n + 1) 0) 1 (cond (eqb (count_of nodes (n + 1 - 1)) 1) 0 1) (ne_eqb (n + 1) 0 (λ is. absurd (omega (arith, is)))) ∙ cond-true (eqb (count_of nodes (n + 1 - 1)) 1) 0 1 (eq-eqb (count_of nodes (n + 1 - 1)) 1 (ap (λ x. count_of nodes x) (omega arith) ∙ own.once))
+
+leaf_short-inner : (nodes : List Node) (n i : ℕ) → IsOwned nodes n → leaf_short nodes (n + 1) i ≡ cond (eqb (link_of nodes (n + 1) i) 0) 1 (cond (eqb (count_of nodes (link_of nodes (n + 1) i - 1)) 1) 0 1)
+unfolding leaf_short
+leaf_short-inner nodes n i own =
+    cond-false (eqb (root_short nodes (n + 1)) 1) 1 (cond (eqb (link_of nodes (n + 1) i) 0) 1 (cond (eqb (count_of nodes (link_of nodes (n + 1) i - 1)) 1) 0 1)) (ne_eqb (root_short nodes (n + 1)) 1 (λ is. absurd (omega (arith, is, root_short-own nodes n own))))
+
+pub leaf_short-absent : (nodes : List Node) (n i : ℕ) → IsOwned nodes n → entry_of nodes n i ≡ 0 → leaf_short nodes (n + 1) i ≡ 1
+leaf_short-absent nodes n i own none =
+    leaf_short-inner nodes n i own ∙ cond-true (eqb (link_of nodes (n + 1) i) 0) 1 (cond (eqb (count_of nodes (link_of nodes (n + 1) i - 1)) 1) 0 1) (eq-eqb (link_of nodes (n + 1) i) 0 (link_of-tree nodes n i ∙ none))
+
+leaf_short-held : (nodes : List Node) (n i m : ℕ) → IsOwned nodes n → entry_of nodes n i ≡ m + 1 → leaf_short nodes (n + 1) i ≡ cond (eqb (count_of nodes m) 1) 0 1
+leaf_short-held nodes n i m own leads =
+    let link : link_of nodes (n + 1) i ≡ m + 1 = link_of-tree nodes n i ∙ leads in
+    leaf_short-inner nodes n i own ∙ cond-false (eqb (link_of nodes (n + 1) i) 0) 1 (cond (eqb (count_of nodes (link_of nodes (n + 1) i - 1)) 1) 0 1) (ne_eqb (link_of nodes (n + 1) i) 0 (λ is. absurd (omega (arith, is, link)))) ∙ ap (λ x. cond (eqb (count_of nodes x) 1) 0 1) (omega (arith, link))
+
+pub leaf_short-alone : (nodes : List Node) (n i m : ℕ) → IsOwned nodes n → entry_of nodes n i ≡ m + 1 → count_of nodes m ≡ 1 → leaf_short nodes (n + 1) i ≡ 0
+leaf_short-alone nodes n i m own leads once = leaf_short-held nodes n i m own leads ∙ cond-true (eqb (count_of nodes m) 1) 0 1 (eq-eqb (count_of nodes m) 1 once)
+
+pub leaf_short-shared : (nodes : List Node) (n i m : ℕ) → IsOwned nodes n → entry_of nodes n i ≡ m + 1 → count_of nodes m ≢ 1 → leaf_short nodes (n + 1) i ≡ 1
+leaf_short-shared nodes n i m own leads more = leaf_short-held nodes n i m own leads ∙ cond-false (eqb (count_of nodes m) 1) 0 1 (ne_eqb (count_of nodes m) 1 more)
+
+-- a leaf of its own stays as it is
+pub PutsLeaf-same : (old : List Node) (frames : List Frame) (n i : ℕ) (taken : ℕ) → IsSound old frames → IsOwned old n → PutsLeaf old old frames frames n i (λ j. cell_at old (n + 1) i j) taken
+PutsLeaf-same old frames n i taken sound own =
+    record { keeps = Keeps-refl old frames (n + 1) sound; own = own; here = λ j _. refl; there = λ k j _. refl; free = omega arith }
+
+-- cells and the number of nodes as another says them
+pub PutsLeaf-as : (old new : List Node) (frames frames' : List Frame) (n i : ℕ) (cells cells' : ℕ → ℕ) (t t' : ℕ) → PutsLeaf old new frames frames' n i cells t → ((j : ℕ) → j < 32 → cells j ≡ cells' j) → t ≤ t' → PutsLeaf old new frames frames' n i cells' t'
+PutsLeaf-as old new frames frames' n i cells cells' t t' puts same le =
+    record { keeps = puts.keeps; own = puts.own; here = λ j lt. puts.here j lt ∙ same j lt; there = puts.there; free = omega (arith, puts.free, le) }

@@ -1,10 +1,10 @@
 ghost use Rattle.std.specs.Prelude.{◌≡◌, ◌≢◌, ℕ, ◌+◌, ◌-◌, ◌^◌, ◌<◌, ◌≤◌, ◌==◌, if◌then◌else◌, IfSome, IfNone, length, List};
 ghost use Rattle.frame_pool.specs.Frame.{frame_count};
 ghost use Rattle.node_pool.specs.declared.pool.TheConstants.{NODE_ENTRIES};
-ghost use Rattle.node_pool.specs.Nodes.{node_at, count_of, level_of, entry_of, free_of};
+ghost use Rattle.node_pool.specs.Nodes.{node_at, count_of, level_of, entry_of, counted, free_of};
 ghost use Rattle.page_tree.specs.Pages.{cell_at, entry_for, link_of};
 ghost use Rattle.page_tree.specs.Sound.{IsSound, is_root, trees_at};
-ghost use Rattle.page_tree.specs.Steps.{HoldsMore, HoldsLess, IsOwned, IsLeaf, IsPlaced, OwnsLeaf, PutsLeaf};
+ghost use Rattle.page_tree.specs.Steps.{HoldsMore, HoldsLess, IsOwned, IsLeaf, IsPlaced, OwnsLeaf, PutsLeaf, leaf_short};
 
 use crate::cell::{PageCell, cell_from, entry_from};
 use frame_pool::Pool;
@@ -95,6 +95,7 @@ impl Store {
         requires clean { count_of self.old.nodes leaf.n ≡ 1 → (j : ℕ) → entry_of self.old.nodes leaf.n j ≡ 0 }
         ensures puts { PutsLeaf self.old.nodes self.new.nodes self.old.frames self.new.frames root.n i (λ j. 0) 0 }
         ensures empty { entry_of self.new.nodes root.n i ≡ 0 }
+        ensures left { node_at self.new.nodes leaf.n ≡ counted (node_at self.old.nodes leaf.n) (count_of self.old.nodes leaf.n - 1) }
         ensures one_step { steps.new ≡ steps.old + 1 }
     {
         self.nodes.drop_hold(leaf, steps);
@@ -110,6 +111,8 @@ impl Store {
         requires free { 0 < free_of self.old.nodes }
         ensures puts { PutsLeaf self.old.nodes self.new.nodes self.old.frames self.new.frames root.n i (λ j. 0) 1 }
         ensures owns { OwnsLeaf self.new.nodes root.n i result.n }
+        ensures was_free { count_of self.old.nodes result.n ≡ 0 }
+        ensures others { (x : ℕ) → x ≢ result.n → x ≢ root.n → node_at self.new.nodes x ≡ node_at self.old.nodes x }
         ensures one_step { steps.new ≡ steps.old + 1 }
     {
         let leaf = self.nodes.take(LEAF_LEVEL, steps).unwrap();
@@ -164,8 +167,10 @@ impl Store {
         if let Some(leaf) = self.leaf_at(root, i) {
             if self.nodes.count(leaf) == 1 {
                 self.empty_leaf(root, i, leaf);
+                self.cut(root, i, leaf, steps);
+            } else {
+                self.cut(root, i, leaf, steps);
             }
-            self.cut(root, i, leaf, steps);
         }
     }
 
@@ -184,6 +189,57 @@ impl Store {
         'cells: for j in 0..NODE_ENTRIES {
             let cell = cell_from(self.nodes.entry(from, j));
             self.write(root, i, leaf, j, cell);
+        }
+    }
+}
+
+impl Store {
+    /// Lets an entry of an owned root lead to a leaf of its own that has the cells that the entry's leaf had.
+    pub(crate) fn own_leaf<L: Ledger>(
+        &mut self,
+        root: NodeNo,
+        i: usize,
+        steps: &mut Steps<L>,
+    ) -> NodeNo
+        requires sound { IsSound self.old.nodes self.old.frames }
+        requires own { IsOwned self.old.nodes root.n }
+        requires place { i < NODE_ENTRIES }
+        requires free { leaf_short self.old.nodes (root.n + 1) i ≤ free_of self.old.nodes }
+        ensures puts { PutsLeaf self.old.nodes self.new.nodes self.old.frames self.new.frames root.n i
+            (λ j. cell_at self.old.nodes (root.n + 1) i j) (leaf_short self.old.nodes (root.n + 1) i) }
+        ensures owns { OwnsLeaf self.new.nodes root.n i result.n }
+        ensures cost { steps.new ≤ steps.old + 2 }
+    {
+        match self.leaf_at(root, i) {
+            None => self.new_leaf(root, i, steps),
+            Some(leaf) => self.own_held_leaf(root, i, leaf, steps),
+        }
+    }
+
+    fn own_held_leaf<L: Ledger>(
+        &mut self,
+        root: NodeNo,
+        i: usize,
+        leaf: NodeNo,
+        steps: &mut Steps<L>,
+    ) -> NodeNo
+        requires sound { IsSound self.old.nodes self.old.frames }
+        requires own { IsOwned self.old.nodes root.n }
+        requires place { i < NODE_ENTRIES }
+        requires leads { entry_of self.old.nodes root.n i ≡ leaf.n + 1 }
+        requires free { leaf_short self.old.nodes (root.n + 1) i ≤ free_of self.old.nodes }
+        ensures puts { PutsLeaf self.old.nodes self.new.nodes self.old.frames self.new.frames root.n i
+            (λ j. cell_at self.old.nodes (root.n + 1) i j) (leaf_short self.old.nodes (root.n + 1) i) }
+        ensures owns { OwnsLeaf self.new.nodes root.n i result.n }
+        ensures cost { steps.new ≤ steps.old + 2 }
+    {
+        if self.nodes.count(leaf) == 1 {
+            leaf
+        } else {
+            self.cut(root, i, leaf, steps);
+            let copy = self.new_leaf(root, i, steps);
+            self.copy_leaf(root, i, copy, leaf);
+            copy
         }
     }
 }
