@@ -1,5 +1,6 @@
 pub mod KeepsLemmas
 pub mod RawLemmas
+pub mod RootLemmas
 pub mod SoundLemmas
 pub mod StepLemmas
 pub mod UsesLemmas

@@ -91,6 +91,9 @@ module _ (old : List Node) (frames : List Frame) (n i m : ℕ) (sound : IsSound 
          let c = one_if-no (count_of old m) 0 (λ is. absurd (omega (arith, is, leaf.held))) in
          omega (arith, a, b, c))
 
+  pub others-link : (k : ℕ) → k ≢ i → entry_of linked n k ≡ entry_of old n k
+  others-link k apart = ap (λ es. get_or es k 0) change-link.here ∙ get_or-set_other (entries_of old n) i k (m + 1) 0 apart
+
   pub leads-link : entry_of linked n i ≡ m + 1
   leads-link = leads-relink old linked frames n i (m + 1) sound own change-link can-link
 

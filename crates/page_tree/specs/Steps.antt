@@ -6,7 +6,7 @@ use Rattle.node_pool.specs.declared.pool.TheConstants.{NODE_ENTRIES}
 use Rattle.node_pool.specs.Nodes.{Node, count_of, level_of, entry_of, free_of}
 use Rattle.page_tree.specs.declared.store.TheConstants.{LEAF_LEVEL, ROOT_LEVEL}
 use Rattle.page_tree.specs.Pages.{cell_at, link_of}
-use Rattle.page_tree.specs.Sound.{one_if, IsSound}
+use Rattle.page_tree.specs.Sound.{one_if, trees_at, is_root, IsSound}
 use Rattle.page_tree.specs.Changes.{Keeps}
 
 -- a tree, of the root that it has
@@ -68,6 +68,27 @@ leaf_short nodes tree i =
 pub record OwnsRoot (old new : List Node) (frames frames' : List Frame) (tree root : ℕ) : Type 0 where
   pub keeps : Keeps old new frames frames' tree (root + 1)
   pub own : IsOwned new root
-  pub cells : (i j : ℕ) → cell_at new (root + 1) i j ≡ cell_at old tree i j
+  pub cells : (i j : ℕ) → i < NODE_ENTRIES → j < NODE_ENTRIES → cell_at new (root + 1) i j ≡ cell_at old tree i j
   pub short : (i : ℕ) → leaf_short new (root + 1) i ≤ leaf_short old tree i
   pub free : free_of old ≤ free_of new + root_short old tree
+
+-- a tree is another than the one that has a root alone
+abbrev pub IsApart : List Node → ℕ → ℕ → Type 0
+IsApart nodes root tree = (t : ℕ) → tree ≡ t + 1 → is_root (root + 1) t < trees_at nodes t
+
+-- so many leaves of an owned root have the cells of another tree now, and all others theirs
+pub record PutsLeaves (old new : List Node) (frames frames' : List Frame) (root tree first end : ℕ) : Type 0 where
+  pub keeps : Keeps old new frames frames' (root + 1) (root + 1)
+  pub own : IsOwned new root
+  pub within : (i j : ℕ) → first ≤ i → i < end → j < NODE_ENTRIES → cell_at new (root + 1) i j ≡ cell_at old tree i j
+  pub before : (i j : ℕ) → i < first → j < NODE_ENTRIES → cell_at new (root + 1) i j ≡ cell_at old (root + 1) i j
+  pub after : (i j : ℕ) → end ≤ i → i < NODE_ENTRIES → j < NODE_ENTRIES → cell_at new (root + 1) i j ≡ cell_at old (root + 1) i j
+  pub free : free_of old ≤ free_of new
+
+-- the first leaves of one root are those of another now, and its other entries are empty
+pub record LinksAll (old new : List Node) (frames frames' : List Frame) (copy root end : ℕ) : Type 0 where
+  pub keeps : Keeps old new frames frames' (copy + 1) (copy + 1)
+  pub own : IsOwned new copy
+  pub cells : (i j : ℕ) → i < end → j < NODE_ENTRIES → cell_at new (copy + 1) i j ≡ cell_at old (root + 1) i j
+  pub empty : (i : ℕ) → end ≤ i → entry_of new copy i ≡ 0
+  pub free : free_of old ≤ free_of new

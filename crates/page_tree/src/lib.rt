@@ -2,6 +2,7 @@
 #![tactic(auto)]
 
 pub mod cell;
+pub mod root;
 pub mod store;
 
 pub use cell::PageCell;

@@ -80,6 +80,7 @@ impl Store {
         ensures puts { PutsLeaf self.old.nodes self.new.nodes self.old.frames self.new.frames root.n i
             (λ j. entry_of self.old.nodes leaf.n j) 0 }
         ensures leads { entry_of self.new.nodes root.n i ≡ leaf.n + 1 }
+        ensures others { (k : ℕ) → k ≢ i → entry_of self.new.nodes root.n k ≡ entry_of self.old.nodes root.n k }
         ensures one_step { steps.new ≡ steps.old + 1 }
     {
         self.nodes.hold(leaf, steps);

@@ -10,4 +10,5 @@ pub cut-requires-clause-clean : goal.cut-requires-clause-clean
 cut-requires-clause-clean g c = λ _ j. empty-entries _ _ _ _ _ _ _ c.empty_leaf.ensures.puts c.empty_leaf.ensures.owns j
 
 pub returns-in_default-clause-puts : goal.returns-in_default-clause-puts
-returns-in_default-clause-puts g c = ?
+returns-in_default-clause-puts g c =
+    PutsLeaf-absent _ _ _ _ c.requires.sound c.requires.own c.in_default.ensures.none
