@@ -92,3 +92,7 @@ pub record LinksAll (old new : List Node) (frames frames' : List Frame) (copy ro
   pub cells : (i j : ℕ) → i < end → j < NODE_ENTRIES → cell_at new (copy + 1) i j ≡ cell_at old (root + 1) i j
   pub empty : (i : ℕ) → end ≤ i → entry_of new copy i ≡ 0
   pub free : free_of old ≤ free_of new
+
+-- a tree is empty, or has a root that is held
+abbrev pub IsRooted : List Node → ℕ → Type 0
+IsRooted nodes tree = (t : ℕ) → tree ≡ t + 1 → 0 < trees_at nodes t

@@ -3,6 +3,7 @@
 
 pub mod cell;
 pub mod root;
+pub mod share;
 pub mod store;
 
 pub use cell::PageCell;
