@@ -1,6 +1,7 @@
 pub mod KeepsLemmas
 pub mod RawLemmas
 pub mod RootLemmas
+pub mod ShareLemmas
 pub mod SoundLemmas
 pub mod StepLemmas
 pub mod UsesLemmas

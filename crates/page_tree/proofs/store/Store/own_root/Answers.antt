@@ -3,4 +3,6 @@ use Rattle.page_tree.proofs.RootLemmas.{root_short-none}
 use Rattle.page_tree.proofs.store.Store.own_root.Goals as goal
 
 pub new_root-requires-clause-free : goal.new_root-requires-clause-free
-new_root-requires-clause-free g c = omega (arith, root_short-none c.args.self.now.nodes, c.requires.free)
+new_root-requires-clause-free g c =
+    let free = rw c.in-None.is at c.requires.free in
+    omega (arith, root_short-none c.args.self.now.nodes, free)
