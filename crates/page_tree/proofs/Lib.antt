@@ -1,4 +1,5 @@
 pub mod KeepsLemmas
+pub mod PathLemmas
 pub mod RawLemmas
 pub mod RootLemmas
 pub mod ShareLemmas

@@ -43,9 +43,12 @@ module _ (old new : List Node) (frames : List Frame) (n i v : ℕ) (sound : IsSo
         (link_of-tree new n k ∙ ap (λ es. get_or es k 0) change.here ∙ get_or-set_other (entries_of old n) i k v 0 apart ∙ sym (link_of-tree old n k))
         (λ m is. ap (λ es. get_or es j 0) (change.there m (leaf-apart old n m own.level (sound.leaves n k m own.level (sym (link_of-tree old n k) ∙ is)))))
 
+  entries-relink : (k : ℕ) → k ≢ i → entry_of new n k ≡ entry_of old n k
+  entries-relink k apart = ap (λ es. get_or es k 0) change.here ∙ get_or-set_other (entries_of old n) i k v 0 apart
+
   pub PutsLeaf-relink : (cells : ℕ → ℕ) (taken : ℕ) → ((j : ℕ) → j < 32 → cell_at new (n + 1) i j ≡ cells j) → free_of old ≤ free_of new + taken → PutsLeaf old new frames frames n i cells taken
   PutsLeaf-relink cells taken here free =
-      record { keeps = Keeps-relink old new frames n i v sound own.once change can; own = own-relink; here = here; there = there-relink; free = free }
+      record { keeps = Keeps-relink old new frames n i v sound own.once change can; own = own-relink; here = here; there = there-relink; entries = entries-relink; free = free }
 
   pub here-none : v ≡ 0 → (j : ℕ) → cell_at new (n + 1) i j ≡ 0
   here-none none j = cell_at-none new (n + 1) i j (link_of-tree new n i ∙ leads-relink ∙ none)
@@ -288,6 +291,7 @@ module _ (old : List Node) (frames mid frames' : List Frame) (n i m j v : ℕ) (
                 let at : entry_of old n k ≡ entry_of old n i = sym (link_of-tree old n k) ∙ is ∙ ap (λ z. z + 1) same ∙ sym owns.leads in
                 let pos : 0 < entry_of old n k = omega (arith, at, owns.leads) in
                 absurd (apart (sound.placed n n k i own.level own.level at pos)))));
+        entries = λ k _. ap (λ es. get_or es k 0) root-same;
         free = let same = free_of-enter old m j v in omega (arith, same)
       }
 
@@ -302,6 +306,7 @@ PutsLeaf-then a b d fa fb fd n i first second s t ab bd =
       own = bd.own;
       here = bd.here;
       there = λ k j apart. bd.there k j apart ∙ ab.there k j apart;
+      entries = λ k apart. bd.entries k apart ∙ ab.entries k apart;
       free = omega (arith, ab.free, bd.free)
     }
 
@@ -314,6 +319,7 @@ pub record PutsUpTo (old new : List Node) (frames frames' : List Frame) (n i lea
   pub before : (k : ℕ) → k < lo → cell_at new (n + 1) i k ≡ cell_at old (n + 1) i k
   pub after : (k : ℕ) → j ≤ k → k < 32 → cell_at new (n + 1) i k ≡ cell_at old (n + 1) i k
   pub there : (k l : ℕ) → k ≢ i → cell_at new (n + 1) k l ≡ cell_at old (n + 1) k l
+  pub entries : (k : ℕ) → k ≢ i → entry_of new n k ≡ entry_of old n k
   pub free : free_of old ≤ free_of new
 
 pub PutsUpTo-none : (old : List Node) (frames : List Frame) (n i leaf : ℕ) (cells : ℕ → ℕ) (lo : ℕ) → IsSound old frames → IsOwned old n → OwnsLeaf old n i leaf → PutsUpTo old old frames frames n i leaf cells lo lo
@@ -326,6 +332,7 @@ PutsUpTo-none old frames n i leaf cells lo sound own owns =
       before = λ k _. refl;
       after = λ k _ _. refl;
       there = λ k l _. refl;
+      entries = λ k _. refl;
       free = omega arith
     }
 
@@ -344,6 +351,7 @@ PutsUpTo-more old mid new frames middle frames' n i leaf cells lo j v so_far ste
       before = λ k low. other k (omega (arith, low, from, inside)) (λ same. absurd (omega (arith, same, low, from))) ∙ so_far.before k low;
       after = λ k high lt. other k lt (λ same. absurd (omega (arith, same, high))) ∙ so_far.after k (omega (arith, high)) lt;
       there = λ k l apart. step.there k l apart ∙ so_far.there k l apart;
+      entries = λ k apart. step.entries k apart ∙ so_far.entries k apart;
       free = omega (arith, so_far.free, step.free)
     }
 
@@ -354,6 +362,7 @@ PutsUpTo-all old new frames frames' n i leaf cells j up all =
       own = up.own;
       here = λ k lt. up.done k (omega arith) (omega (arith, lt, all));
       there = up.there;
+      entries = up.entries;
       free = omega (arith, up.free)
     }
 
@@ -365,6 +374,7 @@ PutsLeaf-absent old frames n i sound own none =
       own = own;
       here = λ j _. cell_at-none old (n + 1) i j (link_of-tree old n i ∙ none);
       there = λ k j _. refl;
+      entries = λ k _. refl;
       free = omega arith
     }
 
@@ -407,9 +417,9 @@ leaf_short-shared nodes n i m own leads more = leaf_short-held nodes n i m own l
 -- a leaf of its own stays as it is
 pub PutsLeaf-same : (old : List Node) (frames : List Frame) (n i : ℕ) (taken : ℕ) → IsSound old frames → IsOwned old n → PutsLeaf old old frames frames n i (λ j. cell_at old (n + 1) i j) taken
 PutsLeaf-same old frames n i taken sound own =
-    record { keeps = Keeps-refl old frames (n + 1) sound; own = own; here = λ j _. refl; there = λ k j _. refl; free = omega arith }
+    record { keeps = Keeps-refl old frames (n + 1) sound; own = own; here = λ j _. refl; there = λ k j _. refl; entries = λ k _. refl; free = omega arith }
 
 -- cells and the number of nodes as another says them
 pub PutsLeaf-as : (old new : List Node) (frames frames' : List Frame) (n i : ℕ) (cells cells' : ℕ → ℕ) (t t' : ℕ) → PutsLeaf old new frames frames' n i cells t → ((j : ℕ) → j < 32 → cells j ≡ cells' j) → t ≤ t' → PutsLeaf old new frames frames' n i cells' t'
 PutsLeaf-as old new frames frames' n i cells cells' t t' puts same le =
-    record { keeps = puts.keeps; own = puts.own; here = λ j lt. puts.here j lt ∙ same j lt; there = puts.there; free = omega (arith, puts.free, le) }
+    record { keeps = puts.keeps; own = puts.own; here = λ j lt. puts.here j lt ∙ same j lt; there = puts.there; entries = puts.entries; free = omega (arith, puts.free, le) }

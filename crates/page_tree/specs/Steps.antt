@@ -53,6 +53,7 @@ pub record PutsLeaf (old new : List Node) (frames frames' : List Frame) (root i 
   pub own : IsOwned new root
   pub here : (j : ℕ) → j < NODE_ENTRIES → cell_at new (root + 1) i j ≡ cells j
   pub there : (k j : ℕ) → k ≢ i → cell_at new (root + 1) k j ≡ cell_at old (root + 1) k j
+  pub entries : (k : ℕ) → k ≢ i → entry_of new root k ≡ entry_of old root k
   pub free : free_of old ≤ free_of new + taken
 
 -- 1 where the root of a tree must be taken: it is empty, or its root is shared
@@ -96,3 +97,18 @@ pub record LinksAll (old new : List Node) (frames frames' : List Frame) (copy ro
 -- a tree is empty, or has a root that is held
 abbrev pub IsRooted : List Node → ℕ → Type 0
 IsRooted nodes tree = (t : ℕ) → tree ≡ t + 1 → 0 < trees_at nodes t
+
+-- a tree has a root and a leaf of its own now on the way to some page, and all its cells
+pub record OwnsPath (old new : List Node) (frames frames' : List Frame) (tree root i leaf : ℕ) : Type 0 where
+  pub keeps : Keeps old new frames frames' tree (root + 1)
+  pub own : IsOwned new root
+  pub owns : OwnsLeaf new root i leaf
+  pub cells : (k j : ℕ) → k < NODE_ENTRIES → j < NODE_ENTRIES → cell_at new (root + 1) k j ≡ cell_at old tree k j
+  pub free : free_of old ≤ free_of new + (root_short old tree + leaf_short old tree i)
+
+-- so many leaves of a root are cut off
+pub record CutsAll (old new : List Node) (frames frames' : List Frame) (root end : ℕ) : Type 0 where
+  pub keeps : Keeps old new frames frames' (root + 1) (root + 1)
+  pub own : IsOwned new root
+  pub empty : (i : ℕ) → i < end → entry_of new root i ≡ 0
+  pub free : free_of old ≤ free_of new

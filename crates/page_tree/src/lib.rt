@@ -2,6 +2,7 @@
 #![tactic(auto)]
 
 pub mod cell;
+pub mod path;
 pub mod root;
 pub mod share;
 pub mod store;
