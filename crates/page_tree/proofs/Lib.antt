@@ -1,8 +1,10 @@
 pub mod KeepsLemmas
+pub mod PageLemmas
 pub mod PathLemmas
 pub mod RawLemmas
 pub mod RootLemmas
 pub mod ShareLemmas
+pub mod ShortLemmas
 pub mod SoundLemmas
 pub mod StepLemmas
 pub mod UsesLemmas

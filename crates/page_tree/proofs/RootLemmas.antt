@@ -12,7 +12,7 @@ use Rattle.page_tree.proofs.UsesLemmas.{one_if-yes, one_if-no, inside-count, ins
 use Rattle.page_tree.proofs.SoundLemmas.{IsRerooted}
 use Rattle.page_tree.proofs.KeepsLemmas.{trees-is, trees-le, trees-root, is_root-here, is_root-there, is_root-none, Keeps-reroot, Keeps-refl, Keeps-trans, Keeps-swap, other-cells, link_of-tree, link_of-none, cell_at-none, cell_at-leaf}
 use Rattle.page_tree.proofs.RawLemmas.{at-here, at-there, free-entries, IsRerooted-made, free_of-set}
-use Rattle.page_tree.proofs.StepLemmas.{root_short-own}
+use Rattle.page_tree.proofs.ShortLemmas.{root_short-own}
 
 pub root_short-none : (nodes : List Node) → root_short nodes 0 ≡ 1
 unfolding root_short

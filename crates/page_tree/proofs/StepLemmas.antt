@@ -11,6 +11,7 @@ use Rattle.page_tree.specs.Steps.{IsOwned, IsLeaf, IsPlaced, OwnsLeaf, HoldsMore
 use Rattle.page_tree.proofs.UsesLemmas.{one_if-yes, one_if-no, one_if-le, uses-enter, uses-enter_other, uses-some, uses-le, inside-count}
 use Rattle.page_tree.proofs.SoundLemmas.{IsRelink, CanRelink, IsWrite, root-not_led_to, leaf-count-le}
 use Rattle.page_tree.proofs.KeepsLemmas.{Keeps-relink, Keeps-write, Keeps-refl, Keeps-trans, link_of-tree, cell_at-none, cell_at-leaf, cell_at-same, zero_or_more}
+use Rattle.page_tree.proofs.ShortLemmas.{leaf_short-kept}
 use Rattle.page_tree.proofs.RawLemmas.{at-here, at-there, free-entries, IsRelink-made, CanRelink-made, free_of-set, free_of-enter}
 
 -- what a root leads to is another node
@@ -46,9 +47,17 @@ module _ (old new : List Node) (frames : List Frame) (n i v : ℕ) (sound : IsSo
   entries-relink : (k : ℕ) → k ≢ i → entry_of new n k ≡ entry_of old n k
   entries-relink k apart = ap (λ es. get_or es k 0) change.here ∙ get_or-set_other (entries_of old n) i k v 0 apart
 
+  short-relink : (k : ℕ) → k ≢ i → leaf_short new (n + 1) k ≡ leaf_short old (n + 1) k
+  short-relink k apart =
+      leaf_short-kept old new n k own own-relink (entries-relink k apart)
+        (λ m leads.
+          let left = one_if-no (entry_of old n i) (m + 1) (λ is. absurd (apart (sound.placed n n k i own.level own.level (leads ∙ sym is) (omega (arith, leads))))) in
+          let came = one_if-no v (m + 1) (λ is. absurd (apart (can.placed n k own.level (leads ∙ sym is) (omega (arith, is))))) in
+          omega (arith, change.counts m, left, came))
+
   pub PutsLeaf-relink : (cells : ℕ → ℕ) (taken : ℕ) → ((j : ℕ) → j < 32 → cell_at new (n + 1) i j ≡ cells j) → free_of old ≤ free_of new + taken → PutsLeaf old new frames frames n i cells taken
   PutsLeaf-relink cells taken here free =
-      record { keeps = Keeps-relink old new frames n i v sound own.once change can; own = own-relink; here = here; there = there-relink; entries = entries-relink; free = free }
+      record { keeps = Keeps-relink old new frames n i v sound own.once change can; own = own-relink; here = here; there = there-relink; entries = entries-relink; short = short-relink; free = free }
 
   pub here-none : v ≡ 0 → (j : ℕ) → cell_at new (n + 1) i j ≡ 0
   here-none none j = cell_at-none new (n + 1) i j (link_of-tree new n i ∙ leads-relink ∙ none)
@@ -292,6 +301,7 @@ module _ (old : List Node) (frames mid frames' : List Frame) (n i m j v : ℕ) (
                 let pos : 0 < entry_of old n k = omega (arith, at, owns.leads) in
                 absurd (apart (sound.placed n n k i own.level own.level at pos)))));
         entries = λ k _. ap (λ es. get_or es k 0) root-same;
+        short = λ k _. leaf_short-kept old written n k own (record { level = change-written.level n ∙ own.level; once = change-written.counts n ∙ own.once }) (ap (λ es. get_or es k 0) root-same) (λ y _. change-written.counts y);
         free = let same = free_of-enter old m j v in omega (arith, same)
       }
 
@@ -307,6 +317,7 @@ PutsLeaf-then a b d fa fb fd n i first second s t ab bd =
       here = bd.here;
       there = λ k j apart. bd.there k j apart ∙ ab.there k j apart;
       entries = λ k apart. bd.entries k apart ∙ ab.entries k apart;
+      short = λ k apart. bd.short k apart ∙ ab.short k apart;
       free = omega (arith, ab.free, bd.free)
     }
 
@@ -320,6 +331,7 @@ pub record PutsUpTo (old new : List Node) (frames frames' : List Frame) (n i lea
   pub after : (k : ℕ) → j ≤ k → k < 32 → cell_at new (n + 1) i k ≡ cell_at old (n + 1) i k
   pub there : (k l : ℕ) → k ≢ i → cell_at new (n + 1) k l ≡ cell_at old (n + 1) k l
   pub entries : (k : ℕ) → k ≢ i → entry_of new n k ≡ entry_of old n k
+  pub short : (k : ℕ) → k ≢ i → leaf_short new (n + 1) k ≡ leaf_short old (n + 1) k
   pub free : free_of old ≤ free_of new
 
 pub PutsUpTo-none : (old : List Node) (frames : List Frame) (n i leaf : ℕ) (cells : ℕ → ℕ) (lo : ℕ) → IsSound old frames → IsOwned old n → OwnsLeaf old n i leaf → PutsUpTo old old frames frames n i leaf cells lo lo
@@ -333,6 +345,7 @@ PutsUpTo-none old frames n i leaf cells lo sound own owns =
       after = λ k _ _. refl;
       there = λ k l _. refl;
       entries = λ k _. refl;
+      short = λ k _. refl;
       free = omega arith
     }
 
@@ -352,6 +365,7 @@ PutsUpTo-more old mid new frames middle frames' n i leaf cells lo j v so_far ste
       after = λ k high lt. other k lt (λ same. absurd (omega (arith, same, high))) ∙ so_far.after k (omega (arith, high)) lt;
       there = λ k l apart. step.there k l apart ∙ so_far.there k l apart;
       entries = λ k apart. step.entries k apart ∙ so_far.entries k apart;
+      short = λ k apart. step.short k apart ∙ so_far.short k apart;
       free = omega (arith, so_far.free, step.free)
     }
 
@@ -363,6 +377,7 @@ PutsUpTo-all old new frames frames' n i leaf cells j up all =
       here = λ k lt. up.done k (omega arith) (omega (arith, lt, all));
       there = up.there;
       entries = up.entries;
+      short = up.short;
       free = omega (arith, up.free)
     }
 
@@ -375,6 +390,7 @@ PutsLeaf-absent old frames n i sound own none =
       here = λ j _. cell_at-none old (n + 1) i j (link_of-tree old n i ∙ none);
       there = λ k j _. refl;
       entries = λ k _. refl;
+      short = λ k _. refl;
       free = omega arith
     }
 
@@ -388,38 +404,12 @@ empty-entries old new frames frames' n i m puts owns j =
         get_or_past (entries_of new m) j 0 (omega (arith, wide, past)))
       (cases_lt j 32)
 
--- a root that one tree has alone is not short
-pub root_short-own : (nodes : List Node) (n : ℕ) → IsOwned nodes n → root_short nodes (n + 1) ≡ 0
-unfolding root_short
-root_short-own nodes n own =
-    cond-false (eqb (n + 1) 0) 1 (cond (eqb (count_of nodes (n + 1 - 1)) 1) 0 1) (ne_eqb (n + 1) 0 (λ is. absurd (omega (arith, is)))) ∙ cond-true (eqb (count_of nodes (n + 1 - 1)) 1) 0 1 (eq-eqb (count_of nodes (n + 1 - 1)) 1 (ap (λ x. count_of nodes x) (omega arith) ∙ own.once))
-
-leaf_short-inner : (nodes : List Node) (n i : ℕ) → IsOwned nodes n → leaf_short nodes (n + 1) i ≡ cond (eqb (link_of nodes (n + 1) i) 0) 1 (cond (eqb (count_of nodes (link_of nodes (n + 1) i - 1)) 1) 0 1)
-unfolding leaf_short
-leaf_short-inner nodes n i own =
-    cond-false (eqb (root_short nodes (n + 1)) 1) 1 (cond (eqb (link_of nodes (n + 1) i) 0) 1 (cond (eqb (count_of nodes (link_of nodes (n + 1) i - 1)) 1) 0 1)) (ne_eqb (root_short nodes (n + 1)) 1 (λ is. absurd (omega (arith, is, root_short-own nodes n own))))
-
-pub leaf_short-absent : (nodes : List Node) (n i : ℕ) → IsOwned nodes n → entry_of nodes n i ≡ 0 → leaf_short nodes (n + 1) i ≡ 1
-leaf_short-absent nodes n i own none =
-    leaf_short-inner nodes n i own ∙ cond-true (eqb (link_of nodes (n + 1) i) 0) 1 (cond (eqb (count_of nodes (link_of nodes (n + 1) i - 1)) 1) 0 1) (eq-eqb (link_of nodes (n + 1) i) 0 (link_of-tree nodes n i ∙ none))
-
-leaf_short-held : (nodes : List Node) (n i m : ℕ) → IsOwned nodes n → entry_of nodes n i ≡ m + 1 → leaf_short nodes (n + 1) i ≡ cond (eqb (count_of nodes m) 1) 0 1
-leaf_short-held nodes n i m own leads =
-    let link : link_of nodes (n + 1) i ≡ m + 1 = link_of-tree nodes n i ∙ leads in
-    leaf_short-inner nodes n i own ∙ cond-false (eqb (link_of nodes (n + 1) i) 0) 1 (cond (eqb (count_of nodes (link_of nodes (n + 1) i - 1)) 1) 0 1) (ne_eqb (link_of nodes (n + 1) i) 0 (λ is. absurd (omega (arith, is, link)))) ∙ ap (λ x. cond (eqb (count_of nodes x) 1) 0 1) (omega (arith, link))
-
-pub leaf_short-alone : (nodes : List Node) (n i m : ℕ) → IsOwned nodes n → entry_of nodes n i ≡ m + 1 → count_of nodes m ≡ 1 → leaf_short nodes (n + 1) i ≡ 0
-leaf_short-alone nodes n i m own leads once = leaf_short-held nodes n i m own leads ∙ cond-true (eqb (count_of nodes m) 1) 0 1 (eq-eqb (count_of nodes m) 1 once)
-
-pub leaf_short-shared : (nodes : List Node) (n i m : ℕ) → IsOwned nodes n → entry_of nodes n i ≡ m + 1 → count_of nodes m ≢ 1 → leaf_short nodes (n + 1) i ≡ 1
-leaf_short-shared nodes n i m own leads more = leaf_short-held nodes n i m own leads ∙ cond-false (eqb (count_of nodes m) 1) 0 1 (ne_eqb (count_of nodes m) 1 more)
-
 -- a leaf of its own stays as it is
 pub PutsLeaf-same : (old : List Node) (frames : List Frame) (n i : ℕ) (taken : ℕ) → IsSound old frames → IsOwned old n → PutsLeaf old old frames frames n i (λ j. cell_at old (n + 1) i j) taken
 PutsLeaf-same old frames n i taken sound own =
-    record { keeps = Keeps-refl old frames (n + 1) sound; own = own; here = λ j _. refl; there = λ k j _. refl; entries = λ k _. refl; free = omega arith }
+    record { keeps = Keeps-refl old frames (n + 1) sound; own = own; here = λ j _. refl; there = λ k j _. refl; entries = λ k _. refl; short = λ k _. refl; free = omega arith }
 
 -- cells and the number of nodes as another says them
 pub PutsLeaf-as : (old new : List Node) (frames frames' : List Frame) (n i : ℕ) (cells cells' : ℕ → ℕ) (t t' : ℕ) → PutsLeaf old new frames frames' n i cells t → ((j : ℕ) → j < 32 → cells j ≡ cells' j) → t ≤ t' → PutsLeaf old new frames frames' n i cells' t'
 PutsLeaf-as old new frames frames' n i cells cells' t t' puts same le =
-    record { keeps = puts.keeps; own = puts.own; here = λ j lt. puts.here j lt ∙ same j lt; there = puts.there; entries = puts.entries; free = omega (arith, puts.free, le) }
+    record { keeps = puts.keeps; own = puts.own; here = λ j lt. puts.here j lt ∙ same j lt; there = puts.there; entries = puts.entries; short = puts.short; free = omega (arith, puts.free, le) }

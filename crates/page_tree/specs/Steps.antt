@@ -1,10 +1,10 @@
 -- What the small steps of a change do: words of the functions that trees are made of.
-use Rattle.std.specs.Prelude.{◌≡◌, ◌≢◌, ℕ, ◌+◌, ◌-◌, ◌^◌, ◌<◌, ◌≤◌, ◌==◌, if◌then◌else◌, List, length, Option, Some, None}
+use Rattle.std.specs.Prelude.{◌≡◌, ◌≢◌, ℕ, ◌+◌, ◌-◌, ◌*◌, ◌/◌, ◌%◌, ◌^◌, ◌<◌, ◌≤◌, ◌==◌, if◌then◌else◌, List, length, Option, Some, None}
 use Rattle.frame_pool.specs.Frame.{Frame, frame_count, frame_stamp, frame_bytes}
 use Rattle.node_pool.specs.declared.pool.NodeNo.{NodeNo}
 use Rattle.node_pool.specs.declared.pool.TheConstants.{NODE_ENTRIES}
 use Rattle.node_pool.specs.Nodes.{Node, count_of, level_of, entry_of, free_of}
-use Rattle.page_tree.specs.declared.store.TheConstants.{LEAF_LEVEL, ROOT_LEVEL}
+use Rattle.page_tree.specs.declared.store.TheConstants.{LEAF_LEVEL, PAGES, ROOT_LEVEL}
 use Rattle.page_tree.specs.Pages.{cell_at, link_of}
 use Rattle.page_tree.specs.Sound.{one_if, trees_at, is_root, IsSound}
 use Rattle.page_tree.specs.Changes.{Keeps}
@@ -47,15 +47,6 @@ pub record HoldsLess (frames frames' : List Frame) (e : ℕ) : Type 0 where
   pub stamps : (f : ℕ) → frame_stamp frames' f ≡ frame_stamp frames f
   pub bytes : (f : ℕ) → frame_bytes frames' f ≡ frame_bytes frames f
 
--- leaf i of an owned root has these cells now, its other leaves theirs, and at most so many free nodes were taken
-pub record PutsLeaf (old new : List Node) (frames frames' : List Frame) (root i : ℕ) (cells : ℕ → ℕ) (taken : ℕ) : Type 0 where
-  pub keeps : Keeps old new frames frames' (root + 1) (root + 1)
-  pub own : IsOwned new root
-  pub here : (j : ℕ) → j < NODE_ENTRIES → cell_at new (root + 1) i j ≡ cells j
-  pub there : (k j : ℕ) → k ≢ i → cell_at new (root + 1) k j ≡ cell_at old (root + 1) k j
-  pub entries : (k : ℕ) → k ≢ i → entry_of new root k ≡ entry_of old root k
-  pub free : free_of old ≤ free_of new + taken
-
 -- 1 where the root of a tree must be taken: it is empty, or its root is shared
 unfoldable pub root_short : List Node → ℕ → ℕ
 root_short nodes tree = if tree == 0 then 1 else (if count_of nodes (tree - 1) == 1 then 0 else 1)
@@ -64,6 +55,16 @@ root_short nodes tree = if tree == 0 then 1 else (if count_of nodes (tree - 1) =
 unfoldable pub leaf_short : List Node → ℕ → ℕ → ℕ
 leaf_short nodes tree i =
     if root_short nodes tree == 1 then 1 else (if link_of nodes tree i == 0 then 1 else (if count_of nodes (link_of nodes tree i - 1) == 1 then 0 else 1))
+
+-- leaf i of an owned root has these cells now, its other leaves theirs, and at most so many free nodes were taken
+pub record PutsLeaf (old new : List Node) (frames frames' : List Frame) (root i : ℕ) (cells : ℕ → ℕ) (taken : ℕ) : Type 0 where
+  pub keeps : Keeps old new frames frames' (root + 1) (root + 1)
+  pub own : IsOwned new root
+  pub here : (j : ℕ) → j < NODE_ENTRIES → cell_at new (root + 1) i j ≡ cells j
+  pub there : (k j : ℕ) → k ≢ i → cell_at new (root + 1) k j ≡ cell_at old (root + 1) k j
+  pub entries : (k : ℕ) → k ≢ i → entry_of new root k ≡ entry_of old root k
+  pub short : (k : ℕ) → k ≢ i → leaf_short new (root + 1) k ≡ leaf_short old (root + 1) k
+  pub free : free_of old ≤ free_of new + taken
 
 -- a tree has a root of its own now, with the cells that it had
 pub record OwnsRoot (old new : List Node) (frames frames' : List Frame) (tree root : ℕ) : Type 0 where
@@ -84,6 +85,7 @@ pub record PutsLeaves (old new : List Node) (frames frames' : List Frame) (root 
   pub within : (i j : ℕ) → first ≤ i → i < end → j < NODE_ENTRIES → cell_at new (root + 1) i j ≡ cell_at old tree i j
   pub before : (i j : ℕ) → i < first → j < NODE_ENTRIES → cell_at new (root + 1) i j ≡ cell_at old (root + 1) i j
   pub after : (i j : ℕ) → end ≤ i → i < NODE_ENTRIES → j < NODE_ENTRIES → cell_at new (root + 1) i j ≡ cell_at old (root + 1) i j
+  pub short : (i : ℕ) → end ≤ i → leaf_short new (root + 1) i ≡ leaf_short old (root + 1) i
   pub free : free_of old ≤ free_of new
 
 -- the first leaves of one root are those of another now, and its other entries are empty
@@ -112,3 +114,17 @@ pub record CutsAll (old new : List Node) (frames frames' : List Frame) (root end
   pub own : IsOwned new root
   pub empty : (i : ℕ) → i < end → entry_of new root i ≡ 0
   pub free : free_of old ≤ free_of new
+
+-- the entry that a tree has for a page
+abbrev pub page_entry : List Node → ℕ → ℕ → ℕ
+page_entry nodes tree p = cell_at nodes tree (p / NODE_ENTRIES) (p % NODE_ENTRIES)
+
+-- so many pages of an owned root are those of another tree now, and all others as they were
+pub record PutsPages (old new : List Node) (frames frames' : List Frame) (root tree first end taken : ℕ) : Type 0 where
+  pub keeps : Keeps old new frames frames' (root + 1) (root + 1)
+  pub own : IsOwned new root
+  pub within : (p : ℕ) → first ≤ p → p < end → page_entry new (root + 1) p ≡ page_entry old tree p
+  pub before : (p : ℕ) → p < first → page_entry new (root + 1) p ≡ page_entry old (root + 1) p
+  pub after : (p : ℕ) → end ≤ p → p < PAGES → page_entry new (root + 1) p ≡ page_entry old (root + 1) p
+  pub short : (i : ℕ) → end ≤ i * NODE_ENTRIES → leaf_short new (root + 1) i ≡ leaf_short old (root + 1) i
+  pub free : free_of old ≤ free_of new + taken

@@ -2,7 +2,8 @@ use Rattle.std.proofs.Common.{◌≡◌, ◌≢◌, arith, get_or, sym, ap, ◌�
 use Rattle.node_pool.specs.Nodes.{count_of}
 use Rattle.page_tree.proofs.UsesLemmas.{inside-count}
 use Rattle.page_tree.proofs.KeepsLemmas.{link_of-tree, cell_at-leaf}
-use Rattle.page_tree.proofs.StepLemmas.{PutsLeaf-then, PutsLeaf-as, leaf-apart, leaf_short-shared}
+use Rattle.page_tree.proofs.StepLemmas.{PutsLeaf-then, PutsLeaf-as, leaf-apart}
+use Rattle.page_tree.proofs.ShortLemmas.{leaf_short-shared}
 use Rattle.page_tree.proofs.store.Store.own_held_leaf.Goals as goal
 
 pub count-requires : goal.count-requires

@@ -1,6 +1,7 @@
 use Rattle.std.proofs.Common.{arith, sym, ◌∙◌}
 use Rattle.page_tree.proofs.KeepsLemmas.{link_of-tree, cell_at-none}
-use Rattle.page_tree.proofs.StepLemmas.{PutsLeaf-as, leaf_short-absent}
+use Rattle.page_tree.proofs.StepLemmas.{PutsLeaf-as}
+use Rattle.page_tree.proofs.ShortLemmas.{leaf_short-absent}
 use Rattle.page_tree.proofs.store.Store.own_leaf.Goals as goal
 
 pub new_leaf-requires-clause-free : goal.new_leaf-requires-clause-free
