@@ -9,3 +9,5 @@ pub mod Orders
 pub mod OwnCells
 pub mod Storing
 pub mod Zeros
+pub mod PairedLemmas
+pub mod StackLemmas

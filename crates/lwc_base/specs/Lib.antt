@@ -1,10 +1,12 @@
 pub mod Cells
+pub mod Counts
 pub mod Faults
 pub mod Frames
 pub mod Mapping
 pub mod Memory
 pub mod Names
 pub mod Pages
+pub mod Paired
 pub mod Registers
 pub mod Store
 pub mod Summaries

@@ -3,6 +3,7 @@
 
 pub mod cell;
 pub mod channels;
+pub mod counts;
 pub mod descriptor;
 pub mod fault;
 pub mod memory;
@@ -13,9 +14,11 @@ pub mod refusal;
 pub mod regs;
 pub mod sequence;
 pub mod size;
+pub mod steps;
 
 pub use cell::Cell;
 pub use channels::{FileImage, Requests};
+pub use counts::Counts;
 pub use descriptor::{Cap, Descriptor, SLOTS};
 pub use fault::{Fault, ThreadStatus};
 pub use memory::OutOfMemory;
@@ -26,3 +29,4 @@ pub use refusal::Refusal;
 pub use regs::Regs;
 pub use sequence::Sequence;
 pub use size::{StoreFault, Summary, WorldSize};
+pub use steps::Steps;

@@ -1,0 +1,164 @@
+ghost use Rattle.std.specs.Prelude.{◌≡◌, ◌≢◌, ℕ, ◌+◌, ◌-◌, ◌<◌, ◌^◌, ◌↔◌, List, IfOk, IfSome, IfNone, IsNone, length, replicate, slice_set};
+ghost use Rattle.lwc_base.specs.declared.page.TheConstants.{PAGE_BYTES};
+
+use lwc_base::{Counts, OutOfMemory, PAGE_BYTES, Tag};
+use std::alloc::Global;
+use std::marker::Model;
+
+/// Names a frame of a pool by its place.
+#[derive(Clone, Copy, Debug, PartialEq, Eq)]
+pub struct FrameNo {
+    pub n: u32,
+}
+
+/// Frames in one region, seen as the list of them: of each its count, its stamp and its 4096 bytes.
+/// No call looks for a free frame.
+#[derive(Drop)]
+pub struct Pool {
+    counts: Counts,
+    stamps: Vec<Tag>,
+    bytes: Vec<[u8; PAGE_BYTES]>,
+}
+
+impl Model for Pool {
+    ghost use Rattle.std.specs.Prelude.{List};
+    ghost use Rattle.frame_pool.specs.Frame.{Frame};
+
+    ghost Value = { List Frame };
+
+    ghost use Rattle.frame_pool.specs.View.{seen_frames, IsWhole};
+
+    ghost view = { λ pool. seen_frames pool.counts pool.stamps.items pool.bytes.items };
+
+    ghost invariant = { λ pool. IsWhole pool.counts pool.stamps.items pool.bytes.items };
+}
+
+impl Pool {
+    ghost use Rattle.std.specs.Borrow.{sem};
+    ghost use Rattle.frame_pool.specs.Frame.{frame_count, frame_stamp, frame_bytes, recount_frame, refill_frame, free_frames, used_frames, zero_frame};
+    ghost use Rattle.frame_pool.specs.PoolLending.{LendsBytes};
+
+    /// A pool of so many frames, none of them held. The one error is want of memory.
+    pub fn open(alloc: Global, frames: u32) -> Result<Pool, OutOfMemory>
+        ensures { IfOk result (λ pool. pool ≡ replicate frames (zero_frame 0 (record { job = 0; k = 0 }))) }
+    {
+        let counts = Counts::open(alloc, frames)?;
+        let stamps = vec![in alloc; Tag { job: 0, k: 0 }; frames as usize]?;
+        let bytes = vec![in alloc; [0; PAGE_BYTES]; frames as usize]?;
+        Ok(Pool {
+            counts,
+            stamps,
+            bytes,
+        })
+    }
+
+    /// Takes a free frame: it is held once, has the stamp, and all its bytes are 0. None exactly where no frame is free.
+    pub fn take(&mut self, stamp: Tag) -> Option<FrameNo>
+        ensures full { IsNone result ↔ (free_frames self.old ≡ 0) }
+        ensures full_same { IfNone result (self.new ≡ self.old) }
+        ensures inside { IfSome result (λ frame. frame.n < length self.old) }
+        ensures was_free { IfSome result (λ frame. frame_count self.old frame.n ≡ 0) }
+        ensures taken { IfSome result (λ frame. self.new ≡ slice_set self.old frame.n (zero_frame 1 stamp)) }
+    {
+        let n = self.counts.take()?;
+        self.stamps[n as usize] = stamp;
+        self.bytes[n as usize] = [0; PAGE_BYTES];
+        Some(FrameNo { n })
+    }
+
+    /// Holds a held frame once more.
+    pub fn hold(&mut self, frame: FrameNo)
+        requires held { 0 < frame_count self.old frame.n }
+        requires fits { frame_count self.old frame.n + 1 < 2 ^ 32 }
+        ensures { self.new ≡ recount_frame self.old frame.n (frame_count self.old frame.n + 1) }
+    {
+        self.counts.hold(frame.n);
+    }
+
+    /// Holds a held frame once less. At 0 it is free.
+    pub fn drop_hold(&mut self, frame: FrameNo)
+        requires { 0 < frame_count self.old frame.n }
+        ensures { self.new ≡ recount_frame self.old frame.n (frame_count self.old frame.n - 1) }
+    {
+        self.counts.drop_hold(frame.n);
+    }
+
+    /// The 4096 bytes of a held frame.
+    pub fn bytes(&self, frame: FrameNo) -> &[u8]
+        requires { 0 < frame_count self.now frame.n }
+        ensures value { result.now ≡ frame_bytes self.now frame.n }
+        ensures whole { length result.now ≡ PAGE_BYTES }
+    {
+        &self.bytes[frame.n as usize]
+    }
+
+    /// The 4096 bytes of a frame that is held once, to be written.
+    pub fn bytes_mut(&mut self, frame: FrameNo) -> &mut [u8; PAGE_BYTES]
+        requires { frame_count self.old frame.n ≡ 1 }
+        ensures* writes_back { sem 𝓛 (LendsBytes self.entry frame.n result) }
+        ensures value { result.now ≡ frame_bytes self.old frame.n }
+    {
+        &mut self.bytes[frame.n as usize]
+    }
+
+    /// Copies the bytes of a held frame into one that is held once.
+    pub fn copy_to(&mut self, from: FrameNo, to: FrameNo)
+        requires held { 0 < frame_count self.old from.n }
+        requires once { frame_count self.old to.n ≡ 1 }
+        requires different { from.n ≢ to.n }
+        ensures { self.new ≡ refill_frame self.old to.n (frame_bytes self.old from.n) }
+    {
+        let bytes = self.bytes[from.n as usize];
+        self.bytes[to.n as usize] = bytes;
+    }
+
+    /// How often a frame is held.
+    pub fn count(&self, frame: FrameNo) -> u32
+        requires { frame.n < length self.now }
+        ensures { result ≡ frame_count self.now frame.n }
+    {
+        self.counts.count(frame.n)
+    }
+
+    /// The stamp that a frame was last taken with.
+    pub fn stamp(&self, frame: FrameNo) -> Tag
+        requires { frame.n < length self.now }
+        ensures { result ≡ frame_stamp self.now frame.n }
+    {
+        self.stamps[frame.n as usize]
+    }
+
+    /// How many frames are held.
+    pub fn used(&self) -> u32
+        ensures { result ≡ used_frames self.now }
+    {
+        self.counts.used()
+    }
+}
+
+#[cfg(test)]
+mod tests {
+    use super::*;
+    use std::test::Fail;
+
+    #[test]
+    fn two_frames_are_taken_and_one_comes_back_zeroed(rt: HostRuntime) -> Result<(), Fail> {
+        let mut pool = Pool::open(rt.alloc(), 2)?;
+        let first = pool.take(Tag { job: 1, k: 0 }).ok_or("none is held")?;
+        let second = pool.take(Tag { job: 1, k: 1 }).ok_or("one is held")?;
+        assert_eq!(rt; pool.take(Tag { job: 1, k: 2 }), None);
+        pool.bytes_mut(first)[4095] = 7;
+        assert!(rt; first != second);
+        pool.copy_to(first, second);
+        assert_eq!(rt; pool.bytes(second)[4095], 7);
+        assert_eq!(rt; pool.stamp(second), Tag { job: 1, k: 1 });
+        pool.hold(first);
+        assert_eq!(rt; (pool.count(first), pool.used()), (2, 2));
+        pool.drop_hold(second);
+        assert_eq!(rt; pool.used(), 1);
+        let third = pool.take(Tag { job: 1, k: 3 }).ok_or("one is held")?;
+        assert_eq!(rt; third, second);
+        assert_eq!(rt; pool.bytes(third)[4095], 0);
+        Ok(())
+    }
+}

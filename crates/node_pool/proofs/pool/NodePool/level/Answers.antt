@@ -1,0 +1,12 @@
+use Rattle.std.proofs.Common.{arith, ap}
+use Rattle.node_pool.proofs.PoolLemmas.{seen_inside, seen_node_at}
+use Rattle.node_pool.proofs.pool.NodePool.level.Goals as goal
+
+pub index-requires : goal.index-requires
+index-requires c =
+    omega (arith, seen_inside _ _ _ _ c.self.view_is c.self.invariant c.requires, c.self.inside.contents.ok)
+
+pub returns : goal.returns
+returns c =
+    ap (λ node. node.level)
+    (seen_node_at _ _ _ _ _ c.self.view_is c.self.invariant (seen_inside _ _ _ _ c.self.view_is c.self.invariant c.requires) c.index.ensures)

@@ -1,0 +1,12 @@
+use Rattle.std.proofs.Common.{arith}
+use Rattle.node_pool.proofs.PoolLemmas.{seen_inside, seen_enter}
+use Rattle.node_pool.proofs.pool.NodePool.set_entry.Goals as goal
+
+pub index_mut-requires : goal.index_mut-requires
+index_mut-requires c =
+    omega (arith, seen_inside _ _ _ c.args.node.n c.self.view_is c.self.invariant (omega (arith, c.requires.once)), c.self.inside.contents.ok)
+
+pub returns : goal.returns
+returns c =
+    seen_enter _ _ _ _ _ _ _ c.self.view_is c.self.invariant
+    (seen_inside _ _ _ c.args.node.n c.self.view_is c.self.invariant (omega (arith, c.requires.once))) c.index_mut.ensures.value

@@ -1,0 +1,170 @@
+ghost use Rattle.std.specs.Prelude.{◌≡◌, ℕ, ◌+◌, ◌-◌, ◌<◌, ◌^◌, ◌↔◌, List, IfOk, IfSome, IfNone, IsNone, length, replicate, slice_set};
+
+use lwc_base::{Counts, OutOfMemory, Steps};
+use std::alloc::Global;
+use std::marker::Model;
+use std::sync::ledger::Ledger;
+
+/// How many entries a node has.
+pub const NODE_ENTRIES: usize = 32;
+
+/// Names a node of a pool by its place.
+#[derive(Clone, Copy, Debug, PartialEq, Eq)]
+pub struct NodeNo {
+    pub n: u32,
+}
+
+/// What a node holds beside its count.
+#[derive(Clone, Copy, Drop)]
+struct NodeContent {
+    level: u8,
+    entries: [u32; NODE_ENTRIES],
+}
+
+/// Nodes in one region, seen as the list of them: of each its count, its level and its 32 entries.
+/// No call looks for a free node. Each `take`, `hold` and `drop_hold` is one node step.
+#[derive(Drop)]
+pub struct NodePool {
+    counts: Counts,
+    contents: Vec<NodeContent>,
+}
+
+impl Model for NodePool {
+    ghost use Rattle.std.specs.Prelude.{List};
+    ghost use Rattle.node_pool.specs.Nodes.{Node};
+
+    ghost Value = { List Node };
+
+    ghost use Rattle.std.specs.Prelude.{◌≡◌, length};
+    ghost use Rattle.node_pool.specs.View.{seen_nodes};
+
+    ghost view = { λ pool. seen_nodes pool.counts pool.contents.items };
+
+    ghost invariant = { λ pool. length pool.counts ≡ length pool.contents.items };
+}
+
+impl NodePool {
+    ghost use Rattle.node_pool.specs.Nodes.{count_of, level_of, entry_of, recount, enter, free_of, empty_node};
+
+    /// A pool of so many nodes, none of them held. The one error is want of memory.
+    pub fn open(alloc: Global, nodes: u32) -> Result<NodePool, OutOfMemory>
+        ensures { IfOk result (λ pool. pool ≡ replicate nodes (empty_node 0 0)) }
+    {
+        let counts = Counts::open(alloc, nodes)?;
+        let empty = NodeContent {
+            level: 0,
+            entries: [0; NODE_ENTRIES],
+        };
+        let contents = vec![in alloc; empty; nodes as usize]?;
+        Ok(NodePool { counts, contents })
+    }
+
+    /// Takes a free node: it is held once, has the level, and all its entries are 0. None exactly where no node is free.
+    pub fn take<L: Ledger>(&mut self, level: u8, steps: &mut Steps<L>) -> Option<NodeNo>
+        ensures full { IsNone result ↔ (free_of self.old ≡ 0) }
+        ensures full_same { IfNone result (self.new ≡ self.old) }
+        ensures inside { IfSome result (λ node. node.n < length self.old) }
+        ensures was_free { IfSome result (λ node. count_of self.old node.n ≡ 0) }
+        ensures taken { IfSome result (λ node. self.new ≡ slice_set self.old node.n (empty_node 1 level)) }
+        ensures one_step { steps.new ≡ steps.old + 1 }
+    {
+        steps.tick();
+        let n = self.counts.take()?;
+        self.contents[n as usize] = NodeContent {
+            level,
+            entries: [0; NODE_ENTRIES],
+        };
+        Some(NodeNo { n })
+    }
+
+    /// Holds a held node once more.
+    pub fn hold<L: Ledger>(&mut self, node: NodeNo, steps: &mut Steps<L>)
+        requires held { 0 < count_of self.old node.n }
+        requires fits { count_of self.old node.n + 1 < 2 ^ 32 }
+        ensures once_more { self.new ≡ recount self.old node.n (count_of self.old node.n + 1) }
+        ensures one_step { steps.new ≡ steps.old + 1 }
+    {
+        steps.tick();
+        self.counts.hold(node.n);
+    }
+
+    /// Holds a held node once less. At 0 it is free.
+    pub fn drop_hold<L: Ledger>(&mut self, node: NodeNo, steps: &mut Steps<L>)
+        requires { 0 < count_of self.old node.n }
+        ensures once_less { self.new ≡ recount self.old node.n (count_of self.old node.n - 1) }
+        ensures one_step { steps.new ≡ steps.old + 1 }
+    {
+        steps.tick();
+        self.counts.drop_hold(node.n);
+    }
+
+    /// The level that a held node was taken with.
+    pub fn level(&self, node: NodeNo) -> u8
+        requires { 0 < count_of self.now node.n }
+        ensures { result ≡ level_of self.now node.n }
+    {
+        self.contents[node.n as usize].level
+    }
+
+    /// One entry of a node.
+    pub fn entry(&self, node: NodeNo, i: usize) -> u32
+        requires node { node.n < length self.now }
+        requires entry { i < NODE_ENTRIES }
+        ensures { result ≡ entry_of self.now node.n i }
+    {
+        self.contents[node.n as usize].entries[i]
+    }
+
+    /// Writes one entry of a node that is held once.
+    pub fn set_entry(&mut self, node: NodeNo, i: usize, value: u32)
+        requires once { count_of self.old node.n ≡ 1 }
+        requires entry { i < NODE_ENTRIES }
+        ensures { self.new ≡ enter self.old node.n i value }
+    {
+        self.contents[node.n as usize].entries[i] = value;
+    }
+
+    /// How often a node is held.
+    pub fn count(&self, node: NodeNo) -> u32
+        requires { node.n < length self.now }
+        ensures { result ≡ count_of self.now node.n }
+    {
+        self.counts.count(node.n)
+    }
+}
+
+#[cfg(test)]
+mod tests {
+    use super::*;
+    use std::marker::Brand;
+    use std::process::Abort;
+    use std::sync::ledger::Blank;
+    use std::test::Fail;
+
+    fn try_two_nodes<L: Ledger>(rt: &impl Abort, alloc: Global, blank: Blank) -> Result<(), Fail>
+        requires name { blank.name ≡ L.name }
+        requires parts { blank.parts ≡ L.parts }
+        requires some { 0 < blank.parts }
+    {
+        let mut steps = Steps::<L>::new(blank);
+        let mut pool = NodePool::open(alloc, 2)?;
+        let first = pool.take(1, &mut steps).ok_or("none is held")?;
+        let second = pool.take(2, &mut steps).ok_or("one is held")?;
+        assert_eq!(rt; pool.take(1, &mut steps), None);
+        pool.set_entry(first, 31, 9);
+        assert_eq!(rt; (pool.entry(first, 31), pool.entry(second, 31)), (9, 0));
+        assert_eq!(rt; (pool.level(first), pool.level(second)), (1, 2));
+        pool.hold(second, &mut steps);
+        assert_eq!(rt; pool.count(second), 2);
+        pool.drop_hold(first, &mut steps);
+        let third = pool.take(2, &mut steps).ok_or("one is held")?;
+        assert_eq!(rt; third, first);
+        assert_eq!(rt; pool.entry(third, 31), 0);
+        Ok(())
+    }
+
+    #[test]
+    fn two_nodes_are_taken_and_one_comes_back_empty(rt: HostRuntime) -> Result<(), Fail> {
+        try_two_nodes::<Brand>(&rt, rt.alloc(), Blank::new(1))
+    }
+}
