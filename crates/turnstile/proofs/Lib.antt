@@ -1,0 +1,4 @@
+pub mod Pasts
+pub mod Places
+pub mod Seats
+pub mod EachStep
