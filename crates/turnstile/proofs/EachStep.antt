@@ -15,7 +15,7 @@ use Rattle.turnstile.specs.declared.views.View.{View}
 use Rattle.turnstile.specs.Past.{times, Knows}
 use Rattle.turnstile.specs.Rule.{tickets, HasTicket, Sits, Fits, Seated, IsHome, IsOut, Holds, first_view}
 use Rattle.turnstile.specs.Steps.{staged, noting, serving_view, rested, kept_view, new_view, joined_view, spent_view, DrawsTicket, TakesState, Looks, PassesOn}
-use Rattle.turnstile.specs.Moves.{CanLook}
+use Rattle.turnstile.specs.Moves.{CanLook, MayEnd}
 use Rattle.turnstile.proofs.Pasts.{knows_self, prefix_length}
 use Rattle.turnstile.proofs.Places.{one_at, within, at_end, sum_by-at}
 use Rattle.turnstile.proofs.Seats.{serving_ticket, no_ticket, changes, passes, splits, joins}
@@ -230,9 +230,9 @@ module _ {S N : Type 0} (name_of : S → N) (past_of : S → List ℕ) where
       )))
 
   -- the state is back: its past has the seat's number once more
-  pub passes_on : (name : N) (slots id : ℕ) (v : View N) (state : S) (ticket : ℕ) → v.stage ≡ Serving ticket → Some (name_of state) ≡ v.name → past_of state ≡ v.seen ++ v.number ∷ [] → length (past_of state) < 2 ^ 63
+  passes_with : (name : N) (slots id : ℕ) (v : View N) (state : S) (ticket : ℕ) → v.stage ≡ Serving ticket → Some (name_of state) ≡ v.name → past_of state ≡ v.seen ++ v.number ∷ [] → length (past_of state) < 2 ^ 63
       → Allows (Rule name) slots id (v, (0, Some state) ∷ []) 1 (λ n. (n + 1) % 2 ^ 64) (λ _. PassesOn past_of (v, (0, Some state) ∷ []))
-  passes_on name slots id v state ticket turn named grown law = let me : M = (v, (0, Some state) ∷ []) in
+  passes_with name slots id v state ticket turn named grown law = let me : M = (v, (0, Some state) ∷ []) in
     opens name slots id me 1 (λ n. (n + 1) % 2 ^ 64) (λ _. PassesOn past_of me) (λ next serving past home views served short s lies at.
     let past' : List ℕ = past_of state in
     let w : View N = rested past' v in
@@ -258,6 +258,10 @@ module _ {S N : Type 0} (name_of : S → N) (past_of : S → List ℕ) where
           (inl record { state = state; lies = refl; named = named'; past_is = refl; nobody = nobody })),
       λ state' is. let same : state ≡ state' = ap (held_or state) is in ap (λ (x : S). (rested (past_of x) v, [])) same,
     ))
+
+  pub passes_on : (name : N) (slots id : ℕ) (me : M) (state : S) → me.1 ≡ (0, Some state) ∷ [] → MayEnd name_of past_of me.0 state → length (past_of state) < 2 ^ 63 → Allows (Rule name) slots id me 1 (λ n. (n + 1) % 2 ^ 64) (λ _. PassesOn past_of me)
+  passes_on name slots id me state holds may law = subst (λ (slot : List (ℕ × Option S)). Allows (Rule name) slots id (me.0, slot) 1 (λ n. (n + 1) % 2 ^ 64) (λ _. PassesOn past_of (me.0, slot))) (sym holds)
+      (passes_with name slots id me.0 state may.ticket may.serves may.named may.past_is law)
 
   pub splits_seat : (name : N) (id : ℕ) (v : View N) → v.number ≡ 0 → v.stage ≡ Idle → v.made < 16 → Splits (Rule name) id v (kept_view v) (new_view v)
   splits_seat name id v zeroth idle room s h at =

@@ -1,9 +1,11 @@
 -- What the single steps of a seat need.
-use Rattle.std.specs.Prelude.{◌≡◌, ◌++◌, ℕ, List, [], ◌∷◌, Option, Some}
+use Rattle.std.specs.Prelude.{◌≡◌, ◌≤◌, ◌++◌, ℕ, List, [], ◌∷◌, length, Option, Some, None}
 use Rattle.atomic_table.specs.Table.{Me}
 use Rattle.atomic_table.specs.Seated.{TableId}
 use Rattle.atomic_table.specs.declared.shared.Seat.{Seat}
 use Rattle.turnstile.specs.declared.views.View.{View}
+use Rattle.turnstile.specs.Past.{Knows}
+use Rattle.turnstile.specs.Steps.{serving_view}
 use Rattle.turnstile.specs.declared.views.Stage.{Stage}
 use Rattle.turnstile.specs.declared.views.Stage.TheVariants.{Idle, Waiting, Serving, Spent}
 
@@ -27,10 +29,18 @@ module _ {S N : Type 0} where
   IsSameSeat seat after = (after.table_id ≡ seat.table_id) × (after.id ≡ seat.id)
 
 module _ {S N : Type 0} (name_of : S → N) (past_of : S → List ℕ) where
-  -- the seat is at its turn, and holds the slot with a state of the same name whose past has one turn more, the seat's
-  pub record MayPassOn (m : Me (Option S) (View N)) (state : S) : Type 0 where
+  -- the seat went to its turn and has the state in hand: it has the seat's name, its past is known and has just been seen, and the slot is empty
+  pub record TakesTurn (m : Me (Option S) (View N)) (state : S) (m' : Me (Option S) (View N)) : Type 0 where
     pub ticket : ℕ
-    pub serves : m.0.stage ≡ Serving ticket
-    pub holds : m.1 ≡ (0, Some state) ∷ []
+    pub turn : m' ≡ (serving_view ticket (past_of state) m.0, (0, None) ∷ [])
     pub named : Some (name_of state) ≡ m.0.name
-    pub past_is : past_of state ≡ m.0.seen ++ m.0.number ∷ []
+    pub knows : Knows (past_of state) m.0.number m.0.seen
+    pub turns : length (past_of state) ≡ ticket
+    pub noted : m.0.noted ≤ ticket
+
+  -- the seat is at its turn, and this state may be passed on: it has the seat's name, and its past has one turn more, the seat's
+  pub record MayEnd (v : View N) (state : S) : Type 0 where
+    pub ticket : ℕ
+    pub serves : v.stage ≡ Serving ticket
+    pub named : Some (name_of state) ≡ v.name
+    pub past_is : past_of state ≡ v.seen ++ v.number ∷ []

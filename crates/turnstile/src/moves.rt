@@ -1,8 +1,8 @@
 //! What a seat does, one step at a time.
-ghost use Rattle.std.specs.Prelude.{◌≡◌, ◌≤◌, [], ◌∷◌, length, Some, None};
+ghost use Rattle.std.specs.Prelude.{◌≡◌, ◌<◌, ◌≤◌, [], ◌∷◌, length, Some, None};
 ghost use Rattle.std.specs.Fn.{FnOnceTakesAtMut, FnOnceReturnsAtMut};
 ghost use Rattle.turnstile.specs.declared.views.Stage.TheVariants.{Idle, Waiting, Serving};
-ghost use Rattle.turnstile.specs.Moves.{IsSeatAt, IsSameSeat, MayPassOn, CanLook};
+ghost use Rattle.turnstile.specs.Moves.{IsSeatAt, IsSameSeat, CanLook, TakesTurn, MayEnd};
 ghost use Rattle.turnstile.specs.Steps.{staged, noting, Looks, TakesState, kept_view, new_view, joined_view, rested};
 
 use crate::queue::{Board, DrawTicket, JoinSeat, Look, NEXT, PassOn, Place, SERVING, STATE, SplitSeat};
@@ -54,7 +54,7 @@ pub(crate) fn move_in<S: Turned>(board: &Board<S>, seat: &mut Place<S>, state: S
 /// Gives the slot back, ends the turn, and wakes who waits.
 pub(crate) fn pass_on<S: Turned>(board: &Board<S>, seat: &mut Place<S>)
     requires seat { IsSeatAt board.now.table_id seat.old }
-    requires turn { (state : S) × MayPassOn S.name S.past seat.old.me state }
+    requires turn { (state : S) × (seat.old.me.1 ≡ (0, Some state) ∷ []) × MayEnd S.name S.past seat.old.me.0 state }
     ensures seat { IsSameSeat seat.old seat.new }
     ensures passed { (state : S) → seat.old.me.1 ≡ (0, Some state) ∷ [] → seat.new.me ≡ (rested (S.past state) seat.old.me.0, []) }
 {
@@ -87,4 +87,53 @@ pub(crate) fn wait<S: Turned, H: Wait>(rt: &H, board: &Board<S>, seat: &mut Plac
         board.park(rt, SERVING, (serving & 0xffff_ffff) as u32);
     }
     unreachable!()
+}
+
+/// Makes one more seat.
+pub(crate) fn split_seat<S: Turned>(board: &Board<S>, first: &mut Place<S>) -> Place<S>
+    requires seat { IsSeatAt board.now.table_id first.old }
+    requires first { first.old.me.0.number ≡ 0 }
+    requires idle { first.old.me.0.stage ≡ Idle }
+    requires room { first.old.me.0.made < 16 }
+    ensures seat { IsSameSeat first.old first.new }
+    ensures kept { first.new.me ≡ (kept_view first.old.me.0, first.old.me.1) }
+    ensures new { (result.table_id ≡ first.old.table_id) × (result.me ≡ (new_view first.old.me.0, [])) }
+{
+    board.split_seat::<SplitSeat>(first)
+}
+
+/// Takes a seat in. The first one keeps what it knew.
+pub(crate) fn join_seat<S: Turned>(board: &Board<S>, first: &mut Place<S>, other: Place<S>)
+    requires seat { IsSeatAt board.now.table_id first.old }
+    requires first { first.old.me.0.number ≡ 0 }
+    requires idle { first.old.me.0.stage ≡ Idle }
+    requires other { (other.table_id ≡ board.now.table_id) × (other.me.0.stage ≡ Idle) × (other.me.1 ≡ []) }
+    ensures seat { IsSameSeat first.old first.new }
+    ensures joined { first.new.me ≡ (joined_view first.old.me.0 other.me.0, first.old.me.1) }
+{
+    board.join_seat::<JoinSeat>(first, other);
+}
+
+/// Draws a ticket, waits until it is served, and takes the state.
+pub(crate) fn take_turn<S: Turned, H: Wait>(rt: &H, board: &Board<S>, seat: &mut Place<S>) -> S
+    requires seat { IsSeatAt board.now.table_id seat.old }
+    requires rest { (seat.old.me.0.stage ≡ Idle) × (seat.old.me.1 ≡ []) }
+    ensures seat { IsSameSeat seat.old seat.new }
+    ensures turn { TakesTurn S.name S.past seat.old.me result seat.new.me }
+{
+    let ticket = draw_ticket(board, seat);
+    wait(rt, board, seat, ticket);
+    move_out(board, seat)
+}
+
+/// Puts the state back, and ends the turn.
+pub(crate) fn end_turn<S: Turned>(board: &Board<S>, seat: &mut Place<S>, state: S)
+    requires seat { IsSeatAt board.now.table_id seat.old }
+    requires holds { seat.old.me.1 ≡ (0, None) ∷ [] }
+    requires turn { MayEnd S.name S.past seat.old.me.0 state }
+    ensures seat { IsSameSeat seat.old seat.new }
+    ensures ended { seat.new.me ≡ (rested (S.past state) seat.old.me.0, []) }
+{
+    move_in(board, seat, state);
+    pass_on(board, seat);
 }
