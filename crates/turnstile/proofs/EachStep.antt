@@ -1,5 +1,5 @@
 -- Each kind of step keeps the rule.
-use Rattle.std.proofs.Common.{◌≡◌, ◌≢◌, ◌⊎◌, ◌+◌, ◌%◌, ◌^◌, ◌<◌, ◌≤◌, ℕ, List, [], ◌∷◌, ◌++◌, map, length, set, get_or, Option, Some, None, refl, sym, ap, subst, ◌∙◌, inl, inr, ⊎_elim, arith, length-append}
+use Rattle.std.proofs.Common.{◌≡◌, ◌≢◌, ◌⊎◌, ◌+◌, ◌%◌, ◌^◌, ◌<◌, ◌≤◌, ℕ, List, [], ◌∷◌, ◌++◌, length, set, get_or, Option, Some, refl, sym, ap, subst, ◌∙◌, inl, inr, ⊎_elim, arith, length-append}
 use Rattle.std.specs.Prelude.{sum_by, unwrap_or}
 use Rattle.std.proofs.lemmas.List.Sums.{sum_by-cons}
 use mathlib.Core.Logic.{dite}
@@ -7,18 +7,18 @@ use mathlib.Core.Option as maybe
 use mathlib.Core.Option.{some, none, some-injective, some-ne-none}
 use native.Mathlib.Decide.{ℕ_discrete}
 use lib.ListN.{get_elem?}
-use Rattle.atomic_table.specs.Table.{State, Me, Step, step, Act, keeps, takes, gives, Valid, stepped, carried_after, Allows, Splits, Joins, opening, Final, Seen}
+use Rattle.atomic_table.specs.Table.{State, Me, step, Act, keeps, takes, gives, Valid, stepped, carried_after, Allows, Splits, Joins}
 use Rattle.atomic_table.proofs.Lists.{at_set, set_here, set_else, at_longer}
 use Rattle.turnstile.specs.declared.views.Stage.{Stage}
 use Rattle.turnstile.specs.declared.views.Stage.TheVariants.{Idle, Waiting, Serving, Spent}
 use Rattle.turnstile.specs.declared.views.View.{View}
-use Rattle.turnstile.specs.Past.{times, Knows}
-use Rattle.turnstile.specs.Rule.{tickets, HasTicket, Sits, Fits, Seated, IsHome, IsOut, Holds, first_view}
-use Rattle.turnstile.specs.Steps.{staged, noting, serving_view, rested, kept_view, new_view, joined_view, spent_view, DrawsTicket, TakesState, Looks, PassesOn}
+use Rattle.turnstile.specs.Past.{Knows}
+use Rattle.turnstile.specs.Rule.{tickets, HasTicket, Sits, Fits, Seated, IsHome, IsOut, Holds}
+use Rattle.turnstile.specs.Steps.{staged, noting, serving_view, rested, kept_view, new_view, joined_view, spent_view, DrawsTicket, Looks, PassesOn}
 use Rattle.turnstile.specs.Moves.{CanLook, MayEnd}
 use Rattle.turnstile.proofs.Pasts.{knows_self, prefix_length}
-use Rattle.turnstile.proofs.Places.{one_at, within, at_end, sum_by-at}
-use Rattle.turnstile.proofs.Seats.{serving_ticket, no_ticket, changes, passes, splits, joins}
+use Rattle.turnstile.proofs.Places.{one_at, within, at_end}
+use Rattle.turnstile.proofs.Seats.{serving_ticket, changes, passes, splits, joins}
 
 at_most : (stage : Stage) → tickets stage ≤ 1
 at_most Idle = omega arith

@@ -2,3 +2,4 @@ pub mod Pasts
 pub mod Places
 pub mod Seats
 pub mod EachStep
+pub mod Turns

@@ -1,23 +1,23 @@
 -- What each kind of step does to the seats together.
-use Rattle.std.proofs.Common.{◌≡◌, ◌≢◌, ◌⊎◌, ◌+◌, ◌^◌, ◌<◌, ◌≤◌, ℕ, zero, suc, List, [], ◌∷◌, ◌++◌, length, set, get_or, Option, Some, None, refl, sym, ap, subst, ◌∙◌, inl, inr, ⊎_elim, arith, length-append, length-set}
-use Rattle.std.specs.Prelude.{All, AllPairs, sum_by}
+use Rattle.std.proofs.Common.{◌≡◌, ◌≢◌, ◌⊎◌, ◌+◌, ◌<◌, ◌≤◌, ℕ, List, [], ◌∷◌, ◌++◌, length, set, get_or, refl, sym, ap, subst, ◌∙◌, inl, inr, ⊎_elim, arith, length-append, length-set}
+use Rattle.std.specs.Prelude.{All, AllPairs}
 use Rattle.std.proofs.lemmas.List.Sums.{sum_by-append}
 use Rattle.std.proofs.lemmas.List.Elements.{All-nil, All-cons, All-append}
 use Rattle.std.proofs.Math.ListN.{get_or-append}
 use Rattle.std.proofs.Math.Seq.{get_or-append_seam}
 use mathlib.Core.Logic.{dite}
-use mathlib.Core.Option.{some, some-injective, some-ne-none}
+use mathlib.Core.Option.{some}
 use native.Mathlib.Decide.{ℕ_discrete}
 use lib.ListN.{get_elem?}
-use Rattle.atomic_table.proofs.Lists.{at_set, set_here, set_else, at_longer, at_last}
+use Rattle.atomic_table.proofs.Lists.{at_set, set_here, set_else, at_longer}
 use Rattle.turnstile.specs.declared.views.Joined.{Joined}
 use Rattle.turnstile.specs.declared.views.Stage.{Stage}
 use Rattle.turnstile.specs.declared.views.Stage.TheVariants.{Idle, Waiting, Serving, Spent}
 use Rattle.turnstile.specs.declared.views.View.{View}
 use Rattle.turnstile.specs.Past.{times, Knows}
 use Rattle.turnstile.specs.Rule.{tickets, HasTicket, Sits, Keeps, Fits, Seated}
-use Rattle.turnstile.specs.Steps.{staged, noting, serving_view, rested, kept_view, new_view, as_joined, joined_view, spent_view}
-use Rattle.turnstile.proofs.Pasts.{times-push_same, times-push_other, knows_self, knows_none, knows_push, prefix_length}
+use Rattle.turnstile.specs.Steps.{rested, kept_view, new_view, as_joined, joined_view, spent_view}
+use Rattle.turnstile.proofs.Pasts.{times-push_other, knows_self, knows_none, knows_push}
 use Rattle.turnstile.proofs.Places.{one_at, within, at_end, set-comm, sum_by-at}
 
 -- at its turn a seat has its ticket
