@@ -3,3 +3,5 @@ pub mod Places
 pub mod Seats
 pub mod EachStep
 pub mod Turns
+pub mod Passing
+pub mod Ends

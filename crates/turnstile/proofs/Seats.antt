@@ -1,10 +1,9 @@
 -- What each kind of step does to the seats together.
 use Rattle.std.proofs.Common.{◌≡◌, ◌≢◌, ◌⊎◌, ◌+◌, ◌<◌, ◌≤◌, ℕ, List, [], ◌∷◌, ◌++◌, length, set, get_or, refl, sym, ap, subst, ◌∙◌, inl, inr, ⊎_elim, arith, length-append, length-set}
-use Rattle.std.specs.Prelude.{All, AllPairs}
+use Rattle.std.specs.Prelude.{All}
 use Rattle.std.proofs.lemmas.List.Sums.{sum_by-append}
 use Rattle.std.proofs.lemmas.List.Elements.{All-nil, All-cons, All-append}
-use Rattle.std.proofs.Math.ListN.{get_or-append}
-use Rattle.std.proofs.Math.Seq.{get_or-append_seam}
+use Rattle.std.proofs.lemmas.List.Quantifiers.{all_pairs_push}
 use mathlib.Core.Logic.{dite}
 use mathlib.Core.Option.{some}
 use native.Mathlib.Decide.{ℕ_discrete}
@@ -30,15 +29,6 @@ no_ticket Idle t none has = has
 no_ticket (Waiting own) t none has = omega arith
 no_ticket (Serving own) t none has = omega arith
 no_ticket Spent t none has = has
-
--- a joined pass whose number is no earlier one's
-pairs_push : (js : List Joined) (j : Joined) → AllPairs (λ a b. a.number ≢ b.number) js → ((k : ℕ) (d : Joined) → k < length js → (get_or js k d).number ≢ j.number)
-    → AllPairs (λ a b. a.number ≢ b.number) (js ++ j ∷ [])
-pairs_push js j differ fresh a b d before below = let long = length-append js (j ∷ []) in dite (ℕ_discrete b (length js))
-    (λ last. let inside : a < length js = omega arith in
-        subst (λ (z : Joined × Joined). z.0.number ≢ z.1.number) (λ i. (sym (get_or-append js (j ∷ []) d a inside) i, sym (ap (λ (k : ℕ). get_or (js ++ j ∷ []) k d) last ∙ get_or-append_seam js j [] d) i)) (fresh a d inside))
-    (λ earlier. let inside : b < length js = omega arith in
-        subst (λ (z : Joined × Joined). z.0.number ≢ z.1.number) (λ i. (sym (get_or-append js (j ∷ []) d a (omega arith)) i, sym (get_or-append js (j ∷ []) d b inside) i)) (differ a b d before inside))
 
 module _ {N : Type 0} where
   -- a spent seat stays spent
@@ -264,7 +254,7 @@ module _ {N : Type 0} where
           noted = g.noted;
           spent = (gone, ap (λ (k : ℕ). get_elem? views' k) g.number ∙ set_here views other gone (within views other w there), refl);
         }) (All-nil (Keeps past views')));
-        differ = pairs_push v.joined (as_joined w) f'.differ fresh;
+        differ = all_pairs_push (λ (a b : Joined). a.number ≢ b.number) v.joined (as_joined w) f'.differ fresh;
       } in
       subst (λ (vs : List (View N)). Seated name next serving past vs) (set-comm views other id gone both apart)
           (changes name next next serving past views' s' id v both at' live live (omega arith) refl (λ t has. inl has) fits)

@@ -1,5 +1,5 @@
 -- What the single steps of a seat need.
-use Rattle.std.specs.Prelude.{◌≡◌, ◌≤◌, ◌++◌, ℕ, List, [], ◌∷◌, length, Option, Some, None}
+use Rattle.std.specs.Prelude.{◌≡◌, ◌≤◌, ◌++◌, ℕ, List, [], ◌∷◌, length, All, Option, Some, None}
 use Rattle.atomic_table.specs.Table.{Me}
 use Rattle.atomic_table.specs.Seated.{TableId}
 use Rattle.atomic_table.specs.declared.shared.Seat.{Seat}
@@ -44,3 +44,10 @@ module _ {S N : Type 0} (name_of : S → N) (past_of : S → List ℕ) where
     pub serves : v.stage ≡ Serving ticket
     pub named : Some (name_of state) ≡ v.name
     pub past_is : past_of state ≡ v.seen ++ v.number ∷ []
+
+  -- the state at the end: it has the name, and its past is known to the first seat and to each that it joined, with at least as many turns as each noted
+  pub record Settles (name : N) (first : View N) (state : S) : Type 0 where
+    pub named : name_of state ≡ name
+    pub knows : Knows (past_of state) first.number first.seen
+    pub noted : first.noted ≤ length (past_of state)
+    pub joined : All (λ j. Knows (past_of state) j.number j.seen × (j.noted ≤ length (past_of state))) first.joined

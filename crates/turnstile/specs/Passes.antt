@@ -1,7 +1,8 @@
 -- What contracts see of a turnstile and of its passes.
-use Rattle.std.specs.Prelude.{◌≡◌, ℕ, List, [], Option, Some}
+use Rattle.std.specs.Prelude.{◌≡◌, ◌<◌, ℕ, List, [], map, All, Contains, Option, Some}
 use Rattle.atomic_table.specs.Seated.{TableId}
 use Rattle.atomic_table.specs.declared.shared.Seat.{Seat}
+use Rattle.turnstile.specs.declared.views.Joined.{Joined}
 use Rattle.turnstile.specs.declared.views.View.{View}
 use Rattle.turnstile.specs.declared.views.Stage.TheVariants.{Idle}
 use Rattle.turnstile.specs.Past.{Knows}
@@ -33,6 +34,19 @@ module _ {N : Type 0} where
   -- a state is due for the pass: it has the turnstile's name, and the pass knows its past
   abbrev pub IsDueFor : {S : Type 0} → (S → N) → (S → List ℕ) → Gate N → Held N → S → Type 0
   IsDueFor name_of past_of t p state = (name_of state ≡ t.name) × Knows (past_of state) p.number p.seen
+
+  -- the passes are all those that the turnstile's `new` gave, in any order
+  pub record AreAllOf (t : Gate N) (passes : List (Held N)) : Type 0 where
+    pub ours : All (IsPassOf t) passes
+    pub every : (number : ℕ) → number < t.seats → Contains (map (λ p. p.number) passes) number
+
+  -- what is kept of a pass that is joined
+  abbrev pub joined_of : Held N → Joined
+  joined_of p = record { number = p.number; seen = p.seen; noted = p.noted }
+
+  -- the pass that a seat not made yet will be
+  abbrev pub fresh_pass : TableId → N → ℕ → Held N
+  fresh_pass table name number = record { table = table; name = Some name; made = 0; number = number; seen = []; noted = 0 }
 
   module _ {S : Type 0} where
     -- what contracts see of a pass with this seat

@@ -5,16 +5,23 @@ ghost use mathlib.Core.List.{IsPrefix};
 ghost use Rattle.turnstile.specs.Past.{times, Knows};
 ghost use Rattle.turnstile.specs.Passes.{IsPassOf, IsNewPass, IsDueFor};
 
-use crate::moves::{act, end_turn, look, take_turn};
-use crate::passes::{Pass, Passes};
+use crate::moves::{act, end_turn, look, open_hall, settle, take_turn};
+use crate::passes::{Pass, Passes, deal_passes, join_all, take_first};
 use crate::queue::Hall;
 use crate::states::Turned;
+use std::alloc::{AllocError, Global};
 use std::marker::Model;
 use std::sync::Wait;
 
 /// There was no memory.
 #[derive(Clone, Copy, Debug, PartialEq, Eq)]
 pub struct OutOfMemory;
+
+impl From<AllocError> for OutOfMemory {
+    fn from(_error: AllocError) -> OutOfMemory {
+        OutOfMemory
+    }
+}
 
 /// A ticket lock round a state of type S. Threads share it by `&`, each with a pass of its own.
 #[derive(Drop)]
@@ -35,6 +42,26 @@ impl<S: Turned> Model for Turnstile<S> {
 }
 
 impl<S: Turned> Turnstile<S> {
+    ghost use Rattle.turnstile.specs.Passes.{Held, IsNewPass, AreAllOf};
+
+    /// A turnstile round the state, and so many passes, pass i with the number i.
+    /// After `OutOfMemory` the state is dropped.
+    pub fn new(
+        alloc: Global,
+        state: S,
+        seats: u32,
+    ) -> Result<(Turnstile<S>, Passes<S>), OutOfMemory>
+        requires seats { (1 ≤ seats) × (seats ≤ 16) }
+        requires empty { S.past state ≡ [] }
+        ensures name { IfOk result (λ t. t.0.name ≡ S.name state) }
+        ensures seats { IfOk result (λ t. (t.0.seats ≡ seats) × (length t.1.items ≡ seats)) }
+        ensures passes { IfOk result (λ t. (i : ℕ) (p : Held S.Name) → slice_get t.1.items i ≡ Some p → IsNewPass t.0 i p) }
+    {
+        let (hall, first) = open_hall(alloc, state)?;
+        let passes = deal_passes(alloc, &hall.shared, first, seats)?;
+        Ok((Turnstile { seats, hall }, passes))
+    }
+
     /// Waits for the pass's turn, calls the action on the state, and gives what it answered.
     pub fn with_turn<H: Wait, R, A: FnOnce(&mut S) -> R>(
         &self,
@@ -69,5 +96,18 @@ impl<S: Turned> Turnstile<S> {
         ensures ours { IsPassOf self.now pass.new }
     {
         look(&self.hall.shared, &mut pass.seat)
+    }
+
+    /// Ends the turnstile, and gives the state. The passes are all of its passes, in any order.
+    pub fn close(self, mut passes: Passes<S>) -> S
+        requires { AreAllOf self passes.items }
+        ensures name { S.name result ≡ self.name }
+        ensures seen { All (λ p. Knows (S.past result) p.number p.seen) passes.items }
+        ensures noted { All (λ p. p.noted ≤ length (S.past result)) passes.items }
+    {
+        let Turnstile { seats: _, hall } = self;
+        let first = take_first(&mut passes);
+        let first = join_all(&hall.shared, first, passes);
+        settle(hall, first)
     }
 }

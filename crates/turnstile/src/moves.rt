@@ -1,12 +1,17 @@
 //! What a seat does, one step at a time.
-ghost use Rattle.std.specs.Prelude.{◌≡◌, ◌<◌, ◌≤◌, [], ◌∷◌, length, Some, None};
+ghost use Rattle.std.specs.Prelude.{◌≡◌, ◌<◌, ◌≤◌, ℕ, [], ◌∷◌, length, map, Contains, IfOk, Some, None};
 ghost use Rattle.std.specs.Fn.{FnOnceTakesAtMut, FnOnceReturnsAtMut};
 ghost use Rattle.turnstile.specs.declared.views.Stage.TheVariants.{Idle, Waiting, Serving};
-ghost use Rattle.turnstile.specs.Moves.{IsSeatAt, IsSameSeat, CanLook, TakesTurn, MayEnd};
+ghost use Rattle.turnstile.specs.Moves.{IsSeatAt, IsSameSeat, CanLook, TakesTurn, MayEnd, Settles};
+ghost use Rattle.turnstile.specs.Passes.{IsAtRest};
+ghost use Rattle.turnstile.specs.Rule.{first_view};
 ghost use Rattle.turnstile.specs.Steps.{staged, noting, Looks, TakesState, kept_view, new_view, joined_view, rested};
 
-use crate::queue::{Board, DrawTicket, JoinSeat, Look, NEXT, PassOn, Place, SERVING, STATE, SplitSeat};
+use crate::queue::{Board, DrawTicket, Hall, JoinSeat, Look, NEXT, PassOn, Place, SERVING, STATE, SplitSeat};
 use crate::states::Turned;
+use atomic_table::Table;
+use std::alloc::{AllocError, Global};
+use std::snapshot::Snapshot;
 use std::sync::Wait;
 
 /// Draws a ticket.
@@ -136,4 +141,36 @@ pub(crate) fn end_turn<S: Turned>(board: &Board<S>, seat: &mut Place<S>, state: 
 {
     move_in(board, seat, state);
     pass_on(board, seat);
+}
+
+/// Makes the table, with the state in its slot, and the first seat.
+pub(crate) fn open_hall<S: Turned>(
+    alloc: Global,
+    state: S,
+) -> Result<(Hall<S>, Place<S>), AllocError>
+    requires { S.past state ≡ [] }
+    ensures name { IfOk result (λ t. S.name t.0.shared.key.value ≡ S.name state) }
+    ensures seat { IfOk result (λ t. IsSeatAt t.0.shared.table_id t.1) }
+    ensures view { IfOk result (λ t. t.1.me ≡ (first_view (S.name state), [])) }
+{
+    let key = Snapshot::of(&state);
+    let mut slots = Vec::new(alloc);
+    slots.push(Some(state))?;
+    match Table::new(alloc, &[0, 0], slots, &key) {
+        Ok(opened) => Ok(opened),
+        Err(_) => Err(AllocError),
+    }
+}
+
+/// Takes the state out of a table whose seats were all joined to the first.
+pub(crate) fn settle<S: Turned>(hall: Hall<S>, first: Place<S>) -> S
+    requires seat { IsSeatAt hall.shared.table_id first }
+    requires rest { IsAtRest 0 first }
+    requires all { (n : ℕ) → 0 < n → n < first.me.0.made → Contains (map (λ j. j.number) first.me.0.joined) n }
+    ensures { Settles S.name S.past (S.name hall.shared.key.value) first.me.0 result }
+{
+    let mut closed = hall.close_with(first);
+    let state = closed.take(STATE);
+    closed.free();
+    state.unwrap()
 }
