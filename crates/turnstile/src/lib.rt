@@ -6,6 +6,8 @@ mod moves;
 mod passes;
 mod queue;
 mod states;
+#[cfg(test)]
+mod tests;
 mod views;
 
 pub use gate::{OutOfMemory, Turnstile};
