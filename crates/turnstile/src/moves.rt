@@ -5,7 +5,7 @@ ghost use Rattle.turnstile.specs.declared.views.Stage.TheVariants.{Idle, Waiting
 ghost use Rattle.turnstile.specs.Moves.{IsSeatAt, IsSameSeat, CanLook, TakesTurn, MayEnd, Settles};
 ghost use Rattle.turnstile.specs.Passes.{IsAtRest};
 ghost use Rattle.turnstile.specs.Rule.{first_view};
-ghost use Rattle.turnstile.specs.Steps.{staged, noting, Looks, TakesState, kept_view, new_view, joined_view, rested};
+ghost use Rattle.turnstile.specs.Steps.{staged, Looks, TakesState, MovesState, PassesOn, kept_view, new_view, joined_view, rested};
 
 use crate::queue::{Board, DrawTicket, Hall, JoinSeat, Look, NEXT, PassOn, Place, SERVING, STATE, SplitSeat};
 use crate::states::Turned;
@@ -39,8 +39,7 @@ pub(crate) fn move_out<S: Turned>(board: &Board<S>, seat: &mut Place<S>) -> S
     requires seat { seat.old.table_id ≡ board.now.table_id }
     requires holds { (state : S) × (seat.old.me.1 ≡ (0, Some state) ∷ []) }
     ensures seat { IsSameSeat seat.old seat.new }
-    ensures out { seat.old.me.1 ≡ (0, Some result) ∷ [] }
-    ensures left { seat.new.me ≡ (seat.old.me.0, (0, None) ∷ []) }
+    ensures moved { MovesState seat.old.me (Some result) None seat.new.me }
 {
     let state = board.exchange(seat, STATE, None);
     state.unwrap()
@@ -51,20 +50,22 @@ pub(crate) fn move_in<S: Turned>(board: &Board<S>, seat: &mut Place<S>, state: S
     requires seat { seat.old.table_id ≡ board.now.table_id }
     requires holds { seat.old.me.1 ≡ (0, None) ∷ [] }
     ensures seat { IsSameSeat seat.old seat.new }
-    ensures left { seat.new.me ≡ (seat.old.me.0, (0, Some state) ∷ []) }
+    ensures moved { MovesState seat.old.me None (Some state) seat.new.me }
 {
     board.exchange(seat, STATE, Some(state));
 }
 
-/// Gives the slot back, ends the turn, and wakes who waits.
+/// Gives the slot back, ends the turn, and wakes those who wait, if a ticket is out.
 pub(crate) fn pass_on<S: Turned>(board: &Board<S>, seat: &mut Place<S>)
     requires seat { IsSeatAt board.now.table_id seat.old }
     requires turn { (state : S) × (seat.old.me.1 ≡ (0, Some state) ∷ []) × MayEnd S.name S.past seat.old.me.0 state }
     ensures seat { IsSameSeat seat.old seat.new }
-    ensures passed { (state : S) → seat.old.me.1 ≡ (0, Some state) ∷ [] → seat.new.me ≡ (rested (S.past state) seat.old.me.0, []) }
+    ensures passed { PassesOn S.past seat.old.me seat.new.me }
 {
-    board.fetch_add::<PassOn>(seat, SERVING, 1);
-    board.wake_all(SERVING);
+    let served = board.fetch_add::<PassOn>(seat, SERVING, 1).wrapping_add(1);
+    if board.peek(NEXT) != served {
+        board.wake_all(SERVING);
+    }
 }
 
 /// Calls the action on the state.

@@ -1,6 +1,6 @@
-ghost use Rattle.std.specs.Prelude.{◌≡◌, ◌+◌, ◌*◌, ◌<◌, ◌≤◌, ◌^◌, ◌++◌, ℕ, [], ◌∷◌, length, sum, IfOk, All, Contains, vec_len, vec_capacity, slice_index, replicate};
+ghost use Rattle.std.specs.Prelude.{◌≡◌, ◌+◌, ◌*◌, ◌<◌, ◌≤◌, ◌^◌, ◌++◌, ℕ, [], ◌∷◌, length, sum, IfOk, Some, slice_get, All, Contains, vec_len, vec_capacity, slice_index, replicate};
 ghost use Rattle.turnstile.specs.Past.{times};
-ghost use Rattle.turnstile.specs.Passes.{IsPassOf, AreAllOf};
+ghost use Rattle.turnstile.specs.Passes.{Held, IsPassOf, IsNewPass, AreAllOf};
 
 use crate::{OutOfMemory, Pass, Passes, Turned, Turnstile};
 use std::alloc::{AllocError, Global};
@@ -72,4 +72,90 @@ fn take_turns<R: Wait>(rt: &R, gate: &Turnstile<Log>, pass: Pass<Log>, turns: u6
         gate.with_turn(rt, &mut pass, |log| log.append(number));
     }
     pass
+}
+
+/// The turns passed on, in a function that has no means to wait.
+fn turns_so_far(gate: &Turnstile<Log>, pass: &mut Pass<Log>) -> u64
+    requires { IsPassOf gate.now pass.old }
+    ensures ours { IsPassOf gate.now pass.new }
+    ensures pass { pass.new ≡ record pass.old { noted = result } }
+{
+    gate.served(pass)
+}
+
+/// The passes of a turnstile with two seats, and the vector that had them.
+fn two_passes(mut passes: Passes<Log>) -> (Pass<Log>, Pass<Log>, Passes<Log>)
+    requires { length passes.items ≡ 2 }
+    ensures first { slice_get passes.items 0 ≡ Some result.0 }
+    ensures second { slice_get passes.items 1 ≡ Some result.1 }
+    ensures rest { result.2.items ≡ [] }
+{
+    let second = passes.pop().unwrap();
+    let first = passes.pop().unwrap();
+    (first, second, passes)
+}
+
+/// Two threads take so many turns each.
+fn take_both<R: Threads + Wait + Sync>(
+    rt: &R,
+    gate: &Turnstile<Log>,
+    one: Pass<Log>,
+    other: Pass<Log>,
+    turns: u64,
+) -> (Pass<Log>, Pass<Log>)
+    requires new { IsNewPass gate.now 0 one × IsNewPass gate.now 1 other }
+    requires gate { gate.now.name ≡ 2 }
+    requires budget { turns ≤ 1000 }
+    ensures ours { IsPassOf gate.now result.0 × IsPassOf gate.now result.1 }
+    ensures numbers { (result.0.number ≡ 0) × (result.1.number ≡ 1) }
+    ensures count { (times 0 result.0.seen ≡ turns) × (times 1 result.1.seen ≡ turns) }
+{
+    thread::join(
+        rt,
+        || -> Pass<Log>
+            requires { IsNewPass gate.now 0 one × (gate.now.name ≡ 2) × (turns ≤ 1000) }
+            ensures { IsPassOf gate.entry.now result × (result.number ≡ 0) × (times 0 result.seen ≡ turns) }
+        { take_turns(rt, gate, one, turns) },
+        || -> Pass<Log>
+            requires { IsNewPass gate.now 1 other × (gate.now.name ≡ 2) × (turns ≤ 1000) }
+            ensures { IsPassOf gate.entry.now result × (result.number ≡ 1) × (times 1 result.seen ≡ turns) }
+        { take_turns(rt, gate, other, turns) },
+    )
+}
+
+/// The log at the end, in which each of the two has its turns.
+fn close_both(
+    gate: Turnstile<Log>,
+    mut passes: Passes<Log>,
+    one: Pass<Log>,
+    other: Pass<Log>,
+) -> Result<Log, AllocError>
+    requires gate { gate.seats ≡ 2 }
+    requires ours { IsPassOf gate one × IsPassOf gate other }
+    requires numbers { (one.number ≡ 0) × (other.number ≡ 1) }
+    requires empty { passes.items ≡ [] }
+    ensures first { IfOk result (λ log. times 0 log.turns.items ≡ times 0 one.seen) }
+    ensures second { IfOk result (λ log. times 1 log.turns.items ≡ times 1 other.seen) }
+{
+    passes.push(other)?;
+    passes.push(one)?;
+    Ok(gate.close(passes))
+}
+
+/// How often the number stands in the log.
+fn turns_of(log: &Log, number: u64) -> usize {
+    log.turns.iter().filter(|turn| **turn == number).count()
+}
+
+#[test]
+fn two_threads_have_their_turns(rt: HostRuntime) -> Result<(), Fail> {
+    let log = Log::new(rt.alloc(), 2)?;
+    let (gate, passes) = Turnstile::new(rt.alloc(), log, 2)?;
+    let (one, other, rest) = two_passes(passes);
+    let (one, other) = take_both(&rt, &gate, one, other, 1000);
+    let log = close_both(gate, rest, one, other)?;
+    assert_eq!(rt; turns_of(&log, 0), 1000);
+    assert_eq!(rt; turns_of(&log, 1), 1000);
+    assert_eq!(rt; log.turns.len(), 2000);
+    Ok(())
 }
