@@ -1,5 +1,5 @@
 -- Lists of passes.
-use Rattle.std.proofs.Common.{◌≡◌, ◌⊎◌, ◌+◌, ◌<◌, ◌==◌, ℕ, zero, suc, Bool, true, false, List, [], ◌∷◌, ◌++◌, length, get_or, map, Some, refl, ap, subst, ◌∙◌, inl, inr, ⊎_elim, arith, length-append, eq-eqb, eqb-true, lt-ltb}
+use Rattle.std.proofs.Common.{◌≡◌, ◌⊎◌, ◌+◌, ◌<◌, ◌==◌, ℕ, zero, suc, Bool, true, false, List, [], ◌∷◌, ◌++◌, length, get_or, map, Some, refl, ap, subst, ◌∙◌, inl, inr, ⊎_elim, arith, length-append, eq-eqb, eqb-true, lt-ltb, set, length-set, get_or-set_same, get_or-set_other, slice_get, sym, ◌≢◌}
 use Rattle.std.specs.Prelude.{All, Contains, IsSome}
 use Rattle.std.specs.List.{position, prefix_len}
 use Rattle.std.specs.Prelude.{not}
@@ -7,10 +7,14 @@ use Rattle.std.proofs.Math.ListN.{length-map}
 use Rattle.std.proofs.lemmas.List.{get_or-append-add}
 use Rattle.std.proofs.lemmas.List.Quantifiers.{position-Some}
 use Rattle.std.proofs.lemmas.List.{get_or-map}
+use Rattle.std.proofs.lemmas.Option.{slice_get-get_or}
+use lib.Seq.{map-set, set-get_or}
+use mathlib.Core.Logic.{dite}
+use native.Mathlib.Decide.{ℕ_discrete}
 use Rattle.std.specs.List.Sorted.{IsPermutation}
 use Rattle.std.proofs.lemmas.List.Sorted.{All-permutation, Contains-permutation}
 use Rattle.turnstile.specs.declared.views.Joined.{Joined}
-use Rattle.turnstile.specs.Passes.{Gate, Held, IsPassOf, AreAllOf, joined_of}
+use Rattle.turnstile.specs.Passes.{Gate, Held, IsPassOf, AreAllOf, joined_of, IsNewPass, fresh_pass}
 
 -- what a list contains, a longer one contains
 pub contains_behind : {A : Type 0} (xs ys : List A) (x : A) → Contains ys x → Contains (xs ++ ys) x
@@ -91,3 +95,33 @@ module _ {N : Type 0} (t : Gate N) (ps : List (Held N)) (first : Held N) (rest :
       let at = among_rest zeroth n above (omega arith) in
       let joined = at_contained (λ (p : Held N). Contains js (joined_of p)) rest at.0 kept at.1 in
       subst (λ (k : ℕ). Contains (map (λ (j : Joined). j.number) js) k) at.2 (contains_map (λ (j : Joined). j.number) js (joined_of at.0) joined)
+
+module _ {N : Type 0} (t : Gate N) (ps : List (Held N)) where
+  -- the passes that `new` gave are all
+  pub all_new : length ps ≡ t.seats → ((i : ℕ) (p : Held N) → slice_get ps i ≡ Some p → IsNewPass t i p) → AreAllOf t ps
+  all_new many new = record {
+    ours = λ k d below. (new k (get_or ps k d) (slice_get-get_or ps k d below)).0;
+    every = λ n below. let inside : n < length ps = omega arith in let d = fresh_pass t.table t.name 0 in (
+      n,
+      omega (arith, length-map ps (λ p. p.number)),
+      get_or-map (λ (p : Held N). p.number) ps n d n inside ∙ (new n (get_or ps n d) (slice_get-get_or ps n d inside)).1,
+    );
+  }
+
+  -- a pass may change, if it stays the turnstile's and keeps its number
+  pub all_after : (i : ℕ) (p : Held N) → i < length ps → IsPassOf t p → p.number ≡ (get_or ps i p).number → AreAllOf t ps → AreAllOf t (set ps i p)
+  all_after i p inside ours same all = record {
+    ours = λ k d below. dite (ℕ_discrete k i) (λ here. subst (λ (q : Held N). IsPassOf t q) (sym (ap (λ (j : ℕ). get_or (set ps i p) j d) here ∙ get_or-set_same ps i p d inside)) ours)
+        (λ there. subst (λ (q : Held N). IsPassOf t q) (sym (get_or-set_other ps i k p d there)) (all.ours k d (let long = length-set ps i p in omega arith)));
+    every = λ n below. subst (λ (numbers : List ℕ). Contains numbers n) (sym numbers_stay) (all.every n below);
+  }
+    where
+      numbers_stay : map (λ (q : Held N). q.number) (set ps i p) ≡ map (λ (q : Held N). q.number) ps
+      numbers_stay = map-set (λ (q : Held N). q.number) ps i p ∙ ap (set (map (λ (q : Held N). q.number) ps) i) (same ∙ sym (get_or-map (λ (q : Held N). q.number) ps i p 0 inside)) ∙ set-get_or (map (λ (q : Held N). q.number) ps) i 0
+
+-- passes that were dealt are new
+pub dealt : {N : Type 0} (t : Gate N) (ps : List (Held N)) → slice_get ps 0 ≡ Some (record (fresh_pass t.table t.name 0) { made = t.seats })
+    → ((i : ℕ) (p : Held N) → 0 < i → slice_get ps i ≡ Some p → p ≡ fresh_pass t.table t.name i) → (i : ℕ) (p : Held N) → slice_get ps i ≡ Some p → IsNewPass t i p
+dealt {N} t ps first others zero p at = let both : Some (record (fresh_pass t.table t.name 0) { made = t.seats }) ≡ Some p = sym first ∙ at in
+    let is : record (fresh_pass t.table t.name 0) { made = t.seats } ≡ p = cc in subst (λ (q : Held N). IsNewPass t 0 q) is ((refl, refl, λ _. refl), refl, refl, refl)
+dealt {N} t ps first others (suc i) p at = subst (λ (q : Held N). IsNewPass t (suc i) q) (sym (others (suc i) p (omega arith) at)) ((refl, refl, λ is. absurd (omega arith)), refl, refl, refl)

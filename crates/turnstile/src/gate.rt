@@ -55,6 +55,7 @@ impl<S: Turned> Turnstile<S> {
         requires empty { S.past state ≡ [] }
         ensures name { IfOk result (λ t. t.0.name ≡ S.name state) }
         ensures seats { IfOk result (λ t. (t.0.seats ≡ seats) × (length t.1.items ≡ seats)) }
+        ensures all { IfOk result (λ t. AreAllOf t.0 t.1.items) }
         ensures passes { IfOk result (λ t. (i : ℕ) (p : Held S.Name) → slice_get t.1.items i ≡ Some p → IsNewPass t.0 i p) }
     {
         let (hall, first) = open_hall(alloc, state)?;

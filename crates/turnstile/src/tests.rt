@@ -159,3 +159,29 @@ fn two_threads_have_their_turns(rt: HostRuntime) -> Result<(), Fail> {
     assert_eq!(rt; log.turns.len(), 2000);
     Ok(())
 }
+
+/// Each pass takes one turn, and looks before and after it.
+fn one_turn_each<R: Wait>(rt: &R, gate: &Turnstile<Log>, passes: &mut Passes<Log>) -> u64
+    requires all { AreAllOf gate.now passes.old.items }
+    requires new { All (λ p. (p.seen ≡ []) × (p.number < gate.now.name)) passes.old.items }
+    ensures { AreAllOf gate.now passes.new.items }
+{
+    let mut sum = 0u64;
+    for i in 0..passes.len() {
+        let pass = &mut passes[i];
+        let number = pass.number();
+        gate.with_turn(rt, pass, |log| log.append(number));
+        sum = sum.wrapping_add(turns_so_far(gate, pass));
+    }
+    sum
+}
+
+#[test]
+fn sixteen_seats(rt: HostRuntime) -> Result<(), Fail> {
+    let log = Log::new(rt.alloc(), 16)?;
+    let (gate, mut passes) = Turnstile::new(rt.alloc(), log, 16)?;
+    assert_eq!(rt; one_turn_each(&rt, &gate, &mut passes), 136);
+    let log = gate.close(passes);
+    assert_eq!(rt; log.turns.as_slice(), [0, 1, 2, 3, 4, 5, 6, 7, 8, 9, 10, 11, 12, 13, 14, 15].as_slice());
+    Ok(())
+}
