@@ -94,22 +94,24 @@ module _ {S N : Type 0} (name_of : S → N) (past_of : S → List ℕ) where
     where
       h : Holds name_of past_of name s
       h = seen.0
+
       f : Fits name h.next h.past s.views id v
       f = h.seated.each id v seen.1 (λ gone. cc (idle, gone))
+
       nobody_out : IsOut h.home s.views → ⊥
       nobody_out out = dite (ℕ_discrete out.seat id)
           (λ same. let both : Idle ≡ Serving out.ticket = sym idle ∙ (ap (λ (x : View N). x.stage) (one_at s.views id out.seat v out.view (sym same) seen.1 out.sits) ∙ out.serves) in cc)
           (λ other.
-            let first : id ≡ 0 = sym f.number ∙ zeroth in
-            let many : v.made ≡ length s.views = f.made first in
-            let inside = within s.views out.seat out.view out.sits in
-            let positive : 0 < out.seat = omega arith in
-            let has = all out.seat positive (omega arith) in
-            let d : Joined = record { number = out.seat; seen = []; noted = 0 } in
-            let below : has.0 < length v.joined = omega (arith, has.1, length-map v.joined (λ (j : Joined). j.number)) in
-            let is : (get_or v.joined has.0 d).number ≡ out.seat = sym (get_or-map (λ (j : Joined). j.number) v.joined has.0 d out.seat below) ∙ has.2 in
-            let gone = (f.joined has.0 d below).spent in
-            let both : Spent ≡ Serving out.ticket = sym gone.2 ∙ (ap (λ (x : View N). x.stage) (one_at s.views _ out.seat gone.0 out.view is gone.1 out.sits) ∙ out.serves) in cc)
+          let first : id ≡ 0 = sym f.number ∙ zeroth in
+          let many : v.made ≡ length s.views = f.made first in
+          let inside = within s.views out.seat out.view out.sits in
+          let positive : 0 < out.seat = omega arith in
+          let has = all out.seat positive (omega arith) in
+          let d : Joined = record { number = out.seat; seen = []; noted = 0 } in
+          let below : has.0 < length v.joined = omega (arith, has.1, length-map v.joined (λ (j : Joined). j.number)) in
+          let is : (get_or v.joined has.0 d).number ≡ out.seat = sym (get_or-map (λ (j : Joined). j.number) v.joined has.0 d out.seat below) ∙ has.2 in
+          let gone = (f.joined has.0 d below).spent in
+          let both : Spent ≡ Serving out.ticket = sym gone.2 ∙ (ap (λ (x : View N). x.stage) (one_at s.views _ out.seat gone.0 out.view is gone.1 out.sits) ∙ out.serves) in cc)
 
 -- each pass knows the past of the state at the end, and has noted no more turns
 module _ {S N : Type 0} (name_of : S → N) (past_of : S → List ℕ) (name : N) (ps : List (Held N)) (first : Held N) (rest : List (Held N)) (seat : Seat (Option S) (View N)) (state : S) where

@@ -1,5 +1,5 @@
 -- Lists of passes.
-use Rattle.std.proofs.Common.{◌≡◌, ◌⊎◌, ◌+◌, ◌<◌, ◌==◌, ℕ, zero, suc, Bool, true, false, List, [], ◌∷◌, ◌++◌, length, get_or, map, Some, refl, ap, subst, ◌∙◌, inl, inr, ⊎_elim, arith, length-append, eq-eqb, eqb-true, lt-ltb, set, length-set, get_or-set_same, get_or-set_other, slice_get, sym, ◌≢◌}
+use Rattle.std.proofs.Common.{◌≡◌, ◌⊎◌, ◌+◌, ◌<◌, ◌==◌, ℕ, zero, suc, Bool, true, false, List, [], ◌∷◌, ◌++◌, length, get_or, map, Some, refl, ap, subst, ◌∙◌, inl, inr, ⊎_elim, arith, length-append, eq-eqb, eqb-true, lt-ltb, set, length-set, get_or-set_same, get_or-set_other, slice_get, sym}
 use Rattle.std.specs.Prelude.{All, Contains, IsSome}
 use Rattle.std.specs.List.{position, prefix_len}
 use Rattle.std.specs.Prelude.{not}
@@ -14,7 +14,7 @@ use native.Mathlib.Decide.{ℕ_discrete}
 use Rattle.std.specs.List.Sorted.{IsPermutation}
 use Rattle.std.proofs.lemmas.List.Sorted.{All-permutation, Contains-permutation}
 use Rattle.turnstile.specs.declared.views.Joined.{Joined}
-use Rattle.turnstile.specs.Passes.{Gate, Held, IsPassOf, AreAllOf, joined_of, IsNewPass, fresh_pass}
+use Rattle.turnstile.specs.Passes.{Lock, Held, IsPassOf, AreAllOf, joined_of, IsNewPass, fresh_pass}
 
 -- what a list contains, a longer one contains
 pub contains_behind : {A : Type 0} (xs ys : List A) (x : A) → Contains ys x → Contains (xs ++ ys) x
@@ -72,7 +72,7 @@ contains_split x y xs (zero, below, is) = inl is
 contains_split x y xs (suc k, below, is) = inr (k, omega arith, is)
 
 -- all the passes are the first and the others
-module _ {N : Type 0} (t : Gate N) (ps : List (Held N)) (first : Held N) (rest : List (Held N)) (whole : AreAllOf t ps) (parts : IsPermutation ps (first ∷ rest)) where
+module _ {N : Type 0} (t : Lock N) (ps : List (Held N)) (first : Held N) (rest : List (Held N)) (whole : AreAllOf t ps) (parts : IsPermutation ps (first ∷ rest)) where
   ours : All (IsPassOf t) (first ∷ rest)
   ours = All-permutation (IsPassOf t) ps (first ∷ rest) parts whole.ours
 
@@ -96,7 +96,7 @@ module _ {N : Type 0} (t : Gate N) (ps : List (Held N)) (first : Held N) (rest :
       let joined = at_contained (λ (p : Held N). Contains js (joined_of p)) rest at.0 kept at.1 in
       subst (λ (k : ℕ). Contains (map (λ (j : Joined). j.number) js) k) at.2 (contains_map (λ (j : Joined). j.number) js (joined_of at.0) joined)
 
-module _ {N : Type 0} (t : Gate N) (ps : List (Held N)) where
+module _ {N : Type 0} (t : Lock N) (ps : List (Held N)) where
   -- the passes that `new` gave are all
   pub all_new : length ps ≡ t.seats → ((i : ℕ) (p : Held N) → slice_get ps i ≡ Some p → IsNewPass t i p) → AreAllOf t ps
   all_new many new = record {
@@ -120,7 +120,7 @@ module _ {N : Type 0} (t : Gate N) (ps : List (Held N)) where
       numbers_stay = map-set (λ (q : Held N). q.number) ps i p ∙ ap (set (map (λ (q : Held N). q.number) ps) i) (same ∙ sym (get_or-map (λ (q : Held N). q.number) ps i p 0 inside)) ∙ set-get_or (map (λ (q : Held N). q.number) ps) i 0
 
 -- passes that were dealt are new
-pub dealt : {N : Type 0} (t : Gate N) (ps : List (Held N)) → slice_get ps 0 ≡ Some (record (fresh_pass t.table t.name 0) { made = t.seats })
+pub dealt : {N : Type 0} (t : Lock N) (ps : List (Held N)) → slice_get ps 0 ≡ Some (record (fresh_pass t.table t.name 0) { made = t.seats })
     → ((i : ℕ) (p : Held N) → 0 < i → slice_get ps i ≡ Some p → p ≡ fresh_pass t.table t.name i) → (i : ℕ) (p : Held N) → slice_get ps i ≡ Some p → IsNewPass t i p
 dealt {N} t ps first others zero p at = let both : Some (record (fresh_pass t.table t.name 0) { made = t.seats }) ≡ Some p = sym first ∙ at in
     let is : record (fresh_pass t.table t.name 0) { made = t.seats } ≡ p = cc in subst (λ (q : Held N). IsNewPass t 0 q) is ((refl, refl, λ _. refl), refl, refl, refl)

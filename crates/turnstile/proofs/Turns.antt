@@ -7,7 +7,7 @@ use Rattle.turnstile.specs.declared.views.Stage.TheVariants.{Serving}
 use Rattle.turnstile.specs.declared.views.View.{View}
 use Rattle.turnstile.specs.Past.{times, Knows}
 use Rattle.turnstile.specs.Moves.{TakesTurn, MayEnd}
-use Rattle.turnstile.specs.Passes.{Gate, Held, IsPassOf, IsDueFor, held_of}
+use Rattle.turnstile.specs.Passes.{Lock, Held, IsPassOf, IsDueFor, held_of}
 use Rattle.turnstile.specs.Steps.{rested, serving_view}
 use Rattle.turnstile.proofs.Pasts.{times-push_same, prefix_trans}
 
@@ -38,7 +38,7 @@ module _ {S N : Type 0} (m : Me (Option S) (View N)) (past : List ℕ) (v : View
   seen_after = ap (λ (x : Me (Option S) (View N)). x.0.seen) ended
 
 -- the state that a turn begins with is due for the pass
-pub due_for : {S N : Type 0} (name_of : S → N) (past_of : S → List ℕ) (gate : Gate N) (p : Held N) (seat : Seat (Option S) (View N)) (m' : Me (Option S) (View N)) (state : S)
+pub due_for : {S N : Type 0} (name_of : S → N) (past_of : S → List ℕ) (gate : Lock N) (p : Held N) (seat : Seat (Option S) (View N)) (m' : Me (Option S) (View N)) (state : S)
     → held_of seat ≡ p → IsPassOf gate p → TakesTurn name_of past_of seat.me state m' → IsDueFor name_of past_of gate p state
 due_for {S} {N} name_of past_of gate p seat m' state is ours t =
     let name_is : seat.me.0.name ≡ p.name = ap (λ (h : Held N). h.name) is in
@@ -51,7 +51,7 @@ pub record HadTurn {N : Type 0} (p : Held N) (past : List ℕ) : Type 0 where
   pub count : times p.number past ≡ times p.number p.seen + 1
   pub later : p.noted < length past
 
-pub had_turn : {S N : Type 0} (name_of : S → N) (past_of : S → List ℕ) (gate : Gate N) (p : Held N) (seat : Seat (Option S) (View N)) (m' : Me (Option S) (View N)) (state : S) (past : List ℕ)
+pub had_turn : {S N : Type 0} (name_of : S → N) (past_of : S → List ℕ) (gate : Lock N) (p : Held N) (seat : Seat (Option S) (View N)) (m' : Me (Option S) (View N)) (state : S) (past : List ℕ)
     → held_of seat ≡ p → IsPassOf gate p → TakesTurn name_of past_of seat.me state m' → past ≡ past_of state ++ p.number ∷ [] → HadTurn p past
 had_turn {S} {N} name_of past_of gate p seat m' state past is ours t grown =
     let before : List ℕ = past_of state in

@@ -8,7 +8,7 @@ use Rattle.turnstile.specs.declared.views.Stage.TheVariants.{Idle}
 use Rattle.turnstile.specs.Past.{Knows}
 
 -- a turnstile: which table it has, its state's name, and how many passes there are
-pub record Gate (N : Type 0) : Type 0 where
+pub record Lock (N : Type 0) : Type 0 where
   pub table : TableId
   pub name : N
   pub seats : ℕ
@@ -24,19 +24,19 @@ pub record Held (N : Type 0) : Type 0 where
 
 module _ {N : Type 0} where
   -- the turnstile's `new` gave the pass
-  abbrev pub IsPassOf : Gate N → Held N → Type 0
+  abbrev pub IsPassOf : Lock N → Held N → Type 0
   IsPassOf t p = (p.table ≡ t.table) × (p.name ≡ Some t.name) × (p.number ≡ 0 → p.made ≡ t.seats)
 
   -- the pass with this number, as `new` gives it
-  abbrev pub IsNewPass : Gate N → ℕ → Held N → Type 0
+  abbrev pub IsNewPass : Lock N → ℕ → Held N → Type 0
   IsNewPass t number p = IsPassOf t p × (p.number ≡ number) × (p.seen ≡ []) × (p.noted ≡ 0)
 
   -- a state is due for the pass: it has the turnstile's name, and the pass knows its past
-  abbrev pub IsDueFor : {S : Type 0} → (S → N) → (S → List ℕ) → Gate N → Held N → S → Type 0
+  abbrev pub IsDueFor : {S : Type 0} → (S → N) → (S → List ℕ) → Lock N → Held N → S → Type 0
   IsDueFor name_of past_of t p state = (name_of state ≡ t.name) × Knows (past_of state) p.number p.seen
 
   -- the passes are all those that the turnstile's `new` gave, in any order
-  pub record AreAllOf (t : Gate N) (passes : List (Held N)) : Type 0 where
+  pub record AreAllOf (t : Lock N) (passes : List (Held N)) : Type 0 where
     pub ours : All (IsPassOf t) passes
     pub every : (number : ℕ) → number < t.seats → Contains (map (λ p. p.number) passes) number
 

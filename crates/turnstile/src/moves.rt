@@ -7,7 +7,10 @@ ghost use Rattle.turnstile.specs.Passes.{IsAtRest};
 ghost use Rattle.turnstile.specs.Rule.{first_view};
 ghost use Rattle.turnstile.specs.Steps.{staged, Looks, TakesState, MovesState, PassesOn, kept_view, new_view, joined_view, rested};
 
-use crate::queue::{Board, DrawTicket, Hall, JoinSeat, Look, NEXT, PassOn, Place, SERVING, STATE, SplitSeat};
+use crate::queue::{
+    DrawTicket, JoinSeat, LockSeat, LockShared, LockTable, Look, NEXT, PassOn, SERVING, STATE,
+    SplitSeat,
+};
 use crate::states::Turned;
 use atomic_table::Table;
 use std::alloc::{AllocError, Global};
@@ -15,56 +18,56 @@ use std::snapshot::Snapshot;
 use std::sync::Wait;
 
 /// Draws a ticket.
-pub(crate) fn draw_ticket<S: Turned>(board: &Board<S>, seat: &mut Place<S>) -> u64
-    requires seat { IsSeatAt board.now.table_id seat.old }
+pub(crate) fn draw_ticket<S: Turned>(shared: &LockShared<S>, seat: &mut LockSeat<S>) -> u64
+    requires seat { IsSeatAt shared.now.table_id seat.old }
     requires idle { seat.old.me.0.stage ≡ Idle }
     ensures seat { IsSameSeat seat.old seat.new }
     ensures drawn { seat.new.me ≡ (staged (Waiting result) seat.old.me.0, seat.old.me.1) }
 {
-    board.fetch_add::<DrawTicket>(seat, NEXT, 1)
+    shared.fetch_add::<DrawTicket>(seat, NEXT, 1)
 }
 
 /// Looks at the number of turns passed on. Where it is the seat's ticket, the seat's turn has come.
-pub(crate) fn look<S: Turned>(board: &Board<S>, seat: &mut Place<S>) -> u64
-    requires seat { IsSeatAt board.now.table_id seat.old }
+pub(crate) fn look<S: Turned>(shared: &LockShared<S>, seat: &mut LockSeat<S>) -> u64
+    requires seat { IsSeatAt shared.now.table_id seat.old }
     requires before { CanLook seat.old.me.0.stage }
     ensures seat { IsSameSeat seat.old seat.new }
     ensures looked { Looks S.name S.past seat.old.me result seat.new.me }
 {
-    board.load::<Look>(seat, SERVING)
+    shared.load::<Look>(seat, SERVING)
 }
 
 /// Takes the state out of the slot.
-pub(crate) fn move_out<S: Turned>(board: &Board<S>, seat: &mut Place<S>) -> S
-    requires seat { seat.old.table_id ≡ board.now.table_id }
+pub(crate) fn move_out<S: Turned>(shared: &LockShared<S>, seat: &mut LockSeat<S>) -> S
+    requires seat { seat.old.table_id ≡ shared.now.table_id }
     requires holds { (state : S) × (seat.old.me.1 ≡ (0, Some state) ∷ []) }
     ensures seat { IsSameSeat seat.old seat.new }
     ensures moved { MovesState seat.old.me (Some result) None seat.new.me }
 {
-    let state = board.exchange(seat, STATE, None);
+    let state = shared.exchange(seat, STATE, None);
     state.unwrap()
 }
 
 /// Puts a state into the slot.
-pub(crate) fn move_in<S: Turned>(board: &Board<S>, seat: &mut Place<S>, state: S)
-    requires seat { seat.old.table_id ≡ board.now.table_id }
+pub(crate) fn move_in<S: Turned>(shared: &LockShared<S>, seat: &mut LockSeat<S>, state: S)
+    requires seat { seat.old.table_id ≡ shared.now.table_id }
     requires holds { seat.old.me.1 ≡ (0, None) ∷ [] }
     ensures seat { IsSameSeat seat.old seat.new }
     ensures moved { MovesState seat.old.me None (Some state) seat.new.me }
 {
-    board.exchange(seat, STATE, Some(state));
+    shared.exchange(seat, STATE, Some(state));
 }
 
 /// Gives the slot back, ends the turn, and wakes those who wait, if a ticket is out.
-pub(crate) fn pass_on<S: Turned>(board: &Board<S>, seat: &mut Place<S>)
-    requires seat { IsSeatAt board.now.table_id seat.old }
+pub(crate) fn pass_on<S: Turned>(shared: &LockShared<S>, seat: &mut LockSeat<S>)
+    requires seat { IsSeatAt shared.now.table_id seat.old }
     requires turn { (state : S) × (seat.old.me.1 ≡ (0, Some state) ∷ []) × MayEnd S.name S.past seat.old.me.0 state }
     ensures seat { IsSameSeat seat.old seat.new }
     ensures passed { PassesOn S.past seat.old.me seat.new.me }
 {
-    let served = board.fetch_add::<PassOn>(seat, SERVING, 1).wrapping_add(1);
-    if board.peek(NEXT) != served {
-        board.wake_all(SERVING);
+    let served = shared.fetch_add::<PassOn>(seat, SERVING, 1).wrapping_add(1);
+    if shared.peek(NEXT) != served {
+        shared.wake_all(SERVING);
     }
 }
 
@@ -78,26 +81,31 @@ pub(crate) fn act<S, R, A: FnOnce(&mut S) -> R>(mut state: S, action: A) -> (S, 
 }
 
 /// Waits until the seat's turn has come.
-pub(crate) fn wait<S: Turned, H: Wait>(rt: &H, board: &Board<S>, seat: &mut Place<S>, ticket: u64)
-    requires seat { IsSeatAt board.now.table_id seat.old }
+pub(crate) fn wait<S: Turned, H: Wait>(
+    rt: &H,
+    shared: &LockShared<S>,
+    seat: &mut LockSeat<S>,
+    ticket: u64,
+)
+    requires seat { IsSeatAt shared.now.table_id seat.old }
     requires waiting { seat.old.me ≡ (staged (Waiting ticket) seat.old.me.0, []) }
     ensures seat { IsSameSeat seat.old seat.new }
     ensures noted { seat.old.me.0.noted ≤ ticket }
     ensures turn { TakesState S.name S.past seat.old.me ticket seat.new.me }
 {
     for _ in rt.forever() {
-        let serving = look(board, seat);
+        let serving = look(shared, seat);
         if serving == ticket {
             return;
         }
-        board.park(rt, SERVING, (serving & 0xffff_ffff) as u32);
+        shared.park(rt, SERVING, (serving & 0xffff_ffff) as u32);
     }
     unreachable!()
 }
 
 /// Makes one more seat.
-pub(crate) fn split_seat<S: Turned>(board: &Board<S>, first: &mut Place<S>) -> Place<S>
-    requires seat { IsSeatAt board.now.table_id first.old }
+pub(crate) fn split_seat<S: Turned>(shared: &LockShared<S>, first: &mut LockSeat<S>) -> LockSeat<S>
+    requires seat { IsSeatAt shared.now.table_id first.old }
     requires first { first.old.me.0.number ≡ 0 }
     requires idle { first.old.me.0.stage ≡ Idle }
     requires room { first.old.me.0.made < 16 }
@@ -105,50 +113,58 @@ pub(crate) fn split_seat<S: Turned>(board: &Board<S>, first: &mut Place<S>) -> P
     ensures kept { first.new.me ≡ (kept_view first.old.me.0, first.old.me.1) }
     ensures new { (result.table_id ≡ first.old.table_id) × (result.me ≡ (new_view first.old.me.0, [])) }
 {
-    board.split_seat::<SplitSeat>(first)
+    shared.split_seat::<SplitSeat>(first)
 }
 
 /// Takes a seat in. The first one keeps what it knew.
-pub(crate) fn join_seat<S: Turned>(board: &Board<S>, first: &mut Place<S>, other: Place<S>)
-    requires seat { IsSeatAt board.now.table_id first.old }
+pub(crate) fn join_seat<S: Turned>(
+    shared: &LockShared<S>,
+    first: &mut LockSeat<S>,
+    other: LockSeat<S>,
+)
+    requires seat { IsSeatAt shared.now.table_id first.old }
     requires first { first.old.me.0.number ≡ 0 }
     requires idle { first.old.me.0.stage ≡ Idle }
-    requires other { (other.table_id ≡ board.now.table_id) × (other.me.0.stage ≡ Idle) × (other.me.1 ≡ []) }
+    requires other { (other.table_id ≡ shared.now.table_id) × (other.me.0.stage ≡ Idle) × (other.me.1 ≡ []) }
     ensures seat { IsSameSeat first.old first.new }
     ensures joined { first.new.me ≡ (joined_view first.old.me.0 other.me.0, first.old.me.1) }
 {
-    board.join_seat::<JoinSeat>(first, other);
+    shared.join_seat::<JoinSeat>(first, other);
 }
 
 /// Draws a ticket, waits until it is served, and takes the state.
-pub(crate) fn take_turn<S: Turned, H: Wait>(rt: &H, board: &Board<S>, seat: &mut Place<S>) -> S
-    requires seat { IsSeatAt board.now.table_id seat.old }
+pub(crate) fn take_turn<S: Turned, H: Wait>(
+    rt: &H,
+    shared: &LockShared<S>,
+    seat: &mut LockSeat<S>,
+) -> S
+    requires seat { IsSeatAt shared.now.table_id seat.old }
     requires rest { (seat.old.me.0.stage ≡ Idle) × (seat.old.me.1 ≡ []) }
     ensures seat { IsSameSeat seat.old seat.new }
     ensures turn { TakesTurn S.name S.past seat.old.me result seat.new.me }
 {
-    let ticket = draw_ticket(board, seat);
-    wait(rt, board, seat, ticket);
-    move_out(board, seat)
+    let ticket = draw_ticket(shared, seat);
+    wait(rt, shared, seat, ticket);
+    move_out(shared, seat)
 }
 
 /// Puts the state back, and ends the turn.
-pub(crate) fn end_turn<S: Turned>(board: &Board<S>, seat: &mut Place<S>, state: S)
-    requires seat { IsSeatAt board.now.table_id seat.old }
+pub(crate) fn end_turn<S: Turned>(shared: &LockShared<S>, seat: &mut LockSeat<S>, state: S)
+    requires seat { IsSeatAt shared.now.table_id seat.old }
     requires holds { seat.old.me.1 ≡ (0, None) ∷ [] }
     requires turn { MayEnd S.name S.past seat.old.me.0 state }
     ensures seat { IsSameSeat seat.old seat.new }
     ensures ended { seat.new.me ≡ (rested (S.past state) seat.old.me.0, []) }
 {
-    move_in(board, seat, state);
-    pass_on(board, seat);
+    move_in(shared, seat, state);
+    pass_on(shared, seat);
 }
 
 /// Makes the table, with the state in its slot, and the first seat.
-pub(crate) fn open_hall<S: Turned>(
+pub(crate) fn open_table<S: Turned>(
     alloc: Global,
     state: S,
-) -> Result<(Hall<S>, Place<S>), AllocError>
+) -> Result<(LockTable<S>, LockSeat<S>), AllocError>
     requires { S.past state ≡ [] }
     ensures name { IfOk result (λ t. S.name t.0.shared.key.value ≡ S.name state) }
     ensures seat { IfOk result (λ t. IsSeatAt t.0.shared.table_id t.1) }
@@ -164,13 +180,13 @@ pub(crate) fn open_hall<S: Turned>(
 }
 
 /// Takes the state out of a table whose seats were all joined to the first.
-pub(crate) fn settle<S: Turned>(hall: Hall<S>, first: Place<S>) -> S
-    requires seat { IsSeatAt hall.shared.table_id first }
+pub(crate) fn settle<S: Turned>(table: LockTable<S>, first: LockSeat<S>) -> S
+    requires seat { IsSeatAt table.shared.table_id first }
     requires rest { IsAtRest 0 first }
     requires all { (n : ℕ) → 0 < n → n < first.me.0.made → Contains (map (λ j. j.number) first.me.0.joined) n }
-    ensures { Settles S.name S.past (S.name hall.shared.key.value) first.me.0 result }
+    ensures { Settles S.name S.past (S.name table.shared.key.value) first.me.0 result }
 {
-    let mut closed = hall.close_with(first);
+    let mut closed = table.close_with(first);
     let state = closed.take(STATE);
     closed.free();
     state.unwrap()

@@ -6,19 +6,22 @@ ghost use Rattle.turnstile.specs.Rule.{first_view};
 ghost use Rattle.turnstile.specs.Moves.{IsSeatAt, IsSameSeat};
 
 use crate::moves::{join_seat, split_seat};
-use crate::queue::{Board, Place};
+use crate::queue::{LockSeat, LockShared};
 use crate::states::Turned;
 use std::alloc::{AllocError, Global};
 use std::marker::Model;
 
-/// The right to have turns at a turnstile, and what its holder knows of them.
+/// The right to have turns at a turnstile. It may go from thread to thread.
+///
+/// Contracts see it as what its holder knows (`specs/Passes.antt`, `Held`): whose pass it is, its number, the
+/// longest past that it has seen, and the greatest number of turns that it noted.
 #[derive(Drop)]
 pub struct Pass<S: Turned> {
     number: u32,
-    pub(crate) seat: Place<S>,
+    pub(crate) seat: LockSeat<S>,
 }
 
-/// The passes of a turnstile.
+/// The passes of a turnstile, at `new` in the order of their numbers.
 pub type Passes<S> = Vec<Pass<S>>;
 
 impl<S: Turned> Model for Pass<S> {
@@ -34,14 +37,14 @@ impl<S: Turned> Model for Pass<S> {
 impl<S: Turned> Pass<S> {
     ghost use Rattle.turnstile.specs.Passes.{held_of, IsAtRest};
 
-    /// The pass's number, from 0.
+    /// The pass's number, from 0 on.
     pub fn number(&self) -> u32
         ensures { result ≡ self.now.number }
     {
         self.number
     }
 
-    fn into_seat(self) -> Place<S>
+    fn into_seat(self) -> LockSeat<S>
         ensures view { held_of result ≡ self }
         ensures rest { IsAtRest self.number result }
     {
@@ -56,20 +59,20 @@ ghost use Rattle.turnstile.specs.Past.{Knows};
 /// Splits the first seat, and gives each seat to a pass.
 pub(crate) fn deal_passes<S: Turned>(
     alloc: Global,
-    board: &Board<S>,
-    mut first: Place<S>,
+    shared: &LockShared<S>,
+    mut first: LockSeat<S>,
     seats: u32,
 ) -> Result<Passes<S>, AllocError>
-    requires seat { IsSeatAt board.now.table_id first }
-    requires first { first.me ≡ (first_view (S.name board.now.key.value), []) }
+    requires seat { IsSeatAt shared.now.table_id first }
+    requires first { first.me ≡ (first_view (S.name shared.now.key.value), []) }
     requires few { (1 ≤ seats) × (seats ≤ 16) }
     ensures count { IfOk result (λ passes. length passes.items ≡ seats) }
-    ensures first { IfOk result (λ passes. slice_get passes.items 0 ≡ Some (record (fresh_pass board.now.table_id (S.name board.now.key.value) 0) { made = seats })) }
-    ensures others { IfOk result (λ passes. (i : ℕ) (p : Held S.Name) → 0 < i → slice_get passes.items i ≡ Some p → p ≡ fresh_pass board.now.table_id (S.name board.now.key.value) i) }
+    ensures first { IfOk result (λ passes. slice_get passes.items 0 ≡ Some (record (fresh_pass shared.now.table_id (S.name shared.now.key.value) 0) { made = seats })) }
+    ensures others { IfOk result (λ passes. (i : ℕ) (p : Held S.Name) → 0 < i → slice_get passes.items i ≡ Some p → p ≡ fresh_pass shared.now.table_id (S.name shared.now.key.value) i) }
 {
     let mut passes = Vec::with_capacity(alloc, seats as usize)?;
     for number in 1..seats {
-        let seat = split_seat(board, &mut first);
+        let seat = split_seat(shared, &mut first);
         passes.push(Pass { number, seat })?;
     }
     passes.insert(
@@ -99,17 +102,21 @@ pub(crate) fn take_first<S: Turned>(passes: &mut Passes<S>) -> Pass<S>
 }
 
 /// Joins the seats of all other passes to that of the first.
-pub(crate) fn join_all<S: Turned>(board: &Board<S>, first: Pass<S>, others: Passes<S>) -> Place<S>
-    requires board { (first.table ≡ board.now.table_id) × (board.now.table_id.words ≡ 2) × (board.now.table_id.slots ≡ 1) }
+pub(crate) fn join_all<S: Turned>(
+    shared: &LockShared<S>,
+    first: Pass<S>,
+    others: Passes<S>,
+) -> LockSeat<S>
+    requires shared { (first.table ≡ shared.now.table_id) × (shared.now.table_id.words ≡ 2) × (shared.now.table_id.slots ≡ 1) }
     requires first { first.number ≡ 0 }
-    requires others { All (λ p. p.table ≡ board.now.table_id) others.items }
+    requires others { All (λ p. p.table ≡ shared.now.table_id) others.items }
     ensures seat { held_of result ≡ first }
     ensures rest { IsAtRest 0 result }
     ensures joined { All (λ p. Contains result.me.0.joined (joined_of p)) others.items }
 {
     let mut seat = first.into_seat();
     for other in others {
-        join_seat(board, &mut seat, other.into_seat());
+        join_seat(shared, &mut seat, other.into_seat());
     }
     seat
 }

@@ -24,11 +24,11 @@ impl<S: Turned> TableRule<Option<S>, View<S::Name>, Snapshot<S>> for Queue {
     ghost first = { λ key. first_view (S.name key.value) };
 }
 
-pub type Board<S> = Shared<Option<S>, View<<S as Turned>::Name>, Snapshot<S>, Queue>;
+pub type LockShared<S> = Shared<Option<S>, View<<S as Turned>::Name>, Snapshot<S>, Queue>;
 
-pub type Hall<S> = Table<Option<S>, View<<S as Turned>::Name>, Snapshot<S>, Queue, Global>;
+pub type LockTable<S> = Table<Option<S>, View<<S as Turned>::Name>, Snapshot<S>, Queue, Global>;
 
-pub type Place<S> = Seat<Option<S>, View<<S as Turned>::Name>>;
+pub type LockSeat<S> = Seat<Option<S>, View<<S as Turned>::Name>>;
 
 pub(crate) struct DrawTicket;
 

@@ -182,6 +182,9 @@ fn sixteen_seats(rt: HostRuntime) -> Result<(), Fail> {
     let (gate, mut passes) = Turnstile::new(rt.alloc(), log, 16)?;
     assert_eq!(rt; one_turn_each(&rt, &gate, &mut passes), 136);
     let log = gate.close(passes);
-    assert_eq!(rt; log.turns.as_slice(), [0, 1, 2, 3, 4, 5, 6, 7, 8, 9, 10, 11, 12, 13, 14, 15].as_slice());
+    assert_eq!(rt;
+        log.turns.as_slice(),
+        [0, 1, 2, 3, 4, 5, 6, 7, 8, 9, 10, 11, 12, 13, 14, 15].as_slice()
+    );
     Ok(())
 }

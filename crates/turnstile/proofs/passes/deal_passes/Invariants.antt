@@ -6,7 +6,7 @@ use Rattle.turnstile.proofs.passes.deal_passes.Given as goal
 abbrev pub invariant-loop-number : goal.invariant-loop-number
 invariant-loop-number g l = record {
   table : l.first.table_id ≡ l.initial.first.table_id;
-  split : l.first.me ≡ (record (first_view (g.S.Turned.name l.board.key.value)) { made = l.number }, []);
+  split : l.first.me ≡ (record (first_view (g.S.Turned.name l.shared.key.value)) { made = l.number }, []);
   count : length l.passes.items + 1 ≡ l.number;
-  fresh : (i : ℕ) (p : Held g.row.S-Name.Denot) → slice_get l.passes.items i ≡ Some p → p ≡ fresh_pass l.board.table_id (g.S.Turned.name l.board.key.value) (i + 1);
+  fresh : (i : ℕ) (p : Held g.row.S-Name.Denot) → slice_get l.passes.items i ≡ Some p → p ≡ fresh_pass l.shared.table_id (g.S.Turned.name l.shared.key.value) (i + 1);
 }

@@ -1,11 +1,11 @@
-use Rattle.std.proofs.Common.{◌≡◌, ◌<◌, ℕ, zero, suc, [], ◌∷◌, ◌++◌, List, length, map, sym, ap, subst, ◌∙◌, arith}
+use Rattle.std.proofs.Common.{◌≡◌, ◌<◌, ℕ, zero, suc, [], ◌∷◌, ◌++◌, List, map, sym, ap, subst, ◌∙◌, arith}
 use Rattle.std.specs.Prelude.{All, Contains}
 use Rattle.turnstile.specs.Past.{times, Knows}
-use Rattle.turnstile.specs.Passes.{Gate, Held, IsPassOf, AreAllOf}
+use Rattle.turnstile.specs.Passes.{Lock, Held, IsPassOf, AreAllOf}
 use Rattle.turnstile.proofs.tests.close_both.Goals as goal
 
 -- the second and the first of two passes are all
-both_all : (t : Gate ℕ) (one other : Held ℕ) → t.seats ≡ 2 → IsPassOf t one → IsPassOf t other → one.number ≡ 0 → other.number ≡ 1 → AreAllOf t (other ∷ one ∷ [])
+both_all : (t : Lock ℕ) (one other : Held ℕ) → t.seats ≡ 2 → IsPassOf t one → IsPassOf t other → one.number ≡ 0 → other.number ≡ 1 → AreAllOf t (other ∷ one ∷ [])
 both_all t one other two ours theirs zeroth first = record {
   ours = each;
   every = every;
@@ -15,6 +15,7 @@ both_all t one other two ours theirs zeroth first = record {
     each zero d below = theirs
     each (suc zero) d below = ours
     each (suc (suc k)) d below = absurd (omega arith)
+
     every : (n : ℕ) → n < t.seats → Contains (map (λ p. p.number) (other ∷ one ∷ [])) n
     every zero below = (1, omega arith, zeroth)
     every (suc zero) below = (0, omega arith, first)

@@ -1,4 +1,4 @@
-use Rattle.std.proofs.Common.{◌≡◌, ◌≢◌, ◌+◌, ◌-◌, ◌<◌, ◌≤◌, ℕ, List, [], ◌∷◌, ◌++◌, length, get_or, set, sym, ap, subst, ◌∙◌, arith, length-set, get_or-set_same, get_or-set_other}
+use Rattle.std.proofs.Common.{◌≡◌, ◌+◌, ◌-◌, ◌<◌, ◌≤◌, ℕ, List, [], ◌∷◌, ◌++◌, length, get_or, set, sym, ap, subst, ◌∙◌, arith, length-set, get_or-set_same, get_or-set_other}
 use Rattle.std.specs.Prelude.{sum}
 use mathlib.Core.Logic.{dite}
 use native.Mathlib.Decide.{ℕ_discrete}
@@ -13,7 +13,7 @@ spent : (left turns : List ℕ) (n v : ℕ) → n < length left → v ≡ get_or
     → (m : ℕ) → m < length (set left n (v - 1)) → get_or (set left n (v - 1)) m 0 + times m (turns ++ n ∷ []) ≡ 1000
 spent left turns n v inside is some budgets m below = let long = length-set left n (v - 1) in dite (ℕ_discrete m n)
     (λ same. let old = budgets n inside in let now : get_or (set left n (v - 1)) m 0 ≡ v - 1 = ap (λ (k : ℕ). get_or (set left n (v - 1)) k 0) same ∙ get_or-set_same left n (v - 1) 0 inside in
-        let more : times m (turns ++ n ∷ []) ≡ times n turns + 1 = ap (λ (k : ℕ). times k (turns ++ n ∷ [])) same ∙ times-push_same n turns in omega arith)
+    let more : times m (turns ++ n ∷ []) ≡ times n turns + 1 = ap (λ (k : ℕ). times k (turns ++ n ∷ [])) same ∙ times-push_same n turns in omega arith)
     (λ other. let old = budgets m (omega arith) in let now = get_or-set_other left n m (v - 1) 0 other in let more = times-push_other m n turns (λ same. other (sym same)) in omega arith)
 
 at_least : (left : List ℕ) (n v : ℕ) → n < length left → v ≡ get_or left n 0 → v ≤ sum left
