@@ -25,6 +25,7 @@ module _ {S N : Type 0} where
   abbrev pub IsSeatAt : TableId → Seat (Option S) (View N) → Type 0
   IsSeatAt table seat = (seat.table_id ≡ table) × IsSized table
 
+  -- the seat after a step is the same seat
   abbrev pub IsSameSeat : Seat (Option S) (View N) → Seat (Option S) (View N) → Type 0
   IsSameSeat seat after = (after.table_id ≡ seat.table_id) × (after.id ≡ seat.id)
 

@@ -1,4 +1,12 @@
 -- The kinds of step, each by what it does to the view of the seat that steps and to the slot that it holds.
+--
+--   draw ticket   adds 1 to `next`          a seat without a ticket
+--   look          loads `serving`           any seat that is not at its turn
+--   move out      exchange in the slot      a seat at its turn, which holds the slot
+--   move in       exchange in the slot      the same seat
+--   pass on       adds 1 to `serving`       the same seat, with the state back in the slot
+--   split seat    loads `next`              the seat with number 0, where fewer than 16 seats were made
+--   join seat     loads `next`              the seat with number 0, and another; neither has a ticket
 use Rattle.std.specs.Prelude.{◌≡◌, ◌≢◌, ◌+◌, ◌≤◌, ℕ, List, [], ◌∷◌, ◌++◌, length, Option, Some, None}
 use Rattle.atomic_table.specs.Table.{Me, Step}
 use Rattle.turnstile.specs.declared.views.Joined.{Joined}
@@ -8,6 +16,7 @@ use Rattle.turnstile.specs.declared.views.View.{View}
 use Rattle.turnstile.specs.Past.{Knows}
 
 module _ {N : Type 0} where
+  -- the view with another stage
   abbrev pub staged : Stage → View N → View N
   staged stage v = record v { stage = stage }
 
@@ -49,7 +58,7 @@ module _ {S N : Type 0} where
   DrawsTicket step m found m' = m' ≡ (staged (Waiting found) m.0, m.1)
 
 module _ {S N : Type 0} (name_of : S → N) (past_of : S → List ℕ) where
-  -- look, where the seat's turn has come: the seat takes the slot with the state, knows the state's past, and has seen it
+  -- look, where the seat's turn has come: the seat takes the slot with the state, which has its name and has had as many turns as were found, and whose past it knows and has now seen
   pub record TakesState (m : Me (Option S) (View N)) (found : ℕ) (m' : Me (Option S) (View N)) : Type 0 where
     pub state : S
     pub takes : m' ≡ (serving_view found (past_of state) m.0, (0, Some state) ∷ m.1)

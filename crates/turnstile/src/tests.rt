@@ -123,6 +123,41 @@ fn take_both<R: Threads + Wait + Sync>(
     )
 }
 
+/// Two threads ask how many turns there were, whatever the state is.
+fn both_ask<S: Turned, R: Threads + Sync>(
+    rt: &R,
+    gate: &Turnstile<S>,
+    one: Pass<S>,
+    other: Pass<S>,
+) -> (Pass<S>, Pass<S>)
+    requires { IsPassOf gate.now one × IsPassOf gate.now other }
+    ensures ours { IsPassOf gate.now result.0 × IsPassOf gate.now result.1 }
+    ensures seen { (result.0.seen ≡ one.seen) × (result.1.seen ≡ other.seen) }
+    ensures numbers { (result.0.number ≡ one.number) × (result.1.number ≡ other.number) }
+{
+    thread::join(
+        rt,
+        || -> Pass<S>
+            requires { IsPassOf gate.now one }
+            ensures { IsPassOf gate.entry.now result × (result.seen ≡ one.seen) × (result.number ≡ one.number) }
+        { asked(gate, one) },
+        || -> Pass<S>
+            requires { IsPassOf gate.now other }
+            ensures { IsPassOf gate.entry.now result × (result.seen ≡ other.seen) × (result.number ≡ other.number) }
+        { asked(gate, other) },
+    )
+}
+
+fn asked<S: Turned>(gate: &Turnstile<S>, mut pass: Pass<S>) -> Pass<S>
+    requires { IsPassOf gate.now pass }
+    ensures ours { IsPassOf gate.now result }
+    ensures seen { result.seen ≡ pass.seen }
+    ensures number { result.number ≡ pass.number }
+{
+    gate.served(&mut pass);
+    pass
+}
+
 /// The log at the end, in which each of the two has its turns.
 fn close_both(
     gate: Turnstile<Log>,
@@ -153,6 +188,7 @@ fn two_threads_have_their_turns(rt: HostRuntime) -> Result<(), Fail> {
     let (gate, passes) = Turnstile::new(rt.alloc(), log, 2)?;
     let (one, other, rest) = two_passes(passes);
     let (one, other) = take_both(&rt, &gate, one, other, 1000);
+    let (one, other) = both_ask(&rt, &gate, one, other);
     let log = close_both(gate, rest, one, other)?;
     assert_eq!(rt; turns_of(&log, 0), 1000);
     assert_eq!(rt; turns_of(&log, 1), 1000);
