@@ -1,11 +1,9 @@
 -- A world in which a context has just been made.
-use Rattle.std.proofs.Common.{◌≡◌, ℕ, ◌+◌, ◌≤◌, refl, sym, ap, ◌∙◌, Bool, true, false, cond, eqb, Some, arith}
+use Rattle.std.proofs.Common.{◌≡◌, ℕ, ◌+◌, ◌≤◌, refl, ap, ◌∙◌, Bool, true, false, cond, eqb, Some, arith}
 use Rattle.std.specs.Prelude.{is_some}
-use Rattle.std.specs.Ordering.{eq_by_cmp, is_eq}
+use Rattle.std.specs.Ordering.{is_eq}
 use Rattle.std.specs.FinMap as fm
 use Rattle.std.proofs.lemmas.Cmp.{tied_itself}
-use Rattle.lwc_base.specs.declared.name.Name.{Name}
-use Rattle.lwc_base.specs.Names.{name_cmp}
 use Rattle.lwc_base.specs.World.{World, Context, Counters, is_live, next_context, add_context, count_on}
 use Rattle.lwc_base.proofs.Orders.{name_cmp-total}
 

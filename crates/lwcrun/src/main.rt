@@ -28,7 +28,15 @@ fn main(rt: HostRuntime) -> ExitCode {
     let mut err = RealSink::new(rt.stderr());
     let mut files = RealFiles::new(rt);
     let status = match words_or_none(&rt) {
-        Ok(words) => lwcrun(&rt, rt.alloc(), words.as_slice(), &mut files, &mut out, &mut err, &OpenGate),
+        Ok(words) => lwcrun(
+            &rt,
+            rt.alloc(),
+            words.as_slice(),
+            &mut files,
+            &mut out,
+            &mut err,
+            &OpenGate,
+        ),
         Err(_) => ExitStatus::NoMemory,
     };
     ExitCode::from(status.number())

@@ -6,14 +6,29 @@ use std::alloc::{AllocError, Global};
 use std::test::Fail;
 
 /// `LI r1, 7` / `STW r1, r0, 0` / `LDW r2, r0, 0` / `HALT`.
-const STORE_LOAD: [u64; 4] = [0x0101_0000_0700_0000, 0x2300_0001_0000_0000, 0x2102_0000_0000_0000, 0x2500_0000_0000_0000];
+const STORE_LOAD: [u64; 4] = [
+    0x0101_0000_0700_0000,
+    0x2300_0001_0000_0000,
+    0x2102_0000_0000_0000,
+    0x2500_0000_0000_0000,
+];
 
 /// `LI r5, 7` / `STW r5, r4, 0` / `HALT`, and for the second thread `LDW r6, r4, 0` / `HALT`.
-const TWO_THREADS: [u64; 5] = [0x0105_0000_0700_0000, 0x2300_0405_0000_0000, 0x2500_0000_0000_0000, 0x2106_0400_0000_0000, 0x2500_0000_0000_0000];
+const TWO_THREADS: [u64; 5] = [
+    0x0105_0000_0700_0000,
+    0x2300_0405_0000_0000,
+    0x2500_0000_0000_0000,
+    0x2106_0400_0000_0000,
+    0x2500_0000_0000_0000,
+];
 
 /// `LI r1, 5` / `DIVU r2, r1, r0` / `REMU r3, r1, r0` / `ADDI r4, r0, -1` / `SHL r5, r1, r4` / `HALT`.
 const ARITHMETIC: [u64; 6] = [
-    0x0101_0000_0500_0000, 0x0702_0100_0000_0000, 0x0803_0100_0000_0000, 0x1004_0000_ffff_ffff, 0x0c05_0104_0000_0000,
+    0x0101_0000_0500_0000,
+    0x0702_0100_0000_0000,
+    0x0803_0100_0000_0000,
+    0x1004_0000_ffff_ffff,
+    0x0c05_0104_0000_0000,
     0x2500_0000_0000_0000,
 ];
 
@@ -33,7 +48,12 @@ const MISALIGNED: [u64; 2] = [0x1004_0000_0400_0000, 0x2106_0400_0000_0000];
 const PAST_ITS_PAGE: [u64; 2] = [0x0104_0000_0010_0000, 0x2200_0404_0000_0000];
 
 /// The bytes of an image of these instructions, pages of zeros and entries.
-fn image(alloc: Global, instructions: &[u64], pages: &[u32], entries: &[u32]) -> Result<Vec<u8>, AllocError> {
+fn image(
+    alloc: Global,
+    instructions: &[u64],
+    pages: &[u32],
+    entries: &[u32],
+) -> Result<Vec<u8>, AllocError> {
     let mut bytes = Vec::from_slice(alloc, b"LWC1")?;
     for count in [instructions.len(), pages.len(), 0, 0, entries.len(), 0] {
         bytes.extend_from_slice(&(count as u32).to_le_bytes())?;
@@ -76,7 +96,13 @@ const SURE: Outside = Outside {
 };
 
 /// Calls the program on the words after its name, over the files `guest` and `schedule`.
-fn call(rt: &HostRuntime, guest: &[u8], schedule: &[u8], words: &[&str], outside: Outside) -> Result<Left, AllocError> {
+fn call(
+    rt: &HostRuntime,
+    guest: &[u8],
+    schedule: &[u8],
+    words: &[&str],
+    outside: Outside,
+) -> Result<Left, AllocError> {
     let alloc = rt.alloc();
     let mut line = Vec::new(alloc);
     line.push(String::from_str(alloc, "lwcrun")?)?;
@@ -89,7 +115,15 @@ fn call(rt: &HostRuntime, guest: &[u8], schedule: &[u8], words: &[&str], outside
     let mut files = MemoryFiles::new(alloc, named, vec![in alloc; outside.fetch]?)?;
     let mut out = MemorySink::new(alloc, outside.most, vec![in alloc; outside.write]?);
     let mut err = MemorySink::new(alloc, 1 << 20, Vec::new(alloc));
-    let status = lwcrun(rt, alloc, line.as_slice(), &mut files, &mut out, &mut err, &OpenGate);
+    let status = lwcrun(
+        rt,
+        alloc,
+        line.as_slice(),
+        &mut files,
+        &mut out,
+        &mut err,
+        &OpenGate,
+    );
     Ok(Left { status, out, err })
 }
 
@@ -97,7 +131,8 @@ fn call(rt: &HostRuntime, guest: &[u8], schedule: &[u8], words: &[&str], outside
 const REPLAY: [&str; 3] = ["replay", "guest", "schedule"];
 
 /// The report of `store_load` under three steps.
-const STORED: &str = "thread 0 done 0 ctx 0.0 pc 3\nregs 0 0 7 7 0 0 0 0 0 0 0 0 0 0 0 0 0\ncontext 0.0 pages 1 slots 2 uid 0\n\
+const STORED: &str =
+    "thread 0 done 0 ctx 0.0 pc 3\nregs 0 0 7 7 0 0 0 0 0 0 0 0 0 0 0 0 0\ncontext 0.0 pages 1 slots 2 uid 0\n\
     groups 0\nconsole -\nused 1\npeak 1\nsteps 3\nschedule 000\n";
 
 #[test]
@@ -113,26 +148,58 @@ fn guests_run_as_their_schedules_say(rt: HostRuntime) -> Result<(), Fail> {
     let cases = [
         (&store_load, "000", STORED),
         (&store_load, "0 0\n0", STORED),
-        (&store_load, "", "thread 0 running ctx 0.0 pc 0\nregs 0 0 0 0 0 0 0 0 0 0 0 0 0 0 0 0 0\n\
-            context 0.0 pages 1 slots 2 uid 0\ngroups 0\nconsole -\nused 1\npeak 1\nsteps 0\nschedule -\n"),
-        (&two_threads, "0101", "thread 0 done 0 ctx 0.0 pc 2\nregs 0 0 0 0 0 0 7 0 0 0 0 0 0 0 0 0 0\n\
+        (
+            &store_load,
+            "",
+            "thread 0 running ctx 0.0 pc 0\nregs 0 0 0 0 0 0 0 0 0 0 0 0 0 0 0 0 0\n\
+            context 0.0 pages 1 slots 2 uid 0\ngroups 0\nconsole -\nused 1\npeak 1\nsteps 0\nschedule -\n",
+        ),
+        (
+            &two_threads,
+            "0101",
+            "thread 0 done 0 ctx 0.0 pc 2\nregs 0 0 0 0 0 0 7 0 0 0 0 0 0 0 0 0 0\n\
             thread 1 done 0 ctx 0.0 pc 4\nregs 1 0 0 0 0 0 0 7 0 0 0 0 0 0 0 0 0\n\
-            context 0.0 pages 1 slots 2 uid 0\ngroups 0\nconsole -\nused 1\npeak 1\nsteps 4\nschedule 0101\n"),
-        (&two_threads, "1010", "thread 0 done 0 ctx 0.0 pc 2\nregs 0 0 0 0 0 0 7 0 0 0 0 0 0 0 0 0 0\n\
+            context 0.0 pages 1 slots 2 uid 0\ngroups 0\nconsole -\nused 1\npeak 1\nsteps 4\nschedule 0101\n",
+        ),
+        (
+            &two_threads,
+            "1010",
+            "thread 0 done 0 ctx 0.0 pc 2\nregs 0 0 0 0 0 0 7 0 0 0 0 0 0 0 0 0 0\n\
             thread 1 done 0 ctx 0.0 pc 4\nregs 1 0 0 0 0 0 0 0 0 0 0 0 0 0 0 0 0\n\
-            context 0.0 pages 1 slots 2 uid 0\ngroups 0\nconsole -\nused 1\npeak 1\nsteps 4\nschedule 1010\n"),
-        (&arithmetic, "0", "thread 0 done 0 ctx 0.0 pc 5\n\
+            context 0.0 pages 1 slots 2 uid 0\ngroups 0\nconsole -\nused 1\npeak 1\nsteps 4\nschedule 1010\n",
+        ),
+        (
+            &arithmetic,
+            "0",
+            "thread 0 done 0 ctx 0.0 pc 5\n\
             regs 0 0 5 18446744073709551615 5 18446744073709551615 9223372036854775808 0 0 0 0 0 0 0 0 0 0\n\
-            context 0.0 pages 0 slots 2 uid 0\ngroups 0\nconsole -\nused 0\npeak 0\nsteps 1\nschedule 0\n"),
-        (&no_call, "0", "thread 0 running ctx 0.0 pc 1\nregs 0 18446744073709551614 0 0 0 0 0 0 0 0 0 0 0 0 0 0 0\n\
-            context 0.0 pages 0 slots 2 uid 0\ngroups 0\nconsole -\nused 0\npeak 0\nsteps 1\nschedule 0\n"),
-        (&jumps_away, "00", "thread 0 fault 1 ctx 0.0 pc 18446744073709551615\n\
+            context 0.0 pages 0 slots 2 uid 0\ngroups 0\nconsole -\nused 0\npeak 0\nsteps 1\nschedule 0\n",
+        ),
+        (
+            &no_call,
+            "0",
+            "thread 0 running ctx 0.0 pc 1\nregs 0 18446744073709551614 0 0 0 0 0 0 0 0 0 0 0 0 0 0 0\n\
+            context 0.0 pages 0 slots 2 uid 0\ngroups 0\nconsole -\nused 0\npeak 0\nsteps 1\nschedule 0\n",
+        ),
+        (
+            &jumps_away,
+            "00",
+            "thread 0 fault 1 ctx 0.0 pc 18446744073709551615\n\
             regs 0 0 18446744073709551615 0 0 0 0 0 0 0 0 0 0 0 0 0 0\n\
-            context 0.0 pages 0 slots 2 uid 0\ngroups 0\nconsole -\nused 0\npeak 0\nsteps 1\nschedule 0\n"),
-        (&misaligned, "0", "thread 0 fault 2 ctx 0.0 pc 1\nregs 0 0 0 0 0 4 0 0 0 0 0 0 0 0 0 0 0\n\
-            context 0.0 pages 1 slots 2 uid 0\ngroups 0\nconsole -\nused 1\npeak 1\nsteps 1\nschedule 0\n"),
-        (&past_its_page, "0", "thread 0 fault 3 ctx 0.0 pc 1\nregs 0 0 0 0 0 4096 0 0 0 0 0 0 0 0 0 0 0\n\
-            context 0.0 pages 1 slots 2 uid 0\ngroups 0\nconsole -\nused 1\npeak 1\nsteps 1\nschedule 0\n"),
+            context 0.0 pages 0 slots 2 uid 0\ngroups 0\nconsole -\nused 0\npeak 0\nsteps 1\nschedule 0\n",
+        ),
+        (
+            &misaligned,
+            "0",
+            "thread 0 fault 2 ctx 0.0 pc 1\nregs 0 0 0 0 0 4 0 0 0 0 0 0 0 0 0 0 0\n\
+            context 0.0 pages 1 slots 2 uid 0\ngroups 0\nconsole -\nused 1\npeak 1\nsteps 1\nschedule 0\n",
+        ),
+        (
+            &past_its_page,
+            "0",
+            "thread 0 fault 3 ctx 0.0 pc 1\nregs 0 0 0 0 0 4096 0 0 0 0 0 0 0 0 0 0 0\n\
+            context 0.0 pages 1 slots 2 uid 0\ngroups 0\nconsole -\nused 1\npeak 1\nsteps 1\nschedule 0\n",
+        ),
     ];
     for (guest, schedule, report) in cases {
         let left = call(&rt, guest, schedule.as_bytes(), &REPLAY, SURE)?;
@@ -144,24 +211,77 @@ fn guests_run_as_their_schedules_say(rt: HostRuntime) -> Result<(), Fail> {
 }
 
 /// What is said of a line that is not accepted.
-const USAGE: &str = "lwcrun: usage: lwcrun replay IMAGE SCHEDULE [REQUESTS], run IMAGE, serve IMAGE REQUESTS, asm SOURCE, \
+const USAGE: &str =
+    "lwcrun: usage: lwcrun replay IMAGE SCHEDULE [REQUESTS], run IMAGE, serve IMAGE REQUESTS, asm SOURCE, \
     dis IMAGE, gen NUMBER; --frames F --budget B --workers W\n";
 
 #[test]
 fn lines_set_frames_and_budget(rt: HostRuntime) -> Result<(), Fail> {
     let alloc = rt.alloc();
     let endless = image(alloc, &ENDLESS, &[], &[0])?;
-    let left = call(&rt, &endless, b"0000", &["replay", "guest", "schedule", "--budget", "3"], SURE)?;
-    assert_eq!(rt; left.out.bytes(), b"thread 0 fault 5 ctx 0.0 pc 0\nregs 0 0 0 0 0 0 0 0 0 0 0 0 0 0 0 0 0\n\
-        context 0.0 pages 0 slots 2 uid 0\ngroups 0\nconsole -\nused 0\npeak 0\nsteps 3\nschedule 000\n".as_slice());
+    let left = call(
+        &rt,
+        &endless,
+        b"0000",
+        &["replay", "guest", "schedule", "--budget", "3"],
+        SURE,
+    )?;
+    assert_eq!(rt;
+        left.out.bytes(),
+        b"thread 0 fault 5 ctx 0.0 pc 0\nregs 0 0 0 0 0 0 0 0 0 0 0 0 0 0 0 0 0\n\
+        context 0.0 pages 0 slots 2 uid 0\ngroups 0\nconsole -\nused 0\npeak 0\nsteps 3\nschedule 000\n"
+            .as_slice()
+    );
     let two_pages = image(alloc, &STORE_LOAD, &[0, 1], &[0])?;
     let cases: [(&[&str], ExitStatus, &str); 9] = [
-        (&["replay", "guest", "schedule", "--frames", "1"], ExitStatus::ImageTooLarge, "lwcrun: image has 2 pages, frames are 1\n"),
-        (&["replay", "guest", "schedule", "--frames", "2", "--budget", "0000000003"], ExitStatus::Usage, USAGE),
-        (&["replay", "guest", "schedule", "--frames", "2", "--budget", "000000003"], ExitStatus::Ok, ""),
-        (&["replay", "guest", "schedule", "--frames", "65537"], ExitStatus::Usage, USAGE),
-        (&["replay", "guest", "schedule", "--budget", "0"], ExitStatus::Usage, USAGE),
-        (&["replay", "guest", "schedule", "--budget", "3", "--frames", "2"], ExitStatus::Usage, USAGE),
+        (
+            &["replay", "guest", "schedule", "--frames", "1"],
+            ExitStatus::ImageTooLarge,
+            "lwcrun: image has 2 pages, frames are 1\n",
+        ),
+        (
+            &[
+                "replay",
+                "guest",
+                "schedule",
+                "--frames",
+                "2",
+                "--budget",
+                "0000000003",
+            ],
+            ExitStatus::Usage,
+            USAGE,
+        ),
+        (
+            &[
+                "replay",
+                "guest",
+                "schedule",
+                "--frames",
+                "2",
+                "--budget",
+                "000000003",
+            ],
+            ExitStatus::Ok,
+            "",
+        ),
+        (
+            &["replay", "guest", "schedule", "--frames", "65537"],
+            ExitStatus::Usage,
+            USAGE,
+        ),
+        (
+            &["replay", "guest", "schedule", "--budget", "0"],
+            ExitStatus::Usage,
+            USAGE,
+        ),
+        (
+            &[
+                "replay", "guest", "schedule", "--budget", "3", "--frames", "2",
+            ],
+            ExitStatus::Usage,
+            USAGE,
+        ),
         (&["replay", "guest"], ExitStatus::Usage, USAGE),
         (&["walk", "guest", "schedule"], ExitStatus::Usage, USAGE),
         (&[], ExitStatus::Usage, USAGE),
@@ -186,14 +306,54 @@ fn inputs_are_refused_with_rule_and_offset(rt: HostRuntime) -> Result<(), Fail> 
         *first = 0x4d;
     }
     let cases: [(&[u8], &str, ExitStatus, &str); 8] = [
-        (guest.get(..3).unwrap_or(&[]), "000", ExitStatus::ImageRefused, "lwcrun: image refused: Truncated at 3\n"),
-        (guest.get(..20).unwrap_or(&[]), "000", ExitStatus::ImageRefused, "lwcrun: image refused: Truncated at 20\n"),
-        (guest.get(..4163).unwrap_or(&[]), "000", ExitStatus::ImageRefused, "lwcrun: image refused: Truncated at 4163\n"),
-        (&longer, "000", ExitStatus::ImageRefused, "lwcrun: image refused: Trailing at 4164\n"),
-        (&other_magic, "0g", ExitStatus::ImageRefused, "lwcrun: image refused: BadMagic at 0\n"),
-        (&guest, "0g", ExitStatus::InputRefused, "lwcrun: input refused: BadThread at 1\n"),
-        (&guest, "1", ExitStatus::InputRefused, "lwcrun: input refused: BadThread at 0\n"),
-        (&guest, "0\t0", ExitStatus::InputRefused, "lwcrun: input refused: BadThread at 1\n"),
+        (
+            guest.get(..3).unwrap_or(&[]),
+            "000",
+            ExitStatus::ImageRefused,
+            "lwcrun: image refused: Truncated at 3\n",
+        ),
+        (
+            guest.get(..20).unwrap_or(&[]),
+            "000",
+            ExitStatus::ImageRefused,
+            "lwcrun: image refused: Truncated at 20\n",
+        ),
+        (
+            guest.get(..4163).unwrap_or(&[]),
+            "000",
+            ExitStatus::ImageRefused,
+            "lwcrun: image refused: Truncated at 4163\n",
+        ),
+        (
+            &longer,
+            "000",
+            ExitStatus::ImageRefused,
+            "lwcrun: image refused: Trailing at 4164\n",
+        ),
+        (
+            &other_magic,
+            "0g",
+            ExitStatus::ImageRefused,
+            "lwcrun: image refused: BadMagic at 0\n",
+        ),
+        (
+            &guest,
+            "0g",
+            ExitStatus::InputRefused,
+            "lwcrun: input refused: BadThread at 1\n",
+        ),
+        (
+            &guest,
+            "1",
+            ExitStatus::InputRefused,
+            "lwcrun: input refused: BadThread at 0\n",
+        ),
+        (
+            &guest,
+            "0\t0",
+            ExitStatus::InputRefused,
+            "lwcrun: input refused: BadThread at 1\n",
+        ),
     ];
     for (bytes, schedule, status, said) in cases {
         let left = call(&rt, bytes, schedule.as_bytes(), &REPLAY, SURE)?;
@@ -229,11 +389,18 @@ fn a_fetch_that_fails_is_said_with_its_file(rt: HostRuntime) -> Result<(), Fail>
 fn a_write_that_fails_leaves_a_front_of_the_text(rt: HostRuntime) -> Result<(), Fail> {
     let guest = image(rt.alloc(), &STORE_LOAD, &[0], &[0])?;
     for write in 0..STORED.len() + 1 {
-        let outside = Outside { most: 1, write: write as u64, ..SURE };
+        let outside = Outside {
+            most: 1,
+            write: write as u64,
+            ..SURE
+        };
         let left = call(&rt, &guest, b"000", &REPLAY, outside)?;
         assert_eq!(rt; Some(left.out.bytes()), STORED.as_bytes().get(..write));
         assert_eq!(rt; left.status == ExitStatus::Ok, write == STORED.len());
-        assert_eq!(rt; left.err.bytes() == b"lwcrun: cannot write\n".as_slice(), write < STORED.len());
+        assert_eq!(rt;
+            left.err.bytes() == b"lwcrun: cannot write\n".as_slice(),
+            write < STORED.len()
+        );
     }
     let none = call(&rt, &guest, b"000", &REPLAY, Outside { most: 0, ..SURE })?;
     assert_eq!(rt; none.status, ExitStatus::WriteFault);

@@ -21,13 +21,29 @@ use std::sync::Wait;
 use std::thread::Threads;
 
 /// Does what a line asks for.
-fn carry_out<'a, F: Files, O: Sink>(alloc: Global, line: &'a Line, files: &mut F, out: &mut O) -> Ending<'a>
+fn carry_out<'a, F: Files, O: Sink>(
+    alloc: Global,
+    line: &'a Line,
+    files: &mut F,
+    out: &mut O,
+) -> Ending<'a>
     requires { IsSettings (settings_asked line.now) }
     ensures { Ended IsText (around (F.file files.old) (F.faults files.old) (F.faults files.new) (O.taken out.old) (O.taken out.new) (O.faults out.old) (O.faults out.new))
         (plan_of (asked_by line.now)) (end_of result) }
 {
     match line {
-        Line::Replay { image, schedule, settings } => replay(alloc, files, out, image.as_str(), schedule.as_str(), settings),
+        Line::Replay {
+            image,
+            schedule,
+            settings,
+        } => replay(
+            alloc,
+            files,
+            out,
+            image.as_str(),
+            schedule.as_str(),
+            settings,
+        ),
     }
 }
 
@@ -51,7 +67,7 @@ fn answer<F: Files, O: Sink, E: Sink>(
 ) -> ExitStatus
     ensures { (e : End Rejection)
         × CallEnded (around (F.file files.old) (F.faults files.old) (F.faults files.new) (O.taken out.old) (O.taken out.new) (O.faults out.old) (O.faults out.new))
-            (command_of (map string_bytes words.now)) e
+        (command_of (map string_bytes words.now)) e
         × IsAnswered e result (E.taken err.old) (E.taken err.new) (E.faults err.old) (E.faults err.new) }
 {
     let line = match read_line(alloc, words) {

@@ -39,7 +39,10 @@ pub fn image_in<'a, F: Files>(
     match read_image(alloc, &bytes) {
         Ok(image) => Ok(image),
         Err(ImageFault::OutOfMemory) => Err(Ending::NoMemory),
-        Err(ImageFault::Refused { rule, at }) => Err(Ending::Refused(Rejection::Image { rule, at })),
+        Err(ImageFault::Refused { rule, at }) => Err(Ending::Refused(Rejection::Image {
+            rule,
+            at,
+        })),
     }
 }
 
@@ -73,6 +76,9 @@ pub fn schedule_in<'a, F: Files>(
     match read_schedule(alloc, &bytes, threads) {
         Ok(schedule) => Ok(schedule),
         Err(InputFault::OutOfMemory) => Err(Ending::NoMemory),
-        Err(InputFault::Refused { rule, at }) => Err(Ending::Refused(Rejection::Input { rule, at })),
+        Err(InputFault::Refused { rule, at }) => Err(Ending::Refused(Rejection::Input {
+            rule,
+            at,
+        })),
     }
 }

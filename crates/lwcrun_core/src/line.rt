@@ -59,7 +59,8 @@ fn settings_of(words: &[String]) -> Option<Settings>
         [name, value] if name.as_str() == "--budget" => {
             both_settings(Some(FRAMES), number_within(1, 100000, value.as_str()))
         }
-        [first, frames, second, budget] if first.as_str() == "--frames" && second.as_str() == "--budget" => {
+        [first, frames, second, budget]
+            if first.as_str() == "--frames" && second.as_str() == "--budget" => {
             both_settings(
                 number_within(1, 65536, frames.as_str()),
                 number_within(1, 100000, budget.as_str()),

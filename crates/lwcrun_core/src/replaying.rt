@@ -51,7 +51,13 @@ fn run_text(
     ensures { IfOk result (λ text. text.items ≡ text_of (run_inputs image.now settings.now) (kept (start (run_inputs image.now settings.now)) schedule.now)) }
 {
     let steps = schedule.len() as u32;
-    let mut kernel = match Kernel::<WholeWorld>::open(alloc, image, Requests::of(Vec::new(alloc)), steps, settings) {
+    let mut kernel = match Kernel::<WholeWorld>::open(
+        alloc,
+        image,
+        Requests::of(Vec::new(alloc)),
+        steps,
+        settings,
+    ) {
         Ok(kernel) => kernel,
         Err(_) => return Err(OutOfMemory),
     };

@@ -12,7 +12,8 @@ use lwc_io::Sink;
 use std::alloc::Global;
 
 /// What is said of a line that is not accepted.
-const USAGE: &str = "lwcrun: usage: lwcrun replay IMAGE SCHEDULE [REQUESTS], run IMAGE, serve IMAGE REQUESTS, asm SOURCE, dis IMAGE, gen NUMBER; --frames F --budget B --workers W\n";
+const USAGE: &str =
+    "lwcrun: usage: lwcrun replay IMAGE SCHEDULE [REQUESTS], run IMAGE, serve IMAGE REQUESTS, asm SOURCE, dis IMAGE, gen NUMBER; --frames F --budget B --workers W\n";
 
 /// Writes a text, and leaves it at that where a write fails.
 fn say_text<E: Sink>(err: &mut E, text: &str)

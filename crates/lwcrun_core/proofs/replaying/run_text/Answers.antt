@@ -9,7 +9,7 @@ use Rattle.lwcrun_core.proofs.replaying.run_text.Goals as goal
 pub returns : goal.returns
 returns c =
     let opened : c.in-Ok.kernel.inputs ≡ run_inputs c.args.image.now c.args.settings.now =
-        ap (λ (h : History). h.inputs) c.in-Ok.ensures.opened
-        ∙ ap (λ (requests : List (List ℕ)). record { image = c.args.image.now; requests = requests; settings = c.args.settings.now }) (c.of.ensures ∙ c.new.ensures.items) in
+    ap (λ (h : History). h.inputs) c.in-Ok.ensures.opened
+    ∙ ap (λ (requests : List (List ℕ)). record { image = c.args.image.now; requests = requests; settings = c.args.settings.now }) (c.of.ensures ∙ c.new.ensures.items) in
     text_is c.run_steps.new.kernel _ c.args.schedule.now _ (c.in_ok-run_steps.ensures.inputs ∙ opened)
     (c.in_ok-run_steps.ensures.steps ∙ ap (λ (i : Inputs). kept (start i) c.args.schedule.now) opened) c.in_ok-text.ensures.exact
