@@ -1,16 +1,15 @@
 -- How far a store changes a world: the same names live, the world is as large as it was, and no job counts much further.
-use Rattle.std.proofs.Common.{◌≡◌, ℕ, ◌+◌, ◌-◌, ◌*◌, ◌/◌, ◌≤◌, ◌<◌, refl, sym, ap, subst, ◌∙◌, Bool, true, false, cond, eqb, List, [], ◌∷◌, length, arith}
+use Rattle.std.proofs.Common.{◌≡◌, ℕ, ◌+◌, ◌-◌, ◌/◌, ◌≤◌, refl, sym, subst, Bool, true, false, cond, eqb, [], length, arith}
 use Rattle.std.specs.Prelude.{count_by}
 use Rattle.std.specs.List.{range_with_len}
 use Rattle.std.proofs.lemmas.List.Sums.{count_by-le-length}
 use Rattle.std.proofs.lemmas.List.FromFn.{length-range_with_len}
 use Rattle.lwc_base.specs.declared.name.Name.{Name}
-use Rattle.lwc_base.specs.declared.page.TheConstants.{PAGE_BYTES}
 use Rattle.lwc_base.specs.Memory.{touched}
-use Rattle.lwc_base.specs.Store.{Piece, Stored, Absent, Full, Done, after_store, parting_count, put_pages, plan, store, value_at}
+use Rattle.lwc_base.specs.Store.{Piece, Absent, Full, Done, after_store, parting_count, plan, store, value_at}
 use Rattle.lwc_base.specs.Frames.{is_parting}
 use Rattle.lwc_base.specs.World.{World, Counters, count_on, is_live}
-use Rattle.lwc_base.proofs.Live.{ChangesValuesOnly, values-put_pages}
+use Rattle.lwc_base.proofs.Live.{values-put_pages}
 
 -- of a job's counts none rises by more than so much
 pub record RisesBy (most : ℕ) (before after : Counters) : Type 0 where

@@ -1,30 +1,19 @@
 -- A world of one context, which has the first name of job 0: what changes of it make, and a whole page that is stored in it.
-use Rattle.std.proofs.Common.{◌≡◌, ℕ, zero, suc, ◌+◌, ◌-◌, ◌*◌, ◌/◌, ◌≤◌, ◌<◌, refl, sym, ap, subst, ◌∙◌, Bool, true, false, cond, eqb, leb, ltb, ◌&&◌, Option, Some, None, List, [], ◌∷◌, ◌++◌, length, map, get_or, arith}
-use Rattle.std.specs.Prelude.{count_by, is_some, unwrap_or, slice_index}
-use Rattle.std.specs.List.{flat_map, range_with_len, sum_by}
-use Rattle.std.specs.Ordering.{eq_by_cmp, is_eq}
+use Rattle.std.proofs.Common.{◌≡◌, ℕ, ◌+◌, refl, sym, ap, ◌∙◌, Bool, true, false, cond, eqb, leb, ltb, ◌&&◌, Some, None}
+use Rattle.std.specs.Prelude.{is_some, unwrap_or}
+use Rattle.std.specs.Ordering.{eq_by_cmp}
 use Rattle.std.specs.FinMap as fm
-use Rattle.std.specs.FinSet as set
-use Rattle.std.proofs.lemmas.Bool.Decides.{nat_tests}
-use Rattle.std.proofs.lemmas.Cmp.{tied_itself}
-use Rattle.std.proofs.lemmas.List.{length-replicate}
-use Rattle.std.proofs.lemmas.List.FromFn.{fill_by_all}
-use Rattle.lwc_base.proofs.Orders.{name_cmp-total, name_cmp-IsAntisymmetric, tag_cmp-total}
-use Rattle.lwc_base.specs.Cells.{page_of, page_at, slot_at, put_page_in, put_page, put_slot_in, put_slot, with_page, with_slot}
-use Rattle.lwc_base.specs.Frames.{is_parting}
+use Rattle.lwc_base.proofs.Orders.{name_cmp-total, name_cmp-IsAntisymmetric}
+use Rattle.lwc_base.specs.Cells.{put_page_in, put_page, put_slot_in, put_slot, with_page, with_slot}
 use Rattle.lwc_base.specs.Mapping.{map_pages}
-use Rattle.lwc_base.specs.Memory.{touched, is_present}
 use Rattle.lwc_base.specs.Names.{name_cmp}
-use Rattle.lwc_base.specs.Pages.{bytes_of, zero_bytes, zero_page}
 use Rattle.lwc_base.specs.Registers.{fresh_registers}
-use Rattle.lwc_base.specs.Store.{Piece, Stored, Absent, Full, Done, after_store, byte_after, bytes_after, parting_count, plan, put_pages, store, stored_value, value_at}
-use Rattle.lwc_base.specs.World.{World, Context, Group, Counters, add_context, changed_context, change_context, context, count_on, empty_world, new_context}
-use Rattle.lwc_base.specs.declared.cell.Cell.{Cell}
+use Rattle.lwc_base.specs.World.{World, Context, Counters, add_context, changed_context, change_context, context, count_on, empty_world, new_context}
 use Rattle.lwc_base.specs.declared.cell.Cell.TheVariants.{Own}
 use Rattle.lwc_base.specs.declared.descriptor.Descriptor.{Descriptor}
 use Rattle.lwc_base.specs.declared.name.Name.{Name}
 use Rattle.lwc_base.specs.declared.page.PageValue.{PageValue}
-use Rattle.lwc_base.specs.declared.page.PageValue.TheVariants.{Zero, Data}
+use Rattle.lwc_base.specs.declared.page.PageValue.TheVariants.{Zero}
 
 -- the first name of job 0
 abbrev pub first : Name

@@ -1,21 +1,18 @@
 -- A whole page that is stored in a world of one context, over a page of zeros.
-use Rattle.std.proofs.Common.{◌≡◌, ℕ, zero, suc, ◌+◌, ◌-◌, ◌*◌, ◌/◌, ◌≤◌, ◌<◌, refl, sym, ap, subst, ◌∙◌, Bool, true, false, cond, eqb, leb, ltb, ◌&&◌, Option, Some, None, List, [], ◌∷◌, ◌++◌, length, map, get_or, arith}
+use Rattle.std.proofs.Common.{◌≡◌, ℕ, ◌+◌, ◌-◌, ◌*◌, ◌/◌, ◌<◌, refl, sym, ap, subst, ◌∙◌, Bool, true, false, cond, eqb, leb, ltb, ◌&&◌, Some, List, [], ◌∷◌, length, get_or, arith}
 use Rattle.std.specs.Prelude.{count_by, is_some, not, unwrap_or, slice_index}
 use Rattle.std.specs.List.{list_all, range_with_len}
 use Rattle.std.proofs.lemmas.Bool.Decides.{nat_tests}
 use Rattle.std.proofs.lemmas.List.{length-replicate}
 use Rattle.std.proofs.lemmas.List.FromFn.{fill_by_all}
-use Rattle.lwc_base.proofs.OneContext.{first, none_counted, one_counted, one_context, context-one, mapped, put_page-one}
+use Rattle.lwc_base.proofs.OneContext.{first, none_counted, one_counted, one_context, context-one, put_page-one}
 use Rattle.lwc_base.specs.Cells.{page_of, page_at, with_page}
 use Rattle.lwc_base.specs.Frames.{is_parting, used}
 use Rattle.lwc_base.specs.Memory.{touched, is_present}
 use Rattle.lwc_base.specs.Pages.{bytes_of, zero_bytes, zero_page}
-use Rattle.lwc_base.specs.Store.{Piece, Stored, Absent, Full, Done, after_store, byte_after, bytes_after, parting_count, plan, put_pages, store, stored_value, value_at}
-use Rattle.lwc_base.specs.World.{World, Context, Counters, count_on}
+use Rattle.lwc_base.specs.Store.{Piece, Absent, Full, Done, after_store, byte_after, bytes_after, parting_count, plan, put_pages, store, stored_value, value_at}
+use Rattle.lwc_base.specs.World.{World, Context, count_on}
 use Rattle.lwc_base.specs.declared.cell.Cell.TheVariants.{Own}
-use Rattle.lwc_base.specs.declared.name.Name.{Name}
-use Rattle.lwc_base.specs.declared.name.Tag.{Tag}
-use Rattle.lwc_base.specs.declared.page.PageValue.{PageValue}
 use Rattle.lwc_base.specs.declared.page.PageValue.TheVariants.{Zero, Data}
 use Rattle.lwc_base.specs.declared.page.TheConstants.{PAGE_BYTES}
 
