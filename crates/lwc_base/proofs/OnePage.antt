@@ -47,7 +47,7 @@ bytes_whole : (p : ℕ) (bytes old : List ℕ) → length bytes ≡ 4096 → len
 unfolding bytes_after
 bytes_whole p bytes old whole old_whole =
     sym (fill_by_all (λ i. byte_after (page_piece p bytes) (p * 4096 + i) (slice_index old i)) bytes (length old) 0 (whole ∙ sym old_whole)
-        (λ k h. byte_there (p * 4096) k (slice_index old k) bytes (omega arith)))
+    (λ k h. byte_there (p * 4096) k (slice_index old k) bytes (omega arith)))
 
 length-zero_page : length zero_page ≡ 4096
 unfolding zero_page zero_bytes
@@ -142,5 +142,5 @@ unfolding store one_context
 store_not_full frames pages tags p x bytes whole zeros room e =
     let parts = parting-one frames pages tags p x bytes whole zeros in
     let fits : ltb frames (used (one_context frames pages tags x) + parting_count (one_context frames pages tags x) first (page_piece p bytes)) ≡ false =
-        grind (arith, nat_tests, parts) in
+    grind (arith, nat_tests, parts) in
     never_full _ _ _ fits e

@@ -97,7 +97,7 @@ pub count-mapped : (pages p : ℕ) (x : Context) → tag_count pages (mapped p x
 unfolding tag_count tags_of_context tags_in
 count-mapped pages p x =
     let more = more_at_one (tags_in x) (tags_in (mapped p x)) p 0
-        (λ q other. let outside : (leb p q && ltb q (p + 1)) ≡ false = grind (arith, nat_tests) in ap (λ b. tag_of (own_value (cond b (Some (Own Zero)) (x.page q)))) outside)
-        (let inside : (leb p p && ltb p (p + 1)) ≡ true = grind (arith, nat_tests) in subst (λ (b : Bool). length (tag_of (own_value (cond b (Some (Own Zero)) (x.page p)))) ≤ 0) (sym inside) (omega arith))
-        pages 0 in
+    (λ q other. let outside : (leb p q && ltb q (p + 1)) ≡ false = grind (arith, nat_tests) in ap (λ b. tag_of (own_value (cond b (Some (Own Zero)) (x.page q)))) outside)
+    (let inside : (leb p p && ltb p (p + 1)) ≡ true = grind (arith, nat_tests) in subst (λ (b : Bool). length (tag_of (own_value (cond b (Some (Own Zero)) (x.page p)))) ≤ 0) (sym inside) (omega arith))
+    pages 0 in
     omega (arith, more)
