@@ -6,6 +6,7 @@ use lwcrun_core::{ExitStatus, lwcrun};
 use std::env;
 use std::io::{self, ErrorKind};
 use std::process::ExitCode;
+use std::rt::Env;
 
 #[cfg(test)]
 mod tests;
