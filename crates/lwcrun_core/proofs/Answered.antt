@@ -1,5 +1,5 @@
 -- How a call's answer follows from how it ended.
-use Rattle.std.proofs.Common.{◌≡◌, ◌⊎◌, inl, inr, ℕ, List, Option, None, Some, refl, sym, subst, ap, ◌∙◌}
+use Rattle.std.proofs.Common.{◌≡◌, ◌⊎◌, inl, inr, Option, None, Some, sym, subst}
 use Rattle.lwcrun_core.specs.declared.ending.Rejection.{Rejection}
 use Rattle.lwcrun_core.specs.declared.line.LineFault.{LineFault}
 use Rattle.lwcrun_core.specs.declared.line.LineFault.TheVariants as line_faults

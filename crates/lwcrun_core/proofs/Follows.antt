@@ -1,5 +1,5 @@
 -- How a call's ending follows from what its parts answered.
-use Rattle.std.proofs.Common.{◌≡◌, ◌≤◌, ◌⊎◌, inl, inr, ℕ, List, Option, Result, Ok, Err, refl, sym, subst, ap, ◌∙◌, arith}
+use Rattle.std.proofs.Common.{◌≡◌, ◌≤◌, inl, inr, ℕ, List, Option, Result, Ok, Err, refl, sym, subst, arith}
 use Rattle.lwc_io.specs.Outside.{Rose, Tells, grown}
 use Rattle.lwcrun_core.specs.Ends.{End, Outside, Ended}
 use Rattle.lwcrun_core.specs.Ends as ends

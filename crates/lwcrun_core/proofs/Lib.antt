@@ -1,4 +1,5 @@
 pub mod Answered
+pub mod Clauses
 pub mod Decimals
 pub mod Fetches
 pub mod Frames

@@ -1,11 +1,10 @@
 -- What users are promised of a call's ending.
-use Rattle.std.proofs.Common.{◌≡◌, ◌≤◌, ◌⊎◌, inl, inr, ℕ, List, Option, None, Some, Result, Ok, Err, IfSome, refl, sym, subst, ap, ◌∙◌, arith}
-use Rattle.lwc_io.specs.Outside.{Rose, Tells, grown}
+use Rattle.std.proofs.Common.{◌≡◌, ◌⊎◌, inl, inr, ℕ, List, Option, Some, Result, Ok, Err, IfSome, refl, sym, subst, ap, ◌∙◌}
+use Rattle.lwc_io.specs.Outside.{Tells, grown}
 use Rattle.lwcrun_core.specs.Ends.{End, Outside, Ended, NothingFailed, end_by}
 use Rattle.lwcrun_core.specs.Ends as ends
 use Rattle.lwcrun_core.specs.Plans.{Plan, Told, LeadsTo, ComesTo, AreKnown, outcome}
 use Rattle.lwcrun_core.specs.Plans as plans
-use Rattle.lwcrun_core.specs.Writing.{SentInPart}
 
 -- a file that tells these bytes has no others
 known_bytes : (told : Option (List ℕ)) (known bytes : List ℕ) → told ≡ Some known → Tells told bytes → known ≡ bytes

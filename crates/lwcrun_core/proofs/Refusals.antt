@@ -1,5 +1,5 @@
 -- What the reading of an input answers, as a call's rejection.
-use Rattle.std.proofs.Common.{◌≡◌, ◌<◌, ℕ, List, length, Result, Ok, Err, ap, subst, refl}
+use Rattle.std.proofs.Common.{◌≡◌, ◌<◌, ℕ, List, length, Ok, Err, ap, subst, refl}
 use Rattle.std.proofs.lemmas.Bool.{lt-ltb}
 use Rattle.guest_image.specs.declared.image.Image.{Image}
 use Rattle.guest_image.specs.Reading.{Answers, image_at}

@@ -1,5 +1,5 @@
 -- What a call of the program promises.
-use Rattle.std.specs.Prelude.{◌≡◌, ◌≢◌, ◌⊎◌, ◌≤◌, ℕ, List, Option, None, Some, Result, Ok, Err, length}
+use Rattle.std.specs.Prelude.{◌≡◌, ◌⊎◌, ◌≤◌, ◌<◌, ℕ, List, Option, None, Some, Result, Ok, Err, length, slice_index}
 use Rattle.guest_image.specs.Limits.{IsImage}
 use Rattle.guest_image.specs.Spelling.{spelling}
 use Rattle.guest_image.specs.declared.image.Image.{Image}
@@ -16,9 +16,8 @@ use Rattle.lwcrun_core.specs.Ends as ends
 use Rattle.lwcrun_core.specs.Headline.{IsText, Work, plan_of, run_inputs, text_of}
 use Rattle.lwcrun_core.specs.Lines.{Command}
 use Rattle.lwcrun_core.specs.Lines as commands
-use Rattle.lwcrun_core.specs.Plans.{Plan, Told, outcome}
+use Rattle.lwcrun_core.specs.Plans.{Told, outcome}
 use Rattle.lwcrun_core.specs.Statuses.{status_of_rejection}
-use Rattle.lwcrun_core.specs.Writing.{SentInPart}
 
 -- what holds at each end of a call: a line that is not accepted ends by that or for want of memory, and nothing was written; else it is what holds at that end of the command's plan
 unfoldable pub CallEnded : Outside → Option Command → End Rejection → Type 0
@@ -30,8 +29,18 @@ abbrev pub Names : Command → List ℕ → Type 0
 Names (commands.Replay image schedule settings) q = (q ≡ image) ⊎ (q ≡ schedule)
 
 -- the files tell these bytes of each file that the command names
-abbrev pub AreTold : Told → Command → (List ℕ → List ℕ) → Type 0
-AreTold told command bytes = (q : List ℕ) → Names command q → told q ≡ Some (bytes q)
+pub record AreTold (files : Told) (command : Command) (bytes : List ℕ → List ℕ) : Type 0 where
+  pub told : (q : List ℕ) → Names command q → files q ≡ Some (bytes q)
+  pub are_bytes : (q : List ℕ) → Names command q → (i : ℕ) → slice_index (bytes q) i < 256
+
+-- a fetch of a file that the line names failed
+abbrev pub FileFailed : Option Command → (List ℕ → ℕ) → (List ℕ → ℕ) → Type 0
+FileFailed None faults faults_now = ⊥
+FileFailed (Some command) faults faults_now = (q : List ℕ) × Names command q × Rose (faults q) (faults_now q)
+
+-- a refusal of the command's inputs has this exit status
+abbrev pub IsRefusal : Command → (List ℕ → List ℕ) → ExitStatus → Type 0
+IsRefusal command bytes status = (rejection : Rejection) × (outcome bytes (plan_of command) ≡ Err rejection) × (status ≡ status_of_rejection rejection)
 
 -- no fetch of a file that the command names failed, and no write of the text did
 pub record NoFault (o : Outside) (command : Command) : Type 0 where

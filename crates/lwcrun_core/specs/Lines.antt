@@ -1,5 +1,5 @@
 -- What a line of words asks for.
-use Rattle.std.specs.Prelude.{◌≡◌, ◌≤◌, ℕ, Bool, ◌&&◌, if◌then◌else◌, List, [], ◌∷◌, Option, None, Some, bytes_eq, codes, string_bytes}
+use Rattle.std.specs.Prelude.{◌≡◌, ◌≤◌, ℕ, ◌&&◌, if◌then◌else◌, List, [], ◌∷◌, Option, None, Some, bytes_eq, codes, string_bytes}
 use Rattle.std.specs.Option.{option_map, option_and_then}
 use Rattle.kernel_core.specs.declared.settings.Settings.{Settings}
 use Rattle.kernel_core.specs.declared.settings.Job.TheVariants.{Run}

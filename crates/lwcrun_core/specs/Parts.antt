@@ -1,10 +1,9 @@
 -- What the parts of a call answer: a file that is read by a grammar, and a work whose text is written.
-use Rattle.std.specs.Prelude.{◌≡◌, ℕ, List, Option, Result, Ok, Err}
-use Rattle.lwc_io.specs.Outside.{Rose, Tells, grown}
+use Rattle.std.specs.Prelude.{◌≡◌, ℕ, List, Result, Ok, Err}
+use Rattle.lwc_io.specs.Outside.{Rose, Tells}
 use Rattle.lwcrun_core.specs.Ends.{End, Outside}
 use Rattle.lwcrun_core.specs.Ends as ends
 use Rattle.lwcrun_core.specs.Plans.{Told}
-use Rattle.lwcrun_core.specs.Writing.{SentInPart}
 
 -- a file that was read by a grammar: its value, or why there is none
 pub data Found (A R : Type 0) : Type 0 where

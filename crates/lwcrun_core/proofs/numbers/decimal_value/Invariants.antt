@@ -1,5 +1,3 @@
-use Rattle.std.proofs.Common.{◌≡◌, ◌≤◌, ◌+◌, ◌^◌, take}
-use Rattle.lwcrun_core.specs.Numbers.{decimal_value}
 use Rattle.lwcrun_core.proofs.Decimals.{IsValueOf}
 use Rattle.lwcrun_core.proofs.numbers.decimal_value.Given as goal
 
