@@ -20,6 +20,7 @@ use Rattle.turnstile.proofs.Pasts.{knows_self, prefix_length}
 use Rattle.turnstile.proofs.Places.{one_at, within, at_end}
 use Rattle.turnstile.proofs.Seats.{serving_ticket, changes, passes, splits, joins}
 
+-- a seat has one ticket at most
 at_most : (stage : Stage) → tickets stage ≤ 1
 at_most Idle = omega arith
 at_most (Waiting t) = omega arith
@@ -56,12 +57,14 @@ module _ {S N : Type 0} (name_of : S → N) (past_of : S → List ℕ) where
   Goes name id me i f then z views = (w : View N) × (a : Act (Option S)) × Valid z.1 me.1 a
       × Rule name (stepped (record { words = z.0; homes = z.1; views = views }) i (f (get_or z.0 i 0)) id me.1 w a) × then (get_or z.0 i 0) (w, carried_after me.1 a)
 
+  -- it is enough to show it there
   opens : (name : N) (slots id : ℕ) (me : M) (i : ℕ) (f : ℕ → ℕ) (then : ℕ → M → Type 0)
       → ((next serving : ℕ) (past : List ℕ) (home : Slot) (views : Views) → length past ≡ serving → serving < 2 ^ 63 → Seated name next serving past views → Lies name past home views → Sits views id me.0
       → Goes name id me i f then (next ∷ serving ∷ [], home ∷ []) views) → Allows (Rule name) slots id me i f then
   opens name slots id me i f then ask s h _ at _ =
       subst (λ (z : List ℕ × List Slot). Goes name id me i f then z s.views) (λ c. (sym h.words c, sym h.slot c)) (ask h.next h.serving h.past h.home s.views h.served h.short h.seated h.lies at)
 
+  -- the rule over written-out words and slot
   rules : (name : N) (next serving : ℕ) (past : List ℕ) (home : Slot) (views : Views) → length past ≡ serving → serving < 2 ^ 63 → Seated name next serving past views → Lies name past home views → Rule name (laid next serving home views)
   rules name next serving past home views served short seated lies = record { next = next; serving = serving; past = past; home = home; words = refl; slot = refl; served = served; short = short; seated = seated; lies = lies }
 
@@ -86,9 +89,7 @@ module _ {S N : Type 0} (name_of : S → N) (past_of : S → List ℕ) where
       })
       lies
 
-  tickets_in : (serving next sum : ℕ) → serving + sum ≡ next → serving ≤ next
-  tickets_in serving next sum is = omega arith
-
+  -- a seat without a ticket may draw one
   pub draws : (name : N) (slots id : ℕ) (me : M) → me.0.stage ≡ Idle → Allows (Rule name) slots id me 0 (λ n. (n + 1) % 2 ^ 64) (DrawsTicket (step slots 0 1 0 none) me)
   draws name slots id me idle = opens name slots id me 0 (λ n. (n + 1) % 2 ^ 64) (DrawsTicket (step slots 0 1 0 none) me) (λ next serving past home views served short s lies at.
       let v : View N = me.0 in
@@ -181,18 +182,21 @@ module _ {S N : Type 0} (name_of : S → N) (past_of : S → List ℕ) where
       let same : v ≡ out.view = one_at views id out.seat v out.view (s.apart id out.seat serving v out.view at out.sits has theirs) at out.sits in
       let both : Waiting serving ≡ Serving out.ticket = sym waiting ∙ (ap (λ (z : View N). z.stage) same ∙ out.serves) in cc
 
+  -- who may look is not at its turn
   can_look : (stage : Stage) → CanLook stage → (stage ≢ Spent) × ((t : ℕ) → stage ≢ Serving t)
   can_look Idle may = ((λ is. cc is), λ t is. cc is)
   can_look (Waiting own) may = ((λ is. cc is), λ t is. cc is)
   can_look (Serving own) may = absurd may
   can_look Spent may = absurd may
 
+  -- whether a seat waits with this ticket
   is_waiting : (stage : Stage) (n : ℕ) → Dec (stage ≡ Waiting n)
   is_waiting Idle n = no (λ is. cc is)
   is_waiting (Waiting own) n = dite (ℕ_discrete own n) (λ same. yes (ap Waiting same)) (λ other. no (λ is. other (cc is)))
   is_waiting (Serving own) n = no (λ is. cc is)
   is_waiting Spent n = no (λ is. cc is)
 
+  -- a seat that is not at its turn may look
   pub looks : (name : N) (slots id : ℕ) (me : M) → CanLook me.0.stage → Allows (Rule name) slots id me 1 (λ n. n) (Looks name_of past_of me)
   looks name slots id me may = opens name slots id me 1 (λ n. n) (Looks name_of past_of me) (λ next serving past home views served short s lies at.
       let v : View N = me.0 in
@@ -260,10 +264,12 @@ module _ {S N : Type 0} (name_of : S → N) (past_of : S → List ℕ) where
         λ state' is. let same : state ≡ state' = ap (held_or state) is in ap (λ (x : S). (rested (past_of x) v, [])) same,
       ))
 
+  -- the same, where the seat holds the slot with the state
   pub passes_on : (name : N) (slots id : ℕ) (me : M) (state : S) → me.1 ≡ (0, Some state) ∷ [] → MayEnd name_of past_of me.0 state → length (past_of state) < 2 ^ 63 → Allows (Rule name) slots id me 1 (λ n. (n + 1) % 2 ^ 64) (λ _. PassesOn past_of me)
   passes_on name slots id me state holds may law = subst (λ (slot : List (ℕ × Option S)). Allows (Rule name) slots id (me.0, slot) 1 (λ n. (n + 1) % 2 ^ 64) (λ _. PassesOn past_of (me.0, slot))) (sym holds)
       (passes_with name slots id me.0 state may.ticket may.serves may.named may.past_is law)
 
+  -- the first seat may split
   pub splits_seat : (name : N) (id : ℕ) (v : View N) → v.number ≡ 0 → v.stage ≡ Idle → v.made < 16 → Splits (Rule name) id v (kept_view v) (new_view v)
   splits_seat name id v zeroth idle room s h at =
       let w : View N = kept_view v in
@@ -291,6 +297,7 @@ module _ {S N : Type 0} (name_of : S → N) (past_of : S → List ℕ) where
             one;
       }
 
+  -- the first seat may take in another
   pub joins_seat : (name : N) (id : ℕ) (v : View N) (other : ℕ) (w : View N) → v.number ≡ 0 → v.stage ≡ Idle → w.stage ≡ Idle → Joins (Rule name) id v other w (joined_view v w) spent_view
   joins_seat name id v other w zeroth idle idle' s h at apart there' =
       let both : View N = joined_view v w in

@@ -1,5 +1,5 @@
--- The table at its start and at its end.
-use Rattle.std.proofs.Common.{◌≡◌, ◌≢◌, ◌<◌, ◌≤◌, ℕ, zero, suc, List, [], ◌∷◌, length, get_or, map, Option, Some, refl, sym, ap, subst, ◌∙◌, inl, ⊎_elim, arith}
+-- The table at its end.
+use Rattle.std.proofs.Common.{◌≡◌, ◌<◌, ◌≤◌, ℕ, List, [], ◌∷◌, length, get_or, map, Option, Some, sym, ap, subst, ◌∙◌, ⊎_elim, arith}
 use Rattle.std.specs.Prelude.{All, Contains}
 use Rattle.std.proofs.Math.ListN.{length-map}
 use mathlib.Core.Logic.{dite}
@@ -8,12 +8,12 @@ use mathlib.Core.Option.{some, none, some-injective, some-ne-none}
 use native.Mathlib.Decide.{ℕ_discrete}
 use lib.ListN.{get_elem?}
 use Rattle.std.proofs.lemmas.List.{get_or-map}
-use Rattle.atomic_table.specs.Table.{opening, Final, Seen}
+use Rattle.atomic_table.specs.Table.{Final, Seen}
 use Rattle.turnstile.specs.declared.views.Joined.{Joined}
 use Rattle.turnstile.specs.declared.views.Stage.TheVariants.{Idle, Serving, Spent}
 use Rattle.turnstile.specs.declared.views.View.{View}
 use Rattle.turnstile.specs.Past.{Knows}
-use Rattle.turnstile.specs.Rule.{Sits, Fits, Seated, IsHome, IsOut, Holds, first_view}
+use Rattle.turnstile.specs.Rule.{Fits, IsHome, IsOut, Holds}
 use Rattle.atomic_table.specs.declared.shared.Seat.{Seat}
 use Rattle.std.specs.List.Sorted.{IsPermutation}
 use Rattle.std.proofs.lemmas.List.Sorted.{All-permutation, IsPermutation-sym}
@@ -21,60 +21,9 @@ use Rattle.std.proofs.lemmas.List.Elements.{All-cons}
 use Rattle.turnstile.specs.Moves.{Settles}
 use Rattle.turnstile.specs.Passes.{Held, held_of, joined_of}
 use Rattle.turnstile.proofs.Passing.{at_contained}
-use Rattle.turnstile.proofs.Pasts.{knows_none}
 use Rattle.turnstile.proofs.Places.{one_at, within}
 
 module _ {S N : Type 0} (name_of : S → N) (past_of : S → List ℕ) where
-  -- one seat has an empty past
-  starts_seated : (name : N) → Seated name 0 0 [] (first_view name ∷ [])
-  starts_seated name = let v : View N = first_view name in record {
-    some_seat = omega arith;
-    few = omega arith;
-    first = λ u sits gone. let is : v ≡ u = some-injective v u sits in let z : Idle ≡ Spent = ap (λ (x : View N). x.stage) is ∙ gone in cc;
-    each = each_one v;
-    drawn = refl;
-    apart = λ i j t x y sits_x sits_y _ _. let a = within (v ∷ []) i x sits_x in let b = within (v ∷ []) j y sits_y in omega arith;
-    unmade = λ number beyond. refl;
-  }
-    where
-      each_one : (v : View N) (seat : ℕ) (view : View N) → Sits (first_view name ∷ []) seat view → view.stage ≢ Spent → Fits name 0 [] (first_view name ∷ []) seat view
-      each_one v zero u sits live = subst (λ (x : View N). Fits name 0 [] (first_view name ∷ []) 0 x) (some-injective (first_view name) u sits) record {
-        named = refl;
-        number = refl;
-        knows = knows_none [] 0 refl;
-        noted = omega arith;
-        ticket = λ _ no_one. absurd no_one;
-        turn = λ _ is. absurd (cc is);
-        made = λ _. refl;
-        joined = λ k d below. absurd (omega arith);
-        differ = λ i j d before below. absurd (omega arith);
-      }
-      each_one v (suc seat) u sits live = absurd (some-ne-none u (sym sits))
-
-  pub starts : (name : N) (state : S) → name_of state ≡ name → past_of state ≡ [] → Holds name_of past_of name (opening (0 ∷ 0 ∷ []) (Some state ∷ []) (first_view name))
-  starts name state named empty = record {
-    next = 0;
-    serving = 0;
-    past = [];
-    home = some (Some state);
-    words = refl;
-    slot = refl;
-    served = refl;
-    short = omega arith;
-    seated = starts_seated name;
-    lies = inl record {
-      state = state;
-      lies = refl;
-      named = named;
-      past_is = empty;
-      nobody = nobody_first;
-    };
-  }
-    where
-      nobody_first : (seat t : ℕ) (view : View N) → Sits (first_view name ∷ []) seat view → view.stage ≢ Serving t
-      nobody_first zero t u sits is = let same : first_view name ≡ u = some-injective (first_view name) u sits in let z : Idle ≡ Serving t = ap (λ (x : View N). x.stage) same ∙ is in cc
-      nobody_first (suc seat) t u sits is = absurd (some-ne-none u (sym sits))
-
   -- the state that the slot has at the end
   pub settled : (name : N) (words : List ℕ) (slots : List (Option S)) (id : ℕ) (v : View N) → Final (Seen (Holds name_of past_of name) id v) words slots → v.number ≡ 0 → v.stage ≡ Idle
       → ((n : ℕ) → 0 < n → n < v.made → Contains (map (λ (j : Joined). j.number) v.joined) n) → (state : S) × (get_elem? slots 0 ≡ some (Some state)) × Settles name_of past_of name v state

@@ -30,14 +30,17 @@ map_contains f (x ∷ xs) (suc k) d below = let has = map_contains f xs k d (ome
 pub All-kept : {N : Type 0} (js : List Joined) (ps : List (Held N)) → All (λ p. Contains (js ++ map joined_of ps) (joined_of p)) ps
 All-kept js ps k d below = contains_behind js (map joined_of ps) _ (map_contains joined_of ps k d below)
 
+-- a list mapped to itself
 pub map-self : {A : Type 0} (xs : List A) → map (λ x. x) xs ≡ xs
 map-self [] = refl
 map-self (x ∷ xs) = ap (λ ys. x ∷ ys) (map-self xs)
 
 module _ {A : Type 0} (f : A → ℕ) (n : ℕ) where
+  -- how many stand before the number
   abbrev others : List A → ℕ
   others xs = prefix_len (λ y. not (f y == n)) xs
 
+  -- the first element has the number, or the rest is searched
   found_at : (x : A) (xs : List A) (b : Bool) → (f x == n) ≡ b → Contains (map f (x ∷ xs)) n → (Contains (map f xs) n → others xs < length xs) → others (x ∷ xs) < length (x ∷ xs)
   found_at x xs true is has rest = rw is (omega arith)
   found_at x xs false is (zero, below, here) rest = absurd (let no_test : (f x == n) ≡ true = eq-eqb (f x) n here in cc)
@@ -56,23 +59,28 @@ module _ {A : Type 0} (f : A → ℕ) (n : ℕ) where
 pub position_has : {A : Type 0} (f : A → ℕ) (n : ℕ) (xs : List A) (i : ℕ) (x : A) → position (λ y. f y == n) xs ≡ Some i → x ≡ get_or xs i x → f x ≡ n
 position_has f n xs i x is at = let test = (position-Some (λ y. f y == n) xs i x is).1 in ap f at ∙ eqb-true (f (get_or xs i x)) n test
 
+-- what holds of all holds of what the list contains
 pub at_contained : {A : Type 0} (P : A → Type 0) (xs : List A) (x : A) → All P xs → Contains xs x → P x
 at_contained P xs x all has = subst P has.2 (all has.0 x has.1)
 
+-- a number among those that a list is mapped to is that of an element
 pub map_contained : {A : Type 0} (f : A → ℕ) (xs : List A) (n : ℕ) → Contains (map f xs) n → (x : A) × Contains xs x × (f x ≡ n)
 map_contained f [] n has = absurd (let below = has.1 in omega arith)
 map_contained f (x ∷ xs) n (zero, below, is) = (x, (0, omega arith, refl), is)
 map_contained f (x ∷ xs) n (suc k, below, is) = let later = map_contained f xs n (k, omega arith, is) in let at = later.1 in (later.0, (suc at.0, omega (arith, at.1), at.2), later.2)
 
+-- and the other way
 pub contains_map : {A : Type 0} (f : A → ℕ) (xs : List A) (x : A) → Contains xs x → Contains (map f xs) (f x)
 contains_map f xs x has = (has.0, omega (arith, has.1, length-map xs f), get_or-map f xs has.0 x (f x) has.1 ∙ ap f has.2)
 
+-- what a list contains is its first element, or one of the rest
 contains_split : {A : Type 0} (x y : A) (xs : List A) → Contains (y ∷ xs) x → (y ≡ x) ⊎ Contains xs x
 contains_split x y xs (zero, below, is) = inl is
 contains_split x y xs (suc k, below, is) = inr (k, omega arith, is)
 
 -- all the passes are the first and the others
 module _ {N : Type 0} (t : Lock N) (ps : List (Held N)) (first : Held N) (rest : List (Held N)) (whole : AreAllOf t ps) (parts : IsPermutation ps (first ∷ rest)) where
+  -- each is the turnstile's
   ours : All (IsPassOf t) (first ∷ rest)
   ours = All-permutation (IsPassOf t) ps (first ∷ rest) parts whole.ours
 

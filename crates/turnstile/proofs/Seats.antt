@@ -35,6 +35,7 @@ module _ {N : Type 0} where
   abbrev StaySpent : List (View N) → List (View N) → Type 0
   StaySpent views views' = (seat : ℕ) (u : View N) → Sits views seat u → u.stage ≡ Spent → (u' : View N) × Sits views' seat u' × (u'.stage ≡ Spent)
 
+  -- what is kept of joined passes stays
   keeps_stay : (past : List ℕ) (views views' : List (View N)) → StaySpent views views' → (js : List Joined) → All (Keeps past views) js → All (Keeps past views') js
   keeps_stay past views views' stay js all k d below = let h = all k d below in record {
     knows = h.knows;
@@ -42,6 +43,7 @@ module _ {N : Type 0} where
     spent = stay _ h.spent.0 h.spent.1 h.spent.2;
   }
 
+  -- a seat that does not change still fits
   fits_stay : (name : N) (next next' : ℕ) (past : List ℕ) (views views' : List (View N)) (seat : ℕ) (v : View N) → next ≤ next' → (seat ≡ 0 → v.made ≡ length views') → StaySpent views views'
       → Fits name next past views seat v → Fits name next' past views' seat v
   fits_stay name next next' past views views' seat v more made stay h = record {

@@ -1,5 +1,5 @@
 -- What a whole turn says to the holder of the pass.
-use Rattle.std.proofs.Common.{◌≡◌, ◌+◌, ◌<◌, ◌≤◌, ℕ, List, [], ◌∷◌, ◌++◌, length, Option, Some, None, sym, ap, subst, ◌∙◌, arith, length-append}
+use Rattle.std.proofs.Common.{◌≡◌, ◌+◌, ◌<◌, ◌≤◌, ℕ, List, [], ◌∷◌, ◌++◌, length, Option, Some, sym, ap, subst, ◌∙◌, arith, length-append}
 use mathlib.Core.List.{IsPrefix}
 use Rattle.atomic_table.specs.Table.{Me}
 use Rattle.atomic_table.specs.declared.shared.Seat.{Seat}
@@ -8,14 +8,10 @@ use Rattle.turnstile.specs.declared.views.View.{View}
 use Rattle.turnstile.specs.Past.{times, Knows}
 use Rattle.turnstile.specs.Moves.{TakesTurn, MayEnd}
 use Rattle.turnstile.specs.Passes.{Lock, Held, IsPassOf, IsDueFor, held_of}
-use Rattle.turnstile.specs.Steps.{rested, serving_view}
+use Rattle.turnstile.specs.Steps.{rested}
 use Rattle.turnstile.proofs.Pasts.{times-push_same, prefix_trans}
 
 module _ {S N : Type 0} (name_of : S → N) (past_of : S → List ℕ) (m m' : Me (Option S) (View N)) (state : S) (t : TakesTurn name_of past_of m state m') where
-  -- the seat's view at its turn
-  abbrev at_turn : View N
-  at_turn = serving_view t.ticket (past_of state) m.0
-
   -- the state that the action left may be passed on
   pub may_end : (left : S) → name_of left ≡ name_of state → past_of left ≡ past_of state ++ m.0.number ∷ [] → MayEnd name_of past_of m'.0 left
   may_end left named grown = subst (λ (v : View N). MayEnd name_of past_of v left) (sym (ap (λ (x : Me (Option S) (View N)). x.0) t.turn)) record {
@@ -25,15 +21,9 @@ module _ {S N : Type 0} (name_of : S → N) (past_of : S → List ℕ) (m m' : M
     past_is = grown;
   }
 
-  pub holds_none : m'.1 ≡ (0, None) ∷ []
-  holds_none = ap (λ (x : Me (Option S) (View N)). x.1) t.turn
-
-  -- the view after the turn
-  pub after : (past : List ℕ) → rested past m'.0 ≡ rested past at_turn
-  after past = ap (λ (x : Me (Option S) (View N)). rested past x.0) t.turn
-
 -- the view and the slots at the end of a turn
 module _ {S N : Type 0} (m : Me (Option S) (View N)) (past : List ℕ) (v : View N) (ended : m ≡ (rested past v, [])) where
+  -- the past that it has seen
   pub seen_after : m.0.seen ≡ past
   seen_after = ap (λ (x : Me (Option S) (View N)). x.0.seen) ended
 
@@ -51,6 +41,7 @@ pub record HadTurn {N : Type 0} (p : Held N) (past : List ℕ) : Type 0 where
   pub count : times p.number past ≡ times p.number p.seen + 1
   pub later : p.noted < length past
 
+-- a turn that adds the pass's number to the past tells its holder this
 pub had_turn : {S N : Type 0} (name_of : S → N) (past_of : S → List ℕ) (gate : Lock N) (p : Held N) (seat : Seat (Option S) (View N)) (m' : Me (Option S) (View N)) (state : S) (past : List ℕ)
     → held_of seat ≡ p → IsPassOf gate p → TakesTurn name_of past_of seat.me state m' → past ≡ past_of state ++ p.number ∷ [] → HadTurn p past
 had_turn {S} {N} name_of past_of gate p seat m' state past is ours t grown =

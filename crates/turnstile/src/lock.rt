@@ -100,8 +100,8 @@ impl<S: Turned> Turnstile<S> {
         answer
     }
 
-    /// How many turns were passed on, at some moment of the call. The pass notes the answer, which is below
-    /// neither the number of turns that it has seen nor what it had noted. It needs no means to wait.
+    /// How many turns were passed on. The pass notes the answer, which is below neither the number of turns
+    /// that it has seen nor what it had noted. It needs no means to wait.
     pub fn served(&self, pass: &mut Pass<S>) -> u64
         requires ours { IsPassOf self.now pass.old }
         ensures seen { length pass.old.seen ≤ result }
