@@ -1,6 +1,5 @@
 -- What an act leaves of its thread and of the world: the thread's context, job and budget, and all of the world but what a store changes.
-use Rattle.std.proofs.Common.{◌≡◌, ℕ, ◌+◌, ◌*◌, ◌%◌, ◌≤◌, refl, sym, ap, ◌∙◌, Bool, true, false, cond, leb, eqb, Option, Some, None, List, [], ◌∷◌, length, arith}
-use Rattle.std.specs.Prelude.{slice_index, nat_le}
+use Rattle.std.proofs.Common.{◌≡◌, ℕ, ◌+◌, ◌*◌, ◌≤◌, refl, sym, ap, ◌∙◌, Bool, true, false, cond, leb, Option, Some, None, length, arith}
 use Rattle.std.specs.Int.{w64, to_le_bytes}
 use Rattle.guest_isa.specs.declared.instr.Instr.{Instr}
 use Rattle.guest_isa.specs.declared.op.Op.{Op}
@@ -8,7 +7,7 @@ use Rattle.guest_isa.specs.declared.op.Op.TheVariants.{Ldb, Ldw, Stb, Stw, Sys, 
 use Rattle.guest_machine.specs.declared.progress.Next.{Next}
 use Rattle.guest_machine.specs.declared.progress.Next.TheVariants.{Shared, Pause, BadPc}
 use Rattle.kernel_core.specs.Machine.{steps_left}
-use Rattle.kernel_core.specs.Step.{Acted, acts, address, alone, answered, byte_for, calls, does, faulted, gone_on, is_aligned, loaded, puts, puts_byte, puts_word, refused, stored, with_regs, with_status, word_for}
+use Rattle.kernel_core.specs.Step.{Acted, acts, alone, answered, calls, does, faulted, gone_on, is_aligned, loaded, puts, puts_word, refused, stored, with_regs, with_status}
 use Rattle.kernel_core.specs.declared.thread.Thread.{Thread}
 use Rattle.lwc_base.proofs.Kernel.{GrowsBy, grows_not, grows-store}
 use Rattle.lwc_base.specs.Store.{Piece, Stored, Absent, Full, Done, store}

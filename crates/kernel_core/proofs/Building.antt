@@ -1,5 +1,5 @@
 -- The world of a start as it is built: one page more, one slot more, and what all of them make.
-use Rattle.std.proofs.Common.{◌≡◌, ℕ, zero, suc, ◌+◌, ◌-◌, ◌*◌, ◌^◌, ◌≤◌, ◌<◌, refl, sym, ap, subst, ◌∙◌, Bool, true, false, cond, eqb, leb, ltb, ◌&&◌, IsTrue, Option, Some, None, List, [], ◌∷◌, ◌++◌, length, map, take, get_or, arith, length-append}
+use Rattle.std.proofs.Common.{◌≡◌, ℕ, zero, suc, ◌+◌, ◌*◌, ◌^◌, ◌≤◌, ◌<◌, refl, sym, ap, subst, ◌∙◌, Bool, true, false, cond, eqb, leb, ltb, ◌&&◌, IsTrue, Option, Some, None, List, [], ◌∷◌, ◌++◌, length, take, arith}
 use Rattle.std.specs.FinMap as fm
 use Rattle.std.specs.Prelude.{All, slice_get, nat_lt}
 use Rattle.std.specs.List.{enumerate_from, find, flat_map, range_with_len}
@@ -18,10 +18,10 @@ use Rattle.guest_image.specs.declared.image.SlotImage.{SlotImage}
 use Rattle.kernel_core.specs.Stages.{context_with, with_pages, with_slots}
 use Rattle.kernel_core.specs.Start.{first_context, first_entry, image_tag, page_in, slot_in, start_world, world_with}
 use Rattle.kernel_core.specs.declared.settings.TheConstants.{PAGES}
-use Rattle.lwc_base.proofs.OneContext.{first, mapped, map-one, one_added, one_context, one_counts, live-one, put_slot-one, none_counted, one_counted}
+use Rattle.lwc_base.proofs.OneContext.{first, mapped, map-one, one_added, one_context, one_counts, live-one, put_slot-one}
 use Rattle.lwc_base.proofs.OnePage.{page_piece, store-one, store_not_absent, store_not_full}
 use Rattle.lwc_base.proofs.OneUsed.{count-mapped, count-with_page, tag_count, used-one}
-use Rattle.lwc_base.specs.Cells.{put_slot, with_page, with_slot}
+use Rattle.lwc_base.specs.Cells.{put_slot, with_page}
 use Rattle.lwc_base.specs.Frames.{tag_of, tags_of_context, used}
 use Rattle.lwc_base.specs.Mapping.{map_pages}
 use Rattle.lwc_base.specs.Registers.{fresh_registers}

@@ -1,6 +1,6 @@
 -- A kernel stays ready over a step.
-use Rattle.std.proofs.Common.{◌≡◌, ℕ, zero, suc, ◌+◌, ◌-◌, ◌*◌, ◌^◌, ◌≤◌, ◌<◌, refl, sym, ap, subst, ◌∙◌, Bool, true, false, cond, eqb, Option, Some, None, List, [], ◌∷◌, length, arith, get_or}
-use Rattle.std.specs.Prelude.{All, slice_get, slice_set}
+use Rattle.std.proofs.Common.{◌≡◌, ℕ, ◌+◌, ◌-◌, ◌^◌, ◌≤◌, ◌<◌, refl, sym, ap, subst, ◌∙◌, Bool, true, false, cond, eqb, Some, List, arith}
+use Rattle.std.specs.Prelude.{slice_get, slice_set}
 use Rattle.std.proofs.lemmas.List.Elements.{All-get_or, All-set, All-weaker}
 use Rattle.std.proofs.lemmas.Option.{slice_get_within, get_or_from_slice_get}
 use Rattle.std.proofs.lemmas.Bool.Decides.{nat_tests}
@@ -10,7 +10,6 @@ use Rattle.guest_machine.specs.declared.progress.Advance.{Advance}
 use Rattle.kernel_core.proofs.Acts.{IsAct, KeepsPlace, act-acts}
 use Rattle.kernel_core.specs.Machine.{Machine, steps_left}
 use Rattle.kernel_core.specs.Ready.{CanAct}
-use Rattle.kernel_core.specs.Start.{Inputs, standing}
 use Rattle.kernel_core.specs.Steady.{IsCounted, IsReady, MayStep, StandsWell}
 use Rattle.kernel_core.specs.Step.{Acted, acts, alone, counted, moves, status_with, step_of, with_acted, with_regs, with_status}
 use Rattle.kernel_core.specs.declared.thread.Thread.{Thread}
@@ -20,7 +19,6 @@ use Rattle.lwc_base.specs.declared.fault.Fault.TheVariants as fault
 use Rattle.lwc_base.specs.declared.fault.ThreadStatus.{ThreadStatus}
 use Rattle.lwc_base.specs.declared.fault.ThreadStatus.TheVariants.{Idle, Running, Done, Faulted}
 use Rattle.lwc_base.specs.declared.size.WorldSize.{WorldSize}
-use Rattle.world_face.specs.Calls.{IsLive, MayName}
 
 -- the thread of a number stands well
 pub stands_well : (size : WorldSize) (m : Machine) (most : ℕ) (t : ℕ) (x : Thread) → IsReady size m most → slice_get m.threads t ≡ Some x → StandsWell size m.world x

@@ -1,5 +1,5 @@
 -- The fields of an instruction that name registers, and which instructions a thread comes to.
-use Rattle.std.proofs.Common.{◌≡◌, ℕ, ◌<◌, refl, sym, ap, subst, ◌∙◌, Bool, true, false, cond, IsTrue, ◌&&◌, Option, Some, None, List, arith, get_or}
+use Rattle.std.proofs.Common.{◌≡◌, ℕ, ◌<◌, refl, sym, subst, Bool, true, false, cond, IsTrue, ◌&&◌, Option, Some, None, List, arith}
 use Rattle.std.specs.Prelude.{All, slice_get, unwrap_or}
 use Rattle.std.proofs.lemmas.Bool.Decides.{nat_tests}
 use Rattle.std.proofs.lemmas.List.Elements.{All-get_or}
@@ -7,10 +7,9 @@ use Rattle.std.proofs.lemmas.Option.{slice_get_within, get_or_from_slice_get}
 use Rattle.guest_isa.specs.Instructions.{fits, is_instruction, IsInstruction, IsText}
 use Rattle.guest_isa.specs.Opcodes.{form_of, is_shared}
 use Rattle.guest_isa.specs.declared.instr.Instr.{Instr}
-use Rattle.guest_machine.specs.Advances.{advanced, IfShared, stop, stop_at, after_private, least}
+use Rattle.guest_machine.specs.Advances.{advanced, IfShared, stop_at}
 use Rattle.guest_machine.specs.declared.progress.Advance.{Advance}
-use Rattle.guest_machine.specs.declared.progress.Next.{Next}
-use Rattle.guest_machine.specs.declared.progress.Next.TheVariants.{Shared, Pause, BadPc}
+use Rattle.guest_machine.specs.declared.progress.Next.TheVariants.{Shared, Pause}
 
 -- each field for a register is below 16, whether it is used or not
 pub record HasRegisters (i : Instr) : Type 0 where

@@ -1,5 +1,5 @@
 -- A kernel is steady when it is opened.
-use Rattle.std.proofs.Common.{◌≡◌, ℕ, zero, suc, ◌+◌, ◌*◌, ◌≤◌, ◌<◌, refl, sym, ap, subst, ◌∙◌, Bool, true, false, cond, eqb, List, [], ◌∷◌, ◌++◌, length, map, take, get_or, arith}
+use Rattle.std.proofs.Common.{◌≡◌, ℕ, ◌+◌, ◌≤◌, ◌<◌, refl, sym, ap, subst, ◌∙◌, Bool, true, false, cond, eqb, List, [], ◌∷◌, ◌++◌, length, map, take, get_or, arith}
 use Rattle.std.specs.FinMap as fm
 use Rattle.std.specs.Prelude.{All}
 use Rattle.std.specs.List.{enumerate_from}
@@ -7,10 +7,9 @@ use Rattle.std.proofs.lemmas.List.{take_more, length-take-le, length-map, map-ap
 use Rattle.std.proofs.lemmas.List.Elements.{All-cons, All-nil}
 use Rattle.std.proofs.lemmas.List.FromFn.{length-enumerate_from}
 use Rattle.guest_image.specs.Limits.{IsImage}
-use Rattle.guest_image.specs.declared.image.Image.{Image}
 use Rattle.guest_isa.specs.declared.instr.Instr.{Instr}
 use Rattle.kernel_core.proofs.Building.{enumerate-push, world_one}
-use Rattle.kernel_core.specs.Kernel.{History, machine_of}
+use Rattle.kernel_core.specs.Kernel.{machine_of}
 use Rattle.kernel_core.specs.Start.{Inputs, first_context, first_thread, first_threads, standing, start, start_world}
 use Rattle.kernel_core.specs.Steady.{IsCounted, IsReady, IsSteady, StandsWell, most_after}
 use Rattle.kernel_core.specs.declared.settings.TheConstants.{MOST_BUDGET, MOST_STEPS, PAGES}

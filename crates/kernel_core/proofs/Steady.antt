@@ -10,12 +10,12 @@ use Rattle.std.proofs.lemmas.List.Elements.{All-weaker}
 use Rattle.std.proofs.lemmas.Grind.{get_or-set_at}
 use Rattle.std.proofs.Math.ListN.{set}
 use Rattle.guest_isa.specs.declared.instr.Instr.{Instr}
-use Rattle.kernel_core.proofs.Ready.{IsStep, ready_after_step, stands_well, step_made}
+use Rattle.kernel_core.proofs.Ready.{ready_after_step, stands_well, step_made}
 use Rattle.kernel_core.proofs.Runs.{run-push, peak-push}
 use Rattle.kernel_core.specs.Kernel.{History, machine_of, stepped, turn_of, view_of, work}
 use Rattle.kernel_core.specs.Machine.{Machine, has_ended, is_ended, steps_left, work_of}
-use Rattle.kernel_core.specs.Runs.{run, peak}
-use Rattle.kernel_core.specs.Start.{Inputs, standing, start}
+use Rattle.kernel_core.specs.Runs.{peak}
+use Rattle.kernel_core.specs.Start.{standing, start}
 use Rattle.kernel_core.specs.Steady.{IsReady, IsSteady, StandsWell, most_after}
 use Rattle.kernel_core.specs.Step.{Acted, alone, step, step_at, step_of, with_acted}
 use Rattle.kernel_core.specs.declared.settings.TheConstants.{MOST_BUDGET, MOST_STEPS}

@@ -5,7 +5,7 @@ use Rattle.guest_isa.specs.declared.instr.Instr.{Instr}
 use Rattle.kernel_core.specs.Kernel.{History, machine_of}
 use Rattle.kernel_core.specs.Machine.{Machine}
 use Rattle.kernel_core.specs.Runs.{peak}
-use Rattle.kernel_core.specs.Start.{Inputs, standing, start}
+use Rattle.kernel_core.specs.Start.{standing, start}
 use Rattle.kernel_core.specs.declared.settings.TheConstants.{PAGES, MOST_STEPS, MOST_BUDGET, MOST_THREADS}
 use Rattle.kernel_core.specs.declared.thread.Thread.{Thread}
 use Rattle.lwc_base.specs.declared.fault.ThreadStatus.{ThreadStatus}

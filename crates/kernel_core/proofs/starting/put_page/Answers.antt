@@ -1,5 +1,5 @@
 use Rattle.std.proofs.Common.{◌≤◌, Err, ap, arith, length, subst, sym}
-use Rattle.kernel_core.proofs.Building.{IsOne, may_take, number_below, one_here, one_mapped, not_absent, not_full, page_put}
+use Rattle.kernel_core.proofs.Building.{may_take, number_below, one_here, one_mapped, not_absent, not_full, page_put}
 use Rattle.lwc_base.specs.declared.size.WorldSize.{WorldSize}
 use Rattle.kernel_core.proofs.starting.put_page.Goals as goal
 

@@ -1,4 +1,4 @@
-use Rattle.std.proofs.Common.{◌≡◌, ◌≤◌, ◌∙◌, ℕ, List, ap, arith, rules, subst, sym}
+use Rattle.std.proofs.Common.{◌≤◌, ◌∙◌, ℕ, List, ap, arith, rules, subst, sym}
 use Rattle.std.specs.Prelude.{slice_index}
 use Rattle.kernel_core.proofs.Building.{all_put, as_here, first_made, frames_here, may_begin, none_live, slots_begin}
 use Rattle.kernel_core.proofs.starting.start_world.Goals as goal

@@ -1,4 +1,4 @@
-use Rattle.std.proofs.Common.{◌≡◌, ℕ, ◌+◌, ◌-◌, ◌<◌, ◌≤◌, ◌++◌, ◌∷◌, [], List, Some, false, sym, ap, subst, ◌∙◌, arith}
+use Rattle.std.proofs.Common.{◌≡◌, ℕ, ◌-◌, ◌<◌, ◌++◌, ◌∷◌, [], List, Some, sym, ap, subst, ◌∙◌, arith}
 use Rattle.kernel_core.proofs.Steady.{longer, made_here, rested_here, steady_as}
 use Rattle.kernel_core.specs.Kernel.{History, machine_of, turn_of, work}
 use Rattle.kernel_core.specs.Start.{Inputs}
