@@ -3,7 +3,9 @@
 use lwc_io::{MemoryFiles, MemorySink, NamedFile, OpenGate};
 use lwcrun_core::{ExitStatus, lwcrun};
 use std::alloc::{AllocError, Global};
+use std::sync::Wait;
 use std::test::Fail;
+use std::thread::Threads;
 
 /// `LI r1, 7` / `STW r1, r0, 0` / `LDW r2, r0, 0` / `HALT`.
 const STORE_LOAD: [u64; 4] = [
@@ -74,6 +76,7 @@ fn image(
 }
 
 /// What a call left behind.
+#[derive(Drop)]
 struct Left {
     status: ExitStatus,
     out: MemorySink,
@@ -96,8 +99,8 @@ const SURE: Outside = Outside {
 };
 
 /// Calls the program on the words after its name, over the files `guest` and `schedule`.
-fn call(
-    rt: &HostRuntime,
+fn call<R: AllocGlobal + Threads + Wait + Sync>(
+    rt: &R,
     guest: &[u8],
     schedule: &[u8],
     words: &[&str],
