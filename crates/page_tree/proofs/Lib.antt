@@ -1,0 +1,12 @@
+pub mod EntriesLemmas
+pub mod KeepsLemmas
+pub mod NewLemmas
+pub mod PageLemmas
+pub mod PathLemmas
+pub mod RawLemmas
+pub mod RootLemmas
+pub mod ShareLemmas
+pub mod ShortLemmas
+pub mod SoundLemmas
+pub mod StepLemmas
+pub mod UsesLemmas

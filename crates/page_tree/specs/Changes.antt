@@ -1,0 +1,38 @@
+-- What a change of one tree leaves as it was.
+use Rattle.std.specs.Prelude.{◌≡◌, ℕ, ◌+◌, ◌<◌, ◌⊎◌, List, length}
+use Rattle.frame_pool.specs.Frame.{Frame, frame_count, frame_stamp, frame_bytes}
+use Rattle.node_pool.specs.Nodes.{Node, count_of, entry_of}
+use Rattle.page_tree.specs.Pages.{entries_of, link_of, page}
+use Rattle.page_tree.specs.Sound.{naming, trees_at, is_root, IsSound}
+
+-- one tree left its root and came to another: the other trees keep their roots, and the entries of these and of their leaves
+pub record KeepsTrees (old new : List Node) (left came : ℕ) : Type 0 where
+  pub size : length new ≡ length old
+  pub roots : (n : ℕ) → trees_at new n + is_root left n ≡ trees_at old n + is_root came n
+  pub root : (n : ℕ) → is_root left n < trees_at old n → entries_of new n ≡ entries_of old n
+  pub leaf : (n i m : ℕ) → is_root left n < trees_at old n → entry_of old n i ≡ m + 1 → entries_of new m ≡ entries_of old m
+
+-- the trees that keep their roots and leaves stand for the same maps
+abbrev pub KeepsMaps : List Node → List Node → ℕ → Type 0
+KeepsMaps old new left = (t p : ℕ) → is_root left t < trees_at old t → page new (t + 1) p ≡ page old (t + 1) p
+
+-- a tree leads to a node: it is the tree's root, or a leaf of it
+abbrev pub IsReached : List Node → ℕ → ℕ → Type 0
+IsReached nodes tree n = (tree ≡ n + 1) ⊎ ((i : ℕ) × (link_of nodes tree i ≡ n + 1))
+
+-- each node that is held, and more than once or not reached from the tree, keeps its entries
+abbrev pub KeepsShared : List Node → List Node → ℕ → Type 0
+KeepsShared old new tree =
+    (n : ℕ) → 0 < count_of old n → (1 < count_of old n) ⊎ (¬ IsReached old tree n) → entries_of new n ≡ entries_of old n
+
+-- each frame has its bytes and its stamp, and is held more or less by just as much as more or fewer entries name it
+pub record KeepsFrames (old new : List Node) (frames frames' : List Frame) : Type 0 where
+  pub holds : (f : ℕ) → frame_count frames' f + naming old f ≡ frame_count frames f + naming new f
+  pub stamps : (f : ℕ) → frame_stamp frames' f ≡ frame_stamp frames f
+  pub bytes : (f : ℕ) → frame_bytes frames' f ≡ frame_bytes frames f
+
+-- a change of one tree that keeps the store sound, the other trees, and the frames
+pub record Keeps (old new : List Node) (frames frames' : List Frame) (left came : ℕ) : Type 0 where
+  pub sound : IsSound new frames'
+  pub trees : KeepsTrees old new left came
+  pub frames_kept : KeepsFrames old new frames frames'

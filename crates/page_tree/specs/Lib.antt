@@ -1,0 +1,5 @@
+pub mod Changes
+pub mod Pages
+pub mod Short
+pub mod Sound
+pub mod Steps
