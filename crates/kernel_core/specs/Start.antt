@@ -40,7 +40,7 @@ page_in pages p =
 unfoldable pub slot_in : List SlotImage → ℕ → Descriptor
 slot_in slots n = if nat_lt n 2 then Console else option_map_or (λ s. File s.file 0) (find (λ s. s.slot == n) slots) Empty
 
--- the registers that the first context begins with
+-- the instruction that the first context begins at
 abbrev pub first_entry : Image → ℕ
 first_entry image = slice_index image.entries 0
 

@@ -40,7 +40,7 @@ gone_on regs = record regs { pc = (regs.pc + 1) % 2 ^ 64 }
 abbrev pub answered : Regs → ℕ → ℕ → Regs
 answered regs d value = record { r = slice_set regs.r d value; pc = (regs.pc + 1) % 2 ^ 64 }
 
--- a thread of another status: its registers stay, with pc at the instruction
+-- a thread of another status; its registers stay
 abbrev pub with_status : Thread → ThreadStatus → Thread
 with_status x status = record x { status = status }
 

@@ -231,7 +231,7 @@ impl<W: World> Kernel<W> {
         self.threads[t as usize].view()
     }
 
-    /// How many steps the threads may still make: the sum of the budgets of those that run (`work`).
+    /// How many steps the threads may still make: the budgets of those that run, and 1 for each idle one (`work`).
     pub fn work(&self) -> u32
         ensures { result ≡ work self.now }
     {

@@ -1,7 +1,7 @@
 //! `lwcrun`: runs a guest image under a schedule, and prints what it did.
 #![tactic(auto)]
 
-use lwc_io::{OpenGate, RealFiles, RealSink};
+use lwc_io::{OpenGate, RealFiles, RealSink, Sink};
 use lwcrun_core::{ExitStatus, lwcrun};
 use std::env;
 use std::io::{self, ErrorKind};
@@ -38,7 +38,10 @@ fn main(rt: HostRuntime) -> ExitCode {
             &mut err,
             &OpenGate,
         ),
-        Err(_) => ExitStatus::NoMemory,
+        Err(_) => {
+            let _ = err.write(b"lwcrun: no memory\n");
+            ExitStatus::NoMemory
+        }
     };
     ExitCode::from(status.number())
 }

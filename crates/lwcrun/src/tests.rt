@@ -58,7 +58,7 @@ fn image(
 ) -> Result<Vec<u8>, AllocError> {
     let mut bytes = Vec::from_slice(alloc, b"LWC1")?;
     for count in [instructions.len(), pages.len(), 0, 0, entries.len(), 0] {
-        bytes.extend_from_slice(&(count as u32).to_le_bytes())?;
+        bytes.extend_from_slice(&u32::try_from(count).unwrap_or(u32::MAX).to_le_bytes())?;
     }
     for instruction in instructions {
         bytes.extend_from_slice(&instruction.to_be_bytes())?;

@@ -74,6 +74,6 @@ abbrev pub Headline : Command → (List ℕ → List ℕ) → Option (List ℕ) 
 Headline (commands.Replay image schedule settings) bytes before now =
     (x : Image) × (steps : List ℕ) × AreAccepted settings (bytes image) (bytes schedule) x steps × WritesReport settings x steps before now
 
--- the bytes of the command's files are in their grammars and limits
+-- the bytes of the command's files are in their grammars and limits, and the image's pages fit the frames
 abbrev pub IsRunnable : Command → (List ℕ → List ℕ) → Type 0
 IsRunnable (commands.Replay image schedule settings) bytes = (x : Image) × (steps : List ℕ) × AreAccepted settings (bytes image) (bytes schedule) x steps

@@ -83,8 +83,9 @@ fn answer<F: Files, O: Sink, E: Sink>(
 /// that, it says why in one line on `err`; a fault of `err` changes nothing. The answer is the exit status. Nobody waits
 /// at the gate, and no thread is started, for a replay.
 ///
-/// Each clause on what was written and said stands under the exit status of its name; `outcome` has them all, with the
-/// line on `err`. Want of memory (`NoMemory`) is free, and then nothing was written.
+/// `outcome` is the whole table: how the call ended, what holds then, the front of the report that a failed write left,
+/// and the line on `err`. The other clauses follow from it, each a promise by itself. Want of memory (`NoMemory`) is
+/// free, and then nothing was written.
 pub fn lwcrun<R: Threads + Wait + Sync, F: Files, O: Sink, E: Sink, G: Gate>(
     _rt: &R,
     alloc: Global,

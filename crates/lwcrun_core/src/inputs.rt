@@ -11,7 +11,7 @@ use lwc_io::Files;
 use lwc_text::{InputFault, InputRule, Schedule, read_schedule};
 use std::alloc::Global;
 
-/// How many bytes a file of an image may have.
+/// How many bytes an image may have.
 const IMAGE_LIMIT: usize = 8_388_608;
 
 /// The image in the file of that name, or how the call ends without it.
