@@ -1,5 +1,5 @@
 -- The bytes of a context's memory.
-use Rattle.std.specs.Prelude.{ℕ, ◌+◌, ◌-◌, ◌/◌, ◌%◌, ◌==◌, if◌then◌else◌, Bool, List, [], Option, None, Some, map, is_some, slice_index}
+use Rattle.std.specs.Prelude.{ℕ, ◌+◌, ◌-◌, ◌*◌, ◌/◌, ◌%◌, ◌==◌, if◌then◌else◌, Bool, List, [], Option, None, Some, map, is_some, nat_le, slice_index}
 use Rattle.std.specs.List.{range_with_len, list_all}
 use Rattle.std.specs.Option.{option_map_or}
 use Rattle.lwc_base.specs.declared.name.Name.{Name}
@@ -24,3 +24,8 @@ byte_at w c at = option_map_or (λ value. slice_index (bytes_of value) (at % PAG
 -- so many bytes from an address on, where each page that they touch is present
 unfoldable pub load : World → Name → ℕ → ℕ → Option (List ℕ)
 load w c at count = if is_present w c at count then Some (map (byte_at w c) (range_with_len at count)) else None
+
+-- so many bytes from an address that a guest names; none where one of them is past the last page or in an absent page, and no bytes need no address
+unfoldable pub bytes_for : World → Name → ℕ → ℕ → Option (List ℕ)
+bytes_for w c at count =
+    if count == 0 then Some [] else (if nat_le (at + count) (w.pages * PAGE_BYTES) then load w c at count else None)

@@ -1,5 +1,5 @@
 -- The world: contexts and groups by name, what each job has counted, and how many frames and pages there are.
-use Rattle.std.specs.Prelude.{ℕ, ◌+◌, ◌==◌, if◌then◌else◌, Bool, Option, None, Some, unwrap_or}
+use Rattle.std.specs.Prelude.{ℕ, ◌+◌, ◌==◌, if◌then◌else◌, Bool, Option, None, Some, count_by, unwrap_or}
 use Rattle.std.specs.FinMap as fm
 use Rattle.lwc_base.specs.declared.cell.Cell.{Cell}
 use Rattle.lwc_base.specs.declared.cell.Cell.TheVariants.{Own}
@@ -105,3 +105,20 @@ next_context w job = record { job = job; k = (w.next job).contexts }
 unfoldable pub add_context : World → ℕ → Context → World
 add_context w job x =
     count_on (record w { contexts = fm.insert w.contexts (next_context w job) x }) job (λ n. record n { contexts = n.contexts + 1 })
+
+-- the next name of a job's groups
+abbrev pub next_group : World → ℕ → Name
+next_group w job = record { job = job; k = (w.next job).groups }
+
+-- the job makes its next group, which is this one
+unfoldable pub add_group : World → ℕ → Group → World
+add_group w job x =
+    count_on (record w { groups = fm.insert w.groups (next_group w job) x }) job (λ n. record n { groups = n.groups + 1 })
+
+-- how many live contexts bear a job
+unfoldable pub live_of : World → ℕ → ℕ
+live_of w job = count_by (λ c. c.job == job) (fm.keys w.contexts)
+
+-- how many live groups bear a job
+unfoldable pub groups_of : World → ℕ → ℕ
+groups_of w job = count_by (λ g. g.job == job) (fm.keys w.groups)

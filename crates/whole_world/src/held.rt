@@ -10,13 +10,13 @@ ghost use Rattle.whole_world.specs.Copies.{context_of, held_page, with_zeros};
 use lwc_base::{Descriptor, Name, OutOfMemory, PageValue, Regs, Tag};
 use std::alloc::Global;
 
-/// All that one context has, held by itself alone.
+/// All that one context has: under each key its cell.
 #[derive(Drop)]
 pub struct Held {
     pub name: Name,
-    pub pages: Vec<Option<PageValue>>,
-    pub slots: [Descriptor; 64],
-    pub uid: u32,
+    pub pages: Vec<Option<Cell<PageValue>>>,
+    pub slots: Vec<Cell<Descriptor>>,
+    pub uid: Cell<u32>,
     pub entry: Regs,
 }
 

@@ -14,12 +14,10 @@ use world_face::World;
 pub struct WholeWorld {
     pub(crate) alloc: Global,
     pub(crate) size: WorldSize,
-    pub(crate) context: Option<Held>,
+    pub(crate) contexts: Vec<Held>,
+    pub(crate) groups: Vec<HeldGroup>,
     pub(crate) counts: Vec<Counts>,
-    ghost counted: { vec_len counts ≡ size.jobs },
-    ghost whole: { ForSome context (λ held. vec_len held.pages ≡ size.pages) },
-    ghost some_job: { 1 ≤ size.jobs },
-    ghost few_pages: { size.pages ≤ 16384 },
+    ghost sound: { IsSound size contexts.items groups.items counts.items },
 }
 
 impl WholeWorld {

@@ -2,6 +2,8 @@
 use Rattle.std.specs.Prelude.{◌≡◌, ◌<◌, ◌≤◌, ◌^◌, ℕ, true}
 use Rattle.std.specs.FinMap as fm
 use Rattle.lwc_base.specs.declared.name.Name.{Name}
+use Rattle.lwc_base.specs.declared.page.TheConstants.{MOST_PAGES}
+use Rattle.lwc_base.specs.declared.range.TheConstants.{MOST_RANGES}
 use Rattle.lwc_base.specs.declared.size.WorldSize.{WorldSize}
 use Rattle.lwc_base.specs.World.{World}
 
@@ -11,7 +13,7 @@ pub record IsSize (size : WorldSize) : Type 0 where
   pub contexts : (1 ≤ size.contexts) × (size.contexts ≤ 529)
   pub groups : (1 ≤ size.groups) × (size.groups ≤ 1024)
   pub jobs : (1 ≤ size.jobs) × (size.jobs ≤ 1025)
-  pub pages : (1 ≤ size.pages) × (size.pages ≤ 16384)
+  pub pages : (1 ≤ size.pages) × (size.pages ≤ MOST_PAGES)
 
 -- a context of that name is there
 abbrev pub IsLive : World → Name → Type 0
@@ -23,3 +25,15 @@ pub record MayName (size : WorldSize) (w : World) (job : ℕ) : Type 0 where
   pub contexts : (w.next job).contexts < 2 ^ 31
   pub groups : (w.next job).groups < 2 ^ 31
   pub tags : (w.next job).tags < 2 ^ 31
+
+-- there is a place for one more context
+abbrev pub HasPlace : WorldSize → World → Type 0
+HasPlace size w = fm.len w.contexts < size.contexts
+
+-- there is a place for one more group
+abbrev pub HasGroupPlace : WorldSize → World → Type 0
+HasGroupPlace size w = fm.len w.groups < size.groups
+
+-- two numbers of ranges are within the limit
+abbrev pub AreFew : ℕ × ℕ → Type 0
+AreFew counts = (counts.0 ≤ MOST_RANGES) × (counts.1 ≤ MOST_RANGES)

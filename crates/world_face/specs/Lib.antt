@@ -2,9 +2,13 @@ pub use Rattle.lwc_base.specs.Cells
 pub use Rattle.lwc_base.specs.Frames
 pub use Rattle.lwc_base.specs.Mapping
 pub use Rattle.lwc_base.specs.Memory
+pub use Rattle.lwc_base.specs.Modes
 pub use Rattle.lwc_base.specs.Names
 pub use Rattle.lwc_base.specs.Pages
+pub use Rattle.lwc_base.specs.Ranges
 pub use Rattle.lwc_base.specs.Registers
+pub use Rattle.lwc_base.specs.Sharing
+pub use Rattle.lwc_base.specs.Slots
 pub use Rattle.lwc_base.specs.Store
 pub use Rattle.lwc_base.specs.Summaries
 pub use Rattle.lwc_base.specs.World

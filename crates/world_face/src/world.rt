@@ -1,21 +1,25 @@
-ghost use Rattle.std.specs.Prelude.{◌≡◌, ◌<◌, ◌≤◌, ◌*◌, ◌+◌, ◌↔◌, ℕ, length, is_some, slice_get, IfOk, IfSome, IfNone, OnOk, OnErr};
+ghost use Rattle.std.specs.Prelude.{◌≡◌, ◌≢◌, ◌<◌, ◌≤◌, ◌*◌, ◌+◌, ◌↔◌, ℕ, Bool, true, length, is_some, slice_get, IfOk, IfSome, IfNone, IsOk, OnOk, OnErr};
 ghost use Rattle.std.specs.FinMap as fm;
 ghost use Rattle.lwc_base.specs.World as worlds;
-ghost use Rattle.lwc_base.specs.World.{empty_world, add_context, new_context, next_context};
-ghost use Rattle.lwc_base.specs.Cells.{slot_at, put_slot};
+ghost use Rattle.lwc_base.specs.World.{empty_world, add_context, context, groups_of, live_of, new_context, next_context};
+ghost use Rattle.lwc_base.specs.Cells.{slot_at, put_slot, uid_at, put_uid};
 ghost use Rattle.lwc_base.specs.Frames.{used};
-ghost use Rattle.lwc_base.specs.Mapping.{map_pages};
+ghost use Rattle.lwc_base.specs.Mapping.{map_pages, mapped_or_not, unmap_pages};
 ghost use Rattle.lwc_base.specs.Memory.{load};
+ghost use Rattle.lwc_base.specs.Ranges.{ranges_of};
+ghost use Rattle.lwc_base.specs.Sharing.{clone_context, needs_group, ranges_after_clone};
+ghost use Rattle.lwc_base.specs.Slots.{lowest_empty};
 ghost use Rattle.lwc_base.specs.Store.{store};
 ghost use Rattle.lwc_base.specs.Store as stores;
 ghost use Rattle.lwc_base.specs.Summaries.{summary_of};
 ghost use Rattle.lwc_base.specs.declared.descriptor.Descriptor.{Descriptor};
 ghost use Rattle.lwc_base.specs.declared.descriptor.TheConstants.{SLOTS};
 ghost use Rattle.lwc_base.specs.declared.page.TheConstants.{PAGE_BYTES};
+ghost use Rattle.lwc_base.specs.declared.range.TheConstants.{MOST_RANGES};
 ghost use Rattle.lwc_base.specs.declared.size.WorldSize.{WorldSize};
-ghost use Rattle.world_face.specs.Calls.{IsSize, IsLive, MayName};
+ghost use Rattle.world_face.specs.Calls.{AreFew, HasGroupPlace, HasPlace, IsSize, IsLive, MayName};
 
-use lwc_base::{Descriptor, Name, OutOfMemory, Range, Regs, StoreFault, Summary, WorldSize};
+use lwc_base::{Descriptor, Name, OutOfMemory, Range, Regs, Spec, StoreFault, Summary, WorldSize};
 use std::alloc::Global;
 
 /// A world of contexts and groups. What it stands for is `seen`, whichever way it is kept; each call does to
@@ -27,6 +31,9 @@ pub trait World: Sized + Drop + Send + Sync {
     /// The size that the world was opened with, which no call changes.
     ghost size: { Self → WorldSize };
 
+    /// Whether all memory is taken at opening, so that no later call wants any.
+    ghost roomy: { Bool };
+
     /// A world of that size in which nothing is live. The one error is want of memory.
     fn open(alloc: Global, world_size: &WorldSize) -> Result<Self, OutOfMemory>
         requires { IsSize world_size.now }
@@ -37,14 +44,15 @@ pub trait World: Sized + Drop + Send + Sync {
     fn pages(&self) -> u32
         ensures { result ≡ (seen self.now).pages };
 
-    /// Makes the first context, for job 0: no page, empty slots, this uid, and the registers that it begins with.
+    /// Makes a context of job 0 from nothing: no page, empty slots, this uid, and the registers that it begins with.
     /// The one error is want of memory.
     fn first(&mut self, uid: u32, entry: &Regs) -> Result<Name, OutOfMemory>
-        requires alone { (seen self.old).contexts ≡ fm.empty }
         requires may { MayName (size self.old) (seen self.old) 0 }
+        requires place { HasPlace (size self.old) (seen self.old) }
         ensures name { IfOk result (λ c. c ≡ next_context (seen self.old) 0) }
         ensures made { OnOk result (seen self.new ≡ add_context (seen self.old) 0 (new_context uid entry.now)) }
         ensures err { OnErr result (seen self.new ≡ seen self.old) }
+        ensures ample { roomy ≡ true → IsOk result }
         ensures sized { size self.new ≡ size self.old };
 
     /// Makes each page of the range a page of zeros of the context's own, whatever it was. The one error is want
@@ -53,8 +61,21 @@ pub trait World: Sized + Drop + Send + Sync {
         requires live { IsLive (seen self.old) c }
         requires some { range.from < range.to }
         requires within { range.to ≤ (seen self.old).pages }
+        requires few { ranges_of (map_pages (seen self.old) c range.from range.to) c ≤ MOST_RANGES }
         ensures mapped { OnOk result (seen self.new ≡ map_pages (seen self.old) c range.from range.to) }
         ensures err { OnErr result (seen self.new ≡ seen self.old) }
+        ensures ample { roomy ≡ true → IsOk result }
+        ensures sized { size self.new ≡ size self.old };
+
+    /// Makes each page of the range absent, whatever it was. The one error is want of memory.
+    fn unmap(&mut self, c: Name, range: Range) -> Result<(), OutOfMemory>
+        requires live { IsLive (seen self.old) c }
+        requires some { range.from < range.to }
+        requires within { range.to ≤ (seen self.old).pages }
+        requires few { ranges_of (unmap_pages (seen self.old) c range.from range.to) c ≤ MOST_RANGES }
+        ensures unmapped { OnOk result (seen self.new ≡ unmap_pages (seen self.old) c range.from range.to) }
+        ensures err { OnErr result (seen self.new ≡ seen self.old) }
+        ensures ample { roomy ≡ true → IsOk result }
         ensures sized { size self.new ≡ size self.old };
 
     /// Reads bytes of the context's memory from the address `at` on, as many as `out` has room for. `false` says
@@ -81,6 +102,7 @@ pub trait World: Sized + Drop + Send + Sync {
         ensures bad_address { (result ≡ Err StoreFault.BadAddress) ↔ (store (seen self.old) c job (record { at = at; bytes = piece.now }) ≡ stores.Absent) }
         ensures no_frame { (result ≡ Err StoreFault.NoFrame) ↔ (store (seen self.old) c job (record { at = at; bytes = piece.now }) ≡ stores.Full) }
         ensures err { OnErr result (seen self.new ≡ seen self.old) }
+        ensures ample { roomy ≡ true → result ≢ Err StoreFault.OutOfMemory }
         ensures sized { size self.new ≡ size self.old };
 
     /// What stands under a slot of the context.
@@ -95,6 +117,74 @@ pub trait World: Sized + Drop + Send + Sync {
         requires within { n < SLOTS }
         ensures put { seen self.new ≡ put_slot (seen self.old) c n value }
         ensures sized { size self.new ≡ size self.old };
+
+    /// The lowest slot of the context that is empty; `None` where none is.
+    fn lowest_empty(&self, c: Name) -> Option<u8>
+        requires live { IsLive (seen self.now) c }
+        ensures lowest { result ≡ lowest_empty (seen self.now) c };
+
+    /// The credential of the context.
+    fn uid(&self, c: Name) -> u32
+        requires live { IsLive (seen self.now) c }
+        ensures value { result ≡ uid_at (seen self.now) c };
+
+    /// Puts another uid under the credential of the context.
+    fn set_uid(&mut self, c: Name, uid: u32)
+        requires live { IsLive (seen self.old) c }
+        ensures put { seen self.new ≡ put_uid (seen self.old) c uid }
+        ensures sized { size self.new ≡ size self.old };
+
+    /// The registers that the context begins with.
+    fn entry(&self, c: Name) -> Regs
+        requires live { IsLive (seen self.now) c }
+        ensures value { result ≡ (context (seen self.now) c).entry };
+
+    /// Makes a context of a job from another one: what is under share moves into a group and is common from then on,
+    /// what is under copy or not named is copied, and what is under unmap is left out. It begins with these registers
+    /// and keeps none for any thread. Answers its name. The one error is want of memory.
+    fn clone_context(
+        &mut self,
+        c: Name,
+        spec: &Spec,
+        job: u32,
+        entry: &Regs,
+    ) -> Result<Name, OutOfMemory>
+        requires live { IsLive (seen self.old) c }
+        requires may { MayName (size self.old) (seen self.old) job }
+        requires place { HasPlace (size self.old) (seen self.old) }
+        requires group { needs_group (seen self.old) c spec.now ≡ true → HasGroupPlace (size self.old) (seen self.old) }
+        requires few { AreFew (ranges_after_clone (seen self.old) c job spec.now) }
+        ensures name { IfOk result (λ made. made ≡ next_context (seen self.old) job) }
+        ensures cloned { OnOk result (seen self.new ≡ clone_context (seen self.old) c job spec.now entry.now) }
+        ensures err { OnErr result (seen self.new ≡ seen self.old) }
+        ensures ample { roomy ≡ true → IsOk result }
+        ensures sized { size self.new ≡ size self.old };
+
+    /// Whether `clone_context` makes a group: an item of mode share names a key that is present and the context's own.
+    fn needs_group(&self, c: Name, spec: &Spec) -> bool
+        requires live { IsLive (seen self.now) c }
+        ensures value { result ≡ needs_group (seen self.now) c spec.now };
+
+    /// How many ranges the context and the new one would have after `clone_context`, in this order; they are the same
+    /// for each job that may call it.
+    fn ranges_after_clone(&self, c: Name, spec: &Spec) -> (u32, u32)
+        requires live { IsLive (seen self.now) c }
+        ensures value { (job : ℕ) → result ≡ ranges_after_clone (seen self.now) c job spec.now };
+
+    /// How many ranges the context would have after `map`, where `present` is true, or after `unmap`.
+    fn ranges_after_map(&self, c: Name, range: Range, present: bool) -> u32
+        requires live { IsLive (seen self.now) c }
+        requires some { range.from < range.to }
+        requires within { range.to ≤ (seen self.now).pages }
+        ensures value { result ≡ ranges_of (mapped_or_not (seen self.now) c range.from range.to present) c };
+
+    /// How many live contexts bear the job.
+    fn live_of(&self, job: u32) -> u32
+        ensures value { result ≡ live_of (seen self.now) job };
+
+    /// How many live groups bear the job.
+    fn groups_of(&self, job: u32) -> u32
+        ensures value { result ≡ groups_of (seen self.now) job };
 
     /// The name of the i-th live context, in the order of names; `None` where there are no more than i.
     fn nth_context(&self, i: u32) -> Option<Name>

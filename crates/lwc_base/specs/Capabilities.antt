@@ -1,0 +1,23 @@
+-- The keys that an access capability has.
+use Rattle.std.specs.Prelude.{ℕ, ◌-◌, ◌/◌, ◌%◌, ◌^◌, ◌==◌, Bool, true, false, replicate, slice_index}
+use Rattle.lwc_base.specs.declared.descriptor.Cap.{Cap}
+use Rattle.lwc_base.specs.declared.key.Key.{Key}
+use Rattle.lwc_base.specs.declared.key.Key.TheVariants.{Page, Slot, Cred}
+
+-- whether a number has a bit
+abbrev pub has_bit : ℕ → ℕ → Bool
+has_bit number i = (number / 2 ^ i) % 2 == 1
+
+-- whether a capability has a key: page p is bit p mod 64 of word p / 64, slot n is bit n of the slots
+unfoldable pub has_key : Cap → Key → Bool
+has_key cap (Page p) = has_bit (slice_index cap.pages (p / 64)) (p % 64)
+has_key cap (Slot n) = has_bit cap.slots n
+has_key cap Cred = cap.cred
+
+-- the capability of no key
+unfoldable pub empty_cap : Cap
+empty_cap = record { pages = replicate 16 0; slots = 0; cred = false }
+
+-- the capability of every key of 1024 pages, 64 slots and the credential: all bits are set
+unfoldable pub full_cap : Cap
+full_cap = record { pages = replicate 16 (2 ^ 64 - 1); slots = 2 ^ 64 - 1; cred = true }

@@ -1,0 +1,1 @@
+pub use Rattle.lwc_base.specs.Modes

@@ -1,0 +1,29 @@
+ghost use Rattle.std.specs.Prelude.{◌≡◌, ◌≤◌, ◌+◌, ◌*◌, IfNone, IfSome, length, is_some, nat_le};
+ghost use Rattle.lwc_base.specs.Memory as memory;
+ghost use Rattle.lwc_base.specs.declared.page.TheConstants.{MOST_PAGES, PAGE_BYTES};
+ghost use Rattle.world_face.specs.Calls.{IsLive};
+
+use crate::world::World;
+use lwc_base::{Name, PAGE_BYTES};
+
+/// Whether so many bytes from an address on stand below the end of so many pages.
+pub fn is_within(pages: u32, at: u64, count: usize) -> bool
+    requires { pages ≤ MOST_PAGES }
+    ensures { result ≡ nat_le (at + count) (pages * PAGE_BYTES) }
+{
+    let memory = u64::from(pages) * PAGE_BYTES as u64;
+    at <= memory && count as u64 <= memory - at
+}
+
+/// Reads bytes of a context's memory from an address that a guest names, as many as `out` has room for. `false` says
+/// that one of them is past the last page or in an absent page, and `out` is then as it was.
+#[tactic(auto, unfolding(lwc_base::specs::Memory::bytes_for))]
+pub fn bytes_for<W: World>(world: &W, c: Name, at: u64, out: &mut [u8]) -> bool
+    requires live { IsLive (W.seen world.now) c }
+    requires pages { (W.seen world.now).pages ≤ MOST_PAGES }
+    ensures present { result ≡ is_some (memory.bytes_for (W.seen world.now) c at (length out.old)) }
+    ensures found { IfSome (memory.bytes_for (W.seen world.now) c at (length out.old)) (λ bytes. out.new ≡ bytes) }
+    ensures absent { IfNone (memory.bytes_for (W.seen world.now) c at (length out.old)) (out.new ≡ out.old) }
+{
+    out.is_empty() || (is_within(world.pages(), at, out.len()) && world.bytes(c, at as u32, out))
+}
