@@ -1,4 +1,5 @@
 pub mod Begun
+pub mod Counted
 pub mod Fresh
 pub mod Kernel
 pub mod OneContext
@@ -6,6 +7,7 @@ pub mod OnePage
 pub mod OneUsed
 pub mod Live
 pub mod Loading
+pub mod Lookups
 pub mod Orders
 pub mod OwnCells
 pub mod Storing
