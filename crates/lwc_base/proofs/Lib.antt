@@ -10,6 +10,7 @@ pub mod Loading
 pub mod Lookups
 pub mod Orders
 pub mod OwnCells
+pub mod Sharing
 pub mod Storing
 pub mod Zeros
 pub mod PairedLemmas
