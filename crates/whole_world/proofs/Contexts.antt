@@ -18,21 +18,23 @@ use Rattle.whole_world.proofs.Places.{place_after_set, place_of_replicate}
 
 -- another cell in place of a page's
 pub context_of-set_page : (held new : Held) (p : ℕ) (cell : Option (Cell PageValue)) → p < length held.pages.items →
-    new ≡ record held { pages = new.pages } → new.pages.items ≡ set held.pages.items p cell → context_of new ≡ with_page p cell (context_of held)
-unfolding context_of held_page
-context_of-set_page held new p cell within others is =
+    new.pages.items ≡ set held.pages.items p cell → new.slots ≡ held.slots → new.uid ≡ held.uid → new.entry ≡ held.entry →
+    context_of new ≡ with_page p cell (context_of held)
+unfolding context_of held_page held_slot
+context_of-set_page held new p cell within is slots uid entry =
     let pages : (q : ℕ) → get_or new.pages.items q None ≡ cond (eqb q p) cell (get_or held.pages.items q None) =
     λ q. ap (λ l. get_or l q None) is ∙ place_after_set held.pages.items p cell q None within in
-    ap context_of others ∙ (λ i. record (context_of held) { page = λ q. pages q i })
+    λ i. record { page = λ q. pages q i; slot = λ n. get_or (slots i).items n (Own Empty); uid = uid i; entry = entry i; saved = λ t. None }
 
 -- another cell in place of a slot's
 pub context_of-set_slot : (held new : Held) (n : ℕ) (cell : Cell Descriptor) → n < length held.slots.items →
-    new ≡ record held { slots = new.slots } → new.slots.items ≡ set held.slots.items n cell → context_of new ≡ with_slot n cell (context_of held)
-unfolding context_of held_slot
-context_of-set_slot held new n cell within others is =
+    new.slots.items ≡ set held.slots.items n cell → new.pages ≡ held.pages → new.uid ≡ held.uid → new.entry ≡ held.entry →
+    context_of new ≡ with_slot n cell (context_of held)
+unfolding context_of held_page held_slot
+context_of-set_slot held new n cell within is pages uid entry =
     let slots : (m : ℕ) → get_or new.slots.items m (Own Empty) ≡ cond (eqb m n) cell (get_or held.slots.items m (Own Empty)) =
     λ m. ap (λ l. get_or l m (Own Empty)) is ∙ place_after_set held.slots.items n cell m (Own Empty) within in
-    ap context_of others ∙ (λ i. record (context_of held) { slot = λ m. slots m i })
+    λ i. record { page = λ p. get_or (pages i).items p None; slot = λ m. slots m i; uid = uid i; entry = entry i; saved = λ t. None }
 
 -- a context in which no page is present and all slots are empty
 pub context_of-nothing_held : (held : Held) (count slots uid : ℕ) → held.pages.items ≡ replicate count None → held.slots.items ≡ replicate slots (Own Empty) →
@@ -45,21 +47,21 @@ context_of-nothing_held held count slots uid absent empty is =
 
 -- a value under a page of a group
 pub group_of-set_page : (held new : HeldGroup) (p : ℕ) (value : PageValue) → p < length held.pages.items →
-    new ≡ record held { pages = new.pages } → new.pages.items ≡ set held.pages.items p (Some value) → group_of new ≡ with_group_page p value (group_of held)
-unfolding group_of group_page
-group_of-set_page held new p value within others is =
+    new.pages.items ≡ set held.pages.items p (Some value) → new.slots ≡ held.slots → new.uid ≡ held.uid → group_of new ≡ with_group_page p value (group_of held)
+unfolding group_of group_page group_slot
+group_of-set_page held new p value within is slots uid =
     let pages : (q : ℕ) → get_or new.pages.items q None ≡ cond (eqb q p) (Some value) (get_or held.pages.items q None) =
     λ q. ap (λ l. get_or l q None) is ∙ place_after_set held.pages.items p (Some value) q None within in
-    ap group_of others ∙ (λ i. record (group_of held) { page = λ q. pages q i })
+    λ i. record { page = λ q. pages q i; slot = λ n. get_or (slots i).items n None; uid = uid i }
 
 -- a value under a slot of a group
 pub group_of-set_slot : (held new : HeldGroup) (n : ℕ) (value : Descriptor) → n < length held.slots.items →
-    new ≡ record held { slots = new.slots } → new.slots.items ≡ set held.slots.items n (Some value) → group_of new ≡ with_group_slot n value (group_of held)
-unfolding group_of group_slot
-group_of-set_slot held new n value within others is =
+    new.slots.items ≡ set held.slots.items n (Some value) → new.pages ≡ held.pages → new.uid ≡ held.uid → group_of new ≡ with_group_slot n value (group_of held)
+unfolding group_of group_page group_slot
+group_of-set_slot held new n value within is pages uid =
     let slots : (m : ℕ) → get_or new.slots.items m None ≡ cond (eqb m n) (Some value) (get_or held.slots.items m None) =
     λ m. ap (λ l. get_or l m None) is ∙ place_after_set held.slots.items n (Some value) m None within in
-    ap group_of others ∙ (λ i. record (group_of held) { slot = λ m. slots m i })
+    λ i. record { page = λ p. get_or (pages i).items p None; slot = λ m. slots m i; uid = uid i }
 
 -- a group with nothing in it
 pub group_of-nothing_held : (held : HeldGroup) (count slots : ℕ) → held.pages.items ≡ replicate count None → held.slots.items ≡ replicate slots None →

@@ -1,4 +1,5 @@
 pub mod Contexts
+pub mod OldGroups
 pub mod Places
 pub mod RowLemmas
 pub mod RowWorlds

@@ -1,8 +1,8 @@
 -- Rows by name, and the map that they stand for.
-use Rattle.std.proofs.Common.{◌≡◌, ℕ, zero, suc, ◌+◌, ◌<◌, ◌≤◌, List, [], ◌∷◌, ◌++◌, take, drop, arith, length, refl, sym, ap, subst, ◌∙◌, Bool, true, false, cond, Option, Some, None, get_or, map, not, length-map}
-use Rattle.std.specs.Prelude.{T, ◌&&◌, nat_lt, is_some}
+use Rattle.std.proofs.Common.{◌≡◌, ℕ, zero, suc, ◌+◌, ◌<◌, ◌≤◌, List, [], ◌∷◌, ◌++◌, take, drop, arith, length, refl, sym, ap, subst, ◌∙◌, Bool, true, false, cond, Option, Some, None, get_or, map, not, Bor}
+use Rattle.std.specs.Prelude.{T, ◌&&◌, nat_lt, is_some, All, IfSome, IfNone}
 use Rattle.std.specs.List.{find, position, position_or_len, insert}
-use Rattle.std.specs.Option.{option_map}
+use Rattle.std.specs.Option.{option_copied, option_map}
 use Rattle.std.specs.Ordering.{eq_by_cmp, is_eq, is_lt, ordering_reverse}
 use Rattle.std.specs.declared.cmp.Ordering.{Ordering}
 use Rattle.std.specs.declared.cmp.Ordering.TheVariants.{Less, Equal, Greater}
@@ -10,7 +10,9 @@ use Rattle.std.specs.Cmp.{eq_by_cmp_equiv}
 use Rattle.std.specs.FinMap as fm
 use Rattle.std.specs.FinMap.Entries.{below_all, by_order}
 use Rattle.std.proofs.Math.ListN.{set}
-use Rattle.std.proofs.lemmas.Bool.{ltb-true, false≢true}
+use Rattle.std.proofs.lemmas.Bool.{ltb-true, ltb-false, false≢true}
+use Rattle.std.proofs.lemmas.List.{length-map}
+use Rattle.std.proofs.lemmas.List.Elements.{All-head, All-tail}
 use Rattle.lwc_base.specs.declared.name.Name.{Name}
 use Rattle.lwc_base.specs.Names.{name_cmp}
 use Rattle.lwc_base.proofs.Orders.{name_cmp-total, name_cmp-IsAntisymmetric}
@@ -61,6 +63,40 @@ pub place_found : {E : Type 0} (test : E → Bool) (rows : List E) (i : ℕ) →
 place_found test rows i e =
     let f = found_place (nat_lt (position_or_len test rows) (length rows)) (position_or_len test rows) i e in
     record { first = f.1; within = subst (λ n. n < length rows) f.1 (ltb-true _ _ f.0) }
+
+nothing_found : (b : Bool) (n : ℕ) → cond b (Some n) None ≡ None → b ≡ false
+nothing_found true n e = cc
+nothing_found false n e = refl
+
+-- where no place is found no row is
+no_row : {E : Type 0} (test : E → Bool) (rows : List E) → length rows ≤ position_or_len test rows → find test rows ≡ None
+no_row test [] past = refl
+no_row test (e ∷ es) past =
+    elim (test e) as (λ b. suc (length es) ≤ cond (not b) (1 + position_or_len test es) 0 → cond b (Some e) (find test es) ≡ None) [
+      | true ↦ λ h. absurd (omega (arith, h))
+      | false ↦ λ h. no_row test es (omega (arith, h))
+    ] past
+
+pub row_missed : {E : Type 0} (test : E → Bool) (rows : List E) → position test rows ≡ None → find test rows ≡ None
+row_missed test rows e = no_row test rows (ltb-false _ _ (nothing_found (nat_lt (position_or_len test rows) (length rows)) (position_or_len test rows) e))
+
+-- what holds of each row holds of the one that is found
+pub found_holds : {E : Type 0} (P : E → Type 0) (test : E → Bool) (rows : List E) (e : E) → All P rows → find test rows ≡ Some e → P e
+found_holds P test [] e all found = cc
+found_holds P test (x ∷ xs) e all found =
+    elim (test x) as (λ b. cond b (Some x) (find test xs) ≡ Some e → P e) [
+      | true ↦ λ h. subst P (same_Some x e h) (All-head P x xs all)
+      | false ↦ λ h. found_holds P test xs e (All-tail P x xs all) h
+    ] found
+
+-- what is known of a row that is found is known of a reference to it
+pub if_found : {E : Type 0} (P : E → Type 0) (o : Option (Bor E)) (found : Option E) → option_copied o ≡ found → ((e : E) → found ≡ Some e → P e) → IfSome o (λ b. P b.now)
+if_found P None found same known = tt
+if_found P (Some b) found same known = known b.now (sym same)
+
+pub if_missed : {E : Type 0} (Q : Type 0) (o : Option (Bor E)) (found : Option E) → option_copied o ≡ found → (found ≡ None → Q) → IfNone o Q
+if_missed Q None found same known = known (sym same)
+if_missed Q (Some b) found same known = tt
 
 less_of : (r : Ordering) → is_lt r ≡ true → r ≡ Less
 less_of Less e = refl
@@ -206,4 +242,4 @@ module _ {E X : Type 0} (name : E → Name) (value : E → X) where
 
   -- there are as many
   pub len-rows : (rows : List E) → T (fm.is_sorted name_cmp (map entry rows)) → fm.len (map_of rows) ≡ length rows
-  len-rows rows sorted = fm.len-entries (map_of rows) ∙ ap length (fm.entries-from_sorted name_cmp (map entry rows) sorted) ∙ length-map entry rows
+  len-rows rows sorted = fm.len-entries (map_of rows) ∙ ap length (fm.entries-from_sorted name_cmp (map entry rows) sorted) ∙ length-map rows entry

@@ -5,6 +5,7 @@ mod counts;
 mod group;
 mod held;
 mod pages;
+mod puts;
 mod rows;
 mod touched;
 mod world;
