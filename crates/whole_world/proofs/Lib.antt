@@ -1,7 +1,5 @@
-pub mod Alone
-pub mod BegunWorld
 pub mod Contexts
-pub mod Counting
-pub mod HeldTags
-pub mod Parting
+pub mod OldGroups
 pub mod Places
+pub mod RowLemmas
+pub mod RowWorlds

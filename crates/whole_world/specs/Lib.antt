@@ -1,3 +1,4 @@
 pub mod Copies
+pub mod Rows
 pub mod Seen
 pub mod Sound

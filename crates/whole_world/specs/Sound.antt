@@ -9,16 +9,16 @@ use Rattle.lwc_base.specs.Names.{name_cmp}
 use Rattle.whole_world.specs.declared.counts.Counts.{Counts}
 use Rattle.whole_world.specs.declared.group.HeldGroup.{HeldGroup}
 use Rattle.whole_world.specs.declared.held.Held.{Held}
-use Rattle.whole_world.specs.Seen.{context_entry, group_entry, world_of}
+use Rattle.whole_world.specs.Rows.{context_entry, group_entry, world_of}
 
 -- a context that is held has a place for each page and each slot
-pub record IsWhole (pages : ℕ) (held : Held) : Type 0 where
-  pub pages : vec_len held.pages ≡ pages
+pub record IsWhole (count : ℕ) (held : Held) : Type 0 where
+  pub pages : vec_len held.pages ≡ count
   pub slots : vec_len held.slots ≡ SLOTS
 
 -- a group that is held has a place for each page and each slot
-pub record IsWholeGroup (pages : ℕ) (held : HeldGroup) : Type 0 where
-  pub pages : vec_len held.pages ≡ pages
+pub record IsWholeGroup (count : ℕ) (held : HeldGroup) : Type 0 where
+  pub pages : vec_len held.pages ≡ count
   pub slots : vec_len held.slots ≡ SLOTS
 
 -- the rows stand in the order of their names, each is whole, each name is below what its job has counted, and the sizes are within the limits

@@ -1,13 +1,14 @@
-ghost use Rattle.std.specs.Prelude.{◌≡◌, ◌<◌, ◌≤◌, IfOk, IsTrue, count_by, is_none, is_some, length, not, replicate, slice_index_or, vec_len};
-ghost use Rattle.lwc_base.specs.declared.cell.Cell.TheVariants.{Own};
-ghost use Rattle.lwc_base.specs.World.{new_context};
-ghost use Rattle.std.specs.List.{range_with_len};
+ghost use Rattle.std.specs.Prelude.{◌≡◌, ℕ, ◌<◌, ◌≤◌, IfOk, Some, None, replicate, vec_len};
 ghost use Rattle.std.specs.Option.{option_copied};
-ghost use Rattle.lwc_base.specs.Summaries.{is_empty};
+ghost use Rattle.lwc_base.specs.declared.cell.Cell.TheVariants.{Own};
+ghost use Rattle.lwc_base.specs.declared.descriptor.Descriptor.TheVariants.{Empty};
+ghost use Rattle.lwc_base.specs.declared.descriptor.TheConstants.{SLOTS};
 ghost use Rattle.lwc_base.specs.Cells.{with_page, with_slot};
-ghost use Rattle.whole_world.specs.Copies.{context_of, held_page, with_zeros};
+ghost use Rattle.lwc_base.specs.World.{new_context};
+ghost use Rattle.whole_world.specs.Copies.{context_of, held_page, held_slot, with_uid, with_zeros, without_pages};
+ghost use Rattle.whole_world.specs.Sound.{IsWhole};
 
-use lwc_base::{Descriptor, Name, OutOfMemory, PageValue, Regs, Tag};
+use lwc_base::{Cell, Descriptor, Name, OutOfMemory, PageValue, Regs, SLOTS};
 use std::alloc::Global;
 
 /// All that one context has: under each key its cell.
@@ -21,8 +22,8 @@ pub struct Held {
 }
 
 impl Held {
-    /// A context as it is made, with no page of so many present.
-    #[tactic(auto, unfolding(crate::specs::Copies::context_of, crate::specs::Copies::held_page))]
+    /// A context as it is made, with no page of so many present. The one error is want of memory.
+    #[tactic(auto, unfolding(crate::specs::Copies::context_of, crate::specs::Copies::held_page, crate::specs::Copies::held_slot))]
     pub fn new(
         alloc: Global,
         name: Name,
@@ -31,22 +32,23 @@ impl Held {
         entry: &Regs,
     ) -> Result<Held, OutOfMemory>
         ensures name { IfOk result (λ held. held.name ≡ name) }
-        ensures pages { IfOk result (λ held. vec_len held.pages ≡ pages) }
+        ensures whole { IfOk result (IsWhole pages) }
         ensures context { IfOk result (λ held. context_of held ≡ new_context uid entry.now) }
     {
         Ok(Held {
             name,
             pages: absent_pages(alloc, pages)?,
-            slots: empty_slots(),
-            uid,
+            slots: empty_slots(alloc)?,
+            uid: Cell::Own(uid),
             entry: *entry,
         })
     }
 
-    /// The value of a page, if it is present.
-    #[tactic(auto, unfolding(crate::specs::Copies::held_page))]
-    pub fn page(&self, p: usize) -> Option<&PageValue>
-        ensures { option_copied result ≡ held_page self.now p }
+    /// The cell of a page, if it is present.
+    #[tactic(auto, unfolding(crate::specs::Copies::context_of, crate::specs::Copies::held_page))]
+    pub fn page_cell(&self, p: usize) -> Option<&Cell<PageValue>>
+        ensures cell { option_copied result ≡ held_page self.now p }
+        ensures of_context { option_copied result ≡ (context_of self.now).page p }
     {
         if p < self.pages.len() {
             self.pages[p].as_ref()
@@ -55,104 +57,88 @@ impl Held {
         }
     }
 
-    /// How many pages are present.
-    #[tactic(auto, using(crate::proofs::Places::count_of_range))]
-    pub fn count_of_present(&self) -> usize
-        ensures present { result ≡ count_by (λ p. is_some (held_page self.now p)) (range_with_len 0 (vec_len self.now.pages)) }
-        ensures few { result ≤ vec_len self.now.pages }
+    /// The cell of a slot.
+    #[tactic(auto, unfolding(crate::specs::Copies::context_of, crate::specs::Copies::held_slot))]
+    pub fn slot_cell(&self, n: u8) -> &Cell<Descriptor>
+        requires { n < vec_len self.now.slots }
+        ensures cell { result.now ≡ held_slot self.now n }
+        ensures of_context { result.now ≡ (context_of self.now).slot n }
     {
-        (0..self.pages.len())
-            .filter(|p| self.is_present(*p))
-            .count()
+        &self.slots[n as usize]
     }
 
-    /// Whether a page is present.
-    pub fn is_present(&self, p: usize) -> bool
-        ensures { result ≡ is_some (held_page self.now p) }
+    /// The cell of the credential.
+    #[tactic(auto, unfolding(crate::specs::Copies::context_of))]
+    pub fn uid_cell(&self) -> &Cell<u32>
+        ensures { result.now ≡ (context_of self.now).uid }
     {
-        self.page(p).is_some()
+        &self.uid
     }
 
-    /// How many slots are not empty.
-    pub fn count_of_filled(&self) -> usize
-        ensures filled { result ≡ count_by (λ d. not (is_empty d)) self.now.slots }
-        ensures whole { length self.now.slots ≡ 64 }
-        ensures few { result ≤ 64 }
-    {
-        self.slots.iter().filter(|d| !is_empty(d)).count()
-    }
-
-    /// Puts a value under a page.
+    /// Puts a cell under a page, or none, so that it is absent.
     #[tactic(auto, unfolding(crate::specs::Copies::context_of, crate::specs::Copies::held_page))]
-    pub fn set_page(&mut self, p: usize, value: PageValue)
+    pub fn set_page(&mut self, p: usize, cell: Option<Cell<PageValue>>)
         requires { p < vec_len self.old.pages }
         ensures name { self.new.name ≡ self.old.name }
-        ensures pages { vec_len self.new.pages ≡ vec_len self.old.pages }
-        ensures context { context_of self.new ≡ with_page p (Some (Own value)) (context_of self.old) }
+        ensures whole { (pages : ℕ) → IsWhole pages self.old → IsWhole pages self.new }
+        ensures many { vec_len self.new.pages ≡ vec_len self.old.pages }
+        ensures context { context_of self.new ≡ with_page p cell (context_of self.old) }
     {
-        self.pages[p] = Some(value);
+        self.pages[p] = cell;
     }
 
-    /// Puts another value under a page that is present; an absent one stays so.
-    pub fn replace_page(&mut self, p: usize, value: PageValue)
+    /// Puts a cell under a slot.
+    #[tactic(auto, unfolding(crate::specs::Copies::context_of, crate::specs::Copies::held_slot))]
+    pub fn set_slot(&mut self, n: u8, cell: Cell<Descriptor>)
+        requires { n < vec_len self.old.slots }
         ensures name { self.new.name ≡ self.old.name }
-        ensures pages { vec_len self.new.pages ≡ vec_len self.old.pages }
-        ensures present { IsTrue (is_some (held_page self.old p)) → context_of self.new ≡ with_page p (Some (Own value)) (context_of self.old) }
-        ensures absent { IsTrue (is_none (held_page self.old p)) → context_of self.new ≡ context_of self.old }
+        ensures whole { (pages : ℕ) → IsWhole pages self.old → IsWhole pages self.new }
+        ensures context { context_of self.new ≡ with_slot n cell (context_of self.old) }
     {
-        if p < self.pages.len() && self.is_present(p) {
-            self.set_page(p, value);
-        }
+        self.slots[n as usize] = cell;
     }
 
-    /// Makes each page from one up to and without another a page of zeros.
+    /// Puts a cell under the credential.
+    #[tactic(auto, unfolding(crate::specs::Copies::context_of, crate::specs::Copies::held_page, crate::specs::Copies::held_slot))]
+    pub fn set_uid(&mut self, cell: Cell<u32>)
+        ensures name { self.new.name ≡ self.old.name }
+        ensures whole { (pages : ℕ) → IsWhole pages self.old → IsWhole pages self.new }
+        ensures context { context_of self.new ≡ with_uid cell (context_of self.old) }
+    {
+        self.uid = cell;
+    }
+
+    /// Makes each page from one up to and without another a page of zeros of the context's own.
     pub fn map(&mut self, from: u16, to: u16)
         requires order { from ≤ to }
         requires pages { to ≤ vec_len self.old.pages }
         ensures name { self.new.name ≡ self.old.name }
-        ensures pages { vec_len self.new.pages ≡ vec_len self.old.pages }
+        ensures whole { (pages : ℕ) → IsWhole pages self.old → IsWhole pages self.new }
         ensures context { context_of self.new ≡ with_zeros from to (context_of self.old) }
     {
         for p in from..to {
-            self.set_page(p as usize, PageValue::Zero);
+            self.set_page(p as usize, Some(Cell::Own(PageValue::Zero)));
         }
     }
 
-    /// What a slot has.
-    #[tactic(auto, unfolding(crate::specs::Copies::context_of))]
-    pub fn slot(&self, n: u8) -> Descriptor
-        requires { n < 64 }
-        ensures { Own result ≡ (context_of self.now).slot n }
-    {
-        self.slots[n as usize]
-    }
-
-    /// Puts a descriptor into a slot.
-    #[tactic(auto, unfolding(crate::specs::Copies::context_of))]
-    pub fn set_slot(&mut self, n: u8, d: Descriptor)
-        requires { n < 64 }
+    /// Makes each page from one up to and without another absent.
+    pub fn unmap(&mut self, from: u16, to: u16)
+        requires order { from ≤ to }
+        requires pages { to ≤ vec_len self.old.pages }
         ensures name { self.new.name ≡ self.old.name }
-        ensures pages { vec_len self.new.pages ≡ vec_len self.old.pages }
-        ensures context { context_of self.new ≡ with_slot n (Own d) (context_of self.old) }
-        ensures own { (context_of self.old).slot n ≡ Own (slice_index_or self.old.slots n Descriptor.Empty) }
+        ensures whole { (pages : ℕ) → IsWhole pages self.old → IsWhole pages self.new }
+        ensures context { context_of self.new ≡ without_pages from to (context_of self.old) }
     {
-        self.slots[n as usize] = d;
+        for p in from..to {
+            self.set_page(p as usize, None);
+        }
     }
 }
 
-fn is_empty(d: &Descriptor) -> bool
-    ensures { result ≡ is_empty d.now }
-{
-    matches!(d, Descriptor::Empty)
-}
-
-fn empty_slots() -> [Descriptor; 64]
-    ensures { result ≡ replicate 64 Descriptor.Empty }
-{
-    [Descriptor::Empty; 64]
-}
-
-fn absent_pages(alloc: Global, count: usize) -> Result<Vec<Option<PageValue>>, OutOfMemory>
+fn absent_pages(
+    alloc: Global,
+    count: usize,
+) -> Result<Vec<Option<Cell<PageValue>>>, OutOfMemory>
     ensures absent { IfOk result (λ pages. pages.items ≡ replicate count None) }
     ensures many { IfOk result (λ pages. vec_len pages ≡ count) }
 {
@@ -161,4 +147,15 @@ fn absent_pages(alloc: Global, count: usize) -> Result<Vec<Option<PageValue>>, O
         pages.push(None)?;
     }
     Ok(pages)
+}
+
+fn empty_slots(alloc: Global) -> Result<Vec<Cell<Descriptor>>, OutOfMemory>
+    ensures empty { IfOk result (λ slots. slots.items ≡ replicate SLOTS (Own Empty)) }
+    ensures many { IfOk result (λ slots. vec_len slots ≡ SLOTS) }
+{
+    let mut slots = Vec::with_capacity(alloc, SLOTS as usize)?;
+    for _ in 0..SLOTS {
+        slots.push(Cell::Own(Descriptor::Empty))?;
+    }
+    Ok(slots)
 }

@@ -2,13 +2,11 @@
 #![tactic(auto)]
 
 mod counts;
+mod group;
 mod held;
-mod loads;
 mod pages;
-mod store;
-mod tags;
-#[cfg(test)]
-mod tests;
+mod puts;
+mod rows;
 mod touched;
 mod world;
 

@@ -1,10 +1,13 @@
-use Rattle.std.proofs.Common.{◌≡◌, vec_len}
+use Rattle.std.proofs.Common.{◌≡◌, ℕ, ◌≤◌, vec_len}
 use Rattle.whole_world.specs.Copies.{context_of, with_zeros}
+use Rattle.whole_world.specs.Sound.{IsWhole}
 use Rattle.whole_world.proofs.held.Held.map.Given as goal
 
 abbrev pub invariant-loop-p : goal.invariant-loop-p
 invariant-loop-p l = record {
   name : l.self.name ≡ l.initial.self.name;
-  pages : vec_len l.self.pages ≡ vec_len l.initial.self.pages;
+  whole : (pages : ℕ) → IsWhole pages l.initial.self → IsWhole pages l.self;
+  many : vec_len l.self.pages ≡ vec_len l.initial.self.pages;
+  begun : l.from ≤ l.p;
   context : context_of l.self ≡ with_zeros l.from l.p (context_of l.initial.self);
 }

@@ -1,0 +1,151 @@
+-- The world that rows stand for: what it has under a name, and what becomes of it where a row is changed.
+use Rattle.std.proofs.Common.{◌≡◌, ℕ, zero, suc, ◌+◌, ◌<◌, ◌≤◌, List, [], ◌∷◌, arith, length, refl, sym, ap, subst, ◌∙◌, Bool, true, false, cond, Option, Some, None, get_or}
+use Rattle.std.specs.Prelude.{T, is_some, unwrap_or, IsTrue}
+use Rattle.std.specs.List.{find, position}
+use Rattle.std.specs.Option.{option_map}
+use Rattle.std.specs.FinMap as fm
+use Rattle.std.proofs.Math.ListN.{set}
+use Rattle.lwc_base.specs.Registers.{fresh_registers}
+use Rattle.lwc_base.specs.declared.name.Name.{Name}
+use Rattle.lwc_base.specs.declared.size.WorldSize.{WorldSize}
+use Rattle.lwc_base.specs.Fresh.{IsFresh}
+use Rattle.lwc_base.specs.World.{World, Context, Group, changed_context, change_context, changed_group, change_group, context, group, is_live, new_context, new_group}
+use Rattle.lwc_base.proofs.Fresh.{fresh-change_group}
+use Rattle.std.proofs.lemmas.List.Elements.{All-get_or, All-set}
+use Rattle.whole_world.specs.declared.counts.Counts.{Counts}
+use Rattle.whole_world.specs.declared.group.HeldGroup.{HeldGroup}
+use Rattle.whole_world.specs.declared.held.Held.{Held}
+use Rattle.whole_world.specs.Copies.{context_of, group_of}
+use Rattle.whole_world.specs.Rows.{contexts_of, groups_of, has_name, has_group_name, counters_of, nothing_counted, world_of}
+use Rattle.whole_world.specs.Sound.{IsSound, IsWhole, IsWholeGroup}
+use Rattle.whole_world.proofs.RowLemmas.{IsPlace, place_found, row_missed, found_holds, get-rows, row-at-place, map_of-set, sorted-set}
+
+get_or_default : {A : Type 0} (xs : List A) (i : ℕ) (d e : A) → i < length xs → get_or xs i d ≡ get_or xs i e
+get_or_default [] i d e h = absurd (omega arith)
+get_or_default (x ∷ xs) zero d e h = refl
+get_or_default (x ∷ xs) (suc i) d e h = get_or_default xs i d e (omega arith)
+
+module _ (size : WorldSize) (contexts : List Held) (groups : List HeldGroup) (counts : List Counts) (sound : IsSound size contexts groups counts) where
+  -- what the world has under a name is the row of that name
+  pub get-context : (c : Name) → fm.get (world_of size contexts groups counts).contexts c ≡ option_map context_of (find (has_name c) contexts)
+  unfolding world_of contexts_of
+  get-context c = get-rows (λ h. h.name) context_of c contexts sound.contexts_sorted
+
+  pub get-group : (g : Name) → fm.get (world_of size contexts groups counts).groups g ≡ option_map group_of (find (has_group_name g) groups)
+  unfolding world_of groups_of
+  get-group g = get-rows (λ h. h.name) group_of g groups sound.groups_sorted
+
+  -- a context whose row is found
+  pub context-found : (c : Name) (held : Held) → find (has_name c) contexts ≡ Some held → context (world_of size contexts groups counts) c ≡ context_of held
+  unfolding context
+  context-found c held found = ap (λ o. unwrap_or o (new_context 0 (fresh_registers 0))) (get-context c ∙ ap (option_map context_of) found)
+
+  -- a name of no row does not live
+  pub dead-missed : (c : Name) → find (has_name c) contexts ≡ None → is_live (world_of size contexts groups counts) c ≡ false
+  dead-missed c missed = ap is_some (get-context c ∙ ap (option_map context_of) missed)
+
+  -- a group whose row is found
+  pub group-found : (g : Name) (held : HeldGroup) → find (has_group_name g) groups ≡ Some held → group (world_of size contexts groups counts) g ≡ group_of held
+  unfolding group
+  group-found g held found = ap (λ o. unwrap_or o new_group) (get-group g ∙ ap (option_map group_of) found)
+
+  -- a group of which there is no row
+  pub group-missed : (g : Name) → find (has_group_name g) groups ≡ None → group (world_of size contexts groups counts) g ≡ new_group
+  unfolding group
+  group-missed g missed = ap (λ o. unwrap_or o new_group) (get-group g ∙ ap (option_map group_of) missed)
+
+  -- what a job has counted
+  pub next-counted : (job : ℕ) (n : Counts) → job < length counts → n ≡ get_or counts job n → (world_of size contexts groups counts).next job ≡ counters_of n
+  unfolding world_of
+  next-counted job n there is = ap counters_of (get_or_default counts job nothing_counted n there ∙ sym is)
+
+  -- a row that is found is whole
+  pub whole-found : (c : Name) (held : Held) → find (has_name c) contexts ≡ Some held → IsWhole size.pages held
+  whole-found c held found = found_holds (IsWhole size.pages) (has_name c) contexts held sound.contexts_whole found
+
+  pub whole_group-found : (g : Name) (held : HeldGroup) → find (has_group_name g) groups ≡ Some held → IsWholeGroup size.pages held
+  whole_group-found g held found = found_holds (IsWholeGroup size.pages) (has_group_name g) groups held sound.groups_whole found
+
+  -- so is the row at a place that is found
+  pub whole-row : (c : Name) (i : ℕ) (old : Held) → position (has_name c) contexts ≡ Some i → old ≡ get_or contexts i old → IsWhole size.pages old
+  whole-row c i old found is =
+      let place : IsPlace (has_name c) contexts i = place_found (has_name c) contexts i found in
+      subst (IsWhole size.pages) (sym is) (All-get_or (IsWhole size.pages) contexts i old place.within sound.contexts_whole)
+
+  pub whole_group-row : (g : Name) (i : ℕ) (old : HeldGroup) → position (has_group_name g) groups ≡ Some i → old ≡ get_or groups i old → IsWholeGroup size.pages old
+  whole_group-row g i old found is =
+      let place : IsPlace (has_group_name g) groups i = place_found (has_group_name g) groups i found in
+      subst (IsWholeGroup size.pages) (sym is) (All-get_or (IsWholeGroup size.pages) groups i old place.within sound.groups_whole)
+
+  -- a change of a name that no row has changes nothing
+  pub change_context-missed : (c : Name) (change : Context → Context) → position (has_name c) contexts ≡ None →
+      world_of size contexts groups counts ≡ change_context (world_of size contexts groups counts) c change
+  unfolding change_context
+  change_context-missed c change missed =
+      sym (ap (changed_context (world_of size contexts groups counts) c change)
+      (get-context c ∙ ap (option_map context_of) (row_missed (has_name c) contexts missed)))
+
+  pub change_group-missed : (g : Name) (change : Group → Group) → position (has_group_name g) groups ≡ None →
+      world_of size contexts groups counts ≡ change_group (world_of size contexts groups counts) g change
+  unfolding change_group
+  change_group-missed g change missed =
+      sym (ap (changed_group (world_of size contexts groups counts) g change)
+      (get-group g ∙ ap (option_map group_of) (row_missed (has_group_name g) groups missed)))
+
+  -- a change of a context whose row is found puts another row in its place
+  pub change_context-row : (c : Name) (i : ℕ) (old new : Held) (change : Context → Context) → position (has_name c) contexts ≡ Some i →
+      old ≡ get_or contexts i old → new.name ≡ old.name → context_of new ≡ change (context_of old) →
+      world_of size (set contexts i new) groups counts ≡ change_context (world_of size contexts groups counts) c change
+  unfolding change_context world_of contexts_of
+  change_context-row c i old new change found is same changed =
+      let place : IsPlace (has_name c) contexts i = place_found (has_name c) contexts i found in
+      let there : fm.get (contexts_of contexts) c ≡ Some (context_of old) =
+      get-context c ∙ ap (option_map context_of) (row-at-place (λ h. h.name) context_of c contexts i old place.first place.within ∙ ap Some (sym is)) in
+      sym (ap (changed_context (world_of size contexts groups counts) c change) there
+      ∙ ap (λ m. record (world_of size contexts groups counts) { contexts = m })
+      (ap (fm.insert (contexts_of contexts) c) (sym changed)
+      ∙ sym (map_of-set (λ h. h.name) context_of c new old contexts i sound.contexts_sorted place.first place.within (same ∙ ap (λ h. h.name) is))))
+
+  -- a change of a group whose row is found puts another row in its place
+  pub change_group-row : (g : Name) (i : ℕ) (old new : HeldGroup) (change : Group → Group) → position (has_group_name g) groups ≡ Some i →
+      old ≡ get_or groups i old → new.name ≡ old.name → group_of new ≡ change (group_of old) →
+      world_of size contexts (set groups i new) counts ≡ change_group (world_of size contexts groups counts) g change
+  unfolding change_group world_of groups_of
+  change_group-row g i old new change found is same changed =
+      let place : IsPlace (has_group_name g) groups i = place_found (has_group_name g) groups i found in
+      let there : fm.get (groups_of groups) g ≡ Some (group_of old) =
+      get-group g ∙ ap (option_map group_of) (row-at-place (λ h. h.name) group_of g groups i old place.first place.within ∙ ap Some (sym is)) in
+      sym (ap (changed_group (world_of size contexts groups counts) g change) there
+      ∙ ap (λ m. record (world_of size contexts groups counts) { groups = m })
+      (ap (fm.insert (groups_of groups) g) (sym changed)
+      ∙ sym (map_of-set (λ h. h.name) group_of g new old groups i sound.groups_sorted place.first place.within (same ∙ ap (λ h. h.name) is))))
+
+  -- the world stays sound where a row gets another one of the same name in its place, and the change names no new group
+  pub sound-row : (c : Name) (i : ℕ) (old new : Held) (change : Context → Context) → position (has_name c) contexts ≡ Some i →
+      old ≡ get_or contexts i old → new.name ≡ old.name → ((pages : ℕ) → IsWhole pages old → IsWhole pages new) → context_of new ≡ change (context_of old) →
+      IsFresh (change_context (world_of size contexts groups counts) c change) → IsSound size (set contexts i new) groups counts
+  sound-row c i old new change found is same whole changed fresh = record {
+    some_job = sound.some_job;
+    few_pages = sound.few_pages;
+    counted = sound.counted;
+    contexts_sorted = subst T (sym (sorted-set (λ h. h.name) context_of contexts i new old (same ∙ ap (λ h. h.name) is))) sound.contexts_sorted;
+    groups_sorted = sound.groups_sorted;
+    contexts_whole = All-set (IsWhole size.pages) contexts i new (whole size.pages (whole-row c i old found is)) sound.contexts_whole;
+    groups_whole = sound.groups_whole;
+    fresh = subst IsFresh (sym (change_context-row c i old new change found is same changed)) fresh;
+  }
+
+  pub sound-group_row : (g : Name) (i : ℕ) (old new : HeldGroup) (change : Group → Group) → position (has_group_name g) groups ≡ Some i →
+      old ≡ get_or groups i old → new.name ≡ old.name → ((pages : ℕ) → IsWholeGroup pages old → IsWholeGroup pages new) → group_of new ≡ change (group_of old) →
+      IsSound size contexts (set groups i new) counts
+  sound-group_row g i old new change found is same whole changed = record {
+    some_job = sound.some_job;
+    few_pages = sound.few_pages;
+    counted = sound.counted;
+    contexts_sorted = sound.contexts_sorted;
+    groups_sorted = subst T (sym (sorted-set (λ h. h.name) group_of groups i new old (same ∙ ap (λ h. h.name) is))) sound.groups_sorted;
+    contexts_whole = sound.contexts_whole;
+    groups_whole = All-set (IsWholeGroup size.pages) groups i new (whole size.pages (whole_group-row g i old found is)) sound.groups_whole;
+    fresh = subst IsFresh (sym (change_group-row g i old new change found is same changed))
+        (fresh-change_group (world_of size contexts groups counts) g change sound.fresh);
+  }

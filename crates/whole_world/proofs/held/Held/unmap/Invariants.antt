@@ -1,0 +1,13 @@
+use Rattle.std.proofs.Common.{◌≡◌, ℕ, ◌≤◌, vec_len}
+use Rattle.whole_world.specs.Copies.{context_of, without_pages}
+use Rattle.whole_world.specs.Sound.{IsWhole}
+use Rattle.whole_world.proofs.held.Held.unmap.Given as goal
+
+abbrev pub invariant-loop-p : goal.invariant-loop-p
+invariant-loop-p l = record {
+  name : l.self.name ≡ l.initial.self.name;
+  whole : (pages : ℕ) → IsWhole pages l.initial.self → IsWhole pages l.self;
+  many : vec_len l.self.pages ≡ vec_len l.initial.self.pages;
+  begun : l.from ≤ l.p;
+  context : context_of l.self ≡ without_pages l.from l.p (context_of l.initial.self);
+}
