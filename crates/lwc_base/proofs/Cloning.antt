@@ -191,17 +191,20 @@ common_in_clone : (v : World) (c : Name) (p : ℕ) (g : Name) (old : Option Page
 common_in_clone v c p g None is = cc
 common_in_clone v c p g (Some value) is = cc
 
-common_page : (v : World) (c : Name) (p : ℕ) (g : Name) (mode : Mode) → cloned_page v c p mode ≡ Some (Common g) → (context v c).page p ≡ Some (Common g)
+-- a cell of a clone that names a group is one of the context that it is made from
+pub common_page : (v : World) (c : Name) (p : ℕ) (g : Name) (mode : Mode) → cloned_page v c p mode ≡ Some (Common g) → (context v c).page p ≡ Some (Common g)
 common_page v c p g Copy is = common_in_clone v c p g _ is
 common_page v c p g Share is = is
 common_page v c p g Unmap is = cc
 
-common_slot : (v : World) (c : Name) (n : ℕ) (g : Name) (mode : Mode) → cloned_slot v c n mode ≡ Common g → (context v c).slot n ≡ Common g
+-- a cell of a clone that names a group is one of the context that it is made from
+pub common_slot : (v : World) (c : Name) (n : ℕ) (g : Name) (mode : Mode) → cloned_slot v c n mode ≡ Common g → (context v c).slot n ≡ Common g
 common_slot v c n g Copy is = cc
 common_slot v c n g Share is = is
 common_slot v c n g Unmap is = cc
 
-common_uid : (v : World) (c : Name) (g : Name) (mode : Mode) → cloned_uid v c mode ≡ Common g → (context v c).uid ≡ Common g
+-- a cell of a clone that names a group is one of the context that it is made from
+pub common_uid : (v : World) (c : Name) (g : Name) (mode : Mode) → cloned_uid v c mode ≡ Common g → (context v c).uid ≡ Common g
 common_uid v c g Copy is = cc
 common_uid v c g Share is = is
 common_uid v c g Unmap is = cc

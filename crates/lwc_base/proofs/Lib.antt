@@ -2,6 +2,7 @@ pub mod Begun
 pub mod Cloning
 pub mod Counted
 pub mod Fresh
+pub mod Grouped
 pub mod ItemModes
 pub mod Kernel
 pub mod OneContext
