@@ -2,7 +2,7 @@
 use Rattle.std.proofs.Common.{◌≡◌, ℕ, ◌+◌, ◌<◌, ◌≤◌, refl, sym, ap, subst, ◌∙◌, Bool, true, false, cond, eqb, leb, ltb, ◌&&◌, Option, Some, None, List, [], ◌∷◌, length, arith}
 use Rattle.std.proofs.lemmas.Bool.{false≢true}
 use Rattle.std.proofs.lemmas.Bool.Decides.{nat_tests}
-use Rattle.std.specs.Prelude.{is_some}
+use Rattle.std.specs.Prelude.{is_some, unwrap_or}
 use Rattle.std.specs.Ordering.{eq_by_cmp}
 use Rattle.std.specs.FinMap as fm
 use Rattle.lwc_base.specs.declared.cell.Cell.{Cell}
@@ -16,8 +16,9 @@ use Rattle.lwc_base.specs.Cells.{put_page_in, put_page, put_slot_in, put_slot, p
 use Rattle.lwc_base.specs.Fresh.{IsNamedGroup, NamesOldGroups, IsFresh}
 use Rattle.lwc_base.specs.Mapping.{map_pages, unmap_pages}
 use Rattle.lwc_base.specs.Memory.{touched}
+use Rattle.lwc_base.specs.Registers.{fresh_registers}
 use Rattle.lwc_base.specs.Store.{Piece, after_store, parting_count, plan, put_pages}
-use Rattle.lwc_base.specs.World.{World, Context, Group, Counters, is_live, changed_context, change_context, changed_group, change_group, count_on, empty_world, new_context, add_context, next_context, add_group, next_group}
+use Rattle.lwc_base.specs.World.{World, Context, Group, Counters, is_live, context, changed_context, change_context, changed_group, change_group, count_on, empty_world, new_context, add_context, next_context, add_group, next_group}
 use Rattle.lwc_base.proofs.Live.{same_name}
 use Rattle.lwc_base.proofs.Orders.{name_cmp-total}
 
@@ -99,7 +100,7 @@ pub fresh-change_group : (w : World) (g : Name) (change : Group → Group) → I
 unfolding change_group
 fresh-change_group w g change fresh = fresh-changed_group w g change _ refl fresh
 
-rises_where : (b : Bool) (before after : Counters) → Rises before after → Rises before (cond b after before)
+pub rises_where : (b : Bool) (before after : Counters) → Rises before after → Rises before (cond b after before)
 rises_where true before after rises = rises
 rises_where false before after rises = record { contexts = omega arith; groups = omega arith }
 
@@ -117,15 +118,18 @@ fresh-empty_world frames pages = record {
   cells = λ c x found. absurd (false≢true (ap is_some (sym (fm.get-empty name_cmp c) ∙ found)));
 }
 
-was_common : (b : Bool) (value : PageValue) (old : Option (Cell PageValue)) (g : Name) → cond b (Some (Own value)) old ≡ Some (Common g) → old ≡ Some (Common g)
+-- a cell that is common after a page has got its own was so before
+pub was_common : (b : Bool) (value : PageValue) (old : Option (Cell PageValue)) (g : Name) → cond b (Some (Own value)) old ≡ Some (Common g) → old ≡ Some (Common g)
 was_common true value old g is = cc
 was_common false value old g is = is
 
-was_present : (b : Bool) (old : Option (Cell PageValue)) (g : Name) → cond b None old ≡ Some (Common g) → old ≡ Some (Common g)
+-- nor does a page that becomes absent name a group
+pub was_present : (b : Bool) (old : Option (Cell PageValue)) (g : Name) → cond b None old ≡ Some (Common g) → old ≡ Some (Common g)
 was_present true old g is = cc
 was_present false old g is = is
 
-was_common_slot : (b : Bool) (value : Descriptor) (old : Cell Descriptor) (g : Name) → cond b (Own value) old ≡ Common g → old ≡ Common g
+-- the same of a slot
+pub was_common_slot : (b : Bool) (value : Descriptor) (old : Cell Descriptor) (g : Name) → cond b (Own value) old ≡ Common g → old ≡ Common g
 was_common_slot true value old g is = cc
 was_common_slot false value old g is = is
 
@@ -188,36 +192,32 @@ fresh-after_store w c job piece fresh =
     let planned : List (ℕ × PageValue) = plan w c job piece (w.next job).tags (touched piece.at (length piece.bytes)) in
     fresh-count_tags (put_pages w c planned) job (λ n. n.tags + parting_count w c piece) (fresh-put_pages w c planned fresh)
 
-eqb-self : (job : ℕ) → eqb job job ≡ true
+pub eqb-self : (job : ℕ) → eqb job job ≡ true
 eqb-self job = grind (arith, nat_tests)
 
-one_more_context : Counters → Counters
+abbrev one_more_context : Counters → Counters
 one_more_context n = record n { contexts = n.contexts + 1 }
 
-one_more_group : Counters → Counters
+abbrev pub one_more_group : Counters → Counters
 one_more_group n = record n { groups = n.groups + 1 }
 
 rises-one_more_context : (n : Counters) → Rises n (one_more_context n)
-unfolding one_more_context
 rises-one_more_context n = record { contexts = omega arith; groups = omega arith }
 
-rises-one_more_group : (n : Counters) → Rises n (one_more_group n)
-unfolding one_more_group
+pub rises-one_more_group : (n : Counters) → Rises n (one_more_group n)
 rises-one_more_group n = record { contexts = omega arith; groups = omega arith }
 
 counts_context : (b : Bool) (n : Counters) → b ≡ true → n.contexts < (cond b (one_more_context n) n).contexts
-unfolding one_more_context
 counts_context true n is = omega arith
 counts_context false n is = absurd (false≢true is)
 
-counts_group : (b : Bool) (n : Counters) → b ≡ true → n.groups < (cond b (one_more_group n) n).groups
-unfolding one_more_group
+pub counts_group : (b : Bool) (n : Counters) → b ≡ true → n.groups < (cond b (one_more_group n) n).groups
 counts_group true n is = omega arith
 counts_group false n is = absurd (false≢true is)
 
 -- a context that is added, and that names no new group
 pub fresh-add_context : (w : World) (job : ℕ) (x : Context) → NamesOldGroups w.next x → IsFresh w → IsFresh (add_context w job x)
-unfolding add_context count_on one_more_context
+unfolding add_context count_on
 fresh-add_context w job x named fresh =
     let later : ℕ → Counters = λ j. cond (eqb j job) (one_more_context (w.next j)) (w.next j) in
     let rises : (j : ℕ) → Rises (w.next j) (later j) = λ j. rises_where (eqb j job) (w.next j) _ (rises-one_more_context (w.next j)) in
@@ -226,7 +226,7 @@ fresh-add_context w job x named fresh =
 
 -- a group that is added
 pub fresh-add_group : (w : World) (job : ℕ) (g : Group) → IsFresh w → IsFresh (add_group w job g)
-unfolding add_group count_on one_more_group
+unfolding add_group count_on
 fresh-add_group w job g fresh =
     let later : ℕ → Counters = λ j. cond (eqb j job) (one_more_group (w.next j)) (w.next j) in
     let rises : (j : ℕ) → Rises (w.next j) (later j) = λ j. rises_where (eqb j job) (w.next j) _ (rises-one_more_group (w.next j)) in
@@ -251,3 +251,23 @@ next_context-new w job fresh = new_where _ (w.next job).contexts (fresh.contexts
 -- no group has the next name of a job
 pub next_group-new : (w : World) (job : ℕ) → IsFresh w → fm.contains_key w.groups (next_group w job) ≡ false
 next_group-new w job fresh = new_where _ (w.next job).groups (fresh.groups (next_group w job))
+
+names_old_where : (next : ℕ → Counters) (found : Option Context) → ((x : Context) → found ≡ Some x → NamesOldGroups next x) →
+    NamesOldGroups next (unwrap_or found (new_context 0 (fresh_registers 0)))
+names_old_where next None old = names_old-new_context next 0 (fresh_registers 0)
+names_old_where next (Some x) old = old x refl
+
+-- each group that the cells of a name's context name has been named
+pub names_old-context : (w : World) (c : Name) → IsFresh w → NamesOldGroups w.next (context w c)
+unfolding context
+names_old-context w c fresh = names_old_where w.next (fm.get w.contexts c) (fresh.cells c)
+
+other_where : (w : World) (job : ℕ) (g : Name) (b : Bool) → eq_by_cmp name_cmp g (next_group w job) ≡ b → IsNamedGroup w.next g → b ≡ false
+other_where w job g true same named =
+    let less : (w.next job).groups < (w.next job).groups = subst (λ (n : Name). IsNamedGroup w.next n) (same_name g (next_group w job) same) named in
+    absurd (omega arith)
+other_where w job g false other named = refl
+
+-- a group that has been named is not the next one
+pub group-named-other : (w : World) (job : ℕ) (g : Name) → IsNamedGroup w.next g → eq_by_cmp name_cmp g (next_group w job) ≡ false
+group-named-other w job g named = other_where w job g _ refl named

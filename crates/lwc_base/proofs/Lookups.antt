@@ -1,6 +1,7 @@
 -- The context and the group of a name after each change of a world.
 use Rattle.std.proofs.Common.{◌≡◌, ◌≢◌, ℕ, refl, sym, ap, ◌∙◌, Bool, true, false, cond, ◌&&◌, Option, Some, None}
 use Rattle.std.specs.Prelude.{is_some, unwrap_or}
+use Rattle.std.proofs.lemmas.Bool.{false≢true}
 use Rattle.std.specs.Ordering.{eq_by_cmp, is_eq}
 use Rattle.std.specs.FinMap as fm
 use Rattle.std.proofs.lemmas.Cmp.{tied_itself}
@@ -22,6 +23,11 @@ other_where q c false same other = refl
 -- names that differ do not tie
 pub other_name : (q c : Name) → q ≢ c → eq_by_cmp name_cmp q c ≡ false
 other_name q c other = other_where q c _ refl other
+
+-- two tests of which the second fails
+pub not_both : (a b : Bool) → b ≡ false → (a && b) ≡ false
+not_both true b is = is
+not_both false b is = refl
 
 unwrap_chosen : {A : Type 0} (b : Bool) (y : A) (o : Option A) (d : A) → unwrap_or (cond b (Some y) o) d ≡ cond b y (unwrap_or o d)
 unwrap_chosen true y o d = refl
@@ -136,3 +142,14 @@ group-add_group w job x q = group-count_on (record w { groups = fm.insert w.grou
 pub context-add_group : (w : World) (job : ℕ) (x : Group) (q : Name) → context (add_group w job x) q ≡ context w q
 unfolding add_group count_on context
 context-add_group w job x q = refl
+
+live_after : (b : Bool) (old : Option Context) (y : Context) → b ≡ false → is_some (cond b (Some y) old) ≡ is_some old
+live_after true old y other = absurd (false≢true (sym other))
+live_after false old y other = refl
+
+-- a name that was live is live once another is added
+pub live-other : (w : World) (job : ℕ) (x : Context) (q : Name) → q ≢ next_context w job → is_live (add_context w job x) q ≡ is_live w q
+unfolding add_context count_on
+live-other w job x q other =
+    ap is_some (fm.get-insert name_cmp-total w.contexts (next_context w job) x q)
+    ∙ live_after _ (fm.get w.contexts q) x (other_name q (next_context w job) other)

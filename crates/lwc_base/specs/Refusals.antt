@@ -1,8 +1,7 @@
 -- Tables of refusals.
 use Rattle.std.specs.Prelude.{if◌then◌else◌, Bool, List, [], ◌∷◌, Option, None, Some}
-use Rattle.lwc_base.specs.declared.refusal.Refusal.{Refusal}
 
 -- the refusal of the first row whose test holds; a row is a test and the refusal that it means
-abbrev pub first_refusal : List (Bool × Refusal) → Option Refusal
+abbrev pub first_refusal : {R : Type 0} → List (Bool × R) → Option R
 first_refusal [] = None
 first_refusal (row ∷ rows) = if row.0 then Some row.1 else first_refusal rows

@@ -1,1 +1,4 @@
+pub use Rattle.byteorder.specs.Endian
 pub use Rattle.lwc_base.specs.Modes
+pub use Rattle.lwc_base.specs.Refusals
+pub mod Items

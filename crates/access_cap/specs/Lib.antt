@@ -1,0 +1,2 @@
+pub use Rattle.lwc_base.specs.Capabilities
+pub use Rattle.lwc_base.specs.Modes

@@ -1,0 +1,82 @@
+-- The call that makes a new context: its refusals in their order, and what it does where none of them holds.
+use Rattle.std.specs.Prelude.{ℕ, ◌+◌, ◌*◌, ◌-◌, ◌%◌, ◌^◌, ◌&&◌, ◌||◌, Bool, not, List, [], ◌∷◌, Option, None, Some, is_none, nat_le, nat_lt, slice_index, slice_set, unwrap_or}
+use Rattle.lwc_base.specs.declared.answer.Answer.{Answer}
+use Rattle.lwc_base.specs.declared.answer.Answer.TheVariants.{Done, Refused}
+use Rattle.lwc_base.specs.declared.descriptor.Descriptor.TheVariants.{Ctx}
+use Rattle.lwc_base.specs.declared.item.Item.{Item}
+use Rattle.lwc_base.specs.declared.name.Name.{Name}
+use Rattle.lwc_base.specs.declared.range.TheConstants.{MOST_RANGES}
+use Rattle.lwc_base.specs.declared.refusal.Refusal.{Refusal}
+use Rattle.lwc_base.specs.declared.refusal.Refusal.TheVariants.{TooManyItems, BadAddress, BadMode, BadRange, Overlap, TooManyContexts, NoSlot, TooManyGroups, TooManyRanges}
+use Rattle.lwc_base.specs.declared.regs.Regs.{Regs}
+use Rattle.lwc_base.specs.declared.size.TheConstants.{MOST_CONTEXTS_OF_JOB, MOST_GROUPS_OF_JOB}
+use Rattle.lwc_base.specs.declared.spec.TheConstants.{MOST_ITEMS}
+use Rattle.lwc_base.specs.Capabilities.{full_cap}
+use Rattle.lwc_base.specs.Cells.{put_slot}
+use Rattle.lwc_base.specs.Memory.{bytes_for}
+use Rattle.lwc_base.specs.Refusals.{first_refusal}
+use Rattle.lwc_base.specs.Sharing.{clone_context, needs_group, ranges_after_clone}
+use Rattle.lwc_base.specs.Slots.{lowest_empty}
+use Rattle.lwc_base.specs.World.{World, groups_of, live_of, next_context}
+use Rattle.res_spec.specs.Items.{all_taken, all_within, has_overlap, items_in}
+use Rattle.res_spec.specs.declared.items.SpecCall.TheVariants.{Create}
+use Rattle.res_spec.specs.declared.items.TheConstants.{ITEM_BYTES}
+
+-- how many items the caller asks for: register 2
+abbrev pub count_of : Regs → ℕ
+count_of regs = slice_index regs.r 2
+
+-- the bytes of the items, from the address in register 1 on; none where one of them is past the last page or in an absent page
+unfoldable pub item_bytes : World → Name → Regs → Option (List ℕ)
+item_bytes w c regs = bytes_for w c (slice_index regs.r 1) (count_of regs * ITEM_BYTES)
+
+-- those bytes, where they can be read
+abbrev pub asked : World → Name → Regs → List ℕ
+asked w c regs = unwrap_or (item_bytes w c regs) []
+
+-- the items that the caller asks for
+unfoldable pub items_of : World → Name → Regs → List Item
+items_of w c regs = items_in Create (asked w c regs)
+
+-- whether one of two numbers of ranges is past the limit
+abbrev pub are_too_many : ℕ × ℕ → Bool
+are_too_many counts = nat_lt MOST_RANGES counts.0 || nat_lt MOST_RANGES counts.1
+
+-- why the call is refused: the first of these that holds
+unfoldable pub refusals : World → Name → ℕ → Regs → List (Bool × Refusal)
+refusals w c job regs =
+    (nat_lt MOST_ITEMS (count_of regs), TooManyItems)
+    ∷ (is_none (item_bytes w c regs), BadAddress)
+    ∷ (not (all_taken Create (asked w c regs)), BadMode)
+    ∷ (not (all_within w.pages (items_of w c regs)), BadRange)
+    ∷ (has_overlap (items_of w c regs), Overlap)
+    ∷ (nat_le MOST_CONTEXTS_OF_JOB (live_of w job), TooManyContexts)
+    ∷ (is_none (lowest_empty w c), NoSlot)
+    ∷ (needs_group w c (items_of w c regs) && nat_le MOST_GROUPS_OF_JOB (groups_of w job), TooManyGroups)
+    ∷ (are_too_many (ranges_after_clone w c job (items_of w c regs)), TooManyRanges)
+    ∷ []
+
+-- what stands for no caller: -1
+abbrev pub no_caller : ℕ
+no_caller = 2 ^ 64 - 1
+
+-- the registers after the call, with this in r0: no caller in r1, 0 in r2, and the next instruction
+abbrev pub after_call : Regs → ℕ → Regs
+after_call regs value = record {
+  r = slice_set (slice_set (slice_set regs.r 0 value) 1 no_caller) 2 0;
+  pc = (regs.pc + 1) % 2 ^ 64;
+}
+
+-- the new context is made, beginning with no caller in r0, and a descriptor of it with every key is put into the slot
+abbrev pub created : World → Name → ℕ → Regs → ℕ → World
+created w c job regs slot =
+    put_slot (clone_context w c job (items_of w c regs) (after_call regs no_caller)) c slot (Ctx (next_context w job) (full_cap w.pages))
+
+-- the end of the call: a refusal changes nothing; else the slot that was the lowest empty one gets the new context, and r0 tells the slot
+abbrev pub ended : World → Name → ℕ → Regs → ℕ → Option Refusal → Answer × World
+ended w c job regs slot (Some refusal) = (Refused refusal, w)
+ended w c job regs slot None = (Done (after_call regs slot), created w c job regs slot)
+
+-- the call that makes a new context from the caller's one, for its job: what it answers, and the world afterwards
+unfoldable pub create : World → Name → ℕ → Regs → Answer × World
+create w c job regs = ended w c job regs (unwrap_or (lowest_empty w c) 0) (first_refusal (refusals w c job regs))

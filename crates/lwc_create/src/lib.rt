@@ -1,0 +1,6 @@
+//! The call that makes a new context from the caller's one.
+#![tactic(auto)]
+
+pub mod creating;
+
+pub use creating::create;
