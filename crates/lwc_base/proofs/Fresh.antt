@@ -118,15 +118,18 @@ fresh-empty_world frames pages = record {
   cells = λ c x found. absurd (false≢true (ap is_some (sym (fm.get-empty name_cmp c) ∙ found)));
 }
 
-was_common : (b : Bool) (value : PageValue) (old : Option (Cell PageValue)) (g : Name) → cond b (Some (Own value)) old ≡ Some (Common g) → old ≡ Some (Common g)
+-- a cell that is common after a page has got its own was so before
+pub was_common : (b : Bool) (value : PageValue) (old : Option (Cell PageValue)) (g : Name) → cond b (Some (Own value)) old ≡ Some (Common g) → old ≡ Some (Common g)
 was_common true value old g is = cc
 was_common false value old g is = is
 
-was_present : (b : Bool) (old : Option (Cell PageValue)) (g : Name) → cond b None old ≡ Some (Common g) → old ≡ Some (Common g)
+-- nor does a page that becomes absent name a group
+pub was_present : (b : Bool) (old : Option (Cell PageValue)) (g : Name) → cond b None old ≡ Some (Common g) → old ≡ Some (Common g)
 was_present true old g is = cc
 was_present false old g is = is
 
-was_common_slot : (b : Bool) (value : Descriptor) (old : Cell Descriptor) (g : Name) → cond b (Own value) old ≡ Common g → old ≡ Common g
+-- the same of a slot
+pub was_common_slot : (b : Bool) (value : Descriptor) (old : Cell Descriptor) (g : Name) → cond b (Own value) old ≡ Common g → old ≡ Common g
 was_common_slot true value old g is = cc
 was_common_slot false value old g is = is
 

@@ -1,3 +1,4 @@
+pub mod Adding
 pub mod Contexts
 pub mod OldGroups
 pub mod Places

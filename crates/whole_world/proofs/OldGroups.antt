@@ -6,8 +6,8 @@ use Rattle.lwc_base.specs.declared.descriptor.Descriptor.{Descriptor}
 use Rattle.lwc_base.specs.declared.name.Name.{Name}
 use Rattle.lwc_base.specs.declared.page.PageValue.{PageValue}
 use Rattle.lwc_base.specs.Cells.{with_page, with_slot}
-use Rattle.lwc_base.specs.Fresh.{IsFresh, IsNamedGroup, NamesOldGroups}
-use Rattle.lwc_base.specs.World.{World, Context, Counters, change_context}
+use Rattle.lwc_base.specs.Fresh.{IsFresh, IsNamedGroup}
+use Rattle.lwc_base.specs.World.{World, Counters, change_context}
 use Rattle.lwc_base.proofs.Fresh.{fresh-change_context}
 use Rattle.whole_world.specs.Copies.{with_uid}
 

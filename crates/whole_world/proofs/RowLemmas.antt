@@ -1,9 +1,9 @@
 -- Rows by name, and the map that they stand for.
-use Rattle.std.proofs.Common.{◌≡◌, ℕ, zero, suc, ◌+◌, ◌<◌, ◌≤◌, List, [], ◌∷◌, ◌++◌, take, drop, arith, length, refl, sym, ap, subst, ◌∙◌, Bool, true, false, cond, Option, Some, None, get_or, map, not, Bor}
-use Rattle.std.specs.Prelude.{T, ◌&&◌, nat_lt, is_some, All, IfSome, IfNone}
+use Rattle.std.proofs.Common.{◌≡◌, ℕ, zero, suc, ◌+◌, ◌<◌, ◌≤◌, List, [], ◌∷◌, arith, length, refl, sym, ap, subst, ◌∙◌, Bool, true, false, cond, Option, Some, None, get_or, map, not, Bor}
+use Rattle.std.specs.Prelude.{T, ◌&&◌, nat_lt, if◌then◌else◌, is_ok, All, IfSome, IfNone, IsOk, Result, Ok, Err}
 use Rattle.std.specs.List.{find, position, position_or_len, insert}
 use Rattle.std.specs.Option.{option_copied, option_map}
-use Rattle.std.specs.Ordering.{eq_by_cmp, is_eq, is_lt, ordering_reverse}
+use Rattle.std.specs.Ordering.{is_eq, is_lt}
 use Rattle.std.specs.declared.cmp.Ordering.{Ordering}
 use Rattle.std.specs.declared.cmp.Ordering.TheVariants.{Less, Equal, Greater}
 use Rattle.std.specs.Cmp.{eq_by_cmp_equiv}
@@ -80,6 +80,20 @@ no_row test (e ∷ es) past =
 pub row_missed : {E : Type 0} (test : E → Bool) (rows : List E) → position test rows ≡ None → find test rows ≡ None
 row_missed test rows e = no_row test rows (ltb-false _ _ (nothing_found (nat_lt (position_or_len test rows) (length rows)) (position_or_len test rows) e))
 
+-- no place is past the last row
+pub place_within : {E : Type 0} (test : E → Bool) (rows : List E) → position_or_len test rows ≤ length rows
+place_within test [] = omega arith
+place_within test (e ∷ es) =
+    let rest : position_or_len test es ≤ length es = place_within test es in
+    elim (test e) as (λ b. cond (not b) (1 + position_or_len test es) 0 ≤ suc (length es)) [ true ↦ omega arith | false ↦ omega arith ]
+
+-- where no place is found, it is past the last row
+pub place_past_all : {E : Type 0} (test : E → Bool) (rows : List E) → position test rows ≡ None → length rows ≡ position_or_len test rows
+place_past_all test rows e =
+    let past : length rows ≤ position_or_len test rows = ltb-false _ _ (nothing_found (nat_lt (position_or_len test rows) (length rows)) (position_or_len test rows) e) in
+    let within : position_or_len test rows ≤ length rows = place_within test rows in
+    omega arith
+
 -- what holds of each row holds of the one that is found
 pub found_holds : {E : Type 0} (P : E → Type 0) (test : E → Bool) (rows : List E) (e : E) → All P rows → find test rows ≡ Some e → P e
 found_holds P test [] e all found = cc
@@ -88,6 +102,11 @@ found_holds P test (x ∷ xs) e all found =
       | true ↦ λ h. subst P (same_Some x e h) (All-head P x xs all)
       | false ↦ λ h. found_holds P test xs e (All-tail P x xs all) h
     ] found
+
+-- the first of two, where a result is a success
+pub chosen_ok : {A V F : Type 0} (r : Result V F) (x y : A) → IsOk r → (if is_ok r then x else y) ≡ x
+chosen_ok (Ok v) x y ok = refl
+chosen_ok (Err e) x y ok = absurd (false≢true ok)
 
 -- what is known of a row that is found is known of a reference to it
 pub if_found : {E : Type 0} (P : E → Type 0) (o : Option (Bor E)) (found : Option E) → option_copied o ≡ found → ((e : E) → found ≡ Some e → P e) → IfSome o (λ b. P b.now)
@@ -210,27 +229,27 @@ module _ {E X : Type 0} (name : E → Name) (value : E → X) where
       ap (λ l. entry e ∷ l) (put-insert c new es i (further_place (is_past c e) _ i place) (not_later (has c e) e (find (has c) es) none) named)
       ∙ ap (λ r. by_order r ((c, value new) ∷ entry e ∷ map entry es) ((name e, value new) ∷ map entry es) (entry e ∷ fm.put name_cmp c (value new) (map entry es))) (sym behind)
 
-  entries-insert-rows : (c : Name) (new : E) (rows : List E) → T (fm.is_sorted name_cmp (map entry rows)) → position_or_len (is_past c) rows ≤ length rows →
+  entries-insert-rows : (c : Name) (new : E) (rows : List E) → T (fm.is_sorted name_cmp (map entry rows)) →
       find (has c) rows ≡ None → name new ≡ c →
       fm.entries (fm.insert (map_of rows) c (value new)) ≡ map entry (insert rows (position_or_len (is_past c) rows) new)
-  entries-insert-rows c new rows sorted within none named =
+  entries-insert-rows c new rows sorted none named =
       fm.entries-insert name_cmp-total (map_of rows) c (value new)
       ∙ ap (fm.put name_cmp c (value new)) (fm.entries-from_sorted name_cmp (map entry rows) sorted)
       ∙ sym (put-insert c new rows _ refl none named)
 
   -- rows keep their order where a row of a new name is put in before the first that stands past it
-  pub sorted-insert : (c : Name) (new : E) (rows : List E) → T (fm.is_sorted name_cmp (map entry rows)) → position_or_len (is_past c) rows ≤ length rows →
+  pub sorted-insert : (c : Name) (new : E) (rows : List E) → T (fm.is_sorted name_cmp (map entry rows)) →
       find (has c) rows ≡ None → name new ≡ c → T (fm.is_sorted name_cmp (map entry (insert rows (position_or_len (is_past c) rows) new)))
-  sorted-insert c new rows sorted within none named =
-      subst (λ es. T (fm.is_sorted name_cmp es)) (entries-insert-rows c new rows sorted within none named) (fm.entries_sorted (fm.insert (map_of rows) c (value new)))
+  sorted-insert c new rows sorted none named =
+      subst (λ es. T (fm.is_sorted name_cmp es)) (entries-insert-rows c new rows sorted none named) (fm.entries_sorted (fm.insert (map_of rows) c (value new)))
 
   -- it is a new entry of the map
-  pub map_of-insert : (c : Name) (new : E) (rows : List E) → T (fm.is_sorted name_cmp (map entry rows)) → position_or_len (is_past c) rows ≤ length rows →
+  pub map_of-insert : (c : Name) (new : E) (rows : List E) → T (fm.is_sorted name_cmp (map entry rows)) →
       find (has c) rows ≡ None → name new ≡ c →
       map_of (insert rows (position_or_len (is_past c) rows) new) ≡ fm.insert (map_of rows) c (value new)
-  map_of-insert c new rows sorted within none named =
+  map_of-insert c new rows sorted none named =
       fm.same_entries_map _ _
-      (fm.entries-from_sorted name_cmp _ (sorted-insert c new rows sorted within none named) ∙ sym (entries-insert-rows c new rows sorted within none named))
+      (fm.entries-from_sorted name_cmp _ (sorted-insert c new rows sorted none named) ∙ sym (entries-insert-rows c new rows sorted none named))
 
   names_of : (rows : List E) → map (λ (e : Name × X). e.0) (map entry rows) ≡ map name rows
   names_of [] = refl

@@ -1,29 +1,45 @@
 -- The world that rows stand for: what it has under a name, and what becomes of it where a row is changed.
-use Rattle.std.proofs.Common.{◌≡◌, ℕ, zero, suc, ◌+◌, ◌<◌, ◌≤◌, List, [], ◌∷◌, arith, length, refl, sym, ap, subst, ◌∙◌, Bool, true, false, cond, Option, Some, None, get_or}
-use Rattle.std.specs.Prelude.{T, is_some, unwrap_or, IsTrue}
-use Rattle.std.specs.List.{find, position}
+use Rattle.std.proofs.Common.{◌≡◌, ℕ, zero, suc, ◌<◌, List, [], ◌∷◌, arith, length, refl, sym, ap, subst, ◌∙◌, Bool, true, false, cond, Option, Some, None, get_or, eqb, length-set, take, drop}
+use Rattle.std.specs.Prelude.{T, is_some, unwrap_or, All}
+use Rattle.std.specs.List.{find, insert, position, position_or_len}
 use Rattle.std.specs.Option.{option_map}
 use Rattle.std.specs.FinMap as fm
 use Rattle.std.proofs.Math.ListN.{set}
 use Rattle.lwc_base.specs.Registers.{fresh_registers}
 use Rattle.lwc_base.specs.declared.name.Name.{Name}
 use Rattle.lwc_base.specs.declared.size.WorldSize.{WorldSize}
-use Rattle.lwc_base.specs.Fresh.{IsFresh}
-use Rattle.lwc_base.specs.World.{World, Context, Group, changed_context, change_context, changed_group, change_group, context, group, is_live, new_context, new_group}
-use Rattle.lwc_base.proofs.Fresh.{fresh-change_group}
-use Rattle.std.proofs.lemmas.List.Elements.{All-get_or, All-set}
+use Rattle.lwc_base.specs.Fresh.{IsFresh, NamesOldGroups}
+use Rattle.lwc_base.specs.World.{Context, Counters, Group, count_on, changed_context, change_context, changed_group, change_group, context, group, is_live, new_context, new_group}
+use Rattle.lwc_base.proofs.Fresh.{Rises, fresh-change_group, fresh-count_on, fresh-insert_context}
+use Rattle.lwc_base.proofs.Live.{count_on_as}
+use Rattle.whole_world.proofs.Places.{place_after_set}
+use Rattle.std.proofs.lemmas.List.Elements.{All-append, All-cons, All-drop, All-get_or, All-set, All-take}
 use Rattle.whole_world.specs.declared.counts.Counts.{Counts}
 use Rattle.whole_world.specs.declared.group.HeldGroup.{HeldGroup}
 use Rattle.whole_world.specs.declared.held.Held.{Held}
 use Rattle.whole_world.specs.Copies.{context_of, group_of}
-use Rattle.whole_world.specs.Rows.{contexts_of, groups_of, has_name, has_group_name, counters_of, nothing_counted, world_of}
+use Rattle.whole_world.specs.Rows.{contexts_of, groups_of, has_name, has_group_name, is_past, counters_of, nothing_counted, world_of}
+use Rattle.whole_world.specs.Seen.{seen}
+use Rattle.whole_world.specs.declared.world.WholeWorld.{WholeWorld}
 use Rattle.whole_world.specs.Sound.{IsSound, IsWhole, IsWholeGroup}
-use Rattle.whole_world.proofs.RowLemmas.{IsPlace, place_found, row_missed, found_holds, get-rows, row-at-place, map_of-set, sorted-set}
+use Rattle.whole_world.proofs.RowLemmas.{IsPlace, place_found, row_missed, found_holds, get-rows, row-at-place, map_of-set, map_of-insert, sorted-set, sorted-insert}
 
 get_or_default : {A : Type 0} (xs : List A) (i : ℕ) (d e : A) → i < length xs → get_or xs i d ≡ get_or xs i e
 get_or_default [] i d e h = absurd (omega arith)
 get_or_default (x ∷ xs) zero d e h = refl
 get_or_default (x ∷ xs) (suc i) d e h = get_or_default xs i d e (omega arith)
+
+counters_of_choice : (b : Bool) (m n : Counts) → counters_of (cond b m n) ≡ cond b (counters_of m) (counters_of n)
+counters_of_choice true m n = refl
+counters_of_choice false m n = refl
+
+nothing_mapped : {A B : Type 0} (f : A → B) (o : Option A) → is_some (option_map f o) ≡ false → o ≡ None
+nothing_mapped f None none = refl
+nothing_mapped f (Some x) none = cc
+
+-- what holds of each row and of another one holds of each once that is put in
+pub All-inserted : {E : Type 0} (P : E → Type 0) (rows : List E) (i : ℕ) (new : E) → P new → All P rows → All P (insert rows i new)
+All-inserted P rows i new here all = All-append P (take i rows) (new ∷ drop i rows) (All-take P i rows all) (All-cons P new (drop i rows) here (All-drop P i rows all))
 
 module _ (size : WorldSize) (contexts : List Held) (groups : List HeldGroup) (counts : List Counts) (sound : IsSound size contexts groups counts) where
   -- what the world has under a name is the row of that name
@@ -149,3 +165,65 @@ module _ (size : WorldSize) (contexts : List Held) (groups : List HeldGroup) (co
     fresh = subst IsFresh (sym (change_group-row g i old new change found is same changed))
         (fresh-change_group (world_of size contexts groups counts) g change sound.fresh);
   }
+
+  count_on-set : (job : ℕ) (n : Counts) → job < length counts →
+      world_of size contexts groups (set counts job n) ≡ count_on (world_of size contexts groups counts) job (λ _. counters_of n)
+  unfolding world_of count_on
+  count_on-set job n there =
+      let each : (j : ℕ) → counters_of (get_or (set counts job n) j nothing_counted) ≡ cond (eqb j job) (counters_of n) (counters_of (get_or counts j nothing_counted)) =
+      λ j. ap counters_of (place_after_set counts job n j nothing_counted there) ∙ counters_of_choice (eqb j job) n (get_or counts j nothing_counted) in
+      λ i. record (world_of size contexts groups counts) { next = λ j. each j i }
+
+  -- a job that has counted another number
+  pub count_on-row : (job : ℕ) (n : Counts) (change : Counters → Counters) → job < length counts →
+      change ((world_of size contexts groups counts).next job) ≡ counters_of n →
+      world_of size contexts groups (set counts job n) ≡ count_on (world_of size contexts groups counts) job change
+  count_on-row job n change there is = count_on-set job n there ∙ count_on_as (world_of size contexts groups counts) job change (counters_of n) is
+
+  -- the world stays sound where a count rises
+  pub sound-counts : (job : ℕ) (n : Counts) (change : Counters → Counters) → job < length counts →
+      change ((world_of size contexts groups counts).next job) ≡ counters_of n → ((m : Counters) → Rises m (change m)) →
+      IsSound size contexts groups (set counts job n)
+  sound-counts job n change there is rises = record {
+    some_job = sound.some_job;
+    few_pages = sound.few_pages;
+    counted = length-set counts job n ∙ sound.counted;
+    contexts_sorted = sound.contexts_sorted;
+    groups_sorted = sound.groups_sorted;
+    contexts_whole = sound.contexts_whole;
+    groups_whole = sound.groups_whole;
+    fresh = subst IsFresh (sym (count_on-row job n change there is)) (fresh-count_on (world_of size contexts groups counts) job change rises sound.fresh);
+  }
+
+  none_found : (c : Name) → is_live (world_of size contexts groups counts) c ≡ false → find (has_name c) contexts ≡ None
+  none_found c dead = nothing_mapped context_of (find (has_name c) contexts) (sym (ap is_some (get-context c)) ∙ dead)
+
+  -- a context of a new name is put in at its place
+  pub insert-row : (new : Held) → is_live (world_of size contexts groups counts) new.name ≡ false →
+      world_of size (insert contexts (position_or_len (is_past new.name) contexts) new) groups counts
+      ≡ record (world_of size contexts groups counts) { contexts = fm.insert (world_of size contexts groups counts).contexts new.name (context_of new) }
+  unfolding world_of contexts_of
+  insert-row new dead =
+      ap (λ m. record (world_of size contexts groups counts) { contexts = m })
+      (map_of-insert (λ h. h.name) context_of new.name new contexts sound.contexts_sorted (none_found new.name dead) refl)
+
+  -- the world stays sound
+  pub sound-insert : (new : Held) → is_live (world_of size contexts groups counts) new.name ≡ false →
+      new.name.k < ((world_of size contexts groups counts).next new.name.job).contexts →
+      NamesOldGroups (world_of size contexts groups counts).next (context_of new) → IsWhole size.pages new →
+      IsSound size (insert contexts (position_or_len (is_past new.name) contexts) new) groups counts
+  sound-insert new dead named old whole = record {
+    some_job = sound.some_job;
+    few_pages = sound.few_pages;
+    counted = sound.counted;
+    contexts_sorted = sorted-insert (λ h. h.name) context_of new.name new contexts sound.contexts_sorted (none_found new.name dead) refl;
+    groups_sorted = sound.groups_sorted;
+    contexts_whole = All-inserted (IsWhole size.pages) contexts (position_or_len (is_past new.name) contexts) new whole sound.contexts_whole;
+    groups_whole = sound.groups_whole;
+    fresh = subst IsFresh (sym (insert-row new dead)) (fresh-insert_context (world_of size contexts groups counts) new.name (context_of new) named old sound.fresh);
+  }
+
+-- names of the world are old
+pub fresh-seen : (w : WholeWorld) → IsFresh (seen w)
+unfolding seen
+fresh-seen w = w.sound.fresh

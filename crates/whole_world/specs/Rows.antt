@@ -1,7 +1,7 @@
 -- What rows of held contexts and groups stand for: maps by name, and the world.
-use Rattle.std.specs.Prelude.{◌≡◌, ℕ, Bool, List, map, slice_index_or}
+use Rattle.std.specs.Prelude.{Bool, List, map, slice_index_or}
 use Rattle.std.specs.FinMap as fm
-use Rattle.std.specs.Ordering.{is_eq}
+use Rattle.std.specs.Ordering.{is_eq, is_lt}
 use Rattle.lwc_base.specs.declared.name.Name.{Name}
 use Rattle.lwc_base.specs.declared.size.WorldSize.{WorldSize}
 use Rattle.lwc_base.specs.Names.{name_cmp}
@@ -52,3 +52,11 @@ has_name c held = is_eq (name_cmp held.name c)
 -- whether a group that is held has the name
 abbrev pub has_group_name : Name → HeldGroup → Bool
 has_group_name g held = is_eq (name_cmp held.name g)
+
+-- whether a context that is held stands past a name
+abbrev pub is_past : Name → Held → Bool
+is_past c held = is_lt (name_cmp c held.name)
+
+-- whether a group that is held stands past a name
+abbrev pub is_group_past : Name → HeldGroup → Bool
+is_group_past g held = is_lt (name_cmp g held.name)

@@ -1,4 +1,5 @@
--- The world that the copies stand for, and how large it is.
+-- The world that the copies stand for, how large it is, and whether it has memory for one more context or group.
+use Rattle.std.specs.Prelude.{◌<◌, vec_capacity, vec_len}
 use Rattle.lwc_base.specs.declared.size.WorldSize.{WorldSize}
 use Rattle.lwc_base.specs.World.{World}
 use Rattle.whole_world.specs.declared.world.WholeWorld.{WholeWorld}
@@ -11,3 +12,11 @@ seen w = world_of w.size w.contexts.items w.groups.items w.counts.items
 -- how large the world is
 unfoldable pub size_of : WholeWorld → WorldSize
 size_of w = w.size
+
+-- there is memory for one more context
+abbrev pub HasRoom : WholeWorld → Type 0
+HasRoom w = vec_len w.contexts < vec_capacity w.contexts
+
+-- there is memory for one more group
+abbrev pub HasGroupRoom : WholeWorld → Type 0
+HasGroupRoom w = vec_len w.groups < vec_capacity w.groups

@@ -135,10 +135,7 @@ impl Held {
     }
 }
 
-fn absent_pages(
-    alloc: Global,
-    count: usize,
-) -> Result<Vec<Option<Cell<PageValue>>>, OutOfMemory>
+fn absent_pages(alloc: Global, count: usize) -> Result<Vec<Option<Cell<PageValue>>>, OutOfMemory>
     ensures absent { IfOk result (λ pages. pages.items ≡ replicate count None) }
     ensures many { IfOk result (λ pages. vec_len pages ≡ count) }
 {

@@ -1,7 +1,5 @@
 use Rattle.std.proofs.Common.{◌≡◌}
 use Rattle.std.specs.Prelude.{replicate, None}
-use Rattle.lwc_base.specs.declared.cell.Cell.TheVariants.{Own}
-use Rattle.lwc_base.specs.declared.descriptor.Descriptor.TheVariants.{Empty}
 use Rattle.whole_world.proofs.group.no_slots.Given as goal
 
 abbrev pub invariant-loop : goal.invariant-loop

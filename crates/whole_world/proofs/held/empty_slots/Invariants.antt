@@ -1,5 +1,5 @@
 use Rattle.std.proofs.Common.{◌≡◌}
-use Rattle.std.specs.Prelude.{replicate, None}
+use Rattle.std.specs.Prelude.{replicate}
 use Rattle.lwc_base.specs.declared.cell.Cell.TheVariants.{Own}
 use Rattle.lwc_base.specs.declared.descriptor.Descriptor.TheVariants.{Empty}
 use Rattle.whole_world.proofs.held.empty_slots.Given as goal

@@ -1,5 +1,5 @@
 use Rattle.std.proofs.Common.{◌≡◌}
-use Rattle.lwc_base.specs.World.{group, new_group}
+use Rattle.lwc_base.specs.World.{group}
 use Rattle.whole_world.specs.Copies.{group_of}
 use Rattle.whole_world.specs.Rows.{world_of}
 use Rattle.whole_world.specs.Seen.{seen}

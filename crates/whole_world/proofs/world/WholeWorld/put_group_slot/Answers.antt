@@ -1,6 +1,5 @@
-use Rattle.std.proofs.Common.{◌∙◌, sym, refl, arith, Some}
-use Rattle.lwc_base.specs.Cells.{with_group_page, with_group_slot}
-use Rattle.whole_world.specs.Copies.{with_group_uid}
+use Rattle.std.proofs.Common.{◌∙◌, sym, refl, arith}
+use Rattle.lwc_base.specs.Cells.{with_group_slot}
 use Rattle.whole_world.specs.Rows.{world_of}
 use Rattle.whole_world.specs.Seen.{seen, size_of}
 use Rattle.whole_world.proofs.RowWorlds.{change_group-row, change_group-missed, sound-group_row, whole_group-row}

@@ -1,9 +1,7 @@
-use Rattle.std.proofs.Common.{◌∙◌, sym, refl, arith, Some}
-use Rattle.lwc_base.specs.Cells.{with_group_page, with_group_slot}
+use Rattle.std.proofs.Common.{◌∙◌, sym, refl}
 use Rattle.whole_world.specs.Copies.{with_group_uid}
-use Rattle.whole_world.specs.Rows.{world_of}
 use Rattle.whole_world.specs.Seen.{seen, size_of}
-use Rattle.whole_world.proofs.RowWorlds.{change_group-row, change_group-missed, sound-group_row, whole_group-row}
+use Rattle.whole_world.proofs.RowWorlds.{change_group-row, change_group-missed, sound-group_row}
 use Rattle.whole_world.proofs.world.WholeWorld.put_group_uid.Goals as goal
 
 pub invariant_of-self : goal.invariant_of-self

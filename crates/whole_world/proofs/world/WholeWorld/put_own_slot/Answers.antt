@@ -1,12 +1,9 @@
-use Rattle.std.proofs.Common.{◌∙◌, sym, refl, arith, Some}
+use Rattle.std.proofs.Common.{◌∙◌, sym, refl, arith}
 use Rattle.lwc_base.specs.declared.cell.Cell.TheVariants.{Own}
-use Rattle.lwc_base.specs.Cells.{with_page, with_slot}
-use Rattle.lwc_base.specs.Mapping.{map_pages, unmap_pages}
-use Rattle.lwc_base.proofs.Fresh.{fresh-map_pages, fresh-unmap_pages}
-use Rattle.whole_world.specs.Copies.{with_uid, with_zeros, without_pages}
+use Rattle.lwc_base.specs.Cells.{with_slot}
 use Rattle.whole_world.specs.Rows.{world_of}
 use Rattle.whole_world.specs.Seen.{seen, size_of}
-use Rattle.whole_world.proofs.OldGroups.{fresh-own_page, fresh-own_slot, fresh-own_uid}
+use Rattle.whole_world.proofs.OldGroups.{fresh-own_slot}
 use Rattle.whole_world.proofs.RowWorlds.{change_context-row, change_context-missed, sound-row, whole-row}
 use Rattle.whole_world.proofs.world.WholeWorld.put_own_slot.Goals as goal
 

@@ -1,0 +1,54 @@
+-- A context that is added: its job counts it first, and then it is put in.
+use Rattle.std.proofs.Common.{◌≡◌, ℕ, ◌+◌, ◌<◌, arith, sym, ap, subst, ◌∙◌, Bool, true, false, cond, eqb}
+use Rattle.std.specs.FinMap as fm
+use Rattle.std.proofs.lemmas.Bool.Decides.{nat_tests}
+use Rattle.lwc_base.specs.declared.name.Name.{Name}
+use Rattle.lwc_base.specs.Fresh.{IsFresh, NamesOldGroups}
+use Rattle.lwc_base.specs.World.{World, Context, Counters, count_on, add_context, is_live, next_context}
+use Rattle.lwc_base.proofs.Fresh.{Rises, names_old-rises, next_context-new}
+
+eqb-itself : (n : ℕ) → eqb n n ≡ true
+eqb-itself n = grind (arith, nat_tests)
+
+counts_at : (b : Bool) (n : Counters) → b ≡ true → n.contexts < (cond b (record n { contexts = n.contexts + 1 }) n).contexts
+counts_at true n e = omega arith
+counts_at false n e = cc
+
+rises_at : (b : Bool) (n : Counters) → Rises n (cond b (record n { contexts = n.contexts + 1 }) n)
+rises_at true n = record { contexts = omega arith; groups = omega arith }
+rises_at false n = record { contexts = omega arith; groups = omega arith }
+
+module _ (w counted : World) (job : ℕ) (is_counted : counted ≡ count_on w job (λ n. record n { contexts = n.contexts + 1 })) where
+  same_contexts : counted.contexts ≡ w.contexts
+  unfolding count_on
+  same_contexts = ap (λ (v : World). v.contexts) is_counted
+
+  pub counted-pages : counted.pages ≡ w.pages
+  unfolding count_on
+  counted-pages = ap (λ (v : World). v.pages) is_counted
+
+  -- the next name is still new
+  pub counted-dead : (c : Name) → IsFresh w → c ≡ next_context w job → is_live counted c ≡ false
+  counted-dead c fresh is = ap (λ m. fm.contains_key m c) same_contexts ∙ ap (is_live w) is ∙ next_context-new w job fresh
+
+  next_is : (j : ℕ) → counted.next j ≡ cond (eqb j job) (record (w.next j) { contexts = (w.next j).contexts + 1 }) (w.next j)
+  unfolding count_on
+  next_is j = ap (λ (v : World). v.next j) is_counted
+
+  -- and has been counted now
+  pub counted-named : (c : Name) → c ≡ next_context w job → c.k < (counted.next c.job).contexts
+  counted-named c is =
+      subst (λ (n : Name). n.k < (counted.next n.job).contexts) (sym is)
+      (subst (λ (n : Counters). (w.next job).contexts < n.contexts) (sym (next_is job)) (counts_at (eqb job job) (w.next job) (eqb-itself job)))
+
+  -- groups that were named are so still
+  pub counted-old : (x : Context) → NamesOldGroups w.next x → NamesOldGroups counted.next x
+  counted-old x old = names_old-rises w.next counted.next x (λ j. subst (Rises (w.next j)) (sym (next_is j)) (rises_at (eqb j job) (w.next j))) old
+
+-- the world once it is put in
+pub add_context-counted : (w counted added : World) (job : ℕ) (c : Name) (x : Context) → c ≡ next_context w job →
+    counted ≡ count_on w job (λ n. record n { contexts = n.contexts + 1 }) → added ≡ record counted { contexts = fm.insert counted.contexts c x } →
+    added ≡ add_context w job x
+unfolding add_context count_on
+add_context-counted w counted added job c x named is_counted is_added =
+    is_added ∙ (λ i. record (is_counted i) { contexts = fm.insert (is_counted i).contexts (named i) x })

@@ -1,0 +1,62 @@
+ghost use Rattle.std.specs.Prelude.{◌≡◌, ◌+◌, ◌<◌, ◌≤◌, ◌^◌};
+
+use crate::counts::Counts;
+use crate::world::WholeWorld;
+
+impl WholeWorld {
+    ghost use Rattle.lwc_base.specs.World.{count_on};
+    ghost use Rattle.whole_world.specs.Seen.{HasRoom, HasGroupRoom, counters_of, seen, size_of};
+
+    /// What a job has counted.
+    pub(crate) fn counted(&self, job: u32) -> Counts
+        requires { job < (size_of self.now).jobs }
+        ensures { (seen self.now).next job ≡ counters_of result }
+    {
+        self.counts[job as usize]
+    }
+
+    /// A job counts one more context.
+    pub(crate) fn count_context(&mut self, job: u32)
+        requires known { job < (size_of self.old).jobs }
+        requires few { ((seen self.old).next job).contexts < 2 ^ 31 }
+        ensures world { seen self.new ≡ count_on (seen self.old) job (λ n. record n { contexts = n.contexts + 1 }) }
+        ensures size { size_of self.new ≡ size_of self.old }
+        ensures room { HasRoom self.old → HasRoom self.new }
+    {
+        let counts = self.counted(job);
+        self.counts[job as usize] = Counts {
+            contexts: counts.contexts + 1,
+            ..counts
+        };
+    }
+
+    /// A job counts one more group.
+    pub(crate) fn count_group(&mut self, job: u32)
+        requires known { job < (size_of self.old).jobs }
+        requires few { ((seen self.old).next job).groups < 2 ^ 31 }
+        ensures world { seen self.new ≡ count_on (seen self.old) job (λ n. record n { groups = n.groups + 1 }) }
+        ensures size { size_of self.new ≡ size_of self.old }
+        ensures room { HasRoom self.old → HasRoom self.new }
+        ensures group_room { HasGroupRoom self.old → HasGroupRoom self.new }
+    {
+        let counts = self.counted(job);
+        self.counts[job as usize] = Counts {
+            groups: counts.groups + 1,
+            ..counts
+        };
+    }
+
+    /// A job counts so many tags more.
+    pub(crate) fn count_tags(&mut self, job: u32, more: u32)
+        requires known { job < (size_of self.old).jobs }
+        requires few { ((seen self.old).next job).tags + more < 2 ^ 32 }
+        ensures world { seen self.new ≡ count_on (seen self.old) job (λ n. record n { tags = n.tags + more }) }
+        ensures size { size_of self.new ≡ size_of self.old }
+    {
+        let counts = self.counted(job);
+        self.counts[job as usize] = Counts {
+            tags: counts.tags + more,
+            ..counts
+        };
+    }
+}
