@@ -4,3 +4,7 @@ pub mod OldGroups
 pub mod Places
 pub mod RowLemmas
 pub mod RowWorlds
+pub mod Moving
+pub mod Runs
+pub mod SharedCells
+pub mod Unnamed

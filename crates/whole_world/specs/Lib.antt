@@ -1,4 +1,7 @@
 pub mod Copies
+pub mod Moves
+pub mod Outlooks
 pub mod Rows
 pub mod Seen
 pub mod Sound
+pub mod Standings

@@ -8,7 +8,9 @@ mod group;
 mod held;
 mod pages;
 mod puts;
+mod ranges;
 mod rows;
+mod sharing;
 mod touched;
 mod world;
 
