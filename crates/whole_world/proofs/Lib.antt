@@ -8,3 +8,5 @@ pub mod Moving
 pub mod Runs
 pub mod SharedCells
 pub mod Unnamed
+pub mod GroupRows
+pub mod ShareSteps

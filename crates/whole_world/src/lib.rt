@@ -6,6 +6,7 @@ mod counting;
 mod counts;
 mod group;
 mod held;
+mod moves;
 mod pages;
 mod puts;
 mod ranges;

@@ -58,7 +58,7 @@ impl WholeWorld {
 
     /// How many pages each context may have; they are few.
     #[tactic(auto, unfolding(crate::specs::Seen::seen, crate::specs::Rows::world_of))]
-    fn page_count(&self) -> u16
+    pub(crate) fn page_count(&self) -> u16
         ensures { result ≡ (seen self.now).pages }
     {
         self.size.pages as u16

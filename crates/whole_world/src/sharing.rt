@@ -1,226 +1,159 @@
-ghost use Rattle.std.specs.Prelude.{◌≡◌, ℕ, ◌<◌, ◌≤◌, IfOk, None, vec_len};
-ghost use Rattle.std.specs.Option.{option_copied, option_map};
-ghost use Rattle.lwc_base.specs.declared.cell.Cell.TheVariants.{Own};
+ghost use Rattle.std.specs.Prelude.{◌≡◌, ◌+◌, ◌<◌, ◌≤◌, ◌^◌, IsFalse, IsTrue, is_some, true, vec_len};
+ghost use Rattle.std.specs.List.{list_any, range_with_len};
 ghost use Rattle.lwc_base.specs.declared.descriptor.TheConstants.{SLOTS};
-ghost use Rattle.lwc_base.specs.Cells.{with_page, with_slot};
-ghost use Rattle.lwc_base.specs.Frames.{own_value};
 ghost use Rattle.lwc_base.specs.Modes.{IsSpec};
-ghost use Rattle.lwc_base.specs.Sharing as sharing;
-ghost use Rattle.lwc_base.specs.Sharing.{left_common, moved, page_after, under_share};
+ghost use Rattle.lwc_base.specs.Sharing.{has_values, left_common, moved};
 ghost use Rattle.lwc_base.specs.World.{new_group};
-ghost use Rattle.whole_world.specs.Copies.{context_of, group_of, held_page, held_slot};
-ghost use Rattle.whole_world.specs.Moves.{gives_page, gives_pages, gives_slot, gives_slots, gives_uid, takes_page, takes_pages, takes_slot, takes_slots, takes_uid};
+ghost use Rattle.whole_world.specs.Copies.{context_of, group_of};
 ghost use Rattle.whole_world.specs.Sound.{IsWhole, IsWholeGroup};
 
 use crate::group::HeldGroup;
 use crate::held::Held;
-use lwc_base::{Cell, Descriptor, Key, Mode, Name, OutOfMemory, PageBytes, PageValue, SLOTS, Spec};
+use crate::world::WholeWorld;
+use lwc_base::{Cell, Key, Mode, Name, SLOTS, Spec};
 use res_spec::mode_or_copy;
-use std::alloc::Global;
-
-/// The value of a page's cell that is the context's own.
-fn own_value(cell: Option<Cell<PageValue>>) -> Option<PageValue>
-    ensures { result ≡ own_value cell }
-{
-    match cell {
-        Some(Cell::Own(value)) => Some(value),
-        _ => None,
-    }
-}
 
 impl Held {
-    /// Puts a cell under a page, and gives the old one.
-    #[tactic(auto, unfolding(crate::specs::Copies::context_of, crate::specs::Copies::held_page))]
-    fn replace_page(&mut self, p: usize, cell: Option<Cell<PageValue>>) -> Option<Cell<PageValue>>
-        requires { p < vec_len self.old.pages }
-        ensures old { result ≡ (context_of self.old).page p }
-        ensures name { self.new.name ≡ self.old.name }
-        ensures whole { (pages : ℕ) → IsWhole pages self.old → IsWhole pages self.new }
-        ensures context { context_of self.new ≡ with_page p cell (context_of self.old) }
+    /// Whether the value of a page moves.
+    #[tactic(auto, unfolding(lwc_base::specs::Sharing::moved))]
+    fn moves_page(&self, spec: &Spec, p: u16) -> bool
+        ensures { result ≡ is_some ((moved spec.now (context_of self.now)).page p) }
     {
-        std::mem::replace(&mut self.pages[p], cell)
+        mode_or_copy(spec, Key::Page(p)) == Mode::Share
+            && matches!(self.page_cell(p as usize), Some(Cell::Own(_)))
     }
 
-    /// Moves the value of a page out, where the page is the context's own; it is common of the group from then on.
-    fn give_page(&mut self, p: usize, group: Name) -> Option<PageValue>
-        requires { p < vec_len self.old.pages }
-        ensures value { result ≡ own_value ((context_of self.old).page p) }
-        ensures name { self.new.name ≡ self.old.name }
-        ensures whole { (pages : ℕ) → IsWhole pages self.old → IsWhole pages self.new }
-        ensures context { context_of self.new ≡ gives_page group p result (context_of self.old) }
+    /// Whether the value of a slot moves.
+    #[tactic(auto, unfolding(lwc_base::specs::Sharing::moved))]
+    fn moves_slot(&self, spec: &Spec, n: u8) -> bool
+        requires { n < vec_len self.now.slots }
+        ensures { result ≡ is_some ((moved spec.now (context_of self.now)).slot n) }
     {
-        match self.page_cell(p) {
-            Some(Cell::Own(_)) => own_value(self.replace_page(p, Some(Cell::Common(group)))),
-            _ => None,
-        }
+        mode_or_copy(spec, Key::Slot(n)) == Mode::Share && matches!(self.slot_cell(n), Cell::Own(_))
     }
 
-    /// The same of a slot.
-    fn give_slot(&mut self, n: u8, group: Name) -> Option<Descriptor>
-        requires { n < vec_len self.old.slots }
-        ensures value { result ≡ sharing.own ((context_of self.old).slot n) }
-        ensures name { self.new.name ≡ self.old.name }
-        ensures whole { (pages : ℕ) → IsWhole pages self.old → IsWhole pages self.new }
-        ensures context { context_of self.new ≡ gives_slot group n result (context_of self.old) }
+    /// Whether the credential moves.
+    #[tactic(auto, unfolding(lwc_base::specs::Sharing::moved))]
+    fn moves_uid(&self, spec: &Spec) -> bool
+        ensures { result ≡ is_some (moved spec.now (context_of self.now)).uid }
     {
-        match *self.slot_cell(n) {
-            Cell::Own(value) => {
-                self.set_slot(n, Cell::Common(group));
-                Some(value)
-            }
-            Cell::Common(_) => None,
-        }
+        mode_or_copy(spec, Key::Cred) == Mode::Share && matches!(self.uid_cell(), Cell::Own(_))
     }
 
-    /// The same of the credential.
-    fn give_uid(&mut self, group: Name) -> Option<u32>
-        ensures value { result ≡ sharing.own (context_of self.old).uid }
-        ensures name { self.new.name ≡ self.old.name }
-        ensures whole { (pages : ℕ) → IsWhole pages self.old → IsWhole pages self.new }
-        ensures context { context_of self.new ≡ gives_uid group result (context_of self.old) }
+    /// Whether the value of any page moves.
+    fn moves_pages(&self, pages: u16, spec: &Spec) -> bool
+        ensures { result ≡ list_any (λ p. is_some ((moved spec.now (context_of self.now)).page p)) (range_with_len 0 pages) }
     {
-        match *self.uid_cell() {
-            Cell::Own(uid) => {
-                self.set_uid(Cell::Common(group));
-                Some(uid)
-            }
-            Cell::Common(_) => None,
-        }
+        (0..pages).any(|p| self.moves_page(spec, p))
     }
 
-    /// Moves the value of a page into a group, if it is the context's own and under share.
-    fn move_page(&mut self, p: usize, mode: Mode, group: &mut HeldGroup)
-        requires page { p < vec_len self.old.pages }
-        requires place { p < vec_len group.old.pages }
-        ensures name { self.new.name ≡ self.old.name }
-        ensures whole { (pages : ℕ) → IsWhole pages self.old → IsWhole pages self.new }
-        ensures context { context_of self.new ≡ gives_page group.old.name p (under_share mode (own_value ((context_of self.old).page p))) (context_of self.old) }
-        ensures group_name { group.new.name ≡ group.old.name }
-        ensures whole_group { (pages : ℕ) → IsWholeGroup pages group.old → IsWholeGroup pages group.new }
-        ensures group { group_of group.new ≡ takes_page p (under_share mode (own_value ((context_of self.old).page p))) (group_of group.old) }
+    /// Whether the value of any slot moves.
+    fn moves_slots(&self, spec: &Spec) -> bool
+        requires { vec_len self.now.slots ≡ SLOTS }
+        ensures { result ≡ list_any (λ n. is_some ((moved spec.now (context_of self.now)).slot n)) (range_with_len 0 SLOTS) }
     {
-        if mode != Mode::Share {
-            return;
-        }
-        if let Some(value) = self.give_page(p, group.name) {
-            group.set_page(p, value);
-        }
+        (0..SLOTS).any(|n| self.moves_slot(spec, n))
     }
 
-    /// The same of a slot.
-    fn move_slot(&mut self, n: u8, mode: Mode, group: &mut HeldGroup)
-        requires slot { n < vec_len self.old.slots }
-        requires place { n < vec_len group.old.slots }
-        ensures name { self.new.name ≡ self.old.name }
-        ensures whole { (pages : ℕ) → IsWhole pages self.old → IsWhole pages self.new }
-        ensures context { context_of self.new ≡ gives_slot group.old.name n (under_share mode (sharing.own ((context_of self.old).slot n))) (context_of self.old) }
-        ensures group_name { group.new.name ≡ group.old.name }
-        ensures whole_group { (pages : ℕ) → IsWholeGroup pages group.old → IsWholeGroup pages group.new }
-        ensures group { group_of group.new ≡ takes_slot n (under_share mode (sharing.own ((context_of self.old).slot n))) (group_of group.old) }
+    /// Whether any value moves.
+    #[tactic(auto, unfolding(lwc_base::specs::Sharing::has_values))]
+    pub fn moves_values(&self, pages: u16, spec: &Spec) -> bool
+        requires { IsWhole pages self.now }
+        ensures { result ≡ has_values pages (moved spec.now (context_of self.now)) }
     {
-        if mode != Mode::Share {
-            return;
-        }
-        if let Some(value) = self.give_slot(n, group.name) {
-            group.set_slot(n, value);
-        }
-    }
-
-    /// The same of the credential.
-    fn move_uid(&mut self, mode: Mode, group: &mut HeldGroup)
-        ensures name { self.new.name ≡ self.old.name }
-        ensures whole { (pages : ℕ) → IsWhole pages self.old → IsWhole pages self.new }
-        ensures context { context_of self.new ≡ gives_uid group.old.name (under_share mode (sharing.own (context_of self.old).uid)) (context_of self.old) }
-        ensures group_name { group.new.name ≡ group.old.name }
-        ensures whole_group { (pages : ℕ) → IsWholeGroup pages group.old → IsWholeGroup pages group.new }
-        ensures group { group_of group.new ≡ takes_uid (under_share mode (sharing.own (context_of self.old).uid)) (group_of group.old) }
-    {
-        if mode != Mode::Share {
-            return;
-        }
-        if let Some(uid) = self.give_uid(group.name) {
-            group.set_uid(uid);
-        }
-    }
-
-    /// Moves the own pages under share into a group with no page.
-    fn move_pages(&mut self, pages: u16, spec: &Spec, group: &mut HeldGroup)
-        requires whole { IsWhole pages self.old }
-        requires whole_group { IsWholeGroup pages group.old }
-        requires empty { group_of group.old ≡ new_group }
-        ensures name { self.new.name ≡ self.old.name }
-        ensures whole { IsWhole pages self.new }
-        ensures context { context_of self.new ≡ gives_pages group.old.name (moved spec.now (context_of self.old)) (context_of self.old) }
-        ensures group_name { group.new.name ≡ group.old.name }
-        ensures whole_group { IsWholeGroup pages group.new }
-        ensures group { group_of group.new ≡ takes_pages (moved spec.now (context_of self.old)) new_group }
-    {
-        for p in 0..pages {
-            self.move_page(p as usize, mode_or_copy(spec, Key::Page(p)), group);
-        }
-    }
-
-    /// Moves the own slots under share into a group with no slot.
-    fn move_slots(&mut self, pages: u16, spec: &Spec, group: &mut HeldGroup)
-        requires whole { IsWhole pages self.old }
-        requires whole_group { IsWholeGroup pages group.old }
-        requires within { IsSpec pages spec.now }
-        requires empty { (group_of group.old).slot ≡ new_group.slot }
-        ensures name { self.new.name ≡ self.old.name }
-        ensures whole { IsWhole pages self.new }
-        ensures context { context_of self.new ≡ gives_slots group.old.name (moved spec.now (context_of self.old)) (context_of self.old) }
-        ensures group_name { group.new.name ≡ group.old.name }
-        ensures whole_group { IsWholeGroup pages group.new }
-        ensures group { group_of group.new ≡ takes_slots (moved spec.now (context_of self.old)) (group_of group.old) }
-    {
-        for n in 0..SLOTS {
-            self.move_slot(n, mode_or_copy(spec, Key::Slot(n)), group);
-        }
-    }
-
-    /// Moves the own values under share into a group with nothing in it.
-    pub fn move_values(&mut self, pages: u16, spec: &Spec, group: &mut HeldGroup)
-        requires whole { IsWhole pages self.old }
-        requires whole_group { IsWholeGroup pages group.old }
-        requires within { IsSpec pages spec.now }
-        requires empty { group_of group.old ≡ new_group }
-        ensures name { self.new.name ≡ self.old.name }
-        ensures whole { IsWhole pages self.new }
-        ensures context { context_of self.new ≡ left_common group.old.name (moved spec.now (context_of self.old)) (context_of self.old) }
-        ensures group_name { group.new.name ≡ group.old.name }
-        ensures whole_group { IsWholeGroup pages group.new }
-        ensures group { group_of group.new ≡ moved spec.now (context_of self.old) }
-    {
-        self.move_pages(pages, spec, group);
-        self.move_slots(pages, spec, group);
-        self.move_uid(mode_or_copy(spec, Key::Cred), group);
+        self.moves_pages(pages, spec) || self.moves_slots(spec) || self.moves_uid(spec)
     }
 }
 
-/// The value of a page once more, in a cell of its own.
-fn copied_page(
-    alloc: Global,
-    value: Option<&PageValue>,
-) -> Result<Option<Cell<PageValue>>, OutOfMemory>
-    ensures { IfOk result (λ cell. cell ≡ option_map Own (option_copied value.entry)) }
-{
-    Ok(match value {
-        None => None,
-        Some(PageValue::Zero) => Some(Cell::Own(PageValue::Zero)),
-        Some(PageValue::Data(tag, bytes)) => Some(Cell::Own(PageValue::Data(
-            *tag,
-            PageBytes::copy_of(alloc, bytes)?,
-        ))),
-    })
-}
+impl WholeWorld {
+    ghost use Rattle.std.specs.FinMap as fm;
+    ghost use Rattle.std.specs.List.{position, position_or_len};
+    ghost use Rattle.lwc_base.specs.Fresh.{IsNamedGroup};
+    ghost use Rattle.lwc_base.specs.Sharing.{needs_group, share};
+    ghost use Rattle.lwc_base.specs.World.{change_context, context, is_live, next_group};
+    ghost use Rattle.whole_world.specs.Rows.{is_group_past};
+    ghost use Rattle.whole_world.specs.Seen.{HasRoom, HasGroupRoom, seen, size_of};
 
-/// The cell that a page has once its value has moved into a group, if it was the context's own.
-fn shared_page(cell: Option<&Cell<PageValue>>, group: Name) -> Option<Cell<PageValue>>
-    ensures { result ≡ page_after group (own_value (option_copied cell.entry)) (option_copied cell.entry) }
-{
-    match cell {
-        None => None,
-        Some(Cell::Own(_)) => Some(Cell::Common(group)),
-        Some(Cell::Common(other)) => Some(Cell::Common(*other)),
+    /// Whether a clone moves a value into a new group (`needs_group`).
+    #[tactic(auto, unfolding(lwc_base::specs::Sharing::needs_group))]
+    pub(crate) fn moves_values(&self, c: Name, spec: &Spec) -> bool
+        requires { IsTrue (is_live (seen self.now) c) }
+        ensures { result ≡ needs_group (seen self.now) c spec.now }
+    {
+        self.held(c).moves_values(self.page_count(), spec)
+    }
+
+    /// The place of the first group that stands past a name, if one does.
+    fn group_place_past(&self, g: Name) -> Option<usize>
+        ensures { result ≡ position (is_group_past g) self.now.groups.items }
+    {
+        self.groups.iter().position(|held| g < held.name)
+    }
+
+    /// The place for a group of a new name: before the first that stands past it, or behind all.
+    fn group_place_for(&self, g: Name) -> usize
+        ensures place { result ≡ position_or_len (is_group_past g) self.now.groups.items }
+        ensures within { result ≤ vec_len self.now.groups }
+    {
+        match self.group_place_past(g) {
+            Some(i) => i,
+            None => self.groups.len(),
+        }
+    }
+
+    /// Puts in a group of a new name that its job has counted.
+    fn insert_group(&mut self, held: HeldGroup)
+        requires fresh { IsFalse (fm.contains_key (seen self.old).groups held.name) }
+        requires counted { IsNamedGroup (seen self.old).next held.name }
+        requires whole { IsWholeGroup (seen self.old).pages held }
+        requires room { HasGroupRoom self.old }
+        ensures world { seen self.new ≡ record (seen self.old) { groups = fm.insert (seen self.old).groups held.name (group_of held) } }
+        ensures size { size_of self.new ≡ size_of self.old }
+        ensures room { HasRoom self.old → HasRoom self.new }
+    {
+        let place = self.group_place_for(held.name);
+        self.groups.insert(place, held).unwrap();
+    }
+
+    /// Moves a context's own values under share into a group with nothing in it, which its job has counted.
+    fn move_out(&mut self, c: Name, spec: &Spec, group: &mut HeldGroup)
+        requires within { IsSpec (seen self.old).pages spec.now }
+        requires counted { IsNamedGroup (seen self.old).next group.old.name }
+        requires whole { IsWholeGroup (seen self.old).pages group.old }
+        requires empty { group_of group.old ≡ new_group }
+        requires live { IsTrue (is_live (seen self.old) c) }
+        ensures world { seen self.new ≡ change_context (seen self.old) c (left_common group.old.name (moved spec.now (context (seen self.old) c))) }
+        ensures size { size_of self.new ≡ size_of self.old }
+        ensures room { HasRoom self.old → HasRoom self.new }
+        ensures group_room { HasGroupRoom self.old → HasGroupRoom self.new }
+        ensures name { group.new.name ≡ group.old.name }
+        ensures whole { IsWholeGroup (seen self.old).pages group.new }
+        ensures group { group_of group.new ≡ moved spec.now (context (seen self.old) c) }
+    {
+        let pages = self.page_count();
+        match self.place_of(c) {
+            Some(i) => self.contexts[i].move_values(pages, spec, group),
+            None => unreachable!(),
+        }
+    }
+
+    /// Moves a context's own values under share into this group, which the job makes (`share`, where a value moves).
+    pub(crate) fn share(&mut self, c: Name, spec: &Spec, job: u32, mut group: HeldGroup)
+        requires live { IsTrue (is_live (seen self.old) c) }
+        requires within { IsSpec (seen self.old).pages spec.now }
+        requires needed { needs_group (seen self.old) c spec.now ≡ true }
+        requires known { job < (size_of self.old).jobs }
+        requires few { ((seen self.old).next job).groups < 2 ^ 31 }
+        requires name { group.name ≡ next_group (seen self.old) job }
+        requires whole { IsWholeGroup (seen self.old).pages group }
+        requires empty { group_of group ≡ new_group }
+        requires room { HasGroupRoom self.old }
+        ensures world { seen self.new ≡ share (seen self.old) c job spec.now }
+        ensures size { size_of self.new ≡ size_of self.old }
+        ensures room { HasRoom self.old → HasRoom self.new }
+    {
+        self.count_group(job);
+        self.move_out(c, spec, &mut group);
+        self.insert_group(group);
     }
 }
