@@ -10,3 +10,4 @@ pub mod SharedCells
 pub mod Unnamed
 pub mod GroupRows
 pub mod ShareSteps
+pub mod CloneCells

@@ -2,6 +2,7 @@
 #![tactic(auto)]
 
 mod adds;
+mod cloning;
 mod counting;
 mod counts;
 mod group;
