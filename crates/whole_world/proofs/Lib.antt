@@ -1,6 +1,9 @@
 pub mod Adding
 pub mod Contexts
 pub mod OldGroups
+pub mod Opening
 pub mod Places
+pub mod RowCounts
 pub mod RowLemmas
 pub mod RowWorlds
+pub mod Stores
