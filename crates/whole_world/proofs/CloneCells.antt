@@ -2,6 +2,7 @@
 use Rattle.std.proofs.Common.{◌≡◌, ℕ, ◌+◌, ◌<◌, ◌≤◌, arith, length, get_or, map, refl, sym, ap, subst, ◌∙◌, true, List, [], ◌∷◌, ◌++◌, Option, Some, None, ⊎_elim}
 use Rattle.std.specs.List.{range_with_len}
 use Rattle.std.specs.Option.{option_map}
+use Rattle.std.specs.FinMap as fm
 use Rattle.std.proofs.lemmas.Bool.{cases_lt}
 use Rattle.std.proofs.lemmas.Grind.{common_steps}
 use Rattle.std.proofs.lemmas.List.FromFn.{get_or-map-range_with_len, length-map-range_with_len, map-range_with_len_more}
@@ -22,7 +23,7 @@ use Rattle.lwc_base.specs.Fresh.{IsFresh, NamesOldGroups}
 use Rattle.lwc_base.specs.Modes.{IsSpec, mode_or_copy}
 use Rattle.lwc_base.specs.Sharing.{cell_after, clone, clone_context, cloned_page, cloned_slot, cloned_uid, left_common, moved, own, page_after, share, under_share}
 use Rattle.lwc_base.specs.World.{World, Context, add_context, context, is_live, next_context, next_group}
-use Rattle.lwc_base.proofs.Cloning.{contexts-share, fresh-share, names_old-clone, next_context-share, pages-share}
+use Rattle.lwc_base.proofs.Cloning.{contexts-share, fresh-share, len_contexts-share, names_old-clone, next_context-share, pages-share}
 use Rattle.lwc_base.proofs.Sharing.{page_at-share, slot_at-share, uid_at-share}
 use Rattle.whole_world.specs.declared.held.Held.{Held}
 use Rattle.whole_world.specs.Copies.{context_of, held_page, held_slot}
@@ -118,6 +119,9 @@ module _ (w shared : World) (c : Name) (job : ℕ) (items : List Item) (is_share
 
   pub shared-pages : shared.pages ≡ w.pages
   shared-pages = ap (λ (v : World). v.pages) is_shared ∙ pages-share w c job items
+
+  pub shared-len : fm.len shared.contexts ≡ fm.len w.contexts
+  shared-len = ap (λ (v : World). fm.len v.contexts) is_shared ∙ len_contexts-share w c job items
 
   pub shared-old_groups : (x : Context) (entry : Regs) → IsFresh w → x ≡ clone (share w c job items) c items entry → NamesOldGroups shared.next x
   shared-old_groups x entry fresh made =

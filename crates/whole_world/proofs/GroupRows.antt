@@ -1,5 +1,5 @@
 -- The row of a context whose values move, and a group of a new name among the rows.
-use Rattle.std.proofs.Common.{◌≡◌, ℕ, ◌≤◌, arith, List, refl, sym, ap, subst, ◌∙◌, true, false, Option, Some, None, get_or}
+use Rattle.std.proofs.Common.{◌≡◌, ℕ, ◌+◌, ◌<◌, ◌≤◌, arith, length, List, refl, sym, ap, subst, ◌∙◌, true, false, Option, Some, None, get_or}
 use Rattle.std.specs.Prelude.{is_some, vec_len}
 use Rattle.std.proofs.lemmas.Bool.{false≢true}
 use Rattle.std.proofs.lemmas.Grind.{common_steps}
@@ -20,8 +20,8 @@ use Rattle.whole_world.specs.Copies.{context_of, group_of, held_slot}
 use Rattle.whole_world.specs.Rows.{groups_of, has_group_name, has_name, is_group_past, world_of}
 use Rattle.whole_world.specs.Sound.{IsSound, IsWhole, IsWholeGroup}
 use Rattle.whole_world.proofs.Moving.{page-past}
-use Rattle.whole_world.proofs.RowLemmas.{IsPlace, place_found, row-at-place, map_of-insert, sorted-insert}
-use Rattle.whole_world.proofs.RowWorlds.{All-inserted, context-found, dead-missed, whole-found, get-group, nothing_mapped}
+use Rattle.whole_world.proofs.RowLemmas.{IsPlace, place_found, place_within, row-at-place, map_of-insert, sorted-insert}
+use Rattle.whole_world.proofs.RowWorlds.{All-inserted, context-found, dead-missed, whole-found, get-group, len-groups, length-inserted, nothing_mapped}
 
 -- a context that is as whole as another
 pub as_whole : (count : ℕ) (old new : Held) → IsWhole count old → IsWhole count new → (pages : ℕ) → IsWhole pages old → IsWhole pages new
@@ -73,11 +73,14 @@ module _ (size : WorldSize) (contexts : List Held) (groups : List HeldGroup) (co
       (map_of-insert (λ h. h.name) group_of new.name new groups sound.groups_sorted (no_group_found new.name free) refl)
 
   -- the world stays sound
-  pub sound-insert_group : (new : HeldGroup) → fm.contains_key now.groups new.name ≡ false → IsNamedGroup now.next new.name → IsWholeGroup size.pages new →
+  pub sound-insert_group : (new : HeldGroup) → fm.contains_key now.groups new.name ≡ false → IsNamedGroup now.next new.name → IsWholeGroup size.pages new → fm.len now.groups < size.groups →
       IsSound size contexts (insert groups (position_or_len (is_group_past new.name) groups) new) counts
-  sound-insert_group new free named whole = record {
+  sound-insert_group new free named whole few = let place : length groups < size.groups = subst (λ n. n < size.groups) (len-groups size contexts groups counts sound) few in record {
     some_job = sound.some_job;
     few_pages = sound.few_pages;
+    few_rows = sound.few_rows;
+    few_contexts = sound.few_contexts;
+    few_groups = omega (arith, length-inserted groups (position_or_len (is_group_past new.name) groups) new (place_within (is_group_past new.name) groups), place);
     counted = sound.counted;
     contexts_sorted = sound.contexts_sorted;
     groups_sorted = sorted-insert (λ h. h.name) group_of new.name new groups sound.groups_sorted (no_group_found new.name free) refl;

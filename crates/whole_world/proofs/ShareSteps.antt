@@ -76,7 +76,7 @@ module _ (w counted : World) (job : ℕ) (is_counted : counted ≡ count_on w jo
     left-named g is =
         subst (λ (next : ℕ → Counters). IsNamedGroup next g) (sym (ap (λ (v : World). v.next) is_left ∙ (values-change_context counted c change).next)) (counted-named g is)
 
-    left-groups : left.groups ≡ w.groups
+    pub left-groups : left.groups ≡ w.groups
     unfolding count_on
     left-groups = ap (λ (v : World). v.groups) is_left ∙ groups-change_context counted c change ∙ ap (λ (v : World). v.groups) is_counted
 

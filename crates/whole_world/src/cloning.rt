@@ -1,4 +1,4 @@
-ghost use Rattle.std.specs.Prelude.{◌≡◌, ◌+◌, ◌<◌, ◌≤◌, ◌^◌, IfOk, IsTrue, OnErr, OnOk, map, vec_len};
+ghost use Rattle.std.specs.Prelude.{◌≡◌, ◌<◌, IfOk, IsTrue, OnErr, OnOk, map, true};
 ghost use Rattle.std.specs.List.{range_with_len};
 ghost use Rattle.std.specs.Option.{option_copied, option_map};
 ghost use Rattle.lwc_base.specs.declared.cell.Cell.TheVariants.{Own};
@@ -62,18 +62,7 @@ impl WholeWorld {
     ghost use Rattle.whole_world.specs.Copies.{context_of};
     ghost use Rattle.whole_world.specs.Seen.{HasRoom, HasGroupRoom, seen, size_of};
     ghost use Rattle.whole_world.specs.Sound.{IsWhole};
-    ghost use Rattle.world_face.specs.Calls.{MayName};
-
-    /// The next name of a job's contexts.
-    fn next_context(&self, job: u32) -> Name
-        requires { job < (size_of self.now).jobs }
-        ensures { result ≡ next_context (seen self.now) job }
-    {
-        Name {
-            job,
-            k: self.counted(job).contexts,
-        }
-    }
+    ghost use Rattle.world_face.specs.Calls.{HasGroupPlace, HasPlace, MayName};
 
     /// The next name of a job's groups.
     fn next_group(&self, job: u32) -> Name
@@ -150,7 +139,7 @@ impl WholeWorld {
         requires known { job < (size_of self.now).jobs }
         ensures { IfOk result (λ pages. pages.items ≡ map (λ p. cloned_page (share (seen self.now) c job spec.now) c p (mode_or_copy spec.now (Page p))) (range_with_len 0 (seen self.now).pages)) }
     {
-        let count = self.page_count();
+        let count = self.page_limit();
         let mut pages = Vec::with_capacity(self.alloc, count as usize)?;
         for p in 0..count {
             pages.push(self.cloned_page(c, spec, job, p)?)?;
@@ -187,7 +176,7 @@ impl WholeWorld {
         ensures context { IfOk result (λ held. context_of held ≡ clone (share (seen self.now) c job spec.now) c spec.now entry.now) }
     {
         Ok(Held {
-            name: self.next_context(job),
+            name: self.next_name(job),
             pages: self.cloned_pages(c, spec, job)?,
             slots: self.cloned_slots(c, spec, job)?,
             uid: self.cloned_uid(c, spec, job),
@@ -201,6 +190,7 @@ impl WholeWorld {
         requires live { IsTrue (is_live (seen self.old) c) }
         requires within { IsSpec (seen self.old).pages spec.now }
         requires may { MayName (size_of self.old) (seen self.old) job }
+        requires group { needs_group (seen self.old) c spec.now ≡ true → HasGroupPlace (size_of self.old) (seen self.old) }
         requires room { HasGroupRoom self.old }
         ensures shared { OnOk result (seen self.new ≡ share (seen self.old) c job spec.now) }
         ensures err { OnErr result (seen self.new ≡ seen self.old) }
@@ -211,7 +201,7 @@ impl WholeWorld {
             let group = HeldGroup::empty(
                 self.alloc,
                 self.next_group(job),
-                self.page_count() as usize,
+                self.page_limit() as usize,
             )?;
             self.share(c, spec, job, group);
         }
@@ -230,6 +220,8 @@ impl WholeWorld {
         requires live { IsTrue (is_live (seen self.old) c) }
         requires within { IsSpec (seen self.old).pages spec.now }
         requires may { MayName (size_of self.old) (seen self.old) job }
+        requires place { HasPlace (size_of self.old) (seen self.old) }
+        requires group { needs_group (seen self.old) c spec.now ≡ true → HasGroupPlace (size_of self.old) (seen self.old) }
         ensures name { IfOk result (λ made. made ≡ next_context (seen self.old) job) }
         ensures cloned { OnOk result (seen self.new ≡ clone_context (seen self.old) c job spec.now entry.now) }
         ensures err { OnErr result (seen self.new ≡ seen self.old) }

@@ -58,7 +58,7 @@ impl WholeWorld {
 
     /// How many pages each context may have; they are few.
     #[tactic(auto, unfolding(crate::specs::Seen::seen, crate::specs::Rows::world_of))]
-    pub(crate) fn page_count(&self) -> u16
+    pub(crate) fn page_limit(&self) -> u16
         ensures { result ≡ (seen self.now).pages }
     {
         self.size.pages as u16
@@ -142,7 +142,7 @@ impl WholeWorld {
         requires { IsTrue (is_live (seen self.now) c) }
         ensures { result ≡ count_of_ranges (seen self.now).pages (after_sharing (seen self.now) c spec.now) }
     {
-        (0..self.page_count())
+        (0..self.page_limit())
             .filter(|p| self.begins_after_sharing(c, spec, *p))
             .count() as u32
     }
@@ -153,7 +153,7 @@ impl WholeWorld {
         requires { IsTrue (is_live (seen self.now) c) }
         ensures { result ≡ count_of_ranges (seen self.now).pages (in_clone (seen self.now) c spec.now) }
     {
-        (0..self.page_count())
+        (0..self.page_limit())
             .filter(|p| self.begins_in_clone(c, spec, *p))
             .count() as u32
     }
@@ -176,7 +176,7 @@ impl WholeWorld {
         requires { IsTrue (is_live (seen self.now) c) }
         ensures { result ≡ count_of_ranges (seen self.now).pages (after_mapping (seen self.now) c range.from range.to present) }
     {
-        (0..self.page_count())
+        (0..self.page_limit())
             .filter(|p| self.begins_after_mapping(c, range, present, *p))
             .count() as u32
     }

@@ -73,6 +73,7 @@ impl WholeWorld {
     ghost use Rattle.lwc_base.specs.World.{change_context, context, is_live, next_group};
     ghost use Rattle.whole_world.specs.Rows.{is_group_past};
     ghost use Rattle.whole_world.specs.Seen.{HasRoom, HasGroupRoom, seen, size_of};
+    ghost use Rattle.world_face.specs.Calls.{HasGroupPlace};
 
     /// Whether a clone moves a value into a new group (`needs_group`).
     #[tactic(auto, unfolding(lwc_base::specs::Sharing::needs_group))]
@@ -80,7 +81,7 @@ impl WholeWorld {
         requires { IsTrue (is_live (seen self.now) c) }
         ensures { result ≡ needs_group (seen self.now) c spec.now }
     {
-        self.held(c).moves_values(self.page_count(), spec)
+        self.held(c).moves_values(self.page_limit(), spec)
     }
 
     /// The place of the first group that stands past a name, if one does.
@@ -106,6 +107,7 @@ impl WholeWorld {
         requires fresh { IsFalse (fm.contains_key (seen self.old).groups held.name) }
         requires counted { IsNamedGroup (seen self.old).next held.name }
         requires whole { IsWholeGroup (seen self.old).pages held }
+        requires place { HasGroupPlace (size_of self.old) (seen self.old) }
         requires room { HasGroupRoom self.old }
         ensures world { seen self.new ≡ record (seen self.old) { groups = fm.insert (seen self.old).groups held.name (group_of held) } }
         ensures size { size_of self.new ≡ size_of self.old }
@@ -130,7 +132,7 @@ impl WholeWorld {
         ensures whole { IsWholeGroup (seen self.old).pages group.new }
         ensures group { group_of group.new ≡ moved spec.now (context (seen self.old) c) }
     {
-        let pages = self.page_count();
+        let pages = self.page_limit();
         match self.place_of(c) {
             Some(i) => self.contexts[i].move_values(pages, spec, group),
             None => unreachable!(),
@@ -147,6 +149,7 @@ impl WholeWorld {
         requires name { group.name ≡ next_group (seen self.old) job }
         requires whole { IsWholeGroup (seen self.old).pages group }
         requires empty { group_of group ≡ new_group }
+        requires place { HasGroupPlace (size_of self.old) (seen self.old) }
         requires room { HasGroupRoom self.old }
         ensures world { seen self.new ≡ share (seen self.old) c job spec.now }
         ensures size { size_of self.new ≡ size_of self.old }

@@ -15,7 +15,7 @@ use Rattle.whole_world.proofs.world.WholeWorld.move_out.Goals as goal
 pub move_values-requires-clause-whole : goal.move_values-requires-clause-whole
 unfolding seen world_of
 move_values-requires-clause-whole c =
-    subst (λ n. IsWhole n c.index_mut.result.now) (sym c.page_count-pages.ensures)
+    subst (λ n. IsWhole n c.index_mut.result.now) (sym c.page_limit-pages.ensures)
     (whole-row _ _ _ _ c.args.self.now.sound c.args.c c.in-Some.i _ (sym c.place_of.ensures ∙ c.in-Some.is) c.index_mut.ensures.value)
 
 pub unreachable-requires : goal.unreachable-requires
@@ -36,7 +36,7 @@ invariant_of-self c =
     record {
       sound = sound-row _ _ _ _ c.args.self.now.sound c.args.c c.in-Some.i _ _ (left_common c.args.group.now.name (moved c.args.spec.now (context (seen c.args.self.now) c.args.c))) found
           c.index_mut.ensures.value c.move_values.ensures.name
-          (as_whole _ _ _ whole (subst (λ n. IsWhole n c.move_values.new.self) c.page_count-pages.ensures c.move_values.ensures.whole))
+          (as_whole _ _ _ whole (subst (λ n. IsWhole n c.move_values.new.self) c.page_limit-pages.ensures c.move_values.ensures.whole))
           (c.move_values.ensures.context ∙ ap (λ (x : Context). left_common c.args.group.now.name (moved c.args.spec.now x) (context_of c.index_mut.result.now)) (sym here))
           (fresh-left_common _ c.args.c c.args.group.now.name _ c.requires.counted c.args.self.now.sound.fresh);
     }

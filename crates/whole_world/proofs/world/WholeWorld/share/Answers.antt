@@ -1,11 +1,13 @@
-use Rattle.std.proofs.Common.{◌∙◌, sym, subst}
+use Rattle.std.proofs.Common.{ap, arith, ◌∙◌, sym, subst}
+use Rattle.std.specs.FinMap as fm
+use Rattle.lwc_base.specs.declared.size.WorldSize.{WorldSize}
 use Rattle.lwc_base.specs.Modes.{IsSpec}
 use Rattle.lwc_base.specs.Sharing.{left_common, moved}
 use Rattle.lwc_base.specs.World.{context}
 use Rattle.whole_world.specs.Seen.{seen}
 use Rattle.whole_world.specs.Sound.{IsWholeGroup}
 use Rattle.whole_world.proofs.RowWorlds.{fresh-seen}
-use Rattle.whole_world.proofs.ShareSteps.{counted-live, counted-named, counted-pages, left-named, left-new, left-pages, share-steps}
+use Rattle.whole_world.proofs.ShareSteps.{counted-live, counted-named, counted-pages, left-groups, left-named, left-new, left-pages, share-steps}
 use Rattle.whole_world.proofs.world.WholeWorld.share.Goals as goal
 
 pub move_out-requires-clause-within : goal.move_out-requires-clause-within
@@ -40,6 +42,11 @@ insert_group-requires-clause-whole c =
     (counted-pages (seen c.args.self.now) (seen c.count_group.new.self) c.args.job c.count_group.ensures.world
     ∙ sym (left-pages (seen c.args.self.now) (seen c.count_group.new.self) c.args.job c.count_group.ensures.world (seen c.move_out.new.self) c.args.c _ c.move_out.ensures.world))
     c.move_out.ensures.whole
+
+pub insert_group-requires-clause-place : goal.insert_group-requires-clause-place
+insert_group-requires-clause-place c =
+    let same = ap fm.len (left-groups (seen c.args.self.now) (seen c.count_group.new.self) c.args.job c.count_group.ensures.world (seen c.move_out.new.self) c.args.c _ c.move_out.ensures.world) in
+    omega (arith, same, ap (λ (size : WorldSize). size.groups) (c.move_out.ensures.size ∙ c.count_group.ensures.size), c.requires.place)
 
 pub returns-clause-world : goal.returns-clause-world
 returns-clause-world c =
