@@ -1,4 +1,5 @@
 pub mod Begun
+pub mod Fresh
 pub mod Kernel
 pub mod OneContext
 pub mod OnePage

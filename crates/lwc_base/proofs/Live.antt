@@ -12,8 +12,8 @@ use Rattle.lwc_base.specs.declared.descriptor.Descriptor.{Descriptor}
 use Rattle.lwc_base.specs.declared.name.Name.{Name}
 use Rattle.lwc_base.specs.declared.page.PageValue.{PageValue}
 use Rattle.lwc_base.specs.Names.{name_cmp}
-use Rattle.lwc_base.specs.Cells.{put_page_in, put_page, put_slot_in, put_slot}
-use Rattle.lwc_base.specs.Mapping.{map_pages}
+use Rattle.lwc_base.specs.Cells.{put_page_in, put_page, put_slot_in, put_slot, put_uid_in, put_uid}
+use Rattle.lwc_base.specs.Mapping.{map_pages, unmap_pages}
 use Rattle.lwc_base.specs.Store.{put_pages}
 use Rattle.lwc_base.specs.World.{World, Context, Group, Counters, is_live, changed_context, change_context, changed_group, change_group, count_on}
 use Rattle.lwc_base.proofs.Orders.{name_cmp-total, name_cmp-IsAntisymmetric}
@@ -92,6 +92,18 @@ values-put_slot w c n d = values-put_slot_in w c n d _
 pub values-map_pages : (w : World) (c : Name) (from to : ℕ) → ChangesValuesOnly w (map_pages w c from to)
 unfolding map_pages
 values-map_pages w c from to = values-change_context w c _
+
+pub values-unmap_pages : (w : World) (c : Name) (from to : ℕ) → ChangesValuesOnly w (unmap_pages w c from to)
+unfolding unmap_pages
+values-unmap_pages w c from to = values-change_context w c _
+
+values-put_uid_in : (w : World) (c : Name) (uid : ℕ) (cell : Cell ℕ) → ChangesValuesOnly w (put_uid_in w c uid cell)
+values-put_uid_in w c uid (Own old) = values-change_context w c _
+values-put_uid_in w c uid (Common g) = values-change_group w g _
+
+pub values-put_uid : (w : World) (c : Name) (uid : ℕ) → ChangesValuesOnly w (put_uid w c uid)
+unfolding put_uid
+values-put_uid w c uid = values-put_uid_in w c uid _
 
 pub values-put_pages : (w : World) (c : Name) (values : List (ℕ × PageValue)) → ChangesValuesOnly w (put_pages w c values)
 values-put_pages w c [] = same_world w
