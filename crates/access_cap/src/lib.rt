@@ -13,7 +13,7 @@ use lwc_base::Cap;
 #[tactic(auto, unfolding(lwc_base::specs::Capabilities::full_cap))]
 pub fn full(pages: u32) -> Cap
     requires { pages ≡ CAP_PAGES }
-    ensures full { result ≡ full_cap }
+    ensures full { result ≡ full_cap pages }
     ensures every { (key : Key) → number_of key < limit pages (kind_of key) → has_key result key ≡ true }
 {
     Cap {

@@ -1,5 +1,6 @@
 -- The keys that an access capability has.
-use Rattle.std.specs.Prelude.{ℕ, ◌-◌, ◌/◌, ◌%◌, ◌^◌, ◌==◌, Bool, true, false, replicate, slice_index}
+use Rattle.std.specs.Prelude.{ℕ, ◌-◌, ◌*◌, ◌/◌, ◌%◌, ◌^◌, ◌==◌, Bool, true, false, map, min, replicate, slice_index}
+use Rattle.std.specs.List.{range_with_len}
 use Rattle.lwc_base.specs.declared.descriptor.Cap.{Cap}
 use Rattle.lwc_base.specs.declared.key.Key.{Key}
 use Rattle.lwc_base.specs.declared.key.Key.TheVariants.{Page, Slot, Cred}
@@ -18,6 +19,10 @@ has_key cap Cred = cap.cred
 unfoldable pub empty_cap : Cap
 empty_cap = record { pages = replicate 16 0; slots = 0; cred = false }
 
--- the capability of every key of 1024 pages, 64 slots and the credential: all bits are set
-unfoldable pub full_cap : Cap
-full_cap = record { pages = replicate 16 (2 ^ 64 - 1); slots = 2 ^ 64 - 1; cred = true }
+-- word i of the pages of a capability that has all of so many pages: a bit for each of the 64 from page 64 i on that there are
+abbrev pub full_word : ℕ → ℕ → ℕ
+full_word pages i = 2 ^ min 64 (pages - 64 * i) - 1
+
+-- the capability of every key: so many pages, at most 1024, all slots and the credential
+unfoldable pub full_cap : ℕ → Cap
+full_cap pages = record { pages = map (full_word pages) (range_with_len 0 16); slots = 2 ^ 64 - 1; cred = true }

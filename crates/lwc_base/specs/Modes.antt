@@ -1,5 +1,5 @@
 -- The mode of a key under a list of items.
-use Rattle.std.specs.Prelude.{◌≡◌, ℕ, ◌<◌, ◌≤◌, ◌&&◌, Bool, true, false, List, Option, nat_le, nat_lt, unwrap_or, All}
+use Rattle.std.specs.Prelude.{◌≡◌, ℕ, ◌<◌, ◌≤◌, ◌&&◌, Bool, true, false, List, Option, nat_le, length, nat_lt, unwrap_or, All}
 use Rattle.std.specs.List.{find, AllPairs}
 use Rattle.std.specs.Option.{option_map}
 use Rattle.lwc_base.specs.declared.descriptor.TheConstants.{SLOTS}
@@ -10,6 +10,7 @@ use Rattle.lwc_base.specs.declared.key.Key.{Key}
 use Rattle.lwc_base.specs.declared.key.Key.TheVariants as key
 use Rattle.lwc_base.specs.declared.key.Kind.{Kind}
 use Rattle.lwc_base.specs.declared.key.Kind.TheVariants as kind
+use Rattle.lwc_base.specs.declared.spec.TheConstants.{MOST_ITEMS}
 
 -- what a key is of
 abbrev pub kind_of : Key → Kind
@@ -44,7 +45,7 @@ names item k = same_kind item.kind (kind_of k) && nat_le item.from (number_of k)
 unfoldable pub mode : List Item → Key → Option Mode
 mode items k = option_map (λ item. item.mode) (find (λ item. names item k) items)
 
--- what becomes of a key: its mode, and a copy where no item names it
+-- what becomes of a key in a new context: its mode, and a copy where no item names it
 unfoldable pub mode_or_copy : List Item → Key → Mode
 mode_or_copy items k = unwrap_or (mode items k) Copy
 
@@ -53,7 +54,7 @@ pub record IsItem (pages : ℕ) (item : Item) : Type 0 where
   pub some : item.from < item.to
   pub within : item.to ≤ limit pages item.kind
 
--- whether two items have a key in common
+-- whether two items, each of which names a key, have one in common
 abbrev pub overlaps : Item → Item → Bool
 overlaps a b = same_kind a.kind b.kind && nat_lt a.from b.to && nat_lt b.from a.to
 
@@ -61,7 +62,8 @@ overlaps a b = same_kind a.kind b.kind && nat_lt a.from b.to && nat_lt b.from a.
 abbrev pub AreApart : Item → Item → Type 0
 AreApart a b = overlaps a b ≡ false
 
--- the items of a specifier: each is one, and no two have a key in common
+-- the items of a specifier: they are not too many, each is one, and no two have a key in common
 pub record IsSpec (pages : ℕ) (items : List Item) : Type 0 where
+  pub few : length items ≤ MOST_ITEMS
   pub each : All (IsItem pages) items
   pub apart : AllPairs AreApart items

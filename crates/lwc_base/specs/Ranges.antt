@@ -7,27 +7,27 @@ use Rattle.lwc_base.specs.declared.cell.Cell.TheVariants.{Own, Common}
 use Rattle.lwc_base.specs.declared.page.PageValue.{PageValue}
 use Rattle.lwc_base.specs.declared.name.Name.{Name}
 use Rattle.lwc_base.specs.Names.{name_cmp}
-use Rattle.lwc_base.specs.World.{World, context}
+use Rattle.lwc_base.specs.World.{World, Context, context}
 
--- whether two pages that follow each other are in one range: both are own, or both are common of one group
-abbrev pub in_one_range : Option (Cell PageValue) → Option (Cell PageValue) → Bool
-in_one_range (Some (Own a)) (Some (Own b)) = true
-in_one_range (Some (Common g)) (Some (Common h)) = is_eq (name_cmp g h)
-in_one_range _ _ = false
+-- whether two pages are alike: both are present, and both are own or both common of one group
+abbrev pub are_alike : Option (Cell PageValue) → Option (Cell PageValue) → Bool
+are_alike (Some (Own a)) (Some (Own b)) = true
+are_alike (Some (Common g)) (Some (Common h)) = is_eq (name_cmp g h)
+are_alike _ _ = false
 
--- whether a page is in one range with the page before it; the first page has none before it
-abbrev pub goes_on : (ℕ → Option (Cell PageValue)) → ℕ → Bool
-goes_on page zero = false
-goes_on page (suc p) = in_one_range (page p) (page (suc p))
+-- whether a page of a context is in one range with the page before it; the first page has none before it
+abbrev pub goes_on : Context → ℕ → Bool
+goes_on x zero = false
+goes_on x (suc p) = are_alike (x.page p) (x.page (suc p))
 
 -- whether a range begins at a page: the page is present, and not in one range with the page before it
-unfoldable pub begins_range : (ℕ → Option (Cell PageValue)) → ℕ → Bool
-begins_range page p = is_some (page p) && not (goes_on page p)
+unfoldable pub begins_range : Context → ℕ → Bool
+begins_range x p = is_some (x.page p) && not (goes_on x p)
 
--- how many ranges the first so many pages have
-unfoldable pub ranges : ℕ → (ℕ → Option (Cell PageValue)) → ℕ
-ranges pages page = count_by (begins_range page) (range_with_len 0 pages)
+-- how many ranges the first so many pages of a context have
+unfoldable pub ranges : ℕ → Context → ℕ
+ranges pages x = count_by (begins_range x) (range_with_len 0 pages)
 
--- how many ranges a context has
+-- how many ranges a context of the world has
 unfoldable pub ranges_of : World → Name → ℕ
-ranges_of w c = ranges w.pages (context w c).page
+ranges_of w c = ranges w.pages (context w c)

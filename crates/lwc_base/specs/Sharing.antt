@@ -16,6 +16,7 @@ use Rattle.lwc_base.specs.declared.name.Name.{Name}
 use Rattle.lwc_base.specs.declared.page.PageValue.{PageValue}
 use Rattle.lwc_base.specs.declared.regs.Regs.{Regs}
 use Rattle.lwc_base.specs.Cells.{page_at, slot_at, uid_at}
+use Rattle.lwc_base.specs.Frames.{own_value}
 use Rattle.lwc_base.specs.Modes.{mode_or_copy}
 use Rattle.lwc_base.specs.Ranges.{ranges, ranges_of}
 use Rattle.lwc_base.specs.World.{World, Context, Group, context, change_context, add_context, add_group, next_group}
@@ -24,11 +25,6 @@ use Rattle.lwc_base.specs.World.{World, Context, Group, context, change_context,
 abbrev pub own : {T : Type 0} → Cell T → Option T
 own (Own value) = Some value
 own (Common g) = None
-
--- the value of a page that is present and a context's own
-abbrev pub own_page : Option (Cell PageValue) → Option PageValue
-own_page None = None
-own_page (Some cell) = own cell
 
 -- what is there, where the mode is share
 abbrev pub under_share : {T : Type 0} → Mode → Option T → Option T
@@ -39,7 +35,7 @@ under_share Unmap value = None
 -- the values that items move out of a context, and into a group: what is its own, under each key of mode share
 unfoldable pub moved : List Item → Context → Group
 moved items x = record {
-  page = λ p. under_share (mode_or_copy items (Page p)) (own_page (x.page p));
+  page = λ p. under_share (mode_or_copy items (Page p)) (own_value (x.page p));
   slot = λ n. under_share (mode_or_copy items (Slot n)) (own (x.slot n));
   uid = under_share (mode_or_copy items Cred) (own x.uid);
 }
@@ -50,7 +46,7 @@ has_values pages g =
     list_any (λ p. is_some (g.page p)) (range_with_len 0 pages) || list_any (λ n. is_some (g.slot n)) (range_with_len 0 SLOTS)
     || is_some g.uid
 
--- whether items need a group: they move a value out of a context
+-- whether items need a group: they move a value out of the context
 unfoldable pub needs_group : World → Name → List Item → Bool
 needs_group w c items = has_values w.pages (moved items (context w c))
 
@@ -79,7 +75,7 @@ share w c job items =
     then add_group (change_context w c (left_common (next_group w job) (moved items (context w c)))) job (moved items (context w c))
     else w
 
--- what a new context gets for a page: under copy a value of its own, under share the same cell, under unmap nothing
+-- what is given for a context's page by a mode: under copy a value of its own, under share the same cell, under unmap nothing
 abbrev pub cloned_page : World → Name → ℕ → Mode → Option (Cell PageValue)
 cloned_page w c p Copy = option_map Own (page_at w c p)
 cloned_page w c p Share = (context w c).page p
@@ -115,4 +111,4 @@ clone_context w c job items entry = let s = share w c job items in add_context s
 unfoldable pub ranges_after_clone : World → Name → ℕ → List Item → ℕ × ℕ
 ranges_after_clone w c job items =
     let s = share w c job items in
-    (ranges_of s c, ranges s.pages (λ p. cloned_page s c p (mode_or_copy items (Page p))))
+    (ranges_of s c, ranges s.pages (clone s c items (context s c).entry))

@@ -54,7 +54,6 @@ impl Spec {
     pub fn items(&self) -> &[Item]
         ensures items { result.now ≡ self.now }
         ensures valid { IsSpec MOST_PAGES self.now }
-        ensures few { length self.now ≤ MOST_ITEMS }
     {
         self.items.as_slice()
     }

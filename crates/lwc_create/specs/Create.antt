@@ -70,7 +70,7 @@ after_call regs value = record {
 -- the new context is made, beginning with no caller in r0, and a descriptor of it with every key is put into the slot
 abbrev pub created : World → Name → ℕ → Regs → ℕ → World
 created w c job regs slot =
-    put_slot (clone_context w c job (items_of w c regs) (after_call regs no_caller)) c slot (Ctx (next_context w job) full_cap)
+    put_slot (clone_context w c job (items_of w c regs) (after_call regs no_caller)) c slot (Ctx (next_context w job) (full_cap w.pages))
 
 -- the end of the call: a refusal changes nothing; else the slot that was the lowest empty one gets the new context, and r0 tells the slot
 abbrev pub ended : World → Name → ℕ → Regs → ℕ → Option Refusal → Answer × World

@@ -9,6 +9,8 @@ use std::process::ExitCode;
 use std::rt::Env;
 
 #[cfg(test)]
+mod creating;
+#[cfg(test)]
 mod tests;
 
 /// The words of the line, the program's name first.

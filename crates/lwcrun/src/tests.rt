@@ -49,11 +49,17 @@ const MISALIGNED: [u64; 2] = [0x1004_0000_0400_0000, 0x2106_0400_0000_0000];
 /// `LI r4, 4096` / `STB r4, r4, 0`: a byte of a page that is not there.
 const PAST_ITS_PAGE: [u64; 2] = [0x0104_0000_0010_0000, 0x2200_0404_0000_0000];
 
-/// The bytes of an image of these instructions, pages of zeros and entries.
-fn image(
+/// A page of an image: its number, and its bytes as far as they are not the zeros at its end.
+pub type PageOf = (u32, &'static [u8]);
+
+/// The page 0, of zeros.
+pub const ZEROS: PageOf = (0, &[]);
+
+/// The bytes of an image of these instructions, pages and entries.
+pub fn image(
     alloc: Global,
     instructions: &[u64],
-    pages: &[u32],
+    pages: &[PageOf],
     entries: &[u32],
 ) -> Result<Vec<u8>, AllocError> {
     let mut bytes = Vec::from_slice(alloc, b"LWC1")?;
@@ -63,11 +69,13 @@ fn image(
     for instruction in instructions {
         bytes.extend_from_slice(&instruction.to_be_bytes())?;
     }
-    for page in pages {
-        bytes.extend_from_slice(&page.to_le_bytes())?;
-        for _ in 0..512 {
-            bytes.extend_from_slice(&[0; 8])?;
+    for (number, front) in pages {
+        bytes.extend_from_slice(&number.to_le_bytes())?;
+        let mut page = [0; 4096];
+        for (byte, value) in page.iter_mut().zip(front.iter()) {
+            *byte = *value;
         }
+        bytes.extend_from_slice(&page)?;
     }
     for entry in entries {
         bytes.extend_from_slice(&entry.to_le_bytes())?;
@@ -77,29 +85,29 @@ fn image(
 
 /// What a call left behind.
 #[derive(Drop)]
-struct Left {
-    status: ExitStatus,
-    out: MemorySink,
-    err: MemorySink,
+pub struct Left {
+    pub status: ExitStatus,
+    pub out: MemorySink,
+    pub err: MemorySink,
 }
 
 /// How the outside of a call behaves: which fetch fails, how many bytes a write takes at most, and which write fails.
 #[derive(Clone, Copy)]
-struct Outside {
+pub struct Outside {
     fetch: u64,
     most: usize,
     write: u64,
 }
 
 /// An outside in which nothing fails.
-const SURE: Outside = Outside {
+pub const SURE: Outside = Outside {
     fetch: u64::MAX,
     most: 1 << 20,
     write: u64::MAX,
 };
 
 /// Calls the program on the words after its name, over the files `guest` and `schedule`.
-fn call<R: AllocGlobal + Threads + Wait + Sync>(
+pub fn call<R: AllocGlobal + Threads + Wait + Sync>(
     rt: &R,
     guest: &[u8],
     schedule: &[u8],
@@ -131,7 +139,7 @@ fn call<R: AllocGlobal + Threads + Wait + Sync>(
 }
 
 /// The words of a replay of the two files.
-const REPLAY: [&str; 3] = ["replay", "guest", "schedule"];
+pub const REPLAY: [&str; 3] = ["replay", "guest", "schedule"];
 
 /// The report of `store_load` under three steps.
 const STORED: &str =
@@ -141,13 +149,13 @@ const STORED: &str =
 #[test]
 fn guests_run_as_their_schedules_say(rt: HostRuntime) -> Result<(), Fail> {
     let alloc = rt.alloc();
-    let store_load = image(alloc, &STORE_LOAD, &[0], &[0])?;
-    let two_threads = image(alloc, &TWO_THREADS, &[0], &[0, 3])?;
+    let store_load = image(alloc, &STORE_LOAD, &[ZEROS], &[0])?;
+    let two_threads = image(alloc, &TWO_THREADS, &[ZEROS], &[0, 3])?;
     let arithmetic = image(alloc, &ARITHMETIC, &[], &[0])?;
     let no_call = image(alloc, &NO_CALL, &[], &[0])?;
     let jumps_away = image(alloc, &JUMPS_AWAY, &[], &[0])?;
-    let misaligned = image(alloc, &MISALIGNED, &[0], &[0])?;
-    let past_its_page = image(alloc, &PAST_ITS_PAGE, &[0], &[0])?;
+    let misaligned = image(alloc, &MISALIGNED, &[ZEROS], &[0])?;
+    let past_its_page = image(alloc, &PAST_ITS_PAGE, &[ZEROS], &[0])?;
     let cases = [
         (&store_load, "000", STORED),
         (&store_load, "0 0\n0", STORED),
@@ -235,7 +243,7 @@ fn lines_set_frames_and_budget(rt: HostRuntime) -> Result<(), Fail> {
         context 0.0 pages 0 slots 2 uid 0\ngroups 0\nconsole -\nused 0\npeak 0\nsteps 3\nschedule 000\n"
             .as_slice()
     );
-    let two_pages = image(alloc, &STORE_LOAD, &[0, 1], &[0])?;
+    let two_pages = image(alloc, &STORE_LOAD, &[ZEROS, (1, &[])], &[0])?;
     let cases: [(&[&str], ExitStatus, &str); 9] = [
         (
             &["replay", "guest", "schedule", "--frames", "1"],
@@ -301,7 +309,7 @@ fn lines_set_frames_and_budget(rt: HostRuntime) -> Result<(), Fail> {
 #[test]
 fn inputs_are_refused_with_rule_and_offset(rt: HostRuntime) -> Result<(), Fail> {
     let alloc = rt.alloc();
-    let guest = image(alloc, &STORE_LOAD, &[0], &[0])?;
+    let guest = image(alloc, &STORE_LOAD, &[ZEROS], &[0])?;
     let mut longer = guest.clone()?;
     longer.push(0)?;
     let mut other_magic = guest.clone()?;
@@ -369,7 +377,7 @@ fn inputs_are_refused_with_rule_and_offset(rt: HostRuntime) -> Result<(), Fail> 
 
 #[test]
 fn a_fetch_that_fails_is_said_with_its_file(rt: HostRuntime) -> Result<(), Fail> {
-    let guest = image(rt.alloc(), &STORE_LOAD, &[0], &[0])?;
+    let guest = image(rt.alloc(), &STORE_LOAD, &[ZEROS], &[0])?;
     let none = call(&rt, &guest, b"000", &["replay", "none", "schedule"], SURE)?;
     assert_eq!(rt; none.status, ExitStatus::ReadFault);
     assert_eq!(rt; none.err.bytes(), b"lwcrun: cannot read none\n".as_slice());
@@ -390,7 +398,7 @@ fn a_fetch_that_fails_is_said_with_its_file(rt: HostRuntime) -> Result<(), Fail>
 
 #[test]
 fn a_write_that_fails_leaves_a_front_of_the_text(rt: HostRuntime) -> Result<(), Fail> {
-    let guest = image(rt.alloc(), &STORE_LOAD, &[0], &[0])?;
+    let guest = image(rt.alloc(), &STORE_LOAD, &[ZEROS], &[0])?;
     for write in 0..STORED.len() + 1 {
         let outside = Outside {
             most: 1,

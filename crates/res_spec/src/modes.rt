@@ -45,7 +45,7 @@ pub fn mode_of(spec: &Spec, key: Key) -> Option<Mode>
         .map(|item| item.mode)
 }
 
-/// What becomes of a key: its mode, and a copy where no item names it (`mode_or_copy`).
+/// What becomes of a key in a new context: its mode, and a copy where no item names it (`mode_or_copy`).
 #[tactic(auto, unfolding(lwc_base::specs::Modes::mode_or_copy))]
 pub fn mode_or_copy(spec: &Spec, key: Key) -> Mode
     ensures { result ≡ modes.mode_or_copy spec.now key }

@@ -5,7 +5,7 @@ use Rattle.lwc_base.specs.declared.name.Name.{Name}
 use Rattle.lwc_base.specs.declared.page.TheConstants.{MOST_PAGES}
 use Rattle.lwc_base.specs.declared.range.TheConstants.{MOST_RANGES}
 use Rattle.lwc_base.specs.declared.size.WorldSize.{WorldSize}
-use Rattle.lwc_base.specs.World.{World}
+use Rattle.lwc_base.specs.World.{World, is_live}
 
 -- the sizes that a world may be opened with
 pub record IsSize (size : WorldSize) : Type 0 where
@@ -17,7 +17,7 @@ pub record IsSize (size : WorldSize) : Type 0 where
 
 -- a context of that name is there
 abbrev pub IsLive : World → Name → Type 0
-IsLive w c = fm.contains_key w.contexts c ≡ true
+IsLive w c = is_live w c ≡ true
 
 -- the job is one of the world's, and has named fewer contexts, groups and tags than 2^31 each
 pub record MayName (size : WorldSize) (w : World) (job : ℕ) : Type 0 where

@@ -20,7 +20,6 @@ pub fn is_within(pages: u32, at: u64, count: usize) -> bool
 #[tactic(auto, unfolding(lwc_base::specs::Memory::bytes_for))]
 pub fn bytes_for<W: World>(world: &W, c: Name, at: u64, out: &mut [u8]) -> bool
     requires live { IsLive (W.seen world.now) c }
-    requires pages { (W.seen world.now).pages ≤ MOST_PAGES }
     ensures present { result ≡ is_some (memory.bytes_for (W.seen world.now) c at (length out.old)) }
     ensures found { IfSome (memory.bytes_for (W.seen world.now) c at (length out.old)) (λ bytes. out.new ≡ bytes) }
     ensures absent { IfNone (memory.bytes_for (W.seen world.now) c at (length out.old)) (out.new ≡ out.old) }

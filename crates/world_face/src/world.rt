@@ -5,6 +5,7 @@ ghost use Rattle.lwc_base.specs.World.{empty_world, add_context, context, groups
 ghost use Rattle.lwc_base.specs.Cells.{slot_at, put_slot, uid_at, put_uid};
 ghost use Rattle.lwc_base.specs.Frames.{used};
 ghost use Rattle.lwc_base.specs.Mapping.{map_pages, mapped_or_not, unmap_pages};
+ghost use Rattle.lwc_base.specs.Modes.{IsSpec};
 ghost use Rattle.lwc_base.specs.Memory.{load};
 ghost use Rattle.lwc_base.specs.Ranges.{ranges_of};
 ghost use Rattle.lwc_base.specs.Sharing.{clone_context, needs_group, ranges_after_clone};
@@ -14,7 +15,7 @@ ghost use Rattle.lwc_base.specs.Store as stores;
 ghost use Rattle.lwc_base.specs.Summaries.{summary_of};
 ghost use Rattle.lwc_base.specs.declared.descriptor.Descriptor.{Descriptor};
 ghost use Rattle.lwc_base.specs.declared.descriptor.TheConstants.{SLOTS};
-ghost use Rattle.lwc_base.specs.declared.page.TheConstants.{PAGE_BYTES};
+ghost use Rattle.lwc_base.specs.declared.page.TheConstants.{MOST_PAGES, PAGE_BYTES};
 ghost use Rattle.lwc_base.specs.declared.range.TheConstants.{MOST_RANGES};
 ghost use Rattle.lwc_base.specs.declared.size.WorldSize.{WorldSize};
 ghost use Rattle.world_face.specs.Calls.{AreFew, HasGroupPlace, HasPlace, IsSize, IsLive, MayName};
@@ -42,7 +43,8 @@ pub trait World: Sized + Drop + Send + Sync {
 
     /// How many pages each context may have.
     fn pages(&self) -> u32
-        ensures { result ≡ (seen self.now).pages };
+        ensures pages { result ≡ (seen self.now).pages }
+        ensures few { (seen self.now).pages ≤ MOST_PAGES };
 
     /// Makes a context of job 0 from nothing: no page, empty slots, this uid, and the registers that it begins with.
     /// The one error is want of memory.
@@ -139,9 +141,10 @@ pub trait World: Sized + Drop + Send + Sync {
         requires live { IsLive (seen self.now) c }
         ensures value { result ≡ (context (seen self.now) c).entry };
 
-    /// Makes a context of a job from another one: what is under share moves into a group and is common from then on,
-    /// what is under copy or not named is copied, and what is under unmap is left out. It begins with these registers
-    /// and keeps none for any thread. Answers its name. The one error is want of memory.
+    /// Makes a context of a job from another one. What is the other's own under share moves into one new group, and
+    /// the two have it in common from then on; what was common already stays so; what is under copy or not named is
+    /// copied, and what is under unmap is left out. The new one begins with these registers and keeps none for any
+    /// thread. Answers its name. The one error is want of memory.
     fn clone_context(
         &mut self,
         c: Name,
@@ -150,6 +153,7 @@ pub trait World: Sized + Drop + Send + Sync {
         entry: &Regs,
     ) -> Result<Name, OutOfMemory>
         requires live { IsLive (seen self.old) c }
+        requires within { IsSpec (seen self.old).pages spec.now }
         requires may { MayName (size self.old) (seen self.old) job }
         requires place { HasPlace (size self.old) (seen self.old) }
         requires group { needs_group (seen self.old) c spec.now ≡ true → HasGroupPlace (size self.old) (seen self.old) }
@@ -163,12 +167,14 @@ pub trait World: Sized + Drop + Send + Sync {
     /// Whether `clone_context` makes a group: an item of mode share names a key that is present and the context's own.
     fn needs_group(&self, c: Name, spec: &Spec) -> bool
         requires live { IsLive (seen self.now) c }
+        requires within { IsSpec (seen self.now).pages spec.now }
         ensures value { result ≡ needs_group (seen self.now) c spec.now };
 
     /// How many ranges the context and the new one would have after `clone_context`, in this order; they are the same
-    /// for each job that may call it.
+    /// for every job.
     fn ranges_after_clone(&self, c: Name, spec: &Spec) -> (u32, u32)
         requires live { IsLive (seen self.now) c }
+        requires within { IsSpec (seen self.now).pages spec.now }
         ensures value { (job : ℕ) → result ≡ ranges_after_clone (seen self.now) c job spec.now };
 
     /// How many ranges the context would have after `map`, where `present` is true, or after `unmap`.
@@ -199,7 +205,7 @@ pub trait World: Sized + Drop + Send + Sync {
     fn group_count(&self) -> u32
         ensures { result ≡ fm.len (seen self.now).groups };
 
-    /// How many frames are in use, counted anew over the whole world.
+    /// How many frames are in use.
     fn used(&self) -> u32
         ensures { result ≡ used (seen self.now) };
 }
