@@ -2,7 +2,7 @@
 use Rattle.std.proofs.Common.{◌≡◌, ℕ, ◌+◌, ◌<◌, ◌≤◌, refl, sym, ap, subst, ◌∙◌, Bool, true, false, cond, eqb, leb, ltb, ◌&&◌, Option, Some, None, List, [], ◌∷◌, length, arith}
 use Rattle.std.proofs.lemmas.Bool.{false≢true}
 use Rattle.std.proofs.lemmas.Bool.Decides.{nat_tests}
-use Rattle.std.specs.Prelude.{is_some}
+use Rattle.std.specs.Prelude.{is_some, unwrap_or}
 use Rattle.std.specs.Ordering.{eq_by_cmp}
 use Rattle.std.specs.FinMap as fm
 use Rattle.lwc_base.specs.declared.cell.Cell.{Cell}
@@ -16,8 +16,9 @@ use Rattle.lwc_base.specs.Cells.{put_page_in, put_page, put_slot_in, put_slot, p
 use Rattle.lwc_base.specs.Fresh.{IsNamedGroup, NamesOldGroups, IsFresh}
 use Rattle.lwc_base.specs.Mapping.{map_pages, unmap_pages}
 use Rattle.lwc_base.specs.Memory.{touched}
+use Rattle.lwc_base.specs.Registers.{fresh_registers}
 use Rattle.lwc_base.specs.Store.{Piece, after_store, parting_count, plan, put_pages}
-use Rattle.lwc_base.specs.World.{World, Context, Group, Counters, is_live, changed_context, change_context, changed_group, change_group, count_on, empty_world, new_context, add_context, next_context, add_group, next_group}
+use Rattle.lwc_base.specs.World.{World, Context, Group, Counters, is_live, context, changed_context, change_context, changed_group, change_group, count_on, empty_world, new_context, add_context, next_context, add_group, next_group}
 use Rattle.lwc_base.proofs.Live.{same_name}
 use Rattle.lwc_base.proofs.Orders.{name_cmp-total}
 
@@ -251,3 +252,23 @@ next_context-new w job fresh = new_where _ (w.next job).contexts (fresh.contexts
 -- no group has the next name of a job
 pub next_group-new : (w : World) (job : ℕ) → IsFresh w → fm.contains_key w.groups (next_group w job) ≡ false
 next_group-new w job fresh = new_where _ (w.next job).groups (fresh.groups (next_group w job))
+
+names_old_where : (next : ℕ → Counters) (found : Option Context) → ((x : Context) → found ≡ Some x → NamesOldGroups next x) →
+    NamesOldGroups next (unwrap_or found (new_context 0 (fresh_registers 0)))
+names_old_where next None old = names_old-new_context next 0 (fresh_registers 0)
+names_old_where next (Some x) old = old x refl
+
+-- each group that the cells of a name's context name has been named
+pub names_old-context : (w : World) (c : Name) → IsFresh w → NamesOldGroups w.next (context w c)
+unfolding context
+names_old-context w c fresh = names_old_where w.next (fm.get w.contexts c) (fresh.cells c)
+
+other_where : (w : World) (job : ℕ) (g : Name) (b : Bool) → eq_by_cmp name_cmp g (next_group w job) ≡ b → IsNamedGroup w.next g → b ≡ false
+other_where w job g true same named =
+    let less : (w.next job).groups < (w.next job).groups = subst (λ (n : Name). IsNamedGroup w.next n) (same_name g (next_group w job) same) named in
+    absurd (omega arith)
+other_where w job g false other named = refl
+
+-- a group that has been named is not the next one
+pub group-named-other : (w : World) (job : ℕ) (g : Name) → IsNamedGroup w.next g → eq_by_cmp name_cmp g (next_group w job) ≡ false
+group-named-other w job g named = other_where w job g _ refl named

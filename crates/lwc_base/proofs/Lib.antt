@@ -1,4 +1,5 @@
 pub mod Begun
+pub mod Counted
 pub mod Fresh
 pub mod Kernel
 pub mod OneContext
@@ -6,8 +7,10 @@ pub mod OnePage
 pub mod OneUsed
 pub mod Live
 pub mod Loading
+pub mod Lookups
 pub mod Orders
 pub mod OwnCells
+pub mod Sharing
 pub mod Storing
 pub mod Zeros
 pub mod PairedLemmas

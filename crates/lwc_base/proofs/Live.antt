@@ -60,7 +60,8 @@ values-changed_context w c change (Some x) found = record {
   pages = refl;
 }
 
-values-change_context : (w : World) (c : Name) (change : Context → Context) → ChangesValuesOnly w (change_context w c change)
+-- a change of one context
+pub values-change_context : (w : World) (c : Name) (change : Context → Context) → ChangesValuesOnly w (change_context w c change)
 unfolding change_context
 values-change_context w c change = values-changed_context w c change _ refl
 
@@ -68,7 +69,8 @@ values-changed_group : (w : World) (g : Name) (change : Group → Group) (found 
 values-changed_group w g change None = same_world w
 values-changed_group w g change (Some x) = record { live = λ q. refl; next = refl; frames = refl; pages = refl }
 
-values-change_group : (w : World) (g : Name) (change : Group → Group) → ChangesValuesOnly w (change_group w g change)
+-- a change of one group
+pub values-change_group : (w : World) (g : Name) (change : Group → Group) → ChangesValuesOnly w (change_group w g change)
 unfolding change_group
 values-change_group w g change = values-changed_group w g change _
 

@@ -1,0 +1,164 @@
+-- How many contexts and groups live, in all and of each job, after each change of a world.
+use Rattle.std.proofs.Common.{◌≡◌, ℕ, ◌+◌, refl, sym, ap, subst, ◌∙◌, Bool, true, false, cond, eqb, ◌&&◌, Option, Some, None, List, [], ◌∷◌, map, length, suc, arith}
+use Rattle.std.proofs.lemmas.Bool.{false≢true}
+use Rattle.std.proofs.lemmas.List.Sums.{sum_by-cons}
+use Rattle.std.specs.Prelude.{◌==◌, if◌then◌else◌, is_some, count_by, T}
+use Rattle.std.proofs.lemmas.Bool.Decides.{nat_tests}
+use Rattle.std.specs.Cmp.{IsTotalOrder}
+use Rattle.std.specs.Ordering.{eq_by_cmp, is_eq, is_lt}
+use Rattle.std.specs.declared.cmp.Ordering.{Ordering}
+use Rattle.std.specs.declared.cmp.Ordering.TheVariants.{Less, Equal, Greater}
+use Rattle.std.specs.FinMap as fm
+use Rattle.std.specs.FinMap.Entries.{by_order, put, find, is_sorted, below_all, same_entries}
+use Rattle.lwc_base.specs.declared.name.Name.{Name}
+use Rattle.lwc_base.specs.Fresh.{IsFresh}
+use Rattle.lwc_base.specs.Names.{name_cmp}
+use Rattle.lwc_base.specs.World.{World, Context, Group, is_live, add_context, next_context, add_group, next_group, count_on, live_of, groups_of}
+use Rattle.lwc_base.proofs.Fresh.{next_context-new, next_group-new}
+use Rattle.lwc_base.proofs.Orders.{name_cmp-total, name_cmp-IsAntisymmetric}
+
+one_more : {K : Type 0} (test : K → Bool) (k : K) (ks : List K) → count_by test (k ∷ ks) ≡ cond (test k) 1 0 + count_by test ks
+one_more test k ks = sum_by-cons (λ x. cond (test x) 1 0) k ks
+
+swap_sums : (a b c : ℕ) → a + (b + c) ≡ b + (a + c)
+swap_sums a b c = omega arith
+
+module _ {K X : Type 0} (R : K → K → Ordering) (test : K → Bool) where
+  count_by-put : (k : K) (v : X) (es : List (K × X)) → is_some (find R k es) ≡ false →
+      count_by test (map (λ e. e.0) (put R k v es)) ≡ cond (test k) 1 0 + count_by test (map (λ e. e.0) es)
+  count_by-put k v [] new = one_more test k []
+  count_by-put k v (e ∷ es) new =
+      elim (R k e.0) as (λ r. is_some (cond (is_eq r) (Some e.1) (find R k es)) ≡ false →
+      count_by test (map (λ f. f.0) (by_order r ((k, v) ∷ e ∷ es) ((e.0, v) ∷ es) (e ∷ put R k v es))) ≡ cond (test k) 1 0 + count_by test (e.0 ∷ map (λ f. f.0) es)) [
+        | Less ↦ λ _. one_more test k (e.0 ∷ map (λ f. f.0) es)
+        | Equal ↦ λ there. absurd (false≢true (sym there))
+        | Greater ↦ λ rest.
+            one_more test e.0 (map (λ f. f.0) (put R k v es)) ∙ ap (λ n. cond (test e.0) 1 0 + n) (count_by-put k v es rest)
+            ∙ swap_sums (cond (test e.0) 1 0) (cond (test k) 1 0) (count_by test (map (λ f. f.0) es))
+            ∙ ap (λ n. cond (test k) 1 0 + n) (sym (one_more test e.0 (map (λ f. f.0) es)))
+      ] new
+
+  -- a count over the keys of a map that gets a new key
+  pub count_by-insert : IsTotalOrder R → (m : fm.FinMap R X) (k : K) (v : X) → fm.contains_key m k ≡ false →
+      count_by test (fm.keys (fm.insert m k v)) ≡ cond (test k) 1 0 + count_by test (fm.keys m)
+  count_by-insert total m k v new =
+      ap (λ es. count_by test (map (λ e. e.0) es)) (fm.entries-insert total m k v)
+      ∙ count_by-put k v (fm.entries m) (ap is_some (sym (fm.get-entries m k)) ∙ new)
+
+module _ {K X : Type 0} (R : K → K → Ordering) (total : IsTotalOrder R) (m : fm.FinMap R X) (k : K) (v : X) (new : fm.contains_key m k ≡ false) where
+  -- how many keys a map has that gets a new one
+  pub len-insert-new : fm.len (fm.insert m k v) ≡ fm.len m + 1
+  len-insert-new = fm.len-insert total m k v ∙ ap (λ b. cond b (fm.len m) (fm.len m + 1)) new
+
+module _ {K X : Type 0} (R : K → K → Ordering) where
+  bare : List (K × X) → List (K × Unit {0})
+  bare es = map (λ e. (e.0, tt)) es
+
+  below_all-bare : (x : K) (es : List (K × X)) → below_all R x (bare es) ≡ below_all R x es
+  unfolding bare
+  below_all-bare x [] = refl
+  below_all-bare x (e ∷ es) = ap (λ b. is_lt (R x e.0) && b) (below_all-bare x es)
+
+  is_sorted-bare : (es : List (K × X)) → is_sorted R (bare es) ≡ is_sorted R es
+  unfolding bare
+  is_sorted-bare [] = refl
+  is_sorted-bare (e ∷ es) = λ i. below_all-bare e.0 es i && is_sorted-bare es i
+
+  found_bare : (b : Bool) (x : X) (rest : Option X) (there : Option (Unit {0})) → there ≡ cond (is_some rest) (Some tt) None →
+      cond b (Some tt) there ≡ cond (is_some (cond b (Some x) rest)) (Some tt) None
+  found_bare true x rest there is = refl
+  found_bare false x rest there is = is
+
+  find-bare : (q : K) (es : List (K × X)) → find R q (bare es) ≡ cond (is_some (find R q es)) (Some tt) None
+  unfolding bare
+  find-bare q [] = refl
+  find-bare q (e ∷ es) = found_bare (eq_by_cmp R q e.0) e.1 (find R q es) _ (find-bare q es)
+
+  keys-bare : (es : List (K × X)) → map (λ e. e.0) (bare es) ≡ map (λ e. e.0) es
+  unfolding bare
+  keys-bare [] = refl
+  keys-bare (e ∷ es) = ap (λ ks. e.0 ∷ ks) (keys-bare es)
+
+  -- maps that have the same keys have them in the same order
+  pub keys-same : IsTotalOrder R → fm.IsAntisymmetric R → (m n : fm.FinMap R X) → ((q : K) → fm.contains_key m q ≡ fm.contains_key n q) → fm.keys m ≡ fm.keys n
+  keys-same total same m n alike =
+      let is : (q : K) → find R q (bare (fm.entries m)) ≡ find R q (bare (fm.entries n)) =
+      λ q. find-bare q (fm.entries m)
+      ∙ ap (λ b. cond b (Some tt) None) (sym (ap is_some (fm.get-entries m q)) ∙ alike q ∙ ap is_some (fm.get-entries n q))
+      ∙ sym (find-bare q (fm.entries n)) in
+      let bares : bare (fm.entries m) ≡ bare (fm.entries n) =
+      same_entries R total same (bare (fm.entries m)) (bare (fm.entries n))
+      (subst T (sym (is_sorted-bare (fm.entries m))) (fm.entries_sorted m)) (subst T (sym (is_sorted-bare (fm.entries n))) (fm.entries_sorted n)) is in
+      sym (keys-bare (fm.entries m)) ∙ ap (map (λ e. e.0)) bares ∙ keys-bare (fm.entries n)
+
+  length-keys : (es : List (K × X)) → length es ≡ length (map (λ e. e.0) es)
+  length-keys [] = refl
+  length-keys (e ∷ es) = ap suc (length-keys es)
+
+  -- and as many
+  pub len-same : IsTotalOrder R → fm.IsAntisymmetric R → (m n : fm.FinMap R X) → ((q : K) → fm.contains_key m q ≡ fm.contains_key n q) → fm.len m ≡ fm.len n
+  len-same total same m n alike =
+      fm.len-entries m ∙ length-keys (fm.entries m) ∙ ap length (keys-same total same m n alike) ∙ sym (length-keys (fm.entries n)) ∙ sym (fm.len-entries n)
+
+-- where the same names live in two worlds, a job has as many contexts in both
+pub live_of-same : (v w : World) (job : ℕ) → ((q : Name) → is_live v q ≡ is_live w q) → live_of v job ≡ live_of w job
+unfolding live_of
+live_of-same v w job alike = ap (count_by (λ c. eqb c.job job)) (keys-same name_cmp name_cmp-total name_cmp-IsAntisymmetric v.contexts w.contexts alike)
+
+-- and there are as many in all
+pub len_contexts-same : (v w : World) → ((q : Name) → is_live v q ≡ is_live w q) → fm.len v.contexts ≡ fm.len w.contexts
+len_contexts-same v w alike = len-same name_cmp name_cmp-total name_cmp-IsAntisymmetric v.contexts w.contexts alike
+
+-- where the same groups live in two worlds, a job has as many groups in both
+pub groups_of-same : (v w : World) (job : ℕ) → ((q : Name) → fm.contains_key v.groups q ≡ fm.contains_key w.groups q) → groups_of v job ≡ groups_of w job
+unfolding groups_of
+groups_of-same v w job alike = ap (count_by (λ g. eqb g.job job)) (keys-same name_cmp name_cmp-total name_cmp-IsAntisymmetric v.groups w.groups alike)
+
+-- and there are as many in all
+pub len_groups-same : (v w : World) → ((q : Name) → fm.contains_key v.groups q ≡ fm.contains_key w.groups q) → fm.len v.groups ≡ fm.len w.groups
+len_groups-same v w alike = len-same name_cmp name_cmp-total name_cmp-IsAntisymmetric v.groups w.groups alike
+
+one_more_where : (a b n m : ℕ) → m ≡ cond (eqb a b) 1 0 + n → m ≡ cond (eqb b a) (n + 1) n
+one_more_where a b n m is = grind (arith, nat_tests)
+
+-- a new context is one more of its job, and no other job has more
+pub live_of-add_context : (w : World) (job : ℕ) (x : Context) (j : ℕ) → IsFresh w →
+    live_of (add_context w job x) j ≡ (if j == job then live_of w j + 1 else live_of w j)
+unfolding live_of add_context count_on
+live_of-add_context w job x j fresh =
+    one_more_where job j _ _ (count_by-insert name_cmp (λ c. eqb c.job j) name_cmp-total w.contexts (next_context w job) x (next_context-new w job fresh))
+
+-- and it is one more in all
+pub len-add_context : (w : World) (job : ℕ) (x : Context) → IsFresh w → fm.len (add_context w job x).contexts ≡ fm.len w.contexts + 1
+unfolding add_context count_on
+len-add_context w job x fresh = len-insert-new name_cmp name_cmp-total w.contexts (next_context w job) x (next_context-new w job fresh)
+
+-- there are as many groups as before
+pub groups_of-add_context : (w : World) (job : ℕ) (x : Context) (j : ℕ) → groups_of (add_context w job x) j ≡ groups_of w j
+unfolding groups_of add_context count_on
+groups_of-add_context w job x j = refl
+
+pub len_groups-add_context : (w : World) (job : ℕ) (x : Context) → fm.len (add_context w job x).groups ≡ fm.len w.groups
+unfolding add_context count_on
+len_groups-add_context w job x = refl
+
+-- a new group is one more of its job, and no other job has more
+pub groups_of-add_group : (w : World) (job : ℕ) (x : Group) (j : ℕ) → IsFresh w →
+    groups_of (add_group w job x) j ≡ (if j == job then groups_of w j + 1 else groups_of w j)
+unfolding groups_of add_group count_on
+groups_of-add_group w job x j fresh =
+    one_more_where job j _ _ (count_by-insert name_cmp (λ g. eqb g.job j) name_cmp-total w.groups (next_group w job) x (next_group-new w job fresh))
+
+-- and it is one more in all
+pub len-add_group : (w : World) (job : ℕ) (x : Group) → IsFresh w → fm.len (add_group w job x).groups ≡ fm.len w.groups + 1
+unfolding add_group count_on
+len-add_group w job x fresh = len-insert-new name_cmp name_cmp-total w.groups (next_group w job) x (next_group-new w job fresh)
+
+-- there are as many contexts as before
+pub live_of-add_group : (w : World) (job : ℕ) (x : Group) (j : ℕ) → live_of (add_group w job x) j ≡ live_of w j
+unfolding live_of add_group count_on
+live_of-add_group w job x j = refl
+
+pub len_contexts-add_group : (w : World) (job : ℕ) (x : Group) → fm.len (add_group w job x).contexts ≡ fm.len w.contexts
+unfolding add_group count_on
+len_contexts-add_group w job x = refl
