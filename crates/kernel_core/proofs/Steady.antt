@@ -117,7 +117,7 @@ made_step size w v threads text most_used t x after h steady found made =
     let now : standing h.inputs (slice_set threads t after) v ≡ machine_of (longer h t) =
     stands_after h threads w v t x after steady.now found made_here ∙ sym (machine_after h t) in
     let well = stands_well size (standing h.inputs threads w) (most_after (length h.steps)) t x steady.ready found in
-    let less = (step_made size w text x (alone v after) well made).left in
+    let less = (step_made size (standing h.inputs threads w) (most_after (length h.steps)) x (alone v after) steady.ready well made_here).left in
     record {
       going = going;
       kept = stepped_by h t false going;
@@ -213,7 +213,7 @@ pub work_fits : (size : WorldSize) (w : World) (threads shown : List Thread) (te
 unfolding work_of
 work_fits size w threads shown text most_used h steady same =
     let left = λ (x : Thread). steps_left x.budget x.status in
-    let each = All-weaker (StandsWell size w) (λ x. left x ≤ MOST_BUDGET) (λ x stands. few_left x.budget x.status stands.budget) threads steady.ready.threads in
+    let each = All-weaker (StandsWell w) (λ x. left x ≤ MOST_BUDGET) (λ x stands. few_left x.budget x.status stands.budget) threads steady.ready.threads in
     let most : sum_by left threads ≤ length threads * MOST_BUDGET = sum_by-le left MOST_BUDGET threads each in
     let less : sum_by left threads < 2 ^ 32 = omega (arith, most, steady.few) in
     subst (λ (l : List Thread). sum_by left l < 2 ^ 32) (sym same) less
