@@ -142,17 +142,27 @@ pub len_groups-add_context : (w : World) (job : ℕ) (x : Context) → fm.len (a
 unfolding add_context count_on
 len_groups-add_context w job x = refl
 
--- a new group is one more of its job, and no other job has more
-pub groups_of-add_group : (w : World) (job : ℕ) (x : Group) (j : ℕ) → IsFresh w →
+-- a group whose name is new is one more of its job, and no other job has more
+pub groups_of-add_new_group : (w : World) (job : ℕ) (x : Group) (j : ℕ) → fm.contains_key w.groups (next_group w job) ≡ false →
     groups_of (add_group w job x) j ≡ (if j == job then groups_of w j + 1 else groups_of w j)
 unfolding groups_of add_group count_on
-groups_of-add_group w job x j fresh =
-    one_more_where job j _ _ (count_by-insert name_cmp (λ g. eqb g.job j) name_cmp-total w.groups (next_group w job) x (next_group-new w job fresh))
+groups_of-add_new_group w job x j new =
+    one_more_where job j _ _ (count_by-insert name_cmp (λ g. eqb g.job j) name_cmp-total w.groups (next_group w job) x new)
+
+-- and it is one more in all
+pub len-add_new_group : (w : World) (job : ℕ) (x : Group) → fm.contains_key w.groups (next_group w job) ≡ false →
+    fm.len (add_group w job x).groups ≡ fm.len w.groups + 1
+unfolding add_group count_on
+len-add_new_group w job x new = len-insert-new name_cmp name_cmp-total w.groups (next_group w job) x new
+
+-- a new group of a fresh world is one more of its job, and no other job has more
+pub groups_of-add_group : (w : World) (job : ℕ) (x : Group) (j : ℕ) → IsFresh w →
+    groups_of (add_group w job x) j ≡ (if j == job then groups_of w j + 1 else groups_of w j)
+groups_of-add_group w job x j fresh = groups_of-add_new_group w job x j (next_group-new w job fresh)
 
 -- and it is one more in all
 pub len-add_group : (w : World) (job : ℕ) (x : Group) → IsFresh w → fm.len (add_group w job x).groups ≡ fm.len w.groups + 1
-unfolding add_group count_on
-len-add_group w job x fresh = len-insert-new name_cmp name_cmp-total w.groups (next_group w job) x (next_group-new w job fresh)
+len-add_group w job x fresh = len-add_new_group w job x (next_group-new w job fresh)
 
 -- there are as many contexts as before
 pub live_of-add_group : (w : World) (job : ℕ) (x : Group) (j : ℕ) → live_of (add_group w job x) j ≡ live_of w j

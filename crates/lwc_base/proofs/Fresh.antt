@@ -100,7 +100,7 @@ pub fresh-change_group : (w : World) (g : Name) (change : Group → Group) → I
 unfolding change_group
 fresh-change_group w g change fresh = fresh-changed_group w g change _ refl fresh
 
-rises_where : (b : Bool) (before after : Counters) → Rises before after → Rises before (cond b after before)
+pub rises_where : (b : Bool) (before after : Counters) → Rises before after → Rises before (cond b after before)
 rises_where true before after rises = rises
 rises_where false before after rises = record { contexts = omega arith; groups = omega arith }
 
@@ -189,36 +189,32 @@ fresh-after_store w c job piece fresh =
     let planned : List (ℕ × PageValue) = plan w c job piece (w.next job).tags (touched piece.at (length piece.bytes)) in
     fresh-count_tags (put_pages w c planned) job (λ n. n.tags + parting_count w c piece) (fresh-put_pages w c planned fresh)
 
-eqb-self : (job : ℕ) → eqb job job ≡ true
+pub eqb-self : (job : ℕ) → eqb job job ≡ true
 eqb-self job = grind (arith, nat_tests)
 
-one_more_context : Counters → Counters
+abbrev one_more_context : Counters → Counters
 one_more_context n = record n { contexts = n.contexts + 1 }
 
-one_more_group : Counters → Counters
+abbrev pub one_more_group : Counters → Counters
 one_more_group n = record n { groups = n.groups + 1 }
 
 rises-one_more_context : (n : Counters) → Rises n (one_more_context n)
-unfolding one_more_context
 rises-one_more_context n = record { contexts = omega arith; groups = omega arith }
 
-rises-one_more_group : (n : Counters) → Rises n (one_more_group n)
-unfolding one_more_group
+pub rises-one_more_group : (n : Counters) → Rises n (one_more_group n)
 rises-one_more_group n = record { contexts = omega arith; groups = omega arith }
 
 counts_context : (b : Bool) (n : Counters) → b ≡ true → n.contexts < (cond b (one_more_context n) n).contexts
-unfolding one_more_context
 counts_context true n is = omega arith
 counts_context false n is = absurd (false≢true is)
 
-counts_group : (b : Bool) (n : Counters) → b ≡ true → n.groups < (cond b (one_more_group n) n).groups
-unfolding one_more_group
+pub counts_group : (b : Bool) (n : Counters) → b ≡ true → n.groups < (cond b (one_more_group n) n).groups
 counts_group true n is = omega arith
 counts_group false n is = absurd (false≢true is)
 
 -- a context that is added, and that names no new group
 pub fresh-add_context : (w : World) (job : ℕ) (x : Context) → NamesOldGroups w.next x → IsFresh w → IsFresh (add_context w job x)
-unfolding add_context count_on one_more_context
+unfolding add_context count_on
 fresh-add_context w job x named fresh =
     let later : ℕ → Counters = λ j. cond (eqb j job) (one_more_context (w.next j)) (w.next j) in
     let rises : (j : ℕ) → Rises (w.next j) (later j) = λ j. rises_where (eqb j job) (w.next j) _ (rises-one_more_context (w.next j)) in
@@ -227,7 +223,7 @@ fresh-add_context w job x named fresh =
 
 -- a group that is added
 pub fresh-add_group : (w : World) (job : ℕ) (g : Group) → IsFresh w → IsFresh (add_group w job g)
-unfolding add_group count_on one_more_group
+unfolding add_group count_on
 fresh-add_group w job g fresh =
     let later : ℕ → Counters = λ j. cond (eqb j job) (one_more_group (w.next j)) (w.next j) in
     let rises : (j : ℕ) → Rises (w.next j) (later j) = λ j. rises_where (eqb j job) (w.next j) _ (rises-one_more_group (w.next j)) in

@@ -1,4 +1,5 @@
 pub mod Begun
+pub mod Cloning
 pub mod Counted
 pub mod Fresh
 pub mod Kernel

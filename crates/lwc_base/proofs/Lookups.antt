@@ -1,6 +1,7 @@
 -- The context and the group of a name after each change of a world.
 use Rattle.std.proofs.Common.{◌≡◌, ◌≢◌, ℕ, refl, sym, ap, ◌∙◌, Bool, true, false, cond, ◌&&◌, Option, Some, None}
 use Rattle.std.specs.Prelude.{is_some, unwrap_or}
+use Rattle.std.proofs.lemmas.Bool.{false≢true}
 use Rattle.std.specs.Ordering.{eq_by_cmp, is_eq}
 use Rattle.std.specs.FinMap as fm
 use Rattle.std.proofs.lemmas.Cmp.{tied_itself}
@@ -136,3 +137,14 @@ group-add_group w job x q = group-count_on (record w { groups = fm.insert w.grou
 pub context-add_group : (w : World) (job : ℕ) (x : Group) (q : Name) → context (add_group w job x) q ≡ context w q
 unfolding add_group count_on context
 context-add_group w job x q = refl
+
+live_after : (b : Bool) (old : Option Context) (y : Context) → b ≡ false → is_some (cond b (Some y) old) ≡ is_some old
+live_after true old y other = absurd (false≢true (sym other))
+live_after false old y other = refl
+
+-- a name that was live is live once another is added
+pub live-other : (w : World) (job : ℕ) (x : Context) (q : Name) → q ≢ next_context w job → is_live (add_context w job x) q ≡ is_live w q
+unfolding add_context count_on
+live-other w job x q other =
+    ap is_some (fm.get-insert name_cmp-total w.contexts (next_context w job) x q)
+    ∙ live_after _ (fm.get w.contexts q) x (other_name q (next_context w job) other)

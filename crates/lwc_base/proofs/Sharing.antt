@@ -1,10 +1,8 @@
 -- Sharing changes no value: what moves out of a context stands in the new group, and the context's cells name it.
-use Rattle.std.proofs.Common.{◌≡◌, ◌≢◌, ℕ, ◌<◌, refl, sym, ap, subst, ◌∙◌, Bool, true, false, cond, ◌&&◌, Option, Some, None, List, arith}
-use Rattle.std.specs.Prelude.{is_some, unwrap_or}
+use Rattle.std.proofs.Common.{◌≡◌, ℕ, refl, sym, ap, subst, ◌∙◌, Bool, true, false, cond, ◌&&◌, Option, Some, None, List}
+use Rattle.std.specs.Prelude.{unwrap_or}
 use Rattle.std.proofs.lemmas.Bool.{false≢true}
-use Rattle.std.specs.Option.{option_map}
 use Rattle.std.specs.Ordering.{eq_by_cmp}
-use Rattle.std.specs.FinMap as fm
 use Rattle.lwc_base.specs.declared.cell.Cell.{Cell}
 use Rattle.lwc_base.specs.declared.cell.Cell.TheVariants.{Own, Common}
 use Rattle.lwc_base.specs.declared.descriptor.Descriptor.{Descriptor}
@@ -15,16 +13,16 @@ use Rattle.lwc_base.specs.declared.item.Mode.TheVariants.{Copy, Share, Unmap}
 use Rattle.lwc_base.specs.declared.key.Key.TheVariants.{Page, Slot, Cred}
 use Rattle.lwc_base.specs.declared.name.Name.{Name}
 use Rattle.lwc_base.specs.declared.page.PageValue.{PageValue}
-use Rattle.lwc_base.specs.declared.regs.Regs.{Regs}
 use Rattle.lwc_base.specs.Cells.{page_of, page_at, slot_of, slot_at, uid_of, uid_at}
+use Rattle.lwc_base.specs.Frames.{own_value}
 use Rattle.lwc_base.specs.Fresh.{IsNamedGroup, NamesOldGroups, IsFresh}
 use Rattle.lwc_base.specs.Modes.{mode_or_copy}
 use Rattle.lwc_base.specs.Names.{name_cmp}
-use Rattle.lwc_base.specs.Sharing.{own, own_page, under_share, moved, needs_group, cell_after, page_after, left_common, share, cloned_page, cloned_slot, cloned_uid, clone, clone_context}
-use Rattle.lwc_base.specs.World.{World, Context, Group, Counters, is_live, context, group, changed_context, change_context, count_on, add_context, next_context, add_group, next_group}
-use Rattle.lwc_base.proofs.Live.{ChangesValuesOnly, same_name, values-change_context}
-use Rattle.lwc_base.proofs.Lookups.{name-itself, context-change_context, group-change_context, context-add_group, group-add_group, context-add_context, context-added, context-add_context-other}
-use Rattle.lwc_base.proofs.Fresh.{fresh-add_context, names_old-context, group-named-other}
+use Rattle.lwc_base.specs.Sharing.{own, under_share, moved, needs_group, cell_after, page_after, left_common, share}
+use Rattle.lwc_base.specs.World.{World, Context, Group, Counters, is_live, context, group, change_context, add_group, next_group}
+use Rattle.lwc_base.proofs.Live.{same_name, values-change_context}
+use Rattle.lwc_base.proofs.Lookups.{name-itself, context-change_context, group-change_context, context-add_group, group-add_group}
+use Rattle.lwc_base.proofs.Fresh.{names_old-context, group-named-other}
 
 -- the value of a page's cell is the same in two worlds where the group that it names is
 page_of-same : (v w : World) (p : ℕ) (cell : Option (Cell PageValue)) → ((g : Name) → cell ≡ Some (Common g) → group v g ≡ group w g) → page_of v p cell ≡ page_of w p cell
@@ -41,8 +39,8 @@ uid_of-same v w (Own value) same = refl
 uid_of-same v w (Common g) same = ap (λ (x : Group). unwrap_or x.uid 0) (same g refl)
 
 -- a page's cell whose value has moved into a group has the value that it had
-page_of-moved : (v w : World) (g : Name) (p : ℕ) (mode : Mode) (cell : Option (Cell PageValue)) → (group v g).page p ≡ under_share mode (own_page cell) →
-    ((h : Name) → cell ≡ Some (Common h) → group v h ≡ group w h) → page_of v p (page_after g (under_share mode (own_page cell)) cell) ≡ page_of w p cell
+page_of-moved : (v w : World) (g : Name) (p : ℕ) (mode : Mode) (cell : Option (Cell PageValue)) → (group v g).page p ≡ under_share mode (own_value cell) →
+    ((h : Name) → cell ≡ Some (Common h) → group v h ≡ group w h) → page_of v p (page_after g (under_share mode (own_value cell)) cell) ≡ page_of w p cell
 page_of-moved v w g p Copy cell holds same = page_of-same v w p cell same
 page_of-moved v w g p Unmap cell holds same = page_of-same v w p cell same
 page_of-moved v w g p Share None holds same = refl
@@ -74,7 +72,7 @@ common_cell_after P g h None cell is here there = there is
 common_cell_after P g h (Some value) cell is here there = let same : g ≡ h = cc in subst P same here
 
 -- the groups that a context names once its values have moved
-names_old-left_common : (next : ℕ → Counters) (g : Name) (values : Group) (x : Context) → IsNamedGroup next g → NamesOldGroups next x → NamesOldGroups next (left_common g values x)
+pub names_old-left_common : (next : ℕ → Counters) (g : Name) (values : Group) (x : Context) → IsNamedGroup next g → NamesOldGroups next x → NamesOldGroups next (left_common g values x)
 unfolding left_common
 names_old-left_common next g values x named old = record {
   page = λ p h is. common_after (IsNamedGroup next) g h (values.page p) (x.page p) is named (old.page p h);
@@ -101,38 +99,38 @@ and_false true = refl
 and_false false = refl
 
 module _ (w : World) (c : Name) (job : ℕ) (items : List Item) where
-  abbrev new : Name
+  abbrev pub new : Name
   new = next_group w job
 
-  abbrev values : Group
+  abbrev pub values : Group
   values = moved items (context w c)
 
-  abbrev left : World
+  abbrev pub left : World
   left = change_context w c (left_common new values)
 
-  abbrev later : World
+  abbrev pub later : World
   later = moved_into_group w c job items
 
-  next-left : left.next ≡ w.next
+  pub next-left : left.next ≡ w.next
   next-left = (values-change_context w c (left_common new values)).next
 
-  next_group-left : next_group left job ≡ next_group w job
+  pub next_group-left : next_group left job ≡ next_group w job
   next_group-left = ap (λ (n : ℕ → Counters). record { job = job; k = (n job).groups }) next-left
 
-  context-moved : (d : Name) → context later d
+  pub context-moved : (d : Name) → context later d
       ≡ cond (is_live w c && eq_by_cmp name_cmp d c) (left_common new values (context w d)) (context w d)
   context-moved d = context-add_group _ job values d ∙ context-change_context w c (left_common new values) d
 
-  group-moved : (h : Name) → group later h ≡ cond (eq_by_cmp name_cmp h new) values (group w h)
+  pub group-moved : (h : Name) → group later h ≡ cond (eq_by_cmp name_cmp h new) values (group w h)
   group-moved h =
       group-add_group left job values h
       ∙ (λ i. cond (eq_by_cmp name_cmp h (next_group-left i)) values
       (group-change_context w c (left_common new values) h i))
 
-  group-moved-new : group later new ≡ moved items (context w c)
+  pub group-moved-new : group later new ≡ moved items (context w c)
   group-moved-new = group-moved new ∙ ap (λ b. cond b values (group w new)) (name-itself new)
 
-  group-moved-old : (h : Name) → IsNamedGroup w.next h → group later h ≡ group w h
+  pub group-moved-old : (h : Name) → IsNamedGroup w.next h → group later h ≡ group w h
   group-moved-old h named = group-moved h ∙ ap (λ b. cond b values (group w h)) (group-named-other w job h named)
 
   same_there : (d : Name) (b : Bool) → eq_by_cmp name_cmp d c ≡ b → (is_live w c && b) ≡ true → d ≡ c
