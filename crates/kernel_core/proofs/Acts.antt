@@ -19,7 +19,7 @@ use Rattle.lwc_base.specs.declared.refusal.Refusal.{Refusal}
 use Rattle.lwc_create.specs.Create as call
 use Rattle.lwc_create.specs.Create.{refusals}
 use Rattle.lwc_base.specs.Store.{Piece, Stored, Absent, Full, Done, store}
-use Rattle.lwc_base.specs.World.{World, is_live}
+use Rattle.lwc_base.specs.World.{World}
 use Rattle.lwc_base.specs.declared.fault.Fault.{Fault}
 use Rattle.lwc_base.specs.declared.fault.Fault.TheVariants as fault
 use Rattle.lwc_base.specs.declared.fault.ThreadStatus.TheVariants as statuses
@@ -34,11 +34,10 @@ pub record KeepsPlace (x y : Thread) : Type 0 where
   pub budget : y.budget ≡ x.budget
   pub left : (n : ℕ) → steps_left n y.status ≤ steps_left n x.status
 
--- a thread of a fresh and peopled world that stands in a live context, for one of the threads' jobs
+-- a thread of a fresh and peopled world, for one of the threads' jobs
 pub record StandsIn (w : World) (x : Thread) : Type 0 where
   pub fresh : IsFresh w
   pub peopled : IsPeopled w
-  pub live : is_live w x.context ≡ true
   pub job : IsThreadJob x.job
 
 -- the thread keeps its place, and the world is led on
@@ -100,7 +99,7 @@ act-create_by : (w : World) (x : Thread) (slot : ℕ) (refusal : Option Refusal)
 act-create_by w x slot (Some r) is = act-alone w x (refused x r) (same_place x (refused x r).regs)
 act-create_by w x slot None is = record {
   place = same_place x (call.after_call x.regs slot);
-  world = λ stands. leads-created w x.context x.job x.regs is slot stands.fresh stands.peopled stands.job stands.live;
+  world = λ stands. leads-created w x.context x.job x.regs is slot stands.fresh stands.peopled stands.job;
 }
 
 act-create : (w : World) (x : Thread) → IsAct w x (ended x (call.create w x.context x.job x.regs))

@@ -11,7 +11,7 @@ use Rattle.lwc_base.proofs.Counted.{live_of-same}
 use Rattle.lwc_base.proofs.Fresh.{fresh-add_group, fresh-after_store, fresh-put_slot}
 use Rattle.lwc_base.proofs.Kernel.{RisesBy, grows-after_store}
 use Rattle.lwc_base.proofs.Live.{values-change_context, values-put_slot}
-use Rattle.lwc_base.proofs.Sharing.{fresh-share, fresh-clone_context}
+use Rattle.lwc_base.proofs.Cloning.{fresh-share, fresh-clone_context}
 use Rattle.lwc_base.specs.Cells.{put_slot}
 use Rattle.lwc_base.specs.Fresh.{IsFresh}
 use Rattle.lwc_base.specs.Names.{name_cmp}
@@ -178,6 +178,10 @@ module _ (w : World) (c : Name) (job : ℕ) (items : List Item) (fresh : IsFresh
     unfolding shared
     fewer_there = omega (arith, live_of-same (share w c job items) w job share-well.live, fewer)
 
+    made_well : IsFresh (add_context shared job new)
+    unfolding clone_context shared new
+    made_well = made_fresh
+
     added : Leads w (add_context shared job new)
     unfolding shared new
     added = record {
@@ -187,11 +191,6 @@ module _ (w : World) (c : Name) (job : ℕ) (items : List Item) (fresh : IsFresh
       fresh = made_well;
       peopled = peopled-add_context shared job new shared_fresh known fewer_there share-well.peopled;
     }
-      where
-        made_well : IsFresh (add_context shared job new)
-        unfolding clone_context shared new
-        made_well = made_fresh
-
     -- a context that is made
     leads-clone_context : Leads w (clone_context w c job items entry)
     unfolding clone_context shared new
@@ -217,20 +216,20 @@ rest_clear : {R : Type 0} (b : Bool) (refusal : R) (rest : Option R) → cond b 
 rest_clear true refusal rest none = cc
 rest_clear false refusal rest none = none
 
-abbrev IsClear : {R : Type 0} → Bool × R → Type 0
+abbrev IsClear : Bool × Refusal → Type 0
 IsClear row = row.0 ≡ false
 
 -- where no row refuses, the test of none holds
-rows_clear : {R : Type 0} (rows : List (Bool × R)) → first_refusal rows ≡ None → All IsClear rows
-rows_clear {R} [] none = All-nil (IsClear {R})
-rows_clear {R} (row ∷ rows) none = All-cons (IsClear {R}) row rows (row_clear row.0 row.1 (first_refusal rows) none) (rows_clear rows (rest_clear row.0 row.1 (first_refusal rows) none))
+rows_clear : (rows : List (Bool × Refusal)) → first_refusal rows ≡ None → All IsClear rows
+rows_clear [] none = All-nil IsClear
+rows_clear (row ∷ rows) none = All-cons IsClear row rows (row_clear row.0 row.1 (first_refusal rows) none) (rows_clear rows (rest_clear row.0 row.1 (first_refusal rows) none))
 
 not_too_many : (many most : ℕ) → leb most many ≡ false → many < most
-not_too_many many most no = grind (arith, nat_tests)
+not_too_many many most fewer = grind (arith, nat_tests)
 
 not_both : (a b : Bool) → (a && b) ≡ false → a ≡ true → b ≡ false
-not_both true b no is = no
-not_both false b no is = cc
+not_both true b neither is = neither
+not_both false b neither is = cc
 
 module _ (w : World) (c : Name) (job : ℕ) (regs : Regs) (none : first_refusal (refusals w c job regs) ≡ None) where
   clear : All IsClear (refusals w c job regs)
@@ -248,8 +247,8 @@ module _ (w : World) (c : Name) (job : ℕ) (regs : Regs) (none : first_refusal 
       (not_both (needs_group w c (items_of w c regs)) _ (All-get_or IsClear (refusals w c job regs) 7 (true, BadCall) (omega arith) clear) needs)
 
   -- a call that makes a context
-  pub leads-created : (slot : ℕ) → IsFresh w → IsPeopled w → IsThreadJob job → is_live w c ≡ true → Leads w (created w c job regs slot)
-  leads-created slot fresh peopled known live =
+  pub leads-created : (slot : ℕ) → IsFresh w → IsPeopled w → IsThreadJob job → Leads w (created w c job regs slot)
+  leads-created slot fresh peopled known =
       let made = leads-clone_context w c job (items_of w c regs) fresh peopled known fewer_groups (after_call regs no_caller) fewer_contexts
-      (fresh-share w c job (items_of w c regs) fresh) (fresh-clone_context w c job (items_of w c regs) (after_call regs no_caller) live fresh) in
+      (fresh-share w c job (items_of w c regs) fresh) (fresh-clone_context w c job (items_of w c regs) (after_call regs no_caller) fresh) in
       then_put w (clone_context w c job (items_of w c regs) (after_call regs no_caller)) c slot _ made

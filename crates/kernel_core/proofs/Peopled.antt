@@ -14,7 +14,8 @@ use Rattle.lwc_base.proofs.Orders.{name_cmp-total}
 use Rattle.lwc_base.specs.Cells.{put_page_in, put_page, put_slot_in, put_slot}
 use Rattle.lwc_base.specs.Fresh.{IsFresh}
 use Rattle.lwc_base.specs.Names.{name_cmp}
-use Rattle.lwc_base.specs.Store.{Piece, after_store, put_pages}
+use Rattle.lwc_base.specs.Memory.{touched}
+use Rattle.lwc_base.specs.Store.{Piece, after_store, plan, put_pages}
 use Rattle.lwc_base.specs.World.{World, Context, Group, Counters, is_live, live_of, groups_of, changed_context, change_context, changed_group, change_group, count_on, add_context, add_group, next_context, next_group}
 use Rattle.lwc_base.specs.declared.cell.Cell.{Cell}
 use Rattle.lwc_base.specs.declared.cell.Cell.TheVariants.{Own, Common}
@@ -86,10 +87,10 @@ unfolding put_slot
 same-put_slot w c n d = same-put_slot_in w c n d _
 
 -- bytes that are stored
-same-after_store : (w : World) (c : Name) (job : ℕ) (piece : Piece) → SameNames w (after_store w c job piece)
+pub same-after_store : (w : World) (c : Name) (job : ℕ) (piece : Piece) → SameNames w (after_store w c job piece)
 unfolding after_store count_on
 same-after_store w c job piece =
-    let same = same-put_pages w c _ in record { contexts = same.contexts; groups = same.groups }
+    let same = same-put_pages w c (plan w c job piece (w.next job).tags (touched piece.at (length piece.bytes))) in record { contexts = same.contexts; groups = same.groups }
 
 -- a world in which the same names live is as peopled
 pub peopled-same : (w v : World) → SameNames w v → IsPeopled w → IsPeopled v
@@ -111,7 +112,7 @@ some_or true y old = refl
 some_or false y old = refl
 
 -- which contexts live once one was added
-live-add_context : (w : World) (job : ℕ) (x : Context) (q : Name) → is_live (add_context w job x) q ≡ cond (eq_by_cmp name_cmp q (next_context w job)) true (is_live w q)
+pub live-add_context : (w : World) (job : ℕ) (x : Context) (q : Name) → is_live (add_context w job x) q ≡ cond (eq_by_cmp name_cmp q (next_context w job)) true (is_live w q)
 unfolding add_context count_on
 live-add_context w job x q = ap is_some (fm.get-insert name_cmp-total w.contexts (next_context w job) x q) ∙ some_or _ x (fm.get w.contexts q)
 
@@ -119,6 +120,15 @@ live-add_context w job x q = ap is_some (fm.get-insert name_cmp-total w.contexts
 group-add_group : (w : World) (job : ℕ) (x : Group) (q : Name) → has_group (add_group w job x) q ≡ cond (eq_by_cmp name_cmp q (next_group w job)) true (has_group w q)
 unfolding add_group count_on
 group-add_group w job x q = ap is_some (fm.get-insert name_cmp-total w.groups (next_group w job) x q) ∙ some_or _ x (fm.get w.groups q)
+
+-- a context that is added is no group, and a group no context
+group-add_context : (w : World) (job : ℕ) (x : Context) (q : Name) → has_group (add_context w job x) q ≡ has_group w q
+unfolding add_context count_on
+group-add_context w job x q = refl
+
+live-add_group : (w : World) (job : ℕ) (x : Group) (q : Name) → is_live (add_group w job x) q ≡ is_live w q
+unfolding add_group count_on
+live-add_group w job x q = refl
 
 -- one more of a job that had fewer than it may
 one_more_of : (j job before after most : ℕ) → after ≡ cond (eqb j job) (before + 1) before → (eqb j job ≡ true → before < most) → before ≤ most → after ≤ most
@@ -144,7 +154,7 @@ not_first job some = grind (arith, nat_tests)
 pub peopled-add_context : (w : World) (job : ℕ) (x : Context) → IsFresh w → IsThreadJob job → live_of w job < 32 → IsPeopled w → IsPeopled (add_context w job x)
 peopled-add_context w job x fresh known fewer peopled = record {
   contexts = λ c live. known_where (λ n. n ≤ MOST_THREADS) c (next_context w job) _ (is_live w c) refl (sym (live-add_context w job x c) ∙ live) known.few (peopled.contexts c);
-  groups = λ g there. peopled.groups g (sym (same_groups g) ∙ there);
+  groups = λ g there. peopled.groups g (sym (group-add_context w job x g) ∙ there);
   first =
       let none : live_of (add_context w job x) 0 ≡ live_of w 0 = live_of-add_context w job x 0 fresh ∙ ap (λ b. cond b (live_of w 0 + 1) (live_of w 0)) (not_first job known.some) in
       omega (arith, none, peopled.first);
@@ -153,15 +163,11 @@ peopled-add_context w job x fresh known fewer peopled = record {
       (λ same. let is : j ≡ job = grind (arith, nat_tests) in omega (arith, ap (live_of w) is, fewer)) (peopled.few_contexts j);
   few_groups = λ j. omega (arith, groups_of-add_context w job x j, peopled.few_groups j);
 }
-  where
-    same_groups : (q : Name) → has_group (add_context w job x) q ≡ has_group w q
-    unfolding add_context count_on
-    same_groups q = refl
 
 -- a thread's job, which has fewer groups than it may, makes one more
 pub peopled-add_group : (w : World) (job : ℕ) (x : Group) → IsFresh w → IsThreadJob job → groups_of w job < 64 → IsPeopled w → IsPeopled (add_group w job x)
 peopled-add_group w job x fresh known fewer peopled = record {
-  contexts = λ c live. peopled.contexts c (sym (same_contexts c) ∙ live);
+  contexts = λ c live. peopled.contexts c (sym (live-add_group w job x c) ∙ live);
   groups = λ g there. known_where (λ n. n ≤ MOST_THREADS) g (next_group w job) _ (has_group w g) refl (sym (group-add_group w job x g) ∙ there) known.few (peopled.groups g);
   first = omega (arith, live_of-add_group w job x 0, peopled.first);
   none =
@@ -170,7 +176,3 @@ peopled-add_group w job x fresh known fewer peopled = record {
   few_groups = λ j. one_more_of j job (groups_of w j) _ 64 (groups_of-add_group w job x j fresh)
       (λ same. let is : j ≡ job = grind (arith, nat_tests) in omega (arith, ap (groups_of w) is, fewer)) (peopled.few_groups j);
 }
-  where
-    same_contexts : (q : Name) → is_live (add_group w job x) q ≡ is_live w q
-    unfolding add_group count_on
-    same_contexts q = refl

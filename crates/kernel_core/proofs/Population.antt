@@ -5,7 +5,7 @@ use Rattle.std.specs.List.{list_any}
 use Rattle.std.specs.Ordering.{eq_by_cmp}
 use Rattle.std.specs.Prelude.{count_by}
 use Rattle.std.proofs.lemmas.Bool.Decides.{nat_tests}
-use Rattle.std.proofs.lemmas.List.Sums.{sum_by-cons}
+use Rattle.std.proofs.lemmas.List.Sums.{count_by-le-length, sum_by-cons}
 use Rattle.kernel_core.specs.Steady.{IsPeopled, IsWide}
 use Rattle.kernel_core.specs.declared.settings.TheConstants.{MOST_THREADS}
 use Rattle.lwc_base.proofs.Lookups.{name-itself}
@@ -15,18 +15,22 @@ use Rattle.lwc_base.specs.declared.name.Name.{Name}
 use Rattle.lwc_base.specs.declared.size.WorldSize.{WorldSize}
 use Rattle.world_face.specs.Calls.{HasGroupPlace, HasPlace}
 
+-- a yes counts as one
+abbrev num : Bool → ℕ
+num b = cond b 1 0
+
 -- how many of the names bear a job
-abbrev borne : List Name → ℕ → ℕ
+abbrev pub borne : List Name → ℕ → ℕ
 borne names job = count_by (λ c. eqb c.job job) names
 
 -- how many of the names bear a job that is below a number
 abbrev below : List Name → ℕ → ℕ
 below names jobs = count_by (λ c. ltb c.job jobs) names
 
-counted_first : (test : Name → Bool) (c : Name) (names : List Name) → count_by test (c ∷ names) ≡ cond (test c) 1 0 + count_by test names
-counted_first test c names = sum_by-cons (λ x. cond (test x) 1 0) c names
+counted_first : (test : Name → Bool) (c : Name) (names : List Name) → count_by test (c ∷ names) ≡ num (test c) + count_by test names
+counted_first test c names = sum_by-cons (λ x. num (test x)) c names
 
-one_by : (job n : ℕ) → cond (ltb job (n + 1)) 1 0 ≡ cond (ltb job n) 1 0 + cond (eqb job n) 1 0
+one_by : (job n : ℕ) → num (ltb job (n + 1)) ≡ num (ltb job n) + num (eqb job n)
 one_by job n = grind (arith, nat_tests)
 
 -- the jobs below the next number are those below this one, and this one
@@ -39,7 +43,7 @@ below_next n (c ∷ names) =
 none_below : (names : List Name) → below names 0 ≡ 0
 none_below [] = refl
 none_below (c ∷ names) =
-    let no : cond (ltb c.job 0) 1 0 ≡ 0 = grind (arith, nat_tests) in
+    let no : num (ltb c.job 0) ≡ 0 = grind (arith, nat_tests) in
     omega (arith, counted_first (λ x. ltb x.job 0) c names, no, none_below names)
 
 one_job_more : (job jobs : ℕ) → suc jobs * job ≡ jobs * job + job
@@ -55,21 +59,22 @@ few_below names from (suc more) most each =
     omega (arith, ap (below names) next, below_next (from + more) names, few_below names from more most each, each (from + more), one_job_more most more)
 
 -- the same, where one of those jobs is borne by fewer
+fewer_by : (b : Bool) (names : List Name) (from more most job : ℕ) → ((j : ℕ) → borne names j ≤ most) → borne names job < most → job < from + suc more → eqb job (from + more) ≡ b →
+    (job < from + more → below names (from + more) < below names from + more * most) → below names (from + suc more) < below names from + suc more * most
+fewer_by true names from more most job each fewer high is rest =
+    let next : from + suc more ≡ (from + more) + 1 = omega arith in
+    let same : job ≡ from + more = grind (arith, nat_tests) in
+    omega (arith, ap (below names) next, below_next (from + more) names, few_below names from more most each, ap (borne names) same, one_job_more most more)
+fewer_by false names from more most job each fewer high is rest =
+    let next : from + suc more ≡ (from + more) + 1 = omega arith in
+    let other : job < from + more = grind (arith, nat_tests) in
+    omega (arith, ap (below names) next, below_next (from + more) names, rest other, each (from + more), one_job_more most more)
+
 fewer_below : (names : List Name) (from more most job : ℕ) → ((j : ℕ) → borne names j ≤ most) → borne names job < most → from ≤ job → job < from + more →
     below names (from + more) < below names from + more * most
 fewer_below names from zero most job each fewer low high = absurd (omega arith)
-fewer_below names from (suc more) most job each fewer low high = fewer_at (eqb job (from + more)) refl
-  where
-    next : from + suc more ≡ (from + more) + 1
-    next = omega arith
-
-    fewer_at : (b : Bool) → eqb job (from + more) ≡ b → below names (from + suc more) < below names from + suc more * most
-    fewer_at true is =
-        let same : job ≡ from + more = grind (arith, nat_tests) in
-        omega (arith, ap (below names) next, below_next (from + more) names, few_below names from more most each, ap (borne names) same, one_job_more most more)
-    fewer_at false is =
-        let other : job < from + more = grind (arith, nat_tests) in
-        omega (arith, ap (below names) next, below_next (from + more) names, fewer_below names from more most job each fewer low other, each (from + more), one_job_more most more)
+fewer_below names from (suc more) most job each fewer low high =
+    fewer_by (eqb job (from + more)) names from more most job each fewer high refl (λ other. fewer_below names from more most job each fewer low other)
 
 either : (a b : Bool) → b ≡ true → (a || b) ≡ true
 either true b is = refl
@@ -83,12 +88,16 @@ all_below : (names : List Name) (jobs : ℕ) → ((q : Name) → list_any (eq_by
 all_below [] jobs known = refl
 all_below (c ∷ names) jobs known =
     let here : c.job < jobs = known c (first_of _ (list_any (eq_by_cmp name_cmp c) names) (name-itself c)) in
-    let one : cond (ltb c.job jobs) 1 0 ≡ 1 = grind (arith, nat_tests) in
+    let one : num (ltb c.job jobs) ≡ 1 = grind (arith, nat_tests) in
     omega (arith, counted_first (λ x. ltb x.job jobs) c names, one, all_below names jobs (λ q there. known q (either (eq_by_cmp name_cmp q c) _ there)))
 
 length_of_keys : {K X : Type 0} (es : List (K × X)) → length es ≡ length (map (λ e. e.0) es)
 length_of_keys [] = refl
 length_of_keys (e ∷ es) = ap suc (length_of_keys es)
+
+-- of a map's names no more bear a job than there are
+pub few_of_all : {X : Type 0} (m : fm.FinMap name_cmp X) (job : ℕ) → borne (fm.keys m) job ≤ fm.len m
+few_of_all m job = omega (arith, count_by-le-length (λ (c : Name). eqb c.job job) (fm.keys m), length_of_keys (fm.entries m), fm.len-entries m)
 
 module _ {X : Type 0} (m : fm.FinMap name_cmp X) (known : (q : Name) → fm.contains_key m q ≡ true → q.job ≤ MOST_THREADS) where
   -- all of a map's names are those whose job is one of the kernel's

@@ -33,7 +33,6 @@ stands_in : (size : WorldSize) (m : Machine) (most : ℕ) (x : Thread) → IsRea
 stands_in size m most x ready stands = record {
   fresh = ready.fresh;
   peopled = ready.peopled;
-  live = stands.live;
   job = record { some = stands.some_job; few = stands.job };
 }
 
@@ -129,7 +128,7 @@ step-moves w x a inside stands running =
     let before = with_regs x a.after in
     let done = acts w before a.next in
     let act : IsAct w before done = act-acts w before a.next in
-    let leads : Leads w done.world = act.world (record { fresh = inside.fresh; peopled = inside.peopled; live = inside.live; job = inside.job }) in
+    let leads : Leads w done.world = act.world (record { fresh = inside.fresh; peopled = inside.peopled; job = inside.job }) in
     let place : KeepsPlace x done.thread = record { context = act.place.context; job = act.place.job; budget = act.place.budget; left = act.place.left } in
     let some : 0 < x.budget = subst (MayStep x.budget) running stands.steps in
     record {

@@ -20,8 +20,3 @@ pub fn kept_steps_are_enough()
 pub fn next_step_is_kept()
     ensures { (m : Machine) (ts : List ℕ) (t : ℕ) → kept m (ts ++ t ∷ []) ≡ (if is_ended (run m ts) t then kept m ts else kept m ts ++ t ∷ []) }
 {}
-
-#[tactic(auto, using(crate::proofs::Population::has_place, crate::proofs::Population::has_group_place))]
-pub fn scratch(x: u32) -> u32
-    ensures { result ≡ x }
-{x}
