@@ -1,24 +1,22 @@
 -- How far an act changes a world: what was live is so, the world is as large, no job counts much further, and it stays fresh and peopled.
 use Rattle.std.proofs.Common.{◌≡◌, ℕ, ◌+◌, ◌≤◌, ◌<◌, refl, sym, ap, subst, ◌∙◌, Bool, true, false, cond, eqb, leb, ◌&&◌, Option, Some, None, List, [], ◌∷◌, length, arith}
 use Rattle.std.specs.FinMap as fm
-use Rattle.std.specs.Ordering.{eq_by_cmp}
-use Rattle.std.specs.Prelude.{All, unwrap_or}
+use Rattle.std.specs.Prelude.{All}
 use Rattle.std.proofs.lemmas.Bool.Decides.{nat_tests}
 use Rattle.std.proofs.lemmas.List.Elements.{All-cons, All-get_or, All-nil}
 use Rattle.kernel_core.proofs.Peopled.{IsThreadJob, live-add_context, peopled-add_context, peopled-add_group, peopled-same, same-after_store, same-change_context, same-put_slot}
 use Rattle.kernel_core.specs.Steady.{IsPeopled}
 use Rattle.lwc_base.proofs.Counted.{live_of-same}
-use Rattle.lwc_base.proofs.Fresh.{fresh-add_group, fresh-after_store, fresh-put_slot}
+use Rattle.lwc_base.proofs.Fresh.{fresh-after_store, fresh-put_slot}
 use Rattle.lwc_base.proofs.Kernel.{RisesBy, grows-after_store}
 use Rattle.lwc_base.proofs.Live.{values-change_context, values-put_slot}
 use Rattle.lwc_base.proofs.Cloning.{fresh-share, fresh-clone_context}
 use Rattle.lwc_base.specs.Cells.{put_slot}
 use Rattle.lwc_base.specs.Fresh.{IsFresh}
-use Rattle.lwc_base.specs.Names.{name_cmp}
 use Rattle.lwc_base.specs.Refusals.{first_refusal}
 use Rattle.lwc_base.specs.Sharing.{clone, clone_context, left_common, moved, needs_group, share}
 use Rattle.lwc_base.specs.Store.{Piece, Absent, Full, Done, after_store, store}
-use Rattle.lwc_base.specs.World.{World, Context, Group, Counters, is_live, live_of, groups_of, context, changed_context, change_context, count_on, add_context, add_group, next_context, next_group}
+use Rattle.lwc_base.specs.World.{World, Context, Group, Counters, is_live, live_of, groups_of, context, changed_context, change_context, count_on, add_context, add_group, next_group}
 use Rattle.lwc_base.specs.declared.descriptor.Descriptor.{Descriptor}
 use Rattle.lwc_base.specs.declared.item.Item.{Item}
 use Rattle.lwc_base.specs.declared.name.Name.{Name}
@@ -191,6 +189,7 @@ module _ (w : World) (c : Name) (job : ℕ) (items : List Item) (fresh : IsFresh
       fresh = made_well;
       peopled = peopled-add_context shared job new shared_fresh known fewer_there share-well.peopled;
     }
+
     -- a context that is made
     leads-clone_context : Leads w (clone_context w c job items entry)
     unfolding clone_context shared new

@@ -7,16 +7,14 @@ use Rattle.std.proofs.lemmas.Bool.Decides.{nat_tests}
 use Rattle.kernel_core.specs.Steady.{IsPeopled}
 use Rattle.kernel_core.specs.declared.settings.TheConstants.{MOST_THREADS}
 use Rattle.lwc_base.proofs.Counted.{live_of-same, groups_of-same, live_of-add_context, groups_of-add_context, live_of-add_group, groups_of-add_group}
-use Rattle.lwc_base.proofs.Fresh.{fresh-add_group, fresh-after_store, fresh-put_slot}
-use Rattle.lwc_base.proofs.Kernel.{RisesBy, grows-after_store}
-use Rattle.lwc_base.proofs.Live.{same_name, values-change_context, values-put_page, values-put_pages, values-put_slot}
+use Rattle.lwc_base.proofs.Live.{same_name, values-change_context}
 use Rattle.lwc_base.proofs.Orders.{name_cmp-total}
 use Rattle.lwc_base.specs.Cells.{put_page_in, put_page, put_slot_in, put_slot}
 use Rattle.lwc_base.specs.Fresh.{IsFresh}
 use Rattle.lwc_base.specs.Names.{name_cmp}
 use Rattle.lwc_base.specs.Memory.{touched}
 use Rattle.lwc_base.specs.Store.{Piece, after_store, plan, put_pages}
-use Rattle.lwc_base.specs.World.{World, Context, Group, Counters, is_live, live_of, groups_of, changed_context, change_context, changed_group, change_group, count_on, add_context, add_group, next_context, next_group}
+use Rattle.lwc_base.specs.World.{World, Context, Group, is_live, live_of, groups_of, changed_context, change_context, changed_group, change_group, count_on, add_context, add_group, next_context, next_group}
 use Rattle.lwc_base.specs.declared.cell.Cell.{Cell}
 use Rattle.lwc_base.specs.declared.cell.Cell.TheVariants.{Own, Common}
 use Rattle.lwc_base.specs.declared.descriptor.Descriptor.{Descriptor}

@@ -1,5 +1,5 @@
 -- How many names there are, by the jobs that they bear.
-use Rattle.std.proofs.Common.{◌≡◌, ℕ, zero, suc, ◌+◌, ◌*◌, ◌≤◌, ◌<◌, refl, sym, ap, subst, ◌∙◌, Bool, true, false, cond, eqb, ltb, ◌||◌, List, [], ◌∷◌, length, map, arith}
+use Rattle.std.proofs.Common.{◌≡◌, ℕ, zero, suc, ◌+◌, ◌*◌, ◌≤◌, ◌<◌, refl, sym, ap, ◌∙◌, Bool, true, false, cond, eqb, ltb, ◌||◌, List, [], ◌∷◌, length, map, arith}
 use Rattle.std.specs.FinMap as fm
 use Rattle.std.specs.List.{list_any}
 use Rattle.std.specs.Ordering.{eq_by_cmp}
@@ -10,7 +10,7 @@ use Rattle.kernel_core.specs.Steady.{IsPeopled, IsWide}
 use Rattle.kernel_core.specs.declared.settings.TheConstants.{MOST_THREADS}
 use Rattle.lwc_base.proofs.Lookups.{name-itself}
 use Rattle.lwc_base.specs.Names.{name_cmp}
-use Rattle.lwc_base.specs.World.{World, groups_of, is_live, live_of}
+use Rattle.lwc_base.specs.World.{World, groups_of, live_of}
 use Rattle.lwc_base.specs.declared.name.Name.{Name}
 use Rattle.lwc_base.specs.declared.size.WorldSize.{WorldSize}
 use Rattle.world_face.specs.Calls.{HasGroupPlace, HasPlace}
@@ -37,8 +37,14 @@ one_by job n = grind (arith, nat_tests)
 below_next : (n : ℕ) (names : List Name) → below names (n + 1) ≡ below names n + borne names n
 below_next n [] = refl
 below_next n (c ∷ names) =
-    omega (arith, counted_first (λ x. ltb x.job (n + 1)) c names, counted_first (λ x. ltb x.job n) c names, counted_first (λ x. eqb x.job n) c names,
-    one_by c.job n, below_next n names)
+    omega (
+      arith,
+      counted_first (λ x. ltb x.job (n + 1)) c names,
+      counted_first (λ x. ltb x.job n) c names,
+      counted_first (λ x. eqb x.job n) c names,
+      one_by c.job n,
+      below_next n names,
+    )
 
 none_below : (names : List Name) → below names 0 ≡ 0
 none_below [] = refl

@@ -1,12 +1,11 @@
 -- How many ranges a context has whose pages are all its own: no more than their numbers make.
 use Rattle.std.proofs.Common.{◌≡◌, ℕ, zero, suc, ◌+◌, ◌≤◌, ◌<◌, refl, sym, ap, subst, ◌∙◌, Bool, true, false, cond, eqb, not, ◌&&◌, ◌||◌, Option, Some, None, List, [], ◌∷◌, take, arith}
 use Rattle.std.specs.List.{enumerate_from, find, list_any, range_with_len}
-use Rattle.std.specs.Option.{option_map}
 use Rattle.std.specs.Prelude.{count_by, is_some}
 use Rattle.std.proofs.lemmas.Bool.Decides.{nat_tests}
 use Rattle.std.proofs.lemmas.List.Sums.{sum_by-cons}
 use Rattle.guest_image.specs.Limits.{page_numbers}
-use Rattle.guest_image.specs.Numbers.{begins, ranges_after, ranges_with}
+use Rattle.guest_image.specs.Numbers.{begins, ranges_after}
 use Rattle.guest_image.specs.declared.image.PageImage.{PageImage}
 use Rattle.lwc_base.specs.Ranges.{are_alike, begins_range, goes_on, ranges}
 use Rattle.lwc_base.specs.World.{Context}
@@ -79,9 +78,13 @@ module _ (test : ℕ → Bool) (a n : ℕ) where
   count-among : (ms : List ℕ) → count_by (λ p. test p && has ms p) (range_with_len a n) ≤ count_by test ms
   count-among [] = omega (arith, count-none (λ p. test p && false) (range_with_len a n) (λ p. and_false (test p)))
   count-among (m ∷ ms) =
-      omega (arith,
-      count-covered (λ p. test p && has (m ∷ ms) p) (λ p. test m && eqb m p) (λ p. test p && has ms p) (range_with_len a n) (λ p. covered m p ms (eqb m p) refl),
-      once_where m (test m), count-among ms, counted_first test m ms)
+      omega (
+        arith,
+        count-covered (λ p. test p && has (m ∷ ms) p) (λ p. test m && eqb m p) (λ p. test p && has ms p) (range_with_len a n) (λ p. covered m p ms (eqb m p) refl),
+        once_where m (test m),
+        count-among ms,
+        counted_first test m ms,
+      )
 
 -- a context whose pages are its own, and which has just the pages of these numbers
 module _ (x : Context) (numbers : List ℕ) (present : (p : ℕ) → is_some (x.page p) ≡ has numbers p) (own : (p : ℕ) → is_own (x.page p) ≡ has numbers p) where
@@ -135,7 +138,7 @@ module _ (x : Context) (numbers : List ℕ) (present : (p : ℕ) → is_some (x.
       let here : has numbers m ≡ true = inside m (itself m ms) in
       let one = begun_by before m (begins before m) refl there here in
       let rest : count_by (begins_range x) ms ≤ ranges_after (Some m) ms =
-          count-begun (Some m) ms (λ k is. let same : m ≡ k = cc in ap (has numbers) (sym same) ∙ here) (λ p is. inside p (later m p ms is)) in
+      count-begun (Some m) ms (λ k is. let same : m ≡ k = cc in ap (has numbers) (sym same) ∙ here) (λ p is. inside p (later m p ms is)) in
       omega (arith, counted_first (begins_range x) m ms, one, rest, ranges_by (begins before m) (ranges_after (Some m) ms))
 
   among : (p : ℕ) (b : Bool) → is_some (x.page p) ≡ b → num (begins_range x p) ≤ num (begins_range x p && b) + num false
@@ -151,12 +154,14 @@ module _ (x : Context) (numbers : List ℕ) (present : (p : ℕ) → is_some (x.
   pub ranges-own : (pages : ℕ) → ranges pages x ≤ ranges_after None numbers
   unfolding ranges
   ranges-own pages =
-      omega (arith,
-      count-covered (begins_range x) (λ p. begins_range x p && has numbers p) (λ p. false) (range_with_len 0 pages)
-      (λ p. subst (λ (b : Bool). num (begins_range x p) ≤ num (begins_range x p && b) + num false) (present p) (among p (is_some (x.page p)) refl)),
-      count-none (λ p. false) (range_with_len 0 pages) (λ p. refl),
-      count-among (begins_range x) 0 pages numbers,
-      count-begun None numbers (λ k is. cc) (λ p is. is))
+      omega (
+        arith,
+        count-covered (begins_range x) (λ p. begins_range x p && has numbers p) (λ p. false) (range_with_len 0 pages)
+            (λ p. subst (λ (b : Bool). num (begins_range x p) ≤ num (begins_range x p && b) + num false) (present p) (among p (is_some (x.page p)) refl)),
+        count-none (λ p. false) (range_with_len 0 pages) (λ p. refl),
+        count-among (begins_range x) 0 pages numbers,
+        count-begun None numbers (λ k is. cc) (λ p is. is),
+      )
 
 fewer_at_first : (b : Bool) (m n : ℕ) → m ≤ n → cond b (m + 1) m ≤ cond b (n + 1) n
 fewer_at_first true m n less = omega arith
