@@ -1,4 +1,4 @@
-ghost use Rattle.std.specs.Prelude.{◌≡◌, ◌<◌, ◌≤◌, ◌+◌, ◌^◌, ◌++◌, ◌∷◌, [], false, IfErr, IfOk, IfSome, OnOk, OnErr, length, vec_len, vec_capacity, Some};
+ghost use Rattle.std.specs.Prelude.{◌≡◌, ◌<◌, ◌≤◌, ◌+◌, ◌^◌, ◌++◌, ◌∷◌, [], false, true, IfErr, IfOk, IfSome, IsOk, OnOk, OnErr, length, vec_len, vec_capacity, Some};
 ghost use Rattle.guest_image.specs.Limits.{IsImage};
 ghost use Rattle.guest_machine.specs.Advances.{advanced};
 ghost use Rattle.kernel_core.specs.Kernel.{machine_of, opened, stepped, turn_of, view_of, work};
