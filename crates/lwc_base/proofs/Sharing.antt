@@ -198,3 +198,6 @@ module _ (w : World) (c : Name) (job : ℕ) (items : List Item) where
     -- and under the credential
     pub uid_at-share : (d : Name) → uid_at (share w c job items) d ≡ uid_at w d
     uid_at-share d = after_share (λ v. uid_at v d ≡ uid_at w d) w c job items (uid_at-moved d) refl
+
+-- sharing changes no value
+pub ruleset shared_values = (page_at-share, slot_at-share, uid_at-share)

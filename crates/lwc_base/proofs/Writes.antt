@@ -358,3 +358,6 @@ in_common-put_uid w c uid a b both = record {
   first = put_uid-stays w c uid a both.group both.first;
   second = put_uid-stays w c uid b both.group both.second;
 }
+
+-- what is in common reads the same, stays in common, and what is put in one is read in the other
+pub ruleset in_common = (page_at-in_common, slot_at-in_common, uid_at-in_common, in_common-put_page, in_common-put_slot, in_common-put_uid, page_at-put_page-common, slot_at-put_slot-common, uid_at-put_uid-common)
