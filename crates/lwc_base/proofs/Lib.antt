@@ -1,7 +1,10 @@
 pub mod Begun
+pub mod Clones
 pub mod Cloning
 pub mod Counted
 pub mod Fresh
+pub mod Grouped
+pub mod ItemModes
 pub mod Kernel
 pub mod OneContext
 pub mod OnePage
@@ -11,8 +14,10 @@ pub mod Loading
 pub mod Lookups
 pub mod Orders
 pub mod OwnCells
+pub mod Runs
 pub mod Sharing
 pub mod Storing
+pub mod Writes
 pub mod Zeros
 pub mod PairedLemmas
 pub mod StackLemmas

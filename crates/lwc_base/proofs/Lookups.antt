@@ -24,6 +24,11 @@ other_where q c false same other = refl
 pub other_name : (q c : Name) → q ≢ c → eq_by_cmp name_cmp q c ≡ false
 other_name q c other = other_where q c _ refl other
 
+-- two tests of which the second fails
+pub not_both : (a b : Bool) → b ≡ false → (a && b) ≡ false
+not_both true b is = is
+not_both false b is = refl
+
 unwrap_chosen : {A : Type 0} (b : Bool) (y : A) (o : Option A) (d : A) → unwrap_or (cond b (Some y) o) d ≡ cond b y (unwrap_or o d)
 unwrap_chosen true y o d = refl
 unwrap_chosen false y o d = refl

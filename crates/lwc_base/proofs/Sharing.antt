@@ -25,16 +25,18 @@ use Rattle.lwc_base.proofs.Lookups.{name-itself, context-change_context, group-c
 use Rattle.lwc_base.proofs.Fresh.{names_old-context, group-named-other}
 
 -- the value of a page's cell is the same in two worlds where the group that it names is
-page_of-same : (v w : World) (p : ℕ) (cell : Option (Cell PageValue)) → ((g : Name) → cell ≡ Some (Common g) → group v g ≡ group w g) → page_of v p cell ≡ page_of w p cell
+pub page_of-same : (v w : World) (p : ℕ) (cell : Option (Cell PageValue)) → ((g : Name) → cell ≡ Some (Common g) → group v g ≡ group w g) → page_of v p cell ≡ page_of w p cell
 page_of-same v w p None same = refl
 page_of-same v w p (Some (Own value)) same = refl
 page_of-same v w p (Some (Common g)) same = ap (λ (x : Group). x.page p) (same g refl)
 
-slot_of-same : (v w : World) (n : ℕ) (cell : Cell Descriptor) → ((g : Name) → cell ≡ Common g → group v g ≡ group w g) → slot_of v n cell ≡ slot_of w n cell
+-- so is that of a slot's cell
+pub slot_of-same : (v w : World) (n : ℕ) (cell : Cell Descriptor) → ((g : Name) → cell ≡ Common g → group v g ≡ group w g) → slot_of v n cell ≡ slot_of w n cell
 slot_of-same v w n (Own value) same = refl
 slot_of-same v w n (Common g) same = ap (λ (x : Group). unwrap_or (x.slot n) Empty) (same g refl)
 
-uid_of-same : (v w : World) (cell : Cell ℕ) → ((g : Name) → cell ≡ Common g → group v g ≡ group w g) → uid_of v cell ≡ uid_of w cell
+-- and that of a credential's
+pub uid_of-same : (v w : World) (cell : Cell ℕ) → ((g : Name) → cell ≡ Common g → group v g ≡ group w g) → uid_of v cell ≡ uid_of w cell
 uid_of-same v w (Own value) same = refl
 uid_of-same v w (Common g) same = ap (λ (x : Group). unwrap_or x.uid 0) (same g refl)
 
@@ -61,12 +63,14 @@ uid_of-moved v w g Unmap cell holds same = uid_of-same v w cell same
 uid_of-moved v w g Share (Own value) holds same = ap (λ o. unwrap_or o 0) holds
 uid_of-moved v w g Share (Common h) holds same = uid_of-same v w (Common h) same
 
-common_after : (P : Name → Type 0) (g h : Name) (moves : Option PageValue) (cell : Option (Cell PageValue)) → page_after g moves cell ≡ Some (Common h) →
+-- a group that a page's cell names once its value has moved is the new one, or the one that it named before
+pub common_after : (P : Name → Type 0) (g h : Name) (moves : Option PageValue) (cell : Option (Cell PageValue)) → page_after g moves cell ≡ Some (Common h) →
     P g → (cell ≡ Some (Common h) → P h) → P h
 common_after P g h None cell is here there = there is
 common_after P g h (Some value) cell is here there = let same : g ≡ h = cc in subst P same here
 
-common_cell_after : {T : Type 0} (P : Name → Type 0) (g h : Name) (moves : Option T) (cell : Cell T) → cell_after g moves cell ≡ Common h →
+-- the same of a slot's or a credential's cell
+pub common_cell_after : {T : Type 0} (P : Name → Type 0) (g h : Name) (moves : Option T) (cell : Cell T) → cell_after g moves cell ≡ Common h →
     P g → (cell ≡ Common h → P h) → P h
 common_cell_after P g h None cell is here there = there is
 common_cell_after P g h (Some value) cell is here there = let same : g ≡ h = cc in subst P same here
@@ -194,3 +198,6 @@ module _ (w : World) (c : Name) (job : ℕ) (items : List Item) where
     -- and under the credential
     pub uid_at-share : (d : Name) → uid_at (share w c job items) d ≡ uid_at w d
     uid_at-share d = after_share (λ v. uid_at v d ≡ uid_at w d) w c job items (uid_at-moved d) refl
+
+-- sharing changes no value
+pub ruleset shared_values = (page_at-share, slot_at-share, uid_at-share)

@@ -1,5 +1,6 @@
 pub mod Capabilities
 pub mod Cells
+pub mod Clones
 pub mod Counts
 pub mod Faults
 pub mod Frames
@@ -13,6 +14,7 @@ pub mod Paired
 pub mod Ranges
 pub mod Refusals
 pub mod Registers
+pub mod Runs
 pub mod Sharing
 pub mod Slots
 pub mod Store

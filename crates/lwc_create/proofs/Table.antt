@@ -1,5 +1,5 @@
--- The table of refusals by its parts, and what the call does by its first row that holds.
-use Rattle.std.proofs.Common.{◌≡◌, ◌++◌, ◌<◌, ℕ, true, false, Bool, cond, List, [], ◌∷◌, Option, Some, None, ap, arith, refl, zero, suc, ◌+◌}
+-- What the call does by the first refusal that holds.
+use Rattle.std.proofs.Common.{◌≡◌, ◌<◌, ℕ, true, false, Bool, cond, List, Option, Some, None, ap, arith, refl, zero, suc, ◌+◌}
 use Rattle.std.specs.Prelude.{unwrap_or}
 use Rattle.std.specs.List.{find, range_with_len}
 use Rattle.lwc_base.specs.declared.answer.Answer.TheVariants.{Done, Refused}
@@ -17,31 +17,6 @@ use Rattle.lwc_base.specs.Slots.{lowest_empty}
 use Rattle.lwc_base.specs.Summaries.{is_empty}
 use Rattle.lwc_base.specs.World.{World, next_context}
 use Rattle.lwc_create.specs.Create.{after_call, create, ended, items_of, no_caller, refusals}
-use Rattle.lwc_create.specs.Parts.{item_refusals, later_refusals}
-
--- where a front of a table has a row that holds, it is the table's first
-first_in_front : {R : Type 0} (front rest : List (Bool × R)) (r : R) → first_refusal front ≡ Some r → first_refusal (front ++ rest) ≡ Some r
-first_in_front [] rest r e = cc
-first_in_front ((true, refusal) ∷ front) rest r e = e
-first_in_front ((false, refusal) ∷ front) rest r e = first_in_front front rest r e
-
--- where no row of a front holds, the first that does is one of the rest
-first_in_rest : {R : Type 0} (front rest : List (Bool × R)) → first_refusal front ≡ None → first_refusal (front ++ rest) ≡ first_refusal rest
-first_in_rest [] rest e = refl
-first_in_rest ((true, refusal) ∷ front) rest e = cc
-first_in_rest ((false, refusal) ∷ front) rest e = first_in_rest front rest e
-
--- a refusal for the items is the call's
-pub refused_for_items : (w : World) (c : Name) (job : ℕ) (regs : Regs) (refusal : Refusal) → first_refusal (item_refusals w c regs) ≡ Some refusal →
-    first_refusal (refusals w c job regs) ≡ Some refusal
-unfolding refusals item_refusals later_refusals
-refused_for_items w c job regs refusal e = first_in_front (item_refusals w c regs) (later_refusals w c job regs) refusal e
-
--- where the items pass, the others decide
-pub passed_for_items : (w : World) (c : Name) (job : ℕ) (regs : Regs) → first_refusal (item_refusals w c regs) ≡ None →
-    first_refusal (refusals w c job regs) ≡ first_refusal (later_refusals w c job regs)
-unfolding refusals item_refusals later_refusals
-passed_for_items w c job regs e = first_in_rest (item_refusals w c regs) (later_refusals w c job regs) e
 
 -- the call where a row holds
 pub refused_call : (w : World) (c : Name) (job : ℕ) (regs : Regs) (refusal : Refusal) → first_refusal (refusals w c job regs) ≡ Some refusal →

@@ -1,4 +1,4 @@
-ghost use Rattle.std.specs.Prelude.{◌≡◌, ◌<◌, Some, None, true, IfErr, IfOk, IsOk, OnErr};
+ghost use Rattle.std.specs.Prelude.{◌≡◌, ℕ, ◌<◌, Some, None, true, IfErr, IfOk, IsOk, OnErr, drop};
 ghost use Rattle.lwc_base.specs.Modes.{IsSpec};
 ghost use Rattle.lwc_base.specs.Refusals.{first_refusal};
 ghost use Rattle.lwc_base.specs.Sharing.{needs_group, ranges_after_clone};
@@ -6,7 +6,7 @@ ghost use Rattle.lwc_base.specs.Slots.{lowest_empty};
 ghost use Rattle.lwc_base.specs.World.{groups_of, live_of};
 ghost use Rattle.lwc_base.specs.declared.descriptor.TheConstants.{CAP_PAGES};
 ghost use Rattle.lwc_base.specs.declared.size.TheConstants.{MOST_CONTEXTS_OF_JOB, MOST_GROUPS_OF_JOB};
-ghost use Rattle.lwc_create.specs.Parts.{item_refusals, refusal_of};
+ghost use Rattle.lwc_create.specs.Faults.{refusal_of};
 ghost use Rattle.lwc_create.specs.Create as call;
 ghost use Rattle.world_face.specs.Calls.{AreFew, HasGroupPlace, HasPlace, IsLive, MayName};
 
@@ -49,12 +49,14 @@ fn after_call(regs: &Regs, value: u64) -> Regs
     }
 }
 
-// The items that the caller asks for, or the first refusal of those that speak of the items alone.
-#[tactic(auto, unfolding(crate::specs::Create::item_bytes, crate::specs::Create::items_of, crate::specs::Parts::item_refusals, res_spec::specs::Items::read, res_spec::specs::Items::faults))]
+// The items that the caller asks for, or the first refusal. Of the table of refusals the first five rows speak of the
+// items alone; where none of them holds, the rest decides.
+#[tactic(auto, unfolding(crate::specs::Create::item_bytes, crate::specs::Create::items_of, crate::specs::Create::refusals, res_spec::specs::Items::read, res_spec::specs::Items::faults))]
 fn asked<W: World>(world: &W, c: Name, regs: &Regs) -> Result<Spec, Refusal>
     requires live { IsLive (W.seen world.now) c }
-    ensures refused { IfErr result (λ refusal. first_refusal (item_refusals (W.seen world.now) c regs.now) ≡ Some refusal) }
-    ensures passed { IfOk result (λ spec. first_refusal (item_refusals (W.seen world.now) c regs.now) ≡ None) }
+    ensures refused { IfErr result (λ refusal. (job : ℕ) → first_refusal (call.refusals (W.seen world.now) c job regs.now) ≡ Some refusal) }
+    ensures passed { IfOk result (λ spec. (job : ℕ) → first_refusal (call.refusals (W.seen world.now) c job regs.now)
+        ≡ first_refusal (drop 5 (call.refusals (W.seen world.now) c job regs.now))) }
     ensures items { IfOk result (λ spec. spec ≡ call.items_of (W.seen world.now) c regs.now) }
     ensures within { IfOk result (λ spec. IsSpec (W.seen world.now).pages spec) }
 {
@@ -78,7 +80,7 @@ fn are_too_many(counts: (u32, u32)) -> bool
 }
 
 // The items and the slot that the new context is made with, or the first refusal.
-#[tactic(auto, unfolding(crate::specs::Parts::later_refusals), using(crate::proofs::Table::refused_for_items, crate::proofs::Table::passed_for_items))]
+#[tactic(auto, unfolding(crate::specs::Create::refusals))]
 fn allowed<W: World>(world: &W, c: Name, job: u32, regs: &Regs) -> Result<(Spec, u8), Refusal>
     requires live { IsLive (W.seen world.now) c }
     ensures refused { IfErr result (λ refusal. first_refusal (call.refusals (W.seen world.now) c job regs.now) ≡ Some refusal) }
@@ -106,9 +108,9 @@ fn allowed<W: World>(world: &W, c: Name, job: u32, regs: &Regs) -> Result<(Spec,
     Ok((spec, slot))
 }
 
-#[tactic(auto, using(crate::proofs::StillLive::live_after_clone, crate::proofs::Table::done_call, crate::proofs::Table::lowest_is_slot, crate::proofs::Table::refused_call))]
 /// The call that makes a new context from context `c`, for a job, with the registers at the call: r1 the address of
 /// the items and r2 how many there are (`create`). The one error is want of memory, and then nothing has changed.
+#[tactic(auto, using(crate::proofs::StillLive::live_after_clone, crate::proofs::Table::done_call, crate::proofs::Table::lowest_is_slot, crate::proofs::Table::refused_call))]
 pub fn create<W: World>(
     world: &mut W,
     c: Name,

@@ -2,7 +2,6 @@ use Rattle.std.proofs.Common.{rules}
 use Rattle.std.specs.declared.result.Result.{Result}
 use Rattle.std.specs.declared.result.Result.TheVariants.{Ok, Err}
 use Rattle.std.specs.Result.{IfErr, IsErrAnd}
-use Rattle.lwc_create.proofs.Table.{refused_for_items}
 use Rattle.lwc_create.proofs.creating.allowed.Goals as goal
 
 -- what holds of an error holds where there is one
@@ -12,5 +11,5 @@ if_err (Err e) Q P is then = then e is
 
 pub returns-in_err-spec-clause-refused : goal.returns-in_err-spec-clause-refused
 returns-in_err-spec-clause-refused g c =
-    let refused = refused_for_items _ _ c.args.job _ _ c.in_err-spec.ensures.refused in
+    let refused = c.in_err-spec.ensures.refused c.args.job in
     if_err c.from_residual.result _ _ c.from_residual.ensures.1 (λ e same. search (rules, refused))
