@@ -1,6 +1,11 @@
 pub mod Adding
 pub mod Contexts
+pub mod Counted
+pub mod Gathered
 pub mod OldGroups
+pub mod PartingTags
 pub mod Places
 pub mod RowLemmas
 pub mod RowWorlds
+pub mod SeenTags
+pub mod TagLists

@@ -2,3 +2,4 @@ pub mod Copies
 pub mod Rows
 pub mod Seen
 pub mod Sound
+pub mod Tags

@@ -9,6 +9,7 @@ mod held;
 mod pages;
 mod puts;
 mod rows;
+mod tags;
 mod touched;
 mod world;
 
