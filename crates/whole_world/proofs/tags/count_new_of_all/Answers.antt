@@ -1,4 +1,4 @@
-use Rattle.std.proofs.Common.{◌≡◌, ◌+◌, [], ◌++◌, length, arith, ap, subst, ◌∙◌}
+use Rattle.std.proofs.Common.{◌≡◌, ◌+◌, ◌++◌, length, arith, ap, subst}
 use Rattle.std.specs.List.{flat_map}
 use Rattle.std.proofs.lemmas.List.{nil_from_length}
 use Rattle.whole_world.proofs.Counted.{IsCountedNew, none_counted_new, counted_new_more, counted_new-le-length, next-le-length, counted_new_all}

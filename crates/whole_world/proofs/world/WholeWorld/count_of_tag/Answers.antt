@@ -1,4 +1,4 @@
-use Rattle.std.proofs.Common.{◌≡◌, ◌+◌, arith, ap, ◌∙◌}
+use Rattle.std.proofs.Common.{◌≡◌, ◌+◌, arith}
 use Rattle.lwc_base.specs.Frames.{tags}
 use Rattle.whole_world.specs.Seen.{seen}
 use Rattle.whole_world.specs.Tags.{times}
