@@ -19,7 +19,8 @@ rises_at true n = record { contexts = omega arith; groups = omega arith }
 rises_at false n = record { contexts = omega arith; groups = omega arith }
 
 module _ (w counted : World) (job : ℕ) (is_counted : counted ≡ count_on w job (λ n. record n { contexts = n.contexts + 1 })) where
-  same_contexts : counted.contexts ≡ w.contexts
+  -- no context is there that was not
+  pub same_contexts : counted.contexts ≡ w.contexts
   unfolding count_on
   same_contexts = ap (λ (v : World). v.contexts) is_counted
 

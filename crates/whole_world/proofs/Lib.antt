@@ -3,9 +3,12 @@ pub mod Contexts
 pub mod Counted
 pub mod Gathered
 pub mod OldGroups
+pub mod Opening
 pub mod PartingTags
 pub mod Places
+pub mod RowCounts
 pub mod RowLemmas
 pub mod RowWorlds
 pub mod SeenTags
+pub mod Stores
 pub mod TagLists

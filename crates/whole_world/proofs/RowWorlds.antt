@@ -1,5 +1,5 @@
 -- The world that rows stand for: what it has under a name, and what becomes of it where a row is changed.
-use Rattle.std.proofs.Common.{◌≡◌, ℕ, zero, suc, ◌<◌, List, [], ◌∷◌, arith, length, refl, sym, ap, subst, ◌∙◌, Bool, true, false, cond, Option, Some, None, get_or, eqb, length-set, take, drop}
+use Rattle.std.proofs.Common.{◌≡◌, ℕ, zero, suc, ◌+◌, ◌<◌, ◌≤◌, List, [], ◌∷◌, arith, length, refl, sym, ap, subst, ◌∙◌, Bool, true, false, cond, Option, Some, None, get_or, eqb, length-set, map, take, drop}
 use Rattle.std.specs.Prelude.{T, is_some, unwrap_or, All}
 use Rattle.std.specs.List.{find, insert, position, position_or_len}
 use Rattle.std.specs.Option.{option_map}
@@ -13,6 +13,7 @@ use Rattle.lwc_base.specs.World.{Context, Counters, Group, count_on, changed_con
 use Rattle.lwc_base.proofs.Fresh.{Rises, fresh-change_group, fresh-count_on, fresh-insert_context}
 use Rattle.lwc_base.proofs.Live.{count_on_as}
 use Rattle.whole_world.proofs.Places.{place_after_set}
+use Rattle.std.proofs.lemmas.List.Edits.{length-insert}
 use Rattle.std.proofs.lemmas.List.Elements.{All-append, All-cons, All-drop, All-get_or, All-set, All-take}
 use Rattle.whole_world.specs.declared.counts.Counts.{Counts}
 use Rattle.whole_world.specs.declared.group.HeldGroup.{HeldGroup}
@@ -22,12 +23,16 @@ use Rattle.whole_world.specs.Rows.{contexts_of, groups_of, has_name, has_group_n
 use Rattle.whole_world.specs.Seen.{seen}
 use Rattle.whole_world.specs.declared.world.WholeWorld.{WholeWorld}
 use Rattle.whole_world.specs.Sound.{IsSound, IsWhole, IsWholeGroup}
-use Rattle.whole_world.proofs.RowLemmas.{IsPlace, place_found, row_missed, found_holds, get-rows, row-at-place, map_of-set, map_of-insert, sorted-set, sorted-insert}
+use Rattle.whole_world.proofs.RowLemmas.{IsPlace, place_found, row_missed, found_holds, get-rows, row-at-place, map_of-set, map_of-insert, sorted-set, sorted-insert, len-rows, keys-rows, place_within}
 
 get_or_default : {A : Type 0} (xs : List A) (i : ℕ) (d e : A) → i < length xs → get_or xs i d ≡ get_or xs i e
 get_or_default [] i d e h = absurd (omega arith)
 get_or_default (x ∷ xs) zero d e h = refl
 get_or_default (x ∷ xs) (suc i) d e h = get_or_default xs i d e (omega arith)
+
+-- one more row
+pub length-inserted : {E : Type 0} (rows : List E) (i : ℕ) (new : E) → i ≤ length rows → length (insert rows i new) ≡ length rows + 1
+length-inserted rows i new within = length-insert rows i new within
 
 counters_of_choice : (b : Bool) (m n : Counts) → counters_of (cond b m n) ≡ cond b (counters_of m) (counters_of n)
 counters_of_choice true m n = refl
@@ -143,6 +148,9 @@ module _ (size : WorldSize) (contexts : List Held) (groups : List HeldGroup) (co
   sound-row c i old new change found is same whole changed fresh = record {
     some_job = sound.some_job;
     few_pages = sound.few_pages;
+    few_rows = sound.few_rows;
+    few_contexts = omega (arith, length-set contexts i new, sound.few_contexts);
+    few_groups = sound.few_groups;
     counted = sound.counted;
     contexts_sorted = subst T (sym (sorted-set (λ h. h.name) context_of contexts i new old (same ∙ ap (λ h. h.name) is))) sound.contexts_sorted;
     groups_sorted = sound.groups_sorted;
@@ -157,6 +165,9 @@ module _ (size : WorldSize) (contexts : List Held) (groups : List HeldGroup) (co
   sound-group_row g i old new change found is same whole changed = record {
     some_job = sound.some_job;
     few_pages = sound.few_pages;
+    few_rows = sound.few_rows;
+    few_contexts = sound.few_contexts;
+    few_groups = omega (arith, length-set groups i new, sound.few_groups);
     counted = sound.counted;
     contexts_sorted = sound.contexts_sorted;
     groups_sorted = subst T (sym (sorted-set (λ h. h.name) group_of groups i new old (same ∙ ap (λ h. h.name) is))) sound.groups_sorted;
@@ -187,6 +198,9 @@ module _ (size : WorldSize) (contexts : List Held) (groups : List HeldGroup) (co
   sound-counts job n change there is rises = record {
     some_job = sound.some_job;
     few_pages = sound.few_pages;
+    few_rows = sound.few_rows;
+    few_contexts = sound.few_contexts;
+    few_groups = sound.few_groups;
     counted = length-set counts job n ∙ sound.counted;
     contexts_sorted = sound.contexts_sorted;
     groups_sorted = sound.groups_sorted;
@@ -207,14 +221,36 @@ module _ (size : WorldSize) (contexts : List Held) (groups : List HeldGroup) (co
       ap (λ m. record (world_of size contexts groups counts) { contexts = m })
       (map_of-insert (λ h. h.name) context_of new.name new contexts sound.contexts_sorted (none_found new.name dead) refl)
 
+  -- there are as many contexts as rows, and as many groups
+  pub len-contexts : fm.len (world_of size contexts groups counts).contexts ≡ length contexts
+  unfolding world_of contexts_of
+  len-contexts = len-rows (λ h. h.name) context_of contexts sound.contexts_sorted
+
+  pub len-groups : fm.len (world_of size contexts groups counts).groups ≡ length groups
+  unfolding world_of groups_of
+  len-groups = len-rows (λ h. h.name) group_of groups sound.groups_sorted
+
+  -- the names of the rows are those of the contexts
+  pub names-rows : fm.keys (world_of size contexts groups counts).contexts ≡ map (λ held. held.name) contexts
+  unfolding world_of contexts_of
+  names-rows = keys-rows (λ h. h.name) context_of contexts sound.contexts_sorted
+
+  pub group_names-rows : fm.keys (world_of size contexts groups counts).groups ≡ map (λ held. held.name) groups
+  unfolding world_of groups_of
+  group_names-rows = keys-rows (λ h. h.name) group_of groups sound.groups_sorted
+
   -- the world stays sound
   pub sound-insert : (new : Held) → is_live (world_of size contexts groups counts) new.name ≡ false →
       new.name.k < ((world_of size contexts groups counts).next new.name.job).contexts →
       NamesOldGroups (world_of size contexts groups counts).next (context_of new) → IsWhole size.pages new →
+      fm.len (world_of size contexts groups counts).contexts < size.contexts →
       IsSound size (insert contexts (position_or_len (is_past new.name) contexts) new) groups counts
-  sound-insert new dead named old whole = record {
+  sound-insert new dead named old whole few = let place : length contexts < size.contexts = subst (λ n. n < size.contexts) len-contexts few in record {
     some_job = sound.some_job;
     few_pages = sound.few_pages;
+    few_rows = sound.few_rows;
+    few_contexts = omega (arith, length-inserted contexts (position_or_len (is_past new.name) contexts) new (place_within (is_past new.name) contexts), place);
+    few_groups = sound.few_groups;
     counted = sound.counted;
     contexts_sorted = sorted-insert (λ h. h.name) context_of new.name new contexts sound.contexts_sorted (none_found new.name dead) refl;
     groups_sorted = sound.groups_sorted;

@@ -1,5 +1,5 @@
 -- What a world of whole copies keeps true of itself.
-use Rattle.std.specs.Prelude.{◌≡◌, ℕ, ◌≤◌, List, T, length, map, vec_len, All}
+use Rattle.std.specs.Prelude.{◌≡◌, ℕ, ◌+◌, ◌≤◌, ◌^◌, List, T, length, map, vec_len, All}
 use Rattle.std.specs.FinMap as fm
 use Rattle.lwc_base.specs.declared.descriptor.TheConstants.{SLOTS}
 use Rattle.lwc_base.specs.declared.page.TheConstants.{MOST_PAGES}
@@ -21,10 +21,13 @@ pub record IsWholeGroup (count : ℕ) (held : HeldGroup) : Type 0 where
   pub pages : vec_len held.pages ≡ count
   pub slots : vec_len held.slots ≡ SLOTS
 
--- the rows stand in the order of their names, each is whole, each name is below what its job has counted, and the sizes are within the limits
+-- the sizes are within the limits, and there are no more rows than may be; the rows stand in the order of their names, each is whole, and each name is below what its job has counted
 pub record IsSound (size : WorldSize) (contexts : List Held) (groups : List HeldGroup) (counts : List Counts) : Type 0 where
   pub some_job : 1 ≤ size.jobs
   pub few_pages : size.pages ≤ MOST_PAGES
+  pub few_rows : size.contexts + size.groups ≤ 2 ^ 16
+  pub few_contexts : length contexts ≤ size.contexts
+  pub few_groups : length groups ≤ size.groups
   pub counted : length counts ≡ size.jobs
   pub contexts_sorted : T (fm.is_sorted name_cmp (map context_entry contexts))
   pub groups_sorted : T (fm.is_sorted name_cmp (map group_entry groups))

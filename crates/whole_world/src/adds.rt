@@ -51,6 +51,7 @@ impl WholeWorld {
         requires counted { held.name.k < ((seen self.old).next held.name.job).contexts }
         requires old_groups { NamesOldGroups (seen self.old).next (context_of held) }
         requires whole { IsWhole (seen self.old).pages held }
+        requires place { fm.len (seen self.old).contexts < (size_of self.old).contexts }
         requires room { HasRoom self.old }
         ensures world { seen self.new ≡ record (seen self.old) { contexts = fm.insert (seen self.old).contexts held.name (context_of held) } }
         ensures size { size_of self.new ≡ size_of self.old }
@@ -66,6 +67,7 @@ impl WholeWorld {
         requires name { held.name ≡ next_context (seen self.old) job }
         requires old_groups { NamesOldGroups (seen self.old).next (context_of held) }
         requires whole { IsWhole (seen self.old).pages held }
+        requires place { fm.len (seen self.old).contexts < (size_of self.old).contexts }
         requires room { HasRoom self.old }
         ensures world { seen self.new ≡ add_context (seen self.old) job (context_of held) }
         ensures size { size_of self.new ≡ size_of self.old }

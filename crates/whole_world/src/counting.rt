@@ -2,9 +2,10 @@ ghost use Rattle.std.specs.Prelude.{◌≡◌, ◌+◌, ◌<◌, ◌≤◌, ◌^
 
 use crate::counts::Counts;
 use crate::world::WholeWorld;
+use lwc_base::Name;
 
 impl WholeWorld {
-    ghost use Rattle.lwc_base.specs.World.{count_on};
+    ghost use Rattle.lwc_base.specs.World.{count_on, next_context};
     ghost use Rattle.whole_world.specs.Seen.{HasRoom, HasGroupRoom, counters_of, seen, size_of};
 
     /// What a job has counted.
@@ -13,6 +14,17 @@ impl WholeWorld {
         ensures { (seen self.now).next job ≡ counters_of result }
     {
         self.counts[job as usize]
+    }
+
+    /// The next name of a job's contexts.
+    pub(crate) fn next_name(&self, job: u32) -> Name
+        requires { job < (size_of self.now).jobs }
+        ensures { result ≡ next_context (seen self.now) job }
+    {
+        Name {
+            job,
+            k: self.counted(job).contexts,
+        }
     }
 
     /// A job counts one more context.

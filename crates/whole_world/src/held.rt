@@ -1,4 +1,4 @@
-ghost use Rattle.std.specs.Prelude.{◌≡◌, ℕ, ◌<◌, ◌≤◌, IfOk, Some, None, replicate, vec_len};
+ghost use Rattle.std.specs.Prelude.{◌≡◌, ℕ, ◌<◌, ◌≤◌, IfOk, IfSome, Some, None, replicate, vec_len};
 ghost use Rattle.std.specs.Option.{option_copied};
 ghost use Rattle.lwc_base.specs.declared.cell.Cell.TheVariants.{Own};
 ghost use Rattle.lwc_base.specs.declared.descriptor.Descriptor.TheVariants.{Empty};
@@ -49,6 +49,7 @@ impl Held {
     pub fn page_cell(&self, p: usize) -> Option<&Cell<PageValue>>
         ensures cell { option_copied result ≡ held_page self.now p }
         ensures of_context { option_copied result ≡ (context_of self.now).page p }
+        ensures within { IfSome result (λ _. p < vec_len self.now.pages) }
     {
         if p < self.pages.len() {
             self.pages[p].as_ref()

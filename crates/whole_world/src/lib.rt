@@ -1,4 +1,4 @@
-//! The world by whole copies: each context holds all that it has, and what is asked of the world is counted anew each time.
+//! The world by whole copies: each context and each group holds all that it has, and what is asked of the world is counted anew each time.
 #![tactic(auto)]
 
 mod adds;
@@ -6,9 +6,13 @@ mod counting;
 mod counts;
 mod group;
 mod held;
+mod loads;
 mod pages;
 mod puts;
 mod rows;
+mod store;
+mod stubs;
+mod summaries;
 mod tags;
 mod touched;
 mod world;

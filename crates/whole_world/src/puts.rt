@@ -112,8 +112,7 @@ impl WholeWorld {
     /// (`put_page`).
     #[tactic(auto, unfolding(lwc_base::specs::Cells::put_page))]
     pub(crate) fn put_page(&mut self, c: Name, p: usize, value: PageValue)
-        requires live { IsTrue (is_live (seen self.old) c) }
-        requires within { p < (seen self.old).pages }
+        requires { IsTrue (is_live (seen self.old) c) }
         ensures world { seen self.new ≡ put_page (seen self.old) c p value }
         ensures size { size_of self.new ≡ size_of self.old }
     {

@@ -1,0 +1,10 @@
+use Rattle.std.proofs.Common.{arith}
+use Rattle.lwc_base.specs.Memory.{byte_at}
+use Rattle.whole_world.specs.Seen.{seen}
+use Rattle.whole_world.proofs.Places.{filled_from}
+use Rattle.whole_world.proofs.world.WholeWorld.copy_to.Goals as goal
+
+pub returns : goal.returns
+returns c =
+    filled_from (byte_at (seen c.args.self.now) c.args.c) c.args.at _ c.loop-i.out c.loop-i.auto.out
+    (λ k h. c.loop-i.invariant k (omega (arith, c.loop-i-test.false)))

@@ -1,0 +1,23 @@
+use Rattle.std.proofs.Common.{◌∙◌, ap, sym}
+use Rattle.std.proofs.lemmas.List.{nil_from_length}
+use Rattle.lwc_base.specs.Store.{put_pages}
+use Rattle.lwc_base.specs.World.{is_live}
+use Rattle.lwc_base.proofs.Live.{values-put_page}
+use Rattle.whole_world.specs.Seen.{seen}
+use Rattle.whole_world.proofs.world.WholeWorld.put_pages.Goals as goal
+
+pub loop-p-preserved : goal.loop-p-preserved
+loop-p-preserved c = record {
+  left = ap (λ w. put_pages w c.args.c c.next.new.self.rest.items) c.put_page.ensures.world
+      ∙ ap (put_pages (seen c.loop-p.self) c.args.c) (sym c.in-Some.ensures.steps.0)
+      ∙ c.loop-p.invariant.left;
+  live = ap (λ w. is_live w c.args.c) c.put_page.ensures.world
+      ∙ (values-put_page (seen c.loop-p.self) c.args.c c.in-Some.p c.in-Some.value).live c.args.c
+      ∙ c.loop-p.invariant.live;
+  size = c.put_page.ensures.size ∙ c.loop-p.invariant.size;
+}
+
+pub returns-clause-world : goal.returns-clause-world
+returns-clause-world c =
+    sym (ap (put_pages (seen c.loop-p.self) c.args.c) (nil_from_length c.loop-p.p-iterator.rest.items (sym c.loop-p.p-iterator.rest.ok.0 ∙ c.in-None.ensures.steps.0)))
+    ∙ c.loop-p.invariant.left

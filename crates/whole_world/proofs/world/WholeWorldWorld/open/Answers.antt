@@ -1,0 +1,14 @@
+use Rattle.std.proofs.Common.{◌≡◌, ◌∙◌, arith, length}
+use Rattle.whole_world.specs.Seen.{seen}
+use Rattle.whole_world.proofs.Opening.{nothing_counted_yet, sound-opened}
+use Rattle.whole_world.proofs.world.WholeWorldWorld.open.Goals as goal
+
+pub invariant_of-result : goal.invariant_of-result
+invariant_of-result c = record {
+  sound = sound-opened c.args.world_size.now _ _ _ c.new.ensures.items c.new-2.ensures.items c.requires (search Rattle.std.proofs.Common.rules)
+      c.in_ok-nothing_counted.ensures.nothing;
+}
+
+pub returns-clause-opened : goal.returns-clause-opened
+unfolding seen
+returns-clause-opened c = nothing_counted_yet _ _ _ _ c.new.ensures.items c.new-2.ensures.items c.in_ok-nothing_counted.ensures.nothing

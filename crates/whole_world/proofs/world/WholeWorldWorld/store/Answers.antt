@@ -1,0 +1,68 @@
+use Rattle.std.proofs.Common.{◌≡◌, ℕ, ◌∙◌, ap, sym, refl, arith}
+use Rattle.lwc_base.specs.Store.{store, parting_count, Absent, Full, Done, after_store}
+use Rattle.lwc_base.specs.World.{World, Counters}
+use Rattle.lwc_base.proofs.Live.{values-put_pages}
+use Rattle.lwc_base.proofs.Storing.{store-absent, store-full, store-done, is_present-touched, parting_count-touched}
+use Rattle.whole_world.specs.Seen.{seen}
+use Rattle.whole_world.proofs.Stores.{after_store-counted, few_pages-seen}
+use Rattle.whole_world.proofs.world.WholeWorldWorld.store.Goals as goal
+
+pub touched_pages-pages-requires : goal.touched_pages-pages-requires
+touched_pages-pages-requires c = omega (arith, few_pages-seen c.args.self.now, c.requires.within)
+
+is_absent : (c : goal.Then-not-are_present) → store (seen c.args.self.now) c.args.c c.args.job (record { at = c.args.at; bytes = c.args.piece.now }) ≡ Absent
+is_absent c = store-absent _ _ _ _ (is_present-touched _ _ _ _ _ _ c.touched_pages-pages.ensures.pages c.are_present.ensures ∙ c.if-not-are_present.true)
+
+pub returns-then-not-are_present-clause-bad_address : goal.returns-then-not-are_present-clause-bad_address
+returns-then-not-are_present-clause-bad_address c = (λ _. is_absent c, λ _. refl)
+
+pub returns-then-not-are_present-clause-no_frame : goal.returns-then-not-are_present-clause-no_frame
+returns-then-not-are_present-clause-no_frame c = (λ same. cc, λ full. let absent = is_absent c in cc)
+
+is_full : (c : goal.Then-frames-used) → store (seen c.args.self.now) c.args.c c.args.job (record { at = c.args.at; bytes = c.args.piece.now }) ≡ Full
+is_full c =
+    let there = is_present-touched _ _ _ _ _ _ c.touched_pages-pages.ensures.pages c.are_present.ensures ∙ c.if-not-are_present.false in
+    let parts : c.parting_count-parting.result ≡ parting_count (seen c.args.self.now) c.args.c (record { at = c.args.at; bytes = c.args.piece.now }) =
+    parting_count-touched _ _ _ _ _ c.touched_pages-pages.ensures.pages c.parting_count-parting.ensures.parting in
+    store-full _ _ _ _ there (omega (arith, parts, c.frames.ensures, c.used.ensures, c.if-frames-used.true))
+
+pub returns-then-frames-used-clause-bad_address : goal.returns-then-frames-used-clause-bad_address
+returns-then-frames-used-clause-bad_address c = (λ same. cc, λ absent. let full = is_full c in cc)
+
+pub returns-then-frames-used-clause-no_frame : goal.returns-then-frames-used-clause-no_frame
+returns-then-frames-used-clause-no_frame c = (λ _. is_full c, λ _. refl)
+
+pub count_tags-requires-clause-few : goal.count_tags-requires-clause-few
+count_tags-requires-clause-few c =
+    let tags : ((seen c.put_pages.new.self).next c.args.job).tags ≡ ((seen c.args.self.now).next c.args.job).tags =
+    ap (λ (w : World). (w.next c.args.job).tags) c.put_pages.ensures.world
+    ∙ ap (λ (next : ℕ → Counters). (next c.args.job).tags) (values-put_pages (seen c.args.self.now) c.args.c c.in-Ok.values.items).next in
+    omega (arith, tags, c.parting_count-parting.ensures.few, c.touched_pages-pages.ensures.last, few_pages-seen c.args.self.now, c.requires.within, c.requires.may.tags)
+
+pub returns-in-Ok-clause-done : goal.returns-in-Ok-clause-done
+returns-in-Ok-clause-done c =
+    let there = is_present-touched _ _ _ _ _ _ c.touched_pages-pages.ensures.pages c.are_present.ensures ∙ c.if-not-are_present.false in
+    let parts : c.parting_count-parting.result ≡ parting_count (seen c.args.self.now) c.args.c (record { at = c.args.at; bytes = c.args.piece.now }) =
+    parting_count-touched _ _ _ _ _ c.touched_pages-pages.ensures.pages c.parting_count-parting.ensures.parting in
+    store-done _ _ _ _ there (omega (arith, parts, c.frames.ensures, c.used.ensures, c.if-frames-used.false))
+    ∙ ap Done (sym (after_store-counted _ _ _ _ _ _ _ _ _ c.touched_pages-pages.ensures.pages c.in-Ok.ensures c.put_pages.ensures.world parts c.count_tags.ensures.world))
+
+pub returns-in-Ok-clause-bad_address : goal.returns-in-Ok-clause-bad_address
+returns-in-Ok-clause-bad_address c = (λ same. cc, λ absent. let done = returns-in-Ok-clause-done c in cc)
+
+pub returns-in-Ok-clause-no_frame : goal.returns-in-Ok-clause-no_frame
+returns-in-Ok-clause-no_frame c = (λ same. cc, λ full. let done = returns-in-Ok-clause-done c in cc)
+
+would_be_done : (c : goal.In-Err) → store (seen c.args.self.now) c.args.c c.args.job (record { at = c.args.at; bytes = c.args.piece.now })
+    ≡ Done (after_store (seen c.args.self.now) c.args.c c.args.job (record { at = c.args.at; bytes = c.args.piece.now }))
+would_be_done c =
+    let there = is_present-touched _ _ _ _ _ _ c.touched_pages-pages.ensures.pages c.are_present.ensures ∙ c.if-not-are_present.false in
+    let parts : c.parting_count-parting.result ≡ parting_count (seen c.args.self.now) c.args.c (record { at = c.args.at; bytes = c.args.piece.now }) =
+    parting_count-touched _ _ _ _ _ c.touched_pages-pages.ensures.pages c.parting_count-parting.ensures.parting in
+    store-done _ _ _ _ there (omega (arith, parts, c.frames.ensures, c.used.ensures, c.if-frames-used.false))
+
+pub returns-in-Err-clause-bad_address : goal.returns-in-Err-clause-bad_address
+returns-in-Err-clause-bad_address c = (λ same. cc, λ absent. let done = would_be_done c in cc)
+
+pub returns-in-Err-clause-no_frame : goal.returns-in-Err-clause-no_frame
+returns-in-Err-clause-no_frame c = (λ same. cc, λ full. let done = would_be_done c in cc)
