@@ -3,8 +3,11 @@ pub mod CloneCells
 pub mod Contexts
 pub mod GroupRows
 pub mod Moving
+pub mod Counted
+pub mod Gathered
 pub mod OldGroups
 pub mod Opening
+pub mod PartingTags
 pub mod Places
 pub mod RowCounts
 pub mod RowLemmas
@@ -14,3 +17,5 @@ pub mod ShareSteps
 pub mod SharedCells
 pub mod Stores
 pub mod Unnamed
+pub mod SeenTags
+pub mod TagLists

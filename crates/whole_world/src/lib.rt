@@ -15,8 +15,8 @@ mod ranges;
 mod rows;
 mod sharing;
 mod store;
-mod stubs;
 mod summaries;
+mod tags;
 mod touched;
 mod world;
 
