@@ -1,4 +1,5 @@
 pub mod Adding
+pub mod BegunWorld
 pub mod Contexts
 pub mod OldGroups
 pub mod Opening

@@ -13,6 +13,8 @@ mod rows;
 mod store;
 mod stubs;
 mod summaries;
+#[cfg(test)]
+mod tests;
 mod touched;
 mod world;
 
