@@ -35,3 +35,22 @@ pub fn empty() -> Cap
         cred: false,
     }
 }
+
+#[cfg(test)]
+mod tests {
+    use super::*;
+    use std::test::Fail;
+
+    #[test]
+    fn a_capability_has_all_keys_or_none(rt: HostRuntime) -> Result<(), Fail> {
+        let all = full(1024);
+        assert_eq!(rt; all.pages[15], u64::MAX);
+        assert_eq!(rt; all.slots, u64::MAX);
+        assert!(rt; all.cred);
+        let none = empty();
+        assert_eq!(rt; none.pages[0], 0);
+        assert_eq!(rt; none.slots, 0);
+        assert!(rt; !none.cred);
+        Ok(())
+    }
+}

@@ -1,7 +1,7 @@
 -- The world of a start as it is built: one page more, one slot more, and what all of them make.
 use Rattle.std.proofs.Common.{◌≡◌, ℕ, zero, suc, ◌+◌, ◌*◌, ◌^◌, ◌≤◌, ◌<◌, refl, sym, ap, subst, ◌∙◌, Bool, true, false, cond, eqb, leb, ltb, ◌&&◌, IsTrue, Option, Some, None, List, [], ◌∷◌, ◌++◌, length, take, arith}
 use Rattle.std.specs.FinMap as fm
-use Rattle.std.specs.Prelude.{All, slice_get, nat_lt}
+use Rattle.std.specs.Prelude.{All, is_some, slice_get, nat_lt}
 use Rattle.std.specs.List.{enumerate_from, find, flat_map, range_with_len}
 use Rattle.std.specs.Option.{option_map, option_map_or, option_or}
 use Rattle.std.proofs.lemmas.Bool.Decides.{nat_tests}
@@ -18,12 +18,15 @@ use Rattle.guest_image.specs.declared.image.SlotImage.{SlotImage}
 use Rattle.kernel_core.specs.Stages.{context_with, with_pages, with_slots}
 use Rattle.kernel_core.specs.Start.{first_context, first_entry, image_tag, page_in, slot_in, start_world, world_with}
 use Rattle.kernel_core.specs.declared.settings.TheConstants.{PAGES}
-use Rattle.lwc_base.proofs.OneContext.{first, mapped, map-one, one_added, one_context, one_counts, live-one, put_slot-one}
+use Rattle.kernel_core.proofs.Ranges.{has, is_own, is_some-found, ranges-own, ranges-take}
+use Rattle.lwc_base.specs.Ranges.{ranges, ranges_of}
+use Rattle.lwc_base.proofs.OneContext.{context-one, first, mapped, map-one, one_added, one_context, one_counts, live-one, put_slot-one}
 use Rattle.lwc_base.proofs.OnePage.{page_piece, store-one, store_not_absent, store_not_full}
 use Rattle.lwc_base.proofs.OneUsed.{count-mapped, count-with_page, tag_count, used-one}
 use Rattle.lwc_base.specs.Cells.{put_slot, with_page}
 use Rattle.lwc_base.specs.Frames.{tag_of, tags_of_context, used}
 use Rattle.lwc_base.specs.Mapping.{map_pages}
+use Rattle.lwc_base.specs.Names.{name_cmp}
 use Rattle.lwc_base.specs.Registers.{fresh_registers}
 use Rattle.lwc_base.specs.Store.{Absent, Full, Done, store}
 use Rattle.lwc_base.specs.World.{World, Context, add_context, count_on, empty_world, new_context}
@@ -237,6 +240,44 @@ module _ (image : Image) (frames k : ℕ) (x : PageImage) (w v : World) (number 
       ∙ ap (one_context frames PAGES (k + 1)) (context_after image k x is found)
       ∙ sym (world_one frames (k + 1) (context_with image (take (k + 1) image.pages)))
 
+-- whichever of the two is asked of a page, that it is present or that it is the context's own, the answer is that its number is one of the image's that are put
+module _ (asked : Option (Cell PageValue) → Bool) (own : (value : PageValue) → asked (Some (Own value)) ≡ true) (none : asked None ≡ false) where
+  asked-found : (found : Option (ℕ × PageImage)) → asked (cell_of found) ≡ is_some found
+  unfolding cell_of
+  asked-found None = none
+  asked-found (Some e) = own (Data (image_tag e.0) e.1.bytes)
+
+  asked-page_in : (pages : List PageImage) (q : ℕ) → asked (page_in pages q) ≡ has (page_numbers pages) q
+  unfolding page_in cell_of
+  asked-page_in pages q = asked-found (find (λ (e : ℕ × PageImage). eqb e.1.number q) (enumerate_from 0 pages)) ∙ is_some-found 0 q pages
+
+  asked-stored : (n q : ℕ) (value : PageValue) (x : Context) (b : Bool) → eqb q n ≡ b → asked ((mapped n x).page q) ≡ asked (cond b (Some (Own value)) ((mapped n x).page q))
+  asked-stored n q value x true is =
+      let same : q ≡ n = grind (arith, nat_tests) in
+      ap (λ m. asked ((mapped n x).page m)) same ∙ ap asked (zeros_there n x) ∙ own Zero ∙ sym (own value)
+  asked-stored n q value x false is = refl
+
+  asked-mapped : (image : Image) (k : ℕ) (x : PageImage) → IsImage image → slice_get image.pages k ≡ Some x → (q : ℕ) →
+      asked ((mapped x.number (context_with image (take k image.pages))).page q) ≡ has (page_numbers (take (k + 1) image.pages)) q
+  unfolding context_with
+  asked-mapped image k x is found q =
+      asked-stored x.number q (Data (record { job = 0; k = k }) x.bytes) (context_with image (take k image.pages)) (eqb q x.number) refl
+      ∙ ap (λ (y : Context). asked (y.page q)) (context_after image k x is found)
+      ∙ asked-page_in (take (k + 1) image.pages) q
+
+-- the pages that are put and the one that is mapped make no more ranges than those of the image
+pub few_ranges : (image : Image) (frames k : ℕ) (x : PageImage) (w v : World) → IsImage image → slice_get image.pages k ≡ Some x → w ≡ with_pages image frames k →
+    v ≡ map_pages w first x.number (x.number + 1) → ranges_of v first ≤ 64
+unfolding ranges_of one_context
+few_ranges image frames k x w v is found before after =
+    let had = mapped x.number (context_with image (take k image.pages)) in
+    let few = ranges-own had (page_numbers (take (k + 1) image.pages)) (asked-mapped is_some (λ value. refl) refl image k x is found)
+    (asked-mapped is_own (λ value. refl) refl image k x is found) PAGES in
+    let all = ranges-take None (k + 1) image.pages in
+    let most : ranges PAGES had ≤ 64 = omega (arith, few, all, is.pages.ranges) in
+    subst (λ (u : World). ranges_of u first ≤ 64) (sym (stands_mapped image frames k x w v before after))
+    (subst (λ (y : Context). ranges PAGES y ≤ 64) (sym (context-one frames PAGES k had)) most)
+
 -- job 0 may take more tags
 pub may_take : (size : WorldSize) (w : World) (taken : ℕ) → IsOne w taken → taken < 2 ^ 31 → 1 ≤ size.jobs → MayName size w 0
 may_take size w taken one few some = record {
@@ -351,9 +392,9 @@ slots_end image frames w is before =
     before ∙ (λ i. world_with frames (length image.pages) (record (first_context image) { slot = λ m. all_slots_by (ltb m 64) image.slots m refl is.slots.below i }))
 
 -- nothing is live in a world that was opened
-pub none_live : (frames : ℕ) (w : World) → w ≡ empty_world frames PAGES → w.contexts ≡ fm.empty
+pub none_live : (frames : ℕ) (w : World) → w ≡ empty_world frames PAGES → fm.len w.contexts ≡ 0
 unfolding empty_world
-none_live frames w opened = ap (λ (v : World). v.contexts) opened
+none_live frames w opened = ap (λ (v : World). fm.len v.contexts) opened ∙ fm.len-empty name_cmp Context
 
 -- job 0 may make the first context
 pub may_begin : (size : WorldSize) (frames : ℕ) (w : World) → w ≡ empty_world frames PAGES → 1 ≤ size.jobs → MayName size w 0

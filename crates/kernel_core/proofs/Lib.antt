@@ -1,7 +1,11 @@
 pub mod Registers
+pub mod Peopled
+pub mod Leads
 pub mod Acts
+pub mod Population
 pub mod Ready
 pub mod Runs
 pub mod Steady
+pub mod Ranges
 pub mod Building
 pub mod Started

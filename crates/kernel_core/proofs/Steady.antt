@@ -10,10 +10,11 @@ use Rattle.std.proofs.lemmas.List.Elements.{All-weaker}
 use Rattle.std.proofs.lemmas.Grind.{get_or-set_at}
 use Rattle.std.proofs.Math.ListN.{set}
 use Rattle.guest_isa.specs.declared.instr.Instr.{Instr}
-use Rattle.kernel_core.proofs.Ready.{ready_after_step, stands_well, step_made}
+use Rattle.kernel_core.proofs.Ready.{can_act, ready_after_step, stands_well, step_made}
 use Rattle.kernel_core.proofs.Runs.{run-push, peak-push}
 use Rattle.kernel_core.specs.Kernel.{History, machine_of, stepped, turn_of, view_of, work}
 use Rattle.kernel_core.specs.Machine.{Machine, has_ended, is_ended, steps_left, work_of}
+use Rattle.kernel_core.specs.Ready.{CanAct}
 use Rattle.kernel_core.specs.Runs.{peak}
 use Rattle.kernel_core.specs.Start.{standing, start}
 use Rattle.kernel_core.specs.Steady.{IsReady, IsSteady, StandsWell, most_after}
@@ -117,7 +118,7 @@ made_step size w v threads text most_used t x after h steady found made =
     let now : standing h.inputs (slice_set threads t after) v ≡ machine_of (longer h t) =
     stands_after h threads w v t x after steady.now found made_here ∙ sym (machine_after h t) in
     let well = stands_well size (standing h.inputs threads w) (most_after (length h.steps)) t x steady.ready found in
-    let less = (step_made size w text x (alone v after) well made).left in
+    let less = (step_made size (standing h.inputs threads w) (most_after (length h.steps)) x (alone v after) steady.ready well made_here).left in
     record {
       going = going;
       kept = stepped_by h t false going;
@@ -166,6 +167,18 @@ thread_found : (size : WorldSize) (w : World) (threads : List Thread) (text : Li
 thread_found size w threads text most_used t x h steady within index =
     slice_get-get_or threads t x (subst (λ (n : ℕ). t < n) (sym steady.threads) within) ∙ ap Some (sym index)
 
+few_counted : (steps room : ℕ) → steps + room ≤ MOST_STEPS → most_after steps < 2 ^ 31
+few_counted steps room few = omega arith
+
+-- the thread of a number can act
+pub can_act_here : (size : WorldSize) (w : World) (threads : List Thread) (text : List Instr) (most_used t : ℕ) (x : Thread) (h value : History) →
+    IsSteady size w threads text most_used h → h ≡ value → t < length value.inputs.image.entries → x ≡ get_or threads t x → CanAct size w x
+can_act_here size w threads text most_used t x h value steady is within index =
+    let here = same_history size w threads text most_used h value is steady in
+    let m = standing value.inputs threads w in
+    let stands = stands_well size m (most_after (length value.steps)) t x here.ready (thread_found size w threads text most_used t x value here within index) in
+    can_act size m (most_after (length value.steps)) x here.ready stands (few_counted (length value.steps) value.room here.room)
+
 pub made_here : (size : WorldSize) (w v : World) (threads : List Thread) (text : List Instr) (most_used t : ℕ) (x after : Thread) (found : Option Thread) (h value : History) →
     IsSteady size w threads text most_used h → h ≡ value → t < length value.inputs.image.entries → x ≡ get_or threads t x →
     step_of w text x x.status ≡ option_map (alone v) found → found ≡ Some after → IsMade size v threads text most_used t after value
@@ -213,7 +226,7 @@ pub work_fits : (size : WorldSize) (w : World) (threads shown : List Thread) (te
 unfolding work_of
 work_fits size w threads shown text most_used h steady same =
     let left = λ (x : Thread). steps_left x.budget x.status in
-    let each = All-weaker (StandsWell size w) (λ x. left x ≤ MOST_BUDGET) (λ x stands. few_left x.budget x.status stands.budget) threads steady.ready.threads in
+    let each = All-weaker (StandsWell w) (λ x. left x ≤ MOST_BUDGET) (λ x stands. few_left x.budget x.status stands.budget) threads steady.ready.threads in
     let most : sum_by left threads ≤ length threads * MOST_BUDGET = sum_by-le left MOST_BUDGET threads each in
     let less : sum_by left threads < 2 ^ 32 = omega (arith, most, steady.few) in
     subst (λ (l : List Thread). sum_by left l < 2 ^ 32) (sym same) less

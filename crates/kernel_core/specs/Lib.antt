@@ -1,11 +1,18 @@
+pub use Rattle.lwc_base.specs.Capabilities
 pub use Rattle.lwc_base.specs.Cells
 pub use Rattle.lwc_base.specs.Faults
 pub use Rattle.lwc_base.specs.Frames
+pub use Rattle.lwc_base.specs.Fresh
 pub use Rattle.lwc_base.specs.Mapping
 pub use Rattle.lwc_base.specs.Memory
+pub use Rattle.lwc_base.specs.Modes
 pub use Rattle.lwc_base.specs.Names
 pub use Rattle.lwc_base.specs.Pages
+pub use Rattle.lwc_base.specs.Ranges
+pub use Rattle.lwc_base.specs.Refusals
 pub use Rattle.lwc_base.specs.Registers
+pub use Rattle.lwc_base.specs.Sharing
+pub use Rattle.lwc_base.specs.Slots
 pub use Rattle.lwc_base.specs.Store
 pub use Rattle.lwc_base.specs.Summaries
 pub use Rattle.lwc_base.specs.World
@@ -14,6 +21,8 @@ pub use Rattle.guest_isa.specs.Instructions
 pub use Rattle.guest_isa.specs.Opcodes
 pub use Rattle.guest_machine.specs.Advances
 pub use Rattle.guest_image.specs.Limits
+pub use Rattle.res_spec.specs.Items
+pub use Rattle.lwc_create.specs.Create
 pub mod Machine
 pub mod Step
 pub mod Runs

@@ -12,6 +12,9 @@ use Rattle.guest_machine.specs.declared.progress.Next.{Next}
 use Rattle.guest_machine.specs.declared.progress.Next.TheVariants as next
 use Rattle.kernel_core.specs.Machine.{Machine}
 use Rattle.kernel_core.specs.declared.thread.Thread.{Thread}
+use Rattle.kernel_core.specs.declared.calling.TheConstants.{LW_CREATE}
+use Rattle.lwc_base.specs.declared.answer.Answer.{Answer}
+use Rattle.lwc_base.specs.declared.answer.Answer.TheVariants as answer
 use Rattle.lwc_base.specs.declared.fault.Fault.{Fault}
 use Rattle.lwc_base.specs.declared.fault.Fault.TheVariants as fault
 use Rattle.lwc_base.specs.declared.fault.ThreadStatus.{ThreadStatus}
@@ -22,10 +25,11 @@ use Rattle.lwc_base.specs.declared.refusal.Refusal.{Refusal}
 use Rattle.lwc_base.specs.declared.refusal.Refusal.TheVariants.{BadCall}
 use Rattle.lwc_base.specs.declared.regs.Regs.{Regs}
 use Rattle.lwc_base.specs.Faults.{refusal_number}
-use Rattle.lwc_base.specs.Memory.{load}
+use Rattle.lwc_base.specs.Memory.{bytes_for}
 use Rattle.lwc_base.specs.Store.{Piece, Stored, store}
 use Rattle.lwc_base.specs.Store as stores
 use Rattle.lwc_base.specs.World.{World}
+use Rattle.lwc_create.specs.Create.{create}
 
 -- what a thread has done in a step: the thread afterwards, and the world
 pub record Acted : Type 0 where
@@ -63,10 +67,6 @@ alone w x = record { thread = x; world = w }
 -- the address that an instruction names: register ra and its signed number
 abbrev pub address : Regs → Instr → ℕ
 address regs i = (slice_index regs.r i.ra + sx i.imm) % 2 ^ 64
-
--- so many bytes from an address on; none where one of them is past the last page or in an absent page
-unfoldable pub bytes_for : World → Name → ℕ → ℕ → Option (List ℕ)
-bytes_for w c at count = if nat_le (at + count) (w.pages * PAGE_BYTES) then load w c at count else None
 
 -- the byte at an address
 abbrev pub byte_for : World → Name → ℕ → Option ℕ
@@ -107,9 +107,20 @@ puts_word w x at value =
     if is_aligned at then puts w x (record { at = at; bytes = to_le_bytes w64 value })
     else alone w (faulted x fault.BadStore)
 
--- a call by its number: so far no number names a call
+-- the end of a call, by its answer: the thread goes on with other registers, or is told why the call was refused
+abbrev pub told : Thread → Answer → Thread
+told x (answer.Done regs) = with_regs x regs
+told x (answer.Refused refusal) = refused x refusal
+
+-- what a call leaves: its answer is told to the thread, and the world is the one that the call gives
+abbrev pub ended : Thread → Answer × World → Acted
+ended x done = alone done.1 (told x done.0)
+
+-- a call by its number, one row for each; any other number names no call
 unfoldable pub calls : World → Thread → ℕ → Acted
-calls w x number = alone w (refused x BadCall)
+calls w x number =
+    if number == LW_CREATE then ended x (create w x.context x.job x.regs)
+    else alone w (refused x BadCall)
 
 -- what a shared instruction does, by its operation; a thread comes to no other here
 unfoldable pub does : World → Thread → Instr → Op → Acted

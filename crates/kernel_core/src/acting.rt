@@ -1,50 +1,30 @@
-ghost use Rattle.std.specs.Prelude.{◌≡◌, ◌<◌, ◌≤◌, ◌+◌, ◌*◌, ◌-◌, ◌==◌, if◌then◌else◌, IsTrue, IfOk, IfNone, IfSome, OnErr, length, is_some, nat_le, slice_index, option_map};
+ghost use Rattle.std.specs.Prelude.{◌≡◌, ◌<◌, ◌≤◌, ◌+◌, ◌*◌, ◌-◌, ◌==◌, if◌then◌else◌, IsTrue, true, IfOk, IfNone, IfSome, IsOk, OnErr, length, is_some, nat_le, slice_index, option_map};
 ghost use Rattle.guest_isa.specs.Instructions.{IsInstruction, IsText};
 ghost use Rattle.guest_machine.specs.Advances.{IfShared, advanced};
 ghost use Rattle.kernel_core.specs.Ready.{CanAct};
 ghost use Rattle.kernel_core.specs.Steady.{MayStep};
 ghost use Rattle.kernel_core.specs.Step as step;
-ghost use Rattle.kernel_core.specs.Step.{acts, address, alone, answered, byte_for, bytes_for, counted, does, gone_on, moves, puts, puts_byte, puts_word, step_of, word_for};
+ghost use Rattle.kernel_core.specs.Step.{acts, address, alone, answered, byte_for, counted, does, gone_on, moves, puts, puts_byte, puts_word, step_of, word_for};
 ghost use Rattle.lwc_base.specs.declared.page.TheConstants.{PAGE_BYTES};
 ghost use Rattle.world_face.specs.Calls.{IsLive};
 
+use crate::calling::call;
 use crate::thread::Thread;
 use guest_isa::{Instr, Op, Text};
 use guest_machine::{Advance, Next, advance};
-use lwc_base::{Fault, Name, OutOfMemory, PAGE_BYTES, Refusal, Regs, ThreadStatus};
-use world_face::{StoreFault, World};
+use lwc_base::{Fault, Name, OutOfMemory, Refusal, Regs, ThreadStatus};
+use world_face::{StoreFault, World, bytes_for, is_within};
 
 /// How many bytes a word has.
 const WORD_BYTES: u64 = 8;
 
-// Whether so many bytes from an address on stand below the end of so many pages.
-fn is_within(pages: u32, at: u64, count: usize) -> bool
-    requires { pages ≤ 16384 }
-    ensures { result ≡ nat_le (at + count) (pages * PAGE_BYTES) }
-{
-    let memory = u64::from(pages) * PAGE_BYTES as u64;
-    at <= memory && count as u64 <= memory - at
-}
-
-// Reads the bytes from an address on. `false` says that one of them is past the last page or in an absent page.
-#[tactic(auto, unfolding(crate::specs::Step::bytes_for))]
-fn bytes_at<W: World>(world: &W, c: Name, at: u64, out: &mut [u8]) -> bool
-    requires live { IsLive (W.seen world.now) c }
-    requires pages { (W.seen world.now).pages ≤ 16384 }
-    ensures present { result ≡ is_some (bytes_for (W.seen world.now) c at (length out.old)) }
-    ensures found { IfSome (bytes_for (W.seen world.now) c at (length out.old)) (λ bytes. out.new ≡ bytes) }
-{
-    is_within(world.pages(), at, out.len()) && world.bytes(c, at as u32, out)
-}
-
 // The byte at an address.
 fn byte_at<W: World>(world: &W, c: Name, at: u64) -> Option<u8>
-    requires live { IsLive (W.seen world.now) c }
-    requires pages { (W.seen world.now).pages ≤ 16384 }
+    requires { IsLive (W.seen world.now) c }
     ensures { result ≡ byte_for (W.seen world.now) c at }
 {
     let mut out = [0u8; 1];
-    if bytes_at(world, c, at, &mut out) {
+    if bytes_for(world, c, at, &mut out) {
         Some(out[0])
     } else {
         None
@@ -53,15 +33,14 @@ fn byte_at<W: World>(world: &W, c: Name, at: u64) -> Option<u8>
 
 // The word at an address, lowest byte first.
 fn word_at<W: World>(world: &W, c: Name, at: u64) -> Option<u64>
-    requires live { IsLive (W.seen world.now) c }
-    requires pages { (W.seen world.now).pages ≤ 16384 }
+    requires { IsLive (W.seen world.now) c }
     ensures { result ≡ word_for (W.seen world.now) c at }
 {
     if at % WORD_BYTES != 0 {
         return None;
     }
     let mut out = [0u8; 8];
-    if bytes_at(world, c, at, &mut out) {
+    if bytes_for(world, c, at, &mut out) {
         Some(u64::from_le_bytes(out))
     } else {
         None
@@ -112,13 +91,13 @@ impl Thread {
         self.with_status(ThreadStatus::Faulted { fault })
     }
 
-    fn with_regs(&self, regs: Regs) -> Thread
+    pub(crate) fn with_regs(&self, regs: Regs) -> Thread
         ensures { result ≡ step.with_regs self.now regs }
     {
         Thread { regs, ..*self }
     }
 
-    fn refused(&self, refusal: Refusal) -> Thread
+    pub(crate) fn refused(&self, refusal: Refusal) -> Thread
         ensures { result ≡ step.refused self.now refusal }
     {
         self.with_regs(answer(&self.regs, 0, 0u64.wrapping_sub(refusal.number())))
@@ -165,6 +144,7 @@ fn put<W: World>(
     requires short { length bytes.now ≤ PAGE_BYTES }
     ensures done { IfOk result (λ x. puts (W.seen world.old) thread.now (record { at = at; bytes = bytes.now }) ≡ record { thread = x; world = W.seen world.new }) }
     ensures err { OnErr result (W.seen world.new ≡ W.seen world.old) }
+    ensures ample { W.roomy ≡ true → IsOk result }
     ensures sized { W.size world.new ≡ W.size world.old }
 {
     if !is_within(world.pages(), at, bytes.len()) {
@@ -188,6 +168,7 @@ fn put_byte<W: World>(
     requires { CanAct (W.size world.old) (W.seen world.old) thread.now }
     ensures done { IfOk result (λ x. puts_byte (W.seen world.old) thread.now at value ≡ record { thread = x; world = W.seen world.new }) }
     ensures err { OnErr result (W.seen world.new ≡ W.seen world.old) }
+    ensures ample { W.roomy ≡ true → IsOk result }
     ensures sized { W.size world.new ≡ W.size world.old }
 {
     put(world, thread, at, &[(value % 256) as u8])
@@ -203,6 +184,7 @@ fn put_word<W: World>(
     requires { CanAct (W.size world.old) (W.seen world.old) thread.now }
     ensures done { IfOk result (λ x. puts_word (W.seen world.old) thread.now at value ≡ record { thread = x; world = W.seen world.new }) }
     ensures err { OnErr result (W.seen world.new ≡ W.seen world.old) }
+    ensures ample { W.roomy ≡ true → IsOk result }
     ensures sized { W.size world.new ≡ W.size world.old }
 {
     if at % WORD_BYTES != 0 {
@@ -212,12 +194,13 @@ fn put_word<W: World>(
 }
 
 // A shared instruction.
-#[tactic(auto, using(crate::proofs::Registers::registers_are_few), unfolding(crate::specs::Step::does, crate::specs::Step::calls))]
+#[tactic(auto, using(crate::proofs::Registers::registers_are_few), unfolding(crate::specs::Step::does))]
 fn carry_out<W: World>(world: &mut W, thread: &Thread, i: &Instr) -> Result<Thread, OutOfMemory>
     requires ready { CanAct (W.size world.old) (W.seen world.old) thread.now }
     requires instruction { IsInstruction i.now }
     ensures done { IfOk result (λ x. does (W.seen world.old) thread.now i.now i.now.op ≡ record { thread = x; world = W.seen world.new }) }
     ensures err { OnErr result (W.seen world.new ≡ W.seen world.old) }
+    ensures ample { W.roomy ≡ true → IsOk result }
     ensures sized { W.size world.new ≡ W.size world.old }
 {
     let at = address_of(&thread.regs, i);
@@ -226,7 +209,7 @@ fn carry_out<W: World>(world: &mut W, thread: &Thread, i: &Instr) -> Result<Thre
         Op::Ldw => Ok(thread.loaded(i.rd, word_at(world, thread.context, at))),
         Op::Stb => put_byte(world, thread, at, thread.regs.r[usize::from(i.rb)]),
         Op::Stw => put_word(world, thread, at, thread.regs.r[usize::from(i.rb)]),
-        Op::Sys => Ok(thread.refused(Refusal::BadCall)),
+        Op::Sys => call(world, thread, i.imm),
         Op::Halt => Ok(thread.with_status(ThreadStatus::Done { code: 0 })),
         _ => Ok(*thread),
     }
@@ -239,6 +222,7 @@ fn act<W: World>(world: &mut W, thread: &Thread, next: &Next) -> Result<Thread, 
     requires instruction { IfShared next.now IsInstruction }
     ensures done { IfOk result (λ x. acts (W.seen world.old) thread.now next.now ≡ record { thread = x; world = W.seen world.new }) }
     ensures err { OnErr result (W.seen world.new ≡ W.seen world.old) }
+    ensures ample { W.roomy ≡ true → IsOk result }
     ensures sized { W.size world.new ≡ W.size world.old }
 {
     match next {
@@ -277,6 +261,7 @@ fn move_on<W: World>(
     requires text { IsText text.now }
     ensures done { IfOk result (λ x. moves (W.seen world.old) thread.now (advanced text.now thread.now.regs) ≡ record { thread = x; world = W.seen world.new }) }
     ensures err { OnErr result (W.seen world.new ≡ W.seen world.old) }
+    ensures ample { W.roomy ≡ true → IsOk result }
     ensures sized { W.size world.new ≡ W.size world.old }
 {
     let advance = advance_from(text, &thread.regs, proposal);
@@ -299,6 +284,7 @@ pub fn step_thread<W: World>(
     ensures done { IfOk result (λ after. step_of (W.seen world.old) text.now thread.now thread.now.status ≡ option_map (alone (W.seen world.new)) after) }
     ensures ended { IfOk result (λ after. IfNone after (W.seen world.new ≡ W.seen world.old)) }
     ensures err { OnErr result (W.seen world.new ≡ W.seen world.old) }
+    ensures ample { W.roomy ≡ true → IsOk result }
     ensures sized { W.size world.new ≡ W.size world.old }
 {
     match thread.status {

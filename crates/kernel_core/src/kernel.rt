@@ -1,4 +1,4 @@
-ghost use Rattle.std.specs.Prelude.{◌≡◌, ◌<◌, ◌≤◌, ◌+◌, ◌^◌, ◌++◌, ◌∷◌, [], false, IfErr, IfOk, IfSome, OnOk, OnErr, length, vec_len, vec_capacity, Some};
+ghost use Rattle.std.specs.Prelude.{◌≡◌, ◌<◌, ◌≤◌, ◌+◌, ◌^◌, ◌++◌, ◌∷◌, [], false, true, IfErr, IfOk, IfSome, IsOk, OnOk, OnErr, length, vec_len, vec_capacity, Some};
 ghost use Rattle.guest_image.specs.Limits.{IsImage};
 ghost use Rattle.guest_machine.specs.Advances.{advanced};
 ghost use Rattle.kernel_core.specs.Kernel.{machine_of, opened, stepped, turn_of, view_of, work};
@@ -147,7 +147,8 @@ impl<W: World> Kernel<W> {
     }
 
     /// One step of thread `t`, which is kept unless the thread had ended. A proposal is used where it begins with the
-    /// thread's registers. The one error is want of memory, and then nothing has changed.
+    /// thread's registers. The one error is want of memory, which comes only over a world that is not roomy, and then
+    /// nothing has changed.
     pub fn step(&mut self, t: u32, proposal: Option<&Advance>) -> Result<Turn, OutOfMemory>
         requires within { t < length self.old.inputs.image.entries }
         requires room { is_ended (machine_of self.old) t ≡ false → 0 < self.old.room }
@@ -157,6 +158,7 @@ impl<W: World> Kernel<W> {
         ensures room { OnOk result (is_ended (machine_of self.old) t ≡ false → self.new.room + 1 ≡ self.old.room) }
         ensures work { OnOk result (is_ended (machine_of self.old) t ≡ false → work self.new < work self.old) }
         ensures err { OnErr result (self.new ≡ self.old) }
+        ensures ample { W.roomy ≡ true → IsOk result }
     {
         let thread = self.threads[t as usize];
         match step_thread(&mut self.world, &self.text, &thread, proposal)? {

@@ -4,6 +4,7 @@ ghost use Rattle.guest_image.specs.Limits.{IsImage};
 ghost use Rattle.kernel_core.specs.Stages.{with_pages, with_slots};
 ghost use Rattle.kernel_core.specs.Start as start;
 ghost use Rattle.kernel_core.specs.Start.{slot_in};
+ghost use Rattle.kernel_core.specs.Steady.{IsWide};
 ghost use Rattle.lwc_base.specs.declared.descriptor.TheConstants.{SLOTS};
 
 use crate::settings::{MOST_THREADS, PAGES};
@@ -161,7 +162,7 @@ pub fn start_world<W: World>(alloc: Global, image: &Image, frames: u32) -> Resul
     requires few { frames ≤ 65536 }
     requires fits { length image.now.pages ≤ frames }
     ensures start { IfOk result (λ w. W.seen w ≡ start.start_world image.now frames) }
-    ensures jobs { IfOk result (λ w. (W.size w).jobs ≡ 17) }
+    ensures wide { IfOk result (λ w. IsWide (W.size w)) }
 {
     let mut world = W::open(
         alloc,

@@ -1,7 +1,7 @@
 -- What sharing and cloning leave as it was, what they count, and which context stands under which name afterwards.
 use Rattle.std.proofs.Common.{◌≡◌, ◌≢◌, ℕ, ◌+◌, refl, sym, ap, ◌∙◌, Bool, true, false, cond, eqb, ◌&&◌, Option, Some, None, List}
 use Rattle.std.specs.Prelude.{◌==◌, if◌then◌else◌, count_by, is_some}
-use Rattle.std.proofs.lemmas.Bool.{false≢true}
+use Rattle.std.proofs.lemmas.Bool.{eq-eqb, false≢true}
 use Rattle.std.specs.Option.{option_map}
 use Rattle.std.specs.FinMap as fm
 use Rattle.lwc_base.specs.declared.cell.Cell.TheVariants.{Own, Common}
@@ -19,7 +19,7 @@ use Rattle.lwc_base.specs.Sharing.{moved, needs_group, left_common, share, clone
 use Rattle.lwc_base.specs.World.{World, Context, Group, Counters, is_live, context, group, changed_context, change_context, count_on, add_context, next_context, add_group, next_group, live_of, groups_of}
 use Rattle.lwc_base.proofs.Begun.{is_live-add_context, tags-add_context, frames-add_context, pages-add_context}
 use Rattle.lwc_base.proofs.Counted.{len-add_new_group, groups_of-add_new_group, live_of-same, live_of-add_context, groups_of-add_context, len-add_context, len_contexts-same, len_groups-add_context}
-use Rattle.lwc_base.proofs.Fresh.{next_context-new, next_group-new, Rises, rises_where, rises-one_more_group, counts_group, eqb-self, one_more_group, fresh-insert_context, fresh-add_context, fresh-add_group, names_old-context, names_old-rises}
+use Rattle.lwc_base.proofs.Fresh.{next_context-new, next_group-new, Rises, rises_where, rises-one_more_group, counts_group, one_more_group, fresh-insert_context, fresh-add_context, fresh-add_group, names_old-context, names_old-rises}
 use Rattle.lwc_base.proofs.Live.{ChangesValuesOnly, values-change_context}
 use Rattle.lwc_base.proofs.Lookups.{not_both, name-itself, other_name, group-add_context, context-added, context-add_context-other, live-other}
 use Rattle.lwc_base.proofs.Sharing.{after_share, moved_into_group, names_old-left_common, context-moved, group-moved-new, group-moved-old, next-left, next_group-left}
@@ -134,7 +134,7 @@ module _ (w : World) (c : Name) (job : ℕ) (items : List Item) where
       fresh-insert_context (add_group w job (moved items (context w c))) c (left_common (next_group w job) (moved items (context w c)) x)
       (added.contexts c (ap is_some is))
       (names_old-left_common (add_group w job (moved items (context w c))).next (next_group w job) (moved items (context w c)) x
-      (counts_group (eqb job job) (w.next job) (eqb-self job))
+      (counts_group (eqb job job) (w.next job) (eq-eqb job job refl))
       (names_old-rises w.next (add_group w job (moved items (context w c))).next x rises (fresh.cells c x is)))
       added
 
@@ -191,19 +191,19 @@ common_in_clone : (v : World) (c : Name) (p : ℕ) (g : Name) (old : Option Page
 common_in_clone v c p g None is = cc
 common_in_clone v c p g (Some value) is = cc
 
--- a cell of a clone that names a group is one of the context that it is made from
+-- a page of a clone that names a group names it in the context that the clone is made from
 pub common_page : (v : World) (c : Name) (p : ℕ) (g : Name) (mode : Mode) → cloned_page v c p mode ≡ Some (Common g) → (context v c).page p ≡ Some (Common g)
 common_page v c p g Copy is = common_in_clone v c p g _ is
 common_page v c p g Share is = is
 common_page v c p g Unmap is = cc
 
--- a cell of a clone that names a group is one of the context that it is made from
+-- the same of a slot
 pub common_slot : (v : World) (c : Name) (n : ℕ) (g : Name) (mode : Mode) → cloned_slot v c n mode ≡ Common g → (context v c).slot n ≡ Common g
 common_slot v c n g Copy is = cc
 common_slot v c n g Share is = is
 common_slot v c n g Unmap is = cc
 
--- a cell of a clone that names a group is one of the context that it is made from
+-- and of the credential
 pub common_uid : (v : World) (c : Name) (g : Name) (mode : Mode) → cloned_uid v c mode ≡ Common g → (context v c).uid ≡ Common g
 common_uid v c g Copy is = cc
 common_uid v c g Share is = is

@@ -1,7 +1,6 @@
 -- Fresh worlds: the empty world is one, each change of a world keeps it so, and in it the next names of a job are new.
 use Rattle.std.proofs.Common.{◌≡◌, ℕ, ◌+◌, ◌<◌, ◌≤◌, refl, sym, ap, subst, ◌∙◌, Bool, true, false, cond, eqb, leb, ltb, ◌&&◌, Option, Some, None, List, [], ◌∷◌, length, arith}
-use Rattle.std.proofs.lemmas.Bool.{false≢true}
-use Rattle.std.proofs.lemmas.Bool.Decides.{nat_tests}
+use Rattle.std.proofs.lemmas.Bool.{eq-eqb, false≢true}
 use Rattle.std.specs.Prelude.{is_some, unwrap_or}
 use Rattle.std.specs.Ordering.{eq_by_cmp}
 use Rattle.std.specs.FinMap as fm
@@ -192,9 +191,6 @@ fresh-after_store w c job piece fresh =
     let planned : List (ℕ × PageValue) = plan w c job piece (w.next job).tags (touched piece.at (length piece.bytes)) in
     fresh-count_tags (put_pages w c planned) job (λ n. n.tags + parting_count w c piece) (fresh-put_pages w c planned fresh)
 
-pub eqb-self : (job : ℕ) → eqb job job ≡ true
-eqb-self job = grind (arith, nat_tests)
-
 abbrev one_more_context : Counters → Counters
 one_more_context n = record n { contexts = n.contexts + 1 }
 
@@ -222,7 +218,7 @@ fresh-add_context w job x named fresh =
     let later : ℕ → Counters = λ j. cond (eqb j job) (one_more_context (w.next j)) (w.next j) in
     let rises : (j : ℕ) → Rises (w.next j) (later j) = λ j. rises_where (eqb j job) (w.next j) _ (rises-one_more_context (w.next j)) in
     fresh-insert_context (record w { next = later }) (next_context w job) x
-    (counts_context (eqb job job) (w.next job) (eqb-self job)) (names_old-rises w.next later x rises named) (fresh-rises w later rises fresh)
+    (counts_context (eqb job job) (w.next job) (eq-eqb job job refl)) (names_old-rises w.next later x rises named) (fresh-rises w later rises fresh)
 
 -- a group that is added
 pub fresh-add_group : (w : World) (job : ℕ) (g : Group) → IsFresh w → IsFresh (add_group w job g)
@@ -230,7 +226,7 @@ unfolding add_group count_on
 fresh-add_group w job g fresh =
     let later : ℕ → Counters = λ j. cond (eqb j job) (one_more_group (w.next j)) (w.next j) in
     let rises : (j : ℕ) → Rises (w.next j) (later j) = λ j. rises_where (eqb j job) (w.next j) _ (rises-one_more_group (w.next j)) in
-    fresh-insert_group (record w { next = later }) (next_group w job) g (counts_group (eqb job job) (w.next job) (eqb-self job)) (fresh-rises w later rises fresh)
+    fresh-insert_group (record w { next = later }) (next_group w job) g (counts_group (eqb job job) (w.next job) (eq-eqb job job refl)) (fresh-rises w later rises fresh)
 
 -- a new context of its own names no group
 pub names_old-new_context : (next : ℕ → Counters) (uid : ℕ) (entry : Regs) → NamesOldGroups next (new_context uid entry)

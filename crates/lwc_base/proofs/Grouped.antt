@@ -2,7 +2,6 @@
 use Rattle.std.proofs.Common.{◌≡◌, ℕ, ◌+◌, refl, sym, ap, subst, ◌∙◌, Bool, true, false, cond, eqb, leb, ltb, ◌&&◌, Option, Some, None, List, [], ◌∷◌, length}
 use Rattle.std.proofs.lemmas.Bool.{false≢true}
 use Rattle.std.specs.Prelude.{is_some, unwrap_or}
-use Rattle.std.specs.Ordering.{eq_by_cmp}
 use Rattle.std.specs.FinMap as fm
 use Rattle.lwc_base.specs.declared.cell.Cell.{Cell}
 use Rattle.lwc_base.specs.declared.cell.Cell.TheVariants.{Own, Common}
@@ -26,8 +25,8 @@ use Rattle.lwc_base.proofs.Cloning.{common_page, common_slot, common_uid}
 use Rattle.lwc_base.proofs.Fresh.{was_common, was_present, was_common_slot}
 use Rattle.lwc_base.proofs.Lookups.{name-itself}
 use Rattle.lwc_base.proofs.Orders.{name_cmp-total}
-use Rattle.lwc_base.proofs.Sharing.{after_share, moved_into_group, common_after, common_cell_after, next_group-left}
-use Rattle.lwc_base.proofs.Writes.{groups_live-change_group, groups_live-change_context}
+use Rattle.lwc_base.proofs.Sharing.{after_share, moved_into_group, common_after, common_cell_after}
+use Rattle.lwc_base.proofs.Writes.{groups_live-change_group}
 
 -- a context whose groups are live names live groups in each world where these are live
 names_live-kept : (w v : World) (x : Context) → ((g : Name) → IsGroup w g → IsGroup v g) → NamesLiveGroups w x → NamesLiveGroups v x
@@ -198,8 +197,8 @@ module _ (w : World) (c : Name) (job : ℕ) (items : List Item) where
   has_groups-found (Some x) is has =
       has_groups-insert_context (add_group w job (moved items (context w c))) c (left_common (next_group w job) (moved items (context w c)) x)
       (names_live-left_common (add_group w job (moved items (context w c))) (next_group w job) (moved items (context w c)) x
-          (is_group-added w job (moved items (context w c)))
-          (names_live-kept w (add_group w job (moved items (context w c))) x (is_group-kept w job (moved items (context w c))) (has c x is)))
+      (is_group-added w job (moved items (context w c)))
+      (names_live-kept w (add_group w job (moved items (context w c))) x (is_group-kept w job (moved items (context w c))) (has c x is)))
       (has_groups-add_group w job (moved items (context w c)) has)
 
   has_groups-moved : HasItsGroups w → HasItsGroups (moved_into_group w c job items)

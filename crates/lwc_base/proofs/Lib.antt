@@ -1,4 +1,5 @@
 pub mod Begun
+pub mod Clones
 pub mod Cloning
 pub mod Counted
 pub mod Fresh

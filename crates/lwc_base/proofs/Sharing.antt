@@ -63,13 +63,13 @@ uid_of-moved v w g Unmap cell holds same = uid_of-same v w cell same
 uid_of-moved v w g Share (Own value) holds same = ap (λ o. unwrap_or o 0) holds
 uid_of-moved v w g Share (Common h) holds same = uid_of-same v w (Common h) same
 
--- a group that a cell names once its value has moved is the new one, or one that it named before
+-- a group that a page's cell names once its value has moved is the new one, or the one that it named before
 pub common_after : (P : Name → Type 0) (g h : Name) (moves : Option PageValue) (cell : Option (Cell PageValue)) → page_after g moves cell ≡ Some (Common h) →
     P g → (cell ≡ Some (Common h) → P h) → P h
 common_after P g h None cell is here there = there is
 common_after P g h (Some value) cell is here there = let same : g ≡ h = cc in subst P same here
 
--- a group that a cell names once its value has moved is the new one, or one that it named before
+-- the same of a slot's or a credential's cell
 pub common_cell_after : {T : Type 0} (P : Name → Type 0) (g h : Name) (moves : Option T) (cell : Cell T) → cell_after g moves cell ≡ Common h →
     P g → (cell ≡ Common h → P h) → P h
 common_cell_after P g h None cell is here there = there is
@@ -198,3 +198,6 @@ module _ (w : World) (c : Name) (job : ℕ) (items : List Item) where
     -- and under the credential
     pub uid_at-share : (d : Name) → uid_at (share w c job items) d ≡ uid_at w d
     uid_at-share d = after_share (λ v. uid_at v d ≡ uid_at w d) w c job items (uid_at-moved d) refl
+
+-- sharing changes no value
+pub ruleset shared_values = (page_at-share, slot_at-share, uid_at-share)

@@ -4,7 +4,7 @@ use Rattle.std.specs.Prelude.{is_some, unwrap_or}
 use Rattle.std.specs.Option.{option_map}
 use Rattle.std.specs.Ordering.{eq_by_cmp}
 use Rattle.std.specs.FinMap as fm
-use Rattle.std.proofs.lemmas.Bool.{eqb-true}
+use Rattle.std.proofs.lemmas.Bool.{eq-eqb, eqb-true}
 use Rattle.lwc_base.specs.declared.cell.Cell.{Cell}
 use Rattle.lwc_base.specs.declared.cell.Cell.TheVariants.{Own, Common}
 use Rattle.lwc_base.specs.declared.descriptor.Descriptor.{Descriptor}
@@ -15,7 +15,6 @@ use Rattle.lwc_base.specs.Cells.{page_of, page_at, slot_of, slot_at, uid_of, uid
 use Rattle.lwc_base.specs.Clones.{IsGroup, ArePagesApart, AreSlotsApart, AreUidsApart, HavePageInCommon, HaveSlotInCommon, HaveUidInCommon}
 use Rattle.lwc_base.specs.Names.{name_cmp}
 use Rattle.lwc_base.specs.World.{World, Context, Group, is_live, context, group, changed_context, change_context, changed_group, change_group}
-use Rattle.lwc_base.proofs.Fresh.{eqb-self}
 use Rattle.lwc_base.proofs.Live.{same_name}
 use Rattle.lwc_base.proofs.Lookups.{name-itself, not_both, other_name, context-change_context, context-change_group, group-change_context, group-change_group}
 use Rattle.lwc_base.proofs.Orders.{name_cmp-total}
@@ -135,7 +134,7 @@ page_at-put_page-common w a b p value both =
     ∙ ap (λ (x : Context). page_of (change_group w both.group (with_group_page p value)) p (x.page p)) (context-change_group w both.group (with_group_page p value) b)
     ∙ ap (page_of (change_group w both.group (with_group_page p value)) p) both.second
     ∙ ap (λ (x : Group). x.page p) (group-changed w both.group (with_group_page p value) both.live)
-    ∙ ap (λ b. cond b (Some value) ((group w both.group).page p)) (eqb-self p)
+    ∙ ap (λ b. cond b (Some value) ((group w both.group).page p)) (eq-eqb p p refl)
 
 page_stays : (w : World) (a c : Name) (p q : ℕ) (mine value : PageValue) (g : Name) (live same here : Bool) → eq_by_cmp name_cmp a c ≡ same → eqb p q ≡ here →
     (context w c).page q ≡ Some (Own mine) → (context w a).page p ≡ Some (Common g) →
@@ -231,7 +230,7 @@ slot_at-put_slot-common w a b n value both =
     ∙ ap (λ (x : Context). slot_of (change_group w both.group (with_group_slot n value)) n (x.slot n)) (context-change_group w both.group (with_group_slot n value) b)
     ∙ ap (slot_of (change_group w both.group (with_group_slot n value)) n) both.second
     ∙ ap (λ (x : Group). unwrap_or (x.slot n) Empty) (group-changed w both.group (with_group_slot n value) both.live)
-    ∙ ap (λ b. unwrap_or (cond b (Some value) ((group w both.group).slot n)) Empty) (eqb-self n)
+    ∙ ap (λ b. unwrap_or (cond b (Some value) ((group w both.group).slot n)) Empty) (eq-eqb n n refl)
 
 slot_stays : (w : World) (a c : Name) (n m : ℕ) (mine value : Descriptor) (g : Name) (live same here : Bool) → eq_by_cmp name_cmp a c ≡ same → eqb n m ≡ here →
     (context w c).slot m ≡ Own mine → (context w a).slot n ≡ Common g →
@@ -358,3 +357,6 @@ in_common-put_uid w c uid a b both = record {
   first = put_uid-stays w c uid a both.group both.first;
   second = put_uid-stays w c uid b both.group both.second;
 }
+
+-- what is in common reads the same, stays in common, and what is put in one is read in the other
+pub ruleset in_common = (page_at-in_common, slot_at-in_common, uid_at-in_common, in_common-put_page, in_common-put_slot, in_common-put_uid, page_at-put_page-common, slot_at-put_slot-common, uid_at-put_uid-common)

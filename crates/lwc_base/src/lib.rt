@@ -9,6 +9,7 @@ pub mod descriptor;
 pub mod fault;
 pub mod item;
 pub mod key;
+pub mod laws;
 pub mod memory;
 pub mod name;
 pub mod page;

@@ -1,111 +1,139 @@
 -- Reading steps byte by byte.
-use Rattle.std.proofs.Common.{◌≡◌, ℕ, get_or, lit≤, ◌+◌, ◌≤◌, ◌<◌, true, ◌||◌, IsTrue, List, [], ◌∷◌, ◌++◌, length, drop, All, Option, Some, None, Result, Ok, Err, refl, sym, ap, subst, ◌∙◌, arith, append_assoc, append-nil, length-append, add-one, drop-cons}
-use Rattle.std.proofs.lemmas.List.{drop_all}
-use Rattle.std.proofs.lemmas.List.Elements.{All-nil, All-cons, All-head, All-tail}
-use Rattle.std.specs.List.{cons_option}
+use Rattle.std.proofs.Common.{◌≡◌, ℕ, zero, suc, get_or, ◌+◌, ◌≤◌, ◌<◌, Bool, true, false, ◌||◌, IsTrue, List, [], ◌∷◌, ◌++◌, length, take, drop, All, Option, Some, None, Ok, Err, refl, sym, ap, subst, ◌∙◌, arith, append_assoc, append-nil, length-append, eqb}
+use Rattle.std.proofs.lemmas.Bool.Decides.{nat_tests}
+use Rattle.std.proofs.lemmas.List.{take_more, take-append-drop}
+use Rattle.std.proofs.lemmas.List.Elements.{All-nil, All-cons, All-head, All-tail, All-from_get_or, All-get_or}
+use Rattle.std.proofs.Math.Seq.{take-length}
+use Rattle.std.specs.List.{cons_option, filter_map, range_with_len}
+use Rattle.std.specs.Option.{option_map}
 use Rattle.lwc_text.specs.declared.fault.InputFault.{InputFault}
 use Rattle.lwc_text.specs.declared.fault.InputFault.TheVariants as faults
 use Rattle.lwc_text.specs.declared.fault.InputRule.{InputRule}
 use Rattle.kernel_core.specs.declared.settings.TheConstants.{MOST_STEPS}
 use Rattle.lwc_text.specs.declared.schedule.TheConstants.{MOST_BYTES}
-use Rattle.lwc_text.specs.Inputs.{Refused, at_offset, Fails, ◌>>=◌}
-use Rattle.lwc_text.specs.Schedules.{IsSchedule, digit_number, is_blank, names_thread, numbers, schedule_at, steps_from, with_byte}
+use Rattle.lwc_text.specs.Inputs.{Refused, Fails, IsFound}
+use Rattle.lwc_text.specs.Schedules.{IsSchedule, digit_number, is_blank, names_thread, numbers, refusal_at, refusal_of, refusals, rule_broken, schedule_at, unless_refused}
 
 -- a byte that a schedule may have
 abbrev pub Fits : ℕ → ℕ → Type 0
 Fits threads b = IsTrue (is_blank b || names_thread threads b)
 
--- what holds of the steps after one more byte
-record IsAdded (threads : ℕ) (before : List ℕ) (b : ℕ) (after : List ℕ) : Type 0 where
-  fits : Fits threads b
-  named : after ≡ before ++ numbers (b ∷ [])
-  few : length after ≤ MOST_STEPS
-
 blank_has_no_number : (b : ℕ) → is_blank b ≡ true → digit_number b ≡ None
 blank_has_no_number b h = grind arith
 
-blank_adds_nothing : (b : ℕ) → is_blank b ≡ true → numbers (b ∷ []) ≡ []
-blank_adds_nothing b h = rw (blank_has_no_number b h) refl
+blank_has_none : (b : ℕ) → is_blank b ≡ true → numbers (b ∷ []) ≡ []
+blank_has_none b h = rw (blank_has_no_number b h) refl
+
+-- a blank adds no step
+pub blank_adds_nothing : (steps : List ℕ) (b : ℕ) → is_blank b ≡ true → steps ++ numbers (b ∷ []) ≡ steps
+blank_adds_nothing steps b h = ap (λ xs. steps ++ xs) (blank_has_none b h) ∙ append-nil steps
 
 named_has_number : (threads b : ℕ) → names_thread threads b ≡ true → length (numbers (b ∷ [])) ≡ 1
 named_has_number threads b h = grind arith
 
-added : (threads : ℕ) (before : List ℕ) (b : ℕ) (after : List ℕ) → length before ≤ MOST_STEPS → with_byte threads before b ≡ Ok after → IsAdded threads before b after
-unfolding with_byte
-added threads before b after short h = grind (arith, blank_adds_nothing, named_has_number, length-append {A = ℕ}, append-nil {A = ℕ})
+-- the digit of a thread adds that thread's step, where there is room for it
+pub named_adds : (b t : ℕ) → digit_number b ≡ Some t → numbers (b ∷ []) ≡ t ∷ []
+named_adds b t h = ap (λ o. cons_option o []) h
 
--- a byte that fits adds its number, where there is room
-adds : (threads : ℕ) (before : List ℕ) (b : ℕ) → Fits threads b → length (before ++ numbers (b ∷ [])) ≤ MOST_STEPS → with_byte threads before b ≡ Ok (before ++ numbers (b ∷ []))
-unfolding with_byte
-adds threads before b fits few = grind (arith, blank_adds_nothing, named_has_number, length-append {A = ℕ}, append-nil {A = ℕ})
+-- what is so of a byte that breaks no rule
+record IsKept (threads before b : ℕ) : Type 0 where
+  fits : Fits threads b
+  few : before ≤ MOST_STEPS → before + length (numbers (b ∷ [])) ≤ MOST_STEPS
 
--- what holds where all steps were read from bytes, after some
-pub record AreRead (threads : ℕ) (before bytes all : List ℕ) : Type 0 where
-  pub each : All (Fits threads) bytes
-  pub named : all ≡ before ++ numbers bytes
-  pub few : length all ≤ MOST_STEPS
+kept : (threads before b : ℕ) → rule_broken threads before b ≡ None → IsKept threads before b
+kept threads before b h = record {
+  fits = grind (arith, nat_tests);
+  few = λ short. grind (arith, nat_tests, blank_has_none, named_has_number);
+}
+
+-- a byte that fits breaks no rule where there is room for what it adds
+keeps : (threads before b : ℕ) → Fits threads b → before + length (numbers (b ∷ [])) ≤ MOST_STEPS → rule_broken threads before b ≡ None
+keeps threads before b fits few = grind (arith, nat_tests, blank_has_none, named_has_number)
 
 numbers-cons : (b : ℕ) (bytes : List ℕ) → numbers (b ∷ bytes) ≡ numbers (b ∷ []) ++ numbers bytes
 numbers-cons b bytes = elim (digit_number b) as (λ (o : Option ℕ). cons_option o (numbers bytes) ≡ cons_option o [] ++ numbers bytes) [ None ↦ refl | Some t ↦ refl ]
 
-one_more : (threads : ℕ) (before : List ℕ) (b : ℕ) (bytes after all : List ℕ) → IsAdded threads before b after → AreRead threads after bytes all → AreRead threads before (b ∷ bytes) all
-one_more threads before b bytes after all one rest = record {
-  each = All-cons (Fits threads) b bytes one.fits rest.each;
-  named = rest.named ∙ ap (λ xs. xs ++ numbers bytes) one.named ∙ append_assoc before (numbers (b ∷ [])) (numbers bytes) ∙ ap (λ xs. before ++ xs) (sym (numbers-cons b bytes));
-  few = rest.few;
-}
+numbers-append : (xs ys : List ℕ) → numbers (xs ++ ys) ≡ numbers xs ++ numbers ys
+numbers-append [] ys = refl
+numbers-append (b ∷ xs) ys =
+    numbers-cons b (xs ++ ys) ∙ ap (λ l. numbers (b ∷ []) ++ l) (numbers-append xs ys)
+    ∙ sym (append_assoc (numbers (b ∷ [])) (numbers xs) (numbers ys)) ∙ ap (λ l. l ++ numbers ys) (sym (numbers-cons b xs))
 
--- steps that are read are the numbers of bytes that each fit
-pub are_read : (threads : ℕ) (before : List ℕ) (at : ℕ) (bytes all : List ℕ) → length before ≤ MOST_STEPS → steps_from threads before at bytes ≡ Ok all → AreRead threads before bytes all
-unfolding steps_from
-are_read threads before at [] all few h =
-    let same : before ≡ all = cc in
-    record { each = All-nil (Fits threads); named = sym same ∙ sym (append-nil before); few = subst (λ (xs : List ℕ). length xs ≤ MOST_STEPS) same few }
-are_read threads before at (b ∷ bytes) all few h =
-    elim (with_byte threads before b) as (λ (r : Result (List ℕ) InputRule). with_byte threads before b ≡ r → (at_offset at r >>= λ more. steps_from threads more (at + 1) bytes) ≡ Ok all → AreRead threads before (b ∷ bytes) all) [
-      | Ok more ↦ λ e rest. let one : IsAdded threads before b more = added threads before b more few e in one_more threads before b bytes more all one (are_read threads more (at + 1) bytes all one.few rest)
-      | Err rule ↦ λ e rest. absurd (cc)
-    ] refl h
+-- the numbers of one byte more
+numbers-next : (bytes : List ℕ) (at : ℕ) → at < length bytes → numbers (take (at + 1) bytes) ≡ numbers (take at bytes) ++ numbers (get_or bytes at 0 ∷ [])
+numbers-next bytes at within = ap numbers (take_more bytes at 0 within) ∙ numbers-append (take at bytes) (get_or bytes at 0 ∷ [])
 
--- bytes that each fit are read to their numbers, where there is room
-pub reads : (threads : ℕ) (before : List ℕ) (at : ℕ) (bytes : List ℕ) → All (Fits threads) bytes → length (before ++ numbers bytes) ≤ MOST_STEPS → steps_from threads before at bytes ≡ Ok (before ++ numbers bytes)
-unfolding steps_from
-reads threads before at [] each few = ap Ok (sym (append-nil before))
-reads threads before at (b ∷ bytes) each few =
-    let split : before ++ numbers (b ∷ bytes) ≡ (before ++ numbers (b ∷ [])) ++ numbers bytes = ap (λ xs. before ++ xs) (numbers-cons b bytes) ∙ sym (append_assoc before (numbers (b ∷ [])) (numbers bytes)) in
-    let room : length ((before ++ numbers (b ∷ [])) ++ numbers bytes) ≤ MOST_STEPS = subst (λ (xs : List ℕ). length xs ≤ MOST_STEPS) split few in
-    let first : with_byte threads before b ≡ Ok (before ++ numbers (b ∷ [])) = adds threads before b (All-head (Fits threads) b bytes each) (omega (arith, room, length-append (before ++ numbers (b ∷ [])) (numbers bytes))) in
-    let rest : steps_from threads (before ++ numbers (b ∷ [])) (at + 1) bytes ≡ Ok ((before ++ numbers (b ∷ [])) ++ numbers bytes) = reads threads (before ++ numbers (b ∷ [])) (at + 1) bytes (All-tail (Fits threads) b bytes each) room in
-    rw first (rest ∙ ap Ok (sym split))
+-- where nothing is refused from a number on, there is no refusal among so many
+none_refused : (refusal : ℕ → Option Refused) (a n : ℕ) → ((i : ℕ) → a ≤ i → i < a + n → refusal i ≡ None) → filter_map refusal (range_with_len a n) ≡ []
+none_refused refusal a zero none = refl
+none_refused refusal a (suc n) none =
+    ap (λ o. cons_option o (filter_map refusal (range_with_len (a + 1) n))) (none a (omega arith) (omega arith))
+    ∙ none_refused refusal (a + 1) n (λ i low high. none i (omega arith) (omega arith))
 
-rest_after : (bytes : List ℕ) (at : ℕ) → at < length bytes → drop at bytes ≡ get_or bytes at 0 ∷ drop (at + 1) bytes
-rest_after bytes at lt = rw add-one (drop-cons bytes at 0 lt)
+first_by : (b : Bool) (refusal : ℕ → Option Refused) (steps : List ℕ) (a n at : ℕ) (r : Refused) → eqb a at ≡ b → a ≤ at → ((i : ℕ) → a ≤ i → i < at → refusal i ≡ None) → refusal at ≡ Some r →
+    (a + 1 ≤ at → unless_refused steps (filter_map refusal (range_with_len (a + 1) n)) ≡ Err r) → unless_refused steps (filter_map refusal (range_with_len a (suc n))) ≡ Err r
+first_by true refusal steps a n at r is low none here later =
+    let same : a ≡ at = grind (arith, nat_tests) in
+    ap (λ o. unless_refused steps (cons_option o (filter_map refusal (range_with_len (a + 1) n)))) (ap refusal same ∙ here)
+first_by false refusal steps a n at r is low none here later =
+    let less : a < at = grind (arith, nat_tests) in
+    ap (λ o. unless_refused steps (cons_option o (filter_map refusal (range_with_len (a + 1) n)))) (none a (omega arith) less) ∙ later (omega arith)
+
+-- where nothing is refused before a number, the refusal there is the first
+first_refused : (refusal : ℕ → Option Refused) (steps : List ℕ) (a n at : ℕ) (r : Refused) → a ≤ at → at < a + n → ((i : ℕ) → a ≤ i → i < at → refusal i ≡ None) →
+    refusal at ≡ Some r → unless_refused steps (filter_map refusal (range_with_len a n)) ≡ Err r
+first_refused refusal steps a zero at r low high none here = absurd (omega arith)
+first_refused refusal steps a (suc n) at r low high none here =
+    first_by (eqb a at) refusal steps a n at r refl low none here
+    (λ less. first_refused refusal steps (a + 1) n at r less (omega arith) (λ i above below. none i (omega arith) below) here)
+
+-- how far a loop has come: the steps are the digits of the bytes so far, which are not too many, and none of these bytes is refused
+pub record IsSoFar (threads : ℕ) (bytes : List ℕ) (at : ℕ) (steps : List ℕ) : Type 0 where
+  pub named : steps ≡ numbers (take at bytes)
+  pub few : length steps ≤ MOST_STEPS
+  pub clear : (i : ℕ) → i < at → refusal_at threads bytes i ≡ None
+
+refusal_here : (threads : ℕ) (bytes : List ℕ) (at before : ℕ) → before ≡ length (numbers (take at bytes)) →
+    option_map (refusal_of at) (rule_broken threads before (get_or bytes at 0)) ≡ refusal_at threads bytes at
+unfolding refusal_at
+refusal_here threads bytes at before is = ap (λ n. option_map (refusal_of at) (rule_broken threads n (get_or bytes at 0))) is
+
+clear_by : (threads : ℕ) (bytes : List ℕ) (at i : ℕ) (b : Bool) → eqb i at ≡ b → i < at + 1 → refusal_at threads bytes at ≡ None → (i < at → refusal_at threads bytes i ≡ None) → refusal_at threads bytes i ≡ None
+clear_by threads bytes at i true is below here before = let same : i ≡ at = grind (arith, nat_tests) in ap (refusal_at threads bytes) same ∙ here
+clear_by threads bytes at i false is below here before = before (grind (arith, nat_tests))
 
 -- a loop goes on after a byte
-pub goes_on : (threads at : ℕ) (before after bytes : List ℕ) (total : Result (List ℕ) Refused) → at < length bytes → with_byte threads before (get_or bytes at 0) ≡ Ok after
-    → steps_from threads before at (drop at bytes) ≡ total → steps_from threads after (at + 1) (drop (at + 1) bytes) ≡ total
-unfolding steps_from
-goes_on threads at before after bytes total lt ok so_far =
-    let cut : drop at bytes ≡ get_or bytes at 0 ∷ drop (at + 1) bytes = rest_after bytes at lt in
-    let one : steps_from threads before at (drop at bytes) ≡ steps_from threads after (at + 1) (drop (at + 1) bytes) = rw (cut, ok) refl in
-    sym one ∙ so_far
+pub goes_on : (threads at : ℕ) (before after bytes : List ℕ) → at < length bytes → rule_broken threads (length before) (get_or bytes at 0) ≡ None →
+    after ≡ before ++ numbers (get_or bytes at 0 ∷ []) → length after ≤ MOST_STEPS → IsSoFar threads bytes at before → IsSoFar threads bytes (at + 1) after
+goes_on threads at before after bytes within unbroken added few so_far =
+    let here : refusal_at threads bytes at ≡ None =
+    sym (refusal_here threads bytes at (length before) (ap length so_far.named)) ∙ ap (option_map (refusal_of at)) unbroken in
+    record {
+      named = added ∙ ap (λ l. l ++ numbers (get_or bytes at 0 ∷ [])) so_far.named ∙ sym (numbers-next bytes at within);
+      few = few;
+      clear = λ i below. clear_by threads bytes at i (eqb i at) refl below here (so_far.clear i);
+    }
 
 -- a loop ends at a byte
-pub ends : (e : InputFault) (threads at : ℕ) (before bytes : List ℕ) (total : Result (List ℕ) Refused) → at < length bytes → Fails e (at_offset at (with_byte threads before (get_or bytes at 0)))
-    → steps_from threads before at (drop at bytes) ≡ total → Fails e total
-unfolding steps_from
-ends faults.OutOfMemory threads at before bytes total lt fails so_far = tt
-ends (faults.Refused rule offset) threads at before bytes total lt fails so_far =
-    let cut : drop at bytes ≡ get_or bytes at 0 ∷ drop (at + 1) bytes = rest_after bytes at lt in
-    let one : steps_from threads before at (drop at bytes) ≡ Err (record { rule = rule; at = offset }) = rw (cut, fails) refl in
-    sym so_far ∙ one
+pub ends : (e : InputFault) (threads at : ℕ) (before bytes : List ℕ) → at < length bytes → IsFound e (option_map (refusal_of at) (rule_broken threads (length before) (get_or bytes at 0))) →
+    IsSoFar threads bytes at before → Fails e (unless_refused (numbers bytes) (refusals threads bytes))
+unfolding refusals
+ends faults.OutOfMemory threads at before bytes within found so_far = tt
+ends (faults.Refused rule offset) threads at before bytes within found so_far =
+    first_refused (refusal_at threads bytes) (numbers bytes) 0 (length bytes) at (record { rule = rule; at = offset }) (omega arith) (omega arith)
+    (λ i low below. so_far.clear i below) (sym (refusal_here threads bytes at (length before) (ap length so_far.named)) ∙ found)
+
+unless_none : (steps : List ℕ) (found : List Refused) → found ≡ [] → unless_refused steps found ≡ Ok steps
+unless_none steps found none = ap (unless_refused steps) none
 
 -- a loop is done after the last byte
-pub is_done : (threads at : ℕ) (before bytes : List ℕ) (total : Result (List ℕ) Refused) → length bytes ≤ at → steps_from threads before at (drop at bytes) ≡ total → total ≡ Ok before
-unfolding steps_from
-is_done threads at before bytes total le so_far =
-    let one : steps_from threads before at (drop at bytes) ≡ Ok before = rw (drop_all at bytes le) refl in
-    sym so_far ∙ one
+pub is_done : (threads at : ℕ) (before bytes : List ℕ) → length bytes ≡ at → IsSoFar threads bytes at before → unless_refused (numbers bytes) (refusals threads bytes) ≡ Ok before
+unfolding refusals
+is_done threads at before bytes end so_far =
+    let whole : before ≡ numbers bytes = so_far.named ∙ ap (λ n. numbers (take n bytes)) (sym end) ∙ ap numbers (take-length bytes) in
+    unless_none (numbers bytes) (filter_map (refusal_at threads bytes) (range_with_len 0 (length bytes)))
+    (none_refused (refusal_at threads bytes) 0 (length bytes) (λ i low below. so_far.clear i (omega (arith, end))))
+    ∙ ap Ok (sym whole)
 
 -- the first number, if there is one, and the rest
 numbers_hold : (P : ℕ → Type 0) (b : ℕ) (bytes : List ℕ) → ((t : ℕ) → digit_number b ≡ Some t → P t) → All P (numbers bytes) → All P (numbers (b ∷ bytes))
@@ -130,22 +158,71 @@ are_there threads [] each = All-nil (λ t. t < threads)
 are_there threads (b ∷ bytes) each =
     numbers_hold (λ t. t < threads) b bytes (λ t e. digit_is_there threads b t (All-head (Fits threads) b bytes each) e) (are_there threads bytes (All-tail (Fits threads) b bytes each))
 
-pub few_are_read : (threads : ℕ) (bytes steps : List ℕ) → steps_from threads [] 0 bytes ≡ Ok steps → length steps ≤ MOST_STEPS
-few_are_read threads bytes steps h = (are_read threads [] 0 bytes steps (lit≤ tt) h).few
+-- what it means that bytes were read
+read_by : (steps numbers_of : List ℕ) (found : List Refused) → unless_refused numbers_of found ≡ Ok steps → (found ≡ []) × (numbers_of ≡ steps)
+read_by steps numbers_of [] is = (refl, cc)
+read_by steps numbers_of (r ∷ found) is = absurd (cc)
 
-pub digits_are_read : (threads : ℕ) (bytes steps : List ℕ) → steps_from threads [] 0 bytes ≡ Ok steps → All (λ t. t < 16) steps
-digits_are_read threads bytes steps h = subst (λ (xs : List ℕ). All (λ t. t < 16) xs) (sym (are_read threads [] 0 bytes steps (lit≤ tt) h).named) (digits_are_below bytes)
+pub digits_are_read : (threads : ℕ) (bytes steps : List ℕ) → unless_refused (numbers bytes) (refusals threads bytes) ≡ Ok steps → All (λ t. t < 16) steps
+digits_are_read threads bytes steps h =
+    subst (λ (xs : List ℕ). All (λ t. t < 16) xs) (read_by steps (numbers bytes) (refusals threads bytes) h).1 (digits_are_below bytes)
 
-short_is_read : (threads : ℕ) (bytes steps : List ℕ) → schedule_at threads bytes ≡ Ok steps → (length bytes ≤ MOST_BYTES) × (steps_from threads [] 0 bytes ≡ Ok steps)
+none_here : (here : Option Refused) (rest : List Refused) → cons_option here rest ≡ [] → (here ≡ None) × (rest ≡ [])
+none_here None rest none = (refl, none)
+none_here (Some r) rest none = absurd (cc)
+
+nothing_by : (refusal : ℕ → Option Refused) (a i : ℕ) (b : Bool) → eqb a i ≡ b → a ≤ i → refusal a ≡ None → (a + 1 ≤ i → refusal i ≡ None) → refusal i ≡ None
+nothing_by refusal a i true is low here later = let same : i ≡ a = grind (arith, nat_tests) in ap refusal same ∙ here
+nothing_by refusal a i false is low here later = later (grind (arith, nat_tests))
+
+-- where there is no refusal, no byte is refused
+nothing_refused : (refusal : ℕ → Option Refused) (a n : ℕ) → filter_map refusal (range_with_len a n) ≡ [] → (i : ℕ) → a ≤ i → i < a + n → refusal i ≡ None
+nothing_refused refusal a zero none i low high = absurd (omega arith)
+nothing_refused refusal a (suc n) none i low high =
+    let both = none_here (refusal a) (filter_map refusal (range_with_len (a + 1) n)) none in
+    nothing_by refusal a i (eqb a i) refl low both.0 (λ less. nothing_refused refusal (a + 1) n both.1 i less (omega arith))
+
+unbroken : (at : ℕ) (rule : Option InputRule) → option_map (refusal_of at) rule ≡ None → rule ≡ None
+unbroken at None none = refl
+unbroken at (Some r) none = absurd (cc)
+
+-- bytes of which none is refused
+module _ (threads : ℕ) (bytes : List ℕ) (clear : (i : ℕ) → i < length bytes → refusal_at threads bytes i ≡ None) where
+  kept_at : (i : ℕ) → i < length bytes → IsKept threads (length (numbers (take i bytes))) (get_or bytes i 0)
+  unfolding refusal_at
+  kept_at i within = kept threads (length (numbers (take i bytes))) (get_or bytes i 0) (unbroken i _ (clear i within))
+
+  few_so_far : (at : ℕ) → at ≤ length bytes → length (numbers (take at bytes)) ≤ MOST_STEPS
+  few_so_far zero within = omega arith
+  few_so_far (suc at) within =
+      let next : suc at ≡ at + 1 = omega arith in
+      let one = (kept_at at (omega arith)).few (few_so_far at (omega arith)) in
+      omega (arith, one, ap length (ap (λ n. numbers (take n bytes)) next ∙ numbers-next bytes at (omega arith)), length-append (numbers (take at bytes)) (numbers (get_or bytes at 0 ∷ [])))
+
+  each_fits : All (Fits threads) bytes
+  each_fits = All-from_get_or (Fits threads) bytes 0 (λ i within. (kept_at i within).fits)
+
+  few_steps : length (numbers bytes) ≤ MOST_STEPS
+  few_steps = subst (λ (l : List ℕ). length (numbers l) ≤ MOST_STEPS) (take-length bytes) (few_so_far (length bytes) (omega arith))
+
+short_is_read : (threads : ℕ) (bytes steps : List ℕ) → schedule_at threads bytes ≡ Ok steps → (length bytes ≤ MOST_BYTES) × (unless_refused (numbers bytes) (refusals threads bytes) ≡ Ok steps)
 unfolding schedule_at
 short_is_read threads bytes steps h = grind arith
 
 -- what is read is a schedule
 pub is_schedule : (threads : ℕ) (bytes steps : List ℕ) → schedule_at threads bytes ≡ Ok steps → IsSchedule threads bytes steps
+unfolding refusals
 is_schedule threads bytes steps h =
-    let short : (length bytes ≤ MOST_BYTES) × (steps_from threads [] 0 bytes ≡ Ok steps) = short_is_read threads bytes steps h in
-    let read : AreRead threads [] bytes steps = are_read threads [] 0 bytes steps (lit≤ tt) short.1 in
-    record { short = short.0; each = read.each; named = read.named; few = read.few }
+    let short : (length bytes ≤ MOST_BYTES) × (unless_refused (numbers bytes) (refusals threads bytes) ≡ Ok steps) = short_is_read threads bytes steps h in
+    let read : (refusals threads bytes ≡ []) × (numbers bytes ≡ steps) = read_by steps (numbers bytes) (refusals threads bytes) short.1 in
+    let clear : (i : ℕ) → i < length bytes → refusal_at threads bytes i ≡ None =
+    λ i within. nothing_refused (refusal_at threads bytes) 0 (length bytes) read.0 i (omega arith) (omega arith) in
+    record {
+      short = short.0;
+      each = each_fits threads bytes clear;
+      named = sym read.1;
+      few = subst (λ (l : List ℕ). length l ≤ MOST_STEPS) read.1 (few_steps threads bytes clear);
+    }
 
 -- the steps of a schedule are of threads that are there
 pub threads_are_there : (threads : ℕ) (bytes steps : List ℕ) → schedule_at threads bytes ≡ Ok steps → All (λ t. t < threads) steps
@@ -153,15 +230,30 @@ threads_are_there threads bytes steps h =
     let is : IsSchedule threads bytes steps = is_schedule threads bytes steps h in
     subst (λ (xs : List ℕ). All (λ t. t < threads) xs) (sym is.named) (are_there threads bytes is.each)
 
-short_reads : (threads : ℕ) (bytes : List ℕ) → length bytes ≤ MOST_BYTES → schedule_at threads bytes ≡ steps_from threads [] 0 bytes
+short_reads : (threads : ℕ) (bytes : List ℕ) → length bytes ≤ MOST_BYTES → schedule_at threads bytes ≡ unless_refused (numbers bytes) (refusals threads bytes)
 unfolding schedule_at
 short_reads threads bytes h = grind arith
 
+-- the bytes so far have no more digits than all bytes
+fewer_so_far : (bytes : List ℕ) (at : ℕ) → length (numbers (take at bytes)) ≤ length (numbers bytes)
+fewer_so_far bytes at =
+    omega (arith, ap length (ap numbers (sym (take-append-drop at bytes)) ∙ numbers-append (take at bytes) (drop at bytes)), length-append (numbers (take at bytes)) (numbers (drop at bytes)))
+
+clear_of_schedule : (threads : ℕ) (bytes steps : List ℕ) → IsSchedule threads bytes steps → (i : ℕ) → i < length bytes → refusal_at threads bytes i ≡ None
+unfolding refusal_at
+clear_of_schedule threads bytes steps is i within =
+    let fits : Fits threads (get_or bytes i 0) = All-get_or (Fits threads) bytes i 0 within is.each in
+    let room : length (numbers (take i bytes)) + length (numbers (get_or bytes i 0 ∷ [])) ≤ MOST_STEPS =
+    omega (arith, ap length (numbers-next bytes i within), length-append (numbers (take i bytes)) (numbers (get_or bytes i 0 ∷ [])), fewer_so_far bytes (i + 1), ap length is.named, is.few) in
+    ap (option_map (refusal_of i)) (keeps threads (length (numbers (take i bytes))) (get_or bytes i 0) fits room)
+
 -- a schedule is read whole
 is_read : (threads : ℕ) (bytes steps : List ℕ) → IsSchedule threads bytes steps → schedule_at threads bytes ≡ Ok steps
+unfolding refusals
 is_read threads bytes steps is =
     short_reads threads bytes is.short
-    ∙ reads threads [] 0 bytes is.each (subst (λ (xs : List ℕ). length xs ≤ MOST_STEPS) is.named is.few)
+    ∙ unless_none (numbers bytes) (filter_map (refusal_at threads bytes) (range_with_len 0 (length bytes)))
+    (none_refused (refusal_at threads bytes) 0 (length bytes) (λ i low high. clear_of_schedule threads bytes steps is i (omega arith)))
     ∙ ap Ok (sym is.named)
 
 -- so it is refused for want of memory alone

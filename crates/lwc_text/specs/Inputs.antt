@@ -1,5 +1,5 @@
 -- What a function that reads an input answers.
-use Rattle.std.specs.Prelude.{◌≡◌, ℕ, Result, Ok, Err}
+use Rattle.std.specs.Prelude.{◌≡◌, ℕ, Option, Some, Result, Ok, Err}
 use Rattle.lwc_text.specs.declared.fault.InputRule.{InputRule}
 use Rattle.lwc_text.specs.declared.fault.InputFault.{InputFault}
 use Rattle.lwc_text.specs.declared.fault.InputFault.TheVariants as faults
@@ -9,21 +9,15 @@ pub record Refused : Type 0 where
   pub rule : InputRule
   pub at : ℕ
 
--- a rule that may be broken at this offset
-abbrev pub at_offset : {A : Type 0} → ℕ → Result A InputRule → Result A Refused
-at_offset at (Ok x) = Ok x
-at_offset at (Err rule) = Err (record { rule = rule; at = at })
-
-infixl 10 ◌>>=◌
--- a step after one that was not refused
-abbrev pub ◌>>=◌ : {A B : Type 0} → Result A Refused → (A → Result B Refused) → Result B Refused
-(Ok x) >>= f = f x
-(Err e) >>= f = Err e
-
 -- a fault is the refusal that the reading gives, unless memory runs out
 abbrev pub Fails : {A : Type 0} → InputFault → Result A Refused → Type 0
 Fails faults.OutOfMemory read = Unit {0}
 Fails (faults.Refused rule at) read = read ≡ Err (record { rule = rule; at = at })
+
+-- a fault is the refusal that was found, unless memory runs out
+abbrev pub IsFound : InputFault → Option Refused → Type 0
+IsFound faults.OutOfMemory found = Unit {0}
+IsFound (faults.Refused rule at) found = found ≡ Some (record { rule = rule; at = at })
 
 -- an answer is what the reading gives, unless memory runs out
 abbrev pub Answers : {A : Type 0} → Result A InputFault → Result A Refused → Type 0

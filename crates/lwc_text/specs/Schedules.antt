@@ -1,12 +1,12 @@
 -- What a schedule is, and how it is read.
-use Rattle.std.specs.Prelude.{◌≡◌, ℕ, ◌+◌, ◌-◌, ◌≤◌, Bool, false, ◌||◌, ◌&&◌, not, nat_lt, nat_le, ◌==◌, if◌then◌else◌, IsTrue, List, [], ◌∷◌, ◌++◌, length, All, Option, Some, None, Result, Ok, Err}
-use Rattle.std.specs.Option.{option_map_or}
-use Rattle.std.specs.List.{filter_map}
+use Rattle.std.specs.Prelude.{◌≡◌, ℕ, ◌+◌, ◌-◌, ◌≤◌, Bool, false, ◌||◌, ◌&&◌, not, nat_lt, nat_le, ◌==◌, if◌then◌else◌, IsTrue, List, [], ◌∷◌, length, take, slice_index, All, Option, Some, None, Result, Ok, Err}
+use Rattle.std.specs.Option.{option_map, option_map_or}
+use Rattle.std.specs.List.{filter_map, range_with_len}
 use Rattle.lwc_text.specs.declared.fault.InputRule.{InputRule}
 use Rattle.lwc_text.specs.declared.fault.InputRule.TheVariants.{TooLong, BadThread, TooManySteps}
 use Rattle.kernel_core.specs.declared.settings.TheConstants.{MOST_STEPS}
 use Rattle.lwc_text.specs.declared.schedule.TheConstants.{MOST_BYTES}
-use Rattle.lwc_text.specs.Inputs.{Refused, ◌>>=◌, at_offset}
+use Rattle.lwc_text.specs.Inputs.{Refused}
 
 -- whether a byte only parts digits: a space, a carriage return or a line feed
 abbrev pub is_blank : ℕ → Bool
@@ -34,23 +34,34 @@ pub record IsSchedule (threads : ℕ) (bytes steps : List ℕ) : Type 0 where
   pub named : steps ≡ numbers bytes
   pub few : length steps ≤ MOST_STEPS
 
--- the steps after one more byte, or the rule that it breaks
-unfoldable pub with_byte : ℕ → List ℕ → ℕ → Result (List ℕ) InputRule
-with_byte threads steps b =
-    if is_blank b then Ok steps
-    else if not (names_thread threads b) then Err BadThread
-    else if length steps == MOST_STEPS then Err TooManySteps
-    else Ok (steps ++ numbers (b ∷ []))
+-- the rule that a byte breaks, if it breaks one, where so many steps stand before it: it is neither a blank nor the digit of a thread that is there, or it is a digit after as many steps as may be
+abbrev pub rule_broken : ℕ → ℕ → ℕ → Option InputRule
+rule_broken threads before b =
+    if is_blank b then None
+    else if not (names_thread threads b) then Some BadThread
+    else if nat_le MOST_STEPS before then Some TooManySteps
+    else None
 
--- all steps, where these were read before this offset; or the first refusal from there on
-unfoldable pub steps_from : ℕ → List ℕ → ℕ → List ℕ → Result (List ℕ) Refused
-steps_from threads steps at [] = Ok steps
-steps_from threads steps at (b ∷ rest) = do
-  more ← at_offset at (with_byte threads steps b)
-  steps_from threads more (at + 1) rest
+-- the refusal of a rule that is broken at an offset
+abbrev pub refusal_of : ℕ → InputRule → Refused
+refusal_of at rule = record { rule = rule; at = at }
+
+-- the refusal of the byte at an offset, if it breaks a rule after the bytes before it
+unfoldable pub refusal_at : ℕ → List ℕ → ℕ → Option Refused
+refusal_at threads bytes at =
+    option_map (refusal_of at) (rule_broken threads (length (numbers (take at bytes))) (slice_index bytes at))
+
+-- the refusals of all bytes, in the order of their offsets
+unfoldable pub refusals : ℕ → List ℕ → List Refused
+refusals threads bytes = filter_map (refusal_at threads bytes) (range_with_len 0 (length bytes))
+
+-- steps, unless something is refused, and then the first refusal
+abbrev pub unless_refused : List ℕ → List Refused → Result (List ℕ) Refused
+unless_refused steps [] = Ok steps
+unless_refused steps (refusal ∷ later) = Err refusal
 
 -- the steps of the bytes, or their first refusal
 unfoldable pub schedule_at : ℕ → List ℕ → Result (List ℕ) Refused
 schedule_at threads bytes =
     if nat_lt MOST_BYTES (length bytes) then Err (record { rule = TooLong; at = MOST_BYTES })
-    else steps_from threads [] 0 bytes
+    else unless_refused (numbers bytes) (refusals threads bytes)

@@ -1,8 +1,10 @@
 //! Schedules: which thread makes each step.
 
-ghost use Rattle.std.specs.Prelude.{◌≡◌, ◌≤◌, ◌<◌, ℕ, List, [], ◌↔◌, IsTrue, length, All, slice_get, IfOk, IfErr, OnOk, Some, Ok};
-ghost use Rattle.lwc_text.specs.Inputs.{Answers, Fails, at_offset};
-ghost use Rattle.lwc_text.specs.Schedules.{IsSchedule, digit_number, is_blank, names_thread, schedule_at, steps_from, with_byte};
+ghost use Rattle.std.specs.Prelude.{◌≡◌, ◌≤◌, ◌<◌, ◌++◌, ◌∷◌, ℕ, List, [], ◌↔◌, IsTrue, length, All, slice_get, IfOk, IfErr, OnOk, Some, None, Ok};
+ghost use Rattle.lwc_text.specs.Inputs.{Answers, Fails, IsFound};
+ghost use Rattle.lwc_text.specs.Schedules.{IsSchedule, digit_number, is_blank, names_thread, numbers, refusal_of, refusals, rule_broken, schedule_at, unless_refused};
+ghost use Rattle.kernel_core.specs.declared.settings.TheConstants.{MOST_STEPS};
+ghost use Rattle.std.specs.Option.{option_map};
 
 use crate::fault::{InputFault, InputRule};
 use kernel_core::MOST_STEPS;
@@ -83,10 +85,13 @@ fn digit_number(byte: u8) -> Option<u8>
 }
 
 /// Reads the byte at an offset, after the bytes of these steps.
-#[tactic(auto, unfolding(crate::specs::Schedules::with_byte))]
+#[tactic(auto, using(crate::proofs::Steps::blank_adds_nothing, crate::proofs::Steps::named_adds))]
 fn read_byte(steps: &mut Vec<u8>, threads: u32, at: u64, byte: u8) -> Result<(), InputFault>
-    ensures added { OnOk result (with_byte threads steps.old.items byte ≡ Ok steps.new.items) }
-    ensures refused { IfErr result (λ e. Fails e (at_offset at (with_byte threads steps.old.items byte))) }
+    requires { length steps.old.items ≤ MOST_STEPS }
+    ensures kept { OnOk result (rule_broken threads (length steps.old.items) byte ≡ None) }
+    ensures added { OnOk result (steps.new.items ≡ steps.old.items ++ numbers (byte ∷ [])) }
+    ensures few { OnOk result (length steps.new.items ≤ MOST_STEPS) }
+    ensures refused { IfErr result (λ e. IsFound e (option_map (refusal_of at) (rule_broken threads (length steps.old.items) byte))) }
 {
     if is_blank(byte) {
         return Ok(());
@@ -112,8 +117,9 @@ fn read_byte(steps: &mut Vec<u8>, threads: u32, at: u64, byte: u8) -> Result<(),
 
 /// Reads the steps of all bytes.
 fn read_steps(alloc: Global, threads: u32, bytes: &[u8]) -> Result<Vec<u8>, InputFault>
-    ensures read { IfOk result (λ steps. steps_from threads [] 0 bytes.now ≡ Ok steps.items) }
-    ensures refused { IfErr result (λ e. Fails e (steps_from threads [] 0 bytes.now)) }
+    ensures read { IfOk result (λ steps. unless_refused (numbers bytes.now) (refusals threads bytes.now) ≡ Ok steps.items) }
+    ensures refused { IfErr result (λ e. Fails e (unless_refused (numbers bytes.now) (refusals threads bytes.now))) }
+    ensures few { IfOk result (λ steps. length steps.items ≤ MOST_STEPS) }
 {
     let mut steps = Vec::new(alloc);
     'bytes: for (at, byte) in bytes.iter().enumerate() {
@@ -123,7 +129,7 @@ fn read_steps(alloc: Global, threads: u32, bytes: &[u8]) -> Result<Vec<u8>, Inpu
 }
 
 /// Reads a schedule that may be too long.
-#[tactic(auto, using(crate::proofs::Steps::few_are_read, crate::proofs::Steps::digits_are_read), unfolding(crate::specs::Schedules::schedule_at))]
+#[tactic(auto, using(crate::proofs::Steps::digits_are_read), unfolding(crate::specs::Schedules::schedule_at))]
 fn schedule_of(alloc: Global, threads: u32, bytes: &[u8]) -> Result<Schedule, InputFault>
     ensures { Answers result (schedule_at threads bytes.now) }
 {

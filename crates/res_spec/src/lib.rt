@@ -3,6 +3,8 @@
 
 pub mod items;
 pub mod modes;
+#[cfg(test)]
+mod tests;
 
 pub use items::{ITEM_BYTES, SpecCall, SpecFault, read_items};
 pub use modes::{mode_of, mode_or_copy};

@@ -1,7 +1,11 @@
 pub mod Adding
+pub mod BegunWorld
+pub mod CloneCells
 pub mod Contexts
 pub mod Counted
 pub mod Gathered
+pub mod GroupRows
+pub mod Moving
 pub mod OldGroups
 pub mod Opening
 pub mod PartingTags
@@ -9,6 +13,10 @@ pub mod Places
 pub mod RowCounts
 pub mod RowLemmas
 pub mod RowWorlds
+pub mod Runs
 pub mod SeenTags
+pub mod ShareSteps
+pub mod SharedCells
 pub mod Stores
 pub mod TagLists
+pub mod Unnamed

@@ -38,7 +38,7 @@ counters_of_choice : (b : Bool) (m n : Counts) → counters_of (cond b m n) ≡ 
 counters_of_choice true m n = refl
 counters_of_choice false m n = refl
 
-nothing_mapped : {A B : Type 0} (f : A → B) (o : Option A) → is_some (option_map f o) ≡ false → o ≡ None
+pub nothing_mapped : {A B : Type 0} (f : A → B) (o : Option A) → is_some (option_map f o) ≡ false → o ≡ None
 nothing_mapped f None none = refl
 nothing_mapped f (Some x) none = cc
 

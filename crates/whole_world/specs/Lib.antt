@@ -1,5 +1,8 @@
 pub mod Copies
+pub mod Moves
+pub mod Outlooks
 pub mod Rows
 pub mod Seen
 pub mod Sound
+pub mod Standings
 pub mod Tags

@@ -2,18 +2,23 @@
 #![tactic(auto)]
 
 mod adds;
+mod cloning;
 mod counting;
 mod counts;
 mod group;
 mod held;
 mod loads;
+mod moves;
 mod pages;
 mod puts;
+mod ranges;
 mod rows;
+mod sharing;
 mod store;
-mod stubs;
 mod summaries;
 mod tags;
+#[cfg(test)]
+mod tests;
 mod touched;
 mod world;
 

@@ -1,5 +1,5 @@
-use Rattle.std.proofs.Common.{◌≤◌, Err, ap, arith, length, subst, sym}
-use Rattle.kernel_core.proofs.Building.{may_take, number_below, one_here, one_mapped, not_absent, not_full, page_put}
+use Rattle.std.proofs.Common.{◌≤◌, Err, ap, arith, length, refl, subst, sym}
+use Rattle.kernel_core.proofs.Building.{few_ranges, may_take, number_below, one_here, one_mapped, not_absent, not_full, page_put}
 use Rattle.lwc_base.specs.declared.size.WorldSize.{WorldSize}
 use Rattle.kernel_core.proofs.starting.put_page.Goals as goal
 
@@ -9,6 +9,9 @@ map-requires-clause-live g c = (one_here _ _ _ _ c.requires.before).live
 pub map-requires-clause-within : goal.map-requires-clause-within
 map-requires-clause-within g c =
     omega (arith, (one_here _ _ _ _ c.requires.before).pages, number_below _ _ _ c.requires.image c.get-page.ensures)
+
+pub map-requires-clause-few : goal.map-requires-clause-few
+map-requires-clause-few g c = few_ranges _ _ _ c.get-page.result.now _ _ c.requires.image c.get-page.ensures c.requires.before refl
 
 pub store-requires-clause-live : goal.store-requires-clause-live
 store-requires-clause-live g c = (one_mapped _ _ _ c.get-page.result.now _ _ c.requires.before c.in_ok-map.ensures.mapped).live

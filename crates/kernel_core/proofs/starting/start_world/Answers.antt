@@ -1,12 +1,14 @@
-use Rattle.std.proofs.Common.{◌≤◌, ◌∙◌, ℕ, List, ap, arith, rules, subst, sym}
+use Rattle.std.proofs.Common.{◌≤◌, ◌<◌, ◌∙◌, ℕ, List, ap, arith, rules, subst, sym}
 use Rattle.std.specs.Prelude.{slice_index}
 use Rattle.kernel_core.proofs.Building.{all_put, as_here, first_made, frames_here, may_begin, none_live, slots_begin}
 use Rattle.kernel_core.proofs.starting.start_world.Goals as goal
 use Rattle.lwc_base.specs.Registers.{fresh_registers}
 use Rattle.lwc_base.specs.declared.size.WorldSize.{WorldSize}
 
-pub first-requires-clause-alone : goal.first-requires-clause-alone
-first-requires-clause-alone g c = none_live _ _ c.in_ok-world.ensures.opened
+pub first-requires-clause-place : goal.first-requires-clause-place
+first-requires-clause-place g c =
+    let wide : 0 < (g.W.World.size c.in_ok-world.world).contexts = subst (λ (size : WorldSize). 0 < size.contexts) (sym c.in_ok-world.ensures.sized) (omega arith) in
+    omega (arith, none_live _ _ c.in_ok-world.ensures.opened, wide)
 
 pub first-requires-clause-may : goal.first-requires-clause-may
 first-requires-clause-may g c =

@@ -1,5 +1,5 @@
 use Rattle.std.proofs.Common.{◌≡◌, ℕ, ◌-◌, ◌<◌, ◌++◌, ◌∷◌, [], List, Some, sym, ap, subst, ◌∙◌, arith}
-use Rattle.kernel_core.proofs.Steady.{longer, made_here, rested_here, steady_as}
+use Rattle.kernel_core.proofs.Steady.{can_act_here, longer, made_here, rested_here, steady_as}
 use Rattle.kernel_core.specs.Kernel.{History, machine_of, turn_of, work}
 use Rattle.kernel_core.specs.Start.{Inputs}
 use Rattle.kernel_core.proofs.kernel.Kernel.step.Goals as goal
@@ -12,6 +12,9 @@ longer_as inputs steps after room t value is appended =
 
 turn_as : (h value : History) (t : ℕ) (turn : _) → h ≡ value → turn_of (machine_of value) t ≡ Some turn → turn_of (machine_of h) t ≡ Some turn
 turn_as h value t turn is found = ap (λ k. turn_of (machine_of k) t) is ∙ found
+
+pub step_thread-requires-clause-ready : goal.step_thread-requires-clause-ready
+step_thread-requires-clause-ready g c κs within = can_act_here _ _ _ _ _ _ _ _ _ c.self.invariant.2 c.self.view_is c.requires.within c.index.ensures
 
 pub append-requires : goal.append-requires
 append-requires g c =

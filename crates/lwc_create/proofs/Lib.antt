@@ -1,0 +1,2 @@
+pub mod StillLive
+pub mod Table

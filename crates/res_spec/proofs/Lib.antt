@@ -1,0 +1,2 @@
+pub mod SpelledItems
+pub mod ValidItems

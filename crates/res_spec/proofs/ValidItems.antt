@@ -1,0 +1,66 @@
+-- Items that passed the tests of a specifier.
+use Rattle.std.proofs.Common.{◌≡◌, ◌<◌, ◌≤◌, ◌&&◌, ℕ, zero, suc, Bool, true, false, List, [], ◌∷◌, arith, get_or, length, length-take, ltb, leb, take}
+use Rattle.std.proofs.lemmas.List.{get_or-take}
+use Rattle.std.proofs.lemmas.Bool.{or_parts}
+use Rattle.std.proofs.lemmas.Bool.Decides.{nat_tests}
+use Rattle.std.proofs.lemmas.List.{get_or_default}
+use Rattle.std.proofs.lemmas.List.Kept.{AllPairs-cons}
+use Rattle.std.proofs.lemmas.List.Sums.{AllPass-from_list_all}
+use Rattle.std.specs.List.{All, AllPairs, list_any}
+use Rattle.lwc_base.specs.Modes.{AreApart, IsItem, IsSpec, limit, overlaps}
+use Rattle.lwc_base.specs.declared.item.Item.{Item}
+use Rattle.lwc_base.specs.declared.key.Kind.{Kind}
+use Rattle.lwc_base.specs.declared.spec.TheConstants.{MOST_ITEMS}
+use Rattle.lwc_base.specs.declared.key.Kind.TheVariants.{Page, Slot, Cred}
+use Rattle.res_spec.specs.Items.{all_within, has_overlap}
+
+-- an item that passes the test of its range is one
+within_item : (pages : ℕ) (item : Item) → (ltb item.from item.to && leb item.to (limit pages item.kind)) ≡ true → IsItem pages item
+within_item pages item e = record { some = grind (arith, nat_tests); within = grind (arith, nat_tests) }
+
+-- items that pass the test of their ranges are items
+each_item : (pages : ℕ) (items : List Item) → all_within pages items ≡ true → All (IsItem pages) items
+unfolding all_within
+each_item pages items e k d inside = within_item pages (get_or items k d) (AllPass-from_list_all _ items e k d inside)
+
+-- no element passes, where the test of any of them answers no
+none_passes : {X : Type 0} (p : X → Bool) (xs : List X) → list_any p xs ≡ false → All (λ x. p x ≡ false) xs
+none_passes p [] e k d inside = absurd (omega arith)
+none_passes p (x ∷ xs) e zero d inside = (or_parts (p x) (list_any p xs) e).0
+none_passes p (x ∷ xs) e (suc k) d inside = none_passes p xs (or_parts (p x) (list_any p xs) e).1 k d (omega arith)
+
+-- items that pass the test of overlaps are apart
+each_apart : (items : List Item) → has_overlap items ≡ false → AllPairs AreApart items
+each_apart [] e = λ i j d before inside. absurd (omega arith)
+each_apart (item ∷ items) e =
+    let parts = or_parts (list_any (overlaps item) items) (has_overlap items) e in
+    AllPairs-cons AreApart item items (none_passes (overlaps item) items parts.0) (each_apart items parts.1)
+
+-- items that pass both tests make a specifier
+pub passed_items : (pages : ℕ) (items : List Item) → length items ≤ MOST_ITEMS → all_within pages items ≡ true → has_overlap items ≡ false → IsSpec pages items
+passed_items pages items few within apart = record { few = few; each = each_item pages items within; apart = each_apart items apart }
+
+-- a limit with more pages is no lower
+limit_grows : (pages most : ℕ) (kind : Kind) → pages ≤ most → limit pages kind ≤ limit most kind
+limit_grows pages most Page more = more
+limit_grows pages most Slot more = omega arith
+limit_grows pages most Cred more = omega arith
+
+-- a specifier is one where there are more pages
+pub more_pages : (pages most : ℕ) (items : List Item) → pages ≤ most → IsSpec pages items → IsSpec most items
+more_pages pages most items more valid = record {
+  few = valid.few;
+  each = λ k d inside. record {
+    some = (valid.each k d inside).some;
+    within = omega (arith, limit_grows pages most (get_or items k d).kind more, (valid.each k d inside).within);
+  };
+  apart = valid.apart;
+}
+
+-- an item is apart from each one before it
+pub apart_before : (items : List Item) (i : ℕ) (first : Item) → AllPairs AreApart items → i < length items →
+    All (λ other. AreApart other (get_or items i first)) (take i items)
+apart_before items i first apart inside k d before =
+    let earlier : k < i = omega (arith, length-take i items) in
+    let h : overlaps (get_or items k d) (get_or items i d) ≡ false = apart k i d earlier inside in
+    rw (get_or-take i items k d earlier, get_or_default items i first d inside) h

@@ -1,0 +1,57 @@
+use Rattle.std.proofs.Common.{◌∙◌, ap, sym, subst, refl}
+use Rattle.std.proofs.lemmas.Bool.{false≢true}
+use Rattle.lwc_base.specs.Sharing.{left_common, moved}
+use Rattle.lwc_base.specs.World.{Context, context}
+use Rattle.whole_world.specs.Copies.{context_of}
+use Rattle.whole_world.specs.Rows.{has_name, world_of}
+use Rattle.whole_world.specs.Seen.{seen, size_of}
+use Rattle.whole_world.specs.Sound.{IsWhole}
+use Rattle.whole_world.proofs.RowWorlds.{change_context-row, dead-missed, sound-row, whole-row}
+use Rattle.whole_world.proofs.GroupRows.{as_whole, context-row}
+use Rattle.whole_world.proofs.RowLemmas.{row_missed}
+use Rattle.whole_world.proofs.ShareSteps.{fresh-left_common}
+use Rattle.whole_world.proofs.world.WholeWorld.move_out.Goals as goal
+
+pub move_values-requires-clause-whole : goal.move_values-requires-clause-whole
+unfolding seen world_of
+move_values-requires-clause-whole c =
+    subst (λ n. IsWhole n c.index_mut.result.now) (sym c.page_limit-pages.ensures)
+    (whole-row _ _ _ _ c.args.self.now.sound c.args.c c.in-Some.i _ (sym c.place_of.ensures ∙ c.in-Some.is) c.index_mut.ensures.value)
+
+pub unreachable-requires : goal.unreachable-requires
+unfolding seen
+unreachable-requires c =
+    false≢true (sym (dead-missed _ _ _ _ c.args.self.now.sound c.args.c (row_missed (has_name c.args.c) c.args.self.now.contexts.items (sym c.place_of.ensures ∙ c.in-None.is))) ∙ c.requires.live)
+
+pub returns-clause-size : goal.returns-clause-size
+unfolding size_of
+returns-clause-size c = refl
+
+pub invariant_of-self : goal.invariant_of-self
+unfolding seen world_of
+invariant_of-self c =
+    let found = sym c.place_of.ensures ∙ c.in-Some.is in
+    let here = context-row _ _ _ _ c.args.self.now.sound c.args.c c.in-Some.i _ found c.index_mut.ensures.value in
+    let whole = whole-row _ _ _ _ c.args.self.now.sound c.args.c c.in-Some.i _ found c.index_mut.ensures.value in
+    record {
+      sound = sound-row _ _ _ _ c.args.self.now.sound c.args.c c.in-Some.i _ _ (left_common c.args.group.now.name (moved c.args.spec.now (context (seen c.args.self.now) c.args.c))) found
+          c.index_mut.ensures.value c.move_values.ensures.name
+          (as_whole _ _ _ whole (subst (λ n. IsWhole n c.move_values.new.self) c.page_limit-pages.ensures c.move_values.ensures.whole))
+          (c.move_values.ensures.context ∙ ap (λ (x : Context). left_common c.args.group.now.name (moved c.args.spec.now x) (context_of c.index_mut.result.now)) (sym here))
+          (fresh-left_common _ c.args.c c.args.group.now.name _ c.requires.counted c.args.self.now.sound.fresh);
+    }
+
+pub returns-clause-world : goal.returns-clause-world
+unfolding seen
+returns-clause-world c =
+    let found = sym c.place_of.ensures ∙ c.in-Some.is in
+    let here = context-row _ _ _ _ c.args.self.now.sound c.args.c c.in-Some.i _ found c.index_mut.ensures.value in
+    change_context-row _ _ _ _ c.args.self.now.sound c.args.c c.in-Some.i _ _ (left_common c.args.group.now.name (moved c.args.spec.now (context (seen c.args.self.now) c.args.c))) found
+    c.index_mut.ensures.value c.move_values.ensures.name
+    (c.move_values.ensures.context ∙ ap (λ (x : Context). left_common c.args.group.now.name (moved c.args.spec.now x) (context_of c.index_mut.result.now)) (sym here))
+
+pub returns-clause-group : goal.returns-clause-group
+unfolding seen
+returns-clause-group c =
+    c.move_values.ensures.group
+    ∙ ap (moved c.args.spec.now) (sym (context-row _ _ _ _ c.args.self.now.sound c.args.c c.in-Some.i _ (sym c.place_of.ensures ∙ c.in-Some.is) c.index_mut.ensures.value))

@@ -1,0 +1,195 @@
+ghost use Rattle.std.specs.Prelude.{◌≡◌, ℕ, ◌<◌, ◌≤◌, vec_len};
+ghost use Rattle.lwc_base.specs.declared.descriptor.TheConstants.{SLOTS};
+ghost use Rattle.lwc_base.specs.Cells.{with_page, with_slot};
+ghost use Rattle.lwc_base.specs.Frames.{own_value};
+ghost use Rattle.lwc_base.specs.Modes.{IsSpec};
+ghost use Rattle.lwc_base.specs.Sharing as sharing;
+ghost use Rattle.lwc_base.specs.Sharing.{left_common, moved, page_after, under_share};
+ghost use Rattle.lwc_base.specs.World.{new_group};
+ghost use Rattle.whole_world.specs.Copies.{context_of, group_of, held_page, held_slot};
+ghost use Rattle.whole_world.specs.Moves.{gives_page, gives_pages, gives_slot, gives_slots, gives_uid, takes_page, takes_pages, takes_slot, takes_slots, takes_uid};
+ghost use Rattle.whole_world.specs.Sound.{IsWhole, IsWholeGroup};
+
+use crate::group::HeldGroup;
+use crate::held::Held;
+use lwc_base::{Cell, Descriptor, Key, Mode, Name, PageValue, SLOTS, Spec};
+use res_spec::mode_or_copy;
+
+/// The value of a page's cell that is the context's own.
+fn own_value(cell: Option<Cell<PageValue>>) -> Option<PageValue>
+    ensures { result ≡ own_value cell }
+{
+    match cell {
+        Some(Cell::Own(value)) => Some(value),
+        _ => None,
+    }
+}
+
+impl Held {
+    /// Puts a cell under a page, and gives the old one.
+    #[tactic(auto, unfolding(crate::specs::Copies::context_of, crate::specs::Copies::held_page))]
+    fn replace_page(&mut self, p: usize, cell: Option<Cell<PageValue>>) -> Option<Cell<PageValue>>
+        requires { p < vec_len self.old.pages }
+        ensures old { result ≡ (context_of self.old).page p }
+        ensures name { self.new.name ≡ self.old.name }
+        ensures whole { (pages : ℕ) → IsWhole pages self.old → IsWhole pages self.new }
+        ensures context { context_of self.new ≡ with_page p cell (context_of self.old) }
+    {
+        std::mem::replace(&mut self.pages[p], cell)
+    }
+
+    /// Moves the value of a page out, where the page is the context's own; it is common of the group from then on.
+    fn give_page(&mut self, p: usize, group: Name) -> Option<PageValue>
+        requires { p < vec_len self.old.pages }
+        ensures value { result ≡ own_value ((context_of self.old).page p) }
+        ensures name { self.new.name ≡ self.old.name }
+        ensures whole { (pages : ℕ) → IsWhole pages self.old → IsWhole pages self.new }
+        ensures context { context_of self.new ≡ gives_page group p result (context_of self.old) }
+    {
+        match self.page_cell(p) {
+            Some(Cell::Own(_)) => own_value(self.replace_page(p, Some(Cell::Common(group)))),
+            _ => None,
+        }
+    }
+
+    /// The same of a slot.
+    fn give_slot(&mut self, n: u8, group: Name) -> Option<Descriptor>
+        requires { n < vec_len self.old.slots }
+        ensures value { result ≡ sharing.own ((context_of self.old).slot n) }
+        ensures name { self.new.name ≡ self.old.name }
+        ensures whole { (pages : ℕ) → IsWhole pages self.old → IsWhole pages self.new }
+        ensures context { context_of self.new ≡ gives_slot group n result (context_of self.old) }
+    {
+        match *self.slot_cell(n) {
+            Cell::Own(value) => {
+                self.set_slot(n, Cell::Common(group));
+                Some(value)
+            }
+            Cell::Common(_) => None,
+        }
+    }
+
+    /// The same of the credential.
+    fn give_uid(&mut self, group: Name) -> Option<u32>
+        ensures value { result ≡ sharing.own (context_of self.old).uid }
+        ensures name { self.new.name ≡ self.old.name }
+        ensures whole { (pages : ℕ) → IsWhole pages self.old → IsWhole pages self.new }
+        ensures context { context_of self.new ≡ gives_uid group result (context_of self.old) }
+    {
+        match *self.uid_cell() {
+            Cell::Own(uid) => {
+                self.set_uid(Cell::Common(group));
+                Some(uid)
+            }
+            Cell::Common(_) => None,
+        }
+    }
+
+    /// Moves the value of a page into a group, if it is the context's own and under share.
+    fn move_page(&mut self, p: usize, mode: Mode, group: &mut HeldGroup)
+        requires page { p < vec_len self.old.pages }
+        requires place { p < vec_len group.old.pages }
+        ensures name { self.new.name ≡ self.old.name }
+        ensures whole { (pages : ℕ) → IsWhole pages self.old → IsWhole pages self.new }
+        ensures context { context_of self.new ≡ gives_page group.old.name p (under_share mode (own_value ((context_of self.old).page p))) (context_of self.old) }
+        ensures group_name { group.new.name ≡ group.old.name }
+        ensures whole_group { (pages : ℕ) → IsWholeGroup pages group.old → IsWholeGroup pages group.new }
+        ensures group { group_of group.new ≡ takes_page p (under_share mode (own_value ((context_of self.old).page p))) (group_of group.old) }
+    {
+        if mode != Mode::Share {
+            return;
+        }
+        if let Some(value) = self.give_page(p, group.name) {
+            group.set_page(p, value);
+        }
+    }
+
+    /// The same of a slot.
+    fn move_slot(&mut self, n: u8, mode: Mode, group: &mut HeldGroup)
+        requires slot { n < vec_len self.old.slots }
+        requires place { n < vec_len group.old.slots }
+        ensures name { self.new.name ≡ self.old.name }
+        ensures whole { (pages : ℕ) → IsWhole pages self.old → IsWhole pages self.new }
+        ensures context { context_of self.new ≡ gives_slot group.old.name n (under_share mode (sharing.own ((context_of self.old).slot n))) (context_of self.old) }
+        ensures group_name { group.new.name ≡ group.old.name }
+        ensures whole_group { (pages : ℕ) → IsWholeGroup pages group.old → IsWholeGroup pages group.new }
+        ensures group { group_of group.new ≡ takes_slot n (under_share mode (sharing.own ((context_of self.old).slot n))) (group_of group.old) }
+    {
+        if mode != Mode::Share {
+            return;
+        }
+        if let Some(value) = self.give_slot(n, group.name) {
+            group.set_slot(n, value);
+        }
+    }
+
+    /// The same of the credential.
+    fn move_uid(&mut self, mode: Mode, group: &mut HeldGroup)
+        ensures name { self.new.name ≡ self.old.name }
+        ensures whole { (pages : ℕ) → IsWhole pages self.old → IsWhole pages self.new }
+        ensures context { context_of self.new ≡ gives_uid group.old.name (under_share mode (sharing.own (context_of self.old).uid)) (context_of self.old) }
+        ensures group_name { group.new.name ≡ group.old.name }
+        ensures whole_group { (pages : ℕ) → IsWholeGroup pages group.old → IsWholeGroup pages group.new }
+        ensures group { group_of group.new ≡ takes_uid (under_share mode (sharing.own (context_of self.old).uid)) (group_of group.old) }
+    {
+        if mode != Mode::Share {
+            return;
+        }
+        if let Some(uid) = self.give_uid(group.name) {
+            group.set_uid(uid);
+        }
+    }
+
+    /// Moves the own pages under share into a group with no page.
+    fn move_pages(&mut self, pages: u16, spec: &Spec, group: &mut HeldGroup)
+        requires whole { IsWhole pages self.old }
+        requires whole_group { IsWholeGroup pages group.old }
+        requires empty { group_of group.old ≡ new_group }
+        ensures name { self.new.name ≡ self.old.name }
+        ensures whole { IsWhole pages self.new }
+        ensures context { context_of self.new ≡ gives_pages group.old.name (moved spec.now (context_of self.old)) (context_of self.old) }
+        ensures group_name { group.new.name ≡ group.old.name }
+        ensures whole_group { IsWholeGroup pages group.new }
+        ensures group { group_of group.new ≡ takes_pages (moved spec.now (context_of self.old)) new_group }
+    {
+        for p in 0..pages {
+            self.move_page(p as usize, mode_or_copy(spec, Key::Page(p)), group);
+        }
+    }
+
+    /// Moves the own slots under share into a group with no slot.
+    fn move_slots(&mut self, pages: u16, spec: &Spec, group: &mut HeldGroup)
+        requires whole { IsWhole pages self.old }
+        requires whole_group { IsWholeGroup pages group.old }
+        requires within { IsSpec pages spec.now }
+        requires empty { (group_of group.old).slot ≡ new_group.slot }
+        ensures name { self.new.name ≡ self.old.name }
+        ensures whole { IsWhole pages self.new }
+        ensures context { context_of self.new ≡ gives_slots group.old.name (moved spec.now (context_of self.old)) (context_of self.old) }
+        ensures group_name { group.new.name ≡ group.old.name }
+        ensures whole_group { IsWholeGroup pages group.new }
+        ensures group { group_of group.new ≡ takes_slots (moved spec.now (context_of self.old)) (group_of group.old) }
+    {
+        for n in 0..SLOTS {
+            self.move_slot(n, mode_or_copy(spec, Key::Slot(n)), group);
+        }
+    }
+
+    /// Moves the own values under share into a group with nothing in it.
+    pub fn move_values(&mut self, pages: u16, spec: &Spec, group: &mut HeldGroup)
+        requires whole { IsWhole pages self.old }
+        requires whole_group { IsWholeGroup pages group.old }
+        requires within { IsSpec pages spec.now }
+        requires empty { group_of group.old ≡ new_group }
+        ensures name { self.new.name ≡ self.old.name }
+        ensures whole { IsWhole pages self.new }
+        ensures context { context_of self.new ≡ left_common group.old.name (moved spec.now (context_of self.old)) (context_of self.old) }
+        ensures group_name { group.new.name ≡ group.old.name }
+        ensures whole_group { IsWholeGroup pages group.new }
+        ensures group { group_of group.new ≡ moved spec.now (context_of self.old) }
+    {
+        self.move_pages(pages, spec, group);
+        self.move_slots(pages, spec, group);
+        self.move_uid(mode_or_copy(spec, Key::Cred), group);
+    }
+}
