@@ -1,10 +1,11 @@
 pub mod Adding
+pub mod BegunWorld
 pub mod CloneCells
 pub mod Contexts
-pub mod GroupRows
-pub mod Moving
 pub mod Counted
 pub mod Gathered
+pub mod GroupRows
+pub mod Moving
 pub mod OldGroups
 pub mod Opening
 pub mod PartingTags
@@ -13,9 +14,9 @@ pub mod RowCounts
 pub mod RowLemmas
 pub mod RowWorlds
 pub mod Runs
+pub mod SeenTags
 pub mod ShareSteps
 pub mod SharedCells
 pub mod Stores
-pub mod Unnamed
-pub mod SeenTags
 pub mod TagLists
+pub mod Unnamed

@@ -1,5 +1,5 @@
 -- Which values part, by their tags.
-use Rattle.std.proofs.Common.{◌≡◌, ℕ, List, [], ◌∷◌, refl, sym, ap, ◌∙◌, Bool, true, Option, Some, None}
+use Rattle.std.proofs.Common.{◌≡◌, ℕ, [], ◌∷◌, refl, ap, ◌∙◌, true, Option, Some, None}
 use Rattle.std.specs.Prelude.{nat_lt, unwrap_or}
 use Rattle.lwc_base.specs.declared.name.Tag.{Tag}
 use Rattle.lwc_base.specs.declared.page.PageValue.{PageValue}

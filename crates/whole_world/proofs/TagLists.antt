@@ -1,15 +1,14 @@
 -- Lists of tags: whether a tag is in one, how often, and how many different ones there are.
 use mir.Val.{bool_byte}
 use Rattle.std.proofs.Common.{◌≡◌, ℕ, ◌+◌, ◌≤◌, List, [], ◌∷◌, ◌++◌, length, refl, sym, ap, ◌∙◌, Bool, true, false, cond, ◌||◌, arith, Option, Some, None}
-use Rattle.std.specs.Prelude.{count_by, nat_le, not}
+use Rattle.std.specs.Prelude.{not}
 use Rattle.std.specs.List.{flat_map, list_any}
 use Rattle.std.specs.Option.{option_to_list}
 use Rattle.std.specs.Ordering.{is_eq}
 use Rattle.std.specs.Cmp.{eq_by_cmp_equiv}
 use Rattle.std.specs.FinSet as set
 use Rattle.std.proofs.lemmas.List.Folds.{list_any-append}
-use Rattle.std.proofs.lemmas.List.Sums.{sum_by-append, sum_by-cons, count_by-le-length}
-use Rattle.std.proofs.Math.Bool.{or-false}
+use Rattle.std.proofs.lemmas.List.Sums.{sum_by-append, count_by-le-length}
 use Rattle.lwc_base.specs.declared.name.Tag.{Tag}
 use Rattle.lwc_base.specs.Names.{tag_cmp}
 use Rattle.lwc_base.proofs.Orders.{tag_cmp-total}

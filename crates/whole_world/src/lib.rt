@@ -17,6 +17,8 @@ mod sharing;
 mod store;
 mod summaries;
 mod tags;
+#[cfg(test)]
+mod tests;
 mod touched;
 mod world;
 
