@@ -5,3 +5,4 @@ pub mod Rows
 pub mod Seen
 pub mod Sound
 pub mod Standings
+pub mod Tags

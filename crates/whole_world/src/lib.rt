@@ -15,8 +15,10 @@ mod ranges;
 mod rows;
 mod sharing;
 mod store;
-mod stubs;
 mod summaries;
+mod tags;
+#[cfg(test)]
+mod tests;
 mod touched;
 mod world;
 

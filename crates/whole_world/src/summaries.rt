@@ -31,7 +31,7 @@ impl WholeWorld {
     {
         self.groups
             .iter()
-            .filter(|held| held.name.job == job)
+            .filter(|group| group.name.job == job)
             .count()
     }
 

@@ -1,0 +1,61 @@
+-- What a world has in which a context has been made and its first pages mapped.
+use Rattle.std.proofs.Common.{◌≡◌, ℕ, ◌≤◌, refl, ap, ◌∙◌, arith}
+use Rattle.std.specs.Prelude.{IsTrue}
+use Rattle.lwc_base.specs.declared.name.Name.{Name}
+use Rattle.std.specs.FinMap as fm
+use Rattle.lwc_base.specs.Mapping.{map_pages}
+use Rattle.lwc_base.specs.Names.{name_cmp}
+use Rattle.lwc_base.specs.Ranges.{ranges, ranges_of}
+use Rattle.lwc_base.specs.World.{World, Context, Counters, is_live, next_context, add_context, empty_world}
+use Rattle.lwc_base.proofs.Begun.{is_live-add_context, contexts-add_context, groups-add_context, tags-add_context, pages-add_context}
+use Rattle.lwc_base.proofs.Live.{values-map_pages}
+use Rattle.whole_world.proofs.Places.{count_of_range}
+
+pub counts-empty : (frames pages job : ℕ) → (empty_world frames pages).next job ≡ record { contexts = 0; groups = 0; tags = 0 }
+unfolding empty_world
+counts-empty frames pages job = refl
+
+pages-empty : (frames pages : ℕ) → (empty_world frames pages).pages ≡ pages
+unfolding empty_world
+pages-empty frames pages = refl
+
+-- a world has no more ranges than pages
+pub few_ranges : (w : World) (c : Name) → ranges_of w c ≤ w.pages
+unfolding ranges_of ranges
+few_ranges w c = count_of_range _ 0 w.pages
+
+-- nothing lives in an empty one
+pub none-empty : (frames pages : ℕ) → fm.len (empty_world frames pages).contexts ≡ 0
+unfolding empty_world
+none-empty frames pages = fm.len-empty name_cmp Context
+
+module _ (frames pages : ℕ) (opened made mapped : World) (c : Name) (x : Context) (from to : ℕ)
+    (is_opened : opened ≡ empty_world frames pages) (is_made : made ≡ add_context opened 0 x) (is_named : c ≡ next_context opened 0)
+    (is_mapped : mapped ≡ map_pages made c from to) where
+  pub live-made : IsTrue (is_live made c)
+  live-made = ap (λ w. is_live w c) is_made ∙ ap (is_live (add_context opened 0 x)) is_named ∙ is_live-add_context opened 0 x
+
+  pub live-begun : IsTrue (is_live mapped c)
+  live-begun = ap (λ w. is_live w c) is_mapped ∙ (values-map_pages made c from to).live c ∙ live-made
+
+  pub pages-made : made.pages ≡ pages
+  pages-made = ap (λ (w : World). w.pages) is_made ∙ pages-add_context opened 0 x ∙ ap (λ (w : World). w.pages) is_opened ∙ pages-empty frames pages
+
+  pub pages-begun : mapped.pages ≡ pages
+  pages-begun = ap (λ (w : World). w.pages) is_mapped ∙ (values-map_pages made c from to).pages ∙ pages-made
+
+  next-begun : (job : ℕ) → mapped.next job ≡ (add_context opened 0 x).next job
+  next-begun job = ap (λ (w : World). w.next job) is_mapped ∙ ap (λ (f : ℕ → Counters). f job) (values-map_pages made c from to).next ∙ ap (λ (w : World). w.next job) is_made
+
+  next-opened : (job : ℕ) → opened.next job ≡ record { contexts = 0; groups = 0; tags = 0 }
+  next-opened job = ap (λ (w : World). w.next job) is_opened ∙ counts-empty frames pages job
+
+  pub tags-begun : (job : ℕ) → (mapped.next job).tags ≡ 0
+  tags-begun job = ap (λ (n : Counters). n.tags) (next-begun job) ∙ tags-add_context opened 0 x job ∙ ap (λ (n : Counters). n.tags) (next-opened job)
+
+  pub groups-begun : (job : ℕ) → (mapped.next job).groups ≡ 0
+  groups-begun job = ap (λ (n : Counters). n.groups) (next-begun job) ∙ groups-add_context opened 0 x job ∙ ap (λ (n : Counters). n.groups) (next-opened job)
+
+  pub contexts-begun : (job : ℕ) → (mapped.next job).contexts ≤ 1
+  contexts-begun job =
+      omega (arith, ap (λ (n : Counters). n.contexts) (next-begun job), contexts-add_context opened 0 x job, ap (λ (n : Counters). n.contexts) (next-opened job))

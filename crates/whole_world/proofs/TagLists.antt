@@ -1,0 +1,108 @@
+-- Lists of tags: whether a tag is in one, how often, and how many different ones there are.
+use mir.Val.{bool_byte}
+use Rattle.std.proofs.Common.{◌≡◌, ℕ, ◌+◌, ◌≤◌, List, [], ◌∷◌, ◌++◌, length, refl, sym, ap, ◌∙◌, Bool, true, false, cond, ◌||◌, arith, Option, Some, None}
+use Rattle.std.specs.Prelude.{not}
+use Rattle.std.specs.List.{flat_map, list_any}
+use Rattle.std.specs.Option.{option_to_list}
+use Rattle.std.specs.Ordering.{is_eq}
+use Rattle.std.specs.Cmp.{eq_by_cmp_equiv}
+use Rattle.std.specs.FinSet as set
+use Rattle.std.proofs.lemmas.List.Folds.{list_any-append}
+use Rattle.std.proofs.lemmas.List.Sums.{sum_by-append, count_by-le-length}
+use Rattle.lwc_base.specs.declared.name.Tag.{Tag}
+use Rattle.lwc_base.specs.Names.{tag_cmp}
+use Rattle.lwc_base.proofs.Orders.{tag_cmp-total}
+use Rattle.whole_world.specs.Tags.{has_tag, times, different}
+
+-- a tag is in one of two lists
+pub has_tag-append : (tag : Tag) (xs ys : List Tag) → has_tag tag (xs ++ ys) ≡ (has_tag tag xs || has_tag tag ys)
+unfolding has_tag
+has_tag-append tag xs ys = list_any-append (λ t. is_eq (tag_cmp t tag)) xs ys
+
+-- a tag is in the lists of all where it is in the list of one
+pub has_tag-flat_map : {X : Type 0} (tag : Tag) (f : X → List Tag) (xs : List X) → has_tag tag (flat_map f xs) ≡ list_any (λ x. has_tag tag (f x)) xs
+unfolding has_tag
+has_tag-flat_map tag f [] = refl
+has_tag-flat_map tag f (x ∷ xs) = list_any-append (λ t. is_eq (tag_cmp t tag)) (f x) (flat_map f xs) ∙ ap (λ b. has_tag tag (f x) || b) (has_tag-flat_map tag f xs)
+
+-- a tag is in two lists as often as in both
+pub times-append : (tag : Tag) (xs ys : List Tag) → times tag (xs ++ ys) ≡ times tag xs + times tag ys
+unfolding times
+times-append tag xs ys = sum_by-append (λ t. cond (is_eq (tag_cmp t tag)) 1 0) xs ys
+
+-- no more often than the list is long
+pub times-le-length : (tag : Tag) (xs : List Tag) → times tag xs ≤ length xs
+unfolding times
+times-le-length tag xs = count_by-le-length (λ t. is_eq (tag_cmp t tag)) xs
+
+one_where_true : (b : Bool) → bool_byte b ≡ cond b 1 0
+one_where_true true = refl
+one_where_true false = refl
+
+one_or_none : (b : Bool) → 0 + cond b 1 0 ≡ cond (b || false) 1 0
+one_or_none true = refl
+one_or_none false = refl
+
+times-option : (tag : Tag) (o : Option Tag) → times tag (option_to_list o) ≡ cond (has_tag tag (option_to_list o)) 1 0
+unfolding times has_tag
+times-option tag None = refl
+times-option tag (Some own) = one_or_none (is_eq (tag_cmp own tag))
+
+-- where there is one tag at most, a tag is there once or not at all
+pub times-one : (tag : Tag) (o : Option Tag) (n : ℕ) (b : Bool) → n ≡ bool_byte b → b ≡ has_tag tag (option_to_list o) → n ≡ times tag (option_to_list o)
+times-one tag o n b is there = is ∙ one_where_true b ∙ ap (λ x. cond {A = ℕ} x 1 0) there ∙ sym (times-option tag o)
+
+-- none is in an empty list
+pub times-nil : (tag : Tag) → times tag [] ≡ 0
+unfolding times
+times-nil tag = refl
+
+contains-tags : (tag : Tag) (xs : List Tag) → set.contains (set.from_list {R = tag_cmp} xs) tag ≡ has_tag tag xs
+unfolding has_tag
+contains-tags tag xs =
+    set.contains-from_list tag_cmp-total xs tag
+    ∙ ap (λ (p : Tag → Bool). list_any p xs) (λ i t. (eq_by_cmp_equiv tag_cmp-total).symm tag t i)
+
+one_more : (b : Bool) (n : ℕ) → cond b n (n + 1) ≡ cond (not b) 1 0 + n
+one_more true n = omega arith
+one_more false n = omega arith
+
+-- one tag more in front makes one different one more, where it is not in the others
+pub different-cons : (t : Tag) (ts : List Tag) → different (t ∷ ts) ≡ cond (not (has_tag t ts)) 1 0 + different ts
+unfolding different
+different-cons t ts =
+    set.len-insert tag_cmp-total (set.from_list {R = tag_cmp} ts) t
+    ∙ ap (λ b. cond b (set.len (set.from_list {R = tag_cmp} ts)) (set.len (set.from_list {R = tag_cmp} ts) + 1)) (contains-tags t ts)
+    ∙ one_more (has_tag t ts) _
+
+cond_at_most_one : (b : Bool) → cond b 1 0 ≤ 1
+cond_at_most_one true = omega arith
+cond_at_most_one false = omega arith
+
+-- a tag is one different tag more where others do not have it
+pub different-one : (tag : Tag) (o : Option Tag) (others : List Tag) (n : ℕ) (b : Bool) → o ≡ Some tag →
+    n ≡ bool_byte (not b) → b ≡ has_tag tag others → n + different others ≡ different (option_to_list o ++ others)
+different-one tag o others n b is count there =
+    ap (λ m. m + different others) (count ∙ one_where_true (not b) ∙ ap (λ x. cond {A = ℕ} (not x) 1 0) there)
+    ∙ sym (different-cons tag others)
+    ∙ ap (λ v. different (option_to_list v ++ others)) (sym is)
+
+pub different-nil : different [] ≡ 0
+unfolding different
+different-nil = set.len-empty tag_cmp
+
+-- no more different ones than there are
+pub different-le-length : (xs : List Tag) → different xs ≤ length xs
+unfolding different
+different-le-length [] = omega (arith, set.len-empty tag_cmp)
+different-le-length (t ∷ ts) = omega (arith, different-cons t ts, cond_at_most_one (not (has_tag t ts)), different-le-length ts)
+
+-- with others there are no fewer
+pub different-append_least : (xs ys : List Tag) → different ys ≤ different (xs ++ ys)
+different-append_least [] ys = omega arith
+different-append_least (x ∷ xs) ys = omega (arith, different-cons x (xs ++ ys), different-append_least xs ys)
+
+-- and no more than as many more
+pub different-append_most : (xs ys : List Tag) → different (xs ++ ys) ≤ length xs + different ys
+different-append_most [] ys = omega arith
+different-append_most (x ∷ xs) ys = omega (arith, different-cons x (xs ++ ys), cond_at_most_one (not (has_tag x (xs ++ ys))), different-append_most xs ys)

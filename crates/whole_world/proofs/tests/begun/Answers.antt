@@ -1,0 +1,56 @@
+use Rattle.std.proofs.Common.{◌≡◌, ◌≤◌, ◌∙◌, ap, refl, arith}
+use Rattle.std.specs.FinMap as fm
+use Rattle.lwc_base.specs.Mapping.{map_pages}
+use Rattle.lwc_base.specs.Ranges.{ranges_of}
+use Rattle.lwc_base.proofs.Live.{values-map_pages}
+use Rattle.lwc_base.specs.declared.size.WorldSize.{WorldSize}
+use Rattle.lwc_base.specs.World.{World, Counters, empty_world}
+use Rattle.whole_world.specs.Seen.{seen, size_of}
+use Rattle.whole_world.proofs.BegunWorld.{counts-empty, few_ranges, none-empty, live-made, live-begun, pages-made, pages-begun, tags-begun, groups-begun, contexts-begun}
+use Rattle.whole_world.proofs.tests.begun.Goals as goal
+
+pub first-requires-clause-place : goal.first-requires-clause-place
+first-requires-clause-place c =
+    let none : fm.len (seen c.in_ok-world.world).contexts ≡ 0 = ap (λ (w : World). fm.len w.contexts) c.in_ok-world.ensures.opened ∙ none-empty c.args.frames 4 in
+    omega (arith, none, ap (λ (s : WorldSize). s.contexts) c.in_ok-world.ensures.sized)
+
+pub first-requires-clause-may : goal.first-requires-clause-may
+first-requires-clause-may c =
+    let none : (seen c.in_ok-world.world).next 0 ≡ record { contexts = 0; groups = 0; tags = 0 } =
+    ap (λ (w : World). w.next 0) c.in_ok-world.ensures.opened ∙ counts-empty c.args.frames 4 0 in
+    let jobs : (size_of c.in_ok-world.world).jobs ≡ 2 = ap (λ (s : WorldSize). s.jobs) c.in_ok-world.ensures.sized in
+    record {
+      known = omega (arith, jobs);
+      contexts = omega (arith, ap (λ (n : Counters). n.contexts) none);
+      groups = omega (arith, ap (λ (n : Counters). n.groups) none);
+      tags = omega (arith, ap (λ (n : Counters). n.tags) none);
+    }
+
+pub map-requires-clause-live : goal.map-requires-clause-live
+map-requires-clause-live c = live-made _ 4 _ _ _ _ _ 0 2 c.in_ok-world.ensures.opened c.in_ok-c.ensures.made c.in_ok-c.ensures.name refl
+
+pub map-requires-clause-within : goal.map-requires-clause-within
+map-requires-clause-within c =
+    let many = pages-made _ 4 _ _ _ _ _ 0 2 c.in_ok-world.ensures.opened c.in_ok-c.ensures.made c.in_ok-c.ensures.name refl in
+    omega (arith, many)
+
+pub map-requires-clause-few : goal.map-requires-clause-few
+map-requires-clause-few c =
+    let few : ranges_of (map_pages (seen c.first.new.self) c.in_ok-c.c 0 2) c.in_ok-c.c ≤ (map_pages (seen c.first.new.self) c.in_ok-c.c 0 2).pages = few_ranges _ _ in
+    let many = pages-made _ 4 _ _ _ _ _ 0 2 c.in_ok-world.ensures.opened c.in_ok-c.ensures.made c.in_ok-c.ensures.name refl in
+    omega (arith, few, many, (values-map_pages (seen c.first.new.self) c.in_ok-c.c 0 2).pages)
+
+pub returns-clause-live : goal.returns-clause-live
+returns-clause-live c = live-begun _ 4 _ _ _ _ _ 0 2 c.in_ok-world.ensures.opened c.in_ok-c.ensures.made c.in_ok-c.ensures.name c.in_ok-map.ensures.mapped
+
+pub returns-clause-pages : goal.returns-clause-pages
+returns-clause-pages c = pages-begun _ 4 _ _ _ _ _ 0 2 c.in_ok-world.ensures.opened c.in_ok-c.ensures.made c.in_ok-c.ensures.name c.in_ok-map.ensures.mapped
+
+pub returns-clause-contexts : goal.returns-clause-contexts
+returns-clause-contexts c = contexts-begun _ 4 _ _ _ _ _ 0 2 c.in_ok-world.ensures.opened c.in_ok-c.ensures.made c.in_ok-c.ensures.name c.in_ok-map.ensures.mapped
+
+pub returns-clause-groups : goal.returns-clause-groups
+returns-clause-groups c = groups-begun _ 4 _ _ _ _ _ 0 2 c.in_ok-world.ensures.opened c.in_ok-c.ensures.made c.in_ok-c.ensures.name c.in_ok-map.ensures.mapped
+
+pub returns-clause-tags : goal.returns-clause-tags
+returns-clause-tags c = tags-begun _ 4 _ _ _ _ _ 0 2 c.in_ok-world.ensures.opened c.in_ok-c.ensures.made c.in_ok-c.ensures.name c.in_ok-map.ensures.mapped

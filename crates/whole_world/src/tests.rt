@@ -1,0 +1,109 @@
+ghost use Rattle.std.specs.Prelude.{◌≡◌, ℕ, ◌≤◌, IfOk, IsTrue};
+ghost use Rattle.lwc_base.specs.World.{is_live};
+ghost use Rattle.whole_world.specs.Seen.{seen, size_of};
+
+use crate::WholeWorld;
+use lwc_base::{Descriptor, Name, OutOfMemory, Range, Regs, StoreFault, Summary, WorldSize};
+use std::alloc::Global;
+use std::test::Fail;
+use world_face::World;
+
+// A world of four pages, of which the context's first two are mapped.
+fn begun(alloc: Global, frames: u32) -> Result<(WholeWorld, Name), OutOfMemory>
+    requires some { 1 ≤ frames }
+    requires few { frames ≤ 65536 }
+    ensures live { IfOk result (λ r. IsTrue (is_live (seen r.0) r.1)) }
+    ensures pages { IfOk result (λ r. (seen r.0).pages ≡ 4) }
+    ensures jobs { IfOk result (λ r. (size_of r.0).jobs ≡ 2) }
+    ensures contexts { IfOk result (λ r. (job : ℕ) → ((seen r.0).next job).contexts ≤ 1) }
+    ensures groups { IfOk result (λ r. (job : ℕ) → ((seen r.0).next job).groups ≡ 0) }
+    ensures tags { IfOk result (λ r. (job : ℕ) → ((seen r.0).next job).tags ≡ 0) }
+{
+    let mut world = WholeWorld::open(
+        alloc,
+        &WorldSize {
+            frames,
+            contexts: 1,
+            groups: 1,
+            jobs: 2,
+            pages: 4,
+        },
+    )?;
+    let c = world.first(7, &Regs::fresh(3))?;
+    world.map(c, Range { from: 0, to: 2 })?;
+    Ok((world, c))
+}
+
+#[test]
+fn a_store_over_a_border_parts_both_pages(rt: HostRuntime) -> Result<(), Fail> {
+    let (mut world, c) = begun(rt.alloc(), 2)?;
+    assert_eq!(rt; world.used(), 0);
+    world.store(c, 4092, &[1, 2, 3, 4, 5, 6, 7, 8], 1)?;
+    assert_eq!(rt; world.used(), 2);
+    let mut out = [9; 10];
+    assert!(rt; world.bytes(c, 4091, &mut out));
+    assert_eq!(rt; out, [0, 1, 2, 3, 4, 5, 6, 7, 8, 0]);
+    Ok(())
+}
+
+#[test]
+fn a_store_that_finds_too_few_frames_changes_nothing(rt: HostRuntime) -> Result<(), Fail> {
+    let (mut world, c) = begun(rt.alloc(), 1)?;
+    assert_eq!(rt;
+        world.store(c, 4092, &[1, 2, 3, 4, 5, 6, 7, 8], 1),
+        Err(StoreFault::NoFrame)
+    );
+    assert_eq!(rt; world.used(), 0);
+    let mut out = [9; 2];
+    assert!(rt; world.bytes(c, 4095, &mut out));
+    assert_eq!(rt; out, [0, 0]);
+    Ok(())
+}
+
+#[test]
+fn an_absent_page_is_neither_stored_nor_loaded(rt: HostRuntime) -> Result<(), Fail> {
+    let (mut world, c) = begun(rt.alloc(), 2)?;
+    assert_eq!(rt;
+        world.store(c, 8191, &[1, 2], 1),
+        Err(StoreFault::BadAddress)
+    );
+    let mut out = [9; 2];
+    assert!(rt; !world.bytes(c, 8191, &mut out));
+    assert_eq!(rt; out, [9, 9]);
+    Ok(())
+}
+
+#[test]
+fn a_context_shows_what_it_has(rt: HostRuntime) -> Result<(), Fail> {
+    let (world, c) = begun(rt.alloc(), 2)?;
+    assert_eq!(rt; world.nth_context(0), Some(c));
+    assert_eq!(rt; world.nth_context(1), None);
+    assert_eq!(rt; world.live_of(0), 1);
+    assert_eq!(rt; world.entry(c).pc, 3);
+    let summary = Summary {
+        pages: 2,
+        slots: 0,
+        uid: 7,
+    };
+    assert_eq!(rt; world.summary(c), summary);
+    Ok(())
+}
+
+#[test]
+fn a_filled_slot_is_not_empty(rt: HostRuntime) -> Result<(), Fail> {
+    let (mut world, c) = begun(rt.alloc(), 2)?;
+    assert_eq!(rt; world.lowest_empty(c), Some(0));
+    world.set_slot(c, 0, Descriptor::Console);
+    assert_eq!(rt; world.lowest_empty(c), Some(1));
+    Ok(())
+}
+
+#[test]
+fn an_unmapped_page_is_not_loaded(rt: HostRuntime) -> Result<(), Fail> {
+    let (mut world, c) = begun(rt.alloc(), 2)?;
+    world.unmap(c, Range { from: 0, to: 1 })?;
+    let mut out = [9; 2];
+    assert!(rt; !world.bytes(c, 4095, &mut out));
+    assert!(rt; world.bytes(c, 4096, &mut out));
+    Ok(())
+}
