@@ -1,7 +1,7 @@
 -- Sharing step by step: the job counts a group, the values move out of the context, and the group is put in.
 use Rattle.std.proofs.Common.{◌≡◌, ℕ, ◌+◌, ◌<◌, arith, refl, sym, ap, subst, ◌∙◌, Bool, true, false, cond, eqb, List, Option, Some, None}
-use Rattle.std.proofs.lemmas.Bool.{eq-eqb}
 use Rattle.std.specs.FinMap as fm
+use Rattle.std.proofs.lemmas.Bool.Decides.{nat_tests}
 use Rattle.lwc_base.specs.declared.item.Item.{Item}
 use Rattle.lwc_base.specs.declared.name.Name.{Name}
 use Rattle.lwc_base.specs.Fresh.{IsFresh, IsNamedGroup}
@@ -40,6 +40,9 @@ change-counted : (w : World) (job : ℕ) (more : Counters → Counters) (c : Nam
 unfolding change_context count_on
 change-counted w job more c change = changed-counted w job more c change (fm.get w.contexts c)
 
+eqb-itself : (n : ℕ) → eqb n n ≡ true
+eqb-itself n = grind (arith, nat_tests)
+
 counts_at : (b : Bool) (n : Counters) → b ≡ true → n.groups < (cond b (one_group_more n) n).groups
 counts_at true n e = omega arith
 counts_at false n e = cc
@@ -66,7 +69,7 @@ module _ (w counted : World) (job : ℕ) (is_counted : counted ≡ count_on w jo
   pub counted-named : (g : Name) → g ≡ next_group w job → IsNamedGroup counted.next g
   counted-named g is =
       subst (IsNamedGroup counted.next) (sym is)
-      (subst (λ (n : Counters). (w.next job).groups < n.groups) (sym (counted-next job)) (counts_at (eqb job job) (w.next job) (eq-eqb job job refl)))
+      (subst (λ (n : Counters). (w.next job).groups < n.groups) (sym (counted-next job)) (counts_at (eqb job job) (w.next job) (eqb-itself job)))
 
   -- and so it is once values have moved out of a context
   module _ (left : World) (c : Name) (change : Context → Context) (is_left : left ≡ change_context counted c change) where

@@ -1,4 +1,4 @@
-use Rattle.std.proofs.Common.{◌≡◌, ◌∙◌, ap, arith, sym, subst}
+use Rattle.std.proofs.Common.{◌∙◌, ap, arith, sym, subst}
 use Rattle.std.specs.FinMap as fm
 use Rattle.lwc_base.specs.declared.size.WorldSize.{WorldSize}
 use Rattle.lwc_base.specs.Sharing.{needs_group, share}
@@ -38,8 +38,12 @@ share_values-requires-clause-group c = λ needs.
 pub add-requires-clause-place : goal.add-requires-clause-place
 add-requires-clause-place c =
     let is_shared = c.in_ok-share_values.ensures.shared ∙ ap (λ w. share w c.args.c c.args.job c.args.spec.now) c.in_ok-reserve.ensures.world in
-    omega (arith, shared-len _ _ c.args.c c.args.job c.args.spec.now is_shared,
-    ap (λ (size : WorldSize). size.contexts) (c.in_ok-share_values.ensures.size ∙ c.in_ok-reserve.ensures.size), c.requires.place)
+    omega (
+      arith,
+      shared-len _ _ c.args.c c.args.job c.args.spec.now is_shared,
+      ap (λ (size : WorldSize). size.contexts) (c.in_ok-share_values.ensures.size ∙ c.in_ok-reserve.ensures.size),
+      c.requires.place,
+    )
 
 pub returns-clause-cloned : goal.returns-clause-cloned
 returns-clause-cloned c =

@@ -2,8 +2,6 @@ use Rattle.std.proofs.Common.{ap, arith, ◌∙◌, sym, subst}
 use Rattle.std.specs.FinMap as fm
 use Rattle.lwc_base.specs.declared.size.WorldSize.{WorldSize}
 use Rattle.lwc_base.specs.Modes.{IsSpec}
-use Rattle.lwc_base.specs.Sharing.{left_common, moved}
-use Rattle.lwc_base.specs.World.{context}
 use Rattle.whole_world.specs.Seen.{seen}
 use Rattle.whole_world.specs.Sound.{IsWholeGroup}
 use Rattle.whole_world.proofs.RowWorlds.{fresh-seen}
