@@ -1,4 +1,4 @@
--- The refusals of a call that faults of its items mean.
+-- Which refusals the faults of items are.
 use Rattle.lwc_base.specs.declared.refusal.Refusal.{Refusal}
 use Rattle.lwc_base.specs.declared.refusal.Refusal.TheVariants as refusal
 use Rattle.res_spec.specs.declared.items.SpecFault.{SpecFault}

@@ -33,8 +33,12 @@ fn kinds_modes_and_ranges_are_tested(rt: HostRuntime) -> Result<(), Fail> {
         fault_of(SpecCall::Create, &[0, 0, 0, 1025]),
         Some(SpecFault::BadRange)
     );
-    assert_eq!(rt; fault_of(SpecCall::Create, &[1, 1, 0, 64]), None);
+    assert_eq!(rt; fault_of(SpecCall::Overlay, &[1, 1, 0, 64]), None);
     assert_eq!(rt; fault_of(SpecCall::Create, &[2, 1, 0, 1]), None);
+    assert_eq!(rt;
+        fault_of(SpecCall::Overlay, &[2, 2, 0, 1]),
+        Some(SpecFault::BadMode)
+    );
     assert_eq!(rt;
         fault_of(SpecCall::Create, &[0, 0, 5, 5]),
         Some(SpecFault::BadRange)
