@@ -1,19 +1,17 @@
 -- What a change of the copies makes of the context, or of the group, that they stand for.
-use Rattle.std.proofs.Common.{◌≡◌, ℕ, ◌+◌, ◌<◌, ◌≤◌, arith, length, get_or, ap, ◌∙◌, eqb, cond, None, Option, Some}
-use Rattle.std.specs.Prelude.{◌==◌, ◌&&◌, if◌then◌else◌, nat_le, nat_lt, replicate}
-use Rattle.std.proofs.lemmas.Bool.Decides.{nat_tests}
+use Rattle.std.proofs.Common.{◌≡◌, ℕ, ◌<◌, length, get_or, ap, ◌∙◌, eqb, cond, None, Option, Some}
+use Rattle.std.specs.Prelude.{replicate}
 use Rattle.std.proofs.Math.ListN.{set}
 use Rattle.lwc_base.specs.declared.cell.Cell.{Cell}
 use Rattle.lwc_base.specs.declared.cell.Cell.TheVariants.{Own}
 use Rattle.lwc_base.specs.declared.descriptor.Descriptor.{Descriptor}
 use Rattle.lwc_base.specs.declared.descriptor.Descriptor.TheVariants.{Empty}
 use Rattle.lwc_base.specs.declared.page.PageValue.{PageValue}
-use Rattle.lwc_base.specs.declared.page.PageValue.TheVariants.{Zero}
 use Rattle.lwc_base.specs.Cells.{with_page, with_slot, with_group_page, with_group_slot}
-use Rattle.lwc_base.specs.World.{Context, new_context, new_group}
+use Rattle.lwc_base.specs.World.{new_context, new_group}
 use Rattle.whole_world.specs.declared.group.HeldGroup.{HeldGroup}
 use Rattle.whole_world.specs.declared.held.Held.{Held}
-use Rattle.whole_world.specs.Copies.{context_of, held_page, held_slot, group_of, group_page, group_slot, with_zeros, without_pages}
+use Rattle.whole_world.specs.Copies.{context_of, held_page, held_slot, group_of, group_page, group_slot}
 use Rattle.whole_world.proofs.Places.{place_after_set, place_of_replicate}
 
 -- another cell in place of a page's
@@ -71,26 +69,3 @@ group_of-nothing_held held count slots absent empty is =
     let page : (p : ℕ) → get_or held.pages.items p None ≡ None = λ p. ap (λ l. get_or l p None) absent ∙ place_of_replicate count None p in
     let slot : (n : ℕ) → get_or held.slots.items n None ≡ None = λ n. ap (λ l. get_or l n None) empty ∙ place_of_replicate slots None n in
     λ i. record (group_of held) { page = λ p. page p i; slot = λ n. slot n i; uid = is i }
-
-between_more : {A : Type 0} (from k p : ℕ) (z x : A) → from ≤ k →
-    (if p == k then z else (if nat_le from p && nat_lt p k then z else x)) ≡ (if nat_le from p && nat_lt p (k + 1) then z else x)
-between_more from k p z x h = grind (arith, nat_tests)
-
-between_none : {A : Type 0} (from to p : ℕ) (z x : A) → to ≤ from → (if nat_le from p && nat_lt p to then z else x) ≡ x
-between_none from to p z x h = grind (arith, nat_tests)
-
--- one more page of zeros
-pub with_zeros_more : (from k : ℕ) (x : Context) → from ≤ k → with_page k (Some (Own Zero)) (with_zeros from k x) ≡ with_zeros from (k + 1) x
-with_zeros_more from k x h = λ i. record x { page = λ p. between_more from k p (Some (Own Zero)) (x.page p) h i }
-
--- no page of zeros
-pub with_zeros_none : (from to : ℕ) (x : Context) → to ≤ from → with_zeros from to x ≡ x
-with_zeros_none from to x h = λ i. record x { page = λ p. between_none from to p (Some (Own Zero)) (x.page p) h i }
-
--- one more page that is absent
-pub without_pages_more : (from k : ℕ) (x : Context) → from ≤ k → with_page k None (without_pages from k x) ≡ without_pages from (k + 1) x
-without_pages_more from k x h = λ i. record x { page = λ p. between_more from k p None (x.page p) h i }
-
--- no page that is absent
-pub without_pages_none : (from to : ℕ) (x : Context) → to ≤ from → without_pages from to x ≡ x
-without_pages_none from to x h = λ i. record x { page = λ p. between_none from to p None (x.page p) h i }

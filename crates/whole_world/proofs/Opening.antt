@@ -1,6 +1,6 @@
 -- The world as it is opened.
-use Rattle.std.proofs.Common.{◌≡◌, ℕ, ◌+◌, ◌≤◌, ◌^◌, List, [], arith, length, refl, ap, subst, sym, ◌∙◌, get_or}
-use Rattle.std.specs.Prelude.{replicate, All}
+use Rattle.std.proofs.Common.{◌≡◌, ℕ, List, [], arith, length, ap, subst, sym, ◌∙◌, get_or}
+use Rattle.std.specs.Prelude.{replicate}
 use Rattle.std.specs.FinMap as fm
 use Rattle.std.proofs.lemmas.List.Elements.{All-nil}
 use Rattle.lwc_base.specs.Fresh.{IsFresh}

@@ -1,5 +1,5 @@
 use Rattle.std.proofs.Common.{arith}
-use Rattle.whole_world.specs.Seen.{seen, size_of}
+use Rattle.whole_world.specs.Seen.{seen}
 use Rattle.whole_world.proofs.RowWorlds.{len-groups}
 use Rattle.whole_world.proofs.world.WholeWorld.count_of_all_groups.Goals as goal
 

@@ -1,8 +1,5 @@
 use Rattle.std.proofs.Common.{◌∙◌, ap, sym}
-use Rattle.std.specs.Prelude.{slice_get}
-use Rattle.std.specs.Option.{option_copied, option_map}
-use Rattle.std.proofs.lemmas.Option.{slice_get-map}
-use Rattle.whole_world.specs.declared.held.Held.{Held}
+use Rattle.std.specs.Option.{option_copied}
 use Rattle.whole_world.specs.Seen.{seen}
 use Rattle.whole_world.proofs.RowCounts.{nth-rows}
 use Rattle.whole_world.proofs.world.WholeWorld.nth_name.Goals as goal
