@@ -1,5 +1,5 @@
 -- The row of a context whose values move, and a group of a new name among the rows.
-use Rattle.std.proofs.Common.{◌≡◌, ℕ, ◌+◌, ◌<◌, ◌≤◌, arith, length, List, refl, sym, ap, subst, ◌∙◌, true, false, Option, Some, None, get_or}
+use Rattle.std.proofs.Common.{◌≡◌, ℕ, ◌<◌, ◌≤◌, arith, length, List, refl, sym, ap, subst, ◌∙◌, true, false, Option, Some, None, get_or}
 use Rattle.std.specs.Prelude.{is_some, vec_len}
 use Rattle.std.proofs.lemmas.Bool.{false≢true}
 use Rattle.std.proofs.lemmas.Grind.{common_steps}

@@ -1,6 +1,6 @@
 -- Ranges go by what pages are to their context: as many begin as standings change.
 use Rattle.std.proofs.Common.{◌≡◌, ◌≢◌, ℕ, zero, suc, ◌<◌, arith, refl, sym, ap, ◌∙◌, Bool, true, false, cond, List, Option, Some, None}
-use Rattle.std.specs.Prelude.{◌&&◌, not, is_some, count_by, nat_le, nat_lt, if◌then◌else◌}
+use Rattle.std.specs.Prelude.{◌&&◌, not, is_some, count_by, nat_le, nat_lt}
 use Rattle.std.specs.List.{range_with_len}
 use Rattle.std.specs.Option.{option_map}
 use Rattle.std.specs.Ordering.{eq_by_cmp, is_eq}
@@ -33,7 +33,7 @@ use Rattle.whole_world.specs.declared.ranges.Standing.{Standing}
 use Rattle.whole_world.specs.declared.ranges.Standing.TheVariants.{Absent, Own, Moved, Common}
 use Rattle.whole_world.specs.Copies.{with_zeros, without_pages}
 use Rattle.whole_world.specs.Outlooks.{after_mapping, after_sharing, in_clone}
-use Rattle.whole_world.specs.Standings.{begins_after, begins_at, cloned_standing, count_of_ranges, mapped_standing, own_if, standing_of}
+use Rattle.whole_world.specs.Standings.{begins_after, begins_at, cloned_standing, count_of_ranges, own_if, standing_of}
 use Rattle.whole_world.proofs.SharedCells.{context-shared}
 
 -- what a page with this cell is to its context, seen from a new group

@@ -1,5 +1,5 @@
 -- The cells of a context once what is under share has moved out of it.
-use Rattle.std.proofs.Common.{◌≡◌, ℕ, ◌<◌, ◌≤◌, arith, length, get_or, refl, sym, ap, ◌∙◌, Bool, true, false, ◌||◌, List, Option, Some, None, ⊎_elim}
+use Rattle.std.proofs.Common.{◌≡◌, ℕ, ◌<◌, ◌≤◌, arith, get_or, refl, sym, ap, ◌∙◌, Bool, true, false, ◌||◌, List, Option, Some, None, ⊎_elim}
 use Rattle.std.specs.Prelude.{is_some}
 use Rattle.std.specs.List.{list_any, range_with_len}
 use Rattle.std.proofs.lemmas.Bool.{cases_lt, false≢true}
@@ -7,13 +7,12 @@ use Rattle.std.proofs.lemmas.List.Folds.{list_any_at}
 use Rattle.std.proofs.lemmas.List.FromFn.{get_or-range_with_len, length-range_with_len}
 use Rattle.lwc_base.specs.declared.descriptor.TheConstants.{SLOTS}
 use Rattle.lwc_base.specs.declared.item.Item.{Item}
-use Rattle.lwc_base.specs.declared.item.Mode.TheVariants.{Copy}
 use Rattle.lwc_base.specs.declared.key.Key.TheVariants.{Page, Slot}
 use Rattle.lwc_base.specs.declared.name.Name.{Name}
 use Rattle.lwc_base.specs.Frames.{own_value}
-use Rattle.lwc_base.specs.Modes.{IsSpec, mode_or_copy}
+use Rattle.lwc_base.specs.Modes.{IsSpec}
 use Rattle.lwc_base.specs.Sharing.{cell_after, has_values, left_common, moved, needs_group, own, page_after, share, under_share}
-use Rattle.lwc_base.specs.World.{World, Context, Group, context, is_live, next_group}
+use Rattle.lwc_base.specs.World.{World, Context, context, is_live, next_group}
 use Rattle.lwc_base.proofs.Cloning.{context-share-alone, context-share-moves}
 use Rattle.whole_world.proofs.Unnamed.{copied_past}
 

@@ -1,5 +1,5 @@
 -- Keys past the limit of their kind: no item names them.
-use Rattle.std.proofs.Common.{◌≡◌, ℕ, suc, ◌<◌, ◌≤◌, arith, refl, ap, ◌∙◌, Bool, true, false, cond, List, [], ◌∷◌, Some, None}
+use Rattle.std.proofs.Common.{◌≡◌, ℕ, suc, ◌≤◌, arith, refl, ap, ◌∙◌, false, cond, List, [], ◌∷◌, Some, None}
 use Rattle.std.specs.Prelude.{◌&&◌, nat_le, nat_lt, unwrap_or, All}
 use Rattle.std.specs.List.{find}
 use Rattle.std.specs.Option.{option_map}
