@@ -119,8 +119,7 @@ fn a_new_context_copies_pages_when_they_are_stored_to(rt: HostRuntime) -> Result
 /// What a guest that has made two steps and then halted reports: where it halted, the registers 0 to 2 (the others are
 /// 0), and the lines of its contexts.
 fn halted(alloc: Global, pc: u64, registers: &str, contexts: &str) -> Result<String, AllocError> {
-    format!(
-        in alloc;
+    format!(in alloc;
         "thread 0 done 0 ctx 0.0 pc {pc}\nregs 0 {registers} 0 0 0 0 0 0 0 0 0 0 0 0 0\n{contexts}\
         groups 0\nconsole -\nused 1\npeak 1\nsteps 2\nschedule 00\n"
     )
@@ -154,13 +153,7 @@ fn a_context_is_made_or_refused_with_its_number(rt: HostRuntime) -> Result<(), F
             "18446744073709551608 0 2",
             ALONE,
         ),
-        (
-            &MANY_ITEMS,
-            ZEROS,
-            2,
-            "18446744073709551607 0 33",
-            ALONE,
-        ),
+        (&MANY_ITEMS, ZEROS, 2, "18446744073709551607 0 33", ALONE),
         (
             &TWO_ITEMS,
             (0, &PAGES_AND_SLOTS),
@@ -192,7 +185,9 @@ fn a_job_has_at_most_32_contexts(rt: HostRuntime) -> Result<(), Fail> {
         let slots = k + 2;
         report.push_str(&format!(in alloc; "context 1.{k} pages 0 slots {slots} uid 0\n")?)?;
     }
-    report.push_str("groups 0\nconsole -\nused 0\npeak 0\nsteps 33\nschedule 000000000000000000000000000000000\n")?;
+    report.push_str(
+        "groups 0\nconsole -\nused 0\npeak 0\nsteps 33\nschedule 000000000000000000000000000000000\n",
+    )?;
     let left = call(&rt, &guest, &[b'0'; 33], &REPLAY, SURE)?;
     assert_eq!(rt; left.out.bytes(), report.as_bytes());
     Ok(())
@@ -221,8 +216,7 @@ fn a_context_has_at_most_64_ranges(rt: HostRuntime) -> Result<(), Fail> {
         }
         let guest = image(alloc, &MANY_RANGES, &pages, &[0])?;
         let left = call(&rt, &guest, &[b'0'; 66], &REPLAY, SURE)?;
-        let report = format!(
-            in alloc;
+        let report = format!(in alloc;
             "thread 0 done 0 ctx 0.0 pc 19\n{middle}steps 66\n\
             schedule 000000000000000000000000000000000000000000000000000000000000000000\n"
         )?;
