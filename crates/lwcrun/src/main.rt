@@ -11,6 +11,8 @@ use std::rt::Env;
 #[cfg(test)]
 mod creating;
 #[cfg(test)]
+mod stepping;
+#[cfg(test)]
 mod tests;
 
 /// The words of the line, the program's name first.

@@ -8,7 +8,7 @@ use std::test::Fail;
 use std::thread::Threads;
 
 /// `LI r1, 7` / `STW r1, r0, 0` / `LDW r2, r0, 0` / `HALT`.
-const STORE_LOAD: [u64; 4] = [
+pub const STORE_LOAD: [u64; 4] = [
     0x0101_0000_0700_0000,
     0x2300_0001_0000_0000,
     0x2102_0000_0000_0000,

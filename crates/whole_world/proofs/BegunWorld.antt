@@ -1,14 +1,18 @@
 -- What a world has in which a context has been made and its first pages mapped.
-use Rattle.std.proofs.Common.{◌≡◌, ℕ, ◌≤◌, refl, ap, ◌∙◌, arith}
+use Rattle.std.proofs.Common.{◌≡◌, ℕ, ◌+◌, ◌≤◌, refl, sym, ap, subst, ◌∙◌, arith}
 use Rattle.std.specs.Prelude.{IsTrue}
 use Rattle.lwc_base.specs.declared.name.Name.{Name}
 use Rattle.std.specs.FinMap as fm
 use Rattle.lwc_base.specs.Mapping.{map_pages}
 use Rattle.lwc_base.specs.Names.{name_cmp}
 use Rattle.lwc_base.specs.Ranges.{ranges, ranges_of}
-use Rattle.lwc_base.specs.World.{World, Context, Counters, is_live, next_context, add_context, empty_world}
+use Rattle.lwc_base.specs.Fresh.{IsFresh}
+use Rattle.lwc_base.specs.World.{World, Context, Counters, Group, is_live, next_context, add_context, empty_world}
 use Rattle.lwc_base.proofs.Begun.{is_live-add_context, contexts-add_context, groups-add_context, tags-add_context, pages-add_context}
+use Rattle.lwc_base.proofs.Counted.{len-add_context, len_contexts-same, len_groups-add_context}
+use Rattle.lwc_base.proofs.Fresh.{fresh-empty_world}
 use Rattle.lwc_base.proofs.Live.{values-map_pages}
+use Rattle.whole_world.proofs.ShareSteps.{groups-change_context}
 use Rattle.whole_world.proofs.Places.{count_of_range}
 
 pub counts-empty : (frames pages job : ℕ) → (empty_world frames pages).next job ≡ record { contexts = 0; groups = 0; tags = 0 }
@@ -28,6 +32,15 @@ few_ranges w c = count_of_range _ 0 w.pages
 pub none-empty : (frames pages : ℕ) → fm.len (empty_world frames pages).contexts ≡ 0
 unfolding empty_world
 none-empty frames pages = fm.len-empty name_cmp Context
+
+-- nor does a group
+no_group-empty : (frames pages : ℕ) → fm.len (empty_world frames pages).groups ≡ 0
+unfolding empty_world
+no_group-empty frames pages = fm.len-empty name_cmp Group
+
+groups-map_pages : (w : World) (c : Name) (from to : ℕ) → (map_pages w c from to).groups ≡ w.groups
+unfolding map_pages
+groups-map_pages w c from to = groups-change_context w c _
 
 module _ (frames pages : ℕ) (opened made mapped : World) (c : Name) (x : Context) (from to : ℕ)
     (is_opened : opened ≡ empty_world frames pages) (is_made : made ≡ add_context opened 0 x) (is_named : c ≡ next_context opened 0)
@@ -59,3 +72,22 @@ module _ (frames pages : ℕ) (opened made mapped : World) (c : Name) (x : Conte
   pub contexts-begun : (job : ℕ) → (mapped.next job).contexts ≤ 1
   contexts-begun job =
       omega (arith, ap (λ (n : Counters). n.contexts) (next-begun job), contexts-add_context opened 0 x job, ap (λ (n : Counters). n.contexts) (next-opened job))
+
+  fresh-opened : IsFresh opened
+  fresh-opened = subst IsFresh (sym is_opened) (fresh-empty_world frames pages)
+
+  none-opened : fm.len opened.contexts ≡ 0
+  none-opened = ap (λ (w : World). fm.len w.contexts) is_opened ∙ none-empty frames pages
+
+  -- one context lives
+  pub one-begun : fm.len mapped.contexts ≡ 1
+  one-begun =
+      let kept : fm.len mapped.contexts ≡ fm.len made.contexts = ap (λ (w : World). fm.len w.contexts) is_mapped ∙ len_contexts-same (map_pages made c from to) made (values-map_pages made c from to).live in
+      let added : fm.len made.contexts ≡ fm.len opened.contexts + 1 = ap (λ (w : World). fm.len w.contexts) is_made ∙ len-add_context opened 0 x fresh-opened in
+      omega (arith, kept, added, none-opened)
+
+  -- and no group
+  pub no_group-begun : fm.len mapped.groups ≡ 0
+  no_group-begun =
+      ap (λ (w : World). fm.len w.groups) is_mapped ∙ ap (fm.len {R = name_cmp}) (groups-map_pages made c from to) ∙ ap (λ (w : World). fm.len w.groups) is_made
+      ∙ len_groups-add_context opened 0 x ∙ ap (λ (w : World). fm.len w.groups) is_opened ∙ no_group-empty frames pages

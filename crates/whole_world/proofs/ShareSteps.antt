@@ -24,7 +24,7 @@ groups-changed : (w : World) (c : Name) (change : Context → Context) (found : 
 groups-changed w c change None = refl
 groups-changed w c change (Some x) = refl
 
-groups-change_context : (w : World) (c : Name) (change : Context → Context) → (change_context w c change).groups ≡ w.groups
+pub groups-change_context : (w : World) (c : Name) (change : Context → Context) → (change_context w c change).groups ≡ w.groups
 unfolding change_context
 groups-change_context w c change = groups-changed w c change _
 

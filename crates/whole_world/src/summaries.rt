@@ -92,7 +92,7 @@ impl WholeWorld {
         ensures present { result ≡ count_by (λ p. is_some (page_at (seen self.now) c p)) (range_with_len 0 (seen self.now).pages) }
         ensures few { result < 2 ^ 32 }
     {
-        (0..self.page_count())
+        (0..usize::from(self.page_limit()))
             .filter(|p| self.is_present(c, *p))
             .count()
     }
@@ -105,14 +105,5 @@ impl WholeWorld {
         ensures few { result ≤ SLOTS }
     {
         (0..SLOTS).filter(|n| !self.is_slot_empty(c, *n)).count()
-    }
-
-    /// How many pages each context may have.
-    #[tactic(auto, unfolding(crate::specs::Seen::seen, crate::specs::Rows::world_of))]
-    fn page_count(&self) -> usize
-        ensures pages { result ≡ (seen self.now).pages }
-        ensures few { result ≤ MOST_PAGES }
-    {
-        self.size.pages as usize
     }
 }

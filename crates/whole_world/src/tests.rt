@@ -1,9 +1,13 @@
 ghost use Rattle.std.specs.Prelude.{◌≡◌, ℕ, ◌≤◌, IfOk, IsTrue};
 ghost use Rattle.lwc_base.specs.World.{is_live};
 ghost use Rattle.whole_world.specs.Seen.{seen, size_of};
+ghost use Rattle.world_face.specs.Calls.{HasGroupPlace, HasPlace};
 
 use crate::WholeWorld;
-use lwc_base::{Descriptor, Name, OutOfMemory, Range, Regs, StoreFault, Summary, WorldSize};
+use lwc_base::{
+    Descriptor, Item, Kind, Mode, Name, OutOfMemory, Range, Regs, Spec, StoreFault, Summary,
+    WorldSize,
+};
 use std::alloc::Global;
 use std::test::Fail;
 use world_face::World;
@@ -15,6 +19,8 @@ fn begun(alloc: Global, frames: u32) -> Result<(WholeWorld, Name), OutOfMemory>
     ensures live { IfOk result (λ r. IsTrue (is_live (seen r.0) r.1)) }
     ensures pages { IfOk result (λ r. (seen r.0).pages ≡ 4) }
     ensures jobs { IfOk result (λ r. (size_of r.0).jobs ≡ 2) }
+    ensures place { IfOk result (λ r. HasPlace (size_of r.0) (seen r.0)) }
+    ensures group_place { IfOk result (λ r. HasGroupPlace (size_of r.0) (seen r.0)) }
     ensures contexts { IfOk result (λ r. (job : ℕ) → ((seen r.0).next job).contexts ≤ 1) }
     ensures groups { IfOk result (λ r. (job : ℕ) → ((seen r.0).next job).groups ≡ 0) }
     ensures tags { IfOk result (λ r. (job : ℕ) → ((seen r.0).next job).tags ≡ 0) }
@@ -23,7 +29,7 @@ fn begun(alloc: Global, frames: u32) -> Result<(WholeWorld, Name), OutOfMemory>
         alloc,
         &WorldSize {
             frames,
-            contexts: 1,
+            contexts: 2,
             groups: 1,
             jobs: 2,
             pages: 4,
@@ -105,5 +111,47 @@ fn an_unmapped_page_is_not_loaded(rt: HostRuntime) -> Result<(), Fail> {
     let mut out = [9; 2];
     assert!(rt; !world.bytes(c, 4095, &mut out));
     assert!(rt; world.bytes(c, 4096, &mut out));
+    Ok(())
+}
+
+#[test]
+fn a_clone_that_shares_a_page_makes_a_group(rt: HostRuntime) -> Result<(), Fail> {
+    let (mut world, c) = begun(rt.alloc(), 2)?;
+    let mut spec = Spec::empty();
+    spec.push(Item {
+        kind: Kind::Page,
+        mode: Mode::Share,
+        from: 1,
+        to: 2,
+    });
+    let counts = world.ranges_after_clone(c, &spec);
+    assert!(rt; counts.0 == 2 && counts.1 == 2);
+    assert!(rt; world.needs_group(c, &spec));
+    let made = world.clone_context(c, &spec, 1, &Regs::fresh(5))?;
+    assert_eq!(rt; world.nth_context(1), Some(made));
+    assert_eq!(rt; (world.live_of(1), world.groups_of(1)), (1, 1));
+    Ok(())
+}
+
+#[test]
+fn a_credential_is_changed(rt: HostRuntime) -> Result<(), Fail> {
+    let (mut world, c) = begun(rt.alloc(), 2)?;
+    world.set_uid(c, 9);
+    assert_eq!(rt; world.uid(c), 9);
+    assert_eq!(rt; world.groups_of(0), 0);
+    Ok(())
+}
+
+#[test]
+fn ranges_after_a_mapping_are_told(rt: HostRuntime) -> Result<(), Fail> {
+    let (world, c) = begun(rt.alloc(), 2)?;
+    assert_eq!(rt;
+        world.ranges_after_map(c, Range { from: 3, to: 4 }, true),
+        2
+    );
+    assert_eq!(rt;
+        world.ranges_after_map(c, Range { from: 0, to: 2 }, false),
+        0
+    );
     Ok(())
 }

@@ -6,7 +6,7 @@ use Rattle.lwc_base.proofs.Live.{values-map_pages}
 use Rattle.lwc_base.specs.declared.size.WorldSize.{WorldSize}
 use Rattle.lwc_base.specs.World.{World, Counters, empty_world}
 use Rattle.whole_world.specs.Seen.{seen, size_of}
-use Rattle.whole_world.proofs.BegunWorld.{counts-empty, few_ranges, none-empty, live-made, live-begun, pages-made, pages-begun, tags-begun, groups-begun, contexts-begun}
+use Rattle.whole_world.proofs.BegunWorld.{counts-empty, few_ranges, none-empty, live-made, live-begun, no_group-begun, one-begun, pages-made, pages-begun, tags-begun, groups-begun, contexts-begun}
 use Rattle.whole_world.proofs.tests.begun.Goals as goal
 
 pub first-requires-clause-place : goal.first-requires-clause-place
@@ -54,3 +54,13 @@ returns-clause-groups c = groups-begun _ 4 _ _ _ _ _ 0 2 c.in_ok-world.ensures.o
 
 pub returns-clause-tags : goal.returns-clause-tags
 returns-clause-tags c = tags-begun _ 4 _ _ _ _ _ 0 2 c.in_ok-world.ensures.opened c.in_ok-c.ensures.made c.in_ok-c.ensures.name c.in_ok-map.ensures.mapped
+
+pub returns-clause-place : goal.returns-clause-place
+returns-clause-place c =
+    let one = one-begun _ 4 _ _ _ _ _ 0 2 c.in_ok-world.ensures.opened c.in_ok-c.ensures.made c.in_ok-c.ensures.name c.in_ok-map.ensures.mapped in
+    omega (arith, one, ap (λ (s : WorldSize). s.contexts) (c.in_ok-map.ensures.sized ∙ c.in_ok-c.ensures.sized ∙ c.in_ok-world.ensures.sized))
+
+pub returns-clause-group_place : goal.returns-clause-group_place
+returns-clause-group_place c =
+    let none = no_group-begun _ 4 _ _ _ _ _ 0 2 c.in_ok-world.ensures.opened c.in_ok-c.ensures.made c.in_ok-c.ensures.name c.in_ok-map.ensures.mapped in
+    omega (arith, none, ap (λ (s : WorldSize). s.groups) (c.in_ok-map.ensures.sized ∙ c.in_ok-c.ensures.sized ∙ c.in_ok-world.ensures.sized))

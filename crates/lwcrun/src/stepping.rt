@@ -1,0 +1,38 @@
+//! A kernel that is offered advances.
+
+use crate::tests::{STORE_LOAD, ZEROS, image};
+use guest_image::read_image;
+use guest_machine::{advance, advance_is_determined};
+use kernel_core::{Job, Kernel, Settings};
+use lwc_base::{Regs, Sequence};
+use std::test::Fail;
+use whole_world::WholeWorld;
+
+#[test]
+fn a_kernel_uses_only_an_advance_of_its_thread(rt: HostRuntime) -> Result<(), Fail> {
+    let alloc = rt.alloc();
+    let bytes = image(alloc, &STORE_LOAD, &[ZEROS], &[0])?;
+    let image = read_image(alloc, &bytes)?;
+    let settings = Settings {
+        frames: 4096,
+        budget: 10000,
+        job: Job::Run,
+    };
+    let requests = Sequence::of(Vec::new(alloc));
+    let mut kernel = Kernel::<WholeWorld>::open(alloc, &image, requests, 3, &settings)?;
+    assert_eq!(rt;
+        (kernel.room(), kernel.work(), kernel.text().len()),
+        (3, 10000, 4)
+    );
+    assert!(rt; kernel.thread_count() == 1);
+    let other = advance(kernel.text(), &Regs::fresh(3));
+    let own = advance(kernel.text(), &Regs::fresh(0));
+    advance_is_determined();
+    let turn = kernel.step(0, Some(&own))?;
+    assert_eq!(rt; (turn.regs.pc, kernel.work()), (2, 9999));
+    assert!(rt; kernel.room() != 0);
+    let turn = kernel.step(0, Some(&other))?;
+    assert_eq!(rt; (turn.regs.pc, kernel.work(), kernel.room()), (3, 9998, 1));
+    assert!(rt; turn.same() == turn);
+    Ok(())
+}
