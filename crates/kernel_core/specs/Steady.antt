@@ -31,7 +31,7 @@ MayStep budget Idle = Unit {0}
 MayStep budget (Done code) = Unit {0}
 MayStep budget (Faulted fault) = Unit {0}
 
--- a world has room for the contexts and groups of as many jobs as there are threads, and of job 0, which has one context and no group
+-- a world has places for the contexts and groups of as many jobs as there are threads, for the one context of job 0, which has no group, and for a context more
 pub record IsWide (size : WorldSize) : Type 0 where
   pub jobs : size.jobs ≡ 1 + MOST_THREADS
   pub contexts : 1 + MOST_THREADS * MOST_CONTEXTS_OF_JOB < size.contexts

@@ -60,15 +60,15 @@ module _ (w : World) (c : Name) (items : List Item) (none : needs_group w c item
   none_has = none
 
   -- where no value moves, none moves under a page
-  no_page_moves : (p : ℕ) → p < w.pages → is_some ((moved items (context w c)).page p) ≡ false
+  pub no_page_moves : (p : ℕ) → p < w.pages → is_some ((moved items (context w c)).page p) ≡ false
   unfolding has_values
   no_page_moves p within = none_passes (λ q. is_some ((moved items (context w c)).page q)) w.pages p within (left_false _ _ (left_false _ _ none_has))
 
-  no_slot_moves : (n : ℕ) → n < SLOTS → is_some ((moved items (context w c)).slot n) ≡ false
+  pub no_slot_moves : (n : ℕ) → n < SLOTS → is_some ((moved items (context w c)).slot n) ≡ false
   unfolding has_values
   no_slot_moves n within = none_passes (λ m. is_some ((moved items (context w c)).slot m)) SLOTS n within (right_false _ _ (left_false _ _ none_has))
 
-  no_uid_moves : is_some (moved items (context w c)).uid ≡ false
+  pub no_uid_moves : is_some (moved items (context w c)).uid ≡ false
   unfolding has_values
   no_uid_moves = right_false _ _ none_has
 

@@ -21,3 +21,4 @@ pub mod Writes
 pub mod Zeros
 pub mod PairedLemmas
 pub mod StackLemmas
+pub mod Needs

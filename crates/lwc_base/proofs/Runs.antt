@@ -1,6 +1,6 @@
 -- Present pages that are one run are one range, and where none is present there is no range.
 use Rattle.std.proofs.Common.{◌≡◌, ◌≢◌, ℕ, zero, suc, ◌+◌, ◌<◌, ◌≤◌, refl, sym, ap, ◌∙◌, Bool, true, false, cond, ◌&&◌, None, Option, ⊎_elim, arith}
-use Rattle.std.specs.Prelude.{count_by, is_some, not}
+use Rattle.std.specs.Prelude.{[], if◌then◌else◌, count_by, is_some, not}
 use Rattle.std.specs.List.{range_with_len}
 use Rattle.std.proofs.lemmas.Bool.{cases_eq, cases_lt}
 use Rattle.std.proofs.lemmas.List.Sums.{sum_by-cons}
@@ -70,3 +70,38 @@ module _ (pages from to : ℕ) (x : Context) (run : IsOneRun pages from to x) wh
 pub ranges-absent : (pages : ℕ) (x : Context) → ((p : ℕ) → p < pages → x.page p ≡ None) → ranges pages x ≡ 0
 unfolding ranges begins_range
 ranges-absent pages x absent = count_none (begins_range x) 0 pages (λ p low high. absent_begins (x.page p) (goes_on x p) (absent p (omega arith)))
+
+plus_zero : (a : ℕ) → a ≡ a + 0
+plus_zero a = omega arith
+
+zero_plus : (a : ℕ) → 0 + a ≡ a
+zero_plus a = omega arith
+
+swap_zero : (a : ℕ) → a + 0 ≡ 0 + a
+swap_zero a = omega arith
+
+regroup : (a b c : ℕ) → a + (b + c) ≡ (a + b) + c
+regroup a b c = omega arith
+
+next_place : (a n : ℕ) → a + 1 + n ≡ a + suc n
+next_place a n = omega arith
+
+plus_one : (n : ℕ) → n + 1 ≡ suc n
+plus_one n = omega arith
+
+-- one number more at the end of a range
+count_more : (test : ℕ → Bool) (a n : ℕ) → count_by test (range_with_len a (suc n)) ≡ count_by test (range_with_len a n) + cond (test (a + n)) 1 0
+count_more test a zero = sum_by-cons (λ x. cond (test x) 1 0) a [] ∙ (λ i. cond (test (plus_zero a i)) 1 0 + 0) ∙ swap_zero (cond (test (a + 0)) 1 0)
+count_more test a (suc n) =
+    sum_by-cons (λ x. cond (test x) 1 0) a (range_with_len (a + 1) (suc n))
+    ∙ ap (λ k. cond (test a) 1 0 + k) (count_more test (a + 1) n)
+    ∙ regroup (cond (test a) 1 0) (count_by test (range_with_len (a + 1) n)) (cond (test (a + 1 + n)) 1 0)
+    ∙ (λ i. sym (sum_by-cons (λ x. cond (test x) 1 0) a (range_with_len (a + 1) n)) i + cond (test (next_place a n i)) 1 0)
+
+-- each further page adds the range that begins at it
+pub ranges-more : (pages : ℕ) (x : Context) → ranges (pages + 1) x ≡ ranges pages x + (if begins_range x pages then 1 else 0)
+unfolding ranges
+ranges-more pages x =
+    ap (λ n. count_by (begins_range x) (range_with_len 0 n)) (plus_one pages)
+    ∙ count_more (begins_range x) 0 pages
+    ∙ (λ i. count_by (begins_range x) (range_with_len 0 pages) + cond (begins_range x (zero_plus pages i)) 1 0)

@@ -1,13 +1,17 @@
-ghost use Rattle.std.specs.Prelude.{◌≡◌, ◌<◌, ℕ, List, None, Some, All, is_some, true, false};
+ghost use Rattle.std.specs.Prelude.{◌≡◌, ◌≢◌, ◌<◌, ◌+◌, if◌then◌else◌, ℕ, List, None, Some, All, is_some, true, false};
 ghost use Rattle.std.specs.List.{Contains};
 ghost use Rattle.lwc_base.specs.Cells.{page_at, put_page, put_slot, put_uid, slot_at, uid_at};
-ghost use Rattle.lwc_base.specs.Clones.{ArePagesApart, AreSlotsApart, AreUidsApart, HavePageInCommon, HaveSlotInCommon, HaveUidInCommon, IsClone};
+ghost use Rattle.lwc_base.specs.Clones.{HasItsGroups, ArePagesApart, AreSlotsApart, AreUidsApart, HavePageInCommon, HaveSlotInCommon, HaveUidInCommon, IsClone};
+ghost use Rattle.lwc_base.specs.Frames.{own_value};
 ghost use Rattle.lwc_base.specs.Fresh.{IsFresh};
+ghost use Rattle.lwc_base.specs.Mapping.{map_pages, unmap_pages};
 ghost use Rattle.lwc_base.specs.Modes.{IsSpec, mode, mode_or_copy, names};
-ghost use Rattle.lwc_base.specs.Ranges.{ranges};
+ghost use Rattle.lwc_base.specs.Ranges.{begins_range, ranges};
 ghost use Rattle.lwc_base.specs.Runs.{IsOneRun};
-ghost use Rattle.lwc_base.specs.Sharing.{share};
-ghost use Rattle.lwc_base.specs.World.{Context, World, is_live};
+ghost use Rattle.lwc_base.specs.Sharing.{clone_context, needs_group, own, share};
+ghost use Rattle.lwc_base.specs.Store.{Piece, after_store};
+ghost use Rattle.lwc_base.specs.World.{Context, World, context, empty_world, is_live};
+ghost use Rattle.lwc_base.specs.declared.cell.Cell.TheVariants.{Own};
 ghost use Rattle.lwc_base.specs.declared.descriptor.Descriptor.{Descriptor};
 ghost use Rattle.lwc_base.specs.declared.descriptor.Descriptor.TheVariants.{Empty};
 ghost use Rattle.lwc_base.specs.declared.descriptor.TheConstants.{SLOTS};
@@ -18,6 +22,7 @@ ghost use Rattle.lwc_base.specs.declared.key.Key.TheVariants.{Page, Slot, Cred};
 ghost use Rattle.lwc_base.specs.declared.key.TheConstants.{NOBODY};
 ghost use Rattle.lwc_base.specs.declared.name.Name.{Name};
 ghost use Rattle.lwc_base.specs.declared.page.PageValue.{PageValue};
+ghost use Rattle.lwc_base.specs.declared.regs.Regs.{Regs};
 
 /// A law: the item of a specifier that names a key gives the key its mode, and a key that no item names has none. It
 /// does nothing.
@@ -110,10 +115,56 @@ pub fn what_is_common_stays_common()
         (uid : ℕ) → uid_at (put_uid w a uid) b ≡ uid }
 {}
 
-/// A law: present pages that are one run are one range, and where no page is present there is no range. It does nothing.
+/// A law: a group is needed exactly where a value moves, which is a context's own under a key of mode share; where none
+/// does, sharing changes nothing. It does nothing.
+pub fn a_group_is_needed_where_a_value_moves()
+    ensures page { (w : World) (c : Name) (items : List Item) (p : ℕ) (value : PageValue) → p < w.pages →
+        mode_or_copy items (Page p) ≡ Share → (context w c).page p ≡ Some (Own value) → needs_group w c items ≡ true }
+    ensures slot { (w : World) (c : Name) (items : List Item) (n : ℕ) (value : Descriptor) → n < SLOTS →
+        mode_or_copy items (Slot n) ≡ Share → (context w c).slot n ≡ Own value → needs_group w c items ≡ true }
+    ensures uid { (w : World) (c : Name) (items : List Item) (value : ℕ) →
+        mode_or_copy items Cred ≡ Share → (context w c).uid ≡ Own value → needs_group w c items ≡ true }
+    ensures none { (w : World) (c : Name) (items : List Item) →
+        ((p : ℕ) → p < w.pages → mode_or_copy items (Page p) ≡ Share → own_value ((context w c).page p) ≡ None) →
+        ((n : ℕ) → n < SLOTS → mode_or_copy items (Slot n) ≡ Share → own ((context w c).slot n) ≡ None) →
+        (mode_or_copy items Cred ≡ Share → own (context w c).uid ≡ None) → needs_group w c items ≡ false }
+    ensures nothing { (w : World) (c : Name) (job : ℕ) (items : List Item) →
+        needs_group w c items ≡ false → share w c job items ≡ w }
+{}
+
+/// A law: only what is under share becomes common: a context keeps its cells under the other keys when it is cloned,
+/// and each other context keeps all. It does nothing.
+pub fn only_what_is_shared_becomes_common()
+    ensures page { (w v : World) (c d : Name) (items : List Item) → IsClone w v c d items →
+        (p : ℕ) → mode_or_copy items (Page p) ≢ Share → (context v c).page p ≡ (context w c).page p }
+    ensures slot { (w v : World) (c d : Name) (items : List Item) → IsClone w v c d items →
+        (n : ℕ) → mode_or_copy items (Slot n) ≢ Share → (context v c).slot n ≡ (context w c).slot n }
+    ensures uid { (w v : World) (c d : Name) (items : List Item) → IsClone w v c d items →
+        mode_or_copy items Cred ≢ Share → (context v c).uid ≡ (context w c).uid }
+    ensures others { (w v : World) (c d : Name) (items : List Item) → IsClone w v c d items →
+        (e : Name) → is_live w e ≡ true → e ≢ c → context v e ≡ context w e }
+{}
+
+/// A law: a world that has each group that its live contexts name has them after each change of it. It does nothing.
+pub fn worlds_keep_the_groups_that_they_name()
+    ensures empty { (frames pages : ℕ) → HasItsGroups (empty_world frames pages) }
+    ensures page { (w : World) (c : Name) (p : ℕ) (value : PageValue) → HasItsGroups w → HasItsGroups (put_page w c p value) }
+    ensures slot { (w : World) (c : Name) (n : ℕ) (value : Descriptor) → HasItsGroups w → HasItsGroups (put_slot w c n value) }
+    ensures uid { (w : World) (c : Name) (uid : ℕ) → HasItsGroups w → HasItsGroups (put_uid w c uid) }
+    ensures map { (w : World) (c : Name) (from to : ℕ) → HasItsGroups w → HasItsGroups (map_pages w c from to) }
+    ensures unmap { (w : World) (c : Name) (from to : ℕ) → HasItsGroups w → HasItsGroups (unmap_pages w c from to) }
+    ensures store { (w : World) (c : Name) (job : ℕ) (piece : Piece) → HasItsGroups w → HasItsGroups (after_store w c job piece) }
+    ensures clone { (w : World) (c : Name) (job : ℕ) (items : List Item) (entry : Regs) →
+        HasItsGroups w → HasItsGroups (clone_context w c job items entry) }
+{}
+
+/// A law: present pages that are one run are one range, where no page is present there is no range, and each further
+/// page adds the range that begins at it. It does nothing.
 pub fn one_run_is_one_range()
     ensures one { (pages from to : ℕ) (x : Context) →
         IsOneRun pages from to x → ranges pages x ≡ 1 }
     ensures none { (pages : ℕ) (x : Context) →
         ((p : ℕ) → p < pages → x.page p ≡ None) → ranges pages x ≡ 0 }
+    ensures next { (pages : ℕ) (x : Context) →
+        ranges (pages + 1) x ≡ ranges pages x + (if begins_range x pages then 1 else 0) }
 {}
