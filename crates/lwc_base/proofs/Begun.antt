@@ -41,10 +41,6 @@ pub contexts-add_context : (w : World) (job : ℕ) (x : Context) (j : ℕ) → (
 unfolding add_context count_on
 contexts-add_context w job x j = one_more_at_most (eqb j job) (w.next j)
 
-pub frames-add_context : (w : World) (job : ℕ) (x : Context) → (add_context w job x).frames ≡ w.frames
+pub size-add_context : (w : World) (job : ℕ) (x : Context) → (add_context w job x).size ≡ w.size
 unfolding add_context count_on
-frames-add_context w job x = refl
-
-pub pages-add_context : (w : World) (job : ℕ) (x : Context) → (add_context w job x).pages ≡ w.pages
-unfolding add_context count_on
-pages-add_context w job x = refl
+size-add_context w job x = refl

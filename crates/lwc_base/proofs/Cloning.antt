@@ -2,22 +2,20 @@
 use Rattle.std.proofs.Common.{◌≡◌, ◌≢◌, ℕ, ◌+◌, refl, sym, ap, ◌∙◌, Bool, true, false, cond, eqb, ◌&&◌, Option, Some, None, List}
 use Rattle.std.specs.Prelude.{◌==◌, if◌then◌else◌, count_by, is_some}
 use Rattle.std.proofs.lemmas.Bool.{eq-eqb, false≢true}
-use Rattle.std.specs.Option.{option_map}
 use Rattle.std.specs.FinMap as fm
 use Rattle.lwc_base.specs.declared.cell.Cell.TheVariants.{Own, Common}
 use Rattle.lwc_base.specs.declared.item.Item.{Item}
 use Rattle.lwc_base.specs.declared.item.Mode.{Mode}
 use Rattle.lwc_base.specs.declared.item.Mode.TheVariants.{Copy, Share, Unmap}
-use Rattle.lwc_base.specs.declared.key.Key.TheVariants.{Page, Slot, Cred}
+use Rattle.lwc_base.specs.declared.key.Key.{Key}
 use Rattle.lwc_base.specs.declared.name.Name.{Name}
-use Rattle.lwc_base.specs.declared.page.PageValue.{PageValue}
 use Rattle.lwc_base.specs.declared.regs.Regs.{Regs}
 use Rattle.lwc_base.specs.Fresh.{IsNamedGroup, NamesOldGroups, IsFresh}
 use Rattle.lwc_base.specs.Modes.{mode_or_copy}
 use Rattle.lwc_base.specs.Names.{name_cmp}
-use Rattle.lwc_base.specs.Sharing.{moved, needs_group, left_common, share, cloned_page, cloned_slot, cloned_uid, clone, clone_context}
+use Rattle.lwc_base.specs.Sharing.{moved, needs_group, left_common, share, cloned, clone, clone_context}
 use Rattle.lwc_base.specs.World.{World, Context, Group, Counters, is_live, context, group, changed_context, change_context, count_on, add_context, next_context, add_group, next_group, live_of, groups_of}
-use Rattle.lwc_base.proofs.Begun.{is_live-add_context, tags-add_context, frames-add_context, pages-add_context}
+use Rattle.lwc_base.proofs.Begun.{is_live-add_context, tags-add_context, size-add_context}
 use Rattle.lwc_base.proofs.Counted.{len-add_new_group, groups_of-add_new_group, live_of-same, live_of-add_context, groups_of-add_context, len-add_context, len_contexts-same, len_groups-add_context}
 use Rattle.lwc_base.proofs.Fresh.{next_context-new, next_group-new, Rises, rises_where, rises-one_more_group, counts_group, one_more_group, fresh-insert_context, fresh-add_context, fresh-add_group, names_old-context, names_old-rises}
 use Rattle.lwc_base.proofs.Live.{ChangesValuesOnly, values-change_context}
@@ -46,21 +44,17 @@ unfolding change_context
 groups-change_context w c change = groups-changed_context w c change _
 
 module _ (w : World) (c : Name) (job : ℕ) (items : List Item) where
-  left_is : ChangesValuesOnly w (change_context w c (left_common (next_group w job) (moved items (context w c))))
-  left_is = values-change_context w c (left_common (next_group w job) (moved items (context w c)))
+  left_is : ChangesValuesOnly w (change_context w c (left_common (next_group w job) items))
+  left_is = values-change_context w c (left_common (next_group w job) items)
 
   -- sharing leaves the same contexts live
   pub live-share : (d : Name) → is_live (share w c job items) d ≡ is_live w d
   unfolding add_group count_on
   live-share d = after_share (λ v. is_live v d ≡ is_live w d) w c job items (left_is.live d) refl
 
-  pub frames-share : (share w c job items).frames ≡ w.frames
+  pub size-share : (share w c job items).size ≡ w.size
   unfolding add_group count_on
-  frames-share = after_share (λ v. v.frames ≡ w.frames) w c job items left_is.frames refl
-
-  pub pages-share : (share w c job items).pages ≡ w.pages
-  unfolding add_group count_on
-  pages-share = after_share (λ v. v.pages ≡ w.pages) w c job items left_is.pages refl
+  size-share = after_share (λ v. v.size ≡ w.size) w c job items left_is.size refl
 
   -- no job has named more contexts
   pub contexts-share : (j : ℕ) → ((share w c job items).next j).contexts ≡ (w.next j).contexts
@@ -92,10 +86,10 @@ module _ (w : World) (c : Name) (job : ℕ) (items : List Item) where
 
   -- the context whose values have moved
   pub context-share-moves : is_live w c ≡ true → needs_group w c items ≡ true →
-      context (share w c job items) c ≡ left_common (next_group w job) (moved items (context w c)) (context w c)
+      context (share w c job items) c ≡ left_common (next_group w job) items (context w c)
   context-share-moves live needs =
       ap (λ v. context v c) (share-moves needs) ∙ context-moved w c job items c
-      ∙ (λ i. cond (live i && name-itself c i) (left_common (next_group w job) (moved items (context w c)) (context w c)) (context w c))
+      ∙ (λ i. cond (live i && name-itself c i) (left_common (next_group w job) items (context w c)) (context w c))
 
   -- it is as it was where none moves
   pub context-share-alone : needs_group w c items ≡ false → (d : Name) → context (share w c job items) d ≡ context w d
@@ -106,7 +100,7 @@ module _ (w : World) (c : Name) (job : ℕ) (items : List Item) where
   context-share-other d other =
       after_share (λ v. context v d ≡ context w d) w c job items
       (context-moved w c job items d
-      ∙ ap (λ b. cond b (left_common (next_group w job) (moved items (context w c)) (context w d)) (context w d)) (not_both (is_live w c) _ (other_name d c other))) refl
+      ∙ ap (λ b. cond b (left_common (next_group w job) items (context w d)) (context w d)) (not_both (is_live w c) _ (other_name d c other))) refl
 
   -- the new group has the values that have moved
   pub group-share-new : needs_group w c items ≡ true → group (share w c job items) (next_group w job) ≡ moved items (context w c)
@@ -124,16 +118,16 @@ module _ (w : World) (c : Name) (job : ℕ) (items : List Item) where
   len_contexts-share = len_contexts-same (share w c job items) w live-share
 
   fresh-moved_found : (found : Option Context) → fm.get w.contexts c ≡ found → IsFresh w →
-      IsFresh (add_group (changed_context w c (left_common (next_group w job) (moved items (context w c))) found) job (moved items (context w c)))
+      IsFresh (add_group (changed_context w c (left_common (next_group w job) items) found) job (moved items (context w c)))
   unfolding add_group count_on
   fresh-moved_found None is fresh = fresh-add_group w job (moved items (context w c)) fresh
   fresh-moved_found (Some x) is fresh =
       let added : IsFresh (add_group w job (moved items (context w c))) = fresh-add_group w job (moved items (context w c)) fresh in
       let rises : (j : ℕ) → Rises (w.next j) (cond (eqb j job) (one_more_group (w.next j)) (w.next j)) =
       λ j. rises_where (eqb j job) (w.next j) _ (rises-one_more_group (w.next j)) in
-      fresh-insert_context (add_group w job (moved items (context w c))) c (left_common (next_group w job) (moved items (context w c)) x)
+      fresh-insert_context (add_group w job (moved items (context w c))) c (left_common (next_group w job) items x)
       (added.contexts c (ap is_some is))
-      (names_old-left_common (add_group w job (moved items (context w c))).next (next_group w job) (moved items (context w c)) x
+      (names_old-left_common (add_group w job (moved items (context w c))).next (next_group w job) items x
       (counts_group (eqb job job) (w.next job) (eq-eqb job job refl))
       (names_old-rises w.next (add_group w job (moved items (context w c))).next x rises (fresh.cells c x is)))
       added
@@ -148,10 +142,10 @@ module _ (w : World) (c : Name) (job : ℕ) (items : List Item) where
 
 module _ (w : World) (c : Name) (job : ℕ) (items : List Item) (fresh : IsFresh w) where
   abbrev left_world : World
-  left_world = change_context w c (left_common (next_group w job) (moved items (context w c)))
+  left_world = change_context w c (left_common (next_group w job) items)
 
   same_groups : left_world.groups ≡ w.groups
-  same_groups = groups-change_context w c (left_common (next_group w job) (moved items (context w c)))
+  same_groups = groups-change_context w c (left_common (next_group w job) items)
 
   group-new-left : fm.contains_key left_world.groups (next_group left_world job) ≡ false
   group-new-left =
@@ -187,38 +181,16 @@ module _ (w : World) (c : Name) (job : ℕ) (items : List Item) (fresh : IsFresh
       (λ needs. ap (λ (v : World). fm.len v.groups) (share-moves w c job items needs) ∙ len-add_new_group left_world job (moved items (context w c)) group-new-left)
       (λ needs. ap (λ (v : World). fm.len v.groups) (share-alone w c job items needs))
 
-common_in_clone : (v : World) (c : Name) (p : ℕ) (g : Name) (old : Option PageValue) → option_map Own old ≡ Some (Common g) → (context v c).page p ≡ Some (Common g)
-common_in_clone v c p g None is = cc
-common_in_clone v c p g (Some value) is = cc
-
--- a page of a clone that names a group names it in the context that the clone is made from
-pub common_page : (v : World) (c : Name) (p : ℕ) (g : Name) (mode : Mode) → cloned_page v c p mode ≡ Some (Common g) → (context v c).page p ≡ Some (Common g)
-common_page v c p g Copy is = common_in_clone v c p g _ is
-common_page v c p g Share is = is
-common_page v c p g Unmap is = cc
-
--- the same of a slot
-pub common_slot : (v : World) (c : Name) (n : ℕ) (g : Name) (mode : Mode) → cloned_slot v c n mode ≡ Common g → (context v c).slot n ≡ Common g
-common_slot v c n g Copy is = cc
-common_slot v c n g Share is = is
-common_slot v c n g Unmap is = cc
-
--- and of the credential
-pub common_uid : (v : World) (c : Name) (g : Name) (mode : Mode) → cloned_uid v c mode ≡ Common g → (context v c).uid ≡ Common g
-common_uid v c g Copy is = cc
-common_uid v c g Share is = is
-common_uid v c g Unmap is = cc
+-- a key of a clone that names a group names it in the context that the clone is made from
+pub common_in_clone : (v : World) (c : Name) (k : Key) (g : Name) (mode : Mode) → cloned v c k mode ≡ Common g → (context v c).cell k ≡ Common g
+common_in_clone v c k g Copy is = cc
+common_in_clone v c k g Share is = is
+common_in_clone v c k g Unmap is = cc
 
 -- a clone names no group that the context that it is made from does not name
 pub names_old-clone : (v : World) (c : Name) (items : List Item) (entry : Regs) → IsFresh v → NamesOldGroups v.next (clone v c items entry)
 unfolding clone
-names_old-clone v c items entry fresh =
-    let old : NamesOldGroups v.next (context v c) = names_old-context v c fresh in
-    record {
-      page = λ p g is. old.page p g (common_page v c p g (mode_or_copy items (Page p)) is);
-      slot = λ n g is. old.slot n g (common_slot v c n g (mode_or_copy items (Slot n)) is);
-      uid = λ g is. old.uid g (common_uid v c g (mode_or_copy items Cred) is);
-    }
+names_old-clone v c items entry fresh k g is = names_old-context v c fresh k g (common_in_clone v c k g (mode_or_copy items k) is)
 
 -- a name that lives is not the next one
 pub live-not-next : (w : World) (job : ℕ) (d : Name) → IsFresh w → is_live w d ≡ true → d ≢ next_context w job
@@ -266,13 +238,9 @@ module _ (w : World) (c : Name) (job : ℕ) (items : List Item) (entry : Regs) w
   unfolding clone_context
   live-clone_context-other d other = live-other shared job (clone shared c items entry) d (not_next d other) ∙ live-share w c job items d
 
-  pub frames-clone_context : (clone_context w c job items entry).frames ≡ w.frames
+  pub size-clone_context : (clone_context w c job items entry).size ≡ w.size
   unfolding clone_context
-  frames-clone_context = frames-add_context shared job (clone shared c items entry) ∙ frames-share w c job items
-
-  pub pages-clone_context : (clone_context w c job items entry).pages ≡ w.pages
-  unfolding clone_context
-  pages-clone_context = pages-add_context shared job (clone shared c items entry) ∙ pages-share w c job items
+  size-clone_context = size-add_context shared job (clone shared c items entry) ∙ size-share w c job items
 
   -- no job has taken more tags
   pub tags-clone_context : (j : ℕ) → ((clone_context w c job items entry).next j).tags ≡ (w.next j).tags

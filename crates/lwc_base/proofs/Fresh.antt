@@ -4,21 +4,26 @@ use Rattle.std.proofs.lemmas.Bool.{eq-eqb, false≢true}
 use Rattle.std.specs.Prelude.{is_some, unwrap_or}
 use Rattle.std.specs.Ordering.{eq_by_cmp}
 use Rattle.std.specs.FinMap as fm
+use Rattle.lwc_base.specs.declared.size.WorldSize.{WorldSize}
 use Rattle.lwc_base.specs.declared.cell.Cell.{Cell}
 use Rattle.lwc_base.specs.declared.cell.Cell.TheVariants.{Own, Common}
-use Rattle.lwc_base.specs.declared.descriptor.Descriptor.{Descriptor}
+use Rattle.lwc_base.specs.declared.key.Key.{Key}
+use Rattle.lwc_base.specs.declared.key.Key.TheVariants.{Page}
 use Rattle.lwc_base.specs.declared.name.Name.{Name}
 use Rattle.lwc_base.specs.declared.page.PageValue.{PageValue}
+use Rattle.lwc_base.specs.declared.page.PageValue.TheVariants.{Zero}
 use Rattle.lwc_base.specs.declared.regs.Regs.{Regs}
 use Rattle.lwc_base.specs.Names.{name_cmp}
-use Rattle.lwc_base.specs.Cells.{put_page_in, put_page, put_slot_in, put_slot, put_uid_in, put_uid, with_page, with_slot}
+use Rattle.lwc_base.specs.Cells.{put_at, put_page, with_cell}
 use Rattle.lwc_base.specs.Fresh.{IsNamedGroup, NamesOldGroups, IsFresh}
+use Rattle.lwc_base.specs.Keys.{ValueOf}
 use Rattle.lwc_base.specs.Mapping.{map_pages, unmap_pages}
 use Rattle.lwc_base.specs.Memory.{touched}
 use Rattle.lwc_base.specs.Registers.{fresh_registers}
 use Rattle.lwc_base.specs.Store.{Piece, after_store, parting_count, plan, put_pages}
 use Rattle.lwc_base.specs.World.{World, Context, Group, Counters, is_live, context, changed_context, change_context, changed_group, change_group, count_on, empty_world, new_context, add_context, next_context, add_group, next_group}
-use Rattle.lwc_base.proofs.Live.{same_name}
+use Rattle.lwc_base.proofs.Keys.{was_common, was_common_page}
+use Rattle.lwc_base.proofs.Live.{after_put, same_name}
 use Rattle.lwc_base.proofs.Orders.{name_cmp-total}
 
 -- a job has named no fewer contexts and groups than before
@@ -28,11 +33,7 @@ pub record Rises (before after : Counters) : Type 0 where
 
 -- what has been named stays so when counts rise
 pub names_old-rises : (next later : ℕ → Counters) (x : Context) → ((job : ℕ) → Rises (next job) (later job)) → NamesOldGroups next x → NamesOldGroups later x
-names_old-rises next later x rises old = record {
-  page = λ p g is. omega (arith, old.page p g is, (rises g.job).groups);
-  slot = λ n g is. omega (arith, old.slot n g is, (rises g.job).groups);
-  uid = λ g is. omega (arith, old.uid g is, (rises g.job).groups);
-}
+names_old-rises next later x rises old k g is = omega (arith, old k g is, (rises g.job).groups)
 
 -- a fresh world stays fresh when counts rise
 pub fresh-rises : (w : World) (later : ℕ → Counters) → ((job : ℕ) → Rises (w.next job) (later job)) → IsFresh w → IsFresh (record w { next = later })
@@ -109,77 +110,32 @@ unfolding count_on
 fresh-count_on w job change rises fresh = fresh-rises w _ (λ j. rises_where (eqb j job) (w.next j) (change (w.next j)) (rises (w.next j))) fresh
 
 -- the empty world
-pub fresh-empty_world : (frames pages : ℕ) → IsFresh (empty_world frames pages)
+pub fresh-empty_world : (size : WorldSize) → IsFresh (empty_world size)
 unfolding empty_world
-fresh-empty_world frames pages = record {
+fresh-empty_world size = record {
   contexts = λ c live. absurd (false≢true (sym (ap is_some (fm.get-empty name_cmp c)) ∙ live));
   groups = λ g live. absurd (false≢true (sym (ap is_some (fm.get-empty name_cmp g)) ∙ live));
   cells = λ c x found. absurd (false≢true (ap is_some (sym (fm.get-empty name_cmp c) ∙ found)));
 }
 
--- a cell that is common after a page has got its own was so before
-pub was_common : (b : Bool) (value : PageValue) (old : Option (Cell PageValue)) (g : Name) → cond b (Some (Own value)) old ≡ Some (Common g) → old ≡ Some (Common g)
-was_common true value old g is = cc
-was_common false value old g is = is
-
--- nor does a page that becomes absent name a group
-pub was_present : (b : Bool) (old : Option (Cell PageValue)) (g : Name) → cond b None old ≡ Some (Common g) → old ≡ Some (Common g)
-was_present true old g is = cc
-was_present false old g is = is
-
--- the same of a slot
-pub was_common_slot : (b : Bool) (value : Descriptor) (old : Cell Descriptor) (g : Name) → cond b (Own value) old ≡ Common g → old ≡ Common g
-was_common_slot true value old g is = cc
-was_common_slot false value old g is = is
-
-own_uid : (uid : ℕ) (next : ℕ → Counters) (g : Name) → ◌≡◌ {A = Cell ℕ} (Own uid) (Common g) → IsNamedGroup next g
-own_uid uid next g is = cc
-
-fresh-put_page_in : (w : World) (c : Name) (p : ℕ) (value : PageValue) (cell : Option (Cell PageValue)) → IsFresh w → IsFresh (put_page_in w c p value cell)
-fresh-put_page_in w c p value None fresh = fresh
-fresh-put_page_in w c p value (Some (Own old)) fresh =
-    fresh-change_context w c (with_page p (Some (Own value)))
-    (λ x named. record { page = λ q g is. named.page q g (was_common (eqb q p) value (x.page q) g is); slot = named.slot; uid = named.uid }) fresh
-fresh-put_page_in w c p value (Some (Common g)) fresh = fresh-change_group w g _ fresh
-
-pub fresh-put_page : (w : World) (c : Name) (p : ℕ) (value : PageValue) → IsFresh w → IsFresh (put_page w c p value)
-unfolding put_page
-fresh-put_page w c p value fresh = fresh-put_page_in w c p value _ fresh
+pub fresh-put_at : (w : World) (c : Name) (k : Key) (value : ValueOf k) → IsFresh w → IsFresh (put_at w c k value)
+unfolding put_at
+fresh-put_at w c k value fresh =
+    after_put IsFresh w c k value _ fresh
+    (λ _ _. fresh-change_context w c (with_cell k (Own value)) (λ x named q g is. named q g (was_common k value x.cell q g is)) fresh)
+    (λ g _. fresh-change_group w g _ fresh)
 
 pub fresh-put_pages : (w : World) (c : Name) (values : List (ℕ × PageValue)) → IsFresh w → IsFresh (put_pages w c values)
 fresh-put_pages w c [] fresh = fresh
-fresh-put_pages w c (v ∷ vs) fresh = fresh-put_pages (put_page w c v.0 v.1) c vs (fresh-put_page w c v.0 v.1 fresh)
-
-fresh-put_slot_in : (w : World) (c : Name) (n : ℕ) (value : Descriptor) (cell : Cell Descriptor) → IsFresh w → IsFresh (put_slot_in w c n value cell)
-fresh-put_slot_in w c n value (Own old) fresh =
-    fresh-change_context w c (with_slot n (Own value))
-    (λ x named. record { page = named.page; slot = λ m g is. named.slot m g (was_common_slot (eqb m n) value (x.slot m) g is); uid = named.uid }) fresh
-fresh-put_slot_in w c n value (Common g) fresh = fresh-change_group w g _ fresh
-
-pub fresh-put_slot : (w : World) (c : Name) (n : ℕ) (value : Descriptor) → IsFresh w → IsFresh (put_slot w c n value)
-unfolding put_slot
-fresh-put_slot w c n value fresh = fresh-put_slot_in w c n value _ fresh
-
-fresh-put_uid_in : (w : World) (c : Name) (uid : ℕ) (cell : Cell ℕ) → IsFresh w → IsFresh (put_uid_in w c uid cell)
-fresh-put_uid_in w c uid (Own old) fresh =
-    fresh-change_context w c (λ x. record x { uid = Own uid }) (λ x named. record { page = named.page; slot = named.slot; uid = own_uid uid w.next }) fresh
-fresh-put_uid_in w c uid (Common g) fresh = fresh-change_group w g _ fresh
-
-pub fresh-put_uid : (w : World) (c : Name) (uid : ℕ) → IsFresh w → IsFresh (put_uid w c uid)
-unfolding put_uid
-fresh-put_uid w c uid fresh = fresh-put_uid_in w c uid _ fresh
+fresh-put_pages w c (v ∷ vs) fresh = fresh-put_pages (put_page w c v.0 v.1) c vs (fresh-put_at w c (Page v.0) (Some v.1) fresh)
 
 pub fresh-map_pages : (w : World) (c : Name) (from to : ℕ) → IsFresh w → IsFresh (map_pages w c from to)
 unfolding map_pages
-fresh-map_pages w c from to fresh =
-    fresh-change_context w c _
-    (λ x named. record { page = λ q g is. named.page q g (was_common (leb from q && ltb q to) _ (x.page q) g is); slot = named.slot; uid = named.uid }) fresh
+fresh-map_pages w c from to fresh = fresh-change_context w c _ (λ x named q g is. named q g (was_common_page from to (Some Zero) x.cell q g is)) fresh
 
 pub fresh-unmap_pages : (w : World) (c : Name) (from to : ℕ) → IsFresh w → IsFresh (unmap_pages w c from to)
 unfolding unmap_pages
-fresh-unmap_pages w c from to fresh =
-    fresh-change_context w c _
-    (λ x named. record { page = λ q g is. named.page q g (was_present (leb from q && ltb q to) (x.page q) g is); slot = named.slot; uid = named.uid }) fresh
+fresh-unmap_pages w c from to fresh = fresh-change_context w c _ (λ x named q g is. named q g (was_common_page from to None x.cell q g is)) fresh
 
 -- tags that are counted on
 pub fresh-count_tags : (w : World) (job : ℕ) (tags : Counters → ℕ) → IsFresh w → IsFresh (count_on w job (λ n. record n { tags = tags n }))
@@ -230,7 +186,7 @@ fresh-add_group w job g fresh =
 
 -- a new context of its own names no group
 pub names_old-new_context : (next : ℕ → Counters) (uid : ℕ) (entry : Regs) → NamesOldGroups next (new_context uid entry)
-names_old-new_context next uid entry = record { page = λ p g is. cc; slot = λ n g is. cc; uid = λ g is. cc }
+names_old-new_context next uid entry k g is = cc
 
 -- and keeps a world fresh
 pub fresh-add_new_context : (w : World) (job uid : ℕ) (entry : Regs) → IsFresh w → IsFresh (add_context w job (new_context uid entry))

@@ -3,38 +3,38 @@ use Rattle.std.proofs.Common.{◌≡◌, ℕ, ◌+◌, refl, sym, ap, subst, ◌
 use Rattle.std.proofs.lemmas.Bool.{false≢true}
 use Rattle.std.specs.Prelude.{is_some, unwrap_or}
 use Rattle.std.specs.FinMap as fm
+use Rattle.lwc_base.specs.declared.size.WorldSize.{WorldSize}
 use Rattle.lwc_base.specs.declared.cell.Cell.{Cell}
 use Rattle.lwc_base.specs.declared.cell.Cell.TheVariants.{Own, Common}
-use Rattle.lwc_base.specs.declared.descriptor.Descriptor.{Descriptor}
 use Rattle.lwc_base.specs.declared.item.Item.{Item}
-use Rattle.lwc_base.specs.declared.key.Key.TheVariants.{Page, Slot, Cred}
+use Rattle.lwc_base.specs.declared.key.Key.{Key}
+use Rattle.lwc_base.specs.declared.key.Key.TheVariants.{Page}
 use Rattle.lwc_base.specs.declared.name.Name.{Name}
 use Rattle.lwc_base.specs.declared.page.PageValue.{PageValue}
+use Rattle.lwc_base.specs.declared.page.PageValue.TheVariants.{Zero}
 use Rattle.lwc_base.specs.declared.regs.Regs.{Regs}
-use Rattle.lwc_base.specs.Cells.{put_page_in, put_page, put_slot_in, put_slot, put_uid_in, put_uid, with_page, with_slot}
+use Rattle.lwc_base.specs.Cells.{put_at, put_page, with_cell}
 use Rattle.lwc_base.specs.Clones.{IsGroup, NamesLiveGroups, HasItsGroups}
+use Rattle.lwc_base.specs.Keys.{ValueOf}
 use Rattle.lwc_base.specs.Mapping.{map_pages, unmap_pages}
 use Rattle.lwc_base.specs.Memory.{touched}
 use Rattle.lwc_base.specs.Modes.{mode_or_copy}
 use Rattle.lwc_base.specs.Names.{name_cmp}
 use Rattle.lwc_base.specs.Registers.{fresh_registers}
-use Rattle.lwc_base.specs.Sharing.{moved, left_common, share, clone, clone_context}
+use Rattle.lwc_base.specs.Sharing.{moves, moved, left_common, share, clone, clone_context}
 use Rattle.lwc_base.specs.Store.{Piece, after_store, parting_count, plan, put_pages}
 use Rattle.lwc_base.specs.World.{World, Context, Group, Counters, context, changed_context, change_context, changed_group, change_group, count_on, empty_world, new_context, add_context, next_context, add_group, next_group}
-use Rattle.lwc_base.proofs.Cloning.{common_page, common_slot, common_uid}
-use Rattle.lwc_base.proofs.Fresh.{was_common, was_present, was_common_slot}
+use Rattle.lwc_base.proofs.Cloning.{common_in_clone}
+use Rattle.lwc_base.proofs.Keys.{was_common, was_common_page}
+use Rattle.lwc_base.proofs.Live.{after_put}
 use Rattle.lwc_base.proofs.Lookups.{name-itself}
 use Rattle.lwc_base.proofs.Orders.{name_cmp-total}
-use Rattle.lwc_base.proofs.Sharing.{after_share, moved_into_group, common_after, common_cell_after}
+use Rattle.lwc_base.proofs.Sharing.{after_share, moved_into_group, common_after}
 use Rattle.lwc_base.proofs.Writes.{groups_live-change_group}
 
 -- a context whose groups are live names live groups in each world where these are live
 names_live-kept : (w v : World) (x : Context) → ((g : Name) → IsGroup w g → IsGroup v g) → NamesLiveGroups w x → NamesLiveGroups v x
-names_live-kept w v x kept named = record {
-  page = λ p g is. kept g (named.page p g is);
-  slot = λ n g is. kept g (named.slot n g is);
-  uid = λ g is. kept g (named.uid g is);
-}
+names_live-kept w v x kept named k g is = kept g (named k g is)
 
 named_in : (w : World) (b : Bool) (x y : Context) (old : Option Context) → cond b (Some y) old ≡ Some x →
     NamesLiveGroups w y → (old ≡ Some x → NamesLiveGroups w x) → NamesLiveGroups w x
@@ -78,61 +78,31 @@ has_groups-change_group w g change has =
 -- counts
 pub has_groups-count_on : (w : World) (job : ℕ) (change : Counters → Counters) → HasItsGroups w → HasItsGroups (count_on w job change)
 unfolding count_on
-has_groups-count_on w job change has = has_groups-more w _ refl (λ g live. live) has
+has_groups-count_on w job change has = has_groups-more w (count_on w job change) refl (λ g live. live) has
 
 -- the empty world
-pub has_groups-empty_world : (frames pages : ℕ) → HasItsGroups (empty_world frames pages)
+pub has_groups-empty_world : (size : WorldSize) → HasItsGroups (empty_world size)
 unfolding empty_world
-has_groups-empty_world frames pages c x found = absurd (false≢true (ap is_some (sym (fm.get-empty name_cmp c) ∙ found)))
+has_groups-empty_world size c x found = absurd (false≢true (ap is_some (sym (fm.get-empty name_cmp c) ∙ found)))
 
-has_groups-put_page_in : (w : World) (c : Name) (p : ℕ) (value : PageValue) (cell : Option (Cell PageValue)) → HasItsGroups w → HasItsGroups (put_page_in w c p value cell)
-has_groups-put_page_in w c p value None has = has
-has_groups-put_page_in w c p value (Some (Own old)) has =
-    has_groups-change_context w c (with_page p (Some (Own value)))
-    (λ x named. record { page = λ q g is. named.page q g (was_common (eqb q p) value (x.page q) g is); slot = named.slot; uid = named.uid }) has
-has_groups-put_page_in w c p value (Some (Common g)) has = has_groups-change_group w g _ has
-
-pub has_groups-put_page : (w : World) (c : Name) (p : ℕ) (value : PageValue) → HasItsGroups w → HasItsGroups (put_page w c p value)
-unfolding put_page
-has_groups-put_page w c p value has = has_groups-put_page_in w c p value _ has
+pub has_groups-put_at : (w : World) (c : Name) (k : Key) (value : ValueOf k) → HasItsGroups w → HasItsGroups (put_at w c k value)
+unfolding put_at
+has_groups-put_at w c k value has =
+    after_put HasItsGroups w c k value _ has
+    (λ _ _. has_groups-change_context w c (with_cell k (Own value)) (λ x named q g is. named q g (was_common k value x.cell q g is)) has)
+    (λ g _. has_groups-change_group w g _ has)
 
 pub has_groups-put_pages : (w : World) (c : Name) (values : List (ℕ × PageValue)) → HasItsGroups w → HasItsGroups (put_pages w c values)
 has_groups-put_pages w c [] has = has
-has_groups-put_pages w c (v ∷ vs) has = has_groups-put_pages (put_page w c v.0 v.1) c vs (has_groups-put_page w c v.0 v.1 has)
-
-has_groups-put_slot_in : (w : World) (c : Name) (n : ℕ) (value : Descriptor) (cell : Cell Descriptor) → HasItsGroups w → HasItsGroups (put_slot_in w c n value cell)
-has_groups-put_slot_in w c n value (Own old) has =
-    has_groups-change_context w c (with_slot n (Own value))
-    (λ x named. record { page = named.page; slot = λ m g is. named.slot m g (was_common_slot (eqb m n) value (x.slot m) g is); uid = named.uid }) has
-has_groups-put_slot_in w c n value (Common g) has = has_groups-change_group w g _ has
-
-pub has_groups-put_slot : (w : World) (c : Name) (n : ℕ) (value : Descriptor) → HasItsGroups w → HasItsGroups (put_slot w c n value)
-unfolding put_slot
-has_groups-put_slot w c n value has = has_groups-put_slot_in w c n value _ has
-
-own_is_live : (w : World) (uid : ℕ) (g : Name) → ◌≡◌ {A = Cell ℕ} (Own uid) (Common g) → IsGroup w g
-own_is_live w uid g is = cc
-
-has_groups-put_uid_in : (w : World) (c : Name) (uid : ℕ) (cell : Cell ℕ) → HasItsGroups w → HasItsGroups (put_uid_in w c uid cell)
-has_groups-put_uid_in w c uid (Own old) has =
-    has_groups-change_context w c (λ x. record x { uid = Own uid }) (λ x named. record { page = named.page; slot = named.slot; uid = own_is_live w uid }) has
-has_groups-put_uid_in w c uid (Common g) has = has_groups-change_group w g _ has
-
-pub has_groups-put_uid : (w : World) (c : Name) (uid : ℕ) → HasItsGroups w → HasItsGroups (put_uid w c uid)
-unfolding put_uid
-has_groups-put_uid w c uid has = has_groups-put_uid_in w c uid _ has
+has_groups-put_pages w c (v ∷ vs) has = has_groups-put_pages (put_page w c v.0 v.1) c vs (has_groups-put_at w c (Page v.0) (Some v.1) has)
 
 pub has_groups-map_pages : (w : World) (c : Name) (from to : ℕ) → HasItsGroups w → HasItsGroups (map_pages w c from to)
 unfolding map_pages
-has_groups-map_pages w c from to has =
-    has_groups-change_context w c _
-    (λ x named. record { page = λ q g is. named.page q g (was_common (leb from q && ltb q to) _ (x.page q) g is); slot = named.slot; uid = named.uid }) has
+has_groups-map_pages w c from to has = has_groups-change_context w c _ (λ x named q g is. named q g (was_common_page from to (Some Zero) x.cell q g is)) has
 
 pub has_groups-unmap_pages : (w : World) (c : Name) (from to : ℕ) → HasItsGroups w → HasItsGroups (unmap_pages w c from to)
 unfolding unmap_pages
-has_groups-unmap_pages w c from to has =
-    has_groups-change_context w c _
-    (λ x named. record { page = λ q g is. named.page q g (was_present (leb from q && ltb q to) (x.page q) g is); slot = named.slot; uid = named.uid }) has
+has_groups-unmap_pages w c from to has = has_groups-change_context w c _ (λ x named q g is. named q g (was_common_page from to None x.cell q g is)) has
 
 pub has_groups-after_store : (w : World) (c : Name) (job : ℕ) (piece : Piece) → HasItsGroups w → HasItsGroups (after_store w c job piece)
 unfolding after_store
@@ -148,7 +118,7 @@ has_groups-add_context w job x named has =
 
 -- a new context of its own names no group
 pub names_live-new_context : (w : World) (uid : ℕ) (entry : Regs) → NamesLiveGroups w (new_context uid entry)
-names_live-new_context w uid entry = record { page = λ p g is. cc; slot = λ n g is. cc; uid = λ g is. cc }
+names_live-new_context w uid entry k g is = cc
 
 live_where : (b : Bool) (y : Group) (old : Option Group) → is_some old ≡ true → is_some (cond b (Some y) old) ≡ true
 live_where true y old live = refl
@@ -181,22 +151,18 @@ unfolding context
 names_live-context w c has = named_where w (fm.get w.contexts c) (has c)
 
 -- a context whose values have moved into a live group
-names_live-left_common : (w : World) (g : Name) (values : Group) (x : Context) → IsGroup w g → NamesLiveGroups w x → NamesLiveGroups w (left_common g values x)
+names_live-left_common : (w : World) (g : Name) (items : List Item) (x : Context) → IsGroup w g → NamesLiveGroups w x → NamesLiveGroups w (left_common g items x)
 unfolding left_common
-names_live-left_common w g values x live named = record {
-  page = λ p h is. common_after (IsGroup w) g h (values.page p) (x.page p) is live (named.page p h);
-  slot = λ n h is. common_cell_after (IsGroup w) g h (values.slot n) (x.slot n) is live (named.slot n h);
-  uid = λ h is. common_cell_after (IsGroup w) g h values.uid x.uid is live (named.uid h);
-}
+names_live-left_common w g items x live named k h is = common_after (IsGroup w) g h (moves (mode_or_copy items k) k (x.cell k)) (x.cell k) is live (named k h)
 
 module _ (w : World) (c : Name) (job : ℕ) (items : List Item) where
   has_groups-found : (found : Option Context) → fm.get w.contexts c ≡ found → HasItsGroups w →
-      HasItsGroups (add_group (changed_context w c (left_common (next_group w job) (moved items (context w c))) found) job (moved items (context w c)))
+      HasItsGroups (add_group (changed_context w c (left_common (next_group w job) items) found) job (moved items (context w c)))
   unfolding add_group count_on
   has_groups-found None is has = has_groups-add_group w job (moved items (context w c)) has
   has_groups-found (Some x) is has =
-      has_groups-insert_context (add_group w job (moved items (context w c))) c (left_common (next_group w job) (moved items (context w c)) x)
-      (names_live-left_common (add_group w job (moved items (context w c))) (next_group w job) (moved items (context w c)) x
+      has_groups-insert_context (add_group w job (moved items (context w c))) c (left_common (next_group w job) items x)
+      (names_live-left_common (add_group w job (moved items (context w c))) (next_group w job) items x
       (is_group-added w job (moved items (context w c)))
       (names_live-kept w (add_group w job (moved items (context w c))) x (is_group-kept w job (moved items (context w c))) (has c x is)))
       (has_groups-add_group w job (moved items (context w c)) has)
@@ -211,13 +177,7 @@ module _ (w : World) (c : Name) (job : ℕ) (items : List Item) where
 -- a clone names no group that the context that it is made from does not name
 names_live-clone : (v : World) (c : Name) (items : List Item) (entry : Regs) → HasItsGroups v → NamesLiveGroups v (clone v c items entry)
 unfolding clone
-names_live-clone v c items entry has =
-    let named : NamesLiveGroups v (context v c) = names_live-context v c has in
-    record {
-      page = λ p g is. named.page p g (common_page v c p g (mode_or_copy items (Page p)) is);
-      slot = λ n g is. named.slot n g (common_slot v c n g (mode_or_copy items (Slot n)) is);
-      uid = λ g is. named.uid g (common_uid v c g (mode_or_copy items Cred) is);
-    }
+names_live-clone v c items entry has k g is = names_live-context v c has k g (common_in_clone v c k g (mode_or_copy items k) is)
 
 pub has_groups-clone_context : (w : World) (c : Name) (job : ℕ) (items : List Item) (entry : Regs) → HasItsGroups w → HasItsGroups (clone_context w c job items entry)
 unfolding clone_context

@@ -6,7 +6,7 @@ use Rattle.std.proofs.lemmas.List.Sums.{count_by-le-length}
 use Rattle.std.proofs.lemmas.List.FromFn.{length-range_with_len}
 use Rattle.lwc_base.specs.declared.name.Name.{Name}
 use Rattle.lwc_base.specs.Memory.{touched}
-use Rattle.lwc_base.specs.Store.{Piece, Absent, Full, Done, after_store, parting_count, plan, store, value_at}
+use Rattle.lwc_base.specs.Store.{Piece, Absent, Full, Done, after_store, parting_count, plan, store, page_value_at}
 use Rattle.lwc_base.specs.Frames.{is_parting}
 use Rattle.lwc_base.specs.World.{World, Counters, count_on, is_live}
 use Rattle.lwc_base.proofs.Live.{values-put_pages}
@@ -20,15 +20,14 @@ pub record RisesBy (most : ℕ) (before after : Counters) : Type 0 where
 -- the same names live, the world is as large, and no count rises by more than so much
 pub record GrowsBy (most : ℕ) (w v : World) : Type 0 where
   pub live : (q : Name) → is_live v q ≡ is_live w q
-  pub frames : v.frames ≡ w.frames
-  pub pages : v.pages ≡ w.pages
+  pub size : v.size ≡ w.size
   pub counts : (job : ℕ) → RisesBy most (w.next job) (v.next job)
 
 rises_not : (most : ℕ) (n : Counters) → RisesBy most n n
 rises_not most n = record { contexts = omega arith; groups = omega arith; tags = omega arith }
 
 pub grows_not : (most : ℕ) (w : World) → GrowsBy most w w
-grows_not most w = record { live = λ q. refl; frames = refl; pages = refl; counts = λ job. rises_not most (w.next job) }
+grows_not most w = record { live = λ q. refl; size = refl; counts = λ job. rises_not most (w.next job) }
 
 at_most_two : (b : Bool) (from count : ℕ) → count ≤ 2 → length (cond b [] (range_with_len from count)) ≤ 2
 at_most_two true from count few = omega arith
@@ -48,12 +47,11 @@ pub grows-after_store : (w : World) (c : Name) (job : ℕ) (piece : Piece) → l
 unfolding after_store count_on parting_count
 grows-after_store w c job piece short =
     let same = values-put_pages w c (plan w c job piece (w.next job).tags (touched piece.at (length piece.bytes))) in
-    let parted = count_by (λ p. is_parting w (value_at w c p)) (touched piece.at (length piece.bytes)) in
-    let few : parted ≤ 2 = omega (arith, count_by-le-length (λ p. is_parting w (value_at w c p)) (touched piece.at (length piece.bytes)), length-touched piece.at (length piece.bytes) short) in
+    let parted = count_by (λ p. is_parting w (page_value_at w c p)) (touched piece.at (length piece.bytes)) in
+    let few : parted ≤ 2 = omega (arith, count_by-le-length (λ p. is_parting w (page_value_at w c p)) (touched piece.at (length piece.bytes)), length-touched piece.at (length piece.bytes) short) in
     record {
       live = same.live;
-      frames = same.frames;
-      pages = same.pages;
+      size = same.size;
       counts = λ j. subst (λ (n : ℕ → Counters). RisesBy 2 (w.next j) (cond (eqb j job) (record (n j) { tags = (n j).tags + parted }) (n j)))
           (sym same.next) (rises_on 2 parted (w.next j) (eqb j job) few);
     }

@@ -9,6 +9,7 @@ pub mod Kernel
 pub mod OneContext
 pub mod OnePage
 pub mod OneUsed
+pub mod Keys
 pub mod Live
 pub mod Loading
 pub mod Lookups

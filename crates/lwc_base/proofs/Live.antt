@@ -8,11 +8,13 @@ use Rattle.std.specs.declared.cmp.Ordering.TheVariants.{Less, Equal, Greater}
 use Rattle.std.specs.FinMap as fm
 use Rattle.lwc_base.specs.declared.cell.Cell.{Cell}
 use Rattle.lwc_base.specs.declared.cell.Cell.TheVariants.{Own, Common}
-use Rattle.lwc_base.specs.declared.descriptor.Descriptor.{Descriptor}
+use Rattle.lwc_base.specs.declared.key.Key.{Key}
+use Rattle.lwc_base.specs.declared.key.Key.TheVariants.{Page}
 use Rattle.lwc_base.specs.declared.name.Name.{Name}
 use Rattle.lwc_base.specs.declared.page.PageValue.{PageValue}
 use Rattle.lwc_base.specs.Names.{name_cmp}
-use Rattle.lwc_base.specs.Cells.{put_page_in, put_page, put_slot_in, put_slot, put_uid_in, put_uid}
+use Rattle.lwc_base.specs.Cells.{put_in, put_at, put_page, with_cell, with_value}
+use Rattle.lwc_base.specs.Keys.{ValueOf, is_there}
 use Rattle.lwc_base.specs.Mapping.{map_pages, unmap_pages}
 use Rattle.lwc_base.specs.Store.{put_pages}
 use Rattle.lwc_base.specs.World.{World, Context, Group, Counters, is_live, changed_context, change_context, changed_group, change_group, count_on}
@@ -31,18 +33,16 @@ same_name a b e = name_cmp-IsAntisymmetric a b (equal_of_is_eq (name_cmp a b) e)
 pub record ChangesValuesOnly (w v : World) : Type 0 where
   pub live : (q : Name) → is_live v q ≡ is_live w q
   pub next : v.next ≡ w.next
-  pub frames : v.frames ≡ w.frames
-  pub pages : v.pages ≡ w.pages
+  pub size : v.size ≡ w.size
 
 same_world : (w : World) → ChangesValuesOnly w w
-same_world w = record { live = λ q. refl; next = refl; frames = refl; pages = refl }
+same_world w = record { live = λ q. refl; next = refl; size = refl }
 
 then_changes : (u v w : World) → ChangesValuesOnly u v → ChangesValuesOnly v w → ChangesValuesOnly u w
 then_changes u v w first second = record {
   live = λ q. second.live q ∙ first.live q;
   next = second.next ∙ first.next;
-  frames = second.frames ∙ first.frames;
-  pages = second.pages ∙ first.pages;
+  size = second.size ∙ first.size;
 }
 
 live_where_inserted : (w : World) (c : Name) (x y : Context) → fm.get w.contexts c ≡ Some x → (q : Name) (b : Bool) → eq_by_cmp name_cmp q c ≡ b →
@@ -56,8 +56,7 @@ values-changed_context w c change None found = same_world w
 values-changed_context w c change (Some x) found = record {
   live = λ q. ap is_some (fm.get-insert name_cmp-total w.contexts c (change x) q) ∙ live_where_inserted w c x (change x) found q _ refl;
   next = refl;
-  frames = refl;
-  pages = refl;
+  size = refl;
 }
 
 -- a change of one context
@@ -67,29 +66,27 @@ values-change_context w c change = values-changed_context w c change _ refl
 
 values-changed_group : (w : World) (g : Name) (change : Group → Group) (found : Option Group) → ChangesValuesOnly w (changed_group w g change found)
 values-changed_group w g change None = same_world w
-values-changed_group w g change (Some x) = record { live = λ q. refl; next = refl; frames = refl; pages = refl }
+values-changed_group w g change (Some x) = record { live = λ q. refl; next = refl; size = refl }
 
 -- a change of one group
 pub values-change_group : (w : World) (g : Name) (change : Group → Group) → ChangesValuesOnly w (change_group w g change)
 unfolding change_group
 values-change_group w g change = values-changed_group w g change _
 
-values-put_page_in : (w : World) (c : Name) (p : ℕ) (value : PageValue) (cell : Option (Cell PageValue)) → ChangesValuesOnly w (put_page_in w c p value cell)
-values-put_page_in w c p value None = same_world w
-values-put_page_in w c p value (Some (Own old)) = values-change_context w c _
-values-put_page_in w c p value (Some (Common g)) = values-change_group w g _
+either_world : (P : World → Type 0) (b : Bool) (v w : World) → P v → P w → P (cond b v w)
+either_world P true v w is other = is
+either_world P false v w is other = other
 
-pub values-put_page : (w : World) (c : Name) (p : ℕ) (value : PageValue) → ChangesValuesOnly w (put_page w c p value)
-unfolding put_page
-values-put_page w c p value = values-put_page_in w c p value _
+-- what is so of a world, of the world where a context's own cell has the value, and of the world where a group has it, is so once the value is put
+pub after_put : (P : World → Type 0) (w : World) (c : Name) (k : Key) (value : ValueOf k) (cell : Cell (ValueOf k)) → P w →
+    ((old : ValueOf k) → cell ≡ Own old → P (change_context w c (with_cell k (Own value)))) →
+    ((g : Name) → cell ≡ Common g → P (change_group w g (with_value k value))) → P (put_in w c k value cell)
+after_put P w c k value (Own old) same own common = either_world P (is_there k old) _ w (own old refl) same
+after_put P w c k value (Common g) same own common = common g refl
 
-values-put_slot_in : (w : World) (c : Name) (n : ℕ) (d : Descriptor) (cell : Cell Descriptor) → ChangesValuesOnly w (put_slot_in w c n d cell)
-values-put_slot_in w c n d (Own old) = values-change_context w c _
-values-put_slot_in w c n d (Common g) = values-change_group w g _
-
-pub values-put_slot : (w : World) (c : Name) (n : ℕ) (d : Descriptor) → ChangesValuesOnly w (put_slot w c n d)
-unfolding put_slot
-values-put_slot w c n d = values-put_slot_in w c n d _
+pub values-put_at : (w : World) (c : Name) (k : Key) (value : ValueOf k) → ChangesValuesOnly w (put_at w c k value)
+unfolding put_at
+values-put_at w c k value = after_put (ChangesValuesOnly w) w c k value _ (same_world w) (λ _ _. values-change_context w c _) (λ g _. values-change_group w g _)
 
 pub values-map_pages : (w : World) (c : Name) (from to : ℕ) → ChangesValuesOnly w (map_pages w c from to)
 unfolding map_pages
@@ -99,17 +96,9 @@ pub values-unmap_pages : (w : World) (c : Name) (from to : ℕ) → ChangesValue
 unfolding unmap_pages
 values-unmap_pages w c from to = values-change_context w c _
 
-values-put_uid_in : (w : World) (c : Name) (uid : ℕ) (cell : Cell ℕ) → ChangesValuesOnly w (put_uid_in w c uid cell)
-values-put_uid_in w c uid (Own old) = values-change_context w c _
-values-put_uid_in w c uid (Common g) = values-change_group w g _
-
-pub values-put_uid : (w : World) (c : Name) (uid : ℕ) → ChangesValuesOnly w (put_uid w c uid)
-unfolding put_uid
-values-put_uid w c uid = values-put_uid_in w c uid _
-
 pub values-put_pages : (w : World) (c : Name) (values : List (ℕ × PageValue)) → ChangesValuesOnly w (put_pages w c values)
 values-put_pages w c [] = same_world w
-values-put_pages w c (v ∷ vs) = then_changes w (put_page w c v.0 v.1) _ (values-put_page w c v.0 v.1) (values-put_pages (put_page w c v.0 v.1) c vs)
+values-put_pages w c (v ∷ vs) = then_changes w (put_page w c v.0 v.1) _ (values-put_at w c (Page v.0) (Some v.1)) (values-put_pages (put_page w c v.0 v.1) c vs)
 
 choice_of_same : {A : Type 0} (change : A → A) (f : ℕ → A) (n : A) (job j : ℕ) (b : Bool) → eqb j job ≡ b → change (f job) ≡ n →
     cond b n (f j) ≡ cond b (change (f j)) (f j)

@@ -5,14 +5,16 @@ use Rattle.std.specs.List.{list_all, range_with_len}
 use Rattle.std.proofs.lemmas.Bool.Decides.{nat_tests}
 use Rattle.std.proofs.lemmas.List.{length-replicate}
 use Rattle.std.proofs.lemmas.List.FromFn.{fill_by_all}
-use Rattle.lwc_base.proofs.OneContext.{first, none_counted, one_counted, one_context, context-one, put_page-one}
-use Rattle.lwc_base.specs.Cells.{page_of, page_at, with_page}
+use Rattle.lwc_base.proofs.OneContext.{first, none_counted, one_counted, one_context, context-one, put_at-one}
+use Rattle.lwc_base.specs.declared.size.WorldSize.{WorldSize}
+use Rattle.lwc_base.specs.Cells.{value_of, value_at, page_at, with_cell}
 use Rattle.lwc_base.specs.Frames.{is_parting, used}
 use Rattle.lwc_base.specs.Memory.{touched, is_present}
 use Rattle.lwc_base.specs.Pages.{bytes_of, zero_bytes, zero_page}
-use Rattle.lwc_base.specs.Store.{Piece, Absent, Full, Done, after_store, byte_after, bytes_after, parting_count, plan, put_pages, store, stored_value, value_at}
+use Rattle.lwc_base.specs.Store.{Piece, Absent, Full, Done, after_store, byte_after, bytes_after, parting_count, plan, put_pages, store, stored_value, page_value_at}
 use Rattle.lwc_base.specs.World.{World, Context, count_on}
 use Rattle.lwc_base.specs.declared.cell.Cell.TheVariants.{Own}
+use Rattle.lwc_base.specs.declared.key.Key.TheVariants.{Page}
 use Rattle.lwc_base.specs.declared.page.PageValue.TheVariants.{Zero, Data}
 use Rattle.lwc_base.specs.declared.page.TheConstants.{PAGE_BYTES}
 
@@ -50,36 +52,36 @@ length-zero_page : length zero_page ≡ 4096
 unfolding zero_page zero_bytes
 length-zero_page = length-replicate {A = ℕ} PAGE_BYTES 0
 
-module _ (frames pages tags p : ℕ) (x : Context) (bytes : List ℕ) (whole : length bytes ≡ 4096) (zeros : x.page p ≡ Some (Own Zero)) where
-  page-zeros : page_at (one_context frames pages tags x) first p ≡ Some Zero
-  unfolding page_at
-  page-zeros = ap (page_of (one_context frames pages tags x) p) (ap (λ (y : Context). y.page p) (context-one frames pages tags x) ∙ zeros)
+module _ (size : WorldSize) (tags p : ℕ) (x : Context) (bytes : List ℕ) (whole : length bytes ≡ 4096) (zeros : x.cell (Page p) ≡ Own (Some Zero)) where
+  page-zeros : page_at (one_context size tags x) first p ≡ Some Zero
+  unfolding value_at
+  page-zeros = ap (value_of (one_context size tags x) (Page p)) (ap (λ (y : Context). y.cell (Page p)) (context-one size tags x) ∙ zeros)
 
-  value-zeros : value_at (one_context frames pages tags x) first p ≡ Zero
+  value-zeros : page_value_at (one_context size tags x) first p ≡ Zero
   value-zeros = ap (λ o. unwrap_or o Zero) page-zeros
 
-  parts-zeros : is_parting (one_context frames pages tags x) (value_at (one_context frames pages tags x) first p) ≡ true
+  parts-zeros : is_parting (one_context size tags x) (page_value_at (one_context size tags x) first p) ≡ true
   unfolding is_parting
-  parts-zeros = ap (is_parting (one_context frames pages tags x)) value-zeros
+  parts-zeros = ap (is_parting (one_context size tags x)) value-zeros
 
   -- one page parts
-  pub parting-one : parting_count (one_context frames pages tags x) first (page_piece p bytes) ≡ 1
+  pub parting-one : parting_count (one_context size tags x) first (page_piece p bytes) ≡ 1
   unfolding parting_count
   parting-one =
-      ap (count_by (λ q. is_parting (one_context frames pages tags x) (value_at (one_context frames pages tags x) first q))) (touched_page p (length bytes) whole)
+      ap (count_by (λ q. is_parting (one_context size tags x) (page_value_at (one_context size tags x) first q))) (touched_page p (length bytes) whole)
       ∙ ap (λ b. 0 + cond b 1 0) parts-zeros
 
   -- it is present
-  pub present-one : is_present (one_context frames pages tags x) first (p * 4096) (length bytes) ≡ true
+  pub present-one : is_present (one_context size tags x) first (p * 4096) (length bytes) ≡ true
   unfolding is_present
   present-one =
-      ap (list_all (λ q. is_some (page_at (one_context frames pages tags x) first q))) (touched_page p (length bytes) whole)
+      ap (list_all (λ q. is_some (page_at (one_context size tags x) first q))) (touched_page p (length bytes) whole)
       ∙ ap (λ o. is_some o && true) page-zeros
 
-  plan-one : plan (one_context frames pages tags x) first 0 (page_piece p bytes) tags (p ∷ []) ≡ (p, Data (record { job = 0; k = tags }) bytes) ∷ []
+  plan-one : plan (one_context size tags x) first 0 (page_piece p bytes) tags (p ∷ []) ≡ (p, Data (record { job = 0; k = tags }) bytes) ∷ []
   unfolding is_parting
   plan-one =
-      ap (λ v. (p, stored_value (is_parting (one_context frames pages tags x) v) (record { job = 0; k = tags }) v (bytes_after (page_piece p bytes) p (bytes_of v))) ∷ []) value-zeros
+      ap (λ v. (p, stored_value (is_parting (one_context size tags x) v) (record { job = 0; k = tags }) v (bytes_after (page_piece p bytes) p (bytes_of v))) ∷ []) value-zeros
       ∙ ap (λ l. (p, Data (record { job = 0; k = tags }) l) ∷ []) (bytes_whole p bytes zero_page whole length-zero_page)
 
   counted_more : (b : Bool) (more : ℕ) → more ≡ 1 → cond b (record (cond b (one_counted tags) none_counted) { tags = (cond b (one_counted tags) none_counted).tags + more }) (cond b (one_counted tags) none_counted)
@@ -87,19 +89,19 @@ module _ (frames pages tags p : ℕ) (x : Context) (bytes : List ℕ) (whole : l
   counted_more true more one = ap (λ n. one_counted (tags + n)) one
   counted_more false more one = refl
 
-  one_more_tag : (y : Context) (more : ℕ) → more ≡ 1 → count_on (one_context frames pages tags y) 0 (λ n. record n { tags = n.tags + more }) ≡ one_context frames pages (tags + 1) y
+  one_more_tag : (y : Context) (more : ℕ) → more ≡ 1 → count_on (one_context size tags y) 0 (λ n. record n { tags = n.tags + more }) ≡ one_context size (tags + 1) y
   unfolding one_context count_on
-  one_more_tag y more one = λ i. record (one_context frames pages tags y) { next = λ j. counted_more (eqb j 0) more one i }
+  one_more_tag y more one = λ i. record (one_context size tags y) { next = λ j. counted_more (eqb j 0) more one i }
 
   -- the world after the store
-  pub after_store-one : after_store (one_context frames pages tags x) first 0 (page_piece p bytes)
-      ≡ one_context frames pages (tags + 1) (with_page p (Some (Own (Data (record { job = 0; k = tags }) bytes))) x)
+  pub after_store-one : after_store (one_context size tags x) first 0 (page_piece p bytes)
+      ≡ one_context size (tags + 1) (with_cell (Page p) (Own (Some (Data (record { job = 0; k = tags }) bytes))) x)
   unfolding after_store one_context
   after_store-one =
-      ap (λ l. count_on (put_pages (one_context frames pages tags x) first (plan (one_context frames pages tags x) first 0 (page_piece p bytes) tags l)) 0 (λ n. record n { tags = n.tags + parting_count (one_context frames pages tags x) first (page_piece p bytes) })) (touched_page p (length bytes) whole)
-      ∙ ap (λ l. count_on (put_pages (one_context frames pages tags x) first l) 0 (λ n. record n { tags = n.tags + parting_count (one_context frames pages tags x) first (page_piece p bytes) })) plan-one
-      ∙ ap (λ w. count_on w 0 (λ n. record n { tags = n.tags + parting_count (one_context frames pages tags x) first (page_piece p bytes) })) (put_page-one frames pages tags x p Zero (Data (record { job = 0; k = tags }) bytes) zeros)
-      ∙ one_more_tag (with_page p (Some (Own (Data (record { job = 0; k = tags }) bytes))) x) _ parting-one
+      ap (λ l. count_on (put_pages (one_context size tags x) first (plan (one_context size tags x) first 0 (page_piece p bytes) tags l)) 0 (λ n. record n { tags = n.tags + parting_count (one_context size tags x) first (page_piece p bytes) })) (touched_page p (length bytes) whole)
+      ∙ ap (λ l. count_on (put_pages (one_context size tags x) first l) 0 (λ n. record n { tags = n.tags + parting_count (one_context size tags x) first (page_piece p bytes) })) plan-one
+      ∙ ap (λ w. count_on w 0 (λ n. record n { tags = n.tags + parting_count (one_context size tags x) first (page_piece p bytes) })) (put_at-one size tags x (Page p) (Some Zero) (Some (Data (record { job = 0; k = tags }) bytes)) zeros refl)
+      ∙ one_more_tag (with_cell (Page p) (Own (Some (Data (record { job = 0; k = tags }) bytes))) x) _ parting-one
 
 -- a store that is done has left the world after it
 pub done_after : (absent full : Bool) (after v : World) → cond absent Absent (cond full Full (Done after)) ≡ Done v → v ≡ after
@@ -107,12 +109,12 @@ done_after true full after v done = cc
 done_after false true after v done = cc
 done_after false false after v done = cc
 
-pub store-one : (frames pages tags p : ℕ) (x : Context) (bytes : List ℕ) (v : World) → length bytes ≡ 4096 → x.page p ≡ Some (Own Zero) →
-    store (one_context frames pages tags x) first 0 (page_piece p bytes) ≡ Done v →
-    v ≡ one_context frames pages (tags + 1) (with_page p (Some (Own (Data (record { job = 0; k = tags }) bytes))) x)
+pub store-one : (size : WorldSize) (tags p : ℕ) (x : Context) (bytes : List ℕ) (v : World) → length bytes ≡ 4096 → x.cell (Page p) ≡ Own (Some Zero) →
+    store (one_context size tags x) first 0 (page_piece p bytes) ≡ Done v →
+    v ≡ one_context size (tags + 1) (with_cell (Page p) (Own (Some (Data (record { job = 0; k = tags }) bytes))) x)
 unfolding store
-store-one frames pages tags p x bytes v whole zeros done =
-    done_after _ _ _ v done ∙ after_store-one frames pages tags p x bytes whole zeros
+store-one size tags p x bytes v whole zeros done =
+    done_after _ _ _ v done ∙ after_store-one size tags p x bytes whole zeros
 
 never_absent : (full : Bool) (present : Bool) (after : World) → present ≡ true → cond (not present) Absent (cond full Full (Done after)) ≡ Absent → ⊥
 never_absent true true after is e = cc
@@ -120,11 +122,11 @@ never_absent false true after is e = cc
 never_absent full false after is e = cc
 
 -- no touched page is absent
-pub store_not_absent : (frames pages tags p : ℕ) (x : Context) (bytes : List ℕ) → length bytes ≡ 4096 → x.page p ≡ Some (Own Zero) →
-    store (one_context frames pages tags x) first 0 (page_piece p bytes) ≡ Absent → ⊥
+pub store_not_absent : (size : WorldSize) (tags p : ℕ) (x : Context) (bytes : List ℕ) → length bytes ≡ 4096 → x.cell (Page p) ≡ Own (Some Zero) →
+    store (one_context size tags x) first 0 (page_piece p bytes) ≡ Absent → ⊥
 unfolding store
-store_not_absent frames pages tags p x bytes whole zeros e =
-    never_absent _ _ _ (present-one frames pages tags p x bytes whole zeros) e
+store_not_absent size tags p x bytes whole zeros e =
+    never_absent _ _ _ (present-one size tags p x bytes whole zeros) e
 
 never_full : (full absent : Bool) (after : World) → full ≡ false → cond absent Absent (cond full Full (Done after)) ≡ Full → ⊥
 never_full true absent after is e = cc
@@ -132,12 +134,12 @@ never_full false true after is e = cc
 never_full false false after is e = cc
 
 -- there is a frame for the page
-pub store_not_full : (frames pages tags p : ℕ) (x : Context) (bytes : List ℕ) → length bytes ≡ 4096 → x.page p ≡ Some (Own Zero) →
-    used (one_context frames pages tags x) < frames →
-    store (one_context frames pages tags x) first 0 (page_piece p bytes) ≡ Full → ⊥
+pub store_not_full : (size : WorldSize) (tags p : ℕ) (x : Context) (bytes : List ℕ) → length bytes ≡ 4096 → x.cell (Page p) ≡ Own (Some Zero) →
+    used (one_context size tags x) < size.frames →
+    store (one_context size tags x) first 0 (page_piece p bytes) ≡ Full → ⊥
 unfolding store one_context
-store_not_full frames pages tags p x bytes whole zeros room e =
-    let parts = parting-one frames pages tags p x bytes whole zeros in
-    let fits : ltb frames (used (one_context frames pages tags x) + parting_count (one_context frames pages tags x) first (page_piece p bytes)) ≡ false =
+store_not_full size tags p x bytes whole zeros room e =
+    let parts = parting-one size tags p x bytes whole zeros in
+    let fits : ltb size.frames (used (one_context size tags x) + parting_count (one_context size tags x) first (page_piece p bytes)) ≡ false =
     grind (arith, nat_tests, parts) in
     never_full _ _ _ fits e

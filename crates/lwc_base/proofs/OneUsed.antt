@@ -6,13 +6,15 @@ use Rattle.std.specs.FinSet as set
 use Rattle.std.proofs.lemmas.Bool.Decides.{nat_tests}
 use Rattle.lwc_base.proofs.OneContext.{first, mapped, one_context}
 use Rattle.lwc_base.proofs.Orders.{name_cmp-total, tag_cmp-total}
-use Rattle.lwc_base.specs.Cells.{with_page}
+use Rattle.lwc_base.specs.declared.size.WorldSize.{WorldSize}
+use Rattle.lwc_base.specs.Cells.{with_cell}
 use Rattle.lwc_base.specs.Frames.{own_value, tag_of, tags, tags_of_context, tags_of_group, used}
 use Rattle.lwc_base.specs.Names.{name_cmp, tag_cmp}
 use Rattle.lwc_base.specs.World.{Context, Group}
 use Rattle.lwc_base.specs.declared.cell.Cell.TheVariants.{Own}
 use Rattle.lwc_base.specs.declared.name.Name.{Name}
 use Rattle.lwc_base.specs.declared.name.Tag.{Tag}
+use Rattle.lwc_base.specs.declared.key.Key.TheVariants.{Page}
 use Rattle.lwc_base.specs.declared.page.PageValue.TheVariants.{Zero, Data}
 
 -- how many of the first pages of a context have a tag of their own
@@ -41,19 +43,19 @@ entries-one : (x : Context) → fm.entries (fm.insert (fm.empty {R = name_cmp}) 
 entries-one x = fm.entries-insert name_cmp-total fm.empty first x ∙ ap (fm.put name_cmp first x) entries-none
 
 -- the tags of the world are those of the context
-tags-one : (frames pages counted : ℕ) (x : Context) → tags (one_context frames pages counted x) ≡ (tags_of_context pages x ++ []) ++ []
+tags-one : (size : WorldSize) (counted : ℕ) (x : Context) → tags (one_context size counted x) ≡ (tags_of_context size.pages x ++ []) ++ []
 unfolding tags one_context
-tags-one frames pages counted x =
-    ap (λ es. flat_map (λ (e : Name × Context). tags_of_context pages e.1) es ++ flat_map (λ (e : Name × Group). tags_of_group pages e.1) (fm.entries (fm.empty {X = Group} {R = name_cmp}))) (entries-one x)
-    ∙ ap (λ es. (tags_of_context pages x ++ []) ++ flat_map (λ (e : Name × Group). tags_of_group pages e.1) es) entries-none
+tags-one size counted x =
+    ap (λ es. flat_map (λ (e : Name × Context). tags_of_context size.pages e.1) es ++ flat_map (λ (e : Name × Group). tags_of_group size.pages e.1) (fm.entries (fm.empty {X = Group} {R = name_cmp}))) (entries-one x)
+    ∙ ap (λ es. (tags_of_context size.pages x ++ []) ++ flat_map (λ (e : Name × Group). tags_of_group size.pages e.1) es) entries-none
 
 -- no more frames are used than there are pages with a tag
-pub used-one : (frames pages counted : ℕ) (x : Context) → used (one_context frames pages counted x) ≤ tag_count pages x
+pub used-one : (size : WorldSize) (counted : ℕ) (x : Context) → used (one_context size counted x) ≤ tag_count size.pages x
 unfolding used tag_count
-used-one frames pages counted x =
-    let few = len-from_list (tags (one_context frames pages counted x)) in
-    let same : length (tags (one_context frames pages counted x)) ≡ length ((tags_of_context pages x ++ []) ++ []) = ap length (tags-one frames pages counted x) in
-    omega (arith, few, same, length-append (tags_of_context pages x ++ []) [], length-append (tags_of_context pages x) [])
+used-one size counted x =
+    let few = len-from_list (tags (one_context size counted x)) in
+    let same : length (tags (one_context size counted x)) ≡ length ((tags_of_context size.pages x ++ []) ++ []) = ap length (tags-one size counted x) in
+    omega (arith, few, same, length-append (tags_of_context size.pages x ++ []) [], length-append (tags_of_context size.pages x) [])
 
 module _ (f g : ℕ → List Tag) (p d : ℕ) (same : (q : ℕ) → eqb q p ≡ false → g q ≡ f q) (few : length (g p) ≤ d) where
   same_above : (n a : ℕ) → p < a → length (flat_map g (range_with_len a n)) ≡ length (flat_map f (range_with_len a n))
@@ -79,15 +81,15 @@ module _ (f g : ℕ → List Tag) (p d : ℕ) (same : (q : ℕ) → eqb q p ≡ 
   more_at_one (suc n) a = more_by n a (eqb a p) refl (more_at_one n (a + 1))
 
 tags_in : Context → ℕ → List Tag
-tags_in x q = tag_of (own_value (x.page q))
+tags_in x q = tag_of (own_value (x.cell (Page q)))
 
 -- the context with one page of its own more
-pub count-with_page : (pages p : ℕ) (x : Context) (tag : Tag) (bytes : List ℕ) → tag_count pages (with_page p (Some (Own (Data tag bytes))) x) ≤ tag_count pages x + 1
+pub count-with_page : (pages p : ℕ) (x : Context) (tag : Tag) (bytes : List ℕ) → tag_count pages (with_cell (Page p) (Own (Some (Data tag bytes))) x) ≤ tag_count pages x + 1
 unfolding tag_count tags_of_context tags_in
 count-with_page pages p x tag bytes =
-    more_at_one (tags_in x) (tags_in (with_page p (Some (Own (Data tag bytes))) x)) p 1
-    (λ q other. ap (λ b. tag_of (own_value (cond b (Some (Own (Data tag bytes))) (x.page q)))) other)
-    (let same : eqb p p ≡ true = grind (arith, nat_tests) in subst (λ (b : Bool). length (tag_of (own_value (cond b (Some (Own (Data tag bytes))) (x.page p)))) ≤ 1) (sym same) (omega arith))
+    more_at_one (tags_in x) (tags_in (with_cell (Page p) (Own (Some (Data tag bytes))) x)) p 1
+    (λ q other. ap (λ b. tag_of (own_value (cond b (Own (Some (Data tag bytes))) (x.cell (Page q))))) other)
+    (let same : eqb p p ≡ true = grind (arith, nat_tests) in subst (λ (b : Bool). length (tag_of (own_value (cond b (Own (Some (Data tag bytes))) (x.cell (Page p))))) ≤ 1) (sym same) (omega arith))
     pages 0
 
 -- the context with a page of zeros more
@@ -95,7 +97,7 @@ pub count-mapped : (pages p : ℕ) (x : Context) → tag_count pages (mapped p x
 unfolding tag_count tags_of_context tags_in
 count-mapped pages p x =
     let more = more_at_one (tags_in x) (tags_in (mapped p x)) p 0
-    (λ q other. let outside : (leb p q && ltb q (p + 1)) ≡ false = grind (arith, nat_tests) in ap (λ b. tag_of (own_value (cond b (Some (Own Zero)) (x.page q)))) outside)
-    (let inside : (leb p p && ltb p (p + 1)) ≡ true = grind (arith, nat_tests) in subst (λ (b : Bool). length (tag_of (own_value (cond b (Some (Own Zero)) (x.page p)))) ≤ 0) (sym inside) (omega arith))
+    (λ q other. let outside : (leb p q && ltb q (p + 1)) ≡ false = grind (arith, nat_tests) in ap (λ b. tag_of (own_value (cond b (Own (Some Zero)) (x.cell (Page q))))) outside)
+    (let inside : (leb p p && ltb p (p + 1)) ≡ true = grind (arith, nat_tests) in subst (λ (b : Bool). length (tag_of (own_value (cond b (Own (Some Zero)) (x.cell (Page p))))) ≤ 0) (sym inside) (omega arith))
     pages 0 in
     omega (arith, more)

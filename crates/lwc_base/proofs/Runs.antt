@@ -1,12 +1,14 @@
 -- Present pages that are one run are one range, and where none is present there is no range.
 use Rattle.std.proofs.Common.{◌≡◌, ◌≢◌, ℕ, zero, suc, ◌+◌, ◌<◌, ◌≤◌, refl, sym, ap, ◌∙◌, Bool, true, false, cond, ◌&&◌, None, Option, ⊎_elim, arith}
-use Rattle.std.specs.Prelude.{[], if◌then◌else◌, count_by, is_some, not}
+use Rattle.std.specs.Prelude.{[], if◌then◌else◌, count_by, not}
 use Rattle.std.specs.List.{range_with_len}
 use Rattle.std.proofs.lemmas.Bool.{cases_eq, cases_lt}
 use Rattle.std.proofs.lemmas.List.Sums.{sum_by-cons}
 use Rattle.lwc_base.specs.declared.cell.Cell.{Cell}
+use Rattle.lwc_base.specs.declared.cell.Cell.TheVariants.{Own}
+use Rattle.lwc_base.specs.declared.key.Key.TheVariants.{Page}
 use Rattle.lwc_base.specs.declared.page.PageValue.{PageValue}
-use Rattle.lwc_base.specs.Ranges.{are_alike, goes_on, begins_range, ranges}
+use Rattle.lwc_base.specs.Ranges.{are_alike, is_page, goes_on, begins_range, ranges}
 use Rattle.lwc_base.specs.Runs.{IsOneRun}
 use Rattle.lwc_base.specs.World.{Context}
 
@@ -34,12 +36,12 @@ count_one test at a (suc n) low high passes fails =
     λ i. cond (here i) 1 0 + rest i)
     (cases_eq at a)
 
-absent_begins : (cell : Option (Cell PageValue)) (on : Bool) → cell ≡ None → (is_some cell && not on) ≡ false
-absent_begins cell on absent = ap (λ o. is_some o && not on) absent
+absent_begins : (cell : Cell (Option PageValue)) (on : Bool) → cell ≡ Own None → (is_page cell && not on) ≡ false
+absent_begins cell on absent = ap (λ o. is_page o && not on) absent
 
-first_goes_on : (x : Context) (p : ℕ) → ((q : ℕ) → q < p → x.page q ≡ None) → goes_on x p ≡ false
+first_goes_on : (x : Context) (p : ℕ) → ((q : ℕ) → q < p → x.cell (Page q) ≡ Own None) → goes_on x p ≡ false
 first_goes_on x zero absent = refl
-first_goes_on x (suc q) absent = ap (λ o. are_alike o (x.page (suc q))) (absent q (omega arith))
+first_goes_on x (suc q) absent = ap (λ o. are_alike o (x.cell (Page (suc q)))) (absent q (omega arith))
 
 both_false : (present on : Bool) → on ≡ true → (present && not on) ≡ false
 both_false true on is = ap not is
@@ -54,11 +56,11 @@ module _ (pages from to : ℕ) (x : Context) (run : IsOneRun pages from to x) wh
   unfolding begins_range
   begins_nowhere_else p other high =
       ⊎_elim
-      (λ (below : p < from). absent_begins (x.page p) (goes_on x p) (run.before p below))
+      (λ (below : p < from). absent_begins (x.cell (Page p)) (goes_on x p) (run.before p below))
       (λ (above : from ≤ p).
       ⊎_elim
-      (λ (inside : p < to). both_false (is_some (x.page p)) (goes_on x p) (run.joined p (omega (arith, other)) inside))
-      (λ (past : to ≤ p). absent_begins (x.page p) (goes_on x p) (run.after p past high))
+      (λ (inside : p < to). both_false (is_page (x.cell (Page p))) (goes_on x p) (run.joined p (omega (arith, other)) inside))
+      (λ (past : to ≤ p). absent_begins (x.cell (Page p)) (goes_on x p) (run.after p past high))
       (cases_lt p to))
       (cases_lt p from)
 
@@ -67,9 +69,9 @@ module _ (pages from to : ℕ) (x : Context) (run : IsOneRun pages from to x) wh
   ranges-one_run =
       count_one (begins_range x) from 0 pages (omega arith) (omega (arith, run.some, run.within)) begins_at_first (λ p other low high. begins_nowhere_else p other (omega arith))
 
-pub ranges-absent : (pages : ℕ) (x : Context) → ((p : ℕ) → p < pages → x.page p ≡ None) → ranges pages x ≡ 0
+pub ranges-absent : (pages : ℕ) (x : Context) → ((p : ℕ) → p < pages → x.cell (Page p) ≡ Own None) → ranges pages x ≡ 0
 unfolding ranges begins_range
-ranges-absent pages x absent = count_none (begins_range x) 0 pages (λ p low high. absent_begins (x.page p) (goes_on x p) (absent p (omega arith)))
+ranges-absent pages x absent = count_none (begins_range x) 0 pages (λ p low high. absent_begins (x.cell (Page p)) (goes_on x p) (absent p (omega arith)))
 
 plus_zero : (a : ℕ) → a ≡ a + 0
 plus_zero a = omega arith

@@ -10,7 +10,7 @@ use Rattle.lwc_base.specs.Frames.{is_parting, used}
 use Rattle.lwc_base.specs.Memory.{touched, is_present}
 use Rattle.lwc_base.proofs.Live.{count_on_as, values-put_pages}
 use Rattle.lwc_base.specs.Pages.{bytes_of}
-use Rattle.lwc_base.specs.Store.{Piece, Stored, Absent, Full, Done, bytes_after, plan, put_pages, stored_value, value_at, parting_count, after_store, store}
+use Rattle.lwc_base.specs.Store.{Piece, Stored, Absent, Full, Done, bytes_after, plan, put_pages, stored_value, page_value_at, parting_count, after_store, store}
 use Rattle.lwc_base.specs.World.{World, Counters, count_on}
 
 -- one page after others
@@ -24,13 +24,13 @@ steps_left p end within = omega arith
 
 -- the plan goes on behind what is planned already
 pub plan_more : (w : World) (c : Name) (job : ℕ) (piece : Piece) (k next p end : ℕ) (front : List (ℕ × PageValue)) (parting : Bool) (value old : PageValue) →
-    p < end → parting ≡ is_parting w (value_at w c p) → old ≡ value_at w c p → next ≡ (if parting then k + 1 else k) →
+    p < end → parting ≡ is_parting w (page_value_at w c p) → old ≡ page_value_at w c p → next ≡ (if parting then k + 1 else k) →
     value ≡ stored_value parting (record { job = job; k = k }) old (bytes_after piece p (bytes_of old)) →
     (front ++ (p, value) ∷ []) ++ plan w c job piece next (range_with_len (p + 1) (end - (p + 1))) ≡ front ++ plan w c job piece k (range_with_len p (end - p))
 plan_more w c job piece k next p end front parting value old within parts stands counts is =
     let ps : List ℕ = range_with_len (p + 1) (end - (p + 1)) in
-    let next_is : next ≡ (if is_parting w (value_at w c p) then k + 1 else k) = counts ∙ ap (λ (b : Bool). if b then k + 1 else k) parts in
-    let value_is : value ≡ stored_value (is_parting w (value_at w c p)) (record { job = job; k = k }) (value_at w c p) (bytes_after piece p (bytes_of (value_at w c p))) =
+    let next_is : next ≡ (if is_parting w (page_value_at w c p) then k + 1 else k) = counts ∙ ap (λ (b : Bool). if b then k + 1 else k) parts in
+    let value_is : value ≡ stored_value (is_parting w (page_value_at w c p)) (record { job = job; k = k }) (page_value_at w c p) (bytes_after piece p (bytes_of (page_value_at w c p))) =
     is ∙ (λ i. stored_value (parts i) (record { job = job; k = k }) (stands i) (bytes_after piece p (bytes_of (stands i)))) in
     append_assoc front ((p, value) ∷ []) _
     ∙ (λ i. front ++ ((p, value_is i) ∷ plan w c job piece (next_is i) ps))
@@ -53,19 +53,19 @@ answer-done false full done there room = absurd (false≢true there)
 -- a store where a touched page is absent
 pub store-absent : (w : World) (c : Name) (job : ℕ) (piece : Piece) → is_present w c piece.at (length piece.bytes) ≡ false → store w c job piece ≡ Absent
 unfolding store
-store-absent w c job piece absent = answer-absent (is_present w c piece.at (length piece.bytes)) (nat_lt w.frames (used w + parting_count w c piece)) (Done (after_store w c job piece)) absent
+store-absent w c job piece absent = answer-absent (is_present w c piece.at (length piece.bytes)) (nat_lt w.size.frames (used w + parting_count w c piece)) (Done (after_store w c job piece)) absent
 
 -- a store that finds too few frames
 pub store-full : (w : World) (c : Name) (job : ℕ) (piece : Piece) → is_present w c piece.at (length piece.bytes) ≡ true →
-    w.frames < used w + parting_count w c piece → store w c job piece ≡ Full
+    w.size.frames < used w + parting_count w c piece → store w c job piece ≡ Full
 unfolding store
-store-full w c job piece there short = answer-full (is_present w c piece.at (length piece.bytes)) (nat_lt w.frames (used w + parting_count w c piece)) (Done (after_store w c job piece)) there (lt-ltb w.frames (used w + parting_count w c piece) short)
+store-full w c job piece there short = answer-full (is_present w c piece.at (length piece.bytes)) (nat_lt w.size.frames (used w + parting_count w c piece)) (Done (after_store w c job piece)) there (lt-ltb w.size.frames (used w + parting_count w c piece) short)
 
 -- a store that is done
 pub store-done : (w : World) (c : Name) (job : ℕ) (piece : Piece) → is_present w c piece.at (length piece.bytes) ≡ true →
-    used w + parting_count w c piece ≤ w.frames → store w c job piece ≡ Done (after_store w c job piece)
+    used w + parting_count w c piece ≤ w.size.frames → store w c job piece ≡ Done (after_store w c job piece)
 unfolding store
-store-done w c job piece there room = answer-done (is_present w c piece.at (length piece.bytes)) (nat_lt w.frames (used w + parting_count w c piece)) (Done (after_store w c job piece)) there (le-ltb w.frames (used w + parting_count w c piece) room)
+store-done w c job piece there room = answer-done (is_present w c piece.at (length piece.bytes)) (nat_lt w.size.frames (used w + parting_count w c piece)) (Done (after_store w c job piece)) there (le-ltb w.size.frames (used w + parting_count w c piece) room)
 
 -- whether the touched pages are present, told of the list of them
 pub is_present-touched : (w : World) (c : Name) (at count : ℕ) (ps : List ℕ) (b : Bool) → ps ≡ touched at count →
@@ -75,9 +75,9 @@ is_present-touched w c at count ps b touches is = sym (is ∙ ap (list_all (λ p
 
 -- how many of the touched pages part, told of the list of them
 pub parting_count-touched : (w : World) (c : Name) (piece : Piece) (ps : List ℕ) (n : ℕ) → ps ≡ touched piece.at (length piece.bytes) →
-    n ≡ count_by (λ p. is_parting w (value_at w c p)) ps → n ≡ parting_count w c piece
+    n ≡ count_by (λ p. is_parting w (page_value_at w c p)) ps → n ≡ parting_count w c piece
 unfolding parting_count
-parting_count-touched w c piece ps n touches is = is ∙ ap (count_by (λ p. is_parting w (value_at w c p))) touches
+parting_count-touched w c piece ps n touches is = is ∙ ap (count_by (λ p. is_parting w (page_value_at w c p))) touches
 
 -- the world once all values are put, and the tags are counted
 pub after_store-steps : (w put counted : World) (c : Name) (job : ℕ) (piece : Piece) (ps : List ℕ) (values : List (ℕ × PageValue)) (n : Counters) (parting : ℕ) →

@@ -2,13 +2,13 @@
 use Rattle.std.specs.Prelude.{◌≡◌, ℕ, List, Some, true}
 use Rattle.std.specs.FinMap as fm
 use Rattle.lwc_base.specs.declared.cell.Cell.TheVariants.{Common}
-use Rattle.lwc_base.specs.declared.descriptor.Descriptor.{Descriptor}
 use Rattle.lwc_base.specs.declared.item.Item.{Item}
+use Rattle.lwc_base.specs.declared.key.Key.{Key}
 use Rattle.lwc_base.specs.declared.name.Name.{Name}
-use Rattle.lwc_base.specs.declared.page.PageValue.{PageValue}
 use Rattle.lwc_base.specs.declared.regs.Regs.{Regs}
-use Rattle.lwc_base.specs.Cells.{page_at, put_page, slot_at, put_slot, uid_at, put_uid}
+use Rattle.lwc_base.specs.Cells.{value_at, put_at}
 use Rattle.lwc_base.specs.Fresh.{IsFresh}
+use Rattle.lwc_base.specs.Keys.{ValueOf}
 use Rattle.lwc_base.specs.Sharing.{clone_context}
 use Rattle.lwc_base.specs.World.{World, Context, context, is_live, next_context}
 
@@ -17,10 +17,8 @@ abbrev pub IsGroup : World → Name → Type 0
 IsGroup w g = fm.contains_key w.groups g ≡ true
 
 -- each group that a context's cells name is live
-pub record NamesLiveGroups (w : World) (x : Context) : Type 0 where
-  pub page : (p : ℕ) (g : Name) → x.page p ≡ Some (Common g) → IsGroup w g
-  pub slot : (n : ℕ) (g : Name) → x.slot n ≡ Common g → IsGroup w g
-  pub uid : (g : Name) → x.uid ≡ Common g → IsGroup w g
+abbrev pub NamesLiveGroups : World → Context → Type 0
+NamesLiveGroups w x = (k : Key) (g : Name) → x.cell k ≡ Common g → IsGroup w g
 
 -- each group that the cells of live contexts name is live
 abbrev pub HasItsGroups : World → Type 0
@@ -36,38 +34,14 @@ pub record IsClone (before after : World) (old new : Name) (items : List Item) :
   pub named : new ≡ next_context before job
   pub made : after ≡ clone_context before old job items entry
 
--- what is put under a page of one context is not seen under that page of the other
-pub record ArePagesApart (w : World) (a b : Name) (p : ℕ) : Type 0 where
-  pub first : (value : PageValue) → page_at (put_page w a p value) b p ≡ page_at w b p
-  pub second : (value : PageValue) → page_at (put_page w b p value) a p ≡ page_at w a p
+-- what is put under a key of one context is not seen under that key of the other
+pub record AreApart (w : World) (a b : Name) (k : Key) : Type 0 where
+  pub first : (value : ValueOf k) → value_at (put_at w a k value) b k ≡ value_at w b k
+  pub second : (value : ValueOf k) → value_at (put_at w b k value) a k ≡ value_at w a k
 
--- the same of a slot
-pub record AreSlotsApart (w : World) (a b : Name) (n : ℕ) : Type 0 where
-  pub first : (value : Descriptor) → slot_at (put_slot w a n value) b n ≡ slot_at w b n
-  pub second : (value : Descriptor) → slot_at (put_slot w b n value) a n ≡ slot_at w a n
-
--- the same of the credential
-pub record AreUidsApart (w : World) (a b : Name) : Type 0 where
-  pub first : (uid : ℕ) → uid_at (put_uid w a uid) b ≡ uid_at w b
-  pub second : (uid : ℕ) → uid_at (put_uid w b uid) a ≡ uid_at w a
-
--- under a page both contexts have the cell of one live group
-pub record HavePageInCommon (w : World) (a b : Name) (p : ℕ) : Type 0 where
+-- under a key both contexts have the cell of one live group
+pub record HaveInCommon (w : World) (a b : Name) (k : Key) : Type 0 where
   pub group : Name
   pub live : IsGroup w group
-  pub first : (context w a).page p ≡ Some (Common group)
-  pub second : (context w b).page p ≡ Some (Common group)
-
--- the same of a slot
-pub record HaveSlotInCommon (w : World) (a b : Name) (n : ℕ) : Type 0 where
-  pub group : Name
-  pub live : IsGroup w group
-  pub first : (context w a).slot n ≡ Common group
-  pub second : (context w b).slot n ≡ Common group
-
--- the same of the credential
-pub record HaveUidInCommon (w : World) (a b : Name) : Type 0 where
-  pub group : Name
-  pub live : IsGroup w group
-  pub first : (context w a).uid ≡ Common group
-  pub second : (context w b).uid ≡ Common group
+  pub first : (context w a).cell k ≡ Common group
+  pub second : (context w b).cell k ≡ Common group

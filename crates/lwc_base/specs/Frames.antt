@@ -6,6 +6,7 @@ use Rattle.std.specs.FinMap as fm
 use Rattle.std.specs.FinSet as set
 use Rattle.lwc_base.specs.declared.cell.Cell.{Cell}
 use Rattle.lwc_base.specs.declared.cell.Cell.TheVariants.{Own, Common}
+use Rattle.lwc_base.specs.declared.key.Key.TheVariants.{Page}
 use Rattle.lwc_base.specs.declared.name.Tag.{Tag}
 use Rattle.lwc_base.specs.declared.page.PageValue.{PageValue}
 use Rattle.lwc_base.specs.declared.page.PageValue.TheVariants.{Zero, Data}
@@ -19,24 +20,23 @@ tag_of (Some Zero) = []
 tag_of (Some (Data tag bytes)) = tag ∷ []
 
 -- the value of a page that is a holder: the cell is the context's own
-abbrev pub own_value : Option (Cell PageValue) → Option PageValue
-own_value None = None
-own_value (Some (Own value)) = Some value
-own_value (Some (Common g)) = None
+abbrev pub own_value : Cell (Option PageValue) → Option PageValue
+own_value (Own value) = value
+own_value (Common g) = None
 
 -- the tags of a context's own pages, one for each page that has one
 unfoldable pub tags_of_context : ℕ → Context → List Tag
-tags_of_context pages x = flat_map (λ p. tag_of (own_value (x.page p))) (range_with_len 0 pages)
+tags_of_context pages x = flat_map (λ p. tag_of (own_value (x.cell (Page p)))) (range_with_len 0 pages)
 
 -- the tags of a group's pages, one for each page that has one
 unfoldable pub tags_of_group : ℕ → Group → List Tag
-tags_of_group pages x = flat_map (λ p. tag_of (x.page p)) (range_with_len 0 pages)
+tags_of_group pages x = flat_map (λ p. tag_of (x.value (Page p))) (range_with_len 0 pages)
 
 -- the tags of all holders, one for each holder that has one
 unfoldable pub tags : World → List Tag
 tags w =
-    flat_map (λ e. tags_of_context w.pages e.1) (fm.entries w.contexts)
-    ++ flat_map (λ e. tags_of_group w.pages e.1) (fm.entries w.groups)
+    flat_map (λ e. tags_of_context w.size.pages e.1) (fm.entries w.contexts)
+    ++ flat_map (λ e. tags_of_group w.size.pages e.1) (fm.entries w.groups)
 
 -- how many different tags stand at holders
 unfoldable pub used : World → ℕ

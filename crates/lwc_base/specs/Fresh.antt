@@ -2,6 +2,7 @@
 use Rattle.std.specs.Prelude.{◌≡◌, ℕ, ◌<◌, Some, true}
 use Rattle.std.specs.FinMap as fm
 use Rattle.lwc_base.specs.declared.cell.Cell.TheVariants.{Common}
+use Rattle.lwc_base.specs.declared.key.Key.{Key}
 use Rattle.lwc_base.specs.declared.name.Name.{Name}
 use Rattle.lwc_base.specs.World.{World, Context, Counters, is_live}
 
@@ -10,10 +11,8 @@ abbrev pub IsNamedGroup : (ℕ → Counters) → Name → Type 0
 IsNamedGroup next g = g.k < (next g.job).groups
 
 -- each group that a context's cells name has been named
-pub record NamesOldGroups (next : ℕ → Counters) (x : Context) : Type 0 where
-  pub page : (p : ℕ) (g : Name) → x.page p ≡ Some (Common g) → IsNamedGroup next g
-  pub slot : (n : ℕ) (g : Name) → x.slot n ≡ Common g → IsNamedGroup next g
-  pub uid : (g : Name) → x.uid ≡ Common g → IsNamedGroup next g
+abbrev pub NamesOldGroups : (ℕ → Counters) → Context → Type 0
+NamesOldGroups next x = (k : Key) (g : Name) → x.cell k ≡ Common g → IsNamedGroup next g
 
 -- each live context and each live group has been named, and so has each group that a context's cells name
 pub record IsFresh (w : World) : Type 0 where

@@ -5,6 +5,7 @@ pub mod Counts
 pub mod Faults
 pub mod Frames
 pub mod Fresh
+pub mod Keys
 pub mod Mapping
 pub mod Memory
 pub mod Modes

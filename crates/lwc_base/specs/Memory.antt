@@ -28,4 +28,4 @@ load w c at count = if is_present w c at count then Some (map (byte_at w c) (ran
 -- so many bytes from an address that a guest names; none where one of them is past the last page or in an absent page, and no bytes need no address
 unfoldable pub bytes_for : World → Name → ℕ → ℕ → Option (List ℕ)
 bytes_for w c at count =
-    if count == 0 then Some [] else (if nat_le (at + count) (w.pages * PAGE_BYTES) then load w c at count else None)
+    if count == 0 then Some [] else (if nat_le (at + count) (w.size.pages * PAGE_BYTES) then load w c at count else None)

@@ -49,6 +49,10 @@ mode items k = option_map (λ item. item.mode) (find (λ item. names item k) ite
 unfoldable pub mode_or_copy : List Item → Key → Mode
 mode_or_copy items k = unwrap_or (mode items k) Copy
 
+-- a key that there is, where there are so many pages
+abbrev pub IsKey : ℕ → Key → Type 0
+IsKey pages k = number_of k < limit pages (kind_of k)
+
 -- an item names a key or more, and none past the limit of its kind
 pub record IsItem (pages : ℕ) (item : Item) : Type 0 where
   pub some : item.from < item.to

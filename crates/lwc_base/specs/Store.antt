@@ -26,8 +26,8 @@ unfoldable pub bytes_after : Piece → ℕ → List ℕ → List ℕ
 bytes_after piece p old = map (λ i. byte_after piece (p * PAGE_BYTES + i) (slice_index old i)) (range_with_len 0 (length old))
 
 -- what stands under a page of a context that is present
-abbrev pub value_at : World → Name → ℕ → PageValue
-value_at w c p = unwrap_or (page_at w c p) Zero
+abbrev pub page_value_at : World → Name → ℕ → PageValue
+page_value_at w c p = unwrap_or (page_at w c p) Zero
 
 -- new bytes of a page: under a new tag where it parts, and else under its own
 abbrev pub stored_value : Bool → Tag → PageValue → List ℕ → PageValue
@@ -38,7 +38,7 @@ stored_value parting new (Data tag old) bytes = Data (if parting then new else t
 abbrev pub plan : World → Name → ℕ → Piece → ℕ → List ℕ → List (ℕ × PageValue)
 plan w c job piece k [] = []
 plan w c job piece k (p ∷ ps) =
-    let value = value_at w c p in
+    let value = page_value_at w c p in
     let parting = is_parting w value in
     (p, stored_value parting (record { job = job; k = k }) value (bytes_after piece p (bytes_of value)))
     ∷ plan w c job piece (if parting then k + 1 else k) ps
@@ -56,7 +56,7 @@ pub data Stored : Type 0 where
 
 -- how many of the pages that a piece touches part
 unfoldable pub parting_count : World → Name → Piece → ℕ
-parting_count w c piece = count_by (λ p. is_parting w (value_at w c p)) (touched piece.at (length piece.bytes))
+parting_count w c piece = count_by (λ p. is_parting w (page_value_at w c p)) (touched piece.at (length piece.bytes))
 
 -- the world once a piece is there: each touched page has its new value, and the job has taken a tag for each that parted
 unfoldable pub after_store : World → Name → ℕ → Piece → World
@@ -68,5 +68,5 @@ after_store w c job piece =
 unfoldable pub store : World → Name → ℕ → Piece → Stored
 store w c job piece =
     if not (is_present w c piece.at (length piece.bytes)) then Absent
-    else (if nat_lt w.frames (used w + parting_count w c piece) then Full
+    else (if nat_lt w.size.frames (used w + parting_count w c piece) then Full
     else Done (after_store w c job piece))

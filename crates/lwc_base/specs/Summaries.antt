@@ -17,7 +17,7 @@ is_empty _ = false
 -- how many pages are present, how many slots are not empty, and the uid
 unfoldable pub summary_of : World → Name → Summary
 summary_of w c = record {
-  pages = count_by (λ p. is_some (page_at w c p)) (range_with_len 0 w.pages);
+  pages = count_by (λ p. is_some (page_at w c p)) (range_with_len 0 w.size.pages);
   slots = count_by (λ n. not (is_empty (slot_at w c n))) (range_with_len 0 SLOTS);
   uid = uid_at w c;
 }

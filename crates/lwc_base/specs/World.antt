@@ -3,27 +3,25 @@ use Rattle.std.specs.Prelude.{ℕ, ◌+◌, ◌==◌, if◌then◌else◌, Bool,
 use Rattle.std.specs.FinMap as fm
 use Rattle.lwc_base.specs.declared.cell.Cell.{Cell}
 use Rattle.lwc_base.specs.declared.cell.Cell.TheVariants.{Own}
-use Rattle.lwc_base.specs.declared.descriptor.Descriptor.{Descriptor}
 use Rattle.lwc_base.specs.declared.descriptor.Descriptor.TheVariants.{Empty}
+use Rattle.lwc_base.specs.declared.key.Key.{Key}
+use Rattle.lwc_base.specs.declared.key.Key.TheVariants.{Page, Slot, Cred}
 use Rattle.lwc_base.specs.declared.name.Name.{Name}
-use Rattle.lwc_base.specs.declared.page.PageValue.{PageValue}
 use Rattle.lwc_base.specs.declared.regs.Regs.{Regs}
+use Rattle.lwc_base.specs.declared.size.WorldSize.{WorldSize}
+use Rattle.lwc_base.specs.Keys.{ValueOf, nothing}
 use Rattle.lwc_base.specs.Names.{name_cmp}
 use Rattle.lwc_base.specs.Registers.{fresh_registers}
 
--- a context: under each key its cell, where a page may be absent; the registers that it begins with; and those that it keeps for some threads
+-- a context: under each key its cell; the registers that it begins with; and those that it keeps for some threads
 pub record Context : Type 0 where
-  pub page : ℕ → Option (Cell PageValue)
-  pub slot : ℕ → Cell Descriptor
-  pub uid : Cell ℕ
+  pub cell : (k : Key) → Cell (ValueOf k)
   pub entry : Regs
   pub saved : ℕ → Option Regs
 
--- a group: the values that contexts have in common, under the keys that it has
+-- a group: the values that contexts have in common, and nothing under each other key
 pub record Group : Type 0 where
-  pub page : ℕ → Option PageValue
-  pub slot : ℕ → Option Descriptor
-  pub uid : Option ℕ
+  pub value : (k : Key) → ValueOf k
 
 -- how many contexts, groups and tags a job has named, each the number of the next one
 pub record Counters : Type 0 where
@@ -36,22 +34,21 @@ pub record World : Type 0 where
   pub contexts : fm.FinMap name_cmp Context
   pub groups : fm.FinMap name_cmp Group
   pub next : ℕ → Counters
-  pub frames : ℕ
-  pub pages : ℕ
+  pub size : WorldSize
+
+-- what stands under each key of a context as it is made: nothing but the uid
+abbrev pub new_value : ℕ → (k : Key) → ValueOf k
+new_value uid (Page p) = None
+new_value uid (Slot n) = Empty
+new_value uid Cred = uid
 
 -- a context of its own as it is made: no page, empty slots, and the uid
 abbrev pub new_context : ℕ → Regs → Context
-new_context uid entry = record {
-  page = λ p. None;
-  slot = λ n. Own Empty;
-  uid = Own uid;
-  entry = entry;
-  saved = λ t. None;
-}
+new_context uid entry = record { cell = λ k. Own (new_value uid k); entry = entry; saved = λ t. None }
 
 -- a group with nothing in it
 abbrev pub new_group : Group
-new_group = record { page = λ p. None; slot = λ n. None; uid = None }
+new_group = record { value = nothing }
 
 -- whether a context has the name
 abbrev pub is_live : World → Name → Bool
@@ -88,13 +85,12 @@ unfoldable pub count_on : World → ℕ → (Counters → Counters) → World
 count_on w job change = record w { next = λ j. if j == job then change (w.next j) else w.next j }
 
 -- a world of so many frames and pages, without contexts and groups, in which nothing has been counted
-unfoldable pub empty_world : ℕ → ℕ → World
-empty_world frames pages = record {
+unfoldable pub empty_world : WorldSize → World
+empty_world size = record {
   contexts = fm.empty;
   groups = fm.empty;
   next = λ j. record { contexts = 0; groups = 0; tags = 0 };
-  frames = frames;
-  pages = pages;
+  size = size;
 }
 
 -- the next name of a job's contexts

@@ -35,8 +35,8 @@ live_in_either w v q false here there = here
 live_after_share : (w : World) (c : Name) (job : ℕ) (items : List Item) (q : Name) → is_live w q ≡ true → is_live (share w c job items) q ≡ true
 unfolding share add_group count_on change_context
 live_after_share w c job items q e =
-    live_in_either w (add_group (change_context w c (left_common (next_group w job) (moved items (context w c)))) job (moved items (context w c))) q (needs_group w c items)
-    e (live_after_change w c (left_common (next_group w job) (moved items (context w c))) (fm.get w.contexts c) q e)
+    live_in_either w (add_group (change_context w c (left_common (next_group w job) items)) job (moved items (context w c))) q (needs_group w c items)
+    e (live_after_change w c (left_common (next_group w job) items) (fm.get w.contexts c) q e)
 
 -- a context still lives once another is made of one
 pub live_after_clone : (w : World) (c : Name) (job : ℕ) (items : List Item) (entry : Regs) (q : Name) → is_live w q ≡ true →

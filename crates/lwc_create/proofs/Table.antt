@@ -28,7 +28,7 @@ refused_call w c job regs refusal e = ap (ended w c job regs (unwrap_or (lowest_
 pub done_call : (w : World) (c : Name) (job : ℕ) (regs : Regs) (items : List Item) (slot : ℕ) → first_refusal (refusals w c job regs) ≡ None →
     items ≡ items_of w c regs → lowest_empty w c ≡ Some slot →
     create w c job regs
-    ≡ (Done (after_call regs slot), put_slot (clone_context w c job items (after_call regs no_caller)) c slot (Ctx (next_context w job) (full_cap w.pages)))
+    ≡ (Done (after_call regs slot), put_slot (clone_context w c job items (after_call regs no_caller)) c slot (Ctx (next_context w job) (full_cap w.size.pages)))
 unfolding create
 done_call w c job regs items slot e asked lowest = rw (asked, e, lowest) refl
 

@@ -48,7 +48,7 @@ refusals w c job regs =
     (nat_lt MOST_ITEMS (count_of regs), TooManyItems)
     ∷ (is_none (item_bytes w c regs), BadAddress)
     ∷ (not (all_taken Create (asked w c regs)), BadMode)
-    ∷ (not (all_within w.pages (items_of w c regs)), BadRange)
+    ∷ (not (all_within w.size.pages (items_of w c regs)), BadRange)
     ∷ (has_overlap (items_of w c regs), Overlap)
     ∷ (nat_le MOST_CONTEXTS_OF_JOB (live_of w job), TooManyContexts)
     ∷ (is_none (lowest_empty w c), NoSlot)
@@ -70,7 +70,7 @@ after_call regs value = record {
 -- the new context is made, beginning with no caller in r0, and a descriptor of it with every key is put into the slot
 abbrev pub created : World → Name → ℕ → Regs → ℕ → World
 created w c job regs slot =
-    put_slot (clone_context w c job (items_of w c regs) (after_call regs no_caller)) c slot (Ctx (next_context w job) (full_cap w.pages))
+    put_slot (clone_context w c job (items_of w c regs) (after_call regs no_caller)) c slot (Ctx (next_context w job) (full_cap w.size.pages))
 
 -- the end of the call: a refusal changes nothing; else the slot that was the lowest empty one gets the new context, and r0 tells the slot
 abbrev pub ended : World → Name → ℕ → Regs → ℕ → Option Refusal → Answer × World

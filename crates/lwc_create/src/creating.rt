@@ -58,7 +58,7 @@ fn asked<W: World>(world: &W, c: Name, regs: &Regs) -> Result<Spec, Refusal>
     ensures passed { IfOk result (λ spec. (job : ℕ) → first_refusal (call.refusals (W.seen world.now) c job regs.now)
         ≡ first_refusal (drop 5 (call.refusals (W.seen world.now) c job regs.now))) }
     ensures items { IfOk result (λ spec. spec ≡ call.items_of (W.seen world.now) c regs.now) }
-    ensures within { IfOk result (λ spec. IsSpec (W.seen world.now).pages spec) }
+    ensures within { IfOk result (λ spec. IsSpec (W.seen world.now).size.pages spec) }
 {
     let count = regs.r[2];
     if count > MOST_ITEMS as u64 {
@@ -86,7 +86,7 @@ fn allowed<W: World>(world: &W, c: Name, job: u32, regs: &Regs) -> Result<(Spec,
     ensures refused { IfErr result (λ refusal. first_refusal (call.refusals (W.seen world.now) c job regs.now) ≡ Some refusal) }
     ensures passed { IfOk result (λ made. first_refusal (call.refusals (W.seen world.now) c job regs.now) ≡ None) }
     ensures items { IfOk result (λ made. made.0 ≡ call.items_of (W.seen world.now) c regs.now) }
-    ensures within { IfOk result (λ made. IsSpec (W.seen world.now).pages made.0) }
+    ensures within { IfOk result (λ made. IsSpec (W.seen world.now).size.pages made.0) }
     ensures live { IfOk result (λ made. live_of (W.seen world.now) job < MOST_CONTEXTS_OF_JOB) }
     ensures slot { IfOk result (λ made. lowest_empty (W.seen world.now) c ≡ Some made.1) }
     ensures group { IfOk result (λ made. needs_group (W.seen world.now) c made.0 ≡ true → groups_of (W.seen world.now) job < MOST_GROUPS_OF_JOB) }
@@ -118,14 +118,13 @@ pub fn create<W: World>(
     regs: &Regs,
 ) -> Result<Answer, OutOfMemory>
     requires live { IsLive (W.seen world.old) c }
-    requires may { MayName (W.size world.old) (W.seen world.old) job }
-    requires pages { (W.seen world.old).pages ≡ CAP_PAGES }
-    requires place { live_of (W.seen world.old) job < MOST_CONTEXTS_OF_JOB → HasPlace (W.size world.old) (W.seen world.old) }
-    requires group { groups_of (W.seen world.old) job < MOST_GROUPS_OF_JOB → HasGroupPlace (W.size world.old) (W.seen world.old) }
+    requires may { MayName (W.seen world.old) job }
+    requires pages { (W.seen world.old).size.pages ≡ CAP_PAGES }
+    requires place { live_of (W.seen world.old) job < MOST_CONTEXTS_OF_JOB → HasPlace (W.seen world.old) }
+    requires group { groups_of (W.seen world.old) job < MOST_GROUPS_OF_JOB → HasGroupPlace (W.seen world.old) }
     ensures done { IfOk result (λ answer. call.create (W.seen world.old) c job regs.now ≡ (answer, W.seen world.new)) }
     ensures err { OnErr result (W.seen world.new ≡ W.seen world.old) }
     ensures ample { W.roomy ≡ true → IsOk result }
-    ensures sized { W.size world.new ≡ W.size world.old }
 {
     let (spec, slot) = match allowed(world, c, job, regs) {
         Ok(made) => made,

@@ -1,32 +1,33 @@
 -- The cells of a new context, from the world as it is before what is under share has moved.
-use Rattle.std.proofs.Common.{◌≡◌, ℕ, ◌+◌, ◌<◌, ◌≤◌, arith, length, get_or, map, sym, ap, subst, ◌∙◌, true, List, [], ◌∷◌, ◌++◌, Option, None, ⊎_elim}
+use Rattle.std.proofs.Common.{◌≡◌, ℕ, zero, suc, ◌+◌, ◌<◌, ◌≤◌, arith, refl, length, get_or, map, sym, ap, subst, ◌∙◌, true, List, [], ◌∷◌, ◌++◌, Option, None, ⊎_elim}
 use Rattle.std.specs.List.{range_with_len}
-use Rattle.std.specs.Option.{option_map}
 use Rattle.std.specs.FinMap as fm
 use Rattle.std.proofs.lemmas.Bool.{cases_lt}
 use Rattle.std.proofs.lemmas.Grind.{common_steps}
+use Rattle.std.proofs.lemmas.List.{length-map}
 use Rattle.std.proofs.lemmas.List.FromFn.{get_or-map-range_with_len, length-map-range_with_len, map-range_with_len_more}
 use Rattle.lwc_base.specs.declared.cell.Cell.{Cell}
-use Rattle.lwc_base.specs.declared.cell.Cell.TheVariants.{Own}
+use Rattle.lwc_base.specs.declared.cell.Cell.TheVariants.{Own, Common}
 use Rattle.lwc_base.specs.declared.descriptor.Descriptor.{Descriptor}
 use Rattle.lwc_base.specs.declared.descriptor.Descriptor.TheVariants.{Empty}
 use Rattle.lwc_base.specs.declared.descriptor.TheConstants.{SLOTS}
 use Rattle.lwc_base.specs.declared.item.Item.{Item}
 use Rattle.lwc_base.specs.declared.item.Mode.TheVariants.{Copy, Share}
+use Rattle.lwc_base.specs.declared.key.Key.{Key}
 use Rattle.lwc_base.specs.declared.key.Key.TheVariants.{Page, Slot, Cred}
 use Rattle.lwc_base.specs.declared.name.Name.{Name}
 use Rattle.lwc_base.specs.declared.page.PageValue.{PageValue}
 use Rattle.lwc_base.specs.declared.regs.Regs.{Regs}
-use Rattle.lwc_base.specs.Cells.{page_at, page_of, slot_at, slot_of, uid_at}
-use Rattle.lwc_base.specs.Frames.{own_value}
+use Rattle.lwc_base.specs.Cells.{value_at, value_of}
 use Rattle.lwc_base.specs.Fresh.{IsFresh, NamesOldGroups}
-use Rattle.lwc_base.specs.Modes.{IsSpec, mode_or_copy}
-use Rattle.lwc_base.specs.Sharing.{cell_after, clone, clone_context, cloned_page, cloned_slot, cloned_uid, left_common, moved, own, page_after, share, under_share}
+use Rattle.lwc_base.specs.Keys.{nothing}
+use Rattle.lwc_base.specs.Modes.{IsSpec, kind_of, limit, mode_or_copy, number_of}
+use Rattle.lwc_base.specs.Sharing.{cell_after, clone, clone_context, cloned, left_common, share}
 use Rattle.lwc_base.specs.World.{World, Context, add_context, context, is_live, next_context, next_group}
 use Rattle.lwc_base.proofs.Cloning.{contexts-share, fresh-share, len_contexts-share, names_old-clone, next_context-share, pages-share}
-use Rattle.lwc_base.proofs.Sharing.{page_at-share, slot_at-share, uid_at-share}
+use Rattle.lwc_base.proofs.Sharing.{value_at-share}
 use Rattle.whole_world.specs.declared.held.Held.{Held}
-use Rattle.whole_world.specs.Copies.{context_of, held_page, held_slot}
+use Rattle.whole_world.specs.Copies.{as_cell, context_of, held_cell, held_page, held_slot, in_common}
 use Rattle.whole_world.specs.Sound.{IsWhole}
 use Rattle.whole_world.proofs.SharedCells.{context-shared}
 use Rattle.whole_world.proofs.Unnamed.{copied_past}
@@ -42,13 +43,27 @@ place_of_map f count xs d p made past =
 pub one_more_made : {A : Type 0} (f : ℕ → A) (p : ℕ) (xs ys : List A) (x : A) → xs ≡ map f (range_with_len 0 p) → ys ≡ xs ++ x ∷ [] → x ≡ f p → ys ≡ map f (range_with_len 0 (p + 1))
 one_more_made f p xs ys x before more is = more ∙ (λ i. before i ++ is i ∷ []) ∙ sym (map-range_with_len_more f 0 p p (omega arith))
 
+place_as_cell : (cells : List (Option (Cell PageValue))) (p : ℕ) → get_or (map as_cell cells) p (Own None) ≡ as_cell (get_or cells p None)
+place_as_cell [] p = refl
+place_as_cell (c ∷ cs) zero = refl
+place_as_cell (c ∷ cs) (suc p) = place_as_cell cs p
+
 -- what holds a cell for each page and each slot is whole
-pub whole-made : (held : Held) (count : ℕ) (f : ℕ → Option (Cell PageValue)) (g : ℕ → Cell Descriptor) →
-    held.pages.items ≡ map f (range_with_len 0 count) → held.slots.items ≡ map g (range_with_len 0 SLOTS) → IsWhole count held
+pub whole-made : (held : Held) (count : ℕ) (f : ℕ → Cell (Option PageValue)) (g : ℕ → Cell Descriptor) →
+    map as_cell held.pages.items ≡ map f (range_with_len 0 count) → held.slots.items ≡ map g (range_with_len 0 SLOTS) → IsWhole count held
 whole-made held count f g pages slots =
-    let many : length held.pages.items ≡ count = ap length pages ∙ length-map-range_with_len f 0 count in
+    let many : length held.pages.items ≡ count = sym (length-map held.pages.items as_cell) ∙ ap length pages ∙ length-map-range_with_len f 0 count in
     let all : length held.slots.items ≡ SLOTS = ap length slots ∙ length-map-range_with_len g 0 SLOTS in
     record { pages = grind (arith, common_steps); slots = grind (arith, common_steps) }
+
+-- a cell that is there and under share is common
+pub slot_in_common : (g : Name) (n : ℕ) (cell : Cell Descriptor) → in_common g cell ≡ cell_after g Share (Slot n) cell
+slot_in_common g n (Own value) = refl
+slot_in_common g n (Common h) = refl
+
+pub uid_in_common : (g : Name) (cell : Cell ℕ) → in_common g cell ≡ cell_after g Share Cred cell
+uid_in_common g (Own value) = refl
+uid_in_common g (Common h) = refl
 
 module _ (w : World) (c : Name) (job : ℕ) (items : List Item) (fresh : IsFresh w) (live : is_live w c ≡ true) (spec : IsSpec w.pages items) where
   abbrev shared : World
@@ -57,57 +72,36 @@ module _ (w : World) (c : Name) (job : ℕ) (items : List Item) (fresh : IsFresh
   abbrev new : Name
   new = next_group w job
 
-  pub page_copied : (p : ℕ) → mode_or_copy items (Page p) ≡ Copy → option_map Own (page_at w c p) ≡ cloned_page shared c p (mode_or_copy items (Page p))
-  page_copied p is = sym (ap (cloned_page shared c p) is ∙ ap (option_map Own) (page_at-share w c job items fresh c p))
+  pub key_copied : (k : Key) → mode_or_copy items k ≡ Copy → Own (value_at w c k) ≡ cloned shared c k (mode_or_copy items k)
+  key_copied k is = sym (ap (cloned shared c k) is ∙ ap Own (value_at-share w c job items fresh c k))
 
-  pub slot_copied : (n : ℕ) → mode_or_copy items (Slot n) ≡ Copy → Own (slot_at w c n) ≡ cloned_slot shared c n (mode_or_copy items (Slot n))
-  slot_copied n is = sym (ap (cloned_slot shared c n) is ∙ ap Own (slot_at-share w c job items fresh c n))
+  pub key_shared : (k : Key) → mode_or_copy items k ≡ Share → cell_after new Share k ((context w c).cell k) ≡ cloned shared c k (mode_or_copy items k)
+  unfolding left_common
+  key_shared k is =
+      sym (ap (cloned shared c k) is ∙ ap (λ (x : Context). x.cell k) (context-shared w c job items live spec)
+      ∙ ap (λ m. cell_after new m k ((context w c).cell k)) is)
 
-  pub uid_copied : mode_or_copy items Cred ≡ Copy → Own (uid_at w c) ≡ cloned_uid shared c (mode_or_copy items Cred)
-  uid_copied is = sym (ap (cloned_uid shared c) is ∙ ap Own (uid_at-share w c job items fresh c))
-
-  pub page_shared : (p : ℕ) → mode_or_copy items (Page p) ≡ Share →
-      page_after new (own_value ((context w c).page p)) ((context w c).page p) ≡ cloned_page shared c p (mode_or_copy items (Page p))
-  unfolding left_common moved
-  page_shared p is =
-      sym (ap (cloned_page shared c p) is ∙ ap (λ (x : Context). x.page p) (context-shared w c job items live spec)
-      ∙ ap (λ m. page_after new (under_share m (own_value ((context w c).page p))) ((context w c).page p)) is)
-
-  pub slot_shared : (n : ℕ) → mode_or_copy items (Slot n) ≡ Share →
-      cell_after new (own ((context w c).slot n)) ((context w c).slot n) ≡ cloned_slot shared c n (mode_or_copy items (Slot n))
-  unfolding left_common moved
-  slot_shared n is =
-      sym (ap (cloned_slot shared c n) is ∙ ap (λ (x : Context). x.slot n) (context-shared w c job items live spec)
-      ∙ ap (λ m. cell_after new (under_share m (own ((context w c).slot n))) ((context w c).slot n)) is)
-
-  pub uid_shared : mode_or_copy items Cred ≡ Share → cell_after new (own (context w c).uid) (context w c).uid ≡ cloned_uid shared c (mode_or_copy items Cred)
-  unfolding left_common moved
-  uid_shared is =
-      sym (ap (cloned_uid shared c) is ∙ ap (λ (x : Context). x.uid) (context-shared w c job items live spec)
-      ∙ ap (λ m. cell_after new (under_share m (own (context w c).uid)) (context w c).uid) is)
-
-  module _ (no_page : (p : ℕ) → w.pages ≤ p → (context w c).page p ≡ None) (no_slot : (n : ℕ) → SLOTS ≤ n → (context w c).slot n ≡ Own Empty) where
-    page_past : (p : ℕ) → w.pages ≤ p → cloned_page shared c p (mode_or_copy items (Page p)) ≡ None
-    unfolding page_at
-    page_past p past = sym (page_copied p (copied_past w.pages (Page p) items spec past)) ∙ ap (λ cell. option_map Own (page_of w p cell)) (no_page p past)
-
-    slot_past : (n : ℕ) → SLOTS ≤ n → cloned_slot shared c n (mode_or_copy items (Slot n)) ≡ Own Empty
-    unfolding slot_at
-    slot_past n past = sym (slot_copied n (copied_past w.pages (Slot n) items spec past)) ∙ ap (λ cell. Own (slot_of w n cell)) (no_slot n past)
+  module _ (past_keys : (k : Key) → limit w.pages (kind_of k) ≤ number_of k → (context w c).cell k ≡ Own (nothing k)) where
+    key_past : (k : Key) → limit w.pages (kind_of k) ≤ number_of k → cloned shared c k (mode_or_copy items k) ≡ Own (nothing k)
+    unfolding value_at
+    key_past k past = sym (key_copied k (copied_past w.pages k items spec past)) ∙ ap (λ cell. Own (value_of w k cell)) (past_keys k past)
 
     -- what holds these cells is the new context
     pub context-made : (held : Held) (entry : Regs) →
-        held.pages.items ≡ map (λ p. cloned_page shared c p (mode_or_copy items (Page p))) (range_with_len 0 w.pages) →
-        held.slots.items ≡ map (λ n. cloned_slot shared c n (mode_or_copy items (Slot n))) (range_with_len 0 SLOTS) →
-        held.uid ≡ cloned_uid shared c (mode_or_copy items Cred) → held.entry ≡ entry → context_of held ≡ clone shared c items entry
-    unfolding context_of held_page held_slot clone
-    context-made held entry pages slots uid is_entry = λ i. record {
-      page = λ p. place_of_map (λ p. cloned_page shared c p (mode_or_copy items (Page p))) w.pages held.pages.items None p pages (page_past p) i;
-      slot = λ n. place_of_map (λ n. cloned_slot shared c n (mode_or_copy items (Slot n))) SLOTS held.slots.items (Own Empty) n slots (slot_past n) i;
-      uid = uid i;
-      entry = is_entry i;
-      saved = λ t. None;
-    }
+        map as_cell held.pages.items ≡ map (λ p. cloned shared c (Page p) (mode_or_copy items (Page p))) (range_with_len 0 w.pages) →
+        held.slots.items ≡ map (λ n. cloned shared c (Slot n) (mode_or_copy items (Slot n))) (range_with_len 0 SLOTS) →
+        held.uid ≡ cloned shared c Cred (mode_or_copy items Cred) → held.entry ≡ entry → context_of held ≡ clone shared c items entry
+    unfolding context_of held_cell held_page held_slot clone
+    context-made held entry pages slots uid is_entry =
+        let at : (k : Key) → held_cell held k ≡ cloned shared c k (mode_or_copy items k) =
+        λ k. elim k as (λ k. held_cell held k ≡ cloned shared c k (mode_or_copy items k)) [
+          | Page p ↦
+              sym (place_as_cell held.pages.items p)
+              ∙ place_of_map (λ p. cloned shared c (Page p) (mode_or_copy items (Page p))) w.pages (map as_cell held.pages.items) (Own None) p pages (key_past (Page p))
+          | Slot n ↦ place_of_map (λ n. cloned shared c (Slot n) (mode_or_copy items (Slot n))) SLOTS held.slots.items (Own Empty) n slots (key_past (Slot n))
+          | Cred ↦ uid
+        ] in
+        λ i. record { cell = λ k. at k i; entry = is_entry i; saved = λ t. None }
 
 -- the world once the new context is added to the one in which what is under share has moved
 module _ (w shared : World) (c : Name) (job : ℕ) (items : List Item) (is_shared : shared ≡ share w c job items) where

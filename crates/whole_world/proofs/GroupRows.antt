@@ -4,32 +4,42 @@ use Rattle.std.specs.Prelude.{is_some, vec_len}
 use Rattle.std.proofs.lemmas.Bool.{false≢true}
 use Rattle.std.proofs.lemmas.Grind.{common_steps}
 use Rattle.lwc_base.specs.declared.cell.Cell.TheVariants.{Own}
-use Rattle.lwc_base.specs.declared.descriptor.Descriptor.TheVariants.{Empty}
 use Rattle.lwc_base.specs.declared.descriptor.TheConstants.{SLOTS}
 use Rattle.std.specs.List.{find, insert, position, position_or_len}
 use Rattle.std.specs.FinMap as fm
+use Rattle.lwc_base.specs.declared.key.Key.{Key}
+use Rattle.lwc_base.specs.declared.key.Key.TheVariants.{Page, Slot, Cred}
 use Rattle.lwc_base.specs.declared.name.Name.{Name}
 use Rattle.lwc_base.specs.declared.size.WorldSize.{WorldSize}
 use Rattle.lwc_base.specs.Fresh.{IsFresh, IsNamedGroup}
+use Rattle.lwc_base.specs.Keys.{nothing}
+use Rattle.lwc_base.specs.Modes.{kind_of, limit, number_of}
 use Rattle.lwc_base.specs.World.{World, Context, context, is_live}
 use Rattle.lwc_base.proofs.Fresh.{fresh-insert_group}
 use Rattle.whole_world.specs.declared.counts.Counts.{Counts}
 use Rattle.whole_world.specs.declared.group.HeldGroup.{HeldGroup}
 use Rattle.whole_world.specs.declared.held.Held.{Held}
-use Rattle.whole_world.specs.Copies.{context_of, group_of, held_slot}
+use Rattle.whole_world.specs.Copies.{as_cell, context_of, group_of, held_cell, held_page, held_slot}
 use Rattle.whole_world.specs.Rows.{groups_of, has_group_name, has_name, is_group_past, world_of}
 use Rattle.whole_world.specs.Sound.{IsSound, IsWhole, IsWholeGroup}
-use Rattle.whole_world.proofs.Moving.{page-past}
 use Rattle.whole_world.proofs.RowLemmas.{IsPlace, place_found, place_within, row-at-place, map_of-insert, sorted-insert}
 use Rattle.whole_world.proofs.RowWorlds.{All-inserted, context-found, dead-missed, whole-found, get-group, len-groups, length-inserted, nothing_mapped}
+
+-- past the pages that are held there is none
+page-past : (held : Held) (count p : ℕ) → IsWhole count held → count ≤ p → held_page held p ≡ None
+unfolding held_page
+page-past held count p whole h = let e : vec_len held.pages ≡ count = whole.pages in grind (arith, common_steps)
 
 -- a context that is as whole as another
 pub as_whole : (count : ℕ) (old new : Held) → IsWhole count old → IsWhole count new → (pages : ℕ) → IsWhole pages old → IsWhole pages new
 as_whole count old new old_whole new_whole pages whole = subst (λ n. IsWhole n new) (sym old_whole.pages ∙ whole.pages) new_whole
 
-slot-past : (held : Held) (count n : ℕ) → IsWhole count held → SLOTS ≤ n → (context_of held).slot n ≡ Own Empty
-unfolding context_of held_slot
-slot-past held count n whole h = let e : vec_len held.slots ≡ SLOTS = whole.slots in grind (arith, common_steps)
+-- past the keys that are held there is nothing
+cell-past : (held : Held) (count : ℕ) (k : Key) → IsWhole count held → limit count (kind_of k) ≤ number_of k → (context_of held).cell k ≡ Own (nothing k)
+unfolding context_of held_cell held_page held_slot
+cell-past held count (Page p) whole h = ap as_cell (page-past held count p whole h)
+cell-past held count (Slot n) whole h = let e : vec_len held.slots ≡ SLOTS = whole.slots in grind (arith, common_steps)
+cell-past held count Cred whole h = absurd (omega arith)
 
 module _ (size : WorldSize) (contexts : List Held) (groups : List HeldGroup) (counts : List Counts) (sound : IsSound size contexts groups counts) where
   abbrev now : World
@@ -41,25 +51,16 @@ module _ (size : WorldSize) (contexts : List Held) (groups : List HeldGroup) (co
       let place : IsPlace (has_name c) contexts i = place_found (has_name c) contexts i found in
       context-found size contexts groups counts sound c old (row-at-place (λ h. h.name) context_of c contexts i old place.first place.within ∙ ap Some (sym is))
 
-  page_past : (c : Name) (p : ℕ) (found : Option Held) → find (has_name c) contexts ≡ found → is_live now c ≡ true → size.pages ≤ p → (context now c).page p ≡ None
-  page_past c p None none live past = absurd (false≢true (sym (dead-missed size contexts groups counts sound c none) ∙ live))
-  page_past c p (Some held) is live past =
-      ap (λ (x : Context). x.page p) (context-found size contexts groups counts sound c held is)
-      ∙ page-past held size.pages p (whole-found size contexts groups counts sound c held is) past
+  key_past : (c : Name) (k : Key) (found : Option Held) → find (has_name c) contexts ≡ found → is_live now c ≡ true → limit size.pages (kind_of k) ≤ number_of k →
+      (context now c).cell k ≡ Own (nothing k)
+  key_past c k None none live past = absurd (false≢true (sym (dead-missed size contexts groups counts sound c none) ∙ live))
+  key_past c k (Some held) is live past =
+      ap (λ (x : Context). x.cell k) (context-found size contexts groups counts sound c held is)
+      ∙ cell-past held size.pages k (whole-found size contexts groups counts sound c held is) past
 
-  -- past the pages a live context has none
-  pub live_page-past : (c : Name) (p : ℕ) → is_live now c ≡ true → size.pages ≤ p → (context now c).page p ≡ None
-  live_page-past c p = page_past c p _ refl
-
-  slot_past : (c : Name) (n : ℕ) (found : Option Held) → find (has_name c) contexts ≡ found → is_live now c ≡ true → SLOTS ≤ n → (context now c).slot n ≡ Own Empty
-  slot_past c n None none live past = absurd (false≢true (sym (dead-missed size contexts groups counts sound c none) ∙ live))
-  slot_past c n (Some held) is live past =
-      ap (λ (x : Context). x.slot n) (context-found size contexts groups counts sound c held is)
-      ∙ slot-past held size.pages n (whole-found size contexts groups counts sound c held is) past
-
-  -- past the slots it is empty
-  pub live_slot-past : (c : Name) (n : ℕ) → is_live now c ≡ true → SLOTS ≤ n → (context now c).slot n ≡ Own Empty
-  live_slot-past c n = slot_past c n _ refl
+  -- past the keys that there are a live context has nothing
+  pub live_key-past : (c : Name) (k : Key) → is_live now c ≡ true → limit size.pages (kind_of k) ≤ number_of k → (context now c).cell k ≡ Own (nothing k)
+  live_key-past c k = key_past c k _ refl
 
   no_group_found : (g : Name) → fm.contains_key now.groups g ≡ false → find (has_group_name g) groups ≡ None
   no_group_found g new = nothing_mapped group_of (find (has_group_name g) groups) (sym (ap is_some (get-group size contexts groups counts sound g)) ∙ new)

@@ -1,245 +1,200 @@
 -- What a context has, and what a group has, while values move from one to the other.
-use Rattle.std.proofs.Common.{◌≡◌, ℕ, ◌+◌, ◌≤◌, arith, refl, sym, ap, ◌∙◌, Bool, true, false, cond, List, Option, Some, None}
-use Rattle.std.specs.Prelude.{◌==◌, if◌then◌else◌, nat_lt, vec_len}
+use Rattle.std.proofs.Common.{◌≡◌, ℕ, ◌+◌, ◌<◌, ◌≤◌, arith, refl, sym, ap, ◌∙◌, Bool, true, false, cond, eqb, ltb, List, Option, Some, None, ⊎_elim}
+use Rattle.std.specs.Prelude.{nat_lt}
+use Rattle.std.proofs.lemmas.Bool.{cases_lt}
 use Rattle.std.proofs.lemmas.Bool.Decides.{nat_tests}
-use Rattle.std.proofs.lemmas.Grind.{common_steps}
 use Rattle.lwc_base.specs.declared.cell.Cell.{Cell}
-use Rattle.lwc_base.specs.declared.cell.Cell.TheVariants.{Common}
-use Rattle.lwc_base.specs.declared.descriptor.Descriptor.{Descriptor}
+use Rattle.lwc_base.specs.declared.cell.Cell.TheVariants.{Own, Common}
 use Rattle.lwc_base.specs.declared.descriptor.TheConstants.{SLOTS}
 use Rattle.lwc_base.specs.declared.item.Item.{Item}
 use Rattle.lwc_base.specs.declared.item.Mode.{Mode}
 use Rattle.lwc_base.specs.declared.item.Mode.TheVariants.{Copy, Share, Unmap}
+use Rattle.lwc_base.specs.declared.key.Key.{Key}
 use Rattle.lwc_base.specs.declared.key.Key.TheVariants.{Page, Slot, Cred}
+use Rattle.lwc_base.specs.declared.key.Kind.{Kind}
+use Rattle.lwc_base.specs.declared.key.Kind.TheVariants as kind
 use Rattle.lwc_base.specs.declared.name.Name.{Name}
-use Rattle.lwc_base.specs.declared.page.PageValue.{PageValue}
-use Rattle.lwc_base.specs.Frames.{own_value}
-use Rattle.lwc_base.specs.Modes.{IsSpec, mode_or_copy}
-use Rattle.lwc_base.specs.Sharing as sharing
-use Rattle.lwc_base.specs.Sharing.{cell_after, left_common, moved, page_after, under_share}
+use Rattle.lwc_base.specs.Cells.{with_cell, with_value}
+use Rattle.lwc_base.specs.Keys.{ValueOf, nothing, with_key}
+use Rattle.lwc_base.specs.Modes.{IsSpec, kind_of, limit, mode_or_copy, number_of}
+use Rattle.lwc_base.specs.Sharing.{cell_after, left_common, moved, moves, moved_value}
 use Rattle.lwc_base.specs.World.{Context, Group, new_group}
-use Rattle.whole_world.specs.declared.held.Held.{Held}
-use Rattle.whole_world.specs.Copies.{context_of, held_page, with_uid}
-use Rattle.whole_world.specs.Moves.{gives_page, gives_pages, gives_slot, gives_slots, gives_uid, takes_page, takes_pages, takes_slot, takes_slots, takes_uid}
-use Rattle.whole_world.specs.Sound.{IsWhole}
+use Rattle.whole_world.specs.Moves.{gave, gives, is_below, key_of, takes, took}
 use Rattle.whole_world.proofs.Unnamed.{copied_past}
 
--- the first so many of some values
-abbrev pub first_of : {A : Type 0} → ℕ → (ℕ → Option A) → ℕ → Option A
-first_of k f p = if nat_lt p k then f p else None
+at_next : {A : Type 0} (f old : ℕ → A) (n p : ℕ) → cond (eqb p n) (f n) (cond (ltb p n) (f p) (old p)) ≡ cond (ltb p (n + 1)) (f p) (old p)
+at_next f old n p = grind (arith, nat_tests)
 
-none_yet : {A : Type 0} (f : ℕ → Option A) (p : ℕ) → first_of 0 f p ≡ None
-none_yet f p = grind (arith, nat_tests)
+past_next : {A : Type 0} (f old : ℕ → A) (n p : ℕ) → f n ≡ old n → cond (ltb p n) (f p) (old p) ≡ cond (ltb p (n + 1)) (f p) (old p)
+past_next f old n p same = grind (arith, nat_tests)
 
-not_yet : {A : Type 0} (f : ℕ → Option A) (k : ℕ) → first_of k f k ≡ None
-not_yet f k = grind (arith, nat_tests)
+below_next : (n : ℕ) → true ≡ ltb 0 (n + 1)
+below_next n = grind (arith, nat_tests)
 
-one_more : {A : Type 0} (f : ℕ → Option A) (k p : ℕ) (x : A) → f k ≡ Some x → (if p == k then Some x else first_of k f p) ≡ first_of (k + 1) f p
-one_more f k p x is = grind (arith, nat_tests)
+same_whether : {A : Type 0} (a b : Bool) (x y : A) → x ≡ y → cond a x y ≡ cond b x y
+same_whether true true x y same = refl
+same_whether true false x y same = same
+same_whether false true x y same = sym same
+same_whether false false x y same = refl
 
-no_more : {A : Type 0} (f : ℕ → Option A) (k p : ℕ) → f k ≡ None → first_of k f p ≡ first_of (k + 1) f p
-no_more f k p is = grind (arith, nat_tests)
+-- the next key of a kind is put
+with_key-next : (F : Type 0 → Type 0) (kind : Kind) (n : ℕ) (f old : (q : Key) → F (ValueOf q)) (q : Key) →
+    with_key F (key_of kind n) (f (key_of kind n)) (λ k. cond (is_below kind n k) (f k) (old k)) q ≡ cond (is_below kind (n + 1) q) (f q) (old q)
+with_key-next F kind.Page n f old (Page p) = at_next (λ r. f (Page r)) (λ r. old (Page r)) n p
+with_key-next F kind.Slot n f old (Slot m) = at_next (λ r. f (Slot r)) (λ r. old (Slot r)) n m
+with_key-next F kind.Cred n f old Cred = ap (λ b. cond b (f Cred) (old Cred)) (below_next n)
+with_key-next F kind.Page n f old q = refl
+with_key-next F kind.Slot n f old q = refl
+with_key-next F kind.Cred n f old q = refl
 
-all_of : {A : Type 0} (f : ℕ → Option A) (k : ℕ) → ((p : ℕ) → k ≤ p → f p ≡ None) → (p : ℕ) → first_of k f p ≡ f p
-all_of f k past p = let e = past p in grind (arith, nat_tests)
+-- or it need not be
+with_key-kept : (F : Type 0 → Type 0) (kind : Kind) (n : ℕ) (f old : (q : Key) → F (ValueOf q)) (q : Key) → f (key_of kind n) ≡ old (key_of kind n) →
+    cond (is_below kind n q) (f q) (old q) ≡ cond (is_below kind (n + 1) q) (f q) (old q)
+with_key-kept F kind.Page n f old (Page p) same = past_next (λ r. f (Page r)) (λ r. old (Page r)) n p same
+with_key-kept F kind.Slot n f old (Slot m) same = past_next (λ r. f (Slot r)) (λ r. old (Slot r)) n m same
+with_key-kept F kind.Cred n f old Cred same = same_whether _ _ (f Cred) (old Cred) same
+with_key-kept F kind.Page n f old q same = refl
+with_key-kept F kind.Slot n f old q same = refl
+with_key-kept F kind.Cred n f old q same = refl
 
--- a group that has taken the first so many pages of some values
-abbrev pub took_pages : ℕ → Group → Group
-took_pages k values = record new_group { page = first_of k values.page }
+module _ (kind : Kind) (n : ℕ) (items : List Item) where
+  abbrev here : Key
+  here = key_of kind n
 
--- a context that has given them
-abbrev pub gave_pages : Name → ℕ → Group → Context → Context
-gave_pages g k values x = gives_pages g (took_pages k values) x
+  abbrev mode_here : Mode
+  mode_here = mode_or_copy items here
 
-page_after_choice : (g : Name) (b : Bool) (v : PageValue) (o : Option PageValue) (c : Option (Cell PageValue)) →
-    cond b (Some (Common g)) (page_after g o c) ≡ page_after g (cond b (Some v) o) c
-page_after_choice g true v o c = refl
-page_after_choice g false v o c = refl
+  given_on : (g : Name) (x : Context) (b : Bool) → moves mode_here here (x.cell here) ≡ b →
+      cond b (with_cell here (Common g) (gave (is_below kind n) g items x)) (gave (is_below kind n) g items x) ≡ gave (is_below kind (n + 1)) g items x
+  given_on g x true is =
+      let f : (k : Key) → Cell (ValueOf k) = λ k. cell_after g (mode_or_copy items k) k (x.cell k) in
+      λ i. record x {
+        cell = λ k.
+            (ap (λ cell. with_key Cell here cell (λ q. cond (is_below kind n q) (f q) (x.cell q)) k) (sym (ap (λ b. cond b (Common g) (x.cell here)) is))
+            ∙ with_key-next Cell kind n f x.cell k) i;
+      }
+  given_on g x false is =
+      let f : (k : Key) → Cell (ValueOf k) = λ k. cell_after g (mode_or_copy items k) k (x.cell k) in
+      λ i. record x { cell = λ k. with_key-kept Cell kind n f x.cell k (ap (λ b. cond b (Common g) (x.cell here)) is) i }
 
-pages_given_on : (g : Name) (k : ℕ) (values : Group) (x : Context) (value : Option PageValue) → values.page k ≡ value →
-    gives_page g k value (gave_pages g k values x) ≡ gave_pages g (k + 1) values x
-pages_given_on g k values x None is = λ i. record x { page = λ p. page_after g (no_more values.page k p is i) (x.page p) }
-pages_given_on g k values x (Some v) is =
-    let page : (p : ℕ) → (if p == k then Some (Common g) else page_after g (first_of k values.page p) (x.page p)) ≡ page_after g (first_of (k + 1) values.page p) (x.page p) =
-    λ p. page_after_choice g (p == k) v (first_of k values.page p) (x.page p) ∙ ap (λ o. page_after g o (x.page p)) (one_more values.page k p v is) in
-    λ i. record x { page = λ p. page p i }
+  taken_on : (x : Context) (h : Group) (b : Bool) → moves mode_here here (x.cell here) ≡ b →
+      cond b (with_value here (moved_value mode_here here (x.cell here)) (took (is_below kind n) items x h)) (took (is_below kind n) items x h) ≡ took (is_below kind (n + 1)) items x h
+  taken_on x h true is =
+      let f : (k : Key) → ValueOf k = λ k. cond (moves (mode_or_copy items k) k (x.cell k)) (moved_value (mode_or_copy items k) k (x.cell k)) (h.value k) in
+      λ i. record {
+        value = λ k.
+            (ap (λ value. with_key (λ T. T) here value (λ q. cond (is_below kind n q) (f q) (h.value q)) k) (sym (ap (λ b. cond b (moved_value mode_here here (x.cell here)) (h.value here)) is))
+            ∙ with_key-next (λ T. T) kind n f h.value k) i;
+      }
+  taken_on x h false is =
+      let f : (k : Key) → ValueOf k = λ k. cond (moves (mode_or_copy items k) k (x.cell k)) (moved_value (mode_or_copy items k) k (x.cell k)) (h.value k) in
+      λ i. record { value = λ k. with_key-kept (λ T. T) kind n f h.value k (ap (λ b. cond b (moved_value mode_here here (x.cell here)) (h.value here)) is) i }
 
-pages_taken_on : (k : ℕ) (values : Group) (value : Option PageValue) → values.page k ≡ value → takes_page k value (took_pages k values) ≡ took_pages (k + 1) values
-pages_taken_on k values None is = λ i. record new_group { page = λ p. no_more values.page k p is i }
-pages_taken_on k values (Some v) is = λ i. record new_group { page = λ p. one_more values.page k p v is i }
+  -- one key more has moved
+  module _ (g m : Name) (mode : Mode) (x y : Context) (start h : Group) (new : is_below kind n here ≡ false) (name : m ≡ g)
+      (gave_before : y ≡ gave (is_below kind n) g items x) (took_before : h ≡ took (is_below kind n) items x start) (mode_is : mode ≡ mode_here) where
+    cell_is : y.cell here ≡ x.cell here
+    cell_is = ap (λ (z : Context). z.cell here) gave_before ∙ ap (λ b. cond b (cell_after g mode_here here (x.cell here)) (x.cell here)) new
 
--- the value that moves next is the one that was there
-next_page : (g : Name) (items : List Item) (k : ℕ) (x : Context) →
-    under_share (mode_or_copy items (Page k)) (own_value ((gave_pages g k (moved items x) x).page k)) ≡ (moved items x).page k
-unfolding moved
-next_page g items k x = ap (λ o. under_share (mode_or_copy items (Page k)) (own_value (page_after g o (x.page k)))) (not_yet (moved items x).page k)
+    pub context_gives : (z : Context) → z ≡ gives m mode here y → z ≡ gave (is_below kind (n + 1)) g items x
+    context_gives z given =
+        given ∙ (λ i. cond (moves (mode_is i) here (cell_is i)) (with_cell here (Common (name i)) (gave_before i)) (gave_before i)) ∙ given_on g x _ refl
 
--- one page more has moved
-page_moves : (g n : Name) (items : List Item) (k : ℕ) (x y z : Context) (h j : Group) (value : Option PageValue) → n ≡ g →
-    y ≡ gave_pages g k (moved items x) x → h ≡ took_pages k (moved items x) →
-    value ≡ under_share (mode_or_copy items (Page k)) (own_value (y.page k)) → z ≡ gives_page n k value y → j ≡ takes_page k value h →
-    (z ≡ gave_pages g (k + 1) (moved items x) x) × (j ≡ took_pages (k + 1) (moved items x))
-page_moves g n items k x y z h j value name gave took value_is given taken =
-    let is : (moved items x).page k ≡ value =
-    sym (value_is ∙ ap (λ (y : Context). under_share (mode_or_copy items (Page k)) (own_value (y.page k))) gave ∙ next_page g items k x) in (
-      given ∙ ap (λ n. gives_page n k value y) name ∙ ap (gives_page g k value) gave ∙ pages_given_on g k (moved items x) x value is,
-      taken ∙ ap (takes_page k value) took ∙ pages_taken_on k (moved items x) value is,
-    )
+    pub group_takes : (j : Group) → j ≡ takes mode here (y.cell here) h → j ≡ took (is_below kind (n + 1)) items x start
+    group_takes j taken =
+        taken ∙ (λ i. cond (moves (mode_is i) here (cell_is i)) (with_value here (moved_value (mode_is i) here (cell_is i)) (took_before i)) (took_before i)) ∙ taken_on x start _ refl
 
--- the same of what is held
-module _ (g n : Name) (items : List Item) (k : ℕ) (mode : Mode) (x y : Context) (h : Group) (name : n ≡ g)
-    (gave : y ≡ gave_pages g k (moved items x) x) (took : h ≡ took_pages k (moved items x)) (mode_is : mode ≡ mode_or_copy items (Page k)) where
-  page_value_is : under_share mode (own_value (y.page k)) ≡ under_share (mode_or_copy items (Page k)) (own_value (y.page k))
-  page_value_is = ap (λ m. under_share m (own_value (y.page k))) mode_is
+pub not_below : (n : ℕ) → nat_lt n n ≡ false
+not_below n = grind (arith, nat_tests)
 
-  pub context_gives_page : (z : Context) → z ≡ gives_page n k (under_share mode (own_value (y.page k))) y → z ≡ gave_pages g (k + 1) (moved items x) x
-  context_gives_page z given = (page_moves g n items k x y z h _ _ name gave took page_value_is given refl).0
+below : (n p : ℕ) → p < n → nat_lt p n ≡ true
+below n p within = grind (arith, nat_tests)
 
-  pub group_takes_page : (j : Group) → j ≡ takes_page k (under_share mode (own_value (y.page k))) h → j ≡ took_pages (k + 1) (moved items x)
-  group_takes_page j taken = (page_moves g n items k x y _ h j _ name gave took page_value_is refl taken).1
+moved_or_nothing : (mode : Mode) (k : Key) (cell : Cell (ValueOf k)) → cond (moves mode k cell) (moved_value mode k cell) (nothing k) ≡ moved_value mode k cell
+moved_or_nothing Copy k cell = refl
+moved_or_nothing Unmap k cell = refl
+moved_or_nothing Share k (Common g) = refl
+moved_or_nothing Share (Page p) (Own None) = refl
+moved_or_nothing Share (Page p) (Own (Some value)) = refl
+moved_or_nothing Share (Slot n) (Own value) = refl
+moved_or_nothing Share Cred (Own value) = refl
 
-none_under : {A : Type 0} (mode : Mode) → under_share {T = A} mode None ≡ None
-none_under Copy = refl
-none_under Share = refl
-none_under Unmap = refl
+module _ (pages : ℕ) (items : List Item) (spec : IsSpec pages items) (x : Context) where
+  -- what is past the keys that there are does not move
+  in_all : {A : Type 0} (k : Key) (after old : A) → (moves (mode_or_copy items k) k (x.cell k) ≡ false → after ≡ old) →
+      cond (nat_lt (number_of k) (limit pages (kind_of k))) after old ≡ after
+  in_all k after old same =
+      ⊎_elim (λ (h : number_of k < limit pages (kind_of k)). ap (λ b. cond b after old) (below (limit pages (kind_of k)) (number_of k) h))
+      (λ (h : limit pages (kind_of k) ≤ number_of k).
+      same_whether (nat_lt (number_of k) (limit pages (kind_of k))) true after old (same (ap (λ m. moves m k (x.cell k)) (copied_past pages k items spec h))))
+      (cases_lt (number_of k) (limit pages (kind_of k)))
 
--- past the pages that are held there is none
-pub page-past : (held : Held) (count p : ℕ) → IsWhole count held → count ≤ p → (context_of held).page p ≡ None
-unfolding context_of held_page
-page-past held count p whole h = let e : vec_len held.pages ≡ count = whole.pages in grind (arith, common_steps)
+  cell_in_all : (g : Name) (k : Key) → cond (nat_lt (number_of k) (limit pages (kind_of k))) (cell_after g (mode_or_copy items k) k (x.cell k)) (x.cell k) ≡ cell_after g (mode_or_copy items k) k (x.cell k)
+  cell_in_all g k = in_all k _ _ (ap (λ b. cond b (Common g) (x.cell k)))
 
-moved-past : (items : List Item) (x : Context) (p : ℕ) → x.page p ≡ None → (moved items x).page p ≡ None
-unfolding moved
-moved-past items x p none = ap (λ c. under_share (mode_or_copy items (Page p)) (own_value c)) none ∙ none_under _
+  value_in_all : (k : Key) → cond (nat_lt (number_of k) (limit pages (kind_of k))) (cond (moves (mode_or_copy items k) k (x.cell k)) (moved_value (mode_or_copy items k) k (x.cell k)) (nothing k)) (nothing k)
+      ≡ moved_value (mode_or_copy items k) k (x.cell k)
+  value_in_all k = in_all k _ _ (ap (λ b. cond b (moved_value (mode_or_copy items k) k (x.cell k)) (nothing k))) ∙ moved_or_nothing (mode_or_copy items k) k (x.cell k)
 
--- all pages have moved
-pub pages_moved : (g : Name) (items : List Item) (held : Held) (count k : ℕ) → IsWhole count held → count ≤ k →
-    (gave_pages g k (moved items (context_of held)) (context_of held) ≡ gives_pages g (moved items (context_of held)) (context_of held))
-    × (took_pages k (moved items (context_of held)) ≡ record new_group { page = (moved items (context_of held)).page })
-pages_moved g items held count k whole h =
-    let x = context_of held in
-    let all : (p : ℕ) → first_of k (moved items x).page p ≡ (moved items x).page p =
-    all_of _ k (λ p l. moved-past items x p (page-past held count p whole (omega arith))) in
-    (λ i. record x { page = λ p. page_after g (all p i) (x.page p) }, λ i. record new_group { page = λ p. all p i })
+  -- first the pages, then the slots, then the credential
+  all_given : (g : Name) → gave (is_below kind.Cred 1) g items (gave (is_below kind.Slot SLOTS) g items (gave (is_below kind.Page pages) g items x)) ≡ left_common g items x
+  unfolding left_common
+  all_given g =
+      let f : (k : Key) → Cell (ValueOf k) = (gave (is_below kind.Cred 1) g items (gave (is_below kind.Slot SLOTS) g items (gave (is_below kind.Page pages) g items x))).cell in
+      let at : (k : Key) → f k ≡ cell_after g (mode_or_copy items k) k (x.cell k) =
+      λ k. elim k as (λ k. f k ≡ cell_after g (mode_or_copy items k) k (x.cell k)) [
+        | Page p ↦ cell_in_all g (Page p)
+        | Slot n ↦ cell_in_all g (Slot n)
+        | Cred ↦ refl
+      ] in
+      λ i. record x { cell = λ k. at k i }
 
--- no page has moved yet
-pub no_page_moved : (g : Name) (values : Group) (x : Context) → (x ≡ gave_pages g 0 values x) × (new_group ≡ took_pages 0 values)
-no_page_moved g values x =
-    (λ i. record x { page = λ p. page_after g (sym (none_yet values.page p) i) (x.page p) }, λ i. record new_group { page = λ p. sym (none_yet values.page p) i })
+  all_taken : (g : Name) → took (is_below kind.Cred 1) items (gave (is_below kind.Slot SLOTS) g items (gave (is_below kind.Page pages) g items x))
+      (took (is_below kind.Slot SLOTS) items (gave (is_below kind.Page pages) g items x) (took (is_below kind.Page pages) items x new_group)) ≡ moved items x
+  unfolding moved
+  all_taken g =
+      let f : (k : Key) → ValueOf k =
+      (took (is_below kind.Cred 1) items (gave (is_below kind.Slot SLOTS) g items (gave (is_below kind.Page pages) g items x))
+      (took (is_below kind.Slot SLOTS) items (gave (is_below kind.Page pages) g items x) (took (is_below kind.Page pages) items x new_group))).value in
+      let at : (k : Key) → f k ≡ moved_value (mode_or_copy items k) k (x.cell k) =
+      λ k. elim k as (λ k. f k ≡ moved_value (mode_or_copy items k) k (x.cell k)) [
+        | Page p ↦ value_in_all (Page p)
+        | Slot n ↦ value_in_all (Slot n)
+        | Cred ↦ moved_or_nothing (mode_or_copy items Cred) Cred (x.cell Cred)
+      ] in
+      λ i. record { value = λ k. at k i }
 
--- a group that has taken the first so many slots of some values
-abbrev pub took_slots : ℕ → Group → Group → Group
-took_slots k values h = record h { slot = first_of k values.slot }
+  -- nothing has moved yet
+  none_given : (g : Name) (y : Context) → y ≡ gave (is_below kind.Cred 0) g items y
+  none_given g y =
+      let at : (k : Key) → y.cell k ≡ (gave (is_below kind.Cred 0) g items y).cell k =
+      λ k. elim k as (λ k. y.cell k ≡ (gave (is_below kind.Cred 0) g items y).cell k) [ Page p ↦ refl | Slot n ↦ refl | Cred ↦ refl ] in
+      λ i. record y { cell = λ k. at k i }
 
--- a context that has given them
-abbrev pub gave_slots : Name → ℕ → Group → Context → Context
-gave_slots g k values x = gives_slots g (took_slots k values new_group) x
+  none_taken : (y : Context) (h : Group) → h ≡ took (is_below kind.Cred 0) items y h
+  none_taken y h =
+      let at : (k : Key) → h.value k ≡ (took (is_below kind.Cred 0) items y h).value k =
+      λ k. elim k as (λ k. h.value k ≡ (took (is_below kind.Cred 0) items y h).value k) [ Page p ↦ refl | Slot n ↦ refl | Cred ↦ refl ] in
+      λ i. record { value = λ k. at k i }
 
-slot_after_choice : (g : Name) (b : Bool) (v : Descriptor) (o : Option Descriptor) (c : Cell Descriptor) → cond b (Common g) (cell_after g o c) ≡ cell_after g (cond b (Some v) o) c
-slot_after_choice g true v o c = refl
-slot_after_choice g false v o c = refl
+  -- all own values under share have moved
+  module _ (g n m : Name) (mode : Mode) (y z : Context) (n_is : n ≡ g) (m_is : m ≡ n) (mode_is : mode ≡ mode_or_copy items Cred)
+      (gave_pages : y ≡ gave (is_below kind.Page pages) g items x) (gave_slots : z ≡ gave (is_below kind.Slot SLOTS) n items y) where
+    abbrev before : Context
+    before = gave (is_below kind.Slot SLOTS) g items (gave (is_below kind.Page pages) g items x)
 
-slots_given_on : (g : Name) (k : ℕ) (values : Group) (x : Context) (value : Option Descriptor) → values.slot k ≡ value →
-    gives_slot g k value (gave_slots g k values x) ≡ gave_slots g (k + 1) values x
-slots_given_on g k values x None is = λ i. record x { slot = λ n. cell_after g (no_more values.slot k n is i) (x.slot n) }
-slots_given_on g k values x (Some v) is =
-    let slot : (n : ℕ) → (if n == k then Common g else cell_after g (first_of k values.slot n) (x.slot n)) ≡ cell_after g (first_of (k + 1) values.slot n) (x.slot n) =
-    λ n. slot_after_choice g (n == k) v (first_of k values.slot n) (x.slot n) ∙ ap (λ o. cell_after g o (x.slot n)) (one_more values.slot k n v is) in
-    λ i. record x { slot = λ n. slot n i }
+    slots_are : z ≡ before
+    slots_are = gave_slots ∙ (λ i. gave (is_below kind.Slot SLOTS) (n_is i) items (gave_pages i))
 
-slots_taken_on : (k : ℕ) (values h : Group) (value : Option Descriptor) → values.slot k ≡ value → takes_slot k value (took_slots k values h) ≡ took_slots (k + 1) values h
-slots_taken_on k values h None is = λ i. record h { slot = λ n. no_more values.slot k n is i }
-slots_taken_on k values h (Some v) is = λ i. record h { slot = λ n. one_more values.slot k n v is i }
+    pub values_given : (u : Context) → u ≡ gives m mode Cred z → u ≡ left_common g items x
+    values_given u uid =
+        context_gives kind.Cred 0 items g m mode before z new_group new_group refl (m_is ∙ n_is) (slots_are ∙ none_given g before) (none_taken before new_group) mode_is u uid
+        ∙ all_given g
 
-next_slot : (g : Name) (items : List Item) (k : ℕ) (x : Context) →
-    under_share (mode_or_copy items (Slot k)) (sharing.own ((gave_slots g k (moved items x) x).slot k)) ≡ (moved items x).slot k
-unfolding moved
-next_slot g items k x = ap (λ o. under_share (mode_or_copy items (Slot k)) (sharing.own (cell_after g o (x.slot k)))) (not_yet (moved items x).slot k)
-
--- one slot more has moved
-slot_moves : (g m : Name) (items : List Item) (k : ℕ) (x y z : Context) (start h j : Group) (value : Option Descriptor) → m ≡ g →
-    y ≡ gave_slots g k (moved items x) x → h ≡ took_slots k (moved items x) start →
-    value ≡ under_share (mode_or_copy items (Slot k)) (sharing.own (y.slot k)) → z ≡ gives_slot m k value y → j ≡ takes_slot k value h →
-    (z ≡ gave_slots g (k + 1) (moved items x) x) × (j ≡ took_slots (k + 1) (moved items x) start)
-slot_moves g m items k x y z start h j value name gave took value_is given taken =
-    let is : (moved items x).slot k ≡ value =
-    sym (value_is ∙ ap (λ (y : Context). under_share (mode_or_copy items (Slot k)) (sharing.own (y.slot k))) gave ∙ next_slot g items k x) in (
-      given ∙ ap (λ m. gives_slot m k value y) name ∙ ap (gives_slot g k value) gave ∙ slots_given_on g k (moved items x) x value is,
-      taken ∙ ap (takes_slot k value) took ∙ slots_taken_on k (moved items x) start value is,
-    )
-
--- the same of what is held
-module _ (g m : Name) (items : List Item) (k : ℕ) (mode : Mode) (x y : Context) (start h : Group) (name : m ≡ g)
-    (gave : y ≡ gave_slots g k (moved items x) x) (took : h ≡ took_slots k (moved items x) start) (mode_is : mode ≡ mode_or_copy items (Slot k)) where
-  slot_value_is : under_share mode (sharing.own (y.slot k)) ≡ under_share (mode_or_copy items (Slot k)) (sharing.own (y.slot k))
-  slot_value_is = ap (λ m. under_share m (sharing.own (y.slot k))) mode_is
-
-  pub context_gives_slot : (z : Context) → z ≡ gives_slot m k (under_share mode (sharing.own (y.slot k))) y → z ≡ gave_slots g (k + 1) (moved items x) x
-  context_gives_slot z given = (slot_moves g m items k x y z start h _ _ name gave took slot_value_is given refl).0
-
-  pub group_takes_slot : (j : Group) → j ≡ takes_slot k (under_share mode (sharing.own (y.slot k))) h → j ≡ took_slots (k + 1) (moved items x) start
-  group_takes_slot j taken = (slot_moves g m items k x y _ start h j _ name gave took slot_value_is refl taken).1
-
-moved_slot-past : (pages n : ℕ) (items : List Item) (x : Context) → IsSpec pages items → SLOTS ≤ n → (moved items x).slot n ≡ None
-unfolding moved
-moved_slot-past pages n items x spec past = ap (λ m. under_share m (sharing.own (x.slot n))) (copied_past pages (Slot n) items spec past)
-
--- all slots have moved
-pub slots_moved : (g : Name) (pages : ℕ) (items : List Item) (x : Context) (h : Group) (k : ℕ) → IsSpec pages items → SLOTS ≤ k →
-    (gave_slots g k (moved items x) x ≡ gives_slots g (moved items x) x) × (took_slots k (moved items x) h ≡ record h { slot = (moved items x).slot })
-slots_moved g pages items x h k spec past =
-    let all : (n : ℕ) → first_of k (moved items x).slot n ≡ (moved items x).slot n =
-    all_of _ k (λ n l. moved_slot-past pages n items x spec (omega (arith, past, l))) in
-    (λ i. record x { slot = λ n. cell_after g (all n i) (x.slot n) }, λ i. record h { slot = λ n. all n i })
-
--- no slot has moved yet
-pub no_slot_moved : (g : Name) (values : Group) (x : Context) (h : Group) → h.slot ≡ new_group.slot → (x ≡ gave_slots g 0 values x) × (h ≡ took_slots 0 values h)
-no_slot_moved g values x h empty = (
-  λ i. record x { slot = λ n. cell_after g (sym (none_yet values.slot n) i) (x.slot n) },
-  λ i. record h { slot = λ n. (ap (λ (f : ℕ → Option Descriptor). f n) empty ∙ sym (none_yet values.slot n)) i },
-)
-
-uid_given : (g : Name) (value : Option ℕ) (x : Context) → gives_uid g value x ≡ with_uid (cell_after g value x.uid) x
-uid_given g None x = refl
-uid_given g (Some uid) x = refl
-
-uid_taken : (value : Option ℕ) (h : Group) → h.uid ≡ None → takes_uid value h ≡ record h { uid = value }
-uid_taken None h none = λ i. record h { uid = none i }
-uid_taken (Some uid) h none = refl
-
-all_given : (g : Name) (items : List Item) (x : Context) → let y : Context = gives_pages g (moved items x) x in let z : Context = gives_slots g (moved items y) y in
-    gives_uid g (under_share (mode_or_copy items Cred) (sharing.own z.uid)) z ≡ left_common g (moved items x) x
-unfolding left_common moved
-all_given g items x = uid_given g _ _
-
-all_taken : (g : Name) (items : List Item) (x : Context) → let y : Context = gives_pages g (moved items x) x in
-    takes_uid (under_share (mode_or_copy items Cred) (sharing.own x.uid)) (takes_slots (moved items y) (takes_pages (moved items x) new_group)) ≡ moved items x
-unfolding moved
-all_taken g items x = uid_taken _ _ refl
-
--- all own values under share have moved: first the pages, then the slots, then the credential
-module _ (g n m : Name) (items : List Item) (mode : Mode) (x y z : Context) (n_is : n ≡ g) (m_is : m ≡ n) (mode_is : mode ≡ mode_or_copy items Cred)
-    (pages : y ≡ gives_pages g (moved items x) x) (slots : z ≡ gives_slots n (moved items y) y) where
-  slots_are : z ≡ gives_slots g (moved items y) y
-  slots_are = slots ∙ ap (λ n. gives_slots n (moved items y) y) n_is
-
-  after_slots : z ≡ (let y : Context = gives_pages g (moved items x) x in gives_slots g (moved items y) y)
-  after_slots = slots_are ∙ ap (λ (y : Context). gives_slots g (moved items y) y) pages
-
-  pub values_given : (u : Context) → u ≡ gives_uid m (under_share mode (sharing.own z.uid)) z → u ≡ left_common g (moved items x) x
-  values_given u uid =
-      uid
-      ∙ ap (λ m. gives_uid m (under_share mode (sharing.own z.uid)) z) (m_is ∙ n_is)
-      ∙ ap (λ mode. gives_uid g (under_share mode (sharing.own z.uid)) z) mode_is
-      ∙ ap (λ (z : Context). gives_uid g (under_share (mode_or_copy items Cred) (sharing.own z.uid)) z) after_slots
-      ∙ all_given g items x
-
-  pub values_taken : (h j k : Group) → h ≡ takes_pages (moved items x) new_group → j ≡ takes_slots (moved items y) h →
-      k ≡ takes_uid (under_share mode (sharing.own z.uid)) j → k ≡ moved items x
-  values_taken h j k pages_taken slots_taken uid_taken =
-      uid_taken
-      ∙ ap (λ mode. takes_uid (under_share mode (sharing.own z.uid)) j) mode_is
-      ∙ ap (λ (z : Context). takes_uid (under_share (mode_or_copy items Cred) (sharing.own z.uid)) j) after_slots
-      ∙ ap (takes_uid (under_share (mode_or_copy items Cred) (sharing.own x.uid))) (slots_taken ∙ ap (takes_slots (moved items y)) pages_taken)
-      ∙ ap (λ (y : Context). takes_uid (under_share (mode_or_copy items Cred) (sharing.own x.uid)) (takes_slots (moved items y) (takes_pages (moved items x) new_group))) pages
-      ∙ all_taken g items x
+    pub values_taken : (h j k start : Group) → start ≡ new_group → h ≡ took (is_below kind.Page pages) items x start → j ≡ took (is_below kind.Slot SLOTS) items y h →
+        k ≡ takes mode Cred (z.cell Cred) j → k ≡ moved items x
+    values_taken h j k start empty pages_taken slots_taken uid_taken =
+        let has : Group = took (is_below kind.Slot SLOTS) items (gave (is_below kind.Page pages) g items x) (took (is_below kind.Page pages) items x new_group) in
+        let is : j ≡ has = slots_taken ∙ (λ i. took (is_below kind.Slot SLOTS) items (gave_pages i) ((pages_taken ∙ ap (took (is_below kind.Page pages) items x) empty) i)) in
+        group_takes kind.Cred 0 items g m mode before z has j refl (m_is ∙ n_is) (slots_are ∙ none_given g before) (is ∙ none_taken before has) mode_is k uid_taken
+        ∙ all_taken g

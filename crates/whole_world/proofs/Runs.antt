@@ -2,7 +2,6 @@
 use Rattle.std.proofs.Common.{◌≡◌, ◌≢◌, ℕ, zero, suc, ◌<◌, arith, refl, sym, ap, ◌∙◌, Bool, true, false, cond, List, Option, Some, None}
 use Rattle.std.specs.Prelude.{◌&&◌, not, is_some, count_by, nat_le, nat_lt}
 use Rattle.std.specs.List.{range_with_len}
-use Rattle.std.specs.Option.{option_map}
 use Rattle.std.specs.Ordering.{eq_by_cmp, is_eq}
 use Rattle.std.proofs.lemmas.Bool.{false≢true}
 use Rattle.lwc_base.specs.declared.cell.Cell.{Cell}
@@ -16,19 +15,18 @@ use Rattle.lwc_base.specs.declared.page.PageValue.{PageValue}
 use Rattle.lwc_base.specs.declared.page.PageValue.TheVariants.{Zero}
 use Rattle.lwc_base.specs.declared.regs.Regs.{Regs}
 use Rattle.lwc_base.specs.Cells.{page_at}
-use Rattle.lwc_base.specs.Frames.{own_value}
 use Rattle.lwc_base.specs.Fresh.{IsFresh}
 use Rattle.lwc_base.specs.Mapping.{map_pages, mapped_or_not, unmap_pages}
 use Rattle.lwc_base.specs.Modes.{IsSpec, mode_or_copy}
 use Rattle.lwc_base.specs.Names.{name_cmp}
-use Rattle.lwc_base.specs.Ranges.{are_alike, begins_range, ranges, ranges_of}
-use Rattle.lwc_base.specs.Sharing.{clone, cloned_page, left_common, moved, page_after, ranges_after_clone, share, under_share}
+use Rattle.lwc_base.specs.Ranges.{are_alike, is_page, begins_range, ranges, ranges_of}
+use Rattle.lwc_base.specs.Sharing.{cell_after, clone, cloned, left_common, moved, ranges_after_clone, share}
 use Rattle.lwc_base.specs.World.{World, Context, context, is_live, next_group}
 use Rattle.lwc_base.proofs.Cloning.{pages-share}
 use Rattle.lwc_base.proofs.Fresh.{names_old-context}
 use Rattle.lwc_base.proofs.Live.{same_name, values-map_pages, values-unmap_pages}
 use Rattle.lwc_base.proofs.Lookups.{context-change_context, name-itself, other_name}
-use Rattle.lwc_base.proofs.Sharing.{page_at-share}
+use Rattle.lwc_base.proofs.Sharing.{value_at-share}
 use Rattle.whole_world.specs.declared.ranges.Standing.{Standing}
 use Rattle.whole_world.specs.declared.ranges.Standing.TheVariants.{Absent, Own, Moved, Common}
 use Rattle.whole_world.specs.Copies.{with_zeros, without_pages}
@@ -37,10 +35,10 @@ use Rattle.whole_world.specs.Standings.{begins_after, begins_at, cloned_standing
 use Rattle.whole_world.proofs.SharedCells.{context-shared}
 
 -- what a page with this cell is to its context, seen from a new group
-abbrev seen_from : Name → Option (Cell PageValue) → Standing
-seen_from g None = Absent
-seen_from g (Some (cell.Own value)) = Own
-seen_from g (Some (cell.Common h)) = cond (is_eq (name_cmp h g)) Moved (Common h)
+abbrev seen_from : Name → Cell (Option PageValue) → Standing
+seen_from g (cell.Own None) = Absent
+seen_from g (cell.Own (Some value)) = Own
+seen_from g (cell.Common h) = cond (is_eq (name_cmp h g)) Moved (Common h)
 
 same_as_itself : (g h k : Name) (e : Bool) → eq_by_cmp name_cmp h g ≡ true → eq_by_cmp name_cmp k g ≡ true → is_eq (name_cmp h k) ≡ e → e ≡ true
 same_as_itself g h k e h_is k_is is = sym is ∙ (λ i. is_eq (name_cmp (same_name h g h_is i) (same_name k g k_is i))) ∙ name-itself g
@@ -67,60 +65,60 @@ begins_after_absent : (h : Name) (b : Bool) → begins_after Absent (cond b Move
 begins_after_absent h true = refl
 begins_after_absent h false = refl
 
-begins-cells : (g : Name) (a b : Option (Cell PageValue)) → begins_after (seen_from g a) (seen_from g b) ≡ (is_some b && not (are_alike a b))
-begins-cells g a None = refl
-begins-cells g None (Some (cell.Own v)) = refl
-begins-cells g (Some (cell.Own u)) (Some (cell.Own v)) = refl
-begins-cells g (Some (cell.Common h)) (Some (cell.Own v)) = own_begins h _
-begins-cells g None (Some (cell.Common k)) = begins_after_absent k _
-begins-cells g (Some (cell.Own u)) (Some (cell.Common k)) = begins_after_own k _
-begins-cells g (Some (cell.Common h)) (Some (cell.Common k)) = begins_after-common g h k _ _ _ refl refl refl
+begins-cells : (g : Name) (a b : Cell (Option PageValue)) → begins_after (seen_from g a) (seen_from g b) ≡ (is_page b && not (are_alike a b))
+begins-cells g a (cell.Own None) = refl
+begins-cells g (cell.Own None) (cell.Own (Some v)) = refl
+begins-cells g (cell.Own (Some u)) (cell.Own (Some v)) = refl
+begins-cells g (cell.Common h) (cell.Own (Some v)) = own_begins h _
+begins-cells g (cell.Own None) (cell.Common k) = begins_after_absent k _
+begins-cells g (cell.Own (Some u)) (cell.Common k) = begins_after_own k _
+begins-cells g (cell.Common h) (cell.Common k) = begins_after-common g h k _ _ _ refl refl refl
 
-begins-first : (g : Name) (b : Option (Cell PageValue)) → begins_after Absent (seen_from g b) ≡ (is_some b && not false)
-begins-first g None = refl
-begins-first g (Some (cell.Own v)) = refl
-begins-first g (Some (cell.Common k)) = begins_after_absent k _
+begins-first : (g : Name) (b : Cell (Option PageValue)) → begins_after Absent (seen_from g b) ≡ (is_page b && not false)
+begins-first g (cell.Own None) = refl
+begins-first g (cell.Own (Some v)) = refl
+begins-first g (cell.Common k) = begins_after_absent k _
 
 -- a context whose pages are to it what some standings say has the ranges that they make
-module _ (g : Name) (x : Context) (standings : ℕ → Standing) (each : (p : ℕ) → seen_from g (x.page p) ≡ standings p) where
+module _ (g : Name) (x : Context) (standings : ℕ → Standing) (each : (p : ℕ) → seen_from g (x.cell (Page p)) ≡ standings p) where
   begins-each : (p : ℕ) → begins_range x p ≡ begins_at standings p
   unfolding begins_range
-  begins-each zero = sym (begins-first g (x.page 0)) ∙ ap (begins_after Absent) (each 0)
-  begins-each (suc p) = sym (begins-cells g (x.page p) (x.page (suc p))) ∙ (λ i. begins_after (each p i) (each (suc p) i))
+  begins-each zero = sym (begins-first g (x.cell (Page 0))) ∙ ap (begins_after Absent) (each 0)
+  begins-each (suc p) = sym (begins-cells g (x.cell (Page p)) (x.cell (Page (suc p)))) ∙ (λ i. begins_after (each p i) (each (suc p) i))
 
   ranges-standings : (pages : ℕ) → ranges pages x ≡ count_of_ranges pages standings
   unfolding ranges count_of_ranges
   ranges-standings pages = ap (λ f. count_by f (range_with_len 0 pages)) (λ i p. begins-each p i)
 
-seen_from-shared : (g : Name) (mode : Mode) (c : Option (Cell PageValue)) → c ≢ Some (cell.Common g) →
-    seen_from g (page_after g (under_share mode (own_value c)) c) ≡ standing_of mode c
-seen_from-shared g Copy None other = refl
-seen_from-shared g Share None other = refl
-seen_from-shared g Unmap None other = refl
-seen_from-shared g Copy (Some (cell.Own v)) other = refl
-seen_from-shared g Share (Some (cell.Own v)) other = ap (λ b. cond b Moved (Common g)) (name-itself g)
-seen_from-shared g Unmap (Some (cell.Own v)) other = refl
-seen_from-shared g Copy (Some (cell.Common h)) other = ap (λ b. cond b Moved (Common h)) (other_name h g (λ same. other (ap (λ n. Some (cell.Common n)) same)))
-seen_from-shared g Share (Some (cell.Common h)) other = ap (λ b. cond b Moved (Common h)) (other_name h g (λ same. other (ap (λ n. Some (cell.Common n)) same)))
-seen_from-shared g Unmap (Some (cell.Common h)) other = ap (λ b. cond b Moved (Common h)) (other_name h g (λ same. other (ap (λ n. Some (cell.Common n)) same)))
+seen_from-shared : (g : Name) (p : ℕ) (mode : Mode) (c : Cell (Option PageValue)) → c ≢ cell.Common g →
+    seen_from g (cell_after g mode (Page p) c) ≡ standing_of mode c
+seen_from-shared g p Copy (cell.Own None) other = refl
+seen_from-shared g p Share (cell.Own None) other = refl
+seen_from-shared g p Unmap (cell.Own None) other = refl
+seen_from-shared g p Copy (cell.Own (Some v)) other = refl
+seen_from-shared g p Share (cell.Own (Some v)) other = ap (λ b. cond b Moved (Common g)) (name-itself g)
+seen_from-shared g p Unmap (cell.Own (Some v)) other = refl
+seen_from-shared g p Copy (cell.Common h) other = ap (λ b. cond b Moved (Common h)) (other_name h g (λ same. other (ap (λ n. cell.Common n) same)))
+seen_from-shared g p Share (cell.Common h) other = ap (λ b. cond b Moved (Common h)) (other_name h g (λ same. other (ap (λ n. cell.Common n) same)))
+seen_from-shared g p Unmap (cell.Common h) other = ap (λ b. cond b Moved (Common h)) (other_name h g (λ same. other (ap (λ n. cell.Common n) same)))
 
-seen_from-own : (g : Name) (value : Option PageValue) → seen_from g (option_map cell.Own value) ≡ own_if (is_some value)
+seen_from-own : (g : Name) (value : Option PageValue) → seen_from g (cell.Own value) ≡ own_if (is_some value)
 seen_from-own g None = refl
 seen_from-own g (Some value) = refl
 
 module _ (w : World) (c : Name) (fresh : IsFresh w) where
-  not_new : (job p : ℕ) → (context w c).page p ≢ Some (cell.Common (next_group w job))
-  not_new job p is = let h : (w.next job).groups < (w.next job).groups = (names_old-context w c fresh).page p (next_group w job) is in absurd (omega arith)
+  not_new : (job p : ℕ) → (context w c).cell (Page p) ≢ cell.Common (next_group w job)
+  not_new job p is = let h : (w.next job).groups < (w.next job).groups = names_old-context w c fresh (Page p) (next_group w job) is in absurd (omega arith)
 
   module _ (job : ℕ) (items : List Item) (live : is_live w c ≡ true) (spec : IsSpec w.pages items) where
     abbrev new : Name
     new = next_group w job
 
-    page-shared : (p : ℕ) → seen_from new ((context (share w c job items) c).page p) ≡ standing_of (mode_or_copy items (Page p)) ((context w c).page p)
+    page-shared : (p : ℕ) → seen_from new ((context (share w c job items) c).cell (Page p)) ≡ standing_of (mode_or_copy items (Page p)) ((context w c).cell (Page p))
     unfolding left_common moved
     page-shared p =
-        ap (λ (x : Context). seen_from new (x.page p)) (context-shared w c job items live spec)
-        ∙ seen_from-shared new (mode_or_copy items (Page p)) ((context w c).page p) (not_new job p)
+        ap (λ (x : Context). seen_from new (x.cell (Page p))) (context-shared w c job items live spec)
+        ∙ seen_from-shared new p (mode_or_copy items (Page p)) ((context w c).cell (Page p)) (not_new job p)
 
     -- the ranges of the context after the sharing
     pub ranges-shared : ranges_of (share w c job items) c ≡ count_of_ranges w.pages (after_sharing w c items)
@@ -130,10 +128,10 @@ module _ (w : World) (c : Name) (fresh : IsFresh w) where
         ∙ ranges-standings new (context (share w c job items) c) (after_sharing w c items) page-shared w.pages
 
     page-cloned : (p : ℕ) (mode : Mode) → mode_or_copy items (Page p) ≡ mode →
-        seen_from new (cloned_page (share w c job items) c p mode) ≡ cloned_standing mode (is_some (page_at w c p)) ((context w c).page p)
+        seen_from new (cloned (share w c job items) c (Page p) mode) ≡ cloned_standing mode (is_some (page_at w c p)) ((context w c).cell (Page p))
     page-cloned p Copy is =
-        ap (λ o. seen_from new (option_map cell.Own o)) (page_at-share w c job items fresh c p) ∙ seen_from-own new (page_at w c p)
-    page-cloned p Share is = page-shared p ∙ ap (λ m. standing_of m ((context w c).page p)) is
+        ap (λ o. seen_from new (cell.Own o)) (value_at-share w c job items fresh c (Page p)) ∙ seen_from-own new (page_at w c p)
+    page-cloned p Share is = page-shared p ∙ ap (λ m. standing_of m ((context w c).cell (Page p))) is
     page-cloned p Unmap is = refl
 
     -- the ranges of the new context
@@ -149,8 +147,8 @@ module _ (w : World) (c : Name) (fresh : IsFresh w) where
     unfolding ranges_after_clone
     ranges-both a b shared cloned = λ i. ((shared ∙ sym ranges-shared) i, (cloned ∙ sym (ranges-cloned (context (share w c job items) c).entry)) i)
 
-  mapped-cell : (g : Name) (here present : Bool) (old : Option (Cell PageValue)) → seen_from g old ≡ standing_of Copy old →
-      seen_from g (cond present (cond here (Some (cell.Own Zero)) old) (cond here None old)) ≡ cond here (own_if present) (standing_of Copy old)
+  mapped-cell : (g : Name) (here present : Bool) (old : Cell (Option PageValue)) → seen_from g old ≡ standing_of Copy old →
+      seen_from g (cond present (cond here (cell.Own (Some Zero)) old) (cond here (cell.Own None) old)) ≡ cond here (own_if present) (standing_of Copy old)
   mapped-cell g true true old same = refl
   mapped-cell g true false old same = refl
   mapped-cell g false true old same = same
@@ -163,13 +161,13 @@ module _ (w : World) (c : Name) (fresh : IsFresh w) where
   changed-here : (change : Context → Context) → is_live w c ≡ true → cond (is_live w c && eq_by_cmp name_cmp c c) (change (context w c)) (context w c) ≡ change (context w c)
   changed-here change live = λ i. cond (live i && name-itself c i) (change (context w c)) (context w c)
 
-  context-mapped : (from to : ℕ) (present : Bool) → is_live w c ≡ true → (p : ℕ) → (context (mapped_or_not w c from to present) c).page p
-      ≡ (let here : Bool = nat_le from p && nat_lt p to in cond present (cond here (Some (cell.Own Zero)) ((context w c).page p)) (cond here None ((context w c).page p)))
+  context-mapped : (from to : ℕ) (present : Bool) → is_live w c ≡ true → (p : ℕ) → (context (mapped_or_not w c from to present) c).cell (Page p)
+      ≡ (let here : Bool = nat_le from p && nat_lt p to in cond present (cond here (cell.Own (Some Zero)) ((context w c).cell (Page p))) (cond here (cell.Own None) ((context w c).cell (Page p))))
   unfolding map_pages unmap_pages
   context-mapped from to true live p =
-      ap (λ (x : Context). x.page p) (context-change_context w c (with_zeros from to) c ∙ changed-here (with_zeros from to) live)
+      ap (λ (x : Context). x.cell (Page p)) (context-change_context w c (with_zeros from to) c ∙ changed-here (with_zeros from to) live)
   context-mapped from to false live p =
-      ap (λ (x : Context). x.page p) (context-change_context w c (without_pages from to) c ∙ changed-here (without_pages from to) live)
+      ap (λ (x : Context). x.cell (Page p)) (context-change_context w c (without_pages from to) c ∙ changed-here (without_pages from to) live)
 
   -- the ranges of the context once pages have been mapped or unmapped
   pub ranges-mapped : (from to : ℕ) (present : Bool) → is_live w c ≡ true →
@@ -180,4 +178,4 @@ module _ (w : World) (c : Name) (fresh : IsFresh w) where
       ap (λ n. ranges n (context (mapped_or_not w c from to present) c)) (pages-mapped from to present)
       ∙ ranges-standings new (context (mapped_or_not w c from to present) c) (after_mapping w c from to present)
       (λ p. ap (seen_from new) (context-mapped from to present live p)
-      ∙ mapped-cell new (nat_le from p && nat_lt p to) present ((context w c).page p) (seen_from-shared new Copy ((context w c).page p) (not_new 0 p))) w.pages
+      ∙ mapped-cell new (nat_le from p && nat_lt p to) present ((context w c).cell (Page p)) (seen_from-shared new p Copy ((context w c).cell (Page p)) (not_new 0 p))) w.pages

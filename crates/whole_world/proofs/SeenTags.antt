@@ -12,7 +12,7 @@ use Rattle.lwc_base.specs.Names.{name_cmp}
 use Rattle.whole_world.specs.declared.group.HeldGroup.{HeldGroup}
 use Rattle.whole_world.specs.declared.held.Held.{Held}
 use Rattle.whole_world.specs.declared.world.WholeWorld.{WholeWorld}
-use Rattle.whole_world.specs.Copies.{context_of, group_of, held_page, group_page}
+use Rattle.whole_world.specs.Copies.{as_cell, context_of, group_of, group_value, held_cell, held_page, group_page}
 use Rattle.whole_world.specs.Rows.{context_entry, group_entry, contexts_of, groups_of, world_of}
 use Rattle.whole_world.specs.Seen.{seen}
 use Rattle.whole_world.specs.Sound.{IsWhole, IsWholeGroup}
@@ -28,20 +28,20 @@ one_tag (Some (Data tag bytes)) = omega arith
 
 -- a context that is held
 tags_of_context-held : (count : ℕ) (held : Held) → IsWhole count held → tags_of_context count (context_of held) ≡ context_tags held
-unfolding tags_of_context context_of held_page context_tags
+unfolding tags_of_context context_of held_cell held_page context_tags
 tags_of_context-held count held whole =
     let places : count ≡ length held.pages.items = omega (arith, whole.pages, held.pages.ok.0) in
-    ap (λ n. flat_map (λ p. tag_of (own_value (get_or held.pages.items p None))) (range_with_len 0 n)) places
-    ∙ flat_map-places (λ cell. tag_of (own_value cell)) held.pages.items None
+    ap (λ n. flat_map (λ p. tag_of (own_value (as_cell (get_or held.pages.items p None)))) (range_with_len 0 n)) places
+    ∙ flat_map-places (λ cell. tag_of (own_value (as_cell cell))) held.pages.items None
 
 length-context_tags : (count : ℕ) (held : Held) → IsWhole count held → length (context_tags held) ≤ count
 unfolding context_tags
 length-context_tags count held whole =
-    omega (arith, length-flat_map-le (λ cell. tag_of (own_value cell)) 1 held.pages.items (λ k d within. one_tag (own_value (get_or held.pages.items k d))), whole.pages, held.pages.ok.0)
+    omega (arith, length-flat_map-le (λ cell. tag_of (own_value (as_cell cell))) 1 held.pages.items (λ k d within. one_tag (own_value (as_cell (get_or held.pages.items k d)))), whole.pages, held.pages.ok.0)
 
 -- a group that is held
 tags_of_group-held : (count : ℕ) (held : HeldGroup) → IsWholeGroup count held → tags_of_group count (group_of held) ≡ group_tags held
-unfolding tags_of_group group_of group_page group_tags
+unfolding tags_of_group group_of group_value group_page group_tags
 tags_of_group-held count held whole =
     let places : count ≡ length held.pages.items = omega (arith, whole.pages, held.pages.ok.0) in
     ap (λ n. flat_map (λ p. tag_of (get_or held.pages.items p None)) (range_with_len 0 n)) places

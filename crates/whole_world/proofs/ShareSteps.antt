@@ -17,8 +17,8 @@ abbrev pub one_group_more : Counters → Counters
 one_group_more n = record n { groups = n.groups + 1 }
 
 -- a context that names a group that has been named
-pub fresh-left_common : (w : World) (c g : Name) (values : Group) → IsNamedGroup w.next g → IsFresh w → IsFresh (change_context w c (left_common g values))
-fresh-left_common w c g values named fresh = fresh-change_context w c (left_common g values) (λ x old. names_old-left_common w.next g values x named old) fresh
+pub fresh-left_common : (w : World) (c g : Name) (items : List Item) → IsNamedGroup w.next g → IsFresh w → IsFresh (change_context w c (left_common g items))
+fresh-left_common w c g items named fresh = fresh-change_context w c (left_common g items) (λ x old. names_old-left_common w.next g items x named old) fresh
 
 groups-changed : (w : World) (c : Name) (change : Context → Context) (found : Option Context) → (changed_context w c change found).groups ≡ w.groups
 groups-changed w c change None = refl
@@ -88,24 +88,24 @@ module _ (w counted : World) (job : ℕ) (is_counted : counted ≡ count_on w jo
     pub left-new : (g : Name) → IsFresh w → g ≡ next_group w job → fm.contains_key left.groups g ≡ false
     left-new g fresh is = ap (λ m. fm.contains_key m g) left-groups ∙ ap (fm.contains_key w.groups) is ∙ next_group-new w job fresh
 
-added_as : (w : World) (c : Name) (job : ℕ) (values : Group) → let left : World = change_context w c (left_common (next_group w job) values) in
+added_as : (w : World) (c : Name) (job : ℕ) (items : List Item) (values : Group) → let left : World = change_context w c (left_common (next_group w job) items) in
     (λ (v : World). record v { groups = fm.insert v.groups (next_group w job) values }) (count_on left job one_group_more) ≡ add_group left job values
 unfolding add_group count_on
-added_as w c job values =
-    let left : World = change_context w c (left_common (next_group w job) values) in
+added_as w c job items values =
+    let left : World = change_context w c (left_common (next_group w job) items) in
     let name : next_group w job ≡ next_group left job =
-    ap (λ (next : ℕ → Counters). record { job = job; k = (next job).groups }) (sym (values-change_context w c (left_common (next_group w job) values)).next) in
+    ap (λ (next : ℕ → Counters). record { job = job; k = (next job).groups }) (sym (values-change_context w c (left_common (next_group w job) items)).next) in
     λ i. count_on (record left { groups = fm.insert left.groups (name i) values }) job one_group_more
 
 -- the world once the group is put in
 pub share-steps : (w counted left shared : World) (c : Name) (job : ℕ) (items : List Item) (g h : Name) (values : Group) → needs_group w c items ≡ true →
     g ≡ next_group w job → h ≡ g → values ≡ moved items (context counted c) → counted ≡ count_on w job one_group_more →
-    left ≡ change_context counted c (left_common g (moved items (context counted c))) → shared ≡ record left { groups = fm.insert left.groups h values } →
+    left ≡ change_context counted c (left_common g items) → shared ≡ record left { groups = fm.insert left.groups h values } →
     shared ≡ share w c job items
 share-steps w counted left shared c job items g h values needs g_is h_is values_are is_counted is_left is_shared =
     let same : values ≡ moved items (context w c) = values_are ∙ ap (moved items) (counted-context w counted job is_counted c) in
-    let moves : left ≡ count_on (change_context w c (left_common (next_group w job) (moved items (context w c)))) job one_group_more =
-    is_left ∙ (λ i. change_context (is_counted i) c (left_common (g_is i) (moved items (counted-context w counted job is_counted c i))))
+    let moves : left ≡ count_on (change_context w c (left_common (next_group w job) items)) job one_group_more =
+    is_left ∙ (λ i. change_context (is_counted i) c (left_common (g_is i) items))
     ∙ change-counted w job one_group_more c _ in
     is_shared ∙ (λ i. record (moves i) { groups = fm.insert (moves i).groups ((h_is ∙ g_is) i) (same i) })
-    ∙ added_as w c job (moved items (context w c)) ∙ sym (share-moves w c job items needs)
+    ∙ added_as w c job items (moved items (context w c)) ∙ sym (share-moves w c job items needs)

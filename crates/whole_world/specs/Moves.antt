@@ -1,56 +1,48 @@
 -- Values that move out of a context into a group.
-use Rattle.std.specs.Prelude.{ℕ, Option, None, Some}
-use Rattle.lwc_base.specs.declared.cell.Cell.TheVariants.{Common}
-use Rattle.lwc_base.specs.declared.descriptor.Descriptor.{Descriptor}
+use Rattle.std.specs.Prelude.{ℕ, ◌&&◌, if◌then◌else◌, Bool, List, Option, None, Some, nat_lt}
+use Rattle.lwc_base.specs.declared.cell.Cell.{Cell}
+use Rattle.lwc_base.specs.declared.cell.Cell.TheVariants.{Own, Common}
+use Rattle.lwc_base.specs.declared.item.Item.{Item}
+use Rattle.lwc_base.specs.declared.item.Mode.{Mode}
+use Rattle.lwc_base.specs.declared.key.Key.{Key}
+use Rattle.lwc_base.specs.declared.key.Key.TheVariants as key
+use Rattle.lwc_base.specs.declared.key.Kind.{Kind}
+use Rattle.lwc_base.specs.declared.key.Kind.TheVariants as kind
 use Rattle.lwc_base.specs.declared.name.Name.{Name}
-use Rattle.lwc_base.specs.declared.page.PageValue.{PageValue}
-use Rattle.lwc_base.specs.Cells.{with_page, with_slot, with_group_page, with_group_slot}
-use Rattle.lwc_base.specs.Sharing.{cell_after, page_after}
+use Rattle.lwc_base.specs.Cells.{with_cell, with_value}
+use Rattle.lwc_base.specs.Keys.{ValueOf}
+use Rattle.lwc_base.specs.Modes.{kind_of, mode_or_copy, number_of, same_kind}
+use Rattle.lwc_base.specs.Sharing.{cell_after, moves, moved_value}
 use Rattle.lwc_base.specs.World.{Context, Group}
-use Rattle.whole_world.specs.Copies.{with_uid, with_group_uid}
 
--- a context that gives a group the value of a page, if there is one to give: the page is common of the group from then on
-abbrev pub gives_page : Name → ℕ → Option PageValue → Context → Context
-gives_page g p None x = x
-gives_page g p (Some value) x = with_page p (Some (Common g)) x
+-- the value of a cell that is the context's own
+abbrev pub own : {T : Type 0} → Cell T → Option T
+own (Own value) = Some value
+own (Common g) = None
 
--- the same of a slot
-abbrev pub gives_slot : Name → ℕ → Option Descriptor → Context → Context
-gives_slot g n None x = x
-gives_slot g n (Some value) x = with_slot n (Common g) x
+-- a context that gives a group the value under a key, if it moves: the key is common of the group from then on
+abbrev pub gives : Name → Mode → Key → Context → Context
+gives g mode k x = if moves mode k (x.cell k) then with_cell k (Common g) x else x
 
--- the same of the credential
-abbrev pub gives_uid : Name → Option ℕ → Context → Context
-gives_uid g None x = x
-gives_uid g (Some uid) x = with_uid (Common g) x
+-- a group that takes the value of a cell under a key, if it moves
+abbrev pub takes : Mode → (k : Key) → Cell (ValueOf k) → Group → Group
+takes mode k cell h = if moves mode k cell then with_value k (moved_value mode k cell) h else h
 
--- a group that takes a value under a page, if there is one to take
-abbrev pub takes_page : ℕ → Option PageValue → Group → Group
-takes_page p None x = x
-takes_page p (Some value) x = with_group_page p value x
+-- the key of a kind that has a number
+abbrev pub key_of : Kind → ℕ → Key
+key_of kind.Page n = key.Page n
+key_of kind.Slot n = key.Slot n
+key_of kind.Cred n = key.Cred
 
--- the same of a slot
-abbrev pub takes_slot : ℕ → Option Descriptor → Group → Group
-takes_slot n None x = x
-takes_slot n (Some value) x = with_group_slot n value x
+-- whether a key is one of the first so many of a kind
+abbrev pub is_below : Kind → ℕ → Key → Bool
+is_below kind n k = same_kind kind (kind_of k) && nat_lt (number_of k) n
 
--- the same of the credential
-abbrev pub takes_uid : Option ℕ → Group → Group
-takes_uid None x = x
-takes_uid (Some uid) x = with_group_uid uid x
+-- a context that has given a group what moves under the keys that pass
+abbrev pub gave : (Key → Bool) → Name → List Item → Context → Context
+gave done g items x = record x { cell = λ k. if done k then cell_after g (mode_or_copy items k) k (x.cell k) else x.cell k }
 
--- a context that gives a group the values that have moved under its pages
-abbrev pub gives_pages : Name → Group → Context → Context
-gives_pages g values x = record x { page = λ p. page_after g (values.page p) (x.page p) }
-
--- the same of its slots
-abbrev pub gives_slots : Name → Group → Context → Context
-gives_slots g values x = record x { slot = λ n. cell_after g (values.slot n) (x.slot n) }
-
--- a group with all pages of another
-abbrev pub takes_pages : Group → Group → Group
-takes_pages values x = record x { page = values.page }
-
--- the same of the slots
-abbrev pub takes_slots : Group → Group → Group
-takes_slots values x = record x { slot = values.slot }
+-- a group that has taken it
+abbrev pub took : (Key → Bool) → List Item → Context → Group → Group
+took done items x h =
+    record { value = λ k. if done k then (if moves (mode_or_copy items k) k (x.cell k) then moved_value (mode_or_copy items k) k (x.cell k) else h.value k) else h.value k }

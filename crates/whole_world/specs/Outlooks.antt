@@ -11,12 +11,12 @@ use Rattle.whole_world.specs.Standings.{cloned_standing, mapped_standing, standi
 
 -- what a page is to a context once what is under share has moved out of it
 unfoldable pub after_sharing : World → Name → List Item → ℕ → Standing
-after_sharing w c items p = standing_of (mode_or_copy items (Page p)) ((context w c).page p)
+after_sharing w c items p = standing_of (mode_or_copy items (Page p)) ((context w c).cell (Page p))
 
 -- what it is to the context that is made from it
 unfoldable pub in_clone : World → Name → List Item → ℕ → Standing
-in_clone w c items p = cloned_standing (mode_or_copy items (Page p)) (is_some (page_at w c p)) ((context w c).page p)
+in_clone w c items p = cloned_standing (mode_or_copy items (Page p)) (is_some (page_at w c p)) ((context w c).cell (Page p))
 
 -- what it is to the context once pages have been mapped or unmapped
 unfoldable pub after_mapping : World → Name → ℕ → ℕ → Bool → ℕ → Standing
-after_mapping w c from to present p = mapped_standing from to present p ((context w c).page p)
+after_mapping w c from to present p = mapped_standing from to present p ((context w c).cell (Page p))

@@ -12,25 +12,25 @@ use Rattle.whole_world.specs.declared.ranges.Standing.{Standing}
 use Rattle.whole_world.specs.declared.ranges.Standing.TheVariants.{Absent, Own, Moved, Common}
 
 -- what a page with this cell is to its context, once its value has moved if it is under share
-abbrev pub standing_of : Mode → Option (Cell PageValue) → Standing
-standing_of mode None = Absent
-standing_of Copy (Some (cell.Own value)) = Own
-standing_of Share (Some (cell.Own value)) = Moved
-standing_of Unmap (Some (cell.Own value)) = Own
-standing_of mode (Some (cell.Common g)) = Common g
+abbrev pub standing_of : Mode → Cell (Option PageValue) → Standing
+standing_of mode (cell.Own None) = Absent
+standing_of Copy (cell.Own (Some value)) = Own
+standing_of Share (cell.Own (Some value)) = Moved
+standing_of Unmap (cell.Own (Some value)) = Own
+standing_of mode (cell.Common g) = Common g
 
 -- a page of the context's own, if it is present
 abbrev pub own_if : Bool → Standing
 own_if present = if present then Own else Absent
 
 -- what the page is to the new context, by the mode, whether it is present, and its cell
-abbrev pub cloned_standing : Mode → Bool → Option (Cell PageValue) → Standing
+abbrev pub cloned_standing : Mode → Bool → Cell (Option PageValue) → Standing
 cloned_standing Copy present cell = own_if present
 cloned_standing Share present cell = standing_of Share cell
 cloned_standing Unmap present cell = Absent
 
 -- what it is to a context in which the pages from one up to and without another have become present or absent
-abbrev pub mapped_standing : ℕ → ℕ → Bool → ℕ → Option (Cell PageValue) → Standing
+abbrev pub mapped_standing : ℕ → ℕ → Bool → ℕ → Cell (Option PageValue) → Standing
 mapped_standing from to present p cell = if nat_le from p && nat_lt p to then own_if present else standing_of Copy cell
 
 -- whether two standings are the same

@@ -6,12 +6,13 @@ use Rattle.std.specs.FinSet as set
 use Rattle.lwc_base.specs.declared.name.Tag.{Tag}
 use Rattle.lwc_base.specs.Frames.{tag_of, own_value}
 use Rattle.lwc_base.specs.Names.{tag_cmp}
+use Rattle.whole_world.specs.Copies.{as_cell}
 use Rattle.whole_world.specs.declared.held.Held.{Held}
 use Rattle.whole_world.specs.declared.group.HeldGroup.{HeldGroup}
 
 -- the tags of a context's own pages that are held
 unfoldable pub context_tags : Held → List Tag
-context_tags held = flat_map (λ cell. tag_of (own_value cell)) held.pages.items
+context_tags held = flat_map (λ cell. tag_of (own_value (as_cell cell))) held.pages.items
 
 -- the tags of a group's pages that are held
 unfoldable pub group_tags : HeldGroup → List Tag

@@ -1,13 +1,13 @@
-ghost use Rattle.std.specs.Prelude.{◌≡◌, ◌<◌, IfOk, IsTrue, OnErr, OnOk, map, true};
+ghost use Rattle.std.specs.Prelude.{◌≡◌, ℕ, ◌<◌, IfOk, IsTrue, OnErr, OnOk, map, true};
 ghost use Rattle.std.specs.List.{range_with_len};
-ghost use Rattle.std.specs.Option.{option_copied, option_map};
+ghost use Rattle.std.specs.Option.{option_copied};
 ghost use Rattle.lwc_base.specs.declared.cell.Cell.TheVariants.{Own};
 ghost use Rattle.lwc_base.specs.declared.descriptor.TheConstants.{SLOTS};
+ghost use Rattle.lwc_base.specs.declared.item.Mode.TheVariants.{Share};
 ghost use Rattle.lwc_base.specs.declared.key.Key.TheVariants.{Page, Slot, Cred};
-ghost use Rattle.lwc_base.specs.Frames.{own_value};
+ghost use Rattle.whole_world.specs.Copies.{as_cell, in_common};
 ghost use Rattle.lwc_base.specs.Modes.{IsSpec, mode_or_copy};
-ghost use Rattle.lwc_base.specs.Sharing as sharing;
-ghost use Rattle.lwc_base.specs.Sharing.{cell_after, page_after};
+ghost use Rattle.lwc_base.specs.Sharing.{cell_after};
 
 use crate::group::HeldGroup;
 use crate::held::Held;
@@ -23,7 +23,7 @@ fn copied_page(
     alloc: Global,
     value: Option<&PageValue>,
 ) -> Result<Option<Cell<PageValue>>, OutOfMemory>
-    ensures { IfOk result (λ cell. cell ≡ option_map Own (option_copied value.entry)) }
+    ensures { IfOk result (λ cell. as_cell cell ≡ Own (option_copied value.entry)) }
 {
     Ok(match value {
         None => None,
@@ -37,7 +37,7 @@ fn copied_page(
 
 /// The cell that a page has once its value has moved into a group, if it was the context's own.
 fn shared_page(cell: Option<&Cell<PageValue>>, group: Name) -> Option<Cell<PageValue>>
-    ensures { result ≡ page_after group (own_value (option_copied cell.entry)) (option_copied cell.entry) }
+    ensures { (p : ℕ) → as_cell result ≡ cell_after group Share (Page p) (as_cell (option_copied cell.entry)) }
 {
     match cell {
         None => None,
@@ -48,7 +48,7 @@ fn shared_page(cell: Option<&Cell<PageValue>>, group: Name) -> Option<Cell<PageV
 
 /// The same of another key's cell.
 fn shared_cell<T>(cell: &Cell<T>, group: Name) -> Cell<T>
-    ensures { result ≡ cell_after group (sharing.own cell.now) cell.now }
+    ensures { result ≡ in_common group cell.now }
 {
     match cell {
         Cell::Own(_) => Cell::Common(group),
@@ -57,7 +57,7 @@ fn shared_cell<T>(cell: &Cell<T>, group: Name) -> Cell<T>
 }
 
 impl WholeWorld {
-    ghost use Rattle.lwc_base.specs.Sharing.{clone, clone_context, cloned_page, cloned_slot, cloned_uid, needs_group, share};
+    ghost use Rattle.lwc_base.specs.Sharing.{clone, clone_context, cloned, needs_group, share};
     ghost use Rattle.lwc_base.specs.World.{is_live, next_context, next_group};
     ghost use Rattle.whole_world.specs.Copies.{context_of};
     ghost use Rattle.whole_world.specs.Seen.{HasRoom, HasGroupRoom, seen, size_of};
@@ -86,7 +86,7 @@ impl WholeWorld {
         requires live { IsTrue (is_live (seen self.now) c) }
         requires within { IsSpec (seen self.now).pages spec.now }
         requires known { job < (size_of self.now).jobs }
-        ensures { IfOk result (λ cell. cell ≡ cloned_page (share (seen self.now) c job spec.now) c p (mode_or_copy spec.now (Page p))) }
+        ensures { IfOk result (λ cell. as_cell cell ≡ cloned (share (seen self.now) c job spec.now) c (Page p) (mode_or_copy spec.now (Page p))) }
     {
         match mode_or_copy(spec, Key::Page(p)) {
             Mode::Copy => copied_page(self.alloc, self.page_value(c, p as usize)),
@@ -104,7 +104,7 @@ impl WholeWorld {
         requires within { IsSpec (seen self.now).pages spec.now }
         requires known { job < (size_of self.now).jobs }
         requires slot { n < SLOTS }
-        ensures { result ≡ cloned_slot (share (seen self.now) c job spec.now) c n (mode_or_copy spec.now (Slot n)) }
+        ensures { result ≡ cloned (share (seen self.now) c job spec.now) c (Slot n) (mode_or_copy spec.now (Slot n)) }
     {
         match mode_or_copy(spec, Key::Slot(n)) {
             Mode::Copy => Cell::Own(self.slot_value(c, n)),
@@ -118,7 +118,7 @@ impl WholeWorld {
         requires live { IsTrue (is_live (seen self.now) c) }
         requires within { IsSpec (seen self.now).pages spec.now }
         requires known { job < (size_of self.now).jobs }
-        ensures { result ≡ cloned_uid (share (seen self.now) c job spec.now) c (mode_or_copy spec.now Cred) }
+        ensures { result ≡ cloned (share (seen self.now) c job spec.now) c Cred (mode_or_copy spec.now Cred) }
     {
         match mode_or_copy(spec, Key::Cred) {
             Mode::Copy => Cell::Own(self.uid_value(c)),
@@ -137,7 +137,7 @@ impl WholeWorld {
         requires live { IsTrue (is_live (seen self.now) c) }
         requires within { IsSpec (seen self.now).pages spec.now }
         requires known { job < (size_of self.now).jobs }
-        ensures { IfOk result (λ pages. pages.items ≡ map (λ p. cloned_page (share (seen self.now) c job spec.now) c p (mode_or_copy spec.now (Page p))) (range_with_len 0 (seen self.now).pages)) }
+        ensures { IfOk result (λ pages. map as_cell pages.items ≡ map (λ p. cloned (share (seen self.now) c job spec.now) c (Page p) (mode_or_copy spec.now (Page p))) (range_with_len 0 (seen self.now).pages)) }
     {
         let count = self.page_limit();
         let mut pages = Vec::with_capacity(self.alloc, count as usize)?;
@@ -157,7 +157,7 @@ impl WholeWorld {
         requires live { IsTrue (is_live (seen self.now) c) }
         requires within { IsSpec (seen self.now).pages spec.now }
         requires known { job < (size_of self.now).jobs }
-        ensures { IfOk result (λ slots. slots.items ≡ map (λ n. cloned_slot (share (seen self.now) c job spec.now) c n (mode_or_copy spec.now (Slot n))) (range_with_len 0 SLOTS)) }
+        ensures { IfOk result (λ slots. slots.items ≡ map (λ n. cloned (share (seen self.now) c job spec.now) c (Slot n) (mode_or_copy spec.now (Slot n))) (range_with_len 0 SLOTS)) }
     {
         let mut slots = Vec::with_capacity(self.alloc, SLOTS as usize)?;
         for n in 0..SLOTS {

@@ -1,9 +1,12 @@
-ghost use Rattle.std.specs.Prelude.{◌≡◌, ℕ, ◌<◌, IfOk, Some, None, replicate, vec_len};
+ghost use Rattle.std.specs.Prelude.{◌≡◌, ℕ, ◌<◌, IfOk, Some, None, replicate, unwrap_or, vec_len};
 ghost use Rattle.std.specs.Option.{option_copied};
 ghost use Rattle.lwc_base.specs.declared.descriptor.TheConstants.{SLOTS};
-ghost use Rattle.lwc_base.specs.Cells.{with_group_page, with_group_slot};
+ghost use Rattle.lwc_base.specs.declared.descriptor.Descriptor.TheVariants.{Empty};
+ghost use Rattle.lwc_base.specs.declared.key.Key.TheVariants.{Page, Slot, Cred};
+ghost use Rattle.lwc_base.specs.declared.key.TheConstants.{NOBODY};
+ghost use Rattle.lwc_base.specs.Cells.{with_value};
 ghost use Rattle.lwc_base.specs.World.{new_group};
-ghost use Rattle.whole_world.specs.Copies.{group_of, with_group_uid};
+ghost use Rattle.whole_world.specs.Copies.{group_of};
 ghost use Rattle.whole_world.specs.Sound.{IsWholeGroup};
 
 use lwc_base::{Descriptor, Name, OutOfMemory, PageValue, SLOTS};
@@ -20,7 +23,7 @@ pub struct HeldGroup {
 
 impl HeldGroup {
     /// A group with nothing in it, which may have so many pages. The one error is want of memory.
-    #[tactic(auto, unfolding(crate::specs::Copies::group_of, crate::specs::Copies::group_page, crate::specs::Copies::group_slot))]
+    #[tactic(auto, unfolding(crate::specs::Copies::group_of, crate::specs::Copies::group_value, crate::specs::Copies::group_page, crate::specs::Copies::group_slot))]
     pub fn empty(alloc: Global, name: Name, pages: usize) -> Result<HeldGroup, OutOfMemory>
         ensures name { IfOk result (λ held. held.name ≡ name) }
         ensures whole { IfOk result (IsWholeGroup pages) }
@@ -35,9 +38,9 @@ impl HeldGroup {
     }
 
     /// The value under a page, if the group has that page.
-    #[tactic(auto, unfolding(crate::specs::Copies::group_of, crate::specs::Copies::group_page))]
+    #[tactic(auto, unfolding(crate::specs::Copies::group_of, crate::specs::Copies::group_value, crate::specs::Copies::group_page, crate::specs::Copies::group_slot))]
     pub fn page(&self, p: usize) -> Option<&PageValue>
-        ensures { option_copied result ≡ (group_of self.now).page p }
+        ensures { option_copied result ≡ (group_of self.now).value (Page p) }
     {
         if p < self.pages.len() {
             self.pages[p].as_ref()
@@ -47,9 +50,9 @@ impl HeldGroup {
     }
 
     /// The value under a slot, if the group has that slot.
-    #[tactic(auto, unfolding(crate::specs::Copies::group_of, crate::specs::Copies::group_slot))]
+    #[tactic(auto, unfolding(crate::specs::Copies::group_of, crate::specs::Copies::group_value, crate::specs::Copies::group_page, crate::specs::Copies::group_slot))]
     pub fn slot(&self, n: u8) -> Option<Descriptor>
-        ensures { result ≡ (group_of self.now).slot n }
+        ensures { unwrap_or result Empty ≡ (group_of self.now).value (Slot n) }
     {
         if (n as usize) < self.slots.len() {
             self.slots[n as usize]
@@ -59,41 +62,41 @@ impl HeldGroup {
     }
 
     /// The credential, if the group has it.
-    #[tactic(auto, unfolding(crate::specs::Copies::group_of))]
+    #[tactic(auto, unfolding(crate::specs::Copies::group_of, crate::specs::Copies::group_value, crate::specs::Copies::group_page, crate::specs::Copies::group_slot))]
     pub fn uid(&self) -> Option<u32>
-        ensures { result ≡ (group_of self.now).uid }
+        ensures { unwrap_or result NOBODY ≡ (group_of self.now).value Cred }
     {
         self.uid
     }
 
     /// Puts a value under a page.
-    #[tactic(auto, unfolding(crate::specs::Copies::group_of, crate::specs::Copies::group_page))]
+    #[tactic(auto, unfolding(crate::specs::Copies::group_of, crate::specs::Copies::group_value, crate::specs::Copies::group_page, crate::specs::Copies::group_slot))]
     pub fn set_page(&mut self, p: usize, value: PageValue)
         requires { p < vec_len self.old.pages }
         ensures name { self.new.name ≡ self.old.name }
         ensures whole { (pages : ℕ) → IsWholeGroup pages self.old → IsWholeGroup pages self.new }
-        ensures group { group_of self.new ≡ with_group_page p value (group_of self.old) }
+        ensures group { group_of self.new ≡ with_value (Page p) (Some value) (group_of self.old) }
     {
         self.pages[p] = Some(value);
     }
 
     /// Puts a value under a slot.
-    #[tactic(auto, unfolding(crate::specs::Copies::group_of, crate::specs::Copies::group_slot))]
+    #[tactic(auto, unfolding(crate::specs::Copies::group_of, crate::specs::Copies::group_value, crate::specs::Copies::group_page, crate::specs::Copies::group_slot))]
     pub fn set_slot(&mut self, n: u8, value: Descriptor)
         requires { n < vec_len self.old.slots }
         ensures name { self.new.name ≡ self.old.name }
         ensures whole { (pages : ℕ) → IsWholeGroup pages self.old → IsWholeGroup pages self.new }
-        ensures group { group_of self.new ≡ with_group_slot n value (group_of self.old) }
+        ensures group { group_of self.new ≡ with_value (Slot n) value (group_of self.old) }
     {
         self.slots[n as usize] = Some(value);
     }
 
     /// Puts a uid under the credential.
-    #[tactic(auto, unfolding(crate::specs::Copies::group_of, crate::specs::Copies::group_page, crate::specs::Copies::group_slot))]
+    #[tactic(auto, unfolding(crate::specs::Copies::group_of, crate::specs::Copies::group_value, crate::specs::Copies::group_page, crate::specs::Copies::group_slot))]
     pub fn set_uid(&mut self, uid: u32)
         ensures name { self.new.name ≡ self.old.name }
         ensures whole { (pages : ℕ) → IsWholeGroup pages self.old → IsWholeGroup pages self.new }
-        ensures group { group_of self.new ≡ with_group_uid uid (group_of self.old) }
+        ensures group { group_of self.new ≡ with_value Cred uid (group_of self.old) }
     {
         self.uid = Some(uid);
     }

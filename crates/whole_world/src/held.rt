@@ -3,9 +3,10 @@ ghost use Rattle.std.specs.Option.{option_copied};
 ghost use Rattle.lwc_base.specs.declared.cell.Cell.TheVariants.{Own};
 ghost use Rattle.lwc_base.specs.declared.descriptor.Descriptor.TheVariants.{Empty};
 ghost use Rattle.lwc_base.specs.declared.descriptor.TheConstants.{SLOTS};
-ghost use Rattle.lwc_base.specs.Cells.{with_page, with_slot};
+ghost use Rattle.lwc_base.specs.declared.key.Key.TheVariants.{Page, Slot, Cred};
+ghost use Rattle.lwc_base.specs.Cells.{with_cell};
 ghost use Rattle.lwc_base.specs.World.{new_context};
-ghost use Rattle.whole_world.specs.Copies.{context_of, held_page, held_slot, with_uid, with_zeros, without_pages};
+ghost use Rattle.whole_world.specs.Copies.{as_cell, context_of, held_page, held_slot, with_zeros, without_pages};
 ghost use Rattle.whole_world.specs.Sound.{IsWhole};
 
 use lwc_base::{Cell, Descriptor, Name, OutOfMemory, PageValue, Regs, SLOTS};
@@ -23,7 +24,7 @@ pub struct Held {
 
 impl Held {
     /// A context as it is made, with no page of so many present. The one error is want of memory.
-    #[tactic(auto, unfolding(crate::specs::Copies::context_of, crate::specs::Copies::held_page, crate::specs::Copies::held_slot))]
+    #[tactic(auto, unfolding(crate::specs::Copies::context_of, crate::specs::Copies::held_cell, crate::specs::Copies::held_page, crate::specs::Copies::held_slot))]
     pub fn new(
         alloc: Global,
         name: Name,
@@ -45,10 +46,10 @@ impl Held {
     }
 
     /// The cell of a page, if it is present.
-    #[tactic(auto, unfolding(crate::specs::Copies::context_of, crate::specs::Copies::held_page))]
+    #[tactic(auto, unfolding(crate::specs::Copies::context_of, crate::specs::Copies::held_cell, crate::specs::Copies::held_page, crate::specs::Copies::held_slot))]
     pub fn page_cell(&self, p: usize) -> Option<&Cell<PageValue>>
         ensures cell { option_copied result ≡ held_page self.now p }
-        ensures of_context { option_copied result ≡ (context_of self.now).page p }
+        ensures of_context { as_cell (option_copied result) ≡ (context_of self.now).cell (Page p) }
         ensures within { IfSome result (λ _. p < vec_len self.now.pages) }
     {
         if p < self.pages.len() {
@@ -59,52 +60,52 @@ impl Held {
     }
 
     /// The cell of a slot.
-    #[tactic(auto, unfolding(crate::specs::Copies::context_of, crate::specs::Copies::held_slot))]
+    #[tactic(auto, unfolding(crate::specs::Copies::context_of, crate::specs::Copies::held_cell, crate::specs::Copies::held_page, crate::specs::Copies::held_slot))]
     pub fn slot_cell(&self, n: u8) -> &Cell<Descriptor>
         requires { n < vec_len self.now.slots }
         ensures cell { result.now ≡ held_slot self.now n }
-        ensures of_context { result.now ≡ (context_of self.now).slot n }
+        ensures of_context { result.now ≡ (context_of self.now).cell (Slot n) }
     {
         &self.slots[n as usize]
     }
 
     /// The cell of the credential.
-    #[tactic(auto, unfolding(crate::specs::Copies::context_of))]
+    #[tactic(auto, unfolding(crate::specs::Copies::context_of, crate::specs::Copies::held_cell, crate::specs::Copies::held_page, crate::specs::Copies::held_slot))]
     pub fn uid_cell(&self) -> &Cell<u32>
-        ensures { result.now ≡ (context_of self.now).uid }
+        ensures { result.now ≡ (context_of self.now).cell Cred }
     {
         &self.uid
     }
 
     /// Puts a cell under a page, or none, so that it is absent.
-    #[tactic(auto, unfolding(crate::specs::Copies::context_of, crate::specs::Copies::held_page))]
+    #[tactic(auto, unfolding(crate::specs::Copies::context_of, crate::specs::Copies::held_cell, crate::specs::Copies::held_page, crate::specs::Copies::held_slot))]
     pub fn set_page(&mut self, p: usize, cell: Option<Cell<PageValue>>)
         requires { p < vec_len self.old.pages }
         ensures name { self.new.name ≡ self.old.name }
         ensures whole { (pages : ℕ) → IsWhole pages self.old → IsWhole pages self.new }
         ensures many { vec_len self.new.pages ≡ vec_len self.old.pages }
-        ensures context { context_of self.new ≡ with_page p cell (context_of self.old) }
+        ensures context { context_of self.new ≡ with_cell (Page p) (as_cell cell) (context_of self.old) }
     {
         self.pages[p] = cell;
     }
 
     /// Puts a cell under a slot.
-    #[tactic(auto, unfolding(crate::specs::Copies::context_of, crate::specs::Copies::held_slot))]
+    #[tactic(auto, unfolding(crate::specs::Copies::context_of, crate::specs::Copies::held_cell, crate::specs::Copies::held_page, crate::specs::Copies::held_slot))]
     pub fn set_slot(&mut self, n: u8, cell: Cell<Descriptor>)
         requires { n < vec_len self.old.slots }
         ensures name { self.new.name ≡ self.old.name }
         ensures whole { (pages : ℕ) → IsWhole pages self.old → IsWhole pages self.new }
-        ensures context { context_of self.new ≡ with_slot n cell (context_of self.old) }
+        ensures context { context_of self.new ≡ with_cell (Slot n) cell (context_of self.old) }
     {
         self.slots[n as usize] = cell;
     }
 
     /// Puts a cell under the credential.
-    #[tactic(auto, unfolding(crate::specs::Copies::context_of, crate::specs::Copies::held_page, crate::specs::Copies::held_slot))]
+    #[tactic(auto, unfolding(crate::specs::Copies::context_of, crate::specs::Copies::held_cell, crate::specs::Copies::held_page, crate::specs::Copies::held_slot))]
     pub fn set_uid(&mut self, cell: Cell<u32>)
         ensures name { self.new.name ≡ self.old.name }
         ensures whole { (pages : ℕ) → IsWhole pages self.old → IsWhole pages self.new }
-        ensures context { context_of self.new ≡ with_uid cell (context_of self.old) }
+        ensures context { context_of self.new ≡ with_cell Cred cell (context_of self.old) }
     {
         self.uid = cell;
     }

@@ -1,13 +1,15 @@
 ghost use Rattle.std.specs.Prelude.{◌≡◌, ℕ, ◌<◌, ◌≤◌, vec_len};
 ghost use Rattle.lwc_base.specs.declared.descriptor.TheConstants.{SLOTS};
-ghost use Rattle.lwc_base.specs.Cells.{with_page, with_slot};
+ghost use Rattle.lwc_base.specs.declared.item.Mode.TheVariants.{Share};
+ghost use Rattle.lwc_base.specs.declared.key.Key.TheVariants.{Page, Slot, Cred};
+ghost use Rattle.lwc_base.specs.declared.key.Kind.TheVariants as kind;
+ghost use Rattle.lwc_base.specs.Cells.{with_cell};
 ghost use Rattle.lwc_base.specs.Frames.{own_value};
 ghost use Rattle.lwc_base.specs.Modes.{IsSpec};
-ghost use Rattle.lwc_base.specs.Sharing as sharing;
-ghost use Rattle.lwc_base.specs.Sharing.{left_common, moved, page_after, under_share};
+ghost use Rattle.lwc_base.specs.Sharing.{left_common, moved};
 ghost use Rattle.lwc_base.specs.World.{new_group};
-ghost use Rattle.whole_world.specs.Copies.{context_of, group_of, held_page, held_slot};
-ghost use Rattle.whole_world.specs.Moves.{gives_page, gives_pages, gives_slot, gives_slots, gives_uid, takes_page, takes_pages, takes_slot, takes_slots, takes_uid};
+ghost use Rattle.whole_world.specs.Copies.{as_cell, context_of, group_of, held_page, held_slot};
+ghost use Rattle.whole_world.specs.Moves.{gave, gives, is_below, own, takes, took};
 ghost use Rattle.whole_world.specs.Sound.{IsWhole, IsWholeGroup};
 
 use crate::group::HeldGroup;
@@ -17,7 +19,7 @@ use res_spec::mode_or_copy;
 
 /// The value of a page's cell that is the context's own.
 fn own_value(cell: Option<Cell<PageValue>>) -> Option<PageValue>
-    ensures { result ≡ own_value cell }
+    ensures { result ≡ own_value (as_cell cell) }
 {
     match cell {
         Some(Cell::Own(value)) => Some(value),
@@ -27,13 +29,13 @@ fn own_value(cell: Option<Cell<PageValue>>) -> Option<PageValue>
 
 impl Held {
     /// Puts a cell under a page, and gives the old one.
-    #[tactic(auto, unfolding(crate::specs::Copies::context_of, crate::specs::Copies::held_page))]
+    #[tactic(auto, unfolding(crate::specs::Copies::context_of, crate::specs::Copies::held_cell, crate::specs::Copies::held_page))]
     fn replace_page(&mut self, p: usize, cell: Option<Cell<PageValue>>) -> Option<Cell<PageValue>>
         requires { p < vec_len self.old.pages }
-        ensures old { result ≡ (context_of self.old).page p }
+        ensures old { as_cell result ≡ (context_of self.old).cell (Page p) }
         ensures name { self.new.name ≡ self.old.name }
         ensures whole { (pages : ℕ) → IsWhole pages self.old → IsWhole pages self.new }
-        ensures context { context_of self.new ≡ with_page p cell (context_of self.old) }
+        ensures context { context_of self.new ≡ with_cell (Page p) (as_cell cell) (context_of self.old) }
     {
         std::mem::replace(&mut self.pages[p], cell)
     }
@@ -41,10 +43,10 @@ impl Held {
     /// Moves the value of a page out, where the page is the context's own; it is common of the group from then on.
     fn give_page(&mut self, p: usize, group: Name) -> Option<PageValue>
         requires { p < vec_len self.old.pages }
-        ensures value { result ≡ own_value ((context_of self.old).page p) }
+        ensures value { result ≡ own_value ((context_of self.old).cell (Page p)) }
         ensures name { self.new.name ≡ self.old.name }
         ensures whole { (pages : ℕ) → IsWhole pages self.old → IsWhole pages self.new }
-        ensures context { context_of self.new ≡ gives_page group p result (context_of self.old) }
+        ensures context { context_of self.new ≡ gives group Share (Page p) (context_of self.old) }
     {
         match self.page_cell(p) {
             Some(Cell::Own(_)) => own_value(self.replace_page(p, Some(Cell::Common(group)))),
@@ -55,10 +57,10 @@ impl Held {
     /// The same of a slot.
     fn give_slot(&mut self, n: u8, group: Name) -> Option<Descriptor>
         requires { n < vec_len self.old.slots }
-        ensures value { result ≡ sharing.own ((context_of self.old).slot n) }
+        ensures value { result ≡ own ((context_of self.old).cell (Slot n)) }
         ensures name { self.new.name ≡ self.old.name }
         ensures whole { (pages : ℕ) → IsWhole pages self.old → IsWhole pages self.new }
-        ensures context { context_of self.new ≡ gives_slot group n result (context_of self.old) }
+        ensures context { context_of self.new ≡ gives group Share (Slot n) (context_of self.old) }
     {
         match *self.slot_cell(n) {
             Cell::Own(value) => {
@@ -71,10 +73,10 @@ impl Held {
 
     /// The same of the credential.
     fn give_uid(&mut self, group: Name) -> Option<u32>
-        ensures value { result ≡ sharing.own (context_of self.old).uid }
+        ensures value { result ≡ own ((context_of self.old).cell Cred) }
         ensures name { self.new.name ≡ self.old.name }
         ensures whole { (pages : ℕ) → IsWhole pages self.old → IsWhole pages self.new }
-        ensures context { context_of self.new ≡ gives_uid group result (context_of self.old) }
+        ensures context { context_of self.new ≡ gives group Share Cred (context_of self.old) }
     {
         match *self.uid_cell() {
             Cell::Own(uid) => {
@@ -91,10 +93,10 @@ impl Held {
         requires place { p < vec_len group.old.pages }
         ensures name { self.new.name ≡ self.old.name }
         ensures whole { (pages : ℕ) → IsWhole pages self.old → IsWhole pages self.new }
-        ensures context { context_of self.new ≡ gives_page group.old.name p (under_share mode (own_value ((context_of self.old).page p))) (context_of self.old) }
+        ensures context { context_of self.new ≡ gives group.old.name mode (Page p) (context_of self.old) }
         ensures group_name { group.new.name ≡ group.old.name }
         ensures whole_group { (pages : ℕ) → IsWholeGroup pages group.old → IsWholeGroup pages group.new }
-        ensures group { group_of group.new ≡ takes_page p (under_share mode (own_value ((context_of self.old).page p))) (group_of group.old) }
+        ensures group { group_of group.new ≡ takes mode (Page p) ((context_of self.old).cell (Page p)) (group_of group.old) }
     {
         if mode != Mode::Share {
             return;
@@ -110,10 +112,10 @@ impl Held {
         requires place { n < vec_len group.old.slots }
         ensures name { self.new.name ≡ self.old.name }
         ensures whole { (pages : ℕ) → IsWhole pages self.old → IsWhole pages self.new }
-        ensures context { context_of self.new ≡ gives_slot group.old.name n (under_share mode (sharing.own ((context_of self.old).slot n))) (context_of self.old) }
+        ensures context { context_of self.new ≡ gives group.old.name mode (Slot n) (context_of self.old) }
         ensures group_name { group.new.name ≡ group.old.name }
         ensures whole_group { (pages : ℕ) → IsWholeGroup pages group.old → IsWholeGroup pages group.new }
-        ensures group { group_of group.new ≡ takes_slot n (under_share mode (sharing.own ((context_of self.old).slot n))) (group_of group.old) }
+        ensures group { group_of group.new ≡ takes mode (Slot n) ((context_of self.old).cell (Slot n)) (group_of group.old) }
     {
         if mode != Mode::Share {
             return;
@@ -127,10 +129,10 @@ impl Held {
     fn move_uid(&mut self, mode: Mode, group: &mut HeldGroup)
         ensures name { self.new.name ≡ self.old.name }
         ensures whole { (pages : ℕ) → IsWhole pages self.old → IsWhole pages self.new }
-        ensures context { context_of self.new ≡ gives_uid group.old.name (under_share mode (sharing.own (context_of self.old).uid)) (context_of self.old) }
+        ensures context { context_of self.new ≡ gives group.old.name mode Cred (context_of self.old) }
         ensures group_name { group.new.name ≡ group.old.name }
         ensures whole_group { (pages : ℕ) → IsWholeGroup pages group.old → IsWholeGroup pages group.new }
-        ensures group { group_of group.new ≡ takes_uid (under_share mode (sharing.own (context_of self.old).uid)) (group_of group.old) }
+        ensures group { group_of group.new ≡ takes mode Cred ((context_of self.old).cell Cred) (group_of group.old) }
     {
         if mode != Mode::Share {
             return;
@@ -140,35 +142,32 @@ impl Held {
         }
     }
 
-    /// Moves the own pages under share into a group with no page.
+    /// Moves the own pages under share into a group .
     fn move_pages(&mut self, pages: u16, spec: &Spec, group: &mut HeldGroup)
         requires whole { IsWhole pages self.old }
         requires whole_group { IsWholeGroup pages group.old }
-        requires empty { group_of group.old ≡ new_group }
         ensures name { self.new.name ≡ self.old.name }
         ensures whole { IsWhole pages self.new }
-        ensures context { context_of self.new ≡ gives_pages group.old.name (moved spec.now (context_of self.old)) (context_of self.old) }
+        ensures context { context_of self.new ≡ gave (is_below kind.Page pages) group.old.name spec.now (context_of self.old) }
         ensures group_name { group.new.name ≡ group.old.name }
         ensures whole_group { IsWholeGroup pages group.new }
-        ensures group { group_of group.new ≡ takes_pages (moved spec.now (context_of self.old)) new_group }
+        ensures group { group_of group.new ≡ took (is_below kind.Page pages) spec.now (context_of self.old) (group_of group.old) }
     {
         for p in 0..pages {
             self.move_page(p as usize, mode_or_copy(spec, Key::Page(p)), group);
         }
     }
 
-    /// Moves the own slots under share into a group with no slot.
+    /// Moves the own slots under share into a group .
     fn move_slots(&mut self, pages: u16, spec: &Spec, group: &mut HeldGroup)
         requires whole { IsWhole pages self.old }
         requires whole_group { IsWholeGroup pages group.old }
-        requires within { IsSpec pages spec.now }
-        requires empty { (group_of group.old).slot ≡ new_group.slot }
         ensures name { self.new.name ≡ self.old.name }
         ensures whole { IsWhole pages self.new }
-        ensures context { context_of self.new ≡ gives_slots group.old.name (moved spec.now (context_of self.old)) (context_of self.old) }
+        ensures context { context_of self.new ≡ gave (is_below kind.Slot SLOTS) group.old.name spec.now (context_of self.old) }
         ensures group_name { group.new.name ≡ group.old.name }
         ensures whole_group { IsWholeGroup pages group.new }
-        ensures group { group_of group.new ≡ takes_slots (moved spec.now (context_of self.old)) (group_of group.old) }
+        ensures group { group_of group.new ≡ took (is_below kind.Slot SLOTS) spec.now (context_of self.old) (group_of group.old) }
     {
         for n in 0..SLOTS {
             self.move_slot(n, mode_or_copy(spec, Key::Slot(n)), group);
@@ -183,7 +182,7 @@ impl Held {
         requires empty { group_of group.old ≡ new_group }
         ensures name { self.new.name ≡ self.old.name }
         ensures whole { IsWhole pages self.new }
-        ensures context { context_of self.new ≡ left_common group.old.name (moved spec.now (context_of self.old)) (context_of self.old) }
+        ensures context { context_of self.new ≡ left_common group.old.name spec.now (context_of self.old) }
         ensures group_name { group.new.name ≡ group.old.name }
         ensures whole_group { IsWholeGroup pages group.new }
         ensures group { group_of group.new ≡ moved spec.now (context_of self.old) }

@@ -1,21 +1,21 @@
 ghost use Rattle.std.specs.Prelude.{◌≡◌, ◌<◌, ◌≤◌, IsTrue, Some};
 ghost use Rattle.lwc_base.specs.declared.cell.Cell.TheVariants.{Own};
 ghost use Rattle.lwc_base.specs.declared.descriptor.TheConstants.{SLOTS};
+ghost use Rattle.lwc_base.specs.declared.key.Key.TheVariants.{Page, Slot, Cred};
 
 use crate::world::WholeWorld;
 use lwc_base::{Cell, Descriptor, Name, PageValue};
 
 impl WholeWorld {
-    ghost use Rattle.lwc_base.specs.Cells.{put_page, put_slot, put_uid, with_page, with_slot, with_group_page, with_group_slot};
+    ghost use Rattle.lwc_base.specs.Cells.{put_page, put_slot, put_uid, with_cell, with_value};
     ghost use Rattle.lwc_base.specs.Mapping.{map_pages, unmap_pages};
     ghost use Rattle.lwc_base.specs.World.{change_context, change_group, is_live};
-    ghost use Rattle.whole_world.specs.Copies.{with_uid, with_group_uid};
     ghost use Rattle.whole_world.specs.Seen.{seen, size_of};
 
     /// Puts a value of a context's own under a page.
     fn put_own_page(&mut self, c: Name, p: usize, value: PageValue)
         requires { p < (seen self.old).pages }
-        ensures world { seen self.new ≡ change_context (seen self.old) c (with_page p (Some (Own value))) }
+        ensures world { seen self.new ≡ change_context (seen self.old) c (with_cell (Page p) (Own (Some value))) }
         ensures size { size_of self.new ≡ size_of self.old }
     {
         match self.place_of(c) {
@@ -27,7 +27,7 @@ impl WholeWorld {
     /// Puts a value of a context's own under a slot.
     fn put_own_slot(&mut self, c: Name, n: u8, value: Descriptor)
         requires { n < SLOTS }
-        ensures world { seen self.new ≡ change_context (seen self.old) c (with_slot n (Own value)) }
+        ensures world { seen self.new ≡ change_context (seen self.old) c (with_cell (Slot n) (Own value)) }
         ensures size { size_of self.new ≡ size_of self.old }
     {
         match self.place_of(c) {
@@ -38,7 +38,7 @@ impl WholeWorld {
 
     /// Puts a uid of a context's own under the credential.
     fn put_own_uid(&mut self, c: Name, uid: u32)
-        ensures world { seen self.new ≡ change_context (seen self.old) c (with_uid (Own uid)) }
+        ensures world { seen self.new ≡ change_context (seen self.old) c (with_cell Cred (Own uid)) }
         ensures size { size_of self.new ≡ size_of self.old }
     {
         match self.place_of(c) {
@@ -50,7 +50,7 @@ impl WholeWorld {
     /// Puts a value under a page of a group.
     fn put_group_page(&mut self, g: Name, p: usize, value: PageValue)
         requires { p < (seen self.old).pages }
-        ensures world { seen self.new ≡ change_group (seen self.old) g (with_group_page p value) }
+        ensures world { seen self.new ≡ change_group (seen self.old) g (with_value (Page p) (Some value)) }
         ensures size { size_of self.new ≡ size_of self.old }
     {
         match self.group_place(g) {
@@ -62,7 +62,7 @@ impl WholeWorld {
     /// Puts a value under a slot of a group.
     fn put_group_slot(&mut self, g: Name, n: u8, value: Descriptor)
         requires { n < SLOTS }
-        ensures world { seen self.new ≡ change_group (seen self.old) g (with_group_slot n value) }
+        ensures world { seen self.new ≡ change_group (seen self.old) g (with_value (Slot n) value) }
         ensures size { size_of self.new ≡ size_of self.old }
     {
         match self.group_place(g) {
@@ -73,7 +73,7 @@ impl WholeWorld {
 
     /// Puts a uid under the credential of a group.
     fn put_group_uid(&mut self, g: Name, uid: u32)
-        ensures world { seen self.new ≡ change_group (seen self.old) g (with_group_uid uid) }
+        ensures world { seen self.new ≡ change_group (seen self.old) g (with_value Cred uid) }
         ensures size { size_of self.new ≡ size_of self.old }
     {
         match self.group_place(g) {
@@ -110,7 +110,7 @@ impl WholeWorld {
 
     /// Puts another value under a page of a context: the holder of its cell gets it, and an absent page has none
     /// (`put_page`).
-    #[tactic(auto, unfolding(lwc_base::specs::Cells::put_page))]
+    #[tactic(auto, unfolding(lwc_base::specs::Cells::put_at))]
     pub(crate) fn put_page(&mut self, c: Name, p: usize, value: PageValue)
         requires { IsTrue (is_live (seen self.old) c) }
         ensures world { seen self.new ≡ put_page (seen self.old) c p value }
@@ -127,7 +127,7 @@ impl WholeWorld {
     }
 
     /// Puts another value under a slot of a context: the holder of its cell gets it (`put_slot`).
-    #[tactic(auto, unfolding(lwc_base::specs::Cells::put_slot))]
+    #[tactic(auto, unfolding(lwc_base::specs::Cells::put_at))]
     pub(crate) fn put_slot(&mut self, c: Name, n: u8, value: Descriptor)
         requires live { IsTrue (is_live (seen self.old) c) }
         requires within { n < SLOTS }
@@ -144,7 +144,7 @@ impl WholeWorld {
     }
 
     /// Puts another uid under the credential of a context: the holder of its cell gets it (`put_uid`).
-    #[tactic(auto, unfolding(lwc_base::specs::Cells::put_uid))]
+    #[tactic(auto, unfolding(lwc_base::specs::Cells::put_at))]
     pub(crate) fn put_uid(&mut self, c: Name, uid: u32)
         requires { IsTrue (is_live (seen self.old) c) }
         ensures world { seen self.new ≡ put_uid (seen self.old) c uid }

@@ -1,6 +1,7 @@
 ghost use Rattle.std.specs.Prelude.{◌≡◌, ℕ, ◌<◌, ◌≤◌, ◌+◌, ◌-◌, ◌^◌, IsTrue, count_by};
 ghost use Rattle.std.specs.List.{range_with_len};
 ghost use Rattle.std.specs.Option.{option_copied};
+ghost use Rattle.whole_world.specs.Copies.{as_cell};
 ghost use Rattle.whole_world.specs.Standings.{begins_after, begins_at, count_of_ranges, own_if, standing_of};
 
 use crate::world::WholeWorld;
@@ -26,7 +27,7 @@ fn begins_after(before: Standing, here: Standing) -> bool
 
 /// What a page with this cell is to its context, once its value has moved if it is under share.
 fn standing_of(cell: Option<&Cell<PageValue>>, mode: Mode) -> Standing
-    ensures { result ≡ standing_of mode (option_copied cell.entry) }
+    ensures { result ≡ standing_of mode (as_cell (option_copied cell.entry)) }
 {
     match (cell, mode) {
         (None, _) => Standing::Absent,

@@ -1,12 +1,12 @@
-ghost use Rattle.std.specs.Prelude.{◌≡◌, ◌<◌, IfNone, IfSome, IsTrue, None, Some, unwrap_or, vec_len};
+ghost use Rattle.std.specs.Prelude.{◌≡◌, ◌<◌, IfNone, IfSome, IsTrue, None, Some, vec_len};
 ghost use Rattle.std.specs.Option.{option_copied};
-ghost use Rattle.lwc_base.specs.declared.descriptor.Descriptor.TheVariants.{Empty};
+ghost use Rattle.lwc_base.specs.declared.key.Key.TheVariants.{Page, Slot, Cred};
 ghost use Rattle.lwc_base.specs.declared.descriptor.TheConstants.{SLOTS};
 
 use crate::group::HeldGroup;
 use crate::held::Held;
 use crate::world::WholeWorld;
-use lwc_base::{Cell, Descriptor, Name, PageValue};
+use lwc_base::{Cell, Descriptor, NOBODY, Name, PageValue};
 
 impl WholeWorld {
     ghost use Rattle.std.specs.List.{find, position};
@@ -68,7 +68,7 @@ impl WholeWorld {
 
     /// The value of a group's page, if the group lives and has that page.
     fn group_page(&self, g: Name, p: usize) -> Option<&PageValue>
-        ensures { option_copied result ≡ (group (seen self.now) g).page p }
+        ensures { option_copied result ≡ (group (seen self.now) g).value (Page p) }
     {
         match self.group(g) {
             Some(held) => held.page(p),
@@ -78,7 +78,7 @@ impl WholeWorld {
 
     /// The value of a group's slot; it is empty where the group does not live or has no such slot.
     fn group_slot(&self, g: Name, n: u8) -> Descriptor
-        ensures { result ≡ unwrap_or ((group (seen self.now) g).slot n) Empty }
+        ensures { result ≡ (group (seen self.now) g).value (Slot n) }
     {
         match self.group(g) {
             Some(held) => held.slot(n).unwrap_or(Descriptor::Empty),
@@ -86,18 +86,18 @@ impl WholeWorld {
         }
     }
 
-    /// The credential of a group; it is 0 where the group does not live or has none.
+    /// The credential of a group; it is nobody's where the group does not live or has none.
     fn group_uid(&self, g: Name) -> u32
-        ensures { result ≡ unwrap_or (group (seen self.now) g).uid 0 }
+        ensures { result ≡ (group (seen self.now) g).value Cred }
     {
         match self.group(g) {
-            Some(held) => held.uid().unwrap_or(0),
-            None => 0,
+            Some(held) => held.uid().unwrap_or(NOBODY),
+            None => NOBODY,
         }
     }
 
     /// What stands under a page of a context, if it is present (`page_at`).
-    #[tactic(auto, unfolding(lwc_base::specs::Cells::page_at))]
+    #[tactic(auto, unfolding(lwc_base::specs::Cells::value_at))]
     pub(crate) fn page_value(&self, c: Name, p: usize) -> Option<&PageValue>
         requires { IsTrue (is_live (seen self.now) c) }
         ensures { option_copied result ≡ page_at (seen self.now) c p }
@@ -110,7 +110,7 @@ impl WholeWorld {
     }
 
     /// What stands under a slot of a context (`slot_at`).
-    #[tactic(auto, unfolding(lwc_base::specs::Cells::slot_at))]
+    #[tactic(auto, unfolding(lwc_base::specs::Cells::value_at))]
     pub(crate) fn slot_value(&self, c: Name, n: u8) -> Descriptor
         requires live { IsTrue (is_live (seen self.now) c) }
         requires within { n < SLOTS }
@@ -123,7 +123,7 @@ impl WholeWorld {
     }
 
     /// The credential of a context (`uid_at`).
-    #[tactic(auto, unfolding(lwc_base::specs::Cells::uid_at))]
+    #[tactic(auto, unfolding(lwc_base::specs::Cells::value_at))]
     pub(crate) fn uid_value(&self, c: Name) -> u32
         requires { IsTrue (is_live (seen self.now) c) }
         ensures { result ≡ uid_at (seen self.now) c }

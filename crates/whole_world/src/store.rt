@@ -9,7 +9,7 @@ impl WholeWorld {
     ghost use Rattle.std.specs.List.{list_all, range_with_len};
     ghost use Rattle.lwc_base.specs.Cells.{page_at};
     ghost use Rattle.lwc_base.specs.Frames.{is_parting};
-    ghost use Rattle.lwc_base.specs.Store.{plan, put_pages, value_at};
+    ghost use Rattle.lwc_base.specs.Store.{plan, put_pages, page_value_at};
     ghost use Rattle.lwc_base.specs.World.{is_live};
     ghost use Rattle.whole_world.specs.Seen.{seen, size_of};
 
@@ -17,7 +17,7 @@ impl WholeWorld {
     #[tactic(auto, using(crate::proofs::Places::count_of_range))]
     pub(crate) fn parting_count(&self, c: Name, pages: Touched) -> usize
         requires { IsTrue (is_live (seen self.now) c) }
-        ensures parting { result ≡ count_by (λ p. is_parting (seen self.now) (value_at (seen self.now) c p))
+        ensures parting { result ≡ count_by (λ p. is_parting (seen self.now) (page_value_at (seen self.now) c p))
             (range_with_len pages.first (pages.end - pages.first)) }
         ensures few { result ≤ pages.end - pages.first }
     {

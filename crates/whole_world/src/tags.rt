@@ -2,6 +2,7 @@ ghost use Rattle.std.specs.Prelude.{◌≡◌, ◌+◌, ◌++◌, ◌<◌, ◌^�
 ghost use Rattle.std.specs.List.{flat_map};
 ghost use Rattle.std.specs.Option.{option_to_list};
 ghost use Rattle.lwc_base.specs.declared.name.Tag.{Tag};
+ghost use Rattle.whole_world.specs.Copies.{as_cell};
 ghost use Rattle.lwc_base.specs.Frames.{own_value, tag_of};
 ghost use Rattle.whole_world.specs.Tags.{context_tags, different, group_tags, has_tag, times};
 
@@ -126,7 +127,7 @@ impl Counter for Option<Tag> {
 
 /// The tag of a context's page, if the page has a value of its own and the value has one.
 fn own_tag(page: &Option<Cell<PageValue>>) -> Option<Tag>
-    ensures { option_to_list result ≡ tag_of (own_value page.now) }
+    ensures { option_to_list result ≡ tag_of (own_value (as_cell page.now)) }
 {
     match page {
         Some(Cell::Own(PageValue::Data(tag, _))) => Some(*tag),
@@ -135,7 +136,7 @@ fn own_tag(page: &Option<Cell<PageValue>>) -> Option<Tag>
 }
 
 impl Holder for Option<Cell<PageValue>> {
-    ghost tags = { λ page. tag_of (own_value page) };
+    ghost tags = { λ page. tag_of (own_value (as_cell page)) };
 
     fn holds(&self, tag: Tag) -> bool {
         own_tag(self).holds(tag)
@@ -227,7 +228,7 @@ impl Counter for HeldGroup {
 impl WholeWorld {
     ghost use Rattle.lwc_base.specs.Cells.{page_at};
     ghost use Rattle.lwc_base.specs.Frames.{is_parting, tags, used};
-    ghost use Rattle.lwc_base.specs.Store.{value_at};
+    ghost use Rattle.lwc_base.specs.Store.{page_value_at};
     ghost use Rattle.lwc_base.specs.World.{is_live};
     ghost use Rattle.whole_world.specs.Seen.{seen};
 
@@ -266,7 +267,7 @@ impl WholeWorld {
     /// Whether a store to a page of a context parts it; one that is absent reads as zeros, which part.
     pub(crate) fn is_parting(&self, c: Name, p: usize) -> bool
         requires { IsTrue (is_live (seen self.now) c) }
-        ensures { result ≡ is_parting (seen self.now) (value_at (seen self.now) c p) }
+        ensures { result ≡ is_parting (seen self.now) (page_value_at (seen self.now) c p) }
     {
         match self.page_tag(c, p) {
             Some(tag) => self.count_of_tag(tag) > 1,

@@ -20,19 +20,19 @@ abbrev pub IsLive : World → Name → Type 0
 IsLive w c = is_live w c ≡ true
 
 -- the job is one of the world's, and has named fewer contexts, groups and tags than 2^31 each
-pub record MayName (size : WorldSize) (w : World) (job : ℕ) : Type 0 where
-  pub known : job < size.jobs
+pub record MayName (w : World) (job : ℕ) : Type 0 where
+  pub known : job < w.size.jobs
   pub contexts : (w.next job).contexts < 2 ^ 31
   pub groups : (w.next job).groups < 2 ^ 31
   pub tags : (w.next job).tags < 2 ^ 31
 
 -- there is a place for one more context
-abbrev pub HasPlace : WorldSize → World → Type 0
-HasPlace size w = fm.len w.contexts < size.contexts
+abbrev pub HasPlace : World → Type 0
+HasPlace w = fm.len w.contexts < w.size.contexts
 
 -- there is a place for one more group
-abbrev pub HasGroupPlace : WorldSize → World → Type 0
-HasGroupPlace size w = fm.len w.groups < size.groups
+abbrev pub HasGroupPlace : World → Type 0
+HasGroupPlace w = fm.len w.groups < w.size.groups
 
 -- two numbers of ranges are within the limit
 abbrev pub AreFew : ℕ × ℕ → Type 0

@@ -17,7 +17,6 @@ ghost use Rattle.lwc_base.specs.declared.descriptor.Descriptor.{Descriptor};
 ghost use Rattle.lwc_base.specs.declared.descriptor.TheConstants.{SLOTS};
 ghost use Rattle.lwc_base.specs.declared.page.TheConstants.{MOST_PAGES, PAGE_BYTES};
 ghost use Rattle.lwc_base.specs.declared.range.TheConstants.{MOST_RANGES};
-ghost use Rattle.lwc_base.specs.declared.size.WorldSize.{WorldSize};
 ghost use Rattle.world_face.specs.Calls.{AreFew, HasGroupPlace, HasPlace, IsSize, IsLive, MayName};
 
 use lwc_base::{Descriptor, Name, OutOfMemory, Range, Regs, Spec, StoreFault, Summary, WorldSize};
@@ -29,62 +28,55 @@ pub trait World: Sized + Drop + Send + Sync {
     /// The contexts, the groups, what each job has counted, and the frames and pages.
     ghost seen: { Self → worlds.World };
 
-    /// The size that the world was opened with, which no call changes.
-    ghost size: { Self → WorldSize };
-
     /// Whether all memory is taken at opening, so that no later call wants any.
     ghost roomy: { Bool };
 
     /// A world of that size in which nothing is live. The one error is want of memory.
     fn open(alloc: Global, world_size: &WorldSize) -> Result<Self, OutOfMemory>
         requires { IsSize world_size.now }
-        ensures opened { IfOk result (λ w. seen w ≡ empty_world world_size.now.frames world_size.now.pages) }
-        ensures sized { IfOk result (λ w. size w ≡ world_size.now) };
+        ensures opened { IfOk result (λ w. seen w ≡ empty_world world_size.now) };
 
     /// How many pages each context may have.
     fn pages(&self) -> u32
-        ensures pages { result ≡ (seen self.now).pages }
-        ensures few { (seen self.now).pages ≤ MOST_PAGES };
+        ensures pages { result ≡ (seen self.now).size.pages }
+        ensures few { (seen self.now).size.pages ≤ MOST_PAGES };
 
     /// Makes a context of job 0 from nothing: no page, empty slots, this uid, and the registers that it begins with.
     /// The one error is want of memory.
     fn first(&mut self, uid: u32, entry: &Regs) -> Result<Name, OutOfMemory>
-        requires may { MayName (size self.old) (seen self.old) 0 }
-        requires place { HasPlace (size self.old) (seen self.old) }
+        requires may { MayName (seen self.old) 0 }
+        requires place { HasPlace (seen self.old) }
         ensures name { IfOk result (λ c. c ≡ next_context (seen self.old) 0) }
         ensures made { OnOk result (seen self.new ≡ add_context (seen self.old) 0 (new_context uid entry.now)) }
         ensures err { OnErr result (seen self.new ≡ seen self.old) }
-        ensures ample { roomy ≡ true → IsOk result }
-        ensures sized { size self.new ≡ size self.old };
+        ensures ample { roomy ≡ true → IsOk result };
 
     /// Makes each page of the range a page of zeros of the context's own, whatever it was. The one error is want
     /// of memory.
     fn map(&mut self, c: Name, range: Range) -> Result<(), OutOfMemory>
         requires live { IsLive (seen self.old) c }
         requires some { range.from < range.to }
-        requires within { range.to ≤ (seen self.old).pages }
+        requires within { range.to ≤ (seen self.old).size.pages }
         requires few { ranges_of (map_pages (seen self.old) c range.from range.to) c ≤ MOST_RANGES }
         ensures mapped { OnOk result (seen self.new ≡ map_pages (seen self.old) c range.from range.to) }
         ensures err { OnErr result (seen self.new ≡ seen self.old) }
-        ensures ample { roomy ≡ true → IsOk result }
-        ensures sized { size self.new ≡ size self.old };
+        ensures ample { roomy ≡ true → IsOk result };
 
     /// Makes each page of the range absent, whatever it was. The one error is want of memory.
     fn unmap(&mut self, c: Name, range: Range) -> Result<(), OutOfMemory>
         requires live { IsLive (seen self.old) c }
         requires some { range.from < range.to }
-        requires within { range.to ≤ (seen self.old).pages }
+        requires within { range.to ≤ (seen self.old).size.pages }
         requires few { ranges_of (unmap_pages (seen self.old) c range.from range.to) c ≤ MOST_RANGES }
         ensures unmapped { OnOk result (seen self.new ≡ unmap_pages (seen self.old) c range.from range.to) }
         ensures err { OnErr result (seen self.new ≡ seen self.old) }
-        ensures ample { roomy ≡ true → IsOk result }
-        ensures sized { size self.new ≡ size self.old };
+        ensures ample { roomy ≡ true → IsOk result };
 
     /// Reads bytes of the context's memory from the address `at` on, as many as `out` has room for. `false` says
     /// that a page of them is absent, and `out` is then as it was.
     fn bytes(&self, c: Name, at: u32, out: &mut [u8]) -> bool
         requires live { IsLive (seen self.now) c }
-        requires within { at + length out.old ≤ (seen self.now).pages * PAGE_BYTES }
+        requires within { at + length out.old ≤ (seen self.now).size.pages * PAGE_BYTES }
         ensures present { result ≡ is_some (load (seen self.now) c at (length out.old)) }
         ensures found { IfSome (load (seen self.now) c at (length out.old)) (λ bytes. out.new ≡ bytes) }
         ensures absent { IfNone (load (seen self.now) c at (length out.old)) (out.new ≡ out.old) };
@@ -97,15 +89,14 @@ pub trait World: Sized + Drop + Send + Sync {
     /// are more than the frames; or want of memory.
     fn store(&mut self, c: Name, at: u32, piece: &[u8], job: u32) -> Result<(), StoreFault>
         requires live { IsLive (seen self.old) c }
-        requires within { at + length piece.now ≤ (seen self.old).pages * PAGE_BYTES }
+        requires within { at + length piece.now ≤ (seen self.old).size.pages * PAGE_BYTES }
         requires short { length piece.now ≤ PAGE_BYTES }
-        requires may { MayName (size self.old) (seen self.old) job }
+        requires may { MayName (seen self.old) job }
         ensures done { OnOk result (store (seen self.old) c job (record { at = at; bytes = piece.now }) ≡ stores.Done (seen self.new)) }
         ensures bad_address { (result ≡ Err StoreFault.BadAddress) ↔ (store (seen self.old) c job (record { at = at; bytes = piece.now }) ≡ stores.Absent) }
         ensures no_frame { (result ≡ Err StoreFault.NoFrame) ↔ (store (seen self.old) c job (record { at = at; bytes = piece.now }) ≡ stores.Full) }
         ensures err { OnErr result (seen self.new ≡ seen self.old) }
-        ensures ample { roomy ≡ true → result ≢ Err StoreFault.OutOfMemory }
-        ensures sized { size self.new ≡ size self.old };
+        ensures ample { roomy ≡ true → result ≢ Err StoreFault.OutOfMemory };
 
     /// What stands under a slot of the context.
     fn slot(&self, c: Name, n: u8) -> Descriptor
@@ -117,8 +108,7 @@ pub trait World: Sized + Drop + Send + Sync {
     fn set_slot(&mut self, c: Name, n: u8, value: Descriptor)
         requires live { IsLive (seen self.old) c }
         requires within { n < SLOTS }
-        ensures put { seen self.new ≡ put_slot (seen self.old) c n value }
-        ensures sized { size self.new ≡ size self.old };
+        ensures put { seen self.new ≡ put_slot (seen self.old) c n value };
 
     /// The lowest slot of the context that is empty; `None` where none is.
     fn lowest_empty(&self, c: Name) -> Option<u8>
@@ -133,8 +123,7 @@ pub trait World: Sized + Drop + Send + Sync {
     /// Puts another uid under the credential of the context.
     fn set_uid(&mut self, c: Name, uid: u32)
         requires live { IsLive (seen self.old) c }
-        ensures put { seen self.new ≡ put_uid (seen self.old) c uid }
-        ensures sized { size self.new ≡ size self.old };
+        ensures put { seen self.new ≡ put_uid (seen self.old) c uid };
 
     /// The registers that the context begins with.
     fn entry(&self, c: Name) -> Regs
@@ -153,35 +142,34 @@ pub trait World: Sized + Drop + Send + Sync {
         entry: &Regs,
     ) -> Result<Name, OutOfMemory>
         requires live { IsLive (seen self.old) c }
-        requires within { IsSpec (seen self.old).pages spec.now }
-        requires may { MayName (size self.old) (seen self.old) job }
-        requires place { HasPlace (size self.old) (seen self.old) }
-        requires group { needs_group (seen self.old) c spec.now ≡ true → HasGroupPlace (size self.old) (seen self.old) }
+        requires within { IsSpec (seen self.old).size.pages spec.now }
+        requires may { MayName (seen self.old) job }
+        requires place { HasPlace (seen self.old) }
+        requires group { needs_group (seen self.old) c spec.now ≡ true → HasGroupPlace (seen self.old) }
         requires few { AreFew (ranges_after_clone (seen self.old) c job spec.now) }
         ensures name { IfOk result (λ made. made ≡ next_context (seen self.old) job) }
         ensures cloned { OnOk result (seen self.new ≡ clone_context (seen self.old) c job spec.now entry.now) }
         ensures err { OnErr result (seen self.new ≡ seen self.old) }
-        ensures ample { roomy ≡ true → IsOk result }
-        ensures sized { size self.new ≡ size self.old };
+        ensures ample { roomy ≡ true → IsOk result };
 
     /// Whether `clone_context` makes a group: an item of mode share names a key that is present and the context's own.
     fn needs_group(&self, c: Name, spec: &Spec) -> bool
         requires live { IsLive (seen self.now) c }
-        requires within { IsSpec (seen self.now).pages spec.now }
+        requires within { IsSpec (seen self.now).size.pages spec.now }
         ensures value { result ≡ needs_group (seen self.now) c spec.now };
 
     /// How many ranges the context and the new one would have after `clone_context`, in this order; they are the same
     /// for every job.
     fn ranges_after_clone(&self, c: Name, spec: &Spec) -> (u32, u32)
         requires live { IsLive (seen self.now) c }
-        requires within { IsSpec (seen self.now).pages spec.now }
+        requires within { IsSpec (seen self.now).size.pages spec.now }
         ensures value { (job : ℕ) → result ≡ ranges_after_clone (seen self.now) c job spec.now };
 
     /// How many ranges the context would have after `map`, where `present` is true, or after `unmap`.
     fn ranges_after_map(&self, c: Name, range: Range, present: bool) -> u32
         requires live { IsLive (seen self.now) c }
         requires some { range.from < range.to }
-        requires within { range.to ≤ (seen self.now).pages }
+        requires within { range.to ≤ (seen self.now).size.pages }
         ensures value { result ≡ ranges_of (mapped_or_not (seen self.now) c range.from range.to present) c };
 
     /// How many live contexts bear the job.

@@ -1,17 +1,11 @@
-use Rattle.lwc_base.proofs.Grouped.{has_groups-after_store, has_groups-clone_context, has_groups-empty_world, has_groups-map_pages, has_groups-put_page, has_groups-put_slot, has_groups-put_uid, has_groups-unmap_pages}
+use Rattle.lwc_base.proofs.Grouped.{has_groups-after_store, has_groups-clone_context, has_groups-empty_world, has_groups-map_pages, has_groups-put_at, has_groups-unmap_pages}
 use Rattle.lwc_base.proofs.laws.worlds_keep_the_groups_that_they_name.Goals as goal
 
 pub returns-clause-empty : goal.returns-clause-empty
 returns-clause-empty c = has_groups-empty_world
 
-pub returns-clause-page : goal.returns-clause-page
-returns-clause-page c = has_groups-put_page
-
-pub returns-clause-slot : goal.returns-clause-slot
-returns-clause-slot c = has_groups-put_slot
-
-pub returns-clause-uid : goal.returns-clause-uid
-returns-clause-uid c = has_groups-put_uid
+pub returns-clause-put : goal.returns-clause-put
+returns-clause-put c = has_groups-put_at
 
 pub returns-clause-map : goal.returns-clause-map
 returns-clause-map c = has_groups-map_pages

@@ -1,8 +1,8 @@
 use Rattle.std.proofs.Common.{◌≡◌}
-use Rattle.lwc_base.specs.Sharing.{moved}
+use Rattle.lwc_base.specs.declared.key.Kind.TheVariants as kind
 use Rattle.whole_world.specs.Copies.{context_of, group_of}
 use Rattle.whole_world.specs.Sound.{IsWhole, IsWholeGroup}
-use Rattle.whole_world.proofs.Moving.{gave_pages, took_pages}
+use Rattle.whole_world.specs.Moves.{gave, is_below, took}
 use Rattle.whole_world.proofs.held.Held.move_pages.Given as goal
 
 abbrev pub invariant-loop-p : goal.invariant-loop-p
@@ -11,6 +11,6 @@ invariant-loop-p l = record {
   group_name : l.group.name ≡ l.initial.group.name;
   whole : IsWhole l.pages l.self;
   whole_group : IsWholeGroup l.pages l.group;
-  context : context_of l.self ≡ gave_pages l.initial.group.name l.p (moved l.spec (context_of l.initial.self)) (context_of l.initial.self);
-  group : group_of l.group ≡ took_pages l.p (moved l.spec (context_of l.initial.self));
+  context : context_of l.self ≡ gave (is_below kind.Page l.p) l.initial.group.name l.spec (context_of l.initial.self);
+  group : group_of l.group ≡ took (is_below kind.Page l.p) l.spec (context_of l.initial.self) (group_of l.initial.group);
 }

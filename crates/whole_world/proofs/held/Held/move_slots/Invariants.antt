@@ -1,8 +1,8 @@
 use Rattle.std.proofs.Common.{◌≡◌}
-use Rattle.lwc_base.specs.Sharing.{moved}
+use Rattle.lwc_base.specs.declared.key.Kind.TheVariants as kind
 use Rattle.whole_world.specs.Copies.{context_of, group_of}
 use Rattle.whole_world.specs.Sound.{IsWhole, IsWholeGroup}
-use Rattle.whole_world.proofs.Moving.{gave_slots, took_slots}
+use Rattle.whole_world.specs.Moves.{gave, is_below, took}
 use Rattle.whole_world.proofs.held.Held.move_slots.Given as goal
 
 abbrev pub invariant-loop-n : goal.invariant-loop-n
@@ -11,6 +11,6 @@ invariant-loop-n l = record {
   group_name : l.group.name ≡ l.initial.group.name;
   whole : IsWhole l.pages l.self;
   whole_group : IsWholeGroup l.pages l.group;
-  context : context_of l.self ≡ gave_slots l.initial.group.name l.n (moved l.spec (context_of l.initial.self)) (context_of l.initial.self);
-  group : group_of l.group ≡ took_slots l.n (moved l.spec (context_of l.initial.self)) (group_of l.initial.group);
+  context : context_of l.self ≡ gave (is_below kind.Slot l.n) l.initial.group.name l.spec (context_of l.initial.self);
+  group : group_of l.group ≡ took (is_below kind.Slot l.n) l.spec (context_of l.initial.self) (group_of l.initial.group);
 }

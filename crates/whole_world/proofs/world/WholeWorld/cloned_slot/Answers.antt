@@ -1,21 +1,22 @@
 use Rattle.std.proofs.Common.{◌≡◌, ◌∙◌, ap, sym}
 use Rattle.lwc_base.specs.declared.cell.Cell.TheVariants.{Own}
-use Rattle.lwc_base.specs.Sharing.{cell_after, own}
+use Rattle.lwc_base.specs.declared.item.Mode.TheVariants.{Share}
+use Rattle.lwc_base.specs.declared.key.Key.TheVariants.{Slot}
+use Rattle.lwc_base.specs.Sharing.{cell_after}
 use Rattle.lwc_base.specs.World.{Context, context}
 use Rattle.whole_world.specs.Seen.{seen}
-use Rattle.whole_world.proofs.CloneCells.{slot_copied, slot_shared}
+use Rattle.whole_world.proofs.CloneCells.{key_copied, key_shared, slot_in_common}
 use Rattle.whole_world.proofs.RowWorlds.{fresh-seen}
 use Rattle.whole_world.proofs.world.WholeWorld.cloned_slot.Goals as goal
 
 pub returns-in-Copy : goal.returns-in-Copy
-returns-in-Copy c =
-    ap Own c.slot_value.ensures
-    ∙ slot_copied (seen c.args.self.now) c.args.c c.args.job c.args.spec.now (fresh-seen c.args.self.now) c.requires.live c.requires.within c.args.n (sym c.mode_or_copy.ensures ∙ c.in-Copy.is)
+returns-in-Copy c = ap Own c.slot_value.ensures ∙ key_copied (seen c.args.self.now) c.args.c c.args.job c.args.spec.now (fresh-seen c.args.self.now) c.requires.live c.requires.within (Slot c.args.n) (sym c.mode_or_copy.ensures ∙ c.in-Copy.is)
 
 pub returns-in-Share : goal.returns-in-Share
 returns-in-Share c =
-    let cell : c.slot_cell.result.now ≡ (context (seen c.args.self.now) c.args.c).slot c.args.n =
-    c.slot_cell.ensures.of_context ∙ ap (λ (x : Context). x.slot c.args.n) (sym c.held.ensures.context) in
+    let cell : c.slot_cell.result.now ≡ (context (seen c.args.self.now) c.args.c).cell (Slot c.args.n) =
+    c.slot_cell.ensures.of_context ∙ ap (λ (x : Context). x.cell (Slot c.args.n)) (sym c.held.ensures.context) in
     c.shared_cell.ensures
-    ∙ (λ i. cell_after (c.next_group.ensures i) (own (cell i)) (cell i))
-    ∙ slot_shared (seen c.args.self.now) c.args.c c.args.job c.args.spec.now (fresh-seen c.args.self.now) c.requires.live c.requires.within c.args.n (sym c.mode_or_copy.ensures ∙ c.in-Share.is)
+    ∙ slot_in_common _ c.args.n _
+    ∙ (λ i. cell_after (c.next_group.ensures i) Share (Slot c.args.n) (cell i))
+    ∙ key_shared (seen c.args.self.now) c.args.c c.args.job c.args.spec.now (fresh-seen c.args.self.now) c.requires.live c.requires.within (Slot c.args.n) (sym c.mode_or_copy.ensures ∙ c.in-Share.is)

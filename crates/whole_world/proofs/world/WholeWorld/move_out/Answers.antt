@@ -34,10 +34,10 @@ invariant_of-self c =
     let here = context-row _ _ _ _ c.args.self.now.sound c.args.c c.in-Some.i _ found c.index_mut.ensures.value in
     let whole = whole-row _ _ _ _ c.args.self.now.sound c.args.c c.in-Some.i _ found c.index_mut.ensures.value in
     record {
-      sound = sound-row _ _ _ _ c.args.self.now.sound c.args.c c.in-Some.i _ _ (left_common c.args.group.now.name (moved c.args.spec.now (context (seen c.args.self.now) c.args.c))) found
+      sound = sound-row _ _ _ _ c.args.self.now.sound c.args.c c.in-Some.i _ _ (left_common c.args.group.now.name c.args.spec.now) found
           c.index_mut.ensures.value c.move_values.ensures.name
           (as_whole _ _ _ whole (subst (λ n. IsWhole n c.move_values.new.self) c.page_limit-pages.ensures c.move_values.ensures.whole))
-          (c.move_values.ensures.context ∙ ap (λ (x : Context). left_common c.args.group.now.name (moved c.args.spec.now x) (context_of c.index_mut.result.now)) (sym here))
+          c.move_values.ensures.context
           (fresh-left_common _ c.args.c c.args.group.now.name _ c.requires.counted c.args.self.now.sound.fresh);
     }
 
@@ -46,9 +46,9 @@ unfolding seen
 returns-clause-world c =
     let found = sym c.place_of.ensures ∙ c.in-Some.is in
     let here = context-row _ _ _ _ c.args.self.now.sound c.args.c c.in-Some.i _ found c.index_mut.ensures.value in
-    change_context-row _ _ _ _ c.args.self.now.sound c.args.c c.in-Some.i _ _ (left_common c.args.group.now.name (moved c.args.spec.now (context (seen c.args.self.now) c.args.c))) found
+    change_context-row _ _ _ _ c.args.self.now.sound c.args.c c.in-Some.i _ _ (left_common c.args.group.now.name c.args.spec.now) found
     c.index_mut.ensures.value c.move_values.ensures.name
-    (c.move_values.ensures.context ∙ ap (λ (x : Context). left_common c.args.group.now.name (moved c.args.spec.now x) (context_of c.index_mut.result.now)) (sym here))
+    c.move_values.ensures.context
 
 pub returns-clause-group : goal.returns-clause-group
 unfolding seen

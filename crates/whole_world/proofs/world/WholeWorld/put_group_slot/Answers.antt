@@ -1,5 +1,6 @@
 use Rattle.std.proofs.Common.{◌∙◌, sym, refl, arith}
-use Rattle.lwc_base.specs.Cells.{with_group_slot}
+use Rattle.lwc_base.specs.declared.key.Key.TheVariants.{Slot}
+use Rattle.lwc_base.specs.Cells.{with_value}
 use Rattle.whole_world.specs.Rows.{world_of}
 use Rattle.whole_world.specs.Seen.{seen, size_of}
 use Rattle.whole_world.proofs.RowWorlds.{change_group-row, change_group-missed, sound-group_row, whole_group-row}
@@ -13,14 +14,14 @@ set_slot-requires c =
 
 pub invariant_of-self : goal.invariant_of-self
 invariant_of-self c = record {
-  sound = sound-group_row _ _ _ _ c.args.self.now.sound c.args.g c.in-Some.i _ _ (with_group_slot c.args.n c.args.value) (sym c.group_place.ensures ∙ c.in-Some.is)
+  sound = sound-group_row _ _ _ _ c.args.self.now.sound c.args.g c.in-Some.i _ _ (with_value (Slot c.args.n) c.args.value) (sym c.group_place.ensures ∙ c.in-Some.is)
       c.index_mut.ensures.value c.set_slot.ensures.name c.set_slot.ensures.whole c.set_slot.ensures.group;
 }
 
 pub returns-in-Some-clause-world : goal.returns-in-Some-clause-world
 unfolding seen
 returns-in-Some-clause-world c =
-    change_group-row _ _ _ _ c.args.self.now.sound c.args.g c.in-Some.i _ _ (with_group_slot c.args.n c.args.value) (sym c.group_place.ensures ∙ c.in-Some.is)
+    change_group-row _ _ _ _ c.args.self.now.sound c.args.g c.in-Some.i _ _ (with_value (Slot c.args.n) c.args.value) (sym c.group_place.ensures ∙ c.in-Some.is)
     c.index_mut.ensures.value c.set_slot.ensures.name c.set_slot.ensures.group
 
 pub returns-in-Some-clause-size : goal.returns-in-Some-clause-size
@@ -29,4 +30,4 @@ returns-in-Some-clause-size c = refl
 
 pub returns-in-None-clause-world : goal.returns-in-None-clause-world
 unfolding seen
-returns-in-None-clause-world c = change_group-missed _ _ _ _ c.args.self.now.sound c.args.g (with_group_slot c.args.n c.args.value) (sym c.group_place.ensures ∙ c.in-None.is)
+returns-in-None-clause-world c = change_group-missed _ _ _ _ c.args.self.now.sound c.args.g (with_value (Slot c.args.n) c.args.value) (sym c.group_place.ensures ∙ c.in-None.is)

@@ -1,9 +1,11 @@
+use Rattle.std.specs.Prelude.{Some}
 use Rattle.std.proofs.Common.{◌∙◌, sym, refl, arith, Some}
 use Rattle.lwc_base.specs.declared.cell.Cell.TheVariants.{Own}
-use Rattle.lwc_base.specs.Cells.{with_page}
+use Rattle.lwc_base.specs.declared.key.Key.TheVariants.{Page}
+use Rattle.lwc_base.specs.Cells.{with_cell}
 use Rattle.whole_world.specs.Rows.{world_of}
 use Rattle.whole_world.specs.Seen.{seen, size_of}
-use Rattle.whole_world.proofs.OldGroups.{fresh-own_page}
+use Rattle.whole_world.proofs.OldGroups.{fresh-own}
 use Rattle.whole_world.proofs.RowWorlds.{change_context-row, change_context-missed, sound-row, whole-row}
 use Rattle.whole_world.proofs.world.WholeWorld.put_own_page.Goals as goal
 
@@ -15,14 +17,14 @@ set_page-requires c =
 
 pub invariant_of-self : goal.invariant_of-self
 invariant_of-self c = record {
-  sound = sound-row _ _ _ _ c.args.self.now.sound c.args.c c.in-Some.i _ _ (with_page c.args.p (Some (Own c.args.value))) (sym c.place_of.ensures ∙ c.in-Some.is)
-      c.index_mut.ensures.value c.set_page.ensures.name c.set_page.ensures.whole c.set_page.ensures.context (fresh-own_page _ c.args.c c.args.p c.args.value c.args.self.now.sound.fresh);
+  sound = sound-row _ _ _ _ c.args.self.now.sound c.args.c c.in-Some.i _ _ (with_cell (Page c.args.p) (Own (Some c.args.value))) (sym c.place_of.ensures ∙ c.in-Some.is)
+      c.index_mut.ensures.value c.set_page.ensures.name c.set_page.ensures.whole c.set_page.ensures.context (fresh-own _ c.args.c (Page c.args.p) (Some c.args.value) c.args.self.now.sound.fresh);
 }
 
 pub returns-in-Some-clause-world : goal.returns-in-Some-clause-world
 unfolding seen
 returns-in-Some-clause-world c =
-    change_context-row _ _ _ _ c.args.self.now.sound c.args.c c.in-Some.i _ _ (with_page c.args.p (Some (Own c.args.value))) (sym c.place_of.ensures ∙ c.in-Some.is)
+    change_context-row _ _ _ _ c.args.self.now.sound c.args.c c.in-Some.i _ _ (with_cell (Page c.args.p) (Own (Some c.args.value))) (sym c.place_of.ensures ∙ c.in-Some.is)
     c.index_mut.ensures.value c.set_page.ensures.name c.set_page.ensures.context
 
 pub returns-in-Some-clause-size : goal.returns-in-Some-clause-size
@@ -31,4 +33,4 @@ returns-in-Some-clause-size c = refl
 
 pub returns-in-None-clause-world : goal.returns-in-None-clause-world
 unfolding seen
-returns-in-None-clause-world c = change_context-missed _ _ _ _ c.args.self.now.sound c.args.c (with_page c.args.p (Some (Own c.args.value))) (sym c.place_of.ensures ∙ c.in-None.is)
+returns-in-None-clause-world c = change_context-missed _ _ _ _ c.args.self.now.sound c.args.c (with_cell (Page c.args.p) (Own (Some c.args.value))) (sym c.place_of.ensures ∙ c.in-None.is)

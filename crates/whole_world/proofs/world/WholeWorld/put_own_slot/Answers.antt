@@ -1,9 +1,10 @@
 use Rattle.std.proofs.Common.{◌∙◌, sym, refl, arith}
 use Rattle.lwc_base.specs.declared.cell.Cell.TheVariants.{Own}
-use Rattle.lwc_base.specs.Cells.{with_slot}
+use Rattle.lwc_base.specs.declared.key.Key.TheVariants.{Slot}
+use Rattle.lwc_base.specs.Cells.{with_cell}
 use Rattle.whole_world.specs.Rows.{world_of}
 use Rattle.whole_world.specs.Seen.{seen, size_of}
-use Rattle.whole_world.proofs.OldGroups.{fresh-own_slot}
+use Rattle.whole_world.proofs.OldGroups.{fresh-own}
 use Rattle.whole_world.proofs.RowWorlds.{change_context-row, change_context-missed, sound-row, whole-row}
 use Rattle.whole_world.proofs.world.WholeWorld.put_own_slot.Goals as goal
 
@@ -15,14 +16,14 @@ set_slot-requires c =
 
 pub invariant_of-self : goal.invariant_of-self
 invariant_of-self c = record {
-  sound = sound-row _ _ _ _ c.args.self.now.sound c.args.c c.in-Some.i _ _ (with_slot c.args.n (Own c.args.value)) (sym c.place_of.ensures ∙ c.in-Some.is)
-      c.index_mut.ensures.value c.set_slot.ensures.name c.set_slot.ensures.whole c.set_slot.ensures.context (fresh-own_slot _ c.args.c c.args.n c.args.value c.args.self.now.sound.fresh);
+  sound = sound-row _ _ _ _ c.args.self.now.sound c.args.c c.in-Some.i _ _ (with_cell (Slot c.args.n) (Own c.args.value)) (sym c.place_of.ensures ∙ c.in-Some.is)
+      c.index_mut.ensures.value c.set_slot.ensures.name c.set_slot.ensures.whole c.set_slot.ensures.context (fresh-own _ c.args.c (Slot c.args.n) c.args.value c.args.self.now.sound.fresh);
 }
 
 pub returns-in-Some-clause-world : goal.returns-in-Some-clause-world
 unfolding seen
 returns-in-Some-clause-world c =
-    change_context-row _ _ _ _ c.args.self.now.sound c.args.c c.in-Some.i _ _ (with_slot c.args.n (Own c.args.value)) (sym c.place_of.ensures ∙ c.in-Some.is)
+    change_context-row _ _ _ _ c.args.self.now.sound c.args.c c.in-Some.i _ _ (with_cell (Slot c.args.n) (Own c.args.value)) (sym c.place_of.ensures ∙ c.in-Some.is)
     c.index_mut.ensures.value c.set_slot.ensures.name c.set_slot.ensures.context
 
 pub returns-in-Some-clause-size : goal.returns-in-Some-clause-size
@@ -31,4 +32,4 @@ returns-in-Some-clause-size c = refl
 
 pub returns-in-None-clause-world : goal.returns-in-None-clause-world
 unfolding seen
-returns-in-None-clause-world c = change_context-missed _ _ _ _ c.args.self.now.sound c.args.c (with_slot c.args.n (Own c.args.value)) (sym c.place_of.ensures ∙ c.in-None.is)
+returns-in-None-clause-world c = change_context-missed _ _ _ _ c.args.self.now.sound c.args.c (with_cell (Slot c.args.n) (Own c.args.value)) (sym c.place_of.ensures ∙ c.in-None.is)

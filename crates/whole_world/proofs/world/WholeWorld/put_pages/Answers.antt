@@ -1,8 +1,9 @@
-use Rattle.std.proofs.Common.{◌∙◌, ap, sym}
+use Rattle.std.proofs.Common.{◌∙◌, ap, sym, Some}
+use Rattle.lwc_base.specs.declared.key.Key.TheVariants.{Page}
 use Rattle.std.proofs.lemmas.List.{nil_from_length}
 use Rattle.lwc_base.specs.Store.{put_pages}
 use Rattle.lwc_base.specs.World.{is_live}
-use Rattle.lwc_base.proofs.Live.{values-put_page}
+use Rattle.lwc_base.proofs.Live.{values-put_at}
 use Rattle.whole_world.specs.Seen.{seen}
 use Rattle.whole_world.proofs.world.WholeWorld.put_pages.Goals as goal
 
@@ -12,7 +13,7 @@ loop-p-preserved c = record {
       ∙ ap (put_pages (seen c.loop-p.self) c.args.c) (sym c.in-Some.ensures.steps.0)
       ∙ c.loop-p.invariant.left;
   live = ap (λ w. is_live w c.args.c) c.put_page.ensures.world
-      ∙ (values-put_page (seen c.loop-p.self) c.args.c c.in-Some.p c.in-Some.value).live c.args.c
+      ∙ (values-put_at (seen c.loop-p.self) c.args.c (Page c.in-Some.p) (Some c.in-Some.value)).live c.args.c
       ∙ c.loop-p.invariant.live;
   size = c.put_page.ensures.size ∙ c.loop-p.invariant.size;
 }
