@@ -3,10 +3,10 @@ use Rattle.std.proofs.Common.{◌≡◌, ℕ, ◌<◌, ◌≤◌, ⊎_elim, cond
 use Rattle.std.proofs.lemmas.List.{set-get_or, get_or_past, get_or_read}
 use Rattle.std.proofs.lemmas.Bool.{cases_lt}
 use Rattle.lwc_base.specs.declared.name.Tag.{Tag}
-use Rattle.lwc_base.specs.Counts.{free_count, held_count}
-use Rattle.lwc_base.specs.Paired.{paired}
-use Rattle.lwc_base.proofs.StackLemmas.{held-inside}
-use Rattle.lwc_base.proofs.PairedLemmas.{length-paired, get_or-paired, paired-set, paired-replicate, sum_by-paired}
+use Rattle.pool_base.specs.Counts.{free_count, held_count}
+use Rattle.pool_base.specs.Paired.{paired}
+use Rattle.pool_base.proofs.StackLemmas.{held-inside}
+use Rattle.pool_base.proofs.PairedLemmas.{length-paired, get_or-paired, paired-set, paired-replicate, sum_by-paired}
 use Rattle.frame_pool.specs.Frame.{Frame, no_frame, frame_at, frame_count, frame_stamp, frame_bytes, recount_frame, refill_frame, free_frames, used_frames}
 use Rattle.frame_pool.specs.View.{Content, content, seen_frame, seen_frames, IsWhole}
 

@@ -1,7 +1,7 @@
 -- What a pool keeps, seen as the list of its frames.
 use Rattle.std.specs.Prelude.{◌≡◌, ℕ, List, length}
 use Rattle.lwc_base.specs.declared.name.Tag.{Tag}
-use Rattle.lwc_base.specs.Paired.{paired}
+use Rattle.pool_base.specs.Paired.{paired}
 use Rattle.frame_pool.specs.Frame.{Frame}
 
 -- what a frame holds beside its count

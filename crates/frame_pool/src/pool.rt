@@ -1,7 +1,8 @@
 ghost use Rattle.std.specs.Prelude.{◌≡◌, ◌≢◌, ℕ, ◌+◌, ◌-◌, ◌<◌, ◌^◌, ◌↔◌, List, IfOk, IfSome, IfNone, IsNone, length, replicate, slice_set};
 ghost use Rattle.lwc_base.specs.declared.page.TheConstants.{PAGE_BYTES};
 
-use lwc_base::{Counts, OutOfMemory, PAGE_BYTES, Tag};
+use lwc_base::{OutOfMemory, PAGE_BYTES, Tag};
+use pool_base::Counts;
 use std::alloc::Global;
 use std::marker::Model;
 

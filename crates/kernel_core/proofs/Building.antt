@@ -29,7 +29,7 @@ use Rattle.lwc_base.specs.Mapping.{map_pages}
 use Rattle.lwc_base.specs.Names.{name_cmp}
 use Rattle.lwc_base.specs.Registers.{fresh_registers}
 use Rattle.lwc_base.specs.Store.{Absent, Full, Done, store}
-use Rattle.lwc_base.specs.World.{World, Context, add_context, count_on, empty_world, new_context}
+use Rattle.lwc_base.specs.World.{World, Context, add_context, change_counters, empty_world, new_context}
 use Rattle.lwc_base.specs.declared.cell.Cell.{Cell}
 use Rattle.lwc_base.specs.declared.cell.Cell.TheVariants.{Own}
 use Rattle.lwc_base.specs.declared.descriptor.Descriptor.{Descriptor}
@@ -43,7 +43,7 @@ use Rattle.world_face.specs.Calls.{MayName}
 pub world_one : (frames tags : ℕ) (x : Context) → world_with frames tags x ≡ one_context frames PAGES tags x
 unfolding world_with
 world_one frames tags x =
-    ap (λ w. count_on w 0 (λ n. record n { tags = tags })) (one_added frames PAGES x) ∙ one_counts frames PAGES 0 tags x
+    ap (λ w. change_counters w 0 (λ n. record n { tags = tags })) (one_added frames PAGES x) ∙ one_counts frames PAGES 0 tags x
 
 -- the first context without pages
 nothing_put : (image : Image) → context_with image [] ≡ new_context image.uid (fresh_registers (first_entry image))

@@ -16,7 +16,7 @@ use Rattle.lwc_base.specs.Fresh.{IsFresh}
 use Rattle.lwc_base.specs.Refusals.{first_refusal}
 use Rattle.lwc_base.specs.Sharing.{clone, clone_context, left_common, moved, needs_group, share}
 use Rattle.lwc_base.specs.Store.{Piece, Absent, Full, Done, after_store, store}
-use Rattle.lwc_base.specs.World.{World, Context, Group, Counters, is_live, live_of, groups_of, context, changed_context, change_context, count_on, add_context, add_group, next_group}
+use Rattle.lwc_base.specs.World.{World, Context, Group, Counters, is_live, live_of, groups_of, context, changed_context, change_context, change_counters, add_context, add_group, next_group}
 use Rattle.lwc_base.specs.declared.descriptor.Descriptor.{Descriptor}
 use Rattle.lwc_base.specs.declared.item.Item.{Item}
 use Rattle.lwc_base.specs.declared.name.Name.{Name}
@@ -85,14 +85,14 @@ shares_not w peopled = record {
 
 swapped_at : (w : World) (c : Name) (change : Context → Context) (job : ℕ) (x : Group) (found : Option Context) →
     add_group (changed_context w c change found) job x ≡ changed_context (add_group w job x) c change found
-unfolding add_group count_on
+unfolding add_group change_counters
 swapped_at w c change job x None = refl
 swapped_at w c change job x (Some y) = refl
 
 -- a group may be added before a context changes
 swapped : (w : World) (c : Name) (change : Context → Context) (job : ℕ) (x : Group) →
     add_group (change_context w c change) job x ≡ change_context (add_group w job x) c change
-unfolding change_context add_group count_on
+unfolding change_context add_group change_counters
 swapped w c change job x = swapped_at w c change job x (fm.get w.contexts c)
 
 rises_where : (b : Bool) (n : Counters) → RisesBy 1 n (cond b (record n { groups = n.groups + 1 }) n)
@@ -104,7 +104,7 @@ contexts_where true n = refl
 contexts_where false n = refl
 
 add_group-shares : (w : World) (job : ℕ) (x : Group) → IsFresh w → IsPeopled w → IsThreadJob job → groups_of w job < 64 → SharesWell w (add_group w job x)
-unfolding add_group count_on
+unfolding add_group change_counters
 add_group-shares w job x fresh peopled known fewer = record {
   live = λ q. refl;
   pages = refl;
@@ -165,11 +165,11 @@ module _ (w : World) (c : Name) (job : ℕ) (items : List Item) (fresh : IsFresh
     still q false live = share-well.live q ∙ live
 
     counted_after : (j : ℕ) → RisesBy 2 (w.next j) ((add_context shared job new).next j)
-    unfolding add_context count_on shared
+    unfolding add_context change_counters shared
     counted_after j = rises_again (eqb j job) (w.next j) ((share w c job items).next j) (share-well.counts j) (share-well.contexts j)
 
     pages_after : (add_context shared job new).pages ≡ w.pages
-    unfolding add_context count_on shared
+    unfolding add_context change_counters shared
     pages_after = share-well.pages
 
     fewer_there : live_of shared job < 32

@@ -5,7 +5,7 @@ use Rattle.std.specs.Ordering.{eq_by_cmp}
 use Rattle.std.specs.Prelude.{is_some}
 use Rattle.std.proofs.lemmas.Bool.Decides.{nat_tests}
 use Rattle.kernel_core.specs.Steady.{IsPeopled}
-use Rattle.kernel_core.specs.declared.settings.TheConstants.{MOST_THREADS}
+use Rattle.lwc_base.specs.declared.limits.TheConstants.{MOST_THREADS}
 use Rattle.lwc_base.proofs.Counted.{live_of-same, groups_of-same, live_of-add_context, groups_of-add_context, live_of-add_group, groups_of-add_group}
 use Rattle.lwc_base.proofs.Live.{same_name, values-change_context}
 use Rattle.lwc_base.proofs.Orders.{name_cmp-total}
@@ -14,7 +14,7 @@ use Rattle.lwc_base.specs.Fresh.{IsFresh}
 use Rattle.lwc_base.specs.Names.{name_cmp}
 use Rattle.lwc_base.specs.Memory.{touched}
 use Rattle.lwc_base.specs.Store.{Piece, after_store, plan, put_pages}
-use Rattle.lwc_base.specs.World.{World, Context, Group, is_live, live_of, groups_of, changed_context, change_context, changed_group, change_group, count_on, add_context, add_group, next_context, next_group}
+use Rattle.lwc_base.specs.World.{World, Context, Group, is_live, live_of, groups_of, changed_context, change_context, changed_group, change_group, change_counters, add_context, add_group, next_context, next_group}
 use Rattle.lwc_base.specs.declared.cell.Cell.{Cell}
 use Rattle.lwc_base.specs.declared.cell.Cell.TheVariants.{Own, Common}
 use Rattle.lwc_base.specs.declared.descriptor.Descriptor.{Descriptor}
@@ -86,7 +86,7 @@ same-put_slot w c n d = same-put_slot_in w c n d _
 
 -- bytes that are stored
 pub same-after_store : (w : World) (c : Name) (job : ℕ) (piece : Piece) → SameNames w (after_store w c job piece)
-unfolding after_store count_on
+unfolding after_store change_counters
 same-after_store w c job piece =
     let same = same-put_pages w c (plan w c job piece (w.next job).tags (touched piece.at (length piece.bytes))) in record { contexts = same.contexts; groups = same.groups }
 
@@ -111,21 +111,21 @@ some_or false y old = refl
 
 -- which contexts live once one was added
 pub live-add_context : (w : World) (job : ℕ) (x : Context) (q : Name) → is_live (add_context w job x) q ≡ cond (eq_by_cmp name_cmp q (next_context w job)) true (is_live w q)
-unfolding add_context count_on
+unfolding add_context change_counters
 live-add_context w job x q = ap is_some (fm.get-insert name_cmp-total w.contexts (next_context w job) x q) ∙ some_or _ x (fm.get w.contexts q)
 
 -- which groups live once one was added
 group-add_group : (w : World) (job : ℕ) (x : Group) (q : Name) → has_group (add_group w job x) q ≡ cond (eq_by_cmp name_cmp q (next_group w job)) true (has_group w q)
-unfolding add_group count_on
+unfolding add_group change_counters
 group-add_group w job x q = ap is_some (fm.get-insert name_cmp-total w.groups (next_group w job) x q) ∙ some_or _ x (fm.get w.groups q)
 
 -- a context that is added is no group, and a group no context
 group-add_context : (w : World) (job : ℕ) (x : Context) (q : Name) → has_group (add_context w job x) q ≡ has_group w q
-unfolding add_context count_on
+unfolding add_context change_counters
 group-add_context w job x q = refl
 
 live-add_group : (w : World) (job : ℕ) (x : Group) (q : Name) → is_live (add_group w job x) q ≡ is_live w q
-unfolding add_group count_on
+unfolding add_group change_counters
 live-add_group w job x q = refl
 
 -- one more of a job that had fewer than it may

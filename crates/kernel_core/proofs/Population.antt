@@ -7,7 +7,7 @@ use Rattle.std.specs.Prelude.{count_by}
 use Rattle.std.proofs.lemmas.Bool.Decides.{nat_tests}
 use Rattle.std.proofs.lemmas.List.Sums.{count_by-le-length, sum_by-cons}
 use Rattle.kernel_core.specs.Steady.{IsPeopled, IsWide}
-use Rattle.kernel_core.specs.declared.settings.TheConstants.{MOST_THREADS}
+use Rattle.lwc_base.specs.declared.limits.TheConstants.{MOST_THREADS}
 use Rattle.lwc_base.proofs.Lookups.{name-itself}
 use Rattle.lwc_base.specs.Names.{name_cmp}
 use Rattle.lwc_base.specs.World.{World, groups_of, live_of}

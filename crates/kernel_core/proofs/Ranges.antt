@@ -7,7 +7,7 @@ use Rattle.std.proofs.lemmas.List.Sums.{sum_by-cons}
 use Rattle.guest_image.specs.Limits.{page_numbers}
 use Rattle.guest_image.specs.Numbers.{begins, ranges_after}
 use Rattle.guest_image.specs.declared.image.PageImage.{PageImage}
-use Rattle.lwc_base.specs.Ranges.{are_alike, begins_range, goes_on, ranges}
+use Rattle.lwc_base.specs.Ranges.{are_of_one_kind, begins_range, continues_range, ranges}
 use Rattle.lwc_base.specs.World.{Context}
 use Rattle.lwc_base.specs.declared.cell.Cell.{Cell}
 use Rattle.lwc_base.specs.declared.cell.Cell.TheVariants.{Own, Common}
@@ -88,7 +88,7 @@ module _ (test : ℕ → Bool) (a n : ℕ) where
 
 -- a context whose pages are its own, and which has just the pages of these numbers
 module _ (x : Context) (numbers : List ℕ) (present : (p : ℕ) → is_some (x.page p) ≡ has numbers p) (own : (p : ℕ) → is_own (x.page p) ≡ has numbers p) where
-  alike : (a b : Option (Cell PageValue)) → is_own a ≡ true → is_own b ≡ true → are_alike a b ≡ true
+  alike : (a b : Option (Cell PageValue)) → is_own a ≡ true → is_own b ≡ true → are_of_one_kind a b ≡ true
   alike (Some (Own v)) (Some (Own w)) p q = refl
   alike (Some (Own v)) (Some (Common g)) p q = cc
   alike (Some (Own v)) None p q = cc
@@ -96,10 +96,10 @@ module _ (x : Context) (numbers : List ℕ) (present : (p : ℕ) → is_some (x.
   alike None b p q = cc
 
   -- no range begins at a number that follows another one
-  goes_on_after : (m : ℕ) → has numbers m ≡ true → has numbers (suc m) ≡ true → begins_range x (suc m) ≡ false
+  continues_range_after : (m : ℕ) → has numbers m ≡ true → has numbers (suc m) ≡ true → begins_range x (suc m) ≡ false
   unfolding begins_range
-  goes_on_after m before here =
-      let like : are_alike (x.page m) (x.page (suc m)) ≡ true = alike (x.page m) (x.page (suc m)) (own m ∙ before) (own (suc m) ∙ here) in
+  continues_range_after m before here =
+      let like : are_of_one_kind (x.page m) (x.page (suc m)) ≡ true = alike (x.page m) (x.page (suc m)) (own m ∙ before) (own (suc m) ∙ here) in
       ap (λ b. is_some (x.page (suc m)) && not b) like ∙ and_false (is_some (x.page (suc m)))
 
   begun_by : (before : Option ℕ) (m : ℕ) (b : Bool) → begins before m ≡ b → ((k : ℕ) → before ≡ Some k → has numbers k ≡ true) → has numbers m ≡ true →
@@ -112,7 +112,7 @@ module _ (x : Context) (numbers : List ℕ) (present : (p : ℕ) → is_some (x.
   begun_by None m false is there here = cc
   begun_by (Some k) m false is there here =
       let next : m ≡ suc k = grind (arith, nat_tests) in
-      let on : begins_range x (suc k) ≡ false = goes_on_after k (there k refl) (ap (has numbers) (sym next) ∙ here) in
+      let on : begins_range x (suc k) ≡ false = continues_range_after k (there k refl) (ap (has numbers) (sym next) ∙ here) in
       omega (arith, ap num (ap (begins_range x) next ∙ on))
 
   ranges_by : (b : Bool) (n : ℕ) → num b + n ≤ cond b (n + 1) n
@@ -143,12 +143,12 @@ module _ (x : Context) (numbers : List ℕ) (present : (p : ℕ) → is_some (x.
 
   among : (p : ℕ) (b : Bool) → is_some (x.page p) ≡ b → num (begins_range x p) ≤ num (begins_range x p && b) + num false
   unfolding begins_range
-  among p true is = subst (λ (b : Bool). num (b && not (goes_on x p)) ≤ num ((b && not (goes_on x p)) && true) + 0) (sym is) (kept (not (goes_on x p)))
+  among p true is = subst (λ (b : Bool). num (b && not (continues_range x p)) ≤ num ((b && not (continues_range x p)) && true) + 0) (sym is) (kept (not (continues_range x p)))
     where
       kept : (b : Bool) → num b ≤ num (b && true) + 0
       kept true = omega arith
       kept false = omega arith
-  among p false is = subst (λ (b : Bool). num (b && not (goes_on x p)) ≤ num ((b && not (goes_on x p)) && false) + 0) (sym is) (omega arith)
+  among p false is = subst (λ (b : Bool). num (b && not (continues_range x p)) ≤ num ((b && not (continues_range x p)) && false) + 0) (sym is) (omega arith)
 
   -- it has no more ranges than the numbers make
   pub ranges-own : (pages : ℕ) → ranges pages x ≤ ranges_after None numbers

@@ -17,7 +17,8 @@ use Rattle.kernel_core.proofs.Population.{few_of_all}
 use Rattle.kernel_core.specs.Kernel.{machine_of}
 use Rattle.kernel_core.specs.Start.{Inputs, first_context, first_thread, first_threads, image_tag, page_in, standing, start, start_world, world_with}
 use Rattle.kernel_core.specs.Steady.{IsCounted, IsPeopled, IsReady, IsSteady, IsWide, StandsWell, most_after}
-use Rattle.kernel_core.specs.declared.settings.TheConstants.{MOST_BUDGET, MOST_STEPS, PAGES}
+use Rattle.lwc_base.specs.declared.limits.TheConstants.{MOST_BUDGET, MOST_STEPS}
+use Rattle.kernel_core.specs.declared.settings.TheConstants.{PAGES}
 use Rattle.kernel_core.specs.declared.thread.Thread.{Thread}
 use Rattle.lwc_base.proofs.OneContext.{first, live-one, none_counted, one_context, one_counted}
 use Rattle.lwc_base.proofs.Counted.{len-add_context, len_groups-add_context}
@@ -26,7 +27,7 @@ use Rattle.lwc_base.proofs.Live.{same_name}
 use Rattle.lwc_base.specs.Frames.{used}
 use Rattle.lwc_base.specs.Fresh.{IsFresh, NamesOldGroups}
 use Rattle.lwc_base.specs.Names.{name_cmp}
-use Rattle.lwc_base.specs.World.{World, Context, Counters, Group, add_context, count_on, empty_world, groups_of, is_live, live_of}
+use Rattle.lwc_base.specs.World.{World, Context, Counters, Group, add_context, change_counters, empty_world, groups_of, is_live, live_of}
 use Rattle.lwc_base.specs.declared.cell.Cell.TheVariants.{Own, Common}
 use Rattle.lwc_base.specs.declared.name.Name.{Name}
 use Rattle.lwc_base.specs.declared.page.PageValue.TheVariants.{Data}
@@ -99,12 +100,12 @@ unfolding empty_world
 no_groups frames = fm.len-empty name_cmp Group
 
 nothing_there : (frames : ℕ) (x : Context) (g : Name) → fm.contains_key (add_context (empty_world frames PAGES) 0 x).groups g ≡ false
-unfolding empty_world add_context count_on
+unfolding empty_world add_context change_counters
 nothing_there frames x g = ap is_some (fm.get-empty name_cmp g)
 
 -- in the world of one context, job 0 has that one, and no job has another or a group
 peopled_with : (frames tags : ℕ) (x : Context) → IsPeopled (world_with frames tags x)
-unfolding world_with count_on live_of groups_of empty_world
+unfolding world_with change_counters live_of groups_of empty_world
 peopled_with frames tags x =
     let w : World = add_context (empty_world frames PAGES) 0 x in
     let one : fm.len w.contexts ≡ 1 = len-add_context (empty_world frames PAGES) 0 x (fresh-empty_world frames PAGES) ∙ ap (λ n. n + 1) (no_contexts frames) in

@@ -19,7 +19,7 @@ use Rattle.kernel_core.specs.Runs.{peak}
 use Rattle.kernel_core.specs.Start.{standing, start}
 use Rattle.kernel_core.specs.Steady.{IsReady, IsSteady, StandsWell, most_after}
 use Rattle.kernel_core.specs.Step.{Acted, alone, step, step_at, step_of, with_acted}
-use Rattle.kernel_core.specs.declared.settings.TheConstants.{MOST_BUDGET, MOST_STEPS}
+use Rattle.lwc_base.specs.declared.limits.TheConstants.{MOST_BUDGET, MOST_STEPS}
 use Rattle.kernel_core.specs.declared.thread.Thread.{Thread}
 use Rattle.lwc_base.specs.Frames.{used}
 use Rattle.lwc_base.specs.World.{World}

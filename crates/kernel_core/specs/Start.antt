@@ -19,7 +19,7 @@ use Rattle.lwc_base.specs.declared.name.Tag.{Tag}
 use Rattle.lwc_base.specs.declared.page.PageValue.{PageValue}
 use Rattle.lwc_base.specs.declared.page.PageValue.TheVariants.{Data}
 use Rattle.lwc_base.specs.Registers.{fresh_registers}
-use Rattle.lwc_base.specs.World.{World, Context, add_context, count_on, empty_world}
+use Rattle.lwc_base.specs.World.{World, Context, add_context, change_counters, empty_world}
 
 -- what an image is run with: the requests, and the settings
 pub record Inputs : Type 0 where
@@ -74,7 +74,7 @@ first_threads budget entries = map (λ e. first_thread budget e.0 e.1) (enumerat
 
 -- the world whose one context this is, for whose pages job 0 has taken so many tags
 unfoldable pub world_with : ℕ → ℕ → Context → World
-world_with frames tags x = count_on (add_context (empty_world frames PAGES) 0 x) 0 (λ n. record n { tags = tags })
+world_with frames tags x = change_counters (add_context (empty_world frames PAGES) 0 x) 0 (λ n. record n { tags = tags })
 
 -- the world of a start: its one context, in which each page has a tag of its own
 unfoldable pub start_world : Image → ℕ → World

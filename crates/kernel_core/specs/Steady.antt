@@ -7,12 +7,12 @@ use Rattle.kernel_core.specs.Kernel.{History, machine_of}
 use Rattle.kernel_core.specs.Machine.{Machine}
 use Rattle.kernel_core.specs.Runs.{peak}
 use Rattle.kernel_core.specs.Start.{standing, start}
-use Rattle.kernel_core.specs.declared.settings.TheConstants.{PAGES, MOST_STEPS, MOST_BUDGET, MOST_THREADS}
+use Rattle.lwc_base.specs.declared.limits.TheConstants.{MOST_BUDGET, MOST_CONTEXTS_OF_JOB, MOST_GROUPS_OF_JOB, MOST_STEPS, MOST_THREADS}
+use Rattle.kernel_core.specs.declared.settings.TheConstants.{PAGES}
 use Rattle.kernel_core.specs.declared.thread.Thread.{Thread}
 use Rattle.lwc_base.specs.declared.fault.ThreadStatus.{ThreadStatus}
 use Rattle.lwc_base.specs.declared.fault.ThreadStatus.TheVariants.{Idle, Running, Done, Faulted}
 use Rattle.lwc_base.specs.declared.name.Name.{Name}
-use Rattle.lwc_base.specs.declared.size.TheConstants.{MOST_CONTEXTS_OF_JOB, MOST_GROUPS_OF_JOB}
 use Rattle.lwc_base.specs.declared.size.WorldSize.{WorldSize}
 use Rattle.lwc_base.specs.Fresh.{IsFresh}
 use Rattle.lwc_base.specs.World.{World, Counters, groups_of, is_live, live_of}

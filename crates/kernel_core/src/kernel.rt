@@ -6,7 +6,7 @@ ghost use Rattle.kernel_core.specs.Machine.{has_ended, is_ended, work_of};
 ghost use Rattle.kernel_core.specs.Runs as runs;
 ghost use Rattle.kernel_core.specs.Start.{start};
 ghost use Rattle.kernel_core.specs.declared.settings.Job.TheVariants as jobs;
-ghost use Rattle.kernel_core.specs.declared.settings.TheConstants.{MOST_BUDGET, MOST_STEPS, MOST_THREADS};
+ghost use Rattle.lwc_base.specs.declared.limits.TheConstants.{MOST_BUDGET, MOST_STEPS, MOST_THREADS};
 
 use crate::acting::step_thread;
 use crate::settings::{OpenFault, Settings};

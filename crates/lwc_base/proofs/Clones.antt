@@ -19,8 +19,8 @@ use Rattle.lwc_base.specs.Clones.{IsGroup, HasItsGroups, IsClone, AreApart, Have
 use Rattle.lwc_base.specs.Fresh.{IsFresh}
 use Rattle.lwc_base.specs.Keys.{ValueOf, nothing, is_there}
 use Rattle.lwc_base.specs.Modes.{IsKey, mode_or_copy}
-use Rattle.lwc_base.specs.Sharing.{any_key, moves, moved, needs_group, cell_after, left_common, share, cloned, clone, clone_context}
-use Rattle.lwc_base.specs.World.{World, Context, count_on, is_live, context, change_context, add_context, next_context, next_group}
+use Rattle.lwc_base.specs.Sharing.{any_key, is_moved, moved_values, needs_group, shared_cell, with_shared, share, cloned_cell, cloned_context, clone_context}
+use Rattle.lwc_base.specs.World.{World, Context, change_counters, is_live, context, change_context, add_context, next_context, next_group}
 use Rattle.lwc_base.proofs.Cloning.{context-cloned, context-clone_context-other, group-clone_context, live-not-next, share-moves, context-share-moves, context-share-alone}
 use Rattle.lwc_base.proofs.Grouped.{names_live-context, is_group-kept, is_group-added}
 use Rattle.lwc_base.proofs.OwnCells.{value_at-own}
@@ -59,50 +59,50 @@ no_key pages test none Cred within = right_false _ _ none
 
 -- where no value moves, none moves under a key
 pub nothing_moves : (w : World) (c : Name) (items : List Item) → needs_group w c items ≡ false → (k : Key) → IsKey w.size.pages k →
-    moves (mode_or_copy items k) k ((context w c).cell k) ≡ false
+    is_moved (mode_or_copy items k) k ((context w c).cell k) ≡ false
 unfolding needs_group
-nothing_moves w c items none k within = no_key w.size.pages (λ q. moves (mode_or_copy items q) q ((context w c).cell q)) none k within
+nothing_moves w c items none k within = no_key w.size.pages (λ q. is_moved (mode_or_copy items q) q ((context w c).cell q)) none k within
 
 module _ (w : World) (c : Name) (job : ℕ) (items : List Item) where
   -- a group that is live is so after sharing
   is_group-share : (g : Name) → IsGroup w g → IsGroup (share w c job items) g
   is_group-share g live =
       after_share (λ v. IsGroup v g) w c job items
-      (is_group-kept (change_context w c (left_common (next_group w job) items)) job (moved items (context w c)) g
-      (groups_live-change_context w c (left_common (next_group w job) items) g ∙ live)) live
+      (is_group-kept (change_context w c (with_shared (next_group w job) items)) job (moved_values items (context w c)) g
+      (groups_live-change_context w c (with_shared (next_group w job) items) g ∙ live)) live
 
   -- the group of the values that move is live
   is_group-share-new : needs_group w c items ≡ true → IsGroup (share w c job items) (next_group w job)
   is_group-share-new needs =
       subst (λ (v : World). IsGroup v (next_group w job)) (sym (share-moves w c job items needs))
       (subst (λ (g : Name). IsGroup (moved_into_group w c job items) g) (next_group-left w c job items)
-      (is_group-added (change_context w c (left_common (next_group w job) items)) job (moved items (context w c))))
+      (is_group-added (change_context w c (with_shared (next_group w job) items)) job (moved_values items (context w c))))
 
   there_at : (k : Key) (value : ValueOf k) → (context w c).cell k ≡ Own value → is_there k (value_at w c k) ≡ true → is_there k value ≡ true
   there_at k value is there = ap (is_there k) (sym (value_at-own w c k (context w c) value refl is)) ∙ there
 
   common_stays : (k : Key) (needs : Bool) (h : Name) → needs_group w c items ≡ needs → (context w c).cell k ≡ Common h → mode_or_copy items k ≡ Share →
       is_live w c ≡ true → (context (share w c job items) c).cell k ≡ Common h
-  unfolding left_common
+  unfolding with_shared
   common_stays k true h decided is mode live =
-      ap (λ (x : Context). x.cell k) (context-share-moves w c job items live decided) ∙ (λ i. cell_after (next_group w job) (mode i) k (is i))
+      ap (λ (x : Context). x.cell k) (context-share-moves w c job items live decided) ∙ (λ i. shared_cell (next_group w job) (mode i) k (is i))
   common_stays k false h decided is mode live = ap (λ (x : Context). x.cell k) (context-share-alone w c job items decided c) ∙ is
 
   -- a cell under share is common afterwards
-  shared_cell : (k : Key) (needs : Bool) (cell : Cell (ValueOf k)) → needs_group w c items ≡ needs → (context w c).cell k ≡ cell → IsKey w.size.pages k →
+  becomes_common : (k : Key) (needs : Bool) (cell : Cell (ValueOf k)) → needs_group w c items ≡ needs → (context w c).cell k ≡ cell → IsKey w.size.pages k →
       is_there k (value_at w c k) ≡ true → mode_or_copy items k ≡ Share → IsFresh w → HasItsGroups w → is_live w c ≡ true →
       (g : Name) × IsGroup (share w c job items) g × ((context (share w c job items) c).cell k ≡ Common g)
-  unfolding left_common
-  shared_cell k needs (Common h) decided is within there mode fresh groups live =
+  unfolding with_shared
+  becomes_common k needs (Common h) decided is within there mode fresh groups live =
       (h, is_group-share h (names_live-context w c groups k h is), common_stays k needs h decided is mode live)
-  shared_cell k true (Own value) decided is within there mode fresh groups live = (
+  becomes_common k true (Own value) decided is within there mode fresh groups live = (
     next_group w job,
     is_group-share-new decided,
     ap (λ (x : Context). x.cell k) (context-share-moves w c job items live decided)
-        ∙ (λ i. cell_after (next_group w job) (mode i) k (is i)) ∙ ap (λ b. cond b (Common (next_group w job)) (Own value)) (there_at k value is there),
+        ∙ (λ i. shared_cell (next_group w job) (mode i) k (is i)) ∙ ap (λ b. cond b (Common (next_group w job)) (Own value)) (there_at k value is there),
   )
-  shared_cell k false (Own value) decided is within there mode fresh groups live =
-      absurd (false≢true (sym (nothing_moves w c items decided k within) ∙ (λ i. moves (mode i) k (is i)) ∙ there_at k value is there))
+  becomes_common k false (Own value) decided is within there mode fresh groups live =
+      absurd (false≢true (sym (nothing_moves w c items decided k within) ∙ (λ i. is_moved (mode i) k (is i)) ∙ there_at k value is there))
 
 module _ (w : World) (c : Name) (job : ℕ) (items : List Item) (entry : Regs) (fresh : IsFresh w) where
   abbrev shared : World
@@ -121,9 +121,9 @@ module _ (w : World) (c : Name) (job : ℕ) (items : List Item) (entry : Regs) (
       ∙ value_at-share w c job items fresh e k
 
   -- the cells of the clone, by their modes
-  cell-cloned : (k : Key) (mode : Mode) → mode_or_copy items k ≡ mode → (context after next).cell k ≡ cloned shared c k mode
-  unfolding clone
-  cell-cloned k mode is = ap (λ (x : Context). x.cell k) (context-cloned w c job items entry) ∙ ap (cloned shared c k) is
+  cell-cloned : (k : Key) (mode : Mode) → mode_or_copy items k ≡ mode → (context after next).cell k ≡ cloned_cell shared c k mode
+  unfolding cloned_context
+  cell-cloned k mode is = ap (λ (x : Context). x.cell k) (context-cloned w c job items entry) ∙ ap (cloned_cell shared c k) is
 
   -- what is copied reads as in the context that it is copied from
   value_at-copied : (k : Key) → mode_or_copy items k ≡ Copy → value_at after next k ≡ value_at w c k
@@ -143,13 +143,13 @@ module _ (w : World) (c : Name) (job : ℕ) (items : List Item) (entry : Regs) (
       same_context = context-clone_context-other w c job items entry c (live-not-next w job c fresh live)
 
       is_group-cloning : (g : Name) → IsGroup shared g → IsGroup after g
-      unfolding clone_context add_context count_on
+      unfolding clone_context add_context change_counters
       is_group-cloning g there = there
 
       -- what is shared is in common
       in_common : (k : Key) → mode_or_copy items k ≡ Share → IsKey w.size.pages k → is_there k (value_at w c k) ≡ true → HaveInCommon after c next k
       in_common k is within there =
-          let common = shared_cell w c job items k _ _ refl refl within there is fresh groups live in
+          let common = becomes_common w c job items k _ _ refl refl within there is fresh groups live in
           record {
             group = common.0;
             live = is_group-cloning common.0 common.1;

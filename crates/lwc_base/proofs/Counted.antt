@@ -13,7 +13,7 @@ use Rattle.std.specs.FinMap.Entries.{by_order, put, find, is_sorted, below_all, 
 use Rattle.lwc_base.specs.declared.name.Name.{Name}
 use Rattle.lwc_base.specs.Fresh.{IsFresh}
 use Rattle.lwc_base.specs.Names.{name_cmp}
-use Rattle.lwc_base.specs.World.{World, Context, Group, is_live, add_context, next_context, add_group, next_group, count_on, live_of, groups_of}
+use Rattle.lwc_base.specs.World.{World, Context, Group, is_live, add_context, next_context, add_group, next_group, change_counters, live_of, groups_of}
 use Rattle.lwc_base.proofs.Fresh.{next_context-new, next_group-new}
 use Rattle.lwc_base.proofs.Orders.{name_cmp-total, name_cmp-IsAntisymmetric}
 
@@ -124,35 +124,35 @@ one_more_where a b n m is = grind (arith, nat_tests)
 -- a new context is one more of its job, and no other job has more
 pub live_of-add_context : (w : World) (job : ℕ) (x : Context) (j : ℕ) → IsFresh w →
     live_of (add_context w job x) j ≡ (if j == job then live_of w j + 1 else live_of w j)
-unfolding live_of add_context count_on
+unfolding live_of add_context change_counters
 live_of-add_context w job x j fresh =
     one_more_where job j _ _ (count_by-insert name_cmp (λ c. eqb c.job j) name_cmp-total w.contexts (next_context w job) x (next_context-new w job fresh))
 
 -- and it is one more in all
 pub len-add_context : (w : World) (job : ℕ) (x : Context) → IsFresh w → fm.len (add_context w job x).contexts ≡ fm.len w.contexts + 1
-unfolding add_context count_on
+unfolding add_context change_counters
 len-add_context w job x fresh = len-insert-new name_cmp name_cmp-total w.contexts (next_context w job) x (next_context-new w job fresh)
 
 -- there are as many groups as before
 pub groups_of-add_context : (w : World) (job : ℕ) (x : Context) (j : ℕ) → groups_of (add_context w job x) j ≡ groups_of w j
-unfolding groups_of add_context count_on
+unfolding groups_of add_context change_counters
 groups_of-add_context w job x j = refl
 
 pub len_groups-add_context : (w : World) (job : ℕ) (x : Context) → fm.len (add_context w job x).groups ≡ fm.len w.groups
-unfolding add_context count_on
+unfolding add_context change_counters
 len_groups-add_context w job x = refl
 
 -- a group whose name is new is one more of its job, and no other job has more
 pub groups_of-add_new_group : (w : World) (job : ℕ) (x : Group) (j : ℕ) → fm.contains_key w.groups (next_group w job) ≡ false →
     groups_of (add_group w job x) j ≡ (if j == job then groups_of w j + 1 else groups_of w j)
-unfolding groups_of add_group count_on
+unfolding groups_of add_group change_counters
 groups_of-add_new_group w job x j new =
     one_more_where job j _ _ (count_by-insert name_cmp (λ g. eqb g.job j) name_cmp-total w.groups (next_group w job) x new)
 
 -- and it is one more in all
 pub len-add_new_group : (w : World) (job : ℕ) (x : Group) → fm.contains_key w.groups (next_group w job) ≡ false →
     fm.len (add_group w job x).groups ≡ fm.len w.groups + 1
-unfolding add_group count_on
+unfolding add_group change_counters
 len-add_new_group w job x new = len-insert-new name_cmp name_cmp-total w.groups (next_group w job) x new
 
 -- a new group of a fresh world is one more of its job, and no other job has more
@@ -166,9 +166,9 @@ len-add_group w job x fresh = len-add_new_group w job x (next_group-new w job fr
 
 -- there are as many contexts as before
 pub live_of-add_group : (w : World) (job : ℕ) (x : Group) (j : ℕ) → live_of (add_group w job x) j ≡ live_of w j
-unfolding live_of add_group count_on
+unfolding live_of add_group change_counters
 live_of-add_group w job x j = refl
 
 pub len_contexts-add_group : (w : World) (job : ℕ) (x : Group) → fm.len (add_group w job x).contexts ≡ fm.len w.contexts
-unfolding add_group count_on
+unfolding add_group change_counters
 len_contexts-add_group w job x = refl

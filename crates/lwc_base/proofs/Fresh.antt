@@ -21,7 +21,7 @@ use Rattle.lwc_base.specs.Mapping.{map_pages, unmap_pages}
 use Rattle.lwc_base.specs.Memory.{touched}
 use Rattle.lwc_base.specs.Registers.{fresh_registers}
 use Rattle.lwc_base.specs.Store.{Piece, after_store, parting_count, plan, put_pages}
-use Rattle.lwc_base.specs.World.{World, Context, Group, Counters, is_live, context, changed_context, change_context, changed_group, change_group, count_on, empty_world, new_context, add_context, next_context, add_group, next_group}
+use Rattle.lwc_base.specs.World.{World, Context, Group, Counters, is_live, context, changed_context, change_context, changed_group, change_group, change_counters, empty_world, new_context, add_context, next_context, add_group, next_group}
 use Rattle.lwc_base.proofs.Keys.{was_common, was_common_page}
 use Rattle.lwc_base.proofs.Live.{after_put, same_name}
 use Rattle.lwc_base.proofs.Orders.{name_cmp-total}
@@ -105,9 +105,9 @@ rises_where true before after rises = rises
 rises_where false before after rises = record { contexts = omega arith; groups = omega arith }
 
 -- a count that rises
-pub fresh-count_on : (w : World) (job : ℕ) (change : Counters → Counters) → ((n : Counters) → Rises n (change n)) → IsFresh w → IsFresh (count_on w job change)
-unfolding count_on
-fresh-count_on w job change rises fresh = fresh-rises w _ (λ j. rises_where (eqb j job) (w.next j) (change (w.next j)) (rises (w.next j))) fresh
+pub fresh-change_counters : (w : World) (job : ℕ) (change : Counters → Counters) → ((n : Counters) → Rises n (change n)) → IsFresh w → IsFresh (change_counters w job change)
+unfolding change_counters
+fresh-change_counters w job change rises fresh = fresh-rises w _ (λ j. rises_where (eqb j job) (w.next j) (change (w.next j)) (rises (w.next j))) fresh
 
 -- the empty world
 pub fresh-empty_world : (size : WorldSize) → IsFresh (empty_world size)
@@ -138,8 +138,8 @@ unfolding unmap_pages
 fresh-unmap_pages w c from to fresh = fresh-change_context w c _ (λ x named q g is. named q g (was_common_page from to None x.cell q g is)) fresh
 
 -- tags that are counted on
-pub fresh-count_tags : (w : World) (job : ℕ) (tags : Counters → ℕ) → IsFresh w → IsFresh (count_on w job (λ n. record n { tags = tags n }))
-fresh-count_tags w job tags fresh = fresh-count_on w job _ (λ n. record { contexts = omega arith; groups = omega arith }) fresh
+pub fresh-count_tags : (w : World) (job : ℕ) (tags : Counters → ℕ) → IsFresh w → IsFresh (change_counters w job (λ n. record n { tags = tags n }))
+fresh-count_tags w job tags fresh = fresh-change_counters w job _ (λ n. record { contexts = omega arith; groups = omega arith }) fresh
 
 pub fresh-after_store : (w : World) (c : Name) (job : ℕ) (piece : Piece) → IsFresh w → IsFresh (after_store w c job piece)
 unfolding after_store
@@ -169,7 +169,7 @@ counts_group false n is = absurd (false≢true is)
 
 -- a context that is added, and that names no new group
 pub fresh-add_context : (w : World) (job : ℕ) (x : Context) → NamesOldGroups w.next x → IsFresh w → IsFresh (add_context w job x)
-unfolding add_context count_on
+unfolding add_context change_counters
 fresh-add_context w job x named fresh =
     let later : ℕ → Counters = λ j. cond (eqb j job) (one_more_context (w.next j)) (w.next j) in
     let rises : (j : ℕ) → Rises (w.next j) (later j) = λ j. rises_where (eqb j job) (w.next j) _ (rises-one_more_context (w.next j)) in
@@ -178,7 +178,7 @@ fresh-add_context w job x named fresh =
 
 -- a group that is added
 pub fresh-add_group : (w : World) (job : ℕ) (g : Group) → IsFresh w → IsFresh (add_group w job g)
-unfolding add_group count_on
+unfolding add_group change_counters
 fresh-add_group w job g fresh =
     let later : ℕ → Counters = λ j. cond (eqb j job) (one_more_group (w.next j)) (w.next j) in
     let rises : (j : ℕ) → Rises (w.next j) (later j) = λ j. rises_where (eqb j job) (w.next j) _ (rises-one_more_group (w.next j)) in

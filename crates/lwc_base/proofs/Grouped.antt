@@ -21,9 +21,9 @@ use Rattle.lwc_base.specs.Memory.{touched}
 use Rattle.lwc_base.specs.Modes.{mode_or_copy}
 use Rattle.lwc_base.specs.Names.{name_cmp}
 use Rattle.lwc_base.specs.Registers.{fresh_registers}
-use Rattle.lwc_base.specs.Sharing.{moves, moved, left_common, share, clone, clone_context}
+use Rattle.lwc_base.specs.Sharing.{is_moved, moved_values, with_shared, share, cloned_context, clone_context}
 use Rattle.lwc_base.specs.Store.{Piece, after_store, parting_count, plan, put_pages}
-use Rattle.lwc_base.specs.World.{World, Context, Group, Counters, context, changed_context, change_context, changed_group, change_group, count_on, empty_world, new_context, add_context, next_context, add_group, next_group}
+use Rattle.lwc_base.specs.World.{World, Context, Group, Counters, context, changed_context, change_context, changed_group, change_group, change_counters, empty_world, new_context, add_context, next_context, add_group, next_group}
 use Rattle.lwc_base.proofs.Cloning.{common_in_clone}
 use Rattle.lwc_base.proofs.Keys.{was_common, was_common_page}
 use Rattle.lwc_base.proofs.Live.{after_put}
@@ -76,9 +76,9 @@ has_groups-change_group w g change has =
     has_groups-more w (change_group w g change) (contexts-change_group w g change) (λ q live. groups_live-change_group w g change q ∙ live) has
 
 -- counts
-pub has_groups-count_on : (w : World) (job : ℕ) (change : Counters → Counters) → HasItsGroups w → HasItsGroups (count_on w job change)
-unfolding count_on
-has_groups-count_on w job change has = has_groups-more w (count_on w job change) refl (λ g live. live) has
+pub has_groups-change_counters : (w : World) (job : ℕ) (change : Counters → Counters) → HasItsGroups w → HasItsGroups (change_counters w job change)
+unfolding change_counters
+has_groups-change_counters w job change has = has_groups-more w (change_counters w job change) refl (λ g live. live) has
 
 -- the empty world
 pub has_groups-empty_world : (size : WorldSize) → HasItsGroups (empty_world size)
@@ -108,13 +108,13 @@ pub has_groups-after_store : (w : World) (c : Name) (job : ℕ) (piece : Piece) 
 unfolding after_store
 has_groups-after_store w c job piece has =
     let planned : List (ℕ × PageValue) = plan w c job piece (w.next job).tags (touched piece.at (length piece.bytes)) in
-    has_groups-count_on (put_pages w c planned) job (λ n. record n { tags = n.tags + parting_count w c piece }) (has_groups-put_pages w c planned has)
+    has_groups-change_counters (put_pages w c planned) job (λ n. record n { tags = n.tags + parting_count w c piece }) (has_groups-put_pages w c planned has)
 
 -- a context that is added, and names live groups
 pub has_groups-add_context : (w : World) (job : ℕ) (x : Context) → NamesLiveGroups w x → HasItsGroups w → HasItsGroups (add_context w job x)
 unfolding add_context
 has_groups-add_context w job x named has =
-    has_groups-count_on (record w { contexts = fm.insert w.contexts (next_context w job) x }) job _ (has_groups-insert_context w (next_context w job) x named has)
+    has_groups-change_counters (record w { contexts = fm.insert w.contexts (next_context w job) x }) job _ (has_groups-insert_context w (next_context w job) x named has)
 
 -- a new context of its own names no group
 pub names_live-new_context : (w : World) (uid : ℕ) (entry : Regs) → NamesLiveGroups w (new_context uid entry)
@@ -126,19 +126,19 @@ live_where false y old live = live
 
 -- a group that is live is so once another is added
 pub is_group-kept : (w : World) (job : ℕ) (x : Group) (g : Name) → IsGroup w g → IsGroup (add_group w job x) g
-unfolding add_group count_on
+unfolding add_group change_counters
 is_group-kept w job x g live =
     ap is_some (fm.get-insert name_cmp-total w.groups (next_group w job) x g) ∙ live_where _ x (fm.get w.groups g) live
 
 -- and the one that is added is live
 pub is_group-added : (w : World) (job : ℕ) (x : Group) → IsGroup (add_group w job x) (next_group w job)
-unfolding add_group count_on
+unfolding add_group change_counters
 is_group-added w job x =
     ap is_some (fm.get-insert name_cmp-total w.groups (next_group w job) x (next_group w job)
     ∙ ap (λ b. cond b (Some x) (fm.get w.groups (next_group w job))) (name-itself (next_group w job)))
 
 pub has_groups-add_group : (w : World) (job : ℕ) (x : Group) → HasItsGroups w → HasItsGroups (add_group w job x)
-unfolding add_group count_on
+unfolding add_group change_counters
 has_groups-add_group w job x has = has_groups-more w (add_group w job x) refl (is_group-kept w job x) has
 
 named_where : (w : World) (found : Option Context) → ((x : Context) → found ≡ Some x → NamesLiveGroups w x) → NamesLiveGroups w (unwrap_or found (new_context 0 (fresh_registers 0)))
@@ -151,21 +151,21 @@ unfolding context
 names_live-context w c has = named_where w (fm.get w.contexts c) (has c)
 
 -- a context whose values have moved into a live group
-names_live-left_common : (w : World) (g : Name) (items : List Item) (x : Context) → IsGroup w g → NamesLiveGroups w x → NamesLiveGroups w (left_common g items x)
-unfolding left_common
-names_live-left_common w g items x live named k h is = common_after (IsGroup w) g h (moves (mode_or_copy items k) k (x.cell k)) (x.cell k) is live (named k h)
+names_live-with_shared : (w : World) (g : Name) (items : List Item) (x : Context) → IsGroup w g → NamesLiveGroups w x → NamesLiveGroups w (with_shared g items x)
+unfolding with_shared
+names_live-with_shared w g items x live named k h is = common_after (IsGroup w) g h (is_moved (mode_or_copy items k) k (x.cell k)) (x.cell k) is live (named k h)
 
 module _ (w : World) (c : Name) (job : ℕ) (items : List Item) where
   has_groups-found : (found : Option Context) → fm.get w.contexts c ≡ found → HasItsGroups w →
-      HasItsGroups (add_group (changed_context w c (left_common (next_group w job) items) found) job (moved items (context w c)))
-  unfolding add_group count_on
-  has_groups-found None is has = has_groups-add_group w job (moved items (context w c)) has
+      HasItsGroups (add_group (changed_context w c (with_shared (next_group w job) items) found) job (moved_values items (context w c)))
+  unfolding add_group change_counters
+  has_groups-found None is has = has_groups-add_group w job (moved_values items (context w c)) has
   has_groups-found (Some x) is has =
-      has_groups-insert_context (add_group w job (moved items (context w c))) c (left_common (next_group w job) items x)
-      (names_live-left_common (add_group w job (moved items (context w c))) (next_group w job) items x
-      (is_group-added w job (moved items (context w c)))
-      (names_live-kept w (add_group w job (moved items (context w c))) x (is_group-kept w job (moved items (context w c))) (has c x is)))
-      (has_groups-add_group w job (moved items (context w c)) has)
+      has_groups-insert_context (add_group w job (moved_values items (context w c))) c (with_shared (next_group w job) items x)
+      (names_live-with_shared (add_group w job (moved_values items (context w c))) (next_group w job) items x
+      (is_group-added w job (moved_values items (context w c)))
+      (names_live-kept w (add_group w job (moved_values items (context w c))) x (is_group-kept w job (moved_values items (context w c))) (has c x is)))
+      (has_groups-add_group w job (moved_values items (context w c)) has)
 
   has_groups-moved : HasItsGroups w → HasItsGroups (moved_into_group w c job items)
   unfolding change_context
@@ -175,12 +175,12 @@ module _ (w : World) (c : Name) (job : ℕ) (items : List Item) where
   has_groups-share has = after_share HasItsGroups w c job items (has_groups-moved has) has
 
 -- a clone names no group that the context that it is made from does not name
-names_live-clone : (v : World) (c : Name) (items : List Item) (entry : Regs) → HasItsGroups v → NamesLiveGroups v (clone v c items entry)
-unfolding clone
+names_live-clone : (v : World) (c : Name) (items : List Item) (entry : Regs) → HasItsGroups v → NamesLiveGroups v (cloned_context v c items entry)
+unfolding cloned_context
 names_live-clone v c items entry has k g is = names_live-context v c has k g (common_in_clone v c k g (mode_or_copy items k) is)
 
 pub has_groups-clone_context : (w : World) (c : Name) (job : ℕ) (items : List Item) (entry : Regs) → HasItsGroups w → HasItsGroups (clone_context w c job items entry)
 unfolding clone_context
 has_groups-clone_context w c job items entry has =
-    has_groups-add_context (share w c job items) job (clone (share w c job items) c items entry)
+    has_groups-add_context (share w c job items) job (cloned_context (share w c job items) c items entry)
     (names_live-clone (share w c job items) c items entry (has_groups-share w c job items has)) (has_groups-share w c job items has)

@@ -20,6 +20,4 @@ pub mod Sharing
 pub mod Storing
 pub mod Writes
 pub mod Zeros
-pub mod PairedLemmas
-pub mod StackLemmas
 pub mod Needs

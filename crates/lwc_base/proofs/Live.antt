@@ -17,7 +17,7 @@ use Rattle.lwc_base.specs.Cells.{put_in, put_at, put_page, with_cell, with_value
 use Rattle.lwc_base.specs.Keys.{ValueOf, is_there}
 use Rattle.lwc_base.specs.Mapping.{map_pages, unmap_pages}
 use Rattle.lwc_base.specs.Store.{put_pages}
-use Rattle.lwc_base.specs.World.{World, Context, Group, Counters, is_live, changed_context, change_context, changed_group, change_group, count_on}
+use Rattle.lwc_base.specs.World.{World, Context, Group, Counters, is_live, changed_context, change_context, changed_group, change_group, change_counters}
 use Rattle.lwc_base.proofs.Orders.{name_cmp-total, name_cmp-IsAntisymmetric}
 
 equal_of_is_eq : (o : Ordering) → is_eq o ≡ true → o ≡ Equal
@@ -106,6 +106,6 @@ choice_of_same change f n job j true same is = sym (ap (λ k. change (f k)) (eqb
 choice_of_same change f n job j false other is = refl
 
 -- a number that is counted on is the changed one
-pub count_on_as : (w : World) (job : ℕ) (change : Counters → Counters) (n : Counters) → change (w.next job) ≡ n → count_on w job (λ _. n) ≡ count_on w job change
-unfolding count_on
+pub count_on_as : (w : World) (job : ℕ) (change : Counters → Counters) (n : Counters) → change (w.next job) ≡ n → change_counters w job (λ _. n) ≡ change_counters w job change
+unfolding change_counters
 count_on_as w job change n is = λ i. record w { next = λ j. choice_of_same change w.next n job j (eqb j job) refl is i }

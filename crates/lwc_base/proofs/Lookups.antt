@@ -8,7 +8,7 @@ use Rattle.std.proofs.lemmas.Cmp.{tied_itself}
 use Rattle.lwc_base.specs.declared.name.Name.{Name}
 use Rattle.lwc_base.specs.Names.{name_cmp}
 use Rattle.lwc_base.specs.Registers.{fresh_registers}
-use Rattle.lwc_base.specs.World.{World, Context, Group, Counters, is_live, context, group, new_context, new_group, changed_context, change_context, changed_group, change_group, count_on, add_context, next_context, add_group, next_group}
+use Rattle.lwc_base.specs.World.{World, Context, Group, Counters, is_live, context, group, new_context, new_group, changed_context, change_context, changed_group, change_group, change_counters, add_context, next_context, add_group, next_group}
 use Rattle.lwc_base.proofs.Live.{same_name}
 use Rattle.lwc_base.proofs.Orders.{name_cmp-total}
 
@@ -107,22 +107,22 @@ pub group-change_group : (w : World) (g : Name) (change : Group → Group) (q : 
 unfolding change_group
 group-change_group w g change q = group-changed_group w g change _ q refl
 
-pub context-count_on : (w : World) (job : ℕ) (change : Counters → Counters) (q : Name) → context (count_on w job change) q ≡ context w q
-unfolding count_on context
-context-count_on w job change q = refl
+pub context-change_counters : (w : World) (job : ℕ) (change : Counters → Counters) (q : Name) → context (change_counters w job change) q ≡ context w q
+unfolding change_counters context
+context-change_counters w job change q = refl
 
-pub group-count_on : (w : World) (job : ℕ) (change : Counters → Counters) (q : Name) → group (count_on w job change) q ≡ group w q
-unfolding count_on group
-group-count_on w job change q = refl
+pub group-change_counters : (w : World) (job : ℕ) (change : Counters → Counters) (q : Name) → group (change_counters w job change) q ≡ group w q
+unfolding change_counters group
+group-change_counters w job change q = refl
 
 -- after a new context
 pub context-add_context : (w : World) (job : ℕ) (x : Context) (q : Name) →
     context (add_context w job x) q ≡ cond (eq_by_cmp name_cmp q (next_context w job)) x (context w q)
 unfolding add_context
-context-add_context w job x q = context-count_on (record w { contexts = fm.insert w.contexts (next_context w job) x }) job _ q ∙ context-insert w (next_context w job) x q
+context-add_context w job x q = context-change_counters (record w { contexts = fm.insert w.contexts (next_context w job) x }) job _ q ∙ context-insert w (next_context w job) x q
 
 pub group-add_context : (w : World) (job : ℕ) (x : Context) (g : Name) → group (add_context w job x) g ≡ group w g
-unfolding add_context count_on group
+unfolding add_context change_counters group
 group-add_context w job x g = refl
 
 -- the new context has the next name
@@ -137,10 +137,10 @@ context-add_context-other w job x q other = context-add_context w job x q ∙ ap
 -- after a new group
 pub group-add_group : (w : World) (job : ℕ) (x : Group) (q : Name) → group (add_group w job x) q ≡ cond (eq_by_cmp name_cmp q (next_group w job)) x (group w q)
 unfolding add_group
-group-add_group w job x q = group-count_on (record w { groups = fm.insert w.groups (next_group w job) x }) job _ q ∙ group-insert w (next_group w job) x q
+group-add_group w job x q = group-change_counters (record w { groups = fm.insert w.groups (next_group w job) x }) job _ q ∙ group-insert w (next_group w job) x q
 
 pub context-add_group : (w : World) (job : ℕ) (x : Group) (q : Name) → context (add_group w job x) q ≡ context w q
-unfolding add_group count_on context
+unfolding add_group change_counters context
 context-add_group w job x q = refl
 
 live_after : (b : Bool) (old : Option Context) (y : Context) → b ≡ false → is_some (cond b (Some y) old) ≡ is_some old
@@ -149,7 +149,7 @@ live_after false old y other = refl
 
 -- a name that was live is live once another is added
 pub live-other : (w : World) (job : ℕ) (x : Context) (q : Name) → q ≢ next_context w job → is_live (add_context w job x) q ≡ is_live w q
-unfolding add_context count_on
+unfolding add_context change_counters
 live-other w job x q other =
     ap is_some (fm.get-insert name_cmp-total w.contexts (next_context w job) x q)
     ∙ live_after _ (fm.get w.contexts q) x (other_name q (next_context w job) other)

@@ -15,7 +15,7 @@ use Rattle.lwc_base.specs.declared.name.Name.{Name}
 use Rattle.lwc_base.specs.Clones.{IsClone}
 use Rattle.lwc_base.specs.Keys.{ValueOf, is_there}
 use Rattle.lwc_base.specs.Modes.{IsKey, mode_or_copy}
-use Rattle.lwc_base.specs.Sharing.{any_key, has_own, moves, needs_group, cell_after, left_common, share}
+use Rattle.lwc_base.specs.Sharing.{any_key, has_own, is_moved, needs_group, shared_cell, with_shared, share}
 use Rattle.lwc_base.specs.World.{World, Context, is_live, context, next_group}
 use Rattle.lwc_base.proofs.Clones.{nothing_moves}
 use Rattle.lwc_base.proofs.Cloning.{context-clone_context-other, context-share-alone, context-share-moves, context-share-other, live-not-next}
@@ -29,7 +29,7 @@ needed false fails = fails refl
 pub needed-key : (w : World) (c : Name) (items : List Item) (k : Key) (value : ValueOf k) → IsKey w.size.pages k → mode_or_copy items k ≡ Share →
     (context w c).cell k ≡ Own value → is_there k value ≡ true → needs_group w c items ≡ true
 needed-key w c items k value within mode is there =
-    needed (needs_group w c items) (λ none. sym (nothing_moves w c items none k within) ∙ (λ i. moves (mode i) k (is i)) ∙ there)
+    needed (needs_group w c items) (λ none. sym (nothing_moves w c items none k within) ∙ (λ i. is_moved (mode i) k (is i)) ∙ there)
 
 none_in_range : (test : ℕ → Bool) (n : ℕ) → ((k : ℕ) → k < n → test k ≡ false) → list_any test (range_with_len 0 n) ≡ false
 none_in_range test n fails =
@@ -42,7 +42,7 @@ none_in_range test n fails =
     plus_none : (k : ℕ) → 0 + k ≡ k
     plus_none k = omega arith
 
-stays_there : (mode : Mode) (k : Key) (cell : Cell (ValueOf k)) → (mode ≡ Share → has_own k cell ≡ false) → moves mode k cell ≡ false
+stays_there : (mode : Mode) (k : Key) (cell : Cell (ValueOf k)) → (mode ≡ Share → has_own k cell ≡ false) → is_moved mode k cell ≡ false
 stays_there Copy k cell none = refl
 stays_there Unmap k cell none = refl
 stays_there Share k cell none = none refl
@@ -52,20 +52,20 @@ pub not_needed : (w : World) (c : Name) (items : List Item) →
     ((k : Key) → IsKey w.size.pages k → mode_or_copy items k ≡ Share → has_own k ((context w c).cell k) ≡ false) → needs_group w c items ≡ false
 unfolding needs_group any_key
 not_needed w c items none =
-    let fails : (k : Key) → IsKey w.size.pages k → moves (mode_or_copy items k) k ((context w c).cell k) ≡ false =
+    let fails : (k : Key) → IsKey w.size.pages k → is_moved (mode_or_copy items k) k ((context w c).cell k) ≡ false =
     λ k within. stays_there (mode_or_copy items k) k ((context w c).cell k) (none k within) in
-    λ i. none_in_range (λ p. moves (mode_or_copy items (Page p)) (Page p) ((context w c).cell (Page p))) w.size.pages (λ p within. fails (Page p) within) i
-    || none_in_range (λ n. moves (mode_or_copy items (Slot n)) (Slot n) ((context w c).cell (Slot n))) SLOTS (λ n within. fails (Slot n) within) i
+    λ i. none_in_range (λ p. is_moved (mode_or_copy items (Page p)) (Page p) ((context w c).cell (Page p))) w.size.pages (λ p within. fails (Page p) within) i
+    || none_in_range (λ n. is_moved (mode_or_copy items (Slot n)) (Slot n) ((context w c).cell (Slot n))) SLOTS (λ n within. fails (Slot n) within) i
     || fails Cred (omega arith) i
 
-stays_cell : (g : Name) (mode : Mode) (k : Key) (cell : Cell (ValueOf k)) → mode ≢ Share → cell_after g mode k cell ≡ cell
+stays_cell : (g : Name) (mode : Mode) (k : Key) (cell : Cell (ValueOf k)) → mode ≢ Share → shared_cell g mode k cell ≡ cell
 stays_cell g Copy k cell other = refl
 stays_cell g Unmap k cell other = refl
 stays_cell g Share k cell other = absurd (other refl)
 
 module _ (w : World) (c : Name) (job : ℕ) (items : List Item) (live : is_live w c ≡ true) where
   not_shared : (needs : Bool) → needs_group w c items ≡ needs → (k : Key) → mode_or_copy items k ≢ Share → (context (share w c job items) c).cell k ≡ (context w c).cell k
-  unfolding left_common
+  unfolding with_shared
   not_shared true decided k other =
       ap (λ (x : Context). x.cell k) (context-share-moves w c job items live decided) ∙ stays_cell (next_group w job) (mode_or_copy items k) k ((context w c).cell k) other
   not_shared false decided k other = ap (λ (x : Context). x.cell k) (context-share-alone w c job items decided c)

@@ -10,7 +10,7 @@ use Rattle.lwc_base.specs.Keys.{ValueOf, is_there}
 use Rattle.lwc_base.specs.Mapping.{map_pages, on_pages}
 use Rattle.lwc_base.specs.Names.{name_cmp}
 use Rattle.lwc_base.specs.Registers.{fresh_registers}
-use Rattle.lwc_base.specs.World.{World, Context, Counters, add_context, changed_context, change_context, context, count_on, empty_world, new_context}
+use Rattle.lwc_base.specs.World.{World, Context, Counters, add_context, changed_context, change_context, context, change_counters, empty_world, new_context}
 use Rattle.lwc_base.specs.declared.cell.Cell.TheVariants.{Own}
 use Rattle.lwc_base.specs.declared.key.Key.{Key}
 use Rattle.lwc_base.specs.declared.name.Name.{Name}
@@ -43,7 +43,7 @@ counted_once false = refl
 
 -- a context that is added to an empty world
 pub one_added : (size : WorldSize) (x : Context) → add_context (empty_world size) 0 x ≡ one_context size 0 x
-unfolding one_context add_context count_on empty_world
+unfolding one_context add_context change_counters empty_world
 one_added size x = λ i. record {
   contexts = fm.insert fm.empty first x;
   groups = fm.empty;
@@ -56,8 +56,8 @@ counted_again true before tags = refl
 counted_again false before tags = refl
 
 -- tags that are counted
-pub one_counts : (size : WorldSize) (before tags : ℕ) (x : Context) → count_on (one_context size before x) 0 (λ n. record n { tags = tags }) ≡ one_context size tags x
-unfolding one_context count_on
+pub one_counts : (size : WorldSize) (before tags : ℕ) (x : Context) → change_counters (one_context size before x) 0 (λ n. record n { tags = tags }) ≡ one_context size tags x
+unfolding one_context change_counters
 one_counts size before tags x = λ i. record {
   contexts = fm.insert fm.empty first x;
   groups = fm.empty;

@@ -12,7 +12,7 @@ use Rattle.lwc_base.specs.Frames.{is_parting, used}
 use Rattle.lwc_base.specs.Memory.{touched, is_present}
 use Rattle.lwc_base.specs.Pages.{bytes_of, zero_bytes, zero_page}
 use Rattle.lwc_base.specs.Store.{Piece, Absent, Full, Done, after_store, byte_after, bytes_after, parting_count, plan, put_pages, store, stored_value, page_value_at}
-use Rattle.lwc_base.specs.World.{World, Context, count_on}
+use Rattle.lwc_base.specs.World.{World, Context, change_counters}
 use Rattle.lwc_base.specs.declared.cell.Cell.TheVariants.{Own}
 use Rattle.lwc_base.specs.declared.key.Key.TheVariants.{Page}
 use Rattle.lwc_base.specs.declared.page.PageValue.TheVariants.{Zero, Data}
@@ -89,8 +89,8 @@ module _ (size : WorldSize) (tags p : ℕ) (x : Context) (bytes : List ℕ) (who
   counted_more true more one = ap (λ n. one_counted (tags + n)) one
   counted_more false more one = refl
 
-  one_more_tag : (y : Context) (more : ℕ) → more ≡ 1 → count_on (one_context size tags y) 0 (λ n. record n { tags = n.tags + more }) ≡ one_context size (tags + 1) y
-  unfolding one_context count_on
+  one_more_tag : (y : Context) (more : ℕ) → more ≡ 1 → change_counters (one_context size tags y) 0 (λ n. record n { tags = n.tags + more }) ≡ one_context size (tags + 1) y
+  unfolding one_context change_counters
   one_more_tag y more one = λ i. record (one_context size tags y) { next = λ j. counted_more (eqb j 0) more one i }
 
   -- the world after the store
@@ -98,9 +98,9 @@ module _ (size : WorldSize) (tags p : ℕ) (x : Context) (bytes : List ℕ) (who
       ≡ one_context size (tags + 1) (with_cell (Page p) (Own (Some (Data (record { job = 0; k = tags }) bytes))) x)
   unfolding after_store one_context
   after_store-one =
-      ap (λ l. count_on (put_pages (one_context size tags x) first (plan (one_context size tags x) first 0 (page_piece p bytes) tags l)) 0 (λ n. record n { tags = n.tags + parting_count (one_context size tags x) first (page_piece p bytes) })) (touched_page p (length bytes) whole)
-      ∙ ap (λ l. count_on (put_pages (one_context size tags x) first l) 0 (λ n. record n { tags = n.tags + parting_count (one_context size tags x) first (page_piece p bytes) })) plan-one
-      ∙ ap (λ w. count_on w 0 (λ n. record n { tags = n.tags + parting_count (one_context size tags x) first (page_piece p bytes) })) (put_at-one size tags x (Page p) (Some Zero) (Some (Data (record { job = 0; k = tags }) bytes)) zeros refl)
+      ap (λ l. change_counters (put_pages (one_context size tags x) first (plan (one_context size tags x) first 0 (page_piece p bytes) tags l)) 0 (λ n. record n { tags = n.tags + parting_count (one_context size tags x) first (page_piece p bytes) })) (touched_page p (length bytes) whole)
+      ∙ ap (λ l. change_counters (put_pages (one_context size tags x) first l) 0 (λ n. record n { tags = n.tags + parting_count (one_context size tags x) first (page_piece p bytes) })) plan-one
+      ∙ ap (λ w. change_counters w 0 (λ n. record n { tags = n.tags + parting_count (one_context size tags x) first (page_piece p bytes) })) (put_at-one size tags x (Page p) (Some Zero) (Some (Data (record { job = 0; k = tags }) bytes)) zeros refl)
       ∙ one_more_tag (with_cell (Page p) (Own (Some (Data (record { job = 0; k = tags }) bytes))) x) _ parting-one
 
 -- a store that is done has left the world after it

@@ -8,7 +8,7 @@ use Rattle.lwc_base.specs.declared.cell.Cell.{Cell}
 use Rattle.lwc_base.specs.declared.cell.Cell.TheVariants.{Own}
 use Rattle.lwc_base.specs.declared.key.Key.TheVariants.{Page}
 use Rattle.lwc_base.specs.declared.page.PageValue.{PageValue}
-use Rattle.lwc_base.specs.Ranges.{are_alike, is_page, goes_on, begins_range, ranges}
+use Rattle.lwc_base.specs.Ranges.{are_of_one_kind, is_page, continues_range, begins_range, ranges}
 use Rattle.lwc_base.specs.Runs.{IsOneRun}
 use Rattle.lwc_base.specs.World.{Context}
 
@@ -39,9 +39,9 @@ count_one test at a (suc n) low high passes fails =
 absent_begins : (cell : Cell (Option PageValue)) (on : Bool) → cell ≡ Own None → (is_page cell && not on) ≡ false
 absent_begins cell on absent = ap (λ o. is_page o && not on) absent
 
-first_goes_on : (x : Context) (p : ℕ) → ((q : ℕ) → q < p → x.cell (Page q) ≡ Own None) → goes_on x p ≡ false
-first_goes_on x zero absent = refl
-first_goes_on x (suc q) absent = ap (λ o. are_alike o (x.cell (Page (suc q)))) (absent q (omega arith))
+first_continues_range : (x : Context) (p : ℕ) → ((q : ℕ) → q < p → x.cell (Page q) ≡ Own None) → continues_range x p ≡ false
+first_continues_range x zero absent = refl
+first_continues_range x (suc q) absent = ap (λ o. are_of_one_kind o (x.cell (Page (suc q)))) (absent q (omega arith))
 
 both_false : (present on : Bool) → on ≡ true → (present && not on) ≡ false
 both_false true on is = ap not is
@@ -50,17 +50,17 @@ both_false false on is = refl
 module _ (pages from to : ℕ) (x : Context) (run : IsOneRun pages from to x) where
   begins_at_first : begins_range x from ≡ true
   unfolding begins_range
-  begins_at_first = λ i. run.inside from (omega arith) run.some i && not (first_goes_on x from run.before i)
+  begins_at_first = λ i. run.inside from (omega arith) run.some i && not (first_continues_range x from run.before i)
 
   begins_nowhere_else : (p : ℕ) → p ≢ from → p < pages → begins_range x p ≡ false
   unfolding begins_range
   begins_nowhere_else p other high =
       ⊎_elim
-      (λ (below : p < from). absent_begins (x.cell (Page p)) (goes_on x p) (run.before p below))
+      (λ (below : p < from). absent_begins (x.cell (Page p)) (continues_range x p) (run.before p below))
       (λ (above : from ≤ p).
       ⊎_elim
-      (λ (inside : p < to). both_false (is_page (x.cell (Page p))) (goes_on x p) (run.joined p (omega (arith, other)) inside))
-      (λ (past : to ≤ p). absent_begins (x.cell (Page p)) (goes_on x p) (run.after p past high))
+      (λ (inside : p < to). both_false (is_page (x.cell (Page p))) (continues_range x p) (run.joined p (omega (arith, other)) inside))
+      (λ (past : to ≤ p). absent_begins (x.cell (Page p)) (continues_range x p) (run.after p past high))
       (cases_lt p to))
       (cases_lt p from)
 
@@ -71,7 +71,7 @@ module _ (pages from to : ℕ) (x : Context) (run : IsOneRun pages from to x) wh
 
 pub ranges-absent : (pages : ℕ) (x : Context) → ((p : ℕ) → p < pages → x.cell (Page p) ≡ Own None) → ranges pages x ≡ 0
 unfolding ranges begins_range
-ranges-absent pages x absent = count_none (begins_range x) 0 pages (λ p low high. absent_begins (x.cell (Page p)) (goes_on x p) (absent p (omega arith)))
+ranges-absent pages x absent = count_none (begins_range x) 0 pages (λ p low high. absent_begins (x.cell (Page p)) (continues_range x p) (absent p (omega arith)))
 
 plus_zero : (a : ℕ) → a ≡ a + 0
 plus_zero a = omega arith

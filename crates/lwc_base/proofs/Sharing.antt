@@ -14,7 +14,7 @@ use Rattle.lwc_base.specs.Fresh.{IsNamedGroup, NamesOldGroups, IsFresh}
 use Rattle.lwc_base.specs.Keys.{ValueOf, is_there}
 use Rattle.lwc_base.specs.Modes.{mode_or_copy}
 use Rattle.lwc_base.specs.Names.{name_cmp}
-use Rattle.lwc_base.specs.Sharing.{moves, moved_value, moved, needs_group, cell_after, left_common, share}
+use Rattle.lwc_base.specs.Sharing.{is_moved, moved_value, moved_values, needs_group, shared_cell, with_shared, share}
 use Rattle.lwc_base.specs.World.{World, Context, Group, Counters, is_live, context, group, change_context, add_group, next_group}
 use Rattle.lwc_base.proofs.Live.{same_name, values-change_context}
 use Rattle.lwc_base.proofs.Lookups.{name-itself, context-change_context, group-change_context, context-add_group, group-add_group}
@@ -32,7 +32,7 @@ absent_same v w g k value false is holds = refl
 
 -- a cell whose value has moved into a group has the value that it had
 value_of-moved : (v w : World) (g : Name) (k : Key) (mode : Mode) (cell : Cell (ValueOf k)) → (group v g).value k ≡ moved_value mode k cell →
-    ((h : Name) → cell ≡ Common h → group v h ≡ group w h) → value_of v k (cell_after g mode k cell) ≡ value_of w k cell
+    ((h : Name) → cell ≡ Common h → group v h ≡ group w h) → value_of v k (shared_cell g mode k cell) ≡ value_of w k cell
 value_of-moved v w g k Copy cell holds same = value_of-same v w k cell same
 value_of-moved v w g k Unmap cell holds same = value_of-same v w k cell same
 value_of-moved v w g k Share (Own value) holds same = absent_same v w g k value _ refl holds
@@ -45,14 +45,14 @@ common_after P g h false cell is here there = there is
 common_after P g h true cell is here there = let same : g ≡ h = cc in subst P same here
 
 -- the groups that a context names once its values have moved
-pub names_old-left_common : (next : ℕ → Counters) (g : Name) (items : List Item) (x : Context) → IsNamedGroup next g → NamesOldGroups next x → NamesOldGroups next (left_common g items x)
-unfolding left_common
-names_old-left_common next g items x named old k h is = common_after (IsNamedGroup next) g h (moves (mode_or_copy items k) k (x.cell k)) (x.cell k) is named (old k h)
+pub names_old-with_shared : (next : ℕ → Counters) (g : Name) (items : List Item) (x : Context) → IsNamedGroup next g → NamesOldGroups next x → NamesOldGroups next (with_shared g items x)
+unfolding with_shared
+names_old-with_shared next g items x named old k h is = common_after (IsNamedGroup next) g h (is_moved (mode_or_copy items k) k (x.cell k)) (x.cell k) is named (old k h)
 
 -- the world in which values have moved out of a context into a new group
 abbrev pub moved_into_group : World → Name → ℕ → List Item → World
 moved_into_group w c job items =
-    add_group (change_context w c (left_common (next_group w job) items)) job (moved items (context w c))
+    add_group (change_context w c (with_shared (next_group w job) items)) job (moved_values items (context w c))
 
 either_world : (P : World → Type 0) (b : Bool) (v w : World) → P v → P w → P (cond b v w)
 either_world P true v w with_group as_it_was = with_group
@@ -72,31 +72,31 @@ module _ (w : World) (c : Name) (job : ℕ) (items : List Item) where
   new = next_group w job
 
   abbrev pub values : Group
-  values = moved items (context w c)
+  values = moved_values items (context w c)
 
   abbrev pub left : World
-  left = change_context w c (left_common new items)
+  left = change_context w c (with_shared new items)
 
   abbrev pub later : World
   later = moved_into_group w c job items
 
   pub next-left : left.next ≡ w.next
-  next-left = (values-change_context w c (left_common new items)).next
+  next-left = (values-change_context w c (with_shared new items)).next
 
   pub next_group-left : next_group left job ≡ next_group w job
   next_group-left = ap (λ (n : ℕ → Counters). record { job = job; k = (n job).groups }) next-left
 
   pub context-moved : (d : Name) → context later d
-      ≡ cond (is_live w c && eq_by_cmp name_cmp d c) (left_common new items (context w d)) (context w d)
-  context-moved d = context-add_group _ job values d ∙ context-change_context w c (left_common new items) d
+      ≡ cond (is_live w c && eq_by_cmp name_cmp d c) (with_shared new items (context w d)) (context w d)
+  context-moved d = context-add_group _ job values d ∙ context-change_context w c (with_shared new items) d
 
   pub group-moved : (h : Name) → group later h ≡ cond (eq_by_cmp name_cmp h new) values (group w h)
   group-moved h =
       group-add_group left job values h
       ∙ (λ i. cond (eq_by_cmp name_cmp h (next_group-left i)) values
-      (group-change_context w c (left_common new items) h i))
+      (group-change_context w c (with_shared new items) h i))
 
-  pub group-moved-new : group later new ≡ moved items (context w c)
+  pub group-moved-new : group later new ≡ moved_values items (context w c)
   group-moved-new = group-moved new ∙ ap (λ b. cond b values (group w new)) (name-itself new)
 
   pub group-moved-old : (h : Name) → IsNamedGroup w.next h → group later h ≡ group w h
@@ -108,12 +108,12 @@ module _ (w : World) (c : Name) (job : ℕ) (items : List Item) where
 
   module _ (fresh : IsFresh w) where
     value_in_moved : (d : Name) (k : Key) (b : Bool) → (is_live w c && eq_by_cmp name_cmp d c) ≡ b →
-        value_of later k ((cond b (left_common new items (context w d)) (context w d)).cell k) ≡ value_of w k ((context w d).cell k)
-    unfolding left_common moved
+        value_of later k ((cond b (with_shared new items (context w d)) (context w d)).cell k) ≡ value_of w k ((context w d).cell k)
+    unfolding with_shared moved_values
     value_in_moved d k false other =
         value_of-same later w k ((context w d).cell k) (λ g is. group-moved-old g (names_old-context w d fresh k g is))
     value_in_moved d k true is =
-        subst (λ (e : Name). value_of later k ((left_common new items (context w e)).cell k) ≡ value_of w k ((context w e).cell k))
+        subst (λ (e : Name). value_of later k ((with_shared new items (context w e)).cell k) ≡ value_of w k ((context w e).cell k))
         (sym (same_there d _ refl is))
         (value_of-moved later w new k (mode_or_copy items k) ((context w c).cell k)
         (ap (λ (x : Group). x.value k) group-moved-new) (λ g is. group-moved-old g (names_old-context w c fresh k g is)))

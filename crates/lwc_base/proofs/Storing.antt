@@ -11,7 +11,7 @@ use Rattle.lwc_base.specs.Memory.{touched, is_present}
 use Rattle.lwc_base.proofs.Live.{count_on_as, values-put_pages}
 use Rattle.lwc_base.specs.Pages.{bytes_of}
 use Rattle.lwc_base.specs.Store.{Piece, Stored, Absent, Full, Done, bytes_after, plan, put_pages, stored_value, page_value_at, parting_count, after_store, store}
-use Rattle.lwc_base.specs.World.{World, Counters, count_on}
+use Rattle.lwc_base.specs.World.{World, Counters, change_counters}
 
 -- one page after others
 pub put_pages_push : (w : World) (c : Name) (vs : List (ℕ × PageValue)) (p : ℕ) (value : PageValue) →
@@ -83,12 +83,12 @@ parting_count-touched w c piece ps n touches is = is ∙ ap (count_by (λ p. is_
 pub after_store-steps : (w put counted : World) (c : Name) (job : ℕ) (piece : Piece) (ps : List ℕ) (values : List (ℕ × PageValue)) (n : Counters) (parting : ℕ) →
     ps ≡ touched piece.at (length piece.bytes) → values ≡ plan w c job piece (w.next job).tags ps → put ≡ put_pages w c values →
     w.next job ≡ n → parting ≡ parting_count w c piece →
-    counted ≡ count_on put job (λ _. record n { tags = n.tags + parting }) → counted ≡ after_store w c job piece
+    counted ≡ change_counters put job (λ _. record n { tags = n.tags + parting }) → counted ≡ after_store w c job piece
 unfolding after_store
 after_store-steps w put counted c job piece ps values n parting touches plans puts had parts counts =
     let planned : List (ℕ × PageValue) = plan w c job piece (w.next job).tags (touched piece.at (length piece.bytes)) in
     let put_is : put ≡ put_pages w c planned = puts ∙ ap (put_pages w c) (plans ∙ ap (plan w c job piece (w.next job).tags) touches) in
     let change : Counters → Counters = λ m. record m { tags = m.tags + parting_count w c piece } in
     counts
-    ∙ (λ i. count_on (put_is i) job (λ _. record n { tags = n.tags + parts i }))
+    ∙ (λ i. change_counters (put_is i) job (λ _. record n { tags = n.tags + parts i }))
     ∙ count_on_as (put_pages w c planned) job change _ (ap change (ap (λ (next : ℕ → Counters). next job) (values-put_pages w c planned).next ∙ had))

@@ -1,7 +1,6 @@
 pub mod Capabilities
 pub mod Cells
 pub mod Clones
-pub mod Counts
 pub mod Faults
 pub mod Frames
 pub mod Fresh
@@ -11,7 +10,6 @@ pub mod Memory
 pub mod Modes
 pub mod Names
 pub mod Pages
-pub mod Paired
 pub mod Ranges
 pub mod Refusals
 pub mod Registers

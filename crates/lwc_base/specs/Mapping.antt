@@ -8,21 +8,29 @@ use Rattle.lwc_base.specs.declared.name.Name.{Name}
 use Rattle.lwc_base.specs.declared.page.PageValue.{PageValue}
 use Rattle.lwc_base.specs.declared.page.PageValue.TheVariants.{Zero}
 use Rattle.lwc_base.specs.Keys.{ValueOf}
-use Rattle.lwc_base.specs.World.{World, change_context}
+use Rattle.lwc_base.specs.World.{World, Context, change_context}
 
--- the cells of a context with another cell under each page from one up to and without another
+-- the cells of a context with another cell under each page of a range
 abbrev pub on_pages : ℕ → ℕ → Cell (Option PageValue) → ((k : Key) → Cell (ValueOf k)) → (k : Key) → Cell (ValueOf k)
 on_pages from to cell old (Page p) = if nat_le from p && nat_lt p to then cell else old (Page p)
 on_pages from to cell old k = old k
 
--- each page from one up to and without another becomes a page of zeros of the context's own, whatever it was
+-- a context in which each page of a range is a page of zeros of its own, whatever it was
+abbrev pub with_zeros : ℕ → ℕ → Context → Context
+with_zeros from to x = record x { cell = on_pages from to (Own (Some Zero)) x.cell }
+
+-- a context in which each page of a range is absent, whatever it was
+abbrev pub without_pages : ℕ → ℕ → Context → Context
+without_pages from to x = record x { cell = on_pages from to (Own None) x.cell }
+
+-- the pages from one up to and without another become pages of zeros of the context's own
 unfoldable pub map_pages : World → Name → ℕ → ℕ → World
-map_pages w c from to = change_context w c (λ x. record x { cell = on_pages from to (Own (Some Zero)) x.cell })
+map_pages w c from to = change_context w c (with_zeros from to)
 
--- each page from one up to and without another becomes absent, whatever it was
+-- the pages from one up to and without another become absent
 unfoldable pub unmap_pages : World → Name → ℕ → ℕ → World
-unmap_pages w c from to = change_context w c (λ x. record x { cell = on_pages from to (Own None) x.cell })
+unmap_pages w c from to = change_context w c (without_pages from to)
 
--- the pages from one up to and without another become present or absent
+-- the pages of a range become present or absent
 abbrev pub mapped_or_not : World → Name → ℕ → ℕ → Bool → World
 mapped_or_not w c from to present = if present then map_pages w c from to else unmap_pages w c from to

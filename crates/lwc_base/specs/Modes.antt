@@ -10,7 +10,7 @@ use Rattle.lwc_base.specs.declared.key.Key.{Key}
 use Rattle.lwc_base.specs.declared.key.Key.TheVariants as key
 use Rattle.lwc_base.specs.declared.key.Kind.{Kind}
 use Rattle.lwc_base.specs.declared.key.Kind.TheVariants as kind
-use Rattle.lwc_base.specs.declared.spec.TheConstants.{MOST_ITEMS}
+use Rattle.lwc_base.specs.declared.limits.TheConstants.{MOST_ITEMS}
 
 -- what a key is of
 abbrev pub kind_of : Key → Kind

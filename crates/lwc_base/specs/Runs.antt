@@ -2,7 +2,7 @@
 use Rattle.std.specs.Prelude.{◌≡◌, ℕ, ◌<◌, ◌≤◌, None, true}
 use Rattle.lwc_base.specs.declared.cell.Cell.TheVariants.{Own}
 use Rattle.lwc_base.specs.declared.key.Key.TheVariants.{Page}
-use Rattle.lwc_base.specs.Ranges.{goes_on, is_page}
+use Rattle.lwc_base.specs.Ranges.{continues_range, has_page}
 use Rattle.lwc_base.specs.World.{Context}
 
 -- of so many pages just those from one up to and without another are present, and each but the first goes on from the one before
@@ -10,6 +10,6 @@ pub record IsOneRun (pages from to : ℕ) (x : Context) : Type 0 where
   pub some : from < to
   pub within : to ≤ pages
   pub before : (p : ℕ) → p < from → x.cell (Page p) ≡ Own None
-  pub inside : (p : ℕ) → from ≤ p → p < to → is_page (x.cell (Page p)) ≡ true
+  pub inside : (p : ℕ) → from ≤ p → p < to → has_page x p ≡ true
   pub after : (p : ℕ) → to ≤ p → p < pages → x.cell (Page p) ≡ Own None
-  pub joined : (p : ℕ) → from < p → p < to → goes_on x p ≡ true
+  pub joined : (p : ℕ) → from < p → p < to → continues_range x p ≡ true

@@ -17,66 +17,66 @@ use Rattle.lwc_base.specs.Modes.{mode_or_copy}
 use Rattle.lwc_base.specs.Ranges.{ranges, ranges_of}
 use Rattle.lwc_base.specs.World.{World, Context, Group, context, change_context, add_context, add_group, next_group}
 
--- whether a cell is a context's own, and something is there
+-- whether a cell is the context's own and a value is there
 abbrev pub has_own : (k : Key) → Cell (ValueOf k) → Bool
 has_own k (Own value) = is_there k value
 has_own k (Common g) = false
 
--- whether what is under a key moves into a group, by the mode of the key: it does under share, where it is the context's own
-abbrev pub moves : Mode → (k : Key) → Cell (ValueOf k) → Bool
-moves Copy k cell = false
-moves Share k cell = has_own k cell
-moves Unmap k cell = false
+-- whether the value of a cell moves into a group: under share it does, where it is the context's own
+abbrev pub is_moved : Mode → (k : Key) → Cell (ValueOf k) → Bool
+is_moved Copy k cell = false
+is_moved Share k cell = has_own k cell
+is_moved Unmap k cell = false
 
--- the value that a group gets under a key: what is under share, and the context's own
+-- the value that a group gets under a key: the context's own under share, and else nothing
 abbrev pub moved_value : Mode → (k : Key) → Cell (ValueOf k) → ValueOf k
 moved_value Share k (Own value) = value
 moved_value _ k _ = nothing k
 
--- the values that items move out of a context, and into a group
-unfoldable pub moved : List Item → Context → Group
-moved items x = record { value = λ k. moved_value (mode_or_copy items k) k (x.cell k) }
+-- the group of the values that items move out of a context
+unfoldable pub moved_values : List Item → Context → Group
+moved_values items x = record { value = λ k. moved_value (mode_or_copy items k) k (x.cell k) }
 
--- whether one of the keys that there are, with so many pages, passes
+-- whether a test holds of a key of a context with this number of pages
 unfoldable pub any_key : ℕ → (Key → Bool) → Bool
 any_key pages test =
     list_any (λ p. test (Page p)) (range_with_len 0 pages) || list_any (λ n. test (Slot n)) (range_with_len 0 SLOTS) || test Cred
 
 -- whether items need a group: they move a value out of the context
 unfoldable pub needs_group : World → Name → List Item → Bool
-needs_group w c items = any_key w.size.pages (λ k. moves (mode_or_copy items k) k ((context w c).cell k))
+needs_group w c items = any_key w.size.pages (λ k. is_moved (mode_or_copy items k) k ((context w c).cell k))
 
--- a cell whose value moves into a group is common; another stays
-abbrev pub cell_after : Name → Mode → (k : Key) → Cell (ValueOf k) → Cell (ValueOf k)
-cell_after g mode k cell = if moves mode k cell then Common g else cell
+-- a cell after sharing: common of the group where its value moved, and else as it was
+abbrev pub shared_cell : Name → Mode → (k : Key) → Cell (ValueOf k) → Cell (ValueOf k)
+shared_cell g mode k cell = if is_moved mode k cell then Common g else cell
 
 -- a context whose values have moved into a group
-unfoldable pub left_common : Name → List Item → Context → Context
-left_common g items x = record x { cell = λ k. cell_after g (mode_or_copy items k) k (x.cell k) }
+unfoldable pub with_shared : Name → List Item → Context → Context
+with_shared g items x = record x { cell = λ k. shared_cell g (mode_or_copy items k) k (x.cell k) }
 
 -- a context's own values under share move into one new group of the job, if there are any
 unfoldable pub share : World → Name → ℕ → List Item → World
 share w c job items =
     if needs_group w c items
-    then add_group (change_context w c (left_common (next_group w job) items)) job (moved items (context w c))
+    then add_group (change_context w c (with_shared (next_group w job) items)) job (moved_values items (context w c))
     else w
 
--- the cell that a new context gets by a mode: under copy a value of its own, under share the same cell, under unmap nothing
-abbrev pub cloned : World → Name → (k : Key) → Mode → Cell (ValueOf k)
-cloned w c k Copy = Own (value_at w c k)
-cloned w c k Share = (context w c).cell k
-cloned w c k Unmap = Own (nothing k)
+-- a cell of a new context by its mode: under copy a value of its own, under share the same cell, under unmap nothing
+abbrev pub cloned_cell : World → Name → (k : Key) → Mode → Cell (ValueOf k)
+cloned_cell w c k Copy = Own (value_at w c k)
+cloned_cell w c k Share = (context w c).cell k
+cloned_cell w c k Unmap = Own (nothing k)
 
--- the new context by a list of items, with the registers that it begins with: it keeps none for any thread
-unfoldable pub clone : World → Name → List Item → Regs → Context
-clone w c items entry = record { cell = λ k. cloned w c k (mode_or_copy items k); entry = entry; saved = λ t. None }
+-- a new context by a list of items, with the registers that it begins with; it has no saved registers
+unfoldable pub cloned_context : World → Name → List Item → Regs → Context
+cloned_context w c items entry = record { cell = λ k. cloned_cell w c k (mode_or_copy items k); entry = entry; saved = λ t. None }
 
--- a job makes a new context from another: first what is under share moves, then the new one is made
+-- a job makes a new context from another: first the values under share move, then the new context is added
 unfoldable pub clone_context : World → Name → ℕ → List Item → Regs → World
-clone_context w c job items entry = let s = share w c job items in add_context s job (clone s c items entry)
+clone_context w c job items entry = let s = share w c job items in add_context s job (cloned_context s c items entry)
 
--- how many ranges a context and the new one have once a job has made it, in this order
+-- the numbers of ranges of a context and of the new one after a job has made it, in this order
 unfoldable pub ranges_after_clone : World → Name → ℕ → List Item → ℕ × ℕ
 ranges_after_clone w c job items =
     let s = share w c job items in
-    (ranges_of s c, ranges s.size.pages (clone s c items (context s c).entry))
+    (ranges_of s c, ranges s.size.pages (cloned_context s c items (context s c).entry))

@@ -10,7 +10,7 @@ use Rattle.lwc_base.specs.Cells.{page_at, put_page}
 use Rattle.lwc_base.specs.Frames.{is_parting, used}
 use Rattle.lwc_base.specs.Memory.{touched, is_present}
 use Rattle.lwc_base.specs.Pages.{bytes_of}
-use Rattle.lwc_base.specs.World.{World, count_on}
+use Rattle.lwc_base.specs.World.{World, change_counters}
 
 -- bytes that are stored: what they are, and the address of the first
 pub record Piece : Type 0 where
@@ -61,7 +61,7 @@ parting_count w c piece = count_by (λ p. is_parting w (page_value_at w c p)) (t
 -- the world once a piece is there: each touched page has its new value, and the job has taken a tag for each that parted
 unfoldable pub after_store : World → Name → ℕ → Piece → World
 after_store w c job piece =
-    count_on (put_pages w c (plan w c job piece (w.next job).tags (touched piece.at (length piece.bytes)))) job
+    change_counters (put_pages w c (plan w c job piece (w.next job).tags (touched piece.at (length piece.bytes)))) job
     (λ n. record n { tags = n.tags + parting_count w c piece })
 
 -- the store of a piece in a context, for a job

@@ -81,8 +81,8 @@ unfoldable pub change_group : World → Name → (Group → Group) → World
 change_group w g change = changed_group w g change (fm.get w.groups g)
 
 -- what a job has counted is changed
-unfoldable pub count_on : World → ℕ → (Counters → Counters) → World
-count_on w job change = record w { next = λ j. if j == job then change (w.next j) else w.next j }
+unfoldable pub change_counters : World → ℕ → (Counters → Counters) → World
+change_counters w job change = record w { next = λ j. if j == job then change (w.next j) else w.next j }
 
 -- a world of so many frames and pages, without contexts and groups, in which nothing has been counted
 unfoldable pub empty_world : WorldSize → World
@@ -100,7 +100,7 @@ next_context w job = record { job = job; k = (w.next job).contexts }
 -- the job makes its next context, which is this one
 unfoldable pub add_context : World → ℕ → Context → World
 add_context w job x =
-    count_on (record w { contexts = fm.insert w.contexts (next_context w job) x }) job (λ n. record n { contexts = n.contexts + 1 })
+    change_counters (record w { contexts = fm.insert w.contexts (next_context w job) x }) job (λ n. record n { contexts = n.contexts + 1 })
 
 -- the next name of a job's groups
 abbrev pub next_group : World → ℕ → Name
@@ -109,7 +109,7 @@ next_group w job = record { job = job; k = (w.next job).groups }
 -- the job makes its next group, which is this one
 unfoldable pub add_group : World → ℕ → Group → World
 add_group w job x =
-    count_on (record w { groups = fm.insert w.groups (next_group w job) x }) job (λ n. record n { groups = n.groups + 1 })
+    change_counters (record w { groups = fm.insert w.groups (next_group w job) x }) job (λ n. record n { groups = n.groups + 1 })
 
 -- how many live contexts bear a job
 unfoldable pub live_of : World → ℕ → ℕ

@@ -3,9 +3,6 @@ use crate::name::Name;
 /// How many slots a context has.
 pub const SLOTS: u8 = 64;
 
-/// How many pages an access capability tells of.
-pub const CAP_PAGES: u32 = 1024;
-
 /// An access capability: the set of keys that may be taken from a context. Page p is bit p mod 64 of
 /// `pages[p / 64]`, slot n is bit n of `slots`, and the credential is `cred`.
 #[derive(Clone, Copy, Debug, PartialEq, Eq)]

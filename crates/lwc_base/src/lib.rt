@@ -4,12 +4,12 @@
 pub mod answer;
 pub mod cell;
 pub mod channels;
-pub mod counts;
 pub mod descriptor;
 pub mod fault;
 pub mod item;
 pub mod key;
 pub mod laws;
+pub mod limits;
 pub mod memory;
 pub mod name;
 pub mod page;
@@ -19,23 +19,25 @@ pub mod regs;
 pub mod sequence;
 pub mod size;
 pub mod spec;
-pub mod steps;
 
 pub use answer::Answer;
 pub use cell::Cell;
 pub use channels::{FileImage, Requests};
-pub use counts::Counts;
-pub use descriptor::{CAP_PAGES, Cap, Descriptor, SLOTS};
+pub use descriptor::{Cap, Descriptor, SLOTS};
 pub use fault::{Fault, ThreadStatus};
 pub use item::{Item, Mode};
 pub use key::{Key, Kind, NOBODY};
+pub use limits::{
+    MOST_BUDGET, MOST_CONTEXTS, MOST_CONTEXTS_OF_JOB, MOST_FILE_BYTES, MOST_FILES, MOST_FRAMES,
+    MOST_GROUPS, MOST_GROUPS_OF_JOB, MOST_IMAGE_BYTES, MOST_IMAGE_SLOTS, MOST_INSTRUCTIONS,
+    MOST_ITEMS, MOST_JOBS, MOST_PAGES, MOST_RANGES, MOST_SCHEDULE_BYTES, MOST_STEPS, MOST_THREADS,
+};
 pub use memory::OutOfMemory;
 pub use name::{Name, Tag};
-pub use page::{MOST_PAGES, PAGE_BYTES, PageBytes, PageValue};
-pub use range::{MOST_RANGES, Range};
+pub use page::{PAGE_BYTES, PageBytes, PageValue};
+pub use range::Range;
 pub use refusal::Refusal;
 pub use regs::Regs;
 pub use sequence::Sequence;
-pub use size::{MOST_CONTEXTS_OF_JOB, MOST_GROUPS_OF_JOB, StoreFault, Summary, WorldSize};
-pub use spec::{MOST_ITEMS, Spec};
-pub use steps::Steps;
+pub use size::{StoreFault, Summary, WorldSize};
+pub use spec::Spec;

@@ -10,9 +10,6 @@ use std::marker::Model;
 /// How many bytes a page has.
 pub const PAGE_BYTES: usize = 4096;
 
-/// The most pages that a context of any world may have.
-pub const MOST_PAGES: u32 = 16384;
-
 /// The bytes of one page, seen as a list of 4096 numbers.
 #[derive(Debug, Drop)]
 pub struct PageBytes {

@@ -1,9 +1,3 @@
-/// The most live contexts that bear one job.
-pub const MOST_CONTEXTS_OF_JOB: u32 = 32;
-
-/// The most live groups that bear one job.
-pub const MOST_GROUPS_OF_JOB: u32 = 64;
-
 /// How large a world is: its frames, the most contexts and groups that live at once, its jobs, and its pages.
 #[derive(Clone, Copy, Debug, PartialEq, Eq)]
 pub struct WorldSize {

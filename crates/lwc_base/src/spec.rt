@@ -1,14 +1,11 @@
 ghost use Rattle.std.specs.Prelude.{◌≡◌, ◌<◌, ◌≤◌, ◌++◌, ◌∷◌, [], All, length};
 ghost use Rattle.lwc_base.specs.Modes.{AreApart, IsItem, IsSpec};
-ghost use Rattle.lwc_base.specs.declared.page.TheConstants.{MOST_PAGES};
-ghost use Rattle.lwc_base.specs.declared.spec.TheConstants.{MOST_ITEMS};
+ghost use Rattle.lwc_base.specs.declared.limits.TheConstants.{MOST_ITEMS, MOST_PAGES};
 
 use crate::item::Item;
+use crate::limits::{MOST_ITEMS, MOST_PAGES};
 use arrayvec::ArrayVec;
 use std::marker::Model;
-
-/// The most items of a specifier.
-pub const MOST_ITEMS: usize = 32;
 
 /// A resource specifier: at most 32 items, each within the limit of its kind, no two with a key in common. It is
 /// seen as the list of its items.
@@ -21,7 +18,7 @@ impl Model for Spec {
     ghost use Rattle.std.specs.Prelude.{List};
     ghost use Rattle.lwc_base.specs.Modes.{IsSpec};
     ghost use Rattle.lwc_base.specs.declared.item.Item.{Item};
-    ghost use Rattle.lwc_base.specs.declared.page.TheConstants.{MOST_PAGES};
+    ghost use Rattle.lwc_base.specs.declared.limits.TheConstants.{MOST_PAGES};
 
     ghost Value = { List Item };
 

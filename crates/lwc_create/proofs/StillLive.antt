@@ -7,8 +7,8 @@ use Rattle.lwc_base.specs.declared.item.Item.{Item}
 use Rattle.lwc_base.specs.declared.name.Name.{Name}
 use Rattle.lwc_base.specs.declared.regs.Regs.{Regs}
 use Rattle.lwc_base.specs.Names.{name_cmp}
-use Rattle.lwc_base.specs.Sharing.{clone_context, left_common, moved, needs_group, share}
-use Rattle.lwc_base.specs.World.{World, Context, add_context, add_group, change_context, changed_context, context, count_on, is_live, next_group}
+use Rattle.lwc_base.specs.Sharing.{clone_context, with_shared, moved_values, needs_group, share}
+use Rattle.lwc_base.specs.World.{World, Context, add_context, add_group, change_context, changed_context, context, change_counters, is_live, next_group}
 use Rattle.lwc_base.proofs.Orders.{name_cmp-total}
 
 -- what is there, where it was or something else stands for it
@@ -33,13 +33,13 @@ live_in_either w v q false here there = here
 
 -- a context still lives once values have moved into a group
 live_after_share : (w : World) (c : Name) (job : ℕ) (items : List Item) (q : Name) → is_live w q ≡ true → is_live (share w c job items) q ≡ true
-unfolding share add_group count_on change_context
+unfolding share add_group change_counters change_context
 live_after_share w c job items q e =
-    live_in_either w (add_group (change_context w c (left_common (next_group w job) items)) job (moved items (context w c))) q (needs_group w c items)
-    e (live_after_change w c (left_common (next_group w job) items) (fm.get w.contexts c) q e)
+    live_in_either w (add_group (change_context w c (with_shared (next_group w job) items)) job (moved_values items (context w c))) q (needs_group w c items)
+    e (live_after_change w c (with_shared (next_group w job) items) (fm.get w.contexts c) q e)
 
 -- a context still lives once another is made of one
 pub live_after_clone : (w : World) (c : Name) (job : ℕ) (items : List Item) (entry : Regs) (q : Name) → is_live w q ≡ true →
     is_live (clone_context w c job items entry) q ≡ true
-unfolding clone_context add_context count_on
+unfolding clone_context add_context change_counters
 live_after_clone w c job items entry q e = live_after_insert _ _ _ q (live_after_share w c job items q e)

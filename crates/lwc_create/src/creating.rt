@@ -5,7 +5,7 @@ ghost use Rattle.lwc_base.specs.Sharing.{needs_group, ranges_after_clone};
 ghost use Rattle.lwc_base.specs.Slots.{lowest_empty};
 ghost use Rattle.lwc_base.specs.World.{groups_of, live_of};
 ghost use Rattle.lwc_base.specs.declared.descriptor.TheConstants.{CAP_PAGES};
-ghost use Rattle.lwc_base.specs.declared.size.TheConstants.{MOST_CONTEXTS_OF_JOB, MOST_GROUPS_OF_JOB};
+ghost use Rattle.lwc_base.specs.declared.limits.TheConstants.{MOST_CONTEXTS_OF_JOB, MOST_GROUPS_OF_JOB};
 ghost use Rattle.lwc_create.specs.Faults.{refusal_of};
 ghost use Rattle.lwc_create.specs.Create as call;
 ghost use Rattle.world_face.specs.Calls.{AreFew, HasGroupPlace, HasPlace, IsLive, MayName};

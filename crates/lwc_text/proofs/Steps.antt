@@ -9,7 +9,7 @@ use Rattle.std.specs.Option.{option_map}
 use Rattle.lwc_text.specs.declared.fault.InputFault.{InputFault}
 use Rattle.lwc_text.specs.declared.fault.InputFault.TheVariants as faults
 use Rattle.lwc_text.specs.declared.fault.InputRule.{InputRule}
-use Rattle.kernel_core.specs.declared.settings.TheConstants.{MOST_STEPS}
+use Rattle.lwc_base.specs.declared.limits.TheConstants.{MOST_STEPS}
 use Rattle.lwc_text.specs.declared.schedule.TheConstants.{MOST_BYTES}
 use Rattle.lwc_text.specs.Inputs.{Refused, Fails, IsFound}
 use Rattle.lwc_text.specs.Schedules.{IsSchedule, digit_number, is_blank, names_thread, numbers, refusal_at, refusal_of, refusals, rule_broken, schedule_at, unless_refused}

@@ -4,7 +4,7 @@ use Rattle.std.specs.Option.{option_map, option_map_or}
 use Rattle.std.specs.List.{filter_map, range_with_len}
 use Rattle.lwc_text.specs.declared.fault.InputRule.{InputRule}
 use Rattle.lwc_text.specs.declared.fault.InputRule.TheVariants.{TooLong, BadThread, TooManySteps}
-use Rattle.kernel_core.specs.declared.settings.TheConstants.{MOST_STEPS}
+use Rattle.lwc_base.specs.declared.limits.TheConstants.{MOST_STEPS}
 use Rattle.lwc_text.specs.declared.schedule.TheConstants.{MOST_BYTES}
 use Rattle.lwc_text.specs.Inputs.{Refused}
 

@@ -3,7 +3,7 @@
 ghost use Rattle.std.specs.Prelude.{◌≡◌, ◌≤◌, ◌<◌, ◌++◌, ◌∷◌, ℕ, List, [], ◌↔◌, IsTrue, length, All, slice_get, IfOk, IfErr, OnOk, Some, None, Ok};
 ghost use Rattle.lwc_text.specs.Inputs.{Answers, Fails, IsFound};
 ghost use Rattle.lwc_text.specs.Schedules.{IsSchedule, digit_number, is_blank, names_thread, numbers, refusal_of, refusals, rule_broken, schedule_at, unless_refused};
-ghost use Rattle.kernel_core.specs.declared.settings.TheConstants.{MOST_STEPS};
+ghost use Rattle.lwc_base.specs.declared.limits.TheConstants.{MOST_STEPS};
 ghost use Rattle.std.specs.Option.{option_map};
 
 use crate::fault::{InputFault, InputRule};
@@ -22,7 +22,6 @@ pub struct Schedule {
 
 impl Model for Schedule {
     ghost use Rattle.std.specs.Prelude.{ℕ, ◌≤◌, ◌<◌, List, All, length};
-    ghost use Rattle.kernel_core.specs.declared.settings.TheConstants.{MOST_STEPS};
 
     ghost Value = { List ℕ };
 

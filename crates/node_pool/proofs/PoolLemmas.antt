@@ -2,9 +2,9 @@
 use Rattle.std.proofs.Common.{◌≡◌, ℕ, ◌<◌, ◌≤◌, ⊎_elim, cond, eqb, List, [], length, get_or, set, refl, sym, ◌∙◌, ap, arith}
 use Rattle.std.proofs.lemmas.List.{set-get_or, get_or_past}
 use Rattle.std.proofs.lemmas.Bool.{cases_lt}
-use Rattle.lwc_base.specs.Counts.{free_count}
-use Rattle.lwc_base.proofs.StackLemmas.{held-inside}
-use Rattle.lwc_base.proofs.PairedLemmas.{length-paired, get_or-paired, paired-set, sum_by-paired}
+use Rattle.pool_base.specs.Counts.{free_count}
+use Rattle.pool_base.proofs.StackLemmas.{held-inside}
+use Rattle.pool_base.proofs.PairedLemmas.{length-paired, get_or-paired, paired-set, sum_by-paired}
 use Rattle.node_pool.specs.declared.pool.NodeContent.{NodeContent}
 use Rattle.node_pool.specs.Nodes.{Node, no_node, node_at, count_of, recount, enter, entered, free_of}
 use Rattle.node_pool.specs.View.{seen_node, seen_nodes}

@@ -1,6 +1,6 @@
 -- What a pool keeps, seen as the list of its nodes.
 use Rattle.std.specs.Prelude.{ℕ, List}
-use Rattle.lwc_base.specs.Paired.{paired}
+use Rattle.pool_base.specs.Paired.{paired}
 use Rattle.node_pool.specs.declared.pool.NodeContent.{NodeContent}
 use Rattle.node_pool.specs.Nodes.{Node}
 

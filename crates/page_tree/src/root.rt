@@ -8,7 +8,7 @@ ghost use Rattle.page_tree.specs.Changes.{Keeps};
 ghost use Rattle.page_tree.specs.Steps.{IsOwned, PutsLeaf, LinksAll, OwnsRoot, root_short, tree_of};
 
 use crate::store::{ROOT_LEVEL, Store};
-use lwc_base::Steps;
+use pool_base::Steps;
 use node_pool::{NODE_ENTRIES, NodeNo};
 use std::sync::ledger::Ledger;
 

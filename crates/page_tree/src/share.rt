@@ -7,7 +7,7 @@ ghost use Rattle.page_tree.specs.Steps.{IsOwned, IsApart, IsRooted, OwnsLeaf, Pu
 
 use crate::cell::{PageCell, cell_from};
 use crate::store::Store;
-use lwc_base::Steps;
+use pool_base::Steps;
 use node_pool::{NODE_ENTRIES, NodeNo};
 use std::sync::ledger::Ledger;
 

@@ -8,7 +8,8 @@ ghost use Rattle.page_tree.specs.Steps.{HoldsMore, HoldsLess, IsOwned, IsLeaf, I
 
 use crate::cell::{PageCell, cell_from, entry_from};
 use frame_pool::Pool;
-use lwc_base::{OutOfMemory, Steps};
+use lwc_base::OutOfMemory;
+use pool_base::Steps;
 use node_pool::{NODE_ENTRIES, NodeNo, NodePool};
 use std::alloc::Global;
 use std::sync::ledger::Ledger;

@@ -10,7 +10,7 @@ use Rattle.std.specs.List.{All, AllPairs, list_any}
 use Rattle.lwc_base.specs.Modes.{AreApart, IsItem, IsSpec, limit, overlaps}
 use Rattle.lwc_base.specs.declared.item.Item.{Item}
 use Rattle.lwc_base.specs.declared.key.Kind.{Kind}
-use Rattle.lwc_base.specs.declared.spec.TheConstants.{MOST_ITEMS}
+use Rattle.lwc_base.specs.declared.limits.TheConstants.{MOST_ITEMS}
 use Rattle.lwc_base.specs.declared.key.Kind.TheVariants.{Page, Slot, Cred}
 use Rattle.res_spec.specs.Items.{all_within, has_overlap}
 

@@ -2,8 +2,7 @@ ghost use Rattle.std.specs.Prelude.{◌≡◌, ◌<◌, ◌≤◌, ◌+◌, ◌*
 ghost use Rattle.std.specs.List.{list_any};
 ghost use Rattle.lwc_base.specs.Modes as modes;
 ghost use Rattle.lwc_base.specs.Modes.{IsSpec};
-ghost use Rattle.lwc_base.specs.declared.page.TheConstants.{MOST_PAGES};
-ghost use Rattle.lwc_base.specs.declared.spec.TheConstants.{MOST_ITEMS};
+ghost use Rattle.lwc_base.specs.declared.limits.TheConstants.{MOST_ITEMS, MOST_PAGES};
 ghost use Rattle.res_spec.specs.Items as grammar;
 ghost use Rattle.res_spec.specs.Items.{read};
 

@@ -4,7 +4,7 @@ use Rattle.std.specs.FinMap as fm
 use Rattle.std.proofs.lemmas.Bool.Decides.{nat_tests}
 use Rattle.lwc_base.specs.declared.name.Name.{Name}
 use Rattle.lwc_base.specs.Fresh.{IsFresh, NamesOldGroups}
-use Rattle.lwc_base.specs.World.{World, Context, Counters, count_on, add_context, is_live, next_context}
+use Rattle.lwc_base.specs.World.{World, Context, Counters, change_counters, add_context, is_live, next_context}
 use Rattle.lwc_base.proofs.Fresh.{Rises, names_old-rises, next_context-new}
 
 eqb-itself : (n : ℕ) → eqb n n ≡ true
@@ -18,14 +18,14 @@ rises_at : (b : Bool) (n : Counters) → Rises n (cond b (record n { contexts = 
 rises_at true n = record { contexts = omega arith; groups = omega arith }
 rises_at false n = record { contexts = omega arith; groups = omega arith }
 
-module _ (w counted : World) (job : ℕ) (is_counted : counted ≡ count_on w job (λ n. record n { contexts = n.contexts + 1 })) where
+module _ (w counted : World) (job : ℕ) (is_counted : counted ≡ change_counters w job (λ n. record n { contexts = n.contexts + 1 })) where
   -- no context is there that was not
   pub same_contexts : counted.contexts ≡ w.contexts
-  unfolding count_on
+  unfolding change_counters
   same_contexts = ap (λ (v : World). v.contexts) is_counted
 
   pub counted-pages : counted.pages ≡ w.pages
-  unfolding count_on
+  unfolding change_counters
   counted-pages = ap (λ (v : World). v.pages) is_counted
 
   -- the next name is still new
@@ -33,7 +33,7 @@ module _ (w counted : World) (job : ℕ) (is_counted : counted ≡ count_on w jo
   counted-dead c fresh is = ap (λ m. fm.contains_key m c) same_contexts ∙ ap (is_live w) is ∙ next_context-new w job fresh
 
   next_is : (j : ℕ) → counted.next j ≡ cond (eqb j job) (record (w.next j) { contexts = (w.next j).contexts + 1 }) (w.next j)
-  unfolding count_on
+  unfolding change_counters
   next_is j = ap (λ (v : World). v.next j) is_counted
 
   -- and has been counted now
@@ -48,8 +48,8 @@ module _ (w counted : World) (job : ℕ) (is_counted : counted ≡ count_on w jo
 
 -- the world once it is put in
 pub add_context-counted : (w counted added : World) (job : ℕ) (c : Name) (x : Context) → c ≡ next_context w job →
-    counted ≡ count_on w job (λ n. record n { contexts = n.contexts + 1 }) → added ≡ record counted { contexts = fm.insert counted.contexts c x } →
+    counted ≡ change_counters w job (λ n. record n { contexts = n.contexts + 1 }) → added ≡ record counted { contexts = fm.insert counted.contexts c x } →
     added ≡ add_context w job x
-unfolding add_context count_on
+unfolding add_context change_counters
 add_context-counted w counted added job c x named is_counted is_added =
     is_added ∙ (λ i. record (is_counted i) { contexts = fm.insert (is_counted i).contexts (named i) x })

@@ -22,7 +22,7 @@ use Rattle.lwc_base.specs.Cells.{value_at, value_of}
 use Rattle.lwc_base.specs.Fresh.{IsFresh, NamesOldGroups}
 use Rattle.lwc_base.specs.Keys.{nothing}
 use Rattle.lwc_base.specs.Modes.{IsSpec, kind_of, limit, mode_or_copy, number_of}
-use Rattle.lwc_base.specs.Sharing.{cell_after, clone, clone_context, cloned, left_common, share}
+use Rattle.lwc_base.specs.Sharing.{shared_cell, cloned_context, clone_context, cloned_cell, with_shared, share}
 use Rattle.lwc_base.specs.World.{World, Context, add_context, context, is_live, next_context, next_group}
 use Rattle.lwc_base.proofs.Cloning.{contexts-share, fresh-share, len_contexts-share, names_old-clone, next_context-share, pages-share}
 use Rattle.lwc_base.proofs.Sharing.{value_at-share}
@@ -57,11 +57,11 @@ whole-made held count f g pages slots =
     record { pages = grind (arith, common_steps); slots = grind (arith, common_steps) }
 
 -- a cell that is there and under share is common
-pub slot_in_common : (g : Name) (n : ℕ) (cell : Cell Descriptor) → in_common g cell ≡ cell_after g Share (Slot n) cell
+pub slot_in_common : (g : Name) (n : ℕ) (cell : Cell Descriptor) → in_common g cell ≡ shared_cell g Share (Slot n) cell
 slot_in_common g n (Own value) = refl
 slot_in_common g n (Common h) = refl
 
-pub uid_in_common : (g : Name) (cell : Cell ℕ) → in_common g cell ≡ cell_after g Share Cred cell
+pub uid_in_common : (g : Name) (cell : Cell ℕ) → in_common g cell ≡ shared_cell g Share Cred cell
 uid_in_common g (Own value) = refl
 uid_in_common g (Common h) = refl
 
@@ -72,17 +72,17 @@ module _ (w : World) (c : Name) (job : ℕ) (items : List Item) (fresh : IsFresh
   abbrev new : Name
   new = next_group w job
 
-  pub key_copied : (k : Key) → mode_or_copy items k ≡ Copy → Own (value_at w c k) ≡ cloned shared c k (mode_or_copy items k)
-  key_copied k is = sym (ap (cloned shared c k) is ∙ ap Own (value_at-share w c job items fresh c k))
+  pub key_copied : (k : Key) → mode_or_copy items k ≡ Copy → Own (value_at w c k) ≡ cloned_cell shared c k (mode_or_copy items k)
+  key_copied k is = sym (ap (cloned_cell shared c k) is ∙ ap Own (value_at-share w c job items fresh c k))
 
-  pub key_shared : (k : Key) → mode_or_copy items k ≡ Share → cell_after new Share k ((context w c).cell k) ≡ cloned shared c k (mode_or_copy items k)
-  unfolding left_common
+  pub key_shared : (k : Key) → mode_or_copy items k ≡ Share → shared_cell new Share k ((context w c).cell k) ≡ cloned_cell shared c k (mode_or_copy items k)
+  unfolding with_shared
   key_shared k is =
-      sym (ap (cloned shared c k) is ∙ ap (λ (x : Context). x.cell k) (context-shared w c job items live spec)
-      ∙ ap (λ m. cell_after new m k ((context w c).cell k)) is)
+      sym (ap (cloned_cell shared c k) is ∙ ap (λ (x : Context). x.cell k) (context-shared w c job items live spec)
+      ∙ ap (λ m. shared_cell new m k ((context w c).cell k)) is)
 
   module _ (past_keys : (k : Key) → limit w.pages (kind_of k) ≤ number_of k → (context w c).cell k ≡ Own (nothing k)) where
-    key_past : (k : Key) → limit w.pages (kind_of k) ≤ number_of k → cloned shared c k (mode_or_copy items k) ≡ Own (nothing k)
+    key_past : (k : Key) → limit w.pages (kind_of k) ≤ number_of k → cloned_cell shared c k (mode_or_copy items k) ≡ Own (nothing k)
     unfolding value_at
     key_past k past = sym (key_copied k (copied_past w.pages k items spec past)) ∙ ap (λ cell. Own (value_of w k cell)) (past_keys k past)
 
@@ -90,11 +90,11 @@ module _ (w : World) (c : Name) (job : ℕ) (items : List Item) (fresh : IsFresh
     pub context-made : (held : Held) (entry : Regs) →
         map as_cell held.pages.items ≡ map (λ p. cloned shared c (Page p) (mode_or_copy items (Page p))) (range_with_len 0 w.pages) →
         held.slots.items ≡ map (λ n. cloned shared c (Slot n) (mode_or_copy items (Slot n))) (range_with_len 0 SLOTS) →
-        held.uid ≡ cloned shared c Cred (mode_or_copy items Cred) → held.entry ≡ entry → context_of held ≡ clone shared c items entry
-    unfolding context_of held_cell held_page held_slot clone
+        held.uid ≡ cloned shared c Cred (mode_or_copy items Cred) → held.entry ≡ entry → context_of held ≡ cloned_context shared c items entry
+    unfolding context_of held_cell held_page held_slot cloned_context
     context-made held entry pages slots uid is_entry =
-        let at : (k : Key) → held_cell held k ≡ cloned shared c k (mode_or_copy items k) =
-        λ k. elim k as (λ k. held_cell held k ≡ cloned shared c k (mode_or_copy items k)) [
+        let at : (k : Key) → held_cell held k ≡ cloned_cell shared c k (mode_or_copy items k) =
+        λ k. elim k as (λ k. held_cell held k ≡ cloned_cell shared c k (mode_or_copy items k)) [
           | Page p ↦
               sym (place_as_cell held.pages.items p)
               ∙ place_of_map (λ p. cloned shared c (Page p) (mode_or_copy items (Page p))) w.pages (map as_cell held.pages.items) (Own None) p pages (key_past (Page p))
@@ -117,13 +117,13 @@ module _ (w shared : World) (c : Name) (job : ℕ) (items : List Item) (is_share
   pub shared-len : fm.len shared.contexts ≡ fm.len w.contexts
   shared-len = ap (λ (v : World). fm.len v.contexts) is_shared ∙ len_contexts-share w c job items
 
-  pub shared-old_groups : (x : Context) (entry : Regs) → IsFresh w → x ≡ clone (share w c job items) c items entry → NamesOldGroups shared.next x
+  pub shared-old_groups : (x : Context) (entry : Regs) → IsFresh w → x ≡ cloned_context (share w c job items) c items entry → NamesOldGroups shared.next x
   shared-old_groups x entry fresh made =
       subst (NamesOldGroups shared.next) (sym made)
-      (subst (λ (v : World). NamesOldGroups v.next (clone (share w c job items) c items entry)) (sym is_shared)
+      (subst (λ (v : World). NamesOldGroups v.next (cloned_context (share w c job items) c items entry)) (sym is_shared)
       (names_old-clone (share w c job items) c items entry (fresh-share w c job items fresh)))
 
-  pub shared-added : (added : World) (x : Context) (entry : Regs) → x ≡ clone (share w c job items) c items entry → added ≡ add_context shared job x →
+  pub shared-added : (added : World) (x : Context) (entry : Regs) → x ≡ cloned_context (share w c job items) c items entry → added ≡ add_context shared job x →
       added ≡ clone_context w c job items entry
   unfolding clone_context
   shared-added added x entry made is_added = is_added ∙ (λ i. add_context (is_shared i) job (made i))

@@ -17,7 +17,7 @@ use Rattle.lwc_base.specs.declared.name.Name.{Name}
 use Rattle.lwc_base.specs.Cells.{with_cell, with_value}
 use Rattle.lwc_base.specs.Keys.{ValueOf, nothing, with_key}
 use Rattle.lwc_base.specs.Modes.{IsSpec, kind_of, limit, mode_or_copy, number_of}
-use Rattle.lwc_base.specs.Sharing.{cell_after, left_common, moved, moves, moved_value}
+use Rattle.lwc_base.specs.Sharing.{shared_cell, with_shared, moved_values, is_moved, moved_value}
 use Rattle.lwc_base.specs.World.{Context, Group, new_group}
 use Rattle.whole_world.specs.Moves.{gave, gives, is_below, key_of, takes, took}
 use Rattle.whole_world.proofs.Unnamed.{copied_past}
@@ -67,42 +67,42 @@ module _ (kind : Kind) (n : ℕ) (items : List Item) where
   given_on : (g : Name) (x : Context) (b : Bool) → moves mode_here here (x.cell here) ≡ b →
       cond b (with_cell here (Common g) (gave (is_below kind n) g items x)) (gave (is_below kind n) g items x) ≡ gave (is_below kind (n + 1)) g items x
   given_on g x true is =
-      let f : (k : Key) → Cell (ValueOf k) = λ k. cell_after g (mode_or_copy items k) k (x.cell k) in
+      let f : (k : Key) → Cell (ValueOf k) = λ k. shared_cell g (mode_or_copy items k) k (x.cell k) in
       λ i. record x {
         cell = λ k.
             (ap (λ cell. with_key Cell here cell (λ q. cond (is_below kind n q) (f q) (x.cell q)) k) (sym (ap (λ b. cond b (Common g) (x.cell here)) is))
             ∙ with_key-next Cell kind n f x.cell k) i;
       }
   given_on g x false is =
-      let f : (k : Key) → Cell (ValueOf k) = λ k. cell_after g (mode_or_copy items k) k (x.cell k) in
+      let f : (k : Key) → Cell (ValueOf k) = λ k. shared_cell g (mode_or_copy items k) k (x.cell k) in
       λ i. record x { cell = λ k. with_key-kept Cell kind n f x.cell k (ap (λ b. cond b (Common g) (x.cell here)) is) i }
 
   taken_on : (x : Context) (h : Group) (b : Bool) → moves mode_here here (x.cell here) ≡ b →
       cond b (with_value here (moved_value mode_here here (x.cell here)) (took (is_below kind n) items x h)) (took (is_below kind n) items x h) ≡ took (is_below kind (n + 1)) items x h
   taken_on x h true is =
-      let f : (k : Key) → ValueOf k = λ k. cond (moves (mode_or_copy items k) k (x.cell k)) (moved_value (mode_or_copy items k) k (x.cell k)) (h.value k) in
+      let f : (k : Key) → ValueOf k = λ k. cond (is_moved (mode_or_copy items k) k (x.cell k)) (moved_value (mode_or_copy items k) k (x.cell k)) (h.value k) in
       λ i. record {
         value = λ k.
             (ap (λ value. with_key (λ T. T) here value (λ q. cond (is_below kind n q) (f q) (h.value q)) k) (sym (ap (λ b. cond b (moved_value mode_here here (x.cell here)) (h.value here)) is))
             ∙ with_key-next (λ T. T) kind n f h.value k) i;
       }
   taken_on x h false is =
-      let f : (k : Key) → ValueOf k = λ k. cond (moves (mode_or_copy items k) k (x.cell k)) (moved_value (mode_or_copy items k) k (x.cell k)) (h.value k) in
+      let f : (k : Key) → ValueOf k = λ k. cond (is_moved (mode_or_copy items k) k (x.cell k)) (moved_value (mode_or_copy items k) k (x.cell k)) (h.value k) in
       λ i. record { value = λ k. with_key-kept (λ T. T) kind n f h.value k (ap (λ b. cond b (moved_value mode_here here (x.cell here)) (h.value here)) is) i }
 
   -- one key more has moved
   module _ (g m : Name) (mode : Mode) (x y : Context) (start h : Group) (new : is_below kind n here ≡ false) (name : m ≡ g)
       (gave_before : y ≡ gave (is_below kind n) g items x) (took_before : h ≡ took (is_below kind n) items x start) (mode_is : mode ≡ mode_here) where
     cell_is : y.cell here ≡ x.cell here
-    cell_is = ap (λ (z : Context). z.cell here) gave_before ∙ ap (λ b. cond b (cell_after g mode_here here (x.cell here)) (x.cell here)) new
+    cell_is = ap (λ (z : Context). z.cell here) gave_before ∙ ap (λ b. cond b (shared_cell g mode_here here (x.cell here)) (x.cell here)) new
 
     pub context_gives : (z : Context) → z ≡ gives m mode here y → z ≡ gave (is_below kind (n + 1)) g items x
     context_gives z given =
-        given ∙ (λ i. cond (moves (mode_is i) here (cell_is i)) (with_cell here (Common (name i)) (gave_before i)) (gave_before i)) ∙ given_on g x _ refl
+        given ∙ (λ i. cond (is_moved (mode_is i) here (cell_is i)) (with_cell here (Common (name i)) (gave_before i)) (gave_before i)) ∙ given_on g x _ refl
 
     pub group_takes : (j : Group) → j ≡ takes mode here (y.cell here) h → j ≡ took (is_below kind (n + 1)) items x start
     group_takes j taken =
-        taken ∙ (λ i. cond (moves (mode_is i) here (cell_is i)) (with_value here (moved_value (mode_is i) here (cell_is i)) (took_before i)) (took_before i)) ∙ taken_on x start _ refl
+        taken ∙ (λ i. cond (is_moved (mode_is i) here (cell_is i)) (with_value here (moved_value (mode_is i) here (cell_is i)) (took_before i)) (took_before i)) ∙ taken_on x start _ refl
 
 pub not_below : (n : ℕ) → nat_lt n n ≡ false
 not_below n = grind (arith, nat_tests)
@@ -110,7 +110,7 @@ not_below n = grind (arith, nat_tests)
 below : (n p : ℕ) → p < n → nat_lt p n ≡ true
 below n p within = grind (arith, nat_tests)
 
-moved_or_nothing : (mode : Mode) (k : Key) (cell : Cell (ValueOf k)) → cond (moves mode k cell) (moved_value mode k cell) (nothing k) ≡ moved_value mode k cell
+moved_or_nothing : (mode : Mode) (k : Key) (cell : Cell (ValueOf k)) → cond (is_moved mode k cell) (moved_value mode k cell) (nothing k) ≡ moved_value mode k cell
 moved_or_nothing Copy k cell = refl
 moved_or_nothing Unmap k cell = refl
 moved_or_nothing Share k (Common g) = refl
@@ -121,7 +121,7 @@ moved_or_nothing Share Cred (Own value) = refl
 
 module _ (pages : ℕ) (items : List Item) (spec : IsSpec pages items) (x : Context) where
   -- what is past the keys that there are does not move
-  in_all : {A : Type 0} (k : Key) (after old : A) → (moves (mode_or_copy items k) k (x.cell k) ≡ false → after ≡ old) →
+  in_all : {A : Type 0} (k : Key) (after old : A) → (is_moved (mode_or_copy items k) k (x.cell k) ≡ false → after ≡ old) →
       cond (nat_lt (number_of k) (limit pages (kind_of k))) after old ≡ after
   in_all k after old same =
       ⊎_elim (λ (h : number_of k < limit pages (kind_of k)). ap (λ b. cond b after old) (below (limit pages (kind_of k)) (number_of k) h))
@@ -129,20 +129,20 @@ module _ (pages : ℕ) (items : List Item) (spec : IsSpec pages items) (x : Cont
       same_whether (nat_lt (number_of k) (limit pages (kind_of k))) true after old (same (ap (λ m. moves m k (x.cell k)) (copied_past pages k items spec h))))
       (cases_lt (number_of k) (limit pages (kind_of k)))
 
-  cell_in_all : (g : Name) (k : Key) → cond (nat_lt (number_of k) (limit pages (kind_of k))) (cell_after g (mode_or_copy items k) k (x.cell k)) (x.cell k) ≡ cell_after g (mode_or_copy items k) k (x.cell k)
+  cell_in_all : (g : Name) (k : Key) → cond (nat_lt (number_of k) (limit pages (kind_of k))) (shared_cell g (mode_or_copy items k) k (x.cell k)) (x.cell k) ≡ shared_cell g (mode_or_copy items k) k (x.cell k)
   cell_in_all g k = in_all k _ _ (ap (λ b. cond b (Common g) (x.cell k)))
 
-  value_in_all : (k : Key) → cond (nat_lt (number_of k) (limit pages (kind_of k))) (cond (moves (mode_or_copy items k) k (x.cell k)) (moved_value (mode_or_copy items k) k (x.cell k)) (nothing k)) (nothing k)
+  value_in_all : (k : Key) → cond (nat_lt (number_of k) (limit pages (kind_of k))) (cond (is_moved (mode_or_copy items k) k (x.cell k)) (moved_value (mode_or_copy items k) k (x.cell k)) (nothing k)) (nothing k)
       ≡ moved_value (mode_or_copy items k) k (x.cell k)
   value_in_all k = in_all k _ _ (ap (λ b. cond b (moved_value (mode_or_copy items k) k (x.cell k)) (nothing k))) ∙ moved_or_nothing (mode_or_copy items k) k (x.cell k)
 
   -- first the pages, then the slots, then the credential
-  all_given : (g : Name) → gave (is_below kind.Cred 1) g items (gave (is_below kind.Slot SLOTS) g items (gave (is_below kind.Page pages) g items x)) ≡ left_common g items x
-  unfolding left_common
+  all_given : (g : Name) → gave (is_below kind.Cred 1) g items (gave (is_below kind.Slot SLOTS) g items (gave (is_below kind.Page pages) g items x)) ≡ with_shared g items x
+  unfolding with_shared
   all_given g =
       let f : (k : Key) → Cell (ValueOf k) = (gave (is_below kind.Cred 1) g items (gave (is_below kind.Slot SLOTS) g items (gave (is_below kind.Page pages) g items x))).cell in
-      let at : (k : Key) → f k ≡ cell_after g (mode_or_copy items k) k (x.cell k) =
-      λ k. elim k as (λ k. f k ≡ cell_after g (mode_or_copy items k) k (x.cell k)) [
+      let at : (k : Key) → f k ≡ shared_cell g (mode_or_copy items k) k (x.cell k) =
+      λ k. elim k as (λ k. f k ≡ shared_cell g (mode_or_copy items k) k (x.cell k)) [
         | Page p ↦ cell_in_all g (Page p)
         | Slot n ↦ cell_in_all g (Slot n)
         | Cred ↦ refl
@@ -150,8 +150,8 @@ module _ (pages : ℕ) (items : List Item) (spec : IsSpec pages items) (x : Cont
       λ i. record x { cell = λ k. at k i }
 
   all_taken : (g : Name) → took (is_below kind.Cred 1) items (gave (is_below kind.Slot SLOTS) g items (gave (is_below kind.Page pages) g items x))
-      (took (is_below kind.Slot SLOTS) items (gave (is_below kind.Page pages) g items x) (took (is_below kind.Page pages) items x new_group)) ≡ moved items x
-  unfolding moved
+      (took (is_below kind.Slot SLOTS) items (gave (is_below kind.Page pages) g items x) (took (is_below kind.Page pages) items x new_group)) ≡ moved_values items x
+  unfolding moved_values
   all_taken g =
       let f : (k : Key) → ValueOf k =
       (took (is_below kind.Cred 1) items (gave (is_below kind.Slot SLOTS) g items (gave (is_below kind.Page pages) g items x))
@@ -186,13 +186,13 @@ module _ (pages : ℕ) (items : List Item) (spec : IsSpec pages items) (x : Cont
     slots_are : z ≡ before
     slots_are = gave_slots ∙ (λ i. gave (is_below kind.Slot SLOTS) (n_is i) items (gave_pages i))
 
-    pub values_given : (u : Context) → u ≡ gives m mode Cred z → u ≡ left_common g items x
+    pub values_given : (u : Context) → u ≡ gives m mode Cred z → u ≡ with_shared g items x
     values_given u uid =
         context_gives kind.Cred 0 items g m mode before z new_group new_group refl (m_is ∙ n_is) (slots_are ∙ none_given g before) (none_taken before new_group) mode_is u uid
         ∙ all_given g
 
     pub values_taken : (h j k start : Group) → start ≡ new_group → h ≡ took (is_below kind.Page pages) items x start → j ≡ took (is_below kind.Slot SLOTS) items y h →
-        k ≡ takes mode Cred (z.cell Cred) j → k ≡ moved items x
+        k ≡ takes mode Cred (z.cell Cred) j → k ≡ moved_values items x
     values_taken h j k start empty pages_taken slots_taken uid_taken =
         let has : Group = took (is_below kind.Slot SLOTS) items (gave (is_below kind.Page pages) g items x) (took (is_below kind.Page pages) items x new_group) in
         let is : j ≡ has = slots_taken ∙ (λ i. took (is_below kind.Slot SLOTS) items (gave_pages i) ((pages_taken ∙ ap (took (is_below kind.Page pages) items x) empty) i)) in

@@ -9,8 +9,8 @@ use Rattle.lwc_base.specs.Registers.{fresh_registers}
 use Rattle.lwc_base.specs.declared.name.Name.{Name}
 use Rattle.lwc_base.specs.declared.size.WorldSize.{WorldSize}
 use Rattle.lwc_base.specs.Fresh.{IsFresh, NamesOldGroups}
-use Rattle.lwc_base.specs.World.{Context, Counters, Group, count_on, changed_context, change_context, changed_group, change_group, context, group, is_live, new_context, new_group}
-use Rattle.lwc_base.proofs.Fresh.{Rises, fresh-change_group, fresh-count_on, fresh-insert_context}
+use Rattle.lwc_base.specs.World.{Context, Counters, Group, change_counters, changed_context, change_context, changed_group, change_group, context, group, is_live, new_context, new_group}
+use Rattle.lwc_base.proofs.Fresh.{Rises, fresh-change_group, fresh-change_counters, fresh-insert_context}
 use Rattle.lwc_base.proofs.Live.{count_on_as}
 use Rattle.whole_world.proofs.Places.{place_after_set}
 use Rattle.std.proofs.lemmas.List.Edits.{length-insert}
@@ -177,19 +177,19 @@ module _ (size : WorldSize) (contexts : List Held) (groups : List HeldGroup) (co
         (fresh-change_group (world_of size contexts groups counts) g change sound.fresh);
   }
 
-  count_on-set : (job : ℕ) (n : Counts) → job < length counts →
-      world_of size contexts groups (set counts job n) ≡ count_on (world_of size contexts groups counts) job (λ _. counters_of n)
-  unfolding world_of count_on
-  count_on-set job n there =
+  change_counters-set : (job : ℕ) (n : Counts) → job < length counts →
+      world_of size contexts groups (set counts job n) ≡ change_counters (world_of size contexts groups counts) job (λ _. counters_of n)
+  unfolding world_of change_counters
+  change_counters-set job n there =
       let each : (j : ℕ) → counters_of (get_or (set counts job n) j nothing_counted) ≡ cond (eqb j job) (counters_of n) (counters_of (get_or counts j nothing_counted)) =
       λ j. ap counters_of (place_after_set counts job n j nothing_counted there) ∙ counters_of_choice (eqb j job) n (get_or counts j nothing_counted) in
       λ i. record (world_of size contexts groups counts) { next = λ j. each j i }
 
   -- a job that has counted another number
-  pub count_on-row : (job : ℕ) (n : Counts) (change : Counters → Counters) → job < length counts →
+  pub change_counters-row : (job : ℕ) (n : Counts) (change : Counters → Counters) → job < length counts →
       change ((world_of size contexts groups counts).next job) ≡ counters_of n →
-      world_of size contexts groups (set counts job n) ≡ count_on (world_of size contexts groups counts) job change
-  count_on-row job n change there is = count_on-set job n there ∙ count_on_as (world_of size contexts groups counts) job change (counters_of n) is
+      world_of size contexts groups (set counts job n) ≡ change_counters (world_of size contexts groups counts) job change
+  change_counters-row job n change there is = change_counters-set job n there ∙ count_on_as (world_of size contexts groups counts) job change (counters_of n) is
 
   -- the world stays sound where a count rises
   pub sound-counts : (job : ℕ) (n : Counts) (change : Counters → Counters) → job < length counts →
@@ -206,7 +206,7 @@ module _ (size : WorldSize) (contexts : List Held) (groups : List HeldGroup) (co
     groups_sorted = sound.groups_sorted;
     contexts_whole = sound.contexts_whole;
     groups_whole = sound.groups_whole;
-    fresh = subst IsFresh (sym (count_on-row job n change there is)) (fresh-count_on (world_of size contexts groups counts) job change rises sound.fresh);
+    fresh = subst IsFresh (sym (change_counters-row job n change there is)) (fresh-change_counters (world_of size contexts groups counts) job change rises sound.fresh);
   }
 
   none_found : (c : Name) → is_live (world_of size contexts groups counts) c ≡ false → find (has_name c) contexts ≡ None

@@ -19,8 +19,8 @@ use Rattle.lwc_base.specs.Fresh.{IsFresh}
 use Rattle.lwc_base.specs.Mapping.{map_pages, mapped_or_not, unmap_pages}
 use Rattle.lwc_base.specs.Modes.{IsSpec, mode_or_copy}
 use Rattle.lwc_base.specs.Names.{name_cmp}
-use Rattle.lwc_base.specs.Ranges.{are_alike, is_page, begins_range, ranges, ranges_of}
-use Rattle.lwc_base.specs.Sharing.{cell_after, clone, cloned, left_common, moved, ranges_after_clone, share}
+use Rattle.lwc_base.specs.Ranges.{are_of_one_kind, is_page, begins_range, ranges, ranges_of}
+use Rattle.lwc_base.specs.Sharing.{shared_cell, cloned_context, cloned_cell, with_shared, moved_values, ranges_after_clone, share}
 use Rattle.lwc_base.specs.World.{World, Context, context, is_live, next_group}
 use Rattle.lwc_base.proofs.Cloning.{pages-share}
 use Rattle.lwc_base.proofs.Fresh.{names_old-context}
@@ -65,7 +65,7 @@ begins_after_absent : (h : Name) (b : Bool) → begins_after Absent (cond b Move
 begins_after_absent h true = refl
 begins_after_absent h false = refl
 
-begins-cells : (g : Name) (a b : Cell (Option PageValue)) → begins_after (seen_from g a) (seen_from g b) ≡ (is_page b && not (are_alike a b))
+begins-cells : (g : Name) (a b : Cell (Option PageValue)) → begins_after (seen_from g a) (seen_from g b) ≡ (is_page b && not (are_of_one_kind a b))
 begins-cells g a (cell.Own None) = refl
 begins-cells g (cell.Own None) (cell.Own (Some v)) = refl
 begins-cells g (cell.Own (Some u)) (cell.Own (Some v)) = refl
@@ -91,7 +91,7 @@ module _ (g : Name) (x : Context) (standings : ℕ → Standing) (each : (p : �
   ranges-standings pages = ap (λ f. count_by f (range_with_len 0 pages)) (λ i p. begins-each p i)
 
 seen_from-shared : (g : Name) (p : ℕ) (mode : Mode) (c : Cell (Option PageValue)) → c ≢ cell.Common g →
-    seen_from g (cell_after g mode (Page p) c) ≡ standing_of mode c
+    seen_from g (shared_cell g mode (Page p) c) ≡ standing_of mode c
 seen_from-shared g p Copy (cell.Own None) other = refl
 seen_from-shared g p Share (cell.Own None) other = refl
 seen_from-shared g p Unmap (cell.Own None) other = refl
@@ -115,7 +115,7 @@ module _ (w : World) (c : Name) (fresh : IsFresh w) where
     new = next_group w job
 
     page-shared : (p : ℕ) → seen_from new ((context (share w c job items) c).cell (Page p)) ≡ standing_of (mode_or_copy items (Page p)) ((context w c).cell (Page p))
-    unfolding left_common moved
+    unfolding with_shared moved_values
     page-shared p =
         ap (λ (x : Context). seen_from new (x.cell (Page p))) (context-shared w c job items live spec)
         ∙ seen_from-shared new p (mode_or_copy items (Page p)) ((context w c).cell (Page p)) (not_new job p)
@@ -135,11 +135,11 @@ module _ (w : World) (c : Name) (fresh : IsFresh w) where
     page-cloned p Unmap is = refl
 
     -- the ranges of the new context
-    pub ranges-cloned : (entry : Regs) → ranges (share w c job items).pages (clone (share w c job items) c items entry) ≡ count_of_ranges w.pages (in_clone w c items)
-    unfolding clone in_clone
+    pub ranges-cloned : (entry : Regs) → ranges (share w c job items).pages (cloned_context (share w c job items) c items entry) ≡ count_of_ranges w.pages (in_clone w c items)
+    unfolding cloned_context in_clone
     ranges-cloned entry =
-        ap (λ n. ranges n (clone (share w c job items) c items entry)) (pages-share w c job items)
-        ∙ ranges-standings new (clone (share w c job items) c items entry) (in_clone w c items) (λ p. page-cloned p _ refl) w.pages
+        ap (λ n. ranges n (cloned_context (share w c job items) c items entry)) (pages-share w c job items)
+        ∙ ranges-standings new (cloned_context (share w c job items) c items entry) (in_clone w c items) (λ p. page-cloned p _ refl) w.pages
 
     -- both
     pub ranges-both : (a b : ℕ) → a ≡ count_of_ranges w.pages (after_sharing w c items) → b ≡ count_of_ranges w.pages (in_clone w c items) →

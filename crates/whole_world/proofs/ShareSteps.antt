@@ -5,20 +5,20 @@ use Rattle.std.proofs.lemmas.Bool.Decides.{nat_tests}
 use Rattle.lwc_base.specs.declared.item.Item.{Item}
 use Rattle.lwc_base.specs.declared.name.Name.{Name}
 use Rattle.lwc_base.specs.Fresh.{IsFresh, IsNamedGroup}
-use Rattle.lwc_base.specs.Sharing.{left_common, moved, needs_group, share}
-use Rattle.lwc_base.specs.World.{World, Context, Counters, Group, add_group, change_context, changed_context, context, count_on, is_live, next_group}
+use Rattle.lwc_base.specs.Sharing.{with_shared, moved_values, needs_group, share}
+use Rattle.lwc_base.specs.World.{World, Context, Counters, Group, add_group, change_context, changed_context, context, change_counters, is_live, next_group}
 use Rattle.lwc_base.proofs.Cloning.{share-moves}
 use Rattle.lwc_base.proofs.Fresh.{fresh-change_context, next_group-new}
 use Rattle.lwc_base.proofs.Live.{values-change_context}
-use Rattle.lwc_base.proofs.Sharing.{names_old-left_common}
+use Rattle.lwc_base.proofs.Sharing.{names_old-with_shared}
 
 -- one group more
 abbrev pub one_group_more : Counters → Counters
 one_group_more n = record n { groups = n.groups + 1 }
 
 -- a context that names a group that has been named
-pub fresh-left_common : (w : World) (c g : Name) (items : List Item) → IsNamedGroup w.next g → IsFresh w → IsFresh (change_context w c (left_common g items))
-fresh-left_common w c g items named fresh = fresh-change_context w c (left_common g items) (λ x old. names_old-left_common w.next g items x named old) fresh
+pub fresh-with_shared : (w : World) (c g : Name) (items : List Item) → IsNamedGroup w.next g → IsFresh w → IsFresh (change_context w c (with_shared g items))
+fresh-with_shared w c g items named fresh = fresh-change_context w c (with_shared g items) (λ x old. names_old-with_shared w.next g items x named old) fresh
 
 groups-changed : (w : World) (c : Name) (change : Context → Context) (found : Option Context) → (changed_context w c change found).groups ≡ w.groups
 groups-changed w c change None = refl
@@ -29,15 +29,15 @@ unfolding change_context
 groups-change_context w c change = groups-changed w c change _
 
 changed-counted : (w : World) (job : ℕ) (more : Counters → Counters) (c : Name) (change : Context → Context) (found : Option Context) →
-    changed_context (count_on w job more) c change found ≡ count_on (changed_context w c change found) job more
-unfolding count_on
+    changed_context (change_counters w job more) c change found ≡ change_counters (changed_context w c change found) job more
+unfolding change_counters
 changed-counted w job more c change None = refl
 changed-counted w job more c change (Some x) = refl
 
 -- a change of a context and a count may go either way
 change-counted : (w : World) (job : ℕ) (more : Counters → Counters) (c : Name) (change : Context → Context) →
-    change_context (count_on w job more) c change ≡ count_on (change_context w c change) job more
-unfolding change_context count_on
+    change_context (change_counters w job more) c change ≡ change_counters (change_context w c change) job more
+unfolding change_context change_counters
 change-counted w job more c change = changed-counted w job more c change (fm.get w.contexts c)
 
 eqb-itself : (n : ℕ) → eqb n n ≡ true
@@ -48,21 +48,21 @@ counts_at true n e = omega arith
 counts_at false n e = cc
 
 -- once the job has counted the group
-module _ (w counted : World) (job : ℕ) (is_counted : counted ≡ count_on w job one_group_more) where
+module _ (w counted : World) (job : ℕ) (is_counted : counted ≡ change_counters w job one_group_more) where
   pub counted-pages : counted.pages ≡ w.pages
-  unfolding count_on
+  unfolding change_counters
   counted-pages = ap (λ (v : World). v.pages) is_counted
 
   pub counted-live : (c : Name) → is_live counted c ≡ is_live w c
-  unfolding count_on
+  unfolding change_counters
   counted-live c = ap (λ v. is_live v c) is_counted
 
   counted-context : (c : Name) → context counted c ≡ context w c
-  unfolding count_on context
+  unfolding change_counters context
   counted-context c = ap (λ v. context v c) is_counted
 
   counted-next : (j : ℕ) → counted.next j ≡ cond (eqb j job) (one_group_more (w.next j)) (w.next j)
-  unfolding count_on
+  unfolding change_counters
   counted-next j = ap (λ (v : World). v.next j) is_counted
 
   -- the group's name has been counted
@@ -81,31 +81,31 @@ module _ (w counted : World) (job : ℕ) (is_counted : counted ≡ count_on w jo
         subst (λ (next : ℕ → Counters). IsNamedGroup next g) (sym (ap (λ (v : World). v.next) is_left ∙ (values-change_context counted c change).next)) (counted-named g is)
 
     pub left-groups : left.groups ≡ w.groups
-    unfolding count_on
+    unfolding change_counters
     left-groups = ap (λ (v : World). v.groups) is_left ∙ groups-change_context counted c change ∙ ap (λ (v : World). v.groups) is_counted
 
     -- no group has that name yet
     pub left-new : (g : Name) → IsFresh w → g ≡ next_group w job → fm.contains_key left.groups g ≡ false
     left-new g fresh is = ap (λ m. fm.contains_key m g) left-groups ∙ ap (fm.contains_key w.groups) is ∙ next_group-new w job fresh
 
-added_as : (w : World) (c : Name) (job : ℕ) (items : List Item) (values : Group) → let left : World = change_context w c (left_common (next_group w job) items) in
-    (λ (v : World). record v { groups = fm.insert v.groups (next_group w job) values }) (count_on left job one_group_more) ≡ add_group left job values
-unfolding add_group count_on
+added_as : (w : World) (c : Name) (job : ℕ) (items : List Item) (values : Group) → let left : World = change_context w c (with_shared (next_group w job) items) in
+    (λ (v : World). record v { groups = fm.insert v.groups (next_group w job) values }) (change_counters left job one_group_more) ≡ add_group left job values
+unfolding add_group change_counters
 added_as w c job items values =
-    let left : World = change_context w c (left_common (next_group w job) items) in
+    let left : World = change_context w c (with_shared (next_group w job) items) in
     let name : next_group w job ≡ next_group left job =
-    ap (λ (next : ℕ → Counters). record { job = job; k = (next job).groups }) (sym (values-change_context w c (left_common (next_group w job) items)).next) in
-    λ i. count_on (record left { groups = fm.insert left.groups (name i) values }) job one_group_more
+    ap (λ (next : ℕ → Counters). record { job = job; k = (next job).groups }) (sym (values-change_context w c (with_shared (next_group w job) items)).next) in
+    λ i. change_counters (record left { groups = fm.insert left.groups (name i) values }) job one_group_more
 
 -- the world once the group is put in
 pub share-steps : (w counted left shared : World) (c : Name) (job : ℕ) (items : List Item) (g h : Name) (values : Group) → needs_group w c items ≡ true →
-    g ≡ next_group w job → h ≡ g → values ≡ moved items (context counted c) → counted ≡ count_on w job one_group_more →
-    left ≡ change_context counted c (left_common g items) → shared ≡ record left { groups = fm.insert left.groups h values } →
+    g ≡ next_group w job → h ≡ g → values ≡ moved_values items (context counted c) → counted ≡ change_counters w job one_group_more →
+    left ≡ change_context counted c (with_shared g items) → shared ≡ record left { groups = fm.insert left.groups h values } →
     shared ≡ share w c job items
 share-steps w counted left shared c job items g h values needs g_is h_is values_are is_counted is_left is_shared =
-    let same : values ≡ moved items (context w c) = values_are ∙ ap (moved items) (counted-context w counted job is_counted c) in
-    let moves : left ≡ count_on (change_context w c (left_common (next_group w job) items)) job one_group_more =
-    is_left ∙ (λ i. change_context (is_counted i) c (left_common (g_is i) items))
+    let same : values ≡ moved_values items (context w c) = values_are ∙ ap (moved_values items) (counted-context w counted job is_counted c) in
+    let moves : left ≡ change_counters (change_context w c (with_shared (next_group w job) items)) job one_group_more =
+    is_left ∙ (λ i. change_context (is_counted i) c (with_shared (g_is i) items))
     ∙ change-counted w job one_group_more c _ in
     is_shared ∙ (λ i. record (moves i) { groups = fm.insert (moves i).groups ((h_is ∙ g_is) i) (same i) })
-    ∙ added_as w c job items (moved items (context w c)) ∙ sym (share-moves w c job items needs)
+    ∙ added_as w c job items (moved_values items (context w c)) ∙ sym (share-moves w c job items needs)

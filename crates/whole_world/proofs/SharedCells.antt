@@ -6,7 +6,7 @@ use Rattle.lwc_base.specs.declared.item.Item.{Item}
 use Rattle.lwc_base.specs.declared.key.Key.{Key}
 use Rattle.lwc_base.specs.declared.name.Name.{Name}
 use Rattle.lwc_base.specs.Modes.{IsKey, IsSpec, kind_of, limit, mode_or_copy, number_of}
-use Rattle.lwc_base.specs.Sharing.{left_common, moves, needs_group, share}
+use Rattle.lwc_base.specs.Sharing.{with_shared, is_moved, needs_group, share}
 use Rattle.lwc_base.specs.World.{World, Context, context, is_live, next_group}
 use Rattle.lwc_base.proofs.Clones.{nothing_moves}
 use Rattle.lwc_base.proofs.Cloning.{context-share-alone, context-share-moves}
@@ -17,19 +17,19 @@ module _ (w : World) (c : Name) (job : ℕ) (items : List Item) (live : is_live 
   here = context w c
 
   -- where no value moves, none moves under any key
-  no_key_moves : needs_group w c items ≡ false → (k : Key) → moves (mode_or_copy items k) k (here.cell k) ≡ false
+  no_key_moves : needs_group w c items ≡ false → (k : Key) → is_moved (mode_or_copy items k) k (here.cell k) ≡ false
   no_key_moves none k =
       ⊎_elim (λ (h : IsKey w.pages k). nothing_moves w c items none k h)
       (λ (h : limit w.pages (kind_of k) ≤ number_of k). ap (λ m. moves m k (here.cell k)) (copied_past w.pages k items spec h))
       (cases_lt (number_of k) (limit w.pages (kind_of k)))
 
-  left_or_not : (b : Bool) → needs_group w c items ≡ b → context (share w c job items) c ≡ left_common (next_group w job) items here
-  unfolding left_common
+  left_or_not : (b : Bool) → needs_group w c items ≡ b → context (share w c job items) c ≡ with_shared (next_group w job) items here
+  unfolding with_shared
   left_or_not true needs = context-share-moves w c job items live needs
   left_or_not false needs =
       context-share-alone w c job items needs c
       ∙ sym (λ i. record here { cell = λ k. cond (no_key_moves needs k i) (Common (next_group w job)) (here.cell k) })
 
   -- whether or not values move, the context is as if they had
-  pub context-shared : context (share w c job items) c ≡ left_common (next_group w job) items here
+  pub context-shared : context (share w c job items) c ≡ with_shared (next_group w job) items here
   context-shared = left_or_not _ refl

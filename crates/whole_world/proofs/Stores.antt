@@ -2,10 +2,10 @@
 use Rattle.std.proofs.Common.{◌≡◌, ℕ, ◌+◌, ◌≤◌, List, ap, ◌∙◌, length}
 use Rattle.lwc_base.specs.declared.name.Name.{Name}
 use Rattle.lwc_base.specs.declared.page.PageValue.{PageValue}
-use Rattle.lwc_base.specs.declared.page.TheConstants.{MOST_PAGES}
+use Rattle.lwc_base.specs.declared.limits.TheConstants.{MOST_PAGES}
 use Rattle.lwc_base.specs.Memory.{touched}
 use Rattle.lwc_base.specs.Store.{Piece, plan, put_pages, parting_count, after_store}
-use Rattle.lwc_base.specs.World.{World, count_on}
+use Rattle.lwc_base.specs.World.{World, change_counters}
 use Rattle.whole_world.specs.Rows.{world_of}
 use Rattle.whole_world.specs.Seen.{seen}
 use Rattle.whole_world.specs.declared.world.WholeWorld.{WholeWorld}
@@ -17,8 +17,8 @@ few_pages-seen w = w.sound.few_pages
 
 pub after_store-counted : (w put counted : World) (c : Name) (job : ℕ) (piece : Piece) (ps : List ℕ) (values : List (ℕ × PageValue)) (parting : ℕ) →
     ps ≡ touched piece.at (length piece.bytes) → values ≡ plan w c job piece (w.next job).tags ps → put ≡ put_pages w c values →
-    parting ≡ parting_count w c piece → counted ≡ count_on put job (λ n. record n { tags = n.tags + parting }) → counted ≡ after_store w c job piece
+    parting ≡ parting_count w c piece → counted ≡ change_counters put job (λ n. record n { tags = n.tags + parting }) → counted ≡ after_store w c job piece
 unfolding after_store
 after_store-counted w put counted c job piece ps values parting touches plans puts parts counts =
     counts
-    ∙ (λ i. count_on ((puts ∙ ap (put_pages w c) (plans ∙ ap (plan w c job piece (w.next job).tags) touches)) i) job (λ n. record n { tags = n.tags + parts i }))
+    ∙ (λ i. change_counters ((puts ∙ ap (put_pages w c) (plans ∙ ap (plan w c job piece (w.next job).tags) touches)) i) job (λ n. record n { tags = n.tags + parts i }))

@@ -12,7 +12,7 @@ use Rattle.lwc_base.specs.declared.name.Name.{Name}
 use Rattle.lwc_base.specs.Cells.{with_cell, with_value}
 use Rattle.lwc_base.specs.Keys.{ValueOf}
 use Rattle.lwc_base.specs.Modes.{kind_of, mode_or_copy, number_of, same_kind}
-use Rattle.lwc_base.specs.Sharing.{cell_after, moves, moved_value}
+use Rattle.lwc_base.specs.Sharing.{shared_cell, is_moved, moved_value}
 use Rattle.lwc_base.specs.World.{Context, Group}
 
 -- the value of a cell that is the context's own
@@ -22,11 +22,11 @@ own (Common g) = None
 
 -- a context that gives a group the value under a key, if it moves: the key is common of the group from then on
 abbrev pub gives : Name → Mode → Key → Context → Context
-gives g mode k x = if moves mode k (x.cell k) then with_cell k (Common g) x else x
+gives g mode k x = if is_moved mode k (x.cell k) then with_cell k (Common g) x else x
 
 -- a group that takes the value of a cell under a key, if it moves
 abbrev pub takes : Mode → (k : Key) → Cell (ValueOf k) → Group → Group
-takes mode k cell h = if moves mode k cell then with_value k (moved_value mode k cell) h else h
+takes mode k cell h = if is_moved mode k cell then with_value k (moved_value mode k cell) h else h
 
 -- the key of a kind that has a number
 abbrev pub key_of : Kind → ℕ → Key
@@ -40,9 +40,9 @@ is_below kind n k = same_kind kind (kind_of k) && nat_lt (number_of k) n
 
 -- a context that has given a group what moves under the keys that pass
 abbrev pub gave : (Key → Bool) → Name → List Item → Context → Context
-gave done g items x = record x { cell = λ k. if done k then cell_after g (mode_or_copy items k) k (x.cell k) else x.cell k }
+gave done g items x = record x { cell = λ k. if done k then shared_cell g (mode_or_copy items k) k (x.cell k) else x.cell k }
 
 -- a group that has taken it
 abbrev pub took : (Key → Bool) → List Item → Context → Group → Group
 took done items x h =
-    record { value = λ k. if done k then (if moves (mode_or_copy items k) k (x.cell k) then moved_value (mode_or_copy items k) k (x.cell k) else h.value k) else h.value k }
+    record { value = λ k. if done k then (if is_moved (mode_or_copy items k) k (x.cell k) then moved_value (mode_or_copy items k) k (x.cell k) else h.value k) else h.value k }

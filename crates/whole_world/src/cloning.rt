@@ -7,7 +7,7 @@ ghost use Rattle.lwc_base.specs.declared.item.Mode.TheVariants.{Share};
 ghost use Rattle.lwc_base.specs.declared.key.Key.TheVariants.{Page, Slot, Cred};
 ghost use Rattle.whole_world.specs.Copies.{as_cell, in_common};
 ghost use Rattle.lwc_base.specs.Modes.{IsSpec, mode_or_copy};
-ghost use Rattle.lwc_base.specs.Sharing.{cell_after};
+ghost use Rattle.lwc_base.specs.Sharing.{shared_cell};
 
 use crate::group::HeldGroup;
 use crate::held::Held;
@@ -37,7 +37,7 @@ fn copied_page(
 
 /// The cell that a page has once its value has moved into a group, if it was the context's own.
 fn shared_page(cell: Option<&Cell<PageValue>>, group: Name) -> Option<Cell<PageValue>>
-    ensures { (p : ℕ) → as_cell result ≡ cell_after group Share (Page p) (as_cell (option_copied cell.entry)) }
+    ensures { (p : ℕ) → as_cell result ≡ shared_cell group Share (Page p) (as_cell (option_copied cell.entry)) }
 {
     match cell {
         None => None,
@@ -57,7 +57,7 @@ fn shared_cell<T>(cell: &Cell<T>, group: Name) -> Cell<T>
 }
 
 impl WholeWorld {
-    ghost use Rattle.lwc_base.specs.Sharing.{clone, clone_context, cloned, needs_group, share};
+    ghost use Rattle.lwc_base.specs.Sharing.{cloned_context, clone_context, cloned_cell, needs_group, share};
     ghost use Rattle.lwc_base.specs.World.{is_live, next_context, next_group};
     ghost use Rattle.whole_world.specs.Copies.{context_of};
     ghost use Rattle.whole_world.specs.Seen.{HasRoom, HasGroupRoom, seen, size_of};
@@ -173,7 +173,7 @@ impl WholeWorld {
         requires known { job < (size_of self.now).jobs }
         ensures name { IfOk result (λ held. held.name ≡ next_context (seen self.now) job) }
         ensures whole { IfOk result (IsWhole (seen self.now).pages) }
-        ensures context { IfOk result (λ held. context_of held ≡ clone (share (seen self.now) c job spec.now) c spec.now entry.now) }
+        ensures context { IfOk result (λ held. context_of held ≡ cloned_context (share (seen self.now) c job spec.now) c spec.now entry.now) }
     {
         Ok(Held {
             name: self.next_name(job),

@@ -5,7 +5,7 @@ use crate::world::WholeWorld;
 use lwc_base::Name;
 
 impl WholeWorld {
-    ghost use Rattle.lwc_base.specs.World.{count_on, next_context};
+    ghost use Rattle.lwc_base.specs.World.{change_counters, next_context};
     ghost use Rattle.whole_world.specs.Seen.{HasRoom, HasGroupRoom, counters_of, seen, size_of};
 
     /// What a job has counted.
@@ -31,7 +31,7 @@ impl WholeWorld {
     pub(crate) fn count_context(&mut self, job: u32)
         requires known { job < (size_of self.old).jobs }
         requires few { ((seen self.old).next job).contexts < 2 ^ 31 }
-        ensures world { seen self.new ≡ count_on (seen self.old) job (λ n. record n { contexts = n.contexts + 1 }) }
+        ensures world { seen self.new ≡ change_counters (seen self.old) job (λ n. record n { contexts = n.contexts + 1 }) }
         ensures size { size_of self.new ≡ size_of self.old }
         ensures room { HasRoom self.old → HasRoom self.new }
     {
@@ -46,7 +46,7 @@ impl WholeWorld {
     pub(crate) fn count_group(&mut self, job: u32)
         requires known { job < (size_of self.old).jobs }
         requires few { ((seen self.old).next job).groups < 2 ^ 31 }
-        ensures world { seen self.new ≡ count_on (seen self.old) job (λ n. record n { groups = n.groups + 1 }) }
+        ensures world { seen self.new ≡ change_counters (seen self.old) job (λ n. record n { groups = n.groups + 1 }) }
         ensures size { size_of self.new ≡ size_of self.old }
         ensures room { HasRoom self.old → HasRoom self.new }
         ensures group_room { HasGroupRoom self.old → HasGroupRoom self.new }
@@ -62,7 +62,7 @@ impl WholeWorld {
     pub(crate) fn count_tags(&mut self, job: u32, more: u32)
         requires known { job < (size_of self.old).jobs }
         requires few { ((seen self.old).next job).tags + more < 2 ^ 32 }
-        ensures world { seen self.new ≡ count_on (seen self.old) job (λ n. record n { tags = n.tags + more }) }
+        ensures world { seen self.new ≡ change_counters (seen self.old) job (λ n. record n { tags = n.tags + more }) }
         ensures size { size_of self.new ≡ size_of self.old }
     {
         let counts = self.counted(job);

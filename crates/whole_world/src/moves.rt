@@ -6,7 +6,7 @@ ghost use Rattle.lwc_base.specs.declared.key.Kind.TheVariants as kind;
 ghost use Rattle.lwc_base.specs.Cells.{with_cell};
 ghost use Rattle.lwc_base.specs.Frames.{own_value};
 ghost use Rattle.lwc_base.specs.Modes.{IsSpec};
-ghost use Rattle.lwc_base.specs.Sharing.{left_common, moved};
+ghost use Rattle.lwc_base.specs.Sharing.{with_shared, moved_values};
 ghost use Rattle.lwc_base.specs.World.{new_group};
 ghost use Rattle.whole_world.specs.Copies.{as_cell, context_of, group_of, held_page, held_slot};
 ghost use Rattle.whole_world.specs.Moves.{gave, gives, is_below, own, takes, took};
@@ -182,7 +182,7 @@ impl Held {
         requires empty { group_of group.old ≡ new_group }
         ensures name { self.new.name ≡ self.old.name }
         ensures whole { IsWhole pages self.new }
-        ensures context { context_of self.new ≡ left_common group.old.name spec.now (context_of self.old) }
+        ensures context { context_of self.new ≡ with_shared group.old.name spec.now (context_of self.old) }
         ensures group_name { group.new.name ≡ group.old.name }
         ensures whole_group { IsWholeGroup pages group.new }
         ensures group { group_of group.new ≡ moved spec.now (context_of self.old) }

@@ -3,7 +3,7 @@ ghost use Rattle.std.specs.List.{list_any, range_with_len};
 ghost use Rattle.lwc_base.specs.declared.descriptor.TheConstants.{SLOTS};
 ghost use Rattle.lwc_base.specs.declared.key.Key.TheVariants.{Page, Slot, Cred};
 ghost use Rattle.lwc_base.specs.Modes.{IsSpec, mode_or_copy};
-ghost use Rattle.lwc_base.specs.Sharing.{any_key, left_common, moved, moves};
+ghost use Rattle.lwc_base.specs.Sharing.{any_key, with_shared, moved_values, is_moved};
 ghost use Rattle.lwc_base.specs.World.{new_group};
 ghost use Rattle.whole_world.specs.Copies.{context_of, group_of};
 ghost use Rattle.whole_world.specs.Sound.{IsWhole, IsWholeGroup};
@@ -17,7 +17,7 @@ use res_spec::mode_or_copy;
 impl Held {
     /// Whether the value of a page moves.
     fn moves_page(&self, spec: &Spec, p: u16) -> bool
-        ensures { result ≡ moves (mode_or_copy spec.now (Page p)) (Page p) ((context_of self.now).cell (Page p)) }
+        ensures { result ≡ is_moved (mode_or_copy spec.now (Page p)) (Page p) ((context_of self.now).cell (Page p)) }
     {
         mode_or_copy(spec, Key::Page(p)) == Mode::Share
             && matches!(self.page_cell(p as usize), Some(Cell::Own(_)))
@@ -26,21 +26,21 @@ impl Held {
     /// Whether the value of a slot moves.
     fn moves_slot(&self, spec: &Spec, n: u8) -> bool
         requires { n < vec_len self.now.slots }
-        ensures { result ≡ moves (mode_or_copy spec.now (Slot n)) (Slot n) ((context_of self.now).cell (Slot n)) }
+        ensures { result ≡ is_moved (mode_or_copy spec.now (Slot n)) (Slot n) ((context_of self.now).cell (Slot n)) }
     {
         mode_or_copy(spec, Key::Slot(n)) == Mode::Share && matches!(self.slot_cell(n), Cell::Own(_))
     }
 
     /// Whether the credential moves.
     fn moves_uid(&self, spec: &Spec) -> bool
-        ensures { result ≡ moves (mode_or_copy spec.now Cred) Cred ((context_of self.now).cell Cred) }
+        ensures { result ≡ is_moved (mode_or_copy spec.now Cred) Cred ((context_of self.now).cell Cred) }
     {
         mode_or_copy(spec, Key::Cred) == Mode::Share && matches!(self.uid_cell(), Cell::Own(_))
     }
 
     /// Whether the value of any page moves.
     fn moves_pages(&self, pages: u16, spec: &Spec) -> bool
-        ensures { result ≡ list_any (λ p. moves (mode_or_copy spec.now (Page p)) (Page p) ((context_of self.now).cell (Page p))) (range_with_len 0 pages) }
+        ensures { result ≡ list_any (λ p. is_moved (mode_or_copy spec.now (Page p)) (Page p) ((context_of self.now).cell (Page p))) (range_with_len 0 pages) }
     {
         (0..pages).any(|p| self.moves_page(spec, p))
     }
@@ -48,7 +48,7 @@ impl Held {
     /// Whether the value of any slot moves.
     fn moves_slots(&self, spec: &Spec) -> bool
         requires { vec_len self.now.slots ≡ SLOTS }
-        ensures { result ≡ list_any (λ n. moves (mode_or_copy spec.now (Slot n)) (Slot n) ((context_of self.now).cell (Slot n))) (range_with_len 0 SLOTS) }
+        ensures { result ≡ list_any (λ n. is_moved (mode_or_copy spec.now (Slot n)) (Slot n) ((context_of self.now).cell (Slot n))) (range_with_len 0 SLOTS) }
     {
         (0..SLOTS).any(|n| self.moves_slot(spec, n))
     }
@@ -57,7 +57,7 @@ impl Held {
     #[tactic(auto, unfolding(lwc_base::specs::Sharing::any_key))]
     pub fn moves_values(&self, pages: u16, spec: &Spec) -> bool
         requires { IsWhole pages self.now }
-        ensures { result ≡ any_key pages (λ k. moves (mode_or_copy spec.now k) k ((context_of self.now).cell k)) }
+        ensures { result ≡ any_key pages (λ k. is_moved (mode_or_copy spec.now k) k ((context_of self.now).cell k)) }
     {
         self.moves_pages(pages, spec) || self.moves_slots(spec) || self.moves_uid(spec)
     }
@@ -122,7 +122,7 @@ impl WholeWorld {
         requires whole { IsWholeGroup (seen self.old).pages group.old }
         requires empty { group_of group.old ≡ new_group }
         requires live { IsTrue (is_live (seen self.old) c) }
-        ensures world { seen self.new ≡ change_context (seen self.old) c (left_common group.old.name spec.now) }
+        ensures world { seen self.new ≡ change_context (seen self.old) c (with_shared group.old.name spec.now) }
         ensures size { size_of self.new ≡ size_of self.old }
         ensures room { HasRoom self.old → HasRoom self.new }
         ensures group_room { HasGroupRoom self.old → HasGroupRoom self.new }

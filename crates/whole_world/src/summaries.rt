@@ -1,7 +1,7 @@
 ghost use Rattle.std.specs.Prelude.{◌≡◌, ◌==◌, ◌<◌, ◌≤◌, ◌^◌, IsTrue, count_by, is_some, length, not, slice_get};
 ghost use Rattle.std.specs.Option.{option_copied};
 ghost use Rattle.lwc_base.specs.declared.descriptor.TheConstants.{SLOTS};
-ghost use Rattle.lwc_base.specs.declared.page.TheConstants.{MOST_PAGES};
+ghost use Rattle.lwc_base.specs.declared.limits.TheConstants.{MOST_PAGES};
 
 use crate::held::Held;
 use crate::world::WholeWorld;

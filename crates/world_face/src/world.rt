@@ -15,8 +15,8 @@ ghost use Rattle.lwc_base.specs.Store as stores;
 ghost use Rattle.lwc_base.specs.Summaries.{summary_of};
 ghost use Rattle.lwc_base.specs.declared.descriptor.Descriptor.{Descriptor};
 ghost use Rattle.lwc_base.specs.declared.descriptor.TheConstants.{SLOTS};
-ghost use Rattle.lwc_base.specs.declared.page.TheConstants.{MOST_PAGES, PAGE_BYTES};
-ghost use Rattle.lwc_base.specs.declared.range.TheConstants.{MOST_RANGES};
+ghost use Rattle.lwc_base.specs.declared.limits.TheConstants.{MOST_PAGES, MOST_RANGES};
+ghost use Rattle.lwc_base.specs.declared.page.TheConstants.{PAGE_BYTES};
 ghost use Rattle.world_face.specs.Calls.{AreFew, HasGroupPlace, HasPlace, IsSize, IsLive, MayName};
 
 use lwc_base::{Descriptor, Name, OutOfMemory, Range, Regs, Spec, StoreFault, Summary, WorldSize};

@@ -1,5 +1,5 @@
 use Rattle.std.proofs.Common.{rules}
-use Rattle.lwc_base.proofs.PairedLemmas.{paired-replicate}
+use Rattle.pool_base.proofs.PairedLemmas.{paired-replicate}
 use Rattle.node_pool.proofs.pool.NodePool.open.Goals as goal
 
 pub returns : goal.returns

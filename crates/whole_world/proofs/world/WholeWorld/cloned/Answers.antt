@@ -1,7 +1,7 @@
 use Rattle.std.proofs.Common.{refl}
 use Rattle.lwc_base.specs.declared.key.Key.TheVariants.{Slot}
 use Rattle.lwc_base.specs.Modes.{mode_or_copy}
-use Rattle.lwc_base.specs.Sharing.{cloned, share}
+use Rattle.lwc_base.specs.Sharing.{cloned_cell, share}
 use Rattle.whole_world.specs.Rows.{world_of}
 use Rattle.whole_world.specs.Seen.{seen}
 use Rattle.whole_world.proofs.CloneCells.{context-made, whole-made}

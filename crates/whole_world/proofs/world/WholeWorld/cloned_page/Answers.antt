@@ -4,7 +4,7 @@ use Rattle.std.specs.Option.{option_copied}
 use Rattle.lwc_base.specs.declared.cell.Cell.TheVariants.{Own}
 use Rattle.lwc_base.specs.declared.item.Mode.TheVariants.{Share}
 use Rattle.lwc_base.specs.declared.key.Key.TheVariants.{Page}
-use Rattle.lwc_base.specs.Sharing.{cell_after}
+use Rattle.lwc_base.specs.Sharing.{shared_cell}
 use Rattle.lwc_base.specs.World.{Context, context}
 use Rattle.whole_world.specs.Seen.{seen}
 use Rattle.whole_world.specs.Copies.{as_cell}
@@ -23,5 +23,5 @@ returns-in-Share c =
     let cell : as_cell (option_copied c.page_cell.result) ≡ (context (seen c.args.self.now) c.args.c).cell (Page c.args.p) =
     c.page_cell.ensures.of_context ∙ ap (λ (x : Context). x.cell (Page c.args.p)) (sym c.held.ensures.context) in
     c.shared_page.ensures c.args.p
-    ∙ (λ i. cell_after (c.next_group.ensures i) Share (Page c.args.p) (cell i))
+    ∙ (λ i. shared_cell (c.next_group.ensures i) Share (Page c.args.p) (cell i))
     ∙ key_shared (seen c.args.self.now) c.args.c c.args.job c.args.spec.now (fresh-seen c.args.self.now) c.requires.live c.requires.within (Page c.args.p) (sym c.mode_or_copy.ensures ∙ c.in-Share.is)

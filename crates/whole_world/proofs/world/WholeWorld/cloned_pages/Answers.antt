@@ -2,7 +2,7 @@ use Rattle.std.proofs.Common.{◌∙◌, ap, map}
 use Rattle.std.proofs.lemmas.List.{map-append}
 use Rattle.lwc_base.specs.declared.key.Key.TheVariants.{Page}
 use Rattle.lwc_base.specs.Modes.{mode_or_copy}
-use Rattle.lwc_base.specs.Sharing.{cloned, share}
+use Rattle.lwc_base.specs.Sharing.{cloned_cell, share}
 use Rattle.whole_world.specs.Copies.{as_cell}
 use Rattle.whole_world.specs.Seen.{seen}
 use Rattle.whole_world.proofs.CloneCells.{one_more_made}

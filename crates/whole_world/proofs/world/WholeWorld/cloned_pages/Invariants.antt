@@ -2,7 +2,7 @@ use Rattle.std.proofs.Common.{◌≡◌, map}
 use Rattle.std.specs.List.{range_with_len}
 use Rattle.lwc_base.specs.declared.key.Key.TheVariants.{Page}
 use Rattle.lwc_base.specs.Modes.{mode_or_copy}
-use Rattle.lwc_base.specs.Sharing.{cloned, share}
+use Rattle.lwc_base.specs.Sharing.{cloned_cell, share}
 use Rattle.whole_world.specs.Copies.{as_cell}
 use Rattle.whole_world.specs.Seen.{seen}
 use Rattle.whole_world.proofs.world.WholeWorld.cloned_pages.Given as goal

@@ -1,6 +1,6 @@
 use Rattle.lwc_base.specs.declared.key.Key.TheVariants.{Slot}
 use Rattle.lwc_base.specs.Modes.{mode_or_copy}
-use Rattle.lwc_base.specs.Sharing.{cloned, share}
+use Rattle.lwc_base.specs.Sharing.{cloned_cell, share}
 use Rattle.whole_world.specs.Seen.{seen}
 use Rattle.whole_world.proofs.CloneCells.{one_more_made}
 use Rattle.whole_world.proofs.world.WholeWorld.cloned_slots.Goals as goal

@@ -1,7 +1,7 @@
 use Rattle.std.proofs.Common.{◌+◌, ap, refl, arith}
 use Rattle.lwc_base.specs.World.{Counters}
 use Rattle.whole_world.specs.Seen.{seen, size_of}
-use Rattle.whole_world.proofs.RowWorlds.{count_on-row, sound-counts}
+use Rattle.whole_world.proofs.RowWorlds.{change_counters-row, sound-counts}
 use Rattle.whole_world.proofs.world.WholeWorld.count_context.Goals as goal
 
 pub index_mut-requires : goal.index_mut-requires
@@ -18,7 +18,7 @@ invariant_of-self c = record {
 pub returns-clause-world : goal.returns-clause-world
 unfolding seen size_of
 returns-clause-world c =
-    count_on-row _ _ _ _ c.args.self.now.sound c.args.job _ (λ (n : Counters). record n { contexts = n.contexts + 1 }) (omega (arith, c.args.self.now.sound.counted, c.requires.known))
+    change_counters-row _ _ _ _ c.args.self.now.sound c.args.job _ (λ (n : Counters). record n { contexts = n.contexts + 1 }) (omega (arith, c.args.self.now.sound.counted, c.requires.known))
     (ap (λ (n : Counters). record n { contexts = n.contexts + 1 }) c.counted-counts.ensures)
 
 pub returns-clause-size : goal.returns-clause-size

@@ -1,6 +1,6 @@
 use Rattle.std.proofs.Common.{◌∙◌, ap, sym, subst, refl}
 use Rattle.std.proofs.lemmas.Bool.{false≢true}
-use Rattle.lwc_base.specs.Sharing.{left_common, moved}
+use Rattle.lwc_base.specs.Sharing.{with_shared, moved_values}
 use Rattle.lwc_base.specs.World.{Context, context}
 use Rattle.whole_world.specs.Copies.{context_of}
 use Rattle.whole_world.specs.Rows.{has_name, world_of}
@@ -9,7 +9,7 @@ use Rattle.whole_world.specs.Sound.{IsWhole}
 use Rattle.whole_world.proofs.RowWorlds.{change_context-row, dead-missed, sound-row, whole-row}
 use Rattle.whole_world.proofs.GroupRows.{as_whole, context-row}
 use Rattle.whole_world.proofs.RowLemmas.{row_missed}
-use Rattle.whole_world.proofs.ShareSteps.{fresh-left_common}
+use Rattle.whole_world.proofs.ShareSteps.{fresh-with_shared}
 use Rattle.whole_world.proofs.world.WholeWorld.move_out.Goals as goal
 
 pub move_values-requires-clause-whole : goal.move_values-requires-clause-whole
@@ -34,11 +34,11 @@ invariant_of-self c =
     let here = context-row _ _ _ _ c.args.self.now.sound c.args.c c.in-Some.i _ found c.index_mut.ensures.value in
     let whole = whole-row _ _ _ _ c.args.self.now.sound c.args.c c.in-Some.i _ found c.index_mut.ensures.value in
     record {
-      sound = sound-row _ _ _ _ c.args.self.now.sound c.args.c c.in-Some.i _ _ (left_common c.args.group.now.name c.args.spec.now) found
+      sound = sound-row _ _ _ _ c.args.self.now.sound c.args.c c.in-Some.i _ _ (with_shared c.args.group.now.name c.args.spec.now) found
           c.index_mut.ensures.value c.move_values.ensures.name
           (as_whole _ _ _ whole (subst (λ n. IsWhole n c.move_values.new.self) c.page_limit-pages.ensures c.move_values.ensures.whole))
           c.move_values.ensures.context
-          (fresh-left_common _ c.args.c c.args.group.now.name _ c.requires.counted c.args.self.now.sound.fresh);
+          (fresh-with_shared _ c.args.c c.args.group.now.name _ c.requires.counted c.args.self.now.sound.fresh);
     }
 
 pub returns-clause-world : goal.returns-clause-world
@@ -46,7 +46,7 @@ unfolding seen
 returns-clause-world c =
     let found = sym c.place_of.ensures ∙ c.in-Some.is in
     let here = context-row _ _ _ _ c.args.self.now.sound c.args.c c.in-Some.i _ found c.index_mut.ensures.value in
-    change_context-row _ _ _ _ c.args.self.now.sound c.args.c c.in-Some.i _ _ (left_common c.args.group.now.name c.args.spec.now) found
+    change_context-row _ _ _ _ c.args.self.now.sound c.args.c c.in-Some.i _ _ (with_shared c.args.group.now.name c.args.spec.now) found
     c.index_mut.ensures.value c.move_values.ensures.name
     c.move_values.ensures.context
 

@@ -2,7 +2,7 @@
 use Rattle.std.proofs.Common.{◌≡◌, ℕ, zero, suc, ◌<◌, List, [], ◌∷◌, length, get_or, set, replicate, refl, ap, arith}
 use Rattle.std.specs.List.{sum_by}
 use Rattle.std.proofs.lemmas.List.Sums.{sum_by-cons}
-use Rattle.lwc_base.specs.Paired.{paired}
+use Rattle.pool_base.specs.Paired.{paired}
 
 pub length-paired : {A B C : Type 0} (f : A → B → C) (xs : List A) (ys : List B) → length xs ≡ length ys → length (paired f xs ys) ≡ length xs
 length-paired f [] ys e = refl

@@ -1,6 +1,6 @@
 use Rattle.std.proofs.Common.{arith}
-use Rattle.lwc_base.proofs.StackLemmas.{free-held}
-use Rattle.lwc_base.proofs.counts.Counts.used.Goals as goal
+use Rattle.pool_base.proofs.StackLemmas.{free-held}
+use Rattle.pool_base.proofs.counts.Counts.used.Goals as goal
 
 pub returns : goal.returns
 returns c =

@@ -1,6 +1,6 @@
 use Rattle.std.proofs.Common.{◌≡◌, arith}
-use Rattle.lwc_base.proofs.StackLemmas.{IsRun-none, IsRun_push, IsStack-run}
-use Rattle.lwc_base.proofs.counts.all_free.Goals as goal
+use Rattle.pool_base.proofs.StackLemmas.{IsRun-none, IsRun_push, IsStack-run}
+use Rattle.pool_base.proofs.counts.all_free.Goals as goal
 
 pub places-init : goal.places-init
 places-init c = record { run = rw c.in_ok-free.ensures.items IsRun-none; long = c.in_ok-free.ensures.len; room = omega (arith, c.in_ok-free.ensures.exact) }

@@ -1,6 +1,6 @@
 use Rattle.std.proofs.Common.{arith}
-use Rattle.lwc_base.proofs.StackLemmas.{IsStack-take}
-use Rattle.lwc_base.proofs.counts.Counts.take.Goals as goal
+use Rattle.pool_base.proofs.StackLemmas.{IsStack-take}
+use Rattle.pool_base.proofs.counts.Counts.take.Goals as goal
 
 pub invariant_of-self-2 : goal.invariant_of-self-2
 invariant_of-self-2 c =

@@ -1,6 +1,6 @@
 use Rattle.std.proofs.Common.{arith}
-use Rattle.lwc_base.proofs.StackLemmas.{IsStack-drop, IsStack-hold, length-free-held}
-use Rattle.lwc_base.proofs.counts.Counts.drop_hold.Goals as goal
+use Rattle.pool_base.proofs.StackLemmas.{IsStack-drop, IsStack-hold, length-free-held}
+use Rattle.pool_base.proofs.counts.Counts.drop_hold.Goals as goal
 
 pub push_reserved-requires : goal.push_reserved-requires
 push_reserved-requires c =

@@ -1,12 +1,11 @@
 ghost use Rattle.std.specs.Prelude.{◌≡◌, ◌≤◌, ℕ, ◌+◌, ◌-◌, ◌<◌, ◌^◌, ◌↔◌, List, IfOk, IfSome, IfNone, IsNone, length, replicate, slice_index, slice_set, vec_capacity};
-ghost use Rattle.lwc_base.specs.Counts.{free_count, held_count, IsStack};
+ghost use Rattle.pool_base.specs.Counts.{free_count, held_count, IsStack};
 
-use crate::memory::OutOfMemory;
-use std::alloc::Global;
+use std::alloc::{AllocError, Global};
 use std::marker::Model;
 
-/// How often each of a fixed number of places is held, seen as the list of these counts.
-/// The places that nobody holds are kept as a stack, so that no call looks for one.
+/// How often each of a fixed number of places is held, seen as the list of these counts. The free places are kept on
+/// a stack, so that no call searches for one.
 #[derive(Drop)]
 pub struct Counts {
     counts: Vec<u32>,
@@ -15,7 +14,7 @@ pub struct Counts {
 
 impl Model for Counts {
     ghost use Rattle.std.specs.Prelude.{ℕ, List};
-    ghost use Rattle.lwc_base.specs.Counts.{IsStack};
+    ghost use Rattle.pool_base.specs.Counts.{IsStack};
 
     ghost Value = { List ℕ };
 
@@ -31,7 +30,7 @@ impl Model for Counts {
 }
 
 /// The numbers below `places`, as a stack with room for all of them.
-fn all_free(alloc: Global, places: u32) -> Result<Vec<u32>, OutOfMemory>
+fn all_free(alloc: Global, places: u32) -> Result<Vec<u32>, AllocError>
     ensures stack { IfOk result (λ free. IsStack (replicate places 0) free.items) }
     ensures room { IfOk result (λ free. places ≤ vec_capacity free) }
 {
@@ -43,8 +42,8 @@ fn all_free(alloc: Global, places: u32) -> Result<Vec<u32>, OutOfMemory>
 }
 
 impl Counts {
-    /// So many places, none of them held. The one error is want of memory.
-    pub fn open(alloc: Global, places: u32) -> Result<Counts, OutOfMemory>
+    /// A list of this many places, none of them held. The error says that memory ran out.
+    pub fn open(alloc: Global, places: u32) -> Result<Counts, AllocError>
         ensures { IfOk result (λ counts. counts ≡ replicate places 0) }
     {
         let counts = vec![in alloc; 0; places as usize]?;
@@ -52,7 +51,7 @@ impl Counts {
         Ok(Counts { counts, free })
     }
 
-    /// Takes a place that nobody holds, and holds it once. None exactly where every place is held.
+    /// Takes a free place and holds it once. `None` exactly where every place is held.
     pub fn take(&mut self) -> Option<u32>
         ensures full { IsNone result ↔ (free_count self.old ≡ 0) }
         ensures full_same { IfNone result (self.new ≡ self.old) }
@@ -74,7 +73,7 @@ impl Counts {
         self.counts[place as usize] += 1;
     }
 
-    /// Holds a held place once less. At 0 it is free.
+    /// Gives one hold of a held place back. A place without a hold is free.
     pub fn drop_hold(&mut self, place: u32)
         requires { 0 < slice_index self.old place }
         ensures { self.new ≡ slice_set self.old place (slice_index self.old place - 1) }

@@ -1,0 +1,53 @@
+/// The most pages of a context; the number of each is below it.
+pub const MOST_PAGES: u32 = 1024;
+
+/// The most ranges of a context: runs of consecutive pages that are all its own, or all common of one group.
+pub const MOST_RANGES: u32 = 64;
+
+/// The most items of a specifier.
+pub const MOST_ITEMS: usize = 32;
+
+/// The most live contexts that bear one job.
+pub const MOST_CONTEXTS_OF_JOB: u32 = 32;
+
+/// The most live groups that bear one job.
+pub const MOST_GROUPS_OF_JOB: u32 = 64;
+
+/// The most live contexts of a world.
+pub const MOST_CONTEXTS: u32 = 529;
+
+/// The most live groups of a world.
+pub const MOST_GROUPS: u32 = 1024;
+
+/// The most jobs of a world: one for each request, and job 0.
+pub const MOST_JOBS: u32 = 1025;
+
+/// The most frames of a world.
+pub const MOST_FRAMES: u32 = 65536;
+
+/// The most threads of a run, and the most workers of a serve.
+pub const MOST_THREADS: u32 = 16;
+
+/// The most steps that one thread may make.
+pub const MOST_BUDGET: u32 = 100000;
+
+/// The most steps of a whole run.
+pub const MOST_STEPS: u32 = 16000000;
+
+/// The most instructions of an image.
+pub const MOST_INSTRUCTIONS: u32 = 65536;
+
+/// The most files of an image.
+pub const MOST_FILES: u32 = 64;
+
+/// The most bytes that the files of an image have together.
+pub const MOST_FILE_BYTES: u32 = 1048576;
+
+/// The most slots that an image fills.
+pub const MOST_IMAGE_SLOTS: u32 = 62;
+
+/// The most bytes of an image.
+pub const MOST_IMAGE_BYTES: usize = 8388608;
+
+/// The most bytes of a schedule.
+pub const MOST_SCHEDULE_BYTES: usize = 16777216;

@@ -1,0 +1,2 @@
+pub mod PairedLemmas
+pub mod StackLemmas

@@ -1,0 +1,8 @@
+//! What pools stand on: counts of how often each place is held, and a counter of steps.
+#![tactic(auto)]
+
+pub mod counts;
+pub mod steps;
+
+pub use counts::Counts;
+pub use steps::Steps;
