@@ -2,19 +2,19 @@
 use Rattle.std.specs.Prelude.{◌≡◌, ◌<◌, ◌≤◌, ◌^◌, ℕ, true}
 use Rattle.std.specs.FinMap as fm
 use Rattle.lwc_base.specs.declared.name.Name.{Name}
-use Rattle.lwc_base.specs.declared.limits.TheConstants.{MOST_PAGES, MOST_RANGES}
+use Rattle.lwc_base.specs.declared.limits.TheConstants.{MOST_CONTEXTS, MOST_FRAMES, MOST_GROUPS, MOST_JOBS, MOST_PAGES, MOST_RANGES}
 use Rattle.lwc_base.specs.declared.size.WorldSize.{WorldSize}
 use Rattle.lwc_base.specs.World.{World, is_live}
 
 -- the sizes that a world may be opened with
 pub record IsSize (size : WorldSize) : Type 0 where
-  pub frames : (1 ≤ size.frames) × (size.frames ≤ 65536)
-  pub contexts : (1 ≤ size.contexts) × (size.contexts ≤ 529)
-  pub groups : (1 ≤ size.groups) × (size.groups ≤ 1024)
-  pub jobs : (1 ≤ size.jobs) × (size.jobs ≤ 1025)
+  pub frames : (1 ≤ size.frames) × (size.frames ≤ MOST_FRAMES)
+  pub contexts : (1 ≤ size.contexts) × (size.contexts ≤ MOST_CONTEXTS)
+  pub groups : (1 ≤ size.groups) × (size.groups ≤ MOST_GROUPS)
+  pub jobs : (1 ≤ size.jobs) × (size.jobs ≤ MOST_JOBS)
   pub pages : (1 ≤ size.pages) × (size.pages ≤ MOST_PAGES)
 
--- a context of that name is there
+-- a context of this name is live
 abbrev pub IsLive : World → Name → Type 0
 IsLive w c = is_live w c ≡ true
 
@@ -25,11 +25,11 @@ pub record MayName (w : World) (job : ℕ) : Type 0 where
   pub groups : (w.next job).groups < 2 ^ 31
   pub tags : (w.next job).tags < 2 ^ 31
 
--- there is a place for one more context
+-- one more context may live
 abbrev pub HasPlace : World → Type 0
 HasPlace w = fm.len w.contexts < w.size.contexts
 
--- there is a place for one more group
+-- one more group may live
 abbrev pub HasGroupPlace : World → Type 0
 HasGroupPlace w = fm.len w.groups < w.size.groups
 

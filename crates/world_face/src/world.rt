@@ -22,27 +22,27 @@ ghost use Rattle.world_face.specs.Calls.{AreFew, HasGroupPlace, HasPlace, IsSize
 use lwc_base::{Descriptor, Name, OutOfMemory, Range, Regs, Spec, StoreFault, Summary, WorldSize};
 use std::alloc::Global;
 
-/// A world of contexts and groups. What it stands for is `seen`, whichever way it is kept; each call does to
-/// `seen` what its definition says, and leaves all else of it. After an error nothing has changed.
+/// A world of contexts and groups. However it is represented, it stands for the value `seen`; each call changes `seen`
+/// as its definition says, and nothing else of it. After an error nothing has changed.
 pub trait World: Sized + Drop + Send + Sync {
-    /// The contexts, the groups, what each job has counted, and the frames and pages.
+    /// The contexts, the groups, the counters of each job, and the size.
     ghost seen: { Self → worlds.World };
 
-    /// Whether all memory is taken at opening, so that no later call wants any.
+    /// Whether all memory is taken at opening, so that no later call runs out of memory.
     ghost roomy: { Bool };
 
-    /// A world of that size in which nothing is live. The one error is want of memory.
+    /// A world of this size in which nothing is live. The only error is out of memory.
     fn open(alloc: Global, world_size: &WorldSize) -> Result<Self, OutOfMemory>
         requires { IsSize world_size.now }
         ensures opened { IfOk result (λ w. seen w ≡ empty_world world_size.now) };
 
-    /// How many pages each context may have.
+    /// The number of pages that a context may have, at most `MOST_PAGES`.
     fn pages(&self) -> u32
         ensures pages { result ≡ (seen self.now).size.pages }
         ensures few { (seen self.now).size.pages ≤ MOST_PAGES };
 
-    /// Makes a context of job 0 from nothing: no page, empty slots, this uid, and the registers that it begins with.
-    /// The one error is want of memory.
+    /// Makes a new context of job 0 with no page, empty slots, this uid, and these registers to begin with. Answers
+    /// its name. The only error is out of memory.
     fn first(&mut self, uid: u32, entry: &Regs) -> Result<Name, OutOfMemory>
         requires may { MayName (seen self.old) 0 }
         requires place { HasPlace (seen self.old) }
@@ -51,8 +51,8 @@ pub trait World: Sized + Drop + Send + Sync {
         ensures err { OnErr result (seen self.new ≡ seen self.old) }
         ensures ample { roomy ≡ true → IsOk result };
 
-    /// Makes each page of the range a page of zeros of the context's own, whatever it was. The one error is want
-    /// of memory.
+    /// Makes each page of the range a page of zeros of the context's own, whatever it was. The only error is out of
+    /// memory.
     fn map(&mut self, c: Name, range: Range) -> Result<(), OutOfMemory>
         requires live { IsLive (seen self.old) c }
         requires some { range.from < range.to }
@@ -62,7 +62,7 @@ pub trait World: Sized + Drop + Send + Sync {
         ensures err { OnErr result (seen self.new ≡ seen self.old) }
         ensures ample { roomy ≡ true → IsOk result };
 
-    /// Makes each page of the range absent, whatever it was. The one error is want of memory.
+    /// Makes each page of the range absent, whatever it was. The only error is out of memory.
     fn unmap(&mut self, c: Name, range: Range) -> Result<(), OutOfMemory>
         requires live { IsLive (seen self.old) c }
         requires some { range.from < range.to }
@@ -72,8 +72,8 @@ pub trait World: Sized + Drop + Send + Sync {
         ensures err { OnErr result (seen self.new ≡ seen self.old) }
         ensures ample { roomy ≡ true → IsOk result };
 
-    /// Reads bytes of the context's memory from the address `at` on, as many as `out` has room for. `false` says
-    /// that a page of them is absent, and `out` is then as it was.
+    /// Reads `out.len()` bytes of the context's memory from the address `at` on into `out`. Answers `false`, with `out`
+    /// unchanged, if a page of them is absent.
     fn bytes(&self, c: Name, at: u32, out: &mut [u8]) -> bool
         requires live { IsLive (seen self.now) c }
         requires within { at + length out.old ≤ (seen self.now).size.pages * PAGE_BYTES }
@@ -85,8 +85,8 @@ pub trait World: Sized + Drop + Send + Sync {
     ///
     /// # Errors
     ///
-    /// `BadAddress` where a touched page is absent; else `NoFrame` where the frames in use and the pages that part
-    /// are more than the frames; or want of memory.
+    /// `BadAddress` if a touched page is absent; else `NoFrame` if the frames in use and the pages that part are more
+    /// than the frames; or `OutOfMemory`.
     fn store(&mut self, c: Name, at: u32, piece: &[u8], job: u32) -> Result<(), StoreFault>
         requires live { IsLive (seen self.old) c }
         requires within { at + length piece.now ≤ (seen self.old).size.pages * PAGE_BYTES }
@@ -98,19 +98,19 @@ pub trait World: Sized + Drop + Send + Sync {
         ensures err { OnErr result (seen self.new ≡ seen self.old) }
         ensures ample { roomy ≡ true → result ≢ Err StoreFault.OutOfMemory };
 
-    /// What stands under a slot of the context.
+    /// The descriptor in a slot of the context.
     fn slot(&self, c: Name, n: u8) -> Descriptor
         requires live { IsLive (seen self.now) c }
         requires within { n < SLOTS }
         ensures value { result ≡ slot_at (seen self.now) c n };
 
-    /// Puts another value under a slot of the context.
+    /// Puts another descriptor into a slot of the context.
     fn set_slot(&mut self, c: Name, n: u8, value: Descriptor)
         requires live { IsLive (seen self.old) c }
         requires within { n < SLOTS }
         ensures put { seen self.new ≡ put_slot (seen self.old) c n value };
 
-    /// The lowest slot of the context that is empty; `None` where none is.
+    /// The lowest empty slot of the context; `None` if no slot is empty.
     fn lowest_empty(&self, c: Name) -> Option<u8>
         requires live { IsLive (seen self.now) c }
         ensures lowest { result ≡ lowest_empty (seen self.now) c };
@@ -120,7 +120,7 @@ pub trait World: Sized + Drop + Send + Sync {
         requires live { IsLive (seen self.now) c }
         ensures value { result ≡ uid_at (seen self.now) c };
 
-    /// Puts another uid under the credential of the context.
+    /// Changes the credential of the context.
     fn set_uid(&mut self, c: Name, uid: u32)
         requires live { IsLive (seen self.old) c }
         ensures put { seen self.new ≡ put_uid (seen self.old) c uid };
@@ -130,10 +130,10 @@ pub trait World: Sized + Drop + Send + Sync {
         requires live { IsLive (seen self.now) c }
         ensures value { result ≡ (context (seen self.now) c).entry };
 
-    /// Makes a context of a job from another one. What is the other's own under share moves into one new group, and
-    /// the two have it in common from then on; what was common already stays so; what is under copy or not named is
-    /// copied, and what is under unmap is left out. The new one begins with these registers and keeps none for any
-    /// thread. Answers its name. The one error is want of memory.
+    /// Makes a new context of a job from another one. Values of mode share that are the other's own move into one new
+    /// group, and both contexts have them in common from then on; what was common already stays so. Values of mode copy
+    /// and values that no item names are copied, and those of mode unmap are left out. The new context begins with these
+    /// registers and has no saved ones. Answers its name. The only error is out of memory.
     fn clone_context(
         &mut self,
         c: Name,
@@ -158,42 +158,46 @@ pub trait World: Sized + Drop + Send + Sync {
         requires within { IsSpec (seen self.now).size.pages spec.now }
         ensures value { result ≡ needs_group (seen self.now) c spec.now };
 
-    /// How many ranges the context and the new one would have after `clone_context`, in this order; they are the same
-    /// for every job.
+    /// The numbers of ranges that the context and the new one would have after `clone_context`, in this order. They are
+    /// the same for every job.
     fn ranges_after_clone(&self, c: Name, spec: &Spec) -> (u32, u32)
         requires live { IsLive (seen self.now) c }
         requires within { IsSpec (seen self.now).size.pages spec.now }
         ensures value { (job : ℕ) → result ≡ ranges_after_clone (seen self.now) c job spec.now };
 
-    /// How many ranges the context would have after `map`, where `present` is true, or after `unmap`.
+    /// The number of ranges that the context would have after `map` if `present` is true, and else after `unmap`.
     fn ranges_after_map(&self, c: Name, range: Range, present: bool) -> u32
         requires live { IsLive (seen self.now) c }
         requires some { range.from < range.to }
         requires within { range.to ≤ (seen self.now).size.pages }
         ensures value { result ≡ ranges_of (mapped_or_not (seen self.now) c range.from range.to present) c };
 
-    /// How many live contexts bear the job.
+    /// The number of live contexts of the job.
     fn live_of(&self, job: u32) -> u32
         ensures value { result ≡ live_of (seen self.now) job };
 
-    /// How many live groups bear the job.
+    /// The number of live groups of the job.
     fn groups_of(&self, job: u32) -> u32
         ensures value { result ≡ groups_of (seen self.now) job };
 
-    /// The name of the i-th live context, in the order of names; `None` where there are no more than i.
+    /// The name of the i-th live context in the order of names; `None` if at most i contexts are live.
     fn nth_context(&self, i: u32) -> Option<Name>
         ensures { result ≡ slice_get (fm.keys (seen self.now).contexts) i };
 
-    /// What a report says of the context.
+    /// The numbers of pages and slots in use of the context, and its uid, as a report prints them.
     fn summary(&self, c: Name) -> Summary
         requires live { IsLive (seen self.now) c }
         ensures value { result ≡ summary_of (seen self.now) c };
 
-    /// How many groups live.
+    /// The number of live contexts.
+    fn context_count(&self) -> u32
+        ensures { result ≡ fm.len (seen self.now).contexts };
+
+    /// The number of live groups.
     fn group_count(&self) -> u32
         ensures { result ≡ fm.len (seen self.now).groups };
 
-    /// How many frames are in use.
+    /// The number of frames in use.
     fn used(&self) -> u32
         ensures { result ≡ used (seen self.now) };
 }
