@@ -1,180 +1,260 @@
--- What a context and its clone read, and what they have apart and in common.
-use Rattle.std.proofs.Common.{◌≡◌, ℕ, ◌+◌, ◌<◌, refl, sym, ap, subst, ◌∙◌, Bool, true, false, cond, ◌||◌, List, length, get_or, arith}
-use Rattle.std.specs.List.{list_any, range_with_len}
-use Rattle.std.proofs.lemmas.Bool.{false≢true}
-use Rattle.std.proofs.lemmas.List.Folds.{list_any_at}
-use Rattle.std.proofs.lemmas.List.FromFn.{length-range_with_len, get_or-range_with_len}
+-- The cells of a context and of its clone, what they read, and what they have apart and in common.
+use Rattle.std.proofs.Common.{◌≡◌, ◌≢◌, ℕ, refl, sym, ap, subst, ◌∙◌, inl, inr, true, false, cond, eqb, List, arith}
+use Rattle.std.specs.Prelude.{unwrap_or}
+use Rattle.std.specs.FinMap as fm
+use Rattle.std.proofs.lemmas.Bool.{cases_Bool, cond_both, false≢true}
 use Rattle.lwc_base.specs.declared.cell.Cell.{Cell}
 use Rattle.lwc_base.specs.declared.cell.Cell.TheVariants.{Own, Common}
-use Rattle.lwc_base.specs.declared.descriptor.TheConstants.{SLOTS}
 use Rattle.lwc_base.specs.declared.item.Item.{Item}
 use Rattle.lwc_base.specs.declared.item.Mode.{Mode}
 use Rattle.lwc_base.specs.declared.item.Mode.TheVariants.{Copy, Share, Unmap}
 use Rattle.lwc_base.specs.declared.key.Key.{Key}
-use Rattle.lwc_base.specs.declared.key.Key.TheVariants.{Page, Slot, Cred}
 use Rattle.lwc_base.specs.declared.name.Name.{Name}
-use Rattle.lwc_base.specs.declared.regs.Regs.{Regs}
 use Rattle.lwc_base.specs.Cells.{value_at}
-use Rattle.lwc_base.specs.Clones.{IsGroup, HasItsGroups, IsClone, AreApart, HaveInCommon}
-use Rattle.lwc_base.specs.Fresh.{IsFresh}
-use Rattle.lwc_base.specs.Keys.{ValueOf, nothing, is_there}
+use Rattle.lwc_base.specs.Clones.{IsClone, AreApart, HaveInCommon}
+use Rattle.lwc_base.specs.Facts.{AddsContext}
+use Rattle.lwc_base.specs.Fresh.{IsNamedGroup}
+use Rattle.lwc_base.specs.Holders.{InCell, IsGroup}
+use Rattle.lwc_base.specs.Keys.{ValueOf, is_there, nothing}
 use Rattle.lwc_base.specs.Modes.{IsKey, mode_or_copy}
-use Rattle.lwc_base.specs.Sharing.{any_key, is_moved, moved_values, needs_group, shared_cell, with_shared, share, cloned_cell, cloned_context, clone_context}
-use Rattle.lwc_base.specs.World.{World, Context, change_counters, is_live, context, change_context, add_context, next_context, next_group}
-use Rattle.lwc_base.proofs.Cloning.{context-cloned, context-clone_context-other, group-clone_context, live-not-next, share-moves, context-share-moves, context-share-alone}
-use Rattle.lwc_base.proofs.Grouped.{names_live-context, is_group-kept, is_group-added}
-use Rattle.lwc_base.proofs.OwnCells.{value_at-own}
-use Rattle.lwc_base.proofs.Sharing.{after_share, moved_into_group, next_group-left, value_at-share}
-use Rattle.lwc_base.proofs.Writes.{value_at-same, keys_apart, groups_live-change_context}
+use Rattle.lwc_base.specs.Sharing.{is_moved, needs_group, with_shared, share, cloned_cell, cloned_context, clone_context}
+use Rattle.lwc_base.specs.Sound.{HasValue, live_groups}
+use Rattle.lwc_base.specs.World.{World, Context, Counters, Group, context, group, new_group, is_live, next_context, next_group}
+use Rattle.lwc_base.proofs.Common.{value_at-same, value_at-cell}
+use Rattle.lwc_base.proofs.Fresh.{next_context-new}
+use Rattle.lwc_base.proofs.Lookups.{adds-add_context}
+use Rattle.lwc_base.proofs.Needs.{needed-key}
+use Rattle.lwc_base.proofs.Orders.{cases_name}
+use Rattle.lwc_base.proofs.Puts.{live_of_common}
+use Rattle.lwc_base.proofs.Sharing.{shares-share, named-not-next, value_at-share}
 
-left_false : (a b : Bool) → (a || b) ≡ false → a ≡ false
-left_false true b is = is
-left_false false b is = refl
+common_stays : (mode : Mode) (k : Key) (g : Name) → is_moved mode k (Common g) ≡ false
+common_stays Copy k g = refl
+common_stays Share k g = refl
+common_stays Unmap k g = refl
 
-right_false : (a b : Bool) → (a || b) ≡ false → b ≡ false
-right_false true b is = absurd (false≢true (sym is))
-right_false false b is = is
-
-plus_none : (k : ℕ) → 0 + k ≡ k
-plus_none k = omega arith
-
-within_all : (n k : ℕ) → k < n → k < length (range_with_len 0 n)
-within_all n k within = rw length-range_with_len within
-
--- where no number of a range passes, each fails
-none_passes : (test : ℕ → Bool) (n k : ℕ) → k < n → list_any test (range_with_len 0 n) ≡ false → test k ≡ false
-none_passes test n k within none =
-    let at : get_or (range_with_len 0 n) k 0 ≡ k = get_or-range_with_len 0 n k 0 within ∙ plus_none k in
-    elim (test k) as (λ b. test k ≡ b → b ≡ false) [
-      | true ↦ λ passes. absurd (false≢true (sym none ∙ list_any_at test (range_with_len 0 n) k 0 (within_all n k within) (ap test at ∙ passes)))
-      | false ↦ λ _. refl
-    ] refl
-
--- where no key passes, each that there is fails
-pub no_key : (pages : ℕ) (test : Key → Bool) → any_key pages test ≡ false → (k : Key) → IsKey pages k → test k ≡ false
-unfolding any_key
-no_key pages test none (Page p) within = none_passes (λ q. test (Page q)) pages p within (left_false _ _ (left_false _ _ none))
-no_key pages test none (Slot n) within = none_passes (λ m. test (Slot m)) SLOTS n within (right_false _ _ (left_false _ _ none))
-no_key pages test none Cred within = right_false _ _ none
-
--- where no value moves, none moves under a key
-pub nothing_moves : (w : World) (c : Name) (items : List Item) → needs_group w c items ≡ false → (k : Key) → IsKey w.size.pages k →
-    is_moved (mode_or_copy items k) k ((context w c).cell k) ≡ false
-unfolding needs_group
-nothing_moves w c items none k within = no_key w.size.pages (λ q. is_moved (mode_or_copy items q) q ((context w c).cell q)) none k within
+unshared_stays : (mode : Mode) (k : Key) (cell : Cell (ValueOf k)) → mode ≢ Share → is_moved mode k cell ≡ false
+unshared_stays Copy k cell other = refl
+unshared_stays Share k cell other = absurd (other refl)
+unshared_stays Unmap k cell other = refl
 
 module _ (w : World) (c : Name) (job : ℕ) (items : List Item) where
-  -- a group that is live is so after sharing
-  is_group-share : (g : Name) → IsGroup w g → IsGroup (share w c job items) g
-  is_group-share g live =
-      after_share (λ v. IsGroup v g) w c job items
-      (is_group-kept (change_context w c (with_shared (next_group w job) items)) job (moved_values items (context w c)) g
-      (groups_live-change_context w c (with_shared (next_group w job) items) g ∙ live)) live
-
-  -- the group of the values that move is live
-  is_group-share-new : needs_group w c items ≡ true → IsGroup (share w c job items) (next_group w job)
-  is_group-share-new needs =
-      subst (λ (v : World). IsGroup v (next_group w job)) (sym (share-moves w c job items needs))
-      (subst (λ (g : Name). IsGroup (moved_into_group w c job items) g) (next_group-left w c job items)
-      (is_group-added (change_context w c (with_shared (next_group w job) items)) job (moved_values items (context w c))))
-
-  there_at : (k : Key) (value : ValueOf k) → (context w c).cell k ≡ Own value → is_there k (value_at w c k) ≡ true → is_there k value ≡ true
-  there_at k value is there = ap (is_there k) (sym (value_at-own w c k (context w c) value refl is)) ∙ there
-
-  common_stays : (k : Key) (needs : Bool) (h : Name) → needs_group w c items ≡ needs → (context w c).cell k ≡ Common h → mode_or_copy items k ≡ Share →
-      is_live w c ≡ true → (context (share w c job items) c).cell k ≡ Common h
-  unfolding with_shared
-  common_stays k true h decided is mode live =
-      ap (λ (x : Context). x.cell k) (context-share-moves w c job items live decided) ∙ (λ i. shared_cell (next_group w job) (mode i) k (is i))
-  common_stays k false h decided is mode live = ap (λ (x : Context). x.cell k) (context-share-alone w c job items decided c) ∙ is
-
-  -- a cell under share is common afterwards
-  becomes_common : (k : Key) (needs : Bool) (cell : Cell (ValueOf k)) → needs_group w c items ≡ needs → (context w c).cell k ≡ cell → IsKey w.size.pages k →
-      is_there k (value_at w c k) ≡ true → mode_or_copy items k ≡ Share → IsFresh w → HasItsGroups w → is_live w c ≡ true →
-      (g : Name) × IsGroup (share w c job items) g × ((context (share w c job items) c).cell k ≡ Common g)
-  unfolding with_shared
-  becomes_common k needs (Common h) decided is within there mode fresh groups live =
-      (h, is_group-share h (names_live-context w c groups k h is), common_stays k needs h decided is mode live)
-  becomes_common k true (Own value) decided is within there mode fresh groups live = (
-    next_group w job,
-    is_group-share-new decided,
-    ap (λ (x : Context). x.cell k) (context-share-moves w c job items live decided)
-        ∙ (λ i. shared_cell (next_group w job) (mode i) k (is i)) ∙ ap (λ b. cond b (Common (next_group w job)) (Own value)) (there_at k value is there),
-  )
-  becomes_common k false (Own value) decided is within there mode fresh groups live =
-      absurd (false≢true (sym (nothing_moves w c items decided k within) ∙ (λ i. is_moved (mode i) k (is i)) ∙ there_at k value is there))
-
-module _ (w : World) (c : Name) (job : ℕ) (items : List Item) (entry : Regs) (fresh : IsFresh w) where
   abbrev shared : World
   shared = share w c job items
 
-  abbrev after : World
-  after = clone_context w c job items entry
+  -- the next context of a job has the same name after sharing
+  pub next_context-share : (j : ℕ) → next_context shared j ≡ next_context w j
+  next_context-share j =
+      elim (cases_Bool (needs_group w c items)) [
+        | inr none ↦ ap (λ v. next_context v j) ((shares-share w c job items).none none)
+        | inl needs ↦
+            ap (λ (n : ℕ → Counters). record { job = j; k = (n j).contexts }) ((shares-share w c job items).next needs)
+            ∙ ap (λ n. record { job = j; k = n }) (cond_both (eqb j job) _ (w.next j) (λ (n : Counters). n.contexts ≡ (w.next j).contexts) (λ _. refl) (λ _. refl))
+      ]
 
-  abbrev next : Name
-  next = next_context w job
+  -- a cell whose value does not move
+  pub cell-stays : (k : Key) → is_moved (mode_or_copy items k) k ((context w c).cell k) ≡ false → (context shared c).cell k ≡ (context w c).cell k
+  unfolding with_shared
+  cell-stays k stays =
+      let shares = shares-share w c job items in
+      elim (cases_Bool (is_live w c)) [
+        | inr dead ↦ ap (λ (x : Context). x.cell k) (shares.dead dead)
+        | inl live ↦ elim (cases_Bool (needs_group w c items)) [
+          | inr none ↦ ap (λ v. (context v c).cell k) (shares.none none)
+          | inl needs ↦ ap (λ (x : Context). x.cell k) (shares.named needs live) ∙ ap (λ b. cond b (Common (next_group w job)) ((context w c).cell k)) stays
+        ]
+      ]
 
-  -- each live context reads as before
-  value_at-cloning : (e : Name) (k : Key) → is_live w e ≡ true → value_at after e k ≡ value_at w e k
-  value_at-cloning e k live =
-      value_at-same after shared e k (context-clone_context-other w c job items entry e (live-not-next w job e fresh live)) (group-clone_context w c job items entry)
-      ∙ value_at-share w c job items fresh e k
+  -- a cell whose value moves
+  pub cell-moves : (k : Key) → is_live w c ≡ true → IsKey w.size.pages k → is_moved (mode_or_copy items k) k ((context w c).cell k) ≡ true →
+      (context shared c).cell k ≡ Common (next_group w job)
+  unfolding with_shared
+  cell-moves k live within moves =
+      ap (λ (x : Context). x.cell k) ((shares-share w c job items).named (needed-key w c items k within moves) live)
+      ∙ ap (λ b. cond b (Common (next_group w job)) ((context w c).cell k)) moves
 
-  -- the cells of the clone, by their modes
-  cell-cloned : (k : Key) (mode : Mode) → mode_or_copy items k ≡ mode → (context after next).cell k ≡ cloned_cell shared c k mode
-  unfolding cloned_context
-  cell-cloned k mode is = ap (λ (x : Context). x.cell k) (context-cloned w c job items entry) ∙ ap (cloned_cell shared c k) is
+  -- a group that a cell names is named by that cell before, or the value of the cell has moved
+  named-before : (a : Name) (k : Key) (g : Name) → (context shared a).cell k ≡ Common g → g ≢ next_group w job → (context w a).cell k ≡ Common g
+  unfolding with_shared
+  named-before a k g names other =
+      let shares = shares-share w c job items in
+      cases_name a c
+      (λ same. subst (λ d. (context w d).cell k ≡ Common g) (sym same)
+      (let here : (context shared c).cell k ≡ Common g = subst (λ d. (context shared d).cell k ≡ Common g) same names in
+      elim (cases_Bool (is_moved (mode_or_copy items k) k ((context w c).cell k))) [
+        | inr stays ↦ sym (cell-stays k stays) ∙ here
+        | inl moves ↦ elim (cases_Bool (is_live w c)) [
+          | inr dead ↦ ap (λ (x : Context). x.cell k) (sym (shares.dead dead)) ∙ here
+          | inl live ↦ elim (cases_Bool (needs_group w c items)) [
+            | inr none ↦ ap (λ v. (context v c).cell k) (sym (shares.none none)) ∙ here
+            | inl needs ↦
+                let new : Common (next_group w job) ≡ Common g =
+                sym (ap (λ (x : Context). x.cell k) (shares.named needs live) ∙ ap (λ b. cond b (Common (next_group w job)) ((context w c).cell k)) moves) ∙ here in
+                let same_group : next_group w job ≡ g = cc in absurd (other (sym same_group))
+          ]
+        ]
+      ]))
+      (λ differ. ap (λ (x : Context). x.cell k) (sym (shares.others a differ)) ∙ names)
 
-  -- what is copied reads as in the context that it is copied from
-  value_at-copied : (k : Key) → mode_or_copy items k ≡ Copy → value_at after next k ≡ value_at w c k
-  value_at-copied k is = value_at-own after next k (context after next) (value_at shared c k) refl (cell-cloned k Copy is) ∙ value_at-share w c job items fresh c k
-
-  -- what is left out is nothing there
-  value_at-left_out : (k : Key) → mode_or_copy items k ≡ Unmap → value_at after next k ≡ nothing k
-  value_at-left_out k is = value_at-own after next k (context after next) (nothing k) refl (cell-cloned k Unmap is)
-
-  module _ (live : is_live w c ≡ true) where
-    -- what is copied is apart
-    apart-copied : (k : Key) → mode_or_copy items k ≡ Copy → AreApart after c next k
-    apart-copied k is = keys_apart after c next k (value_at shared c k) (live-not-next w job c fresh live) (cell-cloned k Copy is)
-
-    module _ (groups : HasItsGroups w) where
-      same_context : context after c ≡ context shared c
-      same_context = context-clone_context-other w c job items entry c (live-not-next w job c fresh live)
-
-      is_group-cloning : (g : Name) → IsGroup shared g → IsGroup after g
-      unfolding clone_context add_context change_counters
-      is_group-cloning g there = there
-
-      -- what is shared is in common
-      in_common : (k : Key) → mode_or_copy items k ≡ Share → IsKey w.size.pages k → is_there k (value_at w c k) ≡ true → HaveInCommon after c next k
-      in_common k is within there =
-          let common = becomes_common w c job items k _ _ refl refl within there is fresh groups live in
-          record {
-            group = common.0;
-            live = is_group-cloning common.0 common.1;
-            first = ap (λ (x : Context). x.cell k) same_context ∙ common.2;
-            second = cell-cloned k Share is ∙ common.2;
-          }
-
--- what is so of a clone by its definition is so of it
-of_clone : (P : World → Name → Type 0) (w v : World) (c d : Name) (items : List Item) (made : IsClone w v c d items) →
-    P (clone_context w c made.job items made.entry) (next_context w made.job) → P v d
-of_clone P w v c d items made there =
-    subst (λ (u : World). P u d) (sym made.made) (subst (λ (n : Name). P (clone_context w c made.job items made.entry) n) (sym made.named) there)
+  named-after : (a : Name) (k : Key) (g : Name) → (context w a).cell k ≡ Common g → (context shared a).cell k ≡ Common g
+  named-after a k g names =
+      cases_name a c
+      (λ same. subst (λ d. (context shared d).cell k ≡ Common g) (sym same)
+      (let here : (context w c).cell k ≡ Common g = subst (λ d. (context w d).cell k ≡ Common g) same names in
+      cell-stays k (ap (is_moved (mode_or_copy items k) k) here ∙ common_stays (mode_or_copy items k) k g) ∙ here))
+      (λ differ. ap (λ (x : Context). x.cell k) ((shares-share w c job items).others a differ) ∙ names)
 
 module _ (w v : World) (c d : Name) (items : List Item) (made : IsClone w v c d items) where
-  pub clone-kept : (e : Name) (k : Key) → is_live w e ≡ true → value_at v e k ≡ value_at w e k
-  clone-kept e k live = of_clone (λ u _. value_at u e k ≡ value_at w e k) w v c d items made (value_at-cloning w c made.job items made.entry made.fresh e k live)
+  abbrev between : World
+  between = share w c made.job items
 
-  pub clone-copied : (k : Key) → mode_or_copy items k ≡ Copy → value_at v d k ≡ value_at w c k
-  clone-copied k is = of_clone (λ u n. value_at u n k ≡ value_at w c k) w v c d items made (value_at-copied w c made.job items made.entry made.fresh k is)
+  abbrev new : Context
+  new = cloned_context between c items made.entry
 
-  pub clone-left_out : (k : Key) → mode_or_copy items k ≡ Unmap → value_at v d k ≡ nothing k
-  clone-left_out k is = of_clone (λ u n. value_at u n k ≡ nothing k) w v c d items made (value_at-left_out w c made.job items made.entry made.fresh k is)
+  adds : AddsContext between made.job new v
+  unfolding clone_context
+  adds = subst (AddsContext between made.job new) (sym made.made) (adds-add_context between made.job new)
 
-  pub clone-apart : (k : Key) → mode_or_copy items k ≡ Copy → AreApart v c d k
-  clone-apart k is = of_clone (λ u n. AreApart u c n k) w v c d items made (apart-copied w c made.job items made.entry made.fresh made.live k is)
+  named : d ≡ next_context between made.job
+  named = made.named ∙ sym (next_context-share w c made.job items made.job)
 
-  pub clone-common : (k : Key) → mode_or_copy items k ≡ Share → IsKey w.size.pages k → is_there k (value_at w c k) ≡ true → HaveInCommon v c d k
-  clone-common k is within there = of_clone (λ u n. HaveInCommon u c n k) w v c d items made (in_common w c made.job items made.entry made.fresh made.live made.groups k is within there)
+  not-next : (e : Name) → is_live w e ≡ true → e ≢ next_context w made.job
+  not-next e live same = false≢true (sym (next_context-new w made.job made.fresh) ∙ ap (is_live w) (sym same) ∙ live)
+
+  -- the new context has a new name
+  pub clone-differs : (e : Name) → is_live w e ≡ true → e ≢ d
+  clone-differs e live same = not-next e live (same ∙ made.named)
+
+  as_shared : (e : Name) → is_live w e ≡ true → context v e ≡ context between e
+  as_shared e live = adds.others e (λ same. not-next e live (same ∙ next_context-share w c made.job items made.job))
+
+  same_groups : (g : Name) → group v g ≡ group between g
+  unfolding group
+  same_groups g = ap (λ m. unwrap_or (fm.get m g) new_group) adds.groups
+
+  cell-new : (k : Key) (mode : Mode) → mode_or_copy items k ≡ mode → (context v d).cell k ≡ cloned_cell between c k mode
+  unfolding cloned_context
+  cell-new k mode is = ap (λ (x : Context). x.cell k) (ap (context v) named ∙ adds.added) ∙ ap (cloned_cell between c k) is
+
+  -- the cells of the clone
+  pub clone-copied : (k : Key) → mode_or_copy items k ≡ Copy → (context v d).cell k ≡ Own (value_at w c k)
+  clone-copied k is = cell-new k Copy is ∙ ap Own (value_at-share w c made.job items made.fresh c k)
+
+  pub clone-left_out : (k : Key) → mode_or_copy items k ≡ Unmap → (context v d).cell k ≡ Own (nothing k)
+  clone-left_out k is = cell-new k Unmap is
+
+  pub clone-shared : (k : Key) → mode_or_copy items k ≡ Share → (context v d).cell k ≡ (context v c).cell k
+  clone-shared k is = cell-new k Share is ∙ ap (λ (x : Context). x.cell k) (sym (as_shared c made.live))
+
+  stays : (k : Key) → is_moved (mode_or_copy items k) k ((context w c).cell k) ≡ false → (context v c).cell k ≡ (context w c).cell k
+  stays k fails = ap (λ (x : Context). x.cell k) (as_shared c made.live) ∙ cell-stays w c made.job items k fails
+
+  -- the cells of the context that is cloned
+  pub clone-unshared : (k : Key) → mode_or_copy items k ≢ Share → (context v c).cell k ≡ (context w c).cell k
+  clone-unshared k other = stays k (unshared_stays (mode_or_copy items k) k ((context w c).cell k) other)
+
+  pub clone-common : (k : Key) (g : Name) → (context w c).cell k ≡ Common g → (context v c).cell k ≡ Common g
+  clone-common k g is = stays k (ap (is_moved (mode_or_copy items k) k) is ∙ common_stays (mode_or_copy items k) k g) ∙ is
+
+  pub clone-absent : (k : Key) (value : ValueOf k) → (context w c).cell k ≡ Own value → is_there k value ≡ false → (context v c).cell k ≡ Own value
+  clone-absent k value is absent = stays k (ap (is_moved (mode_or_copy items k) k) is ∙ not_there (mode_or_copy items k)) ∙ is
+    where
+      not_there : (mode : Mode) → is_moved mode k (Own value) ≡ false
+      not_there Copy = refl
+      not_there Share = absent
+      not_there Unmap = refl
+
+  pub clone-moved : (k : Key) (value : ValueOf k) → mode_or_copy items k ≡ Share → IsKey w.size.pages k → (context w c).cell k ≡ Own value → is_there k value ≡ true →
+      (context v c).cell k ≡ Common (next_group w made.job)
+  clone-moved k value mode within is there =
+      ap (λ (x : Context). x.cell k) (as_shared c made.live)
+      ∙ cell-moves w c made.job items k made.live within ((λ i. is_moved (mode i) k (is i)) ∙ there)
+
+  -- each other context is as it was
+  pub clone-others : (e : Name) → is_live w e ≡ true → e ≢ c → context v e ≡ context w e
+  clone-others e live other = as_shared e live ∙ (shares-share w c made.job items).others e other
+
+  -- each live context reads as it did
+  pub clone-reads : (e : Name) (k : Key) → is_live w e ≡ true → value_at v e k ≡ value_at w e k
+  clone-reads e k live =
+      value_at-same v between e k (ap (λ (x : Context). x.cell k) (as_shared e live)) (λ g _. ap (λ (x : Group). x.value k) (same_groups g))
+      ∙ value_at-share w c made.job items made.fresh e k
+
+  -- a cell of its own is apart from each other context
+  apart_own : (e : Name) (k : Key) (value : ValueOf k) → is_live w e ≡ true → (context v d).cell k ≡ Own value → AreApart v e d k
+  apart_own e k value live own = record { differ = clone-differs e live; no_group = λ g _ is. let clash = sym own ∙ is in cc }
+
+  pub clone-copied_apart : (k : Key) → mode_or_copy items k ≡ Copy → (e : Name) → is_live w e ≡ true → AreApart v e d k
+  clone-copied_apart k is e live = apart_own e k _ live (clone-copied k is)
+
+  pub clone-left_out_apart : (k : Key) → mode_or_copy items k ≡ Unmap → (e : Name) → is_live w e ≡ true → AreApart v e d k
+  clone-left_out_apart k is e live = apart_own e k _ live (clone-left_out k is)
+
+  -- what live contexts have apart stays so
+  pub clone-keeps_apart : (a b : Name) (k : Key) → is_live w a ≡ true → is_live w b ≡ true → AreApart w a b k → AreApart v a b k
+  clone-keeps_apart a b k live_a live_b apart = record {
+    differ = apart.differ;
+    no_group = λ g one two.
+        let in_a : (context between a).cell k ≡ Common g = ap (λ (x : Context). x.cell k) (sym (as_shared a live_a)) ∙ one in
+        let in_b : (context between b).cell k ≡ Common g = ap (λ (x : Context). x.cell k) (sym (as_shared b live_b)) ∙ two in
+        cases_name g (next_group w made.job)
+        (λ same. cases_name a c
+        (λ is_c. named-not-next w b made.job k g made.fresh
+        (ap (λ (x : Context). x.cell k) (sym ((shares-share w c made.job items).others b (λ e. apart.differ (is_c ∙ sym e)))) ∙ in_b) same)
+        (λ not_c. named-not-next w a made.job k g made.fresh (ap (λ (x : Context). x.cell k) (sym ((shares-share w c made.job items).others a not_c)) ∙ in_a) same))
+        (λ other. apart.no_group g (named-before w c made.job items a k g in_a other) (named-before w c made.job items b k g in_b other));
+  }
+
+  named_live : (a : Name) (k : Key) (g : Name) → (context w a).cell k ≡ Common g → (context v a).cell k ≡ Common g
+  named_live a k g is = ap (λ (x : Context). x.cell k) (as_shared a (live_of_common w a k g is)) ∙ named-after w c made.job items a k g is
+
+  group_live : (g : Name) → IsGroup w g → IsGroup v g
+  group_live g live =
+      let named : IsNamedGroup w.next g = made.fresh.groups g live in
+      ap (λ m. fm.contains_key m g) adds.groups
+      ∙ (shares-share w c made.job items).still_live g (λ same. let less = subst (IsNamedGroup w.next) same named in omega (arith, less)) ∙ live
+
+  -- what contexts have in common stays so
+  pub clone-keeps_common : (a b : Name) (k : Key) → HaveInCommon w a b k → HaveInCommon v a b k
+  clone-keeps_common a b k both = record {
+    group = both.group;
+    live = group_live both.group both.live;
+    first = named_live a k both.group both.first;
+    second = named_live b k both.group both.second;
+  }
+
+  -- what is shared, and is there, is in common
+  pub clone-in_common : (k : Key) → mode_or_copy items k ≡ Share → IsKey w.size.pages k → is_there k (value_at w c k) ≡ true → HaveInCommon v c d k
+  clone-in_common k mode within there = at ((context w c).cell k) refl
+    where
+      both : (g : Name) → IsGroup v g → (context v c).cell k ≡ Common g → HaveInCommon v c d k
+      both g live is = record { group = g; live = live; first = is; second = clone-shared k mode ∙ is }
+
+      at : (cell : Cell (ValueOf k)) → (context w c).cell k ≡ cell → HaveInCommon v c d k
+      at (Own value) is =
+          let own_there : is_there k value ≡ true = ap (is_there k) (sym (value_at-cell w c k (Own value) is)) ∙ there in
+          let needs : needs_group w c items ≡ true = needed-key w c items k within ((λ i. is_moved (mode i) k (is i)) ∙ own_there) in
+          both (next_group w made.job) (ap (λ m. fm.contains_key m (next_group w made.job)) adds.groups ∙ (shares-share w c made.job items).new_group needs)
+          (clone-moved k value mode within is own_there)
+      at (Common g) is =
+          let has : HasValue w k g = subst (InCell (live_groups w) c.job k) is (made.groups.contexts c made.live k) in
+          both g (group_live g has.live) (clone-common k g is)
+
+  -- and so is what the context had in common with another one
+  pub clone-joins : (k : Key) → mode_or_copy items k ≡ Share → (e : Name) → HaveInCommon w c e k → HaveInCommon v d e k
+  clone-joins k mode e both =
+      let after = clone-keeps_common c e k both in
+      record { group = after.group; live = after.live; first = clone-shared k mode ∙ after.first; second = after.second }
+
+  -- and the clone is apart from each context from which the context was
+  pub clone-joins_not : (k : Key) → mode_or_copy items k ≡ Share → (e : Name) → is_live w e ≡ true → AreApart w c e k → AreApart v d e k
+  clone-joins_not k mode e live apart =
+      let after = clone-keeps_apart c e k made.live live apart in
+      record { differ = λ same. clone-differs e live (sym same); no_group = λ g is. after.no_group g (sym (clone-shared k mode) ∙ is) }
+
+  -- what is copied reads as it did in the context that is cloned, and what is left out as nothing
+  pub clone-reads_copied : (k : Key) → mode_or_copy items k ≡ Copy → value_at v d k ≡ value_at w c k
+  clone-reads_copied k is = value_at-cell v d k (Own (value_at w c k)) (clone-copied k is)
+
+  pub clone-reads_nothing : (k : Key) → mode_or_copy items k ≡ Unmap → value_at v d k ≡ nothing k
+  clone-reads_nothing k is = value_at-cell v d k (Own (nothing k)) (clone-left_out k is)

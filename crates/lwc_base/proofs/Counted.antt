@@ -1,8 +1,8 @@
--- How many contexts and groups live, in all and of each job, after each change of a world.
-use Rattle.std.proofs.Common.{◌≡◌, ℕ, ◌+◌, refl, sym, ap, subst, ◌∙◌, Bool, true, false, cond, eqb, ◌&&◌, Option, Some, None, List, [], ◌∷◌, map, length, suc, arith}
-use Rattle.std.proofs.lemmas.Bool.{false≢true}
+-- How many names live, in all and of each job, where the same names live and where there is one more.
+use Rattle.std.proofs.Common.{◌≡◌, ◌≢◌, ℕ, ◌+◌, refl, sym, ap, subst, ◌∙◌, Bool, true, false, cond, eqb, ◌&&◌, Option, Some, None, List, [], ◌∷◌, map, length, suc, arith}
+use Rattle.std.proofs.lemmas.Bool.{cond-false, cond-true, false≢true}
 use Rattle.std.proofs.lemmas.List.Sums.{sum_by-cons}
-use Rattle.std.specs.Prelude.{◌==◌, if◌then◌else◌, is_some, count_by, T}
+use Rattle.std.specs.Prelude.{if◌then◌else◌, is_some, count_by, T}
 use Rattle.std.proofs.lemmas.Bool.Decides.{nat_tests}
 use Rattle.std.specs.Cmp.{IsTotalOrder}
 use Rattle.std.specs.Ordering.{eq_by_cmp, is_eq, is_lt}
@@ -11,11 +11,9 @@ use Rattle.std.specs.declared.cmp.Ordering.TheVariants.{Less, Equal, Greater}
 use Rattle.std.specs.FinMap as fm
 use Rattle.std.specs.FinMap.Entries.{by_order, put, find, is_sorted, below_all, same_entries}
 use Rattle.lwc_base.specs.declared.name.Name.{Name}
-use Rattle.lwc_base.specs.Fresh.{IsFresh}
 use Rattle.lwc_base.specs.Names.{name_cmp}
-use Rattle.lwc_base.specs.World.{World, Context, Group, is_live, add_context, next_context, add_group, next_group, change_counters, live_of, groups_of}
-use Rattle.lwc_base.proofs.Fresh.{next_context-new, next_group-new}
-use Rattle.lwc_base.proofs.Orders.{name_cmp-total, name_cmp-IsAntisymmetric}
+use Rattle.lwc_base.proofs.Orders.{name_cmp-total, name_cmp-IsAntisymmetric, cases_name, name-itself, other_name}
+use Rattle.lwc_base.proofs.Tables.{contains_key-insert}
 
 one_more : {K : Type 0} (test : K → Bool) (k : K) (ks : List K) → count_by test (k ∷ ks) ≡ cond (test k) 1 0 + count_by test ks
 one_more test k ks = sum_by-cons (λ x. cond (test x) 1 0) k ks
@@ -100,75 +98,30 @@ module _ {K X : Type 0} (R : K → K → Ordering) where
   len-same total same m n alike =
       fm.len-entries m ∙ length-keys (fm.entries m) ∙ ap length (keys-same total same m n alike) ∙ sym (length-keys (fm.entries n)) ∙ sym (fm.len-entries n)
 
--- where the same names live in two worlds, a job has as many contexts in both
-pub live_of-same : (v w : World) (job : ℕ) → ((q : Name) → is_live v q ≡ is_live w q) → live_of v job ≡ live_of w job
-unfolding live_of
-live_of-same v w job alike = ap (count_by (λ c. eqb c.job job)) (keys-same name_cmp name_cmp-total name_cmp-IsAntisymmetric v.contexts w.contexts alike)
-
--- and there are as many in all
-pub len_contexts-same : (v w : World) → ((q : Name) → is_live v q ≡ is_live w q) → fm.len v.contexts ≡ fm.len w.contexts
-len_contexts-same v w alike = len-same name_cmp name_cmp-total name_cmp-IsAntisymmetric v.contexts w.contexts alike
-
--- where the same groups live in two worlds, a job has as many groups in both
-pub groups_of-same : (v w : World) (job : ℕ) → ((q : Name) → fm.contains_key v.groups q ≡ fm.contains_key w.groups q) → groups_of v job ≡ groups_of w job
-unfolding groups_of
-groups_of-same v w job alike = ap (count_by (λ g. eqb g.job job)) (keys-same name_cmp name_cmp-total name_cmp-IsAntisymmetric v.groups w.groups alike)
-
--- and there are as many in all
-pub len_groups-same : (v w : World) → ((q : Name) → fm.contains_key v.groups q ≡ fm.contains_key w.groups q) → fm.len v.groups ≡ fm.len w.groups
-len_groups-same v w alike = len-same name_cmp name_cmp-total name_cmp-IsAntisymmetric v.groups w.groups alike
-
 one_more_where : (a b n m : ℕ) → m ≡ cond (eqb a b) 1 0 + n → m ≡ cond (eqb b a) (n + 1) n
 one_more_where a b n m is = grind (arith, nat_tests)
 
--- a new context is one more of its job, and no other job has more
-pub live_of-add_context : (w : World) (job : ℕ) (x : Context) (j : ℕ) → IsFresh w →
-    live_of (add_context w job x) j ≡ (if j == job then live_of w j + 1 else live_of w j)
-unfolding live_of add_context change_counters
-live_of-add_context w job x j fresh =
-    one_more_where job j _ _ (count_by-insert name_cmp (λ c. eqb c.job j) name_cmp-total w.contexts (next_context w job) x (next_context-new w job fresh))
+module _ {X : Type 0} (m n : fm.FinMap name_cmp X) where
+  -- the same names are there
+  pub count_by-same : ((q : Name) → fm.contains_key m q ≡ fm.contains_key n q) → (test : Name → Bool) → count_by test (fm.keys m) ≡ count_by test (fm.keys n)
+  count_by-same alike test = ap (count_by test) (keys-same name_cmp name_cmp-total name_cmp-IsAntisymmetric m n alike)
 
--- and it is one more in all
-pub len-add_context : (w : World) (job : ℕ) (x : Context) → IsFresh w → fm.len (add_context w job x).contexts ≡ fm.len w.contexts + 1
-unfolding add_context change_counters
-len-add_context w job x fresh = len-insert-new name_cmp name_cmp-total w.contexts (next_context w job) x (next_context-new w job fresh)
+  pub len-alike : ((q : Name) → fm.contains_key m q ≡ fm.contains_key n q) → fm.len m ≡ fm.len n
+  len-alike = len-same name_cmp name_cmp-total name_cmp-IsAntisymmetric m n
 
--- there are as many groups as before
-pub groups_of-add_context : (w : World) (job : ℕ) (x : Context) (j : ℕ) → groups_of (add_context w job x) j ≡ groups_of w j
-unfolding groups_of add_context change_counters
-groups_of-add_context w job x j = refl
+  -- there is one name more
+  module _ (c : Name) (y : X) (there : fm.contains_key m c ≡ true) (others : (q : Name) → q ≢ c → fm.contains_key m q ≡ fm.contains_key n q) (new : fm.contains_key n c ≡ false) where
+    as_inserted : (q : Name) → fm.contains_key m q ≡ fm.contains_key (fm.insert n c y) q
+    as_inserted q =
+        cases_name q c
+        (λ same. subst (λ d. fm.contains_key m d ≡ fm.contains_key (fm.insert n c y) d) (sym same)
+        (there ∙ sym (contains_key-insert n c y c ∙ cond-true _ true _ (name-itself c))))
+        (λ other. others q other ∙ sym (contains_key-insert n c y q ∙ cond-false _ true _ (other_name q c other)))
 
-pub len_groups-add_context : (w : World) (job : ℕ) (x : Context) → fm.len (add_context w job x).groups ≡ fm.len w.groups
-unfolding add_context change_counters
-len_groups-add_context w job x = refl
+    pub count_by-more : (job : ℕ) → count_by (λ d. eqb d.job job) (fm.keys m) ≡ (if eqb job c.job then count_by (λ d. eqb d.job job) (fm.keys n) + 1 else count_by (λ d. eqb d.job job) (fm.keys n))
+    count_by-more job =
+        ap (count_by (λ d. eqb d.job job)) (keys-same name_cmp name_cmp-total name_cmp-IsAntisymmetric m (fm.insert n c y) as_inserted)
+        ∙ one_more_where c.job job _ _ (count_by-insert name_cmp (λ d. eqb d.job job) name_cmp-total n c y new)
 
--- a group whose name is new is one more of its job, and no other job has more
-pub groups_of-add_new_group : (w : World) (job : ℕ) (x : Group) (j : ℕ) → fm.contains_key w.groups (next_group w job) ≡ false →
-    groups_of (add_group w job x) j ≡ (if j == job then groups_of w j + 1 else groups_of w j)
-unfolding groups_of add_group change_counters
-groups_of-add_new_group w job x j new =
-    one_more_where job j _ _ (count_by-insert name_cmp (λ g. eqb g.job j) name_cmp-total w.groups (next_group w job) x new)
-
--- and it is one more in all
-pub len-add_new_group : (w : World) (job : ℕ) (x : Group) → fm.contains_key w.groups (next_group w job) ≡ false →
-    fm.len (add_group w job x).groups ≡ fm.len w.groups + 1
-unfolding add_group change_counters
-len-add_new_group w job x new = len-insert-new name_cmp name_cmp-total w.groups (next_group w job) x new
-
--- a new group of a fresh world is one more of its job, and no other job has more
-pub groups_of-add_group : (w : World) (job : ℕ) (x : Group) (j : ℕ) → IsFresh w →
-    groups_of (add_group w job x) j ≡ (if j == job then groups_of w j + 1 else groups_of w j)
-groups_of-add_group w job x j fresh = groups_of-add_new_group w job x j (next_group-new w job fresh)
-
--- and it is one more in all
-pub len-add_group : (w : World) (job : ℕ) (x : Group) → IsFresh w → fm.len (add_group w job x).groups ≡ fm.len w.groups + 1
-len-add_group w job x fresh = len-add_new_group w job x (next_group-new w job fresh)
-
--- there are as many contexts as before
-pub live_of-add_group : (w : World) (job : ℕ) (x : Group) (j : ℕ) → live_of (add_group w job x) j ≡ live_of w j
-unfolding live_of add_group change_counters
-live_of-add_group w job x j = refl
-
-pub len_contexts-add_group : (w : World) (job : ℕ) (x : Group) → fm.len (add_group w job x).contexts ≡ fm.len w.contexts
-unfolding add_group change_counters
-len_contexts-add_group w job x = refl
+    pub len-more : fm.len m ≡ fm.len n + 1
+    len-more = len-same name_cmp name_cmp-total name_cmp-IsAntisymmetric m (fm.insert n c y) as_inserted ∙ len-insert-new name_cmp name_cmp-total n c y new

@@ -1,225 +1,193 @@
 -- Fresh worlds: the empty world is one, each change of a world keeps it so, and in it the next names of a job are new.
-use Rattle.std.proofs.Common.{◌≡◌, ℕ, ◌+◌, ◌<◌, ◌≤◌, refl, sym, ap, subst, ◌∙◌, Bool, true, false, cond, eqb, leb, ltb, ◌&&◌, Option, Some, None, List, [], ◌∷◌, length, arith}
-use Rattle.std.proofs.lemmas.Bool.{eq-eqb, false≢true}
-use Rattle.std.specs.Prelude.{is_some, unwrap_or}
-use Rattle.std.specs.Ordering.{eq_by_cmp}
+use Rattle.std.proofs.Common.{◌≡◌, ℕ, ◌+◌, ◌<◌, refl, sym, ap, subst, ◌∙◌, inl, inr, true, false, cond, eqb, List, length, arith}
+use Rattle.std.specs.Prelude.{is_some}
+use Rattle.std.proofs.lemmas.Bool.{cases_Bool, cond_both, cond-true, eq-eqb, eqb-true, false≢true, false_from_ne_true}
 use Rattle.std.specs.FinMap as fm
-use Rattle.lwc_base.specs.declared.size.WorldSize.{WorldSize}
-use Rattle.lwc_base.specs.declared.cell.Cell.{Cell}
-use Rattle.lwc_base.specs.declared.cell.Cell.TheVariants.{Own, Common}
+use Rattle.lwc_base.specs.declared.item.Item.{Item}
 use Rattle.lwc_base.specs.declared.key.Key.{Key}
-use Rattle.lwc_base.specs.declared.key.Key.TheVariants.{Page}
 use Rattle.lwc_base.specs.declared.name.Name.{Name}
 use Rattle.lwc_base.specs.declared.page.PageValue.{PageValue}
-use Rattle.lwc_base.specs.declared.page.PageValue.TheVariants.{Zero}
 use Rattle.lwc_base.specs.declared.regs.Regs.{Regs}
-use Rattle.lwc_base.specs.Names.{name_cmp}
-use Rattle.lwc_base.specs.Cells.{put_at, put_page, with_cell}
-use Rattle.lwc_base.specs.Fresh.{IsNamedGroup, NamesOldGroups, IsFresh}
+use Rattle.lwc_base.specs.declared.size.WorldSize.{WorldSize}
+use Rattle.lwc_base.specs.Cells.{put_at}
+use Rattle.lwc_base.specs.Facts.{KeepsNames, AddsContext, AddsGroup, SharesValues, with_context, with_group}
+use Rattle.lwc_base.specs.Fresh.{IsFresh, IsNamedContext, IsNamedGroup, Rises, named_groups}
+use Rattle.lwc_base.specs.Holders.{InContext, Keeps}
 use Rattle.lwc_base.specs.Keys.{ValueOf}
 use Rattle.lwc_base.specs.Mapping.{map_pages, unmap_pages}
 use Rattle.lwc_base.specs.Memory.{touched}
-use Rattle.lwc_base.specs.Registers.{fresh_registers}
+use Rattle.lwc_base.specs.Names.{name_cmp}
+use Rattle.lwc_base.specs.Sharing.{cloned_context, share, clone_context, needs_group}
 use Rattle.lwc_base.specs.Store.{Piece, after_store, parting_count, plan, put_pages}
-use Rattle.lwc_base.specs.World.{World, Context, Group, Counters, is_live, context, changed_context, change_context, changed_group, change_group, change_counters, empty_world, new_context, add_context, next_context, add_group, next_group}
-use Rattle.lwc_base.proofs.Keys.{was_common, was_common_page}
-use Rattle.lwc_base.proofs.Live.{after_put, same_name}
-use Rattle.lwc_base.proofs.Orders.{name_cmp-total}
+use Rattle.lwc_base.specs.World.{World, Context, Group, Counters, is_live, context, change_context, change_group, change_counters, empty_world, add_context, next_context, add_group, next_group}
+use Rattle.lwc_base.proofs.Holders.{keeps-weaker, in_cell-weaker, keeps-empty_world, keeps-insert_context, keeps-insert_group, keeps-change_context, keeps-change_group, keeps-change_counters, keeps-add_context, keeps-add_group, keeps-put_at, keeps-put_pages, keeps-map_pages, keeps-unmap_pages, keeps-share, may_have-free, in_clone, lets-everywhere}
+use Rattle.lwc_base.proofs.Lookups.{changes-change_context, changes-change_group, adds-add_context, adds-add_group}
+use Rattle.lwc_base.proofs.Orders.{cases_name}
+use Rattle.lwc_base.proofs.Puts.{names-put_at, names-put_pages}
+use Rattle.lwc_base.proofs.Sharing.{shares-share}
+use Rattle.lwc_base.proofs.Tables.{each-insert}
 
--- a job has named no fewer contexts and groups than before
-pub record Rises (before after : Counters) : Type 0 where
-  pub contexts : before.contexts ≤ after.contexts
-  pub groups : before.groups ≤ after.groups
+pub rises-itself : (n : Counters) → Rises n n
+rises-itself n = record { contexts = omega arith; groups = omega arith; tags = omega arith }
 
--- what has been named stays so when counts rise
-pub names_old-rises : (next later : ℕ → Counters) (x : Context) → ((job : ℕ) → Rises (next job) (later job)) → NamesOldGroups next x → NamesOldGroups later x
-names_old-rises next later x rises old k g is = omega (arith, old k g is, (rises g.job).groups)
+pub rises-with_context : (next : ℕ → Counters) (job j : ℕ) → Rises (next j) (with_context next job j)
+rises-with_context next job j =
+    cond_both (eqb j job) _ (next j) (Rises (next j)) (λ _. record { contexts = omega arith; groups = omega arith; tags = omega arith }) (λ _. rises-itself (next j))
 
--- a fresh world stays fresh when counts rise
-pub fresh-rises : (w : World) (later : ℕ → Counters) → ((job : ℕ) → Rises (w.next job) (later job)) → IsFresh w → IsFresh (record w { next = later })
-fresh-rises w later rises fresh = record {
-  contexts = λ c live. omega (arith, fresh.contexts c live, (rises c.job).contexts);
-  groups = λ g live. omega (arith, fresh.groups g live, (rises g.job).groups);
-  cells = λ c x found. names_old-rises w.next later x rises (fresh.cells c x found);
+pub rises-with_group : (next : ℕ → Counters) (job j : ℕ) → Rises (next j) (with_group next job j)
+rises-with_group next job j =
+    cond_both (eqb j job) _ (next j) (Rises (next j)) (λ _. record { contexts = omega arith; groups = omega arith; tags = omega arith }) (λ _. rises-itself (next j))
+
+-- a new context of a job is counted
+one_more_context : (next : ℕ → Counters) (job : ℕ) → (next job).contexts < (with_context next job job).contexts
+one_more_context next job = omega (arith, ap (λ (n : Counters). n.contexts) (cond-true (eqb job job) (record (next job) { contexts = (next job).contexts + 1 }) (next job) (eq-eqb job job refl)))
+
+-- a new group of a job is counted
+pub one_more_group : (next : ℕ → Counters) (job : ℕ) → (next job).groups < (with_group next job job).groups
+one_more_group next job = omega (arith, ap (λ (n : Counters). n.groups) (cond-true (eqb job job) (record (next job) { groups = (next job).groups + 1 }) (next job) (eq-eqb job job refl)))
+
+-- the groups that have been named stay so when counts rise
+pub named_groups-rises : (w : World) (next later : ℕ → Counters) → ((job : ℕ) → Rises (next job) (later job)) → Keeps (named_groups next) w → Keeps (named_groups later) w
+named_groups-rises w next later rises keeps =
+    keeps-weaker (named_groups next) (named_groups later) (λ job k g named. omega (arith, named, (rises g.job).groups)) (λ job k value is. tt) w keeps
+
+-- a fresh world stays fresh where no name is new
+fresh-names : (w v : World) → KeepsNames w v → (Keeps (named_groups w.next) w → Keeps (named_groups w.next) v) → IsFresh w → IsFresh v
+fresh-names w v names cells fresh = record {
+  contexts = λ c live. subst (λ next. IsNamedContext next c) (sym names.next) (fresh.contexts c (sym (names.live c) ∙ live));
+  groups = λ g live. subst (λ next. IsNamedGroup next g) (sym names.next) (fresh.groups g (sym (names.groups g) ∙ live));
+  cells = subst (λ next. Keeps (named_groups next) v) (sym names.next) (cells fresh.cells);
 }
 
-named_context : (next : ℕ → Counters) (q c : Name) (b : Bool) (old : Option Context) (y : Context) → eq_by_cmp name_cmp q c ≡ b →
-    is_some (cond b (Some y) old) ≡ true → c.k < (next c.job).contexts → (is_some old ≡ true → q.k < (next q.job).contexts) → q.k < (next q.job).contexts
-named_context next q c true old y same live here there = subst (λ (n : Name). n.k < (next n.job).contexts) (sym (same_name q c same)) here
-named_context next q c false old y other live here there = there live
-
-old_names_in : (next : ℕ → Counters) (b : Bool) (x y : Context) (old : Option Context) → cond b (Some y) old ≡ Some x →
-    NamesOldGroups next y → (old ≡ Some x → NamesOldGroups next x) → NamesOldGroups next x
-old_names_in next true x y old is here there = let same : y ≡ x = cc in subst (λ (z : Context). NamesOldGroups next z) same here
-old_names_in next false x y old is here there = there is
-
--- a context whose name and whose groups have been named
-pub fresh-insert_context : (w : World) (c : Name) (y : Context) → c.k < (w.next c.job).contexts → NamesOldGroups w.next y → IsFresh w →
-    IsFresh (record w { contexts = fm.insert w.contexts c y })
-fresh-insert_context w c y named old fresh = record {
-  contexts = λ q live.
-      named_context w.next q c _ (fm.get w.contexts q) y refl (sym (ap is_some (fm.get-insert name_cmp-total w.contexts c y q)) ∙ live) named (fresh.contexts q);
-  groups = fresh.groups;
-  cells = λ q x found.
-      old_names_in w.next _ x y (fm.get w.contexts q) (sym (fm.get-insert name_cmp-total w.contexts c y q) ∙ found) old (fresh.cells q x);
-}
-
-named_group : (next : ℕ → Counters) (q g : Name) (b : Bool) (old : Option Group) (y : Group) → eq_by_cmp name_cmp q g ≡ b →
-    is_some (cond b (Some y) old) ≡ true → IsNamedGroup next g → (is_some old ≡ true → IsNamedGroup next q) → IsNamedGroup next q
-named_group next q g true old y same live here there = subst (λ (n : Name). IsNamedGroup next n) (sym (same_name q g same)) here
-named_group next q g false old y other live here there = there live
-
--- a group whose name has been named
-pub fresh-insert_group : (w : World) (g : Name) (y : Group) → IsNamedGroup w.next g → IsFresh w → IsFresh (record w { groups = fm.insert w.groups g y })
-fresh-insert_group w g y named fresh = record {
-  contexts = fresh.contexts;
-  groups = λ q live.
-      named_group w.next q g _ (fm.get w.groups q) y refl (sym (ap is_some (fm.get-insert name_cmp-total w.groups g y q)) ∙ live) named (fresh.groups q);
-  cells = fresh.cells;
-}
-
-fresh-changed_context : (w : World) (c : Name) (change : Context → Context) (found : Option Context) → fm.get w.contexts c ≡ found →
-    ((x : Context) → NamesOldGroups w.next x → NamesOldGroups w.next (change x)) → IsFresh w → IsFresh (changed_context w c change found)
-fresh-changed_context w c change None found keeps fresh = fresh
-fresh-changed_context w c change (Some x) found keeps fresh =
-    fresh-insert_context w c (change x) (fresh.contexts c (ap is_some found)) (keeps x (fresh.cells c x found)) fresh
-
--- a context that is changed, so that it names no new group
-pub fresh-change_context : (w : World) (c : Name) (change : Context → Context) →
-    ((x : Context) → NamesOldGroups w.next x → NamesOldGroups w.next (change x)) → IsFresh w → IsFresh (change_context w c change)
-unfolding change_context
-fresh-change_context w c change keeps fresh = fresh-changed_context w c change _ refl keeps fresh
-
-fresh-changed_group : (w : World) (g : Name) (change : Group → Group) (found : Option Group) → fm.get w.groups g ≡ found →
-    IsFresh w → IsFresh (changed_group w g change found)
-fresh-changed_group w g change None found fresh = fresh
-fresh-changed_group w g change (Some x) found fresh = fresh-insert_group w g (change x) (fresh.groups g (ap is_some found)) fresh
-
--- a group that is changed
-pub fresh-change_group : (w : World) (g : Name) (change : Group → Group) → IsFresh w → IsFresh (change_group w g change)
-unfolding change_group
-fresh-change_group w g change fresh = fresh-changed_group w g change _ refl fresh
-
-pub rises_where : (b : Bool) (before after : Counters) → Rises before after → Rises before (cond b after before)
-rises_where true before after rises = rises
-rises_where false before after rises = record { contexts = omega arith; groups = omega arith }
-
--- a count that rises
-pub fresh-change_counters : (w : World) (job : ℕ) (change : Counters → Counters) → ((n : Counters) → Rises n (change n)) → IsFresh w → IsFresh (change_counters w job change)
-unfolding change_counters
-fresh-change_counters w job change rises fresh = fresh-rises w _ (λ j. rises_where (eqb j job) (w.next j) (change (w.next j)) (rises (w.next j))) fresh
-
--- the empty world
 pub fresh-empty_world : (size : WorldSize) → IsFresh (empty_world size)
 unfolding empty_world
 fresh-empty_world size = record {
   contexts = λ c live. absurd (false≢true (sym (ap is_some (fm.get-empty name_cmp c)) ∙ live));
   groups = λ g live. absurd (false≢true (sym (ap is_some (fm.get-empty name_cmp g)) ∙ live));
-  cells = λ c x found. absurd (false≢true (ap is_some (sym (fm.get-empty name_cmp c) ∙ found)));
+  cells = keeps-empty_world _ size;
 }
 
+-- a context whose name and whose groups have been named
+pub fresh-insert_context : (w : World) (c : Name) (x : Context) → IsNamedContext w.next c → InContext (named_groups w.next) c.job x →
+    IsFresh w → IsFresh (record w { contexts = fm.insert w.contexts c x })
+fresh-insert_context w c x named fits fresh = record {
+  contexts = each-insert w.contexts c x x (λ d _. IsNamedContext w.next d) named fresh.contexts;
+  groups = fresh.groups;
+  cells = keeps-insert_context (named_groups w.next) w c x fits fresh.cells;
+}
+
+-- a group whose name has been named
+pub fresh-insert_group : (w : World) (g : Name) (x : Group) → IsNamedGroup w.next g → IsFresh w → IsFresh (record w { groups = fm.insert w.groups g x })
+fresh-insert_group w g x named fresh = record {
+  contexts = fresh.contexts;
+  groups = each-insert w.groups g x x (λ h _. IsNamedGroup w.next h) named fresh.groups;
+  cells = keeps-insert_group (named_groups w.next) w g x (λ k. tt) fresh.cells;
+}
+
+pub fresh-change_context : (w : World) (c : Name) (f : Context → Context) → (is_live w c ≡ true → InContext (named_groups w.next) c.job (f (context w c))) →
+    IsFresh w → IsFresh (change_context w c f)
+fresh-change_context w c f fits = fresh-names w _ (changes-change_context w c f).names (keeps-change_context _ w c f fits)
+
+pub fresh-change_group : (w : World) (g : Name) (f : Group → Group) → IsFresh w → IsFresh (change_group w g f)
+fresh-change_group w g f = fresh-names w _ (changes-change_group w g f).names (keeps-change_group _ w g f (λ live k. tt))
+
+pub fresh-change_counters : (w : World) (job : ℕ) (f : Counters → Counters) → Rises (w.next job) (f (w.next job)) → IsFresh w → IsFresh (change_counters w job f)
+unfolding change_counters
+fresh-change_counters w job f rises fresh =
+    let later : ℕ → Counters = λ j. cond (eqb j job) (f (w.next j)) (w.next j) in
+    let up : (j : ℕ) → Rises (w.next j) (later j) =
+    λ j. cond_both (eqb j job) (f (w.next j)) (w.next j) (Rises (w.next j))
+    (λ same. subst (λ i. Rises (w.next i) (f (w.next i))) (sym (eqb-true j job same)) rises) (λ _. rises-itself (w.next j)) in
+    record {
+      contexts = λ c live. omega (arith, fresh.contexts c live, (up c.job).contexts);
+      groups = λ g live. omega (arith, fresh.groups g live, (up g.job).groups);
+      cells = keeps-change_counters _ w job f (named_groups-rises w w.next later up fresh.cells);
+    }
+
 pub fresh-put_at : (w : World) (c : Name) (k : Key) (value : ValueOf k) → IsFresh w → IsFresh (put_at w c k value)
-unfolding put_at
-fresh-put_at w c k value fresh =
-    after_put IsFresh w c k value _ fresh
-    (λ _ _. fresh-change_context w c (with_cell k (Own value)) (λ x named q g is. named q g (was_common k value x.cell q g is)) fresh)
-    (λ g _. fresh-change_group w g _ fresh)
+fresh-put_at w c k value = fresh-names w _ (names-put_at w c k value) (keeps-put_at _ w c k value tt (λ g _. tt))
 
 pub fresh-put_pages : (w : World) (c : Name) (values : List (ℕ × PageValue)) → IsFresh w → IsFresh (put_pages w c values)
-fresh-put_pages w c [] fresh = fresh
-fresh-put_pages w c (v ∷ vs) fresh = fresh-put_pages (put_page w c v.0 v.1) c vs (fresh-put_at w c (Page v.0) (Some v.1) fresh)
+fresh-put_pages w c values = fresh-names w _ (names-put_pages w c values) (keeps-put_pages _ w c values (may_have-free (named_groups w.next) c.job (λ i p value. tt) values))
 
 pub fresh-map_pages : (w : World) (c : Name) (from to : ℕ) → IsFresh w → IsFresh (map_pages w c from to)
 unfolding map_pages
-fresh-map_pages w c from to fresh = fresh-change_context w c _ (λ x named q g is. named q g (was_common_page from to (Some Zero) x.cell q g is)) fresh
+fresh-map_pages w c from to = fresh-names w _ (changes-change_context w c _).names (keeps-map_pages _ w c from to (λ p _. tt))
 
 pub fresh-unmap_pages : (w : World) (c : Name) (from to : ℕ) → IsFresh w → IsFresh (unmap_pages w c from to)
 unfolding unmap_pages
-fresh-unmap_pages w c from to fresh = fresh-change_context w c _ (λ x named q g is. named q g (was_common_page from to None x.cell q g is)) fresh
-
--- tags that are counted on
-pub fresh-count_tags : (w : World) (job : ℕ) (tags : Counters → ℕ) → IsFresh w → IsFresh (change_counters w job (λ n. record n { tags = tags n }))
-fresh-count_tags w job tags fresh = fresh-change_counters w job _ (λ n. record { contexts = omega arith; groups = omega arith }) fresh
+fresh-unmap_pages w c from to = fresh-names w _ (changes-change_context w c _).names (keeps-unmap_pages _ w c from to (λ p _. tt))
 
 pub fresh-after_store : (w : World) (c : Name) (job : ℕ) (piece : Piece) → IsFresh w → IsFresh (after_store w c job piece)
 unfolding after_store
 fresh-after_store w c job piece fresh =
-    let planned : List (ℕ × PageValue) = plan w c job piece (w.next job).tags (touched piece.at (length piece.bytes)) in
-    fresh-count_tags (put_pages w c planned) job (λ n. n.tags + parting_count w c piece) (fresh-put_pages w c planned fresh)
+    let values : List (ℕ × PageValue) = plan w c job piece (w.next job).tags (touched piece.at (length piece.bytes)) in
+    fresh-change_counters (put_pages w c values) job (λ n. record n { tags = n.tags + parting_count w c piece })
+    (record { contexts = omega arith; groups = omega arith; tags = omega arith }) (fresh-put_pages w c values fresh)
 
-abbrev one_more_context : Counters → Counters
-one_more_context n = record n { contexts = n.contexts + 1 }
+pub fresh-add_context : (w : World) (job : ℕ) (x : Context) → InContext (named_groups w.next) job x → IsFresh w → IsFresh (add_context w job x)
+fresh-add_context w job x fits fresh =
+    let adds : AddsContext w job x (add_context w job x) = adds-add_context w job x in
+    let up : (j : ℕ) → Rises (w.next j) ((add_context w job x).next j) = λ j. subst (λ (next : ℕ → Counters). Rises (w.next j) (next j)) (sym adds.next) (rises-with_context w.next job j) in
+    let later : ℕ → Counters = (add_context w job x).next in
+    record {
+      contexts = λ c live. cases_name c (next_context w job)
+          (λ same. subst (IsNamedContext later) (sym same)
+          (subst (λ (next : ℕ → Counters). (w.next job).contexts < (next job).contexts) (sym adds.next) (one_more_context w.next job)))
+          (λ other. omega (arith, fresh.contexts c (sym (adds.still_live c other) ∙ live), (up c.job).contexts));
+      groups = λ g live. omega (arith, fresh.groups g (sym (ap (λ m. fm.contains_key m g) adds.groups) ∙ live), (up g.job).groups);
+      cells = keeps-add_context _ w job x
+          (λ k. in_cell-weaker (named_groups w.next) (named_groups later) (λ i q g named. omega (arith, named, (up g.job).groups)) (λ i q value is. tt) job k (x.cell k) (fits k))
+          (named_groups-rises w w.next later up fresh.cells);
+    }
 
-abbrev pub one_more_group : Counters → Counters
-one_more_group n = record n { groups = n.groups + 1 }
+pub fresh-add_group : (w : World) (job : ℕ) (x : Group) → IsFresh w → IsFresh (add_group w job x)
+fresh-add_group w job x fresh =
+    let adds : AddsGroup w job x (add_group w job x) = adds-add_group w job x in
+    let later : ℕ → Counters = (add_group w job x).next in
+    let up : (j : ℕ) → Rises (w.next j) (later j) = λ j. subst (λ (next : ℕ → Counters). Rises (w.next j) (next j)) (sym adds.next) (rises-with_group w.next job j) in
+    record {
+      contexts = λ c live. omega (arith, fresh.contexts c (sym (ap (λ m. fm.contains_key m c) adds.contexts) ∙ live), (up c.job).contexts);
+      groups = λ g live. cases_name g (next_group w job)
+          (λ same. subst (IsNamedGroup later) (sym same)
+          (subst (λ (next : ℕ → Counters). (w.next job).groups < (next job).groups) (sym adds.next) (one_more_group w.next job)))
+          (λ other. omega (arith, fresh.groups g (sym (adds.still_live g other) ∙ live), (up g.job).groups));
+      cells = keeps-add_group _ w job x (λ k. tt) (named_groups-rises w w.next later up fresh.cells);
+    }
 
-rises-one_more_context : (n : Counters) → Rises n (one_more_context n)
-rises-one_more_context n = record { contexts = omega arith; groups = omega arith }
+module _ (w : World) (c : Name) (job : ℕ) (items : List Item) (live : is_live w c ≡ true) (fresh : IsFresh w) where
+  pub fresh-share : IsFresh (share w c job items)
+  fresh-share =
+      let v : World = share w c job items in
+      let shares : SharesValues w c job items v = shares-share w c job items in
+      elim (cases_Bool (needs_group w c items)) [
+        | inr none ↦ subst IsFresh (sym (shares.none none)) fresh
+        | inl needs ↦
+            let next : v.next ≡ with_group w.next job = shares.next needs in
+            let up : (j : ℕ) → Rises (w.next j) (v.next j) = λ j. subst (λ (n : ℕ → Counters). Rises (w.next j) (n j)) (sym next) (rises-with_group w.next job j) in
+            let new : IsNamedGroup v.next (next_group w job) = subst (λ n. IsNamedGroup n (next_group w job)) (sym next) (one_more_group w.next job) in
+            record {
+              contexts = λ d there. omega (arith, fresh.contexts d (sym (shares.live d) ∙ there), (up d.job).contexts);
+              groups = λ g there. cases_name g (next_group w job)
+                  (λ same. subst (IsNamedGroup v.next) (sym same) new)
+                  (λ other. omega (arith, fresh.groups g (sym (shares.still_live g other) ∙ there), (up g.job).groups));
+              cells = keeps-share (named_groups v.next) w c job items live (λ i k. tt) (lets-everywhere _ _ c.job job)
+                  (named_groups-rises w w.next v.next up fresh.cells) (λ k _. new);
+            }
+      ]
 
-pub rises-one_more_group : (n : Counters) → Rises n (one_more_group n)
-rises-one_more_group n = record { contexts = omega arith; groups = omega arith }
-
-counts_context : (b : Bool) (n : Counters) → b ≡ true → n.contexts < (cond b (one_more_context n) n).contexts
-counts_context true n is = omega arith
-counts_context false n is = absurd (false≢true is)
-
-pub counts_group : (b : Bool) (n : Counters) → b ≡ true → n.groups < (cond b (one_more_group n) n).groups
-counts_group true n is = omega arith
-counts_group false n is = absurd (false≢true is)
-
--- a context that is added, and that names no new group
-pub fresh-add_context : (w : World) (job : ℕ) (x : Context) → NamesOldGroups w.next x → IsFresh w → IsFresh (add_context w job x)
-unfolding add_context change_counters
-fresh-add_context w job x named fresh =
-    let later : ℕ → Counters = λ j. cond (eqb j job) (one_more_context (w.next j)) (w.next j) in
-    let rises : (j : ℕ) → Rises (w.next j) (later j) = λ j. rises_where (eqb j job) (w.next j) _ (rises-one_more_context (w.next j)) in
-    fresh-insert_context (record w { next = later }) (next_context w job) x
-    (counts_context (eqb job job) (w.next job) (eq-eqb job job refl)) (names_old-rises w.next later x rises named) (fresh-rises w later rises fresh)
-
--- a group that is added
-pub fresh-add_group : (w : World) (job : ℕ) (g : Group) → IsFresh w → IsFresh (add_group w job g)
-unfolding add_group change_counters
-fresh-add_group w job g fresh =
-    let later : ℕ → Counters = λ j. cond (eqb j job) (one_more_group (w.next j)) (w.next j) in
-    let rises : (j : ℕ) → Rises (w.next j) (later j) = λ j. rises_where (eqb j job) (w.next j) _ (rises-one_more_group (w.next j)) in
-    fresh-insert_group (record w { next = later }) (next_group w job) g (counts_group (eqb job job) (w.next job) (eq-eqb job job refl)) (fresh-rises w later rises fresh)
-
--- a new context of its own names no group
-pub names_old-new_context : (next : ℕ → Counters) (uid : ℕ) (entry : Regs) → NamesOldGroups next (new_context uid entry)
-names_old-new_context next uid entry k g is = cc
-
--- and keeps a world fresh
-pub fresh-add_new_context : (w : World) (job uid : ℕ) (entry : Regs) → IsFresh w → IsFresh (add_context w job (new_context uid entry))
-fresh-add_new_context w job uid entry fresh = fresh-add_context w job (new_context uid entry) (names_old-new_context w.next uid entry) fresh
-
-new_where : (b : Bool) (n : ℕ) → (b ≡ true → n < n) → b ≡ false
-new_where true n below = let less = below refl in absurd (omega arith)
-new_where false n below = refl
+  pub fresh-clone_context : (entry : Regs) → IsFresh (clone_context w c job items entry)
+  unfolding clone_context
+  fresh-clone_context entry =
+      let v : World = share w c job items in
+      fresh-add_context v job (cloned_context v c items entry)
+      (in_clone (named_groups v.next) v c job items ((shares-share w c job items).live c ∙ live) (λ i k. tt) (lets-everywhere _ _ c.job job)
+      fresh-share.cells entry (λ k g value _ _. tt)) fresh-share
 
 -- no context has the next name of a job
 pub next_context-new : (w : World) (job : ℕ) → IsFresh w → is_live w (next_context w job) ≡ false
-next_context-new w job fresh = new_where _ (w.next job).contexts (fresh.contexts (next_context w job))
+next_context-new w job fresh = false_from_ne_true _ (λ live. let less = fresh.contexts (next_context w job) live in absurd (omega (arith, less)))
 
 -- no group has the next name of a job
 pub next_group-new : (w : World) (job : ℕ) → IsFresh w → fm.contains_key w.groups (next_group w job) ≡ false
-next_group-new w job fresh = new_where _ (w.next job).groups (fresh.groups (next_group w job))
-
-names_old_where : (next : ℕ → Counters) (found : Option Context) → ((x : Context) → found ≡ Some x → NamesOldGroups next x) →
-    NamesOldGroups next (unwrap_or found (new_context 0 (fresh_registers 0)))
-names_old_where next None old = names_old-new_context next 0 (fresh_registers 0)
-names_old_where next (Some x) old = old x refl
-
--- each group that the cells of a name's context name has been named
-pub names_old-context : (w : World) (c : Name) → IsFresh w → NamesOldGroups w.next (context w c)
-unfolding context
-names_old-context w c fresh = names_old_where w.next (fm.get w.contexts c) (fresh.cells c)
-
-other_where : (w : World) (job : ℕ) (g : Name) (b : Bool) → eq_by_cmp name_cmp g (next_group w job) ≡ b → IsNamedGroup w.next g → b ≡ false
-other_where w job g true same named =
-    let less : (w.next job).groups < (w.next job).groups = subst (λ (n : Name). IsNamedGroup w.next n) (same_name g (next_group w job) same) named in
-    absurd (omega arith)
-other_where w job g false other named = refl
-
--- a group that has been named is not the next one
-pub group-named-other : (w : World) (job : ℕ) (g : Name) → IsNamedGroup w.next g → eq_by_cmp name_cmp g (next_group w job) ≡ false
-group-named-other w job g named = other_where w job g _ refl named
+next_group-new w job fresh = false_from_ne_true _ (λ live. let less = fresh.groups (next_group w job) live in absurd (omega (arith, less)))

@@ -9,7 +9,7 @@ use Rattle.lwc_base.specs.Memory.{touched}
 use Rattle.lwc_base.specs.Store.{Piece, Absent, Full, Done, after_store, parting_count, plan, store, page_value_at}
 use Rattle.lwc_base.specs.Frames.{is_parting}
 use Rattle.lwc_base.specs.World.{World, Counters, change_counters, is_live}
-use Rattle.lwc_base.proofs.Live.{values-put_pages}
+use Rattle.lwc_base.proofs.Puts.{names-put_pages}
 
 -- of a job's counts none rises by more than so much
 pub record RisesBy (most : ℕ) (before after : Counters) : Type 0 where
@@ -46,7 +46,7 @@ rises_on most taken n false few = rises_not most n
 pub grows-after_store : (w : World) (c : Name) (job : ℕ) (piece : Piece) → length piece.bytes ≤ 4096 → GrowsBy 2 w (after_store w c job piece)
 unfolding after_store change_counters parting_count
 grows-after_store w c job piece short =
-    let same = values-put_pages w c (plan w c job piece (w.next job).tags (touched piece.at (length piece.bytes))) in
+    let same = names-put_pages w c (plan w c job piece (w.next job).tags (touched piece.at (length piece.bytes))) in
     let parted = count_by (λ p. is_parting w (page_value_at w c p)) (touched piece.at (length piece.bytes)) in
     let few : parted ≤ 2 = omega (arith, count_by-le-length (λ p. is_parting w (page_value_at w c p)) (touched piece.at (length piece.bytes)), length-touched piece.at (length piece.bytes) short) in
     record {

@@ -1,155 +1,149 @@
--- The context and the group of a name after each change of a world.
-use Rattle.std.proofs.Common.{◌≡◌, ◌≢◌, ℕ, refl, sym, ap, ◌∙◌, Bool, true, false, cond, ◌&&◌, Option, Some, None}
+-- The context and the group of a name after each small change of a world.
+use Rattle.std.proofs.Common.{◌≡◌, ℕ, refl, sym, ap, subst, ◌∙◌, inl, inr, true, false, Option, Some, None}
 use Rattle.std.specs.Prelude.{is_some, unwrap_or}
-use Rattle.std.proofs.lemmas.Bool.{false≢true}
-use Rattle.std.specs.Ordering.{eq_by_cmp, is_eq}
+use Rattle.std.proofs.lemmas.Bool.{cases_Bool, cond-true, cond-false, false≢true}
 use Rattle.std.specs.FinMap as fm
-use Rattle.std.proofs.lemmas.Cmp.{tied_itself}
 use Rattle.lwc_base.specs.declared.name.Name.{Name}
-use Rattle.lwc_base.specs.Names.{name_cmp}
+use Rattle.lwc_base.specs.Facts.{KeepsNames, ChangesContext, ChangesGroup, AddsContext, AddsGroup}
+use Rattle.lwc_base.specs.Holders.{IsGroup}
 use Rattle.lwc_base.specs.Registers.{fresh_registers}
-use Rattle.lwc_base.specs.World.{World, Context, Group, Counters, is_live, context, group, new_context, new_group, changed_context, change_context, changed_group, change_group, change_counters, add_context, next_context, add_group, next_group}
-use Rattle.lwc_base.proofs.Live.{same_name}
-use Rattle.lwc_base.proofs.Orders.{name_cmp-total}
+use Rattle.lwc_base.specs.World.{World, Context, Group, is_live, context, group, new_context, new_group, changed_context, change_context, changed_group, change_group, change_counters, add_context, next_context, add_group, next_group}
+use Rattle.lwc_base.proofs.Orders.{cases_name, name-itself, other_name}
+use Rattle.lwc_base.proofs.Tables.{entry-insert, contains_key-insert, contains_key-again}
 
--- a name is itself
-pub name-itself : (c : Name) → eq_by_cmp name_cmp c c ≡ true
-name-itself c = ap is_eq (tied_itself name_cmp-total c)
-
-other_where : (q c : Name) (b : Bool) → eq_by_cmp name_cmp q c ≡ b → q ≢ c → b ≡ false
-other_where q c true same other = absurd (other (same_name q c same))
-other_where q c false same other = refl
-
--- names that differ do not tie
-pub other_name : (q c : Name) → q ≢ c → eq_by_cmp name_cmp q c ≡ false
-other_name q c other = other_where q c _ refl other
-
--- two tests of which the second fails
-pub not_both : (a b : Bool) → b ≡ false → (a && b) ≡ false
-not_both true b is = is
-not_both false b is = refl
-
-unwrap_chosen : {A : Type 0} (b : Bool) (y : A) (o : Option A) (d : A) → unwrap_or (cond b (Some y) o) d ≡ cond b y (unwrap_or o d)
-unwrap_chosen true y o d = refl
-unwrap_chosen false y o d = refl
-
-pub context-insert : (w : World) (c : Name) (y : Context) (q : Name) →
-    context (record w { contexts = fm.insert w.contexts c y }) q ≡ cond (eq_by_cmp name_cmp q c) y (context w q)
+-- a name that no context has stands for an empty context
+pub context-dead : (w : World) (c : Name) → is_live w c ≡ false → context w c ≡ new_context 0 (fresh_registers 0)
 unfolding context
-context-insert w c y q =
-    ap (λ o. unwrap_or o (new_context 0 (fresh_registers 0))) (fm.get-insert name_cmp-total w.contexts c y q)
-    ∙ unwrap_chosen (eq_by_cmp name_cmp q c) y (fm.get w.contexts q) _
+context-dead w c dead = of_none (fm.get w.contexts c) dead
+  where
+    of_none : (o : Option Context) → is_some o ≡ false → unwrap_or o (new_context 0 (fresh_registers 0)) ≡ new_context 0 (fresh_registers 0)
+    of_none None e = refl
+    of_none (Some x) e = absurd (cc)
 
-pub group-insert : (w : World) (g : Name) (y : Group) (q : Name) →
-    group (record w { groups = fm.insert w.groups g y }) q ≡ cond (eq_by_cmp name_cmp q g) y (group w q)
+-- and a name that no group has for an empty group
+pub group-dead : (w : World) (g : Name) → fm.contains_key w.groups g ≡ false → group w g ≡ new_group
 unfolding group
-group-insert w g y q =
-    ap (λ o. unwrap_or o new_group) (fm.get-insert name_cmp-total w.groups g y q) ∙ unwrap_chosen (eq_by_cmp name_cmp q g) y (fm.get w.groups q) _
+group-dead w g dead = of_none (fm.get w.groups g) dead
+  where
+    of_none : (o : Option Group) → is_some o ≡ false → unwrap_or o new_group ≡ new_group
+    of_none None e = refl
+    of_none (Some x) e = absurd (cc)
 
--- the context of a name is the one that is found
-pub context-found : (w : World) (c : Name) (x : Context) → fm.get w.contexts c ≡ Some x → context w c ≡ x
-unfolding context
-context-found w c x found = ap (λ o. unwrap_or o (new_context 0 (fresh_registers 0))) found
+-- what is so of a world in which a live context is put in its own place, and of the world itself where it is not live
+pub after_change_context : (P : World → Type 0) (w : World) (c : Name) (f : Context → Context) →
+    (is_live w c ≡ true → P (record w { contexts = fm.insert w.contexts c (f (context w c)) })) → (is_live w c ≡ false → P w) → P (change_context w c f)
+unfolding change_context context
+after_change_context P w c f changed same = found (fm.get w.contexts c) refl
+  where
+    found : (o : Option Context) → fm.get w.contexts c ≡ o → P (changed_context w c f o)
+    found None is = same (ap is_some is)
+    found (Some x) is =
+        subst (λ o. P (record w { contexts = fm.insert w.contexts c (f (unwrap_or o (new_context 0 (fresh_registers 0)))) })) is (changed (ap is_some is))
 
-pub group-found : (w : World) (g : Name) (x : Group) → fm.get w.groups g ≡ Some x → group w g ≡ x
-unfolding group
-group-found w g x found = ap (λ o. unwrap_or o new_group) found
+-- the same of a group
+pub after_change_group : (P : World → Type 0) (w : World) (g : Name) (f : Group → Group) →
+    (IsGroup w g → P (record w { groups = fm.insert w.groups g (f (group w g)) })) → (fm.contains_key w.groups g ≡ false → P w) → P (change_group w g f)
+unfolding change_group group
+after_change_group P w g f changed same = found (fm.get w.groups g) refl
+  where
+    found : (o : Option Group) → fm.get w.groups g ≡ o → P (changed_group w g f o)
+    found None is = same (ap is_some is)
+    found (Some x) is = subst (λ o. P (record w { groups = fm.insert w.groups g (f (unwrap_or o new_group)) })) is (changed (ap is_some is))
 
-chosen_context : (w : World) (c q : Name) (x : Context) (change : Context → Context) (b : Bool) → eq_by_cmp name_cmp q c ≡ b → context w c ≡ x →
-    cond b (change x) (context w q) ≡ cond b (change (context w q)) (context w q)
-chosen_context w c q x change true same is = ap change (sym (ap (context w) (same_name q c same) ∙ is))
-chosen_context w c q x change false same is = refl
+-- no name is new or gone
+pub keeps_names-itself : (w : World) → KeepsNames w w
+keeps_names-itself w = record { live = λ c. refl; groups = λ g. refl; next = refl; size = refl }
 
-chosen_group : (w : World) (g q : Name) (x : Group) (change : Group → Group) (b : Bool) → eq_by_cmp name_cmp q g ≡ b → group w g ≡ x →
-    cond b (change x) (group w q) ≡ cond b (change (group w q)) (group w q)
-chosen_group w g q x change true same is = ap change (sym (ap (group w) (same_name q g same) ∙ is))
-chosen_group w g q x change false same is = refl
+pub keeps_names-then : (u v w : World) → KeepsNames u v → KeepsNames v w → KeepsNames u w
+keeps_names-then u v w first second = record {
+  live = λ c. second.live c ∙ first.live c;
+  groups = λ g. second.groups g ∙ first.groups g;
+  next = second.next ∙ first.next;
+  size = second.size ∙ first.size;
+}
 
-context-changed_context : (w : World) (c : Name) (change : Context → Context) (found : Option Context) (q : Name) → fm.get w.contexts c ≡ found →
-    context (changed_context w c change found) q ≡ cond (is_some found && eq_by_cmp name_cmp q c) (change (context w q)) (context w q)
-context-changed_context w c change None q found = refl
-context-changed_context w c change (Some x) q found =
-    context-insert w c (change x) q ∙ chosen_context w c q x change (eq_by_cmp name_cmp q c) refl (context-found w c x found)
+pub changes-change_context : (w : World) (c : Name) (f : Context → Context) → ChangesContext w c f (change_context w c f)
+unfolding context group
+changes-change_context w c f =
+    let y : Context = f (context w c) in
+    after_change_context (ChangesContext w c f) w c f
+    (λ live. record {
+      names = record { live = contains_key-again w.contexts c y live; groups = λ g. refl; next = refl; size = refl };
+      changed = λ _. entry-insert w.contexts c y _ c ∙ cond-true _ y _ (name-itself c);
+      same = λ dead. absurd (false≢true (sym dead ∙ live));
+      others = λ d other. entry-insert w.contexts c y _ d ∙ cond-false _ y _ (other_name d c other);
+      groups = λ g. refl;
+    })
+    (λ dead. record {
+      names = keeps_names-itself w;
+      changed = λ live. absurd (false≢true (sym dead ∙ live));
+      same = λ _. refl;
+      others = λ d other. refl;
+      groups = λ g. refl;
+    })
 
--- after a change of one context, which changes nothing where it is not live
-pub context-change_context : (w : World) (c : Name) (change : Context → Context) (q : Name) →
-    context (change_context w c change) q ≡ cond (is_live w c && eq_by_cmp name_cmp q c) (change (context w q)) (context w q)
-unfolding change_context
-context-change_context w c change q = context-changed_context w c change _ q refl
+pub changes-change_group : (w : World) (g : Name) (f : Group → Group) → ChangesGroup w g f (change_group w g f)
+unfolding context group
+changes-change_group w g f =
+    let y : Group = f (group w g) in
+    after_change_group (ChangesGroup w g f) w g f
+    (λ live. record {
+      names = record { live = λ c. refl; groups = contains_key-again w.groups g y live; next = refl; size = refl };
+      changed = λ _. entry-insert w.groups g y _ g ∙ cond-true _ y _ (name-itself g);
+      same = λ dead. absurd (false≢true (sym dead ∙ live));
+      others = λ h other. entry-insert w.groups g y _ h ∙ cond-false _ y _ (other_name h g other);
+      contexts = λ c. refl;
+    })
+    (λ dead. record {
+      names = keeps_names-itself w;
+      changed = λ live. absurd (false≢true (sym dead ∙ live));
+      same = λ _. refl;
+      others = λ h other. refl;
+      contexts = λ c. refl;
+    })
 
-group-changed_context : (w : World) (c : Name) (change : Context → Context) (found : Option Context) (g : Name) → group (changed_context w c change found) g ≡ group w g
-unfolding group
-group-changed_context w c change None g = refl
-group-changed_context w c change (Some x) g = refl
+pub adds-add_context : (w : World) (job : ℕ) (x : Context) → AddsContext w job x (add_context w job x)
+unfolding add_context change_counters context
+adds-add_context w job x = record {
+  live = contains_key-insert w.contexts (next_context w job) x _ ∙ cond-true _ true _ (name-itself (next_context w job));
+  added = entry-insert w.contexts (next_context w job) x _ _ ∙ cond-true _ x _ (name-itself (next_context w job));
+  still_live = λ c other. contains_key-insert w.contexts (next_context w job) x c ∙ cond-false _ true _ (other_name c (next_context w job) other);
+  others = λ c other. entry-insert w.contexts (next_context w job) x _ c ∙ cond-false _ x _ (other_name c (next_context w job) other);
+  groups = refl;
+  next = refl;
+  size = refl;
+}
 
-pub group-change_context : (w : World) (c : Name) (change : Context → Context) (g : Name) → group (change_context w c change) g ≡ group w g
-unfolding change_context
-group-change_context w c change g = group-changed_context w c change _ g
+pub adds-add_group : (w : World) (job : ℕ) (x : Group) → AddsGroup w job x (add_group w job x)
+unfolding add_group change_counters group
+adds-add_group w job x = record {
+  live = contains_key-insert w.groups (next_group w job) x _ ∙ cond-true _ true _ (name-itself (next_group w job));
+  added = entry-insert w.groups (next_group w job) x _ _ ∙ cond-true _ x _ (name-itself (next_group w job));
+  still_live = λ g other. contains_key-insert w.groups (next_group w job) x g ∙ cond-false _ true _ (other_name g (next_group w job) other);
+  others = λ g other. entry-insert w.groups (next_group w job) x _ g ∙ cond-false _ x _ (other_name g (next_group w job) other);
+  contexts = refl;
+  next = refl;
+  size = refl;
+}
 
-context-changed_group : (w : World) (g : Name) (change : Group → Group) (found : Option Group) (q : Name) → context (changed_group w g change found) q ≡ context w q
-unfolding context
-context-changed_group w g change None q = refl
-context-changed_group w g change (Some x) q = refl
+-- what is so of the context that has changed, and of each context as it was, is so of each context
+pub context-cases : (w : World) (c : Name) (f : Context → Context) (v : World) → ChangesContext w c f v → (P : Name → Context → Type 0) →
+    (is_live w c ≡ true → P c (f (context w c))) → (a : Name) → P a (context w a) → P a (context v a)
+context-cases w c f v changes P changed a same =
+    cases_name a c
+    (λ is. elim (cases_Bool (is_live w c)) [
+      | inl live ↦ subst (λ d. P d (context v d)) (sym is) (subst (P c) (sym (changes.changed live)) (changed live))
+      | inr dead ↦ subst (λ u. P a (context u a)) (sym (changes.same dead)) same
+    ])
+    (λ differ. subst (P a) (sym (changes.others a differ)) same)
 
-pub context-change_group : (w : World) (g : Name) (change : Group → Group) (q : Name) → context (change_group w g change) q ≡ context w q
-unfolding change_group
-context-change_group w g change q = context-changed_group w g change _ q
-
-group-changed_group : (w : World) (g : Name) (change : Group → Group) (found : Option Group) (q : Name) → fm.get w.groups g ≡ found →
-    group (changed_group w g change found) q ≡ cond (is_some found && eq_by_cmp name_cmp q g) (change (group w q)) (group w q)
-group-changed_group w g change None q found = refl
-group-changed_group w g change (Some x) q found =
-    group-insert w g (change x) q ∙ chosen_group w g q x change (eq_by_cmp name_cmp q g) refl (group-found w g x found)
-
--- after a change of one group, which changes nothing where it is not live
-pub group-change_group : (w : World) (g : Name) (change : Group → Group) (q : Name) →
-    group (change_group w g change) q ≡ cond (fm.contains_key w.groups g && eq_by_cmp name_cmp q g) (change (group w q)) (group w q)
-unfolding change_group
-group-change_group w g change q = group-changed_group w g change _ q refl
-
-pub context-change_counters : (w : World) (job : ℕ) (change : Counters → Counters) (q : Name) → context (change_counters w job change) q ≡ context w q
-unfolding change_counters context
-context-change_counters w job change q = refl
-
-pub group-change_counters : (w : World) (job : ℕ) (change : Counters → Counters) (q : Name) → group (change_counters w job change) q ≡ group w q
-unfolding change_counters group
-group-change_counters w job change q = refl
-
--- after a new context
-pub context-add_context : (w : World) (job : ℕ) (x : Context) (q : Name) →
-    context (add_context w job x) q ≡ cond (eq_by_cmp name_cmp q (next_context w job)) x (context w q)
-unfolding add_context
-context-add_context w job x q = context-change_counters (record w { contexts = fm.insert w.contexts (next_context w job) x }) job _ q ∙ context-insert w (next_context w job) x q
-
-pub group-add_context : (w : World) (job : ℕ) (x : Context) (g : Name) → group (add_context w job x) g ≡ group w g
-unfolding add_context change_counters group
-group-add_context w job x g = refl
-
--- the new context has the next name
-pub context-added : (w : World) (job : ℕ) (x : Context) → context (add_context w job x) (next_context w job) ≡ x
-context-added w job x =
-    context-add_context w job x (next_context w job) ∙ ap (λ b. cond b x (context w (next_context w job))) (name-itself (next_context w job))
-
--- each other name has the context that it had
-pub context-add_context-other : (w : World) (job : ℕ) (x : Context) (q : Name) → q ≢ next_context w job → context (add_context w job x) q ≡ context w q
-context-add_context-other w job x q other = context-add_context w job x q ∙ ap (λ b. cond b x (context w q)) (other_name q (next_context w job) other)
-
--- after a new group
-pub group-add_group : (w : World) (job : ℕ) (x : Group) (q : Name) → group (add_group w job x) q ≡ cond (eq_by_cmp name_cmp q (next_group w job)) x (group w q)
-unfolding add_group
-group-add_group w job x q = group-change_counters (record w { groups = fm.insert w.groups (next_group w job) x }) job _ q ∙ group-insert w (next_group w job) x q
-
-pub context-add_group : (w : World) (job : ℕ) (x : Group) (q : Name) → context (add_group w job x) q ≡ context w q
-unfolding add_group change_counters context
-context-add_group w job x q = refl
-
-live_after : (b : Bool) (old : Option Context) (y : Context) → b ≡ false → is_some (cond b (Some y) old) ≡ is_some old
-live_after true old y other = absurd (false≢true (sym other))
-live_after false old y other = refl
-
--- a name that was live is live once another is added
-pub live-other : (w : World) (job : ℕ) (x : Context) (q : Name) → q ≢ next_context w job → is_live (add_context w job x) q ≡ is_live w q
-unfolding add_context change_counters
-live-other w job x q other =
-    ap is_some (fm.get-insert name_cmp-total w.contexts (next_context w job) x q)
-    ∙ live_after _ (fm.get w.contexts q) x (other_name q (next_context w job) other)
+-- the same of groups
+pub group-cases : (w : World) (g : Name) (f : Group → Group) (v : World) → ChangesGroup w g f v → (P : Name → Group → Type 0) →
+    (IsGroup w g → P g (f (group w g))) → (h : Name) → P h (group w h) → P h (group v h)
+group-cases w g f v changes P changed h same =
+    cases_name h g
+    (λ is. elim (cases_Bool (fm.contains_key w.groups g)) [
+      | inl live ↦ subst (λ n. P n (group v n)) (sym is) (subst (P g) (sym (changes.changed live)) (changed live))
+      | inr dead ↦ subst (λ u. P h (group u h)) (sym (changes.same dead)) same
+    ])
+    (λ differ. subst (P h) (sym (changes.others h differ)) same)

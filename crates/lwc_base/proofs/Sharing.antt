@@ -1,7 +1,8 @@
--- Sharing changes no value: what moves out of a context stands in the new group, and the context's cells name it.
-use Rattle.std.proofs.Common.{◌≡◌, ℕ, refl, sym, ap, subst, ◌∙◌, Bool, true, false, cond, ◌&&◌, List}
-use Rattle.std.proofs.lemmas.Bool.{false≢true}
-use Rattle.std.specs.Ordering.{eq_by_cmp}
+-- Sharing changes no value: what moves out of a context is in the new group, and the context's cells name it.
+use Rattle.std.proofs.Common.{◌≡◌, ◌≢◌, ℕ, ◌<◌, refl, sym, ap, subst, ◌∙◌, inl, inr, true, false, List, arith}
+use Rattle.std.specs.Prelude.{unwrap_or}
+use Rattle.std.specs.FinMap as fm
+use Rattle.std.proofs.lemmas.Bool.{cond_both, cases_Bool, false≢true}
 use Rattle.lwc_base.specs.declared.cell.Cell.{Cell}
 use Rattle.lwc_base.specs.declared.cell.Cell.TheVariants.{Own, Common}
 use Rattle.lwc_base.specs.declared.item.Item.{Item}
@@ -10,121 +11,121 @@ use Rattle.lwc_base.specs.declared.item.Mode.TheVariants.{Copy, Share, Unmap}
 use Rattle.lwc_base.specs.declared.key.Key.{Key}
 use Rattle.lwc_base.specs.declared.name.Name.{Name}
 use Rattle.lwc_base.specs.Cells.{value_of, value_at}
-use Rattle.lwc_base.specs.Fresh.{IsNamedGroup, NamesOldGroups, IsFresh}
+use Rattle.lwc_base.specs.Facts.{ChangesContext, AddsGroup, SharesValues, with_group}
+use Rattle.lwc_base.specs.Fresh.{IsFresh, IsNamedGroup, named_groups}
+use Rattle.lwc_base.specs.Holders.{InCell, IsGroup}
 use Rattle.lwc_base.specs.Keys.{ValueOf, is_there}
 use Rattle.lwc_base.specs.Modes.{mode_or_copy}
-use Rattle.lwc_base.specs.Names.{name_cmp}
-use Rattle.lwc_base.specs.Sharing.{is_moved, moved_value, moved_values, needs_group, shared_cell, with_shared, share}
-use Rattle.lwc_base.specs.World.{World, Context, Group, Counters, is_live, context, group, change_context, add_group, next_group}
-use Rattle.lwc_base.proofs.Live.{same_name, values-change_context}
-use Rattle.lwc_base.proofs.Lookups.{name-itself, context-change_context, group-change_context, context-add_group, group-add_group}
-use Rattle.lwc_base.proofs.Fresh.{names_old-context, group-named-other}
+use Rattle.lwc_base.specs.Registers.{fresh_registers}
+use Rattle.lwc_base.specs.Sharing.{moved_value, moved_values, needs_group, shared_cell, with_shared, share}
+use Rattle.lwc_base.specs.World.{World, Context, Counters, Group, context, group, is_live, new_context, change_context, add_group, next_group}
+use Rattle.lwc_base.proofs.Lookups.{changes-change_context, adds-add_group}
+use Rattle.lwc_base.proofs.Orders.{cases_name}
+use Rattle.lwc_base.proofs.Puts.{live_of_common}
+
+module _ (w : World) (c : Name) (job : ℕ) (items : List Item) where
+  abbrev left : World
+  left = change_context w c (with_shared (next_group w job) items)
+
+  abbrev moved : World
+  moved = add_group left job (moved_values items (context w c))
+
+  shares-moved : needs_group w c items ≡ true → SharesValues w c job items moved
+  unfolding context
+  shares-moved needs =
+      let leaves : ChangesContext w c (with_shared (next_group w job) items) left = changes-change_context w c _ in
+      let next : left.next ≡ w.next = leaves.names.next in
+      let name : next_group left job ≡ next_group w job = ap (λ (n : ℕ → Counters). record { job = job; k = (n job).groups }) next in
+      let adds : AddsGroup left job (moved_values items (context w c)) moved = adds-add_group left job _ in
+      let to : (d : Name) → context moved d ≡ context left d = λ d. ap (λ m. unwrap_or (fm.get m d) (new_context 0 (fresh_registers 0))) adds.contexts in
+      record {
+        none = λ none. absurd (false≢true (sym none ∙ needs));
+        moved = λ _. ap (group moved) (sym name) ∙ adds.added;
+        named = λ _ live. to c ∙ leaves.changed live;
+        dead = λ dead. to c ∙ ap (λ v. context v c) (leaves.same dead);
+        others = λ d other. to d ∙ leaves.others d other;
+        groups = λ g other. adds.others g (λ same. other (same ∙ name)) ∙ leaves.groups g;
+        live = λ d. ap (λ m. fm.contains_key m d) adds.contexts ∙ leaves.names.live d;
+        new_group = λ _. subst (IsGroup moved) name adds.live;
+        still_live = λ g other. adds.still_live g (λ same. other (same ∙ name)) ∙ leaves.names.groups g;
+        next = λ _. adds.next ∙ ap (λ n. with_group n job) next;
+        size = adds.size ∙ leaves.names.size;
+      }
+
+  pub shares-share : SharesValues w c job items (share w c job items)
+  unfolding share
+  shares-share =
+      cond_both (needs_group w c items) moved w (SharesValues w c job items) shares-moved
+      (λ none. record {
+        none = λ _. refl;
+        moved = λ needs. absurd (false≢true (sym none ∙ needs));
+        named = λ needs live. absurd (false≢true (sym none ∙ needs));
+        dead = λ _. refl;
+        others = λ d other. refl;
+        groups = λ g other. refl;
+        live = λ d. refl;
+        new_group = λ needs. absurd (false≢true (sym none ∙ needs));
+        still_live = λ g other. refl;
+        next = λ needs. absurd (false≢true (sym none ∙ needs));
+        size = refl;
+      })
+
+  pub share-none : needs_group w c items ≡ false → share w c job items ≡ w
+  share-none = shares-share.none
 
 -- the value of a cell is the same in two worlds where the group that it names is
 pub value_of-same : (v w : World) (k : Key) (cell : Cell (ValueOf k)) → ((g : Name) → cell ≡ Common g → group v g ≡ group w g) → value_of v k cell ≡ value_of w k cell
 value_of-same v w k (Own value) same = refl
 value_of-same v w k (Common g) same = ap (λ (x : Group). x.value k) (same g refl)
 
-absent_same : (v w : World) (g : Name) (k : Key) (value : ValueOf k) (moved : Bool) → is_there k value ≡ moved → (group v g).value k ≡ value →
-    value_of v k (cond moved (Common g) (Own value)) ≡ value
-absent_same v w g k value true is holds = holds
-absent_same v w g k value false is holds = refl
-
 -- a cell whose value has moved into a group has the value that it had
 value_of-moved : (v w : World) (g : Name) (k : Key) (mode : Mode) (cell : Cell (ValueOf k)) → (group v g).value k ≡ moved_value mode k cell →
     ((h : Name) → cell ≡ Common h → group v h ≡ group w h) → value_of v k (shared_cell g mode k cell) ≡ value_of w k cell
-value_of-moved v w g k Copy cell holds same = value_of-same v w k cell same
-value_of-moved v w g k Unmap cell holds same = value_of-same v w k cell same
-value_of-moved v w g k Share (Own value) holds same = absent_same v w g k value _ refl holds
-value_of-moved v w g k Share (Common h) holds same = value_of-same v w k (Common h) same
+value_of-moved v w g k Copy cell there same = value_of-same v w k cell same
+value_of-moved v w g k Unmap cell there same = value_of-same v w k cell same
+value_of-moved v w g k Share (Common h) there same = value_of-same v w k (Common h) same
+value_of-moved v w g k Share (Own value) there same =
+    cond_both (is_there k value) (Common g) (Own value) (λ cell. value_of v k cell ≡ value) (λ _. there) (λ _. refl)
 
--- a group that a cell names once its value has moved is the new one, or the one that it named before
-pub common_after : {T : Type 0} (P : Name → Type 0) (g h : Name) (moves : Bool) (cell : Cell T) → cond moves (Common g) cell ≡ Common h →
-    P g → (cell ≡ Common h → P h) → P h
-common_after P g h false cell is here there = there is
-common_after P g h true cell is here there = let same : g ≡ h = cc in subst P same here
+-- in a fresh world a group that a cell names is not the next one of a job
+pub named-not-next : (w : World) (c : Name) (job : ℕ) (k : Key) (g : Name) → IsFresh w → (context w c).cell k ≡ Common g → g ≢ next_group w job
+named-not-next w c job k g fresh is same =
+    let named : IsNamedGroup w.next g = subst (InCell (named_groups w.next) c.job k) is (fresh.cells.contexts c (live_of_common w c k g is) k) in
+    let less : (w.next job).groups < (w.next job).groups = subst (IsNamedGroup w.next) same named in
+    absurd (omega (arith, less))
 
--- the groups that a context names once its values have moved
-pub names_old-with_shared : (next : ℕ → Counters) (g : Name) (items : List Item) (x : Context) → IsNamedGroup next g → NamesOldGroups next x → NamesOldGroups next (with_shared g items x)
-unfolding with_shared
-names_old-with_shared next g items x named old k h is = common_after (IsNamedGroup next) g h (is_moved (mode_or_copy items k) k (x.cell k)) (x.cell k) is named (old k h)
+module _ (w : World) (c : Name) (job : ℕ) (items : List Item) (fresh : IsFresh w) where
+  abbrev shared : World
+  shared = share w c job items
 
--- the world in which values have moved out of a context into a new group
-abbrev pub moved_into_group : World → Name → ℕ → List Item → World
-moved_into_group w c job items =
-    add_group (change_context w c (with_shared (next_group w job) items)) job (moved_values items (context w c))
+  same_cells : (d : Name) (k : Key) → context shared d ≡ context w d → value_at shared d k ≡ value_at w d k
+  unfolding value_at
+  same_cells d k same =
+      ap (λ (x : Context). value_of shared k (x.cell k)) same
+      ∙ value_of-same shared w k ((context w d).cell k) (λ g is. (shares-share w c job items).groups g (named-not-next w d job k g fresh is))
 
-either_world : (P : World → Type 0) (b : Bool) (v w : World) → P v → P w → P (cond b v w)
-either_world P true v w with_group as_it_was = with_group
-either_world P false v w with_group as_it_was = as_it_was
+  moved_cells : (k : Key) → needs_group w c items ≡ true → is_live w c ≡ true → value_at shared c k ≡ value_at w c k
+  unfolding value_at with_shared moved_values
+  moved_cells k needs live =
+      let shares = shares-share w c job items in
+      ap (λ (x : Context). value_of shared k (x.cell k)) (shares.named needs live)
+      ∙ value_of-moved shared w (next_group w job) k (mode_or_copy items k) ((context w c).cell k)
+      (ap (λ (x : Group). x.value k) (shares.moved needs)) (λ g is. shares.groups g (named-not-next w c job k g fresh is))
 
--- what is so of a world, and of the world in which values have moved, is so after sharing
-pub after_share : (P : World → Type 0) (w : World) (c : Name) (job : ℕ) (items : List Item) → P (moved_into_group w c job items) → P w → P (share w c job items)
-unfolding share
-after_share P w c job items with_group as_it_was = either_world P (needs_group w c items) _ w with_group as_it_was
-
-and_false : (b : Bool) → (b && false) ≡ false
-and_false true = refl
-and_false false = refl
-
-module _ (w : World) (c : Name) (job : ℕ) (items : List Item) where
-  abbrev pub new : Name
-  new = next_group w job
-
-  abbrev pub values : Group
-  values = moved_values items (context w c)
-
-  abbrev pub left : World
-  left = change_context w c (with_shared new items)
-
-  abbrev pub later : World
-  later = moved_into_group w c job items
-
-  pub next-left : left.next ≡ w.next
-  next-left = (values-change_context w c (with_shared new items)).next
-
-  pub next_group-left : next_group left job ≡ next_group w job
-  next_group-left = ap (λ (n : ℕ → Counters). record { job = job; k = (n job).groups }) next-left
-
-  pub context-moved : (d : Name) → context later d
-      ≡ cond (is_live w c && eq_by_cmp name_cmp d c) (with_shared new items (context w d)) (context w d)
-  context-moved d = context-add_group _ job values d ∙ context-change_context w c (with_shared new items) d
-
-  pub group-moved : (h : Name) → group later h ≡ cond (eq_by_cmp name_cmp h new) values (group w h)
-  group-moved h =
-      group-add_group left job values h
-      ∙ (λ i. cond (eq_by_cmp name_cmp h (next_group-left i)) values
-      (group-change_context w c (with_shared new items) h i))
-
-  pub group-moved-new : group later new ≡ moved_values items (context w c)
-  group-moved-new = group-moved new ∙ ap (λ b. cond b values (group w new)) (name-itself new)
-
-  pub group-moved-old : (h : Name) → IsNamedGroup w.next h → group later h ≡ group w h
-  group-moved-old h named = group-moved h ∙ ap (λ b. cond b values (group w h)) (group-named-other w job h named)
-
-  same_there : (d : Name) (b : Bool) → eq_by_cmp name_cmp d c ≡ b → (is_live w c && b) ≡ true → d ≡ c
-  same_there d true same is = same_name d c same
-  same_there d false same is = absurd (false≢true (sym (and_false (is_live w c)) ∙ is))
-
-  module _ (fresh : IsFresh w) where
-    value_in_moved : (d : Name) (k : Key) (b : Bool) → (is_live w c && eq_by_cmp name_cmp d c) ≡ b →
-        value_of later k ((cond b (with_shared new items (context w d)) (context w d)).cell k) ≡ value_of w k ((context w d).cell k)
-    unfolding with_shared moved_values
-    value_in_moved d k false other =
-        value_of-same later w k ((context w d).cell k) (λ g is. group-moved-old g (names_old-context w d fresh k g is))
-    value_in_moved d k true is =
-        subst (λ (e : Name). value_of later k ((with_shared new items (context w e)).cell k) ≡ value_of w k ((context w e).cell k))
-        (sym (same_there d _ refl is))
-        (value_of-moved later w new k (mode_or_copy items k) ((context w c).cell k)
-        (ap (λ (x : Group). x.value k) group-moved-new) (λ g is. group-moved-old g (names_old-context w c fresh k g is)))
-
-    value_at-moved : (d : Name) (k : Key) → value_at later d k ≡ value_at w d k
-    unfolding value_at
-    value_at-moved d k = ap (λ (x : Context). value_of later k (x.cell k)) (context-moved d) ∙ value_in_moved d k _ refl
-
-    -- what stands under a key of any context
-    pub value_at-share : (d : Name) (k : Key) → value_at (share w c job items) d k ≡ value_at w d k
-    value_at-share d k = after_share (λ v. value_at v d k ≡ value_at w d k) w c job items (value_at-moved d k) refl
+  -- what is under a key of any context
+  pub value_at-share : (d : Name) (k : Key) → value_at shared d k ≡ value_at w d k
+  value_at-share d k =
+      let shares = shares-share w c job items in
+      cases_name d c
+      (λ same. subst (λ e. value_at shared e k ≡ value_at w e k) (sym same)
+      (elim (cases_Bool (needs_group w c items)) [
+        | inr none ↦ ap (λ v. value_at v c k) (shares.none none)
+        | inl needs ↦ elim (cases_Bool (is_live w c)) [
+          | inl live ↦ moved_cells k needs live
+          | inr dead ↦ same_cells c k (shares.dead dead)
+        ]
+      ]))
+      (λ other. same_cells d k (shares.others d other))
 
 -- sharing changes no value
 pub ruleset shared_values = (value_at-share)

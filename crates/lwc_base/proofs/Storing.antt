@@ -1,6 +1,6 @@
 -- The values that a store puts, one page after another.
-use Rattle.std.proofs.Common.{◌≡◌, ℕ, suc, ◌+◌, ◌-◌, ◌<◌, List, [], ◌∷◌, ◌++◌, refl, sym, ap, ◌∙◌, append_assoc, Bool, true, false, arith, length, ◌≤◌}
-use Rattle.std.proofs.lemmas.Bool.{false≢true, lt-ltb, le-ltb}
+use Rattle.std.proofs.Common.{◌≡◌, ℕ, cond, eqb, suc, ◌+◌, ◌-◌, ◌<◌, List, [], ◌∷◌, ◌++◌, refl, sym, ap, ◌∙◌, append_assoc, Bool, true, false, arith, length, ◌≤◌}
+use Rattle.std.proofs.lemmas.Bool.{eqb-true, false≢true, lt-ltb, le-ltb}
 use Rattle.std.specs.Prelude.{if◌then◌else◌, not, count_by, is_some, nat_lt}
 use Rattle.std.specs.List.{range_with_len, list_all}
 use Rattle.lwc_base.specs.declared.name.Name.{Name}
@@ -8,7 +8,7 @@ use Rattle.lwc_base.specs.declared.page.PageValue.{PageValue}
 use Rattle.lwc_base.specs.Cells.{page_at, put_page}
 use Rattle.lwc_base.specs.Frames.{is_parting, used}
 use Rattle.lwc_base.specs.Memory.{touched, is_present}
-use Rattle.lwc_base.proofs.Live.{count_on_as, values-put_pages}
+use Rattle.lwc_base.proofs.Puts.{names-put_pages}
 use Rattle.lwc_base.specs.Pages.{bytes_of}
 use Rattle.lwc_base.specs.Store.{Piece, Stored, Absent, Full, Done, bytes_after, plan, put_pages, stored_value, page_value_at, parting_count, after_store, store}
 use Rattle.lwc_base.specs.World.{World, Counters, change_counters}
@@ -79,6 +79,16 @@ pub parting_count-touched : (w : World) (c : Name) (piece : Piece) (ps : List �
 unfolding parting_count
 parting_count-touched w c piece ps n touches is = is ∙ ap (count_by (λ p. is_parting w (page_value_at w c p))) touches
 
+choice_of_same : {A : Type 0} (change : A → A) (f : ℕ → A) (n : A) (job j : ℕ) (b : Bool) → eqb j job ≡ b → change (f job) ≡ n →
+    cond b n (f j) ≡ cond b (change (f j)) (f j)
+choice_of_same change f n job j true same is = sym (ap (λ k. change (f k)) (eqb-true j job same) ∙ is)
+choice_of_same change f n job j false other is = refl
+
+-- a number that is counted on is the changed one
+pub count_on_as : (w : World) (job : ℕ) (change : Counters → Counters) (n : Counters) → change (w.next job) ≡ n → change_counters w job (λ _. n) ≡ change_counters w job change
+unfolding change_counters
+count_on_as w job change n is = λ i. record w { next = λ j. choice_of_same change w.next n job j (eqb j job) refl is i }
+
 -- the world once all values are put, and the tags are counted
 pub after_store-steps : (w put counted : World) (c : Name) (job : ℕ) (piece : Piece) (ps : List ℕ) (values : List (ℕ × PageValue)) (n : Counters) (parting : ℕ) →
     ps ≡ touched piece.at (length piece.bytes) → values ≡ plan w c job piece (w.next job).tags ps → put ≡ put_pages w c values →
@@ -91,4 +101,4 @@ after_store-steps w put counted c job piece ps values n parting touches plans pu
     let change : Counters → Counters = λ m. record m { tags = m.tags + parting_count w c piece } in
     counts
     ∙ (λ i. change_counters (put_is i) job (λ _. record n { tags = n.tags + parts i }))
-    ∙ count_on_as (put_pages w c planned) job change _ (ap change (ap (λ (next : ℕ → Counters). next job) (values-put_pages w c planned).next ∙ had))
+    ∙ count_on_as (put_pages w c planned) job change _ (ap change (ap (λ (next : ℕ → Counters). next job) (names-put_pages w c planned).next ∙ had))

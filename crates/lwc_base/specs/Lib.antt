@@ -1,9 +1,11 @@
 pub mod Capabilities
 pub mod Cells
 pub mod Clones
+pub mod Facts
 pub mod Faults
 pub mod Frames
 pub mod Fresh
+pub mod Holders
 pub mod Keys
 pub mod Mapping
 pub mod Memory
@@ -16,6 +18,7 @@ pub mod Registers
 pub mod Runs
 pub mod Sharing
 pub mod Slots
+pub mod Sound
 pub mod Store
 pub mod Summaries
 pub mod World

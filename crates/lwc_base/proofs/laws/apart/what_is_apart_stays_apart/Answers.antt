@@ -1,0 +1,18 @@
+use Rattle.lwc_base.proofs.Clones.{clone-keeps_apart}
+use Rattle.lwc_base.proofs.Common.{apart-put_at, apart-after_store, apart-map_pages, apart-unmap_pages}
+use Rattle.lwc_base.proofs.laws.apart.what_is_apart_stays_apart.Goals as goal
+
+pub returns-clause-put : goal.returns-clause-put
+returns-clause-put c = apart-put_at
+
+pub returns-clause-store : goal.returns-clause-store
+returns-clause-store c = apart-after_store
+
+pub returns-clause-map : goal.returns-clause-map
+returns-clause-map c = apart-map_pages
+
+pub returns-clause-unmap : goal.returns-clause-unmap
+returns-clause-unmap c = apart-unmap_pages
+
+pub returns-clause-clone : goal.returns-clause-clone
+returns-clause-clone c = clone-keeps_apart
