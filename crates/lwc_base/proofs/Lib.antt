@@ -2,6 +2,7 @@ pub mod Begun
 pub mod Clones
 pub mod Common
 pub mod Counted
+pub mod Facts
 pub mod Fresh
 pub mod Holders
 pub mod ItemModes

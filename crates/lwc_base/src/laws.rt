@@ -2,6 +2,7 @@
 
 pub mod apart;
 pub mod cloning;
+pub mod facts;
 pub mod modes;
 pub mod ranges;
 pub mod soundness;
@@ -14,6 +15,9 @@ pub use cloning::{
     a_group_is_needed_where_a_value_moves, cloning_changes_no_value,
     only_what_is_shared_becomes_common, sharing_changes_no_value, what_is_copied_is_apart,
     what_is_left_out_is_not_there, what_is_shared_is_common,
+};
+pub use facts::{
+    changes_leave_the_rest, live_names_are_counted, names_are_ordered, names_stay_old,
 };
 pub use modes::an_item_gives_its_mode;
 pub use ranges::one_run_is_one_range;
