@@ -23,3 +23,6 @@ pub mod Stored
 pub mod Storing
 pub mod Tables
 pub mod Zeros
+pub mod StoredBytes
+pub mod Tags
+pub mod Room

@@ -25,7 +25,7 @@ use Rattle.lwc_base.specs.Keys.{ValueOf, is_there, nothing}
 use Rattle.lwc_base.specs.Mapping.{map_pages, unmap_pages}
 use Rattle.lwc_base.specs.Modes.{mode_or_copy}
 use Rattle.lwc_base.specs.Sharing.{cloned_context, clone_context, is_moved, moved_value, moved_values, needs_group, share}
-use Rattle.lwc_base.specs.Sound.{HasValue, IsSound, IsSoundPage, IsSoundValue, live_groups, sound_pages}
+use Rattle.lwc_base.specs.Sound.{HasItsGroups, HasValue, IsSound, IsSoundPage, IsSoundValue, live_groups, sound_pages}
 use Rattle.lwc_base.specs.World.{World, Context, Counters, Group, context, group, is_live, new_context, new_group, new_value, change_context, change_group, add_context, empty_world, next_group}
 use Rattle.lwc_base.proofs.Fresh.{fresh-empty_world, fresh-put_at, fresh-map_pages, fresh-unmap_pages, fresh-add_context, fresh-share, rises-itself, rises-with_context, rises-with_group}
 use Rattle.lwc_base.proofs.Holders.{keeps-weaker, in_cell-weaker, keeps-empty_world, keeps-put_at, keeps-map_pages, keeps-unmap_pages, keeps-add_context, keeps-share, in_clone, lets-everywhere}
@@ -134,6 +134,11 @@ extends-put_at w c k value there =
             (λ _ old. with_key-cases (λ T. T) k value (group w g).value (λ r x. is_there r x ≡ true) there q (λ _. old)) h (λ old. old) has.there;
       };
     })
+
+pub groups-put_at : (w : World) (c : Name) (k : Key) (value : ValueOf k) → is_there k value ≡ true → HasItsGroups w → HasItsGroups (put_at w c k value)
+groups-put_at w c k value there groups =
+    let v : World = put_at w c k value in
+    keeps-put_at (live_groups v) w c k value tt (λ g _. tt) (live_groups-extends w w v (extends-put_at w c k value there) groups)
 
 -- something is put at a context that is sound there
 pub sound-put_at : (w : World) (c : Name) (k : Key) (value : ValueOf k) → is_there k value ≡ true → ((v : World) (home : Tag → ℕ) → IsSoundValue v home k value) → IsSound w → IsSound (put_at w c k value)

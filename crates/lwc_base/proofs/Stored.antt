@@ -41,9 +41,14 @@ is_done w c job piece v done = at _ _ refl refl done
     at true true there fits is = cc
     at true false there fits is = record { after = cc; present = there; room = ltb-false w.size.frames (used w + parting_count w c piece) fits }
 
-length-zero_page : length zero_page ≡ PAGE_BYTES
+pub length-zero_page : length zero_page ≡ PAGE_BYTES
 unfolding zero_page zero_bytes
 length-zero_page = length-replicate {A = ℕ} PAGE_BYTES 0
+
+-- a page that is there has a value
+pub present_value : (o : Option PageValue) → is_some o ≡ true → o ≡ Some (unwrap_or o Zero)
+present_value None is = absurd (false≢true is)
+present_value (Some v) is = refl
 
 -- the bytes of a page are as many as before
 pub length-bytes_after : (piece : Piece) (p : ℕ) (old : List ℕ) → length (bytes_after piece p old) ≡ length old
@@ -163,10 +168,6 @@ module _ (w : World) (c : Name) (job : ℕ) (piece : Piece) where
       where
         plus_zero : (n : ℕ) → n ≡ n + 0
         plus_zero n = omega arith
-
-        present_value : (o : Option PageValue) → is_some o ≡ true → o ≡ Some (unwrap_or o Zero)
-        present_value None is = absurd (false≢true is)
-        present_value (Some v) is = refl
 
         rest : (b : Bool) → parts p ≡ b → list_all (λ q. is_some (page_at w c q)) ps ≡ true → count_by parts (p ∷ ps) ≡ cond (parts p) 1 0 + count_by parts ps →
             ((n : ℕ) → list_all (λ q. is_some (page_at w c q)) ps ≡ true → n + count_by parts ps ≤ (after.next job).tags →

@@ -6,6 +6,7 @@ pub mod facts;
 pub mod modes;
 pub mod ranges;
 pub mod soundness;
+pub mod storing;
 
 pub use apart::{
     a_put_changes_one_key, what_is_apart_is_not_seen, what_is_apart_stays_apart,
@@ -22,3 +23,4 @@ pub use facts::{
 pub use modes::an_item_gives_its_mode;
 pub use ranges::one_run_is_one_range;
 pub use soundness::sound_worlds_stay_sound;
+pub use storing::{each_page_that_parts_takes_a_frame, what_is_stored_reads_back};
