@@ -24,9 +24,9 @@ module _ (w counted : World) (job : ℕ) (is_counted : counted ≡ change_counte
   unfolding change_counters
   same_contexts = ap (λ (v : World). v.contexts) is_counted
 
-  pub counted-pages : counted.pages ≡ w.pages
+  pub counted-size : counted.size ≡ w.size
   unfolding change_counters
-  counted-pages = ap (λ (v : World). v.pages) is_counted
+  counted-size = ap (λ (v : World). v.size) is_counted
 
   -- the next name is still new
   pub counted-dead : (c : Name) → IsFresh w → c ≡ next_context w job → is_live counted c ≡ false

@@ -24,7 +24,7 @@ use Rattle.lwc_base.specs.Keys.{nothing}
 use Rattle.lwc_base.specs.Modes.{IsSpec, kind_of, limit, mode_or_copy, number_of}
 use Rattle.lwc_base.specs.Sharing.{shared_cell, cloned_context, clone_context, cloned_cell, with_shared, share}
 use Rattle.lwc_base.specs.World.{World, Context, add_context, context, is_live, next_context, next_group}
-use Rattle.lwc_base.proofs.Cloning.{contexts-share, fresh-share, len_contexts-share, names_old-clone, next_context-share, pages-share}
+use Rattle.lwc_base.proofs.Cloning.{contexts-share, fresh-share, len_contexts-share, names_old-clone, next_context-share, size-share}
 use Rattle.lwc_base.proofs.Sharing.{value_at-share}
 use Rattle.whole_world.specs.declared.held.Held.{Held}
 use Rattle.whole_world.specs.Copies.{as_cell, context_of, held_cell, held_page, held_slot, in_common}
@@ -65,7 +65,7 @@ pub uid_in_common : (g : Name) (cell : Cell ℕ) → in_common g cell ≡ shared
 uid_in_common g (Own value) = refl
 uid_in_common g (Common h) = refl
 
-module _ (w : World) (c : Name) (job : ℕ) (items : List Item) (fresh : IsFresh w) (live : is_live w c ≡ true) (spec : IsSpec w.pages items) where
+module _ (w : World) (c : Name) (job : ℕ) (items : List Item) (fresh : IsFresh w) (live : is_live w c ≡ true) (spec : IsSpec w.size.pages items) where
   abbrev shared : World
   shared = share w c job items
 
@@ -81,24 +81,24 @@ module _ (w : World) (c : Name) (job : ℕ) (items : List Item) (fresh : IsFresh
       sym (ap (cloned_cell shared c k) is ∙ ap (λ (x : Context). x.cell k) (context-shared w c job items live spec)
       ∙ ap (λ m. shared_cell new m k ((context w c).cell k)) is)
 
-  module _ (past_keys : (k : Key) → limit w.pages (kind_of k) ≤ number_of k → (context w c).cell k ≡ Own (nothing k)) where
-    key_past : (k : Key) → limit w.pages (kind_of k) ≤ number_of k → cloned_cell shared c k (mode_or_copy items k) ≡ Own (nothing k)
+  module _ (past_keys : (k : Key) → limit w.size.pages (kind_of k) ≤ number_of k → (context w c).cell k ≡ Own (nothing k)) where
+    key_past : (k : Key) → limit w.size.pages (kind_of k) ≤ number_of k → cloned_cell shared c k (mode_or_copy items k) ≡ Own (nothing k)
     unfolding value_at
-    key_past k past = sym (key_copied k (copied_past w.pages k items spec past)) ∙ ap (λ cell. Own (value_of w k cell)) (past_keys k past)
+    key_past k past = sym (key_copied k (copied_past w.size.pages k items spec past)) ∙ ap (λ cell. Own (value_of w k cell)) (past_keys k past)
 
     -- what holds these cells is the new context
     pub context-made : (held : Held) (entry : Regs) →
-        map as_cell held.pages.items ≡ map (λ p. cloned shared c (Page p) (mode_or_copy items (Page p))) (range_with_len 0 w.pages) →
-        held.slots.items ≡ map (λ n. cloned shared c (Slot n) (mode_or_copy items (Slot n))) (range_with_len 0 SLOTS) →
-        held.uid ≡ cloned shared c Cred (mode_or_copy items Cred) → held.entry ≡ entry → context_of held ≡ cloned_context shared c items entry
+        map as_cell held.pages.items ≡ map (λ p. cloned_cell shared c (Page p) (mode_or_copy items (Page p))) (range_with_len 0 w.size.pages) →
+        held.slots.items ≡ map (λ n. cloned_cell shared c (Slot n) (mode_or_copy items (Slot n))) (range_with_len 0 SLOTS) →
+        held.uid ≡ cloned_cell shared c Cred (mode_or_copy items Cred) → held.entry ≡ entry → context_of held ≡ cloned_context shared c items entry
     unfolding context_of held_cell held_page held_slot cloned_context
     context-made held entry pages slots uid is_entry =
         let at : (k : Key) → held_cell held k ≡ cloned_cell shared c k (mode_or_copy items k) =
         λ k. elim k as (λ k. held_cell held k ≡ cloned_cell shared c k (mode_or_copy items k)) [
           | Page p ↦
               sym (place_as_cell held.pages.items p)
-              ∙ place_of_map (λ p. cloned shared c (Page p) (mode_or_copy items (Page p))) w.pages (map as_cell held.pages.items) (Own None) p pages (key_past (Page p))
-          | Slot n ↦ place_of_map (λ n. cloned shared c (Slot n) (mode_or_copy items (Slot n))) SLOTS held.slots.items (Own Empty) n slots (key_past (Slot n))
+              ∙ place_of_map (λ p. cloned_cell shared c (Page p) (mode_or_copy items (Page p))) w.size.pages (map as_cell held.pages.items) (Own None) p pages (key_past (Page p))
+          | Slot n ↦ place_of_map (λ n. cloned_cell shared c (Slot n) (mode_or_copy items (Slot n))) SLOTS held.slots.items (Own Empty) n slots (key_past (Slot n))
           | Cred ↦ uid
         ] in
         λ i. record { cell = λ k. at k i; entry = is_entry i; saved = λ t. None }
@@ -111,8 +111,8 @@ module _ (w shared : World) (c : Name) (job : ℕ) (items : List Item) (is_share
   pub shared-name : next_context shared job ≡ next_context w job
   shared-name = ap (λ v. next_context v job) is_shared ∙ next_context-share w c job items job
 
-  pub shared-pages : shared.pages ≡ w.pages
-  shared-pages = ap (λ (v : World). v.pages) is_shared ∙ pages-share w c job items
+  pub shared-size : shared.size ≡ w.size
+  shared-size = ap (λ (v : World). v.size) is_shared ∙ size-share w c job items
 
   pub shared-len : fm.len shared.contexts ≡ fm.len w.contexts
   shared-len = ap (λ (v : World). fm.len v.contexts) is_shared ∙ len_contexts-share w c job items

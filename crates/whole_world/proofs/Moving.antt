@@ -1,5 +1,5 @@
 -- What a context has, and what a group has, while values move from one to the other.
-use Rattle.std.proofs.Common.{◌≡◌, ℕ, ◌+◌, ◌<◌, ◌≤◌, arith, refl, sym, ap, ◌∙◌, Bool, true, false, cond, eqb, ltb, List, Option, Some, None, ⊎_elim}
+use Rattle.std.proofs.Common.{◌≡◌, ℕ, ◌+◌, ◌<◌, ◌≤◌, arith, refl, sym, ap, ◌∙◌, Bool, true, false, cond, eqb, ltb, List, Some, None, ⊎_elim}
 use Rattle.std.specs.Prelude.{nat_lt}
 use Rattle.std.proofs.lemmas.Bool.{cases_lt}
 use Rattle.std.proofs.lemmas.Bool.Decides.{nat_tests}
@@ -64,7 +64,7 @@ module _ (kind : Kind) (n : ℕ) (items : List Item) where
   abbrev mode_here : Mode
   mode_here = mode_or_copy items here
 
-  given_on : (g : Name) (x : Context) (b : Bool) → moves mode_here here (x.cell here) ≡ b →
+  given_on : (g : Name) (x : Context) (b : Bool) → is_moved mode_here here (x.cell here) ≡ b →
       cond b (with_cell here (Common g) (gave (is_below kind n) g items x)) (gave (is_below kind n) g items x) ≡ gave (is_below kind (n + 1)) g items x
   given_on g x true is =
       let f : (k : Key) → Cell (ValueOf k) = λ k. shared_cell g (mode_or_copy items k) k (x.cell k) in
@@ -77,7 +77,7 @@ module _ (kind : Kind) (n : ℕ) (items : List Item) where
       let f : (k : Key) → Cell (ValueOf k) = λ k. shared_cell g (mode_or_copy items k) k (x.cell k) in
       λ i. record x { cell = λ k. with_key-kept Cell kind n f x.cell k (ap (λ b. cond b (Common g) (x.cell here)) is) i }
 
-  taken_on : (x : Context) (h : Group) (b : Bool) → moves mode_here here (x.cell here) ≡ b →
+  taken_on : (x : Context) (h : Group) (b : Bool) → is_moved mode_here here (x.cell here) ≡ b →
       cond b (with_value here (moved_value mode_here here (x.cell here)) (took (is_below kind n) items x h)) (took (is_below kind n) items x h) ≡ took (is_below kind (n + 1)) items x h
   taken_on x h true is =
       let f : (k : Key) → ValueOf k = λ k. cond (is_moved (mode_or_copy items k) k (x.cell k)) (moved_value (mode_or_copy items k) k (x.cell k)) (h.value k) in
@@ -126,7 +126,7 @@ module _ (pages : ℕ) (items : List Item) (spec : IsSpec pages items) (x : Cont
   in_all k after old same =
       ⊎_elim (λ (h : number_of k < limit pages (kind_of k)). ap (λ b. cond b after old) (below (limit pages (kind_of k)) (number_of k) h))
       (λ (h : limit pages (kind_of k) ≤ number_of k).
-      same_whether (nat_lt (number_of k) (limit pages (kind_of k))) true after old (same (ap (λ m. moves m k (x.cell k)) (copied_past pages k items spec h))))
+      same_whether (nat_lt (number_of k) (limit pages (kind_of k))) true after old (same (ap (λ m. is_moved m k (x.cell k)) (copied_past pages k items spec h))))
       (cases_lt (number_of k) (limit pages (kind_of k)))
 
   cell_in_all : (g : Name) (k : Key) → cond (nat_lt (number_of k) (limit pages (kind_of k))) (shared_cell g (mode_or_copy items k) k (x.cell k)) (x.cell k) ≡ shared_cell g (mode_or_copy items k) k (x.cell k)

@@ -20,15 +20,15 @@ no_rows : {X : Type 0} → fm.from_sorted {X = X} {R = name_cmp} [] ≡ fm.empty
 no_rows {X} = fm.empty_of_len (fm.from_sorted []) (fm.len-entries (fm.from_sorted []) ∙ ap length (fm.entries-from_sorted {X = X} name_cmp [] tt))
 
 nothing_there : (size : WorldSize) (counts : List Counts) → counts ≡ replicate size.jobs (record { contexts = 0; groups = 0; tags = 0 }) →
-    world_of size [] [] counts ≡ empty_world size.frames size.pages
+    world_of size [] [] counts ≡ empty_world size
 unfolding world_of contexts_of groups_of empty_world
 nothing_there size counts nothing =
     let each : (job : ℕ) → get_or counts job (record { contexts = 0; groups = 0; tags = 0 }) ≡ record { contexts = 0; groups = 0; tags = 0 } =
     λ job. ap (λ l. get_or l job (record { contexts = 0; groups = 0; tags = 0 })) nothing ∙ place_of_replicate size.jobs (record { contexts = 0; groups = 0; tags = 0 }) job in
-    λ i. record { contexts = no_rows i; groups = no_rows i; next = λ job. counters_of (each job i); frames = size.frames; pages = size.pages }
+    λ i. record { contexts = no_rows i; groups = no_rows i; next = λ job. counters_of (each job i); size = size }
 
 pub nothing_counted_yet : (size : WorldSize) (contexts : List Held) (groups : List HeldGroup) (counts : List Counts) → contexts ≡ [] → groups ≡ [] →
-    counts ≡ replicate size.jobs (record { contexts = 0; groups = 0; tags = 0 }) → world_of size contexts groups counts ≡ empty_world size.frames size.pages
+    counts ≡ replicate size.jobs (record { contexts = 0; groups = 0; tags = 0 }) → world_of size contexts groups counts ≡ empty_world size
 nothing_counted_yet size contexts groups counts none no_group nothing = (λ i. world_of size (none i) (no_group i) counts) ∙ nothing_there size counts nothing
 
 sound_there : (size : WorldSize) (counts : List Counts) → IsSize size → length counts ≡ size.jobs →
@@ -44,7 +44,7 @@ sound_there size counts is_size many nothing = record {
   groups_sorted = tt;
   contexts_whole = All-nil (IsWhole size.pages);
   groups_whole = All-nil (IsWholeGroup size.pages);
-  fresh = subst IsFresh (sym (nothing_there size counts nothing)) (fresh-empty_world size.frames size.pages);
+  fresh = subst IsFresh (sym (nothing_there size counts nothing)) (fresh-empty_world size);
 }
 
 pub sound-opened : (size : WorldSize) (contexts : List Held) (groups : List HeldGroup) (counts : List Counts) → contexts ≡ [] → groups ≡ [] →

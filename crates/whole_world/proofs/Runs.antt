@@ -14,22 +14,22 @@ use Rattle.lwc_base.specs.declared.name.Name.{Name}
 use Rattle.lwc_base.specs.declared.page.PageValue.{PageValue}
 use Rattle.lwc_base.specs.declared.page.PageValue.TheVariants.{Zero}
 use Rattle.lwc_base.specs.declared.regs.Regs.{Regs}
+use Rattle.lwc_base.specs.declared.size.WorldSize.{WorldSize}
 use Rattle.lwc_base.specs.Cells.{page_at}
 use Rattle.lwc_base.specs.Fresh.{IsFresh}
-use Rattle.lwc_base.specs.Mapping.{map_pages, mapped_or_not, unmap_pages}
+use Rattle.lwc_base.specs.Mapping.{map_pages, mapped_or_not, unmap_pages, with_zeros, without_pages}
 use Rattle.lwc_base.specs.Modes.{IsSpec, mode_or_copy}
 use Rattle.lwc_base.specs.Names.{name_cmp}
 use Rattle.lwc_base.specs.Ranges.{are_of_one_kind, is_page, begins_range, ranges, ranges_of}
 use Rattle.lwc_base.specs.Sharing.{shared_cell, cloned_context, cloned_cell, with_shared, moved_values, ranges_after_clone, share}
 use Rattle.lwc_base.specs.World.{World, Context, context, is_live, next_group}
-use Rattle.lwc_base.proofs.Cloning.{pages-share}
+use Rattle.lwc_base.proofs.Cloning.{size-share}
 use Rattle.lwc_base.proofs.Fresh.{names_old-context}
 use Rattle.lwc_base.proofs.Live.{same_name, values-map_pages, values-unmap_pages}
 use Rattle.lwc_base.proofs.Lookups.{context-change_context, name-itself, other_name}
 use Rattle.lwc_base.proofs.Sharing.{value_at-share}
 use Rattle.whole_world.specs.declared.ranges.Standing.{Standing}
 use Rattle.whole_world.specs.declared.ranges.Standing.TheVariants.{Absent, Own, Moved, Common}
-use Rattle.whole_world.specs.Copies.{with_zeros, without_pages}
 use Rattle.whole_world.specs.Outlooks.{after_mapping, after_sharing, in_clone}
 use Rattle.whole_world.specs.Standings.{begins_after, begins_at, cloned_standing, count_of_ranges, own_if, standing_of}
 use Rattle.whole_world.proofs.SharedCells.{context-shared}
@@ -110,7 +110,7 @@ module _ (w : World) (c : Name) (fresh : IsFresh w) where
   not_new : (job p : ℕ) → (context w c).cell (Page p) ≢ cell.Common (next_group w job)
   not_new job p is = let h : (w.next job).groups < (w.next job).groups = names_old-context w c fresh (Page p) (next_group w job) is in absurd (omega arith)
 
-  module _ (job : ℕ) (items : List Item) (live : is_live w c ≡ true) (spec : IsSpec w.pages items) where
+  module _ (job : ℕ) (items : List Item) (live : is_live w c ≡ true) (spec : IsSpec w.size.pages items) where
     abbrev new : Name
     new = next_group w job
 
@@ -121,28 +121,28 @@ module _ (w : World) (c : Name) (fresh : IsFresh w) where
         ∙ seen_from-shared new p (mode_or_copy items (Page p)) ((context w c).cell (Page p)) (not_new job p)
 
     -- the ranges of the context after the sharing
-    pub ranges-shared : ranges_of (share w c job items) c ≡ count_of_ranges w.pages (after_sharing w c items)
+    pub ranges-shared : ranges_of (share w c job items) c ≡ count_of_ranges w.size.pages (after_sharing w c items)
     unfolding ranges_of after_sharing
     ranges-shared =
-        ap (λ n. ranges n (context (share w c job items) c)) (pages-share w c job items)
-        ∙ ranges-standings new (context (share w c job items) c) (after_sharing w c items) page-shared w.pages
+        ap (λ (s : WorldSize). ranges s.pages (context (share w c job items) c)) (size-share w c job items)
+        ∙ ranges-standings new (context (share w c job items) c) (after_sharing w c items) page-shared w.size.pages
 
     page-cloned : (p : ℕ) (mode : Mode) → mode_or_copy items (Page p) ≡ mode →
-        seen_from new (cloned (share w c job items) c (Page p) mode) ≡ cloned_standing mode (is_some (page_at w c p)) ((context w c).cell (Page p))
+        seen_from new (cloned_cell (share w c job items) c (Page p) mode) ≡ cloned_standing mode (is_some (page_at w c p)) ((context w c).cell (Page p))
     page-cloned p Copy is =
         ap (λ o. seen_from new (cell.Own o)) (value_at-share w c job items fresh c (Page p)) ∙ seen_from-own new (page_at w c p)
     page-cloned p Share is = page-shared p ∙ ap (λ m. standing_of m ((context w c).cell (Page p))) is
     page-cloned p Unmap is = refl
 
     -- the ranges of the new context
-    pub ranges-cloned : (entry : Regs) → ranges (share w c job items).pages (cloned_context (share w c job items) c items entry) ≡ count_of_ranges w.pages (in_clone w c items)
+    pub ranges-cloned : (entry : Regs) → ranges (share w c job items).size.pages (cloned_context (share w c job items) c items entry) ≡ count_of_ranges w.size.pages (in_clone w c items)
     unfolding cloned_context in_clone
     ranges-cloned entry =
-        ap (λ n. ranges n (cloned_context (share w c job items) c items entry)) (pages-share w c job items)
-        ∙ ranges-standings new (cloned_context (share w c job items) c items entry) (in_clone w c items) (λ p. page-cloned p _ refl) w.pages
+        ap (λ (s : WorldSize). ranges s.pages (cloned_context (share w c job items) c items entry)) (size-share w c job items)
+        ∙ ranges-standings new (cloned_context (share w c job items) c items entry) (in_clone w c items) (λ p. page-cloned p _ refl) w.size.pages
 
     -- both
-    pub ranges-both : (a b : ℕ) → a ≡ count_of_ranges w.pages (after_sharing w c items) → b ≡ count_of_ranges w.pages (in_clone w c items) →
+    pub ranges-both : (a b : ℕ) → a ≡ count_of_ranges w.size.pages (after_sharing w c items) → b ≡ count_of_ranges w.size.pages (in_clone w c items) →
         ◌≡◌ {A = ℕ × ℕ} (a, b) (ranges_after_clone w c job items)
     unfolding ranges_after_clone
     ranges-both a b shared cloned = λ i. ((shared ∙ sym ranges-shared) i, (cloned ∙ sym (ranges-cloned (context (share w c job items) c).entry)) i)
@@ -154,9 +154,9 @@ module _ (w : World) (c : Name) (fresh : IsFresh w) where
   mapped-cell g false true old same = same
   mapped-cell g false false old same = same
 
-  pages-mapped : (from to : ℕ) (present : Bool) → (mapped_or_not w c from to present).pages ≡ w.pages
-  pages-mapped from to true = (values-map_pages w c from to).pages
-  pages-mapped from to false = (values-unmap_pages w c from to).pages
+  size-mapped : (from to : ℕ) (present : Bool) → (mapped_or_not w c from to present).size ≡ w.size
+  size-mapped from to true = (values-map_pages w c from to).size
+  size-mapped from to false = (values-unmap_pages w c from to).size
 
   changed-here : (change : Context → Context) → is_live w c ≡ true → cond (is_live w c && eq_by_cmp name_cmp c c) (change (context w c)) (context w c) ≡ change (context w c)
   changed-here change live = λ i. cond (live i && name-itself c i) (change (context w c)) (context w c)
@@ -171,11 +171,11 @@ module _ (w : World) (c : Name) (fresh : IsFresh w) where
 
   -- the ranges of the context once pages have been mapped or unmapped
   pub ranges-mapped : (from to : ℕ) (present : Bool) → is_live w c ≡ true →
-      ranges_of (mapped_or_not w c from to present) c ≡ count_of_ranges w.pages (after_mapping w c from to present)
+      ranges_of (mapped_or_not w c from to present) c ≡ count_of_ranges w.size.pages (after_mapping w c from to present)
   unfolding ranges_of after_mapping
   ranges-mapped from to present live =
       let new : Name = next_group w 0 in
-      ap (λ n. ranges n (context (mapped_or_not w c from to present) c)) (pages-mapped from to present)
+      ap (λ (s : WorldSize). ranges s.pages (context (mapped_or_not w c from to present) c)) (size-mapped from to present)
       ∙ ranges-standings new (context (mapped_or_not w c from to present) c) (after_mapping w c from to present)
       (λ p. ap (seen_from new) (context-mapped from to present live p)
-      ∙ mapped-cell new (nat_le from p && nat_lt p to) present ((context w c).cell (Page p)) (seen_from-shared new p Copy ((context w c).cell (Page p)) (not_new 0 p))) w.pages
+      ∙ mapped-cell new (nat_le from p && nat_lt p to) present ((context w c).cell (Page p)) (seen_from-shared new p Copy ((context w c).cell (Page p)) (not_new 0 p))) w.size.pages

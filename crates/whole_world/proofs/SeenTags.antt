@@ -91,7 +91,7 @@ module _ (w : WholeWorld) where
       let in_groups : length (flat_map group_tags groups) ≤ length groups * pages =
       length-flat_map-le group_tags pages groups (λ k d within. length-group_tags pages (get_or groups k d) (w.sound.groups_whole k d within)) in
       let rows : length contexts + length groups ≤ 2 ^ 16 = omega (arith, w.sound.few_rows, w.sound.few_contexts, w.sound.few_groups) in
-      let most : (length contexts + length groups) * pages ≤ 65536 * 16384 = mul-le-mul rows w.sound.few_pages in
+      let most : (length contexts + length groups) * pages ≤ 65536 * 1024 = mul-le-mul rows w.sound.few_pages in
       omega (arith, in_contexts, in_groups, most)
 
   -- they are few: no more than rows times pages

@@ -49,9 +49,9 @@ counts_at false n e = cc
 
 -- once the job has counted the group
 module _ (w counted : World) (job : ℕ) (is_counted : counted ≡ change_counters w job one_group_more) where
-  pub counted-pages : counted.pages ≡ w.pages
+  pub counted-size : counted.size ≡ w.size
   unfolding change_counters
-  counted-pages = ap (λ (v : World). v.pages) is_counted
+  counted-size = ap (λ (v : World). v.size) is_counted
 
   pub counted-live : (c : Name) → is_live counted c ≡ is_live w c
   unfolding change_counters
@@ -73,8 +73,8 @@ module _ (w counted : World) (job : ℕ) (is_counted : counted ≡ change_counte
 
   -- and so it is once values have moved out of a context
   module _ (left : World) (c : Name) (change : Context → Context) (is_left : left ≡ change_context counted c change) where
-    pub left-pages : left.pages ≡ w.pages
-    left-pages = ap (λ (v : World). v.pages) is_left ∙ (values-change_context counted c change).pages ∙ counted-pages
+    pub left-size : left.size ≡ w.size
+    left-size = ap (λ (v : World). v.size) is_left ∙ (values-change_context counted c change).size ∙ counted-size
 
     pub left-named : (g : Name) → g ≡ next_group w job → IsNamedGroup left.next g
     left-named g is =

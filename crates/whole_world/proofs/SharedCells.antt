@@ -1,5 +1,5 @@
 -- The cells of a context once what is under share has moved out of it.
-use Rattle.std.proofs.Common.{◌≡◌, ℕ, ◌<◌, ◌≤◌, ap, refl, sym, ◌∙◌, Bool, true, false, cond, List, ⊎_elim}
+use Rattle.std.proofs.Common.{◌≡◌, ℕ, ◌≤◌, ap, refl, sym, ◌∙◌, Bool, true, false, cond, List, ⊎_elim}
 use Rattle.std.proofs.lemmas.Bool.{cases_lt}
 use Rattle.lwc_base.specs.declared.cell.Cell.TheVariants.{Common}
 use Rattle.lwc_base.specs.declared.item.Item.{Item}
@@ -12,16 +12,16 @@ use Rattle.lwc_base.proofs.Clones.{nothing_moves}
 use Rattle.lwc_base.proofs.Cloning.{context-share-alone, context-share-moves}
 use Rattle.whole_world.proofs.Unnamed.{copied_past}
 
-module _ (w : World) (c : Name) (job : ℕ) (items : List Item) (live : is_live w c ≡ true) (spec : IsSpec w.pages items) where
+module _ (w : World) (c : Name) (job : ℕ) (items : List Item) (live : is_live w c ≡ true) (spec : IsSpec w.size.pages items) where
   abbrev here : Context
   here = context w c
 
   -- where no value moves, none moves under any key
   no_key_moves : needs_group w c items ≡ false → (k : Key) → is_moved (mode_or_copy items k) k (here.cell k) ≡ false
   no_key_moves none k =
-      ⊎_elim (λ (h : IsKey w.pages k). nothing_moves w c items none k h)
-      (λ (h : limit w.pages (kind_of k) ≤ number_of k). ap (λ m. moves m k (here.cell k)) (copied_past w.pages k items spec h))
-      (cases_lt (number_of k) (limit w.pages (kind_of k)))
+      ⊎_elim (λ (h : IsKey w.size.pages k). nothing_moves w c items none k h)
+      (λ (h : limit w.size.pages (kind_of k) ≤ number_of k). ap (λ m. is_moved m k (here.cell k)) (copied_past w.size.pages k items spec h))
+      (cases_lt (number_of k) (limit w.size.pages (kind_of k)))
 
   left_or_not : (b : Bool) → needs_group w c items ≡ b → context (share w c job items) c ≡ with_shared (next_group w job) items here
   unfolding with_shared

@@ -11,7 +11,7 @@ use Rattle.whole_world.specs.Seen.{seen}
 use Rattle.whole_world.specs.declared.world.WholeWorld.{WholeWorld}
 
 -- a world has few pages
-pub few_pages-seen : (w : WholeWorld) → (seen w).pages ≤ MOST_PAGES
+pub few_pages-seen : (w : WholeWorld) → (seen w).size.pages ≤ MOST_PAGES
 unfolding seen world_of
 few_pages-seen w = w.sound.few_pages
 

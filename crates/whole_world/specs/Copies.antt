@@ -9,9 +9,7 @@ use Rattle.lwc_base.specs.declared.key.Key.TheVariants.{Page, Slot, Cred}
 use Rattle.lwc_base.specs.declared.key.TheConstants.{NOBODY}
 use Rattle.lwc_base.specs.declared.name.Name.{Name}
 use Rattle.lwc_base.specs.declared.page.PageValue.{PageValue}
-use Rattle.lwc_base.specs.declared.page.PageValue.TheVariants.{Zero}
 use Rattle.lwc_base.specs.Keys.{ValueOf}
-use Rattle.lwc_base.specs.Mapping.{on_pages}
 use Rattle.lwc_base.specs.World.{Context, Group}
 use Rattle.whole_world.specs.declared.held.Held.{Held}
 use Rattle.whole_world.specs.declared.group.HeldGroup.{HeldGroup}
@@ -62,11 +60,3 @@ group_value held Cred = unwrap_or held.uid NOBODY
 -- the group that is held
 unfoldable pub group_of : HeldGroup → Group
 group_of held = record { value = group_value held }
-
--- a context in which each page from one up to and without another is a page of zeros of its own
-abbrev pub with_zeros : ℕ → ℕ → Context → Context
-with_zeros from to x = record x { cell = on_pages from to (Own (Some Zero)) x.cell }
-
--- a context in which each page from one up to and without another is absent
-abbrev pub without_pages : ℕ → ℕ → Context → Context
-without_pages from to x = record x { cell = on_pages from to (Own None) x.cell }

@@ -41,8 +41,7 @@ world_of size contexts groups counts = record {
   contexts = contexts_of contexts;
   groups = groups_of groups;
   next = λ job. counters_of (slice_index_or counts job nothing_counted);
-  frames = size.frames;
-  pages = size.pages;
+  size = size;
 }
 
 -- whether a context that is held has the name

@@ -11,14 +11,13 @@ impl WholeWorld {
     ghost use Rattle.lwc_base.specs.World.{add_context, is_live, next_context};
     ghost use Rattle.whole_world.specs.Copies.{context_of};
     ghost use Rattle.whole_world.specs.Rows.{is_past};
-    ghost use Rattle.whole_world.specs.Seen.{HasRoom, HasGroupRoom, seen, size_of};
+    ghost use Rattle.whole_world.specs.Seen.{HasRoom, HasGroupRoom, seen};
     ghost use Rattle.whole_world.specs.Sound.{IsWhole};
 
     /// Takes the memory for one more context and for one more group. The one error is want of memory.
-    #[tactic(auto, unfolding(crate::specs::Seen::seen, crate::specs::Seen::size_of))]
+    #[tactic(auto, unfolding(crate::specs::Seen::seen))]
     pub(crate) fn reserve(&mut self) -> Result<(), OutOfMemory>
         ensures world { seen self.new ≡ seen self.old }
-        ensures size { size_of self.new ≡ size_of self.old }
         ensures room { OnOk result (HasRoom self.new) }
         ensures group_room { OnOk result (HasGroupRoom self.new) }
     {
@@ -50,11 +49,10 @@ impl WholeWorld {
         requires fresh { IsFalse (is_live (seen self.old) held.name) }
         requires counted { held.name.k < ((seen self.old).next held.name.job).contexts }
         requires old_groups { NamesOldGroups (seen self.old).next (context_of held) }
-        requires whole { IsWhole (seen self.old).pages held }
-        requires place { fm.len (seen self.old).contexts < (size_of self.old).contexts }
+        requires whole { IsWhole (seen self.old).size.pages held }
+        requires place { fm.len (seen self.old).contexts < (seen self.old).size.contexts }
         requires room { HasRoom self.old }
-        ensures world { seen self.new ≡ record (seen self.old) { contexts = fm.insert (seen self.old).contexts held.name (context_of held) } }
-        ensures size { size_of self.new ≡ size_of self.old }
+        ensures { seen self.new ≡ record (seen self.old) { contexts = fm.insert (seen self.old).contexts held.name (context_of held) } }
     {
         let place = self.place_for(held.name);
         self.contexts.insert(place, held).unwrap();
@@ -62,15 +60,14 @@ impl WholeWorld {
 
     /// A job makes its next context, which is this one (`add_context`). Room for it has been taken before.
     pub(crate) fn add(&mut self, job: u32, held: Held)
-        requires known { job < (size_of self.old).jobs }
+        requires known { job < (seen self.old).size.jobs }
         requires few { ((seen self.old).next job).contexts < 2 ^ 31 }
         requires name { held.name ≡ next_context (seen self.old) job }
         requires old_groups { NamesOldGroups (seen self.old).next (context_of held) }
-        requires whole { IsWhole (seen self.old).pages held }
-        requires place { fm.len (seen self.old).contexts < (size_of self.old).contexts }
+        requires whole { IsWhole (seen self.old).size.pages held }
+        requires place { fm.len (seen self.old).contexts < (seen self.old).size.contexts }
         requires room { HasRoom self.old }
-        ensures world { seen self.new ≡ add_context (seen self.old) job (context_of held) }
-        ensures size { size_of self.new ≡ size_of self.old }
+        ensures { seen self.new ≡ add_context (seen self.old) job (context_of held) }
     {
         self.count_context(job);
         self.insert_context(held);

@@ -60,13 +60,13 @@ impl WholeWorld {
     ghost use Rattle.lwc_base.specs.Sharing.{cloned_context, clone_context, cloned_cell, needs_group, share};
     ghost use Rattle.lwc_base.specs.World.{is_live, next_context, next_group};
     ghost use Rattle.whole_world.specs.Copies.{context_of};
-    ghost use Rattle.whole_world.specs.Seen.{HasRoom, HasGroupRoom, seen, size_of};
+    ghost use Rattle.whole_world.specs.Seen.{HasRoom, HasGroupRoom, seen};
     ghost use Rattle.whole_world.specs.Sound.{IsWhole};
     ghost use Rattle.world_face.specs.Calls.{HasGroupPlace, HasPlace, MayName};
 
     /// The next name of a job's groups.
     fn next_group(&self, job: u32) -> Name
-        requires { job < (size_of self.now).jobs }
+        requires { job < (seen self.now).size.jobs }
         ensures { result ≡ next_group (seen self.now) job }
     {
         Name {
@@ -84,9 +84,9 @@ impl WholeWorld {
         p: u16,
     ) -> Result<Option<Cell<PageValue>>, OutOfMemory>
         requires live { IsTrue (is_live (seen self.now) c) }
-        requires within { IsSpec (seen self.now).pages spec.now }
-        requires known { job < (size_of self.now).jobs }
-        ensures { IfOk result (λ cell. as_cell cell ≡ cloned (share (seen self.now) c job spec.now) c (Page p) (mode_or_copy spec.now (Page p))) }
+        requires within { IsSpec (seen self.now).size.pages spec.now }
+        requires known { job < (seen self.now).size.jobs }
+        ensures { IfOk result (λ cell. as_cell cell ≡ cloned_cell (share (seen self.now) c job spec.now) c (Page p) (mode_or_copy spec.now (Page p))) }
     {
         match mode_or_copy(spec, Key::Page(p)) {
             Mode::Copy => copied_page(self.alloc, self.page_value(c, p as usize)),
@@ -101,10 +101,10 @@ impl WholeWorld {
     /// The slot's cell in the new context.
     fn cloned_slot(&self, c: Name, spec: &Spec, job: u32, n: u8) -> Cell<Descriptor>
         requires live { IsTrue (is_live (seen self.now) c) }
-        requires within { IsSpec (seen self.now).pages spec.now }
-        requires known { job < (size_of self.now).jobs }
+        requires within { IsSpec (seen self.now).size.pages spec.now }
+        requires known { job < (seen self.now).size.jobs }
         requires slot { n < SLOTS }
-        ensures { result ≡ cloned (share (seen self.now) c job spec.now) c (Slot n) (mode_or_copy spec.now (Slot n)) }
+        ensures { result ≡ cloned_cell (share (seen self.now) c job spec.now) c (Slot n) (mode_or_copy spec.now (Slot n)) }
     {
         match mode_or_copy(spec, Key::Slot(n)) {
             Mode::Copy => Cell::Own(self.slot_value(c, n)),
@@ -116,9 +116,9 @@ impl WholeWorld {
     /// The credential's cell in the new context.
     fn cloned_uid(&self, c: Name, spec: &Spec, job: u32) -> Cell<u32>
         requires live { IsTrue (is_live (seen self.now) c) }
-        requires within { IsSpec (seen self.now).pages spec.now }
-        requires known { job < (size_of self.now).jobs }
-        ensures { result ≡ cloned (share (seen self.now) c job spec.now) c Cred (mode_or_copy spec.now Cred) }
+        requires within { IsSpec (seen self.now).size.pages spec.now }
+        requires known { job < (seen self.now).size.jobs }
+        ensures { result ≡ cloned_cell (share (seen self.now) c job spec.now) c Cred (mode_or_copy spec.now Cred) }
     {
         match mode_or_copy(spec, Key::Cred) {
             Mode::Copy => Cell::Own(self.uid_value(c)),
@@ -135,9 +135,9 @@ impl WholeWorld {
         job: u32,
     ) -> Result<Vec<Option<Cell<PageValue>>>, OutOfMemory>
         requires live { IsTrue (is_live (seen self.now) c) }
-        requires within { IsSpec (seen self.now).pages spec.now }
-        requires known { job < (size_of self.now).jobs }
-        ensures { IfOk result (λ pages. map as_cell pages.items ≡ map (λ p. cloned (share (seen self.now) c job spec.now) c (Page p) (mode_or_copy spec.now (Page p))) (range_with_len 0 (seen self.now).pages)) }
+        requires within { IsSpec (seen self.now).size.pages spec.now }
+        requires known { job < (seen self.now).size.jobs }
+        ensures { IfOk result (λ pages. map as_cell pages.items ≡ map (λ p. cloned_cell (share (seen self.now) c job spec.now) c (Page p) (mode_or_copy spec.now (Page p))) (range_with_len 0 (seen self.now).size.pages)) }
     {
         let count = self.page_limit();
         let mut pages = Vec::with_capacity(self.alloc, count as usize)?;
@@ -155,9 +155,9 @@ impl WholeWorld {
         job: u32,
     ) -> Result<Vec<Cell<Descriptor>>, OutOfMemory>
         requires live { IsTrue (is_live (seen self.now) c) }
-        requires within { IsSpec (seen self.now).pages spec.now }
-        requires known { job < (size_of self.now).jobs }
-        ensures { IfOk result (λ slots. slots.items ≡ map (λ n. cloned (share (seen self.now) c job spec.now) c (Slot n) (mode_or_copy spec.now (Slot n))) (range_with_len 0 SLOTS)) }
+        requires within { IsSpec (seen self.now).size.pages spec.now }
+        requires known { job < (seen self.now).size.jobs }
+        ensures { IfOk result (λ slots. slots.items ≡ map (λ n. cloned_cell (share (seen self.now) c job spec.now) c (Slot n) (mode_or_copy spec.now (Slot n))) (range_with_len 0 SLOTS)) }
     {
         let mut slots = Vec::with_capacity(self.alloc, SLOTS as usize)?;
         for n in 0..SLOTS {
@@ -169,10 +169,10 @@ impl WholeWorld {
     /// The new context (`clone`), as it is once what is under share has moved. The one error is want of memory.
     fn cloned(&self, c: Name, spec: &Spec, job: u32, entry: &Regs) -> Result<Held, OutOfMemory>
         requires live { IsTrue (is_live (seen self.now) c) }
-        requires within { IsSpec (seen self.now).pages spec.now }
-        requires known { job < (size_of self.now).jobs }
+        requires within { IsSpec (seen self.now).size.pages spec.now }
+        requires known { job < (seen self.now).size.jobs }
         ensures name { IfOk result (λ held. held.name ≡ next_context (seen self.now) job) }
-        ensures whole { IfOk result (IsWhole (seen self.now).pages) }
+        ensures whole { IfOk result (IsWhole (seen self.now).size.pages) }
         ensures context { IfOk result (λ held. context_of held ≡ cloned_context (share (seen self.now) c job spec.now) c spec.now entry.now) }
     {
         Ok(Held {
@@ -188,13 +188,12 @@ impl WholeWorld {
     /// is want of memory.
     fn share_values(&mut self, c: Name, spec: &Spec, job: u32) -> Result<(), OutOfMemory>
         requires live { IsTrue (is_live (seen self.old) c) }
-        requires within { IsSpec (seen self.old).pages spec.now }
-        requires may { MayName (size_of self.old) (seen self.old) job }
-        requires group { needs_group (seen self.old) c spec.now ≡ true → HasGroupPlace (size_of self.old) (seen self.old) }
+        requires within { IsSpec (seen self.old).size.pages spec.now }
+        requires may { MayName (seen self.old) job }
+        requires group { needs_group (seen self.old) c spec.now ≡ true → HasGroupPlace (seen self.old) }
         requires room { HasGroupRoom self.old }
         ensures shared { OnOk result (seen self.new ≡ share (seen self.old) c job spec.now) }
         ensures err { OnErr result (seen self.new ≡ seen self.old) }
-        ensures size { size_of self.new ≡ size_of self.old }
         ensures room { HasRoom self.old → HasRoom self.new }
     {
         if self.moves_values(c, spec) {
@@ -218,14 +217,13 @@ impl WholeWorld {
         entry: &Regs,
     ) -> Result<Name, OutOfMemory>
         requires live { IsTrue (is_live (seen self.old) c) }
-        requires within { IsSpec (seen self.old).pages spec.now }
-        requires may { MayName (size_of self.old) (seen self.old) job }
-        requires place { HasPlace (size_of self.old) (seen self.old) }
-        requires group { needs_group (seen self.old) c spec.now ≡ true → HasGroupPlace (size_of self.old) (seen self.old) }
+        requires within { IsSpec (seen self.old).size.pages spec.now }
+        requires may { MayName (seen self.old) job }
+        requires place { HasPlace (seen self.old) }
+        requires group { needs_group (seen self.old) c spec.now ≡ true → HasGroupPlace (seen self.old) }
         ensures name { IfOk result (λ made. made ≡ next_context (seen self.old) job) }
         ensures cloned { OnOk result (seen self.new ≡ clone_context (seen self.old) c job spec.now entry.now) }
         ensures err { OnErr result (seen self.new ≡ seen self.old) }
-        ensures sized { size_of self.new ≡ size_of self.old }
     {
         let held = self.cloned(c, spec, job, entry)?;
         let name = held.name;

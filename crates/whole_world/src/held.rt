@@ -6,7 +6,8 @@ ghost use Rattle.lwc_base.specs.declared.descriptor.TheConstants.{SLOTS};
 ghost use Rattle.lwc_base.specs.declared.key.Key.TheVariants.{Page, Slot, Cred};
 ghost use Rattle.lwc_base.specs.Cells.{with_cell};
 ghost use Rattle.lwc_base.specs.World.{new_context};
-ghost use Rattle.whole_world.specs.Copies.{as_cell, context_of, held_page, held_slot, with_zeros, without_pages};
+ghost use Rattle.whole_world.specs.Copies.{as_cell, context_of, held_page, held_slot};
+ghost use Rattle.lwc_base.specs.Mapping.{with_zeros, without_pages};
 ghost use Rattle.whole_world.specs.Sound.{IsWhole};
 
 use lwc_base::{Cell, Descriptor, Name, OutOfMemory, PageValue, Regs, SLOTS};

@@ -185,7 +185,7 @@ impl Held {
         ensures context { context_of self.new ≡ with_shared group.old.name spec.now (context_of self.old) }
         ensures group_name { group.new.name ≡ group.old.name }
         ensures whole_group { IsWholeGroup pages group.new }
-        ensures group { group_of group.new ≡ moved spec.now (context_of self.old) }
+        ensures group { group_of group.new ≡ moved_values spec.now (context_of self.old) }
     {
         self.move_pages(pages, spec, group);
         self.move_slots(pages, spec, group);

@@ -10,13 +10,12 @@ impl WholeWorld {
     ghost use Rattle.lwc_base.specs.Cells.{put_page, put_slot, put_uid, with_cell, with_value};
     ghost use Rattle.lwc_base.specs.Mapping.{map_pages, unmap_pages};
     ghost use Rattle.lwc_base.specs.World.{change_context, change_group, is_live};
-    ghost use Rattle.whole_world.specs.Seen.{seen, size_of};
+    ghost use Rattle.whole_world.specs.Seen.{seen};
 
     /// Puts a value of a context's own under a page.
     fn put_own_page(&mut self, c: Name, p: usize, value: PageValue)
-        requires { p < (seen self.old).pages }
-        ensures world { seen self.new ≡ change_context (seen self.old) c (with_cell (Page p) (Own (Some value))) }
-        ensures size { size_of self.new ≡ size_of self.old }
+        requires { p < (seen self.old).size.pages }
+        ensures { seen self.new ≡ change_context (seen self.old) c (with_cell (Page p) (Own (Some value))) }
     {
         match self.place_of(c) {
             Some(i) => self.contexts[i].set_page(p, Some(Cell::Own(value))),
@@ -27,8 +26,7 @@ impl WholeWorld {
     /// Puts a value of a context's own under a slot.
     fn put_own_slot(&mut self, c: Name, n: u8, value: Descriptor)
         requires { n < SLOTS }
-        ensures world { seen self.new ≡ change_context (seen self.old) c (with_cell (Slot n) (Own value)) }
-        ensures size { size_of self.new ≡ size_of self.old }
+        ensures { seen self.new ≡ change_context (seen self.old) c (with_cell (Slot n) (Own value)) }
     {
         match self.place_of(c) {
             Some(i) => self.contexts[i].set_slot(n, Cell::Own(value)),
@@ -38,8 +36,7 @@ impl WholeWorld {
 
     /// Puts a uid of a context's own under the credential.
     fn put_own_uid(&mut self, c: Name, uid: u32)
-        ensures world { seen self.new ≡ change_context (seen self.old) c (with_cell Cred (Own uid)) }
-        ensures size { size_of self.new ≡ size_of self.old }
+        ensures { seen self.new ≡ change_context (seen self.old) c (with_cell Cred (Own uid)) }
     {
         match self.place_of(c) {
             Some(i) => self.contexts[i].set_uid(Cell::Own(uid)),
@@ -49,9 +46,8 @@ impl WholeWorld {
 
     /// Puts a value under a page of a group.
     fn put_group_page(&mut self, g: Name, p: usize, value: PageValue)
-        requires { p < (seen self.old).pages }
-        ensures world { seen self.new ≡ change_group (seen self.old) g (with_value (Page p) (Some value)) }
-        ensures size { size_of self.new ≡ size_of self.old }
+        requires { p < (seen self.old).size.pages }
+        ensures { seen self.new ≡ change_group (seen self.old) g (with_value (Page p) (Some value)) }
     {
         match self.group_place(g) {
             Some(i) => self.groups[i].set_page(p, value),
@@ -62,8 +58,7 @@ impl WholeWorld {
     /// Puts a value under a slot of a group.
     fn put_group_slot(&mut self, g: Name, n: u8, value: Descriptor)
         requires { n < SLOTS }
-        ensures world { seen self.new ≡ change_group (seen self.old) g (with_value (Slot n) value) }
-        ensures size { size_of self.new ≡ size_of self.old }
+        ensures { seen self.new ≡ change_group (seen self.old) g (with_value (Slot n) value) }
     {
         match self.group_place(g) {
             Some(i) => self.groups[i].set_slot(n, value),
@@ -73,8 +68,7 @@ impl WholeWorld {
 
     /// Puts a uid under the credential of a group.
     fn put_group_uid(&mut self, g: Name, uid: u32)
-        ensures world { seen self.new ≡ change_group (seen self.old) g (with_value Cred uid) }
-        ensures size { size_of self.new ≡ size_of self.old }
+        ensures { seen self.new ≡ change_group (seen self.old) g (with_value Cred uid) }
     {
         match self.group_place(g) {
             Some(i) => self.groups[i].set_uid(uid),
@@ -85,9 +79,8 @@ impl WholeWorld {
     /// Makes each page from one up to and without another a page of zeros of the context's own (`map_pages`).
     pub(crate) fn map_row(&mut self, c: Name, from: u16, to: u16)
         requires order { from ≤ to }
-        requires pages { to ≤ (seen self.old).pages }
-        ensures world { seen self.new ≡ map_pages (seen self.old) c from to }
-        ensures size { size_of self.new ≡ size_of self.old }
+        requires pages { to ≤ (seen self.old).size.pages }
+        ensures { seen self.new ≡ map_pages (seen self.old) c from to }
     {
         match self.place_of(c) {
             Some(i) => self.contexts[i].map(from, to),
@@ -98,9 +91,8 @@ impl WholeWorld {
     /// Makes each page from one up to and without another absent (`unmap_pages`).
     pub(crate) fn unmap_row(&mut self, c: Name, from: u16, to: u16)
         requires order { from ≤ to }
-        requires pages { to ≤ (seen self.old).pages }
-        ensures world { seen self.new ≡ unmap_pages (seen self.old) c from to }
-        ensures size { size_of self.new ≡ size_of self.old }
+        requires pages { to ≤ (seen self.old).size.pages }
+        ensures { seen self.new ≡ unmap_pages (seen self.old) c from to }
     {
         match self.place_of(c) {
             Some(i) => self.contexts[i].unmap(from, to),
@@ -113,8 +105,7 @@ impl WholeWorld {
     #[tactic(auto, unfolding(lwc_base::specs::Cells::put_at))]
     pub(crate) fn put_page(&mut self, c: Name, p: usize, value: PageValue)
         requires { IsTrue (is_live (seen self.old) c) }
-        ensures world { seen self.new ≡ put_page (seen self.old) c p value }
-        ensures size { size_of self.new ≡ size_of self.old }
+        ensures { seen self.new ≡ put_page (seen self.old) c p value }
     {
         match self.held(c).page_cell(p) {
             Some(Cell::Own(_)) => self.put_own_page(c, p, value),
@@ -131,8 +122,7 @@ impl WholeWorld {
     pub(crate) fn put_slot(&mut self, c: Name, n: u8, value: Descriptor)
         requires live { IsTrue (is_live (seen self.old) c) }
         requires within { n < SLOTS }
-        ensures world { seen self.new ≡ put_slot (seen self.old) c n value }
-        ensures size { size_of self.new ≡ size_of self.old }
+        ensures { seen self.new ≡ put_slot (seen self.old) c n value }
     {
         match self.held(c).slot_cell(n) {
             Cell::Own(_) => self.put_own_slot(c, n, value),
@@ -147,8 +137,7 @@ impl WholeWorld {
     #[tactic(auto, unfolding(lwc_base::specs::Cells::put_at))]
     pub(crate) fn put_uid(&mut self, c: Name, uid: u32)
         requires { IsTrue (is_live (seen self.old) c) }
-        ensures world { seen self.new ≡ put_uid (seen self.old) c uid }
-        ensures size { size_of self.new ≡ size_of self.old }
+        ensures { seen self.new ≡ put_uid (seen self.old) c uid }
     {
         match self.held(c).uid_cell() {
             Cell::Own(_) => self.put_own_uid(c, uid),

@@ -60,7 +60,7 @@ impl WholeWorld {
     /// How many pages each context may have; they are few.
     #[tactic(auto, unfolding(crate::specs::Seen::seen, crate::specs::Rows::world_of))]
     pub(crate) fn page_limit(&self) -> u16
-        ensures { result ≡ (seen self.now).pages }
+        ensures { result ≡ (seen self.now).size.pages }
     {
         self.size.pages as u16
     }
@@ -141,7 +141,7 @@ impl WholeWorld {
     #[tactic(auto, using(crate::proofs::Places::count_of_range), unfolding(crate::specs::Standings::count_of_ranges))]
     fn ranges_after_sharing(&self, c: Name, spec: &Spec) -> u32
         requires { IsTrue (is_live (seen self.now) c) }
-        ensures { result ≡ count_of_ranges (seen self.now).pages (after_sharing (seen self.now) c spec.now) }
+        ensures { result ≡ count_of_ranges (seen self.now).size.pages (after_sharing (seen self.now) c spec.now) }
     {
         (0..self.page_limit())
             .filter(|p| self.begins_after_sharing(c, spec, *p))
@@ -152,7 +152,7 @@ impl WholeWorld {
     #[tactic(auto, using(crate::proofs::Places::count_of_range), unfolding(crate::specs::Standings::count_of_ranges))]
     fn ranges_in_clone(&self, c: Name, spec: &Spec) -> u32
         requires { IsTrue (is_live (seen self.now) c) }
-        ensures { result ≡ count_of_ranges (seen self.now).pages (in_clone (seen self.now) c spec.now) }
+        ensures { result ≡ count_of_ranges (seen self.now).size.pages (in_clone (seen self.now) c spec.now) }
     {
         (0..self.page_limit())
             .filter(|p| self.begins_in_clone(c, spec, *p))
@@ -162,7 +162,7 @@ impl WholeWorld {
     /// How many ranges the context and the new one would have after a clone, in this order, for every job.
     pub(crate) fn clone_ranges(&self, c: Name, spec: &Spec) -> (u32, u32)
         requires live { IsTrue (is_live (seen self.now) c) }
-        requires within { IsSpec (seen self.now).pages spec.now }
+        requires within { IsSpec (seen self.now).size.pages spec.now }
         ensures { (job : ℕ) → result ≡ ranges_after_clone (seen self.now) c job spec.now }
     {
         (
@@ -175,7 +175,7 @@ impl WholeWorld {
     #[tactic(auto, using(crate::proofs::Places::count_of_range), unfolding(crate::specs::Standings::count_of_ranges))]
     fn ranges_after_mapping(&self, c: Name, range: Range, present: bool) -> u32
         requires { IsTrue (is_live (seen self.now) c) }
-        ensures { result ≡ count_of_ranges (seen self.now).pages (after_mapping (seen self.now) c range.from range.to present) }
+        ensures { result ≡ count_of_ranges (seen self.now).size.pages (after_mapping (seen self.now) c range.from range.to present) }
     {
         (0..self.page_limit())
             .filter(|p| self.begins_after_mapping(c, range, present, *p))

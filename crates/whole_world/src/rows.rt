@@ -49,7 +49,7 @@ impl WholeWorld {
     pub(crate) fn held(&self, c: Name) -> &Held
         requires { IsTrue (is_live (seen self.now) c) }
         ensures context { context (seen self.now) c ≡ context_of result.now }
-        ensures whole { IsWhole (seen self.now).pages result.now }
+        ensures whole { IsWhole (seen self.now).size.pages result.now }
     {
         match self.find_context(c) {
             Some(held) => held,
@@ -60,7 +60,7 @@ impl WholeWorld {
     /// What is held of a group, if a group of that name lives.
     pub(crate) fn group(&self, g: Name) -> Option<&HeldGroup>
         ensures found { IfSome result (λ held. group (seen self.now) g ≡ group_of held.now) }
-        ensures whole { IfSome result (λ held. IsWholeGroup (seen self.now).pages held.now) }
+        ensures whole { IfSome result (λ held. IsWholeGroup (seen self.now).size.pages held.now) }
         ensures missed { IfNone result (group (seen self.now) g ≡ new_group) }
     {
         self.find_group(g)

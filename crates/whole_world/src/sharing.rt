@@ -70,7 +70,7 @@ impl WholeWorld {
     ghost use Rattle.lwc_base.specs.Sharing.{needs_group, share};
     ghost use Rattle.lwc_base.specs.World.{change_context, context, is_live, next_group};
     ghost use Rattle.whole_world.specs.Rows.{is_group_past};
-    ghost use Rattle.whole_world.specs.Seen.{HasRoom, HasGroupRoom, seen, size_of};
+    ghost use Rattle.whole_world.specs.Seen.{HasRoom, HasGroupRoom, seen};
     ghost use Rattle.world_face.specs.Calls.{HasGroupPlace};
 
     /// Whether a clone moves a value into a new group (`needs_group`).
@@ -104,11 +104,10 @@ impl WholeWorld {
     fn insert_group(&mut self, held: HeldGroup)
         requires fresh { IsFalse (fm.contains_key (seen self.old).groups held.name) }
         requires counted { IsNamedGroup (seen self.old).next held.name }
-        requires whole { IsWholeGroup (seen self.old).pages held }
-        requires place { HasGroupPlace (size_of self.old) (seen self.old) }
+        requires whole { IsWholeGroup (seen self.old).size.pages held }
+        requires place { HasGroupPlace (seen self.old) }
         requires room { HasGroupRoom self.old }
         ensures world { seen self.new ≡ record (seen self.old) { groups = fm.insert (seen self.old).groups held.name (group_of held) } }
-        ensures size { size_of self.new ≡ size_of self.old }
         ensures room { HasRoom self.old → HasRoom self.new }
     {
         let place = self.group_place_for(held.name);
@@ -117,18 +116,17 @@ impl WholeWorld {
 
     /// Moves a context's own values under share into a group with nothing in it, which its job has counted.
     fn move_out(&mut self, c: Name, spec: &Spec, group: &mut HeldGroup)
-        requires within { IsSpec (seen self.old).pages spec.now }
+        requires within { IsSpec (seen self.old).size.pages spec.now }
         requires counted { IsNamedGroup (seen self.old).next group.old.name }
-        requires whole { IsWholeGroup (seen self.old).pages group.old }
+        requires whole { IsWholeGroup (seen self.old).size.pages group.old }
         requires empty { group_of group.old ≡ new_group }
         requires live { IsTrue (is_live (seen self.old) c) }
         ensures world { seen self.new ≡ change_context (seen self.old) c (with_shared group.old.name spec.now) }
-        ensures size { size_of self.new ≡ size_of self.old }
         ensures room { HasRoom self.old → HasRoom self.new }
         ensures group_room { HasGroupRoom self.old → HasGroupRoom self.new }
         ensures name { group.new.name ≡ group.old.name }
-        ensures whole { IsWholeGroup (seen self.old).pages group.new }
-        ensures group { group_of group.new ≡ moved spec.now (context (seen self.old) c) }
+        ensures whole { IsWholeGroup (seen self.old).size.pages group.new }
+        ensures group { group_of group.new ≡ moved_values spec.now (context (seen self.old) c) }
     {
         let pages = self.page_limit();
         match self.place_of(c) {
@@ -140,17 +138,16 @@ impl WholeWorld {
     /// Moves a context's own values under share into this group, which the job makes (`share`, where a value moves).
     pub(crate) fn share(&mut self, c: Name, spec: &Spec, job: u32, mut group: HeldGroup)
         requires live { IsTrue (is_live (seen self.old) c) }
-        requires within { IsSpec (seen self.old).pages spec.now }
+        requires within { IsSpec (seen self.old).size.pages spec.now }
         requires needed { needs_group (seen self.old) c spec.now ≡ true }
-        requires known { job < (size_of self.old).jobs }
+        requires known { job < (seen self.old).size.jobs }
         requires few { ((seen self.old).next job).groups < 2 ^ 31 }
         requires name { group.name ≡ next_group (seen self.old) job }
-        requires whole { IsWholeGroup (seen self.old).pages group }
+        requires whole { IsWholeGroup (seen self.old).size.pages group }
         requires empty { group_of group ≡ new_group }
-        requires place { HasGroupPlace (size_of self.old) (seen self.old) }
+        requires place { HasGroupPlace (seen self.old) }
         requires room { HasGroupRoom self.old }
         ensures world { seen self.new ≡ share (seen self.old) c job spec.now }
-        ensures size { size_of self.new ≡ size_of self.old }
         ensures room { HasRoom self.old → HasRoom self.new }
     {
         self.count_group(job);

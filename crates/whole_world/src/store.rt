@@ -11,7 +11,7 @@ impl WholeWorld {
     ghost use Rattle.lwc_base.specs.Frames.{is_parting};
     ghost use Rattle.lwc_base.specs.Store.{plan, put_pages, page_value_at};
     ghost use Rattle.lwc_base.specs.World.{is_live};
-    ghost use Rattle.whole_world.specs.Seen.{seen, size_of};
+    ghost use Rattle.whole_world.specs.Seen.{seen};
 
     /// How many of some pages part.
     #[tactic(auto, using(crate::proofs::Places::count_of_range))]
@@ -45,8 +45,7 @@ impl WholeWorld {
     /// Puts other values under pages of a context, one after another (`put_pages`).
     pub(crate) fn put_pages(&mut self, c: Name, values: Vec<(usize, PageValue)>)
         requires { IsTrue (is_live (seen self.old) c) }
-        ensures world { seen self.new ≡ put_pages (seen self.old) c values.items }
-        ensures size { size_of self.new ≡ size_of self.old }
+        ensures { seen self.new ≡ put_pages (seen self.old) c values.items }
     {
         for (p, value) in values {
             self.put_page(c, p, value);
@@ -63,7 +62,7 @@ impl WholeWorld {
         pages: Touched,
     ) -> Result<Vec<(usize, PageValue)>, OutOfMemory>
         requires live { IsTrue (is_live (seen self.now) c) }
-        requires job { job < (size_of self.now).jobs }
+        requires job { job < (seen self.now).size.jobs }
         requires counted { ((seen self.now).next job).tags < 2 ^ 31 }
         requires pages { pages.end < 2 ^ 31 }
         ensures { IfOk result (λ values. values.items ≡ plan (seen self.now) c job (record { at = at; bytes = piece.now })

@@ -89,7 +89,7 @@ impl WholeWorld {
     #[tactic(auto, using(crate::proofs::Places::count_of_range))]
     pub(crate) fn count_of_present(&self, c: Name) -> usize
         requires { IsTrue (is_live (seen self.now) c) }
-        ensures present { result ≡ count_by (λ p. is_some (page_at (seen self.now) c p)) (range_with_len 0 (seen self.now).pages) }
+        ensures present { result ≡ count_by (λ p. is_some (page_at (seen self.now) c p)) (range_with_len 0 (seen self.now).size.pages) }
         ensures few { result < 2 ^ 32 }
     {
         (0..usize::from(self.page_limit()))

@@ -1,6 +1,6 @@
 ghost use Rattle.std.specs.Prelude.{◌≡◌, ℕ, ◌≤◌, IfOk, IsTrue};
 ghost use Rattle.lwc_base.specs.World.{is_live};
-ghost use Rattle.whole_world.specs.Seen.{seen, size_of};
+ghost use Rattle.whole_world.specs.Seen.{seen};
 ghost use Rattle.world_face.specs.Calls.{HasGroupPlace, HasPlace};
 
 use crate::WholeWorld;
@@ -17,10 +17,10 @@ fn begun(alloc: Global, frames: u32) -> Result<(WholeWorld, Name), OutOfMemory>
     requires some { 1 ≤ frames }
     requires few { frames ≤ 65536 }
     ensures live { IfOk result (λ r. IsTrue (is_live (seen r.0) r.1)) }
-    ensures pages { IfOk result (λ r. (seen r.0).pages ≡ 4) }
-    ensures jobs { IfOk result (λ r. (size_of r.0).jobs ≡ 2) }
-    ensures place { IfOk result (λ r. HasPlace (size_of r.0) (seen r.0)) }
-    ensures group_place { IfOk result (λ r. HasGroupPlace (size_of r.0) (seen r.0)) }
+    ensures pages { IfOk result (λ r. (seen r.0).size.pages ≡ 4) }
+    ensures jobs { IfOk result (λ r. (seen r.0).size.jobs ≡ 2) }
+    ensures place { IfOk result (λ r. HasPlace (seen r.0)) }
+    ensures group_place { IfOk result (λ r. HasGroupPlace (seen r.0)) }
     ensures contexts { IfOk result (λ r. (job : ℕ) → ((seen r.0).next job).contexts ≤ 1) }
     ensures groups { IfOk result (λ r. (job : ℕ) → ((seen r.0).next job).groups ≡ 0) }
     ensures tags { IfOk result (λ r. (job : ℕ) → ((seen r.0).next job).tags ≡ 0) }

@@ -11,8 +11,7 @@ use lwc_base::{
 use std::alloc::Global;
 use world_face::World;
 
-/// A world in which each context and each group holds a copy of its own of all that it has. It stands for `seen`,
-/// and is as large as `size_of`, which no call changes.
+/// A world in which each context and each group holds a copy of its own of all that it has. It stands for `seen`.
 #[derive(Drop)]
 pub struct WholeWorld {
     pub(crate) alloc: Global,
@@ -29,7 +28,7 @@ impl WholeWorld {
     /// How many frames there are.
     #[tactic(auto, unfolding(crate::specs::Seen::seen, crate::specs::Rows::world_of))]
     fn frames(&self) -> u32
-        ensures { result ≡ (seen self.now).frames }
+        ensures { result ≡ (seen self.now).size.frames }
     {
         self.size.frames
     }
@@ -41,11 +40,8 @@ impl World for WholeWorld {
 
     ghost seen = { kept.seen };
 
-    ghost size = { kept.size_of };
-
     ghost roomy = { false };
 
-    #[tactic(auto, unfolding(crate::specs::Seen::size_of))]
     fn open(alloc: Global, world_size: &WorldSize) -> Result<WholeWorld, OutOfMemory> {
         Ok(WholeWorld {
             alloc,
@@ -174,6 +170,10 @@ impl World for WholeWorld {
             slots: self.count_of_filled(c) as u32,
             uid: self.uid_value(c),
         }
+    }
+
+    fn context_count(&self) -> u32 {
+        self.contexts.len() as u32
     }
 
     fn group_count(&self) -> u32 {

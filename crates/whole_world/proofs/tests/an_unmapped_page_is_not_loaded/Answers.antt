@@ -21,7 +21,7 @@ bytes-requires-clause-live g c =
 pub bytes-requires-clause-within : goal.bytes-requires-clause-within
 bytes-requires-clause-within g c =
     let pages : (seen c.unmap.new.self).pages ≡ 4 =
-    ap (λ (w : World). w.pages) c.in_ok-unmap.ensures.unmapped ∙ (values-unmap_pages (seen c.in_ok-world.world) c.in_ok-world.c 0 1).pages ∙ c.in_ok-world.ensures.pages in
+    ap (λ (w : World). w.size.pages) c.in_ok-unmap.ensures.unmapped ∙ (values-unmap_pages (seen c.in_ok-world.world) c.in_ok-world.c 0 1).pages ∙ c.in_ok-world.ensures.pages in
     omega (arith, pages)
 
 pub bytes-requires-2-clause-live : goal.bytes-requires-2-clause-live
@@ -33,5 +33,5 @@ bytes-requires-2-clause-live g c =
 pub bytes-requires-2-clause-within : goal.bytes-requires-2-clause-within
 bytes-requires-2-clause-within g c =
     let pages : (seen c.unmap.new.self).pages ≡ 4 =
-    ap (λ (w : World). w.pages) c.in_ok-unmap.ensures.unmapped ∙ (values-unmap_pages (seen c.in_ok-world.world) c.in_ok-world.c 0 1).pages ∙ c.in_ok-world.ensures.pages in
+    ap (λ (w : World). w.size.pages) c.in_ok-unmap.ensures.unmapped ∙ (values-unmap_pages (seen c.in_ok-world.world) c.in_ok-world.c 0 1).pages ∙ c.in_ok-world.ensures.pages in
     omega (arith, pages)

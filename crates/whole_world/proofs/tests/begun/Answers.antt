@@ -1,24 +1,24 @@
 use Rattle.std.proofs.Common.{◌≡◌, ◌≤◌, ◌∙◌, ap, refl, arith}
 use Rattle.std.specs.FinMap as fm
+use Rattle.lwc_base.specs.declared.size.WorldSize.{WorldSize}
 use Rattle.lwc_base.specs.Mapping.{map_pages}
 use Rattle.lwc_base.specs.Ranges.{ranges_of}
-use Rattle.lwc_base.proofs.Live.{values-map_pages}
-use Rattle.lwc_base.specs.declared.size.WorldSize.{WorldSize}
 use Rattle.lwc_base.specs.World.{World, Counters, empty_world}
-use Rattle.whole_world.specs.Seen.{seen, size_of}
-use Rattle.whole_world.proofs.BegunWorld.{counts-empty, few_ranges, none-empty, live-made, live-begun, no_group-begun, one-begun, pages-made, pages-begun, tags-begun, groups-begun, contexts-begun}
+use Rattle.lwc_base.proofs.Live.{values-map_pages}
+use Rattle.whole_world.specs.Seen.{seen}
+use Rattle.whole_world.proofs.BegunWorld.{counts-empty, few_ranges, none-empty, live-made, live-begun, no_group-begun, one-begun, size-empty, size-made, size-begun, tags-begun, groups-begun, contexts-begun}
 use Rattle.whole_world.proofs.tests.begun.Goals as goal
 
 pub first-requires-clause-place : goal.first-requires-clause-place
 first-requires-clause-place c =
-    let none : fm.len (seen c.in_ok-world.world).contexts ≡ 0 = ap (λ (w : World). fm.len w.contexts) c.in_ok-world.ensures.opened ∙ none-empty c.args.frames 4 in
-    omega (arith, none, ap (λ (s : WorldSize). s.contexts) c.in_ok-world.ensures.sized)
+    let none : fm.len (seen c.in_ok-world.world).contexts ≡ 0 = ap (λ (w : World). fm.len w.contexts) c.in_ok-world.ensures.opened ∙ none-empty _ in
+    omega (arith, none, ap (λ (w : World). w.size.contexts) c.in_ok-world.ensures.opened)
 
 pub first-requires-clause-may : goal.first-requires-clause-may
 first-requires-clause-may c =
     let none : (seen c.in_ok-world.world).next 0 ≡ record { contexts = 0; groups = 0; tags = 0 } =
-    ap (λ (w : World). w.next 0) c.in_ok-world.ensures.opened ∙ counts-empty c.args.frames 4 0 in
-    let jobs : (size_of c.in_ok-world.world).jobs ≡ 2 = ap (λ (s : WorldSize). s.jobs) c.in_ok-world.ensures.sized in
+    ap (λ (w : World). w.next 0) c.in_ok-world.ensures.opened ∙ counts-empty _ 0 in
+    let jobs : (seen c.in_ok-world.world).size.jobs ≡ 2 = ap (λ (w : World). w.size.jobs) c.in_ok-world.ensures.opened in
     record {
       known = omega (arith, jobs);
       contexts = omega (arith, ap (λ (n : Counters). n.contexts) none);
@@ -27,40 +27,40 @@ first-requires-clause-may c =
     }
 
 pub map-requires-clause-live : goal.map-requires-clause-live
-map-requires-clause-live c = live-made _ 4 _ _ _ _ _ 0 2 c.in_ok-world.ensures.opened c.in_ok-c.ensures.made c.in_ok-c.ensures.name refl
+map-requires-clause-live c = live-made _ _ _ _ _ _ 0 2 c.in_ok-world.ensures.opened c.in_ok-c.ensures.made c.in_ok-c.ensures.name refl
 
 pub map-requires-clause-within : goal.map-requires-clause-within
 map-requires-clause-within c =
-    let many = pages-made _ 4 _ _ _ _ _ 0 2 c.in_ok-world.ensures.opened c.in_ok-c.ensures.made c.in_ok-c.ensures.name refl in
+    let many = ap (λ (s : WorldSize). s.pages) (size-made _ _ _ _ _ _ 0 2 c.in_ok-world.ensures.opened c.in_ok-c.ensures.made c.in_ok-c.ensures.name refl) in
     omega (arith, many)
 
 pub map-requires-clause-few : goal.map-requires-clause-few
 map-requires-clause-few c =
-    let few : ranges_of (map_pages (seen c.first.new.self) c.in_ok-c.c 0 2) c.in_ok-c.c ≤ (map_pages (seen c.first.new.self) c.in_ok-c.c 0 2).pages = few_ranges _ _ in
-    let many = pages-made _ 4 _ _ _ _ _ 0 2 c.in_ok-world.ensures.opened c.in_ok-c.ensures.made c.in_ok-c.ensures.name refl in
-    omega (arith, few, many, (values-map_pages (seen c.first.new.self) c.in_ok-c.c 0 2).pages)
+    let few : ranges_of (map_pages (seen c.first.new.self) c.in_ok-c.c 0 2) c.in_ok-c.c ≤ (map_pages (seen c.first.new.self) c.in_ok-c.c 0 2).size.pages = few_ranges _ _ in
+    let many = ap (λ (s : WorldSize). s.pages) (size-made _ _ _ _ _ _ 0 2 c.in_ok-world.ensures.opened c.in_ok-c.ensures.made c.in_ok-c.ensures.name refl) in
+    omega (arith, few, many, ap (λ (s : WorldSize). s.pages) (values-map_pages (seen c.first.new.self) c.in_ok-c.c 0 2).size)
 
 pub returns-clause-live : goal.returns-clause-live
-returns-clause-live c = live-begun _ 4 _ _ _ _ _ 0 2 c.in_ok-world.ensures.opened c.in_ok-c.ensures.made c.in_ok-c.ensures.name c.in_ok-map.ensures.mapped
+returns-clause-live c = live-begun _ _ _ _ _ _ 0 2 c.in_ok-world.ensures.opened c.in_ok-c.ensures.made c.in_ok-c.ensures.name c.in_ok-map.ensures.mapped
 
 pub returns-clause-pages : goal.returns-clause-pages
-returns-clause-pages c = pages-begun _ 4 _ _ _ _ _ 0 2 c.in_ok-world.ensures.opened c.in_ok-c.ensures.made c.in_ok-c.ensures.name c.in_ok-map.ensures.mapped
+returns-clause-pages c = ap (λ (s : WorldSize). s.pages) (size-begun _ _ _ _ _ _ 0 2 c.in_ok-world.ensures.opened c.in_ok-c.ensures.made c.in_ok-c.ensures.name c.in_ok-map.ensures.mapped)
 
 pub returns-clause-contexts : goal.returns-clause-contexts
-returns-clause-contexts c = contexts-begun _ 4 _ _ _ _ _ 0 2 c.in_ok-world.ensures.opened c.in_ok-c.ensures.made c.in_ok-c.ensures.name c.in_ok-map.ensures.mapped
+returns-clause-contexts c = contexts-begun _ _ _ _ _ _ 0 2 c.in_ok-world.ensures.opened c.in_ok-c.ensures.made c.in_ok-c.ensures.name c.in_ok-map.ensures.mapped
 
 pub returns-clause-groups : goal.returns-clause-groups
-returns-clause-groups c = groups-begun _ 4 _ _ _ _ _ 0 2 c.in_ok-world.ensures.opened c.in_ok-c.ensures.made c.in_ok-c.ensures.name c.in_ok-map.ensures.mapped
+returns-clause-groups c = groups-begun _ _ _ _ _ _ 0 2 c.in_ok-world.ensures.opened c.in_ok-c.ensures.made c.in_ok-c.ensures.name c.in_ok-map.ensures.mapped
 
 pub returns-clause-tags : goal.returns-clause-tags
-returns-clause-tags c = tags-begun _ 4 _ _ _ _ _ 0 2 c.in_ok-world.ensures.opened c.in_ok-c.ensures.made c.in_ok-c.ensures.name c.in_ok-map.ensures.mapped
+returns-clause-tags c = tags-begun _ _ _ _ _ _ 0 2 c.in_ok-world.ensures.opened c.in_ok-c.ensures.made c.in_ok-c.ensures.name c.in_ok-map.ensures.mapped
 
 pub returns-clause-place : goal.returns-clause-place
 returns-clause-place c =
-    let one = one-begun _ 4 _ _ _ _ _ 0 2 c.in_ok-world.ensures.opened c.in_ok-c.ensures.made c.in_ok-c.ensures.name c.in_ok-map.ensures.mapped in
-    omega (arith, one, ap (λ (s : WorldSize). s.contexts) (c.in_ok-map.ensures.sized ∙ c.in_ok-c.ensures.sized ∙ c.in_ok-world.ensures.sized))
+    let one = one-begun _ _ _ _ _ _ 0 2 c.in_ok-world.ensures.opened c.in_ok-c.ensures.made c.in_ok-c.ensures.name c.in_ok-map.ensures.mapped in
+    omega (arith, one, ap (λ (s : WorldSize). s.contexts) (size-begun _ _ _ _ _ _ 0 2 c.in_ok-world.ensures.opened c.in_ok-c.ensures.made c.in_ok-c.ensures.name c.in_ok-map.ensures.mapped))
 
 pub returns-clause-group_place : goal.returns-clause-group_place
 returns-clause-group_place c =
-    let none = no_group-begun _ 4 _ _ _ _ _ 0 2 c.in_ok-world.ensures.opened c.in_ok-c.ensures.made c.in_ok-c.ensures.name c.in_ok-map.ensures.mapped in
-    omega (arith, none, ap (λ (s : WorldSize). s.groups) (c.in_ok-map.ensures.sized ∙ c.in_ok-c.ensures.sized ∙ c.in_ok-world.ensures.sized))
+    let none = no_group-begun _ _ _ _ _ _ 0 2 c.in_ok-world.ensures.opened c.in_ok-c.ensures.made c.in_ok-c.ensures.name c.in_ok-map.ensures.mapped in
+    omega (arith, none, ap (λ (s : WorldSize). s.groups) (size-begun _ _ _ _ _ _ 0 2 c.in_ok-world.ensures.opened c.in_ok-c.ensures.made c.in_ok-c.ensures.name c.in_ok-map.ensures.mapped))

@@ -1,4 +1,4 @@
-use Rattle.std.proofs.Common.{◌∙◌, refl, arith, Some, None}
+use Rattle.std.proofs.Common.{◌∙◌, refl, arith, Some}
 use Rattle.lwc_base.specs.declared.cell.Cell.TheVariants.{Own}
 use Rattle.lwc_base.specs.declared.page.PageValue.TheVariants.{Zero}
 use Rattle.whole_world.specs.Copies.{context_of}

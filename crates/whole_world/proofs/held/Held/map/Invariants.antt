@@ -1,5 +1,6 @@
 use Rattle.std.proofs.Common.{◌≡◌, ℕ, ◌≤◌, vec_len}
-use Rattle.whole_world.specs.Copies.{context_of, with_zeros}
+use Rattle.lwc_base.specs.Mapping.{with_zeros}
+use Rattle.whole_world.specs.Copies.{context_of}
 use Rattle.whole_world.specs.Sound.{IsWhole}
 use Rattle.whole_world.proofs.held.Held.map.Given as goal
 

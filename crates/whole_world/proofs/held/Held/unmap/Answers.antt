@@ -1,4 +1,4 @@
-use Rattle.std.proofs.Common.{◌∙◌, refl, arith, Some, None}
+use Rattle.std.proofs.Common.{◌∙◌, refl, arith, None}
 use Rattle.lwc_base.specs.declared.cell.Cell.TheVariants.{Own}
 use Rattle.whole_world.specs.Copies.{context_of}
 use Rattle.whole_world.proofs.Contexts.{on_pages-none, on_pages-more}

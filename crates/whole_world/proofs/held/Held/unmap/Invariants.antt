@@ -1,5 +1,6 @@
 use Rattle.std.proofs.Common.{◌≡◌, ℕ, ◌≤◌, vec_len}
-use Rattle.whole_world.specs.Copies.{context_of, without_pages}
+use Rattle.lwc_base.specs.Mapping.{without_pages}
+use Rattle.whole_world.specs.Copies.{context_of}
 use Rattle.whole_world.specs.Sound.{IsWhole}
 use Rattle.whole_world.proofs.held.Held.unmap.Given as goal
 

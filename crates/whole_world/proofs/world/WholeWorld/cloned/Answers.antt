@@ -10,7 +10,7 @@ use Rattle.whole_world.proofs.world.WholeWorld.cloned.Goals as goal
 
 pub returns-clause-whole : goal.returns-clause-whole
 returns-clause-whole c =
-    whole-made _ _ _ (λ n. cloned (share (seen c.args.self.now) c.args.c c.args.job c.args.spec.now) c.args.c (Slot n) (mode_or_copy c.args.spec.now (Slot n)))
+    whole-made _ _ _ (λ n. cloned_cell (share (seen c.args.self.now) c.args.c c.args.job c.args.spec.now) c.args.c (Slot n) (mode_or_copy c.args.spec.now (Slot n)))
     c.in_ok-cloned_pages.ensures c.in_ok-cloned_slots.ensures
 
 pub returns-clause-context : goal.returns-clause-context

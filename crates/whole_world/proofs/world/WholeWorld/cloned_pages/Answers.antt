@@ -10,5 +10,5 @@ use Rattle.whole_world.proofs.world.WholeWorld.cloned_pages.Goals as goal
 
 pub loop-p-preserved : goal.loop-p-preserved
 loop-p-preserved c =
-    one_more_made (λ p. cloned (share (seen c.args.self.now) c.args.c c.args.job c.args.spec.now) c.args.c (Page p) (mode_or_copy c.args.spec.now (Page p))) c.loop-p.p _ _ _
+    one_more_made (λ p. cloned_cell (share (seen c.args.self.now) c.args.c c.args.job c.args.spec.now) c.args.c (Page p) (mode_or_copy c.args.spec.now (Page p))) c.loop-p.p _ _ _
     c.loop-p.invariant (ap (map as_cell) c.in_ok-push.ensures.items ∙ map-append as_cell c.loop-p.pages.items _) c.in_ok-cloned_page.ensures

@@ -8,4 +8,4 @@ use Rattle.whole_world.specs.Seen.{seen}
 use Rattle.whole_world.proofs.world.WholeWorld.cloned_pages.Given as goal
 
 abbrev pub invariant-loop-p : goal.invariant-loop-p
-invariant-loop-p l = map as_cell l.pages.items ≡ map (λ p. cloned (share (seen l.self) l.c l.job l.spec) l.c (Page p) (mode_or_copy l.spec (Page p))) (range_with_len 0 l.p)
+invariant-loop-p l = map as_cell l.pages.items ≡ map (λ p. cloned_cell (share (seen l.self) l.c l.job l.spec) l.c (Page p) (mode_or_copy l.spec (Page p))) (range_with_len 0 l.p)

@@ -1,26 +1,23 @@
-use Rattle.std.proofs.Common.{◌+◌, ap, refl, arith}
+use Rattle.std.proofs.Common.{◌+◌, ap, arith}
 use Rattle.lwc_base.specs.World.{Counters}
-use Rattle.whole_world.specs.Seen.{seen, size_of}
+use Rattle.whole_world.specs.Rows.{world_of}
+use Rattle.whole_world.specs.Seen.{seen}
 use Rattle.whole_world.proofs.RowWorlds.{change_counters-row, sound-counts}
 use Rattle.whole_world.proofs.world.WholeWorld.count_tags.Goals as goal
 
 pub index_mut-requires : goal.index_mut-requires
-unfolding size_of
+unfolding seen world_of
 index_mut-requires c = omega (arith, c.args.self.now.sound.counted, c.requires.known)
 
 pub invariant_of-self : goal.invariant_of-self
-unfolding seen size_of
+unfolding seen world_of
 invariant_of-self c = record {
   sound = sound-counts _ _ _ _ c.args.self.now.sound c.args.job _ (λ (n : Counters). record n { tags = n.tags + c.args.more }) (omega (arith, c.args.self.now.sound.counted, c.requires.known))
       (ap (λ (n : Counters). record n { tags = n.tags + c.args.more }) c.counted-counts.ensures) (λ n. record { contexts = omega arith; groups = omega arith });
 }
 
-pub returns-clause-world : goal.returns-clause-world
-unfolding seen size_of
-returns-clause-world c =
+pub returns : goal.returns
+unfolding seen world_of
+returns c =
     change_counters-row _ _ _ _ c.args.self.now.sound c.args.job _ (λ (n : Counters). record n { tags = n.tags + c.args.more }) (omega (arith, c.args.self.now.sound.counted, c.requires.known))
     (ap (λ (n : Counters). record n { tags = n.tags + c.args.more }) c.counted-counts.ensures)
-
-pub returns-clause-size : goal.returns-clause-size
-unfolding size_of
-returns-clause-size c = refl

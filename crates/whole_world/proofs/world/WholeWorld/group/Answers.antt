@@ -16,7 +16,7 @@ returns-clause-found c =
 pub returns-clause-whole : goal.returns-clause-whole
 unfolding seen world_of
 returns-clause-whole c =
-    if_found (IsWholeGroup (seen c.args.self.now).pages) _ _ c.find_group.ensures (whole_group-found _ _ _ _ c.args.self.now.sound c.args.g)
+    if_found (IsWholeGroup (seen c.args.self.now).size.pages) _ _ c.find_group.ensures (whole_group-found _ _ _ _ c.args.self.now.sound c.args.g)
 
 pub returns-clause-missed : goal.returns-clause-missed
 unfolding seen

@@ -1,15 +1,15 @@
-use Rattle.std.proofs.Common.{◌≡◌, ◌∙◌, ap, refl, sym, subst, List}
+use Rattle.std.proofs.Common.{◌≡◌, ◌∙◌, ap, sym, subst, List}
 use Rattle.std.specs.List.{insert, position_or_len}
 use Rattle.whole_world.specs.declared.held.Held.{Held}
 use Rattle.whole_world.specs.Rows.{is_past, world_of}
-use Rattle.whole_world.specs.Seen.{seen, size_of}
+use Rattle.whole_world.specs.Seen.{seen}
 use Rattle.whole_world.specs.Sound.{IsSound}
 use Rattle.whole_world.proofs.RowLemmas.{chosen_ok}
 use Rattle.whole_world.proofs.RowWorlds.{insert-row, sound-insert}
 use Rattle.whole_world.proofs.world.WholeWorld.insert_context.Goals as goal
 
 pub invariant_of-self : goal.invariant_of-self
-unfolding seen size_of world_of
+unfolding seen world_of
 invariant_of-self c =
     let items : c.insert.new.self.items ≡ insert c.args.self.now.contexts.items (position_or_len (is_past c.args.held.name) c.args.self.now.contexts.items) c.args.held =
     c.insert.ensures.items ∙ chosen_ok c.insert.result _ _ (c.insert.ensures.succeeds c.requires.room)
@@ -19,15 +19,11 @@ invariant_of-self c =
           (sound-insert _ _ _ _ c.args.self.now.sound c.args.held c.requires.fresh c.requires.counted c.requires.old_groups c.requires.whole c.requires.place);
     }
 
-pub returns-clause-world : goal.returns-clause-world
+pub returns : goal.returns
 unfolding seen
-returns-clause-world c =
+returns c =
     let items : c.insert.new.self.items ≡ insert c.args.self.now.contexts.items (position_or_len (is_past c.args.held.name) c.args.self.now.contexts.items) c.args.held =
     c.insert.ensures.items ∙ chosen_ok c.insert.result _ _ (c.insert.ensures.succeeds c.requires.room)
     ∙ ap (λ i. insert c.args.self.now.contexts.items i c.args.held) c.place_for-place.ensures.place in
     ap (λ (rows : List Held). world_of c.args.self.now.size rows c.args.self.now.groups.items c.args.self.now.counts.items) items
     ∙ insert-row _ _ _ _ c.args.self.now.sound c.args.held c.requires.fresh
-
-pub returns-clause-size : goal.returns-clause-size
-unfolding size_of
-returns-clause-size c = refl

@@ -6,9 +6,14 @@ use Rattle.lwc_base.specs.World.{World}
 use Rattle.whole_world.specs.Copies.{context_of}
 use Rattle.whole_world.specs.Seen.{seen}
 use Rattle.whole_world.specs.Sound.{IsWhole}
-use Rattle.whole_world.proofs.CloneCells.{shared-added, shared-contexts, shared-len, shared-name, shared-old_groups, shared-pages}
+use Rattle.whole_world.proofs.CloneCells.{shared-added, shared-contexts, shared-len, shared-name, shared-old_groups, shared-size}
 use Rattle.whole_world.proofs.RowWorlds.{fresh-seen}
 use Rattle.whole_world.proofs.world.WholeWorld.make_clone.Goals as goal
+
+pub add-requires-clause-known : goal.add-requires-clause-known
+add-requires-clause-known c =
+    let is_shared = c.in_ok-share_values.ensures.shared ∙ ap (λ w. share w c.args.c c.args.job c.args.spec.now) c.in_ok-reserve.ensures.world in
+    omega (arith, ap (λ (size : WorldSize). size.jobs) (shared-size _ _ c.args.c c.args.job c.args.spec.now is_shared), c.requires.may.known)
 
 pub add-requires-clause-few : goal.add-requires-clause-few
 add-requires-clause-few c =
@@ -28,12 +33,12 @@ add-requires-clause-old_groups c =
 pub add-requires-clause-whole : goal.add-requires-clause-whole
 add-requires-clause-whole c =
     let is_shared = c.in_ok-share_values.ensures.shared ∙ ap (λ w. share w c.args.c c.args.job c.args.spec.now) c.in_ok-reserve.ensures.world in
-    subst (λ n. IsWhole n c.in_ok-held.held) (sym (shared-pages _ _ c.args.c c.args.job c.args.spec.now is_shared)) c.in_ok-held.ensures.whole
+    subst (λ (s : WorldSize). IsWhole s.pages c.in_ok-held.held) (sym (shared-size _ _ c.args.c c.args.job c.args.spec.now is_shared)) c.in_ok-held.ensures.whole
 
 pub share_values-requires-clause-group : goal.share_values-requires-clause-group
 share_values-requires-clause-group c = λ needs.
     let group = c.requires.group (sym (ap (λ w. needs_group w c.args.c c.args.spec.now) c.in_ok-reserve.ensures.world) ∙ needs) in
-    omega (arith, group, ap (λ (w : World). fm.len w.groups) c.in_ok-reserve.ensures.world, ap (λ (size : WorldSize). size.groups) c.in_ok-reserve.ensures.size)
+    omega (arith, group, ap (λ (w : World). fm.len w.groups) c.in_ok-reserve.ensures.world, ap (λ (w : World). w.size.groups) c.in_ok-reserve.ensures.world)
 
 pub add-requires-clause-place : goal.add-requires-clause-place
 add-requires-clause-place c =
@@ -41,11 +46,11 @@ add-requires-clause-place c =
     omega (
       arith,
       shared-len _ _ c.args.c c.args.job c.args.spec.now is_shared,
-      ap (λ (size : WorldSize). size.contexts) (c.in_ok-share_values.ensures.size ∙ c.in_ok-reserve.ensures.size),
+      ap (λ (size : WorldSize). size.contexts) (shared-size _ _ c.args.c c.args.job c.args.spec.now is_shared),
       c.requires.place,
     )
 
 pub returns-clause-cloned : goal.returns-clause-cloned
 returns-clause-cloned c =
     let is_shared = c.in_ok-share_values.ensures.shared ∙ ap (λ w. share w c.args.c c.args.job c.args.spec.now) c.in_ok-reserve.ensures.world in
-    shared-added _ _ c.args.c c.args.job c.args.spec.now is_shared (seen c.add.new.self) (context_of c.in_ok-held.held) c.args.entry.now c.in_ok-held.ensures.context c.add.ensures.world
+    shared-added _ _ c.args.c c.args.job c.args.spec.now is_shared (seen c.add.new.self) (context_of c.in_ok-held.held) c.args.entry.now c.in_ok-held.ensures.context c.add.ensures

@@ -1,10 +1,8 @@
-use Rattle.std.proofs.Common.{◌∙◌, ap, sym, subst, refl}
+use Rattle.std.proofs.Common.{◌∙◌, ap, sym, subst}
 use Rattle.std.proofs.lemmas.Bool.{false≢true}
 use Rattle.lwc_base.specs.Sharing.{with_shared, moved_values}
-use Rattle.lwc_base.specs.World.{Context, context}
-use Rattle.whole_world.specs.Copies.{context_of}
 use Rattle.whole_world.specs.Rows.{has_name, world_of}
-use Rattle.whole_world.specs.Seen.{seen, size_of}
+use Rattle.whole_world.specs.Seen.{seen}
 use Rattle.whole_world.specs.Sound.{IsWhole}
 use Rattle.whole_world.proofs.RowWorlds.{change_context-row, dead-missed, sound-row, whole-row}
 use Rattle.whole_world.proofs.GroupRows.{as_whole, context-row}
@@ -22,10 +20,6 @@ pub unreachable-requires : goal.unreachable-requires
 unfolding seen
 unreachable-requires c =
     false≢true (sym (dead-missed _ _ _ _ c.args.self.now.sound c.args.c (row_missed (has_name c.args.c) c.args.self.now.contexts.items (sym c.place_of.ensures ∙ c.in-None.is))) ∙ c.requires.live)
-
-pub returns-clause-size : goal.returns-clause-size
-unfolding size_of
-returns-clause-size c = refl
 
 pub invariant_of-self : goal.invariant_of-self
 unfolding seen world_of
@@ -54,4 +48,4 @@ pub returns-clause-group : goal.returns-clause-group
 unfolding seen
 returns-clause-group c =
     c.move_values.ensures.group
-    ∙ ap (moved c.args.spec.now) (sym (context-row _ _ _ _ c.args.self.now.sound c.args.c c.in-Some.i _ (sym c.place_of.ensures ∙ c.in-Some.is) c.index_mut.ensures.value))
+    ∙ ap (moved_values c.args.spec.now) (sym (context-row _ _ _ _ c.args.self.now.sound c.args.c c.in-Some.i _ (sym c.place_of.ensures ∙ c.in-Some.is) c.index_mut.ensures.value))

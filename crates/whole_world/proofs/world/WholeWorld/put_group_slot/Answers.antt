@@ -1,8 +1,8 @@
-use Rattle.std.proofs.Common.{◌∙◌, sym, refl, arith}
+use Rattle.std.proofs.Common.{◌∙◌, sym, arith}
 use Rattle.lwc_base.specs.declared.key.Key.TheVariants.{Slot}
 use Rattle.lwc_base.specs.Cells.{with_value}
 use Rattle.whole_world.specs.Rows.{world_of}
-use Rattle.whole_world.specs.Seen.{seen, size_of}
+use Rattle.whole_world.specs.Seen.{seen}
 use Rattle.whole_world.proofs.RowWorlds.{change_group-row, change_group-missed, sound-group_row, whole_group-row}
 use Rattle.whole_world.proofs.world.WholeWorld.put_group_slot.Goals as goal
 
@@ -18,16 +18,12 @@ invariant_of-self c = record {
       c.index_mut.ensures.value c.set_slot.ensures.name c.set_slot.ensures.whole c.set_slot.ensures.group;
 }
 
-pub returns-in-Some-clause-world : goal.returns-in-Some-clause-world
+pub returns-in-Some : goal.returns-in-Some
 unfolding seen
-returns-in-Some-clause-world c =
+returns-in-Some c =
     change_group-row _ _ _ _ c.args.self.now.sound c.args.g c.in-Some.i _ _ (with_value (Slot c.args.n) c.args.value) (sym c.group_place.ensures ∙ c.in-Some.is)
     c.index_mut.ensures.value c.set_slot.ensures.name c.set_slot.ensures.group
 
-pub returns-in-Some-clause-size : goal.returns-in-Some-clause-size
-unfolding size_of
-returns-in-Some-clause-size c = refl
-
-pub returns-in-None-clause-world : goal.returns-in-None-clause-world
+pub returns-in-None : goal.returns-in-None
 unfolding seen
-returns-in-None-clause-world c = change_group-missed _ _ _ _ c.args.self.now.sound c.args.g (with_value (Slot c.args.n) c.args.value) (sym c.group_place.ensures ∙ c.in-None.is)
+returns-in-None c = change_group-missed _ _ _ _ c.args.self.now.sound c.args.g (with_value (Slot c.args.n) c.args.value) (sym c.group_place.ensures ∙ c.in-None.is)

@@ -9,16 +9,15 @@ use Rattle.whole_world.proofs.world.WholeWorld.put_pages.Goals as goal
 
 pub loop-p-preserved : goal.loop-p-preserved
 loop-p-preserved c = record {
-  left = ap (λ w. put_pages w c.args.c c.next.new.self.rest.items) c.put_page.ensures.world
+  left = ap (λ w. put_pages w c.args.c c.next.new.self.rest.items) c.put_page.ensures
       ∙ ap (put_pages (seen c.loop-p.self) c.args.c) (sym c.in-Some.ensures.steps.0)
       ∙ c.loop-p.invariant.left;
-  live = ap (λ w. is_live w c.args.c) c.put_page.ensures.world
+  live = ap (λ w. is_live w c.args.c) c.put_page.ensures
       ∙ (values-put_at (seen c.loop-p.self) c.args.c (Page c.in-Some.p) (Some c.in-Some.value)).live c.args.c
       ∙ c.loop-p.invariant.live;
-  size = c.put_page.ensures.size ∙ c.loop-p.invariant.size;
 }
 
-pub returns-clause-world : goal.returns-clause-world
-returns-clause-world c =
+pub returns : goal.returns
+returns c =
     sym (ap (put_pages (seen c.loop-p.self) c.args.c) (nil_from_length c.loop-p.p-iterator.rest.items (sym c.loop-p.p-iterator.rest.ok.0 ∙ c.in-None.ensures.steps.0)))
     ∙ c.loop-p.invariant.left

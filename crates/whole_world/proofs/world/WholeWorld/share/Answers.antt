@@ -5,12 +5,12 @@ use Rattle.lwc_base.specs.Modes.{IsSpec}
 use Rattle.whole_world.specs.Seen.{seen}
 use Rattle.whole_world.specs.Sound.{IsWholeGroup}
 use Rattle.whole_world.proofs.RowWorlds.{fresh-seen}
-use Rattle.whole_world.proofs.ShareSteps.{counted-live, counted-named, counted-pages, left-groups, left-named, left-new, left-pages, share-steps}
+use Rattle.whole_world.proofs.ShareSteps.{counted-live, counted-named, counted-size, left-groups, left-named, left-new, left-size, share-steps}
 use Rattle.whole_world.proofs.world.WholeWorld.share.Goals as goal
 
 pub move_out-requires-clause-within : goal.move_out-requires-clause-within
 move_out-requires-clause-within c =
-    subst (λ n. IsSpec n c.args.spec.now) (sym (counted-pages (seen c.args.self.now) (seen c.count_group.new.self) c.args.job c.count_group.ensures.world)) c.requires.within
+    subst (λ (s : WorldSize). IsSpec s.pages c.args.spec.now) (sym (counted-size (seen c.args.self.now) (seen c.count_group.new.self) c.args.job c.count_group.ensures.world)) c.requires.within
 
 pub move_out-requires-clause-counted : goal.move_out-requires-clause-counted
 move_out-requires-clause-counted c =
@@ -18,7 +18,7 @@ move_out-requires-clause-counted c =
 
 pub move_out-requires-clause-whole : goal.move_out-requires-clause-whole
 move_out-requires-clause-whole c =
-    subst (λ n. IsWholeGroup n c.args.group) (sym (counted-pages (seen c.args.self.now) (seen c.count_group.new.self) c.args.job c.count_group.ensures.world)) c.requires.whole
+    subst (λ (s : WorldSize). IsWholeGroup s.pages c.args.group) (sym (counted-size (seen c.args.self.now) (seen c.count_group.new.self) c.args.job c.count_group.ensures.world)) c.requires.whole
 
 pub move_out-requires-clause-live : goal.move_out-requires-clause-live
 move_out-requires-clause-live c =
@@ -36,15 +36,15 @@ insert_group-requires-clause-counted c =
 
 pub insert_group-requires-clause-whole : goal.insert_group-requires-clause-whole
 insert_group-requires-clause-whole c =
-    subst (λ n. IsWholeGroup n c.move_out.new.group)
-    (counted-pages (seen c.args.self.now) (seen c.count_group.new.self) c.args.job c.count_group.ensures.world
-    ∙ sym (left-pages (seen c.args.self.now) (seen c.count_group.new.self) c.args.job c.count_group.ensures.world (seen c.move_out.new.self) c.args.c _ c.move_out.ensures.world))
+    subst (λ (s : WorldSize). IsWholeGroup s.pages c.move_out.new.group)
+    (counted-size (seen c.args.self.now) (seen c.count_group.new.self) c.args.job c.count_group.ensures.world
+    ∙ sym (left-size (seen c.args.self.now) (seen c.count_group.new.self) c.args.job c.count_group.ensures.world (seen c.move_out.new.self) c.args.c _ c.move_out.ensures.world))
     c.move_out.ensures.whole
 
 pub insert_group-requires-clause-place : goal.insert_group-requires-clause-place
 insert_group-requires-clause-place c =
     let same = ap fm.len (left-groups (seen c.args.self.now) (seen c.count_group.new.self) c.args.job c.count_group.ensures.world (seen c.move_out.new.self) c.args.c _ c.move_out.ensures.world) in
-    omega (arith, same, ap (λ (size : WorldSize). size.groups) (c.move_out.ensures.size ∙ c.count_group.ensures.size), c.requires.place)
+    omega (arith, same, ap (λ (size : WorldSize). size.groups) (left-size (seen c.args.self.now) (seen c.count_group.new.self) c.args.job c.count_group.ensures.world (seen c.move_out.new.self) c.args.c _ c.move_out.ensures.world), c.requires.place)
 
 pub returns-clause-world : goal.returns-clause-world
 returns-clause-world c =

@@ -1,9 +1,8 @@
-use Rattle.std.proofs.Common.{◌∙◌, sym, refl, arith}
-use Rattle.lwc_base.specs.Mapping.{unmap_pages}
+use Rattle.std.proofs.Common.{◌∙◌, sym, arith}
+use Rattle.lwc_base.specs.Mapping.{unmap_pages, without_pages}
 use Rattle.lwc_base.proofs.Fresh.{fresh-unmap_pages}
-use Rattle.whole_world.specs.Copies.{without_pages}
 use Rattle.whole_world.specs.Rows.{world_of}
-use Rattle.whole_world.specs.Seen.{seen, size_of}
+use Rattle.whole_world.specs.Seen.{seen}
 use Rattle.whole_world.proofs.RowWorlds.{change_context-row, change_context-missed, sound-row, whole-row}
 use Rattle.whole_world.proofs.world.WholeWorld.unmap_row.Goals as goal
 
@@ -20,16 +19,12 @@ invariant_of-self c = record {
       c.index_mut.ensures.value c.unmap.ensures.name c.unmap.ensures.whole c.unmap.ensures.context (fresh-unmap_pages _ c.args.c c.args.from c.args.to c.args.self.now.sound.fresh);
 }
 
-pub returns-in-Some-clause-world : goal.returns-in-Some-clause-world
+pub returns-in-Some : goal.returns-in-Some
 unfolding seen unmap_pages
-returns-in-Some-clause-world c =
+returns-in-Some c =
     change_context-row _ _ _ _ c.args.self.now.sound c.args.c c.in-Some.i _ _ (without_pages c.args.from c.args.to) (sym c.place_of.ensures ∙ c.in-Some.is)
     c.index_mut.ensures.value c.unmap.ensures.name c.unmap.ensures.context
 
-pub returns-in-Some-clause-size : goal.returns-in-Some-clause-size
-unfolding size_of
-returns-in-Some-clause-size c = refl
-
-pub returns-in-None-clause-world : goal.returns-in-None-clause-world
+pub returns-in-None : goal.returns-in-None
 unfolding seen unmap_pages
-returns-in-None-clause-world c = change_context-missed _ _ _ _ c.args.self.now.sound c.args.c (without_pages c.args.from c.args.to) (sym c.place_of.ensures ∙ c.in-None.is)
+returns-in-None c = change_context-missed _ _ _ _ c.args.self.now.sound c.args.c (without_pages c.args.from c.args.to) (sym c.place_of.ensures ∙ c.in-None.is)

@@ -9,6 +9,6 @@ invariant_of-result c = record {
       c.in_ok-nothing_counted.ensures.nothing;
 }
 
-pub returns-clause-opened : goal.returns-clause-opened
+pub returns : goal.returns
 unfolding seen
-returns-clause-opened c = nothing_counted_yet _ _ _ _ c.new.ensures.items c.new-2.ensures.items c.in_ok-nothing_counted.ensures.nothing
+returns c = record { opened = nothing_counted_yet _ _ _ _ c.new.ensures.items c.new-2.ensures.items c.in_ok-nothing_counted.ensures.nothing }

@@ -1,4 +1,5 @@
 use Rattle.std.proofs.Common.{◌≡◌, ℕ, ◌∙◌, ap, sym, refl, arith}
+use Rattle.lwc_base.specs.declared.size.WorldSize.{WorldSize}
 use Rattle.lwc_base.specs.Store.{store, parting_count, Absent, Full, Done, after_store}
 use Rattle.lwc_base.specs.World.{World, Counters}
 use Rattle.lwc_base.proofs.Live.{values-put_pages}
@@ -35,9 +36,14 @@ returns-then-frames-used-clause-no_frame c = (λ _. is_full c, λ _. refl)
 pub count_tags-requires-clause-few : goal.count_tags-requires-clause-few
 count_tags-requires-clause-few c =
     let tags : ((seen c.put_pages.new.self).next c.args.job).tags ≡ ((seen c.args.self.now).next c.args.job).tags =
-    ap (λ (w : World). (w.next c.args.job).tags) c.put_pages.ensures.world
+    ap (λ (w : World). (w.next c.args.job).tags) c.put_pages.ensures
     ∙ ap (λ (next : ℕ → Counters). (next c.args.job).tags) (values-put_pages (seen c.args.self.now) c.args.c c.in-Ok.values.items).next in
     omega (arith, tags, c.parting_count-parting.ensures.few, c.touched_pages-pages.ensures.last, few_pages-seen c.args.self.now, c.requires.within, c.requires.may.tags)
+
+pub count_tags-requires-clause-known : goal.count_tags-requires-clause-known
+count_tags-requires-clause-known c =
+    let same = ap (λ (w : World). w.size) c.put_pages.ensures ∙ (values-put_pages (seen c.args.self.now) c.args.c c.in-Ok.values.items).size in
+    omega (arith, ap (λ (size : WorldSize). size.jobs) same, c.requires.may.known)
 
 pub returns-in-Ok-clause-done : goal.returns-in-Ok-clause-done
 returns-in-Ok-clause-done c =
@@ -45,7 +51,7 @@ returns-in-Ok-clause-done c =
     let parts : c.parting_count-parting.result ≡ parting_count (seen c.args.self.now) c.args.c (record { at = c.args.at; bytes = c.args.piece.now }) =
     parting_count-touched _ _ _ _ _ c.touched_pages-pages.ensures.pages c.parting_count-parting.ensures.parting in
     store-done _ _ _ _ there (omega (arith, parts, c.frames.ensures, c.used.ensures, c.if-frames-used.false))
-    ∙ ap Done (sym (after_store-counted _ _ _ _ _ _ _ _ _ c.touched_pages-pages.ensures.pages c.in-Ok.ensures c.put_pages.ensures.world parts c.count_tags.ensures.world))
+    ∙ ap Done (sym (after_store-counted _ _ _ _ _ _ _ _ _ c.touched_pages-pages.ensures.pages c.in-Ok.ensures c.put_pages.ensures parts c.count_tags.ensures))
 
 pub returns-in-Ok-clause-bad_address : goal.returns-in-Ok-clause-bad_address
 returns-in-Ok-clause-bad_address c = (λ same. cc, λ absent. let done = returns-in-Ok-clause-done c in cc)
