@@ -20,7 +20,7 @@ pub counts-empty : (size : WorldSize) (job : ℕ) → (empty_world size).next jo
 unfolding empty_world
 counts-empty size job = refl
 
-size-empty : (size : WorldSize) → (empty_world size).size ≡ size
+pub size-empty : (size : WorldSize) → (empty_world size).size ≡ size
 unfolding empty_world
 size-empty size = refl
 

@@ -17,8 +17,7 @@ fn begun(alloc: Global, frames: u32) -> Result<(WholeWorld, Name), OutOfMemory>
     requires some { 1 ≤ frames }
     requires few { frames ≤ 65536 }
     ensures live { IfOk result (λ r. IsTrue (is_live (seen r.0) r.1)) }
-    ensures pages { IfOk result (λ r. (seen r.0).size.pages ≡ 4) }
-    ensures jobs { IfOk result (λ r. (seen r.0).size.jobs ≡ 2) }
+    ensures size { IfOk result (λ r. (seen r.0).size ≡ record { frames = frames; contexts = 2; groups = 1; jobs = 2; pages = 4 }) }
     ensures place { IfOk result (λ r. HasPlace (seen r.0)) }
     ensures group_place { IfOk result (λ r. HasGroupPlace (seen r.0)) }
     ensures contexts { IfOk result (λ r. (job : ℕ) → ((seen r.0).next job).contexts ≤ 1) }

@@ -1,4 +1,5 @@
-use Rattle.std.proofs.Common.{◌∙◌, arith}
+use Rattle.std.proofs.Common.{◌∙◌, ap, arith}
+use Rattle.lwc_base.specs.declared.size.WorldSize.{WorldSize}
 use Rattle.lwc_base.proofs.Kernel.{grows-store}
 use Rattle.whole_world.specs.Seen.{seen}
 use Rattle.whole_world.proofs.tests.a_store_over_a_border_parts_both_pages.Goals as goal
@@ -11,4 +12,4 @@ bytes-requires-clause-live g c =
 pub bytes-requires-clause-within : goal.bytes-requires-clause-within
 bytes-requires-clause-within g c =
     let grows = grows-store _ _ _ _ (seen c.store.new.self) (omega arith) c.in_ok-store.ensures.done in
-    omega (arith, grows.pages, c.in_ok-world.ensures.pages)
+    omega (arith, ap (λ (s : WorldSize). s.pages) (grows.size ∙ c.in_ok-world.ensures.size))

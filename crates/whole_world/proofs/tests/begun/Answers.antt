@@ -12,13 +12,13 @@ use Rattle.whole_world.proofs.tests.begun.Goals as goal
 pub first-requires-clause-place : goal.first-requires-clause-place
 first-requires-clause-place c =
     let none : fm.len (seen c.in_ok-world.world).contexts ≡ 0 = ap (λ (w : World). fm.len w.contexts) c.in_ok-world.ensures.opened ∙ none-empty _ in
-    omega (arith, none, ap (λ (w : World). w.size.contexts) c.in_ok-world.ensures.opened)
+    omega (arith, none, ap (λ (w : World). w.size.contexts) c.in_ok-world.ensures.opened, ap (λ (s : WorldSize). s.contexts) (size-empty (record { frames = c.args.frames; contexts = 2; groups = 1; jobs = 2; pages = 4 })))
 
 pub first-requires-clause-may : goal.first-requires-clause-may
 first-requires-clause-may c =
     let none : (seen c.in_ok-world.world).next 0 ≡ record { contexts = 0; groups = 0; tags = 0 } =
     ap (λ (w : World). w.next 0) c.in_ok-world.ensures.opened ∙ counts-empty _ 0 in
-    let jobs : (seen c.in_ok-world.world).size.jobs ≡ 2 = ap (λ (w : World). w.size.jobs) c.in_ok-world.ensures.opened in
+    let jobs : (seen c.in_ok-world.world).size.jobs ≡ 2 = ap (λ (w : World). w.size.jobs) c.in_ok-world.ensures.opened ∙ ap (λ (s : WorldSize). s.jobs) (size-empty _) in
     record {
       known = omega (arith, jobs);
       contexts = omega (arith, ap (λ (n : Counters). n.contexts) none);
@@ -43,8 +43,8 @@ map-requires-clause-few c =
 pub returns-clause-live : goal.returns-clause-live
 returns-clause-live c = live-begun _ _ _ _ _ _ 0 2 c.in_ok-world.ensures.opened c.in_ok-c.ensures.made c.in_ok-c.ensures.name c.in_ok-map.ensures.mapped
 
-pub returns-clause-pages : goal.returns-clause-pages
-returns-clause-pages c = ap (λ (s : WorldSize). s.pages) (size-begun _ _ _ _ _ _ 0 2 c.in_ok-world.ensures.opened c.in_ok-c.ensures.made c.in_ok-c.ensures.name c.in_ok-map.ensures.mapped)
+pub returns-clause-size : goal.returns-clause-size
+returns-clause-size c = (size-begun _ _ _ _ _ _ 0 2 c.in_ok-world.ensures.opened c.in_ok-c.ensures.made c.in_ok-c.ensures.name c.in_ok-map.ensures.mapped)
 
 pub returns-clause-contexts : goal.returns-clause-contexts
 returns-clause-contexts c = contexts-begun _ _ _ _ _ _ 0 2 c.in_ok-world.ensures.opened c.in_ok-c.ensures.made c.in_ok-c.ensures.name c.in_ok-map.ensures.mapped
