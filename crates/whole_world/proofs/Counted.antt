@@ -1,9 +1,8 @@
 -- Tags that are counted holder by holder: what is counted so far, and what is left to count.
 use Rattle.std.proofs.Common.{◌≡◌, ℕ, ◌+◌, ◌≤◌, List, [], ◌++◌, length, ap, arith, append_assoc, length-append}
-use Rattle.std.proofs.lemmas.List.{append-nil}
 use Rattle.lwc_base.specs.declared.name.Tag.{Tag}
 use Rattle.whole_world.specs.Tags.{times, different}
-use Rattle.whole_world.proofs.TagLists.{times-append, times-le-length, times-nil, different-nil, different-append_least, different-append_most}
+use Rattle.whole_world.proofs.TagLists.{times-append, times-le-length, times-nil, different-append_least, different-append_most}
 
 -- the count, with how often the tag is in the rest, is how often it is in all
 pub record IsCounted (tag : Tag) (all rest : List Tag) (count : ℕ) : Type 0 where
@@ -54,7 +53,3 @@ counted_all tag all count counted = omega (arith, counted.sum, times-nil tag)
 
 pub counted_new_all : (others all : List Tag) (count : ℕ) → IsCountedNew others all [] count → count + different others ≡ different (all ++ others)
 counted_new_all others all count counted = counted.sum
-
--- what one list has and the other has not, and what the other has, are different ones of both
-pub different_in_both : (xs ys : List Tag) (n m : ℕ) → n + different (ys ++ []) ≡ different (xs ++ (ys ++ [])) → m + different [] ≡ different (ys ++ []) → n + m ≡ different (xs ++ ys)
-different_in_both xs ys n m first second = omega (arith, first, second, different-nil, ap (λ zs. different (xs ++ zs)) (append-nil ys))

@@ -6,33 +6,34 @@ use Rattle.std.proofs.lemmas.List.Elements.{All-nil}
 use Rattle.lwc_base.specs.Fresh.{IsFresh}
 use Rattle.lwc_base.specs.Names.{name_cmp}
 use Rattle.lwc_base.specs.World.{empty_world}
+use Rattle.lwc_base.specs.declared.name.Name.{Name}
 use Rattle.lwc_base.specs.declared.size.WorldSize.{WorldSize}
 use Rattle.lwc_base.proofs.Fresh.{fresh-empty_world}
 use Rattle.world_face.specs.Calls.{IsSize}
 use Rattle.whole_world.specs.declared.counts.Counts.{Counts}
-use Rattle.whole_world.specs.declared.group.HeldGroup.{HeldGroup}
-use Rattle.whole_world.specs.declared.held.Held.{Held}
-use Rattle.whole_world.specs.Rows.{contexts_of, counters_of, groups_of, world_of}
+use Rattle.whole_world.specs.declared.context_row.ContextRow.{ContextRow}
+use Rattle.whole_world.specs.declared.group_row.GroupRow.{GroupRow}
+use Rattle.whole_world.specs.States.{counters_of, nothing_counted, world_of}
 use Rattle.whole_world.specs.Sound.{IsSound, IsWhole, IsWholeGroup}
 use Rattle.whole_world.proofs.Places.{place_of_replicate}
 
 no_rows : {X : Type 0} → fm.from_sorted {X = X} {R = name_cmp} [] ≡ fm.empty
 no_rows {X} = fm.empty_of_len (fm.from_sorted []) (fm.len-entries (fm.from_sorted []) ∙ ap length (fm.entries-from_sorted {X = X} name_cmp [] tt))
 
-nothing_there : (size : WorldSize) (counts : List Counts) → counts ≡ replicate size.jobs (record { contexts = 0; groups = 0; tags = 0 }) →
+nothing_there : (size : WorldSize) (counts : List Counts) → counts ≡ replicate size.jobs nothing_counted →
     world_of size [] [] counts ≡ empty_world size
-unfolding world_of contexts_of groups_of empty_world
+unfolding world_of empty_world
 nothing_there size counts nothing =
-    let each : (job : ℕ) → get_or counts job (record { contexts = 0; groups = 0; tags = 0 }) ≡ record { contexts = 0; groups = 0; tags = 0 } =
-    λ job. ap (λ l. get_or l job (record { contexts = 0; groups = 0; tags = 0 })) nothing ∙ place_of_replicate size.jobs (record { contexts = 0; groups = 0; tags = 0 }) job in
+    let each : (job : ℕ) → get_or counts job nothing_counted ≡ nothing_counted =
+    λ job. ap (λ l. get_or l job nothing_counted) nothing ∙ place_of_replicate size.jobs nothing_counted job in
     λ i. record { contexts = no_rows i; groups = no_rows i; next = λ job. counters_of (each job i); size = size }
 
-pub nothing_counted_yet : (size : WorldSize) (contexts : List Held) (groups : List HeldGroup) (counts : List Counts) → contexts ≡ [] → groups ≡ [] →
-    counts ≡ replicate size.jobs (record { contexts = 0; groups = 0; tags = 0 }) → world_of size contexts groups counts ≡ empty_world size
+pub nothing_counted_yet : (size : WorldSize) (contexts : List (Name × ContextRow)) (groups : List (Name × GroupRow)) (counts : List Counts) → contexts ≡ [] → groups ≡ [] →
+    counts ≡ replicate size.jobs nothing_counted → world_of size contexts groups counts ≡ empty_world size
 nothing_counted_yet size contexts groups counts none no_group nothing = (λ i. world_of size (none i) (no_group i) counts) ∙ nothing_there size counts nothing
 
 sound_there : (size : WorldSize) (counts : List Counts) → IsSize size → length counts ≡ size.jobs →
-    counts ≡ replicate size.jobs (record { contexts = 0; groups = 0; tags = 0 }) → IsSound size [] [] counts
+    counts ≡ replicate size.jobs nothing_counted → IsSound size [] [] counts
 sound_there size counts is_size many nothing = record {
   some_job = is_size.jobs.0;
   few_pages = is_size.pages.1;
@@ -42,13 +43,13 @@ sound_there size counts is_size many nothing = record {
   counted = many;
   contexts_sorted = tt;
   groups_sorted = tt;
-  contexts_whole = All-nil (IsWhole size.pages);
-  groups_whole = All-nil (IsWholeGroup size.pages);
+  contexts_whole = All-nil (λ row. IsWhole size.pages row.1);
+  groups_whole = All-nil (λ row. IsWholeGroup size.pages row.1);
   fresh = subst IsFresh (sym (nothing_there size counts nothing)) (fresh-empty_world size);
 }
 
-pub sound-opened : (size : WorldSize) (contexts : List Held) (groups : List HeldGroup) (counts : List Counts) → contexts ≡ [] → groups ≡ [] →
-    IsSize size → length counts ≡ size.jobs → counts ≡ replicate size.jobs (record { contexts = 0; groups = 0; tags = 0 }) → IsSound size contexts groups counts
+pub sound-opened : (size : WorldSize) (contexts : List (Name × ContextRow)) (groups : List (Name × GroupRow)) (counts : List Counts) → contexts ≡ [] → groups ≡ [] →
+    IsSize size → length counts ≡ size.jobs → counts ≡ replicate size.jobs nothing_counted → IsSound size contexts groups counts
 sound-opened size contexts groups counts none no_group is_size many nothing =
-    subst (λ (rows : List Held). IsSound size rows groups counts) (sym none)
-    (subst (λ (rows : List HeldGroup). IsSound size [] rows counts) (sym no_group) (sound_there size counts is_size many nothing))
+    subst (λ (rows : List (Name × ContextRow)). IsSound size rows groups counts) (sym none)
+    (subst (λ (rows : List (Name × GroupRow)). IsSound size [] rows counts) (sym no_group) (sound_there size counts is_size many nothing))

@@ -1,5 +1,5 @@
 -- Which values part, by their tags.
-use Rattle.std.proofs.Common.{◌≡◌, ℕ, [], ◌∷◌, refl, ap, ◌∙◌, true, Option, Some, None}
+use Rattle.std.proofs.Common.{◌≡◌, option_to_list, ℕ, refl, ap, ◌∙◌, true, Option, Some, None}
 use Rattle.std.specs.Prelude.{nat_lt, unwrap_or}
 use Rattle.lwc_base.specs.declared.name.Tag.{Tag}
 use Rattle.lwc_base.specs.declared.page.PageValue.{PageValue}
@@ -13,7 +13,7 @@ unfolding times
 shared-times w tag = refl
 
 -- a value with a tag parts where the tag stands at more holders than one
-pub parts-tagged : (w : World) (value : Option PageValue) (tag : Tag) (n : ℕ) → tag ∷ [] ≡ tag_of value → n ≡ times tag (tags w) →
+pub parts-tagged : (w : World) (value : Option PageValue) (tag : Tag) (n : ℕ) → option_to_list (Some tag) ≡ tag_of value → n ≡ times tag (tags w) →
     nat_lt 1 n ≡ is_parting w (unwrap_or value Zero)
 unfolding is_parting
 parts-tagged w None tag n has count = cc
@@ -23,7 +23,7 @@ parts-tagged w (Some (Data own bytes)) tag n has count =
     ap (nat_lt 1) count ∙ shared-times w tag ∙ ap (is_shared_tag w) same
 
 -- a value without a tag parts
-pub parts-untagged : (w : World) (value : Option PageValue) → [] ≡ tag_of value → true ≡ is_parting w (unwrap_or value Zero)
+pub parts-untagged : (w : World) (value : Option PageValue) → option_to_list {X = Tag} None ≡ tag_of value → true ≡ is_parting w (unwrap_or value Zero)
 unfolding is_parting
 parts-untagged w None has = refl
 parts-untagged w (Some Zero) has = refl

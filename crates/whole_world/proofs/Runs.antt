@@ -1,9 +1,10 @@
--- Ranges go by what pages are to their context: as many begin as standings change.
-use Rattle.std.proofs.Common.{◌≡◌, ◌≢◌, ℕ, zero, suc, ◌<◌, arith, refl, sym, ap, ◌∙◌, Bool, true, false, cond, List, Option, Some, None}
+-- Ranges go by what pages are to their context: as many begin as holders change.
+use Rattle.std.proofs.Common.{◌≡◌, ◌≢◌, ℕ, zero, suc, ◌+◌, ◌-◌, ◌<◌, ◌≤◌, arith, refl, sym, ap, ◌∙◌, Bool, true, false, cond, List, Option, Some, None}
 use Rattle.std.specs.Prelude.{◌&&◌, not, is_some, count_by, nat_le, nat_lt}
 use Rattle.std.specs.List.{range_with_len}
 use Rattle.std.specs.Ordering.{eq_by_cmp, is_eq}
 use Rattle.std.proofs.lemmas.Bool.{false≢true}
+use Rattle.std.proofs.lemmas.List.Sums.{sum_by-cons}
 use Rattle.lwc_base.specs.declared.cell.Cell.{Cell}
 use Rattle.lwc_base.specs.declared.cell.Cell.TheVariants as cell
 use Rattle.lwc_base.specs.declared.item.Item.{Item}
@@ -28,23 +29,22 @@ use Rattle.lwc_base.proofs.Fresh.{names_old-context}
 use Rattle.lwc_base.proofs.Live.{same_name, values-map_pages, values-unmap_pages}
 use Rattle.lwc_base.proofs.Lookups.{context-change_context, name-itself, other_name}
 use Rattle.lwc_base.proofs.Sharing.{value_at-share}
-use Rattle.whole_world.specs.declared.ranges.Standing.{Standing}
-use Rattle.whole_world.specs.declared.ranges.Standing.TheVariants.{Absent, Own, Moved, Common}
-use Rattle.whole_world.specs.Outlooks.{after_mapping, after_sharing, in_clone}
-use Rattle.whole_world.specs.Standings.{begins_after, begins_at, cloned_standing, count_of_ranges, own_if, standing_of}
+use Rattle.whole_world.specs.declared.holder.Holder.{Holder}
+use Rattle.whole_world.specs.declared.holder.Holder.TheVariants.{Nobody, Own, NewGroup, Group}
+use Rattle.whole_world.specs.Holders.{begins_after, begins_at, cloned_holder, count_of_ranges, holder_after_clone, holder_after_map, holder_before, holder_in_clone, holder_of, moved_holder, own_if, page_holder}
 use Rattle.whole_world.proofs.SharedCells.{context-shared}
 
 -- what a page with this cell is to its context, seen from a new group
-abbrev seen_from : Name → Cell (Option PageValue) → Standing
-seen_from g (cell.Own None) = Absent
+abbrev seen_from : Name → Cell (Option PageValue) → Holder
+seen_from g (cell.Own None) = Nobody
 seen_from g (cell.Own (Some value)) = Own
-seen_from g (cell.Common h) = cond (is_eq (name_cmp h g)) Moved (Common h)
+seen_from g (cell.Common h) = cond (is_eq (name_cmp h g)) NewGroup (Group h)
 
 same_as_itself : (g h k : Name) (e : Bool) → eq_by_cmp name_cmp h g ≡ true → eq_by_cmp name_cmp k g ≡ true → is_eq (name_cmp h k) ≡ e → e ≡ true
 same_as_itself g h k e h_is k_is is = sym is ∙ (λ i. is_eq (name_cmp (same_name h g h_is i) (same_name k g k_is i))) ∙ name-itself g
 
 begins_after-common : (g h k : Name) (a b e : Bool) → is_eq (name_cmp h g) ≡ a → is_eq (name_cmp k g) ≡ b → is_eq (name_cmp h k) ≡ e →
-    begins_after (cond a Moved (Common h)) (cond b Moved (Common k)) ≡ not e
+    begins_after (cond a NewGroup (Group h)) (cond b NewGroup (Group k)) ≡ not e
 begins_after-common g h k true true e h_is k_is is = ap not (sym (same_as_itself g h k e h_is k_is is))
 begins_after-common g h k true false true h_is k_is is =
     absurd (false≢true (sym k_is ∙ ap (λ n. is_eq (name_cmp n g)) (sym (same_name h k is)) ∙ h_is))
@@ -53,15 +53,15 @@ begins_after-common g h k false true true h_is k_is is = absurd (false≢true (s
 begins_after-common g h k false true false h_is k_is is = refl
 begins_after-common g h k false false e h_is k_is is = ap not is
 
-own_begins : (h : Name) (b : Bool) → begins_after (cond b Moved (Common h)) Own ≡ true
+own_begins : (h : Name) (b : Bool) → begins_after (cond b NewGroup (Group h)) Own ≡ true
 own_begins h true = refl
 own_begins h false = refl
 
-begins_after_own : (h : Name) (b : Bool) → begins_after Own (cond b Moved (Common h)) ≡ true
+begins_after_own : (h : Name) (b : Bool) → begins_after Own (cond b NewGroup (Group h)) ≡ true
 begins_after_own h true = refl
 begins_after_own h false = refl
 
-begins_after_absent : (h : Name) (b : Bool) → begins_after Absent (cond b Moved (Common h)) ≡ true
+begins_after_absent : (h : Name) (b : Bool) → begins_after Nobody (cond b NewGroup (Group h)) ≡ true
 begins_after_absent h true = refl
 begins_after_absent h false = refl
 
@@ -74,33 +74,33 @@ begins-cells g (cell.Own None) (cell.Common k) = begins_after_absent k _
 begins-cells g (cell.Own (Some u)) (cell.Common k) = begins_after_own k _
 begins-cells g (cell.Common h) (cell.Common k) = begins_after-common g h k _ _ _ refl refl refl
 
-begins-first : (g : Name) (b : Cell (Option PageValue)) → begins_after Absent (seen_from g b) ≡ (is_page b && not false)
+begins-first : (g : Name) (b : Cell (Option PageValue)) → begins_after Nobody (seen_from g b) ≡ (is_page b && not false)
 begins-first g (cell.Own None) = refl
 begins-first g (cell.Own (Some v)) = refl
 begins-first g (cell.Common k) = begins_after_absent k _
 
--- a context whose pages are to it what some standings say has the ranges that they make
-module _ (g : Name) (x : Context) (standings : ℕ → Standing) (each : (p : ℕ) → seen_from g (x.cell (Page p)) ≡ standings p) where
-  begins-each : (p : ℕ) → begins_range x p ≡ begins_at standings p
+-- a context whose pages are to it what some holders say has the ranges that they make
+module _ (g : Name) (x : Context) (holders : ℕ → Holder) (each : (p : ℕ) → seen_from g (x.cell (Page p)) ≡ holders p) where
+  begins-each : (p : ℕ) → begins_range x p ≡ begins_at holders p
   unfolding begins_range
-  begins-each zero = sym (begins-first g (x.cell (Page 0))) ∙ ap (begins_after Absent) (each 0)
+  begins-each zero = sym (begins-first g (x.cell (Page 0))) ∙ ap (begins_after Nobody) (each 0)
   begins-each (suc p) = sym (begins-cells g (x.cell (Page p)) (x.cell (Page (suc p)))) ∙ (λ i. begins_after (each p i) (each (suc p) i))
 
-  ranges-standings : (pages : ℕ) → ranges pages x ≡ count_of_ranges pages standings
+  ranges-holders : (pages : ℕ) → ranges pages x ≡ count_of_ranges pages holders
   unfolding ranges count_of_ranges
-  ranges-standings pages = ap (λ f. count_by f (range_with_len 0 pages)) (λ i p. begins-each p i)
+  ranges-holders pages = ap (λ f. count_by f (range_with_len 0 pages)) (λ i p. begins-each p i)
 
 seen_from-shared : (g : Name) (p : ℕ) (mode : Mode) (c : Cell (Option PageValue)) → c ≢ cell.Common g →
-    seen_from g (shared_cell g mode (Page p) c) ≡ standing_of mode c
+    seen_from g (shared_cell g mode (Page p) c) ≡ moved_holder mode (holder_of (Page p) c)
 seen_from-shared g p Copy (cell.Own None) other = refl
 seen_from-shared g p Share (cell.Own None) other = refl
 seen_from-shared g p Unmap (cell.Own None) other = refl
 seen_from-shared g p Copy (cell.Own (Some v)) other = refl
-seen_from-shared g p Share (cell.Own (Some v)) other = ap (λ b. cond b Moved (Common g)) (name-itself g)
+seen_from-shared g p Share (cell.Own (Some v)) other = ap (λ b. cond b NewGroup (Group g)) (name-itself g)
 seen_from-shared g p Unmap (cell.Own (Some v)) other = refl
-seen_from-shared g p Copy (cell.Common h) other = ap (λ b. cond b Moved (Common h)) (other_name h g (λ same. other (ap (λ n. cell.Common n) same)))
-seen_from-shared g p Share (cell.Common h) other = ap (λ b. cond b Moved (Common h)) (other_name h g (λ same. other (ap (λ n. cell.Common n) same)))
-seen_from-shared g p Unmap (cell.Common h) other = ap (λ b. cond b Moved (Common h)) (other_name h g (λ same. other (ap (λ n. cell.Common n) same)))
+seen_from-shared g p Copy (cell.Common h) other = ap (λ b. cond b NewGroup (Group h)) (other_name h g (λ same. other (ap (λ n. cell.Common n) same)))
+seen_from-shared g p Share (cell.Common h) other = ap (λ b. cond b NewGroup (Group h)) (other_name h g (λ same. other (ap (λ n. cell.Common n) same)))
+seen_from-shared g p Unmap (cell.Common h) other = ap (λ b. cond b NewGroup (Group h)) (other_name h g (λ same. other (ap (λ n. cell.Common n) same)))
 
 seen_from-own : (g : Name) (value : Option PageValue) → seen_from g (cell.Own value) ≡ own_if (is_some value)
 seen_from-own g None = refl
@@ -114,45 +114,45 @@ module _ (w : World) (c : Name) (fresh : IsFresh w) where
     abbrev new : Name
     new = next_group w job
 
-    page-shared : (p : ℕ) → seen_from new ((context (share w c job items) c).cell (Page p)) ≡ standing_of (mode_or_copy items (Page p)) ((context w c).cell (Page p))
+    page-shared : (p : ℕ) → seen_from new ((context (share w c job items) c).cell (Page p)) ≡ moved_holder (mode_or_copy items (Page p)) (holder_of (Page p) ((context w c).cell (Page p)))
     unfolding with_shared moved_values
     page-shared p =
         ap (λ (x : Context). seen_from new (x.cell (Page p))) (context-shared w c job items live spec)
         ∙ seen_from-shared new p (mode_or_copy items (Page p)) ((context w c).cell (Page p)) (not_new job p)
 
     -- the ranges of the context after the sharing
-    pub ranges-shared : ranges_of (share w c job items) c ≡ count_of_ranges w.size.pages (after_sharing w c items)
-    unfolding ranges_of after_sharing
+    pub ranges-shared : ranges_of (share w c job items) c ≡ count_of_ranges w.size.pages (holder_after_clone w c items)
+    unfolding ranges_of holder_after_clone page_holder
     ranges-shared =
         ap (λ (s : WorldSize). ranges s.pages (context (share w c job items) c)) (size-share w c job items)
-        ∙ ranges-standings new (context (share w c job items) c) (after_sharing w c items) page-shared w.size.pages
+        ∙ ranges-holders new (context (share w c job items) c) (holder_after_clone w c items) page-shared w.size.pages
 
     page-cloned : (p : ℕ) (mode : Mode) → mode_or_copy items (Page p) ≡ mode →
-        seen_from new (cloned_cell (share w c job items) c (Page p) mode) ≡ cloned_standing mode (is_some (page_at w c p)) ((context w c).cell (Page p))
+        seen_from new (cloned_cell (share w c job items) c (Page p) mode) ≡ cloned_holder mode (is_some (page_at w c p)) (holder_of (Page p) ((context w c).cell (Page p)))
     page-cloned p Copy is =
         ap (λ o. seen_from new (cell.Own o)) (value_at-share w c job items fresh c (Page p)) ∙ seen_from-own new (page_at w c p)
-    page-cloned p Share is = page-shared p ∙ ap (λ m. standing_of m ((context w c).cell (Page p))) is
+    page-cloned p Share is = page-shared p ∙ ap (λ m. moved_holder m (holder_of (Page p) ((context w c).cell (Page p)))) is
     page-cloned p Unmap is = refl
 
     -- the ranges of the new context
-    pub ranges-cloned : (entry : Regs) → ranges (share w c job items).size.pages (cloned_context (share w c job items) c items entry) ≡ count_of_ranges w.size.pages (in_clone w c items)
-    unfolding cloned_context in_clone
+    pub ranges-cloned : (entry : Regs) → ranges (share w c job items).size.pages (cloned_context (share w c job items) c items entry) ≡ count_of_ranges w.size.pages (holder_in_clone w c items)
+    unfolding cloned_context holder_in_clone page_holder
     ranges-cloned entry =
         ap (λ (s : WorldSize). ranges s.pages (cloned_context (share w c job items) c items entry)) (size-share w c job items)
-        ∙ ranges-standings new (cloned_context (share w c job items) c items entry) (in_clone w c items) (λ p. page-cloned p _ refl) w.size.pages
+        ∙ ranges-holders new (cloned_context (share w c job items) c items entry) (holder_in_clone w c items) (λ p. page-cloned p _ refl) w.size.pages
 
     -- both
-    pub ranges-both : (a b : ℕ) → a ≡ count_of_ranges w.size.pages (after_sharing w c items) → b ≡ count_of_ranges w.size.pages (in_clone w c items) →
+    pub ranges-both : (a b : ℕ) → a ≡ count_of_ranges w.size.pages (holder_after_clone w c items) → b ≡ count_of_ranges w.size.pages (holder_in_clone w c items) →
         ◌≡◌ {A = ℕ × ℕ} (a, b) (ranges_after_clone w c job items)
     unfolding ranges_after_clone
     ranges-both a b shared cloned = λ i. ((shared ∙ sym ranges-shared) i, (cloned ∙ sym (ranges-cloned (context (share w c job items) c).entry)) i)
 
-  mapped-cell : (g : Name) (here present : Bool) (old : Cell (Option PageValue)) → seen_from g old ≡ standing_of Copy old →
-      seen_from g (cond present (cond here (cell.Own (Some Zero)) old) (cond here (cell.Own None) old)) ≡ cond here (own_if present) (standing_of Copy old)
-  mapped-cell g true true old same = refl
-  mapped-cell g true false old same = refl
-  mapped-cell g false true old same = same
-  mapped-cell g false false old same = same
+  mapped-cell : (g : Name) (here present : Bool) (old : Cell (Option PageValue)) (held : Holder) → seen_from g old ≡ held →
+      seen_from g (cond present (cond here (cell.Own (Some Zero)) old) (cond here (cell.Own None) old)) ≡ cond here (own_if present) held
+  mapped-cell g true true old held same = refl
+  mapped-cell g true false old held same = refl
+  mapped-cell g false true old held same = same
+  mapped-cell g false false old held same = same
 
   size-mapped : (from to : ℕ) (present : Bool) → (mapped_or_not w c from to present).size ≡ w.size
   size-mapped from to true = (values-map_pages w c from to).size
@@ -171,11 +171,30 @@ module _ (w : World) (c : Name) (fresh : IsFresh w) where
 
   -- the ranges of the context once pages have been mapped or unmapped
   pub ranges-mapped : (from to : ℕ) (present : Bool) → is_live w c ≡ true →
-      ranges_of (mapped_or_not w c from to present) c ≡ count_of_ranges w.size.pages (after_mapping w c from to present)
-  unfolding ranges_of after_mapping
+      ranges_of (mapped_or_not w c from to present) c ≡ count_of_ranges w.size.pages (holder_after_map w c from to present)
+  unfolding ranges_of holder_after_map page_holder
   ranges-mapped from to present live =
       let new : Name = next_group w 0 in
       ap (λ (s : WorldSize). ranges s.pages (context (mapped_or_not w c from to present) c)) (size-mapped from to present)
-      ∙ ranges-standings new (context (mapped_or_not w c from to present) c) (after_mapping w c from to present)
+      ∙ ranges-holders new (context (mapped_or_not w c from to present) c) (holder_after_map w c from to present)
       (λ p. ap (seen_from new) (context-mapped from to present live p)
-      ∙ mapped-cell new (nat_le from p && nat_lt p to) present ((context w c).cell (Page p)) (seen_from-shared new p Copy ((context w c).cell (Page p)) (not_new 0 p))) w.size.pages
+      ∙ mapped-cell new (nat_le from p && nat_lt p to) present ((context w c).cell (Page p)) _ (seen_from-shared new p Copy ((context w c).cell (Page p)) (not_new 0 p))) w.size.pages
+
+next_page : (p end : ℕ) → p < end → end - p ≡ suc (end - (p + 1))
+next_page p end within = omega arith
+
+none_left : (p end : ℕ) → end ≤ p → end - p ≡ 0
+none_left p end past = omega arith
+
+-- the ranges that begin at a page and after it
+pub ranges-next : (holders : ℕ → Holder) (p end : ℕ) → p < end →
+    count_by (begins_at holders) (range_with_len p (end - p)) ≡ cond (begins_at holders p) 1 0 + count_by (begins_at holders) (range_with_len (p + 1) (end - (p + 1)))
+ranges-next holders p end within =
+    ap (λ n. count_by (begins_at holders) (range_with_len p n)) (next_page p end within)
+    ∙ sum_by-cons (λ q. cond (begins_at holders q) 1 0) p (range_with_len (p + 1) (end - (p + 1)))
+
+pub ranges-end : (holders : ℕ → Holder) (p end : ℕ) → end ≤ p → count_by (begins_at holders) (range_with_len p (end - p)) ≡ 0
+ranges-end holders p end past = ap (λ n. count_by (begins_at holders) (range_with_len p n)) (none_left p end past)
+
+pub before_next : (holders : ℕ → Holder) (p : ℕ) → holder_before holders (p + 1) ≡ holders p
+before_next holders p = let e : p + 1 ≡ suc p = omega arith in ap (holder_before holders) e

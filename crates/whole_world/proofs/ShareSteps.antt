@@ -98,14 +98,14 @@ added_as w c job items values =
     λ i. change_counters (record left { groups = fm.insert left.groups (name i) values }) job one_group_more
 
 -- the world once the group is put in
-pub share-steps : (w counted left shared : World) (c : Name) (job : ℕ) (items : List Item) (g h : Name) (values : Group) → needs_group w c items ≡ true →
-    g ≡ next_group w job → h ≡ g → values ≡ moved_values items (context counted c) → counted ≡ change_counters w job one_group_more →
-    left ≡ change_context counted c (with_shared g items) → shared ≡ record left { groups = fm.insert left.groups h values } →
+pub share-steps : (w counted left shared : World) (c : Name) (job : ℕ) (items : List Item) (g : Name) (values : Group) → needs_group w c items ≡ true →
+    g ≡ next_group w job → values ≡ moved_values items (context counted c) → counted ≡ change_counters w job one_group_more →
+    left ≡ change_context counted c (with_shared g items) → shared ≡ record left { groups = fm.insert left.groups g values } →
     shared ≡ share w c job items
-share-steps w counted left shared c job items g h values needs g_is h_is values_are is_counted is_left is_shared =
+share-steps w counted left shared c job items g values needs g_is values_are is_counted is_left is_shared =
     let same : values ≡ moved_values items (context w c) = values_are ∙ ap (moved_values items) (counted-context w counted job is_counted c) in
     let moves : left ≡ change_counters (change_context w c (with_shared (next_group w job) items)) job one_group_more =
     is_left ∙ (λ i. change_context (is_counted i) c (with_shared (g_is i) items))
     ∙ change-counted w job one_group_more c _ in
-    is_shared ∙ (λ i. record (moves i) { groups = fm.insert (moves i).groups ((h_is ∙ g_is) i) (same i) })
+    is_shared ∙ (λ i. record (moves i) { groups = fm.insert (moves i).groups (g_is i) (same i) })
     ∙ added_as w c job items (moved_values items (context w c)) ∙ sym (share-moves w c job items needs)

@@ -1,18 +1,21 @@
 -- Lists of tags: whether a tag is in one, how often, and how many different ones there are.
 use mir.Val.{bool_byte}
 use Rattle.std.proofs.Common.{◌≡◌, ℕ, ◌+◌, ◌≤◌, List, [], ◌∷◌, ◌++◌, length, refl, sym, ap, ◌∙◌, Bool, true, false, cond, ◌||◌, arith, Option, Some, None}
-use Rattle.std.specs.Prelude.{not}
+use Rattle.std.specs.Prelude.{count_by, not}
 use Rattle.std.specs.List.{flat_map, list_any}
 use Rattle.std.specs.Option.{option_to_list}
 use Rattle.std.specs.Ordering.{is_eq}
 use Rattle.std.specs.Cmp.{eq_by_cmp_equiv}
 use Rattle.std.specs.FinSet as set
 use Rattle.std.proofs.lemmas.List.Folds.{list_any-append}
-use Rattle.std.proofs.lemmas.List.Sums.{sum_by-append, count_by-le-length}
+use Rattle.std.proofs.lemmas.List.Sums.{sum_by-append, sum_by-cons, count_by-le-length}
 use Rattle.lwc_base.specs.declared.name.Tag.{Tag}
+use Rattle.lwc_base.specs.declared.page.PageValue.{PageValue}
+use Rattle.lwc_base.specs.declared.page.PageValue.TheVariants.{Zero, Data}
+use Rattle.lwc_base.specs.Frames.{tag_of}
 use Rattle.lwc_base.specs.Names.{tag_cmp}
 use Rattle.lwc_base.proofs.Orders.{tag_cmp-total}
-use Rattle.whole_world.specs.Tags.{has_tag, times, different}
+use Rattle.whole_world.specs.Tags.{has_tag, is_new, page_tags, times, different}
 
 -- a tag is in one of two lists
 pub has_tag-append : (tag : Tag) (xs ys : List Tag) → has_tag tag (xs ++ ys) ≡ (has_tag tag xs || has_tag tag ys)
@@ -35,27 +38,35 @@ pub times-le-length : (tag : Tag) (xs : List Tag) → times tag xs ≤ length xs
 unfolding times
 times-le-length tag xs = count_by-le-length (λ t. is_eq (tag_cmp t tag)) xs
 
-one_where_true : (b : Bool) → bool_byte b ≡ cond b 1 0
-one_where_true true = refl
-one_where_true false = refl
-
-one_or_none : (b : Bool) → 0 + cond b 1 0 ≡ cond (b || false) 1 0
-one_or_none true = refl
-one_or_none false = refl
-
-times-option : (tag : Tag) (o : Option Tag) → times tag (option_to_list o) ≡ cond (has_tag tag (option_to_list o)) 1 0
-unfolding times has_tag
-times-option tag None = refl
-times-option tag (Some own) = one_or_none (is_eq (tag_cmp own tag))
-
--- where there is one tag at most, a tag is there once or not at all
-pub times-one : (tag : Tag) (o : Option Tag) (n : ℕ) (b : Bool) → n ≡ bool_byte b → b ≡ has_tag tag (option_to_list o) → n ≡ times tag (option_to_list o)
-times-one tag o n b is there = is ∙ one_where_true b ∙ ap (λ x. cond {A = ℕ} x 1 0) there ∙ sym (times-option tag o)
-
 -- none is in an empty list
 pub times-nil : (tag : Tag) → times tag [] ≡ 0
 unfolding times
 times-nil tag = refl
+
+one_tag : (tag own : Tag) → times tag (own ∷ []) ≡ cond (has_tag tag (own ∷ [])) 1 0
+unfolding times has_tag
+one_tag tag own = one_or_none (is_eq (tag_cmp own tag))
+  where
+    one_or_none : (b : Bool) → 0 + cond b 1 0 ≡ cond (b || false) 1 0
+    one_or_none true = refl
+    one_or_none false = refl
+
+-- the tag of a value is there once or not at all
+times-value : (tag : Tag) (value : Option PageValue) → times tag (tag_of value) ≡ cond (has_tag tag (tag_of value)) 1 0
+unfolding times has_tag
+times-value tag None = refl
+times-value tag (Some Zero) = refl
+times-value tag (Some (Data own bytes)) = one_tag tag own
+
+-- a tag is in pages as often as pages have it
+pub times_pages : {P : Type 0} (tag : Tag) (value : P → Option PageValue) (pages : List P) →
+    times tag (page_tags value pages) ≡ count_by (λ page. has_tag tag (tag_of (value page))) pages
+unfolding page_tags
+times_pages tag value [] = times-nil tag
+times_pages tag value (page ∷ pages) =
+    times-append tag (tag_of (value page)) (flat_map (λ page. tag_of (value page)) pages)
+    ∙ (λ i. times-value tag (value page) i + times_pages tag value pages i)
+    ∙ sym (sum_by-cons (λ page. cond (has_tag tag (tag_of (value page))) 1 0) page pages)
 
 contains-tags : (tag : Tag) (xs : List Tag) → set.contains (set.from_list {R = tag_cmp} xs) tag ≡ has_tag tag xs
 unfolding has_tag
@@ -79,13 +90,16 @@ cond_at_most_one : (b : Bool) → cond b 1 0 ≤ 1
 cond_at_most_one true = omega arith
 cond_at_most_one false = omega arith
 
--- a tag is one different tag more where others do not have it
-pub different-one : (tag : Tag) (o : Option Tag) (others : List Tag) (n : ℕ) (b : Bool) → o ≡ Some tag →
-    n ≡ bool_byte (not b) → b ≡ has_tag tag others → n + different others ≡ different (option_to_list o ++ others)
-different-one tag o others n b is count there =
-    ap (λ m. m + different others) (count ∙ one_where_true (not b) ∙ ap (λ x. cond {A = ℕ} (not x) 1 0) there)
-    ∙ sym (different-cons tag others)
-    ∙ ap (λ v. different (option_to_list v ++ others)) (sym is)
+-- a tag is one different tag more where it is new
+pub different-new : (tag : Option Tag) (others : List Tag) (n : ℕ) (b : Bool) → n ≡ bool_byte b → b ≡ is_new tag others →
+    n + different others ≡ different (option_to_list tag ++ others)
+different-new None others n b count new = omega (arith, count ∙ ap bool_byte new)
+different-new (Some tag) others n b count new =
+    ap (λ m. m + different others) (count ∙ ap bool_byte new ∙ one_where (not (has_tag tag others))) ∙ sym (different-cons tag others)
+  where
+    one_where : (b : Bool) → bool_byte b ≡ cond b 1 0
+    one_where true = refl
+    one_where false = refl
 
 pub different-nil : different [] ≡ 0
 unfolding different
@@ -106,3 +120,12 @@ different-append_least (x ∷ xs) ys = omega (arith, different-cons x (xs ++ ys)
 pub different-append_most : (xs ys : List Tag) → different (xs ++ ys) ≤ length xs + different ys
 different-append_most [] ys = omega arith
 different-append_most (x ∷ xs) ys = omega (arith, different-cons x (xs ++ ys), cond_at_most_one (not (has_tag x (xs ++ ys))), different-append_most xs ys)
+
+-- the tags of a page and of the others
+pub page_tags-cons : {P : Type 0} (value : P → Option PageValue) (page : P) (pages : List P) → page_tags value (page ∷ pages) ≡ tag_of (value page) ++ page_tags value pages
+unfolding page_tags
+page_tags-cons value page pages = refl
+
+pub page_tags-nil : {P : Type 0} (value : P → Option PageValue) → page_tags value [] ≡ []
+unfolding page_tags
+page_tags-nil value = refl

@@ -1,8 +1,9 @@
-pub mod Copies
-pub mod Moves
-pub mod Outlooks
+pub mod Holders
+pub mod KeyValues
 pub mod Rows
-pub mod Seen
+pub mod Sharing
 pub mod Sound
-pub mod Standings
+pub mod States
+pub mod Tables
 pub mod Tags
+pub mod Worlds

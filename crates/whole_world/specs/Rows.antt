@@ -1,61 +1,42 @@
--- What rows of held contexts and groups stand for: maps by name, and the world.
-use Rattle.std.specs.Prelude.{Bool, List, map, slice_index_or}
-use Rattle.std.specs.FinMap as fm
-use Rattle.std.specs.Ordering.{is_eq, is_lt}
-use Rattle.lwc_base.specs.declared.name.Name.{Name}
-use Rattle.lwc_base.specs.declared.size.WorldSize.{WorldSize}
-use Rattle.lwc_base.specs.Names.{name_cmp}
-use Rattle.lwc_base.specs.World.{World, Context, Group, Counters}
-use Rattle.whole_world.specs.declared.held.Held.{Held}
-use Rattle.whole_world.specs.declared.group.HeldGroup.{HeldGroup}
-use Rattle.whole_world.specs.declared.counts.Counts.{Counts}
-use Rattle.whole_world.specs.Copies.{context_of, group_of}
+-- What the rows of contexts and of groups stand for.
+use Rattle.std.specs.Prelude.{ℕ, if◌then◌else◌, Bool, Option, None, Some, slice_index_or}
+use Rattle.lwc_base.specs.declared.cell.Cell.{Cell}
+use Rattle.lwc_base.specs.declared.cell.Cell.TheVariants.{Own}
+use Rattle.lwc_base.specs.declared.descriptor.Descriptor.TheVariants.{Empty}
+use Rattle.lwc_base.specs.declared.key.Key.{Key}
+use Rattle.lwc_base.specs.declared.key.Key.TheVariants.{Page, Slot, Cred}
+use Rattle.lwc_base.specs.declared.page.PageValue.{PageValue}
+use Rattle.lwc_base.specs.declared.page.PageValue.TheVariants.{Zero}
+use Rattle.lwc_base.specs.Keys.{ValueOf}
+use Rattle.lwc_base.specs.Mapping.{on_pages}
+use Rattle.lwc_base.specs.World.{Context, Group}
+use Rattle.whole_world.specs.declared.context_row.ContextRow.{ContextRow}
+use Rattle.whole_world.specs.declared.group_row.GroupRow.{GroupRow}
 
--- a context that is held, by its name
-abbrev pub context_entry : Held → Name × Context
-context_entry held = (held.name, context_of held)
+-- the cell under a key of a context; pages past the last one are absent, and slots past the last one empty
+unfoldable pub cell_of : ContextRow → (k : Key) → Cell (ValueOf k)
+cell_of row (Page p) = slice_index_or row.pages.items p (Own None)
+cell_of row (Slot n) = slice_index_or row.slots.items n (Own Empty)
+cell_of row Cred = row.uid
 
--- a group that is held, by its name
-abbrev pub group_entry : HeldGroup → Name × Group
-group_entry held = (held.name, group_of held)
+-- the context of a row
+unfoldable pub context_of : ContextRow → Context
+context_of row = record { cell = cell_of row; entry = row.entry; saved = λ t. None }
 
--- the contexts by name
-unfoldable pub contexts_of : List Held → fm.FinMap name_cmp Context
-contexts_of rows = fm.from_sorted (map context_entry rows)
+-- the value under a key of a group
+unfoldable pub value_of : GroupRow → (k : Key) → ValueOf k
+value_of row (Page p) = slice_index_or row.pages.items p None
+value_of row (Slot n) = slice_index_or row.slots.items n Empty
+value_of row Cred = row.uid
 
--- the groups by name
-unfoldable pub groups_of : List HeldGroup → fm.FinMap name_cmp Group
-groups_of rows = fm.from_sorted (map group_entry rows)
+-- the group of a row
+unfoldable pub group_of : GroupRow → Group
+group_of row = record { value = value_of row }
 
--- what a job has counted
-abbrev pub counters_of : Counts → Counters
-counters_of counts = record { contexts = counts.contexts; groups = counts.groups; tags = counts.tags }
+-- a page of zeros if it is to be present
+abbrev pub zeros_if : Bool → Option PageValue
+zeros_if present = if present then Some Zero else None
 
--- what a job has counted before it has named anything
-abbrev pub nothing_counted : Counts
-nothing_counted = record { contexts = 0; groups = 0; tags = 0 }
-
--- the world of a size with these contexts and groups, where the jobs have counted so much; a job that is not there has counted nothing
-unfoldable pub world_of : WorldSize → List Held → List HeldGroup → List Counts → World
-world_of size contexts groups counts = record {
-  contexts = contexts_of contexts;
-  groups = groups_of groups;
-  next = λ job. counters_of (slice_index_or counts job nothing_counted);
-  size = size;
-}
-
--- whether a context that is held has the name
-abbrev pub has_name : Name → Held → Bool
-has_name c held = is_eq (name_cmp held.name c)
-
--- whether a group that is held has the name
-abbrev pub has_group_name : Name → HeldGroup → Bool
-has_group_name g held = is_eq (name_cmp held.name g)
-
--- whether a context that is held stands past a name
-abbrev pub is_past : Name → Held → Bool
-is_past c held = is_lt (name_cmp c held.name)
-
--- whether a group that is held stands past a name
-abbrev pub is_group_past : Name → HeldGroup → Bool
-is_group_past g held = is_lt (name_cmp g held.name)
+-- a context with the pages of a range present, as zeros of its own, or absent
+abbrev pub with_pages : ℕ → ℕ → Bool → Context → Context
+with_pages from to present x = record x { cell = on_pages from to (Own (zeros_if present)) x.cell }

@@ -1,36 +1,72 @@
 -- What a world of whole copies keeps true of itself.
-use Rattle.std.specs.Prelude.{◌≡◌, ℕ, ◌+◌, ◌≤◌, ◌^◌, List, T, length, map, vec_len, All}
+use Rattle.std.specs.Prelude.{◌≡◌, ℕ, ◌+◌, ◌<◌, ◌≤◌, ◌^◌, List, T, ⊤, length, vec_len, All}
 use Rattle.std.specs.FinMap as fm
 use Rattle.lwc_base.specs.declared.descriptor.TheConstants.{SLOTS}
+use Rattle.lwc_base.specs.declared.key.Key.{Key}
+use Rattle.lwc_base.specs.declared.key.Key.TheVariants.{Page, Slot, Cred}
 use Rattle.lwc_base.specs.declared.limits.TheConstants.{MOST_PAGES}
+use Rattle.lwc_base.specs.declared.name.Name.{Name}
 use Rattle.lwc_base.specs.declared.size.WorldSize.{WorldSize}
 use Rattle.lwc_base.specs.Fresh.{IsFresh}
 use Rattle.lwc_base.specs.Names.{name_cmp}
+use Rattle.whole_world.specs.declared.context_row.ContextRow.{ContextRow}
 use Rattle.whole_world.specs.declared.counts.Counts.{Counts}
-use Rattle.whole_world.specs.declared.group.HeldGroup.{HeldGroup}
-use Rattle.whole_world.specs.declared.held.Held.{Held}
-use Rattle.whole_world.specs.Rows.{context_entry, group_entry, world_of}
+use Rattle.whole_world.specs.declared.group_row.GroupRow.{GroupRow}
+use Rattle.whole_world.specs.States.{world_of}
 
--- a context that is held has a place for each page and each slot
-pub record IsWhole (count : ℕ) (held : Held) : Type 0 where
-  pub pages : vec_len held.pages ≡ count
-  pub slots : vec_len held.slots ≡ SLOTS
+-- a row of a context has this number of pages, and all slots
+pub record IsWhole (count : ℕ) (row : ContextRow) : Type 0 where
+  pub pages : vec_len row.pages ≡ count
+  pub slots : vec_len row.slots ≡ SLOTS
 
--- a group that is held has a place for each page and each slot
-pub record IsWholeGroup (count : ℕ) (held : HeldGroup) : Type 0 where
-  pub pages : vec_len held.pages ≡ count
-  pub slots : vec_len held.slots ≡ SLOTS
+-- a row of a group has this number of pages, and all slots
+pub record IsWholeGroup (count : ℕ) (row : GroupRow) : Type 0 where
+  pub pages : vec_len row.pages ≡ count
+  pub slots : vec_len row.slots ≡ SLOTS
 
--- the sizes are within the limits, and there are no more rows than may be; the rows stand in the order of their names, each is whole, and each name is below what its job has counted
-pub record IsSound (size : WorldSize) (contexts : List Held) (groups : List HeldGroup) (counts : List Counts) : Type 0 where
+-- a row of a context has a place for a key
+abbrev pub HasKey : ContextRow → Key → Type 0
+HasKey row (Page p) = p < vec_len row.pages
+HasKey row (Slot n) = n < vec_len row.slots
+HasKey row Cred = ⊤
+
+-- a row of a group has a place for a key
+abbrev pub HasGroupKey : GroupRow → Key → Type 0
+HasGroupKey row (Page p) = p < vec_len row.pages
+HasGroupKey row (Slot n) = n < vec_len row.slots
+HasGroupKey row Cred = ⊤
+
+-- it has a place for a slot, if the key is one
+abbrev pub HasSlot : ContextRow → Key → Type 0
+HasSlot row (Slot n) = n < vec_len row.slots
+HasSlot row k = ⊤
+
+-- a row of a context has as many pages and slots as it had
+pub record HasSizeOf (old new : ContextRow) : Type 0 where
+  pub pages : vec_len new.pages ≡ vec_len old.pages
+  pub slots : vec_len new.slots ≡ vec_len old.slots
+
+-- a row of a group has as many
+pub record HasGroupSizeOf (old new : GroupRow) : Type 0 where
+  pub pages : vec_len new.pages ≡ vec_len old.pages
+  pub slots : vec_len new.slots ≡ vec_len old.slots
+
+-- the number of a slot is below the number of slots
+abbrev pub IsSlot : Key → Type 0
+IsSlot (Slot n) = n < SLOTS
+IsSlot k = ⊤
+
+-- the sizes are within the limits; the rows stand in the order of their names, each is whole, and each name is below what
+-- its job has counted
+pub record IsSound (size : WorldSize) (contexts : List (Name × ContextRow)) (groups : List (Name × GroupRow)) (counts : List Counts) : Type 0 where
   pub some_job : 1 ≤ size.jobs
   pub few_pages : size.pages ≤ MOST_PAGES
   pub few_rows : size.contexts + size.groups ≤ 2 ^ 16
   pub few_contexts : length contexts ≤ size.contexts
   pub few_groups : length groups ≤ size.groups
   pub counted : length counts ≡ size.jobs
-  pub contexts_sorted : T (fm.is_sorted name_cmp (map context_entry contexts))
-  pub groups_sorted : T (fm.is_sorted name_cmp (map group_entry groups))
-  pub contexts_whole : All (IsWhole size.pages) contexts
-  pub groups_whole : All (IsWholeGroup size.pages) groups
+  pub contexts_sorted : T (fm.is_sorted name_cmp contexts)
+  pub groups_sorted : T (fm.is_sorted name_cmp groups)
+  pub contexts_whole : All (λ row. IsWhole size.pages row.1) contexts
+  pub groups_whole : All (λ row. IsWholeGroup size.pages row.1) groups
   pub fresh : IsFresh (world_of size contexts groups counts)

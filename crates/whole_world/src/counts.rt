@@ -1,7 +1,92 @@
+ghost use Rattle.std.specs.Prelude.{◌≡◌, ◌+◌, ◌<◌, ◌^◌};
+
+use crate::world::WholeWorld;
+use lwc_base::Name;
+
 /// How many contexts, groups and tags a job has named.
 #[derive(Clone, Copy, Debug, PartialEq, Eq)]
 pub struct Counts {
     pub contexts: u32,
     pub groups: u32,
     pub tags: u32,
+}
+
+impl WholeWorld {
+    ghost use Rattle.lwc_base.specs.World.{change_counters, next_context, next_group};
+    ghost use Rattle.lwc_base.proofs.Fresh.{Rises};
+    ghost use Rattle.whole_world.specs.Worlds.{HasRoom, seen};
+    ghost use Rattle.whole_world.specs.States.{counters_of};
+
+    /// What a job has counted.
+    pub(crate) fn counts_of(&self, job: u32) -> Counts
+        requires { job < (seen self.now).size.jobs }
+        ensures { (seen self.now).next job ≡ counters_of result }
+    {
+        self.counts[job as usize]
+    }
+
+    /// The next name of a job's contexts.
+    pub(crate) fn next_context(&self, job: u32) -> Name
+        requires { job < (seen self.now).size.jobs }
+        ensures { result ≡ next_context (seen self.now) job }
+    {
+        let k = self.counts_of(job).contexts;
+        Name { job, k }
+    }
+
+    /// The next name of a job's groups.
+    pub(crate) fn next_group(&self, job: u32) -> Name
+        requires { job < (seen self.now).size.jobs }
+        ensures { result ≡ next_group (seen self.now) job }
+    {
+        let k = self.counts_of(job).groups;
+        Name { job, k }
+    }
+
+    /// A job has counted this much, which is no less than before.
+    fn set_counts(&mut self, job: u32, counts: Counts)
+        requires known { job < (seen self.old).size.jobs }
+        requires rises { Rises ((seen self.old).next job) (counters_of counts) }
+        ensures world { seen self.new ≡ change_counters (seen self.old) job (λ _. counters_of counts) }
+        ensures room { HasRoom self.old.contexts → HasRoom self.new.contexts }
+        ensures group_room { HasRoom self.old.groups → HasRoom self.new.groups }
+    {
+        self.counts[job as usize] = counts;
+    }
+
+    /// A job counts one more context.
+    pub(crate) fn count_context(&mut self, job: u32)
+        requires known { job < (seen self.old).size.jobs }
+        requires few { ((seen self.old).next job).contexts < 2 ^ 31 }
+        ensures world { seen self.new ≡ change_counters (seen self.old) job (λ n. record n { contexts = n.contexts + 1 }) }
+        ensures room { HasRoom self.old.contexts → HasRoom self.new.contexts }
+    {
+        let counts = self.counts_of(job);
+        let contexts = counts.contexts + 1;
+        self.set_counts(job, Counts { contexts, ..counts });
+    }
+
+    /// A job counts one more group.
+    pub(crate) fn count_group(&mut self, job: u32)
+        requires known { job < (seen self.old).size.jobs }
+        requires few { ((seen self.old).next job).groups < 2 ^ 31 }
+        ensures world { seen self.new ≡ change_counters (seen self.old) job (λ n. record n { groups = n.groups + 1 }) }
+        ensures room { HasRoom self.old.contexts → HasRoom self.new.contexts }
+        ensures group_room { HasRoom self.old.groups → HasRoom self.new.groups }
+    {
+        let counts = self.counts_of(job);
+        let groups = counts.groups + 1;
+        self.set_counts(job, Counts { groups, ..counts });
+    }
+
+    /// A job counts more tags.
+    pub(crate) fn count_tags(&mut self, job: u32, more: u32)
+        requires known { job < (seen self.old).size.jobs }
+        requires few { ((seen self.old).next job).tags + more < 2 ^ 32 }
+        ensures { seen self.new ≡ change_counters (seen self.old) job (λ n. record n { tags = n.tags + more }) }
+    {
+        let counts = self.counts_of(job);
+        let tags = counts.tags + more;
+        self.set_counts(job, Counts { tags, ..counts });
+    }
 }

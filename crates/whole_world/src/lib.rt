@@ -1,25 +1,23 @@
-//! The world by whole copies: each context and each group holds all that it has, and what is asked of the world is counted anew each time.
+//! The world by whole copies: each context and each group has a copy of all that it has, and what is asked of the world is counted anew each time.
 #![tactic(auto)]
 
-mod adds;
 mod cloning;
-mod counting;
+mod context_row;
 mod counts;
-mod group;
-mod held;
-mod loads;
-mod moves;
+mod group_row;
+mod holder;
+mod key_value;
 mod pages;
-mod puts;
 mod ranges;
-mod rows;
+mod reads;
 mod sharing;
 mod store;
-mod summaries;
+mod table;
 mod tags;
 #[cfg(test)]
 mod tests;
 mod touched;
 mod world;
+mod writes;
 
 pub use world::WholeWorld;

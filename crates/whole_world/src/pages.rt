@@ -29,14 +29,13 @@ fn byte_with(at: usize, piece: &[u8], place: usize, old: u8) -> u8
 }
 
 /// Puts what a piece has of a page into the page's bytes (`bytes_after`).
-fn put_piece(page: &mut PageBytes, p: usize, at: usize, piece: &[u8])
-    requires { p < 2 ^ 32 }
+fn put_piece(page: &mut PageBytes, p: u16, at: usize, piece: &[u8])
     ensures { page.new ≡ bytes_after (record { at = at; bytes = piece.now }) p page.old }
 {
     let count = page.as_slice().len();
     for i in 0..count {
         let old = page.as_slice()[i];
-        page.put(i, byte_with(at, piece, p * PAGE_BYTES + i, old));
+        page.put(i, byte_with(at, piece, p as usize * PAGE_BYTES + i, old));
     }
 }
 
@@ -51,17 +50,16 @@ fn retagged(parting: bool, new: Tag, value: Option<&PageValue>, bytes: PageBytes
 }
 
 /// The new value of a page that a piece touches (`stored_value` of `bytes_after`), with a new tag for where it parts. The
-/// one error is want of memory.
+/// only error is out of memory.
 pub fn new_value(
     alloc: Global,
     parting: bool,
     new: Tag,
-    p: usize,
+    p: u16,
     at: usize,
     piece: &[u8],
     old: Option<&PageValue>,
 ) -> Result<PageValue, OutOfMemory>
-    requires { p < 2 ^ 32 }
     ensures { IfOk result (λ value. value ≡ stored_value parting new (unwrap_or (option_copied old.entry) Zero)
         (bytes_after (record { at = at; bytes = piece.now }) p (bytes_of (unwrap_or (option_copied old.entry) Zero)))) }
 {

@@ -1,51 +1,49 @@
-ghost use Rattle.std.specs.Prelude.{◌≡◌, ℕ, ◌<◌, ◌≤◌, ◌+◌, ◌-◌, ◌^◌, IsTrue, count_by};
-ghost use Rattle.std.specs.List.{range_with_len};
-ghost use Rattle.std.specs.Option.{option_copied};
-ghost use Rattle.whole_world.specs.Copies.{as_cell};
-ghost use Rattle.whole_world.specs.Standings.{begins_after, begins_at, count_of_ranges, own_if, standing_of};
+ghost use Rattle.std.specs.Prelude.{◌≡◌, ℕ, ◌<◌, ◌≤◌, IsTrue};
+ghost use Rattle.whole_world.specs.Holders.{begins_after, count_of_ranges, moved_holder, own_if};
+ghost use Rattle.whole_world.specs.declared.holder.Holder as holders;
 
+use crate::holder::Holder;
 use crate::world::WholeWorld;
-use lwc_base::{Cell, Key, Mode, Name, PageValue, Range, Spec};
+use lwc_base::{Key, Mode, Name, Range, Spec};
 use res_spec::mode_or_copy;
 
-/// What a page is to its context once what is under share has moved into a new group: absent, the context's own,
-/// common of the new group, or of a group that was there before.
-#[derive(Clone, Copy, Debug, PartialEq, Eq)]
-pub enum Standing {
-    Absent,
-    Own,
-    Moved,
-    Common(Name),
-}
-
-/// Whether a range begins at a page of one standing, after a page of another.
-fn begins_after(before: Standing, here: Standing) -> bool
-    ensures { result ≡ begins_after before here }
+/// Who has a value once a clone has moved the context's own values of mode share.
+fn moved_holder(mode: Mode, holder: Holder) -> Holder
+    ensures { result ≡ moved_holder mode holder }
 {
-    here != Standing::Absent && here != before
-}
-
-/// What a page with this cell is to its context, once its value has moved if it is under share.
-fn standing_of(cell: Option<&Cell<PageValue>>, mode: Mode) -> Standing
-    ensures { result ≡ standing_of mode (as_cell (option_copied cell.entry)) }
-{
-    match (cell, mode) {
-        (None, _) => Standing::Absent,
-        (Some(Cell::Own(_)), Mode::Share) => Standing::Moved,
-        (Some(Cell::Own(_)), _) => Standing::Own,
-        (Some(Cell::Common(g)), _) => Standing::Common(*g),
+    match (mode, holder) {
+        (Mode::Share, Holder::Own) => Holder::NewGroup,
+        (_, other) => other,
     }
 }
 
-/// A page of the context's own, if it is present.
-fn own_if(present: bool) -> Standing
+/// The holder of a page that is a context's own, if it is present.
+fn own_if(present: bool) -> Holder
     ensures { result ≡ own_if present }
 {
-    if present {
-        Standing::Own
-    } else {
-        Standing::Absent
+    if present { Holder::Own } else { Holder::Nobody }
+}
+
+/// The number of ranges of this number of pages, by who has the value of each.
+fn count_ranges<F: Fn(u16) -> Holder>(pages: u16, holder: F) -> u32
+    requires { F.IsAlwaysCallable holder }
+    ensures { (each : ℕ → holders.Holder) → ((p : ℕ) (h : holders.Holder) → p < pages → F.post holder p h → h ≡ each p) → result ≡ count_of_ranges pages each }
+{
+    let mut before = Holder::Nobody;
+    let mut count = 0;
+    for p in 0..pages {
+        let here = holder(p);
+        count += u32::from(begins_after(before, here));
+        before = here;
     }
+    count
+}
+
+/// Whether a range begins at a page of one holder, after a page of another.
+fn begins_after(before: Holder, here: Holder) -> bool
+    ensures { result ≡ begins_after before here }
+{
+    here != Holder::Nobody && here != before
 }
 
 impl WholeWorld {
@@ -54,139 +52,74 @@ impl WholeWorld {
     ghost use Rattle.lwc_base.specs.Ranges.{ranges_of};
     ghost use Rattle.lwc_base.specs.Sharing.{ranges_after_clone};
     ghost use Rattle.lwc_base.specs.World.{is_live};
-    ghost use Rattle.whole_world.specs.Outlooks.{after_mapping, after_sharing, in_clone};
-    ghost use Rattle.whole_world.specs.Seen.{seen};
+    ghost use Rattle.whole_world.specs.Holders.{holder_after_clone, holder_after_map, holder_in_clone, page_holder};
+    ghost use Rattle.whole_world.specs.Worlds.{seen};
 
-    /// How many pages each context may have; they are few.
-    #[tactic(auto, unfolding(crate::specs::Seen::seen, crate::specs::Rows::world_of))]
-    pub(crate) fn page_limit(&self) -> u16
-        ensures { result ≡ (seen self.now).size.pages }
-    {
-        self.size.pages as u16
-    }
-
-    /// What a page is to the context once what is under share has moved out of it.
-    #[tactic(auto, unfolding(crate::specs::Outlooks::after_sharing))]
-    fn after_sharing(&self, c: Name, spec: &Spec, p: u16) -> Standing
-        requires { IsTrue (is_live (seen self.now) c) }
-        ensures { result ≡ after_sharing (seen self.now) c spec.now p }
-    {
-        let mode = mode_or_copy(spec, Key::Page(p));
-        standing_of(self.held(c).page_cell(p as usize), mode)
-    }
-
-    /// What the page is to the context that is made from it.
-    #[tactic(auto, unfolding(crate::specs::Outlooks::in_clone))]
-    fn in_clone(&self, c: Name, spec: &Spec, p: u16) -> Standing
-        requires { IsTrue (is_live (seen self.now) c) }
-        ensures { result ≡ in_clone (seen self.now) c spec.now p }
-    {
-        match mode_or_copy(spec, Key::Page(p)) {
-            Mode::Copy => own_if(self.page_value(c, p as usize).is_some()),
-            Mode::Share => standing_of(self.held(c).page_cell(p as usize), Mode::Share),
-            Mode::Unmap => Standing::Absent,
-        }
-    }
-
-    /// What the page is to the context once pages have been mapped or unmapped.
-    #[tactic(auto, unfolding(crate::specs::Outlooks::after_mapping))]
-    fn after_mapping(&self, c: Name, range: Range, present: bool, p: u16) -> Standing
-        requires { IsTrue (is_live (seen self.now) c) }
-        ensures { result ≡ after_mapping (seen self.now) c range.from range.to present p }
-    {
-        if range.from <= p && p < range.to {
-            own_if(present)
-        } else {
-            standing_of(self.held(c).page_cell(p as usize), Mode::Copy)
-        }
-    }
-
-    /// Whether a range begins at a page after the sharing.
-    fn begins_after_sharing(&self, c: Name, spec: &Spec, p: u16) -> bool
-        requires { IsTrue (is_live (seen self.now) c) }
-        ensures { result ≡ begins_at (after_sharing (seen self.now) c spec.now) p }
-    {
-        let here = self.after_sharing(c, spec, p);
-        match p.checked_sub(1) {
-            Some(q) => begins_after(self.after_sharing(c, spec, q), here),
-            None => begins_after(Standing::Absent, here),
-        }
-    }
-
-    /// Whether a range of the new context begins at a page.
-    fn begins_in_clone(&self, c: Name, spec: &Spec, p: u16) -> bool
-        requires { IsTrue (is_live (seen self.now) c) }
-        ensures { result ≡ begins_at (in_clone (seen self.now) c spec.now) p }
-    {
-        let here = self.in_clone(c, spec, p);
-        match p.checked_sub(1) {
-            Some(q) => begins_after(self.in_clone(c, spec, q), here),
-            None => begins_after(Standing::Absent, here),
-        }
-    }
-
-    /// Whether a range begins at a page after the mapping.
-    fn begins_after_mapping(&self, c: Name, range: Range, present: bool, p: u16) -> bool
-        requires { IsTrue (is_live (seen self.now) c) }
-        ensures { result ≡ begins_at (after_mapping (seen self.now) c range.from range.to present) p }
-    {
-        let here = self.after_mapping(c, range, present, p);
-        match p.checked_sub(1) {
-            Some(q) => begins_after(self.after_mapping(c, range, present, q), here),
-            None => begins_after(Standing::Absent, here),
-        }
-    }
-
-    /// How many ranges the context has after the sharing.
-    #[tactic(auto, using(crate::proofs::Places::count_of_range), unfolding(crate::specs::Standings::count_of_ranges))]
-    fn ranges_after_sharing(&self, c: Name, spec: &Spec) -> u32
-        requires { IsTrue (is_live (seen self.now) c) }
-        ensures { result ≡ count_of_ranges (seen self.now).size.pages (after_sharing (seen self.now) c spec.now) }
-    {
-        (0..self.page_limit())
-            .filter(|p| self.begins_after_sharing(c, spec, *p))
-            .count() as u32
-    }
-
-    /// How many ranges the new context has.
-    #[tactic(auto, using(crate::proofs::Places::count_of_range), unfolding(crate::specs::Standings::count_of_ranges))]
-    fn ranges_in_clone(&self, c: Name, spec: &Spec) -> u32
-        requires { IsTrue (is_live (seen self.now) c) }
-        ensures { result ≡ count_of_ranges (seen self.now).size.pages (in_clone (seen self.now) c spec.now) }
-    {
-        (0..self.page_limit())
-            .filter(|p| self.begins_in_clone(c, spec, *p))
-            .count() as u32
-    }
-
-    /// How many ranges the context and the new one would have after a clone, in this order, for every job.
+    /// The numbers of ranges that the context and the new one would have after a clone, in this order.
     pub(crate) fn clone_ranges(&self, c: Name, spec: &Spec) -> (u32, u32)
         requires live { IsTrue (is_live (seen self.now) c) }
         requires within { IsSpec (seen self.now).size.pages spec.now }
         ensures { (job : ℕ) → result ≡ ranges_after_clone (seen self.now) c job spec.now }
     {
+        let pages = self.page_count();
         (
-            self.ranges_after_sharing(c, spec),
-            self.ranges_in_clone(c, spec),
+            count_ranges(pages, |p| self.holder_after_clone(c, spec, p)),
+            count_ranges(pages, |p| self.holder_in_clone(c, spec, p)),
         )
     }
 
-    /// How many ranges the context has after the mapping.
-    #[tactic(auto, using(crate::proofs::Places::count_of_range), unfolding(crate::specs::Standings::count_of_ranges))]
-    fn ranges_after_mapping(&self, c: Name, range: Range, present: bool) -> u32
-        requires { IsTrue (is_live (seen self.now) c) }
-        ensures { result ≡ count_of_ranges (seen self.now).size.pages (after_mapping (seen self.now) c range.from range.to present) }
-    {
-        (0..self.page_limit())
-            .filter(|p| self.begins_after_mapping(c, range, present, *p))
-            .count() as u32
-    }
-
-    /// How many ranges the context would have once pages have been mapped or unmapped.
+    /// The number of ranges that the context would have once the pages of a range are present or absent.
     pub(crate) fn map_ranges(&self, c: Name, range: Range, present: bool) -> u32
         requires { IsTrue (is_live (seen self.now) c) }
         ensures { result ≡ ranges_of (mapped_or_not (seen self.now) c range.from range.to present) c }
     {
-        self.ranges_after_mapping(c, range, present)
+        count_ranges(self.page_count(), |p| {
+            self.holder_after_map(c, range, present, p)
+        })
+    }
+
+    /// Who has the value of a page of a context.
+    #[tactic(auto, unfolding(crate::specs::Holders::page_holder))]
+    fn page_holder(&self, c: Name, p: u16) -> Holder
+        requires { IsTrue (is_live (seen self.now) c) }
+        ensures { result ≡ page_holder (seen self.now) c p }
+    {
+        self.row(c).holder(Key::Page(p))
+    }
+
+    /// Who has it after the context has been cloned.
+    #[tactic(auto, unfolding(crate::specs::Holders::holder_after_clone))]
+    fn holder_after_clone(&self, c: Name, spec: &Spec, p: u16) -> Holder
+        requires { IsTrue (is_live (seen self.now) c) }
+        ensures { result ≡ holder_after_clone (seen self.now) c spec.now p }
+    {
+        let mode = mode_or_copy(spec, Key::Page(p));
+        moved_holder(mode, self.page_holder(c, p))
+    }
+
+    /// Who has it in the clone.
+    #[tactic(auto, unfolding(crate::specs::Holders::holder_in_clone))]
+    fn holder_in_clone(&self, c: Name, spec: &Spec, p: u16) -> Holder
+        requires { IsTrue (is_live (seen self.now) c) }
+        ensures { result ≡ holder_in_clone (seen self.now) c spec.now p }
+    {
+        match mode_or_copy(spec, Key::Page(p)) {
+            Mode::Copy => own_if(self.is_present(c, p)),
+            Mode::Share => moved_holder(Mode::Share, self.page_holder(c, p)),
+            Mode::Unmap => Holder::Nobody,
+        }
+    }
+
+    /// Who has it once the pages of a range are present or absent.
+    #[tactic(auto, unfolding(crate::specs::Holders::holder_after_map))]
+    fn holder_after_map(&self, c: Name, range: Range, present: bool, p: u16) -> Holder
+        requires { IsTrue (is_live (seen self.now) c) }
+        ensures { result ≡ holder_after_map (seen self.now) c range.from range.to present p }
+    {
+        if range.from <= p && p < range.to {
+            own_if(present)
+        } else {
+            self.page_holder(c, p)
+        }
     }
 }

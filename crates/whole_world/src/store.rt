@@ -1,4 +1,4 @@
-ghost use Rattle.std.specs.Prelude.{◌≡◌, ◌-◌, ◌<◌, ◌≤◌, ◌^◌, IfOk, IsTrue, count_by, is_some};
+ghost use Rattle.std.specs.Prelude.{◌≡◌, ◌-◌, ◌<◌, ◌≤◌, ◌^◌, IfOk, IsTrue, count_by};
 
 use crate::pages::new_value;
 use crate::touched::Touched;
@@ -6,14 +6,13 @@ use crate::world::WholeWorld;
 use lwc_base::{Name, OutOfMemory, PageValue, Tag};
 
 impl WholeWorld {
-    ghost use Rattle.std.specs.List.{list_all, range_with_len};
-    ghost use Rattle.lwc_base.specs.Cells.{page_at};
+    ghost use Rattle.std.specs.List.{range_with_len};
     ghost use Rattle.lwc_base.specs.Frames.{is_parting};
-    ghost use Rattle.lwc_base.specs.Store.{plan, put_pages, page_value_at};
+    ghost use Rattle.lwc_base.specs.Store.{plan, page_value_at};
     ghost use Rattle.lwc_base.specs.World.{is_live};
-    ghost use Rattle.whole_world.specs.Seen.{seen};
+    ghost use Rattle.whole_world.specs.Worlds.{seen};
 
-    /// How many of some pages part.
+    /// The number of pages that a store to some pages parts.
     #[tactic(auto, using(crate::proofs::Places::count_of_range))]
     pub(crate) fn parting_count(&self, c: Name, pages: Touched) -> usize
         requires { IsTrue (is_live (seen self.now) c) }
@@ -26,33 +25,7 @@ impl WholeWorld {
             .count()
     }
 
-    /// Whether a page is present.
-    pub(crate) fn is_present(&self, c: Name, p: usize) -> bool
-        requires { IsTrue (is_live (seen self.now) c) }
-        ensures { result ≡ is_some (page_at (seen self.now) c p) }
-    {
-        self.page_value(c, p).is_some()
-    }
-
-    /// Whether some pages are all present.
-    pub(crate) fn are_present(&self, c: Name, pages: Touched) -> bool
-        requires { IsTrue (is_live (seen self.now) c) }
-        ensures { result ≡ list_all (λ p. is_some (page_at (seen self.now) c p)) (range_with_len pages.first (pages.end - pages.first)) }
-    {
-        (pages.first..pages.end).all(|p| self.is_present(c, p))
-    }
-
-    /// Puts other values under pages of a context, one after another (`put_pages`).
-    pub(crate) fn put_pages(&mut self, c: Name, values: Vec<(usize, PageValue)>)
-        requires { IsTrue (is_live (seen self.old) c) }
-        ensures { seen self.new ≡ put_pages (seen self.old) c values.items }
-    {
-        for (p, value) in values {
-            self.put_page(c, p, value);
-        }
-    }
-
-    /// The new value of each page that a piece touches (`plan`). The one error is want of memory.
+    /// The new value of each page that a piece touches. The only error is out of memory.
     pub(crate) fn plan(
         &self,
         c: Name,
@@ -60,15 +33,14 @@ impl WholeWorld {
         piece: &[u8],
         job: u32,
         pages: Touched,
-    ) -> Result<Vec<(usize, PageValue)>, OutOfMemory>
+    ) -> Result<Vec<(u16, PageValue)>, OutOfMemory>
         requires live { IsTrue (is_live (seen self.now) c) }
         requires job { job < (seen self.now).size.jobs }
         requires counted { ((seen self.now).next job).tags < 2 ^ 31 }
-        requires pages { pages.end < 2 ^ 31 }
         ensures { IfOk result (λ values. values.items ≡ plan (seen self.now) c job (record { at = at; bytes = piece.now })
             ((seen self.now).next job).tags (range_with_len pages.first (pages.end - pages.first))) }
     {
-        let mut k = self.counted(job).tags;
+        let mut k = self.counts_of(job).tags;
         let mut values = Vec::new(self.alloc);
         for p in pages.first..pages.end {
             let parting = self.is_parting(c, p);

@@ -1,227 +1,207 @@
-ghost use Rattle.std.specs.Prelude.{◌≡◌, ◌+◌, ◌++◌, ◌<◌, ◌^◌, IsTrue, List, [], length};
+ghost use Rattle.std.specs.Prelude.{◌≡◌, ◌+◌, ◌++◌, ◌<◌, ◌≤◌, ◌^◌, IfSome, IfNone, IsTrue, [], Option, length};
 ghost use Rattle.std.specs.List.{flat_map};
-ghost use Rattle.std.specs.Option.{option_to_list};
-ghost use Rattle.lwc_base.specs.declared.name.Tag.{Tag};
-ghost use Rattle.whole_world.specs.Copies.{as_cell};
+ghost use Rattle.std.specs.Option.{option_copied, option_to_list};
+ghost use Rattle.lwc_base.specs.declared.page.PageValue.{PageValue};
 ghost use Rattle.lwc_base.specs.Frames.{own_value, tag_of};
-ghost use Rattle.whole_world.specs.Tags.{context_tags, different, group_tags, has_tag, times};
+ghost use Rattle.whole_world.specs.Tags.{context_tags, different, group_tags, has_tag, is_new, page_tags, row_tags, rows_count, rows_tags, times};
 
-use crate::group::HeldGroup;
-use crate::held::Held;
+use crate::context_row::ContextRow;
+use crate::group_row::GroupRow;
 use crate::world::WholeWorld;
 use lwc_base::{Cell, Name, PageValue, Tag};
 
-/// What holds tags.
-trait Holder: Sized {
-    ghost tags: { Self → List Tag };
-
-    /// Whether it holds a tag.
-    fn holds(&self, tag: Tag) -> bool
-        ensures { result ≡ has_tag tag (tags self.now) };
-}
-
-/// What holds tags, and counts them.
-trait Counter: Holder {
-    /// How many times it holds a tag.
-    fn count_of(&self, tag: Tag) -> usize
-        requires few { length (Self.tags self.now) < 2 ^ 32 }
-        ensures { result ≡ times tag (Self.tags self.now) };
-
-    /// How many different tags it holds that others do not hold.
-    fn count_new<L: Holder>(&self, others: &L) -> usize
-        requires few { length (Self.tags self.now) < 2 ^ 32 }
-        ensures { result + different (L.tags others.now) ≡ different (Self.tags self.now ++ L.tags others.now) };
-}
-
-/// Whether one of the holders holds a tag.
-fn any_holds<H: Holder>(holders: &[H], tag: Tag) -> bool
-    ensures { result ≡ has_tag tag (flat_map H.tags holders.now) }
+/// The tag of what stands under a page, if it has one.
+fn tag_of(value: Option<&PageValue>) -> Option<Tag>
+    ensures { option_to_list result ≡ tag_of (option_copied value.entry) }
 {
-    holders.iter().any(|holder| holder.holds(tag))
-}
-
-/// How many times the holders hold a tag.
-fn count_of_all<H: Counter>(holders: &[H], tag: Tag) -> usize
-    requires few { length (flat_map H.tags holders.now) < 2 ^ 32 }
-    ensures { result ≡ times tag (flat_map H.tags holders.now) }
-{
-    let mut count = 0;
-    let mut rest = holders;
-    while let Some((first, after)) = rest.split_first() {
-        count += first.count_of(tag);
-        rest = after;
-    }
-    count
-}
-
-/// Holders, and what comes after them.
-#[derive(Drop)]
-struct Before<'a, H, L> {
-    holders: &'a [H],
-    later: &'a L,
-}
-
-impl<H: Holder, L: Holder> Holder for Before<'_, H, L> {
-    ghost tags = { λ before. flat_map H.tags before.holders.now ++ L.tags before.later.now };
-
-    fn holds(&self, tag: Tag) -> bool {
-        any_holds(self.holders, tag) || self.later.holds(tag)
-    }
-}
-
-/// How many different tags the holders hold that later ones do not hold.
-fn count_new_of_all<H: Counter, L: Holder>(holders: &[H], later: &L) -> usize
-    requires few { length (flat_map H.tags holders.now) < 2 ^ 32 }
-    ensures { result + different (L.tags later.now) ≡ different (flat_map H.tags holders.now ++ L.tags later.now) }
-{
-    let mut count = 0;
-    let mut rest = holders;
-    while let Some((first, after)) = rest.split_first() {
-        count += first.count_new(&Before {
-            holders: after,
-            later,
-        });
-        rest = after;
-    }
-    count
-}
-
-/// Nothing, which holds no tag.
-#[derive(Drop)]
-struct Nothing;
-
-impl Holder for Nothing {
-    ghost tags = { λ _. [] };
-
-    #[tactic(auto, unfolding(crate::specs::Tags::has_tag))]
-    fn holds(&self, _tag: Tag) -> bool {
-        false
-    }
-}
-
-/// A tag that is there is held.
-impl Holder for Option<Tag> {
-    ghost tags = { option_to_list };
-
-    #[tactic(auto, unfolding(crate::specs::Tags::has_tag))]
-    fn holds(&self, tag: Tag) -> bool {
-        match self {
-            Some(own) => *own == tag,
-            None => false,
-        }
-    }
-}
-
-impl Counter for Option<Tag> {
-    fn count_of(&self, tag: Tag) -> usize {
-        usize::from(self.holds(tag))
-    }
-
-    fn count_new<L: Holder>(&self, others: &L) -> usize {
-        match self {
-            Some(tag) => usize::from(!others.holds(*tag)),
-            None => 0,
-        }
-    }
-}
-
-/// The tag of a context's page, if the page has a value of its own and the value has one.
-fn own_tag(page: &Option<Cell<PageValue>>) -> Option<Tag>
-    ensures { option_to_list result ≡ tag_of (own_value (as_cell page.now)) }
-{
-    match page {
-        Some(Cell::Own(PageValue::Data(tag, _))) => Some(*tag),
-        _ => None,
-    }
-}
-
-impl Holder for Option<Cell<PageValue>> {
-    ghost tags = { λ page. tag_of (own_value (as_cell page)) };
-
-    fn holds(&self, tag: Tag) -> bool {
-        own_tag(self).holds(tag)
-    }
-}
-
-impl Counter for Option<Cell<PageValue>> {
-    fn count_of(&self, tag: Tag) -> usize {
-        own_tag(self).count_of(tag)
-    }
-
-    fn count_new<L: Holder>(&self, others: &L) -> usize {
-        own_tag(self).count_new(others)
-    }
-}
-
-/// The tag of a group's page, if the page has a value and the value has one.
-fn value_tag(page: &Option<PageValue>) -> Option<Tag>
-    ensures { option_to_list result ≡ tag_of page.now }
-{
-    match page {
+    match value {
         Some(PageValue::Data(tag, _)) => Some(*tag),
         _ => None,
     }
 }
 
-impl Holder for Option<PageValue> {
-    ghost tags = { tag_of };
+/// A page of a row, which may be the holder of a value.
+trait Page: Sized {
+    ghost value: { Self → Option PageValue };
 
-    fn holds(&self, tag: Tag) -> bool {
-        value_tag(self).holds(tag)
+    /// The value that it is the holder of.
+    fn value(&self) -> Option<&PageValue>
+        ensures { option_copied result ≡ value self.now };
+}
+
+impl Page for Cell<Option<PageValue>> {
+    ghost value = { own_value };
+
+    fn value(&self) -> Option<&PageValue> {
+        match self {
+            Cell::Own(value) => value.as_ref(),
+            Cell::Common(_) => None,
+        }
     }
 }
 
-impl Counter for Option<PageValue> {
-    fn count_of(&self, tag: Tag) -> usize {
-        value_tag(self).count_of(tag)
-    }
+impl Page for Option<PageValue> {
+    ghost value = { λ value. value };
 
-    fn count_new<L: Holder>(&self, others: &L) -> usize {
-        value_tag(self).count_new(others)
+    fn value(&self) -> Option<&PageValue> {
+        self.as_ref()
     }
 }
 
-/// A context holds the tags of its pages.
-impl Holder for Held {
-    ghost tags = { context_tags };
-
-    #[tactic(auto, unfolding(crate::specs::Tags::context_tags))]
-    fn holds(&self, tag: Tag) -> bool {
-        any_holds(self.pages.as_slice(), tag)
+/// Whether a page is the holder of a value with this tag.
+#[tactic(auto, unfolding(crate::specs::Tags::has_tag))]
+fn page_has<P: Page>(page: &P, tag: Tag) -> bool
+    ensures { result ≡ has_tag tag (tag_of (P.value page.now)) }
+{
+    match tag_of(page.value()) {
+        Some(own) => own == tag,
+        None => false,
     }
 }
 
-impl Counter for Held {
-    #[tactic(auto, unfolding(crate::specs::Tags::context_tags))]
-    fn count_of(&self, tag: Tag) -> usize {
-        count_of_all(self.pages.as_slice(), tag)
-    }
+/// Whether a tag is in some pages.
+fn has_tag<P: Page>(pages: &[P], tag: Tag) -> bool
+    ensures { result ≡ has_tag tag (page_tags P.value pages.now) }
+{
+    pages.iter().any(|page| page_has(page, tag))
+}
 
-    #[tactic(auto, unfolding(crate::specs::Tags::context_tags))]
-    fn count_new<L: Holder>(&self, others: &L) -> usize {
-        count_new_of_all(self.pages.as_slice(), others)
+/// How many times a tag is in some pages.
+#[tactic(auto, using(crate::proofs::TagLists::times_pages))]
+fn count_tag<P: Page>(pages: &[P], tag: Tag) -> usize
+    ensures { result ≡ times tag (page_tags P.value pages.now) }
+{
+    pages.iter().filter(|page| page_has(*page, tag)).count()
+}
+
+/// The number of different tags of some pages that are not in later rows.
+fn count_new_tags<P: Page>(pages: &[P], later: Rows) -> usize
+    requires { length (page_tags P.value pages.now) < 2 ^ 32 }
+    ensures { result + different (rows_tags later.entry) ≡ different (page_tags P.value pages.now ++ rows_tags later.entry) }
+{
+    let mut count = 0;
+    let mut rest = pages;
+    while let Some((first, after)) = rest.split_first() {
+        count += usize::from(is_new(tag_of(first.value()), after, later));
+        rest = after;
+    }
+    count
+}
+
+/// Whether there is a tag, and it is in none of the pages and rows that follow.
+fn is_new<P: Page>(tag: Option<Tag>, pages: &[P], later: Rows) -> bool
+    ensures { result ≡ is_new tag (page_tags P.value pages.now ++ rows_tags later.entry) }
+{
+    match tag {
+        Some(tag) => !has_tag(pages, tag) && !later.has(tag),
+        None => false,
     }
 }
 
-/// A group holds the tags of its pages.
-impl Holder for HeldGroup {
-    ghost tags = { group_tags };
+/// A row of a context or of a group.
+#[derive(Clone, Copy)]
+enum Row<'a> {
+    Context(&'a (Name, ContextRow)),
+    Group(&'a (Name, GroupRow)),
+}
 
-    #[tactic(auto, unfolding(crate::specs::Tags::group_tags))]
-    fn holds(&self, tag: Tag) -> bool {
-        any_holds(self.pages.as_slice(), tag)
+impl Row<'_> {
+    /// How many times a tag is in the row.
+    fn count(self, tag: Tag) -> usize
+        ensures { result ≡ times tag (row_tags self.entry) }
+    {
+        match self {
+            Row::Context(row) => count_tag(row.1.pages.as_slice(), tag),
+            Row::Group(row) => count_tag(row.1.pages.as_slice(), tag),
+        }
+    }
+
+    /// The number of different tags of the row that are not in later rows.
+    fn count_new(self, later: Rows) -> usize
+        requires { length (row_tags self) < 2 ^ 32 }
+        ensures { result + different (rows_tags later.entry) ≡ different (row_tags self.entry ++ rows_tags later.entry) }
+    {
+        match self {
+            Row::Context(row) => count_new_tags(row.1.pages.as_slice(), later),
+            Row::Group(row) => count_new_tags(row.1.pages.as_slice(), later),
+        }
     }
 }
 
-impl Counter for HeldGroup {
-    #[tactic(auto, unfolding(crate::specs::Tags::group_tags))]
-    fn count_of(&self, tag: Tag) -> usize {
-        count_of_all(self.pages.as_slice(), tag)
+/// Rows of contexts, and then of groups.
+#[derive(Clone, Copy)]
+struct Rows<'a> {
+    contexts: &'a [(Name, ContextRow)],
+    groups: &'a [(Name, GroupRow)],
+}
+
+impl<'a> Rows<'a> {
+    /// The first row and the others.
+    fn split_first(self) -> Option<(Row<'a>, Rows<'a>)>
+        ensures tags { IfSome result (λ r. rows_tags self.entry ≡ row_tags r.0 ++ rows_tags r.1) }
+        ensures fewer { IfSome result (λ r. rows_count self.entry ≡ rows_count r.1 + 1) }
+        ensures none { IfNone result (rows_tags self.entry ≡ []) }
+    {
+        if let Some((first, contexts)) = self.contexts.split_first() {
+            return Some((Row::Context(first), Rows { contexts, ..self }));
+        }
+        match self.groups.split_first() {
+            Some((first, groups)) => Some((Row::Group(first), Rows { groups, ..self })),
+            None => None,
+        }
     }
 
-    #[tactic(auto, unfolding(crate::specs::Tags::group_tags))]
-    fn count_new<L: Holder>(&self, others: &L) -> usize {
-        count_new_of_all(self.pages.as_slice(), others)
+    /// Whether a tag is in the rows.
+    fn has(self, tag: Tag) -> bool
+        ensures { result ≡ has_tag tag (rows_tags self.entry) }
+    {
+        self.contexts_have(tag) || self.groups_have(tag)
+    }
+
+    /// Whether a tag is in the rows of contexts.
+    fn contexts_have(self, tag: Tag) -> bool
+        ensures { result ≡ has_tag tag (flat_map (λ row. context_tags row.1) self.entry.contexts.now) }
+    {
+        self.contexts
+            .iter()
+            .any(|row| has_tag(row.1.pages.as_slice(), tag))
+    }
+
+    /// Whether a tag is in the rows of groups.
+    fn groups_have(self, tag: Tag) -> bool
+        ensures { result ≡ has_tag tag (flat_map (λ row. group_tags row.1) self.entry.groups.now) }
+    {
+        self.groups
+            .iter()
+            .any(|row| has_tag(row.1.pages.as_slice(), tag))
+    }
+
+    /// How many times a tag is in the rows.
+    fn count(self, tag: Tag) -> usize
+        requires { length (rows_tags self) < 2 ^ 32 }
+        ensures { result ≡ times tag (rows_tags self.entry) }
+    {
+        let mut count = 0;
+        let mut rest = self;
+        while let Some((row, others)) = rest.split_first() {
+            count += row.count(tag);
+            rest = others;
+        }
+        count
+    }
+
+    /// The number of different tags of the rows.
+    fn count_different(self) -> usize
+        requires { length (rows_tags self) < 2 ^ 32 }
+        ensures { result ≡ different (rows_tags self.entry) }
+    {
+        let mut count = 0;
+        let mut rest = self;
+        while let Some((row, others)) = rest.split_first() {
+            count += row.count_new(others);
+            rest = others;
+        }
+        count
     }
 }
 
@@ -230,47 +210,34 @@ impl WholeWorld {
     ghost use Rattle.lwc_base.specs.Frames.{is_parting, tags, used};
     ghost use Rattle.lwc_base.specs.Store.{page_value_at};
     ghost use Rattle.lwc_base.specs.World.{is_live};
-    ghost use Rattle.whole_world.specs.Seen.{seen};
+    ghost use Rattle.whole_world.specs.Worlds.{seen};
 
-    /// How many different tags stand at holders.
-    pub(crate) fn count_of_tags(&self) -> usize
-        ensures used { result ≡ used (seen self.now) }
-        ensures few { result < 2 ^ 32 }
+    /// All rows.
+    fn rows(&self) -> Rows
+        ensures tags { rows_tags result ≡ tags (seen self.now) }
+        ensures few { length (rows_tags result) ≤ 2 ^ 30 }
     {
-        let groups = self.groups.as_slice();
-        let after_contexts = Before {
-            holders: groups,
-            later: &Nothing,
-        };
-        count_new_of_all(self.contexts.as_slice(), &after_contexts)
-            + count_new_of_all(groups, &Nothing)
-    }
-
-    /// At how many holders a tag stands.
-    fn count_of_tag(&self, tag: Tag) -> usize
-        ensures { result ≡ times tag (tags (seen self.now)) }
-    {
-        count_of_all(self.contexts.as_slice(), tag) + count_of_all(self.groups.as_slice(), tag)
-    }
-
-    /// The tag of what stands under a page of a context, if the page is present and its value has one.
-    fn page_tag(&self, c: Name, p: usize) -> Option<Tag>
-        requires { IsTrue (is_live (seen self.now) c) }
-        ensures { option_to_list result ≡ tag_of (page_at (seen self.now) c p) }
-    {
-        match self.page_value(c, p) {
-            Some(PageValue::Data(tag, _)) => Some(*tag),
-            _ => None,
+        Rows {
+            contexts: self.contexts.rows.as_slice(),
+            groups: self.groups.rows.as_slice(),
         }
     }
 
-    /// Whether a store to a page of a context parts it; one that is absent reads as zeros, which part.
-    pub(crate) fn is_parting(&self, c: Name, p: usize) -> bool
+    /// The number of frames in use.
+    pub(crate) fn used_count(&self) -> usize
+        ensures used { result ≡ used (seen self.now) }
+        ensures few { result ≤ 2 ^ 30 }
+    {
+        self.rows().count_different()
+    }
+
+    /// Whether a store to a page of a context parts it. An absent page reads as zeros, which part.
+    pub(crate) fn is_parting(&self, c: Name, p: u16) -> bool
         requires { IsTrue (is_live (seen self.now) c) }
         ensures { result ≡ is_parting (seen self.now) (page_value_at (seen self.now) c p) }
     {
-        match self.page_tag(c, p) {
-            Some(tag) => self.count_of_tag(tag) > 1,
+        match tag_of(self.page_value(c, p)) {
+            Some(tag) => self.rows().count(tag) > 1,
             None => true,
         }
     }

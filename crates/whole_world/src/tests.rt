@@ -1,6 +1,6 @@
 ghost use Rattle.std.specs.Prelude.{◌≡◌, ℕ, ◌≤◌, IfOk, IsTrue};
 ghost use Rattle.lwc_base.specs.World.{is_live};
-ghost use Rattle.whole_world.specs.Seen.{seen};
+ghost use Rattle.whole_world.specs.Worlds.{seen};
 ghost use Rattle.world_face.specs.Calls.{HasGroupPlace, HasPlace};
 
 use crate::WholeWorld;

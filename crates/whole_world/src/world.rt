@@ -1,9 +1,12 @@
 ghost use Rattle.std.specs.Prelude.{◌≡◌, IfOk, replicate, vec_len};
 ghost use Rattle.whole_world.specs.Sound.{IsSound};
+ghost use Rattle.whole_world.specs.States.{nothing_counted};
 
+use crate::context_row::ContextRow;
 use crate::counts::Counts;
-use crate::group::HeldGroup;
-use crate::held::Held;
+use crate::group_row::GroupRow;
+use crate::key_value::KeyValue;
+use crate::table::Table;
 use crate::touched::touched_pages;
 use lwc_base::{
     Descriptor, Name, OutOfMemory, Range, Regs, SLOTS, Spec, StoreFault, Summary, WorldSize,
@@ -11,34 +14,22 @@ use lwc_base::{
 use std::alloc::Global;
 use world_face::World;
 
-/// A world in which each context and each group holds a copy of its own of all that it has. It stands for `seen`.
+/// A world in which each context and each group has a copy of its own of all that it has. It stands for `seen`.
 #[derive(Drop)]
 pub struct WholeWorld {
     pub(crate) alloc: Global,
     pub(crate) size: WorldSize,
-    pub(crate) contexts: Vec<Held>,
-    pub(crate) groups: Vec<HeldGroup>,
+    pub(crate) contexts: Table<ContextRow>,
+    pub(crate) groups: Table<GroupRow>,
     pub(crate) counts: Vec<Counts>,
-    ghost sound: { IsSound size contexts.items groups.items counts.items },
-}
-
-impl WholeWorld {
-    ghost use Rattle.whole_world.specs.Seen.{seen};
-
-    /// How many frames there are.
-    #[tactic(auto, unfolding(crate::specs::Seen::seen, crate::specs::Rows::world_of))]
-    fn frames(&self) -> u32
-        ensures { result ≡ (seen self.now).size.frames }
-    {
-        self.size.frames
-    }
+    ghost sound: { IsSound size contexts.rows.items groups.rows.items counts.items },
 }
 
 impl World for WholeWorld {
     ghost use Rattle.std.specs.Prelude.{false};
-    ghost use Rattle.whole_world.specs.Seen as kept;
+    ghost use Rattle.whole_world.specs.Worlds as spec;
 
-    ghost seen = { kept.seen };
+    ghost seen = { spec.seen };
 
     ghost roomy = { false };
 
@@ -46,32 +37,29 @@ impl World for WholeWorld {
         Ok(WholeWorld {
             alloc,
             size: *world_size,
-            contexts: Vec::new(alloc),
-            groups: Vec::new(alloc),
+            contexts: Table::new(alloc),
+            groups: Table::new(alloc),
             counts: nothing_counted(alloc, world_size.jobs)?,
         })
     }
 
-    #[tactic(auto, unfolding(crate::specs::Seen::seen, crate::specs::Rows::world_of))]
     fn pages(&self) -> u32 {
-        self.size.pages
+        u32::from(self.page_count())
     }
 
     fn first(&mut self, uid: u32, entry: &Regs) -> Result<Name, OutOfMemory> {
-        let name = self.next_name(0);
-        let held = Held::new(self.alloc, name, self.pages() as usize, uid, entry)?;
+        let row = ContextRow::new(self.alloc, self.page_count(), uid, entry)?;
         self.reserve()?;
-        self.add(0, held);
-        Ok(name)
+        Ok(self.add_context(0, row))
     }
 
     fn map(&mut self, c: Name, range: Range) -> Result<(), OutOfMemory> {
-        self.map_row(c, range.from, range.to);
+        self.set_pages(c, range, true);
         Ok(())
     }
 
     fn unmap(&mut self, c: Name, range: Range) -> Result<(), OutOfMemory> {
-        self.unmap_row(c, range.from, range.to);
+        self.set_pages(c, range, false);
         Ok(())
     }
 
@@ -90,7 +78,7 @@ impl World for WholeWorld {
             return Err(StoreFault::BadAddress);
         }
         let parting = self.parting_count(c, pages);
-        if (self.frames() as usize) < self.used() as usize + parting {
+        if (self.size.frames as usize) < self.used() as usize + parting {
             return Err(StoreFault::NoFrame);
         }
         match self.plan(c, at as usize, piece, job, pages) {
@@ -108,7 +96,7 @@ impl World for WholeWorld {
     }
 
     fn set_slot(&mut self, c: Name, n: u8, value: Descriptor) {
-        self.put_slot(c, n, value);
+        self.put(c, KeyValue::Slot(n, value));
     }
 
     #[tactic(auto, unfolding(lwc_base::specs::Slots::lowest_empty))]
@@ -121,12 +109,12 @@ impl World for WholeWorld {
     }
 
     fn set_uid(&mut self, c: Name, uid: u32) {
-        self.put_uid(c, uid);
+        self.put(c, KeyValue::Cred(uid));
     }
 
-    #[tactic(auto, unfolding(crate::specs::Copies::context_of))]
+    #[tactic(auto, unfolding(crate::specs::Rows::context_of))]
     fn entry(&self, c: Name) -> Regs {
-        self.held(c).entry
+        self.row(c).entry
     }
 
     fn clone_context(
@@ -136,11 +124,14 @@ impl World for WholeWorld {
         job: u32,
         entry: &Regs,
     ) -> Result<Name, OutOfMemory> {
-        self.make_clone(c, spec, job, entry)
+        let row = self.cloned_row(c, spec, job, entry)?;
+        self.reserve()?;
+        self.share(c, spec, job)?;
+        Ok(self.add_context(job, row))
     }
 
     fn needs_group(&self, c: Name, spec: &Spec) -> bool {
-        self.moves_values(c, spec)
+        self.moves_any(c, spec)
     }
 
     fn ranges_after_clone(&self, c: Name, spec: &Spec) -> (u32, u32) {
@@ -152,41 +143,42 @@ impl World for WholeWorld {
     }
 
     fn live_of(&self, job: u32) -> u32 {
-        self.count_of_live(job) as u32
+        self.contexts.count_of(job) as u32
     }
 
     fn groups_of(&self, job: u32) -> u32 {
-        self.count_of_groups(job) as u32
+        self.groups.count_of(job) as u32
     }
 
     fn nth_context(&self, i: u32) -> Option<Name> {
-        self.nth_name(i as usize)
+        self.contexts.name_at(i as usize)
     }
 
     #[tactic(auto, unfolding(lwc_base::specs::Summaries::summary_of))]
     fn summary(&self, c: Name) -> Summary {
         Summary {
-            pages: self.count_of_present(c) as u32,
-            slots: self.count_of_filled(c) as u32,
+            pages: self.present_count(c) as u32,
+            slots: self.filled_count(c) as u32,
             uid: self.uid_value(c),
         }
     }
 
     fn context_count(&self) -> u32 {
-        self.contexts.len() as u32
+        self.contexts.rows.len() as u32
     }
 
     fn group_count(&self) -> u32 {
-        self.count_of_all_groups() as u32
+        self.groups.rows.len() as u32
     }
 
     fn used(&self) -> u32 {
-        self.count_of_tags() as u32
+        self.used_count() as u32
     }
 }
 
+/// What the jobs have counted before they have named anything. The only error is out of memory.
 fn nothing_counted(alloc: Global, jobs: u32) -> Result<Vec<Counts>, OutOfMemory>
-    ensures nothing { IfOk result (λ counts. counts.items ≡ replicate jobs (record { contexts = 0; groups = 0; tags = 0 })) }
+    ensures nothing { IfOk result (λ counts. counts.items ≡ replicate jobs nothing_counted) }
     ensures each { IfOk result (λ counts. vec_len counts ≡ jobs) }
 {
     let mut counts = Vec::with_capacity(alloc, jobs as usize)?;

@@ -2,7 +2,7 @@ use Rattle.std.proofs.Common.{◌∙◌, ap}
 use Rattle.lwc_base.specs.World.{is_live}
 use Rattle.lwc_base.specs.declared.key.Key.TheVariants.{Cred}
 use Rattle.lwc_base.proofs.Live.{values-put_at}
-use Rattle.whole_world.specs.Seen.{seen}
+use Rattle.whole_world.specs.Worlds.{seen}
 use Rattle.whole_world.proofs.tests.a_credential_is_changed.Goals as goal
 
 pub uid-requires : goal.uid-requires

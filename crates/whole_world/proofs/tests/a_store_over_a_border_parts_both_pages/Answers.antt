@@ -1,7 +1,7 @@
 use Rattle.std.proofs.Common.{◌∙◌, ap, arith}
 use Rattle.lwc_base.specs.declared.size.WorldSize.{WorldSize}
 use Rattle.lwc_base.proofs.Kernel.{grows-store}
-use Rattle.whole_world.specs.Seen.{seen}
+use Rattle.whole_world.specs.Worlds.{seen}
 use Rattle.whole_world.proofs.tests.a_store_over_a_border_parts_both_pages.Goals as goal
 
 pub bytes-requires-clause-live : goal.bytes-requires-clause-live

@@ -4,7 +4,7 @@ use Rattle.lwc_base.specs.Mapping.{unmap_pages}
 use Rattle.lwc_base.specs.Ranges.{ranges_of}
 use Rattle.lwc_base.specs.World.{World, is_live}
 use Rattle.lwc_base.proofs.Live.{values-unmap_pages}
-use Rattle.whole_world.specs.Seen.{seen}
+use Rattle.whole_world.specs.Worlds.{seen}
 use Rattle.whole_world.proofs.BegunWorld.{few_ranges}
 use Rattle.whole_world.proofs.tests.an_unmapped_page_is_not_loaded.Goals as goal
 

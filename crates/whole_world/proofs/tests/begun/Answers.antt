@@ -5,7 +5,7 @@ use Rattle.lwc_base.specs.Mapping.{map_pages}
 use Rattle.lwc_base.specs.Ranges.{ranges_of}
 use Rattle.lwc_base.specs.World.{World, Counters, empty_world}
 use Rattle.lwc_base.proofs.Live.{values-map_pages}
-use Rattle.whole_world.specs.Seen.{seen}
+use Rattle.whole_world.specs.Worlds.{seen}
 use Rattle.whole_world.proofs.BegunWorld.{counts-empty, few_ranges, none-empty, live-made, live-begun, no_group-begun, one-begun, size-empty, size-made, size-begun, tags-begun, groups-begun, contexts-begun}
 use Rattle.whole_world.proofs.tests.begun.Goals as goal
 

@@ -1,6 +1,7 @@
 use Rattle.std.proofs.Common.{◌≡◌}
 use Rattle.std.specs.Prelude.{replicate}
+use Rattle.whole_world.specs.States.{nothing_counted}
 use Rattle.whole_world.proofs.world.nothing_counted.Given as goal
 
 abbrev pub invariant-loop : goal.invariant-loop
-invariant-loop l = l.counts.items ≡ replicate l.counter (record { contexts = 0; groups = 0; tags = 0 })
+invariant-loop l = l.counts.items ≡ replicate l.counter nothing_counted

@@ -1,23 +1,17 @@
-use Rattle.std.proofs.Common.{◌+◌, ap, arith}
+use Rattle.std.proofs.Common.{◌∙◌, ◌+◌, ap, arith, subst, sym}
 use Rattle.lwc_base.specs.World.{Counters}
-use Rattle.whole_world.specs.Rows.{world_of}
-use Rattle.whole_world.specs.Seen.{seen}
-use Rattle.whole_world.proofs.RowWorlds.{change_counters-row, sound-counts}
+use Rattle.lwc_base.proofs.Fresh.{Rises}
+use Rattle.lwc_base.proofs.Live.{count_on_as}
+use Rattle.whole_world.specs.States.{counters_of}
+use Rattle.whole_world.specs.Worlds.{seen}
 use Rattle.whole_world.proofs.world.WholeWorld.count_tags.Goals as goal
 
-pub index_mut-requires : goal.index_mut-requires
-unfolding seen world_of
-index_mut-requires c = omega (arith, c.args.self.now.sound.counted, c.requires.known)
-
-pub invariant_of-self : goal.invariant_of-self
-unfolding seen world_of
-invariant_of-self c = record {
-  sound = sound-counts _ _ _ _ c.args.self.now.sound c.args.job _ (λ (n : Counters). record n { tags = n.tags + c.args.more }) (omega (arith, c.args.self.now.sound.counted, c.requires.known))
-      (ap (λ (n : Counters). record n { tags = n.tags + c.args.more }) c.counted-counts.ensures) (λ n. record { contexts = omega arith; groups = omega arith });
-}
+pub set_counts-requires-clause-rises : goal.set_counts-requires-clause-rises
+set_counts-requires-clause-rises c =
+    subst (λ n. Rises n (counters_of (record c.counts_of-counts.result { tags = c.counts_of-counts.result.tags + c.args.more }))) (sym c.counts_of-counts.ensures)
+    (record { contexts = omega arith; groups = omega arith })
 
 pub returns : goal.returns
-unfolding seen world_of
 returns c =
-    change_counters-row _ _ _ _ c.args.self.now.sound c.args.job _ (λ (n : Counters). record n { tags = n.tags + c.args.more }) (omega (arith, c.args.self.now.sound.counted, c.requires.known))
-    (ap (λ (n : Counters). record n { tags = n.tags + c.args.more }) c.counted-counts.ensures)
+    c.set_counts.ensures.world
+    ∙ count_on_as (seen c.args.self.now) c.args.job (λ (n : Counters). record n { tags = n.tags + c.args.more }) _ (ap (λ (n : Counters). record n { tags = n.tags + c.args.more }) c.counts_of-counts.ensures)

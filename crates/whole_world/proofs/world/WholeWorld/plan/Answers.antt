@@ -10,12 +10,12 @@ use Rattle.std.specs.List.{range_with_len}
 use Rattle.lwc_base.specs.Store.{plan}
 use Rattle.lwc_base.specs.declared.page.PageValue.TheVariants.{Zero}
 use Rattle.lwc_base.proofs.Storing.{plan_more}
-use Rattle.whole_world.specs.Seen.{seen}
+use Rattle.whole_world.specs.Worlds.{seen}
 use Rattle.whole_world.proofs.world.WholeWorld.plan.Goals as goal
 
 pub loop-p-init : goal.loop-p-init
 loop-p-init c = record {
-  planned = ap (λ vs. vs ++ plan (seen c.args.self.now) c.args.c c.args.job (record { at = c.args.at; bytes = c.args.piece.now }) c.counted-k.result.tags (range_with_len c.args.pages.first (c.args.pages.end - c.args.pages.first))) c.new-values.ensures.items;
+  planned = ap (λ vs. vs ++ plan (seen c.args.self.now) c.args.c c.args.job (record { at = c.args.at; bytes = c.args.piece.now }) c.counts_of-k.result.tags (range_with_len c.args.pages.first (c.args.pages.end - c.args.pages.first))) c.new-values.ensures.items;
   few = omega arith;
 }
 
@@ -55,4 +55,4 @@ returns c =
     sym (none_left (seen c.args.self.now) c.args.c c.args.job (record { at = c.args.at; bytes = c.args.piece.now }) c.loop-p.k c.loop-p.p c.args.pages.end c.loop-p.values.items c.loop-p-test.false)
     ∙ c.loop-p.invariant.planned
     ∙ ap (λ (n : Counters). plan (seen c.args.self.now) c.args.c c.args.job (record { at = c.args.at; bytes = c.args.piece.now }) n.tags (range_with_len c.args.pages.first (c.args.pages.end - c.args.pages.first)))
-    (sym c.counted-k.ensures)
+    (sym c.counts_of-k.ensures)

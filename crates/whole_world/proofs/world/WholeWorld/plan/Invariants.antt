@@ -1,7 +1,7 @@
 use Rattle.std.proofs.Common.{◌≡◌, ◌+◌, ◌-◌, ◌≤◌, ◌++◌}
 use Rattle.std.specs.List.{range_with_len}
 use Rattle.lwc_base.specs.Store.{plan}
-use Rattle.whole_world.specs.Seen.{seen}
+use Rattle.whole_world.specs.Worlds.{seen}
 use Rattle.whole_world.proofs.world.WholeWorld.plan.Given as goal
 
 abbrev pub invariant-loop-p : goal.invariant-loop-p

@@ -4,15 +4,15 @@ use Rattle.std.proofs.lemmas.List.{nil_from_length}
 use Rattle.lwc_base.specs.Store.{put_pages}
 use Rattle.lwc_base.specs.World.{is_live}
 use Rattle.lwc_base.proofs.Live.{values-put_at}
-use Rattle.whole_world.specs.Seen.{seen}
+use Rattle.whole_world.specs.Worlds.{seen}
 use Rattle.whole_world.proofs.world.WholeWorld.put_pages.Goals as goal
 
 pub loop-p-preserved : goal.loop-p-preserved
 loop-p-preserved c = record {
-  left = ap (λ w. put_pages w c.args.c c.next.new.self.rest.items) c.put_page.ensures
+  left = ap (λ w. put_pages w c.args.c c.next.new.self.rest.items) c.put.ensures
       ∙ ap (put_pages (seen c.loop-p.self) c.args.c) (sym c.in-Some.ensures.steps.0)
       ∙ c.loop-p.invariant.left;
-  live = ap (λ w. is_live w c.args.c) c.put_page.ensures
+  live = ap (λ w. is_live w c.args.c) c.put.ensures
       ∙ (values-put_at (seen c.loop-p.self) c.args.c (Page c.in-Some.p) (Some c.in-Some.value)).live c.args.c
       ∙ c.loop-p.invariant.live;
 }

@@ -1,7 +1,7 @@
 use Rattle.std.proofs.Common.{◌≡◌, IsTrue}
 use Rattle.lwc_base.specs.Store.{put_pages}
 use Rattle.lwc_base.specs.World.{is_live}
-use Rattle.whole_world.specs.Seen.{seen}
+use Rattle.whole_world.specs.Worlds.{seen}
 use Rattle.whole_world.proofs.world.WholeWorld.put_pages.Given as goal
 
 abbrev pub invariant-loop-p : goal.invariant-loop-p

@@ -2,15 +2,15 @@ use Rattle.std.proofs.Common.{◌≡◌, ◌∙◌, Some, None, refl, sym, ap, a
 use Rattle.lwc_base.specs.Memory.{load}
 use Rattle.lwc_base.proofs.Loading.{load-absent, load-present}
 use Rattle.lwc_base.proofs.Storing.{is_present-touched}
-use Rattle.whole_world.specs.Seen.{seen}
+use Rattle.whole_world.specs.Worlds.{seen}
 use Rattle.whole_world.proofs.Stores.{few_pages-seen}
 use Rattle.whole_world.proofs.world.WholeWorldWorld.bytes.Goals as goal
 
 pub touched_pages-pages-requires : goal.touched_pages-pages-requires
 touched_pages-pages-requires c = omega (arith, few_pages-seen c.args.self.now, c.requires.within)
 
-pub copy_to-requires-clause-short : goal.copy_to-requires-clause-short
-copy_to-requires-clause-short c = omega (arith, few_pages-seen c.args.self.now, c.requires.within)
+pub copy_to-requires-clause-within : goal.copy_to-requires-clause-within
+copy_to-requires-clause-within c = omega (arith, few_pages-seen c.args.self.now, c.requires.within)
 
 none_there : (c : goal.Then-not-are_present) → load (seen c.args.self.now) c.args.c c.args.at (length c.args.out.now) ≡ None
 none_there c = load-absent _ _ _ _ (is_present-touched _ _ _ _ _ _ c.touched_pages-pages.ensures.pages c.are_present.ensures ∙ c.if-not-are_present.true)

@@ -4,8 +4,8 @@ use Rattle.lwc_base.specs.Store.{store, parting_count, Absent, Full, Done, after
 use Rattle.lwc_base.specs.World.{World, Counters}
 use Rattle.lwc_base.proofs.Live.{values-put_pages}
 use Rattle.lwc_base.proofs.Storing.{store-absent, store-full, store-done, is_present-touched, parting_count-touched}
-use Rattle.whole_world.specs.Seen.{seen}
-use Rattle.whole_world.proofs.Stores.{after_store-counted, few_pages-seen}
+use Rattle.whole_world.specs.Worlds.{seen}
+use Rattle.whole_world.proofs.Stores.{after_store-counted, few_pages-seen, frames-seen}
 use Rattle.whole_world.proofs.world.WholeWorldWorld.store.Goals as goal
 
 pub touched_pages-pages-requires : goal.touched_pages-pages-requires
@@ -20,18 +20,18 @@ returns-then-not-are_present-clause-bad_address c = (λ _. is_absent c, λ _. re
 pub returns-then-not-are_present-clause-no_frame : goal.returns-then-not-are_present-clause-no_frame
 returns-then-not-are_present-clause-no_frame c = (λ same. cc, λ full. let absent = is_absent c in cc)
 
-is_full : (c : goal.Then-frames-used) → store (seen c.args.self.now) c.args.c c.args.job (record { at = c.args.at; bytes = c.args.piece.now }) ≡ Full
+is_full : (c : goal.Then-self-used) → store (seen c.args.self.now) c.args.c c.args.job (record { at = c.args.at; bytes = c.args.piece.now }) ≡ Full
 is_full c =
     let there = is_present-touched _ _ _ _ _ _ c.touched_pages-pages.ensures.pages c.are_present.ensures ∙ c.if-not-are_present.false in
     let parts : c.parting_count-parting.result ≡ parting_count (seen c.args.self.now) c.args.c (record { at = c.args.at; bytes = c.args.piece.now }) =
     parting_count-touched _ _ _ _ _ c.touched_pages-pages.ensures.pages c.parting_count-parting.ensures.parting in
-    store-full _ _ _ _ there (omega (arith, parts, c.frames.ensures, c.used.ensures, c.if-frames-used.true))
+    store-full _ _ _ _ there (omega (arith, parts, ap (λ (size : WorldSize). size.frames) (frames-seen c.args.self.now), c.used.ensures, c.if-self-used.true))
 
-pub returns-then-frames-used-clause-bad_address : goal.returns-then-frames-used-clause-bad_address
-returns-then-frames-used-clause-bad_address c = (λ same. cc, λ absent. let full = is_full c in cc)
+pub returns-then-self-used-clause-bad_address : goal.returns-then-self-used-clause-bad_address
+returns-then-self-used-clause-bad_address c = (λ same. cc, λ absent. let full = is_full c in cc)
 
-pub returns-then-frames-used-clause-no_frame : goal.returns-then-frames-used-clause-no_frame
-returns-then-frames-used-clause-no_frame c = (λ _. is_full c, λ _. refl)
+pub returns-then-self-used-clause-no_frame : goal.returns-then-self-used-clause-no_frame
+returns-then-self-used-clause-no_frame c = (λ _. is_full c, λ _. refl)
 
 pub count_tags-requires-clause-few : goal.count_tags-requires-clause-few
 count_tags-requires-clause-few c =
@@ -50,7 +50,7 @@ returns-in-Ok-clause-done c =
     let there = is_present-touched _ _ _ _ _ _ c.touched_pages-pages.ensures.pages c.are_present.ensures ∙ c.if-not-are_present.false in
     let parts : c.parting_count-parting.result ≡ parting_count (seen c.args.self.now) c.args.c (record { at = c.args.at; bytes = c.args.piece.now }) =
     parting_count-touched _ _ _ _ _ c.touched_pages-pages.ensures.pages c.parting_count-parting.ensures.parting in
-    store-done _ _ _ _ there (omega (arith, parts, c.frames.ensures, c.used.ensures, c.if-frames-used.false))
+    store-done _ _ _ _ there (omega (arith, parts, ap (λ (size : WorldSize). size.frames) (frames-seen c.args.self.now), c.used.ensures, c.if-self-used.false))
     ∙ ap Done (sym (after_store-counted _ _ _ _ _ _ _ _ _ c.touched_pages-pages.ensures.pages c.in-Ok.ensures c.put_pages.ensures parts c.count_tags.ensures))
 
 pub returns-in-Ok-clause-bad_address : goal.returns-in-Ok-clause-bad_address
@@ -65,7 +65,7 @@ would_be_done c =
     let there = is_present-touched _ _ _ _ _ _ c.touched_pages-pages.ensures.pages c.are_present.ensures ∙ c.if-not-are_present.false in
     let parts : c.parting_count-parting.result ≡ parting_count (seen c.args.self.now) c.args.c (record { at = c.args.at; bytes = c.args.piece.now }) =
     parting_count-touched _ _ _ _ _ c.touched_pages-pages.ensures.pages c.parting_count-parting.ensures.parting in
-    store-done _ _ _ _ there (omega (arith, parts, c.frames.ensures, c.used.ensures, c.if-frames-used.false))
+    store-done _ _ _ _ there (omega (arith, parts, ap (λ (size : WorldSize). size.frames) (frames-seen c.args.self.now), c.used.ensures, c.if-self-used.false))
 
 pub returns-in-Err-clause-bad_address : goal.returns-in-Err-clause-bad_address
 returns-in-Err-clause-bad_address c = (λ same. cc, λ absent. let done = would_be_done c in cc)

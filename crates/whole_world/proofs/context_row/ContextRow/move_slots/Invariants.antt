@@ -1,0 +1,14 @@
+use Rattle.std.proofs.Common.{◌≡◌}
+use Rattle.lwc_base.specs.declared.key.Kind.TheVariants as kind
+use Rattle.whole_world.specs.Rows.{context_of, group_of}
+use Rattle.whole_world.specs.Sharing.{gave, is_below, took}
+use Rattle.whole_world.specs.Sound.{IsWhole, IsWholeGroup}
+use Rattle.whole_world.proofs.context_row.ContextRow.move_slots.Given as goal
+
+abbrev pub invariant-loop-n : goal.invariant-loop-n
+invariant-loop-n l = record {
+  whole : IsWhole l.pages l.self;
+  whole_group : IsWholeGroup l.pages l.group;
+  context : context_of l.self ≡ gave (is_below kind.Slot l.n) l.name l.spec (context_of l.initial.self);
+  group : group_of l.group ≡ took (is_below kind.Slot l.n) l.spec (context_of l.initial.self) (group_of l.initial.group);
+}

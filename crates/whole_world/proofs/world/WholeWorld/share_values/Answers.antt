@@ -1,8 +1,0 @@
-use Rattle.std.proofs.Common.{◌∙◌, sym}
-use Rattle.lwc_base.proofs.Cloning.{share-alone}
-use Rattle.whole_world.specs.Seen.{seen}
-use Rattle.whole_world.proofs.world.WholeWorld.share_values.Goals as goal
-
-pub returns-else-moves_values-clause-shared : goal.returns-else-moves_values-clause-shared
-returns-else-moves_values-clause-shared c =
-    sym (share-alone (seen c.args.self.now) c.args.c c.args.job c.args.spec.now (sym c.moves_values.ensures ∙ c.if-moves_values.false))

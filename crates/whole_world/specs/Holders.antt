@@ -1,0 +1,91 @@
+-- Who has the value under a key, and how many ranges pages make by who has them.
+use Rattle.std.specs.Prelude.{ℕ, zero, suc, ◌&&◌, if◌then◌else◌, Bool, true, false, not, List, count_by, is_some, nat_le, nat_lt}
+use Rattle.std.specs.List.{range_with_len}
+use Rattle.std.specs.Ordering.{is_eq}
+use Rattle.lwc_base.specs.declared.cell.Cell.{Cell}
+use Rattle.lwc_base.specs.declared.cell.Cell.TheVariants as cell
+use Rattle.lwc_base.specs.declared.item.Item.{Item}
+use Rattle.lwc_base.specs.declared.item.Mode.{Mode}
+use Rattle.lwc_base.specs.declared.item.Mode.TheVariants.{Copy, Share, Unmap}
+use Rattle.lwc_base.specs.declared.key.Key.{Key}
+use Rattle.lwc_base.specs.declared.key.Key.TheVariants.{Page}
+use Rattle.lwc_base.specs.declared.name.Name.{Name}
+use Rattle.lwc_base.specs.Cells.{page_at}
+use Rattle.lwc_base.specs.Keys.{ValueOf, is_there}
+use Rattle.lwc_base.specs.Modes.{mode_or_copy}
+use Rattle.lwc_base.specs.Names.{name_cmp}
+use Rattle.lwc_base.specs.World.{World, context}
+use Rattle.whole_world.specs.declared.holder.Holder.{Holder}
+use Rattle.whole_world.specs.declared.holder.Holder.TheVariants.{Nobody, Own, Group, NewGroup}
+
+-- who has the value of a cell
+abbrev pub holder : {T : Type 0} → Cell T → Holder
+holder (cell.Own value) = Own
+holder (cell.Common g) = Group g
+
+-- who has the value of a key's cell; nobody has an absent page
+abbrev pub holder_of : (k : Key) → Cell (ValueOf k) → Holder
+holder_of k (cell.Own value) = if is_there k value then Own else Nobody
+holder_of k (cell.Common g) = Group g
+
+-- whether it is the context itself
+abbrev pub is_own : Holder → Bool
+is_own Own = true
+is_own h = false
+
+-- who has the value of a page of a context
+unfoldable pub page_holder : World → Name → ℕ → Holder
+page_holder w c p = holder_of (Page p) ((context w c).cell (Page p))
+
+-- who has it once a clone has moved the context's own values of mode share
+abbrev pub moved_holder : Mode → Holder → Holder
+moved_holder Share Own = NewGroup
+moved_holder mode h = h
+
+-- the holder of a page that is a context's own, if it is present
+abbrev pub own_if : Bool → Holder
+own_if present = if present then Own else Nobody
+
+-- who has a page's value in the context that a clone makes
+abbrev pub cloned_holder : Mode → Bool → Holder → Holder
+cloned_holder Copy present h = own_if present
+cloned_holder Share present h = moved_holder Share h
+cloned_holder Unmap present h = Nobody
+
+-- who has the value of a page of a context after it has been cloned
+unfoldable pub holder_after_clone : World → Name → List Item → ℕ → Holder
+holder_after_clone w c items p = moved_holder (mode_or_copy items (Page p)) (page_holder w c p)
+
+-- who has it in the clone
+unfoldable pub holder_in_clone : World → Name → List Item → ℕ → Holder
+holder_in_clone w c items p = cloned_holder (mode_or_copy items (Page p)) (is_some (page_at w c p)) (page_holder w c p)
+
+-- who has it once the pages of a range are present or absent
+unfoldable pub holder_after_map : World → Name → ℕ → ℕ → Bool → ℕ → Holder
+holder_after_map w c from to present p = if nat_le from p && nat_lt p to then own_if present else page_holder w c p
+
+-- whether two holders are the same
+abbrev pub same_holder : Holder → Holder → Bool
+same_holder Nobody Nobody = true
+same_holder Own Own = true
+same_holder NewGroup NewGroup = true
+same_holder (Group g) (Group h) = is_eq (name_cmp g h)
+same_holder _ _ = false
+
+-- whether a range begins at a page: somebody has it, and not the holder of the page before it
+abbrev pub begins_after : Holder → Holder → Bool
+begins_after before Nobody = false
+begins_after before here = not (same_holder before here)
+
+-- the holder of the page before a page; nobody has one before the first
+abbrev pub holder_before : (ℕ → Holder) → ℕ → Holder
+holder_before holders zero = Nobody
+holder_before holders (suc p) = holders p
+
+-- whether a range begins at a page, by its number
+abbrev pub begins_at : (ℕ → Holder) → ℕ → Bool
+begins_at holders p = begins_after (holder_before holders p) (holders p)
+
+-- the number of ranges of this number of pages
+unfoldable pub count_of_ranges : ℕ → (ℕ → Holder) → ℕ
+count_of_ranges pages holders = count_by (begins_at holders) (range_with_len 0 pages)

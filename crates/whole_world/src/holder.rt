@@ -1,0 +1,26 @@
+ghost use Rattle.std.specs.Prelude.{◌≡◌};
+ghost use Rattle.whole_world.specs.Holders.{is_own};
+
+use lwc_base::Name;
+
+/// Who has the value under a key.
+#[derive(Clone, Copy, Debug, PartialEq, Eq)]
+pub enum Holder {
+    /// Nobody: the page is absent.
+    Nobody,
+    /// The context itself.
+    Own,
+    /// A group, for all its contexts.
+    Group(Name),
+    /// The group that a clone would make.
+    NewGroup,
+}
+
+impl Holder {
+    /// Whether the context itself has it.
+    pub fn is_own(self) -> bool
+        ensures { result ≡ is_own self }
+    {
+        matches!(self, Holder::Own)
+    }
+}

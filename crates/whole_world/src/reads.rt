@@ -1,0 +1,190 @@
+ghost use Rattle.std.specs.Prelude.{◌≡◌, ◌+◌, ◌-◌, ◌<◌, ◌≤◌, ◌^◌, IfNone, IfSome, IsTrue, count_by, is_some, length, map, not};
+ghost use Rattle.std.specs.Option.{option_copied};
+ghost use Rattle.lwc_base.specs.declared.descriptor.TheConstants.{SLOTS};
+ghost use Rattle.lwc_base.specs.declared.key.Key.TheVariants.{Page, Slot, Cred};
+
+use crate::context_row::ContextRow;
+use crate::group_row::GroupRow;
+use crate::touched::Touched;
+use crate::world::WholeWorld;
+use lwc_base::{Cell, Descriptor, NOBODY, Name, PAGE_BYTES, PageValue, SLOTS};
+
+impl WholeWorld {
+    ghost use Rattle.std.specs.List.{list_all, range_with_len};
+    ghost use Rattle.lwc_base.specs.Cells.{page_at, slot_at, uid_at};
+    ghost use Rattle.lwc_base.specs.Memory.{byte_at};
+    ghost use Rattle.lwc_base.specs.Summaries.{is_empty};
+    ghost use Rattle.lwc_base.specs.World.{context, group, is_live, new_group};
+    ghost use Rattle.whole_world.specs.Rows.{context_of, group_of};
+    ghost use Rattle.whole_world.specs.Sound.{IsWhole, IsWholeGroup};
+    ghost use Rattle.whole_world.specs.Worlds.{seen};
+
+    /// The number of pages of each context.
+    #[tactic(auto, unfolding(crate::specs::Worlds::seen, crate::specs::States::world_of))]
+    pub(crate) fn page_count(&self) -> u16
+        ensures { result ≡ (seen self.now).size.pages }
+    {
+        self.size.pages as u16
+    }
+
+    /// The row of a live context.
+    pub(crate) fn row(&self, c: Name) -> &ContextRow
+        requires { IsTrue (is_live (seen self.now) c) }
+        ensures context { context (seen self.now) c ≡ context_of result.now }
+        ensures whole { IsWhole (seen self.now).size.pages result.now }
+    {
+        match self.contexts.get(c) {
+            Some(row) => row,
+            None => unreachable!(),
+        }
+    }
+
+    /// The row of a group, if it is live.
+    fn group(&self, g: Name) -> Option<&GroupRow>
+        ensures found { IfSome result (λ row. group (seen self.now) g ≡ group_of row.now) }
+        ensures whole { IfSome result (λ row. IsWholeGroup (seen self.now).size.pages row.now) }
+        ensures missed { IfNone result (group (seen self.now) g ≡ new_group) }
+    {
+        self.groups.get(g)
+    }
+
+    /// The value of a group's page.
+    fn group_page(&self, g: Name, p: u16) -> Option<&PageValue>
+        ensures { option_copied result ≡ (group (seen self.now) g).value (Page p) }
+    {
+        match self.group(g) {
+            Some(row) => row.page(p),
+            None => None,
+        }
+    }
+
+    /// The value of a group's slot.
+    fn group_slot(&self, g: Name, n: u8) -> Descriptor
+        requires { n < SLOTS }
+        ensures { result ≡ (group (seen self.now) g).value (Slot n) }
+    {
+        match self.group(g) {
+            Some(row) => row.slot(n),
+            None => Descriptor::Empty,
+        }
+    }
+
+    /// The credential of a group.
+    fn group_uid(&self, g: Name) -> u32
+        ensures { result ≡ (group (seen self.now) g).value Cred }
+    {
+        match self.group(g) {
+            Some(row) => row.uid(),
+            None => NOBODY,
+        }
+    }
+
+    /// What stands under a page of a context.
+    #[tactic(auto, unfolding(lwc_base::specs::Cells::value_at))]
+    pub(crate) fn page_value(&self, c: Name, p: u16) -> Option<&PageValue>
+        requires { IsTrue (is_live (seen self.now) c) }
+        ensures { option_copied result ≡ page_at (seen self.now) c p }
+    {
+        match self.row(c).page(p) {
+            Some(Cell::Own(value)) => value.as_ref(),
+            Some(Cell::Common(g)) => self.group_page(*g, p),
+            None => None,
+        }
+    }
+
+    /// What stands under a slot of a context.
+    #[tactic(auto, unfolding(lwc_base::specs::Cells::value_at))]
+    pub(crate) fn slot_value(&self, c: Name, n: u8) -> Descriptor
+        requires live { IsTrue (is_live (seen self.now) c) }
+        requires within { n < SLOTS }
+        ensures { result ≡ slot_at (seen self.now) c n }
+    {
+        match self.row(c).slot(n) {
+            Cell::Own(value) => *value,
+            Cell::Common(g) => self.group_slot(*g, n),
+        }
+    }
+
+    /// The credential of a context.
+    #[tactic(auto, unfolding(lwc_base::specs::Cells::value_at))]
+    pub(crate) fn uid_value(&self, c: Name) -> u32
+        requires { IsTrue (is_live (seen self.now) c) }
+        ensures { result ≡ uid_at (seen self.now) c }
+    {
+        match self.row(c).uid() {
+            Cell::Own(value) => *value,
+            Cell::Common(g) => self.group_uid(*g),
+        }
+    }
+
+    /// Whether a page is present.
+    pub(crate) fn is_present(&self, c: Name, p: u16) -> bool
+        requires { IsTrue (is_live (seen self.now) c) }
+        ensures { result ≡ is_some (page_at (seen self.now) c p) }
+    {
+        self.page_value(c, p).is_some()
+    }
+
+    /// Whether all of some pages are present.
+    pub(crate) fn are_present(&self, c: Name, pages: Touched) -> bool
+        requires { IsTrue (is_live (seen self.now) c) }
+        ensures { result ≡ list_all (λ p. is_some (page_at (seen self.now) c p)) (range_with_len pages.first (pages.end - pages.first)) }
+    {
+        (pages.first..pages.end).all(|p| self.is_present(c, p))
+    }
+
+    /// Whether a slot of a context is empty.
+    pub(crate) fn is_slot_empty(&self, c: Name, n: u8) -> bool
+        requires live { IsTrue (is_live (seen self.now) c) }
+        requires within { n < SLOTS }
+        ensures { result ≡ is_empty (slot_at (seen self.now) c n) }
+    {
+        matches!(self.slot_value(c, n), Descriptor::Empty)
+    }
+
+    /// The number of pages of a context that are present.
+    #[tactic(auto, using(crate::proofs::Places::count_of_range))]
+    pub(crate) fn present_count(&self, c: Name) -> usize
+        requires { IsTrue (is_live (seen self.now) c) }
+        ensures present { result ≡ count_by (λ p. is_some (page_at (seen self.now) c p)) (range_with_len 0 (seen self.now).size.pages) }
+        ensures few { result < 2 ^ 32 }
+    {
+        (0..self.page_count())
+            .filter(|p| self.is_present(c, *p))
+            .count()
+    }
+
+    /// The number of slots of a context that are not empty.
+    #[tactic(auto, using(crate::proofs::Places::count_of_range))]
+    pub(crate) fn filled_count(&self, c: Name) -> usize
+        requires { IsTrue (is_live (seen self.now) c) }
+        ensures filled { result ≡ count_by (λ n. not (is_empty (slot_at (seen self.now) c n))) (range_with_len 0 SLOTS) }
+        ensures few { result ≤ SLOTS }
+    {
+        (0..SLOTS).filter(|n| !self.is_slot_empty(c, *n)).count()
+    }
+
+    /// The byte at an address, 0 where its page is absent.
+    #[tactic(auto, unfolding(lwc_base::specs::Memory::byte_at), using(lwc_base::proofs::Zeros::zeros_at))]
+    fn byte(&self, c: Name, at: usize) -> u8
+        requires live { IsTrue (is_live (seen self.now) c) }
+        requires within { at < 2 ^ 28 }
+        ensures { result ≡ byte_at (seen self.now) c at }
+    {
+        match self.page_value(c, (at / PAGE_BYTES) as u16) {
+            Some(PageValue::Data(_, bytes)) => bytes.as_slice()[at % PAGE_BYTES],
+            _ => 0,
+        }
+    }
+
+    /// Copies the bytes from an address on.
+    pub(crate) fn copy_to(&self, c: Name, at: usize, out: &mut [u8])
+        requires live { IsTrue (is_live (seen self.now) c) }
+        requires within { at + length out.old ≤ 2 ^ 28 }
+        ensures { out.new ≡ map (byte_at (seen self.now) c) (range_with_len at (length out.old)) }
+    {
+        for (i, byte) in out.iter_mut().enumerate() {
+            *byte = self.byte(c, at + i);
+        }
+    }
+}

@@ -1,0 +1,109 @@
+ghost use Rattle.std.specs.Prelude.{◌≡◌, ◌<◌, ◌≤◌, ◌^◌, IsTrue, OnOk};
+ghost use Rattle.lwc_base.specs.declared.cell.Cell.TheVariants.{Own};
+ghost use Rattle.lwc_base.specs.declared.descriptor.TheConstants.{SLOTS};
+
+use crate::context_row::ContextRow;
+use crate::holder::Holder;
+use crate::key_value::KeyValue;
+use crate::world::WholeWorld;
+use lwc_base::{Name, OutOfMemory, PageValue, Range};
+
+impl WholeWorld {
+    ghost use Rattle.lwc_base.specs.Cells.{put_at, with_cell, with_value};
+    ghost use Rattle.lwc_base.specs.Fresh.{NamesOldGroups};
+    ghost use Rattle.lwc_base.specs.Mapping.{mapped_or_not};
+    ghost use Rattle.lwc_base.specs.Modes.{IsKey};
+    ghost use Rattle.lwc_base.specs.Store.{put_pages};
+    ghost use Rattle.lwc_base.specs.World.{add_context, change_context, change_group, is_live, next_context};
+    ghost use Rattle.whole_world.specs.KeyValues.{key_in, value_in};
+    ghost use Rattle.whole_world.specs.Rows.{context_of};
+    ghost use Rattle.whole_world.specs.Sound.{IsSlot, IsWhole};
+    ghost use Rattle.whole_world.specs.Worlds.{HasRoom, seen};
+    ghost use Rattle.world_face.specs.Calls.{HasPlace};
+
+    /// Puts a value of a context's own under a key.
+    fn put_own(&mut self, c: Name, value: KeyValue)
+        requires { IsKey (seen self.old).size.pages (key_in value) }
+        ensures { seen self.new ≡ change_context (seen self.old) c (with_cell (key_in value) (Own (value_in value))) }
+    {
+        match self.contexts.position(c) {
+            Some(i) => self.contexts.rows[i].1.put(value),
+            None => {}
+        }
+    }
+
+    /// Puts a value under a key of a group.
+    fn put_common(&mut self, g: Name, value: KeyValue)
+        requires { IsKey (seen self.old).size.pages (key_in value) }
+        ensures { seen self.new ≡ change_group (seen self.old) g (with_value (key_in value) (value_in value)) }
+    {
+        match self.groups.position(g) {
+            Some(i) => self.groups.rows[i].1.put(value),
+            None => {}
+        }
+    }
+
+    /// Puts another value under a key of a context: the holder of the old one gets it. An absent page has no holder.
+    pub(crate) fn put(&mut self, c: Name, value: KeyValue)
+        requires live { IsTrue (is_live (seen self.old) c) }
+        requires within { IsSlot (key_in value) }
+        ensures { seen self.new ≡ put_at (seen self.old) c (key_in value) (value_in value) }
+    {
+        match self.row(c).holder(value.key()) {
+            Holder::Own => self.put_own(c, value),
+            Holder::Group(g) => self.put_common(g, value),
+            Holder::Nobody | Holder::NewGroup => {}
+        }
+    }
+
+    /// Puts other values under pages of a context, one after another.
+    pub(crate) fn put_pages(&mut self, c: Name, values: Vec<(u16, PageValue)>)
+        requires { IsTrue (is_live (seen self.old) c) }
+        ensures { seen self.new ≡ put_pages (seen self.old) c values.items }
+    {
+        for (p, value) in values {
+            self.put(c, KeyValue::Page(p, Some(value)));
+        }
+    }
+
+    /// Makes each page of a range present, as zeros of the context's own, or absent.
+    pub(crate) fn set_pages(&mut self, c: Name, range: Range, present: bool)
+        requires order { range.from ≤ range.to }
+        requires pages { range.to ≤ (seen self.old).size.pages }
+        ensures { seen self.new ≡ mapped_or_not (seen self.old) c range.from range.to present }
+    {
+        match self.contexts.position(c) {
+            Some(i) => self.contexts.rows[i]
+                .1
+                .set_pages(range.from, range.to, present),
+            None => {}
+        }
+    }
+
+    /// Takes the memory for one more context and for one more group. The only error is out of memory.
+    pub(crate) fn reserve(&mut self) -> Result<(), OutOfMemory>
+        ensures world { seen self.new ≡ seen self.old }
+        ensures room { OnOk result (HasRoom self.new.contexts) }
+        ensures group_room { OnOk result (HasRoom self.new.groups) }
+    {
+        self.contexts.reserve()?;
+        self.groups.reserve()
+    }
+
+    /// A job makes its next context, which has this row, and answers its name. Memory for it has been taken.
+    pub(crate) fn add_context(&mut self, job: u32, row: ContextRow) -> Name
+        requires known { job < (seen self.old).size.jobs }
+        requires few { ((seen self.old).next job).contexts < 2 ^ 31 }
+        requires old_groups { NamesOldGroups (seen self.old).next (context_of row) }
+        requires whole { IsWhole (seen self.old).size.pages row }
+        requires place { HasPlace (seen self.old) }
+        requires room { HasRoom self.old.contexts }
+        ensures name { result ≡ next_context (seen self.old) job }
+        ensures world { seen self.new ≡ add_context (seen self.old) job (context_of row) }
+    {
+        let name = self.next_context(job);
+        self.count_context(job);
+        self.contexts.insert(name, row);
+        name
+    }
+}
