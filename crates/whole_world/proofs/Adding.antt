@@ -1,11 +1,16 @@
 -- A context that is added: its job counts it first, and then it is put in.
-use Rattle.std.proofs.Common.{◌≡◌, ℕ, ◌+◌, ◌<◌, arith, sym, ap, subst, ◌∙◌, Bool, true, false, cond, eqb}
+use Rattle.std.proofs.Common.{◌≡◌, ℕ, ◌+◌, ◌<◌, ◌≤◌, arith, sym, ap, subst, ◌∙◌, Bool, true, false, cond, eqb}
 use Rattle.std.specs.FinMap as fm
 use Rattle.std.proofs.lemmas.Bool.Decides.{nat_tests}
 use Rattle.lwc_base.specs.declared.name.Name.{Name}
-use Rattle.lwc_base.specs.Fresh.{IsFresh, NamesOldGroups}
+use Rattle.lwc_base.specs.Fresh.{IsFresh, named_groups}
+use Rattle.lwc_base.specs.declared.cell.Cell.{Cell}
+use Rattle.lwc_base.specs.declared.cell.Cell.TheVariants.{Own, Common}
+use Rattle.lwc_base.specs.declared.key.Key.{Key}
+use Rattle.lwc_base.specs.Holders.{InCell, InContext}
+use Rattle.lwc_base.specs.Keys.{ValueOf}
+use Rattle.whole_world.specs.Facts.{Facts}
 use Rattle.lwc_base.specs.World.{World, Context, Counters, change_counters, add_context, is_live, next_context}
-use Rattle.lwc_base.proofs.Fresh.{Rises, names_old-rises, next_context-new}
 
 eqb-itself : (n : ℕ) → eqb n n ≡ true
 eqb-itself n = grind (arith, nat_tests)
@@ -14,11 +19,16 @@ counts_at : (b : Bool) (n : Counters) → b ≡ true → n.contexts < (cond b (r
 counts_at true n e = omega arith
 counts_at false n e = cc
 
-rises_at : (b : Bool) (n : Counters) → Rises n (cond b (record n { contexts = n.contexts + 1 }) n)
-rises_at true n = record { contexts = omega arith; groups = omega arith }
-rises_at false n = record { contexts = omega arith; groups = omega arith }
+no_fewer : (b : Bool) (n : Counters) → n.groups ≤ (cond b (record n { contexts = n.contexts + 1 }) n).groups
+no_fewer true n = omega arith
+no_fewer false n = omega arith
 
-module _ (w counted : World) (job : ℕ) (is_counted : counted ≡ change_counters w job (λ n. record n { contexts = n.contexts + 1 })) where
+still_old : (next later : ℕ → Counters) (job : ℕ) (k : Key) (cell : Cell (ValueOf k)) → ((j : ℕ) → (next j).groups ≤ (later j).groups) →
+    InCell (named_groups next) job k cell → InCell (named_groups later) job k cell
+still_old next later job k (Own value) rises old = old
+still_old next later job k (Common g) rises old = omega (arith, old, rises g.job)
+
+module _ (facts : Facts) (w counted : World) (job : ℕ) (is_counted : counted ≡ change_counters w job (λ n. record n { contexts = n.contexts + 1 })) where
   -- no context is there that was not
   pub same_contexts : counted.contexts ≡ w.contexts
   unfolding change_counters
@@ -30,7 +40,7 @@ module _ (w counted : World) (job : ℕ) (is_counted : counted ≡ change_counte
 
   -- the next name is still new
   pub counted-dead : (c : Name) → IsFresh w → c ≡ next_context w job → is_live counted c ≡ false
-  counted-dead c fresh is = ap (λ m. fm.contains_key m c) same_contexts ∙ ap (is_live w) is ∙ next_context-new w job fresh
+  counted-dead c fresh is = ap (λ m. fm.contains_key m c) same_contexts ∙ ap (is_live w) is ∙ facts.fresh.next_context_is_new w job fresh
 
   next_is : (j : ℕ) → counted.next j ≡ cond (eqb j job) (record (w.next j) { contexts = (w.next j).contexts + 1 }) (w.next j)
   unfolding change_counters
@@ -43,8 +53,10 @@ module _ (w counted : World) (job : ℕ) (is_counted : counted ≡ change_counte
       (subst (λ (n : Counters). (w.next job).contexts < n.contexts) (sym (next_is job)) (counts_at (eqb job job) (w.next job) (eqb-itself job)))
 
   -- groups that were named are so still
-  pub counted-old : (x : Context) → NamesOldGroups w.next x → NamesOldGroups counted.next x
-  counted-old x old = names_old-rises w.next counted.next x (λ j. subst (Rises (w.next j)) (sym (next_is j)) (rises_at (eqb j job) (w.next j))) old
+  pub counted-old : (x : Context) → InContext (named_groups w.next) job x → InContext (named_groups counted.next) job x
+  counted-old x old k =
+      still_old w.next counted.next job k (x.cell k)
+      (λ j. subst (λ (n : Counters). (w.next j).groups ≤ n.groups) (sym (next_is j)) (no_fewer (eqb j job) (w.next j))) (old k)
 
 -- the world once it is put in
 pub add_context-counted : (w counted added : World) (job : ℕ) (c : Name) (x : Context) → c ≡ next_context w job →

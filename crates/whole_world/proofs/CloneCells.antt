@@ -13,19 +13,19 @@ use Rattle.lwc_base.specs.declared.regs.Regs.{Regs}
 use Rattle.lwc_base.specs.declared.key.Kind.TheVariants as kind
 use Rattle.lwc_base.specs.declared.key.TheConstants.{NOBODY}
 use Rattle.lwc_base.specs.Cells.{value_at, value_of, with_cell}
-use Rattle.lwc_base.specs.Fresh.{IsFresh, NamesOldGroups}
+use Rattle.lwc_base.specs.Fresh.{IsFresh, named_groups}
+use Rattle.lwc_base.specs.Holders.{InContext}
 use Rattle.lwc_base.specs.Keys.{ValueOf, nothing}
 use Rattle.lwc_base.specs.Modes.{IsSpec, kind_of, limit, mode_or_copy, number_of}
 use Rattle.lwc_base.specs.Sharing.{shared_cell, cloned_context, clone_context, cloned_cell, with_shared, share}
 use Rattle.lwc_base.specs.World.{World, Context, add_context, context, is_live, new_context, next_context, next_group}
-use Rattle.lwc_base.proofs.Cloning.{contexts-share, fresh-share, len_contexts-share, names_old-clone, next_context-share, size-share}
-use Rattle.lwc_base.proofs.Sharing.{value_at-share}
+use Rattle.whole_world.specs.Facts.{Facts}
 use Rattle.whole_world.specs.Sharing.{is_below, with_cells}
 use Rattle.whole_world.proofs.Moves.{with_cells-all, with_cells-next, with_cells-none}
 use Rattle.whole_world.proofs.SharedCells.{context-shared}
 use Rattle.whole_world.proofs.Unnamed.{copied_past}
 
-module _ (w : World) (c : Name) (job : ℕ) (items : List Item) (fresh : IsFresh w) (live : is_live w c ≡ true) (spec : IsSpec w.size.pages items) where
+module _ (facts : Facts) (w : World) (c : Name) (job : ℕ) (items : List Item) (fresh : IsFresh w) (live : is_live w c ≡ true) (spec : IsSpec w.size.pages items) where
   abbrev shared : World
   shared = share w c job items
 
@@ -37,12 +37,12 @@ module _ (w : World) (c : Name) (job : ℕ) (items : List Item) (fresh : IsFresh
   new = next_group w job
 
   pub key_copied : (k : Key) → mode_or_copy items k ≡ Copy → Own (value_at w c k) ≡ cloned_cell shared c k (mode_or_copy items k)
-  key_copied k is = sym (ap (cloned_cell shared c k) is ∙ ap Own (value_at-share w c job items fresh c k))
+  key_copied k is = sym (ap (cloned_cell shared c k) is ∙ ap Own (facts.same_values w c job items fresh c k))
 
   pub key_shared : (k : Key) → mode_or_copy items k ≡ Share → shared_cell new Share k ((context w c).cell k) ≡ cloned_cell shared c k (mode_or_copy items k)
   unfolding with_shared
   key_shared k is =
-      sym (ap (cloned_cell shared c k) is ∙ ap (λ (x : Context). x.cell k) (context-shared w c job items live spec)
+      sym (ap (cloned_cell shared c k) is ∙ ap (λ (x : Context). x.cell k) (context-shared facts w c job items live spec)
       ∙ ap (λ m. shared_cell new m k ((context w c).cell k)) is)
 
   pub key_unmapped : (k : Key) → mode_or_copy items k ≡ Unmap → Own (nothing k) ≡ cloned_cell shared c k (mode_or_copy items k)
@@ -70,24 +70,26 @@ module _ (w : World) (c : Name) (job : ℕ) (items : List Item) (fresh : IsFresh
         fresh_cell Cred = refl
 
 -- the world once the new context is added to the one in which what is under share has moved
-module _ (w shared : World) (c : Name) (job : ℕ) (items : List Item) (is_shared : shared ≡ share w c job items) where
+module _ (facts : Facts) (w shared : World) (c : Name) (job : ℕ) (items : List Item) (is_shared : shared ≡ share w c job items) where
   pub shared-contexts : (shared.next job).contexts ≡ (w.next job).contexts
-  shared-contexts = ap (λ (v : World). (v.next job).contexts) is_shared ∙ contexts-share w c job items job
+  shared-contexts = ap (λ (v : World). (v.next job).contexts) is_shared ∙ ap (λ (n : Name). n.k) (facts.changes.next_shared w c job job items)
 
   pub shared-name : next_context shared job ≡ next_context w job
-  shared-name = ap (λ v. next_context v job) is_shared ∙ next_context-share w c job items job
+  shared-name = ap (λ v. next_context v job) is_shared ∙ facts.changes.next_shared w c job job items
 
   pub shared-size : shared.size ≡ w.size
-  shared-size = ap (λ (v : World). v.size) is_shared ∙ size-share w c job items
+  shared-size = ap (λ (v : World). v.size) is_shared ∙ (facts.changes.shared w c job items).size
 
   pub shared-len : fm.len shared.contexts ≡ fm.len w.contexts
-  shared-len = ap (λ (v : World). fm.len v.contexts) is_shared ∙ len_contexts-share w c job items
+  shared-len = ap (λ (v : World). fm.len v.contexts) is_shared ∙ (facts.counts.same_contexts w (share w c job items) job (facts.changes.shared w c job items).live).1
 
-  pub shared-old_groups : (x : Context) (entry : Regs) → IsFresh w → x ≡ cloned_context (share w c job items) c items entry → NamesOldGroups shared.next x
-  shared-old_groups x entry fresh made =
-      subst (NamesOldGroups shared.next) (sym made)
-      (subst (λ (v : World). NamesOldGroups v.next (cloned_context (share w c job items) c items entry)) (sym is_shared)
-      (names_old-clone (share w c job items) c items entry (fresh-share w c job items fresh)))
+  pub shared-old_groups : (x : Context) (entry : Regs) → is_live w c ≡ true → IsFresh w → x ≡ cloned_context (share w c job items) c items entry →
+      InContext (named_groups shared.next) job x
+  shared-old_groups x entry live fresh made =
+      let still : is_live (share w c job items) c ≡ true = (facts.changes.shared w c job items).live c ∙ live in
+      subst (InContext (named_groups shared.next) job) (sym made)
+      (subst (λ (v : World). InContext (named_groups v.next) job (cloned_context (share w c job items) c items entry)) (sym is_shared)
+      (facts.fresh.clone_cells (share w c job items) c job items entry still (facts.fresh.shared w c job items live fresh)))
 
   pub shared-added : (added : World) (x : Context) (entry : Regs) → x ≡ cloned_context (share w c job items) c items entry → added ≡ add_context shared job x →
       added ≡ clone_context w c job items entry

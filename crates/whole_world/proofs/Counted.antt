@@ -1,6 +1,7 @@
 -- Tags that are counted holder by holder: what is counted so far, and what is left to count.
 use Rattle.std.proofs.Common.{◌≡◌, ℕ, ◌+◌, ◌≤◌, List, [], ◌++◌, length, ap, arith, append_assoc, length-append}
 use Rattle.lwc_base.specs.declared.name.Tag.{Tag}
+use Rattle.whole_world.specs.Facts.{Facts}
 use Rattle.whole_world.specs.Tags.{times, different}
 use Rattle.whole_world.proofs.TagLists.{times-append, times-le-length, times-nil, different-append_least, different-append_most}
 
@@ -17,9 +18,6 @@ pub record IsCountedNew (others all rest : List Tag) (count : ℕ) : Type 0 wher
 -- nothing is counted yet
 pub none_counted : (tag : Tag) (all : List Tag) → IsCounted tag all all 0
 none_counted tag all = record { sum = omega arith; few = omega arith }
-
-pub none_counted_new : (others all : List Tag) → IsCountedNew others all all 0
-none_counted_new others all = record { sum = omega arith; few = omega arith }
 
 -- the tags of one holder more are counted
 pub counted_more : (tag : Tag) (all front after : List Tag) (count more : ℕ) → IsCounted tag all (front ++ after) count → more ≡ times tag front →
@@ -40,8 +38,8 @@ counted_new_more others all front after count more before is = record {
 pub counted-le-length : (tag : Tag) (all rest : List Tag) (count : ℕ) → IsCounted tag all rest count → count ≤ length all
 counted-le-length tag all rest count counted = omega (arith, counted.sum, times-le-length tag all)
 
-pub counted_new-le-length : (others all rest : List Tag) (count : ℕ) → IsCountedNew others all rest count → count ≤ length all
-counted_new-le-length others all rest count counted = omega (arith, counted.sum, different-append_least rest others, different-append_most all others)
+pub counted_new-le-length : (facts : Facts) (others all rest : List Tag) (count : ℕ) → IsCountedNew others all rest count → count ≤ length all
+counted_new-le-length facts others all rest count counted = omega (arith, counted.sum, different-append_least facts rest others, different-append_most facts all others)
 
 -- the holder that is next has no more tags than all
 pub next-le-length : (all front after : List Tag) → length (front ++ after) ≤ length all → length front ≤ length all

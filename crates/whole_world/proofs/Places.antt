@@ -5,6 +5,8 @@ use Rattle.std.specs.List.{range_with_len}
 use Rattle.std.proofs.lemmas.List.FromFn.{length-range_with_len}
 use Rattle.std.proofs.lemmas.List.Sums.{count_by-le-length}
 use Rattle.std.proofs.Math.ListN.{set}
+use Rattle.lwc_base.specs.declared.page.TheConstants.{PAGE_BYTES}
+use Rattle.lwc_base.specs.Pages.{zero_bytes, zero_page}
 use Rattle.std.proofs.lemmas.Grind.{common_steps}
 use Rattle.std.proofs.lemmas.List.{get_or-set_same, get_or-set_other}
 
@@ -53,3 +55,13 @@ pub written_all : (f : ℕ → ℕ → ℕ) (old : List ℕ) (i : ℕ) (xs : Lis
     xs ≡ map (λ k. f k (get_or old k 0)) (range_with_len 0 (length old))
 written_all f old i xs written whole all =
     filled_from (λ k. f k (get_or old k 0)) 0 (length old) xs whole (λ k h. written.below k (omega arith) ∙ ap (λ n. f n (get_or old n 0)) (omega arith))
+
+zero_in_zeros : (count j : ℕ) → ◌≡◌ {A = ℕ} (get_or (replicate count 0) j 0) 0
+zero_in_zeros zero j = refl
+zero_in_zeros (suc count) zero = refl
+zero_in_zeros (suc count) (suc j) = zero_in_zeros count j
+
+-- each of them is 0
+pub zeros_at : (j : ℕ) → ◌≡◌ {A = ℕ} (get_or zero_page j 0) 0
+unfolding zero_page zero_bytes
+zeros_at j = zero_in_zeros PAGE_BYTES j

@@ -11,6 +11,7 @@ use Rattle.lwc_base.specs.Frames.{tag_of, own_value, tags_of_context, tags_of_gr
 use Rattle.whole_world.specs.declared.context_row.ContextRow.{ContextRow}
 use Rattle.whole_world.specs.declared.group_row.GroupRow.{GroupRow}
 use Rattle.whole_world.specs.declared.world.WholeWorld.{WholeWorld}
+use Rattle.whole_world.specs.Facts.{Facts}
 use Rattle.whole_world.specs.Rows.{cell_of, context_of, group_of, value_of}
 use Rattle.whole_world.specs.Sound.{IsWhole, IsWholeGroup}
 use Rattle.whole_world.specs.States.{world_of}
@@ -91,5 +92,5 @@ module _ (w : WholeWorld) where
   used-seen = refl
 
   -- which are no more than tags
-  pub few_used : used (seen w) ≤ 2 ^ 30
-  few_used = omega (arith, used-seen, different-le-length (tags (seen w)), ap length tags-seen, few_tags)
+  pub few_used : (facts : Facts) → used (seen w) ≤ 2 ^ 30
+  few_used facts = omega (arith, used-seen, different-le-length facts (tags (seen w)), ap length tags-seen, few_tags)

@@ -1,33 +1,47 @@
 -- The cells of a context once what is under share has moved out of it.
 use Rattle.std.proofs.Common.{◌≡◌, ℕ, ◌≤◌, ap, refl, sym, ◌∙◌, Bool, true, false, cond, List, ⊎_elim}
-use Rattle.std.proofs.lemmas.Bool.{cases_lt}
-use Rattle.lwc_base.specs.declared.cell.Cell.TheVariants.{Common}
+use Rattle.std.proofs.lemmas.Bool.{cases_lt, false≢true}
+use Rattle.lwc_base.specs.declared.cell.Cell.TheVariants.{Common, Own}
 use Rattle.lwc_base.specs.declared.item.Item.{Item}
 use Rattle.lwc_base.specs.declared.key.Key.{Key}
 use Rattle.lwc_base.specs.declared.name.Name.{Name}
+use Rattle.lwc_base.specs.declared.cell.Cell.{Cell}
+use Rattle.lwc_base.specs.declared.item.Mode.{Mode}
+use Rattle.lwc_base.specs.declared.item.Mode.TheVariants.{Copy, Share, Unmap}
+use Rattle.lwc_base.specs.Keys.{ValueOf, is_there}
 use Rattle.lwc_base.specs.Modes.{IsKey, IsSpec, kind_of, limit, mode_or_copy, number_of}
 use Rattle.lwc_base.specs.Sharing.{with_shared, is_moved, needs_group, share}
 use Rattle.lwc_base.specs.World.{World, Context, context, is_live, next_group}
-use Rattle.lwc_base.proofs.Clones.{nothing_moves}
-use Rattle.lwc_base.proofs.Cloning.{context-share-alone, context-share-moves}
+use Rattle.whole_world.specs.Facts.{Facts}
 use Rattle.whole_world.proofs.Unnamed.{copied_past}
 
-module _ (w : World) (c : Name) (job : ℕ) (items : List Item) (live : is_live w c ≡ true) (spec : IsSpec w.size.pages items) where
+module _ (facts : Facts) (w : World) (c : Name) (job : ℕ) (items : List Item) (live : is_live w c ≡ true) (spec : IsSpec w.size.pages items) where
   abbrev here : Context
   here = context w c
+
+  none_there : (b : Bool) → (b ≡ true → ⊥) → b ≡ false
+  none_there b = elim b as (λ b. (b ≡ true → ⊥) → b ≡ false) [ true ↦ λ no. absurd (no refl) | false ↦ λ no. refl ]
+
+  none_moves : needs_group w c items ≡ false → (k : Key) → IsKey w.size.pages k → (mode : Mode) (cell : Cell (ValueOf k)) → mode_or_copy items k ≡ mode → here.cell k ≡ cell →
+      is_moved mode k cell ≡ false
+  none_moves none k within Copy cell is cell_is = refl
+  none_moves none k within Unmap cell is cell_is = refl
+  none_moves none k within Share (Common g) is cell_is = refl
+  none_moves none k within Share (Own value) is cell_is =
+      none_there (is_there k value) (λ there. false≢true (sym none ∙ facts.needed w c items k value within is cell_is there))
 
   -- where no value moves, none moves under any key
   no_key_moves : needs_group w c items ≡ false → (k : Key) → is_moved (mode_or_copy items k) k (here.cell k) ≡ false
   no_key_moves none k =
-      ⊎_elim (λ (h : IsKey w.size.pages k). nothing_moves w c items none k h)
+      ⊎_elim (λ (h : IsKey w.size.pages k). none_moves none k h (mode_or_copy items k) (here.cell k) refl refl)
       (λ (h : limit w.size.pages (kind_of k) ≤ number_of k). ap (λ m. is_moved m k (here.cell k)) (copied_past w.size.pages k items spec h))
       (cases_lt (number_of k) (limit w.size.pages (kind_of k)))
 
   left_or_not : (b : Bool) → needs_group w c items ≡ b → context (share w c job items) c ≡ with_shared (next_group w job) items here
   unfolding with_shared
-  left_or_not true needs = context-share-moves w c job items live needs
+  left_or_not true needs = (facts.changes.shared w c job items).named needs live
   left_or_not false needs =
-      context-share-alone w c job items needs c
+      ap (λ v. context v c) ((facts.changes.shared w c job items).none needs)
       ∙ sym (λ i. record here { cell = λ k. cond (no_key_moves needs k i) (Common (next_group w job)) (here.cell k) })
 
   -- whether or not values move, the context is as if they had

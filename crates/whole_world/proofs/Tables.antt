@@ -15,13 +15,8 @@ use Rattle.std.proofs.lemmas.List.{length-map}
 use Rattle.std.proofs.lemmas.List.Elements.{All-cons, All-head, All-nil, All-tail}
 use Rattle.lwc_base.specs.declared.name.Name.{Name}
 use Rattle.lwc_base.specs.Names.{name_cmp}
-use Rattle.lwc_base.proofs.Orders.{name_cmp-total}
-use Rattle.lwc_base.proofs.Live.{same_name}
+use Rattle.whole_world.specs.Facts.{Facts}
 use Rattle.whole_world.specs.Tables.{entries_of, has_name, is_past, map_of}
-
--- two names tie whichever stands first
-tied_either_way : (a b : Name) → is_eq (name_cmp a b) ≡ is_eq (name_cmp b a)
-tied_either_way a b = (eq_by_cmp_equiv name_cmp-total).symm a b
 
 mapped_choice : {A B : Type 0} (f : A → B) (b : Bool) (x : A) (o : Option A) → option_map f (cond b (Some x) o) ≡ cond b (Some (f x)) (option_map f o)
 mapped_choice f true x o = refl
@@ -115,79 +110,6 @@ both_second true b p = p
 both_second false b p = absurd p
 
 module _ {A : Type 0} where
-  -- the row at a place that is found has what is found
-  pub found-at : (c : Name) (rows : List (Name × A)) (i : ℕ) (row : Name × A) → position (has_name c) rows ≡ Some i → row ≡ get_or rows i row →
-      fm.find name_cmp c rows ≡ Some row.1
-  found-at c rows i row found is =
-      let place : IsPlace (has_name c) rows i = place_found (has_name c) rows i found in
-      at rows i place.first place.within ∙ ap (λ (r : Name × A). Some r.1) (sym is)
-    where
-      at : (rows : List (Name × A)) (i : ℕ) → position_or_len (has_name c) rows ≡ i → i < length rows → fm.find name_cmp c rows ≡ Some (get_or rows i row).1
-      at [] i first within = absurd (omega arith)
-      at (e ∷ es) zero first within = ap (λ b. cond b (Some e.1) (fm.find name_cmp c es)) (tied_either_way c e.0 ∙ here (has_name c e) _ first)
-      at (e ∷ es) (suc i) first within =
-          ap (λ b. cond b (Some e.1) (fm.find name_cmp c es)) (tied_either_way c e.0 ∙ further (has_name c e) _ i first)
-          ∙ at es i (further_place (has_name c e) _ i first) (omega arith)
-
-  -- where no place is found nothing is
-  pub nothing-at : (c : Name) (rows : List (Name × A)) → position (has_name c) rows ≡ None → fm.find name_cmp c rows ≡ None
-  nothing-at c rows e = at rows (ltb-false _ _ (nothing_found (nat_lt (position_or_len (has_name c) rows) (length rows)) (position_or_len (has_name c) rows) e))
-    where
-      at : (rows : List (Name × A)) → length rows ≤ position_or_len (has_name c) rows → fm.find name_cmp c rows ≡ None
-      at [] past = refl
-      at (e ∷ es) past =
-          ap (λ b. cond b (Some e.1) (fm.find name_cmp c es)) (tied_either_way c e.0)
-          ∙ elim (has_name c e) as (λ b. suc (length es) ≤ cond (not b) (1 + position_or_len (has_name c) es) 0 → cond b (Some e.1) (fm.find name_cmp c es) ≡ None) [
-            | true ↦ λ h. absurd (omega (arith, h))
-            | false ↦ λ h. at es (omega (arith, h))
-          ] past
-
-  -- a row of a new name before the first row past it
-  pub put-insert : (c : Name) (new : A) (rows : List (Name × A)) (i : ℕ) → position_or_len (is_past c) rows ≡ i → fm.find name_cmp c rows ≡ None →
-      insert rows i (c, new) ≡ fm.put name_cmp c new rows
-  put-insert c new [] zero place none = refl
-  put-insert c new [] (suc i) place none = absurd (omega arith)
-  put-insert c new (e ∷ es) zero place none =
-      let before : name_cmp c e.0 ≡ Less = less_of (name_cmp c e.0) (here (is_past c e) _ place) in
-      ap (λ r. by_order r ((c, new) ∷ e ∷ es) ((e.0, new) ∷ es) (e ∷ fm.put name_cmp c new es)) (sym before)
-  put-insert c new (e ∷ es) (suc i) place none =
-      let behind : name_cmp c e.0 ≡ Greater =
-      greater_of (name_cmp c e.0) (further (is_past c e) _ i place) (not_first (is_eq (name_cmp c e.0)) e.1 (fm.find name_cmp c es) none) in
-      ap (λ l. e ∷ l) (put-insert c new es i (further_place (is_past c e) _ i place) (not_later (is_eq (name_cmp c e.0)) e.1 (fm.find name_cmp c es) none))
-      ∙ ap (λ r. by_order r ((c, new) ∷ e ∷ es) ((e.0, new) ∷ es) (e ∷ fm.put name_cmp c new es)) (sym behind)
-
-  below-at : (k : Name) (rows : List (Name × A)) (i : ℕ) (d : Name × A) → T (below_all name_cmp k rows) → i < length rows → name_cmp k (get_or rows i d).0 ≡ Less
-  below-at k [] i d below within = absurd (omega arith)
-  below-at k (e ∷ es) zero d below within = less_of _ (first_true _ _ below)
-  below-at k (e ∷ es) (suc i) d below within = below-at k es i d (both_second _ _ below) (omega arith)
-
-  name-at : (c : Name) (rows : List (Name × A)) (i : ℕ) (d : Name × A) → position_or_len (has_name c) rows ≡ i → i < length rows → (get_or rows i d).0 ≡ c
-  name-at c [] i d first within = absurd (omega arith)
-  name-at c (e ∷ es) zero d first within = same_name e.0 c (here (has_name c e) _ first)
-  name-at c (e ∷ es) (suc i) d first within = name-at c es i d (further_place (has_name c e) _ i first) (omega arith)
-
-  -- another value in the row of a name
-  set-put : (c : Name) (new : A) (rows : List (Name × A)) (i : ℕ) (d : Name × A) → T (fm.is_sorted name_cmp rows) → position_or_len (has_name c) rows ≡ i → i < length rows →
-      set rows i ((get_or rows i d).0, new) ≡ fm.put name_cmp c new rows
-  set-put c new [] i d sorted first within = absurd (omega arith)
-  set-put c new (e ∷ es) zero d sorted first within =
-      let tied : name_cmp c e.0 ≡ Equal = equal_of (name_cmp c e.0) (tied_either_way c e.0 ∙ here (has_name c e) _ first) in
-      ap (λ r. by_order r ((c, new) ∷ e ∷ es) ((e.0, new) ∷ es) (e ∷ fm.put name_cmp c new es)) (sym tied)
-  set-put c new (e ∷ es) (suc i) d sorted first within =
-      let later : position_or_len (has_name c) es ≡ i = further_place (has_name c e) _ i first in
-      let behind : name_cmp c e.0 ≡ Greater =
-      name_cmp-total.antisymm c e.0
-      ∙ ap ordering_reverse (ap (name_cmp e.0) (sym (name-at c es i d later (omega arith))) ∙ below-at e.0 es i d (both_first _ _ sorted) (omega arith)) in
-      ap (λ l. e ∷ l) (set-put c new es i d (both_second _ _ sorted) later (omega arith))
-      ∙ ap (λ r. by_order r ((c, new) ∷ e ∷ es) ((e.0, new) ∷ es) (e ∷ fm.put name_cmp c new es)) (sym behind)
-
-  -- the row at a place that is found gets another value
-  pub put-at : (c : Name) (new : A) (rows : List (Name × A)) (i : ℕ) (row : Name × A) → T (fm.is_sorted name_cmp rows) → position (has_name c) rows ≡ Some i →
-      row ≡ get_or rows i row → set rows i (row.0, new) ≡ fm.put name_cmp c new rows
-  put-at c new rows i row sorted found is =
-      let place : IsPlace (has_name c) rows i = place_found (has_name c) rows i found in
-      ap (λ (r : Name × A). set rows i (r.0, new)) is ∙ set-put c new rows i row sorted place.first place.within
-
   -- what holds of each value holds of the one that is found
   pub found-holds : (P : A → Type 0) (c : Name) (rows : List (Name × A)) (x : A) → All (λ row. P row.1) rows → fm.find name_cmp c rows ≡ Some x → P x
   found-holds P c [] x all found = cc
@@ -207,13 +129,6 @@ module _ {A : Type 0} where
         | Greater ↦ All-cons (λ row. P row.1) e (fm.put name_cmp c new es) (All-head (λ row. P row.1) e es all)
             (put-holds P c new es here (All-tail (λ row. P row.1) e es all))
       ]
-
-  -- rows stay in order
-  pub put-sorted : (c : Name) (new : A) (rows : List (Name × A)) → T (fm.is_sorted name_cmp rows) → T (fm.is_sorted name_cmp (fm.put name_cmp c new rows))
-  put-sorted c new rows sorted =
-      subst (λ es. T (fm.is_sorted name_cmp es))
-      (fm.entries-insert name_cmp-total (fm.from_sorted rows) c new ∙ ap (fm.put name_cmp c new) (fm.entries-from_sorted name_cmp rows sorted))
-      (fm.entries_sorted (fm.insert (fm.from_sorted rows) c new))
 
 module _ {A X : Type 0} (value : A → X) where
   find-entries : (c : Name) (rows : List (Name × A)) → fm.find name_cmp c (entries_of value rows) ≡ option_map value (fm.find name_cmp c rows)
@@ -261,10 +176,100 @@ module _ {A X : Type 0} (value : A → X) where
         names [] = refl
         names (e ∷ es) = ap (λ l. e.0 ∷ l) (names es)
 
+module _ (facts : Facts) where
+  -- names that tie are the same
+  pub same_name : (a b : Name) → is_eq (name_cmp a b) ≡ true → a ≡ b
+  same_name a b tied = facts.orders.one_name a b (equal_of (name_cmp a b) tied)
+
+  -- two names tie whichever stands first
+  tied_either_way : (a b : Name) → is_eq (name_cmp a b) ≡ is_eq (name_cmp b a)
+  tied_either_way a b = (eq_by_cmp_equiv facts.orders.names).symm a b
+
+  module _ {A : Type 0} where
+    -- the row at a place that is found has what is found
+    pub found-at : (c : Name) (rows : List (Name × A)) (i : ℕ) (row : Name × A) → position (has_name c) rows ≡ Some i → row ≡ get_or rows i row →
+        fm.find name_cmp c rows ≡ Some row.1
+    found-at c rows i row found is =
+        let place : IsPlace (has_name c) rows i = place_found (has_name c) rows i found in
+        at rows i place.first place.within ∙ ap (λ (r : Name × A). Some r.1) (sym is)
+      where
+        at : (rows : List (Name × A)) (i : ℕ) → position_or_len (has_name c) rows ≡ i → i < length rows → fm.find name_cmp c rows ≡ Some (get_or rows i row).1
+        at [] i first within = absurd (omega arith)
+        at (e ∷ es) zero first within = ap (λ b. cond b (Some e.1) (fm.find name_cmp c es)) (tied_either_way c e.0 ∙ here (has_name c e) _ first)
+        at (e ∷ es) (suc i) first within =
+            ap (λ b. cond b (Some e.1) (fm.find name_cmp c es)) (tied_either_way c e.0 ∙ further (has_name c e) _ i first)
+            ∙ at es i (further_place (has_name c e) _ i first) (omega arith)
+
+    -- where no place is found nothing is
+    pub nothing-at : (c : Name) (rows : List (Name × A)) → position (has_name c) rows ≡ None → fm.find name_cmp c rows ≡ None
+    nothing-at c rows e = at rows (ltb-false _ _ (nothing_found (nat_lt (position_or_len (has_name c) rows) (length rows)) (position_or_len (has_name c) rows) e))
+      where
+        at : (rows : List (Name × A)) → length rows ≤ position_or_len (has_name c) rows → fm.find name_cmp c rows ≡ None
+        at [] past = refl
+        at (e ∷ es) past =
+            ap (λ b. cond b (Some e.1) (fm.find name_cmp c es)) (tied_either_way c e.0)
+            ∙ elim (has_name c e) as (λ b. suc (length es) ≤ cond (not b) (1 + position_or_len (has_name c) es) 0 → cond b (Some e.1) (fm.find name_cmp c es) ≡ None) [
+              | true ↦ λ h. absurd (omega (arith, h))
+              | false ↦ λ h. at es (omega (arith, h))
+            ] past
+
+    -- a row of a new name before the first row past it
+    pub put-insert : (c : Name) (new : A) (rows : List (Name × A)) (i : ℕ) → position_or_len (is_past c) rows ≡ i → fm.find name_cmp c rows ≡ None →
+        insert rows i (c, new) ≡ fm.put name_cmp c new rows
+    put-insert c new [] zero place none = refl
+    put-insert c new [] (suc i) place none = absurd (omega arith)
+    put-insert c new (e ∷ es) zero place none =
+        let before : name_cmp c e.0 ≡ Less = less_of (name_cmp c e.0) (here (is_past c e) _ place) in
+        ap (λ r. by_order r ((c, new) ∷ e ∷ es) ((e.0, new) ∷ es) (e ∷ fm.put name_cmp c new es)) (sym before)
+    put-insert c new (e ∷ es) (suc i) place none =
+        let behind : name_cmp c e.0 ≡ Greater =
+        greater_of (name_cmp c e.0) (further (is_past c e) _ i place) (not_first (is_eq (name_cmp c e.0)) e.1 (fm.find name_cmp c es) none) in
+        ap (λ l. e ∷ l) (put-insert c new es i (further_place (is_past c e) _ i place) (not_later (is_eq (name_cmp c e.0)) e.1 (fm.find name_cmp c es) none))
+        ∙ ap (λ r. by_order r ((c, new) ∷ e ∷ es) ((e.0, new) ∷ es) (e ∷ fm.put name_cmp c new es)) (sym behind)
+
+    below-at : (k : Name) (rows : List (Name × A)) (i : ℕ) (d : Name × A) → T (below_all name_cmp k rows) → i < length rows → name_cmp k (get_or rows i d).0 ≡ Less
+    below-at k [] i d below within = absurd (omega arith)
+    below-at k (e ∷ es) zero d below within = less_of _ (first_true _ _ below)
+    below-at k (e ∷ es) (suc i) d below within = below-at k es i d (both_second _ _ below) (omega arith)
+
+    name-at : (c : Name) (rows : List (Name × A)) (i : ℕ) (d : Name × A) → position_or_len (has_name c) rows ≡ i → i < length rows → (get_or rows i d).0 ≡ c
+    name-at c [] i d first within = absurd (omega arith)
+    name-at c (e ∷ es) zero d first within = same_name e.0 c (here (has_name c e) _ first)
+    name-at c (e ∷ es) (suc i) d first within = name-at c es i d (further_place (has_name c e) _ i first) (omega arith)
+
+    -- another value in the row of a name
+    set-put : (c : Name) (new : A) (rows : List (Name × A)) (i : ℕ) (d : Name × A) → T (fm.is_sorted name_cmp rows) → position_or_len (has_name c) rows ≡ i → i < length rows →
+        set rows i ((get_or rows i d).0, new) ≡ fm.put name_cmp c new rows
+    set-put c new [] i d sorted first within = absurd (omega arith)
+    set-put c new (e ∷ es) zero d sorted first within =
+        let tied : name_cmp c e.0 ≡ Equal = equal_of (name_cmp c e.0) (tied_either_way c e.0 ∙ here (has_name c e) _ first) in
+        ap (λ r. by_order r ((c, new) ∷ e ∷ es) ((e.0, new) ∷ es) (e ∷ fm.put name_cmp c new es)) (sym tied)
+    set-put c new (e ∷ es) (suc i) d sorted first within =
+        let later : position_or_len (has_name c) es ≡ i = further_place (has_name c e) _ i first in
+        let behind : name_cmp c e.0 ≡ Greater =
+        facts.orders.names.antisymm c e.0
+        ∙ ap ordering_reverse (ap (name_cmp e.0) (sym (name-at c es i d later (omega arith))) ∙ below-at e.0 es i d (both_first _ _ sorted) (omega arith)) in
+        ap (λ l. e ∷ l) (set-put c new es i d (both_second _ _ sorted) later (omega arith))
+        ∙ ap (λ r. by_order r ((c, new) ∷ e ∷ es) ((e.0, new) ∷ es) (e ∷ fm.put name_cmp c new es)) (sym behind)
+
+    -- the row at a place that is found gets another value
+    pub put-at : (c : Name) (new : A) (rows : List (Name × A)) (i : ℕ) (row : Name × A) → T (fm.is_sorted name_cmp rows) → position (has_name c) rows ≡ Some i →
+        row ≡ get_or rows i row → set rows i (row.0, new) ≡ fm.put name_cmp c new rows
+    put-at c new rows i row sorted found is =
+        let place : IsPlace (has_name c) rows i = place_found (has_name c) rows i found in
+        ap (λ (r : Name × A). set rows i (r.0, new)) is ∙ set-put c new rows i row sorted place.first place.within
+
+    -- rows stay in order
+    pub put-sorted : (c : Name) (new : A) (rows : List (Name × A)) → T (fm.is_sorted name_cmp rows) → T (fm.is_sorted name_cmp (fm.put name_cmp c new rows))
+    put-sorted c new rows sorted =
+        subst (λ es. T (fm.is_sorted name_cmp es))
+        (fm.entries-insert facts.orders.names (fm.from_sorted rows) c new ∙ ap (fm.put name_cmp c new) (fm.entries-from_sorted name_cmp rows sorted))
+        (fm.entries_sorted (fm.insert (fm.from_sorted rows) c new))
+
   -- another value under a name
-  pub map-put : (c : Name) (new : A) (rows : List (Name × A)) → T (fm.is_sorted name_cmp rows) →
+  pub map-put : {A X : Type 0} (value : A → X) (c : Name) (new : A) (rows : List (Name × A)) → T (fm.is_sorted name_cmp rows) →
       map_of value (fm.put name_cmp c new rows) ≡ fm.insert (map_of value rows) c (value new)
-  map-put c new rows sorted =
+  map-put value c new rows sorted =
       fm.same_entries_map _ _
-      (map-entries (fm.put name_cmp c new rows) (put-sorted c new rows sorted) ∙ put-entries c new rows
-      ∙ ap (fm.put name_cmp c (value new)) (sym (map-entries rows sorted)) ∙ sym (fm.entries-insert name_cmp-total (map_of value rows) c (value new)))
+      (map-entries value (fm.put name_cmp c new rows) (put-sorted c new rows sorted) ∙ put-entries value c new rows
+      ∙ ap (fm.put name_cmp c (value new)) (sym (map-entries value rows sorted)) ∙ sym (fm.entries-insert facts.orders.names (map_of value rows) c (value new)))

@@ -1,3 +1,4 @@
+pub mod Facts
 pub mod Holders
 pub mod KeyValues
 pub mod Rows

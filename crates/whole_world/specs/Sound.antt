@@ -1,14 +1,20 @@
 -- What a world of whole copies keeps true of itself.
 use Rattle.std.specs.Prelude.{◌≡◌, ℕ, ◌+◌, ◌<◌, ◌≤◌, ◌^◌, List, T, ⊤, length, vec_len, All}
+use Rattle.std.specs.Coded.{Unit-prop, le_prop}
 use Rattle.std.specs.FinMap as fm
+use Rattle.lwc_base.specs.declared.cell.Cell.{Cell}
+use Rattle.lwc_base.specs.declared.cell.Cell.TheVariants.{Common, Own}
 use Rattle.lwc_base.specs.declared.descriptor.TheConstants.{SLOTS}
 use Rattle.lwc_base.specs.declared.key.Key.{Key}
 use Rattle.lwc_base.specs.declared.key.Key.TheVariants.{Page, Slot, Cred}
 use Rattle.lwc_base.specs.declared.limits.TheConstants.{MOST_PAGES}
 use Rattle.lwc_base.specs.declared.name.Name.{Name}
 use Rattle.lwc_base.specs.declared.size.WorldSize.{WorldSize}
-use Rattle.lwc_base.specs.Fresh.{IsFresh}
+use Rattle.lwc_base.specs.Fresh.{IsFresh, named_groups}
+use Rattle.lwc_base.specs.Holders.{InCell}
+use Rattle.lwc_base.specs.Keys.{ValueOf}
 use Rattle.lwc_base.specs.Names.{name_cmp}
+use Rattle.lwc_base.specs.World.{Counters}
 use Rattle.whole_world.specs.declared.context_row.ContextRow.{ContextRow}
 use Rattle.whole_world.specs.declared.counts.Counts.{Counts}
 use Rattle.whole_world.specs.declared.group_row.GroupRow.{GroupRow}
@@ -70,3 +76,8 @@ pub record IsSound (size : WorldSize) (contexts : List (Name × ContextRow)) (gr
   pub contexts_whole : All (λ row. IsWhole size.pages row.1) contexts
   pub groups_whole : All (λ row. IsWholeGroup size.pages row.1) groups
   pub fresh : IsFresh (world_of size contexts groups counts)
+
+-- a cell keeps to the groups that have been named in at most one way
+pub named_cell-prop : (next : ℕ → Counters) (job : ℕ) (k : Key) (cell : Cell (ValueOf k)) → IsProp (InCell (named_groups next) job k cell)
+named_cell-prop next job k (Own value) = Unit-prop
+named_cell-prop next job k (Common g) = le_prop

@@ -7,6 +7,7 @@ ghost use Rattle.lwc_base.specs.Modes.{IsKey, IsSpec, mode_or_copy};
 ghost use Rattle.whole_world.specs.KeyValues.{key_in, value_in};
 
 use crate::context_row::ContextRow;
+use crate::facts::facts;
 use crate::holder::Holder;
 use crate::key_value::KeyValue;
 use crate::world::WholeWorld;
@@ -49,6 +50,7 @@ impl WholeWorld {
         ensures whole { IfOk result (IsWhole (seen self.now).size.pages) }
         ensures context { IfOk result (λ row. context_of row ≡ cloned_context (share (seen self.now) c job spec.now) c spec.now entry.now) }
     {
+        facts();
         let mut row = ContextRow::new(self.alloc, self.page_count(), NOBODY, entry)?;
         self.clone_pages(c, spec, job, &mut row)?;
         self.clone_slots(c, spec, job, &mut row)?;
@@ -119,6 +121,7 @@ impl WholeWorld {
         ensures context { OnOk result (context_of row.new ≡ with_cell key
             (cloned_cell (share (seen self.now) c job spec.now) c key (mode_or_copy spec.now key)) (context_of row.old)) }
     {
+        facts();
         match mode_or_copy(spec, key) {
             Mode::Copy => row.put(self.copied_value(c, key)?),
             Mode::Share => match self.row(c).holder(key) {

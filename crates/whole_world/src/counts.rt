@@ -1,5 +1,6 @@
 ghost use Rattle.std.specs.Prelude.{◌≡◌, ◌+◌, ◌<◌, ◌^◌};
 
+use crate::facts::facts;
 use crate::world::WholeWorld;
 use lwc_base::Name;
 
@@ -13,7 +14,7 @@ pub struct Counts {
 
 impl WholeWorld {
     ghost use Rattle.lwc_base.specs.World.{change_counters, next_context, next_group};
-    ghost use Rattle.lwc_base.proofs.Fresh.{Rises};
+    ghost use Rattle.lwc_base.specs.Fresh.{Rises};
     ghost use Rattle.whole_world.specs.Worlds.{HasRoom, seen};
     ghost use Rattle.whole_world.specs.States.{counters_of};
 
@@ -51,6 +52,7 @@ impl WholeWorld {
         ensures room { HasRoom self.old.contexts → HasRoom self.new.contexts }
         ensures group_room { HasRoom self.old.groups → HasRoom self.new.groups }
     {
+        facts();
         self.counts[job as usize] = counts;
     }
 

@@ -4,6 +4,7 @@
 mod cloning;
 mod context_row;
 mod counts;
+mod facts;
 mod group_row;
 mod holder;
 mod key_value;

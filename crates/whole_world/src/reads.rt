@@ -165,7 +165,7 @@ impl WholeWorld {
     }
 
     /// The byte at an address, 0 where its page is absent.
-    #[tactic(auto, unfolding(lwc_base::specs::Memory::byte_at), using(lwc_base::proofs::Zeros::zeros_at))]
+    #[tactic(auto, unfolding(lwc_base::specs::Memory::byte_at), using(crate::proofs::Places::zeros_at))]
     fn byte(&self, c: Name, at: usize) -> u8
         requires live { IsTrue (is_live (seen self.now) c) }
         requires within { at < 2 ^ 28 }

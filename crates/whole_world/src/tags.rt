@@ -6,6 +6,7 @@ ghost use Rattle.lwc_base.specs.Frames.{own_value, tag_of};
 ghost use Rattle.whole_world.specs.Tags.{context_tags, different, group_tags, has_tag, is_new, page_tags, row_tags, rows_count, rows_tags, times};
 
 use crate::context_row::ContextRow;
+use crate::facts::facts;
 use crate::group_row::GroupRow;
 use crate::world::WholeWorld;
 use lwc_base::{Cell, Name, PageValue, Tag};
@@ -79,6 +80,7 @@ fn count_new_tags<P: Page>(pages: &[P], later: Rows) -> usize
     requires { length (page_tags P.value pages.now) < 2 ^ 32 }
     ensures { result + different (rows_tags later.entry) ≡ different (page_tags P.value pages.now ++ rows_tags later.entry) }
 {
+    facts();
     let mut count = 0;
     let mut rest = pages;
     while let Some((first, after)) = rest.split_first() {
@@ -195,6 +197,7 @@ impl<'a> Rows<'a> {
         requires { length (rows_tags self) < 2 ^ 32 }
         ensures { result ≡ different (rows_tags self.entry) }
     {
+        facts();
         let mut count = 0;
         let mut rest = self;
         while let Some((row, others)) = rest.split_first() {
@@ -228,6 +231,7 @@ impl WholeWorld {
         ensures used { result ≡ used (seen self.now) }
         ensures few { result ≤ 2 ^ 30 }
     {
+        facts();
         self.rows().count_different()
     }
 

@@ -4,6 +4,7 @@ ghost use Rattle.whole_world.specs.Worlds.{seen};
 ghost use Rattle.world_face.specs.Calls.{HasGroupPlace, HasPlace};
 
 use crate::WholeWorld;
+use crate::facts::facts;
 use lwc_base::{
     Descriptor, Item, Kind, Mode, Name, OutOfMemory, Range, Regs, Spec, StoreFault, Summary,
     WorldSize,
@@ -12,18 +13,18 @@ use std::alloc::Global;
 use std::test::Fail;
 use world_face::World;
 
-// A world of four pages, of which the context's first two are mapped.
+/// A world of four pages, of which the context's first two are mapped.
 fn begun(alloc: Global, frames: u32) -> Result<(WholeWorld, Name), OutOfMemory>
     requires some { 1 ≤ frames }
     requires few { frames ≤ 65536 }
     ensures live { IfOk result (λ r. IsTrue (is_live (seen r.0) r.1)) }
-    ensures size { IfOk result (λ r. (seen r.0).size ≡ record { frames = frames; contexts = 2; groups = 1; jobs = 2; pages = 4 }) }
+    ensures size { IfOk result (λ r.
+        (seen r.0).size ≡ record { frames = frames; contexts = 2; groups = 1; jobs = 2; pages = 4 }) }
     ensures place { IfOk result (λ r. HasPlace (seen r.0)) }
     ensures group_place { IfOk result (λ r. HasGroupPlace (seen r.0)) }
-    ensures contexts { IfOk result (λ r. (job : ℕ) → ((seen r.0).next job).contexts ≤ 1) }
-    ensures groups { IfOk result (λ r. (job : ℕ) → ((seen r.0).next job).groups ≡ 0) }
-    ensures tags { IfOk result (λ r. (job : ℕ) → ((seen r.0).next job).tags ≡ 0) }
+    ensures next { IfOk result (λ r. (seen r.0).next 1 ≡ record { contexts = 0; groups = 0; tags = 0 }) }
 {
+    facts();
     let mut world = WholeWorld::open(
         alloc,
         &WorldSize {
@@ -41,6 +42,7 @@ fn begun(alloc: Global, frames: u32) -> Result<(WholeWorld, Name), OutOfMemory>
 
 #[test]
 fn a_store_over_a_border_parts_both_pages(rt: HostRuntime) -> Result<(), Fail> {
+    facts();
     let (mut world, c) = begun(rt.alloc(), 2)?;
     assert_eq!(rt; world.used(), 0);
     world.store(c, 4092, &[1, 2, 3, 4, 5, 6, 7, 8], 1)?;
@@ -96,6 +98,7 @@ fn a_context_shows_what_it_has(rt: HostRuntime) -> Result<(), Fail> {
 
 #[test]
 fn a_filled_slot_is_not_empty(rt: HostRuntime) -> Result<(), Fail> {
+    facts();
     let (mut world, c) = begun(rt.alloc(), 2)?;
     assert_eq!(rt; world.lowest_empty(c), Some(0));
     world.set_slot(c, 0, Descriptor::Console);
@@ -105,6 +108,7 @@ fn a_filled_slot_is_not_empty(rt: HostRuntime) -> Result<(), Fail> {
 
 #[test]
 fn an_unmapped_page_is_not_loaded(rt: HostRuntime) -> Result<(), Fail> {
+    facts();
     let (mut world, c) = begun(rt.alloc(), 2)?;
     world.unmap(c, Range { from: 0, to: 1 })?;
     let mut out = [9; 2];
@@ -134,6 +138,7 @@ fn a_clone_that_shares_a_page_makes_a_group(rt: HostRuntime) -> Result<(), Fail>
 
 #[test]
 fn a_credential_is_changed(rt: HostRuntime) -> Result<(), Fail> {
+    facts();
     let (mut world, c) = begun(rt.alloc(), 2)?;
     world.set_uid(c, 9);
     assert_eq!(rt; world.uid(c), 9);

@@ -1,9 +1,11 @@
 ghost use Rattle.std.specs.Prelude.{◌≡◌, IfOk, replicate, vec_len};
-ghost use Rattle.whole_world.specs.Sound.{IsSound};
+ghost use Rattle.std.proofs.Props.{props};
+ghost use Rattle.whole_world.specs.Sound.{IsSound, named_cell-prop};
 ghost use Rattle.whole_world.specs.States.{nothing_counted};
 
 use crate::context_row::ContextRow;
 use crate::counts::Counts;
+use crate::facts::facts;
 use crate::group_row::GroupRow;
 use crate::key_value::KeyValue;
 use crate::table::Table;
@@ -22,7 +24,7 @@ pub struct WholeWorld {
     pub(crate) contexts: Table<ContextRow>,
     pub(crate) groups: Table<GroupRow>,
     pub(crate) counts: Vec<Counts>,
-    ghost sound: { IsSound size contexts.rows.items groups.rows.items counts.items },
+    ghost sound: { IsSound size contexts.rows.items groups.rows.items counts.items } by { Prim.hlevel (props, named_cell-prop) },
 }
 
 impl World for WholeWorld {
@@ -34,6 +36,7 @@ impl World for WholeWorld {
     ghost roomy = { false };
 
     fn open(alloc: Global, world_size: &WorldSize) -> Result<WholeWorld, OutOfMemory> {
+        facts();
         Ok(WholeWorld {
             alloc,
             size: *world_size,
@@ -73,6 +76,7 @@ impl World for WholeWorld {
     }
 
     fn store(&mut self, c: Name, at: u32, piece: &[u8], job: u32) -> Result<(), StoreFault> {
+        facts();
         let pages = touched_pages(at as usize, piece.len());
         if !self.are_present(c, pages) {
             return Err(StoreFault::BadAddress);
@@ -124,6 +128,7 @@ impl World for WholeWorld {
         job: u32,
         entry: &Regs,
     ) -> Result<Name, OutOfMemory> {
+        facts();
         let row = self.cloned_row(c, spec, job, entry)?;
         self.reserve()?;
         self.share(c, spec, job)?;

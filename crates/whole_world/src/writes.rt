@@ -1,20 +1,23 @@
 ghost use Rattle.std.specs.Prelude.{◌≡◌, ◌<◌, ◌≤◌, ◌^◌, IsTrue, OnOk};
-ghost use Rattle.lwc_base.specs.declared.cell.Cell.TheVariants.{Own};
 ghost use Rattle.lwc_base.specs.declared.descriptor.TheConstants.{SLOTS};
 
 use crate::context_row::ContextRow;
+use crate::facts::facts;
 use crate::holder::Holder;
 use crate::key_value::KeyValue;
 use crate::world::WholeWorld;
 use lwc_base::{Name, OutOfMemory, PageValue, Range};
 
 impl WholeWorld {
-    ghost use Rattle.lwc_base.specs.Cells.{put_at, with_cell, with_value};
-    ghost use Rattle.lwc_base.specs.Fresh.{NamesOldGroups};
+    ghost use Rattle.lwc_base.specs.Cells.{put_at, with_value};
+    ghost use Rattle.lwc_base.specs.Fresh.{named_groups};
+    ghost use Rattle.lwc_base.specs.Holders.{InContext};
+    ghost use Rattle.whole_world.specs.Holders.{holder_of};
+    ghost use Rattle.whole_world.specs.declared.holder.Holder.TheVariants as spec;
     ghost use Rattle.lwc_base.specs.Mapping.{mapped_or_not};
     ghost use Rattle.lwc_base.specs.Modes.{IsKey};
     ghost use Rattle.lwc_base.specs.Store.{put_pages};
-    ghost use Rattle.lwc_base.specs.World.{add_context, change_context, change_group, is_live, next_context};
+    ghost use Rattle.lwc_base.specs.World.{add_context, change_group, context, is_live, next_context};
     ghost use Rattle.whole_world.specs.KeyValues.{key_in, value_in};
     ghost use Rattle.whole_world.specs.Rows.{context_of};
     ghost use Rattle.whole_world.specs.Sound.{IsSlot, IsWhole};
@@ -23,9 +26,11 @@ impl WholeWorld {
 
     /// Puts a value of a context's own under a key.
     fn put_own(&mut self, c: Name, value: KeyValue)
-        requires { IsKey (seen self.old).size.pages (key_in value) }
-        ensures { seen self.new ≡ change_context (seen self.old) c (with_cell (key_in value) (Own (value_in value))) }
+        requires within { IsKey (seen self.old).size.pages (key_in value) }
+        requires own { holder_of (key_in value) ((context (seen self.old) c).cell (key_in value)) ≡ spec.Own }
+        ensures { seen self.new ≡ put_at (seen self.old) c (key_in value) (value_in value) }
     {
+        facts();
         match self.contexts.position(c) {
             Some(i) => self.contexts.rows[i].1.put(value),
             None => {}
@@ -37,6 +42,7 @@ impl WholeWorld {
         requires { IsKey (seen self.old).size.pages (key_in value) }
         ensures { seen self.new ≡ change_group (seen self.old) g (with_value (key_in value) (value_in value)) }
     {
+        facts();
         match self.groups.position(g) {
             Some(i) => self.groups.rows[i].1.put(value),
             None => {}
@@ -61,6 +67,7 @@ impl WholeWorld {
         requires { IsTrue (is_live (seen self.old) c) }
         ensures { seen self.new ≡ put_pages (seen self.old) c values.items }
     {
+        facts();
         for (p, value) in values {
             self.put(c, KeyValue::Page(p, Some(value)));
         }
@@ -72,6 +79,7 @@ impl WholeWorld {
         requires pages { range.to ≤ (seen self.old).size.pages }
         ensures { seen self.new ≡ mapped_or_not (seen self.old) c range.from range.to present }
     {
+        facts();
         match self.contexts.position(c) {
             Some(i) => self.contexts.rows[i]
                 .1
@@ -94,13 +102,14 @@ impl WholeWorld {
     pub(crate) fn add_context(&mut self, job: u32, row: ContextRow) -> Name
         requires known { job < (seen self.old).size.jobs }
         requires few { ((seen self.old).next job).contexts < 2 ^ 31 }
-        requires old_groups { NamesOldGroups (seen self.old).next (context_of row) }
+        requires old_groups { InContext (named_groups (seen self.old).next) job (context_of row) }
         requires whole { IsWhole (seen self.old).size.pages row }
         requires place { HasPlace (seen self.old) }
         requires room { HasRoom self.old.contexts }
         ensures name { result ≡ next_context (seen self.old) job }
         ensures world { seen self.new ≡ add_context (seen self.old) job (context_of row) }
     {
+        facts();
         let name = self.next_context(job);
         self.count_context(job);
         self.contexts.insert(name, row);

@@ -16,11 +16,11 @@ counted g c =
     counted_new_more others (tags c.args.pages.now) first (tags c.in-Some.after.now) c.loop-first.count c.from-count.result
     (subst (λ rest. IsCountedNew others (tags c.args.pages.now) rest c.loop-first.count)
     (ap tags c.in-Some.ensures.cases.0 ∙ page_tags-cons g.P.Page.value c.in-Some.first.now c.in-Some.after.now) c.loop-first.invariant)
-    (different-new c.tag_of.result (tags c.in-Some.after.now ++ others) c.from-count.result c.is_new.result c.from-count.ensures c.is_new.ensures
+    (different-new c.facts.ensures c.tag_of.result (tags c.in-Some.after.now ++ others) c.from-count.result c.is_new.result c.from-count.ensures c.is_new.ensures
     ∙ ap (λ ts. different (ts ++ (tags c.in-Some.after.now ++ others))) own)
 
 pub overflow_add-count : goal.overflow_add-count
-overflow_add-count g c = omega (arith, counted_new-le-length _ _ _ _ (counted g c), c.requires)
+overflow_add-count g c = omega (arith, counted_new-le-length c.facts.ensures _ _ _ _ (counted g c), c.requires)
 
 pub loop-first-preserved : goal.loop-first-preserved
 loop-first-preserved g c = counted g c

@@ -4,9 +4,8 @@ use Rattle.lwc_base.specs.declared.size.WorldSize.{WorldSize}
 use Rattle.lwc_base.specs.Mapping.{map_pages}
 use Rattle.lwc_base.specs.Ranges.{ranges_of}
 use Rattle.lwc_base.specs.World.{World, Counters, empty_world}
-use Rattle.lwc_base.proofs.Live.{values-map_pages}
 use Rattle.whole_world.specs.Worlds.{seen}
-use Rattle.whole_world.proofs.BegunWorld.{counts-empty, few_ranges, none-empty, live-made, live-begun, no_group-begun, one-begun, size-empty, size-made, size-begun, tags-begun, groups-begun, contexts-begun}
+use Rattle.whole_world.proofs.BegunWorld.{counts-empty, few_ranges, live-begun, live-made, next-begun, no_group-begun, none-empty, one-begun, size-begun, size-empty, size-made}
 use Rattle.whole_world.proofs.tests.begun.Goals as goal
 
 pub first-requires-clause-place : goal.first-requires-clause-place
@@ -27,40 +26,34 @@ first-requires-clause-may c =
     }
 
 pub map-requires-clause-live : goal.map-requires-clause-live
-map-requires-clause-live c = live-made _ _ _ _ _ _ 0 2 c.in_ok-world.ensures.opened c.in_ok-c.ensures.made c.in_ok-c.ensures.name refl
+map-requires-clause-live c = live-made c.facts.ensures _ _ _ _ _ _ 0 2 c.in_ok-world.ensures.opened c.in_ok-c.ensures.made c.in_ok-c.ensures.name refl
 
 pub map-requires-clause-within : goal.map-requires-clause-within
 map-requires-clause-within c =
-    let many = ap (λ (s : WorldSize). s.pages) (size-made _ _ _ _ _ _ 0 2 c.in_ok-world.ensures.opened c.in_ok-c.ensures.made c.in_ok-c.ensures.name refl) in
+    let many = ap (λ (s : WorldSize). s.pages) (size-made c.facts.ensures _ _ _ _ _ _ 0 2 c.in_ok-world.ensures.opened c.in_ok-c.ensures.made c.in_ok-c.ensures.name refl) in
     omega (arith, many)
 
 pub map-requires-clause-few : goal.map-requires-clause-few
 map-requires-clause-few c =
     let few : ranges_of (map_pages (seen c.first.new.self) c.in_ok-c.c 0 2) c.in_ok-c.c ≤ (map_pages (seen c.first.new.self) c.in_ok-c.c 0 2).size.pages = few_ranges _ _ in
-    let many = ap (λ (s : WorldSize). s.pages) (size-made _ _ _ _ _ _ 0 2 c.in_ok-world.ensures.opened c.in_ok-c.ensures.made c.in_ok-c.ensures.name refl) in
-    omega (arith, few, many, ap (λ (s : WorldSize). s.pages) (values-map_pages (seen c.first.new.self) c.in_ok-c.c 0 2).size)
+    let many = ap (λ (s : WorldSize). s.pages) (size-made c.facts.ensures _ _ _ _ _ _ 0 2 c.in_ok-world.ensures.opened c.in_ok-c.ensures.made c.in_ok-c.ensures.name refl) in
+    omega (arith, few, many, ap (λ (s : WorldSize). s.pages) (c.facts.ensures.changes.mapped (seen c.first.new.self) c.in_ok-c.c 0 2).names.size)
 
 pub returns-clause-live : goal.returns-clause-live
-returns-clause-live c = live-begun _ _ _ _ _ _ 0 2 c.in_ok-world.ensures.opened c.in_ok-c.ensures.made c.in_ok-c.ensures.name c.in_ok-map.ensures.mapped
+returns-clause-live c = live-begun c.facts.ensures _ _ _ _ _ _ 0 2 c.in_ok-world.ensures.opened c.in_ok-c.ensures.made c.in_ok-c.ensures.name c.in_ok-map.ensures.mapped
 
 pub returns-clause-size : goal.returns-clause-size
-returns-clause-size c = (size-begun _ _ _ _ _ _ 0 2 c.in_ok-world.ensures.opened c.in_ok-c.ensures.made c.in_ok-c.ensures.name c.in_ok-map.ensures.mapped)
+returns-clause-size c = size-begun c.facts.ensures _ _ _ _ _ _ 0 2 c.in_ok-world.ensures.opened c.in_ok-c.ensures.made c.in_ok-c.ensures.name c.in_ok-map.ensures.mapped
 
-pub returns-clause-contexts : goal.returns-clause-contexts
-returns-clause-contexts c = contexts-begun _ _ _ _ _ _ 0 2 c.in_ok-world.ensures.opened c.in_ok-c.ensures.made c.in_ok-c.ensures.name c.in_ok-map.ensures.mapped
-
-pub returns-clause-groups : goal.returns-clause-groups
-returns-clause-groups c = groups-begun _ _ _ _ _ _ 0 2 c.in_ok-world.ensures.opened c.in_ok-c.ensures.made c.in_ok-c.ensures.name c.in_ok-map.ensures.mapped
-
-pub returns-clause-tags : goal.returns-clause-tags
-returns-clause-tags c = tags-begun _ _ _ _ _ _ 0 2 c.in_ok-world.ensures.opened c.in_ok-c.ensures.made c.in_ok-c.ensures.name c.in_ok-map.ensures.mapped
+pub returns-clause-next : goal.returns-clause-next
+returns-clause-next c = next-begun c.facts.ensures _ _ _ _ _ _ 0 2 c.in_ok-world.ensures.opened c.in_ok-c.ensures.made c.in_ok-c.ensures.name c.in_ok-map.ensures.mapped
 
 pub returns-clause-place : goal.returns-clause-place
 returns-clause-place c =
-    let one = one-begun _ _ _ _ _ _ 0 2 c.in_ok-world.ensures.opened c.in_ok-c.ensures.made c.in_ok-c.ensures.name c.in_ok-map.ensures.mapped in
-    omega (arith, one, ap (λ (s : WorldSize). s.contexts) (size-begun _ _ _ _ _ _ 0 2 c.in_ok-world.ensures.opened c.in_ok-c.ensures.made c.in_ok-c.ensures.name c.in_ok-map.ensures.mapped))
+    let one = one-begun c.facts.ensures _ _ _ _ _ _ 0 2 c.in_ok-world.ensures.opened c.in_ok-c.ensures.made c.in_ok-c.ensures.name c.in_ok-map.ensures.mapped in
+    omega (arith, one, ap (λ (s : WorldSize). s.contexts) (size-begun c.facts.ensures _ _ _ _ _ _ 0 2 c.in_ok-world.ensures.opened c.in_ok-c.ensures.made c.in_ok-c.ensures.name c.in_ok-map.ensures.mapped))
 
 pub returns-clause-group_place : goal.returns-clause-group_place
 returns-clause-group_place c =
-    let none = no_group-begun _ _ _ _ _ _ 0 2 c.in_ok-world.ensures.opened c.in_ok-c.ensures.made c.in_ok-c.ensures.name c.in_ok-map.ensures.mapped in
-    omega (arith, none, ap (λ (s : WorldSize). s.groups) (size-begun _ _ _ _ _ _ 0 2 c.in_ok-world.ensures.opened c.in_ok-c.ensures.made c.in_ok-c.ensures.name c.in_ok-map.ensures.mapped))
+    let none = no_group-begun c.facts.ensures _ _ _ _ _ _ 0 2 c.in_ok-world.ensures.opened c.in_ok-c.ensures.made c.in_ok-c.ensures.name c.in_ok-map.ensures.mapped in
+    omega (arith, none, ap (λ (s : WorldSize). s.groups) (size-begun c.facts.ensures _ _ _ _ _ _ 0 2 c.in_ok-world.ensures.opened c.in_ok-c.ensures.made c.in_ok-c.ensures.name c.in_ok-map.ensures.mapped))

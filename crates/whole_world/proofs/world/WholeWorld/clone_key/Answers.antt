@@ -19,7 +19,7 @@ returns-in_ok-copied_value-in-Copy-clause-context c =
     c.put.ensures.context
     ∙ put-cell (context_of c.args.row.now) c.in_ok-copied_value-in-Copy.field-0 c.args.key (λ k. cloned_cell (share (seen c.args.self.now) c.args.c c.args.job c.args.spec.now) c.args.c k (mode_or_copy c.args.spec.now k)) c.in_ok-copied_value-in-Copy.ensures.key
     (ap Own c.in_ok-copied_value-in-Copy.ensures.value
-    ∙ key_copied (seen c.args.self.now) c.args.c c.args.job c.args.spec.now (fresh-seen c.args.self.now) c.requires.live c.requires.within _
+    ∙ key_copied c.facts.ensures (seen c.args.self.now) c.args.c c.args.job c.args.spec.now (fresh-seen c.args.self.now) c.requires.live c.requires.within _
     (ap (mode_or_copy c.args.spec.now) c.in_ok-copied_value-in-Copy.ensures.key ∙ sym c.mode_or_copy.ensures ∙ c.in-Copy.is))
 
 pub returns-in-Own-clause-context : goal.returns-in-Own-clause-context
@@ -28,7 +28,7 @@ returns-in-Own-clause-context c =
     c.join.ensures.context
     ∙ ap (λ cell. with_cell c.args.key cell (context_of c.args.row.now))
     (ap Common c.next_group.ensures ∙ sym (shared-own c.args.key _ _ (is_here ∙ c.in-Own.is))
-    ∙ key_shared (seen c.args.self.now) c.args.c c.args.job c.args.spec.now (fresh-seen c.args.self.now) c.requires.live c.requires.within c.args.key (sym c.mode_or_copy.ensures ∙ c.in-Share.is))
+    ∙ key_shared c.facts.ensures (seen c.args.self.now) c.args.c c.args.job c.args.spec.now (fresh-seen c.args.self.now) c.requires.live c.requires.within c.args.key (sym c.mode_or_copy.ensures ∙ c.in-Share.is))
 
 pub returns-in-Group-clause-context : goal.returns-in-Group-clause-context
 returns-in-Group-clause-context c =
@@ -36,7 +36,7 @@ returns-in-Group-clause-context c =
     c.join-in-Group.ensures.context
     ∙ ap (λ cell. with_cell c.args.key cell (context_of c.args.row.now))
     (sym (shared-group c.args.key _ _ c.in-Group.g (is_here ∙ c.in-Group.is))
-    ∙ key_shared (seen c.args.self.now) c.args.c c.args.job c.args.spec.now (fresh-seen c.args.self.now) c.requires.live c.requires.within c.args.key (sym c.mode_or_copy.ensures ∙ c.in-Share.is))
+    ∙ key_shared c.facts.ensures (seen c.args.self.now) c.args.c c.args.job c.args.spec.now (fresh-seen c.args.self.now) c.requires.live c.requires.within c.args.key (sym c.mode_or_copy.ensures ∙ c.in-Share.is))
 
 pub returns-in-Nobody-clause-context : goal.returns-in-Nobody-clause-context
 returns-in-Nobody-clause-context c =
@@ -44,7 +44,7 @@ returns-in-Nobody-clause-context c =
     c.put-in-Nobody.ensures.context
     ∙ put-cell (context_of c.args.row.now) c.nothing.result c.args.key (λ k. cloned_cell (share (seen c.args.self.now) c.args.c c.args.job c.args.spec.now) c.args.c k (mode_or_copy c.args.spec.now k)) c.nothing.ensures.key
     (subst (λ k. (v : ValueOf k) → v ≡ nothing k → Own v ≡ cloned_cell (share (seen c.args.self.now) c.args.c c.args.job c.args.spec.now) c.args.c k (mode_or_copy c.args.spec.now k)) (sym c.nothing.ensures.key)
-    (λ v is. ap Own is ∙ sym (shared-nobody c.args.key _ _ (is-nobody c.args.key _ _ is_here c.in-Nobody.is)) ∙ key_shared (seen c.args.self.now) c.args.c c.args.job c.args.spec.now (fresh-seen c.args.self.now) c.requires.live c.requires.within c.args.key (sym c.mode_or_copy.ensures ∙ c.in-Share.is))
+    (λ v is. ap Own is ∙ sym (shared-nobody c.args.key _ _ (is-nobody c.args.key _ _ is_here c.in-Nobody.is)) ∙ key_shared c.facts.ensures (seen c.args.self.now) c.args.c c.args.job c.args.spec.now (fresh-seen c.args.self.now) c.requires.live c.requires.within c.args.key (sym c.mode_or_copy.ensures ∙ c.in-Share.is))
     (value_in c.nothing.result) c.nothing.ensures.value)
 
 pub returns-in-Unmap-clause-context : goal.returns-in-Unmap-clause-context
@@ -52,5 +52,5 @@ returns-in-Unmap-clause-context c =
     c.put-in-Unmap.ensures.context
     ∙ put-cell (context_of c.args.row.now) c.nothing-in-Unmap.result c.args.key (λ k. cloned_cell (share (seen c.args.self.now) c.args.c c.args.job c.args.spec.now) c.args.c k (mode_or_copy c.args.spec.now k)) c.nothing-in-Unmap.ensures.key
     (ap Own c.nothing-in-Unmap.ensures.value
-    ∙ key_unmapped (seen c.args.self.now) c.args.c c.args.job c.args.spec.now (fresh-seen c.args.self.now) c.requires.live c.requires.within _
+    ∙ key_unmapped c.facts.ensures (seen c.args.self.now) c.args.c c.args.job c.args.spec.now (fresh-seen c.args.self.now) c.requires.live c.requires.within _
     (ap (mode_or_copy c.args.spec.now) c.nothing-in-Unmap.ensures.key ∙ sym c.mode_or_copy.ensures ∙ c.in-Unmap.is))

@@ -9,7 +9,7 @@ use Rattle.std.specs.Prelude.{if◌then◌else◌, unwrap_or}
 use Rattle.std.specs.List.{range_with_len}
 use Rattle.lwc_base.specs.Store.{plan}
 use Rattle.lwc_base.specs.declared.page.PageValue.TheVariants.{Zero}
-use Rattle.lwc_base.proofs.Storing.{plan_more}
+use Rattle.whole_world.proofs.Stores.{plan_more}
 use Rattle.whole_world.specs.Worlds.{seen}
 use Rattle.whole_world.proofs.world.WholeWorld.plan.Goals as goal
 

@@ -5,26 +5,24 @@ use Rattle.whole_world.specs.Holders.{holder_of}
 use Rattle.whole_world.specs.KeyValues.{key_in, value_in}
 use Rattle.whole_world.specs.Rows.{context_of}
 use Rattle.whole_world.specs.Worlds.{seen}
-use Rattle.whole_world.proofs.Keyed.{is-nobody, put-group, put-nobody, put-own}
+use Rattle.whole_world.proofs.Keyed.{is-nobody, put-group, put-nobody}
 use Rattle.whole_world.proofs.Worlds.{held-key}
 use Rattle.whole_world.proofs.world.WholeWorld.put.Goals as goal
 
-pub put_own-requires : goal.put_own-requires
-put_own-requires c =
+pub put_own-requires-clause-within : goal.put_own-requires-clause-within
+put_own-requires-clause-within c =
     let is_row = subst (λ k. c.holder.result ≡ holder_of k ((context_of c.row.result.now).cell k)) c.key.ensures c.holder.ensures in
     held-key _ c.row.result.now (key_in c.args.value) c.row.ensures.whole c.requires.within (λ nobody. let h = is_row ∙ nobody in cc)
+
+pub put_own-requires-clause-own : goal.put_own-requires-clause-own
+put_own-requires-clause-own c =
+    let is_row = subst (λ k. c.holder.result ≡ holder_of k ((context_of c.row.result.now).cell k)) c.key.ensures c.holder.ensures in
+    ap (λ (x : Context). holder_of (key_in c.args.value) (x.cell (key_in c.args.value))) c.row.ensures.context ∙ sym is_row ∙ c.in-Own.is
 
 pub put_common-requires : goal.put_common-requires
 put_common-requires c =
     let is_row = subst (λ k. c.holder.result ≡ holder_of k ((context_of c.row.result.now).cell k)) c.key.ensures c.holder.ensures in
     held-key _ c.row.result.now (key_in c.args.value) c.row.ensures.whole c.requires.within (λ nobody. let h = is_row ∙ nobody in cc)
-
-pub returns-in-Own : goal.returns-in-Own
-unfolding put_at
-returns-in-Own c =
-    let is_row = subst (λ k. c.holder.result ≡ holder_of k ((context_of c.row.result.now).cell k)) c.key.ensures c.holder.ensures in
-    let is_here = ap (λ (x : Context). holder_of (key_in c.args.value) (x.cell (key_in c.args.value))) c.row.ensures.context ∙ sym is_row ∙ c.in-Own.is in
-    c.put_own.ensures ∙ sym (put-own (seen c.args.self.now) c.args.c (key_in c.args.value) (value_in c.args.value) _ is_here)
 
 pub returns-in-Group : goal.returns-in-Group
 unfolding put_at

@@ -3,7 +3,6 @@ use Rattle.lwc_base.specs.declared.key.Key.TheVariants.{Page}
 use Rattle.std.proofs.lemmas.List.{nil_from_length}
 use Rattle.lwc_base.specs.Store.{put_pages}
 use Rattle.lwc_base.specs.World.{is_live}
-use Rattle.lwc_base.proofs.Live.{values-put_at}
 use Rattle.whole_world.specs.Worlds.{seen}
 use Rattle.whole_world.proofs.world.WholeWorld.put_pages.Goals as goal
 
@@ -13,7 +12,7 @@ loop-p-preserved c = record {
       ∙ ap (put_pages (seen c.loop-p.self) c.args.c) (sym c.in-Some.ensures.steps.0)
       ∙ c.loop-p.invariant.left;
   live = ap (λ w. is_live w c.args.c) c.put.ensures
-      ∙ (values-put_at (seen c.loop-p.self) c.args.c (Page c.in-Some.p) (Some c.in-Some.value)).live c.args.c
+      ∙ (c.facts.ensures.changes.put (seen c.loop-p.self) c.args.c (Page c.in-Some.p) (Some c.in-Some.value)).live c.args.c
       ∙ c.loop-p.invariant.live;
 }
 

@@ -1,9 +1,7 @@
 use Rattle.std.proofs.Common.{◌≡◌, ◌∙◌, Some, None, refl, sym, ap, arith, length}
 use Rattle.lwc_base.specs.Memory.{load}
-use Rattle.lwc_base.proofs.Loading.{load-absent, load-present}
-use Rattle.lwc_base.proofs.Storing.{is_present-touched}
 use Rattle.whole_world.specs.Worlds.{seen}
-use Rattle.whole_world.proofs.Stores.{few_pages-seen}
+use Rattle.whole_world.proofs.Stores.{few_pages-seen, is_present-touched, load-absent, load-present}
 use Rattle.whole_world.proofs.world.WholeWorldWorld.bytes.Goals as goal
 
 pub touched_pages-pages-requires : goal.touched_pages-pages-requires
