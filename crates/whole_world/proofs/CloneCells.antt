@@ -20,7 +20,7 @@ use Rattle.lwc_base.specs.Modes.{IsSpec, kind_of, limit, mode_or_copy, number_of
 use Rattle.lwc_base.specs.Sharing.{shared_cell, cloned_context, clone_context, cloned_cell, with_shared, share}
 use Rattle.lwc_base.specs.World.{World, Context, add_context, context, is_live, new_context, next_context, next_group}
 use Rattle.whole_world.specs.Facts.{Facts}
-use Rattle.whole_world.specs.Sharing.{is_below, with_cells}
+use Rattle.whole_world.specs.Sharing.{clone_cells, is_below, with_cells}
 use Rattle.whole_world.proofs.Moves.{with_cells-all, with_cells-next, with_cells-none}
 use Rattle.whole_world.proofs.SharedCells.{context-shared}
 use Rattle.whole_world.proofs.Unnamed.{copied_past}
@@ -31,7 +31,7 @@ module _ (facts : Facts) (w : World) (c : Name) (job : ℕ) (items : List Item) 
 
   -- the cells of the new context
   abbrev cells : (k : Key) → Cell (ValueOf k)
-  cells k = cloned_cell shared c k (mode_or_copy items k)
+  cells = clone_cells w c job items
 
   abbrev new : Name
   new = next_group w job

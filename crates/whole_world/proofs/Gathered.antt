@@ -28,7 +28,7 @@ first_of_all P x xs all = all 0 x (omega arith)
 pub others_of_all : {X : Type 0} (P : X → Type 0) (x : X) (xs : List X) → All P (x ∷ xs) → All P xs
 others_of_all P x xs all = λ k d within. all (suc k) d (omega arith)
 
--- so many lists of so many elements each have no more than the product
+-- joined lists have at most as many elements as the product of the number of lists and the most of one
 pub length-flat_map-le : {X A : Type 0} (f : X → List A) (most : ℕ) (xs : List X) → All (λ x. length (f x) ≤ most) xs → length (flat_map f xs) ≤ length xs * most
 length-flat_map-le f most [] each = omega arith
 length-flat_map-le f most (x ∷ xs) each =

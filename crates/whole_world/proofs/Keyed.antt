@@ -18,17 +18,17 @@ use Rattle.whole_world.specs.declared.context_row.ContextRow.{ContextRow}
 use Rattle.whole_world.specs.declared.holder.Holder.{Holder}
 use Rattle.whole_world.specs.declared.holder.Holder.TheVariants.{Nobody, Own, Group as InGroup, NewGroup}
 use Rattle.whole_world.specs.declared.key_value.KeyValue.{KeyValue}
-use Rattle.whole_world.specs.Holders.{holder, holder_of, is_own}
+use Rattle.whole_world.specs.Holders.{holder, holder_of, same_holder}
 use Rattle.whole_world.specs.KeyValues.{key_in, value_in}
 use Rattle.whole_world.specs.Rows.{cell_of, context_of}
-use Rattle.whole_world.specs.Sharing.{takes}
+use Rattle.whole_world.proofs.Moves.{takes}
 
-own_where : (b : Bool) → is_own (cond b Own Nobody) ≡ b
+own_where : (b : Bool) → same_holder (cond b Own Nobody) Own ≡ b
 own_where true = refl
 own_where false = refl
 
 -- the context itself has the value where it is its own
-pub own-holder : (k : Key) (c : Cell (ValueOf k)) → is_own (holder_of k c) ≡ has_own k c
+pub own-holder : (k : Key) (c : Cell (ValueOf k)) → same_holder (holder_of k c) Own ≡ has_own k c
 own-holder k (cell.Own value) = own_where (is_there k value)
 own-holder k (cell.Common g) = refl
 

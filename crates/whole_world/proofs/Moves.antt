@@ -1,6 +1,6 @@
 -- A sharing and a clone, key by key: what a context and a group have once some keys are done.
 use Rattle.std.proofs.Common.{◌≡◌, ℕ, ◌+◌, ◌<◌, ◌≤◌, arith, refl, sym, ap, ◌∙◌, Bool, true, false, cond, eqb, ltb, List, Some, None, ⊎_elim}
-use Rattle.std.specs.Prelude.{nat_lt}
+use Rattle.std.specs.Prelude.{if◌then◌else◌, nat_lt}
 use Rattle.std.proofs.lemmas.Bool.{cases_lt}
 use Rattle.std.proofs.lemmas.Bool.Decides.{nat_tests}
 use Rattle.lwc_base.specs.declared.cell.Cell.{Cell}
@@ -19,8 +19,16 @@ use Rattle.lwc_base.specs.Keys.{ValueOf, nothing, with_key}
 use Rattle.lwc_base.specs.Modes.{IsSpec, kind_of, limit, mode_or_copy, number_of}
 use Rattle.lwc_base.specs.Sharing.{shared_cell, with_shared, moved_values, is_moved, moved_value}
 use Rattle.lwc_base.specs.World.{Context, Group, new_group}
-use Rattle.whole_world.specs.Sharing.{gave, gives, is_below, key_of, takes, took, with_cells}
+use Rattle.whole_world.specs.Sharing.{gave, is_below, key_of, took, with_cells}
 use Rattle.whole_world.proofs.Unnamed.{copied_past}
+
+-- a context that gives a group the value under a key, if it moves
+abbrev pub gives : Name → Mode → Key → Context → Context
+gives g mode k x = if is_moved mode k (x.cell k) then with_cell k (Common g) x else x
+
+-- a group that takes the value of a cell under a key, if it moves
+abbrev pub takes : Mode → (k : Key) → Cell (ValueOf k) → Group → Group
+takes mode k cell h = if is_moved mode k cell then with_value k (moved_value mode k cell) h else h
 
 at_next : {A : Type 0} (f old : ℕ → A) (n p : ℕ) → cond (eqb p n) (f n) (cond (ltb p n) (f p) (old p)) ≡ cond (ltb p (n + 1)) (f p) (old p)
 at_next f old n p = grind (arith, nat_tests)

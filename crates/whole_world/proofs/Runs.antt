@@ -28,7 +28,7 @@ use Rattle.lwc_base.specs.World.{World, Context, context, is_live, next_group}
 use Rattle.whole_world.specs.declared.holder.Holder.{Holder}
 use Rattle.whole_world.specs.declared.holder.Holder.TheVariants.{Nobody, Own, NewGroup, Group}
 use Rattle.whole_world.specs.Facts.{Facts}
-use Rattle.whole_world.specs.Holders.{begins_after, begins_at, cloned_holder, count_of_ranges, holder_after_clone, holder_after_map, holder_before, holder_in_clone, holder_of, moved_holder, own_if, page_holder}
+use Rattle.whole_world.specs.Holders.{begins_after, begins_at, cloned_holder, count_of_ranges, holder_after_clone, holder_after_map, holder_before, holder_in_clone, holder_of, moved_holder, page_holder}
 use Rattle.whole_world.proofs.Tables.{same_name}
 use Rattle.whole_world.proofs.SharedCells.{context-shared}
 
@@ -111,7 +111,7 @@ module _ (facts : Facts) where
   seen_from-shared g p Share (cell.Common h) other = ap (λ b. cond b NewGroup (Group h)) (other_name h g (λ same. other (ap (λ n. cell.Common n) same)))
   seen_from-shared g p Unmap (cell.Common h) other = ap (λ b. cond b NewGroup (Group h)) (other_name h g (λ same. other (ap (λ n. cell.Common n) same)))
 
-  seen_from-own : (g : Name) (value : Option PageValue) → seen_from g (cell.Own value) ≡ own_if (is_some value)
+  seen_from-own : (g : Name) (value : Option PageValue) → seen_from g (cell.Own value) ≡ cond (is_some value) Own Nobody
   seen_from-own g None = refl
   seen_from-own g (Some value) = refl
 
@@ -157,7 +157,7 @@ module _ (facts : Facts) where
       ranges-both a b shared cloned = λ i. ((shared ∙ sym ranges-shared) i, (cloned ∙ sym (ranges-cloned (context (share w c job items) c).entry)) i)
 
     mapped-cell : (g : Name) (here present : Bool) (old : Cell (Option PageValue)) (held : Holder) → seen_from g old ≡ held →
-        seen_from g (cond present (cond here (cell.Own (Some Zero)) old) (cond here (cell.Own None) old)) ≡ cond here (own_if present) held
+        seen_from g (cond present (cond here (cell.Own (Some Zero)) old) (cond here (cell.Own None) old)) ≡ cond here (cond present Own Nobody) held
     mapped-cell g true true old held same = refl
     mapped-cell g true false old held same = refl
     mapped-cell g false true old held same = same

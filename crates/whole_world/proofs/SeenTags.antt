@@ -15,11 +15,10 @@ use Rattle.whole_world.specs.Facts.{Facts}
 use Rattle.whole_world.specs.Rows.{cell_of, context_of, group_of, value_of}
 use Rattle.whole_world.specs.Sound.{IsWhole, IsWholeGroup}
 use Rattle.whole_world.specs.States.{world_of}
-use Rattle.whole_world.specs.Tables.{entries_of}
-use Rattle.whole_world.specs.Tags.{context_tags, different, group_tags, page_tags, tags_of_rows}
+use Rattle.whole_world.specs.Tags.{different, page_tags, tags_of_rows}
 use Rattle.whole_world.specs.Worlds.{seen}
 use Rattle.whole_world.proofs.Gathered.{flat_map-places, first_of_all, others_of_all, length-flat_map-le}
-use Rattle.whole_world.proofs.Tables.{map-entries}
+use Rattle.whole_world.proofs.Tables.{entries_of, map-entries}
 use Rattle.whole_world.proofs.TagLists.{different-le-length}
 
 one_tag : (value : Option PageValue) → length (tag_of value) ≤ 1
@@ -33,7 +32,7 @@ unfolding page_tags
 length-page_tags value pages = omega (arith, length-flat_map-le (λ page. tag_of (value page)) 1 pages (λ k d within. one_tag (value (get_or pages k d))))
 
 -- the tags of a context
-tags_of_context-row : (count : ℕ) (row : ContextRow) → IsWhole count row → tags_of_context count (context_of row) ≡ context_tags row
+tags_of_context-row : (count : ℕ) (row : ContextRow) → IsWhole count row → tags_of_context count (context_of row) ≡ page_tags own_value row.pages.items
 unfolding tags_of_context context_of cell_of page_tags
 tags_of_context-row count row whole =
     let places : count ≡ length row.pages.items = omega (arith, whole.pages, row.pages.ok.0) in
@@ -41,7 +40,7 @@ tags_of_context-row count row whole =
     ∙ flat_map-places (λ cell. tag_of (own_value cell)) row.pages.items (Own None)
 
 -- the tags of a group
-tags_of_group-row : (count : ℕ) (row : GroupRow) → IsWholeGroup count row → tags_of_group count (group_of row) ≡ group_tags row
+tags_of_group-row : (count : ℕ) (row : GroupRow) → IsWholeGroup count row → tags_of_group count (group_of row) ≡ page_tags (λ v. v) row.pages.items
 unfolding tags_of_group group_of value_of page_tags
 tags_of_group-row count row whole =
     let places : count ≡ length row.pages.items = omega (arith, whole.pages, row.pages.ok.0) in
@@ -66,8 +65,8 @@ module _ (w : WholeWorld) where
       sym (
       (λ i. flat_map (λ e. tags_of_context pages e.1) (map-entries context_of contexts w.sound.contexts_sorted i)
       ++ flat_map (λ e. tags_of_group pages e.1) (map-entries group_of groups w.sound.groups_sorted i))
-      ∙ (λ i. tags-entries context_of (tags_of_context pages) context_tags (IsWhole pages) (tags_of_context-row pages) contexts w.sound.contexts_whole i
-      ++ tags-entries group_of (tags_of_group pages) group_tags (IsWholeGroup pages) (tags_of_group-row pages) groups w.sound.groups_whole i))
+      ∙ (λ i. tags-entries context_of (tags_of_context pages) (λ row. page_tags own_value row.pages.items) (IsWhole pages) (tags_of_context-row pages) contexts w.sound.contexts_whole i
+      ++ tags-entries group_of (tags_of_group pages) (λ row. page_tags (λ v. v) row.pages.items) (IsWholeGroup pages) (tags_of_group-row pages) groups w.sound.groups_whole i))
 
   -- they are few: no more than rows times pages
   pub few_tags : length (tags_of_rows w.contexts.rows.items w.groups.rows.items) ≤ 2 ^ 30
@@ -76,15 +75,15 @@ module _ (w : WholeWorld) where
       let pages = w.size.pages in
       let contexts = w.contexts.rows.items in
       let groups = w.groups.rows.items in
-      let in_contexts : length (flat_map (λ row. context_tags row.1) contexts) ≤ length contexts * pages =
-      length-flat_map-le (λ row. context_tags row.1) pages contexts (λ k d within. let row = get_or contexts k d in
+      let in_contexts : length (flat_map (λ row. page_tags own_value row.1.pages.items) contexts) ≤ length contexts * pages =
+      length-flat_map-le (λ row. page_tags own_value row.1.pages.items) pages contexts (λ k d within. let row = get_or contexts k d in
       omega (arith, length-page_tags own_value row.1.pages.items, (w.sound.contexts_whole k d within).pages, row.1.pages.ok.0)) in
-      let in_groups : length (flat_map (λ row. group_tags row.1) groups) ≤ length groups * pages =
-      length-flat_map-le (λ row. group_tags row.1) pages groups (λ k d within. let row = get_or groups k d in
-      omega (arith, length-page_tags (λ value. value) row.1.pages.items, (w.sound.groups_whole k d within).pages, row.1.pages.ok.0)) in
+      let in_groups : length (flat_map (λ row. page_tags (λ v. v) row.1.pages.items) groups) ≤ length groups * pages =
+      length-flat_map-le (λ row. page_tags (λ v. v) row.1.pages.items) pages groups (λ k d within. let row = get_or groups k d in
+      omega (arith, length-page_tags (λ v. v) row.1.pages.items, (w.sound.groups_whole k d within).pages, row.1.pages.ok.0)) in
       let rows : length contexts + length groups ≤ 2 ^ 16 = omega (arith, w.sound.few_rows, w.sound.few_contexts, w.sound.few_groups) in
       let most : (length contexts + length groups) * pages ≤ 65536 * 1024 = mul-le-mul rows w.sound.few_pages in
-      omega (arith, in_contexts, in_groups, most, length-append (flat_map (λ row. context_tags row.1) contexts) (flat_map (λ row. group_tags row.1) groups))
+      omega (arith, in_contexts, in_groups, most, length-append (flat_map (λ row. page_tags own_value row.1.pages.items) contexts) (flat_map (λ row. page_tags (λ v. v) row.1.pages.items) groups))
 
   -- the different ones are the frames in use
   pub used-seen : different (tags (seen w)) ≡ used (seen w)

@@ -16,7 +16,7 @@ use Rattle.std.proofs.lemmas.List.Elements.{All-cons, All-head, All-nil, All-tai
 use Rattle.lwc_base.specs.declared.name.Name.{Name}
 use Rattle.lwc_base.specs.Names.{name_cmp}
 use Rattle.whole_world.specs.Facts.{Facts}
-use Rattle.whole_world.specs.Tables.{entries_of, has_name, is_past, map_of}
+use Rattle.whole_world.specs.Tables.{has_name, is_past, map_of}
 
 mapped_choice : {A B : Type 0} (f : A → B) (b : Bool) (x : A) (o : Option A) → option_map f (cond b (Some x) o) ≡ cond b (Some (f x)) (option_map f o)
 mapped_choice f true x o = refl
@@ -131,34 +131,38 @@ module _ {A : Type 0} where
       ]
 
 module _ {A X : Type 0} (value : A → X) where
-  find-entries : (c : Name) (rows : List (Name × A)) → fm.find name_cmp c (entries_of value rows) ≡ option_map value (fm.find name_cmp c rows)
+  -- the entries of the map
+  abbrev pub entries_of : List (Name × A) → List (Name × X)
+  entries_of rows = map (λ row. (row.0, value row.1)) rows
+
+  find-entries : (c : Name) (rows : List (Name × A)) → fm.find name_cmp c (entries_of rows) ≡ option_map value (fm.find name_cmp c rows)
   find-entries c [] = refl
   find-entries c (e ∷ es) =
       ap (cond (is_eq (name_cmp c e.0)) (Some (value e.1))) (find-entries c es)
       ∙ sym (mapped_choice value (is_eq (name_cmp c e.0)) e.1 (fm.find name_cmp c es))
 
-  put-entries : (c : Name) (new : A) (rows : List (Name × A)) → entries_of value (fm.put name_cmp c new rows) ≡ fm.put name_cmp c (value new) (entries_of value rows)
+  put-entries : (c : Name) (new : A) (rows : List (Name × A)) → entries_of (fm.put name_cmp c new rows) ≡ fm.put name_cmp c (value new) (entries_of rows)
   put-entries c new [] = refl
   put-entries c new (e ∷ es) =
-      elim (name_cmp c e.0) as (λ r. entries_of value (by_order r ((c, new) ∷ e ∷ es) ((e.0, new) ∷ es) (e ∷ fm.put name_cmp c new es))
-      ≡ by_order r ((c, value new) ∷ entries_of value (e ∷ es)) ((e.0, value new) ∷ entries_of value es) ((e.0, value e.1) ∷ fm.put name_cmp c (value new) (entries_of value es))) [
+      elim (name_cmp c e.0) as (λ r. entries_of (by_order r ((c, new) ∷ e ∷ es) ((e.0, new) ∷ es) (e ∷ fm.put name_cmp c new es))
+      ≡ by_order r ((c, value new) ∷ entries_of (e ∷ es)) ((e.0, value new) ∷ entries_of es) ((e.0, value e.1) ∷ fm.put name_cmp c (value new) (entries_of es))) [
         | Less ↦ refl
         | Equal ↦ refl
         | Greater ↦ ap (λ l. (e.0, value e.1) ∷ l) (put-entries c new es)
       ]
 
-  below-entries : (k : Name) (rows : List (Name × A)) → below_all name_cmp k (entries_of value rows) ≡ below_all name_cmp k rows
+  below-entries : (k : Name) (rows : List (Name × A)) → below_all name_cmp k (entries_of rows) ≡ below_all name_cmp k rows
   below-entries k [] = refl
   below-entries k (e ∷ es) = ap (λ b. is_lt (name_cmp k e.0) && b) (below-entries k es)
 
-  sorted-entries : (rows : List (Name × A)) → fm.is_sorted name_cmp (entries_of value rows) ≡ fm.is_sorted name_cmp rows
+  sorted-entries : (rows : List (Name × A)) → fm.is_sorted name_cmp (entries_of rows) ≡ fm.is_sorted name_cmp rows
   sorted-entries [] = refl
   sorted-entries (e ∷ es) = λ i. below-entries e.0 es i && sorted-entries es i
 
   module _ (rows : List (Name × A)) (sorted : T (fm.is_sorted name_cmp rows)) where
     -- the entries of the map are those of the rows
-    pub map-entries : fm.entries (map_of value rows) ≡ entries_of value rows
-    map-entries = fm.entries-from_sorted name_cmp (entries_of value rows) (subst T (sym (sorted-entries rows)) sorted)
+    pub map-entries : fm.entries (map_of value rows) ≡ entries_of rows
+    map-entries = fm.entries-from_sorted name_cmp (entries_of rows) (subst T (sym (sorted-entries rows)) sorted)
 
     -- what the map has under a name is in the row of that name
     pub map-get : (c : Name) → fm.get (map_of value rows) c ≡ option_map value (fm.find name_cmp c rows)
@@ -172,7 +176,7 @@ module _ {A X : Type 0} (value : A → X) where
     pub map-keys : fm.keys (map_of value rows) ≡ map (λ row. row.0) rows
     map-keys = ap (map (λ (e : Name × X). e.0)) map-entries ∙ names rows
       where
-        names : (rows : List (Name × A)) → map (λ (e : Name × X). e.0) (entries_of value rows) ≡ map (λ row. row.0) rows
+        names : (rows : List (Name × A)) → map (λ (e : Name × X). e.0) (entries_of rows) ≡ map (λ row. row.0) rows
         names [] = refl
         names (e ∷ es) = ap (λ l. e.0 ∷ l) (names es)
 

@@ -3,7 +3,6 @@ use mir.Val.{bool_byte}
 use Rattle.std.proofs.Common.{◌≡◌, ℕ, ◌+◌, ◌≤◌, List, [], ◌∷◌, ◌++◌, length, refl, sym, ap, ◌∙◌, Bool, true, false, cond, ◌||◌, arith, Option, Some, None}
 use Rattle.std.specs.Prelude.{count_by, not}
 use Rattle.std.specs.List.{flat_map, list_any}
-use Rattle.std.specs.Option.{option_to_list}
 use Rattle.std.specs.Ordering.{is_eq}
 use Rattle.std.specs.Cmp.{eq_by_cmp_equiv}
 use Rattle.std.specs.FinSet as set
@@ -15,7 +14,7 @@ use Rattle.lwc_base.specs.declared.page.PageValue.TheVariants.{Zero, Data}
 use Rattle.lwc_base.specs.Frames.{tag_of}
 use Rattle.lwc_base.specs.Names.{tag_cmp}
 use Rattle.whole_world.specs.Facts.{Facts}
-use Rattle.whole_world.specs.Tags.{has_tag, is_new, page_tags, times, different}
+use Rattle.whole_world.specs.Tags.{has_tag, page_tags, times, different}
 
 -- a tag is in one of two lists
 pub has_tag-append : (tag : Tag) (xs ys : List Tag) → has_tag tag (xs ++ ys) ≡ (has_tag tag xs || has_tag tag ys)
@@ -104,12 +103,10 @@ module _ (facts : Facts) where
   cond_at_most_one true = omega arith
   cond_at_most_one false = omega arith
 
-  -- a tag is one different tag more where it is new
-  pub different-new : (tag : Option Tag) (others : List Tag) (n : ℕ) (b : Bool) → n ≡ bool_byte b → b ≡ is_new tag others →
-      n + different others ≡ different (option_to_list tag ++ others)
-  different-new None others n b count new = omega (arith, count ∙ ap bool_byte new)
-  different-new (Some tag) others n b count new =
-      ap (λ m. m + different others) (count ∙ ap bool_byte new ∙ one_where (not (has_tag tag others))) ∙ sym (different-cons tag others)
+  -- a tag that is in neither of two lists is one different tag more
+  pub different-new : (tag : Tag) (xs ys : List Tag) (n : ℕ) → n ≡ bool_byte (not (has_tag tag xs || has_tag tag ys)) → n + different (xs ++ ys) ≡ different (tag ∷ (xs ++ ys))
+  different-new tag xs ys n count =
+      ap (λ m. m + different (xs ++ ys)) (count ∙ ap (λ b. bool_byte (not b)) (sym (has_tag-append tag xs ys)) ∙ one_where (not (has_tag tag (xs ++ ys)))) ∙ sym (different-cons tag (xs ++ ys))
     where
       one_where : (b : Bool) → bool_byte b ≡ cond b 1 0
       one_where true = refl

@@ -9,6 +9,7 @@ use Rattle.std.proofs.Math.ListN.{set}
 use Rattle.std.proofs.lemmas.Bool.{cases_lt, false≢true}
 use Rattle.lwc_base.specs.Registers.{fresh_registers}
 use Rattle.lwc_base.specs.declared.cell.Cell.TheVariants.{Own}
+use Rattle.lwc_base.specs.declared.descriptor.TheConstants.{SLOTS}
 use Rattle.lwc_base.specs.declared.key.Key.{Key}
 use Rattle.lwc_base.specs.declared.key.Key.TheVariants.{Page, Slot, Cred}
 use Rattle.lwc_base.specs.declared.name.Name.{Name}
@@ -28,7 +29,7 @@ use Rattle.whole_world.specs.declared.holder.Holder.TheVariants.{Nobody}
 use Rattle.whole_world.specs.Facts.{Facts}
 use Rattle.whole_world.specs.Holders.{holder_of}
 use Rattle.whole_world.specs.Rows.{context_of, group_of, with_pages}
-use Rattle.whole_world.specs.Sound.{HasGroupKey, HasGroupSizeOf, HasKey, HasSizeOf, IsSlot, IsSound, IsWhole, IsWholeGroup}
+use Rattle.whole_world.specs.Sound.{HasGroupSizeOf, HasKey, HasSizeOf, HasSlot, IsSound, IsWhole, IsWholeGroup}
 use Rattle.whole_world.specs.Tables.{has_name}
 use Rattle.whole_world.specs.States.{counters_of, nothing_counted, world_of}
 use Rattle.whole_world.specs.Worlds.{seen}
@@ -330,19 +331,14 @@ still_whole count old new whole size = record { pages = size.pages ∙ whole.pag
 pub still_whole_group : (count : ℕ) (old new : GroupRow) → IsWholeGroup count old → HasGroupSizeOf old new → IsWholeGroup count new
 still_whole_group count old new whole size = record { pages = size.pages ∙ whole.pages; slots = size.slots ∙ whole.slots }
 
--- a whole row has a place for each key
-pub has_key : (count : ℕ) (row : ContextRow) (k : Key) → IsWhole count row → IsKey count k → HasKey row k
-has_key count row (Page p) whole within = omega (arith, whole.pages, within)
-has_key count row (Slot n) whole within = omega (arith, whole.slots, within)
-has_key count row Cred whole within = tt
-
-pub has_group_key : (count : ℕ) (row : GroupRow) (k : Key) → IsWholeGroup count row → IsKey count k → HasGroupKey row k
-has_group_key count row (Page p) whole within = omega (arith, whole.pages, within)
-has_group_key count row (Slot n) whole within = omega (arith, whole.slots, within)
-has_group_key count row Cred whole within = tt
+-- a whole row has each key that there is
+pub has_key : (count pages slots : ℕ) (k : Key) → pages ≡ count → slots ≡ SLOTS → IsKey count k → HasKey pages slots k
+has_key count pages slots (Page p) many all within = omega (arith, many, within)
+has_key count pages slots (Slot n) many all within = omega (arith, all, within)
+has_key count pages slots Cred many all within = tt
 
 -- somebody has what is under a key only where the key is
-pub held-key : (count : ℕ) (row : ContextRow) (k : Key) → IsWhole count row → IsSlot k → holder_of k ((context_of row).cell k) ≢ Nobody → IsKey count k
+pub held-key : (count : ℕ) (row : ContextRow) (k : Key) → IsWhole count row → HasSlot SLOTS k → holder_of k ((context_of row).cell k) ≢ Nobody → IsKey count k
 held-key count row (Page p) whole slot somebody =
     ⊎_elim (λ (h : p < count). h)
     (λ (h : count ≤ p). absurd (somebody (ap (holder_of (Page p)) (cell-past row count (Page p) whole h))))

@@ -28,11 +28,6 @@ abbrev pub holder_of : (k : Key) → Cell (ValueOf k) → Holder
 holder_of k (cell.Own value) = if is_there k value then Own else Nobody
 holder_of k (cell.Common g) = Group g
 
--- whether it is the context itself
-abbrev pub is_own : Holder → Bool
-is_own Own = true
-is_own h = false
-
 -- who has the value of a page of a context
 unfoldable pub page_holder : World → Name → ℕ → Holder
 page_holder w c p = holder_of (Page p) ((context w c).cell (Page p))
@@ -42,13 +37,9 @@ abbrev pub moved_holder : Mode → Holder → Holder
 moved_holder Share Own = NewGroup
 moved_holder mode h = h
 
--- the holder of a page that is a context's own, if it is present
-abbrev pub own_if : Bool → Holder
-own_if present = if present then Own else Nobody
-
 -- who has a page's value in the context that a clone makes
 abbrev pub cloned_holder : Mode → Bool → Holder → Holder
-cloned_holder Copy present h = own_if present
+cloned_holder Copy present h = if present then Own else Nobody
 cloned_holder Share present h = moved_holder Share h
 cloned_holder Unmap present h = Nobody
 
@@ -62,7 +53,8 @@ holder_in_clone w c items p = cloned_holder (mode_or_copy items (Page p)) (is_so
 
 -- who has it once the pages of a range are present or absent
 unfoldable pub holder_after_map : World → Name → ℕ → ℕ → Bool → ℕ → Holder
-holder_after_map w c from to present p = if nat_le from p && nat_lt p to then own_if present else page_holder w c p
+holder_after_map w c from to present p =
+    if nat_le from p && nat_lt p to then (if present then Own else Nobody) else page_holder w c p
 
 -- whether two holders are the same
 abbrev pub same_holder : Holder → Holder → Bool

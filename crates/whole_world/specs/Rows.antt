@@ -1,11 +1,10 @@
 -- What the rows of contexts and of groups stand for.
-use Rattle.std.specs.Prelude.{ℕ, if◌then◌else◌, Bool, Option, None, Some, slice_index_or}
+use Rattle.std.specs.Prelude.{ℕ, if◌then◌else◌, Bool, None, Some, slice_index_or}
 use Rattle.lwc_base.specs.declared.cell.Cell.{Cell}
 use Rattle.lwc_base.specs.declared.cell.Cell.TheVariants.{Own}
 use Rattle.lwc_base.specs.declared.descriptor.Descriptor.TheVariants.{Empty}
 use Rattle.lwc_base.specs.declared.key.Key.{Key}
 use Rattle.lwc_base.specs.declared.key.Key.TheVariants.{Page, Slot, Cred}
-use Rattle.lwc_base.specs.declared.page.PageValue.{PageValue}
 use Rattle.lwc_base.specs.declared.page.PageValue.TheVariants.{Zero}
 use Rattle.lwc_base.specs.Keys.{ValueOf}
 use Rattle.lwc_base.specs.Mapping.{on_pages}
@@ -33,10 +32,6 @@ value_of row Cred = row.uid
 unfoldable pub group_of : GroupRow → Group
 group_of row = record { value = value_of row }
 
--- a page of zeros if it is to be present
-abbrev pub zeros_if : Bool → Option PageValue
-zeros_if present = if present then Some Zero else None
-
--- a context with the pages of a range present, as zeros of its own, or absent
+-- a context with its own pages of zeros in a range, or none there
 abbrev pub with_pages : ℕ → ℕ → Bool → Context → Context
-with_pages from to present x = record x { cell = on_pages from to (Own (zeros_if present)) x.cell }
+with_pages from to present x = record x { cell = on_pages from to (Own (if present then Some Zero else None)) x.cell }

@@ -1,27 +1,16 @@
 -- A sharing, and a clone, key by key.
 use Rattle.std.specs.Prelude.{ℕ, ◌&&◌, if◌then◌else◌, Bool, List, nat_lt}
 use Rattle.lwc_base.specs.declared.cell.Cell.{Cell}
-use Rattle.lwc_base.specs.declared.cell.Cell.TheVariants.{Common}
 use Rattle.lwc_base.specs.declared.item.Item.{Item}
-use Rattle.lwc_base.specs.declared.item.Mode.{Mode}
 use Rattle.lwc_base.specs.declared.key.Key.{Key}
 use Rattle.lwc_base.specs.declared.key.Key.TheVariants as key
 use Rattle.lwc_base.specs.declared.key.Kind.{Kind}
 use Rattle.lwc_base.specs.declared.key.Kind.TheVariants as kind
 use Rattle.lwc_base.specs.declared.name.Name.{Name}
-use Rattle.lwc_base.specs.Cells.{with_cell, with_value}
 use Rattle.lwc_base.specs.Keys.{ValueOf}
 use Rattle.lwc_base.specs.Modes.{kind_of, mode_or_copy, number_of, same_kind}
-use Rattle.lwc_base.specs.Sharing.{shared_cell, is_moved, moved_value}
-use Rattle.lwc_base.specs.World.{Context, Group}
-
--- a context that gives a group the value under a key, if it moves
-abbrev pub gives : Name → Mode → Key → Context → Context
-gives g mode k x = if is_moved mode k (x.cell k) then with_cell k (Common g) x else x
-
--- a group that takes the value of a cell under a key, if it moves
-abbrev pub takes : Mode → (k : Key) → Cell (ValueOf k) → Group → Group
-takes mode k cell h = if is_moved mode k cell then with_value k (moved_value mode k cell) h else h
+use Rattle.lwc_base.specs.Sharing.{cloned_cell, is_moved, moved_value, share, shared_cell}
+use Rattle.lwc_base.specs.World.{World, Context, Group}
 
 -- the key of a kind that has a number
 abbrev pub key_of : Kind → ℕ → Key
@@ -36,6 +25,10 @@ is_below kind n k = same_kind kind (kind_of k) && nat_lt (number_of k) n
 -- the context with other cells under the keys that pass a test
 abbrev pub with_cells : (Key → Bool) → ((k : Key) → Cell (ValueOf k)) → Context → Context
 with_cells done cells x = record x { cell = λ k. if done k then cells k else x.cell k }
+
+-- the cells of the context that a clone makes
+abbrev pub clone_cells : World → Name → ℕ → List Item → (k : Key) → Cell (ValueOf k)
+clone_cells w c job items k = cloned_cell (share w c job items) c k (mode_or_copy items k)
 
 -- a context that has given a group what moves under the keys that pass a test
 abbrev pub gave : (Key → Bool) → Name → List Item → Context → Context

@@ -30,22 +30,16 @@ pub record IsWholeGroup (count : ℕ) (row : GroupRow) : Type 0 where
   pub pages : vec_len row.pages ≡ count
   pub slots : vec_len row.slots ≡ SLOTS
 
--- a row of a context has a place for a key
-abbrev pub HasKey : ContextRow → Key → Type 0
-HasKey row (Page p) = p < vec_len row.pages
-HasKey row (Slot n) = n < vec_len row.slots
-HasKey row Cred = ⊤
+-- a key that there is, where there are this many pages and slots
+abbrev pub HasKey : ℕ → ℕ → Key → Type 0
+HasKey pages slots (Page p) = p < pages
+HasKey pages slots (Slot n) = n < slots
+HasKey pages slots Cred = ⊤
 
--- a row of a group has a place for a key
-abbrev pub HasGroupKey : GroupRow → Key → Type 0
-HasGroupKey row (Page p) = p < vec_len row.pages
-HasGroupKey row (Slot n) = n < vec_len row.slots
-HasGroupKey row Cred = ⊤
-
--- it has a place for a slot, if the key is one
-abbrev pub HasSlot : ContextRow → Key → Type 0
-HasSlot row (Slot n) = n < vec_len row.slots
-HasSlot row k = ⊤
+-- a key that there is, or any page, where there are this many slots
+abbrev pub HasSlot : ℕ → Key → Type 0
+HasSlot slots (Slot n) = n < slots
+HasSlot slots k = ⊤
 
 -- a row of a context has as many pages and slots as it had
 pub record HasSizeOf (old new : ContextRow) : Type 0 where
@@ -57,13 +51,7 @@ pub record HasGroupSizeOf (old new : GroupRow) : Type 0 where
   pub pages : vec_len new.pages ≡ vec_len old.pages
   pub slots : vec_len new.slots ≡ vec_len old.slots
 
--- the number of a slot is below the number of slots
-abbrev pub IsSlot : Key → Type 0
-IsSlot (Slot n) = n < SLOTS
-IsSlot k = ⊤
-
--- the sizes are within the limits; the rows stand in the order of their names, each is whole, and each name is below what
--- its job has counted
+-- the sizes are within the limits, rows are whole and in the order of their names, and jobs have counted each name
 pub record IsSound (size : WorldSize) (contexts : List (Name × ContextRow)) (groups : List (Name × GroupRow)) (counts : List Counts) : Type 0 where
   pub some_job : 1 ≤ size.jobs
   pub few_pages : size.pages ≤ MOST_PAGES

@@ -13,10 +13,6 @@ has_name c row = is_eq (name_cmp row.0 c)
 abbrev pub is_past : {T : Type 0} → Name → Name × T → Bool
 is_past c row = is_lt (name_cmp c row.0)
 
--- rows whose values stand for others, each under its name
-abbrev pub entries_of : {T X : Type 0} → (T → X) → List (Name × T) → List (Name × X)
-entries_of value rows = map (λ row. (row.0, value row.1)) rows
-
 -- the map that rows in the order of their names stand for
 abbrev pub map_of : {T X : Type 0} → (T → X) → List (Name × T) → fm.FinMap name_cmp X
-map_of value rows = fm.from_sorted (entries_of value rows)
+map_of value rows = fm.from_sorted (map (λ row. (row.0, value row.1)) rows)

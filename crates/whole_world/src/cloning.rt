@@ -3,7 +3,7 @@ ghost use Rattle.std.specs.Option.{option_copied};
 ghost use Rattle.lwc_base.specs.declared.descriptor.TheConstants.{SLOTS};
 ghost use Rattle.lwc_base.specs.declared.key.Kind.TheVariants as kind;
 ghost use Rattle.lwc_base.specs.Cells.{value_at, with_cell};
-ghost use Rattle.lwc_base.specs.Modes.{IsKey, IsSpec, mode_or_copy};
+ghost use Rattle.lwc_base.specs.Modes.{IsKey, IsSpec};
 ghost use Rattle.whole_world.specs.KeyValues.{key_in, value_in};
 
 use crate::context_row::ContextRow;
@@ -29,11 +29,11 @@ fn copied_page(alloc: Global, value: Option<&PageValue>) -> Result<Option<PageVa
 }
 
 impl WholeWorld {
-    ghost use Rattle.lwc_base.specs.Sharing.{cloned_cell, cloned_context, share};
+    ghost use Rattle.lwc_base.specs.Sharing.{cloned_context, share};
     ghost use Rattle.lwc_base.specs.World.{context, is_live};
     ghost use Rattle.whole_world.specs.Rows.{context_of};
-    ghost use Rattle.whole_world.specs.Sharing.{is_below, with_cells};
-    ghost use Rattle.whole_world.specs.Sound.{HasSizeOf, IsSlot, IsWhole};
+    ghost use Rattle.whole_world.specs.Sharing.{clone_cells, is_below, with_cells};
+    ghost use Rattle.whole_world.specs.Sound.{HasSizeOf, HasSlot, IsWhole};
     ghost use Rattle.whole_world.specs.Worlds.{seen};
 
     /// The row of the new context that a clone makes. The only error is out of memory.
@@ -48,7 +48,8 @@ impl WholeWorld {
         requires within { IsSpec (seen self.now).size.pages spec.now }
         requires known { job < (seen self.now).size.jobs }
         ensures whole { IfOk result (IsWhole (seen self.now).size.pages) }
-        ensures context { IfOk result (λ row. context_of row ≡ cloned_context (share (seen self.now) c job spec.now) c spec.now entry.now) }
+        ensures context { IfOk result (λ row. context_of row
+            ≡ cloned_context (share (seen self.now) c job spec.now) c spec.now entry.now) }
     {
         facts();
         let mut row = ContextRow::new(self.alloc, self.page_count(), NOBODY, entry)?;
@@ -71,8 +72,9 @@ impl WholeWorld {
         requires known { job < (seen self.now).size.jobs }
         requires whole { IsWhole (seen self.now).size.pages row.old }
         ensures whole { IsWhole (seen self.now).size.pages row.new }
-        ensures context { OnOk result (context_of row.new ≡ with_cells (is_below kind.Page (seen self.now).size.pages)
-            (λ k. cloned_cell (share (seen self.now) c job spec.now) c k (mode_or_copy spec.now k)) (context_of row.old)) }
+        ensures context { OnOk result (context_of row.new
+            ≡ with_cells (is_below kind.Page (seen self.now).size.pages)
+            (clone_cells (seen self.now) c job spec.now) (context_of row.old)) }
     {
         for p in 0..self.page_count() {
             self.clone_key(c, spec, job, Key::Page(p), row)?;
@@ -94,7 +96,7 @@ impl WholeWorld {
         requires whole { IsWhole (seen self.now).size.pages row.old }
         ensures whole { IsWhole (seen self.now).size.pages row.new }
         ensures context { OnOk result (context_of row.new ≡ with_cells (is_below kind.Slot SLOTS)
-            (λ k. cloned_cell (share (seen self.now) c job spec.now) c k (mode_or_copy spec.now k)) (context_of row.old)) }
+            (clone_cells (seen self.now) c job spec.now) (context_of row.old)) }
     {
         for n in 0..SLOTS {
             self.clone_key(c, spec, job, Key::Slot(n), row)?;
@@ -102,8 +104,7 @@ impl WholeWorld {
         Ok(())
     }
 
-    /// Gives a key of the new context its cell, as it is once the values under share have moved. The only error is out of
-    /// memory.
+    /// Gives a key of the new context its cell, as after the sharing. The only error is out of memory.
     fn clone_key(
         &self,
         c: Name,
@@ -119,7 +120,7 @@ impl WholeWorld {
         requires whole { IsWhole (seen self.now).size.pages row.old }
         ensures size { HasSizeOf row.old row.new }
         ensures context { OnOk result (context_of row.new ≡ with_cell key
-            (cloned_cell (share (seen self.now) c job spec.now) c key (mode_or_copy spec.now key)) (context_of row.old)) }
+            (clone_cells (seen self.now) c job spec.now key) (context_of row.old)) }
     {
         facts();
         match mode_or_copy(spec, key) {
@@ -137,7 +138,7 @@ impl WholeWorld {
     /// A copy of what stands under a key of a context. The only error is out of memory.
     fn copied_value(&self, c: Name, key: Key) -> Result<KeyValue, OutOfMemory>
         requires live { IsTrue (is_live (seen self.now) c) }
-        requires within { IsSlot key }
+        requires within { HasSlot SLOTS key }
         ensures key { IfOk result (λ copy. key_in copy ≡ key) }
         ensures value { IfOk result (λ copy. value_in copy ≡ value_at (seen self.now) c (key_in copy)) }
     {

@@ -1,16 +1,17 @@
-ghost use Rattle.std.specs.Prelude.{◌≡◌, ℕ, ◌<◌, ◌≤◌, IfOk, Option, Some, None, replicate, true, unwrap_or, vec_len};
+ghost use Rattle.std.specs.Prelude.{◌≡◌, if◌then◌else◌, ℕ, ◌<◌, ◌≤◌, IfOk, Option, Some, None, replicate, true, unwrap_or, vec_len};
 ghost use Rattle.std.specs.Option.{option_copied};
 ghost use Rattle.lwc_base.specs.declared.cell.Cell.TheVariants.{Own, Common};
 ghost use Rattle.lwc_base.specs.declared.descriptor.Descriptor.TheVariants.{Empty};
 ghost use Rattle.lwc_base.specs.declared.descriptor.TheConstants.{SLOTS};
 ghost use Rattle.lwc_base.specs.declared.key.Key.TheVariants.{Page, Slot, Cred};
+ghost use Rattle.lwc_base.specs.declared.page.PageValue.TheVariants.{Zero};
 ghost use Rattle.lwc_base.specs.Cells.{with_cell};
 ghost use Rattle.lwc_base.specs.Sharing.{has_own, is_moved};
 ghost use Rattle.lwc_base.specs.World.{new_context};
 ghost use Rattle.whole_world.specs.Holders.{holder, holder_of};
 ghost use Rattle.whole_world.specs.declared.holder.Holder.TheVariants as holders;
 ghost use Rattle.whole_world.specs.KeyValues.{key_in, value_in};
-ghost use Rattle.whole_world.specs.Rows.{context_of, with_pages, zeros_if};
+ghost use Rattle.whole_world.specs.Rows.{context_of, with_pages};
 ghost use Rattle.whole_world.specs.Sound.{HasKey, HasSlot, HasSizeOf, IsWhole};
 
 use crate::holder::Holder;
@@ -28,7 +29,7 @@ pub struct ContextRow {
 }
 
 impl ContextRow {
-    /// A context as it is made, with this number of pages, none of them present. The only error is out of memory.
+    /// A context as it is made, with none of this number of pages present. The only error is out of memory.
     #[tactic(auto, unfolding(crate::specs::Rows::context_of, crate::specs::Rows::cell_of))]
     pub fn new(alloc: Global, pages: u16, uid: u32, entry: &Regs) -> Result<ContextRow, OutOfMemory>
         ensures whole { IfOk result (IsWhole pages) }
@@ -85,7 +86,7 @@ impl ContextRow {
 
     /// Who has the value under a key.
     pub fn holder(&self, key: Key) -> Holder
-        requires { HasSlot self.now key }
+        requires { HasSlot (vec_len self.now.slots) key }
         ensures { result ≡ holder_of key ((context_of self.now).cell key) }
     {
         match key {
@@ -97,7 +98,7 @@ impl ContextRow {
 
     /// Whether the value under a key moves into a group where the key has this mode.
     pub fn is_moved(&self, mode: Mode, key: Key) -> bool
-        requires { HasSlot self.now key }
+        requires { HasSlot (vec_len self.now.slots) key }
         ensures { result ≡ is_moved mode key ((context_of self.now).cell key) }
     {
         match mode {
@@ -108,9 +109,10 @@ impl ContextRow {
 
     /// Puts a value of the context's own under a key.
     pub fn put(&mut self, value: KeyValue)
-        requires { HasKey self.old (key_in value) }
+        requires { HasKey (vec_len self.old.pages) (vec_len self.old.slots) (key_in value) }
         ensures size { HasSizeOf self.old self.new }
-        ensures context { context_of self.new ≡ with_cell (key_in value) (Own (value_in value)) (context_of self.old) }
+        ensures context { context_of self.new
+            ≡ with_cell (key_in value) (Own (value_in value)) (context_of self.old) }
     {
         match value {
             KeyValue::Page(p, value) => self.pages[p as usize] = Cell::Own(value),
@@ -121,7 +123,7 @@ impl ContextRow {
 
     /// Makes a key common of a group, and gives the value of the context's own that was under it.
     pub fn give(&mut self, key: Key, group: Name) -> KeyValue
-        requires place { HasKey self.old key }
+        requires place { HasKey (vec_len self.old.pages) (vec_len self.old.slots) key }
         requires own { has_own key ((context_of self.old).cell key) ≡ true }
         ensures key { key_in result ≡ key }
         ensures value { (context_of self.old).cell (key_in result) ≡ Own (value_in result) }
@@ -137,7 +139,7 @@ impl ContextRow {
 
     /// Makes a key common of a group.
     pub fn join(&mut self, key: Key, group: Name)
-        requires { HasKey self.old key }
+        requires { HasKey (vec_len self.old.pages) (vec_len self.old.slots) key }
         ensures size { HasSizeOf self.old self.new }
         ensures context { context_of self.new ≡ with_cell key (Common group) (context_of self.old) }
     {
@@ -163,7 +165,7 @@ impl ContextRow {
 
 /// A page of zeros if it is to be present.
 fn zeros_if(present: bool) -> Option<PageValue>
-    ensures { result ≡ zeros_if present }
+    ensures { result ≡ if present then Some Zero else None }
 {
     if present { Some(PageValue::Zero) } else { None }
 }

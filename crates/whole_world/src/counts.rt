@@ -60,7 +60,8 @@ impl WholeWorld {
     pub(crate) fn count_context(&mut self, job: u32)
         requires known { job < (seen self.old).size.jobs }
         requires few { ((seen self.old).next job).contexts < 2 ^ 31 }
-        ensures world { seen self.new ≡ change_counters (seen self.old) job (λ n. record n { contexts = n.contexts + 1 }) }
+        ensures world { seen self.new ≡ change_counters (seen self.old) job
+            (λ n. record n { contexts = n.contexts + 1 }) }
         ensures room { HasRoom self.old.contexts → HasRoom self.new.contexts }
     {
         let counts = self.counts_of(job);
@@ -72,7 +73,8 @@ impl WholeWorld {
     pub(crate) fn count_group(&mut self, job: u32)
         requires known { job < (seen self.old).size.jobs }
         requires few { ((seen self.old).next job).groups < 2 ^ 31 }
-        ensures world { seen self.new ≡ change_counters (seen self.old) job (λ n. record n { groups = n.groups + 1 }) }
+        ensures world { seen self.new ≡ change_counters (seen self.old) job
+            (λ n. record n { groups = n.groups + 1 }) }
         ensures room { HasRoom self.old.contexts → HasRoom self.new.contexts }
         ensures group_room { HasRoom self.old.groups → HasRoom self.new.groups }
     {
@@ -85,7 +87,8 @@ impl WholeWorld {
     pub(crate) fn count_tags(&mut self, job: u32, more: u32)
         requires known { job < (seen self.old).size.jobs }
         requires few { ((seen self.old).next job).tags + more < 2 ^ 32 }
-        ensures { seen self.new ≡ change_counters (seen self.old) job (λ n. record n { tags = n.tags + more }) }
+        ensures { seen self.new ≡ change_counters (seen self.old) job
+            (λ n. record n { tags = n.tags + more }) }
     {
         let counts = self.counts_of(job);
         let tags = counts.tags + more;

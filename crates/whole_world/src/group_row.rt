@@ -7,7 +7,7 @@ ghost use Rattle.lwc_base.specs.Cells.{with_value};
 ghost use Rattle.lwc_base.specs.World.{new_group};
 ghost use Rattle.whole_world.specs.KeyValues.{key_in, value_in};
 ghost use Rattle.whole_world.specs.Rows.{group_of};
-ghost use Rattle.whole_world.specs.Sound.{HasGroupKey, HasGroupSizeOf, IsWholeGroup};
+ghost use Rattle.whole_world.specs.Sound.{HasGroupSizeOf, HasKey, IsWholeGroup};
 
 use crate::key_value::KeyValue;
 use lwc_base::{Descriptor, NOBODY, OutOfMemory, PageValue, SLOTS};
@@ -67,7 +67,7 @@ impl GroupRow {
 
     /// Puts a value under a key.
     pub fn put(&mut self, value: KeyValue)
-        requires { HasGroupKey self.old (key_in value) }
+        requires { HasKey (vec_len self.old.pages) (vec_len self.old.slots) (key_in value) }
         ensures size { HasGroupSizeOf self.old self.new }
         ensures group { group_of self.new ≡ with_value (key_in value) (value_in value) (group_of self.old) }
     {

@@ -1,5 +1,6 @@
 ghost use Rattle.std.specs.Prelude.{◌≡◌};
-ghost use Rattle.whole_world.specs.Holders.{is_own};
+ghost use Rattle.whole_world.specs.Holders.{same_holder};
+ghost use Rattle.whole_world.specs.declared.holder.Holder.TheVariants.{Own};
 
 use lwc_base::Name;
 
@@ -19,7 +20,7 @@ pub enum Holder {
 impl Holder {
     /// Whether the context itself has it.
     pub fn is_own(self) -> bool
-        ensures { result ≡ is_own self }
+        ensures { result ≡ same_holder self Own }
     {
         matches!(self, Holder::Own)
     }

@@ -1,4 +1,4 @@
-//! The world by whole copies: each context and each group has a copy of all that it has, and what is asked of the world is counted anew each time.
+//! The world by whole copies. Each context and each group has a copy of all that it has.
 #![tactic(auto)]
 
 mod cloning;

@@ -17,7 +17,7 @@ fn copied_bytes(alloc: Global, value: Option<&PageValue>) -> Result<PageBytes, O
     }
 }
 
-/// The byte at an address once a piece is there (`byte_after`).
+/// The byte at an address once a piece is there.
 fn byte_with(at: usize, piece: &[u8], place: usize, old: u8) -> u8
     ensures { result ≡ byte_after (record { at = at; bytes = piece.now }) place old }
 {
@@ -28,7 +28,7 @@ fn byte_with(at: usize, piece: &[u8], place: usize, old: u8) -> u8
     }
 }
 
-/// Puts what a piece has of a page into the page's bytes (`bytes_after`).
+/// Puts what a piece has of a page into the page's bytes.
 fn put_piece(page: &mut PageBytes, p: u16, at: usize, piece: &[u8])
     ensures { page.new ≡ bytes_after (record { at = at; bytes = piece.now }) p page.old }
 {
@@ -39,7 +39,7 @@ fn put_piece(page: &mut PageBytes, p: u16, at: usize, piece: &[u8])
     }
 }
 
-/// New bytes of a page: under a new tag where it parts, and else under its own (`stored_value`).
+/// New bytes of a page: under a new tag where it parts, and else under its own.
 fn retagged(parting: bool, new: Tag, value: Option<&PageValue>, bytes: PageBytes) -> PageValue
     ensures { result ≡ stored_value parting new (unwrap_or (option_copied value.entry) Zero) bytes }
 {
@@ -49,8 +49,7 @@ fn retagged(parting: bool, new: Tag, value: Option<&PageValue>, bytes: PageBytes
     }
 }
 
-/// The new value of a page that a piece touches (`stored_value` of `bytes_after`), with a new tag for where it parts. The
-/// only error is out of memory.
+/// The new value of a page that a piece touches, under a new tag if it parts. The only error is out of memory.
 pub fn new_value(
     alloc: Global,
     parting: bool,
@@ -60,8 +59,10 @@ pub fn new_value(
     piece: &[u8],
     old: Option<&PageValue>,
 ) -> Result<PageValue, OutOfMemory>
-    ensures { IfOk result (λ value. value ≡ stored_value parting new (unwrap_or (option_copied old.entry) Zero)
-        (bytes_after (record { at = at; bytes = piece.now }) p (bytes_of (unwrap_or (option_copied old.entry) Zero)))) }
+    ensures { IfOk result (λ value. value
+        ≡ stored_value parting new (unwrap_or (option_copied old.entry) Zero)
+        (bytes_after (record { at = at; bytes = piece.now }) p
+        (bytes_of (unwrap_or (option_copied old.entry) Zero)))) }
 {
     let mut bytes = copied_bytes(alloc, old)?;
     put_piece(&mut bytes, p, at, piece);

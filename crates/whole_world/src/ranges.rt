@@ -1,6 +1,7 @@
-ghost use Rattle.std.specs.Prelude.{◌≡◌, ℕ, ◌<◌, ◌≤◌, IsTrue};
-ghost use Rattle.whole_world.specs.Holders.{begins_after, count_of_ranges, moved_holder, own_if};
+ghost use Rattle.std.specs.Prelude.{◌≡◌, if◌then◌else◌, ℕ, ◌<◌, ◌≤◌, IsTrue};
+ghost use Rattle.whole_world.specs.Holders.{begins_after, count_of_ranges, moved_holder};
 ghost use Rattle.whole_world.specs.declared.holder.Holder as holders;
+ghost use Rattle.whole_world.specs.declared.holder.Holder.TheVariants.{Nobody, Own};
 
 use crate::facts::facts;
 use crate::holder::Holder;
@@ -20,7 +21,7 @@ fn moved_holder(mode: Mode, holder: Holder) -> Holder
 
 /// The holder of a page that is a context's own, if it is present.
 fn own_if(present: bool) -> Holder
-    ensures { result ≡ own_if present }
+    ensures { result ≡ if present then Own else Nobody }
 {
     if present { Holder::Own } else { Holder::Nobody }
 }
@@ -28,7 +29,8 @@ fn own_if(present: bool) -> Holder
 /// The number of ranges of this number of pages, by who has the value of each.
 fn count_ranges<F: Fn(u16) -> Holder>(pages: u16, holder: F) -> u32
     requires { F.IsAlwaysCallable holder }
-    ensures { (each : ℕ → holders.Holder) → ((p : ℕ) (h : holders.Holder) → p < pages → F.post holder p h → h ≡ each p) → result ≡ count_of_ranges pages each }
+    ensures { (each : ℕ → holders.Holder) → ((p : ℕ) (h : holders.Holder)
+        → p < pages → F.post holder p h → h ≡ each p) → result ≡ count_of_ranges pages each }
 {
     let mut before = Holder::Nobody;
     let mut count = 0;

@@ -128,7 +128,8 @@ impl WholeWorld {
     /// Whether all of some pages are present.
     pub(crate) fn are_present(&self, c: Name, pages: Touched) -> bool
         requires { IsTrue (is_live (seen self.now) c) }
-        ensures { result ≡ list_all (λ p. is_some (page_at (seen self.now) c p)) (range_with_len pages.first (pages.end - pages.first)) }
+        ensures { result ≡ list_all (λ p. is_some (page_at (seen self.now) c p))
+            (range_with_len pages.first (pages.end - pages.first)) }
     {
         (pages.first..pages.end).all(|p| self.is_present(c, p))
     }
@@ -146,7 +147,8 @@ impl WholeWorld {
     #[tactic(auto, using(crate::proofs::Places::count_of_range))]
     pub(crate) fn present_count(&self, c: Name) -> usize
         requires { IsTrue (is_live (seen self.now) c) }
-        ensures present { result ≡ count_by (λ p. is_some (page_at (seen self.now) c p)) (range_with_len 0 (seen self.now).size.pages) }
+        ensures present { result ≡ count_by (λ p. is_some (page_at (seen self.now) c p))
+            (range_with_len 0 (seen self.now).size.pages) }
         ensures few { result < 2 ^ 32 }
     {
         (0..self.page_count())
@@ -158,7 +160,8 @@ impl WholeWorld {
     #[tactic(auto, using(crate::proofs::Places::count_of_range))]
     pub(crate) fn filled_count(&self, c: Name) -> usize
         requires { IsTrue (is_live (seen self.now) c) }
-        ensures filled { result ≡ count_by (λ n. not (is_empty (slot_at (seen self.now) c n))) (range_with_len 0 SLOTS) }
+        ensures filled { result ≡ count_by (λ n. not (is_empty (slot_at (seen self.now) c n)))
+            (range_with_len 0 SLOTS) }
         ensures few { result ≤ SLOTS }
     {
         (0..SLOTS).filter(|n| !self.is_slot_empty(c, *n)).count()

@@ -1,14 +1,16 @@
-ghost use Rattle.std.specs.Prelude.{◌≡◌, ◌+◌, ◌<◌, ◌≤◌, ◌^◌, IsTrue, OnErr, OnOk, true, vec_len};
+ghost use Rattle.std.specs.Prelude.{◌≡◌, if◌then◌else◌, ◌+◌, ◌<◌, ◌≤◌, ◌^◌, IsTrue, OnErr, OnOk, true, vec_len};
 ghost use Rattle.std.specs.List.{list_any, range_with_len};
 ghost use Rattle.lwc_base.specs.declared.descriptor.TheConstants.{SLOTS};
 ghost use Rattle.lwc_base.specs.declared.key.Key.TheVariants.{Page, Slot};
 ghost use Rattle.lwc_base.specs.declared.key.Kind.TheVariants as kind;
+ghost use Rattle.lwc_base.specs.declared.cell.Cell.TheVariants.{Common};
+ghost use Rattle.lwc_base.specs.Cells.{with_cell, with_value};
 ghost use Rattle.lwc_base.specs.Modes.{IsSpec, mode_or_copy};
-ghost use Rattle.lwc_base.specs.Sharing.{any_key, with_shared, moved_values, is_moved};
+ghost use Rattle.lwc_base.specs.Sharing.{any_key, with_shared, moved_value, moved_values, is_moved};
 ghost use Rattle.lwc_base.specs.World.{new_group};
 ghost use Rattle.whole_world.specs.Rows.{context_of, group_of};
-ghost use Rattle.whole_world.specs.Sharing.{gave, gives, is_below, takes, took};
-ghost use Rattle.whole_world.specs.Sound.{HasGroupKey, HasGroupSizeOf, HasKey, HasSizeOf, HasSlot, IsWhole, IsWholeGroup};
+ghost use Rattle.whole_world.specs.Sharing.{gave, is_below, took};
+ghost use Rattle.whole_world.specs.Sound.{HasGroupSizeOf, HasKey, HasSizeOf, HasSlot, IsWhole, IsWholeGroup};
 
 use crate::context_row::ContextRow;
 use crate::facts::facts;
@@ -22,14 +24,16 @@ impl ContextRow {
     #[tactic(auto, unfolding(lwc_base::specs::Sharing::any_key))]
     pub fn moves_any(&self, pages: u16, spec: &Spec) -> bool
         requires { IsWhole pages self.now }
-        ensures { result ≡ any_key pages (λ k. is_moved (mode_or_copy spec.now k) k ((context_of self.now).cell k)) }
+        ensures { result ≡ any_key pages (λ k. is_moved (mode_or_copy spec.now k) k
+            ((context_of self.now).cell k)) }
     {
         self.moves_pages(pages, spec) || self.moves_slots(spec) || self.moves(spec, Key::Cred)
     }
 
     /// Whether the value of any page moves.
     fn moves_pages(&self, pages: u16, spec: &Spec) -> bool
-        ensures { result ≡ list_any (λ p. is_moved (mode_or_copy spec.now (Page p)) (Page p) ((context_of self.now).cell (Page p))) (range_with_len 0 pages) }
+        ensures { result ≡ list_any (λ p. is_moved (mode_or_copy spec.now (Page p)) (Page p)
+            ((context_of self.now).cell (Page p))) (range_with_len 0 pages) }
     {
         (0..pages).any(|p| self.moves(spec, Key::Page(p)))
     }
@@ -37,14 +41,15 @@ impl ContextRow {
     /// Whether the value of any slot moves.
     fn moves_slots(&self, spec: &Spec) -> bool
         requires { vec_len self.now.slots ≡ SLOTS }
-        ensures { result ≡ list_any (λ n. is_moved (mode_or_copy spec.now (Slot n)) (Slot n) ((context_of self.now).cell (Slot n))) (range_with_len 0 SLOTS) }
+        ensures { result ≡ list_any (λ n. is_moved (mode_or_copy spec.now (Slot n)) (Slot n)
+            ((context_of self.now).cell (Slot n))) (range_with_len 0 SLOTS) }
     {
         (0..SLOTS).any(|n| self.moves(spec, Key::Slot(n)))
     }
 
     /// Whether the value under a key moves.
     fn moves(&self, spec: &Spec, key: Key) -> bool
-        requires { HasSlot self.now key }
+        requires { HasSlot (vec_len self.now.slots) key }
         ensures { result ≡ is_moved (mode_or_copy spec.now key) key ((context_of self.now).cell key) }
     {
         self.is_moved(mode_or_copy(spec, key), key)
@@ -71,9 +76,11 @@ impl ContextRow {
         requires whole { IsWhole pages self.old }
         requires whole_group { IsWholeGroup pages group.old }
         ensures whole { IsWhole pages self.new }
-        ensures context { context_of self.new ≡ gave (is_below kind.Page pages) name spec.now (context_of self.old) }
+        ensures context { context_of self.new
+            ≡ gave (is_below kind.Page pages) name spec.now (context_of self.old) }
         ensures whole_group { IsWholeGroup pages group.new }
-        ensures group { group_of group.new ≡ took (is_below kind.Page pages) spec.now (context_of self.old) (group_of group.old) }
+        ensures group { group_of group.new
+            ≡ took (is_below kind.Page pages) spec.now (context_of self.old) (group_of group.old) }
     {
         for p in 0..pages {
             let key = Key::Page(p);
@@ -86,9 +93,11 @@ impl ContextRow {
         requires whole { IsWhole pages self.old }
         requires whole_group { IsWholeGroup pages group.old }
         ensures whole { IsWhole pages self.new }
-        ensures context { context_of self.new ≡ gave (is_below kind.Slot SLOTS) name spec.now (context_of self.old) }
+        ensures context { context_of self.new
+            ≡ gave (is_below kind.Slot SLOTS) name spec.now (context_of self.old) }
         ensures whole_group { IsWholeGroup pages group.new }
-        ensures group { group_of group.new ≡ took (is_below kind.Slot SLOTS) spec.now (context_of self.old) (group_of group.old) }
+        ensures group { group_of group.new
+            ≡ took (is_below kind.Slot SLOTS) spec.now (context_of self.old) (group_of group.old) }
     {
         for n in 0..SLOTS {
             let key = Key::Slot(n);
@@ -98,12 +107,15 @@ impl ContextRow {
 
     /// Moves the value under a key, if it is the context's own and under share.
     fn move_key(&mut self, mode: Mode, key: Key, name: Name, group: &mut GroupRow)
-        requires place { HasKey self.old key }
-        requires group_place { HasGroupKey group.old key }
+        requires place { HasKey (vec_len self.old.pages) (vec_len self.old.slots) key }
+        requires group_place { HasKey (vec_len group.old.pages) (vec_len group.old.slots) key }
         ensures size { HasSizeOf self.old self.new }
-        ensures context { context_of self.new ≡ gives name mode key (context_of self.old) }
+        ensures context { context_of self.new ≡ (if is_moved mode key ((context_of self.old).cell key)
+            then with_cell key (Common name) (context_of self.old) else context_of self.old) }
         ensures group_size { HasGroupSizeOf group.old group.new }
-        ensures group { group_of group.new ≡ takes mode key ((context_of self.old).cell key) (group_of group.old) }
+        ensures group { group_of group.new ≡ (let cell = (context_of self.old).cell key in
+            if is_moved mode key cell then with_value key (moved_value mode key cell) (group_of group.old)
+            else group_of group.old) }
     {
         if self.is_moved(mode, key) {
             group.put(self.give(key, name));
@@ -128,8 +140,8 @@ impl WholeWorld {
         self.row(c).moves_any(self.page_count(), spec)
     }
 
-    /// Moves a context's own values under share into a new group of the job, if there are any. Memory for the row of the
-    /// group has been taken, and the only error is out of memory.
+    /// Moves a context's own values under share into a new group of the job, if there are any. The only error is
+    /// out of memory; that for the row of the group has been taken.
     pub(crate) fn share(&mut self, c: Name, spec: &Spec, job: u32) -> Result<(), OutOfMemory>
         requires live { IsTrue (is_live (seen self.old) c) }
         requires within { IsSpec (seen self.old).size.pages spec.now }
@@ -148,7 +160,7 @@ impl WholeWorld {
         Ok(())
     }
 
-    /// Moves a context's own values under share into this group, which has nothing in it and which the job makes.
+    /// Moves a context's own values under share into the job's next group, which gets this empty row.
     fn share_into(&mut self, c: Name, spec: &Spec, job: u32, mut group: GroupRow)
         requires live { IsTrue (is_live (seen self.old) c) }
         requires within { IsSpec (seen self.old).size.pages spec.now }
@@ -169,7 +181,7 @@ impl WholeWorld {
         self.groups.insert(name, group);
     }
 
-    /// Moves a context's own values under share into a group with nothing in it, whose name its job has counted.
+    /// Moves a context's own values under share into an empty group, whose name its job has counted.
     fn move_out(&mut self, c: Name, spec: &Spec, name: Name, group: &mut GroupRow)
         requires within { IsSpec (seen self.old).size.pages spec.now }
         requires counted { IsNamedGroup (seen self.old).next name }

@@ -16,7 +16,8 @@ impl WholeWorld {
     #[tactic(auto, using(crate::proofs::Places::count_of_range))]
     pub(crate) fn parting_count(&self, c: Name, pages: Touched) -> usize
         requires { IsTrue (is_live (seen self.now) c) }
-        ensures parting { result ≡ count_by (λ p. is_parting (seen self.now) (page_value_at (seen self.now) c p))
+        ensures parting { result ≡ count_by (λ p. is_parting (seen self.now) (page_value_at
+            (seen self.now) c p))
             (range_with_len pages.first (pages.end - pages.first)) }
         ensures few { result ≤ pages.end - pages.first }
     {
@@ -37,7 +38,8 @@ impl WholeWorld {
         requires live { IsTrue (is_live (seen self.now) c) }
         requires job { job < (seen self.now).size.jobs }
         requires counted { ((seen self.now).next job).tags < 2 ^ 31 }
-        ensures { IfOk result (λ values. values.items ≡ plan (seen self.now) c job (record { at = at; bytes = piece.now })
+        ensures { IfOk result (λ values. values.items
+            ≡ plan (seen self.now) c job (record { at = at; bytes = piece.now })
             ((seen self.now).next job).tags (range_with_len pages.first (pages.end - pages.first))) }
     {
         let mut k = self.counts_of(job).tags;

@@ -1,9 +1,9 @@
-ghost use Rattle.std.specs.Prelude.{◌≡◌, ◌+◌, ◌++◌, ◌<◌, ◌≤◌, ◌^◌, IfSome, IfNone, IsTrue, [], Option, length};
+ghost use Rattle.std.specs.Prelude.{◌≡◌, ◌||◌, ◌+◌, ◌++◌, ◌<◌, ◌≤◌, ◌^◌, IfSome, IfNone, IsTrue, [], Option, length};
 ghost use Rattle.std.specs.List.{flat_map};
 ghost use Rattle.std.specs.Option.{option_copied, option_to_list};
 ghost use Rattle.lwc_base.specs.declared.page.PageValue.{PageValue};
 ghost use Rattle.lwc_base.specs.Frames.{own_value, tag_of};
-ghost use Rattle.whole_world.specs.Tags.{context_tags, different, group_tags, has_tag, is_new, page_tags, row_tags, rows_count, rows_tags, times};
+ghost use Rattle.whole_world.specs.Tags.{different, has_tag, page_tags, row_tags, rows_count, rows_tags, times};
 
 use crate::context_row::ContextRow;
 use crate::facts::facts;
@@ -78,26 +78,36 @@ fn count_tag<P: Page>(pages: &[P], tag: Tag) -> usize
 /// The number of different tags of some pages that are not in later rows.
 fn count_new_tags<P: Page>(pages: &[P], later: Rows) -> usize
     requires { length (page_tags P.value pages.now) < 2 ^ 32 }
-    ensures { result + different (rows_tags later.entry) ≡ different (page_tags P.value pages.now ++ rows_tags later.entry) }
+    ensures { result + different (rows_tags later.entry)
+        ≡ different (page_tags P.value pages.now ++ rows_tags later.entry) }
 {
     facts();
     let mut count = 0;
     let mut rest = pages;
     while let Some((first, after)) = rest.split_first() {
-        count += usize::from(is_new(tag_of(first.value()), after, later));
+        count += count_new_tag(tag_of(first.value()), after, later);
         rest = after;
     }
     count
 }
 
-/// Whether there is a tag, and it is in none of the pages and rows that follow.
-fn is_new<P: Page>(tag: Option<Tag>, pages: &[P], later: Rows) -> bool
-    ensures { result ≡ is_new tag (page_tags P.value pages.now ++ rows_tags later.entry) }
+/// 1 if there is a tag that is in none of the pages and rows that follow, and else 0.
+fn count_new_tag<P: Page>(tag: Option<Tag>, pages: &[P], later: Rows) -> usize
+    ensures { result + different (page_tags P.value pages.now ++ rows_tags later.entry)
+        ≡ different (option_to_list tag ++ (page_tags P.value pages.now ++ rows_tags later.entry)) }
 {
+    facts();
     match tag {
-        Some(tag) => !has_tag(pages, tag) && !later.has(tag),
-        None => false,
+        Some(tag) => usize::from(!follows(tag, pages, later)),
+        None => 0,
     }
+}
+
+/// Whether a tag is in some pages or in later rows.
+fn follows<P: Page>(tag: Tag, pages: &[P], later: Rows) -> bool
+    ensures { result ≡ (has_tag tag (page_tags P.value pages.now) || has_tag tag (rows_tags later.entry)) }
+{
+    has_tag(pages, tag) || later.has(tag)
 }
 
 /// A row of a context or of a group.
@@ -121,7 +131,8 @@ impl Row<'_> {
     /// The number of different tags of the row that are not in later rows.
     fn count_new(self, later: Rows) -> usize
         requires { length (row_tags self) < 2 ^ 32 }
-        ensures { result + different (rows_tags later.entry) ≡ different (row_tags self.entry ++ rows_tags later.entry) }
+        ensures { result + different (rows_tags later.entry)
+            ≡ different (row_tags self.entry ++ rows_tags later.entry) }
     {
         match self {
             Row::Context(row) => count_new_tags(row.1.pages.as_slice(), later),
@@ -162,7 +173,8 @@ impl<'a> Rows<'a> {
 
     /// Whether a tag is in the rows of contexts.
     fn contexts_have(self, tag: Tag) -> bool
-        ensures { result ≡ has_tag tag (flat_map (λ row. context_tags row.1) self.entry.contexts.now) }
+        ensures { result ≡ has_tag tag (flat_map
+            (λ row. page_tags own_value row.1.pages.items) self.entry.contexts.now) }
     {
         self.contexts
             .iter()
@@ -171,7 +183,8 @@ impl<'a> Rows<'a> {
 
     /// Whether a tag is in the rows of groups.
     fn groups_have(self, tag: Tag) -> bool
-        ensures { result ≡ has_tag tag (flat_map (λ row. group_tags row.1) self.entry.groups.now) }
+        ensures { result ≡ has_tag tag (flat_map (λ row. page_tags
+            (λ v. v) row.1.pages.items) self.entry.groups.now) }
     {
         self.groups
             .iter()

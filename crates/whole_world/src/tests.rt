@@ -147,7 +147,7 @@ fn a_credential_is_changed(rt: HostRuntime) -> Result<(), Fail> {
 }
 
 #[test]
-fn ranges_after_a_mapping_are_told(rt: HostRuntime) -> Result<(), Fail> {
+fn ranges_after_a_mapping_are_counted(rt: HostRuntime) -> Result<(), Fail> {
     let (world, c) = begun(rt.alloc(), 2)?;
     assert_eq!(rt;
         world.ranges_after_map(c, Range { from: 3, to: 4 }, true),

@@ -16,7 +16,7 @@ use lwc_base::{
 use std::alloc::Global;
 use world_face::World;
 
-/// A world in which each context and each group has a copy of its own of all that it has. It stands for `seen`.
+/// A world in which each context and each group has its own copy of all that it has. It stands for `seen`.
 #[derive(Drop)]
 pub struct WholeWorld {
     pub(crate) alloc: Global,

@@ -20,7 +20,7 @@ impl WholeWorld {
     ghost use Rattle.lwc_base.specs.World.{add_context, change_group, context, is_live, next_context};
     ghost use Rattle.whole_world.specs.KeyValues.{key_in, value_in};
     ghost use Rattle.whole_world.specs.Rows.{context_of};
-    ghost use Rattle.whole_world.specs.Sound.{IsSlot, IsWhole};
+    ghost use Rattle.whole_world.specs.Sound.{HasSlot, IsWhole};
     ghost use Rattle.whole_world.specs.Worlds.{HasRoom, seen};
     ghost use Rattle.world_face.specs.Calls.{HasPlace};
 
@@ -40,7 +40,8 @@ impl WholeWorld {
     /// Puts a value under a key of a group.
     fn put_common(&mut self, g: Name, value: KeyValue)
         requires { IsKey (seen self.old).size.pages (key_in value) }
-        ensures { seen self.new ≡ change_group (seen self.old) g (with_value (key_in value) (value_in value)) }
+        ensures { seen self.new ≡ change_group (seen self.old) g (with_value (key_in value)
+            (value_in value)) }
     {
         facts();
         match self.groups.position(g) {
@@ -49,10 +50,10 @@ impl WholeWorld {
         }
     }
 
-    /// Puts another value under a key of a context: the holder of the old one gets it. An absent page has no holder.
+    /// Puts another value under a key of a context, where the old one is. An absent page stays absent.
     pub(crate) fn put(&mut self, c: Name, value: KeyValue)
         requires live { IsTrue (is_live (seen self.old) c) }
-        requires within { IsSlot (key_in value) }
+        requires within { HasSlot SLOTS (key_in value) }
         ensures { seen self.new ≡ put_at (seen self.old) c (key_in value) (value_in value) }
     {
         match self.row(c).holder(value.key()) {

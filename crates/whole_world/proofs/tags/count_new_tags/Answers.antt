@@ -3,20 +3,20 @@ use Rattle.std.proofs.lemmas.List.{nil_from_length}
 use Rattle.lwc_base.specs.Frames.{tag_of}
 use Rattle.whole_world.specs.Tags.{different, page_tags, rows_tags}
 use Rattle.whole_world.proofs.Counted.{IsCountedNew, counted_new_more, counted_new-le-length, counted_new_all}
-use Rattle.whole_world.proofs.TagLists.{different-new, page_tags-cons, page_tags-nil}
+use Rattle.whole_world.proofs.TagLists.{page_tags-cons, page_tags-nil}
 use Rattle.whole_world.proofs.tags.count_new_tags.Goals as goal
 
-counted : (g : _) (c : goal.After-from-count g) →
-    IsCountedNew (rows_tags c.args.later) (page_tags g.P.Page.value c.args.pages.now) (page_tags g.P.Page.value c.in-Some.after.now) (c.loop-first.count + c.from-count.result)
+counted : (g : _) (c : goal.After-count_new_tag-count g) →
+    IsCountedNew (rows_tags c.args.later) (page_tags g.P.Page.value c.args.pages.now) (page_tags g.P.Page.value c.in-Some.after.now) (c.loop-first.count + c.count_new_tag-count.result)
 counted g c =
     let tags = page_tags g.P.Page.value in
     let others = rows_tags c.args.later in
     let first = tag_of (g.P.Page.value c.in-Some.first.now) in
     let own = c.tag_of.ensures ∙ ap tag_of c.value.ensures in
-    counted_new_more others (tags c.args.pages.now) first (tags c.in-Some.after.now) c.loop-first.count c.from-count.result
+    counted_new_more others (tags c.args.pages.now) first (tags c.in-Some.after.now) c.loop-first.count c.count_new_tag-count.result
     (subst (λ rest. IsCountedNew others (tags c.args.pages.now) rest c.loop-first.count)
     (ap tags c.in-Some.ensures.cases.0 ∙ page_tags-cons g.P.Page.value c.in-Some.first.now c.in-Some.after.now) c.loop-first.invariant)
-    (different-new c.facts.ensures c.tag_of.result (tags c.in-Some.after.now ++ others) c.from-count.result c.is_new.result c.from-count.ensures c.is_new.ensures
+    (c.count_new_tag-count.ensures
     ∙ ap (λ ts. different (ts ++ (tags c.in-Some.after.now ++ others))) own)
 
 pub overflow_add-count : goal.overflow_add-count

@@ -1,4 +1,4 @@
-use Rattle.std.proofs.Common.{◌≡◌, subst, sym}
+use Rattle.std.proofs.Common.{◌≡◌, subst, sym, vec_len}
 use Rattle.std.specs.Vec.{with_item}
 use Rattle.lwc_base.specs.declared.cell.Cell.TheVariants.{Own}
 use Rattle.lwc_base.specs.Cells.{with_cell}
@@ -11,12 +11,12 @@ use Rattle.whole_world.proofs.context_row.ContextRow.put.Goals as goal
 pub returns-in-Page-clause-context : goal.returns-in-Page-clause-context
 returns-in-Page-clause-context c =
     subst (λ v. context_of (record c.args.self.now { pages = with_item c.args.self.now.pages c.in-Page.p (Own c.in-Page.value) }) ≡ with_cell (key_in v) (Own (value_in v)) (context_of c.args.self.now)) (sym c.in-Page.is)
-    (context-page c.args.self.now c.in-Page.p (Own c.in-Page.value) (subst (λ v. HasKey c.args.self.now (key_in v)) c.in-Page.is c.requires))
+    (context-page c.args.self.now c.in-Page.p (Own c.in-Page.value) (subst (λ v. HasKey (vec_len c.args.self.now.pages) (vec_len c.args.self.now.slots) (key_in v)) c.in-Page.is c.requires))
 
 pub returns-in-Slot-clause-context : goal.returns-in-Slot-clause-context
 returns-in-Slot-clause-context c =
     subst (λ v. context_of (record c.args.self.now { slots = with_item c.args.self.now.slots c.in-Slot.n (Own c.in-Slot.value) }) ≡ with_cell (key_in v) (Own (value_in v)) (context_of c.args.self.now)) (sym c.in-Slot.is)
-    (context-slot c.args.self.now c.in-Slot.n (Own c.in-Slot.value) (subst (λ v. HasKey c.args.self.now (key_in v)) c.in-Slot.is c.requires))
+    (context-slot c.args.self.now c.in-Slot.n (Own c.in-Slot.value) (subst (λ v. HasKey (vec_len c.args.self.now.pages) (vec_len c.args.self.now.slots) (key_in v)) c.in-Slot.is c.requires))
 
 pub returns-in-Cred-clause-context : goal.returns-in-Cred-clause-context
 returns-in-Cred-clause-context c =

@@ -1,8 +1,9 @@
-use Rattle.std.proofs.Common.{◌∙◌, ap, refl, arith}
+use Rattle.std.proofs.Common.{◌∙◌, ap, cond, None, refl, Some, arith}
 use Rattle.lwc_base.specs.declared.cell.Cell.TheVariants.{Own}
 use Rattle.lwc_base.specs.declared.key.Key.TheVariants.{Page}
+use Rattle.lwc_base.specs.declared.page.PageValue.TheVariants.{Zero}
 use Rattle.lwc_base.specs.Cells.{with_cell}
-use Rattle.whole_world.specs.Rows.{context_of, zeros_if}
+use Rattle.whole_world.specs.Rows.{context_of}
 use Rattle.whole_world.proofs.Rows.{on_pages-none, on_pages-more}
 use Rattle.whole_world.proofs.context_row.ContextRow.set_pages.Goals as goal
 
@@ -10,7 +11,7 @@ pub loop-p-init : goal.loop-p-init
 loop-p-init c = record {
   size = record { pages = refl; slots = refl };
   begun = omega arith;
-  context = on_pages-none c.args.from (Own (zeros_if c.args.present)) (context_of c.args.self.now);
+  context = on_pages-none c.args.from (Own (cond c.args.present (Some Zero) None)) (context_of c.args.self.now);
 }
 
 pub put-requires : goal.put-requires
@@ -23,6 +24,6 @@ loop-p-preserved c =
     record {
       size = record { pages = puts.size.pages ∙ before.size.pages; slots = puts.size.slots ∙ before.size.slots };
       begun = omega (arith, before.begun);
-      context = on_pages-more c.args.from c.loop-p.p (Own (zeros_if c.args.present)) (context_of c.args.self.now) _ _ before.begun before.context
+      context = on_pages-more c.args.from c.loop-p.p (Own (cond c.args.present (Some Zero) None)) (context_of c.args.self.now) _ _ before.begun before.context
           (puts.context ∙ ap (λ value. with_cell (Page c.loop-p.p) (Own value) (context_of c.loop-p.self)) c.zeros_if.ensures);
     }

@@ -3,11 +3,11 @@ use Rattle.std.proofs.lemmas.Iterator.{YieldsList-from_slice}
 use Rattle.std.proofs.lemmas.Iterator.Search.{any_from_yields_List}
 use Rattle.lwc_base.specs.declared.name.Name.{Name}
 use Rattle.whole_world.specs.declared.group_row.GroupRow.{GroupRow}
-use Rattle.whole_world.specs.Tags.{group_tags, has_tag}
+use Rattle.whole_world.specs.Tags.{has_tag, page_tags}
 use Rattle.whole_world.proofs.TagLists.{has_tag-flat_map}
 use Rattle.whole_world.proofs.tags.Rows.groups_have.Goals as goal
 
 pub returns : goal.returns
 returns c =
-    any_from_yields_List (λ (row : Name × GroupRow). has_tag c.args.tag (group_tags row.1)) _ _ _ c.any.ensures.ran (YieldsList-from_slice c.args.self.groups.now cc) (λ x b q k. search (rules, tests))
-    ∙ sym (has_tag-flat_map c.args.tag (λ (row : Name × GroupRow). group_tags row.1) c.args.self.groups.now)
+    any_from_yields_List (λ (row : Name × GroupRow). has_tag c.args.tag (page_tags (λ v. v) row.1.pages.items)) _ _ _ c.any.ensures.ran (YieldsList-from_slice c.args.self.groups.now cc) (λ x b q k. search (rules, tests))
+    ∙ sym (has_tag-flat_map c.args.tag (λ (row : Name × GroupRow). page_tags (λ v. v) row.1.pages.items) c.args.self.groups.now)

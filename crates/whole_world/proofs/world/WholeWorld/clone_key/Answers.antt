@@ -3,11 +3,11 @@ use Rattle.lwc_base.specs.declared.cell.Cell.TheVariants.{Common, Own}
 use Rattle.lwc_base.specs.Cells.{with_cell}
 use Rattle.lwc_base.specs.Keys.{ValueOf, nothing}
 use Rattle.lwc_base.specs.Modes.{mode_or_copy}
-use Rattle.lwc_base.specs.Sharing.{cloned_cell, share}
 use Rattle.lwc_base.specs.World.{Context}
 use Rattle.whole_world.specs.Holders.{holder_of}
 use Rattle.whole_world.specs.KeyValues.{value_in}
 use Rattle.whole_world.specs.Rows.{context_of}
+use Rattle.whole_world.specs.Sharing.{clone_cells}
 use Rattle.whole_world.specs.Worlds.{seen}
 use Rattle.whole_world.proofs.CloneCells.{key_copied, key_shared, key_unmapped}
 use Rattle.whole_world.proofs.Keyed.{is-nobody, put-cell, shared-group, shared-nobody, shared-own}
@@ -17,7 +17,7 @@ use Rattle.whole_world.proofs.world.WholeWorld.clone_key.Goals as goal
 pub returns-in_ok-copied_value-in-Copy-clause-context : goal.returns-in_ok-copied_value-in-Copy-clause-context
 returns-in_ok-copied_value-in-Copy-clause-context c =
     c.put.ensures.context
-    ∙ put-cell (context_of c.args.row.now) c.in_ok-copied_value-in-Copy.field-0 c.args.key (λ k. cloned_cell (share (seen c.args.self.now) c.args.c c.args.job c.args.spec.now) c.args.c k (mode_or_copy c.args.spec.now k)) c.in_ok-copied_value-in-Copy.ensures.key
+    ∙ put-cell (context_of c.args.row.now) c.in_ok-copied_value-in-Copy.field-0 c.args.key (clone_cells (seen c.args.self.now) c.args.c c.args.job c.args.spec.now) c.in_ok-copied_value-in-Copy.ensures.key
     (ap Own c.in_ok-copied_value-in-Copy.ensures.value
     ∙ key_copied c.facts.ensures (seen c.args.self.now) c.args.c c.args.job c.args.spec.now (fresh-seen c.args.self.now) c.requires.live c.requires.within _
     (ap (mode_or_copy c.args.spec.now) c.in_ok-copied_value-in-Copy.ensures.key ∙ sym c.mode_or_copy.ensures ∙ c.in-Copy.is))
@@ -42,15 +42,15 @@ pub returns-in-Nobody-clause-context : goal.returns-in-Nobody-clause-context
 returns-in-Nobody-clause-context c =
     let is_here = ap (λ (x : Context). holder_of c.args.key (x.cell c.args.key)) c.row.ensures.context ∙ sym c.holder.ensures in
     c.put-in-Nobody.ensures.context
-    ∙ put-cell (context_of c.args.row.now) c.nothing.result c.args.key (λ k. cloned_cell (share (seen c.args.self.now) c.args.c c.args.job c.args.spec.now) c.args.c k (mode_or_copy c.args.spec.now k)) c.nothing.ensures.key
-    (subst (λ k. (v : ValueOf k) → v ≡ nothing k → Own v ≡ cloned_cell (share (seen c.args.self.now) c.args.c c.args.job c.args.spec.now) c.args.c k (mode_or_copy c.args.spec.now k)) (sym c.nothing.ensures.key)
+    ∙ put-cell (context_of c.args.row.now) c.nothing.result c.args.key (clone_cells (seen c.args.self.now) c.args.c c.args.job c.args.spec.now) c.nothing.ensures.key
+    (subst (λ k. (v : ValueOf k) → v ≡ nothing k → Own v ≡ clone_cells (seen c.args.self.now) c.args.c c.args.job c.args.spec.now k) (sym c.nothing.ensures.key)
     (λ v is. ap Own is ∙ sym (shared-nobody c.args.key _ _ (is-nobody c.args.key _ _ is_here c.in-Nobody.is)) ∙ key_shared c.facts.ensures (seen c.args.self.now) c.args.c c.args.job c.args.spec.now (fresh-seen c.args.self.now) c.requires.live c.requires.within c.args.key (sym c.mode_or_copy.ensures ∙ c.in-Share.is))
     (value_in c.nothing.result) c.nothing.ensures.value)
 
 pub returns-in-Unmap-clause-context : goal.returns-in-Unmap-clause-context
 returns-in-Unmap-clause-context c =
     c.put-in-Unmap.ensures.context
-    ∙ put-cell (context_of c.args.row.now) c.nothing-in-Unmap.result c.args.key (λ k. cloned_cell (share (seen c.args.self.now) c.args.c c.args.job c.args.spec.now) c.args.c k (mode_or_copy c.args.spec.now k)) c.nothing-in-Unmap.ensures.key
+    ∙ put-cell (context_of c.args.row.now) c.nothing-in-Unmap.result c.args.key (clone_cells (seen c.args.self.now) c.args.c c.args.job c.args.spec.now) c.nothing-in-Unmap.ensures.key
     (ap Own c.nothing-in-Unmap.ensures.value
     ∙ key_unmapped c.facts.ensures (seen c.args.self.now) c.args.c c.args.job c.args.spec.now (fresh-seen c.args.self.now) c.requires.live c.requires.within _
     (ap (mode_or_copy c.args.spec.now) c.nothing-in-Unmap.ensures.key ∙ sym c.mode_or_copy.ensures ∙ c.in-Unmap.is))

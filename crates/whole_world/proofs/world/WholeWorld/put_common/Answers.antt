@@ -3,13 +3,14 @@ use Rattle.lwc_base.specs.Cells.{with_value}
 use Rattle.whole_world.specs.KeyValues.{key_in, value_in}
 use Rattle.whole_world.specs.States.{world_of}
 use Rattle.whole_world.specs.Worlds.{seen}
-use Rattle.whole_world.proofs.Worlds.{change_group-at, change_group-missed, has_group_key, sound-group_at, still_whole_group, whole_group-at}
+use Rattle.whole_world.proofs.Worlds.{change_group-at, change_group-missed, has_key, sound-group_at, still_whole_group, whole_group-at}
 use Rattle.whole_world.proofs.world.WholeWorld.put_common.Goals as goal
 
 pub put-requires : goal.put-requires
 unfolding seen world_of
 put-requires c =
-    has_group_key _ _ (key_in c.args.value) (whole_group-at _ _ _ _ c.args.self.now.sound c.facts.ensures c.args.g c.in-Some.i _ (sym c.position.ensures ∙ c.in-Some.is) c.index_mut.ensures.value) c.requires
+    let whole = whole_group-at _ _ _ _ c.args.self.now.sound c.facts.ensures c.args.g c.in-Some.i _ (sym c.position.ensures ∙ c.in-Some.is) c.index_mut.ensures.value in
+    has_key _ _ _ (key_in c.args.value) whole.pages whole.slots c.requires
 
 pub invariant_of-self : goal.invariant_of-self
 invariant_of-self c =

@@ -12,7 +12,8 @@ use Rattle.whole_world.proofs.world.WholeWorld.put_own.Goals as goal
 pub put-requires : goal.put-requires
 unfolding seen world_of
 put-requires c =
-    has_key _ _ (key_in c.args.value) (whole-at _ _ _ _ c.args.self.now.sound c.facts.ensures c.args.c c.in-Some.i _ (sym c.position.ensures ∙ c.in-Some.is) c.index_mut.ensures.value) c.requires.within
+    let whole = whole-at _ _ _ _ c.args.self.now.sound c.facts.ensures c.args.c c.in-Some.i _ (sym c.position.ensures ∙ c.in-Some.is) c.index_mut.ensures.value in
+    has_key _ _ _ (key_in c.args.value) whole.pages whole.slots c.requires.within
 
 pub invariant_of-self : goal.invariant_of-self
 unfolding seen put_at
