@@ -3,7 +3,7 @@ use Rattle.std.specs.FinMap as fm
 use Rattle.lwc_base.specs.declared.size.WorldSize.{WorldSize}
 use Rattle.lwc_base.specs.Mapping.{map_pages}
 use Rattle.lwc_base.specs.Ranges.{ranges_of}
-use Rattle.lwc_base.specs.World.{World, Counters, empty_world}
+use Rattle.lwc_base.specs.World.{World, Counters}
 use Rattle.whole_world.specs.Worlds.{seen}
 use Rattle.whole_world.proofs.BegunWorld.{counts-empty, few_ranges, live-begun, live-made, next-begun, no_group-begun, none-empty, one-begun, size-begun, size-empty, size-made}
 use Rattle.whole_world.proofs.tests.begun.Goals as goal
