@@ -1,8 +1,7 @@
 -- The cells of a context and of its clone, what they read, and what they have apart and in common.
-use Rattle.std.proofs.Common.{◌≡◌, ◌≢◌, ℕ, refl, sym, ap, subst, ◌∙◌, inl, inr, true, false, cond, eqb, List, arith}
-use Rattle.std.specs.Prelude.{unwrap_or}
+use Rattle.std.proofs.Common.{◌≡◌, ◌≢◌, ℕ, refl, sym, ap, subst, ◌∙◌, true, false, List, arith, rules}
+use Rattle.std.proofs.lemmas.Bool.Decides.{nat_tests}
 use Rattle.std.specs.FinMap as fm
-use Rattle.std.proofs.lemmas.Bool.{cases_Bool, cond_both, false≢true}
 use Rattle.lwc_base.specs.declared.cell.Cell.{Cell}
 use Rattle.lwc_base.specs.declared.cell.Cell.TheVariants.{Own, Common}
 use Rattle.lwc_base.specs.declared.item.Item.{Item}
@@ -12,31 +11,20 @@ use Rattle.lwc_base.specs.declared.key.Key.{Key}
 use Rattle.lwc_base.specs.declared.name.Name.{Name}
 use Rattle.lwc_base.specs.Cells.{value_at}
 use Rattle.lwc_base.specs.Clones.{IsClone, AreApart, HaveInCommon}
-use Rattle.lwc_base.specs.Facts.{AddsContext}
-use Rattle.lwc_base.specs.Fresh.{IsNamedGroup}
+use Rattle.lwc_base.specs.Facts.{AddsContext, SharesValues}
 use Rattle.lwc_base.specs.Holders.{InCell, IsGroup}
 use Rattle.lwc_base.specs.Keys.{ValueOf, is_there, nothing}
 use Rattle.lwc_base.specs.Modes.{IsKey, mode_or_copy}
 use Rattle.lwc_base.specs.Sharing.{is_moved, needs_group, with_shared, share, cloned_cell, cloned_context, clone_context}
 use Rattle.lwc_base.specs.Sound.{HasValue, live_groups}
-use Rattle.lwc_base.specs.World.{World, Context, Counters, Group, context, group, new_group, is_live, next_context, next_group}
+use Rattle.lwc_base.specs.World.{World, Context, Group, context, is_live, next_context, next_group}
 use Rattle.lwc_base.proofs.Common.{value_at-same, value_at-cell}
-use Rattle.lwc_base.proofs.Fresh.{next_context-new}
+use Rattle.lwc_base.proofs.Fresh.{next_context-new, next_group-new}
 use Rattle.lwc_base.proofs.Lookups.{adds-add_context}
-use Rattle.lwc_base.proofs.Needs.{needed-key}
+use Rattle.lwc_base.proofs.Needs.{needed-key, needed-own}
 use Rattle.lwc_base.proofs.Orders.{cases_name}
 use Rattle.lwc_base.proofs.Puts.{live_of_common}
-use Rattle.lwc_base.proofs.Sharing.{shares-share, named-not-next, value_at-share}
-
-common_stays : (mode : Mode) (k : Key) (g : Name) → is_moved mode k (Common g) ≡ false
-common_stays Copy k g = refl
-common_stays Share k g = refl
-common_stays Unmap k g = refl
-
-unshared_stays : (mode : Mode) (k : Key) (cell : Cell (ValueOf k)) → mode ≢ Share → is_moved mode k cell ≡ false
-unshared_stays Copy k cell other = refl
-unshared_stays Share k cell other = absurd (other refl)
-unshared_stays Unmap k cell other = refl
+use Rattle.lwc_base.proofs.Sharing.{group-same, shares-share, named-not-next, value_at-share}
 
 module _ (w : World) (c : Name) (job : ℕ) (items : List Item) where
   abbrev shared : World
@@ -45,68 +33,34 @@ module _ (w : World) (c : Name) (job : ℕ) (items : List Item) where
   -- the next context of a job has the same name after sharing
   pub next_context-share : (j : ℕ) → next_context shared j ≡ next_context w j
   next_context-share j =
-      elim (cases_Bool (needs_group w c items)) [
-        | inr none ↦ ap (λ v. next_context v j) ((shares-share w c job items).none none)
-        | inl needs ↦
-            ap (λ (n : ℕ → Counters). record { job = j; k = (n j).contexts }) ((shares-share w c job items).next needs)
-            ∙ ap (λ n. record { job = j; k = n }) (cond_both (eqb j job) _ (w.next j) (λ (n : Counters). n.contexts ≡ (w.next j).contexts) (λ _. refl) (λ _. refl))
-      ]
-
-  -- a cell whose value does not move
-  pub cell-stays : (k : Key) → is_moved (mode_or_copy items k) k ((context w c).cell k) ≡ false → (context shared c).cell k ≡ (context w c).cell k
-  unfolding with_shared
-  cell-stays k stays =
       let shares = shares-share w c job items in
-      elim (cases_Bool (is_live w c)) [
-        | inr dead ↦ ap (λ (x : Context). x.cell k) (shares.dead dead)
-        | inl live ↦ elim (cases_Bool (needs_group w c items)) [
-          | inr none ↦ ap (λ v. (context v c).cell k) (shares.none none)
-          | inl needs ↦ ap (λ (x : Context). x.cell k) (shares.named needs live) ∙ ap (λ b. cond b (Common (next_group w job)) ((context w c).cell k)) stays
-        ]
-      ]
+      let same : (shared.next j).contexts ≡ (w.next j).contexts = grind (arith, nat_tests) in ap (λ n. record { job = j; k = n }) same
 
-  -- a cell whose value moves
-  pub cell-moves : (k : Key) → is_live w c ≡ true → IsKey w.size.pages k → is_moved (mode_or_copy items k) k ((context w c).cell k) ≡ true →
+  -- a cell whose value does not move, and one whose value does
+  cell-stays : (k : Key) → is_moved (mode_or_copy items k) k ((context w c).cell k) ≡ false → (context shared c).cell k ≡ (context w c).cell k
+  unfolding with_shared
+  cell-stays k stays = let shares = shares-share w c job items in grind arith
+
+  cell-moves : (k : Key) → is_live w c ≡ true → IsKey w.size.pages k → is_moved (mode_or_copy items k) k ((context w c).cell k) ≡ true →
       (context shared c).cell k ≡ Common (next_group w job)
   unfolding with_shared
-  cell-moves k live within moves =
-      ap (λ (x : Context). x.cell k) ((shares-share w c job items).named (needed-key w c items k within moves) live)
-      ∙ ap (λ b. cond b (Common (next_group w job)) ((context w c).cell k)) moves
+  cell-moves k live within moves = let shares = shares-share w c job items in let needs = needed-key w c items k within moves in grind arith
 
-  -- a group that a cell names is named by that cell before, or the value of the cell has moved
+  -- a group that a cell names was named by that cell, or it is the new one; and a group that was named is so still
   named-before : (a : Name) (k : Key) (g : Name) → (context shared a).cell k ≡ Common g → g ≢ next_group w job → (context w a).cell k ≡ Common g
   unfolding with_shared
-  named-before a k g names other =
-      let shares = shares-share w c job items in
-      cases_name a c
-      (λ same. subst (λ d. (context w d).cell k ≡ Common g) (sym same)
-      (let here : (context shared c).cell k ≡ Common g = subst (λ d. (context shared d).cell k ≡ Common g) same names in
-      elim (cases_Bool (is_moved (mode_or_copy items k) k ((context w c).cell k))) [
-        | inr stays ↦ sym (cell-stays k stays) ∙ here
-        | inl moves ↦ elim (cases_Bool (is_live w c)) [
-          | inr dead ↦ ap (λ (x : Context). x.cell k) (sym (shares.dead dead)) ∙ here
-          | inl live ↦ elim (cases_Bool (needs_group w c items)) [
-            | inr none ↦ ap (λ v. (context v c).cell k) (sym (shares.none none)) ∙ here
-            | inl needs ↦
-                let new : Common (next_group w job) ≡ Common g =
-                sym (ap (λ (x : Context). x.cell k) (shares.named needs live) ∙ ap (λ b. cond b (Common (next_group w job)) ((context w c).cell k)) moves) ∙ here in
-                let same_group : next_group w job ≡ g = cc in absurd (other (sym same_group))
-          ]
-        ]
-      ]))
-      (λ differ. ap (λ (x : Context). x.cell k) (sym (shares.others a differ)) ∙ names)
+  named-before a k g names other = let shares = shares-share w c job items in grind (arith, cases_name)
 
   named-after : (a : Name) (k : Key) (g : Name) → (context w a).cell k ≡ Common g → (context shared a).cell k ≡ Common g
-  named-after a k g names =
-      cases_name a c
-      (λ same. subst (λ d. (context shared d).cell k ≡ Common g) (sym same)
-      (let here : (context w c).cell k ≡ Common g = subst (λ d. (context w d).cell k ≡ Common g) same names in
-      cell-stays k (ap (is_moved (mode_or_copy items k) k) here ∙ common_stays (mode_or_copy items k) k g) ∙ here))
-      (λ differ. ap (λ (x : Context). x.cell k) ((shares-share w c job items).others a differ) ∙ names)
+  unfolding with_shared
+  named-after a k g names = let shares = shares-share w c job items in grind (arith, cases_name)
 
 module _ (w v : World) (c d : Name) (items : List Item) (made : IsClone w v c d items) where
   abbrev between : World
   between = share w c made.job items
+
+  shares : SharesValues w c made.job items between
+  shares = shares-share w c made.job items
 
   abbrev new : Context
   new = cloned_context between c items made.entry
@@ -115,26 +69,21 @@ module _ (w v : World) (c d : Name) (items : List Item) (made : IsClone w v c d 
   unfolding clone_context
   adds = subst (AddsContext between made.job new) (sym made.made) (adds-add_context between made.job new)
 
-  named : d ≡ next_context between made.job
-  named = made.named ∙ sym (next_context-share w c made.job items made.job)
-
-  not-next : (e : Name) → is_live w e ≡ true → e ≢ next_context w made.job
-  not-next e live same = false≢true (sym (next_context-new w made.job made.fresh) ∙ ap (is_live w) (sym same) ∙ live)
-
   -- the new context has a new name
-  pub clone-differs : (e : Name) → is_live w e ≡ true → e ≢ d
-  clone-differs e live same = not-next e live (same ∙ made.named)
+  differs : (e : Name) → is_live w e ≡ true → (e ≢ d) × (e ≢ next_context between made.job)
+  differs e live =
+      let fresh = next_context-new w made.job made.fresh in
+      let named = made.named in
+      let same = next_context-share w c made.job items made.job in
+      ((λ is. grind arith), (λ is. grind arith))
 
   as_shared : (e : Name) → is_live w e ≡ true → context v e ≡ context between e
-  as_shared e live = adds.others e (λ same. not-next e live (same ∙ next_context-share w c made.job items made.job))
-
-  same_groups : (g : Name) → group v g ≡ group between g
-  unfolding group
-  same_groups g = ap (λ m. unwrap_or (fm.get m g) new_group) adds.groups
+  as_shared e live = adds.others e (differs e live).1
 
   cell-new : (k : Key) (mode : Mode) → mode_or_copy items k ≡ mode → (context v d).cell k ≡ cloned_cell between c k mode
   unfolding cloned_context
-  cell-new k mode is = ap (λ (x : Context). x.cell k) (ap (context v) named ∙ adds.added) ∙ ap (cloned_cell between c k) is
+  cell-new k mode is =
+      let added = adds.added in let named = made.named in let same = next_context-share w c made.job items made.job in grind arith
 
   -- the cells of the clone
   pub clone-copied : (k : Key) → mode_or_copy items k ≡ Copy → (context v d).cell k ≡ Own (value_at w c k)
@@ -151,44 +100,41 @@ module _ (w v : World) (c d : Name) (items : List Item) (made : IsClone w v c d 
 
   -- the cells of the context that is cloned
   pub clone-unshared : (k : Key) → mode_or_copy items k ≢ Share → (context v c).cell k ≡ (context w c).cell k
-  clone-unshared k other = stays k (unshared_stays (mode_or_copy items k) k ((context w c).cell k) other)
+  clone-unshared k other = stays k (grind arith)
 
   pub clone-common : (k : Key) (g : Name) → (context w c).cell k ≡ Common g → (context v c).cell k ≡ Common g
-  clone-common k g is = stays k (ap (is_moved (mode_or_copy items k) k) is ∙ common_stays (mode_or_copy items k) k g) ∙ is
+  clone-common k g is = stays k (grind arith) ∙ is
 
   pub clone-absent : (k : Key) (value : ValueOf k) → (context w c).cell k ≡ Own value → is_there k value ≡ false → (context v c).cell k ≡ Own value
-  clone-absent k value is absent = stays k (ap (is_moved (mode_or_copy items k) k) is ∙ not_there (mode_or_copy items k)) ∙ is
-    where
-      not_there : (mode : Mode) → is_moved mode k (Own value) ≡ false
-      not_there Copy = refl
-      not_there Share = absent
-      not_there Unmap = refl
+  clone-absent k value is absent = stays k (grind arith) ∙ is
 
   pub clone-moved : (k : Key) (value : ValueOf k) → mode_or_copy items k ≡ Share → IsKey w.size.pages k → (context w c).cell k ≡ Own value → is_there k value ≡ true →
       (context v c).cell k ≡ Common (next_group w made.job)
   clone-moved k value mode within is there =
-      ap (λ (x : Context). x.cell k) (as_shared c made.live)
-      ∙ cell-moves w c made.job items k made.live within ((λ i. is_moved (mode i) k (is i)) ∙ there)
+      ap (λ (x : Context). x.cell k) (as_shared c made.live) ∙ cell-moves w c made.job items k made.live within (grind arith)
 
   -- each other context is as it was
   pub clone-others : (e : Name) → is_live w e ≡ true → e ≢ c → context v e ≡ context w e
-  clone-others e live other = as_shared e live ∙ (shares-share w c made.job items).others e other
+  clone-others e live other = as_shared e live ∙ shares.others e other
 
-  -- each live context reads as it did
+  -- each live context reads as it did, the clone as the context did where it is copied, and as nothing where it is left out
   pub clone-reads : (e : Name) (k : Key) → is_live w e ≡ true → value_at v e k ≡ value_at w e k
   clone-reads e k live =
-      value_at-same v between e k (ap (λ (x : Context). x.cell k) (as_shared e live)) (λ g _. ap (λ (x : Group). x.value k) (same_groups g))
+      value_at-same v between e k (ap (λ (x : Context). x.cell k) (as_shared e live)) (λ g _. ap (λ (x : Group). x.value k) (group-same between v g adds.groups))
       ∙ value_at-share w c made.job items made.fresh e k
 
-  -- a cell of its own is apart from each other context
-  apart_own : (e : Name) (k : Key) (value : ValueOf k) → is_live w e ≡ true → (context v d).cell k ≡ Own value → AreApart v e d k
-  apart_own e k value live own = record { differ = clone-differs e live; no_group = λ g _ is. let clash = sym own ∙ is in cc }
+  pub clone-reads_copied : (k : Key) → mode_or_copy items k ≡ Copy → value_at v d k ≡ value_at w c k
+  clone-reads_copied k is = value_at-cell v d k (Own (value_at w c k)) (clone-copied k is)
 
+  pub clone-reads_nothing : (k : Key) → mode_or_copy items k ≡ Unmap → value_at v d k ≡ nothing k
+  clone-reads_nothing k is = value_at-cell v d k (Own (nothing k)) (clone-left_out k is)
+
+  -- a cell of its own is apart from each other context
   pub clone-copied_apart : (k : Key) → mode_or_copy items k ≡ Copy → (e : Name) → is_live w e ≡ true → AreApart v e d k
-  clone-copied_apart k is e live = apart_own e k _ live (clone-copied k is)
+  clone-copied_apart k is e live = let own = clone-copied k is in record { differ = (differs e live).0; no_group = λ g _ common. grind arith }
 
   pub clone-left_out_apart : (k : Key) → mode_or_copy items k ≡ Unmap → (e : Name) → is_live w e ≡ true → AreApart v e d k
-  clone-left_out_apart k is e live = apart_own e k _ live (clone-left_out k is)
+  clone-left_out_apart k is e live = let own = clone-left_out k is in record { differ = (differs e live).0; no_group = λ g _ common. grind arith }
 
   -- what live contexts have apart stays so
   pub clone-keeps_apart : (a b : Name) (k : Key) → is_live w a ≡ true → is_live w b ≡ true → AreApart w a b k → AreApart v a b k
@@ -197,12 +143,11 @@ module _ (w v : World) (c d : Name) (items : List Item) (made : IsClone w v c d 
     no_group = λ g one two.
         let in_a : (context between a).cell k ≡ Common g = ap (λ (x : Context). x.cell k) (sym (as_shared a live_a)) ∙ one in
         let in_b : (context between b).cell k ≡ Common g = ap (λ (x : Context). x.cell k) (sym (as_shared b live_b)) ∙ two in
-        cases_name g (next_group w made.job)
-        (λ same. cases_name a c
-        (λ is_c. named-not-next w b made.job k g made.fresh
-        (ap (λ (x : Context). x.cell k) (sym ((shares-share w c made.job items).others b (λ e. apart.differ (is_c ∙ sym e)))) ∙ in_b) same)
-        (λ not_c. named-not-next w a made.job k g made.fresh (ap (λ (x : Context). x.cell k) (sym ((shares-share w c made.job items).others a not_c)) ∙ in_a) same))
-        (λ other. apart.no_group g (named-before w c made.job items a k g in_a other) (named-before w c made.job items b k g in_b other));
+        let old_a = named-not-next w a made.job k g made.fresh in
+        let old_b = named-not-next w b made.job k g made.fresh in
+        let was_a = named-before w c made.job items a k g in_a in
+        let was_b = named-before w c made.job items b k g in_b in
+        grind (arith, cases_name, apart.differ, apart.no_group g, shares.others a, shares.others b);
   }
 
   named_live : (a : Name) (k : Key) (g : Name) → (context w a).cell k ≡ Common g → (context v a).cell k ≡ Common g
@@ -210,18 +155,12 @@ module _ (w v : World) (c d : Name) (items : List Item) (made : IsClone w v c d 
 
   group_live : (g : Name) → IsGroup w g → IsGroup v g
   group_live g live =
-      let named : IsNamedGroup w.next g = made.fresh.groups g live in
-      ap (λ m. fm.contains_key m g) adds.groups
-      ∙ (shares-share w c made.job items).still_live g (λ same. let less = subst (IsNamedGroup w.next) same named in omega (arith, less)) ∙ live
+      let new_name = next_group-new w made.job made.fresh in
+      ap (λ m. fm.contains_key m g) adds.groups ∙ shares.still_live g (λ same. grind arith) ∙ live
 
   -- what contexts have in common stays so
   pub clone-keeps_common : (a b : Name) (k : Key) → HaveInCommon w a b k → HaveInCommon v a b k
-  clone-keeps_common a b k both = record {
-    group = both.group;
-    live = group_live both.group both.live;
-    first = named_live a k both.group both.first;
-    second = named_live b k both.group both.second;
-  }
+  clone-keeps_common a b k both = search (rules, group_live, named_live)
 
   -- what is shared, and is there, is in common
   pub clone-in_common : (k : Key) → mode_or_copy items k ≡ Share → IsKey w.size.pages k → is_there k (value_at w c k) ≡ true → HaveInCommon v c d k
@@ -233,28 +172,18 @@ module _ (w v : World) (c d : Name) (items : List Item) (made : IsClone w v c d 
       at : (cell : Cell (ValueOf k)) → (context w c).cell k ≡ cell → HaveInCommon v c d k
       at (Own value) is =
           let own_there : is_there k value ≡ true = ap (is_there k) (sym (value_at-cell w c k (Own value) is)) ∙ there in
-          let needs : needs_group w c items ≡ true = needed-key w c items k within ((λ i. is_moved (mode i) k (is i)) ∙ own_there) in
-          both (next_group w made.job) (ap (λ m. fm.contains_key m (next_group w made.job)) adds.groups ∙ (shares-share w c made.job items).new_group needs)
+          let needs : needs_group w c items ≡ true = needed-own w c items k value within mode is own_there in
+          both (next_group w made.job) (ap (λ m. fm.contains_key m (next_group w made.job)) adds.groups ∙ shares.new_group needs)
           (clone-moved k value mode within is own_there)
       at (Common g) is =
-          let has : HasValue w k g = subst (InCell (live_groups w) c.job k) is (made.groups.contexts c made.live k) in
-          both g (group_live g has.live) (clone-common k g is)
+          let has : HasValue w k g = subst (InCell (live_groups w) c.job k) is (made.groups.contexts c made.live k) in both g (group_live g has.live) (clone-common k g is)
 
-  -- and so is what the context had in common with another one
+  -- and so is what the context had in common with another one, and the clone is apart from each context from which the context was
   pub clone-joins : (k : Key) → mode_or_copy items k ≡ Share → (e : Name) → HaveInCommon w c e k → HaveInCommon v d e k
   clone-joins k mode e both =
-      let after = clone-keeps_common c e k both in
-      record { group = after.group; live = after.live; first = clone-shared k mode ∙ after.first; second = after.second }
+      let after = clone-keeps_common c e k both in record { group = after.group; live = after.live; first = clone-shared k mode ∙ after.first; second = after.second }
 
-  -- and the clone is apart from each context from which the context was
   pub clone-joins_not : (k : Key) → mode_or_copy items k ≡ Share → (e : Name) → is_live w e ≡ true → AreApart w c e k → AreApart v d e k
   clone-joins_not k mode e live apart =
       let after = clone-keeps_apart c e k made.live live apart in
-      record { differ = λ same. clone-differs e live (sym same); no_group = λ g is. after.no_group g (sym (clone-shared k mode) ∙ is) }
-
-  -- what is copied reads as it did in the context that is cloned, and what is left out as nothing
-  pub clone-reads_copied : (k : Key) → mode_or_copy items k ≡ Copy → value_at v d k ≡ value_at w c k
-  clone-reads_copied k is = value_at-cell v d k (Own (value_at w c k)) (clone-copied k is)
-
-  pub clone-reads_nothing : (k : Key) → mode_or_copy items k ≡ Unmap → value_at v d k ≡ nothing k
-  clone-reads_nothing k is = value_at-cell v d k (Own (nothing k)) (clone-left_out k is)
+      record { differ = λ same. (differs e live).0 (sym same); no_group = λ g is. after.no_group g (sym (clone-shared k mode) ∙ is) }

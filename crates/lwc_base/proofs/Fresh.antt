@@ -1,71 +1,69 @@
 -- Fresh worlds: the empty world is one, each change of a world keeps it so, and in it the next names of a job are new.
-use Rattle.std.proofs.Common.{◌≡◌, ℕ, ◌+◌, ◌<◌, refl, sym, ap, subst, ◌∙◌, inl, inr, true, false, cond, eqb, List, length, arith}
-use Rattle.std.specs.Prelude.{is_some}
-use Rattle.std.proofs.lemmas.Bool.{cases_Bool, cond_both, cond-true, eq-eqb, eqb-true, false≢true, false_from_ne_true}
+use Rattle.std.proofs.Common.{◌≡◌, ℕ, ◌+◌, ◌<◌, sym, subst, ◌∙◌, inl, inr, true, false, eqb, Some, None, List, length, arith, rules}
+use Rattle.std.proofs.lemmas.Bool.Decides.{nat_tests}
+use Rattle.std.proofs.lemmas.Bool.{cases_Bool, cond_both, eqb-true}
 use Rattle.std.specs.FinMap as fm
+use Rattle.lwc_base.specs.declared.cell.Cell.{Cell}
 use Rattle.lwc_base.specs.declared.item.Item.{Item}
 use Rattle.lwc_base.specs.declared.key.Key.{Key}
 use Rattle.lwc_base.specs.declared.name.Name.{Name}
 use Rattle.lwc_base.specs.declared.page.PageValue.{PageValue}
+use Rattle.lwc_base.specs.declared.page.PageValue.TheVariants.{Zero}
 use Rattle.lwc_base.specs.declared.regs.Regs.{Regs}
 use Rattle.lwc_base.specs.declared.size.WorldSize.{WorldSize}
 use Rattle.lwc_base.specs.Cells.{put_at}
-use Rattle.lwc_base.specs.Facts.{KeepsNames, AddsContext, AddsGroup, SharesValues, with_context, with_group}
+use Rattle.lwc_base.specs.Facts.{KeepsNames, SharesValues, with_context, with_group}
 use Rattle.lwc_base.specs.Fresh.{IsFresh, IsNamedContext, IsNamedGroup, Rises, named_groups}
-use Rattle.lwc_base.specs.Holders.{InContext, Keeps}
+use Rattle.lwc_base.specs.Holders.{InCell, InContext, Keeps}
 use Rattle.lwc_base.specs.Keys.{ValueOf}
 use Rattle.lwc_base.specs.Mapping.{map_pages, unmap_pages}
 use Rattle.lwc_base.specs.Memory.{touched}
-use Rattle.lwc_base.specs.Names.{name_cmp}
 use Rattle.lwc_base.specs.Sharing.{cloned_context, share, clone_context, needs_group}
 use Rattle.lwc_base.specs.Store.{Piece, after_store, parting_count, plan, put_pages}
 use Rattle.lwc_base.specs.World.{World, Context, Group, Counters, is_live, context, change_context, change_group, change_counters, empty_world, add_context, next_context, add_group, next_group}
-use Rattle.lwc_base.proofs.Holders.{keeps-weaker, in_cell-weaker, keeps-empty_world, keeps-insert_context, keeps-insert_group, keeps-change_context, keeps-change_group, keeps-change_counters, keeps-add_context, keeps-add_group, keeps-put_at, keeps-put_pages, keeps-map_pages, keeps-unmap_pages, keeps-share, may_have-free, in_clone, lets-everywhere}
-use Rattle.lwc_base.proofs.Lookups.{changes-change_context, changes-change_group, adds-add_context, adds-add_group}
+use Rattle.lwc_base.proofs.Holders.{keeps-weaker, in_cell-weaker, keeps-empty_world, keeps-insert_context, keeps-insert_group, keeps-change_context, keeps-change_group, keeps-change_counters, keeps-put_at, keeps-put_pages, keeps-on_pages, keeps-share, may_have-free, in_clone, lets-everywhere}
+use Rattle.lwc_base.proofs.Lookups.{changes-change_context, changes-change_group}
 use Rattle.lwc_base.proofs.Orders.{cases_name}
 use Rattle.lwc_base.proofs.Puts.{names-put_at, names-put_pages}
 use Rattle.lwc_base.proofs.Sharing.{shares-share}
 use Rattle.lwc_base.proofs.Tables.{each-insert}
 
 pub rises-itself : (n : Counters) → Rises n n
-rises-itself n = record { contexts = omega arith; groups = omega arith; tags = omega arith }
+rises-itself n = search rules
 
 pub rises-with_context : (next : ℕ → Counters) (job j : ℕ) → Rises (next j) (with_context next job j)
-rises-with_context next job j =
-    cond_both (eqb j job) _ (next j) (Rises (next j)) (λ _. record { contexts = omega arith; groups = omega arith; tags = omega arith }) (λ _. rises-itself (next j))
+rises-with_context next job j = cond_both (eqb j job) _ (next j) (Rises (next j)) (λ _. search rules) (λ _. search rules)
 
 pub rises-with_group : (next : ℕ → Counters) (job j : ℕ) → Rises (next j) (with_group next job j)
-rises-with_group next job j =
-    cond_both (eqb j job) _ (next j) (Rises (next j)) (λ _. record { contexts = omega arith; groups = omega arith; tags = omega arith }) (λ _. rises-itself (next j))
+rises-with_group next job j = cond_both (eqb j job) _ (next j) (Rises (next j)) (λ _. search rules) (λ _. search rules)
 
 -- a new context of a job is counted
 one_more_context : (next : ℕ → Counters) (job : ℕ) → (next job).contexts < (with_context next job job).contexts
-one_more_context next job = omega (arith, ap (λ (n : Counters). n.contexts) (cond-true (eqb job job) (record (next job) { contexts = (next job).contexts + 1 }) (next job) (eq-eqb job job refl)))
+one_more_context next job = grind (arith, nat_tests)
 
 -- a new group of a job is counted
-pub one_more_group : (next : ℕ → Counters) (job : ℕ) → (next job).groups < (with_group next job job).groups
-one_more_group next job = omega (arith, ap (λ (n : Counters). n.groups) (cond-true (eqb job job) (record (next job) { groups = (next job).groups + 1 }) (next job) (eq-eqb job job refl)))
+one_more_group : (next : ℕ → Counters) (job : ℕ) → (next job).groups < (with_group next job job).groups
+one_more_group next job = grind (arith, nat_tests)
 
 -- the groups that have been named stay so when counts rise
-pub named_groups-rises : (w : World) (next later : ℕ → Counters) → ((job : ℕ) → Rises (next job) (later job)) → Keeps (named_groups next) w → Keeps (named_groups later) w
-named_groups-rises w next later rises keeps =
-    keeps-weaker (named_groups next) (named_groups later) (λ job k g named. omega (arith, named, (rises g.job).groups)) (λ job k value is. tt) w keeps
+module _ (next later : ℕ → Counters) (rises : (job : ℕ) → Rises (next job) (later job)) where
+  in_named-rises : (job : ℕ) (k : Key) (cell : Cell (ValueOf k)) → InCell (named_groups next) job k cell → InCell (named_groups later) job k cell
+  in_named-rises = in_cell-weaker (named_groups next) (named_groups later) (λ job k g named. omega (arith, named, (rises g.job).groups)) (λ job k value is. tt)
+
+  named_groups-rises : (w : World) → Keeps (named_groups next) w → Keeps (named_groups later) w
+  named_groups-rises = keeps-weaker (named_groups next) (named_groups later) (λ job k g named. omega (arith, named, (rises g.job).groups)) (λ job k value is. tt)
 
 -- a fresh world stays fresh where no name is new
 fresh-names : (w v : World) → KeepsNames w v → (Keeps (named_groups w.next) w → Keeps (named_groups w.next) v) → IsFresh w → IsFresh v
 fresh-names w v names cells fresh = record {
-  contexts = λ c live. subst (λ next. IsNamedContext next c) (sym names.next) (fresh.contexts c (sym (names.live c) ∙ live));
-  groups = λ g live. subst (λ next. IsNamedGroup next g) (sym names.next) (fresh.groups g (sym (names.groups g) ∙ live));
+  contexts = λ c live. grind (arith, fresh.contexts c, names.live c);
+  groups = λ g live. grind (arith, fresh.groups g, names.groups g);
   cells = subst (λ next. Keeps (named_groups next) v) (sym names.next) (cells fresh.cells);
 }
 
 pub fresh-empty_world : (size : WorldSize) → IsFresh (empty_world size)
 unfolding empty_world
-fresh-empty_world size = record {
-  contexts = λ c live. absurd (false≢true (sym (ap is_some (fm.get-empty name_cmp c)) ∙ live));
-  groups = λ g live. absurd (false≢true (sym (ap is_some (fm.get-empty name_cmp g)) ∙ live));
-  cells = keeps-empty_world _ size;
-}
+fresh-empty_world size = search (rules, fm.get-empty, keeps-empty_world)
 
 -- a context whose name and whose groups have been named
 pub fresh-insert_context : (w : World) (c : Name) (x : Context) → IsNamedContext w.next c → InContext (named_groups w.next) c.job x →
@@ -94,14 +92,13 @@ fresh-change_group w g f = fresh-names w _ (changes-change_group w g f).names (k
 pub fresh-change_counters : (w : World) (job : ℕ) (f : Counters → Counters) → Rises (w.next job) (f (w.next job)) → IsFresh w → IsFresh (change_counters w job f)
 unfolding change_counters
 fresh-change_counters w job f rises fresh =
-    let later : ℕ → Counters = λ j. cond (eqb j job) (f (w.next j)) (w.next j) in
+    let later : ℕ → Counters = (change_counters w job f).next in
     let up : (j : ℕ) → Rises (w.next j) (later j) =
-    λ j. cond_both (eqb j job) (f (w.next j)) (w.next j) (Rises (w.next j))
-    (λ same. subst (λ i. Rises (w.next i) (f (w.next i))) (sym (eqb-true j job same)) rises) (λ _. rises-itself (w.next j)) in
+    λ j. cond_both (eqb j job) (f (w.next j)) (w.next j) (Rises (w.next j)) (λ same. subst (λ i. Rises (w.next i) (f (w.next i))) (sym (eqb-true j job same)) rises) (λ _. search rules) in
     record {
       contexts = λ c live. omega (arith, fresh.contexts c live, (up c.job).contexts);
       groups = λ g live. omega (arith, fresh.groups g live, (up g.job).groups);
-      cells = keeps-change_counters _ w job f (named_groups-rises w w.next later up fresh.cells);
+      cells = keeps-change_counters _ w job f (named_groups-rises w.next later up w fresh.cells);
     }
 
 pub fresh-put_at : (w : World) (c : Name) (k : Key) (value : ValueOf k) → IsFresh w → IsFresh (put_at w c k value)
@@ -112,48 +109,33 @@ fresh-put_pages w c values = fresh-names w _ (names-put_pages w c values) (keeps
 
 pub fresh-map_pages : (w : World) (c : Name) (from to : ℕ) → IsFresh w → IsFresh (map_pages w c from to)
 unfolding map_pages
-fresh-map_pages w c from to = fresh-names w _ (changes-change_context w c _).names (keeps-map_pages _ w c from to (λ p _. tt))
+fresh-map_pages w c from to = fresh-names w _ (changes-change_context w c _).names (keeps-on_pages _ w c from to (Some Zero) (λ p _. tt))
 
 pub fresh-unmap_pages : (w : World) (c : Name) (from to : ℕ) → IsFresh w → IsFresh (unmap_pages w c from to)
 unfolding unmap_pages
-fresh-unmap_pages w c from to = fresh-names w _ (changes-change_context w c _).names (keeps-unmap_pages _ w c from to (λ p _. tt))
+fresh-unmap_pages w c from to = fresh-names w _ (changes-change_context w c _).names (keeps-on_pages _ w c from to None (λ p _. tt))
 
 pub fresh-after_store : (w : World) (c : Name) (job : ℕ) (piece : Piece) → IsFresh w → IsFresh (after_store w c job piece)
 unfolding after_store
 fresh-after_store w c job piece fresh =
     let values : List (ℕ × PageValue) = plan w c job piece (w.next job).tags (touched piece.at (length piece.bytes)) in
     fresh-change_counters (put_pages w c values) job (λ n. record n { tags = n.tags + parting_count w c piece })
-    (record { contexts = omega arith; groups = omega arith; tags = omega arith }) (fresh-put_pages w c values fresh)
+    (search rules) (fresh-put_pages w c values fresh)
 
 pub fresh-add_context : (w : World) (job : ℕ) (x : Context) → InContext (named_groups w.next) job x → IsFresh w → IsFresh (add_context w job x)
+unfolding add_context change_counters
 fresh-add_context w job x fits fresh =
-    let adds : AddsContext w job x (add_context w job x) = adds-add_context w job x in
-    let up : (j : ℕ) → Rises (w.next j) ((add_context w job x).next j) = λ j. subst (λ (next : ℕ → Counters). Rises (w.next j) (next j)) (sym adds.next) (rises-with_context w.next job j) in
-    let later : ℕ → Counters = (add_context w job x).next in
-    record {
-      contexts = λ c live. cases_name c (next_context w job)
-          (λ same. subst (IsNamedContext later) (sym same)
-          (subst (λ (next : ℕ → Counters). (w.next job).contexts < (next job).contexts) (sym adds.next) (one_more_context w.next job)))
-          (λ other. omega (arith, fresh.contexts c (sym (adds.still_live c other) ∙ live), (up c.job).contexts));
-      groups = λ g live. omega (arith, fresh.groups g (sym (ap (λ m. fm.contains_key m g) adds.groups) ∙ live), (up g.job).groups);
-      cells = keeps-add_context _ w job x
-          (λ k. in_cell-weaker (named_groups w.next) (named_groups later) (λ i q g named. omega (arith, named, (up g.job).groups)) (λ i q value is. tt) job k (x.cell k) (fits k))
-          (named_groups-rises w w.next later up fresh.cells);
-    }
+    let more : Counters → Counters = λ n. record n { contexts = n.contexts + 1 } in
+    let counted : IsFresh (change_counters w job more) = fresh-change_counters w job more (search rules) fresh in
+    fresh-insert_context (change_counters w job more) (next_context w job) x (one_more_context w.next job)
+    (λ k. in_named-rises w.next (with_context w.next job) (rises-with_context w.next job) job k (x.cell k) (fits k)) counted
 
 pub fresh-add_group : (w : World) (job : ℕ) (x : Group) → IsFresh w → IsFresh (add_group w job x)
+unfolding add_group change_counters
 fresh-add_group w job x fresh =
-    let adds : AddsGroup w job x (add_group w job x) = adds-add_group w job x in
-    let later : ℕ → Counters = (add_group w job x).next in
-    let up : (j : ℕ) → Rises (w.next j) (later j) = λ j. subst (λ (next : ℕ → Counters). Rises (w.next j) (next j)) (sym adds.next) (rises-with_group w.next job j) in
-    record {
-      contexts = λ c live. omega (arith, fresh.contexts c (sym (ap (λ m. fm.contains_key m c) adds.contexts) ∙ live), (up c.job).contexts);
-      groups = λ g live. cases_name g (next_group w job)
-          (λ same. subst (IsNamedGroup later) (sym same)
-          (subst (λ (next : ℕ → Counters). (w.next job).groups < (next job).groups) (sym adds.next) (one_more_group w.next job)))
-          (λ other. omega (arith, fresh.groups g (sym (adds.still_live g other) ∙ live), (up g.job).groups));
-      cells = keeps-add_group _ w job x (λ k. tt) (named_groups-rises w w.next later up fresh.cells);
-    }
+    let more : Counters → Counters = λ n. record n { groups = n.groups + 1 } in
+    let counted : IsFresh (change_counters w job more) = fresh-change_counters w job more (search rules) fresh in
+    fresh-insert_group (change_counters w job more) (next_group w job) x (one_more_group w.next job) counted
 
 module _ (w : World) (c : Name) (job : ℕ) (items : List Item) (live : is_live w c ≡ true) (fresh : IsFresh w) where
   pub fresh-share : IsFresh (share w c job items)
@@ -163,16 +145,14 @@ module _ (w : World) (c : Name) (job : ℕ) (items : List Item) (live : is_live 
       elim (cases_Bool (needs_group w c items)) [
         | inr none ↦ subst IsFresh (sym (shares.none none)) fresh
         | inl needs ↦
-            let next : v.next ≡ with_group w.next job = shares.next needs in
-            let up : (j : ℕ) → Rises (w.next j) (v.next j) = λ j. subst (λ (n : ℕ → Counters). Rises (w.next j) (n j)) (sym next) (rises-with_group w.next job j) in
-            let new : IsNamedGroup v.next (next_group w job) = subst (λ n. IsNamedGroup n (next_group w job)) (sym next) (one_more_group w.next job) in
+            let next : with_group w.next job ≡ v.next = sym (shares.next needs) in
+            let up : (j : ℕ) → Rises (w.next j) (v.next j) = λ j. subst (λ (n : ℕ → Counters). Rises (w.next j) (n j)) next (rises-with_group w.next job j) in
+            let new : IsNamedGroup v.next (next_group w job) = subst (λ n. IsNamedGroup n (next_group w job)) next (one_more_group w.next job) in
             record {
               contexts = λ d there. omega (arith, fresh.contexts d (sym (shares.live d) ∙ there), (up d.job).contexts);
-              groups = λ g there. cases_name g (next_group w job)
-                  (λ same. subst (IsNamedGroup v.next) (sym same) new)
-                  (λ other. omega (arith, fresh.groups g (sym (shares.still_live g other) ∙ there), (up g.job).groups));
+              groups = λ g there. grind (arith, cases_name, fresh.groups g, shares.still_live g, (up g.job).groups);
               cells = keeps-share (named_groups v.next) w c job items live (λ i k. tt) (lets-everywhere _ _ c.job job)
-                  (named_groups-rises w w.next v.next up fresh.cells) (λ k _. new);
+                  (named_groups-rises w.next v.next up w fresh.cells) (λ k _. new);
             }
       ]
 
@@ -186,8 +166,8 @@ module _ (w : World) (c : Name) (job : ℕ) (items : List Item) (live : is_live 
 
 -- no context has the next name of a job
 pub next_context-new : (w : World) (job : ℕ) → IsFresh w → is_live w (next_context w job) ≡ false
-next_context-new w job fresh = false_from_ne_true _ (λ live. let less = fresh.contexts (next_context w job) live in absurd (omega (arith, less)))
+next_context-new w job fresh = grind (arith, fresh.contexts (next_context w job))
 
 -- no group has the next name of a job
 pub next_group-new : (w : World) (job : ℕ) → IsFresh w → fm.contains_key w.groups (next_group w job) ≡ false
-next_group-new w job fresh = false_from_ne_true _ (λ live. let less = fresh.groups (next_group w job) live in absurd (omega (arith, less)))
+next_group-new w job fresh = grind (arith, fresh.groups (next_group w job))

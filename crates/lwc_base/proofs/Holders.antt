@@ -1,8 +1,7 @@
 -- What is so of each holder of a world stays so after each change that puts nothing else there.
-use Rattle.std.proofs.Common.{◌≡◌, ℕ, ◌<◌, sym, ap, subst, ◌∙◌, inl, inr, true, Some, None, List, [], ◌∷◌, length}
-use Rattle.std.specs.Prelude.{is_some}
+use Rattle.std.proofs.Common.{◌≡◌, ℕ, ◌<◌, subst, true, Option, Some, List, [], ◌∷◌, length, arith, rules}
 use Rattle.std.specs.List.{AllByRecursion}
-use Rattle.std.proofs.lemmas.Bool.{cases_Bool, cond_both, false≢true}
+use Rattle.std.proofs.lemmas.Bool.{cond_both}
 use Rattle.std.specs.FinMap as fm
 use Rattle.lwc_base.specs.declared.cell.Cell.{Cell}
 use Rattle.lwc_base.specs.declared.cell.Cell.TheVariants.{Own, Common}
@@ -13,13 +12,12 @@ use Rattle.lwc_base.specs.declared.key.Key.{Key}
 use Rattle.lwc_base.specs.declared.key.Key.TheVariants.{Page}
 use Rattle.lwc_base.specs.declared.name.Name.{Name}
 use Rattle.lwc_base.specs.declared.page.PageValue.{PageValue}
-use Rattle.lwc_base.specs.declared.page.PageValue.TheVariants.{Zero}
 use Rattle.lwc_base.specs.declared.regs.Regs.{Regs}
 use Rattle.lwc_base.specs.declared.size.WorldSize.{WorldSize}
 use Rattle.lwc_base.specs.Cells.{value_of, value_at, put_at, put_page, with_cell, with_value}
 use Rattle.lwc_base.specs.Holders.{Rules, everywhere, InCell, InContext, InGroup, IsGroup, Keeps}
 use Rattle.lwc_base.specs.Keys.{ValueOf, nothing}
-use Rattle.lwc_base.specs.Mapping.{map_pages, unmap_pages}
+use Rattle.lwc_base.specs.Mapping.{on_pages}
 use Rattle.lwc_base.specs.Memory.{touched}
 use Rattle.lwc_base.specs.Modes.{mode_or_copy}
 use Rattle.lwc_base.specs.Names.{name_cmp}
@@ -49,23 +47,17 @@ module _ (rules : Rules) where
   pub keeps-empty_world : (size : WorldSize) → Keeps rules (empty_world size)
   unfolding empty_world
   keeps-empty_world size = record {
-    contexts = λ c live. absurd (false≢true (sym (ap is_some (fm.get-empty name_cmp c)) ∙ live));
-    groups = λ g live. absurd (false≢true (sym (ap is_some (fm.get-empty name_cmp g)) ∙ live));
+    contexts = λ c live. let none = fm.get-empty {X = Context} name_cmp c in grind arith;
+    groups = λ g live. let none = fm.get-empty {X = Group} name_cmp g in grind arith;
   }
 
   pub keeps-insert_context : (w : World) (c : Name) (x : Context) → InContext rules c.job x → Keeps rules w → Keeps rules (record w { contexts = fm.insert w.contexts c x })
   unfolding context group
-  keeps-insert_context w c x fits keeps = record {
-    contexts = each-insert w.contexts c x _ (λ q y. InContext rules q.job y) fits keeps.contexts;
-    groups = keeps.groups;
-  }
+  keeps-insert_context w c x fits keeps = record { contexts = each-insert w.contexts c x _ (λ q y. InContext rules q.job y) fits keeps.contexts; groups = keeps.groups }
 
   pub keeps-insert_group : (w : World) (g : Name) (x : Group) → InGroup rules g.job x → Keeps rules w → Keeps rules (record w { groups = fm.insert w.groups g x })
   unfolding context group
-  keeps-insert_group w g x fits keeps = record {
-    contexts = keeps.contexts;
-    groups = each-insert w.groups g x _ (λ q y. InGroup rules q.job y) fits keeps.groups;
-  }
+  keeps-insert_group w g x fits keeps = record { contexts = keeps.contexts; groups = each-insert w.groups g x _ (λ q y. InGroup rules q.job y) fits keeps.groups }
 
   pub keeps-change_context : (w : World) (c : Name) (f : Context → Context) → (is_live w c ≡ true → InContext rules c.job (f (context w c))) →
       Keeps rules w → Keeps rules (change_context w c f)
@@ -113,19 +105,11 @@ module _ (rules : Rules) where
   keeps-after_store w c job piece fits keeps =
       keeps-change_counters _ job _ (keeps-put_pages w c (plan w c job piece (w.next job).tags (touched piece.at (length piece.bytes))) fits keeps)
 
-  pub keeps-map_pages : (w : World) (c : Name) (from to : ℕ) → ((p : ℕ) → p < to → rules.value c.job (Page p) (Some Zero)) →
-      Keeps rules w → Keeps rules (map_pages w c from to)
-  unfolding map_pages
-  keeps-map_pages w c from to fits keeps =
-      keeps-change_context w c _
-      (λ live k. on_pages-cases from to (Own (Some Zero)) (context w c).cell (InCell rules c.job) fits k (keeps.contexts c live k)) keeps
-
-  pub keeps-unmap_pages : (w : World) (c : Name) (from to : ℕ) → ((p : ℕ) → p < to → rules.value c.job (Page p) None) →
-      Keeps rules w → Keeps rules (unmap_pages w c from to)
-  unfolding unmap_pages
-  keeps-unmap_pages w c from to fits keeps =
-      keeps-change_context w c _
-      (λ live k. on_pages-cases from to (Own None) (context w c).cell (InCell rules c.job) fits k (keeps.contexts c live k)) keeps
+  -- pages of a range of the context's own become another value, as zeros or absent ones
+  pub keeps-on_pages : (w : World) (c : Name) (from to : ℕ) (value : Option PageValue) → ((p : ℕ) → p < to → rules.value c.job (Page p) value) →
+      Keeps rules w → Keeps rules (change_context w c (λ x. record x { cell = on_pages from to (Own value) x.cell }))
+  keeps-on_pages w c from to value fits keeps =
+      keeps-change_context w c _ (λ live k. on_pages-cases from to (Own value) (context w c).cell (InCell rules c.job) fits k (keeps.contexts c live k)) keeps
 
 -- what a job's holders may have, those of another job may have too
 pub record Lets (rules : Rules) (i j : ℕ) : Type 0 where
@@ -146,12 +130,7 @@ module _ (rules : Rules) (w : World) (c : Name) (live : is_live w c ≡ true) (n
     (out : (k : Key) (g : Name) (value : ValueOf k) → rules.group c.job k g → rules.value g.job k value → rules.value c.job k value) (keeps : Keeps rules w) where
   value_of-keeps : (k : Key) (cell : Cell (ValueOf k)) → InCell rules c.job k cell → rules.value c.job k (value_of w k cell)
   value_of-keeps k (Own value) is = is
-  value_of-keeps k (Common g) is =
-      out k g ((group w g).value k) is
-      (elim (cases_Bool (fm.contains_key w.groups g)) [
-        | inl there ↦ keeps.groups g there k
-        | inr dead ↦ subst (λ (x : Group). rules.value g.job k (x.value k)) (sym (group-dead w g dead)) (none g.job k)
-      ])
+  value_of-keeps k (Common g) is = out k g ((group w g).value k) is (let live = keeps.groups g in let dead = group-dead w g in let empty = none g.job k in grind arith)
 
   pub value_at-keeps : (k : Key) → rules.value c.job k (value_at w c k)
   unfolding value_at

@@ -1,10 +1,7 @@
 -- The orders of names and of tags are total, and only equal ones tie.
-use Rattle.std.proofs.Common.{◌≡◌, ◌≢◌, ℕ, refl, sym, ap, ◌∙◌, true, false}
+use Rattle.std.proofs.Common.{◌≡◌, ◌≢◌, ℕ, refl, ap, true, false, arith}
 use Rattle.std.specs.Ordering.{eq_by_cmp, is_eq, nat_cmp}
-use Rattle.std.specs.declared.cmp.Ordering.{Ordering}
-use Rattle.std.specs.declared.cmp.Ordering.TheVariants.{Less, Equal, Greater}
 use Rattle.std.specs.Cmp.{IsTotalOrder}
-use Rattle.std.proofs.lemmas.Bool.{false_from_ne_true, false≢true}
 use Rattle.std.proofs.lemmas.Cmp.{then_total, on_total, nat_cmp_total, tied_itself}
 use Rattle.std.specs.FinMap.{IsAntisymmetric}
 use Rattle.std.proofs.lemmas.Map.Lookups.{exact_pairs, exact_unsigned}
@@ -24,14 +21,9 @@ tag_cmp-total = then_total (on_total (λ t. t.job) nat_cmp_total) (on_total (λ 
 pub tag_cmp-IsAntisymmetric : IsAntisymmetric tag_cmp
 tag_cmp-IsAntisymmetric a b h = ap (λ (p : ℕ × ℕ). record { job = p.0; k = p.1 }) (exact_pairs nat_cmp nat_cmp exact_unsigned exact_unsigned (a.job, a.k) (b.job, b.k) h)
 
-equal_of_is_eq : (o : Ordering) → is_eq o ≡ true → o ≡ Equal
-equal_of_is_eq Less e = cc
-equal_of_is_eq Equal e = refl
-equal_of_is_eq Greater e = cc
-
 -- names that tie are one
 pub same_name : (a b : Name) → eq_by_cmp name_cmp a b ≡ true → a ≡ b
-same_name a b e = name_cmp-IsAntisymmetric a b (equal_of_is_eq (name_cmp a b) e)
+same_name a b e = grind (arith, name_cmp-IsAntisymmetric)
 
 -- a name ties with itself
 pub name-itself : (c : Name) → eq_by_cmp name_cmp c c ≡ true
@@ -39,11 +31,11 @@ name-itself c = ap is_eq (tied_itself name_cmp-total c)
 
 -- names that differ do not tie
 pub other_name : (a b : Name) → a ≢ b → eq_by_cmp name_cmp a b ≡ false
-other_name a b other = false_from_ne_true _ (λ same. other (same_name a b same))
+other_name a b other = grind (arith, same_name)
 
 -- tags that tie are one
 pub same_tag : (a b : Tag) → eq_by_cmp tag_cmp a b ≡ true → a ≡ b
-same_tag a b e = tag_cmp-IsAntisymmetric a b (equal_of_is_eq (tag_cmp a b) e)
+same_tag a b e = grind (arith, tag_cmp-IsAntisymmetric)
 
 -- a tag ties with itself
 pub tag-itself : (t : Tag) → eq_by_cmp tag_cmp t t ≡ true
@@ -54,5 +46,5 @@ pub cases_name : {A : Type 0} (a b : Name) → (a ≡ b → A) → (a ≢ b → 
 cases_name {A} a b one two =
     elim (eq_by_cmp name_cmp a b) as (λ t. eq_by_cmp name_cmp a b ≡ t → A) [
       | true ↦ λ same. one (same_name a b same)
-      | false ↦ λ other. two (λ same. false≢true (sym other ∙ ap (eq_by_cmp name_cmp a) (sym same) ∙ name-itself a))
+      | false ↦ λ other. two (λ same. grind (arith, name-itself))
     ] refl

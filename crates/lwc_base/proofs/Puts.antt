@@ -1,24 +1,21 @@
 -- What a put, a mapping and a store leave as it was: no name is new or gone.
-use Rattle.std.proofs.Common.{◌≡◌, ℕ, refl, sym, ap, ◌∙◌, true, false, List, [], ◌∷◌, length}
-use Rattle.std.proofs.lemmas.Bool.{cond_both, true_from_ne_false}
-use Rattle.lwc_base.specs.declared.cell.Cell.{Cell}
+use Rattle.std.proofs.Common.{◌≡◌, ℕ, true, false, List, [], ◌∷◌, length, arith, rules}
 use Rattle.lwc_base.specs.declared.cell.Cell.TheVariants.{Own, Common}
 use Rattle.lwc_base.specs.declared.key.Key.{Key}
 use Rattle.lwc_base.specs.declared.key.Key.TheVariants.{Page}
 use Rattle.lwc_base.specs.declared.name.Name.{Name}
 use Rattle.lwc_base.specs.declared.page.PageValue.{PageValue}
-use Rattle.lwc_base.specs.Cells.{put_in, put_at, put_page, with_cell, with_value}
-use Rattle.lwc_base.specs.Facts.{KeepsNames, TakesTags, with_tags}
+use Rattle.lwc_base.specs.Cells.{put_at, put_page, with_cell, with_value}
+use Rattle.lwc_base.specs.Facts.{KeepsNames, TakesTags}
 use Rattle.lwc_base.specs.Keys.{ValueOf, is_there}
 use Rattle.lwc_base.specs.Memory.{touched}
 use Rattle.lwc_base.specs.Store.{Piece, after_store, parting_count, plan, put_pages}
-use Rattle.lwc_base.specs.World.{World, Context, context, is_live, change_context, change_counters, change_group}
+use Rattle.lwc_base.specs.World.{World, context, is_live, change_context, change_counters, change_group}
 use Rattle.lwc_base.proofs.Lookups.{context-dead, keeps_names-itself, keeps_names-then, changes-change_context, changes-change_group}
 
 -- a context that names a group is live
 pub live_of_common : (w : World) (c : Name) (k : Key) (g : Name) → (context w c).cell k ≡ Common g → is_live w c ≡ true
-live_of_common w c k g is =
-    true_from_ne_false _ (λ dead. let clash = sym (ap (λ (x : Context). x.cell k) (context-dead w c dead)) ∙ is in cc)
+live_of_common w c k g is = grind (arith, context-dead)
 
 -- what is so once the value is put: at an absent page nothing changes, and else a context's own cell or a group has the value
 pub after_put_at : (P : World → Type 0) (w : World) (c : Name) (k : Key) (value : ValueOf k) →
@@ -26,11 +23,7 @@ pub after_put_at : (P : World → Type 0) (w : World) (c : Name) (k : Key) (valu
     ((old : ValueOf k) → (context w c).cell k ≡ Own old → is_there k old ≡ true → P (change_context w c (with_cell k (Own value)))) →
     ((g : Name) → (context w c).cell k ≡ Common g → P (change_group w g (with_value k value))) → P (put_at w c k value)
 unfolding put_at
-after_put_at P w c k value absent own common = at ((context w c).cell k) refl
-  where
-    at : (cell : Cell (ValueOf k)) → (context w c).cell k ≡ cell → P (put_in w c k value cell)
-    at (Own old) is = cond_both (is_there k old) _ w P (own old is) (absent old is)
-    at (Common g) is = common g is
+after_put_at P w c k value absent own common = grind arith
 
 pub names-put_at : (w : World) (c : Name) (k : Key) (value : ValueOf k) → KeepsNames w (put_at w c k value)
 names-put_at w c k value =
@@ -45,5 +38,4 @@ names-put_pages w c (v ∷ vs) =
 pub takes-after_store : (w : World) (c : Name) (job : ℕ) (piece : Piece) → TakesTags w job (parting_count w c piece) (after_store w c job piece)
 unfolding after_store change_counters
 takes-after_store w c job piece =
-    let names = names-put_pages w c (plan w c job piece (w.next job).tags (touched piece.at (length piece.bytes))) in
-    record { live = names.live; groups = names.groups; next = ap (λ n. with_tags n job (parting_count w c piece)) names.next; size = names.size }
+    let names = names-put_pages w c (plan w c job piece (w.next job).tags (touched piece.at (length piece.bytes))) in search rules

@@ -1,11 +1,11 @@
--- A store takes one frame for each page that parts.
-use Rattle.std.proofs.Common.{◌≡◌, ◌⊎◌, inl, inr, ℕ, zero, suc, ◌+◌, ◌≤◌, ◌<◌, refl, sym, ap, subst, ◌∙◌, Bool, true, false, cond, ltb, ◌||◌, Option, Some, None, List, [], ◌∷◌, length, arith}
-use Rattle.std.specs.Prelude.{count_by, is_some, unwrap_or}
+-- A store keeps a world sound, and takes one frame for each page that parts: one page after another gets its new value.
+use Rattle.std.proofs.Common.{◌≡◌, ◌⊎◌, inl, inr, ℕ, zero, suc, ◌+◌, ◌≤◌, ◌<◌, refl, sym, ap, subst, ◌∙◌, Bool, true, false, cond, eqb, ltb, Option, Some, None, List, [], ◌∷◌, length, arith}
+use Rattle.std.specs.Prelude.{count_by, is_some}
 use Rattle.std.specs.List.{list_all, range_with_len}
 use Rattle.std.specs.Ordering.{eq_by_cmp}
-use Rattle.std.proofs.lemmas.Bool.{cases_Bool, cases_lt, cond_both, false≢true, le-ltb, lt-ltb, ltb-true, or_left, and_parts}
+use Rattle.std.proofs.lemmas.Bool.{and_parts, cases_Bool, false≢true}
+use Rattle.std.proofs.lemmas.Bool.Decides.{nat_tests}
 use Rattle.std.proofs.lemmas.List.Sums.{sum_by-cons}
-use Rattle.std.specs.FinMap as fm
 use Rattle.lwc_base.specs.declared.cell.Cell.{Cell}
 use Rattle.lwc_base.specs.declared.cell.Cell.TheVariants.{Own, Common}
 use Rattle.lwc_base.specs.declared.key.Key.TheVariants.{Page}
@@ -13,10 +13,10 @@ use Rattle.lwc_base.specs.declared.name.Name.{Name}
 use Rattle.lwc_base.specs.declared.name.Tag.{Tag}
 use Rattle.lwc_base.specs.declared.page.PageValue.{PageValue}
 use Rattle.lwc_base.specs.declared.page.PageValue.TheVariants.{Zero, Data}
-use Rattle.lwc_base.specs.declared.size.WorldSize.{WorldSize}
+use Rattle.lwc_base.specs.declared.page.TheConstants.{PAGE_BYTES}
 use Rattle.lwc_base.specs.Cells.{page_at, put_page}
 use Rattle.lwc_base.specs.Frames.{is_parting, own_value, tag_of, tags, tags_of_context, tags_of_group, used}
-use Rattle.lwc_base.specs.Holders.{InCell}
+use Rattle.lwc_base.specs.Holders.{InCell, Keeps}
 use Rattle.lwc_base.specs.Memory.{is_present, touched}
 use Rattle.lwc_base.specs.Modes.{number_of}
 use Rattle.lwc_base.specs.Names.{tag_cmp}
@@ -26,222 +26,244 @@ use Rattle.lwc_base.specs.Sound.{IsSound, IsSoundPage, sound_pages}
 use Rattle.lwc_base.specs.Store.{Piece, Done, after_store, bytes_after, page_value_at, parting_count, plan, put_pages, store, stored_value}
 use Rattle.lwc_base.specs.World.{World, Counters, context, group, is_live, new_context, new_group, change_counters}
 use Rattle.lwc_base.proofs.Common.{put-other_key}
+use Rattle.lwc_base.proofs.Fresh.{fresh-after_store}
+use Rattle.lwc_base.proofs.Holders.{keeps-change_counters, keeps-put_at, keeps-weaker}
 use Rattle.lwc_base.proofs.Orders.{same_tag, tag-itself}
-use Rattle.lwc_base.proofs.Puts.{names-put_at}
-use Rattle.lwc_base.proofs.Stored.{IsDone, is_done, page_at-sound, parts, present_value}
-use Rattle.lwc_base.proofs.StoredBytes.{first_touched, touched_count, touched-range}
-use Rattle.lwc_base.proofs.Tags.{sum_none, sum_nothing, times, times-context, times-group, times-itself, times-other, times-put_page, times-tags, used-more, used-same}
+use Rattle.lwc_base.proofs.Puts.{names-put_at, takes-after_store}
+use Rattle.lwc_base.proofs.Sound.{groups-change_counters, groups-put_pages, page_at-sound, sound_value-extends}
+use Rattle.lwc_base.proofs.Stored.{IsDone, first_touched, is_done, length-bytes_after, length-zero_page, present_value, touched_count, touched-range}
+use Rattle.lwc_base.proofs.Tags.{sum_nothing, total-none, times, times-context, times-group, times-itself, times-other, times-put_page, times-tags, used-more, used-same}
 
--- a tag that has not been taken is at no holder
-module _ (w : World) (sound : IsSound w) (t : Tag) (new : (w.next t.job).tags ≤ t.k) where
-  times-new_page : (p : ℕ) (value : Option PageValue) → IsSoundPage w sound.home p value → times t (tag_of value) ≡ 0
+-- a tag that has not been taken, where each page is sound, is at no holder
+module _ (w u : World) (home : Tag → ℕ) (keeps : Keeps (sound_pages w home) u) (t : Tag) (new : (w.next t.job).tags ≤ t.k) where
+  times-new_page : (p : ℕ) (value : Option PageValue) → IsSoundPage w home p value → times t (tag_of value) ≡ 0
   times-new_page p None is = refl
   times-new_page p (Some Zero) is = refl
-  times-new_page p (Some (Data s bytes)) is = times-other t s (λ same. let old : t.k < (w.next t.job).tags = subst (λ u. u.k < (w.next u.job).tags) same is.1.old in omega (arith, old, new))
+  times-new_page p (Some (Data s bytes)) is = times-other t s (λ same. grind arith)
 
-  times-new_cell : (job p : ℕ) (cell : Cell (Option PageValue)) → InCell (sound_pages w sound.home) job (Page p) cell → times t (tag_of (own_value cell)) ≡ 0
+  times-new_cell : (job p : ℕ) (cell : Cell (Option PageValue)) → InCell (sound_pages w home) job (Page p) cell → times t (tag_of (own_value cell)) ≡ 0
   times-new_cell job p (Own value) is = times-new_page p value is
   times-new_cell job p (Common g) is = refl
 
-  pub times-new : times t (tags w) ≡ 0
+  times-new : times t (tags u) ≡ 0
   unfolding context group
   times-new =
-      let contexts = sum_none (λ x. times t (tags_of_context w.size.pages x)) (fm.entries w.contexts) (fm.entries_sorted w.contexts)
-      (λ c x found.
-      let is : fm.get w.contexts c ≡ Some x = fm.get-entries w.contexts c ∙ found in
-      times-context t w.size.pages x
-      ∙ sum_nothing (λ p. times t (tag_of (own_value (x.cell (Page p)))))
-      (λ p. times-new_cell c.job p (x.cell (Page p))
-      (subst (λ o. InCell (sound_pages w sound.home) c.job (Page p) ((unwrap_or o (new_context 0 (fresh_registers 0))).cell (Page p))) is (sound.pages.contexts c (ap is_some is) (Page p))))
-      (range_with_len 0 w.size.pages)) in
-      let groups = sum_none (λ x. times t (tags_of_group w.size.pages x)) (fm.entries w.groups) (fm.entries_sorted w.groups)
-      (λ g x found.
-      let is : fm.get w.groups g ≡ Some x = fm.get-entries w.groups g ∙ found in
-      times-group t w.size.pages x
-      ∙ sum_nothing (λ p. times t (tag_of (x.value (Page p))))
-      (λ p. times-new_page p (x.value (Page p))
-      (subst (λ o. IsSoundPage w sound.home p ((unwrap_or o new_group).value (Page p))) is (sound.pages.groups g (ap is_some is) (Page p))))
-      (range_with_len 0 w.size.pages)) in
-      omega (arith, times-tags t w, contexts, groups)
+      omega (
+        arith,
+        times-tags t u,
+        total-none (λ x. times t (tags_of_context u.size.pages x)) u.contexts (new_context 0 (fresh_registers 0))
+            (λ c live. times-context t u.size.pages (context u c) ∙ sum_nothing _ (λ p. times-new_cell c.job p ((context u c).cell (Page p)) (keeps.contexts c live (Page p))) (range_with_len 0 u.size.pages)),
+        total-none (λ x. times t (tags_of_group u.size.pages x)) u.groups new_group
+            (λ g live. times-group t u.size.pages (group u g) ∙ sum_nothing _ (λ p. times-new_page p ((group u g).value (Page p)) (keeps.groups g live (Page p))) (range_with_len 0 u.size.pages)),
+      )
 
--- one holder gives up its tags for others, and each tag that it gives up is at another holder too
+-- one holder gives up its tag for another, and the tag that it gives up is at another holder too
 module _ (u v : World) (gone come : List Tag) (change : (t : Tag) → times t (tags v) + times t gone ≡ times t (tags u) + times t come) where
-  used-step_more : (new : Tag) → come ≡ new ∷ [] → times new (tags u) ≡ 0 → ((t : Tag) → times t gone ≤ times t (tags u)) → ((t : Tag) → 1 ≤ times t (tags u) → times t gone < times t (tags u)) →
-      used v ≡ used u + 1
-  used-step_more new is none had stays =
-      used-more u v new none (λ t. elim (cases_Bool (eq_by_cmp tag_cmp t new)) [
-        | inl same ↦
-            let one : times t come ≡ 1 = ap (times t) is ∙ ap (λ s. times t (s ∷ [])) (sym (same_tag t new same)) ∙ times-itself t in
-            let some : 0 < times t (tags v) = omega (arith, change t, one, had t) in
-            lt-ltb 0 (times t (tags v)) some ∙ sym (or_left _ _ same)
-        | inr other ↦
-            let nothing : times t come ≡ 0 = ap (times t) is ∙ times-other t new (λ e. false≢true (sym other ∙ ap (eq_by_cmp tag_cmp t) e ∙ tag-itself t)) in
-            elim (cases_lt 0 (times t (tags u))) [
-              | inl some ↦
-                  let more : 0 < times t (tags v) = omega (arith, change t, nothing, stays t some, some) in
-                  lt-ltb 0 (times t (tags v)) more ∙ (λ i. sym other i || sym (lt-ltb 0 (times t (tags u)) some) i)
-              | inr none_there ↦
-                  let still : times t (tags v) ≤ 0 = omega (arith, change t, nothing, none_there) in
-                  le-ltb 0 (times t (tags v)) still ∙ (λ i. sym other i || sym (le-ltb 0 (times t (tags u)) none_there) i)
-            ]
-      ])
+  used-step_more : (new : Tag) → come ≡ new ∷ [] → times new (tags u) ≡ 0 → ((t : Tag) → (times t gone ≡ 0) ⊎ ((times t gone ≡ 1) × (2 ≤ times t (tags u)))) → used v ≡ used u + 1
+  used-step_more new is none stays =
+      used-more u v new none (λ t.
+      let split = change t in
+      let left = stays t in
+      let one = ap (times t) is in
+      grind (arith, nat_tests, same_tag, times-itself t, times-other t new, tag-itself))
 
   used-step_same : come ≡ gone → used v ≡ used u
-  used-step_same is =
-      used-same u v (λ t. let same : times t (tags v) ≡ times t (tags u) = omega (arith, change t, ap (times t) is) in ap (ltb 0) same)
+  used-step_same is = used-same u v (λ t. let same : times t (tags v) ≡ times t (tags u) = omega (arith, change t, ap (times t) is) in ap (ltb 0) same)
 
-module _ (w : World) (c : Name) (job : ℕ) (piece : Piece) (sound : IsSound w) (live : is_live w c ≡ true) where
+in_world : (w : World) (home : Tag → ℕ) (p : ℕ) (value : PageValue) → IsSoundPage w home p (Some value) → p < w.size.pages
+in_world w home p value is = grind arith
+
+whole_page : (w : World) (home : Tag → ℕ) (p : ℕ) (value : PageValue) → IsSoundPage w home p (Some value) → length (bytes_of value) ≡ PAGE_BYTES
+whole_page w home p value is = grind (arith, length-zero_page)
+
+module _ (w : World) (c : Name) (job : ℕ) (piece : Piece) where
+  abbrev taken : ℕ
+  taken = (w.next job).tags
+
   abbrev new_tag : ℕ → Tag
   new_tag k = record { job = job; k = k }
 
-  abbrev next_new : ℕ
-  next_new = (w.next job).tags
+  abbrev parts : ℕ → Bool
+  parts p = is_parting w (page_value_at w c p)
 
-  -- in a world in which pages before one have got their new values, the others are as they were, and so are their tags
-  record IsHalfStored (u : World) (k a : ℕ) : Type 0 where
+  -- the world in which the job has taken its tags up to a number
+  abbrev counted : ℕ → World
+  counted k = record w { next = λ j. cond (eqb j job) (record (w.next j) { tags = k }) (w.next j) }
+
+  rises-counted : (k m j : ℕ) → k ≤ m → ((counted k).next j).tags ≤ ((counted m).next j).tags
+  rises-counted k m j less = grind (arith, nat_tests)
+
+  -- pages before one have got their new values, and the tags up to a number are taken; the other pages, and their tags, are as they were
+  record IsStage (u : World) (k a : ℕ) : Type 0 where
+    home : Tag → ℕ
+    cells : Keeps (sound_pages (counted k) home) u
+    live : is_live u c ≡ true
     size : u.size ≡ w.size
-    taken : next_new ≤ k
     pages : (p : ℕ) → a ≤ p → page_at u c p ≡ page_at w c p
-    new : (m : ℕ) → k ≤ m → times (new_tag m) (tags u) ≡ 0
-    old : (p : ℕ) (t : Tag) (bytes : List ℕ) → a ≤ p → page_at w c p ≡ Some (Data t bytes) → times t (tags u) ≡ times t (tags w)
+    counts : (p : ℕ) (t : Tag) (bytes : List ℕ) → a ≤ p → page_at w c p ≡ Some (Data t bytes) → times t (tags u) ≡ times t (tags w)
 
-  -- a page gets its new value
-  module _ (u : World) (k a : ℕ) (half : IsHalfStored u k a) (value : PageValue) (is_value : page_at w c a ≡ Some value) where
-    abbrev stored : Bool → PageValue
-    stored parting = stored_value parting (new_tag k) value (bytes_after piece a (bytes_of value))
+  module _ (u : World) (k a : ℕ) (stage : IsStage u k a) where
+    sound_page : (p : ℕ) (value : PageValue) → a ≤ p → page_at w c p ≡ Some value → IsSoundPage (counted k) stage.home p (Some value)
+    sound_page p value past is =
+        subst (IsSoundPage (counted k) stage.home p) (stage.pages p past ∙ is) (page_at-sound (counted k) u stage.home c stage.live stage.cells p)
 
-    abbrev next : Bool → World
-    next parting = put_page u c a (stored parting)
+    -- the page gets a new value, with its own tag or a new one
+    module _ (value new : PageValue) (is : page_at w c a ≡ Some value) where
+      abbrev next : World
+      next = put_page u c a new
 
-    sound_value : IsSoundPage w sound.home a (Some value)
-    sound_value = subst (IsSoundPage w sound.home a) is_value (page_at-sound w c job piece sound live a)
+      within : a < u.size.pages
+      within = let small = in_world (counted k) stage.home a value (sound_page a value (omega arith) is) in grind (arith, stage.size)
 
-    within : a < u.size.pages
-    within = subst (λ (s : WorldSize). a < s.pages) (sym half.size) (in_world value sound_value)
+      change : (t : Tag) → times t (tags next) + times t (tag_of (Some value)) ≡ times t (tags u) + times t (tag_of (Some new))
+      change t = times-put_page t u c a new value within (stage.pages a (omega arith) ∙ is)
+
+      next_stage : (m : ℕ) (later : Tag → ℕ) → k ≤ m → ((t : Tag) → t.k < ((counted k).next t.job).tags → later t ≡ stage.home t) → IsSoundPage (counted m) later a (Some new) →
+          ((p : ℕ) (t : Tag) (bytes : List ℕ) → a < p → page_at w c p ≡ Some (Data t bytes) → times t (tag_of (Some new)) ≡ times t (tag_of (Some value))) → IsStage next m (a + 1)
+      next_stage m later more same sound counts = record {
+        home = later;
+        cells = keeps-put_at (sound_pages (counted m) later) u c (Page a) (Some new) sound (λ g _. sound)
+            (keeps-weaker (sound_pages (counted k) stage.home) (sound_pages (counted m) later) (λ i q g here. tt)
+            (λ i. sound_value-extends (counted k) (counted m) stage.home later refl (λ j. rises-counted k m j more) same) u stage.cells);
+        live = (names-put_at u c (Page a) (Some new)).live c ∙ stage.live;
+        size = (names-put_at u c (Page a) (Some new)).size ∙ stage.size;
+        pages = λ p past. put-other_key u c (Page a) (Some new) c (Page p) (λ e. omega (arith, ap number_of e, past)) ∙ stage.pages p (omega (arith, past));
+        counts = λ p t bytes past there. omega (arith, change t, counts p t bytes (omega (arith, past)) there, stage.counts p t bytes (omega (arith, past)) there);
+      }
+
+    -- a tag of a later page is not the new one, nor one of this page
+    later_tag : (value : PageValue) (p : ℕ) (t : Tag) (old : List ℕ) → page_at w c a ≡ Some value → a < p → page_at w c p ≡ Some (Data t old) →
+        (times t (new_tag k ∷ []) ≡ 0) × (times t (tag_of (Some value)) ≡ 0)
+    later_tag value p t old is past there =
+        let other = (sound_page p (Data t old) (omega (arith, past)) there).1 in
+        (times-other t (new_tag k) (λ same. let taken = other.old in grind (arith, nat_tests)), at value (sound_page a value (omega arith) is) other.at_home)
       where
-        in_world : (v : PageValue) → IsSoundPage w sound.home a (Some v) → a < w.size.pages
-        in_world Zero is = is
-        in_world (Data t bytes) is = is.0
+        at : (v : PageValue) → IsSoundPage (counted k) stage.home a (Some v) → stage.home t ≡ p → times t (tag_of (Some v)) ≡ 0
+        at Zero mine home = refl
+        at (Data s bytes) mine home = times-other t s (λ same. let at_a = mine.1.at_home in grind arith)
 
-    change : (parting : Bool) (t : Tag) → times t (tags (next parting)) + times t (tag_of (Some value)) ≡ times t (tags u) + times t (tag_of (Some (stored parting)))
-    change parting t = times-put_page t u c a (stored parting) value within (half.pages a (omega arith) ∙ is_value)
+    record IsStep (parting : Bool) (new : PageValue) : Type 0 where
+      frames : used (put_page u c a new) ≡ used u + cond parting 1 0
+      after : IsStage (put_page u c a new) (cond parting (k + 1) k) (a + 1)
 
-    -- a tag of the page is at no other page
-    elsewhere : (p : ℕ) (t : Tag) (bytes : List ℕ) → a < p → page_at w c p ≡ Some (Data t bytes) → times t (tag_of (Some value)) ≡ 0
-    elsewhere p t bytes past is =
-        let home : sound.home t ≡ p = (subst (IsSoundPage w sound.home p) is (page_at-sound w c job piece sound live p)).1.at_home in
-        at value sound_value home
-      where
-        at : (v : PageValue) → IsSoundPage w sound.home a (Some v) → sound.home t ≡ p → times t (tag_of (Some v)) ≡ 0
-        at Zero here home = refl
-        at (Data s old) here home = times-other t s (λ same. let at_a : sound.home t ≡ a = subst (λ r. sound.home r ≡ a) same here.1.at_home in omega (arith, at_a, home, past))
+    module _ (value : PageValue) (is : page_at w c a ≡ Some value) where
+      here : IsSoundPage (counted k) stage.home a (Some value)
+      here = sound_page a value (omega arith) is
 
-    -- a tag that has been taken is not the new one
-    not_new : (p : ℕ) (t : Tag) (bytes : List ℕ) → page_at w c p ≡ Some (Data t bytes) → times t (new_tag k ∷ []) ≡ 0
-    not_new p t bytes is =
-        let old : t.k < (w.next t.job).tags = (subst (IsSoundPage w sound.home p) is (page_at-sound w c job piece sound live p)).1.old in
-        times-other t (new_tag k) (λ same. let less : k < next_new = subst (λ r. r.k < (w.next r.job).tags) (sym same) old in omega (arith, less, half.taken))
+      abbrev bytes : List ℕ
+      bytes = bytes_after piece a (bytes_of value)
 
-    -- the same of the next page, where the new value has these tags in place of the old ones
-    half_next : (parting : Bool) → ((m : ℕ) → cond parting (k + 1) k ≤ m → times (new_tag m) (tag_of (Some (stored parting))) ≤ times (new_tag m) (tag_of (Some value))) →
-        ((p : ℕ) (t : Tag) (bytes : List ℕ) → a < p → page_at w c p ≡ Some (Data t bytes) → times t (tag_of (Some (stored parting))) ≡ 0) →
-        IsHalfStored (next parting) (cond parting (k + 1) k) (a + 1)
-    half_next parting news olds = record {
-      size = (names-put_at u c (Page a) (Some (stored parting))).size ∙ half.size;
-      taken = cond_both parting (k + 1) k (λ n. next_new ≤ n) (λ _. omega (arith, half.taken)) (λ _. half.taken);
-      pages = λ p past. put-other_key u c (Page a) (Some (stored parting)) c (Page p) (λ e. omega (arith, ap number_of e, past)) ∙ half.pages p (omega (arith, past));
-      new = λ m high.
-          let from : k ≤ m = cond_both parting (k + 1) k (λ n. n ≤ m → k ≤ m) (λ _ h. omega (arith, h)) (λ _ h. h) high in
-          omega (arith, change parting (new_tag m), half.new m from, news m high);
-      old = λ p t bytes past is.
-          omega (arith, change parting t, elsewhere p t bytes (omega (arith, past)) is, olds p t bytes (omega (arith, past)) is, half.old p t bytes (omega (arith, past)) is);
-    }
+      whole : length bytes ≡ PAGE_BYTES
+      whole = length-bytes_after piece a (bytes_of value) ∙ whole_page (counted k) stage.home a value here
 
-    record IsStep (parting : Bool) : Type 0 where
-      used : used (next parting) ≡ used u + cond parting 1 0
-      rest : IsHalfStored (next parting) (cond parting (k + 1) k) (a + 1)
+      -- a page that parts takes a new tag, and its old one, if it had one, is at another holder too
+      step_more : ((t : Tag) → (times t (tag_of (Some value)) ≡ 0) ⊎ ((times t (tag_of (Some value)) ≡ 1) × (2 ≤ times t (tags u)))) → IsStep true (Data (new_tag k) bytes)
+      step_more others =
+          let none : times (new_tag k) (tags u) ≡ 0 = times-new (counted k) u stage.home stage.cells (new_tag k) (grind (arith, nat_tests)) in
+          let later : Tag → ℕ = λ t. cond (eq_by_cmp tag_cmp t (new_tag k)) a (stage.home t) in
+          record {
+            frames = used-step_more u (put_page u c a (Data (new_tag k) bytes)) (tag_of (Some value)) (new_tag k ∷ []) (change value (Data (new_tag k) bytes) is) (new_tag k) refl none others;
+            after = next_stage value (Data (new_tag k) bytes) is (k + 1) later (omega arith) (λ t old. grind (arith, nat_tests, same_tag t (new_tag k)))
+                (in_world (counted k) stage.home a value here, record { whole = whole; old = grind (arith, nat_tests); at_home = grind (arith, tag-itself (new_tag k)) })
+                (λ p t old past there. let both = later_tag value p t old is past there in both.0 ∙ sym both.1);
+          }
 
-    -- a page that parts takes a new tag, and its old one, if it had one, is at another holder too
-    step_more : tag_of (Some (stored true)) ≡ new_tag k ∷ [] → ((t : Tag) → (times t (tag_of (Some value)) ≡ 0) ⊎ ((times t (tag_of (Some value)) ≡ 1) × (2 ≤ times t (tags u)))) → IsStep true
-    step_more come others = record {
-      used = used-step_more u (next true) (tag_of (Some value)) (tag_of (Some (stored true))) (change true) (new_tag k) come (half.new k (omega arith))
-          (λ t. elim (others t) [ inl none ↦ omega (arith, none) | inr two ↦ omega (arith, two.0, two.1) ])
-          (λ t some. elim (others t) [ inl none ↦ omega (arith, none, some) | inr two ↦ omega (arith, two.0, two.1) ]);
-      rest = half_next true
-          (λ m high. let other : times (new_tag m) (tag_of (Some (stored true))) ≡ 0 =
-          ap (times (new_tag m)) come ∙ times-other (new_tag m) (new_tag k) (λ same. omega (arith, ap (λ (t : Tag). t.k) same, high)) in omega (arith, other))
-          (λ p t bytes past is. ap (times t) come ∙ not_new p t bytes is);
-    }
-
-    step_by : (v : PageValue) → value ≡ v → (parting : Bool) → is_parting w value ≡ parting → IsStep parting
+    step_by : (value : PageValue) (parting : Bool) (is : page_at w c a ≡ Some value) → is_parting w value ≡ parting → IsStep parting (stored_value parting (new_tag k) value (bytes_after piece a (bytes_of value)))
     unfolding is_parting
-    step_by Zero is true parts =
-        step_more (ap (λ v. tag_of (Some (stored_value true (new_tag k) v (bytes_after piece a (bytes_of value))))) is) (λ t. inl (ap (λ v. times t (tag_of (Some v))) is))
-    step_by Zero is false parts = absurd (false≢true (sym parts ∙ ap (is_parting w) is))
-    step_by (Data s bytes) is true parts =
-        let two : 2 ≤ times s (tags w) = ltb-true 1 (times s (tags w)) (sym (ap (is_parting w) is) ∙ parts) in
-        let same : times s (tags u) ≡ times s (tags w) = half.old a s bytes (omega arith) (is_value ∙ ap Some is) in
-        step_more (ap (λ v. tag_of (Some (stored_value true (new_tag k) v (bytes_after piece a (bytes_of value))))) is)
-        (λ t. elim (cases_Bool (eq_by_cmp tag_cmp t s)) [
-          | inl tied ↦
-              let one : times t (tag_of (Some value)) ≡ 1 = ap (λ v. times t (tag_of (Some v))) is ∙ ap (λ r. times t (r ∷ [])) (sym (same_tag t s tied)) ∙ times-itself t in
-              let at_t : times t (tags u) ≡ times s (tags u) = ap (λ r. times r (tags u)) (same_tag t s tied) in
-              inr (one, omega (arith, two, same, at_t))
-          | inr other ↦
-              inl (ap (λ v. times t (tag_of (Some v))) is ∙ times-other t s (λ e. false≢true (sym other ∙ ap (eq_by_cmp tag_cmp t) e ∙ tag-itself t)))
+    step_by Zero true is parted = step_more Zero is (λ t. inl refl)
+    step_by Zero false is parted = absurd (false≢true (sym parted))
+    step_by (Data t old) true is parted =
+        let same = stage.counts a t old (omega arith) is in
+        step_more (Data t old) is (λ r. elim (cases_Bool (eq_by_cmp tag_cmp r t)) [
+          | inl tied ↦ inr (grind (arith, same_tag r t, times-itself r), grind (arith, nat_tests, same_tag r t))
+          | inr other ↦ inl (times-other r t (λ e. grind (arith, tag-itself r)))
         ])
-    step_by (Data s bytes) is false parts =
-        let come : tag_of (Some (stored false)) ≡ tag_of (Some value) =
-        ap (λ v. tag_of (Some (stored_value false (new_tag k) v (bytes_after piece a (bytes_of value))))) is ∙ ap (λ v. tag_of (Some v)) (sym is) in
+    step_by (Data t old) false is parted =
+        let mine = here (Data t old) is in
+        let new : PageValue = Data t (bytes_after piece a old) in
+        let same = used-step_same u (put_page u c a new) (t ∷ []) (t ∷ []) (change (Data t old) new is) refl in
         record {
-          used = used-step_same u (next false) (tag_of (Some value)) (tag_of (Some (stored false))) (change false) come ∙ plus_zero (used u);
-          rest = half_next false (λ m high. omega (arith, ap (times (new_tag m)) come)) (λ p t old past here. ap (times t) come ∙ elsewhere p t old past here);
+          frames = omega (arith, same);
+          after = next_stage (Data t old) new is k stage.home (omega arith) (λ r taken_r. refl)
+              (mine.0, record { whole = whole (Data t old) is; old = mine.1.old; at_home = mine.1.at_home }) (λ p r other past there. refl);
         }
-      where
-        plus_zero : (n : ℕ) → n ≡ n + 0
-        plus_zero n = omega arith
 
-  used-stored : (n a k : ℕ) (u : World) → IsHalfStored u k a → list_all (λ p. is_some (page_at w c p)) (range_with_len a n) ≡ true →
-      used (put_pages u c (plan w c job piece k (range_with_len a n))) ≡ used u + count_by (parts w c job piece) (range_with_len a n)
-  used-stored zero a k u half present = let plus : used u ≡ used u + 0 = omega arith in plus
-  used-stored (suc n) a k u half present =
+  -- once pages have got their new values: each that parts has taken a frame and a tag
+  record IsStored (u v : World) (k : ℕ) (ps : List ℕ) : Type 0 where
+    frames : used v ≡ used u + count_by parts ps
+    last : ℕ
+    is_last : last ≡ k + count_by parts ps
+    home : Tag → ℕ
+    cells : Keeps (sound_pages (counted last) home) v
+
+  stored : (n a k : ℕ) (u : World) → IsStage u k a → list_all (λ p. is_some (page_at w c p)) (range_with_len a n) ≡ true →
+      IsStored u (put_pages u c (plan w c job piece k (range_with_len a n))) k (range_with_len a n)
+  stored zero a k u stage present = record { frames = omega arith; last = k; is_last = omega arith; home = stage.home; cells = stage.cells }
+  stored (suc n) a k u stage present =
       let there = and_parts (is_some (page_at w c a)) (list_all (λ p. is_some (page_at w c p)) (range_with_len (a + 1) n)) present in
-      let value : PageValue = page_value_at w c a in
-      let parting : Bool = parts w c job piece a in
-      let step = step_by u k a half value (present_value (page_at w c a) there.0) value refl parting refl in
-      omega (
-        arith,
-        step.used,
-        used-stored n (a + 1) (cond parting (k + 1) k) (next u k a half value (present_value (page_at w c a) there.0) parting) step.rest there.1,
-        sum_by-cons (λ p. cond (parts w c job piece p) 1 0) a (range_with_len (a + 1) n),
-      )
+      let step = step_by u k a stage (page_value_at w c a) (parts a) (present_value (page_at w c a) there.0) refl in
+      let rest = stored n (a + 1) (cond (parts a) (k + 1) k) _ step.after there.1 in
+      let split = sum_by-cons (λ p. cond (parts p) 1 0) a (range_with_len (a + 1) n) in
+      record { frames = omega (arith, step.frames, rest.frames, split); last = rest.last; is_last = grind (arith, rest.is_last); home = rest.home; cells = rest.cells }
 
--- no other change of counters changes the frames that are used
-used-change_counters : (w : World) (job : ℕ) (f : Counters → Counters) → used (change_counters w job f) ≡ used w
-unfolding used tags change_counters
-used-change_counters w job f = refl
+  module _ (sound : IsSound w) (live : is_live w c ≡ true) (present : is_present w c piece.at (length piece.bytes) ≡ true) where
+    abbrev after : World
+    after = after_store w c job piece
 
--- the frames that are used after a store
-pub store-used : (w v : World) (c : Name) (job : ℕ) (piece : Piece) → store w c job piece ≡ Done v → IsSound w → is_live w c ≡ true → used v ≡ used w + parting_count w c piece
-unfolding after_store parting_count is_present
-store-used w v c job piece done sound live =
-    let is : IsDone w c job piece v = is_done w c job piece v done in
-    let first : ℕ = first_touched piece.at in
-    let count : ℕ = touched_count piece.at (length piece.bytes) in
-    let touches : touched piece.at (length piece.bytes) ≡ range_with_len first count = touched-range piece.at (length piece.bytes) in
-    ap used is.after
-    ∙ used-change_counters (put_pages w c (plan w c job piece (w.next job).tags (touched piece.at (length piece.bytes)))) job (λ n. record n { tags = n.tags + parting_count w c piece })
-    ∙ ap (λ ps. used (put_pages w c (plan w c job piece (w.next job).tags ps))) touches
-    ∙ used-stored w c job piece sound live count first (w.next job).tags w
-    (record {
-      size = refl;
-      taken = omega arith;
-      pages = λ p past. refl;
-      new = λ m high. times-new w sound (record { job = job; k = m }) high;
-      old = λ p t bytes past there. refl;
-    })
-    (ap (list_all (λ p. is_some (page_at w c p))) (sym touches) ∙ is.present)
-    ∙ ap (λ ps. used w + count_by (parts w c job piece) ps) (sym touches)
+    abbrev values : List (ℕ × PageValue)
+    values = plan w c job piece taken (touched piece.at (length piece.bytes))
 
-pub store-room : (w v : World) (c : Name) (job : ℕ) (piece : Piece) → store w c job piece ≡ Done v → IsSound w → is_live w c ≡ true → used v ≤ w.size.frames
-store-room w v c job piece done sound live = omega (arith, store-used w v c job piece done sound live, (is_done w c job piece v done).room)
+    all_stored : IsStored w (put_pages w c values) taken (touched piece.at (length piece.bytes))
+    unfolding is_present
+    all_stored =
+        let first : IsStage w taken (first_touched piece.at) = record {
+          home = sound.home;
+          cells = keeps-weaker (sound_pages w sound.home) (sound_pages (counted taken) sound.home) (λ i q g here. tt)
+              (λ i. sound_value-extends w (counted taken) sound.home sound.home refl (λ j. grind (arith, nat_tests)) (λ t old. refl)) w sound.pages;
+          live = live;
+          size = refl;
+          pages = λ p past. refl;
+          counts = λ p t old past there. refl;
+        } in
+        let touches : range_with_len (first_touched piece.at) (touched_count piece.at (length piece.bytes)) ≡ touched piece.at (length piece.bytes) = sym (touched-range piece.at (length piece.bytes)) in
+        subst (λ ps. list_all (λ p. is_some (page_at w c p)) ps ≡ true → IsStored w (put_pages w c (plan w c job piece taken ps)) taken ps) touches
+        (stored (touched_count piece.at (length piece.bytes)) (first_touched piece.at) taken w first) present
+
+    -- no change of counters changes the frames that are used
+    used-after_store : used after ≡ used (put_pages w c values)
+    unfolding after_store used tags change_counters
+    used-after_store = refl
+
+    frames-after_store : used after ≡ used w + parting_count w c piece
+    unfolding parting_count
+    frames-after_store = used-after_store ∙ all_stored.frames
+
+    sound-after_store : IsSound after
+    unfolding parting_count after_store
+    sound-after_store =
+        let takes = takes-after_store w c job piece in
+        let all = all_stored in
+        let more : (j : ℕ) → ((counted all.last).next j).tags ≤ (after.next j).tags =
+        λ j. subst (λ (n : ℕ → Counters). ((counted all.last).next j).tags ≤ (n j).tags) (sym takes.next) (grind (arith, nat_tests, all.is_last)) in
+        record {
+          fresh = fresh-after_store w c job piece sound.fresh;
+          groups = groups-change_counters (put_pages w c values) job _ (groups-put_pages w c values sound.groups);
+          home = all.home;
+          pages = keeps-change_counters (sound_pages after all.home) (put_pages w c values) job _
+              (keeps-weaker (sound_pages (counted all.last) all.home) (sound_pages after all.home) (λ i q g here. tt)
+              (λ i. sound_value-extends (counted all.last) after all.home all.home takes.size more (λ t old. refl)) (put_pages w c values) all.cells);
+        }
+
+-- a store that is done
+module _ (w v : World) (c : Name) (job : ℕ) (piece : Piece) where
+  is : store w c job piece ≡ Done v → IsDone w c job piece v
+  is = is_done w c job piece v
+
+  pub sound-store : IsSound w → is_live w c ≡ true → store w c job piece ≡ Done v → IsSound v
+  sound-store sound live done = subst IsSound (sym (is done).after) (sound-after_store w c job piece sound live (is done).present)
+
+  pub store-used : store w c job piece ≡ Done v → IsSound w → is_live w c ≡ true → used v ≡ used w + parting_count w c piece
+  store-used done sound live = ap used (is done).after ∙ frames-after_store w c job piece sound live (is done).present
+
+  pub store-room : store w c job piece ≡ Done v → IsSound w → is_live w c ≡ true → used v ≤ w.size.frames
+  store-room done sound live = omega (arith, store-used done sound live, (is done).room)

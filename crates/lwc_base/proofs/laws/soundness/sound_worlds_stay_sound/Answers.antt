@@ -1,5 +1,5 @@
 use Rattle.lwc_base.proofs.Sound.{sound-empty_world, sound-add_new_context, sound-map_pages, sound-unmap_pages, sound-put_slot, sound-put_uid, sound-share, sound-clone_context}
-use Rattle.lwc_base.proofs.Stored.{sound-store}
+use Rattle.lwc_base.proofs.Room.{sound-store}
 use Rattle.lwc_base.proofs.laws.soundness.sound_worlds_stay_sound.Goals as goal
 
 pub returns-clause-empty : goal.returns-clause-empty
