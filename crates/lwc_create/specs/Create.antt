@@ -1,5 +1,5 @@
 -- The call that makes a new context: its refusals in their order, and what it does where none of them holds.
-use Rattle.std.specs.Prelude.{ℕ, ◌+◌, ◌*◌, ◌-◌, ◌%◌, ◌^◌, ◌&&◌, ◌||◌, Bool, not, List, [], ◌∷◌, Option, None, Some, is_none, nat_le, nat_lt, slice_index, slice_set, unwrap_or}
+use Rattle.std.specs.Prelude.{◌≡◌, ◌<◌, ℕ, ◌+◌, ◌*◌, ◌-◌, ◌%◌, ◌^◌, ◌&&◌, ◌||◌, Bool, true, not, List, [], ◌∷◌, Option, None, Some, is_none, nat_le, nat_lt, slice_index, slice_set, unwrap_or}
 use Rattle.lwc_base.specs.declared.answer.Answer.{Answer}
 use Rattle.lwc_base.specs.declared.answer.Answer.TheVariants.{Done, Refused}
 use Rattle.lwc_base.specs.declared.descriptor.Descriptor.TheVariants.{Ctx}
@@ -12,29 +12,39 @@ use Rattle.lwc_base.specs.declared.regs.Regs.{Regs}
 use Rattle.lwc_base.specs.Capabilities.{full_cap}
 use Rattle.lwc_base.specs.Cells.{put_slot}
 use Rattle.lwc_base.specs.Memory.{bytes_for}
+use Rattle.lwc_base.specs.Modes.{IsSpec}
 use Rattle.lwc_base.specs.Refusals.{first_refusal}
 use Rattle.lwc_base.specs.Sharing.{clone_context, needs_group, ranges_after_clone}
 use Rattle.lwc_base.specs.Slots.{lowest_empty}
 use Rattle.lwc_base.specs.World.{World, groups_of, live_of, next_context}
 use Rattle.res_spec.specs.Items.{all_taken, all_within, has_overlap, items_in}
 use Rattle.res_spec.specs.declared.items.SpecCall.TheVariants.{Create}
+use Rattle.res_spec.specs.declared.items.SpecFault.{SpecFault}
+use Rattle.res_spec.specs.declared.items.SpecFault.TheVariants as fault
 use Rattle.res_spec.specs.declared.items.TheConstants.{ITEM_BYTES}
+use Rattle.world_face.specs.Calls.{AreFew, HasGroupPlace, HasPlace}
 
--- how many items the caller asks for: register 2
+-- the number of items that the caller asks for: register 2
 abbrev pub count_of : Regs → ℕ
 count_of regs = slice_index regs.r 2
 
--- the bytes of the items, from the address in register 1 on; none where one of them is past the last page or in an absent page
+-- the bytes of the items, from the address in register 1 on; none if one of them cannot be read
 unfoldable pub item_bytes : World → Name → Regs → Option (List ℕ)
 item_bytes w c regs = bytes_for w c (slice_index regs.r 1) (count_of regs * ITEM_BYTES)
 
--- those bytes, where they can be read
+-- those bytes, if they can be read
 abbrev pub asked : World → Name → Regs → List ℕ
 asked w c regs = unwrap_or (item_bytes w c regs) []
 
 -- the items that the caller asks for
 unfoldable pub items_of : World → Name → Regs → List Item
 items_of w c regs = items_in Create (asked w c regs)
+
+-- the refusal of a fault of the items
+abbrev pub refusal_of : SpecFault → Refusal
+refusal_of fault.BadMode = BadMode
+refusal_of fault.BadRange = BadRange
+refusal_of fault.Overlap = Overlap
 
 -- whether one of two numbers of ranges is past the limit
 abbrev pub are_too_many : ℕ × ℕ → Bool
@@ -54,27 +64,44 @@ refusals w c job regs =
     ∷ (are_too_many (ranges_after_clone w c job (items_of w c regs)), TooManyRanges)
     ∷ []
 
--- what stands for no caller: -1
+-- the register value that says that there is no caller: -1
 abbrev pub no_caller : ℕ
 no_caller = 2 ^ 64 - 1
 
--- the registers after the call, with this in r0: no caller in r1, 0 in r2, and the next instruction
+-- the registers after the call: this value in r0, no caller in r1, 0 in r2, and the next instruction
 abbrev pub after_call : Regs → ℕ → Regs
 after_call regs value = record {
   r = slice_set (slice_set (slice_set regs.r 0 value) 1 no_caller) 2 0;
   pc = (regs.pc + 1) % 2 ^ 64;
 }
 
--- the new context is made, beginning with no caller in r0, and a descriptor of it with every key is put into the slot
+-- the new context is made, with no caller in its r0, and the slot gets a descriptor of it that has every key
 abbrev pub created : World → Name → ℕ → Regs → ℕ → World
 created w c job regs slot =
-    put_slot (clone_context w c job (items_of w c regs) (after_call regs no_caller)) c slot (Ctx (next_context w job) (full_cap w.size.pages))
+    put_slot (clone_context w c job (items_of w c regs) (after_call regs no_caller)) c slot
+    (Ctx (next_context w job) (full_cap w.size.pages))
 
--- the end of the call: a refusal changes nothing; else the slot that was the lowest empty one gets the new context, and r0 tells the slot
+-- the end of the call: a refusal changes nothing; else the new context is made, and r0 gets the slot's number
 abbrev pub ended : World → Name → ℕ → Regs → ℕ → Option Refusal → Answer × World
 ended w c job regs slot (Some refusal) = (Refused refusal, w)
 ended w c job regs slot None = (Done (after_call regs slot), created w c job regs slot)
 
--- the call that makes a new context from the caller's one, for its job: what it answers, and the world afterwards
+-- the call that makes a new context from the caller's one, for its job: the answer, and the world afterwards
 unfoldable pub create : World → Name → ℕ → Regs → Answer × World
-create w c job regs = ended w c job regs (unwrap_or (lowest_empty w c) 0) (first_refusal (refusals w c job regs))
+create w c job regs =
+    ended w c job regs (unwrap_or (lowest_empty w c) 0) (first_refusal (refusals w c job regs))
+
+-- while the job has fewer contexts or groups than it may have, there is a place for one more
+pub record HasPlaces (w : World) (job : ℕ) : Type 0 where
+  pub context : live_of w job < MOST_CONTEXTS_OF_JOB → HasPlace w
+  pub group : groups_of w job < MOST_GROUPS_OF_JOB → HasGroupPlace w
+
+-- no refusal holds: the call makes a context by these items, with its descriptor in this slot
+pub record IsAllowed (w : World) (c : Name) (job : ℕ) (regs : Regs) (items : List Item) (slot : ℕ) : Type 0 where
+  pub passed : first_refusal (refusals w c job regs) ≡ None
+  pub asked : items ≡ items_of w c regs
+  pub valid : IsSpec w.size.pages items
+  pub live : live_of w job < MOST_CONTEXTS_OF_JOB
+  pub lowest : lowest_empty w c ≡ Some slot
+  pub group : needs_group w c items ≡ true → groups_of w job < MOST_GROUPS_OF_JOB
+  pub few : AreFew (ranges_after_clone w c job items)

@@ -10,4 +10,3 @@ pub use Rattle.lwc_base.specs.World
 pub use Rattle.res_spec.specs.Items
 pub use Rattle.world_face.specs.Calls
 pub mod Create
-pub mod Faults

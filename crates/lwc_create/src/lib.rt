@@ -1,4 +1,4 @@
-//! The call that makes a new context from the caller's one.
+//! The call that makes a new context from the caller's context.
 #![tactic(auto)]
 
 pub mod creating;

@@ -9,7 +9,7 @@ if_err : {T E : Type 0} (r : Result T E) (Q P : E → Type 0) → IsErrAnd r Q �
 if_err (Ok x) Q P is then = tt
 if_err (Err e) Q P is then = then e is
 
-pub returns-in_err-spec-clause-refused : goal.returns-in_err-spec-clause-refused
-returns-in_err-spec-clause-refused g c =
-    let refused = c.in_err-spec.ensures.refused c.args.job in
+pub returns-in_err-items-clause-refused : goal.returns-in_err-items-clause-refused
+returns-in_err-items-clause-refused g c =
+    let refused = c.in_err-items.ensures.refused c.args.job in
     if_err c.from_residual.result _ _ c.from_residual.ensures.1 (λ e same. search (rules, refused))
