@@ -11,7 +11,7 @@ use Rattle.guest_isa.specs.declared.op.Op.TheVariants.{Li}
 use Rattle.guest_isa.specs.declared.instr.Instr.{Instr}
 use Rattle.guest_isa.specs.Opcodes.{number_of, op_of, ops}
 use Rattle.guest_isa.specs.Instructions.{is_instruction, IsInstruction}
-use Rattle.guest_isa.proofs.Fields.{imm_below}
+use Rattle.guest_isa.proofs.Fields.{in_range}
 use Rattle.guest_isa.specs.Spelling.{spelling, reading, checked}
 
 -- each opcode names its operation
@@ -47,7 +47,7 @@ checked-some i j e = by_test i j (is_instruction i) refl e
 -- what is spelled is read back
 pub reading-spelling : (i : Instr) → IsInstruction i → reading (spelling i) ≡ Some i
 unfolding reading
-reading-spelling i is = rw (op_of-number_of i.op, from_le_bytes-to_le_bytes_4 i.imm (imm_below i is)) (checked_ok i is)
+reading-spelling i is = rw (op_of-number_of i.op, from_le_bytes-to_le_bytes_4 i.imm (in_range i is).imm) (checked_ok i is)
 
 abbrev pub IsBytes : List ℕ → Type 0
 IsBytes bytes = (k : ℕ) → get_or bytes k 0 < 256

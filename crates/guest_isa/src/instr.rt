@@ -1,5 +1,6 @@
 ghost use Rattle.std.specs.Prelude.{◌≡◌, ◌^◌};
-ghost use Rattle.guest_isa.specs.Instructions.{fits, is_instruction, sx};
+ghost use Rattle.guest_isa.specs.Instructions.{HasFieldsInRange, IsInstruction, fits, is_instruction, sx};
+ghost use Rattle.guest_isa.specs.declared.instr.Instr.{Instr};
 
 use crate::op::Op;
 
@@ -19,26 +20,8 @@ pub struct Instr {
     pub imm: u32,
 }
 
-/// How many registers there are.
+/// The number of registers.
 const REGISTERS: u8 = 16;
-
-// Whether a field for a register may hold this number.
-fn register_fits(used: bool, number: u8) -> bool
-    ensures { result ≡ fits used 16 number }
-{
-    if used {
-        number < REGISTERS
-    } else {
-        number == 0
-    }
-}
-
-// Whether a field for a number may hold this one.
-fn number_fits(used: bool, number: u32) -> bool
-    ensures { result ≡ fits used (2 ^ 32) number }
-{
-    used || number == 0
-}
 
 impl Instr {
     /// Whether the fields fit the form of the operation: a register that is used is below 16, and a field that is
@@ -61,3 +44,27 @@ impl Instr {
         i64::from(self.imm.cast_signed()).cast_unsigned()
     }
 }
+
+/// Whether a field for a register may have this number.
+fn register_fits(used: bool, number: u8) -> bool
+    ensures { result ≡ fits used 16 number }
+{
+    if used {
+        number < REGISTERS
+    } else {
+        number == 0
+    }
+}
+
+/// Whether a field for a number may have this one.
+fn number_fits(used: bool, number: u32) -> bool
+    ensures { result ≡ fits used (2 ^ 32) number }
+{
+    used || number == 0
+}
+
+/// A law: in an instruction of the table each field for a register is below 16, used or not, and imm has 32 bits.
+#[tactic(auto, using(crate::proofs::Fields::in_range))]
+pub fn fields_are_in_range()
+    ensures { (i : Instr) → IsInstruction i → HasFieldsInRange i }
+{}

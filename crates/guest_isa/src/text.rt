@@ -1,7 +1,8 @@
-ghost use Rattle.std.specs.Prelude.{◌≡◌, ◌<◌, ◌≤◌, length, Some, slice_get};
+ghost use Rattle.std.specs.Prelude.{◌≡◌, ◌<◌, ◌≤◌, IfOk, length, Some, slice_get};
 ghost use Rattle.guest_isa.specs.Instructions.{IsInstruction, IsText};
 
 use crate::instr::Instr;
+use std::alloc::{AllocError, Global};
 use std::marker::Model;
 
 /// The instructions of a program: 1 to 65536 of them.
@@ -32,6 +33,15 @@ impl Text {
         Text { list }
     }
 
+    /// A copy. The only error is out of memory.
+    pub fn copy(&self, alloc: Global) -> Result<Text, AllocError>
+        ensures { IfOk result (λ copy. copy ≡ self.now) }
+    {
+        Ok(Text {
+            list: Vec::from_slice(alloc, self.list.as_slice())?,
+        })
+    }
+
     /// The instructions, in the memory that the text was made of.
     pub fn into_vec(self) -> Vec<Instr>
         ensures list { result.items ≡ self }
@@ -41,7 +51,7 @@ impl Text {
         list
     }
 
-    /// How many instructions there are, 1 to 65536.
+    /// The number of instructions, 1 to 65536.
     pub fn len(&self) -> usize
         ensures length { result ≡ length self.now }
         ensures text { IsText self.now }

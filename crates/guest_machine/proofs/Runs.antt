@@ -1,8 +1,10 @@
 -- The advance of a loop, and the facts of an advance.
 use Rattle.std.proofs.Common.{◌≡◌, ℕ, ◌+◌, ◌<◌, ◌≤◌, Bool, true, false, cond, ◌⊎◌, inl, inr, List, length, Option, Some, None, refl, sym, ap, subst, ◌∙◌, add-one, arith}
-use Rattle.std.specs.Prelude.{slice_get, is_some, unwrap_or}
+use Rattle.std.specs.Prelude.{All, slice_get, is_some, unwrap_or}
+use Rattle.std.proofs.lemmas.List.Elements.{All-get_or}
+use Rattle.guest_isa.specs.Instructions.{IsInstruction, IsText}
 use Rattle.std.proofs.lemmas.Bool.{cases_lt}
-use Rattle.std.proofs.lemmas.Option.{slice_get_past, slice_get_cases}
+use Rattle.std.proofs.lemmas.Option.{slice_get_past, slice_get_cases, slice_get_within, get_or_from_slice_get}
 use Rattle.guest_isa.specs.declared.op.Op.{Op}
 use Rattle.guest_isa.specs.declared.op.Op.TheVariants.{Li}
 use Rattle.guest_isa.specs.declared.instr.Instr.{Instr}
@@ -12,7 +14,7 @@ use Rattle.guest_machine.specs.declared.progress.Next.{Next}
 use Rattle.guest_machine.specs.declared.progress.Next.TheVariants.{Shared, Pause, BadPc}
 use Rattle.guest_machine.specs.declared.progress.Advance.{Advance}
 use Rattle.guest_machine.specs.Effects.{effect}
-use Rattle.guest_machine.specs.Advances.{after_instruction, after_private, stop_at, stop, least, advanced, PrivateComes, Comes, IsAdvance}
+use Rattle.guest_machine.specs.Advances.{after_instruction, after_private, stop_at, stop, least, advanced, PrivateComes, Comes, IfShared, IsAdvance}
 use Rattle.guest_machine.proofs.Least.{least_is, least_is_least}
 
 -- after j instructions from s, all of them private, the registers are t
@@ -138,3 +140,20 @@ stopped text s t j next way lt is = advanced_is text s t j next way (omega arith
 -- an advance of 256 instructions
 pub paused : (text : List Instr) (s t : Regs) (j : ℕ) (next : Next) → IsUnderWay text s j t → j ≤ 256 → 256 ≤ j → next ≡ unwrap_or (stop text t) Pause → record { before = s; after = t; next = next } ≡ advanced text s
 paused text s t j next way le ge is = advanced_is text s t j next way le (inr (omega arith)) is
+
+comes_to_by : (b : Bool) (i : Instr) → IsInstruction i → IfShared (unwrap_or (cond b (Some (Shared i)) None) Pause) IsInstruction
+comes_to_by true i is = is
+comes_to_by false i is = tt
+
+comes_to_at : (text : List Instr) (pc : ℕ) (found : Option Instr) → All IsInstruction text → slice_get text pc ≡ found →
+    IfShared (unwrap_or (stop_at found) Pause) IsInstruction
+comes_to_at text pc None each found = tt
+comes_to_at text pc (Some i) each found =
+    comes_to_by (is_shared i.op) i
+    (subst (λ (j : Instr). IsInstruction j) (get_or_from_slice_get text pc i i found)
+    (All-get_or IsInstruction text pc i (slice_get_within text pc i found) each))
+
+-- the shared instruction that an advance comes to is one of the text's
+pub comes_to_instruction : (text : List Instr) (s : Regs) → IsText text → IfShared (advanced text s).next IsInstruction
+unfolding advanced
+comes_to_instruction text s is = comes_to_at text _ _ is.instructions refl

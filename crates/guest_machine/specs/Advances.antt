@@ -1,6 +1,7 @@
 -- How far a thread advances by private instructions.
 use Rattle.std.specs.Prelude.{◌≡◌, ℕ, zero, suc, ◌<◌, ◌≤◌, Bool, if◌then◌else◌, IsTrue, List, length, slice_get, Option, Some, None, is_some, unwrap_or}
 use Rattle.guest_isa.specs.declared.instr.Instr.{Instr}
+use Rattle.guest_isa.specs.Instructions.{IsInstruction}
 use Rattle.guest_isa.specs.Opcodes.{is_private, is_shared}
 use Rattle.lwc_base.specs.declared.regs.Regs.{Regs}
 use Rattle.guest_machine.specs.declared.progress.Next.{Next}
@@ -55,6 +56,10 @@ pub record IsAdvance (text : List Instr) (a : Advance) (j : ℕ) : Type 0 where
   pub after : a.after ≡ after_private text j a.before
   pub next : Comes text a.after j a.next
   pub private : (k : ℕ) → k < j → PrivateComes text (after_private text k a.before)
+
+-- a shared instruction of the table
+abbrev pub IsShared : Instr → Type 0
+IsShared i = IsInstruction i × IsTrue (is_shared i.op)
 
 -- a fact of the shared instruction that comes next, if one does
 abbrev pub IfShared : Next → (Instr → Type 0) → Type 0

@@ -3,7 +3,7 @@ ghost use Rattle.guest_isa.specs.Instructions.{IsInstruction};
 ghost use Rattle.guest_isa.specs.Opcodes.{is_private};
 ghost use Rattle.guest_machine.specs.Effects.{quotient, remainder, effect_of, after_effect, effect};
 
-use guest_isa::{Instr, Op};
+use guest_isa::{Instr, Op, fields_are_in_range};
 use lwc_base::Regs;
 
 /// What a private instruction does. Unless it says otherwise, pc grows by one, modulo 2^64.
@@ -19,19 +19,51 @@ pub enum Effect {
     Passes,
 }
 
-fn quotient(a: u64, b: u64) -> u64
-    ensures { result ≡ quotient a b }
+/// The registers after a private instruction.
+pub fn private(i: &Instr, regs: &Regs) -> Regs
+    requires instruction { IsInstruction i.now }
+    requires private { IsTrue (is_private i.now.op) }
+    ensures { result ≡ effect i.now regs.now }
 {
-    if b == 0 { u64::MAX } else { a / b }
+    let mut after = *regs;
+    apply(i, &mut after);
+    after
 }
 
-fn remainder(a: u64, b: u64) -> u64
-    ensures { result ≡ remainder a b }
+/// Does a private instruction in place.
+#[tactic(auto, unfolding(crate::specs::Effects::effect))]
+pub(crate) fn apply(i: &Instr, regs: &mut Regs)
+    requires { IsInstruction i.now }
+    ensures { regs.new ≡ effect i.now regs.old }
 {
-    if b == 0 { a } else { a % b }
+    fields_are_in_range();
+    let d = regs.r[i.rd as usize];
+    let a = regs.r[i.ra as usize];
+    let b = regs.r[i.rb as usize];
+    carry_out(effect_of(i, d, a, b), i.rd, regs);
 }
 
-// The effect of an instruction whose registers rd, ra and rb hold d, a and b.
+/// Does an effect on register rd and pc.
+fn carry_out(effect: Effect, rd: u8, regs: &mut Regs)
+    requires { rd < 16 }
+    ensures { regs.new ≡ after_effect effect rd regs.old }
+{
+    let next = regs.pc.wrapping_add(1);
+    match effect {
+        Effect::Puts(number) => {
+            regs.r[rd as usize] = number;
+            regs.pc = next;
+        }
+        Effect::Jumps(number) => regs.pc = number,
+        Effect::Links(number) => {
+            regs.r[rd as usize] = next;
+            regs.pc = number;
+        }
+        Effect::Passes => regs.pc = next,
+    }
+}
+
+/// The effect of an instruction, with d, a and b in its registers rd, ra and rb.
 fn effect_of(i: &Instr, d: u64, a: u64, b: u64) -> Effect
     ensures { result ≡ effect_of i.now.op d a b i.now.imm }
 {
@@ -64,45 +96,16 @@ fn effect_of(i: &Instr, d: u64, a: u64, b: u64) -> Effect
     }
 }
 
-// Does an effect on register rd and pc.
-fn carry_out(effect: Effect, rd: u8, regs: &mut Regs)
-    requires { rd < 16 }
-    ensures { regs.new ≡ after_effect effect rd regs.old }
+/// a divided by b, rounded down; the greatest number if b is 0.
+fn quotient(a: u64, b: u64) -> u64
+    ensures { result ≡ quotient a b }
 {
-    let next = regs.pc.wrapping_add(1);
-    match effect {
-        Effect::Puts(number) => {
-            regs.r[rd as usize] = number;
-            regs.pc = next;
-        }
-        Effect::Jumps(number) => regs.pc = number,
-        Effect::Links(number) => {
-            regs.r[rd as usize] = next;
-            regs.pc = number;
-        }
-        Effect::Passes => regs.pc = next,
-    }
+    if b == 0 { u64::MAX } else { a / b }
 }
 
-// Does a private instruction in place.
-#[tactic(auto, using(guest_isa::proofs::Fields::rd_below, guest_isa::proofs::Fields::ra_below, guest_isa::proofs::Fields::rb_below), unfolding(crate::specs::Effects::effect))]
-pub(crate) fn apply(i: &Instr, regs: &mut Regs)
-    requires { IsInstruction i.now }
-    ensures { regs.new ≡ effect i.now regs.old }
+/// The remainder of a divided by b; a if b is 0.
+fn remainder(a: u64, b: u64) -> u64
+    ensures { result ≡ remainder a b }
 {
-    let d = regs.r[i.rd as usize];
-    let a = regs.r[i.ra as usize];
-    let b = regs.r[i.rb as usize];
-    carry_out(effect_of(i, d, a, b), i.rd, regs);
-}
-
-/// The registers after a private instruction.
-pub fn private(i: &Instr, regs: &Regs) -> Regs
-    requires instruction { IsInstruction i.now }
-    requires private { IsTrue (is_private i.now.op) }
-    ensures { result ≡ effect i.now regs.now }
-{
-    let mut after = *regs;
-    apply(i, &mut after);
-    after
+    if b == 0 { a } else { a % b }
 }

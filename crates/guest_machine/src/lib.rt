@@ -5,7 +5,7 @@ mod advancing;
 mod effect;
 mod progress;
 
-pub use advancing::{advance, advance_is_determined};
+pub use advancing::{advance, advance_is_determined, advances_come_to_instructions, run_on};
 pub use effect::{Effect, private};
 pub use progress::{Advance, Next};
 

@@ -1,11 +1,22 @@
 -- What contracts see of a kernel.
-use Rattle.std.specs.Prelude.{ℕ, ◌-◌, ◌++◌, ◌∷◌, [], if◌then◌else◌, List, Option, slice_get}
+use Rattle.std.specs.Prelude.{◌≡◌, ℕ, ◌-◌, ◌++◌, ◌∷◌, ◌≤◌, [], if◌then◌else◌, List, Option, length, slice_get}
 use Rattle.std.specs.Option.{option_map}
-use Rattle.kernel_core.specs.Machine.{Machine, is_ended, work_of}
+use Rattle.guest_image.specs.Limits.{IsImage}
+use Rattle.kernel_core.specs.Machine.{Machine, is_ended}
 use Rattle.kernel_core.specs.Runs.{run}
+use Rattle.kernel_core.specs.Settings.{IsSettings}
 use Rattle.kernel_core.specs.Start.{Inputs, start}
+use Rattle.kernel_core.specs.declared.settings.Job.TheVariants.{Run}
 use Rattle.kernel_core.specs.declared.thread.ThreadView.{ThreadView}
 use Rattle.kernel_core.specs.declared.thread.Turn.{Turn}
+
+-- what a kernel can be opened with: an image that fits the frames, no requests, and the settings of a run, all within their limits
+pub record CanOpen (inputs : Inputs) : Type 0 where
+  pub image : IsImage inputs.image
+  pub settings : IsSettings inputs.settings
+  pub fits : length inputs.image.pages ≤ inputs.settings.frames
+  pub job : inputs.settings.job ≡ Run
+  pub requests : inputs.requests ≡ []
 
 -- a kernel: what it was opened with, the steps that it has kept, and how many more it has room for
 pub record History : Type 0 where
@@ -21,18 +32,14 @@ opened inputs room = record { inputs = inputs; steps = []; room = room }
 unfoldable pub machine_of : History → Machine
 machine_of h = run (start h.inputs) h.steps
 
--- a kernel after one step of a thread: the step is kept, in room for one, unless the thread had ended
+-- a kernel after one step of a thread: the step is kept, and takes room, unless the thread had ended
 unfoldable pub stepped : History → ℕ → History
 stepped h t = if is_ended (machine_of h) t then h else record h { steps = h.steps ++ t ∷ []; room = h.room - 1 }
 
--- the registers of a thread and how it stands
-unfoldable pub turn_of : Machine → ℕ → Option Turn
-turn_of m t = option_map (λ x. record { regs = x.regs; status = x.status }) (slice_get m.threads t)
+-- what the last step of a thread left of it: its registers and its status
+unfoldable pub turn : History → ℕ → Option Turn
+turn h t = option_map (λ x. record { regs = x.regs; status = x.status }) (slice_get (machine_of h).threads t)
 
 -- what can be seen of a thread
 unfoldable pub view_of : Machine → ℕ → Option ThreadView
 view_of m t = option_map (λ x. record { status = x.status; context = x.context; regs = x.regs }) (slice_get m.threads t)
-
--- how many steps a kernel's threads may still make
-unfoldable pub work : History → ℕ
-work h = work_of (machine_of h).threads

@@ -3,6 +3,7 @@ pub use Rattle.lwc_base.specs.Cells
 pub use Rattle.lwc_base.specs.Faults
 pub use Rattle.lwc_base.specs.Frames
 pub use Rattle.lwc_base.specs.Fresh
+pub use Rattle.lwc_base.specs.Keys
 pub use Rattle.lwc_base.specs.Mapping
 pub use Rattle.lwc_base.specs.Memory
 pub use Rattle.lwc_base.specs.Modes
@@ -23,11 +24,12 @@ pub use Rattle.guest_machine.specs.Advances
 pub use Rattle.guest_image.specs.Limits
 pub use Rattle.res_spec.specs.Items
 pub use Rattle.lwc_create.specs.Create
+pub mod Settings
 pub mod Machine
 pub mod Step
+pub mod Changes
 pub mod Runs
 pub mod Start
-pub mod Stages
 pub mod Kernel
 pub mod Ready
 pub mod Steady

@@ -1,16 +1,73 @@
--- What a thread needs of the world that it acts in.
-use Rattle.std.specs.Prelude.{◌≡◌, ◌<◌}
+-- What threads need of the world that they act in, and what each machine of a run keeps true of both.
+use Rattle.std.specs.Prelude.{◌≡◌, ℕ, ◌+◌, ◌*◌, ◌≤◌, ◌<◌, true, List, ◌∷◌, length, map, All}
+use Rattle.std.specs.FinMap as fm
+use Rattle.std.specs.List.{Contains}
+use Rattle.kernel_core.specs.Machine.{Machine}
+use Rattle.kernel_core.specs.Start.{Inputs, thread_count, world_size}
 use Rattle.kernel_core.specs.declared.thread.Thread.{Thread}
-use Rattle.lwc_base.specs.declared.descriptor.TheConstants.{CAP_PAGES}
-use Rattle.lwc_base.specs.declared.limits.TheConstants.{MOST_CONTEXTS_OF_JOB, MOST_GROUPS_OF_JOB}
-use Rattle.lwc_base.specs.declared.size.WorldSize.{WorldSize}
-use Rattle.lwc_base.specs.World.{World, groups_of, live_of}
-use Rattle.world_face.specs.Calls.{HasGroupPlace, HasPlace, IsLive, MayName}
+use Rattle.lwc_base.specs.declared.fault.ThreadStatus.{ThreadStatus}
+use Rattle.lwc_base.specs.declared.fault.ThreadStatus.TheVariants.{Idle, Running, Done, Faulted}
+use Rattle.lwc_base.specs.declared.limits.TheConstants.{MOST_BUDGET, MOST_CONTEXTS_OF_JOB, MOST_GROUPS_OF_JOB, MOST_PAGES, MOST_THREADS}
+use Rattle.lwc_base.specs.declared.name.Name.{Name}
+use Rattle.lwc_base.specs.Fresh.{IsFresh}
+use Rattle.lwc_base.specs.World.{World, Counters, groups_of, is_live, live_of}
+use Rattle.lwc_create.specs.Create.{HasPlaces}
+use Rattle.world_face.specs.Calls.{IsLive, MayName}
 
--- the thread's context is live, its job may take names, the world has the pages of a capability, and while the job may have one more context or group, there is a place for it
-pub record CanAct (size : WorldSize) (w : World) (x : Thread) : Type 0 where
+-- a thread may act in a world: its context is live, and its job may name and place what it makes
+pub record CanAct (w : World) (x : Thread) : Type 0 where
   pub live : IsLive w x.context
-  pub may : MayName size w x.job
-  pub pages : w.pages ≡ CAP_PAGES
-  pub place : live_of w x.job < MOST_CONTEXTS_OF_JOB → HasPlace size w
-  pub group : groups_of w x.job < MOST_GROUPS_OF_JOB → HasGroupPlace size w
+  pub may : MayName w x.job
+  pub places : HasPlaces w x.job
+
+-- a running thread has a job of the world's other than 0, and has steps left
+pub record IsRunnable (w : World) (x : Thread) : Type 0 where
+  pub some_job : 1 ≤ x.job
+  pub known_job : x.job < w.size.jobs
+  pub some_step : 1 ≤ x.budget
+
+-- a fact of a thread while it runs
+abbrev pub WhileRunning : ThreadStatus → Type 0 → Type 0
+WhileRunning Running P = P
+WhileRunning Idle P = Unit {0}
+WhileRunning (Done code) P = Unit {0}
+WhileRunning (Faulted fault) P = Unit {0}
+
+-- a thread is in a live context, its budget is within the limit, and while it runs it is runnable
+pub record IsReadyThread (w : World) (x : Thread) : Type 0 where
+  pub live : IsLive w x.context
+  pub budget : x.budget ≤ MOST_BUDGET
+  pub runs : WhileRunning x.status (IsRunnable w x)
+
+-- the jobs of threads
+abbrev pub jobs_of : List Thread → List ℕ
+jobs_of threads = map (λ x. x.job) threads
+
+-- live contexts bear job 0 or a thread's job, live groups a thread's job, and no job has more of them than it may have
+pub record IsWithinLimits (w : World) (jobs : List ℕ) : Type 0 where
+  pub contexts : (c : Name) → is_live w c ≡ true → Contains (0 ∷ jobs) c.job
+  pub groups : (g : Name) → fm.contains_key w.groups g ≡ true → Contains jobs g.job
+  pub homes : live_of w 0 ≤ MOST_THREADS
+  pub few_contexts : (job : ℕ) → live_of w job ≤ MOST_CONTEXTS_OF_JOB
+  pub few_groups : (job : ℕ) → groups_of w job ≤ MOST_GROUPS_OF_JOB
+
+-- a job has counted at most this number of each
+pub record IsCounted (most : ℕ) (n : Counters) : Type 0 where
+  pub contexts : n.contexts ≤ most
+  pub groups : n.groups ≤ most
+  pub tags : n.tags ≤ most
+
+-- the most that a job has counted after this number of steps: pages and contexts of a start, and two tags a step
+abbrev pub most_counted : ℕ → ℕ
+most_counted steps = MOST_PAGES + 1 + MOST_THREADS + 2 * steps
+
+-- the threads and the world of a machine are as the calls of a world need them, after this number of steps
+pub record IsReady (inputs : Inputs) (steps : ℕ) (m : Machine) : Type 0 where
+  pub size : m.environment.world.size ≡ world_size inputs.settings.frames
+  pub fresh : IsFresh m.environment.world
+  pub limits : IsWithinLimits m.environment.world (jobs_of m.threads)
+  pub counted : (job : ℕ) → IsCounted (most_counted steps) (m.environment.world.next job)
+  pub threads : All (IsReadyThread m.environment.world) m.threads
+  pub count : length m.threads ≡ thread_count inputs
+  pub few : length m.threads ≤ MOST_THREADS
+  pub text : m.text ≡ inputs.image.text

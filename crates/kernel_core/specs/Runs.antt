@@ -14,7 +14,11 @@ abbrev pub kept : Machine → List ℕ → List ℕ
 kept m [] = []
 kept m (t ∷ ts) = if is_ended m t then kept m ts else t ∷ kept (step m t) ts
 
--- the most frames that were used, before the first step and after each
+-- the number of frames in use
+abbrev pub frames_of : Machine → ℕ
+frames_of m = used m.environment.world
+
+-- the most frames that were in use, before the first step and after each
 abbrev pub peak : Machine → List ℕ → ℕ
-peak m [] = used m.world
-peak m (t ∷ ts) = max (used m.world) (peak (step m t) ts)
+peak m [] = frames_of m
+peak m (t ∷ ts) = max (frames_of m) (peak (step m t) ts)

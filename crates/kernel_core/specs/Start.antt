@@ -1,55 +1,74 @@
 -- The machine that a run of an image starts from.
-use Rattle.std.specs.Prelude.{ℕ, ◌+◌, ◌==◌, if◌then◌else◌, List, [], Option, None, length, map, nat_lt, slice_index}
+use Rattle.std.specs.Prelude.{ℕ, ◌+◌, ◌==◌, if◌then◌else◌, List, [], Option, None, length, map, nat_lt, slice_index, take}
 use Rattle.std.specs.List.{enumerate_from, find}
 use Rattle.std.specs.Option.{option_map, option_map_or}
 use Rattle.guest_image.specs.declared.image.Image.{Image}
 use Rattle.guest_image.specs.declared.image.PageImage.{PageImage}
 use Rattle.guest_image.specs.declared.image.SlotImage.{SlotImage}
 use Rattle.kernel_core.specs.Machine.{Machine}
+use Rattle.kernel_core.specs.declared.settings.Job.{Job}
+use Rattle.kernel_core.specs.declared.settings.Job.TheVariants.{Run, Serve}
 use Rattle.kernel_core.specs.declared.settings.Settings.{Settings}
-use Rattle.kernel_core.specs.declared.settings.TheConstants.{PAGES}
 use Rattle.kernel_core.specs.declared.thread.Thread.{Thread}
-use Rattle.lwc_base.specs.declared.cell.Cell.{Cell}
 use Rattle.lwc_base.specs.declared.cell.Cell.TheVariants.{Own}
 use Rattle.lwc_base.specs.declared.descriptor.Descriptor.{Descriptor}
 use Rattle.lwc_base.specs.declared.descriptor.Descriptor.TheVariants.{Empty, Console, File}
+use Rattle.lwc_base.specs.declared.descriptor.TheConstants.{SLOTS}
 use Rattle.lwc_base.specs.declared.fault.ThreadStatus.TheVariants.{Running}
+use Rattle.lwc_base.specs.declared.key.Key.{Key}
+use Rattle.lwc_base.specs.declared.key.Key.TheVariants.{Page, Slot, Cred}
+use Rattle.lwc_base.specs.declared.limits.TheConstants.{MOST_CONTEXTS, MOST_GROUPS, MOST_JOBS, MOST_PAGES}
 use Rattle.lwc_base.specs.declared.name.Name.{Name}
 use Rattle.lwc_base.specs.declared.name.Tag.{Tag}
 use Rattle.lwc_base.specs.declared.page.PageValue.{PageValue}
 use Rattle.lwc_base.specs.declared.page.PageValue.TheVariants.{Data}
+use Rattle.lwc_base.specs.declared.size.WorldSize.{WorldSize}
+use Rattle.lwc_base.specs.Keys.{ValueOf}
 use Rattle.lwc_base.specs.Registers.{fresh_registers}
 use Rattle.lwc_base.specs.World.{World, Context, add_context, change_counters, empty_world}
 
--- what an image is run with: the requests, and the settings
+-- what a kernel is opened with: an image, requests, and settings
 pub record Inputs : Type 0 where
   pub image : Image
   pub requests : List (List ℕ)
   pub settings : Settings
 
+-- the number of threads: in a run one for each entry of the image, in a serve one for each worker
+abbrev pub threads_for : Image → Job → ℕ
+threads_for image Run = length image.entries
+threads_for image (Serve workers) = workers
+
+-- the number of threads of a kernel
+unfoldable pub thread_count : Inputs → ℕ
+thread_count inputs = threads_for inputs.image inputs.settings.job
+
 -- the tag of the image's k-th page
 abbrev pub image_tag : ℕ → Tag
 image_tag k = record { job = 0; k = k }
 
--- what stands under a page at the start: the bytes that the image has for it, under the tag of their place among the image's pages
-unfoldable pub page_in : List PageImage → ℕ → Option (Cell PageValue)
-page_in pages p =
-    option_map (λ e. Own (Data (image_tag e.0) e.1.bytes)) (find (λ e. e.1.number == p) (enumerate_from 0 pages))
+-- what is under a page at the start: the image's bytes for it, under the tag of their place among the image's pages
+unfoldable pub first_page : List PageImage → ℕ → Option PageValue
+first_page pages p =
+    option_map (λ e. Data (image_tag e.0) e.1.bytes) (find (λ e. e.1.number == p) (enumerate_from 0 pages))
 
--- what stands under a slot at the start: the console in 0 and 1, a file from its beginning where the image puts one, and else nothing
-unfoldable pub slot_in : List SlotImage → ℕ → Descriptor
-slot_in slots n = if nat_lt n 2 then Console else option_map_or (λ s. File s.file 0) (find (λ s. s.slot == n) slots) Empty
+-- what is under a slot at the start: the console in 0 and 1, the beginning of a file where the image has one, or nothing
+unfoldable pub first_slot : List SlotImage → ℕ → Descriptor
+first_slot slots n = if nat_lt n 2 then Console else option_map_or (λ s. File s.file 0) (find (λ s. s.slot == n) slots) Empty
+
+-- what is under each key at the start, with the slots below a number filled
+abbrev pub first_value : Image → List PageImage → ℕ → (k : Key) → ValueOf k
+first_value image pages slots (Page p) = first_page pages p
+first_value image pages slots (Slot n) = if nat_lt n slots then first_slot image.slots n else Empty
+first_value image pages slots Cred = image.uid
 
 -- the instruction that the first context begins at
 abbrev pub first_entry : Image → ℕ
 first_entry image = slice_index image.entries 0
 
--- the one context of a start: all that it has is its own
-unfoldable pub first_context : Image → Context
-first_context image = record {
-  page = page_in image.pages;
-  slot = λ n. Own (slot_in image.slots n);
-  uid = Own image.uid;
+-- the one context of a start, with these pages, and with the slots below a number filled; each value is its own
+unfoldable pub first_context : Image → List PageImage → ℕ → Context
+first_context image pages slots = record {
+  cell = λ k. Own (first_value image pages slots k);
   entry = fresh_registers (first_entry image);
   saved = λ t. None;
 }
@@ -58,7 +77,7 @@ first_context image = record {
 abbrev pub first_name : Name
 first_name = record { job = 0; k = 0 }
 
--- the thread of a number, which runs for a job of its own in the one context, from its entry on
+-- the thread of a number: it runs for a job of its own in the one context, from its entry on
 abbrev pub first_thread : ℕ → ℕ → ℕ → Thread
 first_thread budget t entry = record {
   status = Running;
@@ -72,26 +91,37 @@ first_thread budget t entry = record {
 unfoldable pub first_threads : ℕ → List ℕ → List Thread
 first_threads budget entries = map (λ e. first_thread budget e.0 e.1) (enumerate_from 0 entries)
 
--- the world whose one context this is, for whose pages job 0 has taken so many tags
+-- the size of a kernel's world
+abbrev pub world_size : ℕ → WorldSize
+world_size frames = record {
+  frames = frames;
+  contexts = MOST_CONTEXTS;
+  groups = MOST_GROUPS;
+  jobs = MOST_JOBS;
+  pages = MOST_PAGES;
+}
+
+-- the world with this one context, in which job 0 has taken this number of tags
 unfoldable pub world_with : ℕ → ℕ → Context → World
-world_with frames tags x = change_counters (add_context (empty_world frames PAGES) 0 x) 0 (λ n. record n { tags = tags })
+world_with frames tags x =
+    change_counters (add_context (empty_world (world_size frames)) 0 x) 0 (λ n. record n { tags = tags })
 
 -- the world of a start: its one context, in which each page has a tag of its own
 unfoldable pub start_world : Image → ℕ → World
-start_world image frames = world_with frames (length image.pages) (first_context image)
+start_world image frames = world_with frames (length image.pages) (first_context image image.pages SLOTS)
 
--- the machine of a run in which the threads and the world stand like this: the text and the files are the image's, and nothing is on the console
-abbrev pub standing : Inputs → List Thread → World → Machine
-standing inputs threads world = record {
-  threads = threads;
-  world = world;
+-- the machine of a start: the text and the files are the image's, and nothing is written to the console
+unfoldable pub start : Inputs → Machine
+start inputs = record {
+  threads = first_threads inputs.settings.budget inputs.image.entries;
+  environment = record {
+    world = start_world inputs.image inputs.settings.frames;
+    files = inputs.image.files;
+    console = [];
+  };
   text = inputs.image.text;
-  files = inputs.image.files;
-  console = [];
 }
 
--- the machine of a start
-unfoldable pub start : Inputs → Machine
-start inputs =
-    standing inputs (first_threads inputs.settings.budget inputs.image.entries)
-    (start_world inputs.image inputs.settings.frames)
+-- the world of a start as it is built: with this number of the image's pages stored, and the slots below a number filled
+unfoldable pub world_so_far : Image → ℕ → ℕ → ℕ → World
+world_so_far image frames pages slots = world_with frames pages (first_context image (take pages image.pages) slots)

@@ -10,7 +10,7 @@ use Rattle.guest_machine.specs.Advances.{advanced}
 use Rattle.guest_machine.specs.declared.progress.Advance.{Advance}
 use Rattle.guest_machine.specs.declared.progress.Next.{Next}
 use Rattle.guest_machine.specs.declared.progress.Next.TheVariants as next
-use Rattle.kernel_core.specs.Machine.{Machine}
+use Rattle.kernel_core.specs.Machine.{Environment, Machine}
 use Rattle.kernel_core.specs.declared.thread.Thread.{Thread}
 use Rattle.kernel_core.specs.declared.calling.TheConstants.{LW_CREATE}
 use Rattle.lwc_base.specs.declared.answer.Answer.{Answer}
@@ -31,20 +31,32 @@ use Rattle.lwc_base.specs.Store as stores
 use Rattle.lwc_base.specs.World.{World}
 use Rattle.lwc_create.specs.Create.{create}
 
--- what a thread has done in a step: the thread afterwards, and the world
-pub record Acted : Type 0 where
+-- what a step of a thread leaves: the thread, and what it has in common with the others
+pub record Outcome : Type 0 where
   pub thread : Thread
-  pub world : World
+  pub environment : Environment
 
--- registers at the next instruction
-abbrev pub gone_on : Regs → Regs
-gone_on regs = record regs { pc = (regs.pc + 1) % 2 ^ 64 }
+-- what each call does, by its number, for the thread of a number
+abbrev pub Calls : Type 0
+Calls = ℕ → ℕ → Environment → Thread → Outcome
 
--- registers at the next instruction, with a value in one of them
-abbrev pub answered : Regs → ℕ → ℕ → Regs
-answered regs d value = record { r = slice_set regs.r d value; pc = (regs.pc + 1) % 2 ^ 64 }
+-- the environment with another world
+abbrev pub with_world : Environment → World → Environment
+with_world e w = record e { world = w }
 
--- a thread of another status; its registers stay
+-- the thread has changed, and nothing else
+abbrev pub unchanged : Environment → Thread → Outcome
+unchanged e x = record { thread = x; environment = e }
+
+-- the registers at the next instruction
+abbrev pub next_instruction : Regs → Regs
+next_instruction regs = record regs { pc = (regs.pc + 1) % 2 ^ 64 }
+
+-- the registers at the next instruction, with a value in register d
+abbrev pub with_result : Regs → ℕ → ℕ → Regs
+with_result regs d value = record { r = slice_set regs.r d value; pc = (regs.pc + 1) % 2 ^ 64 }
+
+-- the thread with another status; its registers stay
 abbrev pub with_status : Thread → ThreadStatus → Thread
 with_status x status = record x { status = status }
 
@@ -52,23 +64,19 @@ with_status x status = record x { status = status }
 abbrev pub faulted : Thread → Fault → Thread
 faulted x f = with_status x (Faulted f)
 
--- the thread goes on with other registers
+-- the thread with other registers
 abbrev pub with_regs : Thread → Regs → Thread
 with_regs x regs = record x { regs = regs }
 
--- a call is refused: r0 says why, and the thread goes on
+-- the thread once a call of it is refused: r0 says why, and the next instruction comes
 abbrev pub refused : Thread → Refusal → Thread
-refused x refusal = with_regs x (answered x.regs 0 (2 ^ 64 - refusal_number refusal))
-
--- the thread did this without a change of the world
-abbrev pub alone : World → Thread → Acted
-alone w x = record { thread = x; world = w }
+refused x refusal = with_regs x (with_result x.regs 0 (2 ^ 64 - refusal_number refusal))
 
 -- the address that an instruction names: register ra and its signed number
 abbrev pub address : Regs → Instr → ℕ
 address regs i = (slice_index regs.r i.ra + sx i.imm) % 2 ^ 64
 
--- the byte at an address
+-- the byte at an address, if it can be read
 abbrev pub byte_for : World → Name → ℕ → Option ℕ
 byte_for w c at = option_map (λ bytes. slice_index bytes 0) (bytes_for w c at 1)
 
@@ -76,100 +84,119 @@ byte_for w c at = option_map (λ bytes. slice_index bytes 0) (bytes_for w c at 1
 abbrev pub is_aligned : ℕ → Bool
 is_aligned at = at % 8 == 0
 
--- the word at an address, lowest byte first; none where the address is not one of a word
+-- the word at an address, lowest byte first, if it can be read and the address is one of a word
 abbrev pub word_for : World → Name → ℕ → Option ℕ
 word_for w c at = if is_aligned at then option_map (from_le_bytes w64) (bytes_for w c at 8) else None
 
--- the end of a load: a register gets what was found, and where nothing was it is a fault
+-- the thread after a load: register d has the value, or there is a fault
 abbrev pub loaded : Thread → ℕ → Option ℕ → Thread
 loaded x d None = faulted x fault.BadLoad
-loaded x d (Some value) = with_regs x (answered x.regs d value)
+loaded x d (Some value) = with_regs x (with_result x.regs d value)
 
--- the end of a store
-abbrev pub stored : World → Thread → Stored → Acted
-stored w x stores.Absent = alone w (faulted x fault.BadStore)
-stored w x stores.Full = alone w (faulted x fault.NoFrame)
-stored w x (stores.Done after) = alone after (with_regs x (gone_on x.regs))
+-- the outcome of a store instruction, by how the store ends
+abbrev pub stored_outcome : Environment → Thread → Stored → Outcome
+stored_outcome e x stores.Absent = unchanged e (faulted x fault.BadStore)
+stored_outcome e x stores.Full = unchanged e (faulted x fault.NoFrame)
+stored_outcome e x (stores.Done w) = unchanged (with_world e w) (with_regs x (next_instruction x.regs))
 
--- bytes are put in memory for the thread's job; it is a fault where one of them is past the last page
-unfoldable pub puts : World → Thread → Piece → Acted
-puts w x piece =
-    if nat_le (piece.at + length piece.bytes) (w.pages * PAGE_BYTES) then stored w x (store w x.context x.job piece)
-    else alone w (faulted x fault.BadStore)
+-- the outcome of a store of bytes for the thread's job; it is a fault if one of them is past the last page
+unfoldable pub store_outcome : Environment → Thread → Piece → Outcome
+store_outcome e x piece =
+    if nat_le (piece.at + length piece.bytes) (e.world.size.pages * PAGE_BYTES)
+    then stored_outcome e x (store e.world x.context x.job piece)
+    else unchanged e (faulted x fault.BadStore)
 
--- a byte is put: the lowest of a value
-abbrev pub puts_byte : World → Thread → ℕ → ℕ → Acted
-puts_byte w x at value = puts w x (record { at = at; bytes = value % 256 ∷ [] })
+-- the outcome of a store of a byte: the lowest of a value
+abbrev pub byte_outcome : Environment → Thread → ℕ → ℕ → Outcome
+byte_outcome e x at value = store_outcome e x (record { at = at; bytes = value % 256 ∷ [] })
 
--- a word is put, lowest byte first; it is a fault where the address is not one of a word
-abbrev pub puts_word : World → Thread → ℕ → ℕ → Acted
-puts_word w x at value =
-    if is_aligned at then puts w x (record { at = at; bytes = to_le_bytes w64 value })
-    else alone w (faulted x fault.BadStore)
+-- the outcome of a store of a word, lowest byte first; it is a fault if the address is not one of a word
+abbrev pub word_outcome : Environment → Thread → ℕ → ℕ → Outcome
+word_outcome e x at value =
+    if is_aligned at then store_outcome e x (record { at = at; bytes = to_le_bytes w64 value })
+    else unchanged e (faulted x fault.BadStore)
 
--- the end of a call, by its answer: the thread goes on with other registers, or is told why the call was refused
-abbrev pub told : Thread → Answer → Thread
-told x (answer.Done regs) = with_regs x regs
-told x (answer.Refused refusal) = refused x refusal
+-- the thread after a call, by the call's answer: other registers, or the reason why it was refused
+abbrev pub answered : Thread → Answer → Thread
+answered x (answer.Done regs) = with_regs x regs
+answered x (answer.Refused refusal) = refused x refusal
 
--- what a call leaves: its answer is told to the thread, and the world is the one that the call gives
-abbrev pub ended : Thread → Answer × World → Acted
-ended x done = alone done.1 (told x done.0)
+-- the outcome of a call that gives an answer and a world
+abbrev pub call_outcome : Environment → Thread → Answer × World → Outcome
+call_outcome e x result = unchanged (with_world e result.1) (answered x result.0)
 
--- a call by its number, one row for each; any other number names no call
-unfoldable pub calls : World → Thread → ℕ → Acted
-calls w x number =
-    if number == LW_CREATE then ended x (create w x.context x.job x.regs)
-    else alone w (refused x BadCall)
+-- the outcome of the call that makes a context
+abbrev pub create_outcome : Environment → Thread → Outcome
+create_outcome e x = call_outcome e x (create e.world x.context x.job x.regs)
 
--- what a shared instruction does, by its operation; a thread comes to no other here
-unfoldable pub does : World → Thread → Instr → Op → Acted
-does w x i Ldb = alone w (loaded x i.rd (byte_for w x.context (address x.regs i)))
-does w x i Ldw = alone w (loaded x i.rd (word_for w x.context (address x.regs i)))
-does w x i Stb = puts_byte w x (address x.regs i) (slice_index x.regs.r i.rb)
-does w x i Stw = puts_word w x (address x.regs i) (slice_index x.regs.r i.rb)
-does w x i Sys = calls w x i.imm
-does w x i Halt = alone w (with_status x (Done 0))
-does w x i _ = alone w x
+-- the calls of guests, one row for each; any other number names no call
+unfoldable pub guest_calls : Calls
+guest_calls number t e x =
+    if number == LW_CREATE then create_outcome e x
+    else unchanged e (refused x BadCall)
 
--- what a thread does once it has advanced: nothing more, a fault, or the shared instruction that it has come to
-unfoldable pub acts : World → Thread → Next → Acted
-acts w x next.Pause = alone w x
-acts w x next.BadPc = alone w (faulted x fault.BadPc)
-acts w x (next.Shared i) = does w x i i.op
+-- the outcome of a shared instruction, by its operation; no other operation comes here
+unfoldable pub shared_outcome : Calls → ℕ → Environment → Thread → Instr → Op → Outcome
+shared_outcome calls t e x i Ldb = unchanged e (loaded x i.rd (byte_for e.world x.context (address x.regs i)))
+shared_outcome calls t e x i Ldw = unchanged e (loaded x i.rd (word_for e.world x.context (address x.regs i)))
+shared_outcome calls t e x i Stb = byte_outcome e x (address x.regs i) (slice_index x.regs.r i.rb)
+shared_outcome calls t e x i Stw = word_outcome e x (address x.regs i) (slice_index x.regs.r i.rb)
+shared_outcome calls t e x i Sys = calls i.imm t e x
+shared_outcome calls t e x i Halt = unchanged e (with_status x (Done 0))
+shared_outcome calls t e x i _ = unchanged e x
 
--- the status of a thread that has so many steps left: one that is still running with none left is ended by a fault
+-- the outcome of what comes after the private instructions: nothing, a fault, or a shared instruction
+unfoldable pub next_outcome : Calls → ℕ → Environment → Thread → Next → Outcome
+next_outcome calls t e x next.Pause = unchanged e x
+next_outcome calls t e x next.BadPc = unchanged e (faulted x fault.BadPc)
+next_outcome calls t e x (next.Shared i) = shared_outcome calls t e x i i.op
+
+-- the status of a thread with this number of steps left: with none left, a running thread is ended by a fault
 abbrev pub status_with : ℕ → ThreadStatus → ThreadStatus
 status_with left Running = if left == 0 then Faulted fault.Budget else Running
 status_with left Idle = Idle
 status_with left (Done code) = Done code
 status_with left (Faulted f) = Faulted f
 
--- a step is counted: one fewer may be made
-abbrev pub counted : Thread → Thread
-counted x = record x { budget = x.budget - 1; status = status_with (x.budget - 1) x.status }
+-- the thread with this number of steps left
+abbrev pub with_steps : ℕ → Thread → Thread
+with_steps left x = record x { budget = left; status = status_with left x.status }
 
--- what a running thread does in a step: it advances, acts, and the step is counted
-unfoldable pub moves : World → Thread → Advance → Acted
-moves w x a = let done = acts w (with_regs x a.after) a.next in record done { thread = counted done.thread }
+-- an outcome whose thread has this number of steps left
+abbrev pub counted : ℕ → Outcome → Outcome
+counted left outcome = record outcome { thread = with_steps left outcome.thread }
 
--- what a thread does in a step, by its status: an idle one ends, since no request is left for it, and an ended one does nothing
-abbrev pub step_of : World → List Instr → Thread → ThreadStatus → Option Acted
-step_of w text x Running = Some (moves w x (advanced text x.regs))
-step_of w text x Idle = Some (alone w (with_status x (Done 0)))
-step_of w text x (Done code) = None
-step_of w text x (Faulted f) = None
+-- the outcome of a step of a running thread, by how far it advances; it takes one of the thread's steps
+unfoldable pub advance_outcome : Calls → ℕ → Environment → Thread → Advance → Outcome
+advance_outcome calls t e x advance =
+    counted (x.budget - 1) (next_outcome calls t e (with_regs x advance.after) advance.next)
 
--- the machine with what one of its threads has done, if it did something
-abbrev pub with_acted : Machine → ℕ → Option Acted → Machine
-with_acted m t None = m
-with_acted m t (Some done) = record m { threads = slice_set m.threads t done.thread; world = done.world }
+-- the outcome of a step, by the thread's status; an idle thread ends, since no request is left, and an ended one makes no step
+abbrev pub thread_outcome : Calls → ℕ → Environment → List Instr → Thread → ThreadStatus → Option Outcome
+thread_outcome calls t e text x Running = Some (advance_outcome calls t e x (advanced text x.regs))
+thread_outcome calls t e text x Idle = Some (unchanged e (with_status x (Done 0)))
+thread_outcome calls t e text x (Done code) = None
+thread_outcome calls t e text x (Faulted f) = None
 
--- a step of the thread that was found, if one was
-abbrev pub step_at : Machine → ℕ → Option Thread → Machine
-step_at m t None = m
-step_at m t (Some x) = with_acted m t (step_of m.world m.text x x.status)
+-- the machine without what no thread reaches; nothing is dropped yet
+abbrev pub reap : Machine → Machine
+reap m = m
 
--- one step of the thread of this number; an ended one changes nothing
-unfoldable pub step : Machine → ℕ → Machine
-step m t = step_at m t (slice_get m.threads t)
+-- the machine after a step of the thread of a number, if it made one
+abbrev pub after_outcome : Machine → ℕ → Option Outcome → Machine
+after_outcome m t None = m
+after_outcome m t (Some outcome) =
+    reap (record m { threads = slice_set m.threads t outcome.thread; environment = outcome.environment })
+
+-- the machine after a step of the thread that was found, if one was
+abbrev pub after_thread : Calls → Machine → ℕ → Option Thread → Machine
+after_thread calls m t None = m
+after_thread calls m t (Some x) = after_outcome m t (thread_outcome calls t m.environment m.text x x.status)
+
+-- the machine after one step of the thread of a number, where these are the calls; an ended thread changes nothing
+unfoldable pub step_by : Calls → Machine → ℕ → Machine
+step_by calls m t = after_thread calls m t (slice_get m.threads t)
+
+-- the machine after one step of the thread of a number
+abbrev pub step : Machine → ℕ → Machine
+step m t = step_by guest_calls m t

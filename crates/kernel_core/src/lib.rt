@@ -5,12 +5,15 @@ mod acting;
 pub mod calling;
 pub mod kernel;
 pub mod laws;
+mod memory;
 pub mod settings;
 mod starting;
 pub mod thread;
 
 pub use calling::LW_CREATE;
 pub use kernel::Kernel;
-pub use laws::{kept_steps_are_enough, kept_steps_are_kept, next_step_is_kept};
-pub use settings::{Job, MOST_BUDGET, MOST_STEPS, MOST_THREADS, OpenFault, PAGES, Settings};
+pub use laws::{
+    kept_steps_are_enough, kept_steps_are_kept, next_step_is_kept, worlds_of_runs_are_fresh,
+};
+pub use settings::{Job, OpenFault, Settings};
 pub use thread::{Thread, ThreadView, Turn};

@@ -1,10 +1,11 @@
-ghost use Rattle.std.specs.Prelude.{◌≡◌};
+ghost use Rattle.std.specs.Prelude.{◌≡◌, ◌<◌, ◌≤◌};
 ghost use Rattle.kernel_core.specs.Machine as machine;
+ghost use Rattle.kernel_core.specs.Step as spec;
 
-use lwc_base::{Name, Regs, ThreadStatus};
+use lwc_base::{Fault, Name, Refusal, Regs, ThreadStatus};
 
-/// A thread: how it stands, the context that it stands in, its registers, the job that it acts for, and how many
-/// steps it may still make.
+/// A thread: its status, the context that it is in, its registers, the job that it acts for, and the number of steps
+/// that it may still make.
 #[derive(Clone, Copy, Debug, PartialEq, Eq)]
 pub struct Thread {
     pub status: ThreadStatus,
@@ -14,14 +15,14 @@ pub struct Thread {
     pub budget: u32,
 }
 
-/// What a step left of its thread: the registers, and how it stands.
+/// What a step left of its thread: the registers and the status.
 #[derive(Clone, Copy, Debug, PartialEq, Eq)]
 pub struct Turn {
     pub regs: Regs,
     pub status: ThreadStatus,
 }
 
-/// What can be seen of a thread: how it stands, its context, and its registers.
+/// What can be seen of a thread: its status, its context and its registers.
 #[derive(Clone, Copy, Debug, PartialEq, Eq)]
 pub struct ThreadView {
     pub status: ThreadStatus,
@@ -39,7 +40,7 @@ impl Turn {
 }
 
 impl Thread {
-    // The registers, and how it stands.
+    /// The registers and the status.
     pub(crate) fn turn(&self) -> Turn
         ensures { result ≡ record { regs = self.now.regs; status = self.now.status } }
     {
@@ -49,9 +50,10 @@ impl Thread {
         }
     }
 
-    // What can be seen of it.
+    /// What can be seen of the thread.
     pub(crate) fn view(&self) -> ThreadView
-        ensures { result ≡ record { status = self.now.status; context = self.now.context; regs = self.now.regs } }
+        ensures { result
+            ≡ record { status = self.now.status; context = self.now.context; regs = self.now.regs } }
     {
         ThreadView {
             status: self.status,
@@ -60,7 +62,7 @@ impl Thread {
         }
     }
 
-    // How many steps it may still make.
+    /// The number of steps that the thread may still make.
     pub(crate) fn steps_left(&self) -> u32
         ensures { result ≡ machine.steps_left self.now.budget self.now.status }
     {
@@ -68,6 +70,64 @@ impl Thread {
             ThreadStatus::Running => self.budget,
             ThreadStatus::Idle => 1,
             ThreadStatus::Done { .. } | ThreadStatus::Faulted { .. } => 0,
+        }
+    }
+
+    /// Ends the thread with code 0.
+    pub(crate) fn finish(&mut self)
+        ensures { self.new ≡ spec.with_status self.old (ThreadStatus.Done 0) }
+    {
+        self.status = ThreadStatus::Done { code: 0 };
+    }
+
+    /// Ends the thread by a fault.
+    pub(crate) fn fail(&mut self, fault: Fault)
+        ensures { self.new ≡ spec.faulted self.old fault }
+    {
+        self.status = ThreadStatus::Faulted { fault };
+    }
+
+    /// Goes to the next instruction.
+    pub(crate) fn advance(&mut self)
+        ensures { self.new ≡ spec.with_regs self.old (spec.next_instruction self.old.regs) }
+    {
+        self.regs.pc = self.regs.pc.wrapping_add(1);
+    }
+
+    /// Goes to the next instruction, with a value in a register.
+    pub(crate) fn answer(&mut self, register: u8, value: u64)
+        requires { register < 16 }
+        ensures { self.new ≡ spec.with_regs self.old (spec.with_result self.old.regs register value) }
+    {
+        self.regs.r[usize::from(register)] = value;
+        self.regs.pc = self.regs.pc.wrapping_add(1);
+    }
+
+    /// Goes to the next instruction, with the reason of a refusal in r0.
+    pub(crate) fn refuse(&mut self, refusal: Refusal)
+        ensures { self.new ≡ spec.refused self.old refusal }
+    {
+        self.answer(0, 0u64.wrapping_sub(refusal.number()));
+    }
+
+    /// Ends a load: the register gets what was found, or the thread fails.
+    pub(crate) fn load(&mut self, register: u8, found: Option<u64>)
+        requires { register < 16 }
+        ensures { self.new ≡ spec.loaded self.old register found }
+    {
+        match found {
+            Some(value) => self.answer(register, value),
+            None => self.fail(Fault::BadLoad),
+        }
+    }
+
+    /// Sets the number of steps left. With none left, a running thread is ended by a fault.
+    pub(crate) fn set_steps(&mut self, left: u32)
+        ensures { self.new ≡ spec.with_steps left self.old }
+    {
+        self.budget = left;
+        if left == 0 && self.status == ThreadStatus::Running {
+            self.fail(Fault::Budget);
         }
     }
 }

@@ -91,6 +91,11 @@ unfoldable pub create : World → Name → ℕ → Regs → Answer × World
 create w c job regs =
     ended w c job regs (unwrap_or (lowest_empty w c) 0) (first_refusal (refusals w c job regs))
 
+-- a fact, if the answer is a refusal
+abbrev pub IfRefused : Answer → Type 0 → Type 0
+IfRefused (Done regs) P = Unit {0}
+IfRefused (Refused refusal) P = P
+
 -- while the job has fewer contexts or groups than it may have, there is a place for one more
 pub record HasPlaces (w : World) (job : ℕ) : Type 0 where
   pub context : live_of w job < MOST_CONTEXTS_OF_JOB → HasPlace w

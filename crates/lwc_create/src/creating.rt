@@ -2,7 +2,7 @@ ghost use Rattle.std.specs.Prelude.{◌≡◌, ℕ, Some, true, IfErr, IfOk, IsO
 ghost use Rattle.lwc_base.specs.Modes.{IsSpec};
 ghost use Rattle.lwc_base.specs.Refusals.{first_refusal};
 ghost use Rattle.lwc_create.specs.Create as spec;
-ghost use Rattle.lwc_create.specs.Create.{HasPlaces, IsAllowed};
+ghost use Rattle.lwc_create.specs.Create.{HasPlaces, IfRefused, IsAllowed};
 ghost use Rattle.world_face.specs.Calls.{IsLive, MayName};
 
 use access_cap::full;
@@ -33,6 +33,7 @@ pub fn create<W: World>(
     requires places { HasPlaces (W.seen world.old) job }
     ensures done { IfOk result (λ answer.
         spec.create (W.seen world.old) c job regs.now ≡ (answer, W.seen world.new)) }
+    ensures refused { IfOk result (λ answer. IfRefused answer (W.seen world.new ≡ W.seen world.old)) }
     ensures err { OnErr result (W.seen world.new ≡ W.seen world.old) }
     ensures ample { W.roomy ≡ true → IsOk result }
 {
