@@ -66,7 +66,7 @@ fewer_in_all f most job (j ∷ jobs) zero within is each fewer =
 fewer_in_all f most job (j ∷ jobs) (suc k) within is each fewer =
     omega (arith, sum_by-cons f j jobs, each j, fewer_in_all f most job jobs k (omega arith) is each fewer)
 
-length_of_keys : {X : Type 0} (m : fm.FinMap name_cmp X) → fm.len m ≡ length (fm.keys m)
+pub length_of_keys : {X : Type 0} (m : fm.FinMap name_cmp X) → fm.len m ≡ length (fm.keys m)
 length_of_keys m = fm.len-entries m ∙ sym (length-map (fm.entries m) (λ e. e.0))
 
 -- there are places for a job's next context and group

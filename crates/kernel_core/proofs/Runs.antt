@@ -57,10 +57,14 @@ pub run_kept : (m : Machine) (ts : List ℕ) → run m (kept m ts) ≡ run m ts
 run_kept m [] = refl
 run_kept m (t ∷ ts) = run_by m t ts (is_ended m t) refl (run_kept m ts) (run_kept (step m t) ts)
 
--- a run uses at some time what it uses at first
+-- a run uses at some time what it uses at first, and at last
 used_first : (m : Machine) (ts : List ℕ) → frames_of m ≤ peak m ts
 used_first m [] = omega arith
 used_first m (t ∷ ts) = omega arith
+
+pub used_last : (m : Machine) (ts : List ℕ) → frames_of (run m ts) ≤ peak m ts
+used_last m [] = omega arith
+used_last m (t ∷ ts) = omega (arith, used_last (step m t) ts)
 
 absorbed : (a b : ℕ) → a ≤ b → b ≡ max a b
 absorbed a b h = omega arith

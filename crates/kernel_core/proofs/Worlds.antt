@@ -1,26 +1,268 @@
 -- How far a store and a call that makes a context change a world.
-use Rattle.std.proofs.Common.{◌≡◌, ℕ, suc, ◌+◌, ◌≤◌, ◌<◌, refl, sym, ap, subst, ◌∙◌, Bool, true, false, cond, eqb, ◌&&◌, Option, Some, None, List, ◌∷◌, length, arith}
+use Rattle.std.proofs.Common.{◌≡◌, ◌≢◌, ◌⊎◌, inl, inr, ℕ, suc, ◌+◌, ◌-◌, ◌/◌, ◌≤◌, ◌<◌, refl, sym, ap, subst, ◌∙◌, Bool, true, false, cond, eqb, ◌&&◌, List, [], ◌∷◌, length, arith}
 use Rattle.std.specs.FinMap as fm
-use Rattle.std.specs.List.{Contains}
-use Rattle.std.specs.Ordering.{eq_by_cmp}
-use Rattle.std.specs.Prelude.{count_by, is_some}
+use Rattle.std.specs.List.{Contains, range_with_len}
+use Rattle.std.specs.Ordering.{eq_by_cmp, is_eq}
+use Rattle.std.specs.declared.cmp.Ordering.{Ordering}
+use Rattle.std.specs.declared.cmp.Ordering.TheVariants.{Less, Equal, Greater}
 use Rattle.std.proofs.lemmas.Bool.Decides.{nat_tests}
+use Rattle.std.proofs.lemmas.Cmp.{tied_itself}
 use Rattle.std.proofs.lemmas.List.Sums.{count_by-le-length}
 use Rattle.std.proofs.lemmas.List.FromFn.{length-range_with_len}
 use Rattle.kernel_core.specs.Ready.{IsWithinLimits}
-use Rattle.lwc_base.proofs.Counted.{live_of-same, groups_of-same, live_of-add_context, groups_of-add_new_group}
-use Rattle.lwc_base.proofs.Fresh.{next_context-new, next_group-new, fresh-share}
-use Rattle.lwc_base.proofs.Kernel.{length-touched}
-use Rattle.lwc_base.proofs.Live.{same_name, values-change_context, values-put_at, values-put_pages}
-use Rattle.lwc_base.proofs.Orders.{name_cmp-total}
-use Rattle.lwc_base.specs.Cells.{put_at}
+use Rattle.lwc_base.specs.Cells.{put_slot}
+use Rattle.lwc_base.specs.Facts.{AddsContext, ChangeFacts, CountFacts, KeepsNames, OrderFacts, SharesValues, TakesTags, with_context, with_group, with_tags}
 use Rattle.lwc_base.specs.Frames.{is_parting}
 use Rattle.lwc_base.specs.Fresh.{IsFresh}
+use Rattle.lwc_base.specs.Holders.{IsGroup}
+use Rattle.lwc_base.specs.Mapping.{map_pages}
 use Rattle.lwc_base.specs.Memory.{touched}
 use Rattle.lwc_base.specs.Names.{name_cmp}
-use Rattle.lwc_base.specs.Sharing.{clone_context, cloned_context, moved_values, needs_group, share, with_shared}
-use Rattle.lwc_base.specs.Store.{Piece, after_store, page_value_at, parting_count, plan, put_pages}
-use Rattle.lwc_base.specs.World.{World, Context, Counters, Group, add_context, add_group, change_context, change_counters, changed_context, context, groups_of, is_live, live_of, next_context, next_group}
+use Rattle.lwc_base.specs.Sharing.{clone_context, needs_group, share}
+use Rattle.lwc_base.specs.Sound.{IsSound}
+use Rattle.lwc_base.specs.Store.{Absent, Done, Full, Piece, after_store, page_value_at, parting_count, store}
+use Rattle.lwc_base.specs.World.{World, Context, Counters, add_context, empty_world, groups_of, is_live, live_of, new_context, next_context, next_group}
+use Rattle.lwc_base.specs.declared.descriptor.Descriptor.{Descriptor}
 use Rattle.lwc_base.specs.declared.item.Item.{Item}
 use Rattle.lwc_base.specs.declared.name.Name.{Name}
 use Rattle.lwc_base.specs.declared.regs.Regs.{Regs}
+use Rattle.lwc_base.specs.declared.size.WorldSize.{WorldSize}
+
+-- the changes that keep a world sound
+pub record SoundFacts : Type 0 where
+  pub empty : (size : WorldSize) → IsSound (empty_world size)
+  pub add : (w : World) (job uid : ℕ) (entry : Regs) → IsSound w → IsSound (add_context w job (new_context uid entry))
+  pub map : (w : World) (c : Name) (from to : ℕ) → to ≤ w.size.pages → IsSound w → IsSound (map_pages w c from to)
+  pub slot : (w : World) (c : Name) (n : ℕ) (value : Descriptor) → IsSound w → IsSound (put_slot w c n value)
+  pub store : (w v : World) (c : Name) (job : ℕ) (piece : Piece) → IsSound w → is_live w c ≡ true → store w c job piece ≡ Done v → IsSound v
+  pub share : (w : World) (c : Name) (job : ℕ) (items : List Item) → IsSound w → is_live w c ≡ true → IsSound (share w c job items)
+  pub clone : (w : World) (c : Name) (job : ℕ) (items : List Item) (entry : Regs) → IsSound w → is_live w c ≡ true →
+      IsSound (clone_context w c job items entry)
+
+-- what is known of the changes of a world
+pub record WorldFacts : Type 0 where
+  pub orders : OrderFacts
+  pub changes : ChangeFacts
+  pub counts : CountFacts
+  pub sound : SoundFacts
+
+-- none of a job's counts rises by more than this
+pub record RisesBy (most : ℕ) (before after : Counters) : Type 0 where
+  pub contexts : after.contexts ≤ before.contexts + most
+  pub groups : after.groups ≤ before.groups + most
+  pub tags : after.tags ≤ before.tags + most
+
+-- what is live stays so, no count rises by more than this, and a world within its limits stays so, where the job is one of the jobs
+pub record Grows (job most : ℕ) (w v : World) : Type 0 where
+  pub live : (c : Name) → is_live w c ≡ true → is_live v c ≡ true
+  pub size : v.size ≡ w.size
+  pub counts : (j : ℕ) → RisesBy most (w.next j) (v.next j)
+  pub limits : (jobs : List ℕ) → Contains jobs job → 1 ≤ job → IsWithinLimits w jobs → IsWithinLimits v jobs
+
+rises_not : (most : ℕ) (n : Counters) → RisesBy most n n
+rises_not most n = record { contexts = omega arith; groups = omega arith; tags = omega arith }
+
+pub grows_not : (job most : ℕ) (w : World) → Grows job most w w
+grows_not job most w = record { live = λ c live. live; size = refl; counts = λ j. rises_not most (w.next j); limits = λ jobs there some limits. limits }
+
+then_rises : (m n : ℕ) (a b c : Counters) → RisesBy m a b → RisesBy n b c → RisesBy (m + n) a c
+then_rises m n a b c first second = record {
+  contexts = omega (arith, first.contexts, second.contexts);
+  groups = omega (arith, first.groups, second.groups);
+  tags = omega (arith, first.tags, second.tags);
+}
+
+then_grows : (job m n : ℕ) (u v w : World) → Grows job m u v → Grows job n v w → Grows job (m + n) u w
+then_grows job m n u v w first second = record {
+  live = λ c live. second.live c (first.live c live);
+  size = second.size ∙ first.size;
+  counts = λ j. then_rises m n _ _ _ (first.counts j) (second.counts j);
+  limits = λ jobs there some limits. second.limits jobs there some (first.limits jobs there some limits);
+}
+
+-- a world stays within its limits where each new name bears the job, and there are few names
+limits_kept : (w v : World) (jobs : List ℕ) (job : ℕ) → Contains jobs job →
+    ((c : Name) → is_live v c ≡ true → (is_live w c ≡ true) ⊎ (c.job ≡ job)) → ((g : Name) → IsGroup v g → IsGroup w g ⊎ (g.job ≡ job)) →
+    live_of v 0 ≡ live_of w 0 → ((j : ℕ) → live_of v j ≤ 32) → ((j : ℕ) → groups_of v j ≤ 64) → IsWithinLimits w jobs → IsWithinLimits v jobs
+limits_kept w v jobs job there contexts groups homes few_contexts few_groups limits = record {
+  contexts = λ c live. elim (contexts c live) [
+    | inl old ↦ limits.contexts c old
+    | inr new ↦ subst (Contains (0 ∷ jobs)) (sym new) (suc there.0, omega (arith, there.1), there.2)
+  ];
+  groups = λ g live. elim (groups g live) [
+    | inl old ↦ limits.groups g old
+    | inr new ↦ subst (Contains jobs) (sym new) there
+  ];
+  homes = omega (arith, homes, limits.homes);
+  few_contexts = few_contexts;
+  few_groups = few_groups;
+}
+
+not_job_0 : (job : ℕ) → 1 ≤ job → eqb 0 job ≡ false
+not_job_0 job some = grind (arith, nat_tests)
+
+-- one more of a job that has fewer than it may have
+one_more_of : (j job before after most : ℕ) (new : Bool) → after ≡ cond (new && eqb j job) (before + 1) before → (new ≡ true → j ≡ job → before < most) → before ≤ most → after ≤ most
+one_more_of j job before after most true is fewer few = one_more_by (eqb j job) refl
+  where
+    one_more_by : (b : Bool) → eqb j job ≡ b → after ≤ most
+    one_more_by true same =
+        let now : after ≡ before + 1 = is ∙ ap (λ b. cond b (before + 1) before) same in
+        let here : j ≡ job = grind (arith, nat_tests) in
+        omega (arith, now, fewer refl here)
+    one_more_by false other =
+        let now : after ≡ before = is ∙ ap (λ b. cond b (before + 1) before) other in
+        omega (arith, now, few)
+one_more_of j job before after most false is fewer few = omega (arith, is, few)
+
+equal_of_is_eq : (o : Ordering) → is_eq o ≡ true → o ≡ Equal
+equal_of_is_eq Less e = cc
+equal_of_is_eq Equal e = refl
+equal_of_is_eq Greater e = cc
+
+rises_tags : (b : Bool) (n : Counters) (count : ℕ) → count ≤ 2 → RisesBy 2 n (cond b (record n { tags = n.tags + count }) n)
+rises_tags true n count few = record { contexts = omega arith; groups = omega arith; tags = omega arith }
+rises_tags false n count few = rises_not 2 n
+
+rises_context : (b : Bool) (n : Counters) → RisesBy 1 n (cond b (record n { contexts = n.contexts + 1 }) n)
+rises_context true n = record { contexts = omega arith; groups = omega arith; tags = omega arith }
+rises_context false n = rises_not 1 n
+
+rises_group : (b : Bool) (n : Counters) → RisesBy 1 n (cond b (record n { groups = n.groups + 1 }) n)
+rises_group true n = record { contexts = omega arith; groups = omega arith; tags = omega arith }
+rises_group false n = rises_not 1 n
+
+at_most_two : (b : Bool) (from count : ℕ) → count ≤ 2 → length (cond b [] (range_with_len from count)) ≤ 2
+at_most_two true from count few = omega arith
+at_most_two false from count few = rw length-range_with_len few
+
+-- a store of at most a page's bytes takes at most two tags
+few_parting : (w : World) (c : Name) (piece : Piece) → length piece.bytes ≤ 4096 → parting_count w c piece ≤ 2
+unfolding parting_count touched
+few_parting w c piece short =
+    let count = length piece.bytes in
+    let pages = at_most_two (eqb count 0) (piece.at / 4096) ((piece.at + count - 1) / 4096 + 1 - piece.at / 4096) (omega arith) in
+    omega (arith, count_by-le-length (λ p. is_parting w (page_value_at w c p)) (touched piece.at count), pages)
+
+done_after : (absent full : Bool) (after v : World) → cond absent Absent (cond full Full (Done after)) ≡ Done v → after ≡ v
+done_after true full after v done = cc
+done_after false true after v done = cc
+done_after false false after v done = cc
+
+module _ (facts : WorldFacts) where
+  pub name_itself : (c : Name) → eq_by_cmp name_cmp c c ≡ true
+  name_itself c = ap is_eq (tied_itself facts.orders.names c)
+
+  -- names that tie are one
+  pub same_name : (c d : Name) → eq_by_cmp name_cmp c d ≡ true → c ≡ d
+  same_name c d same = facts.orders.one_name c d (equal_of_is_eq (name_cmp c d) same)
+
+  one_or_other : (c d : Name) (b : Bool) → eq_by_cmp name_cmp c d ≡ b → (c ≡ d) ⊎ (c ≢ d)
+  one_or_other c d true same = inl (same_name c d same)
+  one_or_other c d false other = inr (λ same. let itself = name_itself d in let is : eq_by_cmp name_cmp d d ≡ false = ap (λ (n : Name). eq_by_cmp name_cmp n d) (sym same) ∙ other in cc)
+
+  -- two names are the same or not
+  pub same_or_not : (c d : Name) → (c ≡ d) ⊎ (c ≢ d)
+  same_or_not c d = one_or_other c d _ refl
+
+  live_as_before : (w v : World) → ((c : Name) → is_live v c ≡ is_live w c) → (j : ℕ) → live_of v j ≡ live_of w j
+  live_as_before w v same j = (facts.counts.same_contexts w v j same).0
+
+  groups_as_before : (w v : World) → ((g : Name) → fm.contains_key v.groups g ≡ fm.contains_key w.groups g) → (j : ℕ) → groups_of v j ≡ groups_of w j
+  groups_as_before w v same j = (facts.counts.same_groups w v j same).0
+
+  -- where the same names live
+  grows_names : (job most : ℕ) (w v : World) → ((c : Name) → is_live v c ≡ is_live w c) → ((g : Name) → fm.contains_key v.groups g ≡ fm.contains_key w.groups g) →
+      v.size ≡ w.size → ((j : ℕ) → RisesBy most (w.next j) (v.next j)) → Grows job most w v
+  grows_names job most w v live groups size counts = record {
+    live = λ c is. live c ∙ is;
+    size = size;
+    counts = counts;
+    limits = λ jobs there some limits.
+        limits_kept w v jobs job there (λ c is. inl (sym (live c) ∙ is)) (λ g is. inl (sym (groups g) ∙ is)) (live_as_before w v live 0)
+        (λ j. omega (arith, live_as_before w v live j, limits.few_contexts j)) (λ j. omega (arith, groups_as_before w v groups j, limits.few_groups j)) limits;
+  }
+
+  -- another value under a slot
+  grows_slot : (job : ℕ) (w : World) (c : Name) (n : ℕ) (value : Descriptor) → Grows job 0 w (put_slot w c n value)
+  grows_slot job w c n value =
+      let names : KeepsNames w (put_slot w c n value) = facts.changes.put w c _ value in
+      grows_names job 0 w (put_slot w c n value) names.live names.groups names.size
+      (λ j. subst (λ (next : ℕ → Counters). RisesBy 0 (w.next j) (next j)) (sym names.next) (rises_not 0 (w.next j)))
+
+  grows_after_store : (w : World) (c : Name) (job : ℕ) (piece : Piece) → length piece.bytes ≤ 4096 → Grows job 2 w (after_store w c job piece)
+  grows_after_store w c job piece short =
+      let takes : TakesTags w job (parting_count w c piece) (after_store w c job piece) = facts.changes.stored w c job piece in
+      grows_names job 2 w (after_store w c job piece) takes.live takes.groups takes.size
+      (λ j. subst (λ (next : ℕ → Counters). RisesBy 2 (w.next j) (next j)) (sym takes.next) (rises_tags (eqb j job) (w.next j) _ (few_parting w c piece short)))
+
+  -- a store that is done
+  pub grows_store : (w v : World) (c : Name) (job : ℕ) (piece : Piece) → length piece.bytes ≤ 4096 → store w c job piece ≡ Done v → Grows job 2 w v
+  unfolding store
+  grows_store w v c job piece short done = subst (Grows job 2 w) (done_after _ _ _ v done) (grows_after_store w c job piece short)
+
+  grows_context : (job : ℕ) (w v : World) (x : Context) → IsFresh w → AddsContext w job x v → live_of w job < 32 → Grows job 1 w v
+  grows_context job w v x fresh adds fewer = record {
+    live = λ c live. elim (same_or_not c (next_context w job)) [
+      | inl same ↦ ap (is_live v) same ∙ adds.live
+      | inr other ↦ adds.still_live c other ∙ live
+    ];
+    size = adds.size;
+    counts = λ j. subst (λ (next : ℕ → Counters). RisesBy 1 (w.next j) (next j)) (sym adds.next) (rises_context (eqb j job) (w.next j));
+    limits = λ jobs there some limits.
+        let groups : (g : Name) → fm.contains_key v.groups g ≡ fm.contains_key w.groups g = λ g. ap (λ m. fm.contains_key m g) adds.groups in
+        let count : (j : ℕ) → live_of v j ≡ cond (eqb j job) (live_of w j + 1) (live_of w j) = λ j. (facts.counts.context_added w v job j x fresh adds).0 in
+        limits_kept w v jobs job there
+        (λ c live. elim (same_or_not c (next_context w job)) [
+          | inl same ↦ inr (ap (λ (n : Name). n.job) same)
+          | inr other ↦ inl (sym (adds.still_live c other) ∙ live)
+        ])
+        (λ g is. inl (sym (groups g) ∙ is))
+        (count 0 ∙ ap (λ b. cond b (live_of w 0 + 1) (live_of w 0)) (not_job_0 job some))
+        (λ j. one_more_of j job (live_of w j) (live_of v j) 32 true (count j) (λ new same. omega (arith, ap (live_of w) same, fewer)) (limits.few_contexts j))
+        (λ j. omega (arith, groups_as_before w v groups j, limits.few_groups j))
+        limits;
+  }
+
+  module _ (w : World) (c : Name) (job : ℕ) (items : List Item) (sound : IsSound w) (here : is_live w c ≡ true) (room : needs_group w c items ≡ true → groups_of w job < 64) where
+    shares : SharesValues w c job items (share w c job items)
+    shares = facts.changes.shared w c job items
+
+    grows_group : needs_group w c items ≡ true → Grows job 1 w (share w c job items)
+    unfolding shares
+    grows_group needs = record {
+      live = λ d live. shares.live d ∙ live;
+      size = shares.size;
+      counts = λ j. subst (λ (next : ℕ → Counters). RisesBy 1 (w.next j) (next j)) (sym (shares.next needs)) (rises_group (eqb j job) (w.next j));
+      limits = λ jobs there some limits.
+          limits_kept w (share w c job items) jobs job there (λ d live. inl (sym (shares.live d) ∙ live))
+          (λ g is. elim (same_or_not g (next_group w job)) [
+            | inl same ↦ inr (ap (λ (n : Name). n.job) same)
+            | inr other ↦ inl (sym (shares.still_live g other) ∙ is)
+          ])
+          (live_as_before w (share w c job items) shares.live 0)
+          (λ j. omega (arith, live_as_before w (share w c job items) shares.live j, limits.few_contexts j))
+          (λ j. one_more_of j job (groups_of w j) (groups_of (share w c job items) j) 64 (needs_group w c items) (facts.counts.shared w _ c job j items sound.fresh shares).0
+              (λ new same. omega (arith, ap (groups_of w) same, room new)) (limits.few_groups j))
+          limits;
+    }
+
+    grows_by : (b : Bool) → needs_group w c items ≡ b → Grows job 1 w (share w c job items)
+    unfolding shares
+    grows_by true needs = grows_group needs
+    grows_by false none = subst (Grows job 1 w) (sym (shares.none none)) (grows_not job 1 w)
+
+    -- a context that is made, and another value under a slot
+    pub grows_created : (entry : Regs) (n : ℕ) (value : Descriptor) → live_of w job < 32 → Grows job 2 w (put_slot (clone_context w c job items entry) c n value)
+    unfolding shares
+    grows_created entry n value fewer =
+        let shared = share w c job items in
+        let made = clone_context w c job items entry in
+        let fewer_now : live_of shared job < 32 = omega (arith, live_as_before w shared shares.live job, fewer) in
+        let adds = facts.changes.cloned w c job items entry in
+        let first : Grows job 1 w shared = grows_by (needs_group w c items) refl in
+        let second : Grows job 1 shared made = grows_context job shared made _ (facts.sound.share w c job items sound here).fresh adds fewer_now in
+        then_grows job 2 0 w made (put_slot made c n value) (then_grows job 1 1 w shared made first second) (grows_slot job made c n value)
+
+    pub sound_created : (entry : Regs) (n : ℕ) (value : Descriptor) → IsSound (put_slot (clone_context w c job items entry) c n value)
+    sound_created entry n value = facts.sound.slot (clone_context w c job items entry) c n value (facts.sound.clone w c job items entry sound here)

@@ -2,7 +2,9 @@ pub use Rattle.lwc_base.specs.Capabilities
 pub use Rattle.lwc_base.specs.Cells
 pub use Rattle.lwc_base.specs.Faults
 pub use Rattle.lwc_base.specs.Frames
+pub use Rattle.lwc_base.specs.Facts
 pub use Rattle.lwc_base.specs.Fresh
+pub use Rattle.lwc_base.specs.Holders
 pub use Rattle.lwc_base.specs.Keys
 pub use Rattle.lwc_base.specs.Mapping
 pub use Rattle.lwc_base.specs.Memory
@@ -14,6 +16,7 @@ pub use Rattle.lwc_base.specs.Refusals
 pub use Rattle.lwc_base.specs.Registers
 pub use Rattle.lwc_base.specs.Sharing
 pub use Rattle.lwc_base.specs.Slots
+pub use Rattle.lwc_base.specs.Sound
 pub use Rattle.lwc_base.specs.Store
 pub use Rattle.lwc_base.specs.Summaries
 pub use Rattle.lwc_base.specs.World

@@ -1,15 +1,18 @@
 -- What threads need of the world that they act in, and what each machine of a run keeps true of both.
-use Rattle.std.specs.Prelude.{◌≡◌, ℕ, ◌+◌, ◌*◌, ◌≤◌, ◌<◌, true, List, ◌∷◌, length, map, All}
-use Rattle.std.specs.FinMap as fm
+use Rattle.std.specs.Prelude.{◌≡◌, ℕ, ◌+◌, ◌*◌, ◌≤◌, ◌<◌, true, List, ◌∷◌, Some, length, map, slice_get, All}
 use Rattle.std.specs.List.{Contains}
-use Rattle.kernel_core.specs.Machine.{Machine}
-use Rattle.kernel_core.specs.Start.{Inputs, thread_count, world_size}
+use Rattle.kernel_core.specs.Kernel.{CanOpen}
+use Rattle.kernel_core.specs.Machine.{Machine, steps_left}
+use Rattle.kernel_core.specs.Runs.{run}
+use Rattle.kernel_core.specs.Start.{Inputs, start, thread_count, world_size}
+use Rattle.kernel_core.specs.Step.{Outcome, guest_calls, thread_outcome}
 use Rattle.kernel_core.specs.declared.thread.Thread.{Thread}
 use Rattle.lwc_base.specs.declared.fault.ThreadStatus.{ThreadStatus}
 use Rattle.lwc_base.specs.declared.fault.ThreadStatus.TheVariants.{Idle, Running, Done, Faulted}
-use Rattle.lwc_base.specs.declared.limits.TheConstants.{MOST_BUDGET, MOST_CONTEXTS_OF_JOB, MOST_GROUPS_OF_JOB, MOST_PAGES, MOST_THREADS}
+use Rattle.lwc_base.specs.declared.limits.TheConstants.{MOST_BUDGET, MOST_CONTEXTS_OF_JOB, MOST_GROUPS_OF_JOB, MOST_PAGES, MOST_STEPS, MOST_THREADS}
 use Rattle.lwc_base.specs.declared.name.Name.{Name}
-use Rattle.lwc_base.specs.Fresh.{IsFresh}
+use Rattle.lwc_base.specs.Holders.{IsGroup}
+use Rattle.lwc_base.specs.Sound.{IsSound}
 use Rattle.lwc_base.specs.World.{World, Counters, groups_of, is_live, live_of}
 use Rattle.lwc_create.specs.Create.{HasPlaces}
 use Rattle.world_face.specs.Calls.{IsLive, MayName}
@@ -46,7 +49,7 @@ jobs_of threads = map (λ x. x.job) threads
 -- live contexts bear job 0 or a thread's job, live groups a thread's job, and no job has more of them than it may have
 pub record IsWithinLimits (w : World) (jobs : List ℕ) : Type 0 where
   pub contexts : (c : Name) → is_live w c ≡ true → Contains (0 ∷ jobs) c.job
-  pub groups : (g : Name) → fm.contains_key w.groups g ≡ true → Contains jobs g.job
+  pub groups : (g : Name) → IsGroup w g → Contains jobs g.job
   pub homes : live_of w 0 ≤ MOST_THREADS
   pub few_contexts : (job : ℕ) → live_of w job ≤ MOST_CONTEXTS_OF_JOB
   pub few_groups : (job : ℕ) → groups_of w job ≤ MOST_GROUPS_OF_JOB
@@ -64,10 +67,20 @@ most_counted steps = MOST_PAGES + 1 + MOST_THREADS + 2 * steps
 -- the threads and the world of a machine are as the calls of a world need them, after this number of steps
 pub record IsReady (inputs : Inputs) (steps : ℕ) (m : Machine) : Type 0 where
   pub size : m.environment.world.size ≡ world_size inputs.settings.frames
-  pub fresh : IsFresh m.environment.world
+  pub sound : IsSound m.environment.world
   pub limits : IsWithinLimits m.environment.world (jobs_of m.threads)
   pub counted : (job : ℕ) → IsCounted (most_counted steps) (m.environment.world.next job)
   pub threads : All (IsReadyThread m.environment.world) m.threads
   pub count : length m.threads ≡ thread_count inputs
+  pub some : 1 ≤ length m.threads
   pub few : length m.threads ≤ MOST_THREADS
   pub text : m.text ≡ inputs.image.text
+
+-- what is known of the machines of runs: each is ready; in a ready one, a running thread can act, and a step leaves its thread fewer
+pub record RunFacts : Type 0 where
+  pub ready : (inputs : Inputs) (steps : List ℕ) → CanOpen inputs → IsReady inputs (length steps) (run (start inputs) steps)
+  pub act : (inputs : Inputs) (steps t : ℕ) (m : Machine) (x : Thread) → IsReady inputs steps m → steps ≤ MOST_STEPS →
+      slice_get m.threads t ≡ Some x → WhileRunning x.status (CanAct m.environment.world x)
+  pub fewer : (inputs : Inputs) (steps t : ℕ) (m : Machine) (x : Thread) (outcome : Outcome) → IsReady inputs steps m →
+      slice_get m.threads t ≡ Some x → thread_outcome guest_calls t m.environment m.text x x.status ≡ Some outcome →
+      steps_left outcome.thread.budget outcome.thread.status < steps_left x.budget x.status

@@ -1,5 +1,6 @@
 -- The machine that a run of an image starts from.
 use Rattle.std.specs.Prelude.{ℕ, ◌+◌, ◌==◌, if◌then◌else◌, List, [], Option, None, length, map, nat_lt, slice_index, take}
+use Rattle.std.specs.FinMap as fm
 use Rattle.std.specs.List.{enumerate_from, find}
 use Rattle.std.specs.Option.{option_map, option_map_or}
 use Rattle.guest_image.specs.declared.image.Image.{Image}
@@ -25,7 +26,7 @@ use Rattle.lwc_base.specs.declared.page.PageValue.TheVariants.{Data}
 use Rattle.lwc_base.specs.declared.size.WorldSize.{WorldSize}
 use Rattle.lwc_base.specs.Keys.{ValueOf}
 use Rattle.lwc_base.specs.Registers.{fresh_registers}
-use Rattle.lwc_base.specs.World.{World, Context, add_context, change_counters, empty_world}
+use Rattle.lwc_base.specs.World.{World, Context, Counters}
 
 -- what a kernel is opened with: an image, requests, and settings
 pub record Inputs : Type 0 where
@@ -101,10 +102,18 @@ world_size frames = record {
   pages = MOST_PAGES;
 }
 
--- the world with this one context, in which job 0 has taken this number of tags
+-- this number of contexts and tags counted, and no groups
+abbrev pub counted : ℕ → ℕ → Counters
+counted contexts tags = record { contexts = contexts; groups = 0; tags = tags }
+
+-- the world with this one context, which job 0 has named; job 0 has taken this number of tags
 unfoldable pub world_with : ℕ → ℕ → Context → World
-world_with frames tags x =
-    change_counters (add_context (empty_world (world_size frames)) 0 x) 0 (λ n. record n { tags = tags })
+world_with frames tags x = record {
+  contexts = fm.insert fm.empty first_name x;
+  groups = fm.empty;
+  next = λ job. if job == 0 then counted 1 tags else counted 0 0;
+  size = world_size frames;
+}
 
 -- the world of a start: its one context, in which each page has a tag of its own
 unfoldable pub start_world : Image → ℕ → World

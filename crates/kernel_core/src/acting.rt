@@ -1,4 +1,4 @@
-ghost use Rattle.std.specs.Prelude.{◌≡◌, ◌<◌, ℕ, IfOk, IfSome, IsOk, OnErr, OnOk, true};
+ghost use Rattle.std.specs.Prelude.{◌≡◌, ◌<◌, ℕ, IfNone, IfOk, IfSome, IsOk, OnErr, OnOk, true};
 ghost use Rattle.guest_isa.specs.Instructions.{IsInstruction, IsText};
 ghost use Rattle.guest_machine.specs.Advances.{IfShared, advanced};
 ghost use Rattle.kernel_core.specs.Changes.{KeepsWorld, LeavesWorld, Makes, made};
@@ -38,6 +38,7 @@ pub(crate) fn step_thread<W: World>(
     ensures outcome { IfOk result (λ change. (t : ℕ) (e : Environment) →
         spec.thread_outcome spec.guest_calls t (spec.with_world e (W.seen world.old)) text.now thread.old thread.old.status
         ≡ made change (spec.with_world e (W.seen world.new)) thread.new) }
+    ensures ended { IfOk result (λ change. IfNone change (thread.new ≡ thread.old)) }
     ensures kept { IfOk result (λ change. LeavesWorld change (W.seen world.old) (W.seen world.new)) }
     ensures err { OnErr result (W.seen world.new ≡ W.seen world.old) }
     ensures ample { W.roomy ≡ true → IsOk result }

@@ -1,4 +1,4 @@
-ghost use Rattle.std.specs.Prelude.{◌≡◌, ◌≢◌, ◌<◌, ◌≤◌, ◌+◌, ◌^◌, ◌++◌, ◌∷◌, [], false, max, true, IfErr, IfOk, IfSome, IsOk, OnErr, OnOk, Some, length, vec_capacity, vec_len};
+ghost use Rattle.std.specs.Prelude.{◌≡◌, ◌<◌, ◌≤◌, ◌+◌, ◌^◌, ◌++◌, ◌∷◌, [], false, max, true, IfErr, IfOk, IfSome, IsOk, OnErr, OnOk, Some, length, vec_capacity, vec_len};
 ghost use Rattle.guest_image.specs.Limits.{IsImage};
 ghost use Rattle.guest_machine.specs.Advances.{advanced};
 ghost use Rattle.kernel_core.specs.Kernel as spec;
@@ -234,7 +234,7 @@ impl<W: World> Kernel<W> {
 
 /// The peak after a step, which a step that leaves the world does not raise.
 fn peak_after<W: World>(peak: u32, world: &W, change: Change) -> u32
-    requires { change ≢ changes.World → used (W.seen world.now) ≤ peak }
+    requires { change ≡ changes.Thread → used (W.seen world.now) ≤ peak }
     ensures { result ≡ max peak (used (W.seen world.now)) }
 {
     match change {

@@ -1,10 +1,14 @@
-ghost use Rattle.std.specs.Prelude.{◌≡◌, ◌++◌, ◌∷◌, [], if◌then◌else◌, ℕ, List, length};
+ghost use Rattle.std.specs.Prelude.{◌≡◌, ◌++◌, ◌∷◌, [], if◌then◌else◌, ℕ, List};
 ghost use Rattle.kernel_core.specs.Kernel.{CanOpen};
 ghost use Rattle.kernel_core.specs.Machine.{Machine, is_ended};
-ghost use Rattle.kernel_core.specs.Ready.{IsReady};
+ghost use Rattle.kernel_core.specs.Ready.{RunFacts};
 ghost use Rattle.kernel_core.specs.Runs.{kept, peak, run};
 ghost use Rattle.kernel_core.specs.Start.{Inputs, start};
-ghost use Rattle.lwc_base.specs.Fresh.{IsFresh};
+ghost use Rattle.lwc_base.specs.Sound.{IsSound};
+
+use lwc_base::laws::{
+    changes_leave_the_rest, live_names_are_counted, names_are_ordered, sound_worlds_stay_sound,
+};
 
 /// A law: of kept steps all are kept.
 #[tactic(auto, using(crate::proofs::Runs::kept_twice))]
@@ -26,16 +30,22 @@ pub fn next_step_is_kept()
         ≡ (if is_ended (run m ts) t then kept m ts else kept m ts ++ t ∷ []) }
 {}
 
-/// A law: from everything that a kernel can be opened with, each run comes to a world whose names are old.
-pub fn worlds_of_runs_are_fresh()
+/// A law: from everything that a kernel can be opened with, each run comes to a sound world, so that the laws of clones
+/// and of stores hold of it.
+pub fn worlds_of_runs_are_sound()
     ensures { (inputs : Inputs) (steps : List ℕ) → CanOpen inputs →
-        IsFresh (run (start inputs) steps).environment.world }
+        IsSound (run (start inputs) steps).environment.world }
 {
     runs_stay_ready();
 }
 
-/// A law: from everything that a kernel can be opened with, each run comes to a machine whose threads can act.
+/// A law: from everything that a kernel can be opened with, each run comes to a machine that is ready, in which running
+/// threads can act, and each step leaves its thread fewer.
 pub(crate) fn runs_stay_ready()
-    ensures { (inputs : Inputs) (steps : List ℕ) → CanOpen inputs →
-        IsReady inputs (length steps) (run (start inputs) steps) }
-{}
+    ensures { RunFacts }
+{
+    names_are_ordered();
+    changes_leave_the_rest();
+    live_names_are_counted();
+    sound_worlds_stay_sound();
+}

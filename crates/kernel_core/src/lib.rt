@@ -13,7 +13,7 @@ pub mod thread;
 pub use calling::LW_CREATE;
 pub use kernel::Kernel;
 pub use laws::{
-    kept_steps_are_enough, kept_steps_are_kept, next_step_is_kept, worlds_of_runs_are_fresh,
+    kept_steps_are_enough, kept_steps_are_kept, next_step_is_kept, worlds_of_runs_are_sound,
 };
 pub use settings::{Job, OpenFault, Settings};
 pub use thread::{Thread, ThreadView, Turn};

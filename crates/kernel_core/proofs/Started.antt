@@ -1,0 +1,152 @@
+-- The machine of a start is ready, and its world sound.
+use Rattle.std.proofs.Common.{◌≡◌, ℕ, zero, suc, ◌+◌, ◌≤◌, ◌<◌, refl, sym, ap, subst, ◌∙◌, Bool, true, false, cond, eqb, Some, None, List, [], ◌∷◌, ◌++◌, length, map, take, get_or, arith}
+use Rattle.std.specs.FinMap as fm
+use Rattle.std.specs.List.{Contains, enumerate_from}
+use Rattle.std.specs.Ordering.{eq_by_cmp}
+use Rattle.std.specs.Prelude.{All, count_by, is_some, slice_get}
+use Rattle.std.proofs.lemmas.Bool.{false≢true}
+use Rattle.std.proofs.lemmas.List.{length-map, length-take-le, map-append, take_more}
+use Rattle.std.proofs.lemmas.List.Elements.{All-cons, All-nil}
+use Rattle.std.proofs.lemmas.List.FromFn.{length-enumerate_from}
+use Rattle.std.proofs.lemmas.List.Sums.{count_by-le-length}
+use Rattle.std.proofs.Math.Seq.{take-length}
+use Rattle.guest_image.specs.Limits.{IsImage}
+use Rattle.guest_image.specs.declared.image.Image.{Image}
+use Rattle.guest_image.specs.declared.image.PageImage.{PageImage}
+use Rattle.kernel_core.proofs.Building.{enumerate-push, first_made, first_world, mapped_world, number_below, page_stored, slot_put}
+use Rattle.kernel_core.proofs.FirstWorld.{get-first, page_piece}
+use Rattle.kernel_core.proofs.Limits.{length_of_keys}
+use Rattle.kernel_core.proofs.Worlds.{WorldFacts, same_name}
+use Rattle.kernel_core.specs.Kernel.{CanOpen}
+use Rattle.kernel_core.specs.Ready.{IsCounted, IsReady, IsReadyThread, IsWithinLimits, jobs_of, most_counted}
+use Rattle.kernel_core.specs.Start.{Inputs, counted, first_context, first_entry, first_name, first_slot, first_thread, first_threads, start, start_world, thread_count, threads_for, world_size, world_so_far, world_with}
+use Rattle.kernel_core.specs.declared.thread.Thread.{Thread}
+use Rattle.lwc_base.specs.Cells.{put_slot}
+use Rattle.lwc_base.specs.Holders.{IsGroup}
+use Rattle.lwc_base.specs.Mapping.{map_pages}
+use Rattle.lwc_base.specs.Names.{name_cmp}
+use Rattle.lwc_base.specs.Registers.{fresh_registers}
+use Rattle.lwc_base.specs.Sound.{IsSound}
+use Rattle.lwc_base.specs.World.{World, Context, Group, add_context, empty_world, groups_of, is_live, live_of, new_context}
+use Rattle.lwc_base.specs.declared.limits.TheConstants.{MOST_BUDGET}
+use Rattle.lwc_base.specs.declared.name.Name.{Name}
+
+-- the threads of one entry more
+pub one_thread_more : (budget t : ℕ) (entries : List ℕ) → t < length entries →
+    first_threads budget (take (t + 1) entries) ≡ first_threads budget (take t entries) ++ first_thread budget t (get_or entries t 0) ∷ []
+unfolding first_threads
+one_thread_more budget t entries within =
+    let make = λ (e : ℕ × ℕ). first_thread budget e.0 e.1 in
+    let count : length (take t entries) ≡ t = length-take-le t entries (omega arith) in
+    ap (λ l. map make (enumerate_from 0 l)) (take_more entries t 0 within)
+    ∙ ap (map make) (enumerate-push 0 (take t entries) (get_or entries t 0))
+    ∙ map-append make (enumerate_from 0 (take t entries)) ((0 + length (take t entries), get_or entries t 0) ∷ [])
+    ∙ ap (λ n. map make (enumerate_from 0 (take t entries)) ++ first_thread budget n (get_or entries t 0) ∷ []) (omega (arith, count))
+
+length-first_threads : (budget : ℕ) (entries : List ℕ) → length (first_threads budget entries) ≡ length entries
+unfolding first_threads
+length-first_threads budget entries = length-map (enumerate_from 0 entries) (λ e. first_thread budget e.0 e.1) ∙ length-enumerate_from 0 entries
+
+ready_from : (w : World) (budget n : ℕ) (entries : List ℕ) → is_live w first_name ≡ true → 1 ≤ budget → budget ≤ MOST_BUDGET → n + length entries < w.size.jobs →
+    All (IsReadyThread w) (map (λ e. first_thread budget e.0 e.1) (enumerate_from n entries))
+ready_from w budget n [] live some few known = All-nil (IsReadyThread w)
+ready_from w budget n (e ∷ entries) live some few known =
+    All-cons (IsReadyThread w) (first_thread budget n e) (map (λ x. first_thread budget x.0 x.1) (enumerate_from (n + 1) entries))
+    (record { live = live; budget = few; runs = record { some_job = omega arith; known_job = omega arith; some_step = some } })
+    (ready_from w budget (n + 1) entries live some few (omega arith))
+
+counted_by : (b : Bool) (tags : ℕ) → tags ≤ 1024 → IsCounted (most_counted 0) (cond b (counted 1 tags) (counted 0 0))
+counted_by true tags few = record { contexts = omega arith; groups = omega arith; tags = omega arith }
+counted_by false tags few = record { contexts = omega arith; groups = omega arith; tags = omega arith }
+
+-- the world of a start is the one in which all pages are stored and all slots filled
+pub all_put : (image : Image) (frames : ℕ) → world_so_far image frames (length image.pages) 64 ≡ start_world image frames
+unfolding world_so_far start_world
+all_put image frames = ap (λ l. world_with frames (length image.pages) (first_context image l 64)) (take-length image.pages)
+
+page_there : (pages : List PageImage) (k : ℕ) → k < length pages → (x : PageImage) × (slice_get pages k ≡ Some x)
+page_there [] k within = absurd (omega arith)
+page_there (x ∷ xs) zero within = (x, refl)
+page_there (x ∷ xs) (suc k) within = page_there xs k (omega arith)
+
+abbrev nobody : fm.FinMap name_cmp Context
+nobody = fm.empty
+
+module _ (facts : WorldFacts) where
+  -- the world of one context is within the limits
+  within_limits : (frames tags : ℕ) (x : Context) (jobs : List ℕ) → IsWithinLimits (world_with frames tags x) jobs
+  unfolding world_with live_of groups_of
+  within_limits frames tags x jobs =
+      let w : World = world_with frames tags x in
+      let one : fm.len w.contexts ≡ 1 =
+      fm.len-insert facts.orders.names nobody first_name x
+      ∙ ap (λ b. cond b (fm.len nobody) (fm.len nobody + 1)) (ap is_some (fm.get-empty name_cmp first_name))
+      ∙ ap (λ n. n + 1) (fm.len-empty name_cmp Context) in
+      let no_group : fm.len w.groups ≡ 0 = fm.len-empty name_cmp Group in
+      let contexts : (job : ℕ) → live_of w job ≤ 1 = λ job. omega (arith, one, length_of_keys w.contexts, count_by-le-length (λ (c : Name). eqb c.job job) (fm.keys w.contexts)) in
+      let groups : (job : ℕ) → groups_of w job ≤ 0 = λ job. omega (arith, no_group, length_of_keys w.groups, count_by-le-length (λ (c : Name). eqb c.job job) (fm.keys w.groups)) in
+      record {
+        contexts = λ c live. only_first c _ refl (sym (ap is_some (get-first facts.orders x c)) ∙ live);
+        groups = λ g there. absurd (false≢true (sym (ap is_some (fm.get-empty name_cmp g)) ∙ there));
+        homes = omega (arith, contexts 0);
+        few_contexts = λ job. omega (arith, contexts job);
+        few_groups = λ job. omega (arith, groups job);
+      }
+    where
+      only_first : (c : Name) (b : Bool) → eq_by_cmp name_cmp c first_name ≡ b → is_some (cond b (Some x) None) ≡ true → Contains (0 ∷ jobs) c.job
+      only_first c true same live =
+          let is : c ≡ first_name = same_name facts c first_name same in (zero, omega arith, sym (ap (λ (n : Name). n.job) is))
+      only_first c false other live = absurd (false≢true live)
+
+  module _ (image : Image) (is : IsImage image) (frames : ℕ) (fits : length image.pages ≤ frames) where
+    sound_pages : (k : ℕ) → k ≤ length image.pages → IsSound (world_so_far image frames k 0)
+    sound_pages zero within =
+        subst IsSound (first_made image frames (fresh_registers (first_entry image)) _ _ refl refl refl)
+        (facts.sound.add (empty_world (world_size frames)) 0 image.uid (fresh_registers (first_entry image)) (facts.sound.empty (world_size frames)))
+    sound_pages (suc k) within =
+        let there = page_there image.pages k (omega arith) in
+        let x = there.0 in
+        let w : World = world_so_far image frames k 0 in
+        let v : World = map_pages w first_name x.number (x.number + 1) in
+        let first = first_world facts.orders image is frames k 0 w refl (omega (arith, is.page_count)) in
+        let number : x.number < 1024 = number_below facts.orders image is k x there.1 in
+        let sound : IsSound v = facts.sound.map w first_name x.number (x.number + 1) (omega (arith, number, ap (λ s. s.pages) first.size)) (sound_pages k (omega arith)) in
+        let live = (mapped_world facts.orders image is k x there.1 frames fits w v refl refl).live in
+        let next : k + 1 ≡ suc k = omega arith in
+        subst (λ (n : ℕ). IsSound (world_so_far image frames n 0)) next
+        (facts.sound.store v (world_so_far image frames (k + 1) 0) first_name 0 (page_piece x.number x.bytes) sound live
+        (page_stored facts.orders image is k x there.1 frames fits w v refl refl))
+
+    sound_slots : (n : ℕ) → IsSound (world_so_far image frames (length image.pages) n)
+    sound_slots zero = sound_pages (length image.pages) (omega arith)
+    sound_slots (suc n) =
+        let w : World = world_so_far image frames (length image.pages) n in
+        let next : n + 1 ≡ suc n = omega arith in
+        subst (λ (m : ℕ). IsSound (world_so_far image frames (length image.pages) m)) next
+        (subst IsSound (slot_put facts.orders image is frames (length image.pages) n (first_slot image.slots n) w _ refl refl refl)
+        (facts.sound.slot w first_name n (first_slot image.slots n) (sound_slots n)))
+
+    sound_start : IsSound (start_world image frames)
+    sound_start = subst IsSound (all_put image frames) (sound_slots 64)
+
+  -- the machine of a start is ready
+  pub ready_start : (inputs : Inputs) → CanOpen inputs → IsReady inputs 0 (start inputs)
+  unfolding start start_world first_threads world_with thread_count
+  ready_start inputs can =
+      let image = inputs.image in
+      let frames = inputs.settings.frames in
+      let entries = image.entries in
+      let count : length (first_threads inputs.settings.budget entries) ≡ length entries = length-first_threads inputs.settings.budget entries in
+      record {
+        size = refl;
+        sound = sound_start image can.image frames can.fits;
+        limits = within_limits frames (length image.pages) (first_context image image.pages 64) (jobs_of (first_threads inputs.settings.budget entries));
+        counted = λ job. counted_by (eqb job 0) (length image.pages) can.image.page_count;
+        threads = ready_from (start_world image frames) inputs.settings.budget 0 entries
+            (first_world facts.orders image can.image frames (length image.pages) 64 _ (sym (all_put image frames)) can.image.page_count).live
+            can.settings.budget.0 can.settings.budget.1 (omega (arith, can.image.thread_count));
+        count = count ∙ sym (ap (threads_for image) can.job);
+        some = omega (arith, count, can.image.some_thread);
+        few = omega (arith, count, can.image.thread_count);
+        text = refl;
+      }

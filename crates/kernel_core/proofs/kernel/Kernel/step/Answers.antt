@@ -1,0 +1,106 @@
+use Rattle.std.proofs.Common.{◌≡◌, ◌-◌, ◌<◌, ◌++◌, ◌∷◌, ◌∙◌, [], ℕ, IfSome, List, Some, ap, arith, max, subst, sym}
+use Rattle.guest_isa.specs.Instructions.{IsText}
+use Rattle.guest_isa.specs.declared.instr.Instr.{Instr}
+use Rattle.guest_machine.specs.Advances.{advanced}
+use Rattle.kernel_core.proofs.Steps.{acts, as_seen, has_steps, is_ready, longer, made_here, one_longer, rested_here, steady_as, used_kept, within}
+use Rattle.kernel_core.specs.Kernel.{History, machine_of, turn}
+use Rattle.kernel_core.specs.Machine.{Environment, Machine, work}
+use Rattle.kernel_core.specs.Steady.{IsSteady, history}
+use Rattle.kernel_core.specs.declared.settings.Settings.{Settings}
+use Rattle.guest_image.specs.declared.image.Image.{Image}
+use Rattle.lwc_base.specs.Frames.{used}
+use Rattle.kernel_core.proofs.kernel.Kernel.step.Goals as goal
+
+pub index-requires : goal.index-requires
+index-requires g c =
+    let few = within c.runs_stay_ready.ensures _ _ _ (as_seen _ _ _ _ c.self.view_is c.self.invariant.1) c.args.t c.requires.within in omega arith
+
+pub step_thread-requires-clause-ready : goal.step_thread-requires-clause-ready
+step_thread-requires-clause-ready g c κs within =
+    acts c.runs_stay_ready.ensures _ _ _ (as_seen _ _ _ _ c.self.view_is c.self.invariant.1) c.args.t _ c.requires.within c.index.ensures
+
+pub step_thread-requires-clause-steps : goal.step_thread-requires-clause-steps
+step_thread-requires-clause-steps g c κs within =
+    has_steps c.runs_stay_ready.ensures _ _ _ (as_seen _ _ _ _ c.self.view_is c.self.invariant.1) c.args.t _ c.requires.within c.index.ensures
+
+pub step_thread-requires-clause-proposal : goal.step_thread-requires-clause-proposal
+step_thread-requires-clause-proposal g c κs within =
+    let ready = is_ready c.runs_stay_ready.ensures _ _ _ (as_seen _ _ _ _ c.self.view_is c.self.invariant.1) in
+    subst (λ (text : List Instr). IfSome c.args.proposal (λ a. a.now ≡ advanced text a.now.before)) (sym ready.text) c.requires.proposal
+
+pub step_thread-requires-clause-text : goal.step_thread-requires-clause-text
+step_thread-requires-clause-text g c κs within =
+    let steady = as_seen _ _ _ _ c.self.view_is c.self.invariant.1 in
+    subst IsText (sym (is_ready c.runs_stay_ready.ensures _ _ _ steady).text) steady.inputs.image.text
+
+pub returns-in_default-clause-step : goal.returns-in_default-clause-step
+returns-in_default-clause-step g c =
+    let rest = rested_here c.runs_stay_ready.ensures _ _ _ (as_seen _ _ _ _ c.self.view_is c.self.invariant.1) c.args.t _ _ _ _ c.requires.within c.index.ensures
+    (c.in_ok-change.ensures.outcome c.args.t (record { world = g.W.World.seen c.self.inside.world; files = c.self.inside.image.value.files; console = c.self.inside.console.items })) c.in_default.is c.in_ok-change.ensures.ended in
+    c.self.view_is ∙ sym rest.kept
+
+pub returns-in_default-clause-turn : goal.returns-in_default-clause-turn
+returns-in_default-clause-turn g c =
+    let rest = rested_here c.runs_stay_ready.ensures _ _ _ (as_seen _ _ _ _ c.self.view_is c.self.invariant.1) c.args.t _ _ _ _ c.requires.within c.index.ensures
+    (c.in_ok-change.ensures.outcome c.args.t (record { world = g.W.World.seen c.self.inside.world; files = c.self.inside.image.value.files; console = c.self.inside.console.items })) c.in_default.is c.in_ok-change.ensures.ended in
+    ap (λ (h : History). turn h c.args.t) c.self.view_is ∙ rest.turn ∙ ap Some (sym c.turn.ensures)
+
+pub returns-in_default-clause-room : goal.returns-in_default-clause-room
+returns-in_default-clause-room g c going =
+    let rest = rested_here c.runs_stay_ready.ensures _ _ _ (as_seen _ _ _ _ c.self.view_is c.self.invariant.1) c.args.t _ _ _ _ c.requires.within c.index.ensures
+    (c.in_ok-change.ensures.outcome c.args.t (record { world = g.W.World.seen c.self.inside.world; files = c.self.inside.image.value.files; console = c.self.inside.console.items })) c.in_default.is c.in_ok-change.ensures.ended in
+    cc (rest.ended, going)
+
+pub returns-in_default-clause-work : goal.returns-in_default-clause-work
+returns-in_default-clause-work g c going =
+    let rest = rested_here c.runs_stay_ready.ensures _ _ _ (as_seen _ _ _ _ c.self.view_is c.self.invariant.1) c.args.t _ _ _ _ c.requires.within c.index.ensures
+    (c.in_ok-change.ensures.outcome c.args.t (record { world = g.W.World.seen c.self.inside.world; files = c.self.inside.image.value.files; console = c.self.inside.console.items })) c.in_default.is c.in_ok-change.ensures.ended in
+    absurd (cc (rest.ended, going))
+
+pub index_mut-requires : goal.index_mut-requires
+index_mut-requires g c =
+    let few = within c.runs_stay_ready.ensures _ _ _ (as_seen _ _ _ _ c.self.view_is c.self.invariant.1) c.args.t c.requires.within in omega arith
+
+pub peak_after-self-inside-requires-after_bounds : goal.peak_after-self-inside-requires-after_bounds
+peak_after-self-inside-requires-after_bounds g c κs within thread =
+    used_kept c.runs_stay_ready.ensures _ _ _ (as_seen _ _ _ _ c.self.view_is c.self.invariant.1) _ _ _ c.in_ok-change.ensures.kept c.in-Some.is thread
+
+pub append-requires : goal.append-requires
+append-requires g c =
+    let made = made_here c.runs_stay_ready.ensures _ _ _ (as_seen _ _ _ _ c.self.view_is c.self.invariant.1) c.args.t _ _ _ _ c.requires.within c.index.ensures
+    (c.in_ok-change.ensures.outcome c.args.t (record { world = g.W.World.seen c.self.inside.world; files = c.self.inside.image.value.files; console = c.self.inside.console.items })) c.in-Some.change c.in-Some.is in
+    omega (arith, c.requires.room made.going, ap (λ (h : History). h.room) c.self.view_is, c.self.invariant.0)
+
+pub overflow_sub-self : goal.overflow_sub-self
+overflow_sub-self g c =
+    let made = made_here c.runs_stay_ready.ensures _ _ _ (as_seen _ _ _ _ c.self.view_is c.self.invariant.1) c.args.t _ _ _ _ c.requires.within c.index.ensures
+    (c.in_ok-change.ensures.outcome c.args.t (record { world = g.W.World.seen c.self.inside.world; files = c.self.inside.image.value.files; console = c.self.inside.console.items })) c.in-Some.change c.in-Some.is in
+    omega (arith, c.requires.room made.going, ap (λ (h : History). h.room) c.self.view_is)
+
+pub invariant_of-self-2 : goal.invariant_of-self-2
+invariant_of-self-2 g c =
+    let made = made_here c.runs_stay_ready.ensures _ _ _ (as_seen _ _ _ _ c.self.view_is c.self.invariant.1) c.args.t _ _ _ _ c.requires.within c.index.ensures
+    (c.in_ok-change.ensures.outcome c.args.t (record { world = g.W.World.seen c.self.inside.world; files = c.self.inside.image.value.files; console = c.self.inside.console.items })) c.in-Some.change c.in-Some.is in
+    let some = c.requires.room made.going in
+    let is = one_longer _ _ _ _ _ _ _ _ c.self.view_is c.append.ensures.steps in (
+      omega (arith, some, ap (λ (h : History). h.room) c.self.view_is, c.self.invariant.0, c.append.ensures.length, c.append.ensures.capacity),
+      steady_as _ _ _ _ _ c.peak_after-self-inside.ensures is (made.steady some),
+    )
+
+pub returns-clause-step : goal.returns-clause-step
+returns-clause-step g c =
+    let made = made_here c.runs_stay_ready.ensures _ _ _ (as_seen _ _ _ _ c.self.view_is c.self.invariant.1) c.args.t _ _ _ _ c.requires.within c.index.ensures
+    (c.in_ok-change.ensures.outcome c.args.t (record { world = g.W.World.seen c.self.inside.world; files = c.self.inside.image.value.files; console = c.self.inside.console.items })) c.in-Some.change c.in-Some.is in
+    one_longer _ _ _ _ _ _ _ _ c.self.view_is c.append.ensures.steps ∙ sym made.kept
+
+pub returns-clause-turn : goal.returns-clause-turn
+returns-clause-turn g c =
+    let made = made_here c.runs_stay_ready.ensures _ _ _ (as_seen _ _ _ _ c.self.view_is c.self.invariant.1) c.args.t _ _ _ _ c.requires.within c.index.ensures
+    (c.in_ok-change.ensures.outcome c.args.t (record { world = g.W.World.seen c.self.inside.world; files = c.self.inside.image.value.files; console = c.self.inside.console.items })) c.in-Some.change c.in-Some.is in
+    ap (λ (h : History). turn h c.args.t) (one_longer _ _ _ _ _ _ _ _ c.self.view_is c.append.ensures.steps) ∙ made.turn ∙ ap Some (sym c.turn-2.ensures)
+
+pub returns-clause-work : goal.returns-clause-work
+returns-clause-work g c going =
+    let made = made_here c.runs_stay_ready.ensures _ _ _ (as_seen _ _ _ _ c.self.view_is c.self.invariant.1) c.args.t _ _ _ _ c.requires.within c.index.ensures
+    (c.in_ok-change.ensures.outcome c.args.t (record { world = g.W.World.seen c.self.inside.world; files = c.self.inside.image.value.files; console = c.self.inside.console.items })) c.in-Some.change c.in-Some.is in
+    subst (λ (h : History). work (machine_of h) < work (machine_of c.args.self.now)) (sym (one_longer _ _ _ _ _ _ _ _ c.self.view_is c.append.ensures.steps)) made.less
