@@ -1,7 +1,7 @@
 -- The world of a start as it is built: one page more, one slot more, and what all of them make.
-use Rattle.std.proofs.Common.{◌≡◌, ℕ, zero, suc, ◌+◌, ◌*◌, ◌^◌, ◌≤◌, ◌<◌, refl, sym, ap, subst, ◌∙◌, Bool, true, false, cond, eqb, leb, ltb, ◌&&◌, IsTrue, Option, Some, None, List, [], ◌∷◌, ◌++◌, length, take, arith}
+use Rattle.std.proofs.Common.{◌≡◌, ℕ, zero, suc, ◌+◌, ◌*◌, ◌≤◌, ◌<◌, refl, sym, ap, subst, ◌∙◌, Bool, true, false, cond, eqb, leb, ltb, ◌&&◌, IsTrue, Option, Some, None, List, [], ◌∷◌, ◌++◌, length, take, arith}
 use Rattle.std.specs.FinMap as fm
-use Rattle.std.specs.Prelude.{All, is_some, slice_get}
+use Rattle.std.specs.Prelude.{is_some, slice_get}
 use Rattle.std.specs.List.{enumerate_from, find}
 use Rattle.std.specs.Option.{option_map, option_or}
 use Rattle.std.proofs.lemmas.Bool.Decides.{nat_tests}
@@ -9,24 +9,22 @@ use Rattle.std.proofs.lemmas.List.{take_more, length-map, length-take-le}
 use Rattle.std.proofs.lemmas.List.Elements.{All-get_or}
 use Rattle.std.proofs.lemmas.List.Folds.{find-append}
 use Rattle.std.proofs.lemmas.Option.{slice_get_within, get_or_from_slice_get}
-use Rattle.std.proofs.Math.Seq.{take-length}
 use Rattle.guest_image.specs.Limits.{IsImage, page_numbers}
 use Rattle.guest_image.specs.Numbers.{is_above, rising_after}
 use Rattle.guest_image.specs.declared.image.Image.{Image}
 use Rattle.guest_image.specs.declared.image.PageImage.{PageImage}
 use Rattle.kernel_core.proofs.FirstWorld.{context-first, first_added, live-first, map-first, page_piece, put_at-first, store-first, used-first}
 use Rattle.kernel_core.proofs.Ranges.{has, is_some-found, num, one_tag, ranges-own, ranges-take, tags-within}
-use Rattle.kernel_core.specs.Start.{first_context, first_entry, first_name, first_page, first_slot, first_value, image_tag, start_world, world_size, world_so_far, world_with}
+use Rattle.kernel_core.specs.Start.{first_context, first_entry, first_name, first_page, first_slot, first_value, image_tag, world_size, world_so_far, world_with}
 use Rattle.lwc_base.specs.Cells.{put_slot, with_cell}
 use Rattle.lwc_base.specs.Facts.{OrderFacts}
-use Rattle.lwc_base.specs.Frames.{own_value, tag_of, tags_of_context, used}
-use Rattle.lwc_base.specs.Keys.{ValueOf}
+use Rattle.lwc_base.specs.Frames.{own_value, tag_of, used}
 use Rattle.lwc_base.specs.Mapping.{map_pages, with_zeros}
+use Rattle.lwc_base.specs.Names.{name_cmp}
 use Rattle.lwc_base.specs.Ranges.{ranges, ranges_of}
 use Rattle.lwc_base.specs.Registers.{fresh_registers}
 use Rattle.lwc_base.specs.Store.{Absent, Done, Full, store}
 use Rattle.lwc_base.specs.World.{World, Context, add_context, empty_world, is_live, new_context, new_value}
-use Rattle.lwc_base.specs.declared.cell.Cell.{Cell}
 use Rattle.lwc_base.specs.declared.cell.Cell.TheVariants.{Own}
 use Rattle.lwc_base.specs.declared.descriptor.Descriptor.{Descriptor}
 use Rattle.lwc_base.specs.declared.descriptor.Descriptor.TheVariants.{Empty}
@@ -35,7 +33,17 @@ use Rattle.lwc_base.specs.declared.key.Key.TheVariants.{Page, Slot, Cred}
 use Rattle.lwc_base.specs.declared.page.PageValue.{PageValue}
 use Rattle.lwc_base.specs.declared.page.PageValue.TheVariants.{Zero, Data}
 use Rattle.lwc_base.specs.declared.regs.Regs.{Regs}
-use Rattle.world_face.specs.Calls.{MayName}
+use Rattle.world_face.specs.Calls.{HasPlace, MayName}
+
+-- an empty world has a place for the first context, which job 0 may name
+pub has_first_place : (frames : ℕ) (w : World) → w ≡ empty_world (world_size frames) → HasPlace w
+unfolding empty_world
+has_first_place frames w opened = let none = fm.len-empty name_cmp Context in subst HasPlace (sym opened) (omega (arith, none))
+
+pub may_name_first : (frames : ℕ) (w : World) → w ≡ empty_world (world_size frames) → MayName w 0
+unfolding empty_world
+may_name_first frames w opened =
+    subst (λ (v : World). MayName v 0) (sym opened) (record { known = omega arith; contexts = omega arith; groups = omega arith; tags = omega arith })
 
 none_below : {A : Type 0} (n : ℕ) (x y : A) → y ≡ cond (ltb n 0) x y
 none_below n x y = let no_less : ltb n 0 ≡ false = grind (arith, nat_tests) in sym (ap (λ b. cond b x y) no_less)
@@ -116,6 +124,19 @@ new_number before a (y ∷ ys) (suc k) x rise found =
     let up = later_above y.number ys k x rest found in
     let apart : eqb y.number x.number ≡ false = grind (arith, nat_tests) in
     ap (λ b. cond b (Some (a, y)) (find (λ (e : ℕ × PageImage). eqb e.1.number x.number) (enumerate_from (a + 1) (take k ys)))) apart ∙ new_number (Some y.number) (a + 1) ys k x rest found
+
+pub frames_here : (image : Image) (frames pages slots : ℕ) (w : World) → w ≡ world_so_far image frames pages slots → w.size.frames ≡ frames
+unfolding world_so_far world_with
+frames_here image frames pages slots w before = ap (λ (v : World). v.size.frames) before
+
+-- the frames are those of the world itself
+pub as_here : (image : Image) (frames pages slots : ℕ) (w : World) → w ≡ world_so_far image frames pages slots → w ≡ world_so_far image w.size.frames pages slots
+as_here image frames pages slots w before = before ∙ ap (λ n. world_so_far image n pages slots) (sym (frames_here image frames pages slots w before))
+
+-- and those of the world that it was made from
+pub from_here : (image : Image) (frames pages slots p n : ℕ) (w v : World) → w ≡ world_so_far image frames pages slots → v ≡ world_so_far image w.size.frames p n →
+    v ≡ world_so_far image frames p n
+from_here image frames pages slots p n w v before after = after ∙ ap (λ m. world_so_far image m p n) (frames_here image frames pages slots w before)
 
 -- a world of the first context: it is live, and job 0 may name more
 pub record IsFirstWorld (frames : ℕ) (w : World) : Type 0 where
@@ -295,3 +316,17 @@ module _ (orders : OrderFacts) (image : Image) (is : IsImage image) where
           ap (λ u. store u first_name 0 (page_piece x.number x.bytes)) is_mapped
           ∙ store-first orders frames k x.number mapped x.bytes whole zeros (frame_left frames fits)
           ∙ ap (λ y. Done (world_with frames (k + 1) y)) context_with_page
+
+      -- the store as the code makes it is done
+      module _ (at : ℕ) (stored_bytes : List ℕ) (at_is : at ≡ x.number * 4096) (bytes_are : stored_bytes ≡ x.bytes) where
+        pub code_stored : store v first_name 0 (record { at = at; bytes = stored_bytes }) ≡ Done (world_so_far image frames (k + 1) 0)
+        code_stored = (λ i. store v first_name 0 (record { at = at_is i; bytes = bytes_are i })) ∙ page_stored
+
+        pub page_put : (u : World) → store v first_name 0 (record { at = at; bytes = stored_bytes }) ≡ Done u → u ≡ world_so_far image frames (k + 1) 0
+        page_put u done = let made = code_stored in cc
+
+        pub not_absent : store v first_name 0 (record { at = at; bytes = stored_bytes }) ≡ Absent → ⊥
+        not_absent absent = let made = code_stored in cc
+
+        pub not_full : store v first_name 0 (record { at = at; bytes = stored_bytes }) ≡ Full → ⊥
+        not_full full = let made = code_stored in cc

@@ -1,18 +1,17 @@
 -- The world of one context: what changes of it make, and a whole page that is stored in it.
-use Rattle.std.proofs.Common.{◌≡◌, ℕ, zero, suc, ◌+◌, ◌-◌, ◌*◌, ◌/◌, ◌≤◌, ◌<◌, refl, sym, ap, subst, ◌∙◌, Bool, true, false, cond, eqb, leb, ltb, ◌&&◌, Some, None, List, [], ◌∷◌, ◌++◌, length, get_or, arith, length-append}
+use Rattle.std.proofs.Common.{◌≡◌, ℕ, suc, ◌+◌, ◌-◌, ◌*◌, ◌/◌, ◌≤◌, ◌<◌, refl, sym, ap, subst, ◌∙◌, Bool, true, false, cond, eqb, leb, ltb, ◌&&◌, Some, None, List, [], ◌∷◌, ◌++◌, length, get_or, arith, length-append}
 use Rattle.std.specs.FinMap as fm
 use Rattle.std.specs.FinSet as set
 use Rattle.std.specs.List.{flat_map, list_all, range_with_len}
-use Rattle.std.specs.Ordering.{eq_by_cmp, is_eq}
+use Rattle.std.specs.Ordering.{eq_by_cmp}
 use Rattle.std.specs.Prelude.{count_by, is_some, not, slice_index, unwrap_or}
 use Rattle.std.proofs.lemmas.Bool.Decides.{nat_tests}
-use Rattle.std.proofs.lemmas.Cmp.{tied_itself}
 use Rattle.std.proofs.lemmas.List.{length-replicate}
 use Rattle.std.proofs.lemmas.List.FromFn.{fill_by_all}
 use Rattle.kernel_core.specs.Start.{counted, first_name, world_size, world_with}
 use Rattle.lwc_base.specs.Cells.{page_at, put_at, put_in, value_at, value_of, with_cell}
 use Rattle.lwc_base.specs.Facts.{OrderFacts}
-use Rattle.lwc_base.specs.Frames.{is_parting, own_value, tag_of, tags, tags_of_context, tags_of_group, used}
+use Rattle.lwc_base.specs.Frames.{is_parting, tags, tags_of_context, tags_of_group, used}
 use Rattle.lwc_base.specs.Keys.{ValueOf, is_there}
 use Rattle.lwc_base.specs.Mapping.{map_pages, with_zeros}
 use Rattle.lwc_base.specs.Memory.{is_present, touched}

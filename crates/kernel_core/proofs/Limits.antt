@@ -1,17 +1,16 @@
 -- Where there is a place for one more context or group, and what keeps a world within its limits.
-use Rattle.std.proofs.Common.{◌≡◌, ℕ, zero, suc, ◌+◌, ◌*◌, ◌≤◌, ◌<◌, refl, sym, ap, subst, ◌∙◌, Bool, true, false, cond, eqb, ◌||◌, List, [], ◌∷◌, length, map, get_or, arith}
+use Rattle.std.proofs.Common.{◌≡◌, ℕ, zero, suc, ◌+◌, ◌*◌, ◌≤◌, ◌<◌, refl, sym, ap, ◌∙◌, Bool, true, false, cond, eqb, ◌||◌, List, [], ◌∷◌, length, get_or, arith}
 use Rattle.std.specs.FinMap as fm
 use Rattle.std.specs.List.{Contains, list_any, sum_by}
 use Rattle.std.specs.Ordering.{eq_by_cmp}
-use Rattle.std.specs.Prelude.{All, count_by}
+use Rattle.std.specs.Prelude.{count_by}
 use Rattle.std.proofs.lemmas.Bool.Decides.{nat_tests}
 use Rattle.std.proofs.lemmas.List.{length-map}
 use Rattle.std.proofs.lemmas.List.Sums.{sum_by-cons}
-use Rattle.kernel_core.specs.Machine.{Machine}
 use Rattle.kernel_core.specs.Ready.{IsWithinLimits}
 use Rattle.kernel_core.specs.Start.{world_size}
 use Rattle.lwc_base.specs.Names.{name_cmp}
-use Rattle.lwc_base.specs.World.{World, groups_of, is_live, live_of}
+use Rattle.lwc_base.specs.World.{World, groups_of, live_of}
 use Rattle.lwc_base.specs.declared.name.Name.{Name}
 use Rattle.lwc_create.specs.Create.{HasPlaces}
 
@@ -76,10 +75,22 @@ unfolding live_of groups_of
 has_places itself frames job w jobs size limits few there = record {
   context = λ fewer.
       let names = few_names itself (fm.keys w.contexts) (0 ∷ jobs) (λ q live. limits.contexts q (fm.contains_key-keys w.contexts q ∙ live)) in
-      omega (arith, length_of_keys w.contexts, names, sum_by-cons (borne (fm.keys w.contexts)) 0 jobs, limits.homes,
-          few_in_all (borne (fm.keys w.contexts)) 32 jobs limits.few_contexts, ap (λ s. s.contexts) size);
+      omega (
+        arith,
+        length_of_keys w.contexts,
+        names,
+        sum_by-cons (borne (fm.keys w.contexts)) 0 jobs,
+        limits.homes,
+        few_in_all (borne (fm.keys w.contexts)) 32 jobs limits.few_contexts,
+        ap (λ s. s.contexts) size,
+      );
   group = λ fewer.
       let names = few_names itself (fm.keys w.groups) jobs (λ q live. limits.groups q (fm.contains_key-keys w.groups q ∙ live)) in
-      omega (arith, length_of_keys w.groups, names,
-          fewer_in_all (borne (fm.keys w.groups)) 64 job jobs there.0 there.1 there.2 limits.few_groups fewer, ap (λ s. s.groups) size);
+      omega (
+        arith,
+        length_of_keys w.groups,
+        names,
+        fewer_in_all (borne (fm.keys w.groups)) 64 job jobs there.0 there.1 there.2 limits.few_groups fewer,
+        ap (λ s. s.groups) size,
+      );
 }

@@ -1,5 +1,5 @@
 -- What the outcome of a step leaves of its thread and of the world.
-use Rattle.std.proofs.Common.{◌≡◌, ℕ, ◌+◌, ◌-◌, ◌*◌, ◌≤◌, ◌<◌, refl, sym, ap, subst, ◌∙◌, Bool, true, false, cond, eqb, leb, ltb, ◌&&◌, Option, Some, None, List, [], ◌∷◌, length, arith}
+use Rattle.std.proofs.Common.{◌≡◌, ℕ, ◌+◌, ◌-◌, ◌*◌, ◌≤◌, ◌<◌, refl, sym, ap, subst, ◌∙◌, Bool, true, false, cond, eqb, leb, ◌&&◌, Option, Some, None, List, [], ◌∷◌, length, arith}
 use Rattle.std.specs.Int.{w64, to_le_bytes}
 use Rattle.std.specs.List.{Contains}
 use Rattle.std.specs.Prelude.{All}
@@ -15,7 +15,7 @@ use Rattle.guest_machine.specs.declared.progress.Next.TheVariants.{Shared, Pause
 use Rattle.kernel_core.proofs.Worlds.{Grows, WorldFacts, grows_created, grows_not, grows_store, sound_created}
 use Rattle.kernel_core.specs.Machine.{Environment, steps_left}
 use Rattle.kernel_core.specs.Ready.{IsReadyThread, IsRunnable, IsWithinLimits, WhileRunning}
-use Rattle.kernel_core.specs.Step.{Outcome, advance_outcome, call_outcome, create_outcome, faulted, guest_calls, is_aligned, loaded, next_instruction, next_outcome, refused, shared_outcome, status_with, store_outcome, stored_outcome, thread_outcome, unchanged, with_regs, with_result, with_status, word_outcome}
+use Rattle.kernel_core.specs.Step.{Outcome, advance_outcome, call_outcome, create_outcome, faulted, guest_calls, is_aligned, loaded, next_outcome, refused, shared_outcome, status_with, store_outcome, stored_outcome, thread_outcome, unchanged, with_regs, with_result, with_status, word_outcome}
 use Rattle.kernel_core.specs.declared.calling.TheConstants.{LW_CREATE}
 use Rattle.kernel_core.specs.declared.thread.Thread.{Thread}
 use Rattle.lwc_base.specs.Refusals.{first_refusal}

@@ -4,7 +4,7 @@ use Rattle.std.specs.Prelude.{max, slice_get}
 use Rattle.std.specs.Option.{option_map_or}
 use Rattle.kernel_core.specs.Machine.{Machine, has_ended, is_ended}
 use Rattle.kernel_core.specs.Runs.{frames_of, kept, peak, run}
-use Rattle.kernel_core.specs.Step.{Calls, after_outcome, after_thread, guest_calls, step, step_by, thread_outcome}
+use Rattle.kernel_core.specs.Step.{after_outcome, after_thread, guest_calls, step, step_by, thread_outcome}
 use Rattle.kernel_core.specs.declared.thread.Thread.{Thread}
 use Rattle.lwc_base.specs.declared.fault.ThreadStatus.{ThreadStatus}
 use Rattle.lwc_base.specs.declared.fault.ThreadStatus.TheVariants.{Idle, Running, Done, Faulted}

@@ -3,7 +3,7 @@ use Rattle.std.proofs.Common.{◌≡◌, ℕ, zero, suc, ◌+◌, ◌≤◌, ◌
 use Rattle.std.specs.FinMap as fm
 use Rattle.std.specs.List.{Contains, enumerate_from}
 use Rattle.std.specs.Ordering.{eq_by_cmp}
-use Rattle.std.specs.Prelude.{All, count_by, is_some, slice_get}
+use Rattle.std.specs.Prelude.{All, is_some, slice_get}
 use Rattle.std.proofs.lemmas.Bool.{false≢true}
 use Rattle.std.proofs.lemmas.List.{length-map, length-take-le, map-append, take_more}
 use Rattle.std.proofs.lemmas.List.Elements.{All-cons, All-nil}
@@ -20,14 +20,11 @@ use Rattle.kernel_core.proofs.Worlds.{WorldFacts, same_name}
 use Rattle.kernel_core.specs.Kernel.{CanOpen}
 use Rattle.kernel_core.specs.Ready.{IsCounted, IsReady, IsReadyThread, IsWithinLimits, jobs_of, most_counted}
 use Rattle.kernel_core.specs.Start.{Inputs, counted, first_context, first_entry, first_name, first_slot, first_thread, first_threads, start, start_world, thread_count, threads_for, world_size, world_so_far, world_with}
-use Rattle.kernel_core.specs.declared.thread.Thread.{Thread}
-use Rattle.lwc_base.specs.Cells.{put_slot}
-use Rattle.lwc_base.specs.Holders.{IsGroup}
 use Rattle.lwc_base.specs.Mapping.{map_pages}
 use Rattle.lwc_base.specs.Names.{name_cmp}
 use Rattle.lwc_base.specs.Registers.{fresh_registers}
 use Rattle.lwc_base.specs.Sound.{IsSound}
-use Rattle.lwc_base.specs.World.{World, Context, Group, add_context, empty_world, groups_of, is_live, live_of, new_context}
+use Rattle.lwc_base.specs.World.{World, Context, Group, empty_world, groups_of, is_live, live_of}
 use Rattle.lwc_base.specs.declared.limits.TheConstants.{MOST_BUDGET}
 use Rattle.lwc_base.specs.declared.name.Name.{Name}
 

@@ -1,5 +1,5 @@
 -- A kernel stays steady over a step, and what the step makes of its history.
-use Rattle.std.proofs.Common.{◌≡◌, ℕ, ◌+◌, ◌-◌, ◌*◌, ◌^◌, ◌≤◌, ◌<◌, refl, sym, ap, subst, ◌∙◌, Bool, true, false, cond, Option, Some, None, List, [], ◌∷◌, ◌++◌, length, arith, length-append, get_or}
+use Rattle.std.proofs.Common.{◌≡◌, ℕ, ◌+◌, ◌-◌, ◌^◌, ◌≤◌, ◌<◌, refl, sym, ap, subst, ◌∙◌, Bool, true, false, cond, Option, Some, None, List, [], ◌∷◌, ◌++◌, length, arith, length-append, get_or}
 use Rattle.std.specs.Prelude.{IfNone, max, slice_get, slice_set}
 use Rattle.std.specs.List.{sum_by}
 use Rattle.std.specs.Option.{option_map, option_map_or}
@@ -14,18 +14,17 @@ use Rattle.guest_isa.specs.declared.instr.Instr.{Instr}
 use Rattle.kernel_core.proofs.ReadyRuns.{ready_thread, while_running}
 use Rattle.kernel_core.proofs.Runs.{run-push, peak-push, used_last}
 use Rattle.kernel_core.specs.Changes.{LeavesWorld, made}
-use Rattle.kernel_core.specs.Kernel.{History, machine_of, stepped, turn, view_of}
+use Rattle.kernel_core.specs.Kernel.{CanOpen, History, machine_of, stepped, turn, view_of}
 use Rattle.kernel_core.specs.Machine.{Environment, Machine, has_ended, is_ended, steps_left, work}
 use Rattle.kernel_core.specs.Ready.{CanAct, IsReady, IsReadyThread, IsRunnable, RunFacts, WhileRunning}
 use Rattle.kernel_core.specs.Runs.{frames_of, peak}
-use Rattle.kernel_core.specs.Start.{start, thread_count}
-use Rattle.kernel_core.specs.Steady.{IsSteady, history}
+use Rattle.kernel_core.specs.Start.{Inputs, first_threads, start, start_world, thread_count}
+use Rattle.kernel_core.specs.Steady.{IsSteady, history, machine}
 use Rattle.kernel_core.specs.Step.{Outcome, after_outcome, after_thread, guest_calls, step, step_by, thread_outcome, unchanged, with_world}
 use Rattle.kernel_core.specs.declared.acting.Change.{Change}
 use Rattle.kernel_core.specs.declared.acting.Change.TheVariants as changes
 use Rattle.kernel_core.specs.declared.settings.Settings.{Settings}
 use Rattle.kernel_core.specs.declared.thread.Thread.{Thread}
-use Rattle.kernel_core.specs.declared.thread.ThreadView.{ThreadView}
 use Rattle.kernel_core.specs.declared.thread.Turn.{Turn}
 use Rattle.lwc_base.specs.Frames.{used}
 use Rattle.lwc_base.specs.World.{World}
@@ -88,6 +87,16 @@ as_seen m most h value is steady = subst (IsSteady m most) is steady
 pub steady_as : (m : Machine) (most now : ℕ) (h after : History) → now ≡ most → after ≡ h → IsSteady m most h → IsSteady m now after
 steady_as m most now h after peak_is is steady =
     subst (λ (n : ℕ). IsSteady m n after) (sym peak_is) (subst (IsSteady m most) (sym is) steady)
+
+-- a kernel whose parts are those of a start
+pub steady_start : (inputs : Inputs) (steps : List ℕ) (room : ℕ) (threads : List Thread) (w : World) (text : List Instr) (console : List ℕ) (most : ℕ) → CanOpen inputs →
+    room ≤ MOST_STEPS → steps ≡ [] → threads ≡ first_threads inputs.settings.budget inputs.image.entries → w ≡ start_world inputs.image inputs.settings.frames →
+    text ≡ inputs.image.text → console ≡ [] → most ≡ used w → IsSteady (machine inputs.image w threads text console) most (record { inputs = inputs; steps = steps; room = room })
+unfolding machine_of start
+steady_start inputs steps room threads w text console most can short none threads_are world_is text_is empty used_is =
+    let begun : machine inputs.image w threads text console ≡ start inputs = λ i. machine inputs.image (world_is i) (threads_are i) (text_is i) (empty i) in
+    subst (λ (l : List ℕ). IsSteady (machine inputs.image w threads text console) most (record { inputs = inputs; steps = l; room = room })) (sym none)
+    (record { inputs = can; machine = begun; peak = used_is ∙ ap used world_is; room = omega (arith, short) })
 
 -- the history of a kernel's parts after one more step
 pub one_longer : (image : Image) (requests : List (List ℕ)) (settings : Settings) (steps after : List ℕ) (room t : ℕ) (value : History) →

@@ -11,7 +11,7 @@ use Rattle.std.proofs.lemmas.List.Sums.{count_by-le-length}
 use Rattle.std.proofs.lemmas.List.FromFn.{length-range_with_len}
 use Rattle.kernel_core.specs.Ready.{IsWithinLimits}
 use Rattle.lwc_base.specs.Cells.{put_slot}
-use Rattle.lwc_base.specs.Facts.{AddsContext, ChangeFacts, CountFacts, KeepsNames, OrderFacts, SharesValues, TakesTags, with_context, with_group, with_tags}
+use Rattle.lwc_base.specs.Facts.{AddsContext, ChangeFacts, CountFacts, KeepsNames, OrderFacts, SharesValues, TakesTags}
 use Rattle.lwc_base.specs.Frames.{is_parting}
 use Rattle.lwc_base.specs.Fresh.{IsFresh}
 use Rattle.lwc_base.specs.Holders.{IsGroup}
@@ -243,7 +243,7 @@ module _ (facts : WorldFacts) where
           (live_as_before w (share w c job items) shares.live 0)
           (λ j. omega (arith, live_as_before w (share w c job items) shares.live j, limits.few_contexts j))
           (λ j. one_more_of j job (groups_of w j) (groups_of (share w c job items) j) 64 (needs_group w c items) (facts.counts.shared w _ c job j items sound.fresh shares).0
-              (λ new same. omega (arith, ap (groups_of w) same, room new)) (limits.few_groups j))
+          (λ new same. omega (arith, ap (groups_of w) same, room new)) (limits.few_groups j))
           limits;
     }
 

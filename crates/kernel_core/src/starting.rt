@@ -7,6 +7,7 @@ ghost use Rattle.lwc_base.specs.declared.limits.TheConstants.{MOST_FRAMES, MOST_
 
 use crate::thread::Thread;
 use guest_image::{Image, SlotImage};
+use lwc_base::laws::names_are_ordered;
 use lwc_base::{
     Descriptor, MOST_CONTEXTS, MOST_GROUPS, MOST_JOBS, MOST_PAGES, Name, OutOfMemory, PAGE_BYTES,
     Range, Regs, SLOTS, StoreFault, ThreadStatus,
@@ -102,6 +103,7 @@ fn put_page<W: World>(world: &mut W, image: &Image, k: usize) -> Result<(), OutO
     ensures { OnOk result (W.seen world.new
         ≡ spec.world_so_far image.now (W.seen world.old).size.frames (k + 1) 0) }
 {
+    names_are_ordered();
     let page = image.pages.get(k);
     world.map(
         FIRST,
@@ -131,6 +133,7 @@ fn out_of_memory(fault: StoreFault) -> OutOfMemory
 
 /// Fills all slots.
 fn put_slots<W: World>(world: &mut W, image: &Image)
+    requires image { IsImage image.now }
     requires before { W.seen world.old
         ≡ spec.world_so_far image.now (W.seen world.old).size.frames (length image.now.pages) 0 }
     ensures { W.seen world.new
@@ -143,12 +146,14 @@ fn put_slots<W: World>(world: &mut W, image: &Image)
 
 /// Fills slot n.
 fn put_slot<W: World>(world: &mut W, image: &Image, n: u8)
+    requires image { IsImage image.now }
     requires within { n < SLOTS }
     requires before { W.seen world.old
         ≡ spec.world_so_far image.now (W.seen world.old).size.frames (length image.now.pages) n }
     ensures { W.seen world.new
         ≡ spec.world_so_far image.now (W.seen world.old).size.frames (length image.now.pages) (n + 1) }
 {
+    names_are_ordered();
     world.set_slot(FIRST, n, first_slot(image.slots.as_slice(), n));
 }
 

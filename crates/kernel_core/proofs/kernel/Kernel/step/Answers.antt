@@ -1,14 +1,10 @@
-use Rattle.std.proofs.Common.{◌≡◌, ◌-◌, ◌<◌, ◌++◌, ◌∷◌, ◌∙◌, [], ℕ, IfSome, List, Some, ap, arith, max, subst, sym}
+use Rattle.std.proofs.Common.{◌≡◌, ◌<◌, ◌∙◌, IfSome, List, Some, ap, arith, subst, sym}
 use Rattle.guest_isa.specs.Instructions.{IsText}
 use Rattle.guest_isa.specs.declared.instr.Instr.{Instr}
 use Rattle.guest_machine.specs.Advances.{advanced}
-use Rattle.kernel_core.proofs.Steps.{acts, as_seen, has_steps, is_ready, longer, made_here, one_longer, rested_here, steady_as, used_kept, within}
+use Rattle.kernel_core.proofs.Steps.{acts, as_seen, has_steps, is_ready, made_here, one_longer, rested_here, steady_as, used_kept, within}
 use Rattle.kernel_core.specs.Kernel.{History, machine_of, turn}
-use Rattle.kernel_core.specs.Machine.{Environment, Machine, work}
-use Rattle.kernel_core.specs.Steady.{IsSteady, history}
-use Rattle.kernel_core.specs.declared.settings.Settings.{Settings}
-use Rattle.guest_image.specs.declared.image.Image.{Image}
-use Rattle.lwc_base.specs.Frames.{used}
+use Rattle.kernel_core.specs.Machine.{work}
 use Rattle.kernel_core.proofs.kernel.Kernel.step.Goals as goal
 
 pub index-requires : goal.index-requires

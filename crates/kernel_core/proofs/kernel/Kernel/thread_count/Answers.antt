@@ -1,4 +1,4 @@
-use Rattle.std.proofs.Common.{◌∙◌, ap, arith, length, sym}
+use Rattle.std.proofs.Common.{ap, arith, length}
 use Rattle.kernel_core.proofs.Steps.{as_seen, is_ready}
 use Rattle.kernel_core.specs.Machine.{Machine}
 use Rattle.kernel_core.proofs.kernel.Kernel.thread_count.Goals as goal
