@@ -36,7 +36,9 @@ number_of Halt = 37
 
 -- every operation
 abbrev pub ops : List Op
-ops = Li ∷ Lih ∷ Mov ∷ Add ∷ Sub ∷ Mul ∷ Divu ∷ Remu ∷ And ∷ Or ∷ Xor ∷ Shl ∷ Shr ∷ Ltu ∷ Eq ∷ Addi ∷ Jmp ∷ Jz ∷ Jnz ∷ Jal ∷ Jr ∷ Ldb ∷ Ldw ∷ Stb ∷ Stw ∷ Sys ∷ Halt ∷ []
+ops =
+    Li ∷ Lih ∷ Mov ∷ Add ∷ Sub ∷ Mul ∷ Divu ∷ Remu ∷ And ∷ Or ∷ Xor ∷ Shl ∷ Shr ∷ Ltu ∷ Eq ∷ Addi
+    ∷ Jmp ∷ Jz ∷ Jnz ∷ Jal ∷ Jr ∷ Ldb ∷ Ldw ∷ Stb ∷ Stw ∷ Sys ∷ Halt ∷ []
 
 -- the operation with an opcode, if there is one
 unfoldable pub op_of : ℕ → Option Op

@@ -15,5 +15,7 @@ checked i = if is_instruction i then Some i else None
 
 -- the instruction that eight bytes spell, if they spell one
 unfoldable pub reading : List ℕ → Option Instr
-reading (number ∷ rd ∷ ra ∷ rb ∷ imm) = option_and_then (λ op. checked (record { op = op; rd = rd; ra = ra; rb = rb; imm = from_le_bytes w32 imm })) (op_of number)
+reading (number ∷ rd ∷ ra ∷ rb ∷ imm) =
+    let n = from_le_bytes w32 imm in
+    option_and_then (λ op. checked (record { op = op; rd = rd; ra = ra; rb = rb; imm = n })) (op_of number)
 reading _ = None

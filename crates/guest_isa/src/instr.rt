@@ -24,8 +24,8 @@ pub struct Instr {
 const REGISTERS: u8 = 16;
 
 impl Instr {
-    /// Whether the fields fit the form of the operation: a register that is used is below 16, and a field that is
-    /// not used is 0.
+    /// Whether the fields fit the form of the operation: a register that is used is below 16, and a field
+    /// that is not used is 0.
     #[tactic(auto, unfolding(crate::specs::Instructions::is_instruction))]
     pub fn is_instruction(&self) -> bool
         ensures { result ≡ is_instruction self.now }
@@ -63,7 +63,7 @@ fn number_fits(used: bool, number: u32) -> bool
     used || number == 0
 }
 
-/// A law: in an instruction of the table each field for a register is below 16, used or not, and imm has 32 bits.
+/// In an instruction of the table each field for a register is below 16, used or not, and imm has 32 bits.
 #[tactic(auto, using(crate::proofs::Fields::in_range))]
 pub fn fields_are_in_range()
     ensures { (i : Instr) → IsInstruction i → HasFieldsInRange i }

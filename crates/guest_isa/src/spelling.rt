@@ -44,8 +44,9 @@ fn read(bytes: &[u8]) -> Option<Instr>
     if i.is_instruction() { Some(i) } else { None }
 }
 
-/// A law: an instruction is read back from its bytes, and bytes that are read are those of what was read.
+/// An instruction is read back from its bytes, and bytes that are read are those of what was read.
 pub fn spelling_is_inverse()
     ensures read_back { (i : Instr) → IsInstruction i → reading (spelling i) ≡ Some i }
-    ensures spelled { (bytes : List ℕ) (i : Instr) → length bytes ≡ 8 → All (λ b. b < 256) bytes → reading bytes ≡ Some i → IsInstruction i × (bytes ≡ spelling i) }
+    ensures spelled { (bytes : List ℕ) (i : Instr) → length bytes ≡ 8 → All (λ b. b < 256) bytes →
+        reading bytes ≡ Some i → IsInstruction i × (bytes ≡ spelling i) }
 {}

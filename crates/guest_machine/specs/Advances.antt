@@ -33,7 +33,7 @@ unfoldable pub least : ℕ → (ℕ → Bool) → ℕ
 least zero test = 0
 least (suc n) test = if test 0 then 0 else suc (least n (λ j. test (suc j)))
 
--- the least number of private instructions, up to 256, after which none comes next; at 256 with no such reason it is a pause
+-- the advance by the least number of private instructions, up to 256, after which none comes, or a pause
 unfoldable pub advanced : List Instr → Regs → Advance
 advanced text s =
     let j = least 256 (λ j. is_some (stop text (after_private text j s))) in

@@ -54,4 +54,6 @@ after_effect Passes rd s = record { r = s.r; pc = next_pc s }
 
 -- the registers after a private instruction
 unfoldable pub effect : Instr → Regs → Regs
-effect i s = after_effect (effect_of i.op (slice_index s.r i.rd) (slice_index s.r i.ra) (slice_index s.r i.rb) i.imm) i.rd s
+effect i s =
+    let register = slice_index s.r in
+    after_effect (effect_of i.op (register i.rd) (register i.ra) (register i.rb) i.imm) i.rd s

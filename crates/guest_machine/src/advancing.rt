@@ -13,8 +13,8 @@ use lwc_base::Regs;
 /// The most private instructions of one step.
 const MOST: usize = 256;
 
-/// Does private instructions from these registers on, at most 256: it ends before a shared instruction and at a pc that
-/// is not below the number of instructions. It takes no memory.
+/// Does private instructions from these registers on, at most 256: it ends before a shared instruction and
+/// at a pc that is not below the number of instructions. It takes no memory.
 pub fn advance(text: &Text, regs: &Regs) -> Advance
     ensures exact { result ≡ advanced text.now regs.now }
     ensures is_advance { (j : ℕ) × IsAdvance text.now result j }
@@ -31,7 +31,8 @@ pub fn advance(text: &Text, regs: &Regs) -> Advance
 
 /// The same in place: the registers become those after the private instructions. Answers what comes next.
 pub fn run_on(text: &Text, regs: &mut Regs) -> Next
-    ensures exact { record { before = regs.old; after = regs.new; next = result } ≡ advanced text.now regs.old }
+    ensures exact { record { before = regs.old; after = regs.new; next = result }
+        ≡ advanced text.now regs.old }
     ensures shared { IfShared result IsShared }
 {
     for _done in 0..MOST {
@@ -73,14 +74,14 @@ fn next_at(text: &Text, regs: &Regs) -> Next
     }
 }
 
-/// A law: from the same registers one advance alone has the facts of an advance.
+/// From the same registers one advance alone has the facts of an advance.
 pub fn advance_is_determined()
     ensures some { (text : List Instr) (s : Regs) → (j : ℕ) × IsAdvance text (advanced text s) j }
     ensures one { (text : List Instr) (a : Advance) (j : ℕ) →
         IsAdvance text a j → a ≡ advanced text a.before }
 {}
 
-/// A law: the shared instruction that an advance over a text comes to is an instruction of the table.
+/// The shared instruction that an advance over a text comes to is an instruction of the table.
 #[tactic(auto, using(crate::proofs::Runs::comes_to_instruction))]
 pub fn advances_come_to_instructions()
     ensures { (text : List Instr) (s : Regs) → IsText text → IfShared (advanced text s).next IsInstruction }

@@ -10,7 +10,7 @@ use Rattle.kernel_core.specs.declared.settings.Job.TheVariants.{Run}
 use Rattle.kernel_core.specs.declared.thread.ThreadView.{ThreadView}
 use Rattle.kernel_core.specs.declared.thread.Turn.{Turn}
 
--- what a kernel can be opened with: an image that fits the frames, no requests, and the settings of a run, all within their limits
+-- what a kernel can be opened with: an image that fits the frames, the settings of a run, and no requests
 pub record CanOpen (inputs : Inputs) : Type 0 where
   pub image : IsImage inputs.image
   pub settings : IsSettings inputs.settings
@@ -34,7 +34,8 @@ machine_of h = run (start h.inputs) h.steps
 
 -- a kernel after one step of a thread: the step is kept, and takes room, unless the thread had ended
 unfoldable pub stepped : History → ℕ → History
-stepped h t = if is_ended (machine_of h) t then h else record h { steps = h.steps ++ t ∷ []; room = h.room - 1 }
+stepped h t =
+    if is_ended (machine_of h) t then h else record h { steps = h.steps ++ t ∷ []; room = h.room - 1 }
 
 -- what the last step of a thread left of it: its registers and its status
 unfoldable pub turn : History → ℕ → Option Turn
@@ -42,4 +43,5 @@ turn h t = option_map (λ x. record { regs = x.regs; status = x.status }) (slice
 
 -- what can be seen of a thread
 unfoldable pub view_of : Machine → ℕ → Option ThreadView
-view_of m t = option_map (λ x. record { status = x.status; context = x.context; regs = x.regs }) (slice_get m.threads t)
+view_of m t =
+    option_map (λ x. record { status = x.status; context = x.context; regs = x.regs }) (slice_get m.threads t)

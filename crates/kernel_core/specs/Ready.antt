@@ -46,7 +46,7 @@ pub record IsReadyThread (w : World) (x : Thread) : Type 0 where
 abbrev pub jobs_of : List Thread → List ℕ
 jobs_of threads = map (λ x. x.job) threads
 
--- live contexts bear job 0 or a thread's job, live groups a thread's job, and no job has more of them than it may have
+-- live contexts bear job 0 or a thread's job, live groups a thread's job, and no job has too many
 pub record IsWithinLimits (w : World) (jobs : List ℕ) : Type 0 where
   pub contexts : (c : Name) → is_live w c ≡ true → Contains (0 ∷ jobs) c.job
   pub groups : (g : Name) → IsGroup w g → Contains jobs g.job
@@ -60,7 +60,7 @@ pub record IsCounted (most : ℕ) (n : Counters) : Type 0 where
   pub groups : n.groups ≤ most
   pub tags : n.tags ≤ most
 
--- the most that a job has counted after this number of steps: pages and contexts of a start, and two tags a step
+-- the most that a job has counted after this number of steps: what a start has, and two more a step
 abbrev pub most_counted : ℕ → ℕ
 most_counted steps = MOST_PAGES + 1 + MOST_THREADS + 2 * steps
 
@@ -76,11 +76,14 @@ pub record IsReady (inputs : Inputs) (steps : ℕ) (m : Machine) : Type 0 where
   pub few : length m.threads ≤ MOST_THREADS
   pub text : m.text ≡ inputs.image.text
 
--- what is known of the machines of runs: each is ready; in a ready one, a running thread can act, and a step leaves its thread fewer
+-- the machines of runs are ready; in a ready one running threads can act, and a step leaves fewer steps
 pub record RunFacts : Type 0 where
-  pub ready : (inputs : Inputs) (steps : List ℕ) → CanOpen inputs → IsReady inputs (length steps) (run (start inputs) steps)
-  pub act : (inputs : Inputs) (steps t : ℕ) (m : Machine) (x : Thread) → IsReady inputs steps m → steps ≤ MOST_STEPS →
-      slice_get m.threads t ≡ Some x → WhileRunning x.status (CanAct m.environment.world x)
-  pub fewer : (inputs : Inputs) (steps t : ℕ) (m : Machine) (x : Thread) (outcome : Outcome) → IsReady inputs steps m →
-      slice_get m.threads t ≡ Some x → thread_outcome guest_calls t m.environment m.text x x.status ≡ Some outcome →
+  pub ready : (inputs : Inputs) (steps : List ℕ) → CanOpen inputs →
+      IsReady inputs (length steps) (run (start inputs) steps)
+  pub act : (inputs : Inputs) (steps t : ℕ) (m : Machine) (x : Thread) →
+      IsReady inputs steps m → steps ≤ MOST_STEPS → slice_get m.threads t ≡ Some x →
+      WhileRunning x.status (CanAct m.environment.world x)
+  pub fewer : (inputs : Inputs) (steps t : ℕ) (m : Machine) (x : Thread) (outcome : Outcome) →
+      IsReady inputs steps m → slice_get m.threads t ≡ Some x →
+      thread_outcome guest_calls t m.environment m.text x x.status ≡ Some outcome →
       steps_left outcome.thread.budget outcome.thread.status < steps_left x.budget x.status

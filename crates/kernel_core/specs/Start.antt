@@ -47,14 +47,15 @@ thread_count inputs = threads_for inputs.image inputs.settings.job
 abbrev pub image_tag : ℕ → Tag
 image_tag k = record { job = 0; k = k }
 
--- what is under a page at the start: the image's bytes for it, under the tag of their place among the image's pages
+-- what is under a page at the start: the image's bytes for it, under the tag of their place in the image
 unfoldable pub first_page : List PageImage → ℕ → Option PageValue
 first_page pages p =
     option_map (λ e. Data (image_tag e.0) e.1.bytes) (find (λ e. e.1.number == p) (enumerate_from 0 pages))
 
--- what is under a slot at the start: the console in 0 and 1, the beginning of a file where the image has one, or nothing
+-- what is in a slot at the start: the console in 0 and 1, else the beginning of the image's file, or nothing
 unfoldable pub first_slot : List SlotImage → ℕ → Descriptor
-first_slot slots n = if nat_lt n 2 then Console else option_map_or (λ s. File s.file 0) (find (λ s. s.slot == n) slots) Empty
+first_slot slots n =
+    if nat_lt n 2 then Console else option_map_or (λ s. File s.file 0) (find (λ s. s.slot == n) slots) Empty
 
 -- what is under each key at the start, with the slots below a number filled
 abbrev pub first_value : Image → List PageImage → ℕ → (k : Key) → ValueOf k
@@ -66,7 +67,7 @@ first_value image pages slots Cred = image.uid
 abbrev pub first_entry : Image → ℕ
 first_entry image = slice_index image.entries 0
 
--- the one context of a start, with these pages, and with the slots below a number filled; each value is its own
+-- the one context of a start, with these pages, and with the slots below a number filled
 unfoldable pub first_context : Image → List PageImage → ℕ → Context
 first_context image pages slots = record {
   cell = λ k. Own (first_value image pages slots k);
@@ -131,6 +132,7 @@ start inputs = record {
   text = inputs.image.text;
 }
 
--- the world of a start as it is built: with this number of the image's pages stored, and the slots below a number filled
+-- the world of a start as it is built: with this number of pages stored, and the slots below a number filled
 unfoldable pub world_so_far : Image → ℕ → ℕ → ℕ → World
-world_so_far image frames pages slots = world_with frames pages (first_context image (take pages image.pages) slots)
+world_so_far image frames pages slots =
+    world_with frames pages (first_context image (take pages image.pages) slots)

@@ -13,13 +13,19 @@ use Rattle.lwc_base.specs.World.{World}
 
 -- the history of a kernel's parts
 abbrev pub history : Image → List (List ℕ) → Settings → List ℕ → ℕ → History
-history image requests settings steps room =
-    record { inputs = record { image = image; requests = requests; settings = settings }; steps = steps; room = room }
+history image requests settings steps room = record {
+  inputs = record { image = image; requests = requests; settings = settings };
+  steps = steps;
+  room = room;
+}
 
 -- the machine of a kernel's parts
 abbrev pub machine : Image → World → List Thread → List Instr → List ℕ → Machine
-machine image world threads text console =
-    record { threads = threads; environment = record { world = world; files = image.files; console = console }; text = text }
+machine image world threads text console = record {
+  threads = threads;
+  environment = record { world = world; files = image.files; console = console };
+  text = text;
+}
 
 -- a kernel's parts are the machine that it has come to, and its peak is that of its steps
 pub record IsSteady (m : Machine) (most_used : ℕ) (h : History) : Type 0 where

@@ -171,7 +171,7 @@ unfoldable pub advance_outcome : Calls → ℕ → Environment → Thread → Ad
 advance_outcome calls t e x advance =
     counted (x.budget - 1) (next_outcome calls t e (with_regs x advance.after) advance.next)
 
--- the outcome of a step, by the thread's status; an idle thread ends, since no request is left, and an ended one makes no step
+-- the outcome of a step, by the thread's status; an idle thread ends, as no request is left
 abbrev pub thread_outcome : Calls → ℕ → Environment → List Instr → Thread → ThreadStatus → Option Outcome
 thread_outcome calls t e text x Running = Some (advance_outcome calls t e x (advanced text x.regs))
 thread_outcome calls t e text x Idle = Some (unchanged e (with_status x (Done 0)))
@@ -193,7 +193,7 @@ abbrev pub after_thread : Calls → Machine → ℕ → Option Thread → Machin
 after_thread calls m t None = m
 after_thread calls m t (Some x) = after_outcome m t (thread_outcome calls t m.environment m.text x x.status)
 
--- the machine after one step of the thread of a number, where these are the calls; an ended thread changes nothing
+-- the machine after one step of a thread, with these calls; a step of an ended thread changes nothing
 unfoldable pub step_by : Calls → Machine → ℕ → Machine
 step_by calls m t = after_thread calls m t (slice_get m.threads t)
 

@@ -23,8 +23,8 @@ pub enum Change {
     World,
 }
 
-/// Makes a step of a thread in place. Answers what has changed; `None` if the thread had ended. The only error is out
-/// of memory: then the world is as before, and the thread is to be thrown away.
+/// Makes a step of a thread in place. Answers what has changed; `None` if the thread had ended. The only
+/// error is out of memory: then the world is as before, and the thread is of no use.
 pub(crate) fn step_thread<W: World>(
     world: &mut W,
     text: &Text,
@@ -36,7 +36,8 @@ pub(crate) fn step_thread<W: World>(
     requires proposal { IfSome proposal (λ a. a.now ≡ advanced text.now a.now.before) }
     requires text { IsText text.now }
     ensures outcome { IfOk result (λ change. (t : ℕ) (e : Environment) →
-        spec.thread_outcome spec.guest_calls t (spec.with_world e (W.seen world.old)) text.now thread.old thread.old.status
+        spec.thread_outcome spec.guest_calls t (spec.with_world e (W.seen world.old)) text.now
+        thread.old thread.old.status
         ≡ made change (spec.with_world e (W.seen world.new)) thread.new) }
     ensures ended { IfOk result (λ change. IfNone change (thread.new ≡ thread.old)) }
     ensures kept { IfOk result (λ change. LeavesWorld change (W.seen world.old) (W.seen world.new)) }
@@ -79,12 +80,13 @@ fn run_thread<W: World>(
     Ok(change)
 }
 
-/// Does the private instructions that come first, as proposed if the proposal begins with these registers. Answers what
-/// comes next.
+/// Does the private instructions that come first, as proposed if the proposal begins with these registers.
+/// Answers what comes next.
 fn advance_regs(text: &Text, regs: &mut Regs, proposal: Option<&Advance>) -> Next
     requires proposal { IfSome proposal (λ a. a.now ≡ advanced text.now a.now.before) }
     requires text { IsText text.now }
-    ensures exact { record { before = regs.old; after = regs.new; next = result } ≡ advanced text.now regs.old }
+    ensures exact { record { before = regs.old; after = regs.new; next = result }
+        ≡ advanced text.now regs.old }
     ensures instruction { IfShared result IsInstruction }
 {
     advances_come_to_instructions();

@@ -27,8 +27,9 @@ use std::marker::Model;
 use std::snapshot::Snapshot;
 use world_face::World;
 
-/// Threads that run an image over a world. A kernel is seen as its history: what it was opened with, the steps that
-/// it has kept, each the number of the thread that made it, and how many more steps it has room for.
+/// Threads that run an image over a world. A kernel is seen as its history: what it was opened with, the
+/// steps that it has kept, each the number of the thread that made it, and how many more steps it has room
+/// for.
 #[derive(Drop)]
 pub struct Kernel<W: World> {
     image: Snapshot<Image>,
@@ -59,13 +60,13 @@ impl<W: World> Model for Kernel<W> {
 }
 
 impl<W: World> Kernel<W> {
-    /// A kernel at the start of an image, with room for a number of steps. The memory for the steps is taken here, and
-    /// so no step is refused for lack of room.
+    /// A kernel at the start of an image, with room for this number of steps. The memory for the steps is
+    /// taken here, and so no step is refused for lack of room.
     ///
     /// # Errors
     ///
-    /// `ImageTooLarge` exactly where the image has more pages than there are frames, which is tested before memory is
-    /// taken; or `OutOfMemory`.
+    /// `ImageTooLarge` exactly where the image has more pages than there are frames, which is tested before
+    /// memory is taken; or `OutOfMemory`.
     pub fn open(
         alloc: Global,
         image: &Image,
@@ -106,7 +107,8 @@ impl<W: World> Kernel<W> {
         steps: u32,
         settings: &Settings,
     ) -> Result<Kernel<W>, OutOfMemory>
-        requires inputs { CanOpen (record { image = image.now; requests = requests; settings = settings.now }) }
+        requires inputs { CanOpen
+            (record { image = image.now; requests = requests; settings = settings.now }) }
         requires steps { steps ≤ MOST_STEPS }
         ensures { IfOk result (λ k. k ≡ spec.opened
             (record { image = image.now; requests = requests; settings = settings.now }) steps) }
@@ -131,9 +133,9 @@ impl<W: World> Kernel<W> {
         })
     }
 
-    /// One step of thread `t`, which is kept unless the thread had ended. A proposal is used if it begins with the
-    /// thread's registers. The only error is out of memory, which comes only over a world that is not roomy, and then
-    /// nothing has changed.
+    /// One step of thread `t`, which is kept unless the thread had ended. A proposal is used if it begins
+    /// with the thread's registers. The only error is out of memory, which comes only over a world that is
+    /// not roomy, and then nothing has changed.
     pub fn step(&mut self, t: u32, proposal: Option<&Advance>) -> Result<Turn, OutOfMemory>
         requires within { t < thread_count self.old.inputs }
         requires room { is_ended (machine_of self.old) t ≡ false → 0 < self.old.room }

@@ -1,4 +1,5 @@
-//! The kernel: threads that run an image over a world, one step at a time, each step as the machine's definition says.
+//! The kernel: threads that run an image over a world, one step at a time, each as the machine's definition
+//! says.
 #![tactic(auto)]
 
 mod acting;

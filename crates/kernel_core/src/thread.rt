@@ -4,8 +4,8 @@ ghost use Rattle.kernel_core.specs.Step as spec;
 
 use lwc_base::{Fault, Name, Refusal, Regs, ThreadStatus};
 
-/// A thread: its status, the context that it is in, its registers, the job that it acts for, and the number of steps
-/// that it may still make.
+/// A thread: its status, the context that it is in, its registers, the job that it acts for, and the number
+/// of steps that it may still make.
 #[derive(Clone, Copy, Debug, PartialEq, Eq)]
 pub struct Thread {
     pub status: ThreadStatus,

@@ -102,11 +102,11 @@ pub record HasPlaces (w : World) (job : ℕ) : Type 0 where
   pub group : groups_of w job < MOST_GROUPS_OF_JOB → HasGroupPlace w
 
 -- no refusal holds: the call makes a context by these items, with its descriptor in this slot
-pub record IsAllowed (w : World) (c : Name) (job : ℕ) (regs : Regs) (items : List Item) (slot : ℕ) : Type 0 where
+pub record IsAllowed (w : World) (c : Name) (job : ℕ) (regs : Regs) (items : List Item) (n : ℕ) : Type 0 where
   pub passed : first_refusal (refusals w c job regs) ≡ None
   pub asked : items ≡ items_of w c regs
   pub valid : IsSpec w.size.pages items
   pub live : live_of w job < MOST_CONTEXTS_OF_JOB
-  pub lowest : lowest_empty w c ≡ Some slot
+  pub lowest : lowest_empty w c ≡ Some n
   pub group : needs_group w c items ≡ true → groups_of w job < MOST_GROUPS_OF_JOB
   pub few : AreFew (ranges_after_clone w c job items)

@@ -19,8 +19,9 @@ const NO_CALLER: u64 = u64::MAX;
 /// The number of bytes of the most items.
 const BUFFER_BYTES: usize = MOST_ITEMS * ITEM_BYTES;
 
-/// Makes a new context from context `c`, for a job. The registers are those at the call: r1 has the address of the
-/// items, and r2 how many there are (`spec.create`). The only error is out of memory, and then nothing has changed.
+/// Makes a new context from context `c`, for a job. The registers are those at the call: r1 has the address
+/// of the items, and r2 how many there are (`create`). The only error is out of memory, and then nothing has
+/// changed.
 #[tactic(auto, using(crate::proofs::StillLive::live_after_clone, crate::proofs::Table::done_call, crate::proofs::Table::lowest_is_slot, crate::proofs::Table::refused_call))]
 pub fn create<W: World>(
     world: &mut W,
@@ -71,8 +72,8 @@ fn allowed<W: World>(world: &W, c: Name, job: u32, regs: &Regs) -> Result<(Spec,
     Ok((items, slot))
 }
 
-/// The items that the caller asks for, or the first refusal. The first five rows of the table of refusals speak of the
-/// items alone; where none of them holds, the rest decides.
+/// The items that the caller asks for, or the first refusal. The first five rows of the table of refusals
+/// speak of the items alone; where none of them holds, the rest decides.
 #[tactic(auto, unfolding(crate::specs::Create::item_bytes, crate::specs::Create::items_of, crate::specs::Create::refusals, res_spec::specs::Items::read, res_spec::specs::Items::faults))]
 fn asked<W: World>(world: &W, c: Name, regs: &Regs) -> Result<Spec, Refusal>
     requires live { IsLive (W.seen world.now) c }
