@@ -47,3 +47,6 @@ found_below test from (suc count) n e =
 pub lowest_is_slot : (w : World) (c : Name) (slot : ℕ) → lowest_empty w c ≡ Some slot → slot < SLOTS
 unfolding lowest_empty
 lowest_is_slot w c slot e = found_below (λ n. is_empty (slot_at w c n)) 0 SLOTS slot e
+
+-- the lemmas of the call
+pub ruleset call_is = (refused_call, done_call, lowest_is_slot)

@@ -6,6 +6,7 @@ ghost use Rattle.lwc_create.specs.Create.{HasPlaces, IfRefused, IsAllowed};
 ghost use Rattle.world_face.specs.Calls.{IsLive, MayName};
 
 use access_cap::full;
+use lwc_base::laws::{changes_leave_the_rest, names_are_ordered};
 use lwc_base::{
     Answer, Descriptor, MOST_CONTEXTS_OF_JOB, MOST_GROUPS_OF_JOB, MOST_ITEMS, MOST_RANGES, Name,
     OutOfMemory, Refusal, Regs, Spec,
@@ -22,7 +23,7 @@ const BUFFER_BYTES: usize = MOST_ITEMS * ITEM_BYTES;
 /// Makes a new context from context `c`, for a job. The registers are those at the call: r1 has the address
 /// of the items, and r2 how many there are (`create`). The only error is out of memory, and then nothing has
 /// changed.
-#[tactic(auto, using(crate::proofs::StillLive::live_after_clone, crate::proofs::Table::done_call, crate::proofs::Table::lowest_is_slot, crate::proofs::Table::refused_call))]
+#[tactic(auto, using(crate::proofs::Table::call_is))]
 pub fn create<W: World>(
     world: &mut W,
     c: Name,
@@ -42,6 +43,8 @@ pub fn create<W: World>(
         Ok(made) => made,
         Err(refusal) => return Ok(Answer::Refused(refusal)),
     };
+    names_are_ordered();
+    changes_leave_the_rest();
     let cap = full(world.pages());
     let name = world.clone_context(c, &items, job, &after_call(regs, NO_CALLER))?;
     world.set_slot(c, slot, Descriptor::Ctx { name, cap });
