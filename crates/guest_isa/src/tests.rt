@@ -128,6 +128,7 @@ fn a_text_is_its_instructions(rt: HostRuntime) -> Result<(), Fail> {
     assert_eq!(rt; text.len(), 2);
     assert_eq!(rt; *text.get(0), jump);
     assert_eq!(rt; *text.get(1), NOTHING);
+    assert_eq!(rt; *text.copy(rt.alloc())?.get(0), jump);
     assert_eq!(rt; text.into_vec().len(), 2);
     spelling_is_inverse();
     Ok(())

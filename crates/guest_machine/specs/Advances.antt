@@ -9,7 +9,7 @@ use Rattle.guest_machine.specs.declared.progress.Next.TheVariants.{Shared, Pause
 use Rattle.guest_machine.specs.declared.progress.Advance.{Advance}
 use Rattle.guest_machine.specs.Effects.{effect}
 
--- the registers after the instruction that stands at pc; unchanged where none does
+-- the registers after the instruction at pc; unchanged if there is none
 abbrev pub after_instruction : Option Instr → Regs → Regs
 after_instruction None s = s
 after_instruction (Some i) s = effect i s
@@ -19,7 +19,7 @@ unfoldable pub after_private : List Instr → ℕ → Regs → Regs
 after_private text zero s = s
 after_private text (suc j) s = let t = after_private text j s in after_instruction (slice_get text t.pc) t
 
--- why what stands at pc is not private, if it is not: nothing stands there, or a shared instruction
+-- why no private instruction is at pc, if none is: there is none at all, or it is shared
 abbrev pub stop_at : Option Instr → Option Next
 stop_at None = Some BadPc
 stop_at (Some i) = if is_shared i.op then Some (Shared i) else None

@@ -4,7 +4,7 @@ use lwc_base::Regs;
 /// What comes after private instructions.
 #[derive(Clone, Copy, Debug, PartialEq, Eq)]
 pub enum Next {
-    /// A shared instruction, which stands at pc.
+    /// A shared instruction, which is at pc.
     Shared(Instr),
     /// More private instructions, in a later step.
     Pause,

@@ -17,7 +17,7 @@ use Rattle.lwc_create.specs.Create.{HasPlaces}
 abbrev num : Bool → ℕ
 num b = cond b 1 0
 
--- how many of the names bear a job
+-- the number of names that bear a job
 abbrev borne : List Name → ℕ → ℕ
 borne names job = count_by (λ c. eqb c.job job) names
 

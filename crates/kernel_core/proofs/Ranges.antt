@@ -1,4 +1,4 @@
--- How many ranges and tags a context has whose pages are all its own: no more than the numbers of its pages make.
+-- A context whose pages are all its own has no more ranges and tags than the numbers of its pages make.
 use Rattle.std.proofs.Common.{◌≡◌, ℕ, zero, suc, ◌+◌, ◌≤◌, ◌<◌, refl, sym, ap, subst, ◌∙◌, Bool, true, false, cond, eqb, not, ◌&&◌, ◌||◌, Option, Some, None, List, [], ◌∷◌, length, take, arith, length-append}
 use Rattle.std.specs.List.{enumerate_from, find, flat_map, list_any, range_with_len}
 use Rattle.std.specs.Prelude.{count_by, is_some}
@@ -43,7 +43,7 @@ and_false : (b : Bool) → (b && false) ≡ false
 and_false true = refl
 and_false false = refl
 
--- a number stands once at most among numbers that follow one another
+-- a number is at most once among numbers that follow one another
 past_it : (p a n : ℕ) → p < a → count_by (λ q. eqb p q) (range_with_len a n) ≡ 0
 past_it p a zero past = refl
 past_it p a (suc n) past =

@@ -27,7 +27,7 @@ keep_by : (m : Machine) (t : ℕ) (ts : List ℕ) (b : Bool) → is_ended m t �
 keep_by m t ts true ended here there = here
 keep_by m t ts false ended here there = ap (λ b. cond b (kept m (kept (step m t) ts)) (t ∷ kept (step m t) (kept (step m t) ts))) ended ∙ ap (λ l. t ∷ l) there
 
--- the kept steps of kept steps are themselves
+-- of kept steps all are kept
 pub kept_twice : (m : Machine) (ts : List ℕ) → kept m (kept m ts) ≡ kept m ts
 kept_twice m [] = refl
 kept_twice m (t ∷ ts) = keep_by m t ts (is_ended m t) refl (kept_twice m ts) (kept_twice (step m t) ts)

@@ -24,7 +24,7 @@ pub enum Change {
 }
 
 /// Makes a step of a thread in place. Answers what has changed; `None` if the thread had ended. The only
-/// error is out of memory: then the world is as before, and the thread is of no use.
+/// error is out of memory: then the world is as before, and the thread may have changed.
 pub(crate) fn step_thread<W: World>(
     world: &mut W,
     text: &Text,
@@ -75,7 +75,7 @@ fn run_thread<W: World>(
 {
     let left = thread.budget - 1;
     let next = advance_regs(text, &mut thread.regs, proposal);
-    let change = act(world, thread, next)?;
+    let change = run_next(world, thread, next)?;
     thread.set_steps(left);
     Ok(change)
 }
@@ -101,7 +101,7 @@ fn advance_regs(text: &Text, regs: &mut Regs, proposal: Option<&Advance>) -> Nex
 
 /// Does what comes after the private instructions.
 #[tactic(auto, unfolding(crate::specs::Step::next_outcome))]
-fn act<W: World>(world: &mut W, thread: &mut Thread, next: Next) -> Result<Change, OutOfMemory>
+fn run_next<W: World>(world: &mut W, thread: &mut Thread, next: Next) -> Result<Change, OutOfMemory>
     requires ready { CanAct (W.seen world.old) thread.old }
     requires instruction { IfShared next IsInstruction }
     ensures outcome { OnOk result (Makes (λ t e x. spec.next_outcome spec.guest_calls t e x next)
@@ -116,13 +116,13 @@ fn act<W: World>(world: &mut W, thread: &mut Thread, next: Next) -> Result<Chang
             thread.fail(Fault::BadPc);
             Ok(Change::Thread)
         }
-        Next::Shared(i) => share(world, thread, &i),
+        Next::Shared(i) => execute(world, thread, &i),
     }
 }
 
 /// Does a shared instruction.
 #[tactic(auto, unfolding(crate::specs::Step::shared_outcome))]
-fn share<W: World>(world: &mut W, thread: &mut Thread, i: &Instr) -> Result<Change, OutOfMemory>
+fn execute<W: World>(world: &mut W, thread: &mut Thread, i: &Instr) -> Result<Change, OutOfMemory>
     requires ready { CanAct (W.seen world.old) thread.old }
     requires instruction { IsInstruction i.now }
     ensures outcome { OnOk result (Makes (λ t e x. spec.shared_outcome spec.guest_calls t e x i.now i.now.op)

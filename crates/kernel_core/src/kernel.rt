@@ -161,7 +161,7 @@ impl<W: World> Kernel<W> {
         Ok(thread.turn())
     }
 
-    /// How many more steps the kernel has room for.
+    /// The number of steps that the kernel has room for.
     pub fn room(&self) -> u32
         ensures { result ≡ self.now.room }
     {
@@ -225,7 +225,7 @@ impl<W: World> Kernel<W> {
         self.threads[t as usize].view()
     }
 
-    /// How many steps the threads may still make: the budgets of those that run, and 1 for each idle one.
+    /// The number of steps that the threads may still make: the budgets of those that run, and 1 for each idle one.
     pub fn work(&self) -> u32
         ensures { result ≡ work (machine_of self.now) }
     {
@@ -255,7 +255,7 @@ fn append(schedule: &mut Vec<u8>, t: u8)
     let _ = schedule.push(t);
 }
 
-/// How many steps the threads may still make.
+/// The number of steps that the threads may still make.
 fn work_left(threads: &[Thread]) -> u32
     requires { sum_by (λ x. steps_left x.budget x.status) threads.now < 2 ^ 32 }
     ensures { result ≡ sum_by (λ x. steps_left x.budget x.status) threads.now }

@@ -1,7 +1,7 @@
 use Rattle.std.proofs.Common.{rules, slice_index}
 use Rattle.kernel_core.proofs.Makes.{makes_as}
 use Rattle.kernel_core.specs.Step.{byte_outcome, guest_calls, shared_outcome, word_outcome}
-use Rattle.kernel_core.proofs.acting.share.Goals as goal
+use Rattle.kernel_core.proofs.acting.execute.Goals as goal
 
 pub returns-in-Stb-clause-outcome : goal.returns-in-Stb-clause-outcome
 unfolding shared_outcome
