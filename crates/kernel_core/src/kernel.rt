@@ -61,7 +61,8 @@ impl<W: World> Model for Kernel<W> {
 
 impl<W: World> Kernel<W> {
     /// A kernel at the start of an image, with room for this number of steps. The memory for the steps is
-    /// taken here, and so no step is refused for lack of room.
+    /// taken here, and so no step is refused for lack of room. Serving is not built yet: the job is a run, and
+    /// there are no requests.
     ///
     /// # Errors
     ///
