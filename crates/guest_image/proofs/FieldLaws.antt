@@ -1,15 +1,15 @@
 -- A field that is read is the field that was written, and what was written is read again.
-use Rattle.std.proofs.Common.{◌≡◌, ℕ, suc, ◌+◌, ◌^◌, ◌<◌, ◌≤◌, Bool, true, false, cond, ltb, eqb, List, [], ◌∷◌, ◌++◌, length, get_or, take, drop, Result, Ok, Err, refl, sym, ap, subst, ◌∙◌, append_assoc, arith, inl, inr, lit<}
+use Rattle.std.proofs.Common.{◌≡◌, ◌⊎◌, inl, inr, ℕ, ◌+◌, ◌^◌, ◌<◌, ◌≤◌, Bool, true, false, cond, ltb, List, ◌++◌, length, get_or, take, drop, Ok, Err, refl, sym, ap, subst, ◌∙◌, append_assoc, arith}
 use Rattle.std.specs.Int.{w32, from_le_bytes}
-use Rattle.std.proofs.lemmas.Bool.{cases_lt, ltb-false, le-ltb, eqb-true, and_parts, and_from, leb-true, le-leb}
+use Rattle.std.proofs.lemmas.Bool.{cases_lt, ltb-false, le-ltb}
 use Rattle.std.proofs.lemmas.List.{take_at, drop_at, take-append-drop, length-append, length-take, get_or-drop, get_or-take, get_or_past}
 use Rattle.std.proofs.lemmas.Nat.{le_bytes_4, from_le_bytes-to_le_bytes_4}
+use Rattle.byte_reading.specs.Outcomes.{Refusal, ◌>>=◌}
 use Rattle.guest_image.specs.declared.fault.ImageRule.{ImageRule}
-use Rattle.guest_image.specs.declared.stop.Stop.{Stop}
-use Rattle.guest_image.specs.declared.header.Header.{Header}
-use Rattle.guest_image.specs.Limits.{page_limit}
-use Rattle.guest_image.specs.Spelling.{number, magic, header}
-use Rattle.guest_image.specs.Reading.{◌>>=◌, bytes_at, number_at, number_where, byte_at, magic_at, count_at, header_at, stop, refused}
+use Rattle.guest_image.specs.declared.fault.ImageRule.TheVariants.{Truncated}
+use Rattle.guest_image.specs.Rest.{Rest}
+use Rattle.guest_image.specs.Spelling.{number}
+use Rattle.guest_image.specs.Reading.{Read, refused, bytes_at, number_at, number_where}
 
 abbrev pub IsBytes : List ℕ → Type 0
 IsBytes bytes = (i : ℕ) → get_or bytes i 0 < 256
@@ -24,154 +24,140 @@ IsBytes-take n bytes h i =
       | inr le ↦ rw (get_or_past (take n bytes) i 0 (omega (arith, length-take n bytes))) (omega arith)
     ]
 
+-- the bytes from an offset on
+abbrev pub from : ℕ → List ℕ → Rest
+from at bytes = record { at = at; bytes = bytes }
+
 -- the value of a step that was not refused
-pub bind_ok : {A B : Type 0} (r : Result A Stop) (f : A → Result B Stop) (y : B) → (r >>= f) ≡ Ok y → (x : A) × (r ≡ Ok x) × (f x ≡ Ok y)
+pub bind_ok : {A B : Type 0} (r : Read A) (f : A → Read B) (y : B) → (r >>= f) ≡ Ok y → (x : A) × (r ≡ Ok x) × (f x ≡ Ok y)
 bind_ok (Ok x) f y e = (x, refl, e)
 bind_ok (Err d) f y e = absurd cc
 
+-- a refusal comes of the first step, or of what follows
+pub bind_err : {A B : Type 0} (r : Read A) (f : A → Read B) (s : Refusal ImageRule) → (r >>= f) ≡ Err s → (r ≡ Err s) ⊎ ((x : A) × (r ≡ Ok x) × (f x ≡ Err s))
+bind_err (Ok x) f s e = inr (x, refl, e)
+bind_err (Err d) f s e = let same : d ≡ s = cc in inl (ap (λ (t : Refusal ImageRule). Err t) same)
+
 -- a test that was passed
-pub passed : {A : Type 0} (b : Bool) (s : Stop) (x y : A) → cond b (Ok x) (Err s) ≡ Ok y → (b ≡ true) × (x ≡ y)
+pub passed : {A : Type 0} (b : Bool) (s : Refusal ImageRule) (x y : A) → cond b (Ok x) (Err s) ≡ Ok y → (b ≡ true) × (x ≡ y)
 passed true s x y e = (refl, cc)
 passed false s x y e = absurd cc
 
--- a test that failed where failing goes on
-pub not_stopped : {A : Type 0} (b : Bool) (s : Stop) (x y : A) → cond b (Err s) (Ok x) ≡ Ok y → (b ≡ false) × (x ≡ y)
+-- a test that was not passed
+pub failed : {A : Type 0} (b : Bool) (s t : Refusal ImageRule) (x : A) → cond b (Ok x) (Err s) ≡ Err t → (b ≡ false) × (s ≡ t)
+failed true s t x e = absurd cc
+failed false s t x e = (refl, cc)
+
+-- a test that failed where failing continues
+not_stopped : {A : Type 0} (b : Bool) (s : Refusal ImageRule) (x y : A) → cond b (Err s) (Ok x) ≡ Ok y → (b ≡ false) × (x ≡ y)
 not_stopped true s x y e = absurd cc
 not_stopped false s x y e = (refl, cc)
 
-abbrev done : {A : Type 0} → A → Result A Stop
+stopped : {A : Type 0} (b : Bool) (s t : Refusal ImageRule) (x : A) → cond b (Err s) (Ok x) ≡ Err t → s ≡ t
+stopped true s t x e = cc
+stopped false s t x e = absurd cc
+
+abbrev done : {A : Type 0} → A → Read A
 done x = Ok x
 
 pub ok_is : {A : Type 0} (x y : A) → done x ≡ done y → x ≡ y
 ok_is x y e = cc
 
 -- what a reader took from the front
-pub record Takes (bytes text rest : List ℕ) : Type 0 where
-  pub parts : bytes ≡ text ++ rest
-  pub rest_fits : IsBytes rest
+pub record Takes (rest : Rest) (text : List ℕ) (after : Rest) : Type 0 where
+  pub parts : rest.bytes ≡ text ++ after.bytes
+  pub moved : after.at ≡ rest.at + length text
+  pub rest_fits : IsBytes after.bytes
 
-pub Takes-then : (a x b y c : List ℕ) → Takes a x b → Takes b y c → Takes a (x ++ y) c
-Takes-then a x b y c p q = record { parts = p.parts ∙ ap (λ (t : List ℕ). x ++ t) q.parts ∙ sym (append_assoc x y c); rest_fits = q.rest_fits }
+pub Takes-then : (a : Rest) (x : List ℕ) (b : Rest) (y : List ℕ) (c : Rest) → Takes a x b → Takes b y c → Takes a (x ++ y) c
+Takes-then a x b y c p q = record {
+  parts = p.parts ∙ ap (λ (t : List ℕ). x ++ t) q.parts ∙ sym (append_assoc x y c.bytes);
+  moved = omega (arith, p.moved, q.moved, length-append x y);
+  rest_fits = q.rest_fits;
+}
+
+-- the refusal of a file that ends too early
+abbrev pub end_of : Rest → Refusal ImageRule
+end_of rest = record { rule = Truncated; at = rest.at + length rest.bytes }
+
+-- what is read of a file ends where the file does
+pub Takes-end : (a : Rest) (x : List ℕ) (b : Rest) → Takes a x b → end_of b ≡ end_of a
+Takes-end a x b t = ap (λ (n : ℕ). record { rule = Truncated; at = n }) (omega (arith, t.moved, ap length t.parts, length-append x b.bytes))
 
 -- ---- bytes
 
-pub bytes_take : (count : ℕ) (bytes field rest : List ℕ) → IsBytes bytes → bytes_at count bytes ≡ Ok (field, rest) → Takes bytes field rest × (length field ≡ count) × IsBytes field
-bytes_take count bytes field rest fits e =
-    let g = not_stopped (ltb (length bytes) count) (stop _ []) (take count bytes, drop count bytes) (field, rest) e in
-    let long : count ≤ length bytes = ltb-false _ _ g.0 in
-    subst (λ (p : List ℕ × List ℕ). Takes bytes p.0 p.1 × (length p.0 ≡ count) × IsBytes p.0) g.1
-    (record { parts = sym (take-append-drop count bytes); rest_fits = IsBytes-drop count bytes fits }, omega (arith, length-take count bytes), IsBytes-take count bytes fits)
+pub bytes_take : (count : ℕ) (r : Rest) (field : List ℕ) (after : Rest) → IsBytes r.bytes → bytes_at count r ≡ Ok (field, after) → Takes r field after × (length field ≡ count) × IsBytes field
+bytes_take count r field after fits e =
+    let g = not_stopped (ltb (length r.bytes) count) (end_of r) (take count r.bytes, from (r.at + count) (drop count r.bytes)) (field, after) e in
+    let long : count ≤ length r.bytes = ltb-false _ _ g.0 in
+    subst (λ (p : List ℕ × Rest). Takes r p.0 p.1 × (length p.0 ≡ count) × IsBytes p.0) g.1 (
+      record { parts = sym (take-append-drop count r.bytes); moved = omega (arith, length-take count r.bytes); rest_fits = IsBytes-drop count r.bytes fits },
+      omega (arith, length-take count r.bytes),
+      IsBytes-take count r.bytes fits,
+    )
 
-pub bytes_again : (count : ℕ) (field rest : List ℕ) → length field ≡ count → bytes_at count (field ++ rest) ≡ Ok (field, rest)
-bytes_again count field rest len =
+pub bytes_again : (count at : ℕ) (field rest : List ℕ) → length field ≡ count → bytes_at count (from at (field ++ rest)) ≡ Ok (field, from (at + count) rest)
+bytes_again count at field rest len =
     let long : ltb (length (field ++ rest)) count ≡ false = le-ltb _ _ (omega (arith, length-append field rest)) in
     rw (long, take_at field rest count len, drop_at field rest count len) refl
 
+pub bytes_stop : (count : ℕ) (r : Rest) (s : Refusal ImageRule) → bytes_at count r ≡ Err s → s ≡ end_of r
+bytes_stop count r s e = sym (stopped (ltb (length r.bytes) count) (end_of r) s (take count r.bytes, from (r.at + count) (drop count r.bytes)) e)
+
 -- ---- numbers
 
-pub number_takes : (bytes : List ℕ) (n : ℕ) (rest : List ℕ) → IsBytes bytes → number_at bytes ≡ Ok (n, rest) → Takes bytes (number n) rest × (n < 2 ^ 32)
-number_takes bytes n rest fits e =
-    let b = bind_ok (bytes_at 4 bytes) (λ field. Ok (from_le_bytes w32 field.0, field.1)) (n, rest) e in
-    let t = bytes_take 4 bytes b.0.0 b.0.1 fits b.1 in
-    let same = ok_is (from_le_bytes w32 b.0.0, b.0.1) (n, rest) b.2 in
+pub number_takes : (r : Rest) (n : ℕ) (after : Rest) → IsBytes r.bytes → number_at r ≡ Ok (n, after) → Takes r (number n) after × (n < 2 ^ 32)
+number_takes r n after fits e =
+    let b = bind_ok (bytes_at 4 r) (λ field. Ok (from_le_bytes w32 field.0, field.1)) (n, after) e in
+    let t = bytes_take 4 r b.0.0 b.0.1 fits b.1 in
+    let same = ok_is (from_le_bytes w32 b.0.0, b.0.1) (n, after) b.2 in
     let back : number (from_le_bytes w32 b.0.0) ≡ b.0.0 = le_bytes_4 b.0.0 _ t.1 t.2 refl in
     let below : from_le_bytes w32 b.0.0 < 2 ^ 32 = omega (arith, t.2 0, t.2 1, t.2 2, t.2 3) in
-    subst (λ (p : ℕ × List ℕ). Takes bytes (number p.0) p.1 × (p.0 < 2 ^ 32)) same
-    (subst (λ (f : List ℕ). Takes bytes f b.0.1) (sym back) t.0, below)
+    subst (λ (p : ℕ × Rest). Takes r (number p.0) p.1 × (p.0 < 2 ^ 32)) same
+    (subst (λ (f : List ℕ). Takes r f b.0.1) (sym back) t.0, below)
 
-pub number_again : (n : ℕ) (rest : List ℕ) → n < 2 ^ 32 → number_at (number n ++ rest) ≡ Ok (n, rest)
-number_again n rest lt = rw (bytes_again 4 (number n) rest refl, from_le_bytes-to_le_bytes_4 n lt) refl
+pub number_again : (n at : ℕ) (rest : List ℕ) → n < 2 ^ 32 → number_at (from at (number n ++ rest)) ≡ Ok (n, from (at + 4) rest)
+number_again n at rest lt = rw (bytes_again 4 at (number n) rest refl, from_le_bytes-to_le_bytes_4 n lt) refl
 
-pub where_takes : (test : ℕ → Bool) (rule : ImageRule) (bytes : List ℕ) (n : ℕ) (rest : List ℕ) → IsBytes bytes → number_where test rule bytes ≡ Ok (n, rest) → Takes bytes (number n) rest × (n < 2 ^ 32) × (test n ≡ true)
+pub number_stop : (r : Rest) (s : Refusal ImageRule) → number_at r ≡ Err s → s ≡ end_of r
+number_stop r s e =
+    elim (bind_err (bytes_at 4 r) (λ field. Ok (from_le_bytes w32 field.0, field.1)) s e) [
+      | inl short ↦ bytes_stop 4 r s short
+      | inr b ↦ absurd cc
+    ]
+
+pub where_takes : (test : ℕ → Bool) (rule : ImageRule) (r : Rest) (n : ℕ) (after : Rest) → IsBytes r.bytes → number_where test rule r ≡ Ok (n, after) → Takes r (number n) after × (n < 2 ^ 32) × (test n ≡ true)
 unfolding number_where
-where_takes test rule bytes n rest fits e =
-    let b = bind_ok (number_at bytes) (λ n. cond (test n.0) (Ok n) (refused rule bytes)) (n, rest) e in
-    let g = passed (test b.0.0) (stop rule bytes) b.0 (n, rest) b.2 in
-    let t = number_takes bytes b.0.0 b.0.1 fits b.1 in
-    subst (λ (p : ℕ × List ℕ). Takes bytes (number p.0) p.1 × (p.0 < 2 ^ 32) × (test p.0 ≡ true)) g.1 (t.0, t.1, g.0)
+where_takes test rule r n after fits e =
+    let b = bind_ok (number_at r) (λ n. cond (test n.0) (Ok n) (refused rule r)) (n, after) e in
+    let g = passed (test b.0.0) (record { rule = rule; at = r.at }) b.0 (n, after) b.2 in
+    let t = number_takes r b.0.0 b.0.1 fits b.1 in
+    subst (λ (p : ℕ × Rest). Takes r (number p.0) p.1 × (p.0 < 2 ^ 32) × (test p.0 ≡ true)) g.1 (t.0, t.1, g.0)
 
-pub where_again : (test : ℕ → Bool) (rule : ImageRule) (n : ℕ) (rest : List ℕ) → n < 2 ^ 32 → test n ≡ true → number_where test rule (number n ++ rest) ≡ Ok (n, rest)
+pub where_again : (test : ℕ → Bool) (rule : ImageRule) (n at : ℕ) (rest : List ℕ) → n < 2 ^ 32 → test n ≡ true → number_where test rule (from at (number n ++ rest)) ≡ Ok (n, from (at + 4) rest)
 unfolding number_where
-where_again test rule n rest lt is = rw (number_again n rest lt, is) refl
+where_again test rule n at rest lt is = rw (number_again n at rest lt, is) refl
 
--- ---- the header
+-- a number that does not pass the test
+pub record IsBad (test : ℕ → Bool) (r : Rest) (n : ℕ) : Type 0 where
+  pub fits : n < 2 ^ 32
+  pub rest : List ℕ
+  pub is : r.bytes ≡ number n ++ rest
+  pub fails : test n ≡ false
 
-byte_takes : (expected : ℕ) (bytes rest : List ℕ) → byte_at expected bytes ≡ Ok rest → bytes ≡ expected ∷ rest
-byte_takes expected [] rest e = absurd cc
-byte_takes expected (b ∷ bs) rest e =
-    let g = passed (eqb b expected) (stop _ (b ∷ bs)) bs rest e in
-    let is : b ≡ expected = eqb-true b expected g.0 in
-    cc
+-- the file ends too early, or the number does not pass the test
+pub where_stop : (test : ℕ → Bool) (rule : ImageRule) (r : Rest) (s : Refusal ImageRule) → IsBytes r.bytes → number_where test rule r ≡ Err s
+    → (s ≡ end_of r) ⊎ ((n : ℕ) × IsBad test r n × (s ≡ record { rule = rule; at = r.at }))
+unfolding number_where
+where_stop test rule r s fits e =
+    elim (bind_err (number_at r) (λ n. cond (test n.0) (Ok n) (refused rule r)) s e) [
+      | inl short ↦ inl (number_stop r s short)
+      | inr b ↦
+          let t = number_takes r b.0.0 b.0.1 fits b.1 in
+          let f = failed (test b.0.0) (record { rule = rule; at = r.at }) s b.0 b.2 in
+          inr (b.0.0, record { fits = t.1; rest = b.0.1.bytes; is = t.0.parts; fails = f.0 }, sym f.1)
+    ]
 
-magic_takes : (bytes rest : List ℕ) → IsBytes bytes → magic_at bytes ≡ Ok rest → Takes bytes magic rest
-unfolding magic_at
-magic_takes bytes rest fits e =
-    let d = bind_ok (byte_at 0x4c bytes >>= byte_at 0x57 >>= byte_at 0x43) (byte_at 0x31) rest e in
-    let c = bind_ok (byte_at 0x4c bytes >>= byte_at 0x57) (byte_at 0x43) d.0 d.1 in
-    let b = bind_ok (byte_at 0x4c bytes) (byte_at 0x57) c.0 c.1 in
-    let whole : bytes ≡ magic ++ rest = byte_takes 0x4c bytes b.0 b.1 ∙ ap (λ (t : List ℕ). 0x4c ∷ t) (byte_takes 0x57 b.0 c.0 b.2 ∙ ap (λ (t : List ℕ). 0x57 ∷ t) (byte_takes 0x43 c.0 d.0 c.2 ∙ ap (λ (t : List ℕ). 0x43 ∷ t) (byte_takes 0x31 d.0 rest d.2))) in
-    record { parts = whole; rest_fits = λ i. subst (λ (all : List ℕ). get_or all (suc (suc (suc (suc i)))) 0 < 256) whole (fits (suc (suc (suc (suc i))))) }
-
-magic_again : (rest : List ℕ) → magic_at (magic ++ rest) ≡ Ok rest
-unfolding magic_at
-magic_again rest = refl
-
--- a header whose counts are in their ranges
-pub record HeaderFits (h : Header) : Type 0 where
-  pub some : 1 ≤ h.instructions
-  pub instructions : h.instructions ≤ 65536
-  pub pages : h.pages ≤ page_limit
-  pub files : h.files ≤ 64
-  pub slots : h.slots ≤ 62
-  pub some_thread : 1 ≤ h.threads
-  pub threads : h.threads ≤ 16
-  pub uid : h.uid < 2 ^ 32
-
-count_takes : (least most : ℕ) (bytes : List ℕ) (n : ℕ) (rest : List ℕ) → IsBytes bytes → count_at least most bytes ≡ Ok (n, rest) → Takes bytes (number n) rest × (least ≤ n) × (n ≤ most)
-count_takes least most bytes n rest fits e =
-    let t = where_takes _ _ bytes n rest fits e in
-    let b = and_parts _ _ t.2 in
-    (t.0, leb-true _ _ b.0, leb-true _ _ b.1)
-
-count_again : (least most n : ℕ) (rest : List ℕ) → most < 2 ^ 32 → least ≤ n → n ≤ most → count_at least most (number n ++ rest) ≡ Ok (n, rest)
-count_again least most n rest lt low high = where_again _ _ n rest (omega arith) (and_from _ _ (le-leb _ _ low) (le-leb _ _ high))
-
-pub header_takes : (bytes : List ℕ) (h : Header) (rest : List ℕ) → IsBytes bytes → header_at bytes ≡ Ok (h, rest) → Takes bytes (header h) rest × HeaderFits h
-unfolding header_at
-header_takes bytes h rest fits e =
-    let m = bind_ok (magic_at bytes) _ _ e in
-    let a = bind_ok (count_at 1 65536 m.0) _ _ m.2 in
-    let b = bind_ok (count_at 0 page_limit a.0.1) _ _ a.2 in
-    let c = bind_ok (count_at 0 64 b.0.1) _ _ b.2 in
-    let d = bind_ok (count_at 0 62 c.0.1) _ _ c.2 in
-    let t = bind_ok (count_at 1 16 d.0.1) _ _ d.2 in
-    let u = bind_ok (number_at t.0.1) _ _ t.2 in
-    let made : Header × List ℕ = (record { instructions = a.0.0; pages = b.0.0; files = c.0.0; slots = d.0.0; threads = t.0.0; uid = u.0.0 }, u.0.1) in
-    let tm = magic_takes bytes m.0 fits m.1 in
-    let ta = count_takes 1 65536 m.0 a.0.0 a.0.1 tm.rest_fits a.1 in
-    let tb = count_takes 0 page_limit a.0.1 b.0.0 b.0.1 ta.0.rest_fits b.1 in
-    let tc = count_takes 0 64 b.0.1 c.0.0 c.0.1 tb.0.rest_fits c.1 in
-    let td = count_takes 0 62 c.0.1 d.0.0 d.0.1 tc.0.rest_fits d.1 in
-    let tt' = count_takes 1 16 d.0.1 t.0.0 t.0.1 td.0.rest_fits t.1 in
-    let tu = number_takes t.0.1 u.0.0 u.0.1 tt'.0.rest_fits u.1 in
-    let e5 = Takes-then d.0.1 (number t.0.0) t.0.1 (number u.0.0) u.0.1 tt'.0 tu.0 in
-    let e4 = Takes-then c.0.1 (number d.0.0) d.0.1 (number t.0.0 ++ number u.0.0) u.0.1 td.0 e5 in
-    let e3 = Takes-then b.0.1 (number c.0.0) c.0.1 (number d.0.0 ++ (number t.0.0 ++ number u.0.0)) u.0.1 tc.0 e4 in
-    let e2 = Takes-then a.0.1 (number b.0.0) b.0.1 (number c.0.0 ++ (number d.0.0 ++ (number t.0.0 ++ number u.0.0))) u.0.1 tb.0 e3 in
-    let e1 = Takes-then m.0 (number a.0.0) a.0.1 (number b.0.0 ++ (number c.0.0 ++ (number d.0.0 ++ (number t.0.0 ++ number u.0.0)))) u.0.1 ta.0 e2 in
-    let e0 = Takes-then bytes magic m.0 (number a.0.0 ++ (number b.0.0 ++ (number c.0.0 ++ (number d.0.0 ++ (number t.0.0 ++ number u.0.0))))) u.0.1 tm e1 in
-    subst (λ (y : Header × List ℕ). Takes bytes (header y.0) y.1 × HeaderFits y.0) (ok_is made (h, rest) u.2)
-    (e0, record { some = ta.1; instructions = ta.2; pages = tb.2; files = tc.2; slots = td.2; some_thread = tt'.1; threads = tt'.2; uid = tu.1 })
-
-pub header_again : (h : Header) (rest : List ℕ) → HeaderFits h → header_at (header h ++ rest) ≡ Ok (h, rest)
-unfolding header_at
-header_again h rest fits =
-    rw (
-      magic_again (number h.instructions ++ (number h.pages ++ (number h.files ++ (number h.slots ++ (number h.threads ++ (number h.uid ++ rest)))))),
-      count_again 1 65536 h.instructions (number h.pages ++ (number h.files ++ (number h.slots ++ (number h.threads ++ (number h.uid ++ rest))))) (lit< tt) fits.some fits.instructions,
-      count_again 0 page_limit h.pages (number h.files ++ (number h.slots ++ (number h.threads ++ (number h.uid ++ rest)))) (lit< tt) (omega arith) fits.pages,
-      count_again 0 64 h.files (number h.slots ++ (number h.threads ++ (number h.uid ++ rest))) (lit< tt) (omega arith) fits.files,
-      count_again 0 62 h.slots (number h.threads ++ (number h.uid ++ rest)) (lit< tt) (omega arith) fits.slots,
-      count_again 1 16 h.threads (number h.uid ++ rest) (lit< tt) fits.some_thread fits.threads,
-      number_again h.uid rest fits.uid,
-    ) refl
+pub where_fails : (test : ℕ → Bool) (rule : ImageRule) (n at : ℕ) (rest : List ℕ) → n < 2 ^ 32 → test n ≡ false → number_where test rule (from at (number n ++ rest)) ≡ Err (record { rule = rule; at = at })
+unfolding number_where
+where_fails test rule n at rest lt is = rw (number_again n at rest lt, is) refl

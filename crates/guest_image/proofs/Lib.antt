@@ -1,7 +1,10 @@
 pub mod Push
 pub mod Loops
 pub mod FieldLaws
+pub mod Stops
+pub mod HeaderLaws
 pub mod ValueLaws
 pub mod PartLaws
 pub mod WholeLaws
+pub mod Answered
 pub mod Writes

@@ -1,30 +1,38 @@
 -- Reading values one after another, as a loop does.
-use Rattle.std.proofs.Common.{◌≡◌, ℕ, suc, ◌-◌, ◌+◌, ◌≤◌, ◌<◌, List, [], ◌∷◌, ◌++◌, Result, Ok, Err, refl, sym, ◌∙◌, arith}
-use Rattle.guest_image.specs.declared.stop.Stop.{Stop}
-use Rattle.guest_image.specs.declared.stop.ReadError.{ReadError}
-use Rattle.guest_image.specs.declared.stop.ReadError.TheVariants as errors
-use Rattle.guest_image.specs.Reading.{Fails, list_at}
+use Rattle.std.proofs.Common.{◌≡◌, ℕ, suc, ◌-◌, ◌+◌, ◌≤◌, ◌<◌, List, [], ◌∷◌, ◌++◌, Ok, Err, refl, sym, ◌∙◌, arith}
+use Rattle.byte_reading.specs.Outcomes.{Fails}
+use Rattle.byte_reading.specs.declared.error.ReadError.{ReadError}
+use Rattle.byte_reading.specs.declared.error.ReadError.TheVariants as errors
+use Rattle.guest_image.specs.declared.fault.ImageRule.{ImageRule}
+use Rattle.guest_image.specs.Reading.{Read, list_at}
+use Rattle.guest_image.specs.Rest.{Rest}
 
-pub goes_on : {A : Type 0} (read : List A → List ℕ → Result (A × List ℕ) Stop) (count i : ℕ) (before : List A) (bytes : List ℕ) (x : A) (after : List ℕ) (total : Result (List A × List ℕ) Stop) → i < count → read before bytes ≡ Ok (x, after)
-    → list_at read (count - i) before bytes ≡ total → list_at read (count - (i + 1)) (before ++ x ∷ []) after ≡ total
-unfolding list_at
-goes_on read count i before bytes x after total lt h so_far =
-    let k : count - i ≡ suc (count - (i + 1)) = omega arith in
-    let one : list_at read (count - i) before bytes ≡ list_at read (count - (i + 1)) (before ++ x ∷ []) after = rw (k, h) refl in
-    sym one ∙ so_far
+-- how a value is read after others
+abbrev pub Reader : Type 0 → Type 0
+Reader A = List A → Rest → Read (A × Rest)
 
-pub ends : {A : Type 0} (read : List A → List ℕ → Result (A × List ℕ) Stop) (e : ReadError) (count i : ℕ) (before : List A) (bytes : List ℕ) (total : Result (List A × List ℕ) Stop) → i < count → Fails e (read before bytes)
-    → list_at read (count - i) before bytes ≡ total → Fails e total
-unfolding list_at
-ends read errors.OutOfMemory count i before bytes total lt h so_far = tt
-ends read (errors.Refused s) count i before bytes total lt h so_far =
-    let k : count - i ≡ suc (count - (i + 1)) = omega arith in
-    let one : list_at read (count - i) before bytes ≡ Err s = rw (k, h) refl in
-    sym so_far ∙ one
+module _ {A : Type 0} (read : Reader A) (count i : ℕ) (before : List A) (rest : Rest) (total : Read (List A × Rest)) (so_far : list_at read (count - i) before rest ≡ total) where
+  -- one more value was read
+  pub goes_on : (x : A) (after : Rest) → i < count → read before rest ≡ Ok (x, after) → list_at read (count - (i + 1)) (before ++ x ∷ []) after ≡ total
+  unfolding list_at
+  goes_on x after lt h =
+      let k : count - i ≡ suc (count - (i + 1)) = omega arith in
+      let one : list_at read (count - i) before rest ≡ list_at read (count - (i + 1)) (before ++ x ∷ []) after = rw (k, h) refl in
+      sym one ∙ so_far
 
-pub is_done : {A : Type 0} (read : List A → List ℕ → Result (A × List ℕ) Stop) (count i : ℕ) (before : List A) (bytes : List ℕ) (total : Result (List A × List ℕ) Stop) → count ≤ i → list_at read (count - i) before bytes ≡ total → total ≡ Ok (before, bytes)
-unfolding list_at
-is_done read count i before bytes total le so_far =
-    let k : count - i ≡ 0 = omega arith in
-    let one : list_at read (count - i) before bytes ≡ Ok (before, bytes) = rw k refl in
-    sym so_far ∙ one
+  -- a value was not read
+  pub ends : (e : ReadError ImageRule) → i < count → Fails e (read before rest) → Fails e total
+  unfolding list_at
+  ends errors.OutOfMemory lt h = tt
+  ends (errors.Refused rule at) lt h =
+      let k : count - i ≡ suc (count - (i + 1)) = omega arith in
+      let one : list_at read (count - i) before rest ≡ Err (record { rule = rule; at = at }) = rw (k, h) refl in
+      sym so_far ∙ one
+
+  -- all values were read
+  pub is_done : count ≤ i → total ≡ Ok (before, rest)
+  unfolding list_at
+  is_done le =
+      let k : count - i ≡ 0 = omega arith in
+      let one : list_at read (count - i) before rest ≡ Ok (before, rest) = rw k refl in
+      sym so_far ∙ one

@@ -1,7 +1,11 @@
-pub mod Rules
-pub mod Numbers
-pub mod Limits
-pub mod Spelling
-pub mod Reading
+pub use Rattle.byte_reading.specs.Outcomes
 pub use Rattle.guest_isa.specs.Instructions
 pub use Rattle.guest_isa.specs.Opcodes
+pub mod Facts
+pub mod Limits
+pub mod Numbers
+pub mod Reading
+pub mod Refusals
+pub mod Rest
+pub mod Rules
+pub mod Spelling

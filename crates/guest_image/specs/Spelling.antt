@@ -23,7 +23,9 @@ magic = codes "LWC1"
 
 -- the magic, five counts and the uid
 abbrev pub header : Header → List ℕ
-header h = magic ++ (number h.instructions ++ (number h.pages ++ (number h.files ++ (number h.slots ++ (number h.threads ++ number h.uid)))))
+header h =
+    magic ++ (number h.instructions ++ (number h.pages
+    ++ (number h.files ++ (number h.slots ++ (number h.threads ++ number h.uid)))))
 
 -- a page: its number and its bytes
 abbrev pub page : PageImage → List ℕ
@@ -37,13 +39,22 @@ file f = number f.owner ++ (flag f.public ++ (number (length f.bytes) ++ f.bytes
 abbrev pub slot : SlotImage → List ℕ
 slot s = number s.slot ++ number s.file
 
--- how many there are of each part of an image, and its uid
+-- the number of values of each list of an image, and its uid
 abbrev pub header_of : Image → Header
-header_of image = record { instructions = length image.text; pages = length image.pages; files = length image.files; slots = length image.slots; threads = length image.entries; uid = image.uid }
+header_of image = record {
+  instructions = length image.text;
+  pages = length image.pages;
+  files = length image.files;
+  slots = length image.slots;
+  threads = length image.entries;
+  uid = image.uid;
+}
 
 -- the parts after the header, one after another
 abbrev pub body : Image → List ℕ
-body image = flat_map instructions.spelling image.text ++ (flat_map page image.pages ++ (flat_map file image.files ++ (flat_map slot image.slots ++ flat_map number image.entries)))
+body image =
+    flat_map instructions.spelling image.text ++ (flat_map page image.pages
+    ++ (flat_map file image.files ++ (flat_map slot image.slots ++ flat_map number image.entries)))
 
 -- the bytes of an image
 unfoldable pub spelling : Image → List ℕ

@@ -3,10 +3,12 @@
 ghost use Rattle.std.specs.Prelude.{◌≡◌};
 ghost use Rattle.guest_image.specs.Rules.{rule_name};
 
-/// A rule that a file breaks which is no image.
+use byte_reading::ReadError;
+
+/// The rules of an image.
 #[derive(Clone, Copy, Debug, PartialEq, Eq)]
 pub enum ImageRule {
-    /// The file is longer than any image.
+    /// The file is longer than an image may be.
     TooLong,
     /// A byte of the magic differs.
     BadMagic,
@@ -14,7 +16,7 @@ pub enum ImageRule {
     Truncated,
     /// A count is out of its range.
     BadCount,
-    /// Eight bytes are no instruction.
+    /// The eight bytes of an instruction spell none.
     BadInstruction,
     /// An instruction's target is not below the number of instructions.
     BadTarget,
@@ -31,7 +33,7 @@ pub enum ImageRule {
 }
 
 impl ImageRule {
-    /// The rule's name, as text.
+    /// The rule's name.
     pub fn name(self) -> &'static str
         ensures { result.now ≡ rule_name self }
     {
@@ -51,11 +53,5 @@ impl ImageRule {
     }
 }
 
-/// Why no image was read.
-#[derive(Clone, Copy, Debug, PartialEq, Eq)]
-pub enum ImageFault {
-    /// Want of memory.
-    OutOfMemory,
-    /// The file is no image: the rule that it breaks first, and the offset in bytes where it does.
-    Refused { rule: ImageRule, at: u64 },
-}
+/// Why no image was read: memory ran out, or the file is refused.
+pub type ImageFault = ReadError<ImageRule>;

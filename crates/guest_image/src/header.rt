@@ -1,16 +1,16 @@
 //! The head of an image.
 
 ghost use Rattle.std.specs.Prelude.{◌≡◌, ◌≤◌, IfOk};
-ghost use Rattle.guest_image.specs.Reading.{Gives, byte_at, magic_at, count_at, header_at};
+ghost use Rattle.byte_reading.specs.Outcomes.{Answers};
+ghost use Rattle.lwc_base.specs.declared.limits.TheConstants.{MOST_FILES, MOST_INSTRUCTIONS};
+ghost use Rattle.guest_image.specs.Reading.{byte_at, magic_at, count_at, header_at};
 
-use crate::fault::ImageRule;
-use crate::fields::{number_of, refused};
-use crate::stop::ReadError;
+use crate::fault::{ImageFault, ImageRule};
+use crate::reader::Reader;
+use byte_reading::ReadError;
+use lwc_base::{MOST_FILES, MOST_IMAGE_SLOTS, MOST_INSTRUCTIONS, MOST_PAGES, MOST_THREADS};
 
-/// How many pages there may be, and each page's number is below it.
-pub(crate) const PAGE_LIMIT: u32 = 1024;
-
-/// How many there are of each part, and the uid.
+/// The number of values of each list, and the uid.
 #[derive(Clone, Copy, Debug)]
 pub(crate) struct Header {
     pub(crate) instructions: u32,
@@ -21,70 +21,76 @@ pub(crate) struct Header {
     pub(crate) uid: u32,
 }
 
-// What follows this byte of the magic.
-fn byte_of(expected: u8, bytes: &[u8]) -> Result<&[u8], ReadError>
-    ensures { Gives (λ x. x.now) result (byte_at expected bytes.now) }
-{
-    match bytes {
-        [] => Err(refused(ImageRule::Truncated, bytes)),
-        [first, rest @ ..] => {
-            if *first == expected {
-                Ok(rest)
-            } else {
-                Err(refused(ImageRule::BadMagic, bytes))
-            }
-        }
+impl Header {
+    /// Reads the head of an image.
+    #[tactic(auto, unfolding(crate::specs::Reading::header_at))]
+    pub(crate) fn read(reader: &mut Reader) -> Result<Header, ImageFault>
+        ensures read { Answers (λ h. (h, reader.new)) result (header_at reader.old) }
+        ensures some { IfOk result (λ h. 1 ≤ h.instructions) }
+        ensures bounded { IfOk result (λ h. h.instructions ≤ MOST_INSTRUCTIONS) }
+        ensures files { IfOk result (λ h. h.files ≤ MOST_FILES) }
+    {
+        read_magic(reader)?;
+        let instructions = read_count(reader, 1, MOST_INSTRUCTIONS)?;
+        let pages = read_count(reader, 0, MOST_PAGES)?;
+        let files = read_count(reader, 0, MOST_FILES)?;
+        let slots = read_count(reader, 0, MOST_IMAGE_SLOTS)?;
+        let threads = read_count(reader, 1, MOST_THREADS)?;
+        let uid = reader.number()?;
+        Ok(Header {
+            instructions,
+            pages,
+            files,
+            slots,
+            threads,
+            uid,
+        })
     }
 }
 
-// What follows the magic.
+/// Reads the magic.
 #[tactic(auto, unfolding(crate::specs::Reading::magic_at))]
-fn magic_of(bytes: &[u8]) -> Result<&[u8], ReadError>
-    ensures { Gives (λ x. x.now) result (magic_at bytes.now) }
+fn read_magic(reader: &mut Reader) -> Result<(), ImageFault>
+    ensures { Answers (λ _. reader.new) result (magic_at reader.old) }
 {
-    let rest = byte_of(b'L', bytes)?;
-    let rest = byte_of(b'W', rest)?;
-    let rest = byte_of(b'C', rest)?;
-    byte_of(b'1', rest)
+    read_byte(reader, b'L')?;
+    read_byte(reader, b'W')?;
+    read_byte(reader, b'C')?;
+    read_byte(reader, b'1')
 }
 
-// A count within its range, and the bytes after it.
-#[tactic(auto, unfolding(crate::specs::Reading::number_where))]
-fn count_of(least: u32, most: u32, bytes: &[u8]) -> Result<(u32, &[u8]), ReadError>
-    ensures given { Gives (λ x. (x.0, x.1.now)) result (count_at least most bytes.now) }
-    ensures least { IfOk result (λ x. least ≤ x.0) }
-    ensures most { IfOk result (λ x. x.0 ≤ most) }
+/// Reads this byte of the magic.
+#[tactic(auto, unfolding(crate::specs::Reading::byte_at))]
+fn read_byte(reader: &mut Reader, expected: u8) -> Result<(), ImageFault>
+    ensures { Answers (λ _. reader.new) result (byte_at expected reader.old) }
 {
-    let (count, rest) = number_of(bytes)?;
-    if least <= count && count <= most {
-        Ok((count, rest))
+    let at = reader.offset();
+    let field = reader.bytes(1)?;
+    if field[0] == expected {
+        Ok(())
     } else {
-        Err(refused(ImageRule::BadCount, bytes))
+        Err(ReadError::Refused {
+            rule: ImageRule::BadMagic,
+            at,
+        })
     }
 }
 
-// The head of an image, and the bytes after it.
-#[tactic(auto, unfolding(crate::specs::Reading::header_at))]
-pub(crate) fn header_of(bytes: &[u8]) -> Result<(Header, &[u8]), ReadError>
-    ensures given { Gives (λ x. (x.0, x.1.now)) result (header_at bytes.now) }
-    ensures some { IfOk result (λ x. 1 ≤ x.0.instructions) }
-    ensures bounded { IfOk result (λ x. x.0.instructions ≤ 65536) }
-    ensures files { IfOk result (λ x. x.0.files ≤ 64) }
+/// Reads a count that has to be within a range.
+#[tactic(auto, unfolding(crate::specs::Reading::number_where))]
+fn read_count(reader: &mut Reader, least: u32, most: u32) -> Result<u32, ImageFault>
+    ensures read { Answers (λ n. (n, reader.new)) result (count_at least most reader.old) }
+    ensures least { IfOk result (λ n. least ≤ n) }
+    ensures most { IfOk result (λ n. n ≤ most) }
 {
-    let rest = magic_of(bytes)?;
-    let (instructions, rest) = count_of(1, 65536, rest)?;
-    let (pages, rest) = count_of(0, PAGE_LIMIT, rest)?;
-    let (files, rest) = count_of(0, 64, rest)?;
-    let (slots, rest) = count_of(0, 62, rest)?;
-    let (threads, rest) = count_of(1, 16, rest)?;
-    let (uid, rest) = number_of(rest)?;
-    let header = Header {
-        instructions,
-        pages,
-        files,
-        slots,
-        threads,
-        uid,
-    };
-    Ok((header, rest))
+    let at = reader.offset();
+    let count = reader.number()?;
+    if least <= count && count <= most {
+        Ok(count)
+    } else {
+        Err(ReadError::Refused {
+            rule: ImageRule::BadCount,
+            at,
+        })
+    }
 }

@@ -3,19 +3,22 @@
 use guest_isa::Text;
 use lwc_base::{FileImage, PageBytes, Sequence};
 
-/// A page of an image: its number, and its 4096 bytes.
+/// The first slot that an image may fill; those below it are the console.
+pub const FIRST_SLOT: u8 = 2;
+
+/// A page of an image: its number and its bytes.
 #[derive(Debug, Drop)]
 pub struct PageImage {
-    /// The number, below 1024.
+    /// The number, below `MOST_PAGES`.
     pub number: u16,
     /// What the page holds.
     pub bytes: PageBytes,
 }
 
-/// A slot that is filled from the start: it stands for a file of the image.
+/// A slot that is filled from the start, with a file of the image.
 #[derive(Clone, Copy, Debug, PartialEq, Eq)]
 pub struct SlotImage {
-    /// The slot, 2 to 63.
+    /// The slot, from `FIRST_SLOT` on.
     pub slot: u8,
     /// The file's place in the image's list of files.
     pub file: u8,

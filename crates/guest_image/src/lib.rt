@@ -1,20 +1,19 @@
 //! Images of guests: a grammar of bytes, read and written.
 #![tactic(auto)]
 
-mod copying;
 mod fault;
-mod fields;
 mod header;
 mod image;
+mod laws;
 mod lists;
 mod parts;
+mod reader;
 mod reading;
-mod stop;
 mod writing;
 
-pub use copying::copy_image;
 pub use fault::{ImageFault, ImageRule};
-pub use image::{Image, PageImage, SlotImage};
+pub use image::{FIRST_SLOT, Image, PageImage, SlotImage};
+pub use laws::images_are_read_as_spelled;
 pub use reading::read_image;
 pub use writing::write_image;
 

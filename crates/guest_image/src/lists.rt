@@ -1,112 +1,105 @@
 //! The lists of an image, each as long as its header says.
 
-ghost use Rattle.std.specs.Prelude.{◌≡◌, ◌≤◌, IfOk};
-ghost use Rattle.guest_image.specs.Reading.{Gives, instructions_at, pages_at, files_at, slots_at, entries_at};
+ghost use Rattle.std.specs.Prelude.{◌≡◌, ◌≤◌};
+ghost use Rattle.byte_reading.specs.Outcomes.{Answers};
+ghost use Rattle.lwc_base.specs.declared.limits.TheConstants.{MOST_FILES, MOST_INSTRUCTIONS};
+ghost use Rattle.guest_image.specs.Reading.{instructions_at, pages_at, files_at, slots_at, entries_at};
 
+use crate::fault::{ImageFault, ImageRule};
 use crate::image::{PageImage, SlotImage};
-use crate::parts::{entry_of, file_of, instruction_of, page_of, ranges_with, slot_of};
-use crate::stop::ReadError;
+use crate::parts::{
+    ranges_with, read_file, read_instruction, read_number_below, read_page, read_slot,
+};
+use crate::reader::Reader;
 use guest_isa::Text;
 use lwc_base::{FileImage, Sequence};
 use std::alloc::Global;
 
-// So many instructions, and the bytes after them.
-pub(crate) fn text_of(alloc: Global, count: u32, bytes: &[u8]) -> Result<(Text, &[u8]), ReadError>
+/// Reads a text of this length.
+pub(crate) fn read_text(alloc: Global, reader: &mut Reader, count: u32) -> Result<Text, ImageFault>
     requires some { 1 ≤ count }
-    requires bounded { count ≤ 65536 }
-    ensures { Gives (λ x. (x.0, x.1.now)) result (instructions_at count bytes.now) }
+    requires bounded { count ≤ MOST_INSTRUCTIONS }
+    ensures { Answers (λ text. (text, reader.new)) result (instructions_at count reader.old) }
 {
     let mut instructions = Vec::new(alloc);
-    let mut rest = bytes;
     for _ in 0..count {
-        let (instr, after) = instruction_of(count, rest)?;
-        instructions.push(instr)?;
-        rest = after;
+        instructions.push(read_instruction(reader, count)?)?;
     }
-    Ok((Text::of(instructions), rest))
+    Ok(Text::of(instructions))
 }
 
-// So many pages, and the bytes after them.
+/// Reads a number of pages.
 #[tactic(auto, unfolding(crate::specs::Numbers::last_after, crate::specs::Numbers::ranges_after))]
-pub(crate) fn pages_of(
+pub(crate) fn read_pages(
     alloc: Global,
+    reader: &mut Reader,
     count: u32,
-    bytes: &[u8],
-) -> Result<(Sequence<PageImage>, &[u8]), ReadError>
-    ensures { Gives (λ x. (x.0, x.1.now)) result (pages_at count bytes.now) }
+) -> Result<Sequence<PageImage>, ImageFault>
+    ensures { Answers (λ pages. (pages, reader.new)) result (pages_at count reader.old) }
 {
     let mut pages = Vec::new(alloc);
     let mut last = None;
     let mut ranges = 0;
-    let mut rest = bytes;
     for _ in 0..count {
-        let (page, after) = page_of(alloc, last, ranges, rest)?;
+        let page = read_page(alloc, reader, last, ranges)?;
         ranges = ranges_with(ranges, last, u32::from(page.number));
         last = Some(page.number);
         pages.push(page)?;
-        rest = after;
     }
-    Ok((Sequence::of(pages), rest))
+    Ok(Sequence::of(pages))
 }
 
-// So many files, and the bytes after them.
-pub(crate) fn files_of(
+/// Reads a number of files.
+pub(crate) fn read_files(
     alloc: Global,
+    reader: &mut Reader,
     count: u32,
-    bytes: &[u8],
-) -> Result<(Sequence<FileImage>, &[u8]), ReadError>
-    ensures { Gives (λ x. (x.0, x.1.now)) result (files_at count bytes.now) }
+) -> Result<Sequence<FileImage>, ImageFault>
+    ensures { Answers (λ files. (files, reader.new)) result (files_at count reader.old) }
 {
     let mut files = Vec::new(alloc);
     let mut content = 0;
-    let mut rest = bytes;
     for _ in 0..count {
-        let (file, after) = file_of(alloc, content, rest)?;
-        content += file.bytes.len() as u64;
+        let file = read_file(alloc, reader, content)?;
+        content += file.bytes.len() as u32;
         files.push(file)?;
-        rest = after;
     }
-    Ok((Sequence::of(files), rest))
+    Ok(Sequence::of(files))
 }
 
-// So many slots, each with one of so many files, and the bytes after them.
+/// Reads a number of slots, each with one of the files.
 #[tactic(auto, unfolding(crate::specs::Numbers::last_after))]
-pub(crate) fn slots_of(
+pub(crate) fn read_slots(
     alloc: Global,
+    reader: &mut Reader,
     files: u32,
     count: u32,
-    bytes: &[u8],
-) -> Result<(Sequence<SlotImage>, &[u8]), ReadError>
-    requires { files ≤ 64 }
-    ensures { Gives (λ x. (x.0, x.1.now)) result (slots_at files count bytes.now) }
+) -> Result<Sequence<SlotImage>, ImageFault>
+    requires { files ≤ MOST_FILES }
+    ensures { Answers (λ slots. (slots, reader.new)) result (slots_at files count reader.old) }
 {
     let mut slots = Vec::new(alloc);
     let mut last = None;
-    let mut rest = bytes;
     for _ in 0..count {
-        let (slot, after) = slot_of(files, last, rest)?;
-        slots.push(slot)?;
+        let slot = read_slot(reader, files, last)?;
         last = Some(u16::from(slot.slot));
-        rest = after;
+        slots.push(slot)?;
     }
-    Ok((Sequence::of(slots), rest))
+    Ok(Sequence::of(slots))
 }
 
-// So many entries into a text, and the bytes after them.
-pub(crate) fn entries_of(
+/// Reads a number of entries into a text.
+pub(crate) fn read_entries(
     alloc: Global,
+    reader: &mut Reader,
     instructions: u32,
     count: u32,
-    bytes: &[u8],
-) -> Result<(Sequence<u32>, &[u8]), ReadError>
-    ensures { Gives (λ x. (x.0, x.1.now)) result (entries_at instructions count bytes.now) }
+) -> Result<Sequence<u32>, ImageFault>
+    ensures { Answers (λ entries. (entries, reader.new)) result (entries_at instructions count reader.old) }
 {
     let mut entries = Vec::new(alloc);
-    let mut rest = bytes;
     for _ in 0..count {
-        let (entry, after) = entry_of(instructions, rest)?;
-        entries.push(entry)?;
-        rest = after;
+        entries.push(read_number_below(reader, instructions, ImageRule::BadEntry)?)?;
     }
-    Ok((Sequence::of(entries), rest))
+    Ok(Sequence::of(entries))
 }

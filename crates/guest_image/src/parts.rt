@@ -1,50 +1,93 @@
 //! One instruction, page, file, slot or entry of an image.
 
-ghost use Rattle.std.specs.Prelude.{◌≡◌, ◌+◌, ◌≤◌, length, IfOk};
+ghost use Rattle.std.specs.Prelude.{◌≡◌, ◌+◌, ◌<◌, ◌≤◌, length, IfOk};
+ghost use Rattle.byte_reading.specs.Outcomes.{Answers};
 ghost use Rattle.guest_isa.specs.Instructions.{IsInstruction};
+ghost use Rattle.lwc_base.specs.declared.limits.TheConstants.{MOST_FILE_BYTES, MOST_FILES, MOST_RANGES};
 ghost use Rattle.guest_image.specs.Numbers.{is_above, begins, ranges_with};
-ghost use Rattle.guest_image.specs.Limits.{stays_inside, content_limit, range_limit};
-ghost use Rattle.guest_image.specs.Reading.{Gives, instruction_at, page_number_at, page_at, public_at, length_at, file_at, slot_number_at, slot_file_at, slot_at, entry_at};
+ghost use Rattle.guest_image.specs.Limits.{stays_inside};
+ghost use Rattle.guest_image.specs.Reading.{number_below, instruction_at, page_number_at, page_at, public_at, length_at, file_at, slot_number_at, slot_at};
 
-use crate::fault::ImageRule;
-use crate::fields::{bytes_of, number_of, refused};
-use crate::header::PAGE_LIMIT;
-use crate::image::{PageImage, SlotImage};
-use crate::stop::ReadError;
+use crate::fault::{ImageFault, ImageRule};
+use crate::image::{FIRST_SLOT, PageImage, SlotImage};
+use crate::reader::Reader;
+use byte_reading::ReadError;
 use guest_isa::{Instr, decode};
-use lwc_base::{FileImage, PAGE_BYTES, PageBytes, Sequence};
+use lwc_base::{
+    FileImage, MOST_FILE_BYTES, MOST_PAGES, MOST_RANGES, PAGE_BYTES, PageBytes, SLOTS, Sequence,
+};
 use std::alloc::Global;
 
-/// How many ranges the pages may make.
-const RANGE_LIMIT: u16 = 64;
-/// How many bytes the files of an image may have together.
-const CONTENT_LIMIT: u64 = 1_048_576;
+/// Reads an instruction of a text of this length.
+#[tactic(auto, unfolding(crate::specs::Reading::instruction_at))]
+pub(crate) fn read_instruction(reader: &mut Reader, count: u32) -> Result<Instr, ImageFault>
+    ensures read { Answers (λ i. (i, reader.new)) result (instruction_at count reader.old) }
+    ensures instruction { IfOk result (λ i. IsInstruction i) }
+{
+    let at = reader.offset();
+    let field = reader.bytes(8)?;
+    let Some(instr) = decode(field) else {
+        return Err(ReadError::Refused {
+            rule: ImageRule::BadInstruction,
+            at,
+        });
+    };
+    if stays_inside(count, &instr) {
+        Ok(instr)
+    } else {
+        Err(ReadError::Refused {
+            rule: ImageRule::BadTarget,
+            at,
+        })
+    }
+}
 
-// Whether an instruction that has a target stays inside a text of so many instructions.
+/// Whether the target of an instruction, if it has one, is in a text of this length.
 fn stays_inside(count: u32, instr: &Instr) -> bool
     ensures { result ≡ stays_inside count instr.now }
 {
     !instr.op.has_target() || instr.imm < count
 }
 
-// An instruction of a text of so many.
-#[tactic(auto, unfolding(crate::specs::Reading::instruction_at))]
-pub(crate) fn instruction_of(count: u32, bytes: &[u8]) -> Result<(Instr, &[u8]), ReadError>
-    ensures given { Gives (λ x. (x.0, x.1.now)) result (instruction_at count bytes.now) }
-    ensures instruction { IfOk result (λ x. IsInstruction x.0) }
+/// Reads a page, after pages with this last number and number of ranges.
+#[tactic(auto, unfolding(crate::specs::Reading::page_at))]
+pub(crate) fn read_page(
+    alloc: Global,
+    reader: &mut Reader,
+    last: Option<u16>,
+    ranges: u32,
+) -> Result<PageImage, ImageFault>
+    requires { ranges ≤ MOST_RANGES }
+    ensures read { Answers (λ p. (p, reader.new)) result (page_at last ranges reader.old) }
+    ensures room { IfOk result (λ p. ranges_with ranges last p.number ≤ MOST_RANGES) }
 {
-    let (field, rest) = bytes_of(8, bytes)?;
-    let Some(instr) = decode(field) else {
-        return Err(refused(ImageRule::BadInstruction, bytes));
-    };
-    if stays_inside(count, &instr) {
-        Ok((instr, rest))
+    let number = read_page_number(reader, last, ranges)?;
+    let field = reader.bytes(PAGE_BYTES)?;
+    let bytes = PageBytes::from_slice(alloc, field)?;
+    Ok(PageImage { number, bytes })
+}
+
+/// Reads the number of a page.
+#[tactic(auto, unfolding(crate::specs::Reading::number_where))]
+fn read_page_number(reader: &mut Reader, last: Option<u16>, ranges: u32) -> Result<u16, ImageFault>
+    requires { ranges ≤ MOST_RANGES }
+    ensures read { Answers (λ n. (n, reader.new)) result (page_number_at last ranges reader.old) }
+    ensures room { IfOk result (λ n. ranges_with ranges last n ≤ MOST_RANGES) }
+{
+    let at = reader.offset();
+    let number = reader.number()?;
+    let ranges = ranges_with(ranges, last, number);
+    if number < MOST_PAGES && is_above(last, number) && ranges <= MOST_RANGES {
+        Ok(number as u16)
     } else {
-        Err(refused(ImageRule::BadTarget, bytes))
+        Err(ReadError::Refused {
+            rule: ImageRule::BadPage,
+            at,
+        })
     }
 }
 
-// Whether a number is above the one before it.
+/// Whether a number is above the one before it.
 fn is_above(last: Option<u16>, number: u32) -> bool
     ensures { result ≡ is_above last number }
 {
@@ -54,19 +97,9 @@ fn is_above(last: Option<u16>, number: u32) -> bool
     }
 }
 
-// Whether a number begins a range: it doesn't come directly after the number before it.
-fn begins(last: Option<u16>, number: u32) -> bool
-    ensures { result ≡ begins last number }
-{
-    match last {
-        None => true,
-        Some(last) => number != u32::from(last) + 1,
-    }
-}
-
-// So many ranges, and one more where a number begins one.
-pub(crate) fn ranges_with(ranges: u16, last: Option<u16>, number: u32) -> u16
-    requires { ranges ≤ range_limit }
+/// The number of ranges, with one more where a number begins one.
+pub(crate) fn ranges_with(ranges: u32, last: Option<u16>, number: u32) -> u32
+    requires { ranges ≤ MOST_RANGES }
     ensures { result ≡ ranges_with ranges last number }
 {
     if begins(last, number) {
@@ -76,143 +109,122 @@ pub(crate) fn ranges_with(ranges: u16, last: Option<u16>, number: u32) -> u16
     }
 }
 
-// A page's number, and the bytes after it.
-#[tactic(auto, unfolding(crate::specs::Reading::number_where))]
-fn page_number_of(last: Option<u16>, ranges: u16, bytes: &[u8]) -> Result<(u16, &[u8]), ReadError>
-    requires { ranges ≤ range_limit }
-    ensures given { Gives (λ x. (x.0, x.1.now)) result (page_number_at last ranges bytes.now) }
-    ensures room { IfOk result (λ x. ranges_with ranges last x.0 ≤ range_limit) }
+/// Whether a number begins a range: it does not come directly after the number before it.
+fn begins(last: Option<u16>, number: u32) -> bool
+    ensures { result ≡ begins last number }
 {
-    let (number, rest) = number_of(bytes)?;
-    let ranges = ranges_with(ranges, last, number);
-    if number < PAGE_LIMIT && is_above(last, number) && ranges <= RANGE_LIMIT {
-        Ok((number as u16, rest))
-    } else {
-        Err(refused(ImageRule::BadPage, bytes))
+    match last {
+        None => true,
+        Some(last) => number != u32::from(last) + 1,
     }
 }
 
-// A page, after pages with this last number and so many ranges.
-#[tactic(auto, unfolding(crate::specs::Reading::page_at))]
-pub(crate) fn page_of(
-    alloc: Global,
-    last: Option<u16>,
-    ranges: u16,
-    bytes: &[u8],
-) -> Result<(PageImage, &[u8]), ReadError>
-    requires { ranges ≤ range_limit }
-    ensures given { Gives (λ x. (x.0, x.1.now)) result (page_at last ranges bytes.now) }
-    ensures room { IfOk result (λ x. ranges_with ranges last x.0.number ≤ range_limit) }
-{
-    let (number, rest) = page_number_of(last, ranges, bytes)?;
-    let (field, rest) = bytes_of(PAGE_BYTES, rest)?;
-    let bytes = PageBytes::from_slice(alloc, field)?;
-    Ok((PageImage { number, bytes }, rest))
-}
-
-// Whether a file is public, and the bytes after it.
-#[tactic(auto, unfolding(crate::specs::Reading::number_where))]
-fn public_of(bytes: &[u8]) -> Result<(bool, &[u8]), ReadError>
-    ensures { Gives (λ x. (x.0, x.1.now)) result (public_at bytes.now) }
-{
-    let (flag, rest) = number_of(bytes)?;
-    if flag < 2 {
-        Ok((flag == 1, rest))
-    } else {
-        Err(refused(ImageRule::BadFile, bytes))
-    }
-}
-
-// A file's length, and the bytes after it.
-#[tactic(auto, unfolding(crate::specs::Reading::number_where))]
-fn length_of(content: u64, bytes: &[u8]) -> Result<(u32, &[u8]), ReadError>
-    requires { content ≤ content_limit }
-    ensures given { Gives (λ x. (x.0, x.1.now)) result (length_at content bytes.now) }
-    ensures room { IfOk result (λ x. content + x.0 ≤ content_limit) }
-{
-    let (length, rest) = number_of(bytes)?;
-    if content + u64::from(length) <= CONTENT_LIMIT {
-        Ok((length, rest))
-    } else {
-        Err(refused(ImageRule::BadFile, bytes))
-    }
-}
-
-// A file, after files of so many bytes.
+/// Reads a file, after files with this number of bytes.
 #[tactic(auto, unfolding(crate::specs::Reading::file_at))]
-pub(crate) fn file_of(
+pub(crate) fn read_file(
     alloc: Global,
-    content: u64,
-    bytes: &[u8],
-) -> Result<(FileImage, &[u8]), ReadError>
-    requires { content ≤ content_limit }
-    ensures given { Gives (λ x. (x.0, x.1.now)) result (file_at content bytes.now) }
-    ensures room { IfOk result (λ x. content + length x.0.bytes ≤ content_limit) }
+    reader: &mut Reader,
+    content: u32,
+) -> Result<FileImage, ImageFault>
+    requires { content ≤ MOST_FILE_BYTES }
+    ensures read { Answers (λ f. (f, reader.new)) result (file_at content reader.old) }
+    ensures room { IfOk result (λ f. content + length f.bytes ≤ MOST_FILE_BYTES) }
 {
-    let (owner, rest) = number_of(bytes)?;
-    let (public, rest) = public_of(rest)?;
-    let (length, rest) = length_of(content, rest)?;
-    let (field, rest) = bytes_of(length as usize, rest)?;
+    let owner = reader.number()?;
+    let public = read_public(reader)?;
+    let length = read_length(reader, content)?;
+    let field = reader.bytes(length as usize)?;
     let bytes = Sequence::of(Vec::from_slice(alloc, field)?);
-    let file = FileImage {
+    Ok(FileImage {
         owner,
         public,
         bytes,
-    };
-    Ok((file, rest))
+    })
 }
 
-// A slot's number, and the bytes after it.
+/// Reads whether a file is public.
 #[tactic(auto, unfolding(crate::specs::Reading::number_where))]
-fn slot_number_of(last: Option<u16>, bytes: &[u8]) -> Result<(u8, &[u8]), ReadError>
-    ensures { Gives (λ x. (x.0, x.1.now)) result (slot_number_at last bytes.now) }
+fn read_public(reader: &mut Reader) -> Result<bool, ImageFault>
+    ensures { Answers (λ b. (b, reader.new)) result (public_at reader.old) }
 {
-    let (slot, rest) = number_of(bytes)?;
-    if 2 <= slot && slot < 64 && is_above(last, slot) {
-        Ok((slot as u8, rest))
+    let at = reader.offset();
+    let flag = reader.number()?;
+    if flag < 2 {
+        Ok(flag == 1)
     } else {
-        Err(refused(ImageRule::BadSlot, bytes))
+        Err(ReadError::Refused {
+            rule: ImageRule::BadFile,
+            at,
+        })
     }
 }
 
-// One of so many files, and the bytes after it.
+/// Reads a file's length, after files with this number of bytes.
 #[tactic(auto, unfolding(crate::specs::Reading::number_where))]
-fn slot_file_of(files: u32, bytes: &[u8]) -> Result<(u8, &[u8]), ReadError>
-    requires { files ≤ 64 }
-    ensures { Gives (λ x. (x.0, x.1.now)) result (slot_file_at files bytes.now) }
+fn read_length(reader: &mut Reader, content: u32) -> Result<u32, ImageFault>
+    requires { content ≤ MOST_FILE_BYTES }
+    ensures read { Answers (λ n. (n, reader.new)) result (length_at content reader.old) }
+    ensures room { IfOk result (λ n. content + n ≤ MOST_FILE_BYTES) }
 {
-    let (file, rest) = number_of(bytes)?;
-    if file < files {
-        Ok((file as u8, rest))
+    let at = reader.offset();
+    let length = reader.number()?;
+    if u64::from(content) + u64::from(length) <= u64::from(MOST_FILE_BYTES) {
+        Ok(length)
     } else {
-        Err(refused(ImageRule::BadSlot, bytes))
+        Err(ReadError::Refused {
+            rule: ImageRule::BadFile,
+            at,
+        })
     }
 }
 
-// A slot, after slots with this last number, with one of so many files.
+/// Reads a slot with one of the files, after a slot with this number.
 #[tactic(auto, unfolding(crate::specs::Reading::slot_at))]
-pub(crate) fn slot_of(
+pub(crate) fn read_slot(
+    reader: &mut Reader,
     files: u32,
     last: Option<u16>,
-    bytes: &[u8],
-) -> Result<(SlotImage, &[u8]), ReadError>
-    requires { files ≤ 64 }
-    ensures { Gives (λ x. (x.0, x.1.now)) result (slot_at files last bytes.now) }
+) -> Result<SlotImage, ImageFault>
+    requires { files ≤ MOST_FILES }
+    ensures { Answers (λ s. (s, reader.new)) result (slot_at files last reader.old) }
 {
-    let (slot, rest) = slot_number_of(last, bytes)?;
-    let (file, rest) = slot_file_of(files, rest)?;
-    Ok((SlotImage { slot, file }, rest))
+    let slot = read_slot_number(reader, last)?;
+    let file = read_number_below(reader, files, ImageRule::BadSlot)? as u8;
+    Ok(SlotImage { slot, file })
 }
 
-// Where a thread begins, in a text of so many instructions.
+/// Reads the number of a slot.
 #[tactic(auto, unfolding(crate::specs::Reading::number_where))]
-pub(crate) fn entry_of(instructions: u32, bytes: &[u8]) -> Result<(u32, &[u8]), ReadError>
-    ensures { Gives (λ x. (x.0, x.1.now)) result (entry_at instructions bytes.now) }
+fn read_slot_number(reader: &mut Reader, last: Option<u16>) -> Result<u8, ImageFault>
+    ensures { Answers (λ n. (n, reader.new)) result (slot_number_at last reader.old) }
 {
-    let (entry, rest) = number_of(bytes)?;
-    if entry < instructions {
-        Ok((entry, rest))
+    let at = reader.offset();
+    let slot = reader.number()?;
+    if u32::from(FIRST_SLOT) <= slot && slot < u32::from(SLOTS) && is_above(last, slot) {
+        Ok(slot as u8)
     } else {
-        Err(refused(ImageRule::BadEntry, bytes))
+        Err(ReadError::Refused {
+            rule: ImageRule::BadSlot,
+            at,
+        })
+    }
+}
+
+/// Reads a number that has to be below a limit.
+#[tactic(auto, unfolding(crate::specs::Reading::number_where))]
+pub(crate) fn read_number_below(
+    reader: &mut Reader,
+    limit: u32,
+    rule: ImageRule,
+) -> Result<u32, ImageFault>
+    ensures read { Answers (λ n. (n, reader.new)) result (number_below limit rule reader.old) }
+    ensures below { IfOk result (λ n. n < limit) }
+{
+    let at = reader.offset();
+    let number = reader.number()?;
+    if number < limit {
+        Ok(number)
+    } else {
+        Err(ReadError::Refused { rule, at })
     }
 }

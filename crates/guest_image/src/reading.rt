@@ -1,35 +1,80 @@
 //! Reading an image.
 
-ghost use Rattle.std.specs.Prelude.{◌≡◌, IfOk, Ok, Err};
+ghost use Rattle.std.specs.Prelude.{◌≡◌, ℕ, IfOk, Ok, Err};
+ghost use Rattle.byte_reading.specs.Outcomes.{Answers};
+ghost use Rattle.byte_reading.specs.declared.error.ReadError.TheVariants.{Refused};
+ghost use Rattle.guest_image.specs.declared.fault.ImageRule.{ImageRule};
 ghost use Rattle.guest_image.specs.declared.image.Image.{Image};
 ghost use Rattle.guest_image.specs.Limits.{IsImage};
+ghost use Rattle.guest_image.specs.Refusals.{IsRefused};
 ghost use Rattle.guest_image.specs.Spelling.{spelling};
-ghost use Rattle.guest_image.specs.Reading.{Gives, Answers, parts_at, image_at};
+ghost use Rattle.guest_image.specs.Reading.{parts_at, image_at};
 
 use crate::fault::{ImageFault, ImageRule};
-use crate::fields::refused;
-use crate::header::header_of;
+use crate::header::Header;
 use crate::image::Image;
-use crate::lists::{entries_of, files_of, pages_of, slots_of, text_of};
-use crate::stop::ReadError;
+use crate::laws::images_are_read_as_spelled;
+use crate::lists::{read_entries, read_files, read_pages, read_slots, read_text};
+use crate::reader::Reader;
+use byte_reading::ReadError;
+use lwc_base::MOST_IMAGE_BYTES;
 use std::alloc::Global;
 
-/// How many bytes a file of an image may have.
-const FILE_LIMIT: usize = 8_388_608;
-
-// Every part of the file, and nothing after the last.
-#[tactic(auto, unfolding(crate::specs::Reading::parts_at))]
-fn parts_of(alloc: Global, bytes: &[u8]) -> Result<Image, ReadError>
-    ensures { Gives (λ image. image) result (parts_at bytes.now) }
+/// The image that these bytes spell, all of them.
+///
+/// # Errors
+///
+/// Out of memory, or the first refusal: the rule that the file breaks first from its first byte to its
+/// last, and the offset in bytes where it does (`IsRefused`).
+pub fn read_image(alloc: Global, bytes: &[u8]) -> Result<Image, ImageFault>
+    // What is read is within the limits, and these are its bytes.
+    ensures found { IfOk result (λ image. IsImage image × (bytes.now ≡ spelling image)) }
+    // The bytes of an image within the limits are read as that image, unless memory runs out.
+    ensures only { (image : Image) → IsImage image → bytes.now ≡ spelling image
+        → Answers (λ read. read) result (Ok image) }
+    // A refusal is so: the file breaks this rule at this offset.
+    ensures refused { (rule : ImageRule) (at : ℕ) → result ≡ Err (Refused rule at)
+        → IsRefused bytes.now rule at }
+    // A file that breaks a rule at an offset is refused so, unless memory runs out.
+    ensures only_refused { (rule : ImageRule) (at : ℕ) → IsRefused bytes.now rule at
+        → Answers (λ read. read) result (Err (record { rule = rule; at = at })) }
+    // What is answered is what the reading gives, unless memory runs out.
+    ensures exact { Answers (λ image. image) result (image_at bytes.now) }
 {
-    let (header, rest) = header_of(bytes)?;
-    let (text, rest) = text_of(alloc, header.instructions, rest)?;
-    let (pages, rest) = pages_of(alloc, header.pages, rest)?;
-    let (files, rest) = files_of(alloc, header.files, rest)?;
-    let (slots, rest) = slots_of(alloc, header.files, header.slots, rest)?;
-    let (entries, rest) = entries_of(alloc, header.instructions, header.threads, rest)?;
-    if !rest.is_empty() {
-        return Err(refused(ImageRule::Trailing, rest));
+    images_are_read_as_spelled();
+    read_file(alloc, bytes)
+}
+
+/// The image of a file that may be too long, or its first refusal.
+#[tactic(auto, unfolding(crate::specs::Reading::image_at))]
+fn read_file(alloc: Global, bytes: &[u8]) -> Result<Image, ImageFault>
+    ensures { Answers (λ image. image) result (image_at bytes.now) }
+{
+    if bytes.len() > MOST_IMAGE_BYTES {
+        return Err(ReadError::Refused {
+            rule: ImageRule::TooLong,
+            at: MOST_IMAGE_BYTES as u64,
+        });
+    }
+    read_parts(alloc, &mut Reader::new(bytes))
+}
+
+/// Reads every part of a file, and nothing after the last.
+#[tactic(auto, unfolding(crate::specs::Reading::parts_at))]
+fn read_parts(alloc: Global, reader: &mut Reader) -> Result<Image, ImageFault>
+    ensures { Answers (λ image. image) result (parts_at reader.old) }
+{
+    let header = Header::read(reader)?;
+    let text = read_text(alloc, reader, header.instructions)?;
+    let pages = read_pages(alloc, reader, header.pages)?;
+    let files = read_files(alloc, reader, header.files)?;
+    let slots = read_slots(alloc, reader, header.files, header.slots)?;
+    let entries = read_entries(alloc, reader, header.instructions, header.threads)?;
+    if !reader.is_empty() {
+        return Err(ReadError::Refused {
+            rule: ImageRule::Trailing,
+            at: reader.offset(),
+        });
     }
     Ok(Image {
         text,
@@ -39,41 +84,4 @@ fn parts_of(alloc: Global, bytes: &[u8]) -> Result<Image, ReadError>
         slots,
         entries,
     })
-}
-
-// The image, or the first refusal with its offset in the file.
-#[tactic(auto, unfolding(crate::specs::Reading::image_at))]
-fn image_of(alloc: Global, bytes: &[u8]) -> Result<Image, ImageFault>
-    ensures { Answers result (image_at bytes.now) }
-{
-    if bytes.len() > FILE_LIMIT {
-        return Err(ImageFault::Refused {
-            rule: ImageRule::TooLong,
-            at: FILE_LIMIT as u64,
-        });
-    }
-    match parts_of(alloc, bytes) {
-        Ok(image) => Ok(image),
-        Err(ReadError::OutOfMemory) => Err(ImageFault::OutOfMemory),
-        Err(ReadError::Refused(stop)) => Err(ImageFault::Refused {
-            rule: stop.rule,
-            at: bytes.len().saturating_sub(stop.left) as u64,
-        }),
-    }
-}
-
-/// The image that these bytes spell, all of them.
-///
-/// # Errors
-/// `OutOfMemory`: want of memory. `Refused`: the bytes are no image; the rule that the file breaks first from its first
-/// byte to its last, and the offset in bytes where it does (`image_at`).
-pub fn read_image(alloc: Global, bytes: &[u8]) -> Result<Image, ImageFault>
-    // What is read is within the limits, and these are its bytes.
-    ensures found { IfOk result (λ image. IsImage image × (bytes.now ≡ spelling image)) }
-    // The bytes of an image within the limits are read as that image, unless memory runs out.
-    ensures only { (image : Image) → IsImage image → bytes.now ≡ spelling image → Answers result (Ok image) }
-    // What is answered is what the reading gives, with the first refusal, unless memory runs out.
-    ensures exact { Answers result (image_at bytes.now) }
-{
-    image_of(alloc, bytes)
 }

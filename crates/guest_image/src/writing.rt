@@ -12,7 +12,23 @@ use guest_isa::{Text, encode};
 use lwc_base::{FileImage, OutOfMemory};
 use std::alloc::Global;
 
-// A number, in four bytes.
+/// The bytes of an image (`spelling`), unless memory runs out.
+#[tactic(auto, unfolding(crate::specs::Spelling::spelling))]
+pub fn write_image(alloc: Global, image: &Image) -> Result<Vec<u8>, OutOfMemory>
+    requires { IsImage image.now }
+    ensures { IfOk result (λ bytes. bytes.items ≡ spelling image.now) }
+{
+    let mut out = Vec::new(alloc);
+    put_header(&mut out, &header_of(image))?;
+    put_text(&mut out, &image.text)?;
+    put_pages(&mut out, image.pages.as_slice())?;
+    put_files(&mut out, image.files.as_slice())?;
+    put_slots(&mut out, image.slots.as_slice())?;
+    put_entries(&mut out, image.entries.as_slice())?;
+    Ok(out)
+}
+
+/// Appends a number, in four bytes.
 fn put_number(out: &mut Vec<u8>, value: u32) -> Result<(), OutOfMemory>
     ensures { OnOk result (out.new.items ≡ out.old.items ++ number value) }
 {
@@ -20,14 +36,14 @@ fn put_number(out: &mut Vec<u8>, value: u32) -> Result<(), OutOfMemory>
     Ok(())
 }
 
-// 1 or 0, in four bytes.
+/// Appends 1 or 0, in four bytes.
 fn put_flag(out: &mut Vec<u8>, value: bool) -> Result<(), OutOfMemory>
     ensures { OnOk result (out.new.items ≡ out.old.items ++ flag value) }
 {
     put_number(out, if value { 1 } else { 0 })
 }
 
-// How many there are of each part, and the uid.
+/// The number of values of each list, and the uid.
 fn header_of(image: &Image) -> Header
     requires { IsImage image.now }
     ensures { result ≡ header_of image.now }
@@ -42,7 +58,7 @@ fn header_of(image: &Image) -> Header
     }
 }
 
-// The magic, the counts and the uid.
+/// Appends the magic, the counts and the uid.
 fn put_header(out: &mut Vec<u8>, head: &Header) -> Result<(), OutOfMemory>
     ensures { OnOk result (out.new.items ≡ out.old.items ++ header head.now) }
 {
@@ -56,7 +72,7 @@ fn put_header(out: &mut Vec<u8>, head: &Header) -> Result<(), OutOfMemory>
     Ok(())
 }
 
-// The instructions.
+/// Appends the instructions.
 fn put_text(out: &mut Vec<u8>, text: &Text) -> Result<(), OutOfMemory>
     ensures { OnOk result (out.new.items ≡ out.old.items ++ flat_map instructions.spelling text.now) }
 {
@@ -66,7 +82,7 @@ fn put_text(out: &mut Vec<u8>, text: &Text) -> Result<(), OutOfMemory>
     Ok(())
 }
 
-// The pages, each a number and its bytes.
+/// Appends the pages, each a number and its bytes.
 fn put_pages(out: &mut Vec<u8>, pages: &[PageImage]) -> Result<(), OutOfMemory>
     ensures { OnOk result (out.new.items ≡ out.old.items ++ flat_map page pages.now) }
 {
@@ -77,7 +93,7 @@ fn put_pages(out: &mut Vec<u8>, pages: &[PageImage]) -> Result<(), OutOfMemory>
     Ok(())
 }
 
-// A file: its owner, whether it is public, its length and its bytes.
+/// Appends a file: its owner, whether it is public, its length and its bytes.
 fn put_file(out: &mut Vec<u8>, file: &FileImage) -> Result<(), OutOfMemory>
     requires { length file.now.bytes < 2 ^ 32 }
     ensures { OnOk result (out.new.items ≡ out.old.items ++ file_spelling file.now) }
@@ -89,7 +105,7 @@ fn put_file(out: &mut Vec<u8>, file: &FileImage) -> Result<(), OutOfMemory>
     Ok(())
 }
 
-// The files.
+/// Appends the files.
 fn put_files(out: &mut Vec<u8>, files: &[FileImage]) -> Result<(), OutOfMemory>
     requires { All (λ f. length f.bytes < 2 ^ 32) files.now }
     ensures { OnOk result (out.new.items ≡ out.old.items ++ flat_map file files.now) }
@@ -100,7 +116,7 @@ fn put_files(out: &mut Vec<u8>, files: &[FileImage]) -> Result<(), OutOfMemory>
     Ok(())
 }
 
-// The slots, each with its file.
+/// Appends the slots, each with its file.
 fn put_slots(out: &mut Vec<u8>, slots: &[SlotImage]) -> Result<(), OutOfMemory>
     ensures { OnOk result (out.new.items ≡ out.old.items ++ flat_map slot slots.now) }
 {
@@ -111,7 +127,7 @@ fn put_slots(out: &mut Vec<u8>, slots: &[SlotImage]) -> Result<(), OutOfMemory>
     Ok(())
 }
 
-// Where each thread begins.
+/// Appends where each thread begins.
 fn put_entries(out: &mut Vec<u8>, entries: &[u32]) -> Result<(), OutOfMemory>
     ensures { OnOk result (out.new.items ≡ out.old.items ++ flat_map number entries.now) }
 {
@@ -119,20 +135,4 @@ fn put_entries(out: &mut Vec<u8>, entries: &[u32]) -> Result<(), OutOfMemory>
         put_number(out, *entry)?;
     }
     Ok(())
-}
-
-/// The bytes of an image (`spelling`). The one error is want of memory.
-#[tactic(auto, unfolding(crate::specs::Spelling::spelling))]
-pub fn write_image(alloc: Global, image: &Image) -> Result<Vec<u8>, OutOfMemory>
-    requires { IsImage image.now }
-    ensures { IfOk result (λ bytes. bytes.items ≡ spelling image.now) }
-{
-    let mut out = Vec::new(alloc);
-    put_header(&mut out, &header_of(image))?;
-    put_text(&mut out, &image.text)?;
-    put_pages(&mut out, image.pages.as_slice())?;
-    put_files(&mut out, image.files.as_slice())?;
-    put_slots(&mut out, image.slots.as_slice())?;
-    put_entries(&mut out, image.entries.as_slice())?;
-    Ok(out)
 }

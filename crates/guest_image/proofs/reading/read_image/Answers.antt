@@ -1,10 +1,15 @@
-use Rattle.std.proofs.Common.{ap, subst, ◌∙◌, arith}
-use Rattle.guest_image.specs.Reading.{Answers, image_at}
-use Rattle.guest_image.proofs.WholeLaws.{is_found, image_again}
+use Rattle.std.proofs.Common.{arith}
+use Rattle.guest_image.proofs.Answered.{is_found, is_only, is_refused, is_only_refused}
 use Rattle.guest_image.proofs.reading.read_image.Goals as goal
 
 pub returns-clause-found : goal.returns-clause-found
-returns-clause-found c = is_found c.args.bytes.now c.image_of.result (λ i. omega (arith, c.type_inv.bytes i)) c.image_of.ensures
+returns-clause-found c = is_found c.images_are_read_as_spelled.ensures c.args.bytes.now (λ i. omega (arith, c.type_inv.bytes i)) c.read_file.result c.read_file.ensures
 
 pub returns-clause-only : goal.returns-clause-only
-returns-clause-only c = λ image is e. subst (λ r. Answers c.image_of.result r) (ap image_at e ∙ image_again image is) c.image_of.ensures
+returns-clause-only c = is_only c.images_are_read_as_spelled.ensures c.args.bytes.now (λ i. omega (arith, c.type_inv.bytes i)) c.read_file.result c.read_file.ensures
+
+pub returns-clause-refused : goal.returns-clause-refused
+returns-clause-refused c = is_refused c.images_are_read_as_spelled.ensures c.args.bytes.now (λ i. omega (arith, c.type_inv.bytes i)) c.read_file.result c.read_file.ensures
+
+pub returns-clause-only_refused : goal.returns-clause-only_refused
+returns-clause-only_refused c = is_only_refused c.images_are_read_as_spelled.ensures c.args.bytes.now (λ i. omega (arith, c.type_inv.bytes i)) c.read_file.result c.read_file.ensures

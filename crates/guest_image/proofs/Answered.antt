@@ -1,0 +1,53 @@
+-- What a reading of a file answers.
+use Rattle.std.proofs.Common.{◌≡◌, ◌<◌, inl, inr, ℕ, List, length, Result, Ok, Err, subst, ap, ◌∙◌, arith, All, IfOk}
+use Rattle.std.proofs.lemmas.Bool.{cases_lt}
+use Rattle.std.proofs.lemmas.List.{get_or_past}
+use Rattle.byte_reading.specs.Outcomes.{Answers}
+use Rattle.byte_reading.specs.declared.error.ReadError.TheVariants.{Refused}
+use Rattle.byte_reading.specs.declared.error.ReadError.{ReadError}
+use Rattle.guest_image.specs.declared.fault.ImageRule.{ImageRule}
+use Rattle.guest_image.specs.declared.image.Image.{Image}
+use Rattle.guest_image.specs.Facts.{ReadingFacts}
+use Rattle.guest_image.specs.Limits.{IsImage}
+use Rattle.guest_image.specs.Reading.{Read, image_at}
+use Rattle.guest_image.specs.Refusals.{IsRefused}
+use Rattle.guest_image.specs.Spelling.{spelling}
+use Rattle.guest_image.proofs.FieldLaws.{IsBytes}
+use Rattle.guest_image.proofs.PartLaws.{IsInverse, all_bytes}
+use Rattle.guest_image.proofs.WholeLaws.{image_takes, image_again, refused_fails, fails_refused}
+
+are_bytes : (bytes : List ℕ) → All (λ b. b < 256) bytes → IsBytes bytes
+are_bytes bytes all i =
+    elim (cases_lt i (length bytes)) [
+      | inl lt ↦ all i 0 lt
+      | inr le ↦ rw (get_or_past bytes i 0 le) (omega arith)
+    ]
+
+pub are_facts : IsInverse → ReadingFacts
+are_facts isa = record {
+  reads = image_again isa;
+  found = λ bytes image all e. image_takes isa bytes image (are_bytes bytes all) e;
+  refused = λ bytes rule at all. (
+    λ e. fails_refused isa bytes (record { rule = rule; at = at }) (are_bytes bytes all) e,
+    λ is. refused_fails isa bytes rule at (are_bytes bytes all) is,
+  );
+}
+
+module _ (facts : ReadingFacts) (bytes : List ℕ) (fits : IsBytes bytes) where
+  abbrev Gives : Result Image (ReadError ImageRule) → Read Image → Type 0
+  Gives r read = Answers (λ image. image) r read
+
+  pub is_found : (r : Result Image (ReadError ImageRule)) → Gives r (image_at bytes) → IfOk r (λ image. IsImage image × (bytes ≡ spelling image))
+  is_found (Ok image) given = facts.found bytes image (all_bytes bytes fits) given
+  is_found (Err error) given = tt
+
+  pub is_only : (r : Result Image (ReadError ImageRule)) → Gives r (image_at bytes) → (image : Image) → IsImage image → bytes ≡ spelling image → Gives r (Ok image)
+  is_only r given image is spelled = subst (Gives r) (ap image_at spelled ∙ facts.reads image is) given
+
+  pub is_refused : (r : Result Image (ReadError ImageRule)) → Gives r (image_at bytes) → (rule : ImageRule) (at : ℕ) → r ≡ Err (Refused rule at) → IsRefused bytes rule at
+  is_refused r given rule at is =
+      let e : image_at bytes ≡ Err (record { rule = rule; at = at }) = subst (λ (o : Result Image (ReadError ImageRule)). Gives o (image_at bytes)) is given in
+      (facts.refused bytes rule at (all_bytes bytes fits)).0 e
+
+  pub is_only_refused : (r : Result Image (ReadError ImageRule)) → Gives r (image_at bytes) → (rule : ImageRule) (at : ℕ) → IsRefused bytes rule at → Gives r (Err (record { rule = rule; at = at }))
+  is_only_refused r given rule at is = subst (Gives r) ((facts.refused bytes rule at (all_bytes bytes fits)).1 is) given
