@@ -1,2 +1,4 @@
 pub mod SpelledItems
+pub mod Spellings
 pub mod ValidItems
+pub mod ReadItems

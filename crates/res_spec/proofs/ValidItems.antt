@@ -1,11 +1,12 @@
 -- Items that passed the tests of a specifier.
-use Rattle.std.proofs.Common.{◌≡◌, ◌<◌, ◌≤◌, ◌&&◌, ℕ, zero, suc, Bool, true, false, List, [], ◌∷◌, arith, get_or, length, length-take, ltb, leb, take}
+use Rattle.std.proofs.Common.{refl, ◌≡◌, ◌<◌, ◌≤◌, ◌&&◌, ℕ, zero, suc, Bool, true, false, List, [], ◌∷◌, arith, get_or, length, length-take, ltb, leb, take}
 use Rattle.std.proofs.lemmas.List.{get_or-take}
-use Rattle.std.proofs.lemmas.Bool.{or_parts}
+use Rattle.std.proofs.lemmas.Bool.{and_from, le-leb, lt-ltb, or_parts}
+use Rattle.std.proofs.lemmas.List.Elements.{All-head, All-tail}
 use Rattle.std.proofs.lemmas.Bool.Decides.{nat_tests}
 use Rattle.std.proofs.lemmas.List.{get_or_default}
 use Rattle.std.proofs.lemmas.List.Kept.{AllPairs-cons}
-use Rattle.std.proofs.lemmas.List.Sums.{AllPass-from_list_all}
+use Rattle.std.proofs.lemmas.List.Sums.{AllPass-from_list_all, list_all-from_AllPass}
 use Rattle.std.specs.List.{All, AllPairs, list_any}
 use Rattle.lwc_base.specs.Modes.{AreApart, IsItem, IsSpec, limit, overlaps}
 use Rattle.lwc_base.specs.declared.item.Item.{Item}
@@ -19,7 +20,7 @@ within_item : (pages : ℕ) (item : Item) → (ltb item.from item.to && leb item
 within_item pages item e = record { some = grind (arith, nat_tests); within = grind (arith, nat_tests) }
 
 -- items that pass the test of their ranges are items
-each_item : (pages : ℕ) (items : List Item) → all_within pages items ≡ true → All (IsItem pages) items
+pub each_item : (pages : ℕ) (items : List Item) → all_within pages items ≡ true → All (IsItem pages) items
 unfolding all_within
 each_item pages items e k d inside = within_item pages (get_or items k d) (AllPass-from_list_all _ items e k d inside)
 
@@ -30,11 +31,31 @@ none_passes p (x ∷ xs) e zero d inside = (or_parts (p x) (list_any p xs) e).0
 none_passes p (x ∷ xs) e (suc k) d inside = none_passes p xs (or_parts (p x) (list_any p xs) e).1 k d (omega arith)
 
 -- items that pass the test of overlaps are apart
-each_apart : (items : List Item) → has_overlap items ≡ false → AllPairs AreApart items
+pub each_apart : (items : List Item) → has_overlap items ≡ false → AllPairs AreApart items
 each_apart [] e = λ i j d before inside. absurd (omega arith)
 each_apart (item ∷ items) e =
     let parts = or_parts (list_any (overlaps item) items) (has_overlap items) e in
     AllPairs-cons AreApart item items (none_passes (overlaps item) items parts.0) (each_apart items parts.1)
+
+-- items pass the test of their ranges
+pub each_within : (pages : ℕ) (items : List Item) → All (IsItem pages) items → all_within pages items ≡ true
+unfolding all_within
+each_within pages items each =
+    list_all-from_AllPass (λ (item : Item). ltb item.from item.to && leb item.to (limit pages item.kind)) items (λ k d inside.
+    and_from _ _ (lt-ltb _ _ (each k d inside).some) (le-leb _ _ (each k d inside).within))
+
+-- no test of any passes, where each fails
+none_passes_any : {X : Type 0} (p : X → Bool) (xs : List X) → All (λ x. p x ≡ false) xs → list_any p xs ≡ false
+none_passes_any p [] none = refl
+none_passes_any p (x ∷ xs) none = rw (All-head (λ x. p x ≡ false) x xs none, none_passes_any p xs (All-tail (λ x. p x ≡ false) x xs none)) refl
+
+-- items that are apart pass the test of overlaps
+pub each_overlap : (items : List Item) → AllPairs AreApart items → has_overlap items ≡ false
+each_overlap [] apart = refl
+each_overlap (item ∷ items) apart =
+    let first : All (λ other. overlaps item other ≡ false) items = λ k d inside. apart 0 (suc k) d (omega arith) (omega arith) in
+    let others : AllPairs AreApart items = λ i j d before inside. apart (suc i) (suc j) d (omega arith) (omega arith) in
+    rw (none_passes_any (overlaps item) items first, each_overlap items others) refl
 
 -- items that pass both tests make a specifier
 pub passed_items : (pages : ℕ) (items : List Item) → length items ≤ MOST_ITEMS → all_within pages items ≡ true → has_overlap items ≡ false → IsSpec pages items

@@ -22,11 +22,11 @@ pub record Spelled : Type 0 where
   pub from : ℕ
   pub to : ℕ
 
--- the number of 32 bits that stands at a place, lowest byte first
+-- the number of four bytes at an offset, the lowest first
 abbrev pub number_at : List ℕ → ℕ → ℕ
 number_at bytes at = little_number 4 (drop at bytes)
 
--- the item that is spelled from a place on
+-- the item that is spelled at an offset
 abbrev pub spelled_at : List ℕ → ℕ → Spelled
 spelled_at bytes at = record {
   kind = number_at bytes at;
@@ -73,20 +73,21 @@ item_of call s = item_with s (kind_of_number s.kind) (taken call (mode_of_number
 unfoldable pub all_taken : SpecCall → List ℕ → Bool
 all_taken call bytes = list_all (λ s. is_some (item_of call s)) (spelled bytes)
 
--- the items that are spelled, those that the call takes
+-- the items that are spelled and that the call takes
 unfoldable pub items_in : SpecCall → List ℕ → List Item
 items_in call bytes = filter_map (item_of call) (spelled bytes)
 
--- whether each item names a key or more, and none past the limit of its kind
+-- whether each item names at least one key, and none past the limit of its kind
 unfoldable pub all_within : ℕ → List Item → Bool
-all_within pages items = list_all (λ item. nat_lt item.from item.to && nat_le item.to (limit pages item.kind)) items
+all_within pages items =
+    list_all (λ item. nat_lt item.from item.to && nat_le item.to (limit pages item.kind)) items
 
 -- whether two items have a key in common
 abbrev pub has_overlap : List Item → Bool
 has_overlap [] = false
 has_overlap (item ∷ items) = list_any (overlaps item) items || has_overlap items
 
--- why the items are refused: the rows are tested in this order, each over all items
+-- why the items are refused: the first row that holds, each over all items
 unfoldable pub faults : SpecCall → ℕ → List ℕ → List (Bool × SpecFault)
 faults call pages bytes =
     (not (all_taken call bytes), BadMode)

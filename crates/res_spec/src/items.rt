@@ -1,16 +1,20 @@
-ghost use Rattle.std.specs.Prelude.{◌≡◌, ◌<◌, ◌≤◌, ◌+◌, ◌*◌, ◌%◌, IfErr, IfOk, length};
+ghost use Rattle.std.specs.Prelude.{◌≡◌, ◌↔◌, ◌<◌, ◌≤◌, ◌+◌, ◌*◌, ◌%◌, IfOk, Ok, Err, List, length};
 ghost use Rattle.std.specs.List.{list_any};
 ghost use Rattle.lwc_base.specs.Modes as modes;
 ghost use Rattle.lwc_base.specs.Modes.{IsSpec};
 ghost use Rattle.lwc_base.specs.declared.limits.TheConstants.{MOST_ITEMS, MOST_PAGES};
-ghost use Rattle.res_spec.specs.Items as grammar;
+ghost use Rattle.lwc_base.specs.declared.item.Item.{Item};
+ghost use Rattle.res_spec.specs.declared.items.SpecFault.TheVariants.{BadMode, BadRange, Overlap};
+ghost use Rattle.res_spec.specs.Items as spec;
 ghost use Rattle.res_spec.specs.Items.{read};
+ghost use Rattle.res_spec.specs.Spelling.{Spells, IsBadRange, IsOverlap};
 
 use arrayvec::ArrayVec;
 use byteorder::{ByteOrder, LittleEndian};
 use lwc_base::{Item, Kind, MOST_ITEMS, Mode, SLOTS, Spec};
 
-/// How many bytes an item has: its kind, its mode, and the numbers from and to, each of 4 bytes, lowest byte first.
+/// The number of bytes of an item: its kind, its mode, and the numbers from and to, each of four bytes, the
+/// lowest first.
 pub const ITEM_BYTES: usize = 16;
 
 /// The calls that take a specifier.
@@ -32,150 +36,33 @@ pub enum SpecFault {
     Overlap,
 }
 
-// The number of 32 bits that stands at a place.
-fn number_at(bytes: &[u8], at: usize) -> u32
-    requires { at + 4 ≤ length bytes.now }
-    ensures { result ≡ grammar.number_at bytes.now at }
-{
-    LittleEndian::read_u32(&bytes[at..])
-}
-
-// The kind of a number.
-fn kind_of_number(number: u32) -> Option<Kind>
-    ensures { result ≡ grammar.kind_of_number number }
-{
-    match number {
-        0 => Some(Kind::Page),
-        1 => Some(Kind::Slot),
-        2 => Some(Kind::Cred),
-        _ => None,
-    }
-}
-
-// The mode of a number.
-fn mode_of_number(number: u32) -> Option<Mode>
-    ensures { result ≡ grammar.mode_of_number number }
-{
-    match number {
-        0 => Some(Mode::Copy),
-        1 => Some(Mode::Share),
-        2 => Some(Mode::Unmap),
-        _ => None,
-    }
-}
-
-// Whether a call takes a mode.
-fn takes(call: SpecCall, mode: Mode) -> bool
-    ensures { result ≡ grammar.takes call mode }
-{
-    match call {
-        SpecCall::Create => true,
-        SpecCall::Overlay => mode != Mode::Unmap,
-        SpecCall::Restrict => mode == Mode::Copy,
-    }
-}
-
-// The item that is spelled from a place on; `None` where the call does not take its kind and its mode.
-fn item_at(call: SpecCall, bytes: &[u8], at: usize) -> Option<Item>
-    requires { at + ITEM_BYTES ≤ length bytes.now }
-    ensures { result ≡ grammar.item_of call (grammar.spelled_at bytes.now at) }
-{
-    let kind = kind_of_number(number_at(bytes, at))?;
-    let mode = mode_of_number(number_at(bytes, at + 4)).filter(|mode| takes(call, *mode))?;
-    Some(Item {
-        kind,
-        mode,
-        from: number_at(bytes, at + 8),
-        to: number_at(bytes, at + 12),
-    })
-}
-
-// Whether the call takes the kind and the mode of each item that is spelled.
-fn all_taken(call: SpecCall, bytes: &[u8]) -> bool
-    ensures { result ≡ grammar.all_taken call bytes.now }
-{
-    (0..bytes.len() / ITEM_BYTES).all(|i| item_at(call, bytes, i * ITEM_BYTES).is_some())
-}
-
-// How many keys of a kind there are.
-fn limit(pages: u32, kind: Kind) -> u32
-    ensures { result ≡ modes.limit pages kind }
-{
-    match kind {
-        Kind::Page => pages,
-        Kind::Slot => u32::from(SLOTS),
-        Kind::Cred => 1,
-    }
-}
-
-// Whether each item names a key or more, and none past the limit of its kind.
-#[tactic(auto, unfolding(crate::specs::Items::all_within))]
-fn all_within(pages: u32, items: &[Item]) -> bool
-    ensures { result ≡ grammar.all_within pages items.now }
-{
-    items.iter().all(|item| item.from < item.to && item.to <= limit(pages, item.kind))
-}
-
-// Whether two items have a key in common.
-fn overlaps(a: &Item, b: &Item) -> bool
-    ensures { result ≡ modes.overlaps a.now b.now }
-{
-    a.kind == b.kind && a.from < b.to && b.from < a.to
-}
-
-// Whether one of the others has a key in common with an item.
-fn overlaps_another(item: &Item, others: &[Item]) -> bool
-    ensures { result ≡ list_any (modes.overlaps item.now) others.now }
-{
-    others.iter().any(|other| overlaps(item, other))
-}
-
-// Whether two of the items have a key in common.
-fn has_overlap(items: &[Item]) -> bool
-    ensures { result ≡ grammar.has_overlap items.now }
-{
-    match items {
-        [] => false,
-        [item, others @ ..] => overlaps_another(item, others) || has_overlap(others),
-    }
-}
-
-// The items that are spelled, those that the call takes.
-#[tactic(auto, unfolding(crate::specs::Items::spelled, crate::specs::Items::items_in))]
-fn items_in(call: SpecCall, bytes: &[u8]) -> ArrayVec<Item, MOST_ITEMS>
-    requires few { length bytes.now ≤ MOST_ITEMS * ITEM_BYTES }
-    ensures { result.items ≡ grammar.items_in call bytes.now }
-{
-    let mut items = ArrayVec::new();
-    for i in 0..bytes.len() / ITEM_BYTES {
-        if let Some(item) = item_at(call, bytes, i * ITEM_BYTES) {
-            items.push(item);
-        }
-    }
-    items
-}
-
-// The specifier of items that make one.
-fn spec_of(items: &[Item]) -> Spec
-    requires few { length items.now ≤ MOST_ITEMS }
-    requires valid { IsSpec MOST_PAGES items.now }
-    ensures { result ≡ items.now }
-{
-    let mut spec = Spec::empty();
-    for item in items {
-        spec.push(*item);
-    }
-    spec
-}
-
-/// The items that bytes spell for a call, in a world of so many pages (`read`).
+/// The items that bytes spell for a call, in a world of this number of pages.
 ///
 /// # Errors
 ///
 /// `BadMode`, `BadRange`, `Overlap`, in this order, each tested over all items before the next.
-#[tactic(auto, unfolding(crate::specs::Items::faults, crate::specs::Items::read))]
 pub fn read_items(bytes: &[u8], call: SpecCall, pages: u32) -> Result<Spec, SpecFault>
     requires items { length bytes.now % ITEM_BYTES ≡ 0 }
+    requires few { length bytes.now ≤ MOST_ITEMS * ITEM_BYTES }
+    requires pages { pages ≤ MOST_PAGES }
+    ensures read { read call pages bytes.now ≡ result }
+    ensures valid { IfOk result (λ spec. IsSpec pages spec) }
+    ensures found { IfOk result (λ spec. Spells call spec bytes.now) }
+    ensures only { (items : List Item) → Spells call items bytes.now → IsSpec pages items
+        → result ≡ Ok items }
+    // No items of a kind and a mode that the call takes are spelled so.
+    ensures bad_mode { (result ≡ Err BadMode) ↔ ((items : List Item) → Spells call items bytes.now → ⊥) }
+    // Items are spelled, and not each of them names a key and none past the limit of its kind.
+    ensures bad_range { (result ≡ Err BadRange) ↔ IsBadRange call pages bytes.now }
+    // Such items are spelled, and not every two of them are apart.
+    ensures overlap { (result ≡ Err Overlap) ↔ IsOverlap call pages bytes.now }
+{
+    test_items(bytes, call, pages)
+}
+
+/// The items that bytes spell, tested in the order of the faults.
+#[tactic(auto, unfolding(crate::specs::Items::faults, crate::specs::Items::read))]
+fn test_items(bytes: &[u8], call: SpecCall, pages: u32) -> Result<Spec, SpecFault>
     requires few { length bytes.now ≤ MOST_ITEMS * ITEM_BYTES }
     requires pages { pages ≤ MOST_PAGES }
     ensures read { read call pages bytes.now ≡ result }
@@ -193,4 +80,140 @@ pub fn read_items(bytes: &[u8], call: SpecCall, pages: u32) -> Result<Spec, Spec
         return Err(SpecFault::Overlap);
     }
     Ok(spec_of(items))
+}
+
+/// The number of four bytes at an offset, the lowest first.
+fn number_at(bytes: &[u8], at: usize) -> u32
+    requires { at + 4 ≤ length bytes.now }
+    ensures { result ≡ spec.number_at bytes.now at }
+{
+    LittleEndian::read_u32(&bytes[at..])
+}
+
+/// The kind of a number.
+fn kind_of_number(number: u32) -> Option<Kind>
+    ensures { result ≡ spec.kind_of_number number }
+{
+    match number {
+        0 => Some(Kind::Page),
+        1 => Some(Kind::Slot),
+        2 => Some(Kind::Cred),
+        _ => None,
+    }
+}
+
+/// The mode of a number.
+fn mode_of_number(number: u32) -> Option<Mode>
+    ensures { result ≡ spec.mode_of_number number }
+{
+    match number {
+        0 => Some(Mode::Copy),
+        1 => Some(Mode::Share),
+        2 => Some(Mode::Unmap),
+        _ => None,
+    }
+}
+
+/// Whether a call takes a mode.
+fn takes(call: SpecCall, mode: Mode) -> bool
+    ensures { result ≡ spec.takes call mode }
+{
+    match call {
+        SpecCall::Create => true,
+        SpecCall::Overlay => mode != Mode::Unmap,
+        SpecCall::Restrict => mode == Mode::Copy,
+    }
+}
+
+/// The item that is spelled at an offset; `None` where the call does not take its kind and its mode.
+fn item_at(call: SpecCall, bytes: &[u8], at: usize) -> Option<Item>
+    requires { at + ITEM_BYTES ≤ length bytes.now }
+    ensures { result ≡ spec.item_of call (spec.spelled_at bytes.now at) }
+{
+    let kind = kind_of_number(number_at(bytes, at))?;
+    let mode = mode_of_number(number_at(bytes, at + 4)).filter(|mode| takes(call, *mode))?;
+    Some(Item {
+        kind,
+        mode,
+        from: number_at(bytes, at + 8),
+        to: number_at(bytes, at + 12),
+    })
+}
+
+/// Whether the call takes the kind and the mode of each item that is spelled.
+fn all_taken(call: SpecCall, bytes: &[u8]) -> bool
+    ensures { result ≡ spec.all_taken call bytes.now }
+{
+    (0..bytes.len() / ITEM_BYTES).all(|i| item_at(call, bytes, i * ITEM_BYTES).is_some())
+}
+
+/// The number of keys of a kind.
+fn limit(pages: u32, kind: Kind) -> u32
+    ensures { result ≡ modes.limit pages kind }
+{
+    match kind {
+        Kind::Page => pages,
+        Kind::Slot => u32::from(SLOTS),
+        Kind::Cred => 1,
+    }
+}
+
+/// Whether each item names at least one key, and none past the limit of its kind.
+#[tactic(auto, unfolding(crate::specs::Items::all_within))]
+fn all_within(pages: u32, items: &[Item]) -> bool
+    ensures { result ≡ spec.all_within pages items.now }
+{
+    items.iter().all(|item| item.from < item.to && item.to <= limit(pages, item.kind))
+}
+
+/// Whether two items have a key in common.
+fn overlaps(a: &Item, b: &Item) -> bool
+    ensures { result ≡ modes.overlaps a.now b.now }
+{
+    a.kind == b.kind && a.from < b.to && b.from < a.to
+}
+
+/// Whether one of the others has a key in common with an item.
+fn overlaps_another(item: &Item, others: &[Item]) -> bool
+    ensures { result ≡ list_any (modes.overlaps item.now) others.now }
+{
+    others.iter().any(|other| overlaps(item, other))
+}
+
+/// Whether two of the items have a key in common.
+fn has_overlap(items: &[Item]) -> bool
+    ensures { result ≡ spec.has_overlap items.now }
+{
+    match items {
+        [] => false,
+        [item, others @ ..] => overlaps_another(item, others) || has_overlap(others),
+    }
+}
+
+/// The items that are spelled and that the call takes.
+#[tactic(auto, unfolding(crate::specs::Items::spelled, crate::specs::Items::items_in))]
+fn items_in(call: SpecCall, bytes: &[u8]) -> ArrayVec<Item, MOST_ITEMS>
+    requires few { length bytes.now ≤ MOST_ITEMS * ITEM_BYTES }
+    ensures { result.items ≡ spec.items_in call bytes.now }
+{
+    let mut items = ArrayVec::new();
+    for i in 0..bytes.len() / ITEM_BYTES {
+        if let Some(item) = item_at(call, bytes, i * ITEM_BYTES) {
+            items.push(item);
+        }
+    }
+    items
+}
+
+/// The specifier of these items.
+fn spec_of(items: &[Item]) -> Spec
+    requires few { length items.now ≤ MOST_ITEMS }
+    requires valid { IsSpec MOST_PAGES items.now }
+    ensures { result ≡ items.now }
+{
+    let mut spec = Spec::empty();
+    for item in items {
+        spec.push(*item);
+    }
+    spec
 }

@@ -5,7 +5,7 @@ use byteorder::{ByteOrder, LittleEndian};
 use lwc_base::{Item, Key, Kind, Mode, Spec};
 use std::test::Fail;
 
-// Why items are refused, which are given by their numbers; four make an item.
+/// The fault of items that are given by their numbers, four each.
 fn fault_of(call: SpecCall, numbers: &[u32]) -> Option<SpecFault>
     requires items { length numbers.now % 4 ≡ 0 }
     requires few { length numbers.now ≤ 8 }

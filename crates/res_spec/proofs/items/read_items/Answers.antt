@@ -1,17 +1,27 @@
-use Rattle.std.proofs.Common.{◌≡◌, true, false, arith}
-use Rattle.res_spec.specs.Items.{all_within, has_overlap}
-use Rattle.std.proofs.lemmas.Grind.{common_steps}
-use Rattle.res_spec.proofs.ValidItems.{more_pages, passed_items}
+use Rattle.std.proofs.Common.{arith}
+use Rattle.res_spec.proofs.ReadItems.{bad_range, items_if, items_only, mode_fault, no_items, overlap, overlap_fault, range_fault}
 use Rattle.res_spec.proofs.items.read_items.Goals as goal
 
-pub spec_of-requires-clause-valid : goal.spec_of-requires-clause-valid
-spec_of-requires-clause-valid c =
-    let within : all_within c.args.pages c.as_slice-items.result.now ≡ true = grind (arith, common_steps) in
-    let apart : has_overlap c.as_slice-items.result.now ≡ false = grind (arith, common_steps) in
-    more_pages c.args.pages _ _ c.requires.pages (passed_items c.args.pages c.as_slice-items.result.now (omega arith) within apart)
+pub returns-clause-found : goal.returns-clause-found
+returns-clause-found c = items_if c.args.call c.args.pages c.args.bytes.now c.requires.items (λ i. omega (arith, c.type_inv.bytes i)) _ c.test_items.ensures.read
 
-pub returns-clause-valid : goal.returns-clause-valid
-returns-clause-valid c =
-    let within : all_within c.args.pages c.as_slice-items.result.now ≡ true = grind (arith, common_steps) in
-    let apart : has_overlap c.as_slice-items.result.now ≡ false = grind (arith, common_steps) in
-    rw c.spec_of.ensures (passed_items c.args.pages c.as_slice-items.result.now (omega arith) within apart)
+pub returns-clause-only : goal.returns-clause-only
+returns-clause-only c = items_only c.args.call c.args.pages c.args.bytes.now c.requires.items (λ i. omega (arith, c.type_inv.bytes i)) _ c.test_items.ensures.read
+
+pub returns-clause-bad_mode : goal.returns-clause-bad_mode
+returns-clause-bad_mode c = (
+  mode_fault c.args.call c.args.pages c.args.bytes.now c.requires.items (λ i. omega (arith, c.type_inv.bytes i)) _ c.test_items.ensures.read,
+  no_items c.args.call c.args.pages c.args.bytes.now c.requires.items (λ i. omega (arith, c.type_inv.bytes i)) _ c.test_items.ensures.read,
+)
+
+pub returns-clause-bad_range : goal.returns-clause-bad_range
+returns-clause-bad_range c = (
+  range_fault c.args.call c.args.pages c.args.bytes.now c.requires.items (λ i. omega (arith, c.type_inv.bytes i)) _ c.test_items.ensures.read,
+  bad_range c.args.call c.args.pages c.args.bytes.now c.requires.items (λ i. omega (arith, c.type_inv.bytes i)) _ c.test_items.ensures.read,
+)
+
+pub returns-clause-overlap : goal.returns-clause-overlap
+returns-clause-overlap c = (
+  overlap_fault c.args.call c.args.pages c.args.bytes.now c.requires.items (λ i. omega (arith, c.type_inv.bytes i)) _ c.test_items.ensures.read,
+  overlap c.args.call c.args.pages c.args.bytes.now c.requires.items (λ i. omega (arith, c.type_inv.bytes i)) _ c.test_items.ensures.read,
+)
