@@ -1,4 +1,4 @@
--- What the files and the sink of the system hold, as their contracts see it.
+-- The files and the sink of the system, as their contracts see them.
 use Rattle.std.specs.Prelude.{ℕ}
 
 -- what calls go through to reach the system, and how many of them failed

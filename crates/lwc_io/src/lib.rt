@@ -1,4 +1,4 @@
-//! The outside as its callers see it: files to fetch from, a sink to write to, and a gate to wait at.
+//! The outside as its callers see it: files to read, a sink to write to, and a gate to wait at.
 #![tactic(auto)]
 
 mod memory;

@@ -1,7 +1,7 @@
 ghost use Rattle.std.specs.Prelude.{◌≡◌, ℕ, ◌+◌, ◌-◌, ◌<◌, ◌≤◌, ◌↔◌, min, ◌⊎◌, List, [], length, take, replicate, Some, option_copied, IfOk, IfSome, OnOk, OnErr, IsErr, IsTrue, bytes_eq, position, ◌==◌};
 ghost use Rattle.std.specs.List.{list_any};
-ghost use Rattle.lwc_io.specs.Outside.{Rose, IsPiece};
-ghost use Rattle.lwc_io.specs.Memory.{place_of, bytes_of, faults_of, fetch_fails, fetched, fetched_in_vain, write_fails, wrote, wrote_in_vain};
+ghost use Rattle.lwc_io.specs.Outside.{FaultsIncreased, IsPiece};
+ghost use Rattle.lwc_io.specs.Memory.{place_of, bytes_of, faults_of, fetch_fails, after_fetch, after_failed_fetch, write_fails, after_write, after_failed_write};
 
 use crate::outside::{Failed, Files, Sink};
 use std::alloc::{AllocError, Global};
@@ -28,7 +28,7 @@ impl NamedFile {
     ///
     /// # Errors
     ///
-    /// `AllocError` if there is no memory for them.
+    /// `AllocError` if memory runs out.
     pub fn new(alloc: Global, name: &str, bytes: &[u8]) -> Result<Self, AllocError>
         ensures { IfOk result (λ file. file ≡ record { name = name.now; bytes = bytes.now }) }
     {
@@ -74,7 +74,7 @@ pub(crate) fn bytes_named<'a>(files: &'a [NamedFile], name: &str) -> Option<&'a 
     files.get(place_named(files, name)).map(|file| file.bytes())
 }
 
-/// Puts the bytes from the place `at` on at the front of the buffer, as many as there are and fit.
+/// Copies the bytes from the offset `at` on into the front of the buffer, as many as there are and fit.
 pub(crate) fn copy_piece(bytes: &[u8], at: u64, buffer: &mut [u8]) -> usize
     ensures count { result ≡ min (length buffer.new) (length bytes.now - at) }
     ensures piece { IsPiece bytes.now at result buffer.new }
@@ -85,8 +85,8 @@ pub(crate) fn copy_piece(bytes: &[u8], at: u64, buffer: &mut [u8]) -> usize
     count
 }
 
-/// Files in memory. Each is told; a fetch fails where no file has the name, and at the calls that are
-/// to fail.
+/// Files in memory, whose contents are known. A fetch fails if no file has the name, and at the calls
+/// that were chosen to fail.
 #[derive(Drop)]
 pub struct MemoryFiles {
     files: Vec<NamedFile>,
@@ -98,24 +98,29 @@ pub struct MemoryFiles {
 
 impl Model for MemoryFiles {
     ghost use Rattle.std.specs.Prelude.{◌≡◌, ◌+◌, length};
-    ghost use Rattle.lwc_io.specs.Memory.{HeldFiles};
+    ghost use Rattle.lwc_io.specs.Memory.{FilesInMemory};
 
-    ghost Value = { HeldFiles };
+    ghost Value = { FilesInMemory };
 
-    ghost view = { λ m. record { files = m.files.items; faults = m.faults.items; calls = m.calls; failing = m.failing.items } };
+    ghost view = { λ m. record {
+      files = m.files.items;
+      faults = m.faults.items;
+      calls = m.calls;
+      failing = m.failing.items;
+    } };
 
     ghost invariant = { λ m. length m.faults.items ≡ length m.files.items + 1 };
 }
 
 impl MemoryFiles {
-    /// The given files. Where two have one name, the first is told. Of the fetches, numbered from 0 on,
-    /// those in `failing` are to fail.
+    /// These files; where two have one name, the first counts. Of the fetches, numbered from 0 on, those in
+    /// `failing` fail.
     ///
     /// # Errors
     ///
     /// `AllocError` if there is no memory for the counts of faults.
     pub fn new(alloc: Global, files: Vec<NamedFile>, failing: Vec<u64>) -> Result<Self, AllocError>
-        ensures { IfOk result (λ held. held ≡ record {
+        ensures { IfOk result (λ state. state ≡ record {
           files = files.items;
           faults = replicate (length files.items + 1) 0;
           calls = 0;
@@ -138,8 +143,8 @@ impl MemoryFiles {
         self.faults[place_named(&self.files, name)]
     }
 
-    /// Whether the next call is one of those that are to fail.
-    fn is_to_fail(&self) -> bool
+    /// Whether the next call is one of those that fail.
+    fn fails_next(&self) -> bool
         ensures { result ≡ list_any (λ call. call == self.now.calls) self.now.failing }
     {
         self.failing.contains(&self.calls)
@@ -147,9 +152,9 @@ impl MemoryFiles {
 
     /// Counts a call that failed at that name.
     fn count_fault(&mut self, name: &str)
-        ensures counted { self.new ≡ fetched_in_vain self.old name.now }
-        ensures never_falls { (q : List ℕ) → faults_of self.old q ≤ faults_of self.new q }
-        ensures rose { Rose (faults_of self.old name.now) (faults_of self.new name.now) }
+        ensures counted { self.new ≡ after_failed_fetch self.old name.now }
+        ensures never_decreases { (q : List ℕ) → faults_of self.old q ≤ faults_of self.new q }
+        ensures rose { FaultsIncreased (faults_of self.old name.now) (faults_of self.new name.now) }
     {
         let place = place_named(&self.files, name);
         self.calls = self.calls.saturating_add(1);
@@ -158,30 +163,31 @@ impl MemoryFiles {
 }
 
 impl Files for MemoryFiles {
-    ghost file = { λ held name. bytes_of held.files name };
+    ghost file = { λ state name. bytes_of state.files name };
 
     ghost faults = { faults_of };
 
-    /// As many bytes as the file has and the buffer takes.
+    /// Reads as many bytes as the file has and the buffer takes.
     ///
     /// # Errors
     ///
-    /// `Failed` exactly if the call is to fail or no file has the name. It raises the count of that name
-    /// by one, and no other; all names that no file has share one count.
+    /// `Failed` exactly if the call is one of those that fail, or no file has the name. It increments the
+    /// count of that name alone; all names that no file has share one count.
     fn fetch(&mut self, name: &str, at: u64, buffer: &mut [u8]) -> Result<usize, Failed>
         ensures fails { IsErr result ↔ IsTrue (fetch_fails self.old name.now) }
         ensures count { IfOk result (λ n. IfSome (bytes_of self.old.files name.now)
             (λ bytes. n ≡ min (length buffer.new) (length bytes - at))) }
         ensures piece { IfOk result (λ n. IfSome (bytes_of self.old.files name.now)
             (λ bytes. IsPiece bytes at n buffer.new)) }
-        ensures ok { OnOk result (self.new ≡ fetched self.old) }
-        ensures err { OnErr result (self.new ≡ fetched_in_vain self.old name.now) }
-        ensures never_falls { (q : List ℕ) → faults_of self.old q ≤ faults_of self.new q }
-        ensures cause { OnErr result (Rose (faults_of self.old name.now) (faults_of self.new name.now)) }
+        ensures ok { OnOk result (self.new ≡ after_fetch self.old) }
+        ensures err { OnErr result (self.new ≡ after_failed_fetch self.old name.now) }
+        ensures never_decreases { (q : List ℕ) → faults_of self.old q ≤ faults_of self.new q }
+        ensures cause { OnErr result
+            (FaultsIncreased (faults_of self.old name.now) (faults_of self.new name.now)) }
     {
-        let is_to_fail = self.is_to_fail();
+        let fails_next = self.fails_next();
         match bytes_named(&self.files, name) {
-            Some(bytes) if !is_to_fail => {
+            Some(bytes) if !fails_next => {
                 let count = copy_piece(bytes, at, buffer);
                 self.calls = self.calls.saturating_add(1);
                 Ok(count)
@@ -194,8 +200,8 @@ impl Files for MemoryFiles {
     }
 }
 
-/// A sink in memory, which tells all its bytes. A write fails at the calls that are to fail, and where
-/// there is no memory for the bytes.
+/// A sink in memory, whose bytes are known. A write fails at the calls that were chosen to fail, and if
+/// memory runs out.
 #[derive(Drop)]
 pub struct MemorySink {
     bytes: Vec<u8>,
@@ -207,20 +213,27 @@ pub struct MemorySink {
 
 impl Model for MemorySink {
     ghost use Rattle.std.specs.Prelude.{vec_capacity};
-    ghost use Rattle.lwc_io.specs.Memory.{HeldBytes};
+    ghost use Rattle.lwc_io.specs.Memory.{SinkInMemory};
 
-    ghost Value = { HeldBytes };
+    ghost Value = { SinkInMemory };
 
-    ghost view = { λ s. record { bytes = s.bytes.items; room = vec_capacity s.bytes; most = s.most; faults = s.faults; calls = s.calls; failing = s.failing.items } };
+    ghost view = { λ s. record {
+      bytes = s.bytes.items;
+      capacity = vec_capacity s.bytes;
+      most = s.most;
+      faults = s.faults;
+      calls = s.calls;
+      failing = s.failing.items;
+    } };
 }
 
 impl MemorySink {
-    /// An empty sink that takes at most so many bytes a call. Of the writes, numbered from 0 on, those
-    /// in `failing` are to fail.
+    /// An empty sink that takes at most `most` bytes a call. Of the writes, numbered from 0 on, those
+    /// in `failing` fail.
     pub fn new(alloc: Global, most: usize, failing: Vec<u64>) -> Self
         ensures { result ≡ record {
           bytes = [];
-          room = result.room;
+          capacity = result.capacity;
           most = most;
           faults = 0;
           calls = 0;
@@ -236,14 +249,14 @@ impl MemorySink {
         }
     }
 
-    /// Makes room for so many bytes more, so that no write wants memory before they are taken.
+    /// Makes room for `additional` more bytes, so that no write runs out of memory before they are taken.
     ///
     /// # Errors
     ///
     /// `AllocError` if there is no memory for them. The sink is as before.
     pub fn reserve(&mut self, additional: usize) -> Result<(), AllocError>
-        ensures ok { OnOk result (length self.new.bytes + additional ≤ self.new.room) }
-        ensures same { self.new ≡ record self.old { room = self.new.room } }
+        ensures ok { OnOk result (length self.new.bytes + additional ≤ self.new.capacity) }
+        ensures same { self.new ≡ record self.old { capacity = self.new.capacity } }
     {
         self.bytes.reserve(additional)
     }
@@ -262,8 +275,8 @@ impl MemorySink {
         self.faults
     }
 
-    /// Whether a write of that piece fails, want of memory aside.
-    fn is_to_fail(&self, piece: &[u8]) -> bool
+    /// Whether a write of that piece fails though there is memory.
+    fn fails_next(&self, piece: &[u8]) -> bool
         ensures { result ≡ write_fails self.now piece.now }
     {
         self.failing.contains(&self.calls) || self.most == 0 && !piece.is_empty()
@@ -271,8 +284,8 @@ impl MemorySink {
 
     /// Counts a call that failed.
     fn count_fault(&mut self)
-        ensures counted { self.new ≡ wrote_in_vain self.old }
-        ensures never_falls { self.old.faults ≤ self.new.faults }
+        ensures counted { self.new ≡ after_failed_write self.old }
+        ensures never_decreases { self.old.faults ≤ self.new.faults }
     {
         self.calls = self.calls.saturating_add(1);
         self.faults = self.faults.saturating_add(1);
@@ -280,9 +293,10 @@ impl MemorySink {
 
     /// Counts a call and keeps the piece, or neither.
     fn keep(&mut self, piece: &[u8]) -> Result<(), AllocError>
-        ensures ok { OnOk result (self.new ≡ record (wrote self.old piece.now) { room = self.new.room }) }
-        ensures err { OnErr result (self.new ≡ record self.old { room = self.new.room }) }
-        ensures full { OnErr result (self.old.room < length self.old.bytes + length piece.now) }
+        ensures ok { OnOk result
+            (self.new ≡ record (after_write self.old piece.now) { capacity = self.new.capacity }) }
+        ensures err { OnErr result (self.new ≡ record self.old { capacity = self.new.capacity }) }
+        ensures full { OnErr result (self.old.capacity < length self.old.bytes + length piece.now) }
     {
         self.bytes.extend_from_slice(piece)?;
         self.calls = self.calls.saturating_add(1);
@@ -291,28 +305,29 @@ impl MemorySink {
 }
 
 impl Sink for MemorySink {
-    ghost taken = { λ held. Some held.bytes };
+    ghost taken = { λ state. Some state.bytes };
 
-    ghost faults = { λ held. held.faults };
+    ghost faults = { λ state. state.faults };
 
-    /// Takes the whole piece, or as much of it as it takes a call.
+    /// Takes the whole piece, or the most that the sink takes a call.
     ///
     /// # Errors
     ///
-    /// `Failed` if the call is to fail, if the sink takes no bytes and the piece is not empty, and if
-    /// there is no memory for the bytes. It raises the count of faults by one.
+    /// `Failed` if the call is one of those that fail, if the sink takes no bytes and the piece is not
+    /// empty, and if memory runs out. It increments the count of faults.
     fn write(&mut self, piece: &[u8]) -> Result<usize, Failed>
         ensures fails { IsTrue (write_fails self.old piece.now) → IsErr result }
         ensures fails_only { OnErr result (IsTrue (write_fails self.old piece.now)
-            ⊎ (self.old.room < length self.old.bytes + min self.old.most (length piece.now))) }
+            ⊎ (self.old.capacity < length self.old.bytes + min self.old.most (length piece.now))) }
         ensures count { IfOk result (λ n. n ≡ min self.old.most (length piece.now)) }
         ensures ok { IfOk result (λ n.
-            self.new ≡ record (wrote self.old (take n piece.now)) { room = self.new.room }) }
-        ensures err { OnErr result (self.new ≡ record (wrote_in_vain self.old) { room = self.new.room }) }
-        ensures never_falls { self.old.faults ≤ self.new.faults }
+            self.new ≡ record (after_write self.old (take n piece.now)) { capacity = self.new.capacity }) }
+        ensures err { OnErr result
+            (self.new ≡ record (after_failed_write self.old) { capacity = self.new.capacity }) }
+        ensures never_decreases { self.old.faults ≤ self.new.faults }
     {
         let count = self.most.min(piece.len());
-        if self.is_to_fail(piece) || self.keep(&piece[..count]).is_err() {
+        if self.fails_next(piece) || self.keep(&piece[..count]).is_err() {
             self.count_fault();
             return Err(Failed);
         }

@@ -1,5 +1,5 @@
 ghost use Rattle.std.specs.Prelude.{◌≡◌, ◌<◌, ◌≤◌, None, length, IfOk, OnOk, OnErr};
-ghost use Rattle.lwc_io.specs.Outside.{one_more};
+ghost use Rattle.lwc_io.specs.Outside.{incremented};
 
 use crate::outside::{Failed, Files, Sink};
 use std::fs::File;
@@ -7,7 +7,7 @@ use std::io::{self, ErrorKind, Read, Seek, SeekFrom, Write};
 use std::marker::Model;
 use std::rt;
 
-/// The files of the system, by their paths. What they hold is not told.
+/// The files of the system, by their paths. Their contents are not known.
 #[derive(Drop)]
 pub struct RealFiles<R> {
     rt: R,
@@ -58,17 +58,17 @@ impl<R: rt::Files> Files for RealFiles<R> {
 
     ghost faults = { λ files _. files.faults };
 
-    /// One read at that place, of a file that is opened for it. It may give less than the buffer takes.
+    /// Opens the file and reads once at that offset. It may read less than the buffer takes.
     ///
     /// # Errors
     ///
-    /// `Failed` if the system fails to open, seek or read, as where no file has the name or it is a
-    /// folder. It raises the count, which all names share, by one.
+    /// `Failed` if the system fails to open, seek or read, as for a name that no file has, and for a
+    /// folder. It increments the count, which all names share.
     fn fetch(&mut self, name: &str, at: u64, buffer: &mut [u8]) -> Result<usize, Failed>
         ensures count { IfOk result (λ n. n ≤ length buffer.new) }
         ensures ok { OnOk result (self.new ≡ self.old) }
-        ensures err { OnErr result (self.new ≡ record self.old { faults = one_more self.old.faults }) }
-        ensures never_falls { self.old.faults ≤ self.new.faults }
+        ensures err { OnErr result (self.new ≡ record self.old { faults = incremented self.old.faults }) }
+        ensures never_decreases { self.old.faults ≤ self.new.faults }
     {
         match self.read_piece(name, at, buffer) {
             Ok(count) => Ok(count),
@@ -80,7 +80,7 @@ impl<R: rt::Files> Files for RealFiles<R> {
     }
 }
 
-/// A writer of the system. What it took is not told.
+/// A writer of the system. What it took is not known.
 #[derive(Drop)]
 pub struct RealSink<W> {
     writer: W,
@@ -130,18 +130,17 @@ impl<W: Write> Sink for RealSink<W> {
 
     ghost faults = { λ sink. sink.faults };
 
-    /// One write of the writer's. It may take less than the piece.
+    /// Writes once. The writer may take less than the piece.
     ///
     /// # Errors
     ///
-    /// `Failed` if the writer fails, or takes no byte of a piece that is not empty. It raises the count
-    /// by one.
+    /// `Failed` if the writer fails, or takes no byte of a piece that is not empty. It increments the count.
     fn write(&mut self, piece: &[u8]) -> Result<usize, Failed>
         ensures count { IfOk result (λ n. n ≤ length piece.now) }
         ensures some { IfOk result (λ n. 0 < length piece.now → 0 < n) }
         ensures ok { OnOk result (self.new.faults ≡ self.old.faults) }
-        ensures err { OnErr result (self.new.faults ≡ one_more self.old.faults) }
-        ensures never_falls { self.old.faults ≤ self.new.faults }
+        ensures err { OnErr result (self.new.faults ≡ incremented self.old.faults) }
+        ensures never_decreases { self.old.faults ≤ self.new.faults }
     {
         match write_some(&mut self.writer, piece) {
             Ok(count) if count > 0 || piece.is_empty() => Ok(count),

@@ -21,7 +21,7 @@ impl Model for SureFiles {
 }
 
 impl SureFiles {
-    /// The given files. Where two have one name, the first is told.
+    /// These files; where two have one name, the first counts.
     pub fn new(files: Vec<NamedFile>) -> Self
         ensures { result ≡ files.items }
     {
@@ -34,7 +34,7 @@ impl Files for SureFiles {
 
     ghost faults = { λ _ _. 0 };
 
-    /// As many bytes as the file has and the buffer takes. Never fails.
+    /// Reads as many bytes as the file has and the buffer takes. Never fails.
     fn fetch(&mut self, name: &str, at: u64, buffer: &mut [u8]) -> Result<usize, Failed> {
         let bytes = bytes_named(&self.files, name).unwrap_or(&[]);
         Ok(copy_piece(bytes, at, buffer))
