@@ -1,23 +1,18 @@
--- What a run leaves of a machine, and its lines one after another.
-use Rattle.std.proofs.Common.{◌≡◌, ℕ, ◌≤◌, ◌+◌, refl, sym, ap, ◌∙◌, true, List, [], ◌∷◌, ◌++◌, length, Option, Some, None, suc, zero, take, ⊎_elim, arith, add-one, append-nil, append_assoc}
+-- The lines of threads and of contexts, one after another.
+use Rattle.std.proofs.Common.{◌≡◌, ℕ, ◌≤◌, ◌<◌, ◌+◌, sym, ap, ◌∙◌, true, List, [], ◌∷◌, ◌++◌, length, Option, Some, None, suc, zero, take, ⊎_elim, arith, add-one, append-nil, append_assoc}
 use Rattle.std.specs.Prelude.{slice_get}
 use Rattle.std.specs.FinMap as fm
-use Rattle.std.specs.List.{enumerate_from, flat_map, range_with_len}
+use Rattle.std.specs.List.{flat_map, range_with_len}
 use Rattle.std.specs.Option.{option_map_or}
 use Rattle.std.proofs.lemmas.Cmp.{eq_by_cmp_equiv}
-use Rattle.std.proofs.lemmas.List.{length-map, length-set, take_more, take_all}
+use Rattle.std.proofs.lemmas.List.{length-map, take_more, take_all}
 use Rattle.std.proofs.lemmas.List.Concat.{flat_map-append}
-use Rattle.std.proofs.lemmas.List.FromFn.{length-enumerate_from}
 use Rattle.std.proofs.lemmas.Map.Views.{list_any-from_Contains}
 use Rattle.std.proofs.lemmas.Option.{slice_get_cases, slice_get_within, get_or_from_slice_get}
-use Rattle.kernel_core.specs.Kernel.{History, machine_of, view_of}
+use Rattle.kernel_core.specs.Kernel.{view_of}
 use Rattle.kernel_core.specs.Machine.{Machine}
-use Rattle.kernel_core.specs.Runs.{run}
-use Rattle.kernel_core.specs.Start.{first_thread, first_threads, start}
-use Rattle.kernel_core.specs.Step.{Acted, step, step_at, step_of, with_acted}
-use Rattle.kernel_core.specs.declared.thread.Thread.{Thread}
 use Rattle.kernel_core.specs.declared.thread.ThreadView.{ThreadView}
-use Rattle.lwc_base.proofs.Orders.{name_cmp-total}
+use Rattle.lwc_base.specs.Facts.{OrderFacts}
 use Rattle.lwc_base.specs.Summaries.{summary_of}
 use Rattle.lwc_base.specs.World.{World}
 use Rattle.lwc_base.specs.declared.name.Name.{Name}
@@ -25,36 +20,11 @@ use Rattle.lwc_base.specs.declared.size.Summary.{Summary}
 use Rattle.lwc_text.specs.Lines.{context_line, thread_lines}
 use Rattle.lwc_text.specs.Report.{thread_at}
 
-acted_keeps : (m : Machine) (t : ℕ) (done : Option Acted) → length (with_acted m t done).threads ≡ length m.threads
-acted_keeps m t None = refl
-acted_keeps m t (Some done) = length-set m.threads t done.thread
-
-step_at_keeps : (m : Machine) (t : ℕ) (found : Option Thread) → length (step_at m t found).threads ≡ length m.threads
-step_at_keeps m t None = refl
-step_at_keeps m t (Some x) = acted_keeps m t (step_of m.world m.text x x.status)
-
-step_keeps : (m : Machine) (t : ℕ) → length (step m t).threads ≡ length m.threads
-unfolding step
-step_keeps m t = step_at_keeps m t (slice_get m.threads t)
-
--- a run leaves as many threads as there were
-run_keeps : (m : Machine) (ts : List ℕ) → length (run m ts).threads ≡ length m.threads
-run_keeps m [] = refl
-run_keeps m (t ∷ ts) = run_keeps (step m t) ts ∙ step_keeps m t
-
--- a run has one thread for each entry of the image
-pub reached_all_threads : (h : History) → length (machine_of h).threads ≡ length h.inputs.image.entries
-unfolding machine_of start first_threads
-reached_all_threads h =
-    run_keeps (start h.inputs) h.steps
-    ∙ length-map (enumerate_from 0 h.inputs.image.entries) (λ e. first_thread h.inputs.settings.budget e.0 e.1)
-    ∙ length-enumerate_from 0 h.inputs.image.entries
-
--- the context of a name among the keys lives
-pub lives : (w : World) (i : ℕ) (c : Name) → slice_get (fm.keys w.contexts) i ≡ Some c → fm.contains_key w.contexts c ≡ true
-lives w i c found =
+-- a name among those of live contexts is live
+pub lives : (w : World) (i : ℕ) (c : Name) → OrderFacts → slice_get (fm.keys w.contexts) i ≡ Some c → fm.contains_key w.contexts c ≡ true
+lives w i c order found =
     fm.contains_key-keys w.contexts c
-    ∙ list_any-from_Contains (eq_by_cmp_equiv name_cmp-total) c (fm.keys w.contexts) (i, slice_get_within (fm.keys w.contexts) i c found, get_or_from_slice_get (fm.keys w.contexts) i c c found)
+    ∙ list_any-from_Contains (eq_by_cmp_equiv order.names) c (fm.keys w.contexts) (i, slice_get_within (fm.keys w.contexts) i c found, get_or_from_slice_get (fm.keys w.contexts) i c c found)
 
 -- the last of some pieces
 last_piece : {X : Type 0} (f : X → List ℕ) (xs : List X) (x : X) → flat_map f (xs ++ x ∷ []) ≡ flat_map f xs ++ f x
@@ -97,10 +67,20 @@ one_more_context w i c s before now after named is so_far added =
 some_is_not_none : {X : Type 0} (x : X) → Some x ≡ None → ⊥
 some_is_not_none x h = cc
 
--- the lines of all contexts
-pub all_contexts : (w : World) (i : ℕ) (before now : List ℕ) → slice_get (fm.keys w.contexts) i ≡ None
-    → now ≡ before ++ flat_map (context_at w) (take i (fm.keys w.contexts)) → now ≡ before ++ flat_map (context_at w) (fm.keys w.contexts)
-all_contexts w i before now none so_far =
+count_of_keys : (w : World) → fm.len w.contexts ≡ length (fm.keys w.contexts)
+count_of_keys w = fm.len-entries w.contexts ∙ sym (length-map (fm.entries w.contexts) (λ e. e.0))
+
+-- below the number of live contexts there is a name
+pub is_named : (w : World) (i : ℕ) → i < fm.len w.contexts → slice_get (fm.keys w.contexts) i ≡ None → ⊥
+is_named w i below none =
     let keys : List Name = fm.keys w.contexts in
-    let past : length keys ≤ i = ⊎_elim (λ p. absurd (some_is_not_none p.0 (sym p.2 ∙ none))) (λ p. p.0) (slice_get_cases keys i).1 in
-    so_far ∙ ap (λ l. before ++ flat_map (context_at w) l) (take_all i keys past)
+    ⊎_elim (λ p. some_is_not_none p.0 (sym p.2 ∙ none)) (λ p. absurd (omega (arith, p.0, count_of_keys w))) (slice_get_cases keys i).1
+
+-- the lines of all contexts
+pub all_contexts : (w : World) (i : ℕ) (before now : List ℕ) → fm.len w.contexts ≤ i
+    → now ≡ before ++ flat_map (context_at w) (take i (fm.keys w.contexts)) → now ≡ before ++ flat_map (context_at w) (fm.keys w.contexts)
+all_contexts w i before now past so_far =
+    let keys : List Name = fm.keys w.contexts in
+    so_far ∙ ap (λ l. before ++ flat_map (context_at w) l) (take_all i keys (omega (arith, count_of_keys w)))
+
+pub ruleset context_reading = (lives, is_named, all_contexts, one_more_context)

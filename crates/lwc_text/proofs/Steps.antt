@@ -6,13 +6,12 @@ use Rattle.std.proofs.lemmas.List.Elements.{All-nil, All-cons, All-head, All-tai
 use Rattle.std.proofs.Math.Seq.{take-length}
 use Rattle.std.specs.List.{cons_option, filter_map, range_with_len}
 use Rattle.std.specs.Option.{option_map}
-use Rattle.lwc_text.specs.declared.fault.InputFault.{InputFault}
-use Rattle.lwc_text.specs.declared.fault.InputFault.TheVariants as faults
+use Rattle.byte_reading.specs.Outcomes.{Refusal, Fails, IsFound, unless_refused}
+use Rattle.byte_reading.specs.declared.error.ReadError.{ReadError}
+use Rattle.byte_reading.specs.declared.error.ReadError.TheVariants as errors
 use Rattle.lwc_text.specs.declared.fault.InputRule.{InputRule}
-use Rattle.lwc_base.specs.declared.limits.TheConstants.{MOST_STEPS}
-use Rattle.lwc_text.specs.declared.schedule.TheConstants.{MOST_BYTES}
-use Rattle.lwc_text.specs.Inputs.{Refused, Fails, IsFound}
-use Rattle.lwc_text.specs.Schedules.{IsSchedule, digit_number, is_blank, names_thread, numbers, refusal_at, refusal_of, refusals, rule_broken, schedule_at, unless_refused}
+use Rattle.lwc_base.specs.declared.limits.TheConstants.{MOST_SCHEDULE_BYTES, MOST_STEPS, MOST_THREADS}
+use Rattle.lwc_text.specs.Schedules.{IsSchedule, digit_number, is_blank, names_thread, numbers, refusal_at, refusal_of, refusals, rule_broken, schedule_at}
 
 -- a byte that a schedule may have
 abbrev pub Fits : ℕ → ℕ → Type 0
@@ -35,7 +34,7 @@ named_has_number threads b h = grind arith
 pub named_adds : (b t : ℕ) → digit_number b ≡ Some t → numbers (b ∷ []) ≡ t ∷ []
 named_adds b t h = ap (λ o. cons_option o []) h
 
--- what is so of a byte that breaks no rule
+-- a byte that breaks no rule
 record IsKept (threads before b : ℕ) : Type 0 where
   fits : Fits threads b
   few : before ≤ MOST_STEPS → before + length (numbers (b ∷ [])) ≤ MOST_STEPS
@@ -63,14 +62,14 @@ numbers-append (b ∷ xs) ys =
 numbers-next : (bytes : List ℕ) (at : ℕ) → at < length bytes → numbers (take (at + 1) bytes) ≡ numbers (take at bytes) ++ numbers (get_or bytes at 0 ∷ [])
 numbers-next bytes at within = ap numbers (take_more bytes at 0 within) ∙ numbers-append (take at bytes) (get_or bytes at 0 ∷ [])
 
--- where nothing is refused from a number on, there is no refusal among so many
-none_refused : (refusal : ℕ → Option Refused) (a n : ℕ) → ((i : ℕ) → a ≤ i → i < a + n → refusal i ≡ None) → filter_map refusal (range_with_len a n) ≡ []
+-- where nothing is refused from a number on, there is no refusal
+none_refused : (refusal : ℕ → Option (Refusal InputRule)) (a n : ℕ) → ((i : ℕ) → a ≤ i → i < a + n → refusal i ≡ None) → filter_map refusal (range_with_len a n) ≡ []
 none_refused refusal a zero none = refl
 none_refused refusal a (suc n) none =
     ap (λ o. cons_option o (filter_map refusal (range_with_len (a + 1) n))) (none a (omega arith) (omega arith))
     ∙ none_refused refusal (a + 1) n (λ i low high. none i (omega arith) (omega arith))
 
-first_by : (b : Bool) (refusal : ℕ → Option Refused) (steps : List ℕ) (a n at : ℕ) (r : Refused) → eqb a at ≡ b → a ≤ at → ((i : ℕ) → a ≤ i → i < at → refusal i ≡ None) → refusal at ≡ Some r →
+first_by : (b : Bool) (refusal : ℕ → Option (Refusal InputRule)) (steps : List ℕ) (a n at : ℕ) (r : Refusal InputRule) → eqb a at ≡ b → a ≤ at → ((i : ℕ) → a ≤ i → i < at → refusal i ≡ None) → refusal at ≡ Some r →
     (a + 1 ≤ at → unless_refused steps (filter_map refusal (range_with_len (a + 1) n)) ≡ Err r) → unless_refused steps (filter_map refusal (range_with_len a (suc n))) ≡ Err r
 first_by true refusal steps a n at r is low none here later =
     let same : a ≡ at = grind (arith, nat_tests) in
@@ -80,14 +79,14 @@ first_by false refusal steps a n at r is low none here later =
     ap (λ o. unless_refused steps (cons_option o (filter_map refusal (range_with_len (a + 1) n)))) (none a (omega arith) less) ∙ later (omega arith)
 
 -- where nothing is refused before a number, the refusal there is the first
-first_refused : (refusal : ℕ → Option Refused) (steps : List ℕ) (a n at : ℕ) (r : Refused) → a ≤ at → at < a + n → ((i : ℕ) → a ≤ i → i < at → refusal i ≡ None) →
+first_refused : (refusal : ℕ → Option (Refusal InputRule)) (steps : List ℕ) (a n at : ℕ) (r : Refusal InputRule) → a ≤ at → at < a + n → ((i : ℕ) → a ≤ i → i < at → refusal i ≡ None) →
     refusal at ≡ Some r → unless_refused steps (filter_map refusal (range_with_len a n)) ≡ Err r
 first_refused refusal steps a zero at r low high none here = absurd (omega arith)
 first_refused refusal steps a (suc n) at r low high none here =
     first_by (eqb a at) refusal steps a n at r refl low none here
     (λ less. first_refused refusal steps (a + 1) n at r less (omega arith) (λ i above below. none i (omega arith) below) here)
 
--- how far a loop has come: the steps are the digits of the bytes so far, which are not too many, and none of these bytes is refused
+-- the steps so far are the digits of the bytes so far, at most MOST_STEPS, and none of these bytes is refused
 pub record IsSoFar (threads : ℕ) (bytes : List ℕ) (at : ℕ) (steps : List ℕ) : Type 0 where
   pub named : steps ≡ numbers (take at bytes)
   pub few : length steps ≤ MOST_STEPS
@@ -115,15 +114,15 @@ goes_on threads at before after bytes within unbroken added few so_far =
     }
 
 -- a loop ends at a byte
-pub ends : (e : InputFault) (threads at : ℕ) (before bytes : List ℕ) → at < length bytes → IsFound e (option_map (refusal_of at) (rule_broken threads (length before) (get_or bytes at 0))) →
+pub ends : (e : ReadError InputRule) (threads at : ℕ) (before bytes : List ℕ) → at < length bytes → IsFound e (option_map (refusal_of at) (rule_broken threads (length before) (get_or bytes at 0))) →
     IsSoFar threads bytes at before → Fails e (unless_refused (numbers bytes) (refusals threads bytes))
 unfolding refusals
-ends faults.OutOfMemory threads at before bytes within found so_far = tt
-ends (faults.Refused rule offset) threads at before bytes within found so_far =
+ends errors.OutOfMemory threads at before bytes within found so_far = tt
+ends (errors.Refused rule offset) threads at before bytes within found so_far =
     first_refused (refusal_at threads bytes) (numbers bytes) 0 (length bytes) at (record { rule = rule; at = offset }) (omega arith) (omega arith)
     (λ i low below. so_far.clear i below) (sym (refusal_here threads bytes at (length before) (ap length so_far.named)) ∙ found)
 
-unless_none : (steps : List ℕ) (found : List Refused) → found ≡ [] → unless_refused steps found ≡ Ok steps
+unless_none : (steps : List ℕ) (found : List (Refusal InputRule)) → found ≡ [] → unless_refused steps found ≡ Ok steps
 unless_none steps found none = ap (unless_refused steps) none
 
 -- a loop is done after the last byte
@@ -143,15 +142,15 @@ numbers_hold P b bytes first rest =
       | Some t ↦ λ e. All-cons P t (numbers bytes) (first t e) rest
     ] refl
 
-digit_is_below : (b t : ℕ) → digit_number b ≡ Some t → t < 16
+digit_is_below : (b t : ℕ) → digit_number b ≡ Some t → t < MOST_THREADS
 digit_is_below b t e = grind arith
 
 digit_is_there : (threads b t : ℕ) → Fits threads b → digit_number b ≡ Some t → t < threads
 digit_is_there threads b t fits e = grind (arith, blank_has_no_number)
 
-digits_are_below : (bytes : List ℕ) → All (λ t. t < 16) (numbers bytes)
-digits_are_below [] = All-nil (λ t. t < 16)
-digits_are_below (b ∷ bytes) = numbers_hold (λ t. t < 16) b bytes (digit_is_below b) (digits_are_below bytes)
+digits_are_below : (bytes : List ℕ) → All (λ t. t < MOST_THREADS) (numbers bytes)
+digits_are_below [] = All-nil (λ t. t < MOST_THREADS)
+digits_are_below (b ∷ bytes) = numbers_hold (λ t. t < MOST_THREADS) b bytes (digit_is_below b) (digits_are_below bytes)
 
 are_there : (threads : ℕ) (bytes : List ℕ) → All (Fits threads) bytes → All (λ t. t < threads) (numbers bytes)
 are_there threads [] each = All-nil (λ t. t < threads)
@@ -159,24 +158,24 @@ are_there threads (b ∷ bytes) each =
     numbers_hold (λ t. t < threads) b bytes (λ t e. digit_is_there threads b t (All-head (Fits threads) b bytes each) e) (are_there threads bytes (All-tail (Fits threads) b bytes each))
 
 -- what it means that bytes were read
-read_by : (steps numbers_of : List ℕ) (found : List Refused) → unless_refused numbers_of found ≡ Ok steps → (found ≡ []) × (numbers_of ≡ steps)
+read_by : (steps numbers_of : List ℕ) (found : List (Refusal InputRule)) → unless_refused numbers_of found ≡ Ok steps → (found ≡ []) × (numbers_of ≡ steps)
 read_by steps numbers_of [] is = (refl, cc)
 read_by steps numbers_of (r ∷ found) is = absurd (cc)
 
-pub digits_are_read : (threads : ℕ) (bytes steps : List ℕ) → unless_refused (numbers bytes) (refusals threads bytes) ≡ Ok steps → All (λ t. t < 16) steps
+pub digits_are_read : (threads : ℕ) (bytes steps : List ℕ) → unless_refused (numbers bytes) (refusals threads bytes) ≡ Ok steps → All (λ t. t < MOST_THREADS) steps
 digits_are_read threads bytes steps h =
-    subst (λ (xs : List ℕ). All (λ t. t < 16) xs) (read_by steps (numbers bytes) (refusals threads bytes) h).1 (digits_are_below bytes)
+    subst (λ (xs : List ℕ). All (λ t. t < MOST_THREADS) xs) (read_by steps (numbers bytes) (refusals threads bytes) h).1 (digits_are_below bytes)
 
-none_here : (here : Option Refused) (rest : List Refused) → cons_option here rest ≡ [] → (here ≡ None) × (rest ≡ [])
+none_here : (here : Option (Refusal InputRule)) (rest : List (Refusal InputRule)) → cons_option here rest ≡ [] → (here ≡ None) × (rest ≡ [])
 none_here None rest none = (refl, none)
 none_here (Some r) rest none = absurd (cc)
 
-nothing_by : (refusal : ℕ → Option Refused) (a i : ℕ) (b : Bool) → eqb a i ≡ b → a ≤ i → refusal a ≡ None → (a + 1 ≤ i → refusal i ≡ None) → refusal i ≡ None
+nothing_by : (refusal : ℕ → Option (Refusal InputRule)) (a i : ℕ) (b : Bool) → eqb a i ≡ b → a ≤ i → refusal a ≡ None → (a + 1 ≤ i → refusal i ≡ None) → refusal i ≡ None
 nothing_by refusal a i true is low here later = let same : i ≡ a = grind (arith, nat_tests) in ap refusal same ∙ here
 nothing_by refusal a i false is low here later = later (grind (arith, nat_tests))
 
 -- where there is no refusal, no byte is refused
-nothing_refused : (refusal : ℕ → Option Refused) (a n : ℕ) → filter_map refusal (range_with_len a n) ≡ [] → (i : ℕ) → a ≤ i → i < a + n → refusal i ≡ None
+nothing_refused : (refusal : ℕ → Option (Refusal InputRule)) (a n : ℕ) → filter_map refusal (range_with_len a n) ≡ [] → (i : ℕ) → a ≤ i → i < a + n → refusal i ≡ None
 nothing_refused refusal a zero none i low high = absurd (omega arith)
 nothing_refused refusal a (suc n) none i low high =
     let both = none_here (refusal a) (filter_map refusal (range_with_len (a + 1) n)) none in
@@ -205,7 +204,7 @@ module _ (threads : ℕ) (bytes : List ℕ) (clear : (i : ℕ) → i < length by
   few_steps : length (numbers bytes) ≤ MOST_STEPS
   few_steps = subst (λ (l : List ℕ). length (numbers l) ≤ MOST_STEPS) (take-length bytes) (few_so_far (length bytes) (omega arith))
 
-short_is_read : (threads : ℕ) (bytes steps : List ℕ) → schedule_at threads bytes ≡ Ok steps → (length bytes ≤ MOST_BYTES) × (unless_refused (numbers bytes) (refusals threads bytes) ≡ Ok steps)
+short_is_read : (threads : ℕ) (bytes steps : List ℕ) → schedule_at threads bytes ≡ Ok steps → (length bytes ≤ MOST_SCHEDULE_BYTES) × (unless_refused (numbers bytes) (refusals threads bytes) ≡ Ok steps)
 unfolding schedule_at
 short_is_read threads bytes steps h = grind arith
 
@@ -213,7 +212,7 @@ short_is_read threads bytes steps h = grind arith
 pub is_schedule : (threads : ℕ) (bytes steps : List ℕ) → schedule_at threads bytes ≡ Ok steps → IsSchedule threads bytes steps
 unfolding refusals
 is_schedule threads bytes steps h =
-    let short : (length bytes ≤ MOST_BYTES) × (unless_refused (numbers bytes) (refusals threads bytes) ≡ Ok steps) = short_is_read threads bytes steps h in
+    let short : (length bytes ≤ MOST_SCHEDULE_BYTES) × (unless_refused (numbers bytes) (refusals threads bytes) ≡ Ok steps) = short_is_read threads bytes steps h in
     let read : (refusals threads bytes ≡ []) × (numbers bytes ≡ steps) = read_by steps (numbers bytes) (refusals threads bytes) short.1 in
     let clear : (i : ℕ) → i < length bytes → refusal_at threads bytes i ≡ None =
     λ i within. nothing_refused (refusal_at threads bytes) 0 (length bytes) read.0 i (omega arith) (omega arith) in
@@ -224,13 +223,13 @@ is_schedule threads bytes steps h =
       few = subst (λ (l : List ℕ). length l ≤ MOST_STEPS) read.1 (few_steps threads bytes clear);
     }
 
--- the steps of a schedule are of threads that are there
+-- each step of a schedule is of one of the threads
 pub threads_are_there : (threads : ℕ) (bytes steps : List ℕ) → schedule_at threads bytes ≡ Ok steps → All (λ t. t < threads) steps
 threads_are_there threads bytes steps h =
     let is : IsSchedule threads bytes steps = is_schedule threads bytes steps h in
     subst (λ (xs : List ℕ). All (λ t. t < threads) xs) (sym is.named) (are_there threads bytes is.each)
 
-short_reads : (threads : ℕ) (bytes : List ℕ) → length bytes ≤ MOST_BYTES → schedule_at threads bytes ≡ unless_refused (numbers bytes) (refusals threads bytes)
+short_reads : (threads : ℕ) (bytes : List ℕ) → length bytes ≤ MOST_SCHEDULE_BYTES → schedule_at threads bytes ≡ unless_refused (numbers bytes) (refusals threads bytes)
 unfolding schedule_at
 short_reads threads bytes h = grind arith
 
@@ -248,7 +247,7 @@ clear_of_schedule threads bytes steps is i within =
     ap (option_map (refusal_of i)) (keeps threads (length (numbers (take i bytes))) (get_or bytes i 0) fits room)
 
 -- a schedule is read whole
-is_read : (threads : ℕ) (bytes steps : List ℕ) → IsSchedule threads bytes steps → schedule_at threads bytes ≡ Ok steps
+pub is_read : (threads : ℕ) (bytes steps : List ℕ) → IsSchedule threads bytes steps → schedule_at threads bytes ≡ Ok steps
 unfolding refusals
 is_read threads bytes steps is =
     short_reads threads bytes is.short
@@ -256,7 +255,9 @@ is_read threads bytes steps is =
     (none_refused (refusal_at threads bytes) 0 (length bytes) (λ i low high. clear_of_schedule threads bytes steps is i (omega arith)))
     ∙ ap Ok (sym is.named)
 
--- so it is refused for want of memory alone
-pub is_answered : (threads : ℕ) (bytes steps : List ℕ) (e : InputFault) → IsSchedule threads bytes steps → Fails e (schedule_at threads bytes) → e ≡ faults.OutOfMemory
-is_answered threads bytes steps faults.OutOfMemory is fails = refl
-is_answered threads bytes steps (faults.Refused rule offset) is fails = let read : schedule_at threads bytes ≡ Ok steps = is_read threads bytes steps is in absurd (cc)
+-- so the only error is out of memory
+pub is_answered : (threads : ℕ) (bytes steps : List ℕ) (e : ReadError InputRule) → IsSchedule threads bytes steps → Fails e (schedule_at threads bytes) → e ≡ errors.OutOfMemory
+is_answered threads bytes steps errors.OutOfMemory is fails = refl
+is_answered threads bytes steps (errors.Refused rule offset) is fails = let read : schedule_at threads bytes ≡ Ok steps = is_read threads bytes steps is in absurd (cc)
+
+pub ruleset schedule_reading = (is_schedule, is_answered, threads_are_there)

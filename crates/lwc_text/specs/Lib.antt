@@ -1,3 +1,4 @@
+pub use Rattle.byte_reading.specs.Outcomes
 pub use Rattle.hex.specs.Hex
 pub use Rattle.kernel_core.specs.Kernel
 pub use Rattle.kernel_core.specs.Machine
@@ -7,8 +8,8 @@ pub use Rattle.lwc_base.specs.Faults
 pub use Rattle.lwc_base.specs.Frames
 pub use Rattle.lwc_base.specs.Summaries
 pub use Rattle.lwc_base.specs.World
+pub mod Facts
 pub mod Rules
-pub mod Inputs
 pub mod Schedules
 pub mod Lines
 pub mod Report

@@ -18,7 +18,7 @@ bytes_text bytes = if length bytes == 0 then codes "-" else encode_lower bytes
 unfoldable pub steps_text : List ℕ → List ℕ
 steps_text steps = if length steps == 0 then codes "-" else flat_map (λ t. digits 16 false t) steps
 
--- how a thread stands
+-- the status of a thread
 unfoldable pub status_text : ThreadStatus → List ℕ
 status_text Idle = codes "idle"
 status_text Running = codes "running"
@@ -29,7 +29,7 @@ status_text (Faulted fault) = codes "fault " ++ decimal (fault_number fault)
 unfoldable pub name_text : Name → List ℕ
 name_text name = decimal name.job ++ codes "." ++ decimal name.k
 
--- a thread: how it stands, in which context, and which instruction comes next
+-- a thread: its status, its context, and its next instruction
 unfoldable pub thread_line : ℕ → ThreadStatus → Name → ℕ → List ℕ
 thread_line t status context pc =
     codes "thread " ++ decimal t ++ codes " " ++ status_text status
@@ -37,19 +37,20 @@ thread_line t status context pc =
 
 -- the registers of a thread
 unfoldable pub regs_line : ℕ → List ℕ → List ℕ
-regs_line t registers = codes "regs " ++ decimal t ++ flat_map (λ r. codes " " ++ decimal r) registers ++ codes "\n"
+regs_line t registers =
+    codes "regs " ++ decimal t ++ flat_map (λ r. codes " " ++ decimal r) registers ++ codes "\n"
 
 -- the two lines of a thread
 unfoldable pub thread_lines : ℕ → ThreadView → List ℕ
 thread_lines t view = thread_line t view.status view.context view.regs.pc ++ regs_line t view.regs.r
 
--- a context: how many pages it has, how many slots are filled, and its uid
+-- a context: the number of its pages and of its filled slots, and its uid
 unfoldable pub context_line : Name → Summary → List ℕ
 context_line name summary =
     codes "context " ++ name_text name ++ codes " pages " ++ decimal summary.pages
     ++ codes " slots " ++ decimal summary.slots ++ codes " uid " ++ decimal summary.uid ++ codes "\n"
 
--- how many groups there are
+-- the number of groups
 unfoldable pub groups_line : ℕ → List ℕ
 groups_line groups = codes "groups " ++ decimal groups ++ codes "\n"
 
@@ -57,7 +58,7 @@ groups_line groups = codes "groups " ++ decimal groups ++ codes "\n"
 abbrev pub console_line : List ℕ → List ℕ
 console_line console = codes "console " ++ bytes_text console ++ codes "\n"
 
--- how many frames are in use
+-- the number of frames in use
 abbrev pub used_line : ℕ → List ℕ
 used_line used = codes "used " ++ decimal used ++ codes "\n"
 
@@ -65,7 +66,7 @@ used_line used = codes "used " ++ decimal used ++ codes "\n"
 abbrev pub peak_line : ℕ → List ℕ
 peak_line peak = codes "peak " ++ decimal peak ++ codes "\n"
 
--- how many steps were kept
+-- the number of steps that were kept
 abbrev pub count_line : ℕ → List ℕ
 count_line count = codes "steps " ++ decimal count ++ codes "\n"
 
@@ -76,4 +77,5 @@ schedule_line steps = codes "schedule " ++ steps_text steps ++ codes "\n"
 -- the last five lines
 unfoldable pub tail_lines : List ℕ → ℕ → ℕ → List ℕ → List ℕ
 tail_lines console used peak steps =
-    console_line console ++ used_line used ++ peak_line peak ++ count_line (length steps) ++ schedule_line steps
+    console_line console ++ used_line used ++ peak_line peak
+    ++ count_line (length steps) ++ schedule_line steps

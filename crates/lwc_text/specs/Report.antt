@@ -1,16 +1,17 @@
--- The report of a machine.
+-- The report of a run.
 use Rattle.std.specs.Prelude.{ℕ, List, [], ◌++◌, length}
 use Rattle.std.specs.FinMap as fm
 use Rattle.std.specs.List.{flat_map, range_with_len}
 use Rattle.std.specs.Option.{option_map_or}
 use Rattle.kernel_core.specs.Kernel.{view_of}
 use Rattle.kernel_core.specs.Machine.{Machine}
-use Rattle.lwc_base.specs.Frames.{used}
+use Rattle.kernel_core.specs.Runs.{frames_of, peak, run}
+use Rattle.kernel_core.specs.Start.{Inputs, start}
 use Rattle.lwc_base.specs.Summaries.{summary_of}
 use Rattle.lwc_base.specs.World.{World}
 use Rattle.lwc_text.specs.Lines.{context_line, groups_line, tail_lines, thread_lines}
 
--- the lines of the thread of a number, if it is there
+-- the lines of the thread of a number, if there is one
 abbrev pub thread_at : Machine → ℕ → List ℕ
 thread_at m t = option_map_or (thread_lines t) (view_of m t) []
 
@@ -22,8 +23,12 @@ threads_text m = flat_map (thread_at m) (range_with_len 0 (length m.threads))
 unfoldable pub contexts_text : World → List ℕ
 contexts_text w = flat_map (λ c. context_line c (summary_of w c)) (fm.keys w.contexts)
 
--- the report of a machine, with the most frames that were in use, and the steps that brought it there
+-- the report of a machine, with the most frames that were in use and the steps that led to it
 unfoldable pub report_of : Machine → ℕ → List ℕ → List ℕ
-report_of m peak steps =
-    threads_text m ++ contexts_text m.world ++ groups_line (fm.len m.world.groups)
-    ++ tail_lines m.console (used m.world) peak steps
+report_of m most steps =
+    threads_text m ++ contexts_text m.environment.world ++ groups_line (fm.len m.environment.world.groups)
+    ++ tail_lines m.environment.console (frames_of m) most steps
+
+-- the report of the run of these steps from the start
+abbrev pub report_after : Inputs → List ℕ → List ℕ
+report_after inputs steps = report_of (run (start inputs) steps) (peak (start inputs) steps) steps

@@ -4,11 +4,10 @@ use Rattle.std.specs.Option.{option_map, option_map_or}
 use Rattle.std.specs.List.{filter_map, range_with_len}
 use Rattle.lwc_text.specs.declared.fault.InputRule.{InputRule}
 use Rattle.lwc_text.specs.declared.fault.InputRule.TheVariants.{TooLong, BadThread, TooManySteps}
-use Rattle.lwc_base.specs.declared.limits.TheConstants.{MOST_STEPS}
-use Rattle.lwc_text.specs.declared.schedule.TheConstants.{MOST_BYTES}
-use Rattle.lwc_text.specs.Inputs.{Refused}
+use Rattle.byte_reading.specs.Outcomes.{Refusal, unless_refused}
+use Rattle.lwc_base.specs.declared.limits.TheConstants.{MOST_SCHEDULE_BYTES, MOST_STEPS}
 
--- whether a byte only parts digits: a space, a carriage return or a line feed
+-- whether a byte is skipped: a space, a carriage return or a line feed
 abbrev pub is_blank : ℕ → Bool
 is_blank b = b == 0x20 || b == 0x0d || b == 0x0a
 
@@ -19,7 +18,7 @@ digit_number b =
     else if nat_le 0x61 b && nat_le b 0x66 then Some (b - 0x61 + 10)
     else None
 
--- whether a byte is the digit of one of so many threads
+-- whether a byte is the digit of a thread, of which there are `threads`
 abbrev pub names_thread : ℕ → ℕ → Bool
 names_thread threads b = option_map_or (λ t. nat_lt t threads) (digit_number b) false
 
@@ -27,14 +26,14 @@ names_thread threads b = option_map_or (λ t. nat_lt t threads) (digit_number b)
 abbrev pub numbers : List ℕ → List ℕ
 numbers bytes = filter_map digit_number bytes
 
--- the bytes are a schedule of so many threads, and these are its steps
+-- the bytes are a schedule for this number of threads, and these are its steps
 pub record IsSchedule (threads : ℕ) (bytes steps : List ℕ) : Type 0 where
-  pub short : length bytes ≤ MOST_BYTES
+  pub short : length bytes ≤ MOST_SCHEDULE_BYTES
   pub each : All (λ b. IsTrue (is_blank b || names_thread threads b)) bytes
   pub named : steps ≡ numbers bytes
   pub few : length steps ≤ MOST_STEPS
 
--- the rule that a byte breaks, if it breaks one, where so many steps stand before it: it is neither a blank nor the digit of a thread that is there, or it is a digit after as many steps as may be
+-- the rule that a byte breaks: it is neither skipped nor a thread's digit, or a digit after MOST_STEPS others
 abbrev pub rule_broken : ℕ → ℕ → ℕ → Option InputRule
 rule_broken threads before b =
     if is_blank b then None
@@ -43,25 +42,21 @@ rule_broken threads before b =
     else None
 
 -- the refusal of a rule that is broken at an offset
-abbrev pub refusal_of : ℕ → InputRule → Refused
+abbrev pub refusal_of : ℕ → InputRule → Refusal InputRule
 refusal_of at rule = record { rule = rule; at = at }
 
 -- the refusal of the byte at an offset, if it breaks a rule after the bytes before it
-unfoldable pub refusal_at : ℕ → List ℕ → ℕ → Option Refused
+unfoldable pub refusal_at : ℕ → List ℕ → ℕ → Option (Refusal InputRule)
 refusal_at threads bytes at =
     option_map (refusal_of at) (rule_broken threads (length (numbers (take at bytes))) (slice_index bytes at))
 
 -- the refusals of all bytes, in the order of their offsets
-unfoldable pub refusals : ℕ → List ℕ → List Refused
+unfoldable pub refusals : ℕ → List ℕ → List (Refusal InputRule)
 refusals threads bytes = filter_map (refusal_at threads bytes) (range_with_len 0 (length bytes))
 
--- steps, unless something is refused, and then the first refusal
-abbrev pub unless_refused : List ℕ → List Refused → Result (List ℕ) Refused
-unless_refused steps [] = Ok steps
-unless_refused steps (refusal ∷ later) = Err refusal
-
 -- the steps of the bytes, or their first refusal
-unfoldable pub schedule_at : ℕ → List ℕ → Result (List ℕ) Refused
+unfoldable pub schedule_at : ℕ → List ℕ → Result (List ℕ) (Refusal InputRule)
 schedule_at threads bytes =
-    if nat_lt MOST_BYTES (length bytes) then Err (record { rule = TooLong; at = MOST_BYTES })
+    if nat_lt MOST_SCHEDULE_BYTES (length bytes)
+    then Err (record { rule = TooLong; at = MOST_SCHEDULE_BYTES })
     else unless_refused (numbers bytes) (refusals threads bytes)

@@ -1,12 +1,14 @@
-//! The texts of a run: the grammars of what it is given, and the report that it ends with.
+//! The texts of a run: the grammars of its inputs, and its report.
 #![tactic(auto)]
 
 mod fault;
+mod laws;
 mod lines;
 mod reporting;
 mod schedule;
 
 pub use fault::{InputFault, InputRule};
+pub use laws::schedules_are_read_as_named;
 pub use lines::{context_line, groups_line, tail_lines, thread_lines};
 pub use reporting::report;
 pub use schedule::{Schedule, read_schedule};

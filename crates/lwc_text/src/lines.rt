@@ -1,5 +1,5 @@
-//! The lines of a report. Each public function appends its lines to a text, and where memory runs out the text is as
-//! it was.
+//! The lines of a report. Each public function appends its lines to a text; if memory runs out, the text is
+//! as before.
 
 ghost use Rattle.std.specs.Prelude.{◌≡◌, ◌++◌, IfOk, OnOk, OnErr, string_bytes, codes, decimal};
 ghost use Rattle.std.specs.List.{flat_map};
@@ -9,64 +9,67 @@ use kernel_core::ThreadView;
 use lwc_base::{Name, OutOfMemory, Summary, ThreadStatus};
 use std::alloc::Global;
 
-/// Appends a text.
-fn append(out: &mut Vec<u8>, text: &str) -> Result<(), OutOfMemory>
-    ensures ok { OnOk result (out.new.items ≡ out.old.items ++ text.now) }
+/// Appends the two lines of a thread (`thread_lines`). The only error is out of memory.
+pub fn thread_lines(out: &mut Vec<u8>, t: u32, view: &ThreadView) -> Result<(), OutOfMemory>
+    ensures ok { OnOk result (out.new.items ≡ out.old.items ++ thread_lines t view.now) }
     ensures err { OnErr result (out.new.items ≡ out.old.items) }
 {
-    out.extend_from_slice(text.as_bytes())?;
-    Ok(())
+    let lines = thread_texts(*out.allocator(), t, view)?;
+    append(out, lines.as_str())
 }
 
-/// Bytes as lower-case hexadecimal, or a dash.
-#[tactic(auto, unfolding(crate::specs::Lines::bytes_text))]
-fn bytes_text(alloc: Global, bytes: &[u8]) -> Result<String, OutOfMemory>
-    ensures { IfOk result (λ text. string_bytes text ≡ bytes_text bytes.now) }
+/// Appends the line of a context (`context_line`). The only error is out of memory.
+pub fn context_line(out: &mut Vec<u8>, name: Name, summary: &Summary) -> Result<(), OutOfMemory>
+    ensures ok { OnOk result (out.new.items ≡ out.old.items ++ context_line name summary.now) }
+    ensures err { OnErr result (out.new.items ≡ out.old.items) }
 {
-    if bytes.is_empty() {
-        return Ok(String::from_str(alloc, "-")?);
-    }
-    Ok(hex::encode(alloc, bytes)?)
+    let line = context_text(*out.allocator(), name, summary)?;
+    append(out, line.as_str())
 }
 
-/// Steps as hexadecimal digits, or a dash.
-#[tactic(auto, unfolding(crate::specs::Lines::steps_text))]
-fn steps_text(alloc: Global, steps: &[u8]) -> Result<String, OutOfMemory>
-    ensures { IfOk result (λ text. string_bytes text ≡ steps_text steps.now) }
+/// Appends the line of the number of live groups (`groups_line`). The only error is out of memory.
+#[tactic(auto, unfolding(crate::specs::Lines::groups_line))]
+pub fn groups_line(out: &mut Vec<u8>, groups: u32) -> Result<(), OutOfMemory>
+    ensures ok { OnOk result (out.new.items ≡ out.old.items ++ groups_line groups) }
+    ensures err { OnErr result (out.new.items ≡ out.old.items) }
 {
-    if steps.is_empty() {
-        return Ok(String::from_str(alloc, "-")?);
-    }
-    let mut text = String::new(alloc);
-    'steps: for thread in steps {
-        write!(text, "{thread:x}")?;
-    }
-    Ok(text)
+    let line = format!(in *out.allocator(); "groups {groups}\n")?;
+    append(out, line.as_str())
 }
 
-/// How a thread stands.
-#[tactic(auto, unfolding(crate::specs::Lines::status_text))]
-fn status_text(alloc: Global, status: ThreadStatus) -> Result<String, OutOfMemory>
-    ensures { IfOk result (λ text. string_bytes text ≡ status_text status) }
+/// Appends the last lines (`tail_lines`): what was written to the console, the frames in use and the most
+/// that were, and the steps that were kept, each a thread's number. The only error is out of memory.
+#[tactic(auto, unfolding(crate::specs::Lines::tail_lines))]
+pub fn tail_lines(
+    out: &mut Vec<u8>,
+    console: &[u8],
+    used: u32,
+    peak: u32,
+    schedule: &[u8],
+) -> Result<(), OutOfMemory>
+    ensures ok { OnOk result
+        (out.new.items ≡ out.old.items ++ tail_lines console.now used peak schedule.now) }
+    ensures err { OnErr result (out.new.items ≡ out.old.items) }
 {
-    match status {
-        ThreadStatus::Idle => Ok(String::from_str(alloc, "idle")?),
-        ThreadStatus::Running => Ok(String::from_str(alloc, "running")?),
-        ThreadStatus::Done { code } => Ok(format!(in alloc; "done {code}")?),
-        ThreadStatus::Faulted { fault } => {
-            let number = fault.number();
-            Ok(format!(in alloc; "fault {number}")?)
-        }
-    }
+    let alloc = *out.allocator();
+    let console = bytes_text(alloc, console)?;
+    let steps = schedule.len();
+    let schedule = steps_text(alloc, schedule)?;
+    let lines = format!(in alloc;
+        "console {console}\nused {used}\npeak {peak}\nsteps {steps}\nschedule {schedule}\n"
+    )?;
+    append(out, lines.as_str())
 }
 
-/// A context's name.
-#[tactic(auto, unfolding(crate::specs::Lines::name_text))]
-fn name_text(alloc: Global, name: Name) -> Result<String, OutOfMemory>
-    ensures { IfOk result (λ text. string_bytes text ≡ name_text name) }
+/// The two lines of a thread.
+#[tactic(auto, unfolding(crate::specs::Lines::thread_lines))]
+fn thread_texts(alloc: Global, t: u32, view: &ThreadView) -> Result<String, OutOfMemory>
+    ensures { IfOk result (λ lines. string_bytes lines ≡ thread_lines t view.now) }
 {
-    let Name { job, k } = name;
-    Ok(format!(in alloc; "{job}.{k}")?)
+    let mut lines = thread_text(alloc, t, view.status, view.context, view.regs.pc)?;
+    let registers = registers_text(alloc, t, &view.regs.r)?;
+    lines.push_str(registers.as_str())?;
+    Ok(lines)
 }
 
 /// The line of a thread.
@@ -98,24 +101,20 @@ fn registers_text(alloc: Global, t: u32, registers: &[u64; 16]) -> Result<String
     Ok(line)
 }
 
-/// The two lines of a thread.
-#[tactic(auto, unfolding(crate::specs::Lines::thread_lines))]
-fn thread_texts(alloc: Global, t: u32, view: &ThreadView) -> Result<String, OutOfMemory>
-    ensures { IfOk result (λ lines. string_bytes lines ≡ thread_lines t view.now) }
+/// The status of a thread.
+#[tactic(auto, unfolding(crate::specs::Lines::status_text))]
+fn status_text(alloc: Global, status: ThreadStatus) -> Result<String, OutOfMemory>
+    ensures { IfOk result (λ text. string_bytes text ≡ status_text status) }
 {
-    let mut lines = thread_text(alloc, t, view.status, view.context, view.regs.pc)?;
-    let registers = registers_text(alloc, t, &view.regs.r)?;
-    lines.push_str(registers.as_str())?;
-    Ok(lines)
-}
-
-/// Appends the two lines of a thread (`thread_lines`). The one error is want of memory.
-pub fn thread_lines(out: &mut Vec<u8>, t: u32, view: &ThreadView) -> Result<(), OutOfMemory>
-    ensures ok { OnOk result (out.new.items ≡ out.old.items ++ thread_lines t view.now) }
-    ensures err { OnErr result (out.new.items ≡ out.old.items) }
-{
-    let lines = thread_texts(*out.allocator(), t, view)?;
-    append(out, lines.as_str())
+    match status {
+        ThreadStatus::Idle => Ok(String::from_str(alloc, "idle")?),
+        ThreadStatus::Running => Ok(String::from_str(alloc, "running")?),
+        ThreadStatus::Done { code } => Ok(format!(in alloc; "done {code}")?),
+        ThreadStatus::Faulted { fault } => {
+            let number = fault.number();
+            Ok(format!(in alloc; "fault {number}")?)
+        }
+    }
 }
 
 /// The line of a context.
@@ -128,46 +127,48 @@ fn context_text(alloc: Global, name: Name, summary: &Summary) -> Result<String, 
     Ok(format!(in alloc; "context {name} pages {pages} slots {slots} uid {uid}\n")?)
 }
 
-/// Appends the line of a context (`context_line`). The one error is want of memory.
-pub fn context_line(out: &mut Vec<u8>, name: Name, summary: &Summary) -> Result<(), OutOfMemory>
-    ensures ok { OnOk result (out.new.items ≡ out.old.items ++ context_line name summary.now) }
-    ensures err { OnErr result (out.new.items ≡ out.old.items) }
+/// A context's name.
+#[tactic(auto, unfolding(crate::specs::Lines::name_text))]
+fn name_text(alloc: Global, name: Name) -> Result<String, OutOfMemory>
+    ensures { IfOk result (λ text. string_bytes text ≡ name_text name) }
 {
-    let line = context_text(*out.allocator(), name, summary)?;
-    append(out, line.as_str())
+    let Name { job, k } = name;
+    Ok(format!(in alloc; "{job}.{k}")?)
 }
 
-/// Appends the line of how many groups live (`groups_line`). The one error is want of memory.
-#[tactic(auto, unfolding(crate::specs::Lines::groups_line))]
-pub fn groups_line(out: &mut Vec<u8>, groups: u32) -> Result<(), OutOfMemory>
-    ensures ok { OnOk result (out.new.items ≡ out.old.items ++ groups_line groups) }
-    ensures err { OnErr result (out.new.items ≡ out.old.items) }
+/// Bytes as lower-case hexadecimal, or a dash.
+#[tactic(auto, unfolding(crate::specs::Lines::bytes_text))]
+fn bytes_text(alloc: Global, bytes: &[u8]) -> Result<String, OutOfMemory>
+    ensures { IfOk result (λ text. string_bytes text ≡ bytes_text bytes.now) }
 {
-    let line = format!(in *out.allocator(); "groups {groups}\n")?;
-    append(out, line.as_str())
+    if bytes.is_empty() {
+        return Ok(String::from_str(alloc, "-")?);
+    }
+    Ok(hex::encode(alloc, bytes)?)
 }
 
-/// Appends the last lines (`tail_lines`): what was written to the console, how many frames are in use, the most that
-/// were, and how many steps and which, each a thread's number. The one error is want of memory.
-#[tactic(auto, unfolding(crate::specs::Lines::tail_lines))]
-pub fn tail_lines(
-    out: &mut Vec<u8>,
-    console: &[u8],
-    used: u32,
-    peak: u32,
-    schedule: &[u8],
-) -> Result<(), OutOfMemory>
-    ensures ok { OnOk result (out.new.items ≡ out.old.items ++ tail_lines console.now used peak schedule.now) }
+/// Steps as hexadecimal digits, or a dash.
+#[tactic(auto, unfolding(crate::specs::Lines::steps_text))]
+fn steps_text(alloc: Global, steps: &[u8]) -> Result<String, OutOfMemory>
+    ensures { IfOk result (λ text. string_bytes text ≡ steps_text steps.now) }
+{
+    if steps.is_empty() {
+        return Ok(String::from_str(alloc, "-")?);
+    }
+    let mut text = String::new(alloc);
+    'steps: for thread in steps {
+        write!(text, "{thread:x}")?;
+    }
+    Ok(text)
+}
+
+/// Appends a text.
+fn append(out: &mut Vec<u8>, text: &str) -> Result<(), OutOfMemory>
+    ensures ok { OnOk result (out.new.items ≡ out.old.items ++ text.now) }
     ensures err { OnErr result (out.new.items ≡ out.old.items) }
 {
-    let alloc = *out.allocator();
-    let console = bytes_text(alloc, console)?;
-    let steps = schedule.len();
-    let schedule = steps_text(alloc, schedule)?;
-    let lines = format!(in alloc;
-        "console {console}\nused {used}\npeak {peak}\nsteps {steps}\nschedule {schedule}\n"
-    )?;
-    append(out, lines.as_str())
+    out.extend_from_slice(text.as_bytes())?;
+    Ok(())
 }
 
 #[cfg(test)]
@@ -216,9 +217,12 @@ mod tests {
         groups_line(&mut out, 12)?;
         tail_lines(&mut out, &[0, 0x2a, 0xff], 3, 4, &[0, 10, 15])?;
         tail_lines(&mut out, &[], 0, 0, &[])?;
-        let want =
-            "context 1.0 pages 2 slots 5 uid 65534\ngroups 12\nconsole 002aff\nused 3\npeak 4\nsteps 3\nschedule 0af\nconsole -\nused 0\npeak 0\nsteps 0\nschedule -\n";
-        assert_eq!(rt; out.as_slice(), want.as_bytes());
+        let want = [
+            "context 1.0 pages 2 slots 5 uid 65534\ngroups 12\n",
+            "console 002aff\nused 3\npeak 4\nsteps 3\nschedule 0af\n",
+            "console -\nused 0\npeak 0\nsteps 0\nschedule -\n",
+        ];
+        assert_eq!(rt; out.as_slice(), want.concat(rt.alloc())?.as_bytes());
         Ok(())
     }
 }

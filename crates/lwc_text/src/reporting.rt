@@ -2,18 +2,35 @@
 
 ghost use Rattle.std.specs.Prelude.{◌≡◌, ◌++◌, [], IfOk, OnOk};
 ghost use Rattle.kernel_core.specs.Kernel.{machine_of};
-ghost use Rattle.kernel_core.specs.Runs as runs;
-ghost use Rattle.kernel_core.specs.Start.{start};
-ghost use Rattle.lwc_text.specs.Report.{contexts_text, report_of, threads_text};
+ghost use Rattle.lwc_text.specs.Report.{contexts_text, report_after, threads_text};
 
 use crate::lines::{context_line, groups_line, tail_lines, thread_lines};
 use kernel_core::Kernel;
-use lwc_base::OutOfMemory;
+use lwc_base::{OutOfMemory, names_are_ordered};
 use std::alloc::Global;
 use world_face::World;
 
+/// The report of a run: its threads with their registers, its contexts, the number of live groups, what was
+/// written to the console, the frames in use and the most that were, and the steps that were kept. The only
+/// error is out of memory.
+#[tactic(auto, unfolding(crate::specs::Report::report_of, kernel_core::specs::Kernel::machine_of))]
+pub fn report<W: World>(alloc: Global, k: &Kernel<W>) -> Result<Vec<u8>, OutOfMemory>
+    ensures exact { IfOk result (λ text. text.items ≡ report_after k.now.inputs k.now.steps) }
+{
+    let world = k.world();
+    let mut text = threads_text(alloc, k)?;
+    context_lines(&mut text, world)?;
+    groups_line(&mut text, world.group_count())?;
+    tail_lines(&mut text, k.console(), world.used(), k.peak(), k.schedule())?;
+    Ok(text)
+}
+
 /// The lines of all threads.
-#[tactic(auto, using(crate::proofs::Machines::one_more_thread, crate::proofs::Machines::reached_all_threads), unfolding(crate::specs::Report::threads_text))]
+#[tactic(
+    auto,
+    using(crate::proofs::Machines::one_more_thread),
+    unfolding(crate::specs::Report::threads_text)
+)]
 fn threads_text<W: World>(alloc: Global, k: &Kernel<W>) -> Result<Vec<u8>, OutOfMemory>
     ensures { IfOk result (λ text. text.items ≡ threads_text (machine_of k.now)) }
 {
@@ -25,31 +42,19 @@ fn threads_text<W: World>(alloc: Global, k: &Kernel<W>) -> Result<Vec<u8>, OutOf
 }
 
 /// Appends the lines of all contexts.
-#[tactic(auto, using(crate::proofs::Machines::lives, crate::proofs::Machines::one_more_context, crate::proofs::Machines::all_contexts), unfolding(crate::specs::Report::contexts_text))]
+#[tactic(
+    auto,
+    using(crate::proofs::Machines::context_reading),
+    unfolding(crate::specs::Report::contexts_text)
+)]
 fn context_lines<W: World>(out: &mut Vec<u8>, world: &W) -> Result<(), OutOfMemory>
     ensures { OnOk result (out.new.items ≡ out.old.items ++ contexts_text (W.seen world.now)) }
 {
-    'contexts: for i in 0..u32::MAX {
-        let Some(name) = world.nth_context(i) else {
-            return Ok(());
-        };
-        context_line(out, name, &world.summary(name))?;
+    names_are_ordered();
+    'contexts: for i in 0..world.context_count() {
+        if let Some(name) = world.nth_context(i) {
+            context_line(out, name, &world.summary(name))?;
+        }
     }
-    // A text of so many lines has no room in any memory.
-    Err(OutOfMemory)
-}
-
-/// The report of a run (`report_of`): its threads with their registers, its contexts, how many groups live, what was
-/// written to the console, the frames in use and the most that were, and the steps that were kept. The one error is
-/// want of memory.
-#[tactic(auto, unfolding(crate::specs::Report::report_of))]
-pub fn report<W: World>(alloc: Global, k: &Kernel<W>) -> Result<Vec<u8>, OutOfMemory>
-    ensures exact { IfOk result (λ text. text.items ≡ report_of (machine_of k.now) (runs.peak (start k.now.inputs) k.now.steps) k.now.steps) }
-{
-    let world = k.world();
-    let mut text = threads_text(alloc, k)?;
-    context_lines(&mut text, world)?;
-    groups_line(&mut text, world.group_count())?;
-    tail_lines(&mut text, k.console(), world.used(), k.peak(), k.schedule())?;
-    Ok(text)
+    Ok(())
 }
