@@ -1,6 +1,16 @@
 -- What files and sinks give and take, and how they count what failed.
 use Rattle.std.specs.Prelude.{◌≡◌, ◌↔◌, ℕ, ◌+◌, ◌<◌, ◌≤◌, min, List, ◌++◌, length, take, drop, Option, option_map, IfSome}
 
+-- files as contracts see them: the contents by name, where they are known, and the faults of each name
+pub record FilesView : Type 0 where
+  pub contents : List ℕ → Option (List ℕ)
+  pub faults : List ℕ → ℕ
+
+-- a sink as contracts see it: all the bytes that it took, where they are known, and its faults
+pub record SinkView : Type 0 where
+  pub taken : Option (List ℕ)
+  pub faults : ℕ
+
 -- one more, or the most that a u64 can count
 abbrev pub incremented : ℕ → ℕ
 incremented count = min (count + 1) 18446744073709551615

@@ -163,9 +163,7 @@ impl MemoryFiles {
 }
 
 impl Files for MemoryFiles {
-    ghost file = { λ state name. bytes_of state.files name };
-
-    ghost faults = { faults_of };
+    ghost seen = { λ state. record { contents = bytes_of state.files; faults = faults_of state } };
 
     /// Reads as many bytes as the file has and the buffer takes.
     ///
@@ -305,9 +303,7 @@ impl MemorySink {
 }
 
 impl Sink for MemorySink {
-    ghost taken = { λ state. Some state.bytes };
-
-    ghost faults = { λ state. state.faults };
+    ghost seen = { λ state. record { taken = Some state.bytes; faults = state.faults } };
 
     /// Takes the whole piece, or the most that the sink takes a call.
     ///

@@ -1,5 +1,5 @@
-ghost use Rattle.std.specs.Prelude.{◌≡◌, ℕ, ◌<◌, ◌≤◌, List, length, take, Option, IfOk, IfSome, OnErr};
-ghost use Rattle.lwc_io.specs.Outside.{FaultsIncreased, IsPiece, appended};
+ghost use Rattle.std.specs.Prelude.{◌≡◌, ℕ, ◌<◌, ◌≤◌, List, length, take, IfOk, IfSome, OnErr};
+ghost use Rattle.lwc_io.specs.Outside.{FaultsIncreased, FilesView, IsPiece, SinkView, appended};
 
 use std::sync::Wait;
 use thiserror::Error;
@@ -9,41 +9,37 @@ use thiserror::Error;
 #[error("a call to the outside failed")]
 pub struct Failed;
 
-/// Files that are after_fetch piece by piece, by their names.
+/// Files that are fetched piece by piece, by their names.
 pub trait Files {
-    /// The contents of the file of that name, where they are known. No call changes them.
-    ghost file: { Self → List ℕ → Option (List ℕ) };
-
-    /// How often a fetch of that name failed, as far as a `u64` counts.
-    ghost faults: { Self → List ℕ → ℕ };
+    /// The contents of each file by its name, where they are known, and how often a fetch of each name
+    /// failed.
+    ghost seen: { Self → FilesView };
 
     /// Reads bytes of the file from the offset `at` on into the front of the buffer, and returns their
-    /// number. With a buffer that is not empty, 0 says that the file ends at `at` or before it.
+    /// number. With a buffer that is not empty, 0 says that the file ends at `at` or before it. No contents
+    /// change.
     ///
     /// # Errors
     ///
-    /// `Failed` if the file cannot be read; then the count of faults of that name has increased. Nothing
-    /// is said of the buffer then.
+    /// `Failed` if the file cannot be read; then the count of faults of that name has increased. Nothing is
+    /// said of the buffer then.
     fn fetch(&mut self, name: &str, at: u64, buffer: &mut [u8]) -> Result<usize, Failed>
         ensures count { IfOk result (λ n. n ≤ length buffer.new) }
-        ensures piece { IfOk result (λ n. IfSome (file self.old name.now)
+        ensures piece { IfOk result (λ n. IfSome ((seen self.old).contents name.now)
             (λ bytes. IsPiece bytes at n buffer.new)) }
-        ensures same { file self.new ≡ file self.old }
-        ensures never_decreases { (q : List ℕ) → faults self.old q ≤ faults self.new q }
+        ensures same { (seen self.new).contents ≡ (seen self.old).contents }
+        ensures never_decreases { (q : List ℕ) → (seen self.old).faults q ≤ (seen self.new).faults q }
         ensures cause { OnErr result
-            (FaultsIncreased (faults self.old name.now) (faults self.new name.now)) };
+            (FaultsIncreased ((seen self.old).faults name.now) ((seen self.new).faults name.now)) };
 }
 
 /// What takes bytes, piece by piece.
 pub trait Sink {
-    /// All the bytes that it took so far, where they are known.
-    ghost taken: { Self → Option (List ℕ) };
+    /// All the bytes that it took so far, where they are known, and how often a write failed.
+    ghost seen: { Self → SinkView };
 
-    /// How often a write failed, as far as a `u64` counts.
-    ghost faults: { Self → ℕ };
-
-    /// Takes bytes from the front of the piece and returns their number, which is at least one if the
-    /// piece is not empty.
+    /// Takes bytes from the front of the piece and returns their number, which is at least one if the piece
+    /// is not empty.
     ///
     /// # Errors
     ///
@@ -51,10 +47,11 @@ pub trait Sink {
     fn write(&mut self, piece: &[u8]) -> Result<usize, Failed>
         ensures count { IfOk result (λ n. n ≤ length piece.now) }
         ensures some { IfOk result (λ n. 0 < length piece.now → 0 < n) }
-        ensures appended { IfOk result (λ n. taken self.new ≡ appended (taken self.old) (take n piece.now)) }
-        ensures kept { OnErr result (taken self.new ≡ taken self.old) }
-        ensures never_decreases { faults self.old ≤ faults self.new }
-        ensures cause { OnErr result (FaultsIncreased (faults self.old) (faults self.new)) };
+        ensures appended { IfOk result (λ n.
+            (seen self.new).taken ≡ appended (seen self.old).taken (take n piece.now)) }
+        ensures kept { OnErr result ((seen self.new).taken ≡ (seen self.old).taken) }
+        ensures never_decreases { (seen self.old).faults ≤ (seen self.new).faults }
+        ensures cause { OnErr result (FaultsIncreased (seen self.old).faults (seen self.new).faults) };
 }
 
 /// Where threads may be made to wait before their turns.

@@ -54,9 +54,7 @@ fn read_some<R: Read>(reader: &mut R, buffer: &mut [u8]) -> io::Result<usize>
 }
 
 impl<R: rt::Files> Files for RealFiles<R> {
-    ghost file = { λ _ _. None };
-
-    ghost faults = { λ files _. files.faults };
+    ghost seen = { λ files. record { contents = λ _. None; faults = λ _. files.faults } };
 
     /// Opens the file and reads once at that offset. It may read less than the buffer takes.
     ///
@@ -126,9 +124,7 @@ impl<W: Write> RealSink<W> {
 }
 
 impl<W: Write> Sink for RealSink<W> {
-    ghost taken = { λ _. None };
-
-    ghost faults = { λ sink. sink.faults };
+    ghost seen = { λ sink. record { taken = None; faults = sink.faults } };
 
     /// Writes once. The writer may take less than the piece.
     ///

@@ -30,9 +30,10 @@ impl SureFiles {
 }
 
 impl Files for SureFiles {
-    ghost file = { λ files name. Some (unwrap_or (bytes_of files name) []) };
-
-    ghost faults = { λ _ _. 0 };
+    ghost seen = { λ files. record {
+      contents = λ name. Some (unwrap_or (bytes_of files name) []);
+      faults = λ _. 0;
+    } };
 
     /// Reads as many bytes as the file has and the buffer takes. Never fails.
     fn fetch(&mut self, name: &str, at: u64, buffer: &mut [u8]) -> Result<usize, Failed> {
@@ -46,9 +47,7 @@ impl Files for SureFiles {
 pub struct SureSink;
 
 impl Sink for SureSink {
-    ghost taken = { λ _. None };
-
-    ghost faults = { λ _. 0 };
+    ghost seen = { λ _. record { taken = None; faults = 0 } };
 
     /// Takes the whole piece. Never fails.
     fn write(&mut self, piece: &[u8]) -> Result<usize, Failed> {
