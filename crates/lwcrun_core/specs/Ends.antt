@@ -1,10 +1,11 @@
 -- How a call of the program ends, and what holds then.
-use Rattle.std.specs.Prelude.{◌≡◌, ℕ, List, Option, Result, Ok, Err}
-use Rattle.lwc_io.specs.Outside.{Rose, grown}
-use Rattle.lwcrun_core.specs.Plans.{Plan, Told, LeadsTo, ComesTo}
-use Rattle.lwcrun_core.specs.Writing.{SentInPart}
+use Rattle.std.specs.Prelude.{◌≡◌, ℕ, List, Result, Ok, Err}
+use Rattle.lwc_io.specs.Outside.{FaultsIncreased, FilesView, SinkView, appended}
+use Rattle.lwcrun_core.specs.Plans.{Plan, LeadsTo, Reads}
+use Rattle.lwcrun_core.specs.Writing.{IsPartTaken}
 
--- the ways to end: all was written; want of memory; the line is not accepted; a file, by its name, was not read; the text was not written whole; an input was refused
+-- the ends: all was written; out of memory; the line is not accepted; a file was not read; the text was not
+-- written whole; an input was refused
 pub data End (R : Type 0) : Type 0 where
   Done : End R
   NoMemory : End R
@@ -13,29 +14,42 @@ pub data End (R : Type 0) : Type 0 where
   Unwritten : End R
   Refused : R → End R
 
--- the outside of a call: what the files tell and how often a fetch of each had failed before and has failed now, and the same of the output with all that it took
+-- the files and the output of a call, before it and after it
 pub record Outside : Type 0 where
-  pub told : Told
-  pub faults : List ℕ → ℕ
-  pub faults_now : List ℕ → ℕ
-  pub out : Option (List ℕ)
-  pub out_now : Option (List ℕ)
-  pub out_faults : ℕ
-  pub out_faults_now : ℕ
+  pub files : FilesView
+  pub files_after : FilesView
+  pub out : SinkView
+  pub out_after : SinkView
+
+-- nothing was written to the output
+abbrev pub IsUnwritten : Outside → Type 0
+IsUnwritten o = o.out_after.taken ≡ o.out.taken
+
+-- a fetch of the file of that name failed
+abbrev pub FetchFailed : Outside → List ℕ → Type 0
+FetchFailed o name = FaultsIncreased (o.files.faults name) (o.files_after.faults name)
+
+-- a write to the output failed
+abbrev pub WriteFailed : Outside → Type 0
+WriteFailed o = FaultsIncreased o.out.faults o.out_after.faults
 
 -- what holds at each end of a plan, where `IsText work text` says which texts a work may have
 unfoldable pub Ended : {R W : Type 0} → (W → List ℕ → Type 0) → Outside → Plan R W → End R → Type 0
-Ended {R} {W} IsText o p Done = (work : W) × LeadsTo o.told p (Ok work) × ((text : List ℕ) × IsText work text × (o.out_now ≡ grown o.out text))
-Ended {R} {W} IsText o p NoMemory = o.out_now ≡ o.out
+Ended {R} {W} IsText o p Done =
+    (work : W) × LeadsTo o.files.contents p (Ok work)
+    × ((text : List ℕ) × IsText work text × (o.out_after.taken ≡ appended o.out.taken text))
+Ended {R} {W} IsText o p NoMemory = IsUnwritten o
 Ended {R} {W} IsText o p Usage = ⊥
-Ended {R} {W} IsText o p (Unread name) = ComesTo o.told p name × Rose (o.faults name) (o.faults_now name) × (o.out_now ≡ o.out)
-Ended {R} {W} IsText o p Unwritten = (work : W) × LeadsTo o.told p (Ok work) × ((text : List ℕ) × IsText work text × SentInPart o.out o.out_now text) × Rose o.out_faults o.out_faults_now
-Ended {R} {W} IsText o p (Refused refusal) = LeadsTo o.told p (Err refusal) × (o.out_now ≡ o.out)
+Ended {R} {W} IsText o p (Unread name) = Reads o.files.contents p name × FetchFailed o name × IsUnwritten o
+Ended {R} {W} IsText o p Unwritten =
+    (work : W) × LeadsTo o.files.contents p (Ok work)
+    × ((text : List ℕ) × IsText work text × IsPartTaken o.out.taken o.out_after.taken text) × WriteFailed o
+Ended {R} {W} IsText o p (Refused refusal) = LeadsTo o.files.contents p (Err refusal) × IsUnwritten o
 
--- no fetch of a file that the plan comes to failed, and no write did
+-- no fetch of a file that the plan reads failed, and no write did
 pub record NothingFailed {R W : Type 0} (o : Outside) (p : Plan R W) : Type 0 where
-  pub files : (q : List ℕ) → ComesTo o.told p q → Rose (o.faults q) (o.faults_now q) → ⊥
-  pub out : Rose o.out_faults o.out_faults_now → ⊥
+  pub files : (q : List ℕ) → Reads o.files.contents p q → FetchFailed o q → ⊥
+  pub out : WriteFailed o → ⊥
 
 -- the end of a plan that leads to this work or this refusal
 abbrev pub end_by : {R W : Type 0} → Result W R → End R

@@ -2,9 +2,9 @@
 use Rattle.std.specs.Prelude.{◌≡◌, ℕ, if◌then◌else◌, List, [], length, nat_lt}
 use Rattle.guest_image.specs.declared.image.Image.{Image}
 use Rattle.kernel_core.specs.declared.settings.Settings.{Settings}
-use Rattle.kernel_core.specs.Runs.{run, kept, peak}
+use Rattle.kernel_core.specs.Runs.{kept}
 use Rattle.kernel_core.specs.Start.{Inputs, start}
-use Rattle.lwc_text.specs.Report.{report_of}
+use Rattle.lwc_text.specs.Report.{report_after}
 use Rattle.lwcrun_core.specs.declared.ending.Rejection.{Rejection}
 use Rattle.lwcrun_core.specs.declared.ending.Rejection.TheVariants as rejections
 use Rattle.lwcrun_core.specs.Images.{image_of, schedule_of}
@@ -12,36 +12,40 @@ use Rattle.lwcrun_core.specs.Lines.{Command}
 use Rattle.lwcrun_core.specs.Lines as commands
 use Rattle.lwcrun_core.specs.Plans.{Plan, Read, Refuse, Write, accepted}
 
--- the report of the run that keeps these steps, from the start
-unfoldable pub text_of : Inputs → List ℕ → List ℕ
-text_of inputs steps = report_of (run (start inputs) steps) (peak (start inputs) steps) steps
-
 -- what is done when all inputs are accepted: the run of a schedule
 pub data Work : Type 0 where
   Replaying : Inputs → List ℕ → Work
 
--- the texts that a work may have: of a schedule's run, the report of the steps that are kept
+-- the text of a schedule's run: the report of the steps that are kept
+unfoldable pub text_of : Inputs → List ℕ → List ℕ
+text_of inputs schedule = report_after inputs (kept (start inputs) schedule)
+
+-- the texts that a work may have
 abbrev pub IsText : Work → List ℕ → Type 0
-IsText (Replaying inputs schedule) text = text ≡ text_of inputs (kept (start inputs) schedule)
+IsText (Replaying inputs schedule) text = text ≡ text_of inputs schedule
 
 -- the inputs of an image's run
 abbrev pub run_inputs : Image → Settings → Inputs
 run_inputs image settings = record { image = image; requests = []; settings = settings }
 
--- what follows from an image whose pages fit the frames
+-- what follows an image whose pages fit the frames: the schedule is read
 unfoldable pub after_size : List ℕ → Settings → Image → Plan Rejection Work
 after_size schedule settings image =
-    Read schedule (λ bytes. accepted (schedule_of (length image.entries) bytes) (λ steps. Write (Replaying (run_inputs image settings) steps)))
+    Read schedule (λ bytes.
+    accepted (schedule_of (length image.entries) bytes) (λ steps.
+    Write (Replaying (run_inputs image settings) steps)))
 
--- what follows from an image
+-- what follows an image: its number of pages is compared with the frames
 unfoldable pub after_image : List ℕ → Settings → Image → Plan Rejection Work
 after_image schedule settings image =
-    if nat_lt settings.frames (length image.pages) then Refuse (rejections.TooLarge (length image.pages) settings.frames)
+    if nat_lt settings.frames (length image.pages)
+    then Refuse (rejections.TooLarge (length image.pages) settings.frames)
     else after_size schedule settings image
 
--- the run of an image under a schedule: the image is read, its pages are held against the frames, and then the schedule is read
+-- the run of an image under a schedule: the image is read and compared with the frames, then the schedule
 unfoldable pub replay_plan : List ℕ → List ℕ → Settings → Plan Rejection Work
-replay_plan image schedule settings = Read image (λ bytes. accepted (image_of bytes) (after_image schedule settings))
+replay_plan image schedule settings =
+    Read image (λ bytes. accepted (image_of bytes) (after_image schedule settings))
 
 -- the plan of what a line asks for
 abbrev pub plan_of : Command → Plan Rejection Work

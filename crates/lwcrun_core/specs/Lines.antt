@@ -1,44 +1,48 @@
 -- What a line of words asks for.
-use Rattle.std.specs.Prelude.{◌≡◌, ◌≤◌, ℕ, ◌&&◌, if◌then◌else◌, List, [], ◌∷◌, Option, None, Some, bytes_eq, codes, string_bytes}
+use Rattle.std.specs.Prelude.{◌≡◌, ℕ, ◌&&◌, if◌then◌else◌, List, [], ◌∷◌, Option, None, Some, bytes_eq, codes, string_bytes}
 use Rattle.std.specs.Option.{option_map, option_and_then}
+use Rattle.kernel_core.specs.Settings.{IsSettings}
 use Rattle.kernel_core.specs.declared.settings.Settings.{Settings}
 use Rattle.kernel_core.specs.declared.settings.Job.TheVariants.{Run}
+use Rattle.lwc_base.specs.declared.limits.TheConstants.{MOST_BUDGET, MOST_FRAMES}
 use Rattle.lwcrun_core.specs.declared.line.Line.{Line}
 use Rattle.lwcrun_core.specs.declared.line.Line.TheVariants as lines
+use Rattle.lwcrun_core.specs.declared.line.TheConstants.{DEFAULT_BUDGET, DEFAULT_FRAMES}
 use Rattle.lwcrun_core.specs.Numbers.{number_within}
 
 -- what is asked for: the run of an image under a schedule, each a file by its name
 pub data Command : Type 0 where
   Replay : List ℕ → List ℕ → Settings → Command
 
--- settings in their limits, of a run
-pub record IsSettings (settings : Settings) : Type 0 where
-  pub frames : (1 ≤ settings.frames) × (settings.frames ≤ 65536)
-  pub budget : (1 ≤ settings.budget) × (settings.budget ≤ 100000)
+-- settings of a run, within their limits
+pub record AreRunSettings (settings : Settings) : Type 0 where
+  pub limits : IsSettings settings
   pub job : settings.job ≡ Run
 
 -- the settings of a run
 abbrev pub run_settings : ℕ → ℕ → Settings
 run_settings frames budget = record { frames = frames; budget = budget; job = Run }
 
--- how many frames there are, where the line says so: 1 to 65536
+-- the number of frames that a word asks for
 abbrev pub frames_of : List ℕ → Option ℕ
-frames_of word = number_within 1 65536 word
+frames_of word = number_within 1 MOST_FRAMES word
 
--- how many steps a thread may make, where the line says so: 1 to 100000
+-- the number of steps of a thread that a word asks for
 abbrev pub budget_of : List ℕ → Option ℕ
-budget_of word = number_within 1 100000 word
+budget_of word = number_within 1 MOST_BUDGET word
 
 -- frames and budget, where neither word is refused
 abbrev pub both_settings : Option ℕ → Option ℕ → Option Settings
 both_settings frames budget = option_and_then (λ f. option_map (run_settings f) budget) frames
 
--- the settings that the words after the files ask for: the frames, the budget, or both in this order, each behind its name; 4096 frames and 10000 steps where nothing is said
+-- the settings that the words after the files ask for: the frames, the budget, or both in this order; what is
+-- left out has its default
 unfoldable pub settings_of : List (List ℕ) → Option Settings
-settings_of [] = Some (run_settings 4096 10000)
+settings_of [] = Some (run_settings DEFAULT_FRAMES DEFAULT_BUDGET)
 settings_of (name ∷ value ∷ []) =
-    if bytes_eq name (codes "--frames") then both_settings (frames_of value) (Some 10000)
-    else (if bytes_eq name (codes "--budget") then both_settings (Some 4096) (budget_of value) else None)
+    if bytes_eq name (codes "--frames") then both_settings (frames_of value) (Some DEFAULT_BUDGET)
+    else if bytes_eq name (codes "--budget") then both_settings (Some DEFAULT_FRAMES) (budget_of value)
+    else None
 settings_of (first ∷ frames ∷ second ∷ budget ∷ []) =
     if bytes_eq first (codes "--frames") && bytes_eq second (codes "--budget")
     then both_settings (frames_of frames) (budget_of budget) else None

@@ -1,11 +1,11 @@
--- How the code's endings are seen.
-use Rattle.std.specs.Prelude.{ℕ, List, Option, Result, Ok, Err}
+-- How contracts see the code's endings, and the outside.
+use Rattle.std.specs.Prelude.{Result, Ok, Err}
+use Rattle.lwc_io.specs.Outside.{FilesView, SinkView}
 use Rattle.lwcrun_core.specs.declared.ending.Ending.{Ending}
 use Rattle.lwcrun_core.specs.declared.ending.Ending.TheVariants as endings
 use Rattle.lwcrun_core.specs.declared.ending.Rejection.{Rejection}
 use Rattle.lwcrun_core.specs.Ends.{End, Outside}
 use Rattle.lwcrun_core.specs.Ends as ends
-use Rattle.lwcrun_core.specs.Plans.{Told}
 use Rattle.lwcrun_core.specs.Parts.{Found, Value, Missing}
 
 -- an ending with the name's bytes in place of the name
@@ -22,14 +22,7 @@ abbrev pub found : {X A : Type 0} → (X → A) → Result X Ending → Found A 
 found view (Ok x) = Value (view x)
 found view (Err ending) = Missing (end_of ending)
 
--- the outside of a call, from what it was and what it is
-abbrev pub around : Told → (List ℕ → ℕ) → (List ℕ → ℕ) → Option (List ℕ) → Option (List ℕ) → ℕ → ℕ → Outside
-around told faults faults_now out out_now out_faults out_faults_now = record {
-  told = told;
-  faults = faults;
-  faults_now = faults_now;
-  out = out;
-  out_now = out_now;
-  out_faults = out_faults;
-  out_faults_now = out_faults_now;
-}
+-- the files and the output, before and after
+abbrev pub outside : FilesView → FilesView → SinkView → SinkView → Outside
+outside files files_after out out_after =
+    record { files = files; files_after = files_after; out = out; out_after = out_after }

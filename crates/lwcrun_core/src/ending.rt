@@ -4,9 +4,11 @@ use lwc_text::InputRule;
 /// Why an input was refused.
 #[derive(Clone, Copy, Debug, PartialEq, Eq)]
 pub enum Rejection {
-    /// The image is not in its grammar or limits: the rule, and the offset where it is broken first.
+    /// The image is not in its grammar or limits: the rule that it breaks first, and the offset where it
+    /// does.
     Image { rule: ImageRule, at: u64 },
-    /// The schedule is not in its grammar or limits: the rule, and the offset where it is broken first.
+    /// The schedule is not in its grammar or limits: the rule that it breaks first, and the offset where it
+    /// does.
     Input { rule: InputRule, at: u64 },
     /// The image has more pages than there are frames.
     TooLarge { pages: u32, frames: u32 },

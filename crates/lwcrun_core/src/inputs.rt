@@ -1,38 +1,38 @@
 ghost use Rattle.std.specs.Prelude.{◌≡◌, ◌≤◌, ◌<◌, ℕ, List, All, IfOk, length};
 ghost use Rattle.guest_image.specs.Limits.{IsImage};
+ghost use Rattle.lwc_base.specs.declared.limits.TheConstants.{MOST_STEPS};
 ghost use Rattle.lwcrun_core.specs.Images.{image_of, schedule_of};
 ghost use Rattle.lwcrun_core.specs.Parts.{ReadsBy};
 ghost use Rattle.lwcrun_core.specs.Views.{found};
 
 use crate::ending::{Ending, Rejection};
-use crate::reading::{Unread, read_whole};
+use crate::reading::{FetchError, read_whole};
 use guest_image::{Image, ImageFault, ImageRule, read_image};
+use lwc_base::{MOST_IMAGE_BYTES, MOST_SCHEDULE_BYTES};
 use lwc_io::Files;
 use lwc_text::{InputFault, InputRule, Schedule, read_schedule};
 use std::alloc::Global;
 
-/// How many bytes an image may have.
-const IMAGE_LIMIT: usize = 8_388_608;
-
-/// The image in the file of that name, or how the call ends without it.
+/// The image in the file of that name, or the end of the call without it.
 pub fn image_in<'a, F: Files>(
     alloc: Global,
     files: &mut F,
     name: &'a str,
 ) -> Result<Image, Ending<'a>>
-    ensures reads { ReadsBy image_of (F.file files.old) name.now (F.faults files.old) (F.faults files.new) (found (λ image. image) result) }
+    ensures reads { ReadsBy image_of (F.seen files.old) (F.seen files.new) name.now
+        (found (λ image. image) result) }
     ensures limits { IfOk result IsImage }
-    ensures same { F.file files.new ≡ F.file files.old }
-    ensures never_falls { (q : List ℕ) → F.faults files.old q ≤ F.faults files.new q }
+    ensures same { (F.seen files.new).contents ≡ (F.seen files.old).contents }
+    ensures never_decreases { (q : List ℕ) → (F.seen files.old).faults q ≤ (F.seen files.new).faults q }
 {
-    let bytes = match read_whole(alloc, files, name, IMAGE_LIMIT) {
+    let bytes = match read_whole(alloc, files, name, MOST_IMAGE_BYTES) {
         Ok(bytes) => bytes,
-        Err(Unread::OutOfMemory) => return Err(Ending::NoMemory),
-        Err(Unread::Failed) => return Err(Ending::Unread(name)),
-        Err(Unread::TooLong) => {
+        Err(FetchError::OutOfMemory) => return Err(Ending::NoMemory),
+        Err(FetchError::Failed) => return Err(Ending::Unread(name)),
+        Err(FetchError::TooLong) => {
             return Err(Ending::Refused(Rejection::Image {
                 rule: ImageRule::TooLong,
-                at: IMAGE_LIMIT as u64,
+                at: MOST_IMAGE_BYTES as u64,
             }));
         }
     };
@@ -46,30 +46,28 @@ pub fn image_in<'a, F: Files>(
     }
 }
 
-/// How many bytes a schedule may have.
-const SCHEDULE_LIMIT: usize = 16_777_216;
-
-/// The schedule of so many threads in the file of that name, or how the call ends without it.
+/// The schedule in the file of that name for a number of threads, or the end of the call without it.
 pub fn schedule_in<'a, F: Files>(
     alloc: Global,
     files: &mut F,
     name: &'a str,
     threads: u32,
 ) -> Result<Schedule, Ending<'a>>
-    ensures reads { ReadsBy (schedule_of threads) (F.file files.old) name.now (F.faults files.old) (F.faults files.new) (found (λ steps. steps) result) }
+    ensures reads { ReadsBy (schedule_of threads) (F.seen files.old) (F.seen files.new) name.now
+        (found (λ steps. steps) result) }
     ensures there { IfOk result (λ steps. All (λ t. t < threads) steps) }
-    ensures short { IfOk result (λ steps. length steps ≤ 16000000) }
-    ensures same { F.file files.new ≡ F.file files.old }
-    ensures never_falls { (q : List ℕ) → F.faults files.old q ≤ F.faults files.new q }
+    ensures short { IfOk result (λ steps. length steps ≤ MOST_STEPS) }
+    ensures same { (F.seen files.new).contents ≡ (F.seen files.old).contents }
+    ensures never_decreases { (q : List ℕ) → (F.seen files.old).faults q ≤ (F.seen files.new).faults q }
 {
-    let bytes = match read_whole(alloc, files, name, SCHEDULE_LIMIT) {
+    let bytes = match read_whole(alloc, files, name, MOST_SCHEDULE_BYTES) {
         Ok(bytes) => bytes,
-        Err(Unread::OutOfMemory) => return Err(Ending::NoMemory),
-        Err(Unread::Failed) => return Err(Ending::Unread(name)),
-        Err(Unread::TooLong) => {
+        Err(FetchError::OutOfMemory) => return Err(Ending::NoMemory),
+        Err(FetchError::Failed) => return Err(Ending::Unread(name)),
+        Err(FetchError::TooLong) => {
             return Err(Ending::Refused(Rejection::Input {
                 rule: InputRule::TooLong,
-                at: SCHEDULE_LIMIT as u64,
+                at: MOST_SCHEDULE_BYTES as u64,
             }));
         }
     };

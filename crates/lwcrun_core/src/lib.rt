@@ -1,14 +1,15 @@
-//! The call behind the program: it reads a line, the files that the line names, runs what they ask for, and writes the report.
+//! The call behind the program: it reads a line and the files that the line names, runs what they ask for,
+//! and writes the report.
 #![tactic(auto)]
 
 mod call;
 mod ending;
 mod inputs;
 mod line;
+mod messages;
 mod numbers;
 mod reading;
 mod replaying;
-mod saying;
 mod status;
 mod writing;
 

@@ -1,12 +1,12 @@
 ghost use Rattle.std.specs.Prelude.{◌≡◌};
 ghost use Rattle.lwcrun_core.specs.Statuses.{exit_number};
 
-/// How the call ended, as the program's exit status says it.
+/// The exit status of the program.
 #[derive(Clone, Copy, Debug, PartialEq, Eq)]
 pub enum ExitStatus {
     /// All was read, run and written.
     Ok,
-    /// Want of memory.
+    /// Out of memory.
     NoMemory,
     /// The line is not accepted.
     Usage,

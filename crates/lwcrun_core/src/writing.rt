@@ -1,6 +1,6 @@
 ghost use Rattle.std.specs.Prelude.{◌≡◌, ◌<◌, ◌≤◌, ◌+◌, ℕ, List, length, take, IfOk, OnOk, OnErr};
-ghost use Rattle.lwc_io.specs.Outside.{Rose, grown};
-ghost use Rattle.lwcrun_core.specs.Writing.{SentInPart};
+ghost use Rattle.lwc_io.specs.Outside.{FaultsIncreased, appended};
+ghost use Rattle.lwcrun_core.specs.Writing.{IsPartTaken};
 
 use lwc_io::{Failed, Sink};
 
@@ -8,12 +8,12 @@ use lwc_io::{Failed, Sink};
 ///
 /// # Errors
 ///
-/// `Failed` where a write failed; the sink has then taken a front of the text.
+/// `Failed` if a write failed; the sink has then taken the first bytes of the text and nothing else.
 pub fn write_whole<O: Sink>(out: &mut O, text: &[u8]) -> Result<(), Failed>
-    ensures sent { OnOk result (O.taken out.new ≡ grown (O.taken out.old) text.now) }
-    ensures cut { OnErr result (SentInPart (O.taken out.old) (O.taken out.new) text.now) }
-    ensures never_falls { O.faults out.old ≤ O.faults out.new }
-    ensures cause { OnErr result (Rose (O.faults out.old) (O.faults out.new)) }
+    ensures whole { OnOk result ((O.seen out.new).taken ≡ appended (O.seen out.old).taken text.now) }
+    ensures part { OnErr result (IsPartTaken (O.seen out.old).taken (O.seen out.new).taken text.now) }
+    ensures never_decreases { (O.seen out.old).faults ≤ (O.seen out.new).faults }
+    ensures cause { OnErr result (FaultsIncreased (O.seen out.old).faults (O.seen out.new).faults) }
 {
     let mut at = 0;
     while at < text.len() {
