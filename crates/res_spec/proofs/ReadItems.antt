@@ -8,7 +8,7 @@ use Rattle.res_spec.specs.declared.items.SpecCall.{SpecCall}
 use Rattle.res_spec.specs.declared.items.SpecFault.{SpecFault}
 use Rattle.res_spec.specs.declared.items.SpecFault.TheVariants.{BadMode, BadRange, Overlap}
 use Rattle.res_spec.specs.Items.{all_taken, all_within, faults, has_overlap, items_in, items_or, read}
-use Rattle.res_spec.specs.Spelling.{Spells, IsBadRange, IsOverlap}
+use Rattle.res_spec.specs.Spelling.{Spells, IsBadMode, IsBadRange, IsOverlap}
 use Rattle.res_spec.proofs.Spellings.{AreBytes, spelled_are_read, read_are_spelled}
 use Rattle.res_spec.proofs.ValidItems.{each_apart, each_item, each_overlap, each_within}
 
@@ -92,28 +92,34 @@ module _ (call : SpecCall) (pages : ℕ) (bytes : List ℕ) (whole : length byte
       let e = spelled_are_read call items bytes s in
       all.only e.0 (subst (λ (l : List Item). all_within pages l ≡ true) (sym e.1) (each_within pages items valid.each)) (subst (λ (l : List Item). has_overlap l ≡ false) (sym e.1) (each_overlap items valid.apart)) ∙ ap (λ (l : List Item). Ok l) e.1
 
-  pub mode_fault : r ≡ Err BadMode → (items : List Item) → Spells call items bytes → ⊥
+  pub mode_fault : r ≡ Err BadMode → IsBadMode call bytes
+  unfolding IsBadMode
   mode_fault e items s = false≢true (sym (all.bad_mode e) ∙ (spelled_are_read call items bytes s).0)
 
-  pub no_items : ((items : List Item) → Spells call items bytes → ⊥) → r ≡ Err BadMode
+  pub no_items : IsBadMode call bytes → r ≡ Err BadMode
+  unfolding IsBadMode
   no_items none = all.only_mode (not_true (all_taken call bytes) (λ e. none (items_in call bytes) (read_are_spelled call bytes whole fits e)))
 
   pub range_fault : r ≡ Err BadRange → IsBadRange call pages bytes
+  unfolding IsBadRange
   range_fault e =
       let t = all.bad_range e in
       (items_in call bytes, read_are_spelled call bytes whole fits t.0, λ each. false≢true (sym t.1 ∙ each_within pages (items_in call bytes) each))
 
   pub bad_range : IsBadRange call pages bytes → r ≡ Err BadRange
+  unfolding IsBadRange
   bad_range (items, s, bad) =
       let e = spelled_are_read call items bytes s in
       all.only_range e.0 (not_true (all_within pages (items_in call bytes)) (λ w. bad (each_item pages items (subst (λ (l : List Item). all_within pages l ≡ true) e.1 w))))
 
   pub overlap_fault : r ≡ Err Overlap → IsOverlap call pages bytes
+  unfolding IsOverlap
   overlap_fault e =
       let t = all.overlaps e in
       (items_in call bytes, read_are_spelled call bytes whole fits t.0, each_item pages (items_in call bytes) t.1, λ apart. false≢true (sym (each_overlap (items_in call bytes) apart) ∙ t.2))
 
   pub overlap : IsOverlap call pages bytes → r ≡ Err Overlap
+  unfolding IsOverlap
   overlap (items, s, each, bad) =
       let e = spelled_are_read call items bytes s in
       all.only_overlap e.0 (subst (λ (l : List Item). all_within pages l ≡ true) (sym e.1) (each_within pages items each)) (not_false (has_overlap (items_in call bytes)) (λ o. bad (each_apart items (subst (λ (l : List Item). has_overlap l ≡ false) e.1 o))))

@@ -38,11 +38,15 @@ pub record Spells (call : SpecCall) (items : List Item) (bytes : List ℕ) : Typ
   pub numbers : All (λ item. (item.from < 2 ^ 32) × (item.to < 2 ^ 32)) items
   pub spelled : bytes ≡ flat_map spelling items
 
+-- no items of a kind and a mode that the call takes are spelled
+unfoldable pub IsBadMode : SpecCall → List ℕ → Type 0
+IsBadMode call bytes = (items : List Item) → Spells call items bytes → ⊥
+
 -- items are spelled, and not each of them names a key and none past the limit of its kind
-abbrev pub IsBadRange : SpecCall → ℕ → List ℕ → Type 0
+unfoldable pub IsBadRange : SpecCall → ℕ → List ℕ → Type 0
 IsBadRange call pages bytes = (items : List Item) × Spells call items bytes × (All (IsItem pages) items → ⊥)
 
 -- items are spelled that name such keys alone, and not every two of them are apart
-abbrev pub IsOverlap : SpecCall → ℕ → List ℕ → Type 0
+unfoldable pub IsOverlap : SpecCall → ℕ → List ℕ → Type 0
 IsOverlap call pages bytes =
     (items : List Item) × Spells call items bytes × All (IsItem pages) items × (AllPairs AreApart items → ⊥)

@@ -7,7 +7,7 @@ ghost use Rattle.lwc_base.specs.declared.item.Item.{Item};
 ghost use Rattle.res_spec.specs.declared.items.SpecFault.TheVariants.{BadMode, BadRange, Overlap};
 ghost use Rattle.res_spec.specs.Items as spec;
 ghost use Rattle.res_spec.specs.Items.{read};
-ghost use Rattle.res_spec.specs.Spelling.{Spells, IsBadRange, IsOverlap};
+ghost use Rattle.res_spec.specs.Spelling.{Spells, IsBadMode, IsBadRange, IsOverlap};
 
 use arrayvec::ArrayVec;
 use byteorder::{ByteOrder, LittleEndian};
@@ -51,7 +51,7 @@ pub fn read_items(bytes: &[u8], call: SpecCall, pages: u32) -> Result<Spec, Spec
     ensures only { (items : List Item) → Spells call items bytes.now → IsSpec pages items
         → result ≡ Ok items }
     // No items of a kind and a mode that the call takes are spelled so.
-    ensures bad_mode { (result ≡ Err BadMode) ↔ ((items : List Item) → Spells call items bytes.now → ⊥) }
+    ensures bad_mode { (result ≡ Err BadMode) ↔ IsBadMode call bytes.now }
     // Items are spelled, and not each of them names a key and none past the limit of its kind.
     ensures bad_range { (result ≡ Err BadRange) ↔ IsBadRange call pages bytes.now }
     // Such items are spelled, and not every two of them are apart.
