@@ -83,4 +83,4 @@ all_contexts w i before now past so_far =
     let keys : List Name = fm.keys w.contexts in
     so_far ∙ ap (λ l. before ++ flat_map (context_at w) l) (take_all i keys (omega (arith, count_of_keys w)))
 
-pub ruleset context_reading = (lives, is_named, all_contexts, one_more_context)
+pub ruleset context_reading = (lives, is_named)

@@ -6,7 +6,8 @@ ghost use Rattle.lwc_text.specs.Report.{contexts_text, report_after, threads_tex
 
 use crate::lines::{context_line, groups_line, tail_lines, thread_lines};
 use kernel_core::Kernel;
-use lwc_base::{OutOfMemory, names_are_ordered};
+use lwc_base::OutOfMemory;
+use lwc_base::laws::names_are_ordered;
 use std::alloc::Global;
 use world_face::World;
 
@@ -26,11 +27,7 @@ pub fn report<W: World>(alloc: Global, k: &Kernel<W>) -> Result<Vec<u8>, OutOfMe
 }
 
 /// The lines of all threads.
-#[tactic(
-    auto,
-    using(crate::proofs::Machines::one_more_thread),
-    unfolding(crate::specs::Report::threads_text)
-)]
+#[tactic(auto, using(crate::proofs::Machines::one_more_thread), unfolding(crate::specs::Report::threads_text))]
 fn threads_text<W: World>(alloc: Global, k: &Kernel<W>) -> Result<Vec<u8>, OutOfMemory>
     ensures { IfOk result (λ text. text.items ≡ threads_text (machine_of k.now)) }
 {
@@ -42,19 +39,16 @@ fn threads_text<W: World>(alloc: Global, k: &Kernel<W>) -> Result<Vec<u8>, OutOf
 }
 
 /// Appends the lines of all contexts.
-#[tactic(
-    auto,
-    using(crate::proofs::Machines::context_reading),
-    unfolding(crate::specs::Report::contexts_text)
-)]
+#[tactic(auto, using(crate::proofs::Machines::context_reading), unfolding(crate::specs::Report::contexts_text))]
 fn context_lines<W: World>(out: &mut Vec<u8>, world: &W) -> Result<(), OutOfMemory>
     ensures { OnOk result (out.new.items ≡ out.old.items ++ contexts_text (W.seen world.now)) }
 {
     names_are_ordered();
     'contexts: for i in 0..world.context_count() {
-        if let Some(name) = world.nth_context(i) {
-            context_line(out, name, &world.summary(name))?;
-        }
+        let Some(name) = world.nth_context(i) else {
+            unreachable!();
+        };
+        context_line(out, name, &world.summary(name))?;
     }
     Ok(())
 }
