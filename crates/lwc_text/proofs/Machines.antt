@@ -35,9 +35,9 @@ count_on a zero = ap (λ k. k ∷ []) (omega arith)
 count_on a (suc n) = ap (λ l. a ∷ l) (count_on (a + 1) n ∙ ap (λ k. range_with_len (a + 1) n ++ k ∷ []) (omega arith))
 
 -- the lines of one more thread
-pub one_more_thread : (m : Machine) (t : ℕ) (view : ThreadView) (now after : List ℕ) → view_of m t ≡ Some view → now ≡ flat_map (thread_at m) (range_with_len 0 t)
+pub more_threads : (m : Machine) (t : ℕ) (view : ThreadView) (now after : List ℕ) → view_of m t ≡ Some view → now ≡ flat_map (thread_at m) (range_with_len 0 t)
     → after ≡ now ++ thread_lines t view → after ≡ flat_map (thread_at m) (range_with_len 0 (t + 1))
-one_more_thread m t view now after seen so_far added =
+more_threads m t view now after seen so_far added =
     let text : thread_at m t ≡ thread_lines t view = ap (λ (o : Option ThreadView). option_map_or (thread_lines t) o []) seen in
     let next : range_with_len 0 (t + 1) ≡ range_with_len 0 t ++ t ∷ [] = rw add-one (count_on 0 t ∙ ap (λ k. range_with_len 0 t ++ k ∷ []) (omega arith)) in
     added
@@ -83,4 +83,4 @@ all_contexts w i before now past so_far =
     let keys : List Name = fm.keys w.contexts in
     so_far ∙ ap (λ l. before ++ flat_map (context_at w) l) (take_all i keys (omega (arith, count_of_keys w)))
 
-pub ruleset context_reading = (lives, is_named)
+pub ruleset live_names = (lives, is_named)

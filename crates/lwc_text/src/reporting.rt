@@ -27,7 +27,7 @@ pub fn report<W: World>(alloc: Global, k: &Kernel<W>) -> Result<Vec<u8>, OutOfMe
 }
 
 /// The lines of all threads.
-#[tactic(auto, using(crate::proofs::Machines::one_more_thread), unfolding(crate::specs::Report::threads_text))]
+#[tactic(auto, using(crate::proofs::Machines::more_threads), unfolding(crate::specs::Report::threads_text))]
 fn threads_text<W: World>(alloc: Global, k: &Kernel<W>) -> Result<Vec<u8>, OutOfMemory>
     ensures { IfOk result (λ text. text.items ≡ threads_text (machine_of k.now)) }
 {
@@ -39,7 +39,7 @@ fn threads_text<W: World>(alloc: Global, k: &Kernel<W>) -> Result<Vec<u8>, OutOf
 }
 
 /// Appends the lines of all contexts.
-#[tactic(auto, using(crate::proofs::Machines::context_reading), unfolding(crate::specs::Report::contexts_text))]
+#[tactic(auto, using(crate::proofs::Machines::live_names), unfolding(crate::specs::Report::contexts_text))]
 fn context_lines<W: World>(out: &mut Vec<u8>, world: &W) -> Result<(), OutOfMemory>
     ensures { OnOk result (out.new.items ≡ out.old.items ++ contexts_text (W.seen world.now)) }
 {

@@ -4,14 +4,14 @@ use Rattle.lwcrun_core.specs.declared.ending.Rejection.{Rejection}
 use Rattle.lwcrun_core.specs.declared.line.LineFault.{LineFault}
 use Rattle.lwcrun_core.specs.declared.line.LineFault.TheVariants as line_faults
 use Rattle.lwcrun_core.specs.Calls.{CallEnded}
-use Rattle.lwcrun_core.specs.Ends.{End, Outside, Ended}
+use Rattle.lwcrun_core.specs.Ends.{End, Outside, Ended, IsUnwritten}
 use Rattle.lwcrun_core.specs.Ends as ends
 use Rattle.lwcrun_core.specs.Headline.{IsText, plan_of}
 use Rattle.lwcrun_core.specs.Lines.{Command}
-use Rattle.lwcrun_core.specs.Statuses.{EndsAs}
+use Rattle.lwcrun_core.specs.Statuses.{MayBeAnsweredAs}
 
--- an end of a plan that becomes want of memory for its line is one by which nothing was written
-pub ended_as : (o : Outside) (command : Command) (e f : End Rejection) → EndsAs e f → Ended IsText o (plan_of command) e → Ended IsText o (plan_of command) f
+-- an end of a plan that becomes out of memory for its line is one by which nothing was written
+pub ended_as : (o : Outside) (command : Command) (e f : End Rejection) → MayBeAnsweredAs e f → Ended IsText o (plan_of command) e → Ended IsText o (plan_of command) f
 unfolding Ended
 ended_as o command ends.Done f is h = subst (Ended IsText o (plan_of command)) (sym is) h
 ended_as o command ends.NoMemory f is h = subst (Ended IsText o (plan_of command)) (sym is) h
@@ -23,21 +23,21 @@ ended_as o command (ends.Refused rejection) f (inl is) h = subst (Ended IsText o
 ended_as o command (ends.Refused rejection) f (inr is) h = subst (Ended IsText o (plan_of command)) (sym is) h.1
 
 -- the end of an accepted line's call
-pub call_ended : (o : Outside) (asked : Option Command) (command : Command) (e f : End Rejection) → asked ≡ Some command → EndsAs e f → Ended IsText o (plan_of command) e → CallEnded o asked f
+pub call_ended : (o : Outside) (asked : Option Command) (command : Command) (e f : End Rejection) → asked ≡ Some command → MayBeAnsweredAs e f → Ended IsText o (plan_of command) e → CallEnded o asked f
 unfolding CallEnded
 call_ended o asked command e f is ends_as h = subst (λ a. CallEnded o a f) (sym is) (ended_as o command e f ends_as h)
 
 -- the end of a call that ran out of memory before anything was done, or whose line is not accepted
-pub not_begun : (o : Outside) (asked : Option Command) (e : End Rejection) → o.out_now ≡ o.out → (e ≡ ends.NoMemory) ⊎ ((asked ≡ None) × (e ≡ ends.Usage)) → CallEnded o asked e
+pub not_begun : (o : Outside) (asked : Option Command) (e : End Rejection) → IsUnwritten o → (e ≡ ends.NoMemory) ⊎ ((asked ≡ None) × (e ≡ ends.Usage)) → CallEnded o asked e
 unfolding CallEnded Ended
 not_begun o None e same (inl is) = (inr is, same)
 not_begun o (Some command) e same (inl is) = subst (Ended IsText o (plan_of command)) (sym is) same
 not_begun o asked e same (inr is) = subst (λ a. CallEnded o a e) (sym is.0) (inl is.1, same)
 
--- how a line that was not read ends: for want of memory, or since it is not accepted
-pub line_ended : (asked : Option Command) (first e : End Rejection) → (first ≡ ends.NoMemory) ⊎ ((asked ≡ None) × (first ≡ ends.Usage)) → EndsAs first e → (e ≡ ends.NoMemory) ⊎ ((asked ≡ None) × (e ≡ ends.Usage))
-line_ended asked first e (inl is) as_it = inl (let P : End Rejection → Type 0 = λ f. EndsAs f e in subst P is as_it)
-line_ended asked first e (inr is) as_it = inr (is.0, (let P : End Rejection → Type 0 = λ f. EndsAs f e in subst P is.1 as_it))
+-- how a line that was not read ends: for out of memory, or since it is not accepted
+pub line_ended : (asked : Option Command) (first e : End Rejection) → (first ≡ ends.NoMemory) ⊎ ((asked ≡ None) × (first ≡ ends.Usage)) → MayBeAnsweredAs first e → (e ≡ ends.NoMemory) ⊎ ((asked ≡ None) × (e ≡ ends.Usage))
+line_ended asked first e (inl is) as_it = inl (let P : End Rejection → Type 0 = λ f. MayBeAnsweredAs f e in subst P is as_it)
+line_ended asked first e (inr is) as_it = inr (is.0, (let P : End Rejection → Type 0 = λ f. MayBeAnsweredAs f e in subst P is.1 as_it))
 
 -- a fault of the line, as its end
 pub line_fault : (asked : Option Command) (fault : LineFault) (first : End Rejection) → (fault ≡ line_faults.Usage → asked ≡ None) → (first ≡ ends.NoMemory) ⊎ ((fault ≡ line_faults.Usage) × (first ≡ ends.Usage)) → (first ≡ ends.NoMemory) ⊎ ((asked ≡ None) × (first ≡ ends.Usage))

@@ -1,230 +1,179 @@
--- What the answer of a call says, from how the call ended.
-use Rattle.std.proofs.Common.{◌≡◌, ◌≢◌, ◌⊎◌, ◌<◌, ◌≤◌, inl, inr, ℕ, Bool, true, false, cond, List, Option, None, Some, Result, Ok, Err, length, get_or, refl, sym, subst, ap, ◌∙◌}
+-- What the exit status of a call says, from how the call ended.
+use Rattle.std.proofs.Common.{◌≡◌, ◌≢◌, ◌⊎◌, ◌<◌, ◌≤◌, inl, inr, ℕ, Bool, true, false, cond, List, [], Option, None, Some, Result, Ok, Err, length, refl, sym, subst, ap, ◌∙◌, arith, All}
 use Rattle.std.proofs.lemmas.Bool.{le-ltb, ltb-false}
 use Rattle.std.specs.Prelude.{nat_lt}
-use Rattle.guest_image.proofs.WholeLaws.{image_again, is_found}
+use Rattle.byte_reading.specs.Outcomes.{Refusal}
+use Rattle.guest_image.specs.Facts.{ReadingFacts}
 use Rattle.guest_image.specs.Limits.{IsImage}
 use Rattle.guest_image.specs.Reading.{image_at}
-use Rattle.guest_image.specs.Reading as images
 use Rattle.guest_image.specs.Spelling.{spelling}
 use Rattle.guest_image.specs.declared.image.Image.{Image}
 use Rattle.kernel_core.specs.declared.settings.Settings.{Settings}
-use Rattle.lwc_io.specs.Outside.{Rose, grown}
-use Rattle.lwc_text.proofs.Steps.{is_schedule, is_answered}
-use Rattle.lwc_text.specs.Inputs as inputs
+use Rattle.lwc_io.specs.Outside.{appended}
+use Rattle.lwc_text.specs.Facts.{ScheduleFacts}
 use Rattle.lwc_text.specs.Schedules.{IsSchedule, schedule_at}
-use Rattle.lwc_text.specs.declared.fault.InputFault.TheVariants as faults
 use Rattle.lwcrun_core.specs.declared.ending.Rejection.{Rejection}
 use Rattle.lwcrun_core.specs.declared.ending.Rejection.TheVariants as rejections
 use Rattle.lwcrun_core.specs.declared.status.ExitStatus.{ExitStatus}
 use Rattle.lwcrun_core.specs.declared.status.ExitStatus.TheVariants as statuses
-use Rattle.lwcrun_core.specs.Calls.{AreTold, CallEnded, FileFailed, Headline, IsOrNoMemory, IsRefusal, IsRunnable, Names, NoFault, status_by}
-use Rattle.lwcrun_core.specs.Ends.{End, Outside, Ended, NothingFailed, end_by}
+use Rattle.lwcrun_core.specs.Calls.{AreContents, CallEnded, FileFailed, Headline, IsOrNoMemory, IsRejected, IsRunnable, IsUndisturbed, Names, NoFault, status_by}
+use Rattle.lwcrun_core.specs.Ends.{End, Outside, Ended, FetchFailed, IsUnwritten, NothingFailed, WriteFailed, end_by}
 use Rattle.lwcrun_core.specs.Ends as ends
 use Rattle.lwcrun_core.specs.Headline.{IsText, Work, after_image, after_size, plan_of, replay_plan, run_inputs, text_of}
 use Rattle.lwcrun_core.specs.Headline as works
-use Rattle.lwcrun_core.specs.Images.{image_of, or_rejected, schedule_of, schedule_or_rejected}
+use Rattle.lwcrun_core.specs.Images.{image_of, or_rejected, schedule_of}
 use Rattle.lwcrun_core.specs.Lines.{Command}
 use Rattle.lwcrun_core.specs.Lines as commands
-use Rattle.lwcrun_core.specs.Plans.{Plan, Told, ComesTo, AreKnown, accepted, outcome}
+use Rattle.lwcrun_core.specs.Plans.{Plan, FileContents, LeadsTo, Reads, AreKnown, accepted, outcome}
 use Rattle.lwcrun_core.specs.Plans as plans
-use Rattle.lwcrun_core.specs.Statuses.{status_of, status_of_rejection}
-use Rattle.lwcrun_core.proofs.Promises.{leads_known, settled, written}
+use Rattle.lwcrun_core.specs.Statuses.{exit_number, status_of, status_of_rejection}
+use Rattle.lwcrun_core.proofs.Promises.{known_bytes, leads_known, settled}
 
--- the files that a plan comes to are those that its command names
+-- the files that a plan reads are those that its command names
 
-comes_after_steps : (told : Told) (inputs_of : List ℕ → Work) (r : Result (List ℕ) Rejection) (q : List ℕ) → ComesTo told (accepted r (λ steps. plans.Write (inputs_of steps))) q → ⊥
-comes_after_steps told inputs_of (Ok steps) q h = h
-comes_after_steps told inputs_of (Err rejection) q h = h
+reads_after_steps : (files : FileContents) (inputs_of : List ℕ → Work) (r : Result (List ℕ) Rejection) (q : List ℕ) → Reads files (accepted r (λ steps. plans.Write (inputs_of steps))) q → ⊥
+reads_after_steps files inputs_of (Ok steps) q h = h
+reads_after_steps files inputs_of (Err rejection) q h = h
 
-comes_after_size : (told : Told) (schedule : List ℕ) (settings : Settings) (image : Image) (q : List ℕ) → ComesTo told (after_size schedule settings image) q → q ≡ schedule
+reads_after_size : (files : FileContents) (schedule : List ℕ) (settings : Settings) (image : Image) (q : List ℕ) → Reads files (after_size schedule settings image) q → q ≡ schedule
 unfolding after_size
-comes_after_size told schedule settings image q (inl is) = is
-comes_after_size told schedule settings image q (inr h) = absurd (comes_after_steps told _ _ q h.2)
+reads_after_size files schedule settings image q (inl is) = is
+reads_after_size files schedule settings image q (inr h) = absurd (reads_after_steps files _ _ q h.2)
 
-comes_by_size : (told : Told) (schedule : List ℕ) (settings : Settings) (image : Image) (q : List ℕ) (b : Bool) (r : Rejection) → ComesTo told (cond b (plans.Refuse r) (after_size schedule settings image)) q → q ≡ schedule
-comes_by_size told schedule settings image q true r h = absurd h
-comes_by_size told schedule settings image q false r h = comes_after_size told schedule settings image q h
+reads_by_size : (files : FileContents) (schedule : List ℕ) (settings : Settings) (image : Image) (q : List ℕ) (b : Bool) (r : Rejection) → Reads files (cond b (plans.Refuse r) (after_size schedule settings image)) q → q ≡ schedule
+reads_by_size files schedule settings image q true r h = absurd h
+reads_by_size files schedule settings image q false r h = reads_after_size files schedule settings image q h
 
-comes_after_image : (told : Told) (schedule : List ℕ) (settings : Settings) (r : Result Image Rejection) (q : List ℕ) → ComesTo told (accepted r (after_image schedule settings)) q → q ≡ schedule
+reads_after_image : (files : FileContents) (schedule : List ℕ) (settings : Settings) (r : Result Image Rejection) (q : List ℕ) → Reads files (accepted r (after_image schedule settings)) q → q ≡ schedule
 unfolding after_image
-comes_after_image told schedule settings (Ok image) q h = comes_by_size told schedule settings image q _ _ h
-comes_after_image told schedule settings (Err rejection) q h = absurd h
+reads_after_image files schedule settings (Ok image) q h = reads_by_size files schedule settings image q _ _ h
+reads_after_image files schedule settings (Err rejection) q h = absurd h
 
-pub comes_names : (told : Told) (command : Command) (q : List ℕ) → ComesTo told (plan_of command) q → Names command q
+reads_names : (files : FileContents) (command : Command) (q : List ℕ) → Reads files (plan_of command) q → Names command q
 unfolding replay_plan
-comes_names told (commands.Replay image schedule settings) q (inl is) = inl is
-comes_names told (commands.Replay image schedule settings) q (inr h) = inr (comes_after_image told schedule settings _ q h.2)
+reads_names files (commands.Replay image schedule settings) q (inl is) = inl is
+reads_names files (commands.Replay image schedule settings) q (inr h) = inr (reads_after_image files schedule settings _ q h.2)
 
-pub are_known : (told : Told) (command : Command) (bytes : List ℕ → List ℕ) → AreTold told command bytes → AreKnown told (plan_of command) bytes
-are_known told command bytes h q comes = h.told q (comes_names told command q comes)
+are_known : (files : FileContents) (command : Command) (bytes : List ℕ → List ℕ) → AreContents files command bytes → AreKnown files (plan_of command) bytes
+are_known files command bytes h q reads = h q (reads_names files command q reads)
 
-pub nothing_failed : (o : Outside) (command : Command) → NoFault o command → NothingFailed o (plan_of command)
+nothing_failed : (o : Outside) (command : Command) → NoFault o command → NothingFailed o (plan_of command)
 nothing_failed o command h = record {
-  files = λ q comes. h.files q (comes_names o.told command q comes);
+  files = λ q reads. h.files q (reads_names o.files.contents command q reads);
   out = h.out;
 }
 
--- the ending of each exit status
+-- the end of each exit status
+
+late : (r : Rejection) → 5 ≤ exit_number (status_of_rejection r)
+late (rejections.Image rule at) = omega arith
+late (rejections.Input rule at) = omega arith
+late (rejections.TooLarge pages frames) = omega arith
 
 usage_end : (e : End Rejection) → status_of e ≡ statuses.Usage → e ≡ ends.Usage
 usage_end ends.Usage h = refl
-usage_end ends.Done h = absurd cc
-usage_end ends.NoMemory h = absurd cc
-usage_end (ends.Unread name) h = absurd cc
-usage_end ends.Unwritten h = absurd cc
-usage_end (ends.Refused (rejections.Image rule at)) h = absurd cc
-usage_end (ends.Refused (rejections.Input rule at)) h = absurd cc
-usage_end (ends.Refused (rejections.TooLarge pages frames)) h = absurd cc
+usage_end (ends.Refused r) h = absurd (omega (arith, late r, ap exit_number h))
+usage_end _ h = absurd cc
 
 done_end : (e : End Rejection) → status_of e ≡ statuses.Ok → e ≡ ends.Done
 done_end ends.Done h = refl
-done_end ends.Usage h = absurd cc
-done_end ends.NoMemory h = absurd cc
-done_end (ends.Unread name) h = absurd cc
-done_end ends.Unwritten h = absurd cc
-done_end (ends.Refused (rejections.Image rule at)) h = absurd cc
-done_end (ends.Refused (rejections.Input rule at)) h = absurd cc
-done_end (ends.Refused (rejections.TooLarge pages frames)) h = absurd cc
+done_end (ends.Refused r) h = absurd (omega (arith, late r, ap exit_number h))
+done_end _ h = absurd cc
 
 unread_end : (e : End Rejection) → status_of e ≡ statuses.ReadFault → (name : List ℕ) × (e ≡ ends.Unread name)
 unread_end (ends.Unread name) h = (name, refl)
-unread_end ends.Done h = absurd cc
-unread_end ends.Usage h = absurd cc
-unread_end ends.NoMemory h = absurd cc
-unread_end ends.Unwritten h = absurd cc
-unread_end (ends.Refused (rejections.Image rule at)) h = absurd cc
-unread_end (ends.Refused (rejections.Input rule at)) h = absurd cc
-unread_end (ends.Refused (rejections.TooLarge pages frames)) h = absurd cc
+unread_end (ends.Refused r) h = absurd (omega (arith, late r, ap exit_number h))
+unread_end _ h = absurd cc
 
 unwritten_end : (e : End Rejection) → status_of e ≡ statuses.WriteFault → e ≡ ends.Unwritten
 unwritten_end ends.Unwritten h = refl
-unwritten_end ends.Done h = absurd cc
-unwritten_end ends.Usage h = absurd cc
-unwritten_end ends.NoMemory h = absurd cc
-unwritten_end (ends.Unread name) h = absurd cc
-unwritten_end (ends.Refused (rejections.Image rule at)) h = absurd cc
-unwritten_end (ends.Refused (rejections.Input rule at)) h = absurd cc
-unwritten_end (ends.Refused (rejections.TooLarge pages frames)) h = absurd cc
+unwritten_end (ends.Refused r) h = absurd (omega (arith, late r, ap exit_number h))
+unwritten_end _ h = absurd cc
+
+refusal_end : (e : End Rejection) (rejection : Rejection) → status_of e ≡ status_of_rejection rejection → (found : Rejection) × (e ≡ ends.Refused found)
+refusal_end (ends.Refused found) rejection h = (found, refl)
+refusal_end _ rejection h = absurd (omega (arith, late rejection, ap exit_number h))
 
 status_of-end_by : (r : Result Work Rejection) → status_of (end_by r) ≡ status_by r
 status_of-end_by (Ok work) = refl
 status_of-end_by (Err rejection) = refl
 
--- a refusal's exit status is none of a plan that was carried out
-status_by-refusal : (r : Result Work Rejection) (status : ExitStatus) → status ≡ status_by r → status ≢ statuses.Ok → (rejection : Rejection) × (r ≡ Err rejection) × (status ≡ status_of_rejection rejection)
-status_by-refusal (Ok work) status is not_ok = absurd (not_ok is)
-status_by-refusal (Err rejection) status is not_ok = (rejection, refl, is)
-
 -- what the grammars accept, and what an accepted input is
 
-schedule_read : (threads : ℕ) (bytes steps : List ℕ) → IsSchedule threads bytes steps → (r : Result (List ℕ) inputs.Refused) → schedule_at threads bytes ≡ r → r ≡ Ok steps
-schedule_read threads bytes steps is (Ok found) e = ap Ok ((is_schedule threads bytes found e).named ∙ sym is.named)
-schedule_read threads bytes steps is (Err refused) e =
-    let bad : faults.Refused refused.rule refused.at ≡ faults.OutOfMemory = is_answered threads bytes steps (faults.Refused refused.rule refused.at) is e in
-    absurd cc
+or_rejected_ok : {R A : Type 0} (reject : R → ℕ → Rejection) (r : Result A (Refusal R)) (x : A) → or_rejected reject r ≡ Ok x → r ≡ Ok x
+or_rejected_ok reject (Ok y) x e = cc
+or_rejected_ok reject (Err refusal) x e = absurd cc
 
-schedule_accepted : (threads : ℕ) (bytes steps : List ℕ) → IsSchedule threads bytes steps → schedule_of threads bytes ≡ Ok steps
-unfolding schedule_of
-schedule_accepted threads bytes steps is = ap schedule_or_rejected (schedule_read threads bytes steps is (schedule_at threads bytes) refl)
+module _ (images : ReadingFacts) (schedules : ScheduleFacts) where
+  schedule_accepted : (threads : ℕ) (bytes steps : List ℕ) → IsSchedule threads bytes steps → schedule_of threads bytes ≡ Ok steps
+  unfolding schedule_of
+  schedule_accepted threads bytes steps is = ap (or_rejected rejections.Input) (schedules.reads threads bytes steps is)
 
-image_accepted : (bytes : List ℕ) (image : Image) → IsImage image → bytes ≡ spelling image → image_of bytes ≡ Ok image
-unfolding image_of
-image_accepted bytes image is spelled = ap or_rejected (ap image_at spelled ∙ image_again image is)
+  image_accepted : (bytes : List ℕ) (image : Image) → IsImage image → bytes ≡ spelling image → image_of bytes ≡ Ok image
+  unfolding image_of
+  image_accepted bytes image is spelled = ap (or_rejected rejections.Image) (ap image_at spelled ∙ images.reads image is)
 
-or_rejected_ok : (r : Result Image images.Refused) (image : Image) → or_rejected r ≡ Ok image → r ≡ Ok image
-or_rejected_ok (Ok x) image e = cc
-or_rejected_ok (Err refused) image e = absurd cc
+  image_found : (bytes : List ℕ) (image : Image) → All (λ b. b < 256) bytes → image_of bytes ≡ Ok image → IsImage image × (bytes ≡ spelling image)
+  unfolding image_of
+  image_found bytes image fits e = images.found bytes image fits (or_rejected_ok rejections.Image (image_at bytes) image e)
 
-image_found : (bytes : List ℕ) (image : Image) → ((i : ℕ) → get_or bytes i 0 < 256) → image_of bytes ≡ Ok image → IsImage image × (bytes ≡ spelling image)
-unfolding image_of
-image_found bytes image are_bytes e = is_found bytes (Ok image) are_bytes (or_rejected_ok (image_at bytes) image e)
+  schedule_found : (threads : ℕ) (bytes steps : List ℕ) → schedule_of threads bytes ≡ Ok steps → IsSchedule threads bytes steps
+  unfolding schedule_of
+  schedule_found threads bytes steps e = schedules.found threads bytes steps (or_rejected_ok rejections.Input (schedule_at threads bytes) steps e)
 
-schedule_or_rejected_ok : (r : Result (List ℕ) inputs.Refused) (steps : List ℕ) → schedule_or_rejected r ≡ Ok steps → r ≡ Ok steps
-schedule_or_rejected_ok (Ok x) steps e = cc
-schedule_or_rejected_ok (Err refused) steps e = absurd cc
+  -- where a replay's plan leads
 
-schedule_found : (threads : ℕ) (bytes steps : List ℕ) → schedule_of threads bytes ≡ Ok steps → IsSchedule threads bytes steps
-unfolding schedule_of
-schedule_found threads bytes steps e = is_schedule threads bytes steps (schedule_or_rejected_ok (schedule_at threads bytes) steps e)
+  over_steps : (bytes : List ℕ → List ℕ) (image : Image) (settings : Settings) (r : Result (List ℕ) Rejection) (steps : List ℕ) → r ≡ Ok steps → outcome bytes (accepted r (λ xs. plans.Write (works.Replaying (run_inputs image settings) xs))) ≡ Ok (works.Replaying (run_inputs image settings) steps)
+  over_steps bytes image settings r steps e = ap (λ x. outcome bytes (accepted x (λ xs. plans.Write (works.Replaying (run_inputs image settings) xs)))) e
 
--- where a replay's plan leads
+  over_image : (bytes : List ℕ → List ℕ) (schedule : List ℕ) (settings : Settings) (image : Image) (steps : List ℕ) → length image.pages ≤ settings.frames → schedule_of (length image.entries) (bytes schedule) ≡ Ok steps → outcome bytes (after_image schedule settings image) ≡ Ok (works.Replaying (run_inputs image settings) steps)
+  unfolding after_image after_size
+  over_image bytes schedule settings image steps fits e = rw (le-ltb _ _ fits) (over_steps bytes image settings _ steps e)
 
-over_steps : (bytes : List ℕ → List ℕ) (image : Image) (settings : Settings) (r : Result (List ℕ) Rejection) (steps : List ℕ) → r ≡ Ok steps → outcome bytes (accepted r (λ xs. plans.Write (works.Replaying (run_inputs image settings) xs))) ≡ Ok (works.Replaying (run_inputs image settings) steps)
-over_steps bytes image settings r steps e = ap (λ x. outcome bytes (accepted x (λ xs. plans.Write (works.Replaying (run_inputs image settings) xs)))) e
+  runs : (bytes : List ℕ → List ℕ) (command : Command) → IsRunnable command bytes → (work : Work) × (outcome bytes (plan_of command) ≡ Ok work)
+  unfolding replay_plan
+  runs bytes (commands.Replay image schedule settings) (x, steps, h) = (
+    works.Replaying (run_inputs x settings) steps,
+    ap (λ r. outcome bytes (accepted r (after_image schedule settings))) (image_accepted (bytes image) x h.image h.spelled)
+        ∙ over_image bytes schedule settings x steps h.fits (schedule_accepted _ _ steps h.schedule),
+  )
 
-over_image : (bytes : List ℕ → List ℕ) (schedule : List ℕ) (settings : Settings) (image : Image) (steps : List ℕ) → length image.pages ≤ settings.frames → schedule_of (length image.entries) (bytes schedule) ≡ Ok steps → outcome bytes (after_image schedule settings image) ≡ Ok (works.Replaying (run_inputs image settings) steps)
-unfolding after_image after_size
-over_image bytes schedule settings image steps fits e = rw (le-ltb _ _ fits) (over_steps bytes image settings _ steps e)
+  -- the text of a replay that was carried out is the headline
 
-runs : (bytes : List ℕ → List ℕ) (command : Command) → IsRunnable command bytes → (work : Work) × (outcome bytes (plan_of command) ≡ Ok work)
-unfolding replay_plan
-runs bytes (commands.Replay image schedule settings) (x, steps, h) = (
-  works.Replaying (run_inputs x settings) steps,
-  ap (λ r. outcome bytes (accepted r (after_image schedule settings))) (image_accepted (bytes image) x h.image h.spelled)
-      ∙ over_image bytes schedule settings x steps h.fits (schedule_accepted _ _ steps h.schedule),
-)
+  steps_of : (files : FileContents) (bytes steps : List ℕ) (inputs_of : List ℕ → Work) (work : Work) (r : Result (List ℕ) Rejection) → LeadsTo files (accepted r (λ xs. plans.Write (inputs_of xs))) (Ok work) → (found : List ℕ) × (r ≡ Ok found) × (work ≡ inputs_of found)
+  steps_of files bytes steps inputs_of work (Ok found) e = (found, refl, cc)
+  steps_of files bytes steps inputs_of work (Err rejection) e = absurd cc
 
--- what a work is of, where a replay's plan leads to it
-record IsWorkOf (settings : Settings) (image_bytes schedule_bytes : List ℕ) (work : Work) (x : Image) (steps : List ℕ) : Type 0 where
-  image : image_of image_bytes ≡ Ok x
-  fits : length x.pages ≤ settings.frames
-  schedule : schedule_of (length x.entries) schedule_bytes ≡ Ok steps
-  work_is : work ≡ works.Replaying (run_inputs x settings) steps
+  of_size : (files : FileContents) (schedule : List ℕ) (settings : Settings) (image : Image) (work : Work) (b : Bool) (r : Rejection) → nat_lt settings.frames (length image.pages) ≡ b → LeadsTo files (cond b (plans.Refuse r) (after_size schedule settings image)) (Ok work) → (length image.pages ≤ settings.frames) × LeadsTo files (after_size schedule settings image) (Ok work)
+  of_size files schedule settings image work true r is e = absurd cc
+  of_size files schedule settings image work false r is e = (ltb-false _ _ is, e)
 
-found_steps : (bytes : List ℕ → List ℕ) (image : Image) (settings : Settings) (work : Work) (r : Result (List ℕ) Rejection) → outcome bytes (accepted r (λ xs. plans.Write (works.Replaying (run_inputs image settings) xs))) ≡ Ok work → (steps : List ℕ) × (r ≡ Ok steps) × (work ≡ works.Replaying (run_inputs image settings) steps)
-found_steps bytes image settings work (Ok steps) e = (steps, refl, cc)
-found_steps bytes image settings work (Err rejection) e = absurd cc
+  of_image : (files : FileContents) (schedule : List ℕ) (settings : Settings) (work : Work) (r : Result Image Rejection) → LeadsTo files (accepted r (after_image schedule settings)) (Ok work) → (image : Image) × (r ≡ Ok image) × LeadsTo files (after_image schedule settings image) (Ok work)
+  of_image files schedule settings work (Ok image) e = (image, refl, e)
+  of_image files schedule settings work (Err rejection) e = absurd cc
 
-found_by_size : (bytes : List ℕ → List ℕ) (schedule : List ℕ) (settings : Settings) (image : Image) (work : Work) (b : Bool) (r : Rejection) → nat_lt settings.frames (length image.pages) ≡ b → outcome bytes (cond b (plans.Refuse r) (after_size schedule settings image)) ≡ Ok work → (length image.pages ≤ settings.frames) × (outcome bytes (after_size schedule settings image) ≡ Ok work)
-found_by_size bytes schedule settings image work true r is e = absurd cc
-found_by_size bytes schedule settings image work false r is e = (ltb-false _ _ is, e)
+  headline_of : (o : Outside) (command : Command) (bytes : List ℕ → List ℕ) (work : Work) (text : List ℕ) → AreContents o.files.contents command bytes → LeadsTo o.files.contents (plan_of command) (Ok work) → IsText work text → o.out_after.taken ≡ appended o.out.taken text → Headline o command bytes
+  unfolding replay_plan after_image after_size
+  headline_of o (commands.Replay image schedule settings) bytes work text known (image_bytes, may, fits, leads) is taken =
+      let read = of_image o.files.contents schedule settings work (image_of image_bytes) leads in
+      let sized = of_size o.files.contents schedule settings read.0 work _ _ refl read.2 in
+      let steps = steps_of o.files.contents (bytes schedule) [] (works.Replaying (run_inputs read.0 settings)) work (schedule_of (length read.0.entries) sized.1.0) sized.1.3 in
+      let same : image_bytes ≡ bytes image = sym (known_bytes _ _ _ (known image (inl refl)) may) in
+      let same_schedule : sized.1.0 ≡ bytes schedule = sym (known_bytes _ _ _ (known schedule (inr refl)) sized.1.1) in
+      let spelled = image_found image_bytes read.0 fits read.1 in (
+        read.0,
+        steps.0,
+        record {
+          image = spelled.0;
+          spelled = sym same ∙ spelled.1;
+          fits = sized.0;
+          schedule = subst (λ b. IsSchedule (length read.0.entries) b steps.0) same_schedule (schedule_found _ _ steps.0 steps.1);
+        },
+        taken ∙ ap (appended o.out.taken) (let P : Work → Type 0 = λ w. IsText w text in subst P steps.2 is),
+      )
 
-found_image : (bytes : List ℕ → List ℕ) (schedule : List ℕ) (settings : Settings) (image : Image) (work : Work) → outcome bytes (after_image schedule settings image) ≡ Ok work → (steps : List ℕ) × (length image.pages ≤ settings.frames) × (schedule_of (length image.entries) (bytes schedule) ≡ Ok steps) × (work ≡ works.Replaying (run_inputs image settings) steps)
-unfolding after_image after_size
-found_image bytes schedule settings image work e =
-    let sized = found_by_size bytes schedule settings image work _ _ refl e in
-    let made = found_steps bytes image settings work _ sized.1 in
-    (made.0, sized.0, made.1, made.2)
+-- a line that is not accepted reads no file and writes no text
 
-found_by_image : (bytes : List ℕ → List ℕ) (schedule : List ℕ) (settings : Settings) (image_bytes : List ℕ) (work : Work) (r : Result Image Rejection) → image_of image_bytes ≡ r → outcome bytes (accepted r (after_image schedule settings)) ≡ Ok work → (x : Image) × (steps : List ℕ) × IsWorkOf settings image_bytes (bytes schedule) work x steps
-found_by_image bytes schedule settings image_bytes work (Ok x) is e =
-    let made = found_image bytes schedule settings x work e in
-    (x, made.0, record { image = is; fits = made.1; schedule = made.2; work_is = made.3 })
-found_by_image bytes schedule settings image_bytes work (Err rejection) is e = absurd cc
-
--- the text of a work that was carried out, over files of bytes, is the headline
-headline_of : (o : Outside) (command : Command) (bytes : List ℕ → List ℕ) (work : Work) (text : List ℕ) → AreTold o.told command bytes → outcome bytes (plan_of command) ≡ Ok work → IsText work text → o.out_now ≡ grown o.out text → Headline command bytes o.out o.out_now
-unfolding replay_plan
-headline_of o (commands.Replay image schedule settings) bytes work text told e is grew =
-    let made = found_by_image bytes schedule settings (bytes image) work _ refl e in
-    let spelled = image_found (bytes image) made.0 (told.are_bytes image (inl refl)) made.2.image in (
-      made.0,
-      made.1,
-      record { image = spelled.0; spelled = spelled.1; fits = made.2.fits; schedule = schedule_found _ _ made.1 made.2.schedule },
-      grew ∙ ap (grown o.out) (let P : Work → Type 0 = λ w. IsText w text in subst P made.2.work_is is),
-    )
-
--- an exit status of a refused input is that of a refusal
-refusal_end : (e : End Rejection) (rejection : Rejection) → status_of e ≡ status_of_rejection rejection → (found : Rejection) × (e ≡ ends.Refused found)
-refusal_end (ends.Refused found) rejection h = (found, refl)
-refusal_end ends.Done (rejections.Image rule at) h = absurd cc
-refusal_end ends.Done (rejections.Input rule at) h = absurd cc
-refusal_end ends.Done (rejections.TooLarge pages frames) h = absurd cc
-refusal_end ends.NoMemory (rejections.Image rule at) h = absurd cc
-refusal_end ends.NoMemory (rejections.Input rule at) h = absurd cc
-refusal_end ends.NoMemory (rejections.TooLarge pages frames) h = absurd cc
-refusal_end ends.Usage (rejections.Image rule at) h = absurd cc
-refusal_end ends.Usage (rejections.Input rule at) h = absurd cc
-refusal_end ends.Usage (rejections.TooLarge pages frames) h = absurd cc
-refusal_end (ends.Unread name) (rejections.Image rule at) h = absurd cc
-refusal_end (ends.Unread name) (rejections.Input rule at) h = absurd cc
-refusal_end (ends.Unread name) (rejections.TooLarge pages frames) h = absurd cc
-refusal_end ends.Unwritten (rejections.Image rule at) h = absurd cc
-refusal_end ends.Unwritten (rejections.Input rule at) h = absurd cc
-refusal_end ends.Unwritten (rejections.TooLarge pages frames) h = absurd cc
-
--- a line that is not accepted has no file that was not read, and no text that was not written
 unread_unasked : (name : List ℕ) (e : End Rejection) → e ≡ ends.Unread name → (e ≡ ends.Usage) ⊎ (e ≡ ends.NoMemory) → ⊥
 unread_unasked name e unread (inl is) = absurd cc
 unread_unasked name e unread (inr is) = absurd cc
@@ -233,8 +182,8 @@ unwritten_unasked : (P : Type 0) (e : End Rejection) → e ≡ ends.Unwritten �
 unwritten_unasked P e unwritten (inl is) = absurd cc
 unwritten_unasked P e unwritten (inr is) = absurd cc
 
--- nothing went to the output at another end than these two
-untouched : (o : Outside) (command : Command) (e : End Rejection) → e ≢ ends.Done → e ≢ ends.Unwritten → Ended IsText o (plan_of command) e → o.out_now ≡ o.out
+-- nothing is written at another end than these two
+untouched : (o : Outside) (command : Command) (e : End Rejection) → e ≢ ends.Done → e ≢ ends.Unwritten → Ended IsText o (plan_of command) e → IsUnwritten o
 unfolding Ended
 untouched o command ends.Done not_done not_cut h = absurd (not_done refl)
 untouched o command ends.NoMemory not_done not_cut h = h
@@ -269,61 +218,61 @@ module _ (o : Outside) (asked : Option Command) (result : ExitStatus) (e : End R
       by_end (inl u) = inl (answered ∙ ap status_of u)
       by_end (inr m) = inr (answered ∙ ap status_of m)
 
-  pub ends_by : (command : Command) (bytes : List ℕ → List ℕ) → asked ≡ Some command → AreTold o.told command bytes → NoFault o command → IsOrNoMemory result (status_by (outcome bytes (plan_of command)))
-  ends_by command bytes is told fine =
-      by_end (settled IsText o (plan_of command) bytes (are_known o.told command bytes told) e (ended_asked command is) (nothing_failed o command fine))
+  pub ends_by : (command : Command) (bytes : List ℕ → List ℕ) → asked ≡ Some command → IsUndisturbed o command bytes → IsOrNoMemory result (status_by (outcome bytes (plan_of command)))
+  ends_by command bytes is calm =
+      by_end (settled IsText o (plan_of command) bytes (are_known o.files.contents command bytes calm.contents) e (ended_asked command is) (nothing_failed o command calm.faults))
     where
       by_end : (e ≡ ends.NoMemory) ⊎ (e ≡ end_by (outcome bytes (plan_of command))) → IsOrNoMemory result (status_by (outcome bytes (plan_of command)))
       by_end (inl m) = inr (answered ∙ ap status_of m)
       by_end (inr by) = inl (answered ∙ ap status_of by ∙ status_of-end_by (outcome bytes (plan_of command)))
 
-  pub complete : (command : Command) (bytes : List ℕ → List ℕ) → asked ≡ Some command → AreTold o.told command bytes → NoFault o command → IsRunnable command bytes → IsOrNoMemory result statuses.Ok
-  complete command bytes is told fine runnable =
-      (let w = runs bytes command runnable in
+  pub complete : ReadingFacts → ScheduleFacts → (command : Command) (bytes : List ℕ → List ℕ) → asked ≡ Some command → IsUndisturbed o command bytes → IsRunnable command bytes → IsOrNoMemory result statuses.Ok
+  complete images schedules command bytes is calm runnable =
+      (let w = runs images schedules bytes command runnable in
       let P : Result Work Rejection → Type 0 = λ r. IsOrNoMemory result (status_by r) in
-      subst P w.1 (ends_by command bytes is told fine))
+      subst P w.1 (ends_by command bytes is calm))
 
-  pub headline : (command : Command) (bytes : List ℕ → List ℕ) → result ≡ statuses.Ok → asked ≡ Some command → AreTold o.told command bytes → Headline command bytes o.out o.out_now
-  headline command bytes ok is told =
-      let done : Ended IsText o (plan_of command) ends.Done = subst (Ended IsText o (plan_of command)) (done_end e (sym answered ∙ ok)) (ended_asked command is) in
-      let w = written IsText o (plan_of command) bytes (are_known o.told command bytes told) done in
-      headline_of o command bytes w.0 w.2.0 told w.1 w.2.1 w.2.2
-
-  pub refused : (command : Command) (bytes : List ℕ → List ℕ) → asked ≡ Some command → AreTold o.told command bytes → (rejection : Rejection) → result ≡ status_of_rejection rejection → IsRefusal command bytes result
+  pub headline : ReadingFacts → ScheduleFacts → (command : Command) (bytes : List ℕ → List ℕ) → result ≡ statuses.Ok → asked ≡ Some command → AreContents o.files.contents command bytes → Headline o command bytes
   unfolding Ended
-  refused command bytes is told rejection by =
+  headline images schedules command bytes ok is known =
+      let done : Ended IsText o (plan_of command) ends.Done = subst (Ended IsText o (plan_of command)) (done_end e (sym answered ∙ ok)) (ended_asked command is) in
+      headline_of images schedules o command bytes done.0 done.2.0 known done.1 done.2.1 done.2.2
+
+  pub refused : (command : Command) (bytes : List ℕ → List ℕ) (rejection : Rejection) → asked ≡ Some command → AreContents o.files.contents command bytes → result ≡ status_of_rejection rejection → IsRejected command bytes result
+  unfolding Ended
+  refused command bytes rejection is known by =
       (let found = refusal_end e rejection (sym answered ∙ by) in
       let leads : Ended IsText o (plan_of command) (ends.Refused found.0) = subst (Ended IsText o (plan_of command)) found.1 (ended_asked command is) in
-      (found.0, sym (leads_known o.told bytes (plan_of command) (Err found.0) (are_known o.told command bytes told) leads.0), answered ∙ ap status_of found.1))
+      (found.0, sym (leads_known o.files.contents bytes (plan_of command) (Err found.0) (are_known o.files.contents command bytes known) leads.0), answered ∙ ap status_of found.1))
 
-  pub read_fault : result ≡ statuses.ReadFault → FileFailed asked o.faults o.faults_now
+  pub read_fault : result ≡ statuses.ReadFault → FileFailed asked o
   unfolding CallEnded Ended
   read_fault is = by_asked asked refl
     where
       found : (name : List ℕ) × (e ≡ ends.Unread name)
       found = unread_end e (sym answered ∙ is)
 
-      by_asked : (a : Option Command) → asked ≡ a → FileFailed a o.faults o.faults_now
+      by_asked : (a : Option Command) → asked ≡ a → FileFailed a o
       by_asked None q = absurd (unread_unasked found.0 e found.1 (subst (λ a. CallEnded o a e) q ended).0)
       by_asked (Some command) q =
           (let h : Ended IsText o (plan_of command) (ends.Unread found.0) = subst (Ended IsText o (plan_of command)) found.1 (ended_asked command q) in
-          (found.0, comes_names o.told command found.0 h.0, h.1))
+          (found.0, reads_names o.files.contents command found.0 h.0, h.1))
 
-  pub write_fault : result ≡ statuses.WriteFault → Rose o.out_faults o.out_faults_now
+  pub write_fault : result ≡ statuses.WriteFault → WriteFailed o
   unfolding CallEnded Ended
   write_fault is = by_asked asked refl
     where
       e_is : e ≡ ends.Unwritten
       e_is = unwritten_end e (sym answered ∙ is)
 
-      by_asked : (a : Option Command) → asked ≡ a → Rose o.out_faults o.out_faults_now
+      by_asked : (a : Option Command) → asked ≡ a → WriteFailed o
       by_asked None q = unwritten_unasked _ e e_is (subst (λ a. CallEnded o a e) q ended).0
       by_asked (Some command) q = (let h : Ended IsText o (plan_of command) ends.Unwritten = subst (Ended IsText o (plan_of command)) e_is (ended_asked command q) in h.3)
 
-  pub nothing : result ≢ statuses.Ok → result ≢ statuses.WriteFault → o.out_now ≡ o.out
+  pub nothing : result ≢ statuses.Ok → result ≢ statuses.WriteFault → IsUnwritten o
   unfolding CallEnded
   nothing not_ok not_cut = by_asked asked refl
     where
-      by_asked : (a : Option Command) → asked ≡ a → o.out_now ≡ o.out
+      by_asked : (a : Option Command) → asked ≡ a → IsUnwritten o
       by_asked None q = (subst (λ a. CallEnded o a e) q ended).1
       by_asked (Some command) q = untouched o command e (λ is. not_ok (answered ∙ ap status_of is)) (λ is. not_cut (answered ∙ ap status_of is)) (ended_asked command q)

@@ -1,47 +1,32 @@
 -- What the reading of an input answers, as a call's rejection.
-use Rattle.std.proofs.Common.{◌≡◌, ◌<◌, ℕ, List, length, Ok, Err, ap, subst, refl}
+use Rattle.std.proofs.Common.{◌≡◌, ◌<◌, ℕ, List, length, Result, Ok, Err, ap, subst, refl}
 use Rattle.std.proofs.lemmas.Bool.{lt-ltb}
-use Rattle.guest_image.specs.declared.image.Image.{Image}
-use Rattle.guest_image.specs.Reading.{Answers, image_at}
-use Rattle.guest_image.specs.declared.fault.ImageFault.{ImageFault}
-use Rattle.guest_image.specs.declared.fault.ImageFault.TheVariants as faults
-use Rattle.guest_image.specs.declared.fault.ImageRule.{ImageRule}
+use Rattle.byte_reading.specs.Outcomes.{Refusal, Fails}
+use Rattle.byte_reading.specs.declared.error.ReadError.{ReadError}
+use Rattle.byte_reading.specs.declared.error.ReadError.TheVariants as errors
+use Rattle.guest_image.specs.Reading.{image_at}
 use Rattle.guest_image.specs.declared.fault.ImageRule.TheVariants.{TooLong}
+use Rattle.lwc_base.specs.declared.limits.TheConstants.{MOST_IMAGE_BYTES, MOST_SCHEDULE_BYTES}
+use Rattle.lwcrun_core.specs.declared.ending.Rejection.{Rejection}
 use Rattle.lwcrun_core.specs.declared.ending.Rejection.TheVariants as rejections
-use Rattle.lwc_text.specs.Inputs as answers
 use Rattle.lwc_text.specs.Schedules.{schedule_at}
-use Rattle.lwc_text.specs.declared.fault.InputRule.{InputRule}
 use Rattle.lwc_text.specs.declared.fault.InputRule.TheVariants as inputs
-use Rattle.lwc_text.specs.declared.fault.InputFault.{InputFault}
-use Rattle.lwc_text.specs.declared.fault.InputFault.TheVariants as input_faults
-use Rattle.lwcrun_core.specs.Images.{image_of, or_rejected, schedule_of, schedule_or_rejected}
+use Rattle.lwcrun_core.specs.Images.{image_of, or_rejected, schedule_of}
 
--- the bytes of a file that is too long for an image are rejected for that
-pub too_long_image : (bytes : List ℕ) → 8388608 < length bytes → image_of bytes ≡ Err (rejections.Image TooLong 8388608)
+-- a file that is too long for an image is rejected for that
+pub too_long_image : (bytes : List ℕ) → MOST_IMAGE_BYTES < length bytes → image_of bytes ≡ Err (rejections.Image TooLong MOST_IMAGE_BYTES)
 unfolding image_of image_at
-too_long_image bytes long = rw (lt-ltb _ _ long) refl
+too_long_image bytes long = rw (lt-ltb MOST_IMAGE_BYTES (length bytes) long) refl
 
--- an image that was read
-pub read_image_of : (bytes : List ℕ) (image : Image) → image_at bytes ≡ Ok image → image_of bytes ≡ Ok image
-unfolding image_of
-read_image_of bytes image is = ap or_rejected is
-
--- an image that was refused
-pub refused_image_of : (bytes : List ℕ) (fault : ImageFault) (rule : ImageRule) (at : ℕ) → fault ≡ faults.Refused rule at → Answers (Err fault) (image_at bytes) → image_of bytes ≡ Err (rejections.Image rule at)
-unfolding image_of
-refused_image_of bytes fault rule at is answers = ap or_rejected (subst (λ f. Answers (Err f) (image_at bytes)) is answers)
-
--- the bytes of a file that is too long for a schedule are rejected for that
-pub too_long_schedule : (threads : ℕ) (bytes : List ℕ) → 16777216 < length bytes → schedule_of threads bytes ≡ Err (rejections.Input inputs.TooLong 16777216)
+-- a file that is too long for a schedule is rejected for that
+pub too_long_schedule : (threads : ℕ) (bytes : List ℕ) → MOST_SCHEDULE_BYTES < length bytes → schedule_of threads bytes ≡ Err (rejections.Input inputs.TooLong MOST_SCHEDULE_BYTES)
 unfolding schedule_of schedule_at
-too_long_schedule threads bytes long = rw (lt-ltb _ _ long) refl
+too_long_schedule threads bytes long = rw (lt-ltb MOST_SCHEDULE_BYTES (length bytes) long) refl
 
--- a schedule that was read
-pub read_schedule_of : (threads : ℕ) (bytes steps : List ℕ) → schedule_at threads bytes ≡ Ok steps → schedule_of threads bytes ≡ Ok steps
-unfolding schedule_of
-read_schedule_of threads bytes steps is = ap schedule_or_rejected is
+-- what was read is accepted
+pub read_of : {R A : Type 0} (reject : R → ℕ → Rejection) (read : Result A (Refusal R)) (x : A) → read ≡ Ok x → or_rejected reject read ≡ Ok x
+read_of reject read x is = ap (or_rejected reject) is
 
--- a schedule that was refused
-pub refused_schedule_of : (threads : ℕ) (bytes : List ℕ) (fault : InputFault) (rule : InputRule) (at : ℕ) → fault ≡ input_faults.Refused rule at → answers.Answers (Err fault) (schedule_at threads bytes) → schedule_of threads bytes ≡ Err (rejections.Input rule at)
-unfolding schedule_of
-refused_schedule_of threads bytes fault rule at is h = ap schedule_or_rejected (subst (λ f. answers.Answers {A = List ℕ} (Err f) (schedule_at threads bytes)) is h)
+-- what was refused is rejected
+pub refused_of : {R A : Type 0} (reject : R → ℕ → Rejection) (read : Result A (Refusal R)) (error : ReadError R) (rule : R) (at : ℕ) → error ≡ errors.Refused rule at → Fails error read → or_rejected reject read ≡ Err (reject rule at)
+refused_of reject read error rule at is fails = ap (or_rejected reject) (subst (λ e. Fails e read) is fails)

@@ -3,11 +3,14 @@ use Rattle.std.proofs.Common.{◌≡◌, ◌≤◌, ◌+◌, ℕ, Bool, true, fa
 use Rattle.std.proofs.lemmas.List.{take_more}
 use Rattle.kernel_core.specs.Kernel.{History, machine_of, stepped}
 use Rattle.kernel_core.specs.Machine.{Machine, is_ended}
-use Rattle.kernel_core.specs.Runs.{run, kept, peak}
-use Rattle.kernel_core.specs.Start.{Inputs, start}
+use Rattle.kernel_core.specs.Runs.{run, kept}
+use Rattle.kernel_core.specs.Start.{Inputs, start, thread_count, threads_for}
 use Rattle.kernel_core.specs.Step.{step}
-use Rattle.lwc_text.specs.Report.{report_of}
-use Rattle.lwcrun_core.specs.Headline.{text_of}
+use Rattle.lwc_text.specs.Report.{report_after}
+use Rattle.guest_image.specs.declared.image.Image.{Image}
+use Rattle.kernel_core.specs.declared.settings.Job.TheVariants.{Run}
+use Rattle.kernel_core.specs.declared.settings.Settings.{Settings}
+use Rattle.lwcrun_core.specs.Headline.{run_inputs, text_of}
 
 skips : (m : Machine) (s : ℕ) (xs : List ℕ) → is_ended m s ≡ true → kept m (s ∷ xs) ≡ kept m xs
 skips m s xs e = ap (λ b. cond b (kept m xs) (s ∷ kept (step m s) xs)) e
@@ -73,9 +76,13 @@ module _ (before now next : History) (schedule : List ℕ) (i t : ℕ) (so_far :
   unfolding stepped
   runs_on moves room = run_by (is_ended (machine_of now) t) refl moves room
 
--- the report of a history is the text of its inputs and steps
-pub text_is : (h : History) (inputs : Inputs) (schedule text : List ℕ) → h.inputs ≡ inputs → h.steps ≡ kept (start inputs) schedule → text ≡ report_of (machine_of h) (peak (start h.inputs) h.steps) h.steps → text ≡ text_of inputs (kept (start inputs) schedule)
-unfolding machine_of text_of
+-- the report of a history is the text of its inputs and the schedule
+pub text_is : (h : History) (inputs : Inputs) (schedule text : List ℕ) → h.inputs ≡ inputs → h.steps ≡ kept (start inputs) schedule → text ≡ report_after h.inputs h.steps → text ≡ text_of inputs schedule
+unfolding text_of
 text_is h inputs schedule text given made is =
-    is ∙ ap (λ (x : Inputs). report_of (run (start x) h.steps) (peak (start x) h.steps) h.steps) given
-    ∙ ap (λ steps. report_of (run (start inputs) steps) (peak (start inputs) steps) steps) made
+    is ∙ ap (λ (x : Inputs). report_after x h.steps) given ∙ ap (λ steps. report_after inputs steps) made
+
+-- a run has one thread for each entry of its image
+pub threads_of_run : (image : Image) (settings : Settings) → settings.job ≡ Run → thread_count (run_inputs image settings) ≡ length image.entries
+unfolding thread_count
+threads_of_run image settings is = ap (threads_for image) is

@@ -1,4 +1,4 @@
-ghost use Rattle.std.specs.Prelude.{◌≡◌, ◌<◌, ◌≤◌, ◌^◌, ◌+◌, ℕ, List, length, IfOk, IfErr, OnOk, vec_len};
+ghost use Rattle.std.specs.Prelude.{◌≡◌, ◌<◌, ◌≤◌, ◌^◌, ◌+◌, ℕ, List, All, length, IfOk, IfErr, OnOk, vec_len};
 ghost use Rattle.lwc_io.specs.Outside.{FaultsIncreased, MayBeContents};
 ghost use Rattle.lwcrun_core.specs.Reading.{MayBeginWith, MayExceed};
 
@@ -31,6 +31,7 @@ pub fn read_whole<F: Files>(
 ) -> Result<Vec<u8>, FetchError>
     requires { limit < 2 ^ 32 }
     ensures bytes { IfOk result (λ bytes. MayBeContents ((F.seen files.old).contents name.now) bytes.items) }
+    ensures are_bytes { IfOk result (λ bytes. All (λ b. b < 256) bytes.items) }
     ensures short { IfOk result (λ bytes. vec_len bytes ≤ limit) }
     ensures too_long { (result ≡ Err FetchError.TooLong)
         → MayExceed limit ((F.seen files.old).contents name.now) }
@@ -92,10 +93,12 @@ fn read_piece<F: Files>(
     requires some { 0 < most }
     requires room { most ≤ length buffer.old }
     requires front { MayBeginWith ((F.seen files.old).contents name.now) bytes.old.items }
+    ensures are_bytes { All (λ b. b < 256) bytes.new.items }
     ensures front { OnOk result (MayBeginWith ((F.seen files.old).contents name.now) bytes.new.items) }
     ensures longer { IfOk result (λ count. vec_len bytes.new ≡ vec_len bytes.old + count) }
     ensures count { IfOk result (λ count. count ≤ most) }
-    ensures whole { IfOk result (λ count. count ≡ 0 → Tells (F.file files.old name.now) bytes.new.items) }
+    ensures whole { IfOk result (λ count. count ≡ 0
+        → MayBeContents ((F.seen files.old).contents name.now) bytes.new.items) }
     ensures in_range { IfErr result (λ error. (error ≡ FetchError.TooLong) → ⊥) }
     ensures cause { (result ≡ Err FetchError.Failed) → FaultsIncreased
         ((F.seen files.old).faults name.now) ((F.seen files.new).faults name.now) }

@@ -2,7 +2,7 @@ use Rattle.lwcrun_core.proofs.Clauses.{complete, ends_by, headline, nothing, rea
 use Rattle.lwcrun_core.proofs.call.lwcrun.Goals as goal
 
 pub returns-clause-headline : goal.returns-clause-headline
-returns-clause-headline g c = let a = c.answer.ensures in headline _ _ _ a.0 a.1 a.2.by
+returns-clause-headline g c = let a = c.answer.ensures in headline _ _ _ a.0 a.1 a.2.by c.images_are_read_as_spelled.ensures c.schedules_are_read_as_named.ensures
 
 pub returns-clause-usage_only : goal.returns-clause-usage_only
 returns-clause-usage_only g c = let a = c.answer.ensures in usage_only _ _ _ a.0 a.1 a.2.by
@@ -17,13 +17,13 @@ pub returns-clause-write_fault : goal.returns-clause-write_fault
 returns-clause-write_fault g c = let a = c.answer.ensures in write_fault _ _ _ a.0 a.1 a.2.by
 
 pub returns-clause-refused : goal.returns-clause-refused
-returns-clause-refused g c = let a = c.answer.ensures in λ command bytes rejection is told by. refused _ _ _ a.0 a.1 a.2.by command bytes is told rejection by
+returns-clause-refused g c = let a = c.answer.ensures in refused _ _ _ a.0 a.1 a.2.by
 
 pub returns-clause-ends : goal.returns-clause-ends
 returns-clause-ends g c = let a = c.answer.ensures in ends_by _ _ _ a.0 a.1 a.2.by
 
 pub returns-clause-complete : goal.returns-clause-complete
-returns-clause-complete g c = let a = c.answer.ensures in complete _ _ _ a.0 a.1 a.2.by
+returns-clause-complete g c = let a = c.answer.ensures in complete _ _ _ a.0 a.1 a.2.by c.images_are_read_as_spelled.ensures c.schedules_are_read_as_named.ensures
 
 pub returns-clause-nothing : goal.returns-clause-nothing
 returns-clause-nothing g c = let a = c.answer.ensures in nothing _ _ _ a.0 a.1 a.2.by

@@ -1,7 +1,8 @@
-use Rattle.std.proofs.Common.{refl, ap, Err}
+use Rattle.std.proofs.Common.{◌<◌, All, subst, sym, refl, ap, Err}
+use Rattle.lwcrun_core.specs.Images.{schedule_of}
 use Rattle.lwcrun_core.specs.Parts.{ReadsBy}
-use Rattle.lwcrun_core.proofs.Fetches.{tells_same}
-use Rattle.lwcrun_core.proofs.Refusals.{too_long_schedule, read_schedule_of, refused_schedule_of}
+use Rattle.lwcrun_core.proofs.Fetches.{same_contents}
+use Rattle.lwcrun_core.proofs.Refusals.{too_long_schedule, read_of, refused_of}
 use Rattle.lwcrun_core.proofs.inputs.schedule_in.Goals as goal
 
 pub returns-in-Err-OutOfMemory-clause-reads : goal.returns-in-Err-OutOfMemory-clause-reads
@@ -19,15 +20,15 @@ returns-in-Err-TooLong-clause-reads g c =
     (longer.0, longer.1, too_long_schedule _ longer.0 longer.2)
 
 pub returns-in-Ok-read_schedule-clause-reads : goal.returns-in-Ok-read_schedule-clause-reads
-unfolding ReadsBy
+unfolding ReadsBy schedule_of
 returns-in-Ok-read_schedule-clause-reads g c =
-    (c.deref.result.now, tells_same _ _ _ c.deref.ensures.value c.in-Ok.ensures.bytes, read_schedule_of _ _ _ c.in-Ok-read_schedule.ensures.exact)
+    (c.deref.result.now, same_contents _ _ _ c.deref.ensures.value c.in-Ok.ensures.bytes, subst (All (λ b. b < 256)) (sym c.deref.ensures.value) c.in-Ok.ensures.are_bytes, read_of _ _ _ c.in-Ok-read_schedule.ensures.exact)
 
 pub returns-in-Err-OutOfMemory-read_schedule-clause-reads : goal.returns-in-Err-OutOfMemory-read_schedule-clause-reads
 unfolding ReadsBy
 returns-in-Err-OutOfMemory-read_schedule-clause-reads g c = tt
 
 pub returns-clause-reads : goal.returns-clause-reads
-unfolding ReadsBy
+unfolding ReadsBy schedule_of
 returns-clause-reads g c =
-    (c.deref.result.now, tells_same _ _ _ c.deref.ensures.value c.in-Ok.ensures.bytes, refused_schedule_of _ _ _ _ _ c.in-Err-Refused.field-0-is c.in-Err-Refused.ensures.exact)
+    (c.deref.result.now, same_contents _ _ _ c.deref.ensures.value c.in-Ok.ensures.bytes, refused_of _ _ _ _ _ c.in-Err-Refused.field-0-is c.in-Err-Refused.ensures.exact)

@@ -5,9 +5,8 @@ use Rattle.lwcrun_core.proofs.reading.read_whole.Given as goal
 -- the file may begin with the bytes that were read, at most one more than the limit
 abbrev pub invariant-loop-bytes : goal.invariant-loop-bytes
 invariant-loop-bytes g l =
-    let file = g.F.Files.file in
-    let faults = g.F.Files.faults in
-    ReadSoFar (file l.fn.files l.name) (file l.fn.files) (file l.files) (faults l.fn.files) (faults l.files) l.limit l.bytes.items (vec_len l.buffer)
+    let seen = g.F.Files.seen in
+    ReadSoFar (seen l.fn.files) (seen l.files) l.name l.limit l.bytes.items (vec_len l.buffer)
 
 -- what may still be read
 abbrev pub decreases-loop-bytes : goal.decreases-loop-bytes

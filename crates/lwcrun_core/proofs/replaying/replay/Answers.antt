@@ -6,7 +6,7 @@ use Rattle.lwcrun_core.proofs.replaying.replay.Goals as goal
 pub returns-in-Ok : goal.returns-in-Ok
 unfolding replay_plan
 returns-in-Ok g c =
-    reads_on IsText _ _ _ _ _ _ _ _ _ _ _ _ _ _ c.in-Ok.ensures.reads c.image_in.ensures.same c.image_in.ensures.never_falls
+    reads_on IsText _ _ _ _ _ _ _ _ _ _ c.in-Ok.ensures.reads c.image_in.ensures.same c.image_in.ensures.never_decreases
     c.replay_image.ensures
 
 pub returns-in-Err : goal.returns-in-Err

@@ -6,8 +6,8 @@ use Rattle.lwcrun_core.proofs.replaying.replay_schedule.Goals as goal
 pub returns-in-Ok : goal.returns-in-Ok
 unfolding after_size
 returns-in-Ok g c =
-    reads_on IsText _ _ _ _ _ _ _ _ _ _ _ _ _ _ (rw c.len.ensures at c.in-Ok.ensures.reads) c.schedule_in.ensures.same c.schedule_in.ensures.never_falls
-    (c.replay_steps.ensures _ _ _)
+    reads_on IsText _ _ _ _ _ _ _ _ _ _ (rw c.len.ensures at c.in-Ok.ensures.reads) c.schedule_in.ensures.same c.schedule_in.ensures.never_decreases
+    (c.replay_steps.ensures _ _)
 
 pub returns-in-Err : goal.returns-in-Err
 unfolding after_size

@@ -1,13 +1,10 @@
 use Rattle.std.proofs.Common.{length, ◌-◌}
-use Rattle.lwcrun_core.proofs.Outputs.{SentSoFar}
+use Rattle.lwcrun_core.proofs.Outputs.{TakenSoFar}
 use Rattle.lwcrun_core.proofs.writing.write_whole.Given as goal
 
 -- the first `at` bytes of the text have been taken
 abbrev pub invariant-loop-at : goal.invariant-loop-at
-invariant-loop-at g l =
-    let taken = g.O.Sink.taken in
-    let faults = g.O.Sink.faults in
-    SentSoFar (taken l.fn.out) (taken l.out) (faults l.fn.out) (faults l.out) l.at l.text
+invariant-loop-at g l = let seen = g.O.Sink.seen in TakenSoFar (seen l.fn.out) (seen l.out) l.at l.text
 
 abbrev pub decreases-loop-at : goal.decreases-loop-at
 decreases-loop-at g l = length l.text - l.at
