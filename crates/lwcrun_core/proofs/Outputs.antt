@@ -11,9 +11,9 @@ appended-appended None text at n = refl
 appended-appended (Some xs) text at n = ap Some (append_assoc xs _ _ ∙ ap (λ ys. xs ++ ys) (sym (take-add at n text)))
 
 -- nothing is appended
-pub appended_nothing : (before : Option (List ℕ)) → before ≡ appended before []
-appended_nothing None = refl
-appended_nothing (Some xs) = grind (arith, common_steps)
+pub takes_none : (before : Option (List ℕ)) → before ≡ appended before []
+takes_none None = refl
+takes_none (Some xs) = grind (arith, common_steps)
 
 -- the first `at` bytes of a text have been taken, and the count of faults has not decreased
 pub record TakenSoFar (before now : SinkView) (at : ℕ) (text : List ℕ) : Type 0 where

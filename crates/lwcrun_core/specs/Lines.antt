@@ -7,7 +7,6 @@ use Rattle.kernel_core.specs.declared.settings.Job.TheVariants.{Run}
 use Rattle.lwc_base.specs.declared.limits.TheConstants.{MOST_BUDGET, MOST_FRAMES}
 use Rattle.lwcrun_core.specs.declared.line.Line.{Line}
 use Rattle.lwcrun_core.specs.declared.line.Line.TheVariants as lines
-use Rattle.lwcrun_core.specs.declared.line.TheConstants.{DEFAULT_BUDGET, DEFAULT_FRAMES}
 use Rattle.lwcrun_core.specs.Numbers.{number_within}
 
 -- what is asked for: the run of an image under a schedule, each a file by its name
@@ -35,13 +34,21 @@ budget_of word = number_within 1 MOST_BUDGET word
 abbrev pub both_settings : Option ℕ → Option ℕ → Option Settings
 both_settings frames budget = option_and_then (λ f. option_map (run_settings f) budget) frames
 
+-- the number of frames, where the line asks for none
+abbrev pub default_frames : ℕ
+default_frames = 4096
+
+-- the number of steps of a thread, where the line asks for none
+abbrev pub default_budget : ℕ
+default_budget = 10000
+
 -- the settings that the words after the files ask for: the frames, the budget, or both in this order; what is
 -- left out has its default
 unfoldable pub settings_of : List (List ℕ) → Option Settings
-settings_of [] = Some (run_settings DEFAULT_FRAMES DEFAULT_BUDGET)
+settings_of [] = Some (run_settings default_frames default_budget)
 settings_of (name ∷ value ∷ []) =
-    if bytes_eq name (codes "--frames") then both_settings (frames_of value) (Some DEFAULT_BUDGET)
-    else if bytes_eq name (codes "--budget") then both_settings (Some DEFAULT_FRAMES) (budget_of value)
+    if bytes_eq name (codes "--frames") then both_settings (frames_of value) (Some default_budget)
+    else if bytes_eq name (codes "--budget") then both_settings (Some default_frames) (budget_of value)
     else None
 settings_of (first ∷ frames ∷ second ∷ budget ∷ []) =
     if bytes_eq first (codes "--frames") && bytes_eq second (codes "--budget")

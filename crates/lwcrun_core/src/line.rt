@@ -28,10 +28,10 @@ pub enum LineFault {
 }
 
 /// The number of frames of a line that asks for none.
-pub const DEFAULT_FRAMES: u32 = 4096;
+const DEFAULT_FRAMES: u32 = 4096;
 
 /// The budget of a line that asks for none.
-pub const DEFAULT_BUDGET: u32 = 10000;
+const DEFAULT_BUDGET: u32 = 10000;
 
 /// What the words ask for, the program's name first.
 ///

@@ -33,7 +33,7 @@ pub fn write_message<E: Sink>(alloc: Global, err: &mut E, ending: &Ending) -> Ex
 }
 
 /// Writes nothing.
-#[tactic(auto, using(crate::proofs::Outputs::appended_nothing), unfolding(crate::specs::Statuses::message_of))]
+#[tactic(auto, using(crate::proofs::Outputs::takes_none), unfolding(crate::specs::Statuses::message_of))]
 fn write_nothing<E: Sink>(err: &mut E) -> ExitStatus
     ensures { IsAnswered ends.Done result (E.seen err.old) (E.seen err.new) }
 {
