@@ -228,7 +228,7 @@ not_equal b expected other = by_test (eqb b expected) refl
     by_test true e = absurd (other (eqb-true b expected e))
     by_test false e = e
 
--- another byte stands in the place of one of the magic
+-- a byte of the magic differs
 magic_fails : (before : List ℕ) (expected b : ℕ) (later rest : List ℕ) → magic ≡ before ++ expected ∷ later → eqb b expected ≡ false → magic_at (from 0 (before ++ b ∷ rest)) ≡ Err (record { rule = BadMagic; at = length before })
 unfolding magic_at
 magic_fails [] expected b later rest due other =
@@ -268,7 +268,7 @@ count_fails range found n at rest is lt out =
     let same : found ≡ range = cc in
     where_fails _ _ n at rest lt (outside range n (subst (λ (r : ℕ × ℕ). IsInRange r n → ⊥) same out))
 
--- a count out of its range stands behind counts in theirs
+-- behind counts in their ranges comes one out of its range
 counts_fail : (counts : List ℕ) (range : ℕ × ℕ) (n : ℕ) (rest : List ℕ) → AreInRanges count_ranges counts → slice_get count_ranges (length counts) ≡ Some range → n < 2 ^ 32 → (IsInRange range n → ⊥)
     → header_at (from 0 (counted counts ++ (number n ++ rest))) ≡ Err (record { rule = BadCount; at = length (counted counts) })
 unfolding header_at

@@ -13,9 +13,9 @@ Reader A = List A → Rest → Read (A × Rest)
 
 module _ {A : Type 0} (read : Reader A) (count i : ℕ) (before : List A) (rest : Rest) (total : Read (List A × Rest)) (so_far : list_at read (count - i) before rest ≡ total) where
   -- one more value was read
-  pub goes_on : (x : A) (after : Rest) → i < count → read before rest ≡ Ok (x, after) → list_at read (count - (i + 1)) (before ++ x ∷ []) after ≡ total
+  pub continues : (x : A) (after : Rest) → i < count → read before rest ≡ Ok (x, after) → list_at read (count - (i + 1)) (before ++ x ∷ []) after ≡ total
   unfolding list_at
-  goes_on x after lt h =
+  continues x after lt h =
       let k : count - i ≡ suc (count - (i + 1)) = omega arith in
       let one : list_at read (count - i) before rest ≡ list_at read (count - (i + 1)) (before ++ x ∷ []) after = rw (k, h) refl in
       sym one ∙ so_far

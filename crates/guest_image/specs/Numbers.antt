@@ -1,4 +1,4 @@
--- Numbers that stand one after another: whether they rise, and into how many ranges they fall.
+-- Numbers one after another: whether they rise, and the ranges that they make.
 use Rattle.std.specs.Prelude.{ℕ, ◌+◌, Bool, true, not, ◌&&◌, nat_lt, ◌==◌, if◌then◌else◌, List, [], ◌∷◌, Option, Some, None}
 
 -- whether n is above the number before it, if there is one

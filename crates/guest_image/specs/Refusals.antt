@@ -48,7 +48,7 @@ pub record IsCode (count : ℕ) (text : List Instr) : Type 0 where
   pub instructions : All IsInstruction text
   pub targets : All (λ i. IsTrue (stays_inside count i)) text
 
--- valid values of a list, spelled one after another behind what stands before them
+-- valid values of a list, spelled one after another behind the parts before the list
 pub record Values
     {A : Type 0} (Before : List ℕ → Type 0) (AreValid : List A → Type 0) (spell : A → List ℕ)
     (values : List A) (bytes : List ℕ) : Type 0 where

@@ -154,7 +154,7 @@ impl MemoryFiles {
     fn count_fault(&mut self, name: &str)
         ensures counted { self.new ≡ after_failed_fetch self.old name.now }
         ensures never_decreases { (q : List ℕ) → faults_of self.old q ≤ faults_of self.new q }
-        ensures rose { FaultsIncreased (faults_of self.old name.now) (faults_of self.new name.now) }
+        ensures increased { FaultsIncreased (faults_of self.old name.now) (faults_of self.new name.now) }
     {
         let place = place_named(&self.files, name);
         self.calls = self.calls.saturating_add(1);

@@ -101,10 +101,10 @@ clear_by : (threads : ℕ) (bytes : List ℕ) (at i : ℕ) (b : Bool) → eqb i 
 clear_by threads bytes at i true is below here before = let same : i ≡ at = grind (arith, nat_tests) in ap (refusal_at threads bytes) same ∙ here
 clear_by threads bytes at i false is below here before = before (grind (arith, nat_tests))
 
--- a loop goes on after a byte
-pub goes_on : (threads at : ℕ) (before after bytes : List ℕ) → at < length bytes → rule_broken threads (length before) (get_or bytes at 0) ≡ None →
+-- a loop continues after a byte
+pub continues : (threads at : ℕ) (before after bytes : List ℕ) → at < length bytes → rule_broken threads (length before) (get_or bytes at 0) ≡ None →
     after ≡ before ++ numbers (get_or bytes at 0 ∷ []) → length after ≤ MOST_STEPS → IsSoFar threads bytes at before → IsSoFar threads bytes (at + 1) after
-goes_on threads at before after bytes within unbroken added few so_far =
+continues threads at before after bytes within unbroken added few so_far =
     let here : refusal_at threads bytes at ≡ None =
     sym (refusal_here threads bytes at (length before) (ap length so_far.named)) ∙ ap (option_map (refusal_of at)) unbroken in
     record {

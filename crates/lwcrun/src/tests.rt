@@ -221,7 +221,7 @@ fn guests_run_as_their_schedules_say(rt: HostRuntime) -> Result<(), Fail> {
     Ok(())
 }
 
-/// What is said of a line that is not accepted.
+/// The message of a line that is not accepted.
 const USAGE: &str =
     "lwcrun: usage: lwcrun replay IMAGE SCHEDULE [REQUESTS], run IMAGE, serve IMAGE REQUESTS, asm SOURCE, \
     dis IMAGE, gen NUMBER; --frames F --budget B --workers W\n";
@@ -244,6 +244,20 @@ fn lines_set_frames_and_budget(rt: HostRuntime) -> Result<(), Fail> {
             .as_slice()
     );
     let two_pages = image(alloc, &STORE_LOAD, &[ZEROS, (1, &[])], &[0])?;
+    let left = call(
+        &rt,
+        &two_pages,
+        b"000",
+        &["replay", "guest", "schedule", "--frames", "2"],
+        SURE,
+    )?;
+    assert_eq!(rt; left.status, ExitStatus::Ok);
+    assert_eq!(rt;
+        left.out.bytes(),
+        b"thread 0 done 0 ctx 0.0 pc 3\nregs 0 0 7 7 0 0 0 0 0 0 0 0 0 0 0 0 0\n\
+        context 0.0 pages 2 slots 2 uid 0\ngroups 0\nconsole -\nused 2\npeak 2\nsteps 3\nschedule 000\n"
+            .as_slice()
+    );
     let cases: [(&[&str], ExitStatus, &str); 9] = [
         (
             &["replay", "guest", "schedule", "--frames", "1"],
@@ -376,7 +390,7 @@ fn inputs_are_refused_with_rule_and_offset(rt: HostRuntime) -> Result<(), Fail> 
 }
 
 #[test]
-fn a_fetch_that_fails_is_said_with_its_file(rt: HostRuntime) -> Result<(), Fail> {
+fn a_fetch_that_fails_is_reported_with_its_file(rt: HostRuntime) -> Result<(), Fail> {
     let guest = image(rt.alloc(), &STORE_LOAD, &[ZEROS], &[0])?;
     let none = call(&rt, &guest, b"000", &["replay", "none", "schedule"], SURE)?;
     assert_eq!(rt; none.status, ExitStatus::ReadFault);
@@ -397,7 +411,7 @@ fn a_fetch_that_fails_is_said_with_its_file(rt: HostRuntime) -> Result<(), Fail>
 }
 
 #[test]
-fn a_write_that_fails_leaves_a_front_of_the_text(rt: HostRuntime) -> Result<(), Fail> {
+fn a_write_that_fails_leaves_the_first_bytes_of_the_text(rt: HostRuntime) -> Result<(), Fail> {
     let guest = image(rt.alloc(), &STORE_LOAD, &[ZEROS], &[0])?;
     for write in 0..STORED.len() + 1 {
         let outside = Outside {

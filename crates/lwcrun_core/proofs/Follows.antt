@@ -26,14 +26,14 @@ module _ {A R W : Type 0} (IsText : W → List ℕ → Type 0) (grammar : List �
   stops_reading o (ends.Refused refusal) h same = ((h.0, h.1, tt, subst (λ x. LeadsTo o.files.contents (accepted x next) (Err refusal)) (sym h.2) refl), same)
 
   -- behind a file that was read, the end of what follows is the end of the plan
-  pub goes_on : (o : Outside) (e : End R) (x : A) (bytes : List ℕ) → MayBeContents (o.files.contents name) bytes → All (λ b. b < 256) bytes → grammar bytes ≡ Ok x → Ended IsText o (next x) e → Ended IsText o reading e
+  pub continues : (o : Outside) (e : End R) (x : A) (bytes : List ℕ) → MayBeContents (o.files.contents name) bytes → All (λ b. b < 256) bytes → grammar bytes ≡ Ok x → Ended IsText o (next x) e → Ended IsText o reading e
   unfolding Ended
-  goes_on o ends.Done x bytes may fits is h = (h.0, (bytes, may, fits, subst (λ y. LeadsTo o.files.contents (accepted y next) (Ok h.0)) (sym is) h.1), h.2)
-  goes_on o ends.NoMemory x bytes may fits is h = h
-  goes_on o ends.Usage x bytes may fits is h = h
-  goes_on o (ends.Unread asked) x bytes may fits is h = (inr (bytes, may, subst (λ y. Reads o.files.contents (accepted y next) asked) (sym is) h.0), h.1, h.2)
-  goes_on o ends.Unwritten x bytes may fits is h = (h.0, (bytes, may, fits, subst (λ y. LeadsTo o.files.contents (accepted y next) (Ok h.0)) (sym is) h.1), h.2, h.3)
-  goes_on o (ends.Refused refusal) x bytes may fits is h = ((bytes, may, tt, subst (λ y. LeadsTo o.files.contents (accepted y next) (Err refusal)) (sym is) h.0), h.1)
+  continues o ends.Done x bytes may fits is h = (h.0, (bytes, may, fits, subst (λ y. LeadsTo o.files.contents (accepted y next) (Ok h.0)) (sym is) h.1), h.2)
+  continues o ends.NoMemory x bytes may fits is h = h
+  continues o ends.Usage x bytes may fits is h = h
+  continues o (ends.Unread asked) x bytes may fits is h = (inr (bytes, may, subst (λ y. Reads o.files.contents (accepted y next) asked) (sym is) h.0), h.1, h.2)
+  continues o ends.Unwritten x bytes may fits is h = (h.0, (bytes, may, fits, subst (λ y. LeadsTo o.files.contents (accepted y next) (Ok h.0)) (sym is) h.1), h.2, h.3)
+  continues o (ends.Refused refusal) x bytes may fits is h = ((bytes, may, tt, subst (λ y. LeadsTo o.files.contents (accepted y next) (Err refusal)) (sym is) h.0), h.1)
 
 -- a count that has increased since some time has increased since an earlier one
 increased-since : (before mid now : ℕ) → before ≤ mid → FaultsIncreased mid now → FaultsIncreased before now
@@ -57,7 +57,7 @@ module _ {A R W : Type 0} (IsText : W → List ℕ → Type 0) (grammar : List �
       Ended IsText (outside mid after out out_after) (next x) e → Ended IsText (outside files after out out_after) (reading IsText grammar name next) e
   unfolding ReadsBy
   reads_on files mid after out out_after x e h same earlier ended =
-      goes_on IsText grammar name next (outside files after out out_after) e x h.0 h.1 h.2 h.3
+      continues IsText grammar name next (outside files after out out_after) e x h.0 h.1 h.2 h.3
       (since IsText files mid after out out_after (next x) e same earlier ended)
 
 -- a work's text was written

@@ -1,4 +1,4 @@
--- What a reading of items answers, said of the items that the bytes spell.
+-- What a reading of items answers, by the items that the bytes spell.
 use Rattle.std.proofs.Common.{◌≡◌, ◌∙◌, ◌%◌, ℕ, Bool, true, false, not, List, ◌∷◌, [], Result, Ok, Err, refl, sym, ap, subst, length, IfOk}
 use Rattle.std.proofs.lemmas.Bool.{false≢true}
 use Rattle.lwc_base.specs.Modes.{IsSpec}

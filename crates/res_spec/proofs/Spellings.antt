@@ -106,7 +106,7 @@ AreBytes-take n bytes fits i =
 AreBytes-drop : (n : ℕ) (bytes : List ℕ) → AreBytes bytes → AreBytes (drop n bytes)
 AreBytes-drop n bytes fits i = rw get_or-drop (fits (n + i))
 
--- the bytes of a field are those of the number that stands there
+-- the bytes of a field are those of its number
 field_is : (at : ℕ) (bytes : List ℕ) → at + 4 ≤ length bytes → AreBytes bytes → drop at bytes ≡ number (number_at bytes at) ++ drop (at + 4) bytes
 field_is at bytes inside fits =
     let field = take 4 (drop at bytes) in

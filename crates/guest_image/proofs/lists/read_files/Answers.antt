@@ -4,7 +4,7 @@ use Rattle.std.proofs.lemmas.List.Sums.{sum_by_push}
 use Rattle.byte_reading.specs.Outcomes.{Fails}
 use Rattle.lwc_base.specs.declared.channels.FileImage.{FileImage}
 use Rattle.guest_image.specs.Reading.{next_file}
-use Rattle.guest_image.proofs.Loops.{goes_on, ends, is_done}
+use Rattle.guest_image.proofs.Loops.{continues, ends, is_done}
 use Rattle.guest_image.proofs.lists.read_files.Goals as goal
 
 pub returns-in_err-file : goal.returns-in_err-file
@@ -17,7 +17,7 @@ pub loop-preserved : goal.loop-preserved
 loop-preserved c =
     let read = rw c.loop.invariant.content at c.in_ok-file.ensures.read in
     rw c.in_ok-push.ensures.items (record {
-      read = goes_on next_file _ _ _ _ _ c.loop.invariant.read _ _ c.loop-test.true read;
+      read = continues next_file _ _ _ _ _ c.loop.invariant.read _ _ c.loop-test.true read;
       content = rw (sum_by_push (λ (f : FileImage). length f.bytes) c.loop.files.items c.in_ok-file.file, ← c.loop.invariant.content, c.len.ensures) refl;
       room = rw c.len.ensures c.in_ok-file.ensures.room;
     })

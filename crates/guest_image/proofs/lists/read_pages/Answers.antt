@@ -2,7 +2,7 @@ use Rattle.std.proofs.Common.{sym, refl}
 use Rattle.std.proofs.lemmas.Result.{err_from_is_err_and}
 use Rattle.byte_reading.specs.Outcomes.{Fails}
 use Rattle.guest_image.specs.Reading.{next_page}
-use Rattle.guest_image.proofs.Loops.{goes_on, ends, is_done}
+use Rattle.guest_image.proofs.Loops.{continues, ends, is_done}
 use Rattle.guest_image.proofs.Push.{last_page, page_ranges}
 use Rattle.guest_image.proofs.lists.read_pages.Goals as goal
 
@@ -16,7 +16,7 @@ pub loop-preserved : goal.loop-preserved
 loop-preserved c =
     let read = rw (c.loop.invariant.last, c.loop.invariant.ranges) at c.in_ok-page.ensures.read in
     rw c.in_ok-push.ensures.items (record {
-      read = goes_on next_page _ _ _ _ _ c.loop.invariant.read _ _ c.loop-test.true read;
+      read = continues next_page _ _ _ _ _ c.loop.invariant.read _ _ c.loop-test.true read;
       last = sym (last_page c.loop.pages.items c.in_ok-page.page);
       ranges = rw (page_ranges, ← c.loop.invariant.last, ← c.loop.invariant.ranges, c.ranges_with-ranges.ensures, c.from.ensures) refl;
       room = rw (c.ranges_with-ranges.ensures, c.from.ensures) c.in_ok-page.ensures.room;

@@ -2,7 +2,7 @@ use Rattle.std.proofs.Common.{sym}
 use Rattle.std.proofs.lemmas.Result.{err_from_is_err_and}
 use Rattle.byte_reading.specs.Outcomes.{Fails}
 use Rattle.guest_image.specs.Reading.{next_slot}
-use Rattle.guest_image.proofs.Loops.{goes_on, ends, is_done}
+use Rattle.guest_image.proofs.Loops.{continues, ends, is_done}
 use Rattle.guest_image.proofs.Push.{last_slot}
 use Rattle.guest_image.proofs.lists.read_slots.Goals as goal
 
@@ -16,7 +16,7 @@ pub loop-preserved : goal.loop-preserved
 loop-preserved c =
     let read = rw c.loop.invariant.last at c.in_ok-slot.ensures in
     rw c.in_ok-push.ensures.items (record {
-      read = goes_on (next_slot c.args.files) _ _ _ _ _ c.loop.invariant.read _ _ c.loop-test.true read;
+      read = continues (next_slot c.args.files) _ _ _ _ _ c.loop.invariant.read _ _ c.loop-test.true read;
       last = rw c.from.ensures (sym (last_slot c.loop.slots.items c.in_ok-slot.slot));
     })
 

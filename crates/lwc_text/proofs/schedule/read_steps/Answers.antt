@@ -1,10 +1,10 @@
 use Rattle.std.proofs.Common.{arith}
-use Rattle.lwc_text.proofs.Steps.{goes_on, ends, is_done}
+use Rattle.lwc_text.proofs.Steps.{continues, ends, is_done}
 use Rattle.lwc_text.proofs.schedule.read_steps.Goals as goal
 
 pub bytes-preserved : goal.bytes-preserved
 bytes-preserved c =
-    goes_on c.args.threads c.bytes.at c.bytes.steps.items c.read_byte.new.steps.items c.args.bytes.now (omega arith)
+    continues c.args.threads c.bytes.at c.bytes.steps.items c.read_byte.new.steps.items c.args.bytes.now (omega arith)
     c.in_ok-read_byte.ensures.kept c.in_ok-read_byte.ensures.added c.in_ok-read_byte.ensures.few c.bytes.invariant
 
 pub returns-in_err-read_byte-clause-refused : goal.returns-in_err-read_byte-clause-refused
