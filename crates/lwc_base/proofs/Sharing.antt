@@ -1,22 +1,31 @@
 -- Sharing changes no value: what moves out of a context is in the new group, and the context's cells name it.
-use Rattle.std.proofs.Common.{◌≡◌, ◌≢◌, ℕ, ap, true, List, arith, rules}
+use Rattle.std.proofs.Common.{◌≡◌, ◌≢◌, ℕ, refl, ap, false, true, List, arith, rules}
 use Rattle.std.proofs.lemmas.Bool.{cond_both}
 use Rattle.lwc_base.specs.declared.cell.Cell.{Cell}
-use Rattle.lwc_base.specs.declared.cell.Cell.TheVariants.{Common}
+use Rattle.lwc_base.specs.declared.cell.Cell.TheVariants.{Own, Common}
 use Rattle.lwc_base.specs.declared.item.Item.{Item}
 use Rattle.lwc_base.specs.declared.item.Mode.{Mode}
+use Rattle.lwc_base.specs.declared.item.Mode.TheVariants.{Share}
 use Rattle.lwc_base.specs.declared.key.Key.{Key}
+use Rattle.lwc_base.specs.declared.key.Key.TheVariants.{Page, Slot, Cred}
 use Rattle.lwc_base.specs.declared.name.Name.{Name}
 use Rattle.lwc_base.specs.Cells.{value_of, value_at}
 use Rattle.lwc_base.specs.Facts.{ChangesContext, AddsGroup, SharesValues}
 use Rattle.lwc_base.specs.Fresh.{IsFresh}
-use Rattle.lwc_base.specs.Keys.{ValueOf}
+use Rattle.lwc_base.specs.Keys.{ValueOf, nothing}
 use Rattle.lwc_base.specs.Modes.{mode_or_copy}
-use Rattle.lwc_base.specs.Sharing.{moved_value, moved_values, needs_group, shared_cell, with_shared, share}
+use Rattle.lwc_base.specs.Sharing.{is_moved, moved_value, moved_values, needs_group, shared_cell, with_shared, share}
 use Rattle.lwc_base.specs.World.{World, Counters, Group, context, group, change_context, add_group, next_group}
 use Rattle.lwc_base.proofs.Lookups.{changes-change_context, adds-add_group}
 use Rattle.lwc_base.proofs.Orders.{cases_name}
 use Rattle.lwc_base.proofs.Puts.{live_of_common}
+
+-- where no value moves, none is moved, unless an absent page is
+nothing_moves : (mode : Mode) (k : Key) (cell : Cell (ValueOf k)) → is_moved mode k cell ≡ false → moved_value mode k cell ≡ nothing k
+nothing_moves Share (Page p) (Own value) stays = grind arith
+nothing_moves Share (Slot n) (Own value) stays = grind arith
+nothing_moves Share Cred (Own value) stays = grind arith
+nothing_moves mode k cell stays = refl
 
 pub context-same : (w v : World) (c : Name) → v.contexts ≡ w.contexts → context v c ≡ context w c
 unfolding context
@@ -43,6 +52,17 @@ module _ (w : World) (c : Name) (job : ℕ) (items : List Item) where
   pub shares-share : SharesValues w c job items (share w c job items)
   unfolding share
   shares-share = cond_both (needs_group w c items) moved w (SharesValues w c job items) shares-moved (λ none. search rules)
+
+  -- the new group has each value that has moved, and nothing else
+  pub group-moved : needs_group w c items ≡ true → (k : Key) (value : ValueOf k) → mode_or_copy items k ≡ Share → (context w c).cell k ≡ Own value →
+      (group (share w c job items) (next_group w job)).value k ≡ value
+  unfolding moved_values
+  group-moved needs k value mode is = let new = shares-share.moved needs in grind arith
+
+  pub group-nothing : needs_group w c items ≡ true → (k : Key) → is_moved (mode_or_copy items k) k ((context w c).cell k) ≡ false →
+      (group (share w c job items) (next_group w job)).value k ≡ nothing k
+  unfolding moved_values
+  group-nothing needs k stays = let new = shares-share.moved needs in let none = nothing_moves (mode_or_copy items k) k ((context w c).cell k) stays in grind arith
 
 -- a cell has the same value in two worlds where the group that it names has
 pub value_of-same : (v w : World) (k : Key) (cell : Cell (ValueOf k)) → ((g : Name) → cell ≡ Common g → (group v g).value k ≡ (group w g).value k) →

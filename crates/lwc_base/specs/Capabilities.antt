@@ -19,10 +19,11 @@ has_key cap Cred = cap.cred
 unfoldable pub empty_cap : Cap
 empty_cap = record { pages = replicate 16 0; slots = 0; cred = false }
 
--- word i of the pages of a capability that has all of so many pages: a bit for each of the 64 from page 64 i on that there are
+-- word i of the pages of a full capability: a bit for each of the 64 pages from 64 i on that there are
 abbrev pub full_word : ℕ → ℕ → ℕ
 full_word pages i = 2 ^ min 64 (pages - 64 * i) - 1
 
--- the capability of every key: so many pages, at most 1024, all slots and the credential
+-- the capability of every key: this number of pages, at most 1024, all slots and the credential
 unfoldable pub full_cap : ℕ → Cap
-full_cap pages = record { pages = map (full_word pages) (range_with_len 0 16); slots = 2 ^ 64 - 1; cred = true }
+full_cap pages =
+    record { pages = map (full_word pages) (range_with_len 0 16); slots = 2 ^ 64 - 1; cred = true }

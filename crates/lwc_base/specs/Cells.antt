@@ -1,4 +1,4 @@
--- What stands under a key of a context, and the one holder that a change of it changes: the context's own cell, or the group's value.
+-- What is under a key of a context, and the one holder that a put changes: its own cell, or a group.
 use Rattle.std.specs.Prelude.{ℕ, if◌then◌else◌, Option, Some}
 use Rattle.lwc_base.specs.declared.cell.Cell.{Cell}
 use Rattle.lwc_base.specs.declared.cell.Cell.TheVariants.{Own, Common}
@@ -15,7 +15,7 @@ abbrev pub value_of : World → (k : Key) → Cell (ValueOf k) → ValueOf k
 value_of w k (Own value) = value
 value_of w k (Common g) = (group w g).value k
 
--- what stands under a key of a context
+-- what is under a key of a context
 unfoldable pub value_at : World → Name → (k : Key) → ValueOf k
 value_at w c k = value_of w k ((context w c).cell k)
 
@@ -36,11 +36,11 @@ put_in w c k value (Common g) = change_group w g (with_value k value)
 unfoldable pub put_at : World → Name → (k : Key) → ValueOf k → World
 put_at w c k value = put_in w c k value ((context w c).cell k)
 
--- what stands under a page of a context; an absent page has nothing
+-- what is under a page of a context; an absent page has nothing
 abbrev pub page_at : World → Name → ℕ → Option PageValue
 page_at w c p = value_at w c (Page p)
 
--- what stands under a slot of a context
+-- what is under a slot of a context
 abbrev pub slot_at : World → Name → ℕ → Descriptor
 slot_at w c n = value_at w c (Slot n)
 

@@ -12,7 +12,7 @@ use Rattle.lwc_base.specs.Sharing.{clone_context}
 pub use Rattle.lwc_base.specs.Sound.{HasItsGroups}
 use Rattle.lwc_base.specs.World.{World, context, is_live, next_context}
 
--- a job has made a new context from a live one, by a list of items, in a fresh world that has the groups that it names
+-- a job has made a context from a live one, in a fresh world that has the groups that its cells name
 pub record IsClone (before after : World) (old new : Name) (items : List Item) : Type 0 where
   pub job : ℕ
   pub entry : Regs

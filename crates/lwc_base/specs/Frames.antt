@@ -1,4 +1,4 @@
--- The frames that a world uses: one for each tag that stands at a holder. A holder is a context's own cell, or a key of a group.
+-- The frames that a world uses: one for each tag at a holder, which is a context's own cell or a group's key.
 use Rattle.std.specs.Prelude.{ℕ, ◌++◌, Bool, true, List, [], ◌∷◌, Option, None, Some, count_by, nat_lt}
 use Rattle.std.specs.List.{flat_map, range_with_len}
 use Rattle.std.specs.Ordering.{is_eq}
@@ -19,7 +19,7 @@ tag_of None = []
 tag_of (Some Zero) = []
 tag_of (Some (Data tag bytes)) = tag ∷ []
 
--- the value of a page that is a holder: the cell is the context's own
+-- the value of a page's cell where it is a holder, which the context's own is
 abbrev pub own_value : Cell (Option PageValue) → Option PageValue
 own_value (Own value) = value
 own_value (Common g) = None
@@ -38,15 +38,15 @@ tags w =
     flat_map (λ e. tags_of_context w.size.pages e.1) (fm.entries w.contexts)
     ++ flat_map (λ e. tags_of_group w.size.pages e.1) (fm.entries w.groups)
 
--- how many different tags stand at holders
+-- the number of different tags at holders
 unfoldable pub used : World → ℕ
 used w = set.len (set.from_list {R = tag_cmp} (tags w))
 
--- whether a tag stands at more holders than one
+-- whether a tag is at more than one holder
 abbrev pub is_shared_tag : World → Tag → Bool
 is_shared_tag w tag = nat_lt 1 (count_by (λ t. is_eq (tag_cmp t tag)) (tags w))
 
--- whether a store to the page parts it, so that it takes a tag of its own: it is zeros, or its tag stands at another holder too
+-- whether a page parts when it is stored to, and takes a new tag: it is zeros, or its tag is at other holders too
 unfoldable pub is_parting : World → PageValue → Bool
 is_parting w Zero = true
 is_parting w (Data tag bytes) = is_shared_tag w tag

@@ -1,4 +1,4 @@
--- Worlds in which each name is below the number that its job has counted to, so that the next names of a job are new.
+-- Worlds in which each name is below what its job has counted, so that the next names of a job are new.
 use Rattle.std.specs.Prelude.{◌≡◌, ℕ, ◌<◌, ◌≤◌, true}
 use Rattle.lwc_base.specs.declared.name.Name.{Name}
 use Rattle.lwc_base.specs.Holders.{Rules, everywhere, InContext, IsGroup, Keeps}

@@ -1,4 +1,4 @@
--- What may be at each holder of a world: the groups that the cells of contexts name, and the values of cells and groups.
+-- What may be at each holder of a world: the groups that cells name, and the values of cells and groups.
 use Rattle.std.specs.Prelude.{◌≡◌, ℕ, true}
 use Rattle.std.specs.FinMap as fm
 use Rattle.lwc_base.specs.declared.cell.Cell.{Cell}
@@ -12,7 +12,7 @@ use Rattle.lwc_base.specs.World.{World, Context, Group, context, group, is_live}
 abbrev pub IsGroup : World → Name → Type 0
 IsGroup w g = fm.contains_key w.groups g ≡ true
 
--- the groups that a cell under a key may name, and the values that may be under it, by the job of the holder's name
+-- the groups that a cell under a key may name, and the values under a key, by the job of the holder's name
 pub record Rules : Type 1 where
   pub group : ℕ → (k : Key) → Name → Type 0
   pub value : ℕ → (k : Key) → ValueOf k → Type 0

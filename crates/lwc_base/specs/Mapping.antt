@@ -11,7 +11,8 @@ use Rattle.lwc_base.specs.Keys.{ValueOf}
 use Rattle.lwc_base.specs.World.{World, Context, change_context}
 
 -- the cells of a context with another cell under each page of a range
-abbrev pub on_pages : ℕ → ℕ → Cell (Option PageValue) → ((k : Key) → Cell (ValueOf k)) → (k : Key) → Cell (ValueOf k)
+abbrev pub on_pages : ℕ → ℕ → Cell (Option PageValue) → ((k : Key) → Cell (ValueOf k)) →
+    (k : Key) → Cell (ValueOf k)
 on_pages from to cell old (Page p) = if nat_le from p && nat_lt p to then cell else old (Page p)
 on_pages from to cell old k = old k
 

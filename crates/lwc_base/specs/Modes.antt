@@ -12,7 +12,7 @@ use Rattle.lwc_base.specs.declared.key.Kind.{Kind}
 use Rattle.lwc_base.specs.declared.key.Kind.TheVariants as kind
 use Rattle.lwc_base.specs.declared.limits.TheConstants.{MOST_ITEMS}
 
--- what a key is of
+-- the kind of a key
 abbrev pub kind_of : Key → Kind
 kind_of (key.Page p) = kind.Page
 kind_of (key.Slot n) = kind.Slot
@@ -31,7 +31,7 @@ same_kind kind.Slot kind.Slot = true
 same_kind kind.Cred kind.Cred = true
 same_kind _ _ = false
 
--- how many keys of a kind there are, where there are so many pages
+-- the number of keys of a kind, where there are this number of pages
 abbrev pub limit : ℕ → Kind → ℕ
 limit pages kind.Page = pages
 limit pages kind.Slot = SLOTS
@@ -39,17 +39,18 @@ limit pages kind.Cred = 1
 
 -- whether an item names a key
 abbrev pub names : Item → Key → Bool
-names item k = same_kind item.kind (kind_of k) && nat_le item.from (number_of k) && nat_lt (number_of k) item.to
+names item k =
+    same_kind item.kind (kind_of k) && nat_le item.from (number_of k) && nat_lt (number_of k) item.to
 
 -- the mode of the item that names a key, if one does
 unfoldable pub mode : List Item → Key → Option Mode
 mode items k = option_map (λ item. item.mode) (find (λ item. names item k) items)
 
--- what becomes of a key in a new context: its mode, and a copy where no item names it
+-- the mode of a key in a new context: copy where no item names it
 unfoldable pub mode_or_copy : List Item → Key → Mode
 mode_or_copy items k = unwrap_or (mode items k) Copy
 
--- a key that there is, where there are so many pages
+-- a key is one of those that there are, with this number of pages
 abbrev pub IsKey : ℕ → Key → Type 0
 IsKey pages k = number_of k < limit pages (kind_of k)
 

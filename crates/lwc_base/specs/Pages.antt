@@ -4,7 +4,7 @@ use Rattle.lwc_base.specs.declared.page.TheConstants.{PAGE_BYTES}
 use Rattle.lwc_base.specs.declared.page.PageValue.{PageValue}
 use Rattle.lwc_base.specs.declared.page.PageValue.TheVariants.{Zero, Data}
 
--- so many zero bytes
+-- this number of zero bytes
 unfoldable pub zero_bytes : ℕ → List ℕ
 zero_bytes count = replicate count 0
 

@@ -1,5 +1,4 @@
--- The ranges of a context: the longest runs of consecutive present pages that are all its own, or all common of one
--- group.
+-- The ranges of a context: its longest runs of present pages that are all its own, or all common of one group.
 use Rattle.std.specs.Prelude.{ℕ, zero, suc, ◌&&◌, Bool, true, false, not, Option, Some, count_by, is_some}
 use Rattle.std.specs.List.{range_with_len}
 use Rattle.std.specs.Ordering.{is_eq}
@@ -11,7 +10,7 @@ use Rattle.lwc_base.specs.declared.name.Name.{Name}
 use Rattle.lwc_base.specs.Names.{name_cmp}
 use Rattle.lwc_base.specs.World.{World, Context, context}
 
--- whether two cells of pages are of one kind: both are present and the context's own, or both are common of one group
+-- whether two cells of pages are of one kind: present and the context's own, or common of one group
 abbrev pub are_of_one_kind : Cell (Option PageValue) → Cell (Option PageValue) → Bool
 are_of_one_kind (Own (Some a)) (Own (Some b)) = true
 are_of_one_kind (Common g) (Common h) = is_eq (name_cmp g h)

@@ -5,7 +5,7 @@ use Rattle.lwc_base.specs.declared.key.Key.TheVariants.{Page}
 use Rattle.lwc_base.specs.Ranges.{continues_range, has_page}
 use Rattle.lwc_base.specs.World.{Context}
 
--- of so many pages just those from one up to and without another are present, and each but the first goes on from the one before
+-- just the pages from one up to and without another are present, and they are all of one range
 pub record IsOneRun (pages from to : ℕ) (x : Context) : Type 0 where
   pub some : from < to
   pub within : to ≤ pages

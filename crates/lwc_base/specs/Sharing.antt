@@ -1,4 +1,4 @@
--- What a new context gets of the one that it is made from: what is shared, what is copied, and what is left out.
+-- What a new context gets of the one that it is made from: values that are shared, copied and left out.
 use Rattle.std.specs.Prelude.{ℕ, ◌||◌, if◌then◌else◌, Bool, false, List, None}
 use Rattle.std.specs.List.{list_any, range_with_len}
 use Rattle.lwc_base.specs.declared.cell.Cell.{Cell}
@@ -40,7 +40,8 @@ moved_values items x = record { value = λ k. moved_value (mode_or_copy items k)
 -- whether a test holds of a key of a context with this number of pages
 unfoldable pub any_key : ℕ → (Key → Bool) → Bool
 any_key pages test =
-    list_any (λ p. test (Page p)) (range_with_len 0 pages) || list_any (λ n. test (Slot n)) (range_with_len 0 SLOTS) || test Cred
+    list_any (λ p. test (Page p)) (range_with_len 0 pages)
+    || list_any (λ n. test (Slot n)) (range_with_len 0 SLOTS) || test Cred
 
 -- whether items need a group: they move a value out of the context
 unfoldable pub needs_group : World → Name → List Item → Bool
@@ -58,10 +59,11 @@ with_shared g items x = record x { cell = λ k. shared_cell g (mode_or_copy item
 unfoldable pub share : World → Name → ℕ → List Item → World
 share w c job items =
     if needs_group w c items
-    then add_group (change_context w c (with_shared (next_group w job) items)) job (moved_values items (context w c))
+    then add_group (change_context w c (with_shared (next_group w job) items)) job
+    (moved_values items (context w c))
     else w
 
--- a cell of a new context by its mode: under copy a value of its own, under share the same cell, under unmap nothing
+-- a cell of a new context by its mode: a copy of the value, the same cell, or nothing
 abbrev pub cloned_cell : World → Name → (k : Key) → Mode → Cell (ValueOf k)
 cloned_cell w c k Copy = Own (value_at w c k)
 cloned_cell w c k Share = (context w c).cell k
@@ -69,13 +71,15 @@ cloned_cell w c k Unmap = Own (nothing k)
 
 -- a new context by a list of items, with the registers that it begins with; it has no saved registers
 unfoldable pub cloned_context : World → Name → List Item → Regs → Context
-cloned_context w c items entry = record { cell = λ k. cloned_cell w c k (mode_or_copy items k); entry = entry; saved = λ t. None }
+cloned_context w c items entry =
+    record { cell = λ k. cloned_cell w c k (mode_or_copy items k); entry = entry; saved = λ t. None }
 
 -- a job makes a new context from another: first the values under share move, then the new context is added
 unfoldable pub clone_context : World → Name → ℕ → List Item → Regs → World
-clone_context w c job items entry = let s = share w c job items in add_context s job (cloned_context s c items entry)
+clone_context w c job items entry =
+    let s = share w c job items in add_context s job (cloned_context s c items entry)
 
--- the numbers of ranges of a context and of the new one after a job has made it, in this order
+-- the number of ranges of a context, and of the new one, after a job has made it
 unfoldable pub ranges_after_clone : World → Name → ℕ → List Item → ℕ × ℕ
 ranges_after_clone w c job items =
     let s = share w c job items in

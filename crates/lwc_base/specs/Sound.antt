@@ -25,7 +25,7 @@ live_groups w = everywhere (HasValue w) (λ k value. Unit {0})
 abbrev pub HasItsGroups : World → Type 0
 HasItsGroups w = Keeps (live_groups w) w
 
--- bytes of a page under a tag: they are a whole page, the tag has been taken, and this is the tag's one page number
+-- bytes under a tag are a whole page, the tag has been taken, and this is the tag's one page number
 pub record IsSoundData (w : World) (home : Tag → ℕ) (p : ℕ) (tag : Tag) (bytes : List ℕ) : Type 0 where
   pub whole : length bytes ≡ PAGE_BYTES
   pub old : tag.k < (w.next tag.job).tags
@@ -47,7 +47,7 @@ IsSoundValue w home Cred value = Unit {0}
 abbrev pub sound_pages : World → (Tag → ℕ) → Rules
 sound_pages w home = everywhere (λ k g. Unit {0}) (IsSoundValue w home)
 
--- names are old, the groups that cells name have what they are named for, and each tag is under one page number only
+-- names are old, groups have what cells name them for, and each tag is under one page number
 pub record IsSound (w : World) : Type 0 where
   pub fresh : IsFresh w
   pub groups : HasItsGroups w

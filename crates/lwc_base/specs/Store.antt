@@ -1,4 +1,4 @@
--- The store of bytes: which pages part, when there are too few frames, and what stands there afterwards.
+-- The store of bytes: which pages part, when there are too few frames, and what the pages are afterwards.
 use Rattle.std.specs.Prelude.{ℕ, ◌+◌, ◌-◌, ◌*◌, ◌&&◌, if◌then◌else◌, Bool, not, List, [], ◌∷◌, count_by, length, map, nat_le, nat_lt, slice_index, unwrap_or}
 use Rattle.std.specs.List.{range_with_len}
 use Rattle.lwc_base.specs.declared.name.Name.{Name}
@@ -19,13 +19,16 @@ pub record Piece : Type 0 where
 
 -- the byte at an address once a piece is there: the piece's where it covers the address, else the old one
 abbrev pub byte_after : Piece → ℕ → ℕ → ℕ
-byte_after piece at old = if nat_le piece.at at && nat_lt at (piece.at + length piece.bytes) then slice_index piece.bytes (at - piece.at) else old
+byte_after piece at old =
+    if nat_le piece.at at && nat_lt at (piece.at + length piece.bytes)
+    then slice_index piece.bytes (at - piece.at) else old
 
 -- the bytes of a page once a piece is there
 unfoldable pub bytes_after : Piece → ℕ → List ℕ → List ℕ
-bytes_after piece p old = map (λ i. byte_after piece (p * PAGE_BYTES + i) (slice_index old i)) (range_with_len 0 (length old))
+bytes_after piece p old =
+    map (λ i. byte_after piece (p * PAGE_BYTES + i) (slice_index old i)) (range_with_len 0 (length old))
 
--- what stands under a page of a context that is present
+-- what is under a page of a context that is present
 abbrev pub page_value_at : World → Name → ℕ → PageValue
 page_value_at w c p = unwrap_or (page_at w c p) Zero
 
@@ -34,7 +37,7 @@ abbrev pub stored_value : Bool → Tag → PageValue → List ℕ → PageValue
 stored_value parting new Zero bytes = Data new bytes
 stored_value parting new (Data tag old) bytes = Data (if parting then new else tag) bytes
 
--- the new value of each page that a piece touches; those that part take the job's tags from number k on, in the order of the pages
+-- the new value of each page that is touched; those that part take the job's tags from number k on, in order
 abbrev pub plan : World → Name → ℕ → Piece → ℕ → List ℕ → List (ℕ × PageValue)
 plan w c job piece k [] = []
 plan w c job piece k (p ∷ ps) =
@@ -54,14 +57,16 @@ pub data Stored : Type 0 where
   Full : Stored
   Done : World → Stored
 
--- how many of the pages that a piece touches part
+-- the number of pages that part, of those that a piece touches
 unfoldable pub parting_count : World → Name → Piece → ℕ
-parting_count w c piece = count_by (λ p. is_parting w (page_value_at w c p)) (touched piece.at (length piece.bytes))
+parting_count w c piece =
+    count_by (λ p. is_parting w (page_value_at w c p)) (touched piece.at (length piece.bytes))
 
--- the world once a piece is there: each touched page has its new value, and the job has taken a tag for each that parted
+-- the world once a piece is there: touched pages have new values, and the job a tag more for each that parted
 unfoldable pub after_store : World → Name → ℕ → Piece → World
 after_store w c job piece =
-    change_counters (put_pages w c (plan w c job piece (w.next job).tags (touched piece.at (length piece.bytes)))) job
+    change_counters
+    (put_pages w c (plan w c job piece (w.next job).tags (touched piece.at (length piece.bytes)))) job
     (λ n. record n { tags = n.tags + parting_count w c piece })
 
 -- the store of a piece in a context, for a job

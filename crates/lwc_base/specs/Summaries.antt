@@ -14,7 +14,7 @@ abbrev pub is_empty : Descriptor → Bool
 is_empty Empty = true
 is_empty _ = false
 
--- how many pages are present, how many slots are not empty, and the uid
+-- the number of pages that are present, the number of slots that are not empty, and the uid
 unfoldable pub summary_of : World → Name → Summary
 summary_of w c = record {
   pages = count_by (λ p. is_some (page_at w c p)) (range_with_len 0 w.size.pages);

@@ -1,4 +1,4 @@
--- The world: contexts and groups by name, what each job has counted, and how many frames and pages there are.
+-- The world: contexts and groups by name, what each job has counted, and the size.
 use Rattle.std.specs.Prelude.{ℕ, ◌+◌, ◌==◌, if◌then◌else◌, Bool, Option, None, Some, count_by, unwrap_or}
 use Rattle.std.specs.FinMap as fm
 use Rattle.lwc_base.specs.declared.cell.Cell.{Cell}
@@ -13,36 +13,36 @@ use Rattle.lwc_base.specs.Keys.{ValueOf, nothing}
 use Rattle.lwc_base.specs.Names.{name_cmp}
 use Rattle.lwc_base.specs.Registers.{fresh_registers}
 
--- a context: under each key its cell; the registers that it begins with; and those that it keeps for some threads
+-- a context: the cell under each key, the registers it begins with, and those that it keeps for some threads
 pub record Context : Type 0 where
   pub cell : (k : Key) → Cell (ValueOf k)
   pub entry : Regs
   pub saved : ℕ → Option Regs
 
--- a group: the values that contexts have in common, and nothing under each other key
+-- a group: the values that contexts have in common, and nothing under the other keys
 pub record Group : Type 0 where
   pub value : (k : Key) → ValueOf k
 
--- how many contexts, groups and tags a job has named, each the number of the next one
+-- the numbers of contexts, groups and tags that a job has named; each is the number of the next one
 pub record Counters : Type 0 where
   pub contexts : ℕ
   pub groups : ℕ
   pub tags : ℕ
 
--- the world, with what each job has counted, and how many frames and pages there are
+-- the world: contexts and groups, what each job has counted, and the size
 pub record World : Type 0 where
   pub contexts : fm.FinMap name_cmp Context
   pub groups : fm.FinMap name_cmp Group
   pub next : ℕ → Counters
   pub size : WorldSize
 
--- what stands under each key of a context as it is made: nothing but the uid
+-- what is under each key of a context as it is made: nothing but the uid
 abbrev pub new_value : ℕ → (k : Key) → ValueOf k
 new_value uid (Page p) = None
 new_value uid (Slot n) = Empty
 new_value uid Cred = uid
 
--- a context of its own as it is made: no page, empty slots, and the uid
+-- a context as it is made: each cell is its own, with no page, empty slots, and the uid
 abbrev pub new_context : ℕ → Regs → Context
 new_context uid entry = record { cell = λ k. Own (new_value uid k); entry = entry; saved = λ t. None }
 
@@ -67,7 +67,7 @@ abbrev pub changed_context : World → Name → (Context → Context) → Option
 changed_context w c change None = w
 changed_context w c change (Some x) = record w { contexts = fm.insert w.contexts c (change x) }
 
--- one context is changed; a name that no context has changes nothing
+-- one context is changed; nothing is, where no context has the name
 unfoldable pub change_context : World → Name → (Context → Context) → World
 change_context w c change = changed_context w c change (fm.get w.contexts c)
 
@@ -76,7 +76,7 @@ abbrev pub changed_group : World → Name → (Group → Group) → Option Group
 changed_group w g change None = w
 changed_group w g change (Some x) = record w { groups = fm.insert w.groups g (change x) }
 
--- one group is changed; a name that no group has changes nothing
+-- one group is changed; nothing is, where no group has the name
 unfoldable pub change_group : World → Name → (Group → Group) → World
 change_group w g change = changed_group w g change (fm.get w.groups g)
 
@@ -84,7 +84,7 @@ change_group w g change = changed_group w g change (fm.get w.groups g)
 unfoldable pub change_counters : World → ℕ → (Counters → Counters) → World
 change_counters w job change = record w { next = λ j. if j == job then change (w.next j) else w.next j }
 
--- a world of so many frames and pages, without contexts and groups, in which nothing has been counted
+-- a world of a size, without contexts and groups, in which nothing has been counted
 unfoldable pub empty_world : WorldSize → World
 empty_world size = record {
   contexts = fm.empty;
@@ -100,7 +100,8 @@ next_context w job = record { job = job; k = (w.next job).contexts }
 -- the job makes its next context, which is this one
 unfoldable pub add_context : World → ℕ → Context → World
 add_context w job x =
-    change_counters (record w { contexts = fm.insert w.contexts (next_context w job) x }) job (λ n. record n { contexts = n.contexts + 1 })
+    change_counters (record w { contexts = fm.insert w.contexts (next_context w job) x }) job
+    (λ n. record n { contexts = n.contexts + 1 })
 
 -- the next name of a job's groups
 abbrev pub next_group : World → ℕ → Name
@@ -109,12 +110,13 @@ next_group w job = record { job = job; k = (w.next job).groups }
 -- the job makes its next group, which is this one
 unfoldable pub add_group : World → ℕ → Group → World
 add_group w job x =
-    change_counters (record w { groups = fm.insert w.groups (next_group w job) x }) job (λ n. record n { groups = n.groups + 1 })
+    change_counters (record w { groups = fm.insert w.groups (next_group w job) x }) job
+    (λ n. record n { groups = n.groups + 1 })
 
--- how many live contexts bear a job
+-- the number of live contexts of a job
 unfoldable pub live_of : World → ℕ → ℕ
 live_of w job = count_by (λ c. c.job == job) (fm.keys w.contexts)
 
--- how many live groups bear a job
+-- the number of live groups of a job
 unfoldable pub groups_of : World → ℕ → ℕ
 groups_of w job = count_by (λ g. g.job == job) (fm.keys w.groups)

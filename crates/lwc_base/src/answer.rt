@@ -1,7 +1,7 @@
 use crate::refusal::Refusal;
 use crate::regs::Regs;
 
-/// What a call of a guest answers: the registers that its thread goes on with, or why the call was refused.
+/// What a call of a guest answers: the registers that its thread continues with, or why the call was refused.
 #[derive(Clone, Copy, Debug, PartialEq, Eq)]
 pub enum Answer {
     Done(Regs),

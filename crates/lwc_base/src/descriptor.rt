@@ -1,6 +1,6 @@
 use crate::name::Name;
 
-/// How many slots a context has.
+/// The number of slots of a context.
 pub const SLOTS: u8 = 64;
 
 /// An access capability: the set of keys that may be taken from a context. Page p is bit p mod 64 of

@@ -6,7 +6,8 @@ ghost use Rattle.lwc_base.specs.Faults.{fault_number};
 pub enum Fault {
     /// The next instruction is past the text.
     BadPc,
-    /// A byte that was to be loaded is past the last page or in an absent page, or a word's address is no multiple of 8.
+    /// A byte that was to be loaded is past the last page or in an absent page, or a word's address is no
+    /// multiple of 8.
     BadLoad,
     /// The same for a byte that was to be stored.
     BadStore,
@@ -31,7 +32,7 @@ impl Fault {
     }
 }
 
-/// How a thread stands.
+/// The status of a thread.
 #[derive(Clone, Copy, Debug, PartialEq, Eq)]
 pub enum ThreadStatus {
     Idle,

@@ -1,6 +1,6 @@
 use crate::key::Kind;
 
-/// What becomes of a key in a new context or in an overlay.
+/// What a new context or an overlay gets under a key.
 #[derive(Clone, Copy, Debug, Default, PartialEq, Eq)]
 pub enum Mode {
     /// The value is copied.

@@ -1,4 +1,4 @@
-/// What keys are of: pages, slots, or the credential.
+/// The kinds of keys: pages, slots, and the credential.
 #[derive(Clone, Copy, Debug, Default, PartialEq, Eq)]
 pub enum Kind {
     #[default]

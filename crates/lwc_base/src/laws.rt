@@ -13,9 +13,9 @@ pub use apart::{
     what_is_common_stays_common,
 };
 pub use cloning::{
-    a_group_is_needed_where_a_value_moves, cloning_changes_no_value,
-    only_what_is_shared_becomes_common, sharing_changes_no_value, what_is_copied_is_apart,
-    what_is_left_out_is_not_there, what_is_shared_is_common,
+    a_group_is_needed_where_a_value_moves, a_new_group_has_what_has_moved,
+    cloning_changes_no_value, only_what_is_shared_becomes_common, sharing_changes_no_value,
+    what_is_copied_is_apart, what_is_left_out_is_not_there, what_is_shared_is_common,
 };
 pub use facts::{
     changes_leave_the_rest, live_names_are_counted, names_are_ordered, names_stay_old,

@@ -1,4 +1,5 @@
-//! Plain types of the kernel, and the definitions of its world: contexts, groups, what stands under a key, frames, and the store of bytes.
+//! Plain types of the kernel, and the definitions of its world: contexts, groups, values under keys, frames,
+//! and the store of bytes.
 #![tactic(auto)]
 
 pub mod answer;

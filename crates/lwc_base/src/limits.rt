@@ -7,10 +7,10 @@ pub const MOST_RANGES: u32 = 64;
 /// The most items of a specifier.
 pub const MOST_ITEMS: usize = 32;
 
-/// The most live contexts that bear one job.
+/// The most live contexts of one job.
 pub const MOST_CONTEXTS_OF_JOB: u32 = 32;
 
-/// The most live groups that bear one job.
+/// The most live groups of one job.
 pub const MOST_GROUPS_OF_JOB: u32 = 64;
 
 /// The most live contexts of a world.

@@ -1,11 +1,13 @@
-/// The name of a context or of a group: the job that made it, and how many of its kind that job had made before.
+/// The name of a context or of a group: the job that made it, and the number of its kind that the job had
+/// made before.
 #[derive(Clone, Copy, Debug, PartialEq, Eq, PartialOrd, Ord)]
 pub struct Name {
     pub job: u32,
     pub k: u32,
 }
 
-/// What tells one frame's bytes from another's: the job that stored them, and how many tags that job had taken before.
+/// What tells one frame's bytes from another's: the job that stored them, and the number of tags that it had
+/// taken before.
 #[derive(Clone, Copy, Debug, PartialEq, Eq, PartialOrd, Ord)]
 pub struct Tag {
     pub job: u32,

@@ -7,7 +7,7 @@ use crate::name::Tag;
 use std::alloc::Global;
 use std::marker::Model;
 
-/// How many bytes a page has.
+/// The number of bytes of a page.
 pub const PAGE_BYTES: usize = 4096;
 
 /// The bytes of one page, seen as a list of 4096 numbers.
@@ -37,7 +37,7 @@ fn zeros(alloc: Global, count: usize) -> Result<Vec<u8>, OutOfMemory>
 
 impl PageBytes {
     #[tactic(auto, unfolding(crate::specs::Pages::zero_page))]
-    /// A page of zero bytes. The one error is want of memory.
+    /// A page of zero bytes. The only error is out of memory.
     pub fn zero(alloc: Global) -> Result<PageBytes, OutOfMemory>
         ensures { IfOk result (λ page. page ≡ zero_page) }
     {
@@ -46,7 +46,7 @@ impl PageBytes {
         })
     }
 
-    /// A page of these bytes, which are copied. The one error is want of memory.
+    /// A page of these bytes, which are copied. The only error is out of memory.
     pub fn from_slice(alloc: Global, bytes: &[u8]) -> Result<PageBytes, OutOfMemory>
         requires { length bytes.now ≡ PAGE_BYTES }
         ensures { IfOk result (λ page. page ≡ bytes.now) }
@@ -56,7 +56,7 @@ impl PageBytes {
         })
     }
 
-    /// A copy of a page's bytes. The one error is want of memory.
+    /// A copy of a page's bytes. The only error is out of memory.
     pub fn copy_of(alloc: Global, page: &PageBytes) -> Result<PageBytes, OutOfMemory>
         ensures { IfOk result (λ copy. copy ≡ page.now) }
     {
@@ -80,7 +80,7 @@ impl PageBytes {
     }
 }
 
-/// What stands under a page's key: nothing but zeros, which needs no frame, or the bytes of a frame under its tag.
+/// What a page has: zeros, which need no frame, or the bytes of a frame under its tag.
 #[derive(Debug, Drop)]
 pub enum PageValue {
     Zero,

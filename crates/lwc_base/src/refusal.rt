@@ -45,7 +45,8 @@ pub enum Refusal {
 }
 
 impl Refusal {
-    /// The number that a refused call answers with, 2 to 20: the call sets r0 to 2^64 less it (`refusal_number`).
+    /// The number that a refused call answers with, 2 to 20: the call sets r0 to 2^64 less it
+    /// (`refusal_number`).
     pub fn number(self) -> u64
         ensures { result ≡ refusal_number self }
     {

@@ -1,4 +1,4 @@
-/// How large a world is: its frames, the most contexts and groups that live at once, its jobs, and its pages.
+/// The size of a world: its frames, the most contexts and groups that live at once, its jobs, and its pages.
 #[derive(Clone, Copy, Debug, PartialEq, Eq)]
 pub struct WorldSize {
     pub frames: u32,
@@ -8,7 +8,7 @@ pub struct WorldSize {
     pub pages: u32,
 }
 
-/// What a report says of a context: how many pages are present, how many slots are not empty, and the uid.
+/// What a report says of a context: the numbers of its pages and of its slots in use, and the uid.
 #[derive(Clone, Copy, Debug, PartialEq, Eq)]
 pub struct Summary {
     pub pages: u32,

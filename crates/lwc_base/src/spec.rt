@@ -7,8 +7,8 @@ use crate::limits::{MOST_ITEMS, MOST_PAGES};
 use arrayvec::ArrayVec;
 use std::marker::Model;
 
-/// A resource specifier: at most 32 items, each within the limit of its kind, no two with a key in common. It is
-/// seen as the list of its items.
+/// A resource specifier: at most 32 items, each within the limit of its kind, no two with a key in common. It
+/// is seen as the list of its items.
 #[derive(Drop)]
 pub struct Spec {
     items: ArrayVec<Item, 32>,

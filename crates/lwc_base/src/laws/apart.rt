@@ -12,8 +12,8 @@ ghost use Rattle.lwc_base.specs.declared.item.Item.{Item};
 ghost use Rattle.lwc_base.specs.declared.key.Key.{Key};
 ghost use Rattle.lwc_base.specs.declared.name.Name.{Name};
 
-/// What is put under a key, where something is there, is read under it, and each context reads the same under each
-/// other key.
+/// What is put under a key, where something is there, is read under it, and each context reads the same under
+/// each other key.
 pub fn a_put_changes_one_key()
     ensures put { (w : World) (c : Name) (k : Key) (value : ValueOf k) → HasItsGroups w → is_live w c ≡ true →
         is_there k (value_at w c k) ≡ true → value_at (put_at w c k value) c k ≡ value }
@@ -29,7 +29,8 @@ pub fn what_is_apart_is_not_seen()
         (value : ValueOf k) → value_at (put_at w b k value) a k ≡ value_at w a k }
 {}
 
-/// What is apart stays apart, whatever is put, stored, mapped, unmapped or cloned, in these contexts or in others.
+/// What is apart stays apart, whatever is put, stored, mapped, unmapped or cloned, in these contexts or in
+/// others.
 pub fn what_is_apart_stays_apart()
     ensures put { (w : World) (c : Name) (q : Key) (value : ValueOf q) (a b : Name) (k : Key) →
         AreApart w a b k → AreApart (put_at w c q value) a b k }
@@ -40,14 +41,17 @@ pub fn what_is_apart_stays_apart()
     ensures unmap { (w : World) (c : Name) (from to : ℕ) (a b : Name) (k : Key) →
         AreApart w a b k → AreApart (unmap_pages w c from to) a b k }
     ensures clone { (w v : World) (c d : Name) (items : List Item) → IsClone w v c d items →
-        (a b : Name) (k : Key) → is_live w a ≡ true → is_live w b ≡ true → AreApart w a b k → AreApart v a b k }
+        (a b : Name) (k : Key) → is_live w a ≡ true → is_live w b ≡ true →
+        AreApart w a b k → AreApart v a b k }
 {}
 
-/// What two contexts have in common reads the same in both, and what is put there in one of the two is read in the
-/// other. It stays common whatever is put, stored or cloned, in these contexts or in others, and whatever is mapped or
-/// unmapped in other contexts or under other pages. Mapping or unmapping the page itself in one of the two ends it.
+/// What two contexts have in common reads the same in both, and what is put there in one of the two is read
+/// in the other. It stays common whatever is put, stored or cloned, in these contexts or in others, and
+/// whatever is mapped or unmapped in other contexts or under other pages. Mapping or unmapping the page
+/// itself in one of the two ends it.
 pub fn what_is_common_stays_common()
-    ensures same { (w : World) (a b : Name) (k : Key) → HaveInCommon w a b k → value_at w a k ≡ value_at w b k }
+    ensures same { (w : World) (a b : Name) (k : Key) → HaveInCommon w a b k →
+        value_at w a k ≡ value_at w b k }
     ensures put { (w : World) (a b : Name) (k : Key) → HaveInCommon w a b k →
         (value : ValueOf k) → value_at (put_at w a k value) b k ≡ value }
     ensures stays { (w : World) (a b : Name) (k : Key) → HaveInCommon w a b k →

@@ -4,8 +4,8 @@ ghost use Rattle.lwc_base.specs.Clones.{AreApart, HaveInCommon, IsClone};
 ghost use Rattle.lwc_base.specs.Fresh.{IsFresh};
 ghost use Rattle.lwc_base.specs.Keys.{ValueOf, is_there, nothing};
 ghost use Rattle.lwc_base.specs.Modes.{IsKey, mode_or_copy};
-ghost use Rattle.lwc_base.specs.Sharing.{has_own, needs_group, share};
-ghost use Rattle.lwc_base.specs.World.{World, context, is_live, next_group};
+ghost use Rattle.lwc_base.specs.Sharing.{has_own, is_moved, needs_group, share};
+ghost use Rattle.lwc_base.specs.World.{World, context, group, is_live, next_group};
 ghost use Rattle.lwc_base.specs.declared.cell.Cell.TheVariants.{Common, Own};
 ghost use Rattle.lwc_base.specs.declared.item.Item.{Item};
 ghost use Rattle.lwc_base.specs.declared.item.Mode.TheVariants.{Copy, Share, Unmap};
@@ -25,8 +25,8 @@ pub fn cloning_changes_no_value()
         (e : Name) (k : Key) → is_live w e ≡ true → value_at v e k ≡ value_at w e k }
 {}
 
-/// What is copied, the clone has of its own, as it was in the context that is cloned, and apart from each other
-/// context.
+/// What is copied, the clone has of its own, as it was in the context that is cloned, and apart from each
+/// other context.
 pub fn what_is_copied_is_apart()
     ensures own { (w v : World) (c d : Name) (items : List Item) → IsClone w v c d items →
         (k : Key) → mode_or_copy items k ≡ Copy → (context v d).cell k ≡ Own (value_at w c k) }
@@ -46,10 +46,10 @@ pub fn what_is_left_out_is_not_there()
         (k : Key) → mode_or_copy items k ≡ Unmap → (e : Name) → is_live w e ≡ true → AreApart v e d k }
 {}
 
-/// Under share the clone has the cell that the context then has. A value of the context's own that is there has moved
-/// into the one new group of the job, what was common stays common of its group, and what was not there stays so.
-/// So what is shared, and is there, both have in common; and the clone has in common with another context, or apart
-/// from it, what the context had.
+/// Under share the clone has the cell that the context then has. A value of the context's own that is there
+/// has moved into the one new group of the job, what was common stays common of its group, and an absent page
+/// stays absent. So what is shared, and is there, both have in common; and the clone has in common with
+/// another context, or apart from it, what the context had.
 pub fn what_is_shared_is_common()
     ensures cell { (w v : World) (c d : Name) (items : List Item) → IsClone w v c d items →
         (k : Key) → mode_or_copy items k ≡ Share → (context v d).cell k ≡ (context v c).cell k }
@@ -72,8 +72,8 @@ pub fn what_is_shared_is_common()
         AreApart v d e k }
 {}
 
-/// A group is needed exactly where a value moves, which is a context's own under a key of mode share; where none does,
-/// sharing changes nothing.
+/// A group is needed exactly where a value moves, which is a context's own under a key of mode share; where
+/// none does, sharing changes nothing.
 pub fn a_group_is_needed_where_a_value_moves()
     ensures moves { (w : World) (c : Name) (items : List Item) (k : Key) (value : ValueOf k) →
         IsKey w.size.pages k → mode_or_copy items k ≡ Share → (context w c).cell k ≡ Own value →
@@ -85,8 +85,18 @@ pub fn a_group_is_needed_where_a_value_moves()
         needs_group w c items ≡ false → share w c job items ≡ w }
 {}
 
-/// Only what is under share becomes common: a context keeps its cells under the other keys when it is cloned, and each
-/// other context keeps all of them.
+/// The new group has each value that has moved, and nothing under the other keys.
+pub fn a_new_group_has_what_has_moved()
+    ensures moved { (w : World) (c : Name) (job : ℕ) (items : List Item) → needs_group w c items ≡ true →
+        (k : Key) (value : ValueOf k) → mode_or_copy items k ≡ Share → (context w c).cell k ≡ Own value →
+        (group (share w c job items) (next_group w job)).value k ≡ value }
+    ensures nothing { (w : World) (c : Name) (job : ℕ) (items : List Item) → needs_group w c items ≡ true →
+        (k : Key) → is_moved (mode_or_copy items k) k ((context w c).cell k) ≡ false →
+        (group (share w c job items) (next_group w job)).value k ≡ nothing k }
+{}
+
+/// Only what is under share becomes common: a context keeps its cells under the other keys when it is cloned,
+/// and each other context keeps all of them.
 pub fn only_what_is_shared_becomes_common()
     ensures kept { (w v : World) (c d : Name) (items : List Item) → IsClone w v c d items →
         (k : Key) → mode_or_copy items k ≢ Share → (context v c).cell k ≡ (context w c).cell k }

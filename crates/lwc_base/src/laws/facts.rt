@@ -10,7 +10,8 @@ pub fn changes_leave_the_rest()
     ensures { ChangeFacts }
 {}
 
-/// The number of live names stays where the same names live, and rises by one with each new name of a fresh world.
+/// The number of live names stays where the same names live, and rises by one with each new name of a fresh
+/// world.
 pub fn live_names_are_counted()
     ensures { CountFacts }
 {}

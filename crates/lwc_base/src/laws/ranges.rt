@@ -5,8 +5,8 @@ ghost use Rattle.lwc_base.specs.World.{Context};
 ghost use Rattle.lwc_base.specs.declared.cell.Cell.TheVariants.{Own};
 ghost use Rattle.lwc_base.specs.declared.key.Key.TheVariants.{Page};
 
-/// Present pages that are one run are one range, where no page is present there is no range, and each further page
-/// adds the range that begins at it.
+/// Present pages that are one run are one range, where no page is present there is no range, and each further
+/// page adds the range that begins at it.
 pub fn one_run_is_one_range()
     ensures one { (pages from to : ℕ) (x : Context) → IsOneRun pages from to x → ranges pages x ≡ 1 }
     ensures none { (pages : ℕ) (x : Context) →

@@ -11,7 +11,8 @@ ghost use Rattle.lwc_base.specs.declared.name.Name.{Name};
 ghost use Rattle.lwc_base.specs.declared.regs.Regs.{Regs};
 ghost use Rattle.lwc_base.specs.declared.size.WorldSize.{WorldSize};
 
-/// The world in which nothing is live is sound, and each change that a run makes of a sound world keeps it sound.
+/// The world in which nothing is live is sound, and each change that a run makes of a sound world keeps it
+/// sound.
 pub fn sound_worlds_stay_sound()
     ensures empty { (size : WorldSize) → IsSound (empty_world size) }
     ensures add { (w : World) (job uid : ℕ) (entry : Regs) → IsSound w →
@@ -19,7 +20,8 @@ pub fn sound_worlds_stay_sound()
     ensures map { (w : World) (c : Name) (from to : ℕ) → to ≤ w.size.pages → IsSound w →
         IsSound (map_pages w c from to) }
     ensures unmap { (w : World) (c : Name) (from to : ℕ) → IsSound w → IsSound (unmap_pages w c from to) }
-    ensures slot { (w : World) (c : Name) (n : ℕ) (value : Descriptor) → IsSound w → IsSound (put_slot w c n value) }
+    ensures slot { (w : World) (c : Name) (n : ℕ) (value : Descriptor) → IsSound w →
+        IsSound (put_slot w c n value) }
     ensures uid { (w : World) (c : Name) (uid : ℕ) → IsSound w → IsSound (put_uid w c uid) }
     ensures store { (w v : World) (c : Name) (job : ℕ) (piece : Piece) → IsSound w → is_live w c ≡ true →
         store w c job piece ≡ Done v → IsSound v }

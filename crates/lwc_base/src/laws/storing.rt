@@ -11,9 +11,9 @@ ghost use Rattle.lwc_base.specs.declared.key.Key.TheVariants.{Page};
 ghost use Rattle.lwc_base.specs.declared.name.Name.{Name};
 ghost use Rattle.lwc_base.specs.declared.page.TheConstants.{PAGE_BYTES};
 
-/// What is stored reads back, and each other byte of the context is as it was. A byte of another context stays where
-/// its page is apart, and is the same as the context's where its page is common. Under keys that are no pages nothing
-/// changes.
+/// What is stored reads back, and each other byte of the context is as it was. A byte of another context
+/// stays where its page is apart, and is the same as the context's where its page is common. Under keys that
+/// are no pages nothing changes.
 pub fn what_is_stored_reads_back()
     ensures bytes { (w v : World) (c : Name) (job : ℕ) (piece : Piece) → store w c job piece ≡ Done v →
         IsSound w → is_live w c ≡ true → (at : ℕ) → byte_at v c at ≡ byte_after piece at (byte_at w c at) }
