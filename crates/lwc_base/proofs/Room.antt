@@ -1,9 +1,9 @@
 -- A store keeps a world sound, and takes one frame for each page that parts: one page after another gets its new value.
-use Rattle.std.proofs.Common.{◌≡◌, ◌⊎◌, inl, inr, ℕ, zero, suc, ◌+◌, ◌≤◌, ◌<◌, refl, sym, ap, subst, ◌∙◌, Bool, true, false, cond, eqb, ltb, Option, Some, None, List, [], ◌∷◌, length, arith}
+use Rattle.std.proofs.Common.{◌≡◌, ◌≢◌, ◌⊎◌, inl, inr, ℕ, zero, suc, ◌+◌, ◌≤◌, ◌<◌, refl, sym, ap, subst, ◌∙◌, Bool, true, false, cond, eqb, ltb, Option, Some, None, List, length, arith}
 use Rattle.std.specs.Prelude.{count_by, is_some}
 use Rattle.std.specs.List.{list_all, range_with_len}
 use Rattle.std.specs.Ordering.{eq_by_cmp}
-use Rattle.std.proofs.lemmas.Bool.{and_parts, cases_Bool, false≢true}
+use Rattle.std.proofs.lemmas.Bool.{and_parts, false≢true}
 use Rattle.std.proofs.lemmas.Bool.Decides.{nat_tests}
 use Rattle.std.proofs.lemmas.List.Sums.{sum_by-cons}
 use Rattle.lwc_base.specs.declared.cell.Cell.{Cell}
@@ -15,60 +15,40 @@ use Rattle.lwc_base.specs.declared.page.PageValue.{PageValue}
 use Rattle.lwc_base.specs.declared.page.PageValue.TheVariants.{Zero, Data}
 use Rattle.lwc_base.specs.declared.page.TheConstants.{PAGE_BYTES}
 use Rattle.lwc_base.specs.Cells.{page_at, put_page}
-use Rattle.lwc_base.specs.Frames.{is_parting, own_value, tag_of, tags, tags_of_context, tags_of_group, used}
+use Rattle.lwc_base.specs.Frames.{is_parting, own_value, tag_of, tags, used}
 use Rattle.lwc_base.specs.Holders.{InCell, Keeps}
 use Rattle.lwc_base.specs.Memory.{is_present, touched}
 use Rattle.lwc_base.specs.Modes.{number_of}
 use Rattle.lwc_base.specs.Names.{tag_cmp}
 use Rattle.lwc_base.specs.Pages.{bytes_of}
-use Rattle.lwc_base.specs.Registers.{fresh_registers}
 use Rattle.lwc_base.specs.Sound.{IsSound, IsSoundPage, sound_pages}
 use Rattle.lwc_base.specs.Store.{Piece, Done, after_store, bytes_after, page_value_at, parting_count, plan, put_pages, store, stored_value}
-use Rattle.lwc_base.specs.World.{World, Counters, context, group, is_live, new_context, new_group, change_counters}
+use Rattle.lwc_base.specs.World.{World, Counters, context, group, is_live, change_counters}
 use Rattle.lwc_base.proofs.Common.{put-other_key}
 use Rattle.lwc_base.proofs.Fresh.{fresh-after_store}
-use Rattle.lwc_base.proofs.Holders.{keeps-change_counters, keeps-put_at, keeps-weaker}
+use Rattle.lwc_base.proofs.Holders.{keeps-change_counters, keeps-put_at}
 use Rattle.lwc_base.proofs.Orders.{same_tag, tag-itself}
 use Rattle.lwc_base.proofs.Puts.{names-put_at, takes-after_store}
-use Rattle.lwc_base.proofs.Sound.{groups-change_counters, groups-put_pages, page_at-sound, sound_value-extends}
+use Rattle.lwc_base.proofs.Sound.{groups-change_counters, groups-put_pages, page_at-sound, pages-extends}
 use Rattle.lwc_base.proofs.Stored.{IsDone, first_touched, is_done, length-bytes_after, length-zero_page, present_value, touched_count, touched-range}
-use Rattle.lwc_base.proofs.Tags.{sum_nothing, total-none, times, times-context, times-group, times-itself, times-other, times-put_page, times-tags, used-more, used-same}
+use Rattle.lwc_base.proofs.Tags.{times, times-itself, times-nothing, times-other, times-put_page, used-more, used-same}
 
--- a tag that has not been taken, where each page is sound, is at no holder
-module _ (w u : World) (home : Tag → ℕ) (keeps : Keeps (sound_pages w home) u) (t : Tag) (new : (w.next t.job).tags ≤ t.k) where
-  times-new_page : (p : ℕ) (value : Option PageValue) → IsSoundPage w home p value → times t (tag_of value) ≡ 0
-  times-new_page p None is = refl
-  times-new_page p (Some Zero) is = refl
-  times-new_page p (Some (Data s bytes)) is = times-other t s (λ same. grind arith)
+-- a tag that has not been taken, or is at home elsewhere, is not that of a sound page
+times-page : (w : World) (home : Tag → ℕ) (t : Tag) (p : ℕ) (value : Option PageValue) → IsSoundPage w home p value → ((w.next t.job).tags ≤ t.k) ⊎ (home t ≢ p) →
+    times t (tag_of value) ≡ 0
+times-page w home t p None is other = refl
+times-page w home t p (Some Zero) is other = refl
+times-page w home t p (Some (Data s bytes)) is other = times-other t s (λ same. elim other [ inl new ↦ grind arith | inr far ↦ grind arith ])
 
-  times-new_cell : (job p : ℕ) (cell : Cell (Option PageValue)) → InCell (sound_pages w home) job (Page p) cell → times t (tag_of (own_value cell)) ≡ 0
-  times-new_cell job p (Own value) is = times-new_page p value is
-  times-new_cell job p (Common g) is = refl
-
-  times-new : times t (tags u) ≡ 0
-  unfolding context group
-  times-new =
-      omega (
-        arith,
-        times-tags t u,
-        total-none (λ x. times t (tags_of_context u.size.pages x)) u.contexts (new_context 0 (fresh_registers 0))
-            (λ c live. times-context t u.size.pages (context u c) ∙ sum_nothing _ (λ p. times-new_cell c.job p ((context u c).cell (Page p)) (keeps.contexts c live (Page p))) (range_with_len 0 u.size.pages)),
-        total-none (λ x. times t (tags_of_group u.size.pages x)) u.groups new_group
-            (λ g live. times-group t u.size.pages (group u g) ∙ sum_nothing _ (λ p. times-new_page p ((group u g).value (Page p)) (keeps.groups g live (Page p))) (range_with_len 0 u.size.pages)),
-      )
-
--- one holder gives up its tag for another, and the tag that it gives up is at another holder too
-module _ (u v : World) (gone come : List Tag) (change : (t : Tag) → times t (tags v) + times t gone ≡ times t (tags u) + times t come) where
-  used-step_more : (new : Tag) → come ≡ new ∷ [] → times new (tags u) ≡ 0 → ((t : Tag) → (times t gone ≡ 0) ⊎ ((times t gone ≡ 1) × (2 ≤ times t (tags u)))) → used v ≡ used u + 1
-  used-step_more new is none stays =
-      used-more u v new none (λ t.
-      let split = change t in
-      let left = stays t in
-      let one = ap (times t) is in
-      grind (arith, nat_tests, same_tag, times-itself t, times-other t new, tag-itself))
-
-  used-step_same : come ≡ gone → used v ≡ used u
-  used-step_same is = used-same u v (λ t. let same : times t (tags v) ≡ times t (tags u) = omega (arith, change t, ap (times t) is) in ap (ltb 0) same)
+-- and a new tag is at no holder
+times-new : (w u : World) (home : Tag → ℕ) → Keeps (sound_pages w home) u → (t : Tag) → (w.next t.job).tags ≤ t.k → times t (tags u) ≡ 0
+times-new w u home keeps t new =
+    times-nothing t u (λ c live p. cell c.job p ((context u c).cell (Page p)) (keeps.contexts c live (Page p)))
+    (λ g live p. times-page w home t p ((group u g).value (Page p)) (keeps.groups g live (Page p)) (inl new))
+  where
+    cell : (job p : ℕ) (cell : Cell (Option PageValue)) → InCell (sound_pages w home) job (Page p) cell → times t (tag_of (own_value cell)) ≡ 0
+    cell job p (Own value) is = times-page w home t p value is (inl new)
+    cell job p (Common g) is = refl
 
 in_world : (w : World) (home : Tag → ℕ) (p : ℕ) (value : PageValue) → IsSoundPage w home p (Some value) → p < w.size.pages
 in_world w home p value is = grind arith
@@ -93,12 +73,13 @@ module _ (w : World) (c : Name) (job : ℕ) (piece : Piece) where
   rises-counted : (k m j : ℕ) → k ≤ m → ((counted k).next j).tags ≤ ((counted m).next j).tags
   rises-counted k m j less = grind (arith, nat_tests)
 
-  -- pages before one have got their new values, and the tags up to a number are taken; the other pages, and their tags, are as they were
+  -- pages before one have got their new values, and the tags up to a number are taken, each with its frame; the other pages, and their tags, are as they were
   record IsStage (u : World) (k a : ℕ) : Type 0 where
     home : Tag → ℕ
     cells : Keeps (sound_pages (counted k) home) u
     live : is_live u c ≡ true
     size : u.size ≡ w.size
+    frames : used u + taken ≡ used w + k
     pages : (p : ℕ) → a ≤ p → page_at u c p ≡ page_at w c p
     counts : (p : ℕ) (t : Tag) (bytes : List ℕ) → a ≤ p → page_at w c p ≡ Some (Data t bytes) → times t (tags u) ≡ times t (tags w)
 
@@ -112,99 +93,84 @@ module _ (w : World) (c : Name) (job : ℕ) (piece : Piece) where
       abbrev next : World
       next = put_page u c a new
 
-      within : a < u.size.pages
-      within = let small = in_world (counted k) stage.home a value (sound_page a value (omega arith) is) in grind (arith, stage.size)
-
-      change : (t : Tag) → times t (tags next) + times t (tag_of (Some value)) ≡ times t (tags u) + times t (tag_of (Some new))
-      change t = times-put_page t u c a new value within (stage.pages a (omega arith) ∙ is)
-
-      next_stage : (m : ℕ) (later : Tag → ℕ) → k ≤ m → ((t : Tag) → t.k < ((counted k).next t.job).tags → later t ≡ stage.home t) → IsSoundPage (counted m) later a (Some new) →
-          ((p : ℕ) (t : Tag) (bytes : List ℕ) → a < p → page_at w c p ≡ Some (Data t bytes) → times t (tag_of (Some new)) ≡ times t (tag_of (Some value))) → IsStage next m (a + 1)
-      next_stage m later more same sound counts = record {
-        home = later;
-        cells = keeps-put_at (sound_pages (counted m) later) u c (Page a) (Some new) sound (λ g _. sound)
-            (keeps-weaker (sound_pages (counted k) stage.home) (sound_pages (counted m) later) (λ i q g here. tt)
-            (λ i. sound_value-extends (counted k) (counted m) stage.home later refl (λ j. rises-counted k m j more) same) u stage.cells);
-        live = (names-put_at u c (Page a) (Some new)).live c ∙ stage.live;
-        size = (names-put_at u c (Page a) (Some new)).size ∙ stage.size;
-        pages = λ p past. put-other_key u c (Page a) (Some new) c (Page p) (λ e. omega (arith, ap number_of e, past)) ∙ stage.pages p (omega (arith, past));
-        counts = λ p t bytes past there. omega (arith, change t, counts p t bytes (omega (arith, past)) there, stage.counts p t bytes (omega (arith, past)) there);
-      }
-
-    -- a tag of a later page is not the new one, nor one of this page
-    later_tag : (value : PageValue) (p : ℕ) (t : Tag) (old : List ℕ) → page_at w c a ≡ Some value → a < p → page_at w c p ≡ Some (Data t old) →
-        (times t (new_tag k ∷ []) ≡ 0) × (times t (tag_of (Some value)) ≡ 0)
-    later_tag value p t old is past there =
-        let other = (sound_page p (Data t old) (omega (arith, past)) there).1 in
-        (times-other t (new_tag k) (λ same. let taken = other.old in grind (arith, nat_tests)), at value (sound_page a value (omega arith) is) other.at_home)
-      where
-        at : (v : PageValue) → IsSoundPage (counted k) stage.home a (Some v) → stage.home t ≡ p → times t (tag_of (Some v)) ≡ 0
-        at Zero mine home = refl
-        at (Data s bytes) mine home = times-other t s (λ same. let at_a = mine.1.at_home in grind arith)
-
-    record IsStep (parting : Bool) (new : PageValue) : Type 0 where
-      frames : used (put_page u c a new) ≡ used u + cond parting 1 0
-      after : IsStage (put_page u c a new) (cond parting (k + 1) k) (a + 1)
-
-    module _ (value : PageValue) (is : page_at w c a ≡ Some value) where
       here : IsSoundPage (counted k) stage.home a (Some value)
       here = sound_page a value (omega arith) is
 
+      change : (t : Tag) → times t (tags next) + times t (tag_of (Some value)) ≡ times t (tags u) + times t (tag_of (Some new))
+      change t =
+          let within = in_world (counted k) stage.home a value here in
+          times-put_page t u c a new value (grind (arith, stage.size)) (stage.pages a (omega arith) ∙ is)
+
+      next_stage : (m : ℕ) (later : Tag → ℕ) → k ≤ m → ((t : Tag) → t.k < ((counted k).next t.job).tags → later t ≡ stage.home t) → IsSoundPage (counted m) later a (Some new) →
+          used next + taken ≡ used w + m → IsStage next m (a + 1)
+      next_stage m later more same sound frames = record {
+        home = later;
+        cells = keeps-put_at (sound_pages (counted m) later) u c (Page a) (Some new) sound (λ g _. sound)
+            (pages-extends (counted k) (counted m) stage.home later refl (λ j. rises-counted k m j more) same u stage.cells);
+        live = (names-put_at u c (Page a) (Some new)).live c ∙ stage.live;
+        size = (names-put_at u c (Page a) (Some new)).size ∙ stage.size;
+        frames = frames;
+        pages = λ p past. put-other_key u c (Page a) (Some new) c (Page p) (λ e. omega (arith, ap number_of e, past)) ∙ stage.pages p (omega (arith, past));
+        counts = λ p t bytes past there.
+            let mine = (sound_page p (Data t bytes) (omega (arith, past)) there).1 in
+            let away : stage.home t ≢ a = λ at_a. omega (arith, at_a, mine.at_home, past) in
+            let far : later t ≢ a = λ at_a. away (sym (same t mine.old) ∙ at_a) in
+            omega (
+              arith, change t, times-page (counted k) stage.home t a (Some value) here (inr away), times-page (counted m) later t a (Some new) sound (inr far),
+              stage.counts p t bytes (omega (arith, past)) there,
+            );
+      }
+
+    -- a tag of a page that parts is at another holder too
+    at_others : (value : PageValue) → page_at w c a ≡ Some value → is_parting w value ≡ true → (t : Tag) → 0 < times t (tag_of (Some value)) → times t (tag_of (Some value)) < times t (tags u)
+    unfolding is_parting
+    at_others Zero is parted t some = absurd (omega (arith, some))
+    at_others (Data s old) is parted t some =
+        let same = stage.counts a s old (omega arith) is in grind (arith, nat_tests, same_tag t s, times-itself t, times-other t s)
+
+    module _ (value : PageValue) (is : page_at w c a ≡ Some value) where
       abbrev bytes : List ℕ
       bytes = bytes_after piece a (bytes_of value)
 
       whole : length bytes ≡ PAGE_BYTES
-      whole = length-bytes_after piece a (bytes_of value) ∙ whole_page (counted k) stage.home a value here
+      whole = length-bytes_after piece a (bytes_of value) ∙ whole_page (counted k) stage.home a value (here value value is)
 
-      -- a page that parts takes a new tag, and its old one, if it had one, is at another holder too
-      step_more : ((t : Tag) → (times t (tag_of (Some value)) ≡ 0) ⊎ ((times t (tag_of (Some value)) ≡ 1) × (2 ≤ times t (tags u)))) → IsStep true (Data (new_tag k) bytes)
-      step_more others =
+      -- a page that parts takes a new tag
+      step_more : is_parting w value ≡ true → IsStage (put_page u c a (Data (new_tag k) bytes)) (k + 1) (a + 1)
+      step_more parted =
+          let new : PageValue = Data (new_tag k) bytes in
           let none : times (new_tag k) (tags u) ≡ 0 = times-new (counted k) u stage.home stage.cells (new_tag k) (grind (arith, nat_tests)) in
-          let later : Tag → ℕ = λ t. cond (eq_by_cmp tag_cmp t (new_tag k)) a (stage.home t) in
-          record {
-            frames = used-step_more u (put_page u c a (Data (new_tag k) bytes)) (tag_of (Some value)) (new_tag k ∷ []) (change value (Data (new_tag k) bytes) is) (new_tag k) refl none others;
-            after = next_stage value (Data (new_tag k) bytes) is (k + 1) later (omega arith) (λ t old. grind (arith, nat_tests, same_tag t (new_tag k)))
-                (in_world (counted k) stage.home a value here, record { whole = whole; old = grind (arith, nat_tests); at_home = grind (arith, tag-itself (new_tag k)) })
-                (λ p t old past there. let both = later_tag value p t old is past there in both.0 ∙ sym both.1);
-          }
+          let more = used-more u (put_page u c a new) (new_tag k) none (λ t.
+          let split = change value new is t in
+          let others = at_others value is parted t in
+          grind (arith, nat_tests, same_tag, times-itself t, times-other t (new_tag k), tag-itself)) in
+          next_stage value new is (k + 1) (λ t. cond (eq_by_cmp tag_cmp t (new_tag k)) a (stage.home t)) (omega arith) (λ t old. grind (arith, nat_tests, same_tag t (new_tag k)))
+          (in_world (counted k) stage.home a value (here value value is), record { whole = whole; old = grind (arith, nat_tests); at_home = grind (arith, tag-itself (new_tag k)) })
+          (omega (arith, more, stage.frames))
 
-    step_by : (value : PageValue) (parting : Bool) (is : page_at w c a ≡ Some value) → is_parting w value ≡ parting → IsStep parting (stored_value parting (new_tag k) value (bytes_after piece a (bytes_of value)))
+    step : (value : PageValue) (parting : Bool) (is : page_at w c a ≡ Some value) → is_parting w value ≡ parting →
+        IsStage (put_page u c a (stored_value parting (new_tag k) value (bytes_after piece a (bytes_of value)))) (cond parting (k + 1) k) (a + 1)
     unfolding is_parting
-    step_by Zero true is parted = step_more Zero is (λ t. inl refl)
-    step_by Zero false is parted = absurd (false≢true (sym parted))
-    step_by (Data t old) true is parted =
-        let same = stage.counts a t old (omega arith) is in
-        step_more (Data t old) is (λ r. elim (cases_Bool (eq_by_cmp tag_cmp r t)) [
-          | inl tied ↦ inr (grind (arith, same_tag r t, times-itself r), grind (arith, nat_tests, same_tag r t))
-          | inr other ↦ inl (times-other r t (λ e. grind (arith, tag-itself r)))
-        ])
-    step_by (Data t old) false is parted =
-        let mine = here (Data t old) is in
+    step Zero true is parted = step_more Zero is parted
+    step Zero false is parted = absurd (false≢true (sym parted))
+    step (Data t old) true is parted = step_more (Data t old) is parted
+    step (Data t old) false is parted =
+        let mine = here (Data t old) Zero is in
         let new : PageValue = Data t (bytes_after piece a old) in
-        let same = used-step_same u (put_page u c a new) (t ∷ []) (t ∷ []) (change (Data t old) new is) refl in
-        record {
-          frames = omega (arith, same);
-          after = next_stage (Data t old) new is k stage.home (omega arith) (λ r taken_r. refl)
-              (mine.0, record { whole = whole (Data t old) is; old = mine.1.old; at_home = mine.1.at_home }) (λ p r other past there. refl);
-        }
+        let same : used (put_page u c a new) ≡ used u = used-same u _ (λ r. let split = change (Data t old) new is r in ap (ltb 0) (omega (arith, split))) in
+        next_stage (Data t old) new is k stage.home (omega arith) (λ r _. refl) (mine.0, record { whole = whole (Data t old) is; old = mine.1.old; at_home = mine.1.at_home })
+        (omega (arith, same, stage.frames))
 
-  -- once pages have got their new values: each that parts has taken a frame and a tag
-  record IsStored (u v : World) (k : ℕ) (ps : List ℕ) : Type 0 where
-    frames : used v ≡ used u + count_by parts ps
-    last : ℕ
-    is_last : last ≡ k + count_by parts ps
-    home : Tag → ℕ
-    cells : Keeps (sound_pages (counted last) home) v
-
+  -- once pages have got their new values: each that parts has taken a tag
   stored : (n a k : ℕ) (u : World) → IsStage u k a → list_all (λ p. is_some (page_at w c p)) (range_with_len a n) ≡ true →
-      IsStored u (put_pages u c (plan w c job piece k (range_with_len a n))) k (range_with_len a n)
-  stored zero a k u stage present = record { frames = omega arith; last = k; is_last = omega arith; home = stage.home; cells = stage.cells }
+      (last : ℕ) × (end : ℕ) × (last ≡ k + count_by parts (range_with_len a n)) × IsStage (put_pages u c (plan w c job piece k (range_with_len a n))) last end
+  stored zero a k u stage present = (k, a, omega arith, stage)
   stored (suc n) a k u stage present =
       let there = and_parts (is_some (page_at w c a)) (list_all (λ p. is_some (page_at w c p)) (range_with_len (a + 1) n)) present in
-      let step = step_by u k a stage (page_value_at w c a) (parts a) (present_value (page_at w c a) there.0) refl in
-      let rest = stored n (a + 1) (cond (parts a) (k + 1) k) _ step.after there.1 in
+      let rest = stored n (a + 1) (cond (parts a) (k + 1) k) _ (step u k a stage (page_value_at w c a) (parts a) (present_value (page_at w c a) there.0) refl) there.1 in
       let split = sum_by-cons (λ p. cond (parts p) 1 0) a (range_with_len (a + 1) n) in
-      record { frames = omega (arith, step.frames, rest.frames, split); last = rest.last; is_last = grind (arith, rest.is_last); home = rest.home; cells = rest.cells }
+      let count = rest.2 in
+      (rest.0, rest.1, grind arith, rest.3)
 
   module _ (sound : IsSound w) (live : is_live w c ≡ true) (present : is_present w c piece.at (length piece.bytes) ≡ true) where
     abbrev after : World
@@ -213,45 +179,41 @@ module _ (w : World) (c : Name) (job : ℕ) (piece : Piece) where
     abbrev values : List (ℕ × PageValue)
     values = plan w c job piece taken (touched piece.at (length piece.bytes))
 
-    all_stored : IsStored w (put_pages w c values) taken (touched piece.at (length piece.bytes))
-    unfolding is_present
+    all_stored : (end : ℕ) × IsStage (put_pages w c values) (taken + parting_count w c piece) end
+    unfolding is_present parting_count
     all_stored =
         let first : IsStage w taken (first_touched piece.at) = record {
           home = sound.home;
-          cells = keeps-weaker (sound_pages w sound.home) (sound_pages (counted taken) sound.home) (λ i q g here. tt)
-              (λ i. sound_value-extends w (counted taken) sound.home sound.home refl (λ j. grind (arith, nat_tests)) (λ t old. refl)) w sound.pages;
+          cells = pages-extends w (counted taken) sound.home sound.home refl (λ j. grind (arith, nat_tests)) (λ t old. refl) w sound.pages;
           live = live;
           size = refl;
+          frames = refl;
           pages = λ p past. refl;
           counts = λ p t old past there. refl;
         } in
-        let touches : range_with_len (first_touched piece.at) (touched_count piece.at (length piece.bytes)) ≡ touched piece.at (length piece.bytes) = sym (touched-range piece.at (length piece.bytes)) in
-        subst (λ ps. list_all (λ p. is_some (page_at w c p)) ps ≡ true → IsStored w (put_pages w c (plan w c job piece taken ps)) taken ps) touches
-        (stored (touched_count piece.at (length piece.bytes)) (first_touched piece.at) taken w first) present
-
-    -- no change of counters changes the frames that are used
-    used-after_store : used after ≡ used (put_pages w c values)
-    unfolding after_store used tags change_counters
-    used-after_store = refl
+        let all = subst (λ ps. list_all (λ p. is_some (page_at w c p)) ps ≡ true →
+          (last : ℕ) × (end : ℕ) × (last ≡ taken + count_by parts ps) × IsStage (put_pages w c (plan w c job piece taken ps)) last end) (sym (touched-range piece.at (length piece.bytes)))
+        (stored (touched_count piece.at (length piece.bytes)) (first_touched piece.at) taken w first) present in
+        (all.1, subst (λ last. IsStage (put_pages w c values) last all.1) all.2 all.3)
 
     frames-after_store : used after ≡ used w + parting_count w c piece
-    unfolding parting_count
-    frames-after_store = used-after_store ∙ all_stored.frames
+    unfolding after_store used tags change_counters
+    frames-after_store = omega (arith, all_stored.1.frames)
 
     sound-after_store : IsSound after
-    unfolding parting_count after_store
+    unfolding after_store
     sound-after_store =
         let takes = takes-after_store w c job piece in
-        let all = all_stored in
-        let more : (j : ℕ) → ((counted all.last).next j).tags ≤ (after.next j).tags =
-        λ j. subst (λ (n : ℕ → Counters). ((counted all.last).next j).tags ≤ (n j).tags) (sym takes.next) (grind (arith, nat_tests, all.is_last)) in
+        let all = all_stored.1 in
+        let last : ℕ = taken + parting_count w c piece in
+        let more : (j : ℕ) → ((counted last).next j).tags ≤ (after.next j).tags =
+        λ j. subst (λ (n : ℕ → Counters). ((counted last).next j).tags ≤ (n j).tags) (sym takes.next) (grind (arith, nat_tests)) in
         record {
           fresh = fresh-after_store w c job piece sound.fresh;
           groups = groups-change_counters (put_pages w c values) job _ (groups-put_pages w c values sound.groups);
           home = all.home;
           pages = keeps-change_counters (sound_pages after all.home) (put_pages w c values) job _
-              (keeps-weaker (sound_pages (counted all.last) all.home) (sound_pages after all.home) (λ i q g here. tt)
-              (λ i. sound_value-extends (counted all.last) after all.home all.home takes.size more (λ t old. refl)) (put_pages w c values) all.cells);
+              (pages-extends (counted last) after all.home all.home takes.size more (λ t old. refl) (put_pages w c values) all.cells);
         }
 
 -- a store that is done

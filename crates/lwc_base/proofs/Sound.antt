@@ -115,6 +115,9 @@ module _ (w v : World) (home later : Tag → ℕ) (size : v.size ≡ w.size) (ne
   sound_value-extends (Slot n) value is = tt
   sound_value-extends Cred value is = tt
 
+  pub pages-extends : (u : World) → Keeps (sound_pages w home) u → Keeps (sound_pages v later) u
+  pages-extends = keeps-weaker (sound_pages w home) (sound_pages v later) (λ i q g here. tt) (λ i. sound_value-extends)
+
 module _ (w v : World) (home : Tag → ℕ) (more : Extends w v) where
   value-extends : (job : ℕ) (k : Key) (value : ValueOf k) → IsSoundValue w home k value → IsSoundValue v home k value
   value-extends job = sound_value-extends w v home home more.size (λ j. (more.next j).tags) (λ tag _. refl)

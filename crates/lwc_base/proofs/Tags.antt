@@ -1,10 +1,10 @@
 -- How often a tag is at holders: one holder gives up its tag for another when a value is put under a page.
-use Rattle.std.proofs.Common.{◌≡◌, ◌≢◌, ℕ, zero, suc, ◌+◌, ◌≤◌, ◌<◌, refl, sym, ap, ◌∙◌, Bool, true, false, cond, ltb, ◌||◌, ◌&&◌, Option, Some, None, List, [], ◌∷◌, arith}
+use Rattle.std.proofs.Common.{◌≡◌, ◌≢◌, ℕ, zero, suc, ◌+◌, ◌≤◌, ◌<◌, refl, sym, ap, ◌∙◌, true, cond, ltb, ◌||◌, Option, Some, None, List, [], ◌∷◌, arith}
 use Rattle.std.proofs.lemmas.Bool.Decides.{nat_tests}
 use Rattle.std.proofs.lemmas.List.Sums.{sum_by-append, sum_by-cons}
-use Rattle.std.specs.Prelude.{T, count_by, unwrap_or}
-use Rattle.std.specs.List.{flat_map, list_any, range_with_len, sum_by}
-use Rattle.std.specs.Ordering.{eq_by_cmp, is_eq, is_lt}
+use Rattle.std.specs.Prelude.{T, count_by, unwrap_or, ◌++◌}
+use Rattle.std.specs.List.{flat_map, list_any, range_with_len}
+use Rattle.std.specs.Ordering.{eq_by_cmp, is_eq}
 use Rattle.std.specs.FinMap as fm
 use Rattle.std.specs.FinMap.Entries.{below_all, find, is_sorted, length-put, put}
 use Rattle.std.specs.FinSet as set
@@ -17,7 +17,7 @@ use Rattle.lwc_base.specs.Cells.{page_at, put_page, with_cell, with_value}
 use Rattle.lwc_base.specs.Frames.{own_value, tag_of, tags, tags_of_context, tags_of_group, used}
 use Rattle.lwc_base.specs.Names.{name_cmp, tag_cmp}
 use Rattle.lwc_base.specs.Registers.{fresh_registers}
-use Rattle.lwc_base.specs.World.{World, Context, Group, context, group, new_context, new_group, change_context, change_group}
+use Rattle.lwc_base.specs.World.{World, Context, Group, context, group, is_live, new_context, new_group, change_context, change_group}
 use Rattle.lwc_base.proofs.Common.{value_at-cell}
 use Rattle.lwc_base.proofs.Lookups.{after_change_context, after_change_group, context-dead, group-dead}
 use Rattle.lwc_base.proofs.Orders.{name-itself, name_cmp-total, same_name, same_tag, tag-itself, tag_cmp-IsAntisymmetric, tag_cmp-total}
@@ -27,10 +27,8 @@ use Rattle.lwc_base.proofs.Puts.{after_put_at}
 abbrev pub times : Tag → List Tag → ℕ
 times t ts = count_by (λ u. is_eq (tag_cmp u t)) ts
 
-times-flat_map : {X : Type 0} (t : Tag) (f : X → List Tag) (xs : List X) → times t (flat_map f xs) ≡ sum_by (λ x. times t (f x)) xs
-times-flat_map t f [] = refl
-times-flat_map t f (x ∷ xs) =
-    omega (arith, times-flat_map t f xs, sum_by-append (λ u. cond (is_eq (tag_cmp u t)) 1 0) (f x) (flat_map f xs), sum_by-cons (λ y. times t (f y)) x xs)
+times-append : (t : Tag) (xs ys : List Tag) → times t (xs ++ ys) ≡ times t xs + times t ys
+times-append t xs ys = sum_by-append (λ u. cond (is_eq (tag_cmp u t)) 1 0) xs ys
 
 pub times-itself : (t : Tag) → times t (t ∷ []) ≡ 1
 times-itself t = grind (arith, tag-itself)
@@ -38,128 +36,102 @@ times-itself t = grind (arith, tag-itself)
 pub times-other : (t u : Tag) → u ≢ t → times t (u ∷ []) ≡ 0
 times-other t u other = grind (arith, same_tag)
 
--- a sum over a range of which one place has changed
-module _ (F G : ℕ → ℕ) (p : ℕ) (same : (q : ℕ) → q ≢ p → G q ≡ F q) where
-  sum_past : (n a : ℕ) → p < a → sum_by G (range_with_len a n) ≡ sum_by F (range_with_len a n)
-  sum_past zero a past = refl
-  sum_past (suc n) a past =
-      grind (arith, same a, sum_past n (a + 1) (omega arith), sum_by-cons G a (range_with_len (a + 1) n), sum_by-cons F a (range_with_len (a + 1) n))
+pub times-none : {X : Type 0} (t : Tag) (f : X → List Tag) → ((x : X) → times t (f x) ≡ 0) → (xs : List X) → times t (flat_map f xs) ≡ 0
+times-none t f none [] = refl
+times-none t f none (x ∷ xs) = omega (arith, none x, times-none t f none xs, times-append t (f x) (flat_map f xs))
 
-  sum_place : (n a : ℕ) → a ≤ p → p < a + n → sum_by G (range_with_len a n) + F p ≡ sum_by F (range_with_len a n) + G p
-  sum_place zero a low high = absurd (omega (arith, low, high))
-  sum_place (suc n) a low high =
-      grind (arith, same a, sum_past n (a + 1), sum_place n (a + 1), sum_by-cons G a (range_with_len (a + 1) n), sum_by-cons F a (range_with_len (a + 1) n))
+-- the tags of a range of places of which one has changed
+module _ (t : Tag) (F G : ℕ → List Tag) (p : ℕ) (same : (q : ℕ) → q ≢ p → G q ≡ F q) where
+  times-past : (n a : ℕ) → p < a → flat_map G (range_with_len a n) ≡ flat_map F (range_with_len a n)
+  times-past zero a past = refl
+  times-past (suc n) a past = grind (arith, same a, times-past n (a + 1))
 
--- a sum of nothing
-pub sum_nothing : {X : Type 0} (f : X → ℕ) → ((x : X) → f x ≡ 0) → (xs : List X) → sum_by f xs ≡ 0
-sum_nothing f none [] = refl
-sum_nothing f none (x ∷ xs) = omega (arith, none x, sum_nothing f none xs, sum_by-cons f x xs)
+  times-place : (n a : ℕ) → a ≤ p → p < a + n → times t (flat_map G (range_with_len a n)) + times t (F p) ≡ times t (flat_map F (range_with_len a n)) + times t (G p)
+  times-place zero a low high = absurd (omega (arith, low, high))
+  times-place (suc n) a low high =
+      let rest = times-place n (a + 1) in
+      grind (arith, same a, times-past n (a + 1), times-append t (G a) (flat_map G (range_with_len (a + 1) n)), times-append t (F a) (flat_map F (range_with_len (a + 1) n)))
 
-both_parts : (a b : Bool) → T (a && b) → T a × T b
-both_parts true b h = (tt, h)
-both_parts false b h = absurd h
+-- the tags of the rows of a table
+module _ {X : Type 0} (t : Tag) (H : X → List Tag) where
+  abbrev row : Name × X → List Tag
+  row e = H e.1
 
-module _ {X : Type 0} (H : X → ℕ) where
-  -- a sum over a sorted list in which one value is put where one was
-  sum_put : (k : Name) (v old : X) (es : List (Name × X)) → T (is_sorted name_cmp es) → find name_cmp k es ≡ Some old →
-      sum_by (λ e. H e.1) (put name_cmp k v es) + H old ≡ sum_by (λ e. H e.1) es + H v
-  sum_put k v old [] sorted found = cc
-  sum_put k v old (e ∷ es) sorted found =
+  times-put : (k : Name) (v old : X) (es : List (Name × X)) → T (is_sorted name_cmp es) → find name_cmp k es ≡ Some old →
+      times t (flat_map row (put name_cmp k v es)) + times t (H old) ≡ times t (flat_map row es) + times t (H v)
+  times-put k v old [] sorted found = cc
+  times-put k v old (e ∷ es) sorted found =
       let as_many = length-put name_cmp name_cmp-total k v (e ∷ es) sorted in
-      let rest = sum_put k v old es (both_parts (below_all name_cmp e.0 es) (is_sorted name_cmp es) sorted).1 in
-      grind (arith, sum_by-cons (λ (f : Name × X). H f.1) e es, sum_by-cons (λ (f : Name × X). H f.1) (e.0, v) es, sum_by-cons (λ (f : Name × X). H f.1) e (put name_cmp k v es))
+      let rest = times-put k v old es in
+      grind (arith, times-append t (H e.1) (flat_map row es), times-append t (H v) (flat_map row es), times-append t (H e.1) (flat_map row (put name_cmp k v es)))
 
-  -- a sum over one of which each value adds nothing
-  sum_none : (es : List (Name × X)) → T (is_sorted name_cmp es) → ((q : Name) (x : X) → find name_cmp q es ≡ Some x → H x ≡ 0) → sum_by (λ e. H e.1) es ≡ 0
-  sum_none [] sorted none = refl
-  sum_none (e ∷ es) sorted none =
-      let parts = both_parts (below_all name_cmp e.0 es) (is_sorted name_cmp es) sorted in
-      let first : H e.1 ≡ 0 = none e.0 e.1 (grind (arith, name-itself)) in
-      let rest : sum_by (λ (f : Name × X). H f.1) es ≡ 0 = sum_none es parts.1
-      (λ q x found. let gone = below e.0 es parts.0 in let here = none q x in grind (arith, same_name q e.0)) in
-      omega (arith, first, rest, sum_by-cons (λ (f : Name × X). H f.1) e es)
+  times-nowhere : (es : List (Name × X)) → T (is_sorted name_cmp es) → ((q : Name) (x : X) → find name_cmp q es ≡ Some x → times t (H x) ≡ 0) → times t (flat_map row es) ≡ 0
+  times-nowhere [] sorted none = refl
+  times-nowhere (e ∷ es) sorted none =
+      let gone = below e.0 es in
+      let rest = times-nowhere es (grind arith) (λ q x found. let here = none q x in grind (arith, same_name q e.0)) in
+      grind (arith, none e.0 e.1, name-itself, times-append t (H e.1) (flat_map row es))
     where
       below : (x : Name) (fs : List (Name × X)) → T (below_all name_cmp x fs) → find name_cmp x fs ≡ None
-      below x [] h = refl
-      below x (f ∷ fs) h =
-          let parts = both_parts (is_lt (name_cmp x f.0)) (below_all name_cmp x fs) h in
-          let rest = below x fs parts.1 in grind arith
-
-  -- the sum over the entries of a table
-  abbrev pub total : fm.FinMap name_cmp X → ℕ
-  total m = sum_by (λ e. H e.1) (fm.entries m)
+      below x [] all = refl
+      below x (f ∷ fs) all = let rest = below x fs in grind arith
 
   module _ (m : fm.FinMap name_cmp X) (d : X) where
-    pub total-put : (c : Name) (y : X) → fm.contains_key m c ≡ true → total (fm.insert m c y) + H (unwrap_or (fm.get m c) d) ≡ total m + H y
-    total-put c y live =
-        let place = sum_put c y (unwrap_or (fm.get m c) d) (fm.entries m) (fm.entries_sorted m) (grind (arith, fm.get-entries m c)) in
-        omega (arith, place, ap (sum_by (λ e. H e.1)) (fm.entries-insert name_cmp-total m c y))
+    times-insert : (c : Name) (y : X) → fm.contains_key m c ≡ true →
+        times t (flat_map row (fm.entries (fm.insert m c y))) + times t (H (unwrap_or (fm.get m c) d)) ≡ times t (flat_map row (fm.entries m)) + times t (H y)
+    times-insert c y live =
+        let place = times-put c y (unwrap_or (fm.get m c) d) (fm.entries m) (fm.entries_sorted m) (grind (arith, fm.get-entries m c)) in
+        omega (arith, place, ap (λ es. times t (flat_map row es)) (fm.entries-insert name_cmp-total m c y))
 
-    pub total-none : ((q : Name) → fm.contains_key m q ≡ true → H (unwrap_or (fm.get m q) d) ≡ 0) → total m ≡ 0
-    total-none none = sum_none (fm.entries m) (fm.entries_sorted m) (λ q x found. let here = none q in grind (arith, fm.get-entries m q))
+    times-table : ((q : Name) → fm.contains_key m q ≡ true → times t (H (unwrap_or (fm.get m q) d)) ≡ 0) → times t (flat_map row (fm.entries m)) ≡ 0
+    times-table none = times-nowhere (fm.entries m) (fm.entries_sorted m) (λ q x found. let here = none q in grind (arith, fm.get-entries m q))
 
 module _ (t : Tag) where
-  pub times-context : (pages : ℕ) (x : Context) → times t (tags_of_context pages x) ≡ sum_by (λ p. times t (tag_of (own_value (x.cell (Page p))))) (range_with_len 0 pages)
-  unfolding tags_of_context
-  times-context pages x = times-flat_map t (λ p. tag_of (own_value (x.cell (Page p)))) (range_with_len 0 pages)
-
-  pub times-group : (pages : ℕ) (x : Group) → times t (tags_of_group pages x) ≡ sum_by (λ p. times t (tag_of (x.value (Page p)))) (range_with_len 0 pages)
-  unfolding tags_of_group
-  times-group pages x = times-flat_map t (λ p. tag_of (x.value (Page p))) (range_with_len 0 pages)
-
-  pub times-tags : (w : World) → times t (tags w)
-      ≡ total (λ x. times t (tags_of_context w.size.pages x)) w.contexts + total (λ x. times t (tags_of_group w.size.pages x)) w.groups
+  times-tags : (w : World) → times t (tags w) ≡
+      times t (flat_map (λ e. tags_of_context w.size.pages e.1) (fm.entries w.contexts)) + times t (flat_map (λ e. tags_of_group w.size.pages e.1) (fm.entries w.groups))
   unfolding tags
-  times-tags w =
+  times-tags w = times-append t (flat_map (λ e. tags_of_context w.size.pages e.1) (fm.entries w.contexts)) (flat_map (λ e. tags_of_group w.size.pages e.1) (fm.entries w.groups))
+
+  -- a tag that no live context and no group has
+  pub times-nothing : (w : World) → ((c : Name) → is_live w c ≡ true → (p : ℕ) → times t (tag_of (own_value ((context w c).cell (Page p)))) ≡ 0) →
+      ((g : Name) → fm.contains_key w.groups g ≡ true → (p : ℕ) → times t (tag_of ((group w g).value (Page p))) ≡ 0) → times t (tags w) ≡ 0
+  unfolding tags_of_context tags_of_group context group
+  times-nothing w contexts groups =
+      let pages : List ℕ = range_with_len 0 w.size.pages in
       omega (
-        arith,
-        sum_by-append (λ u. cond (is_eq (tag_cmp u t)) 1 0) (flat_map (λ e. tags_of_context w.size.pages e.1) (fm.entries w.contexts)) (flat_map (λ e. tags_of_group w.size.pages e.1) (fm.entries w.groups)),
-        times-flat_map t (λ (e : Name × Context). tags_of_context w.size.pages e.1) (fm.entries w.contexts),
-        times-flat_map t (λ (e : Name × Group). tags_of_group w.size.pages e.1) (fm.entries w.groups),
+        arith, times-tags w,
+        times-table t (tags_of_context w.size.pages) w.contexts (new_context 0 (fresh_registers 0)) (λ c live. times-none t (λ p. tag_of (own_value ((context w c).cell (Page p)))) (contexts c live) pages),
+        times-table t (tags_of_group w.size.pages) w.groups new_group (λ g live. times-none t (λ p. tag_of ((group w g).value (Page p))) (groups g live) pages),
       )
-
-  -- another value in a context's own cell, or in a group
-  times-with_cell : (pages p : ℕ) (x : Context) (value : Option PageValue) → p < pages →
-      times t (tags_of_context pages (with_cell (Page p) (Own value) x)) + times t (tag_of (own_value (x.cell (Page p)))) ≡ times t (tags_of_context pages x) + times t (tag_of value)
-  times-with_cell pages p x value within =
-      let y : Context = with_cell (Page p) (Own value) x in
-      let place = sum_place (λ q. times t (tag_of (own_value (x.cell (Page q))))) (λ q. times t (tag_of (own_value (y.cell (Page q))))) p (λ q other. grind (arith, nat_tests)) pages 0 in
-      grind (arith, nat_tests, times-context pages x, times-context pages y)
-
-  times-with_value : (pages p : ℕ) (x : Group) (value : Option PageValue) → p < pages →
-      times t (tags_of_group pages (with_value (Page p) value x)) + times t (tag_of (x.value (Page p))) ≡ times t (tags_of_group pages x) + times t (tag_of value)
-  times-with_value pages p x value within =
-      let y : Group = with_value (Page p) value x in
-      let place = sum_place (λ q. times t (tag_of (x.value (Page q)))) (λ q. times t (tag_of (y.value (Page q)))) p (λ q other. grind (arith, nat_tests)) pages 0 in
-      grind (arith, nat_tests, times-group pages x, times-group pages y)
 
   module _ (w : World) (c : Name) (p : ℕ) (value old : PageValue) (within : p < w.size.pages) (is_old : page_at w c p ≡ Some old) where
     Changed : World → Type 0
     Changed v = times t (tags v) + times t (tag_of (Some old)) ≡ times t (tags w) + times t (tag_of (Some value))
 
     own_changed : (mine : Option PageValue) → (context w c).cell (Page p) ≡ Own mine → Changed (change_context w c (with_cell (Page p) (Own (Some value))))
-    unfolding Changed context
+    unfolding Changed context tags_of_context
     own_changed mine is =
         let same : mine ≡ Some old = sym (value_at-cell w c (Page p) (Own mine) is) ∙ is_old in
         after_change_context Changed w c (with_cell (Page p) (Own (Some value)))
         (λ live.
         let y : Context = with_cell (Page p) (Own (Some value)) (context w c) in
         let v : World = record w { contexts = fm.insert w.contexts c y } in
-        let put = total-put (λ z. times t (tags_of_context w.size.pages z)) w.contexts (new_context 0 (fresh_registers 0)) c y live in
-        let was : times t (tag_of (own_value ((context w c).cell (Page p)))) ≡ times t (tag_of (Some old)) = ap (λ cell. times t (tag_of (own_value cell))) (is ∙ ap Own same) in
-        omega (arith, put, was, times-with_cell w.size.pages p (context w c) (Some value) within, times-tags w, times-tags v))
+        let put = times-insert t (tags_of_context w.size.pages) w.contexts (new_context 0 (fresh_registers 0)) c y live in
+        let place = times-place t (λ q. tag_of (own_value ((context w c).cell (Page q)))) (λ q. tag_of (own_value (y.cell (Page q)))) p (λ q other. grind (arith, nat_tests)) w.size.pages 0 in
+        grind (arith, nat_tests, times-tags w, times-tags v))
         (λ dead. let none = context-dead w c dead in grind (arith, none))
 
     group_changed : (g : Name) → (context w c).cell (Page p) ≡ Common g → Changed (change_group w g (with_value (Page p) (Some value)))
-    unfolding Changed group
+    unfolding Changed group tags_of_group
     group_changed g is =
         let same : (group w g).value (Page p) ≡ Some old = sym (value_at-cell w c (Page p) (Common g) is) ∙ is_old in
         after_change_group Changed w g (with_value (Page p) (Some value))
         (λ live.
         let y : Group = with_value (Page p) (Some value) (group w g) in
         let v : World = record w { groups = fm.insert w.groups g y } in
-        let put = total-put (λ z. times t (tags_of_group w.size.pages z)) w.groups new_group g y live in
-        omega (arith, put, ap (λ o. times t (tag_of o)) same, times-with_value w.size.pages p (group w g) (Some value) within, times-tags w, times-tags v))
+        let put = times-insert t (tags_of_group w.size.pages) w.groups new_group g y live in
+        let place = times-place t (λ q. tag_of ((group w g).value (Page q))) (λ q. tag_of (y.value (Page q))) p (λ q other. grind (arith, nat_tests)) w.size.pages 0 in
+        grind (arith, nat_tests, same, times-tags w, times-tags v))
         (λ dead. let none = group-dead w g dead in grind (arith, none))
 
     -- one holder gives up its tag for another
