@@ -1,5 +1,5 @@
 -- Sound worlds: the empty world is one, and each change that a run makes keeps a world sound.
-use Rattle.std.proofs.Common.{◌≡◌, ◌≢◌, ℕ, ◌<◌, ◌≤◌, refl, sym, ap, subst, ◌∙◌, inl, inr, true, List, [], ◌∷◌, Some, None, arith, rules}
+use Rattle.std.proofs.Common.{◌≡◌, ◌≢◌, ℕ, ◌<◌, ◌≤◌, refl, sym, ap, subst, ◌∙◌, inl, inr, true, List, Some, None, arith, rules}
 use Rattle.std.specs.FinMap as fm
 use Rattle.std.proofs.lemmas.Bool.{cases_Bool}
 use Rattle.lwc_base.specs.declared.cell.Cell.{Cell}
@@ -11,11 +11,10 @@ use Rattle.lwc_base.specs.declared.key.Key.{Key}
 use Rattle.lwc_base.specs.declared.key.Key.TheVariants.{Page, Slot, Cred}
 use Rattle.lwc_base.specs.declared.name.Name.{Name}
 use Rattle.lwc_base.specs.declared.name.Tag.{Tag}
-use Rattle.lwc_base.specs.declared.page.PageValue.{PageValue}
 use Rattle.lwc_base.specs.declared.page.PageValue.TheVariants.{Zero, Data}
 use Rattle.lwc_base.specs.declared.regs.Regs.{Regs}
 use Rattle.lwc_base.specs.declared.size.WorldSize.{WorldSize}
-use Rattle.lwc_base.specs.Cells.{page_at, put_at, put_page, put_slot, put_uid, with_value}
+use Rattle.lwc_base.specs.Cells.{page_at, put_at, put_slot, put_uid, with_value}
 use Rattle.lwc_base.specs.Facts.{ChangesGroup, SharesValues}
 use Rattle.lwc_base.specs.Fresh.{IsFresh, Rises, named_groups}
 use Rattle.lwc_base.specs.Holders.{Rules, everywhere, InCell, InContext, Keeps}
@@ -24,7 +23,6 @@ use Rattle.lwc_base.specs.Mapping.{map_pages, unmap_pages}
 use Rattle.lwc_base.specs.Modes.{mode_or_copy}
 use Rattle.lwc_base.specs.Sharing.{cloned_context, clone_context, is_moved, moved_value, moved_values, needs_group, share}
 use Rattle.lwc_base.specs.Sound.{HasItsGroups, HasValue, IsSound, IsSoundPage, IsSoundValue, live_groups, sound_pages}
-use Rattle.lwc_base.specs.Store.{put_pages}
 use Rattle.lwc_base.specs.World.{World, Context, Counters, Group, context, group, is_live, new_context, new_value, change_context, change_counters, change_group, add_context, empty_world, next_group}
 use Rattle.lwc_base.proofs.Fresh.{fresh-empty_world, fresh-put_at, fresh-map_pages, fresh-unmap_pages, fresh-add_context, fresh-share, rises-itself, rises-with_context, rises-with_group}
 use Rattle.lwc_base.proofs.Holders.{keeps-weaker, in_cell-weaker, keeps-empty_world, keeps-change_counters, keeps-put_at, keeps-on_pages, keeps-add_context, keeps-share, value_at-keeps, in_clone, lets-everywhere}
@@ -39,9 +37,6 @@ pub record Extends (w v : World) : Type 0 where
   pub next : (job : ℕ) → Rises (w.next job) (v.next job)
   pub values : (k : Key) (g : Name) → HasValue w k g → HasValue v k g
 
-rises-then : (l m n : Counters) → Rises l m → Rises m n → Rises l n
-rises-then l m n one two = search rules
-
 rises-same : (next later : ℕ → Counters) (job : ℕ) → later ≡ next → Rises (next job) (later job)
 rises-same next later job same = subst (λ (n : ℕ → Counters). Rises (next job) (n job)) (sym same) (rises-itself (next job))
 
@@ -50,9 +45,6 @@ has_value-same w v k g live same has = search rules
 
 pub extends-itself : (w : World) → Extends w w
 extends-itself w = search (rules, rises-itself)
-
-pub extends-then : (u v w : World) → Extends u v → Extends v w → Extends u w
-extends-then u v w first second = search (rules, rises-then)
 
 -- a change of one context
 pub extends-change_context : (w : World) (c : Name) (f : Context → Context) → Extends w (change_context w c f)
@@ -150,10 +142,6 @@ groups-put_at w c k value there groups =
     let v : World = put_at w c k value in
     keeps-put_at (live_groups v) w c k value tt (λ g _. tt)
     (keeps-weaker (live_groups w) (live_groups v) (λ job. (extends-put_at w c k value there).values) (λ job k value is. tt) w groups)
-
-pub groups-put_pages : (w : World) (c : Name) (values : List (ℕ × PageValue)) → HasItsGroups w → HasItsGroups (put_pages w c values)
-groups-put_pages w c [] groups = groups
-groups-put_pages w c (v ∷ vs) groups = groups-put_pages (put_page w c v.0 v.1) c vs (groups-put_at w c (Page v.0) (Some v.1) refl groups)
 
 pub groups-change_counters : (w : World) (job : ℕ) (f : Counters → Counters) → HasItsGroups w → HasItsGroups (change_counters w job f)
 unfolding change_counters group

@@ -1,7 +1,7 @@
 -- What a store that is done has found and leaves, and the pages that it touches.
-use Rattle.std.proofs.Common.{◌≡◌, ℕ, zero, suc, ◌+◌, ◌-◌, ◌*◌, ◌/◌, ◌<◌, ◌≤◌, Bool, true, cond, eqb, Option, Some, List, length, arith}
+use Rattle.std.proofs.Common.{◌≡◌, ℕ, ◌+◌, ◌-◌, ◌*◌, ◌/◌, ◌<◌, ◌≤◌, true, cond, eqb, Option, Some, List, length, arith}
 use Rattle.std.specs.Prelude.{is_some, slice_index, unwrap_or}
-use Rattle.std.specs.List.{list_all, range_with_len}
+use Rattle.std.specs.List.{range_with_len}
 use Rattle.std.proofs.lemmas.Bool.Decides.{nat_tests}
 use Rattle.std.proofs.lemmas.List.{length-replicate}
 use Rattle.std.proofs.lemmas.List.FromFn.{length-map-range_with_len}
@@ -37,11 +37,6 @@ length-bytes_after piece p old = length-map-range_with_len (λ i. byte_after pie
 -- a page that is there has a value
 pub present_value : (o : Option PageValue) → is_some o ≡ true → o ≡ Some (unwrap_or o Zero)
 present_value o is = grind arith
-
--- where each number of a range passes, one does
-pub all_in_range : (test : ℕ → Bool) (n a p : ℕ) → list_all test (range_with_len a n) ≡ true → a ≤ p → p < a + n → test p ≡ true
-all_in_range test zero a p all low high = grind arith
-all_in_range test (suc n) a p all low high = grind (arith, all_in_range test n (a + 1) p)
 
 -- the first page that bytes touch, and the number of these pages
 abbrev pub first_touched : ℕ → ℕ

@@ -1,4 +1,5 @@
-use Rattle.lwc_base.proofs.StoredBytes.{store-bytes, store-apart, store-common, store-other_keys}
+use Rattle.lwc_base.proofs.Room.{store-bytes}
+use Rattle.lwc_base.proofs.StoredBytes.{store-apart, store-common, store-other_keys}
 use Rattle.lwc_base.proofs.laws.storing.what_is_stored_reads_back.Goals as goal
 
 pub returns-clause-bytes : goal.returns-clause-bytes
