@@ -71,19 +71,14 @@ module _ (w v : World) (c d : Name) (items : List Item) (made : IsClone w v c d 
 
   -- the new context has a new name
   differs : (e : Name) → is_live w e ≡ true → (e ≢ d) × (e ≢ next_context between made.job)
-  differs e live =
-      let fresh = next_context-new w made.job made.fresh in
-      let named = made.named in
-      let same = next_context-share w c made.job items made.job in
-      ((λ is. grind arith), (λ is. grind arith))
+  differs e live = search (rules, next_context-new, next_context-share)
 
   as_shared : (e : Name) → is_live w e ≡ true → context v e ≡ context between e
   as_shared e live = adds.others e (differs e live).1
 
   cell-new : (k : Key) (mode : Mode) → mode_or_copy items k ≡ mode → (context v d).cell k ≡ cloned_cell between c k mode
   unfolding cloned_context
-  cell-new k mode is =
-      let added = adds.added in let named = made.named in let same = next_context-share w c made.job items made.job in grind arith
+  cell-new k mode is = search (rules, adds, next_context-share)
 
   -- the cells of the clone
   pub clone-copied : (k : Key) → mode_or_copy items k ≡ Copy → (context v d).cell k ≡ Own (value_at w c k)
@@ -110,8 +105,7 @@ module _ (w v : World) (c d : Name) (items : List Item) (made : IsClone w v c d 
 
   pub clone-moved : (k : Key) (value : ValueOf k) → mode_or_copy items k ≡ Share → IsKey w.size.pages k → (context w c).cell k ≡ Own value → is_there k value ≡ true →
       (context v c).cell k ≡ Common (next_group w made.job)
-  clone-moved k value mode within is there =
-      ap (λ (x : Context). x.cell k) (as_shared c made.live) ∙ cell-moves w c made.job items k made.live within (grind arith)
+  clone-moved k value mode within is there = search (rules, as_shared, cell-moves)
 
   -- each other context is as it was
   pub clone-others : (e : Name) → is_live w e ≡ true → e ≢ c → context v e ≡ context w e
@@ -154,9 +148,7 @@ module _ (w v : World) (c d : Name) (items : List Item) (made : IsClone w v c d 
   named_live a k g is = ap (λ (x : Context). x.cell k) (as_shared a (live_of_common w a k g is)) ∙ named-after w c made.job items a k g is
 
   group_live : (g : Name) → IsGroup w g → IsGroup v g
-  group_live g live =
-      let new_name = next_group-new w made.job made.fresh in
-      ap (λ m. fm.contains_key m g) adds.groups ∙ shares.still_live g (λ same. grind arith) ∙ live
+  group_live g live = search (rules, next_group-new, adds, shares)
 
   -- what contexts have in common stays so
   pub clone-keeps_common : (a b : Name) (k : Key) → HaveInCommon w a b k → HaveInCommon v a b k

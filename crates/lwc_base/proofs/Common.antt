@@ -1,5 +1,5 @@
 -- What two contexts have apart and in common, and what is read in each, after puts, stores, mappings, sharings and clones.
-use Rattle.std.proofs.Common.{◌≡◌, ◌≢◌, ◌⊎◌, ℕ, refl, sym, ap, subst, ◌∙◌, true, Option, Some, None, List, [], ◌∷◌, length, arith, rules}
+use Rattle.std.proofs.Common.{◌≡◌, ◌≢◌, ◌⊎◌, ℕ, refl, ap, subst, ◌∙◌, true, Option, Some, None, List, [], ◌∷◌, length, arith, rules}
 use Rattle.std.proofs.lemmas.Bool.Decides.{nat_tests}
 use Rattle.std.specs.FinMap as fm
 use Rattle.lwc_base.specs.declared.cell.Cell.{Cell}
@@ -161,15 +161,7 @@ module _ (w : World) (c : Name) (from to : ℕ) (value : Option PageValue) (a b 
   outside Cred old is = refl
 
   common-pages : IsOutside from to k ⊎ ((c ≢ a) × (c ≢ b)) → HaveInCommon w a b k → HaveInCommon (change_context w c paged) a b k
-  common-pages stays both =
-      let changes = changes-change_context w c paged in
-      let out = outside k (context w c).cell in
-      record {
-        group = both.group;
-        live = changes.names.groups both.group ∙ both.live;
-        first = let was = both.first in grind (arith, cases_name);
-        second = let was = both.second in grind (arith, cases_name);
-      }
+  common-pages stays both = search (rules, changes-change_context, outside, cases_name)
 
 pub apart-map_pages : (w : World) (c : Name) (from to : ℕ) (a b : Name) (k : Key) → AreApart w a b k → AreApart (map_pages w c from to) a b k
 unfolding map_pages
@@ -195,8 +187,7 @@ unfolding value_at
 value_at-common w a b k both = grind (arith, both.first, both.second)
 
 pub put-apart_first : (w : World) (a b : Name) (k : Key) → AreApart w a b k → (value : ValueOf k) → value_at (put_at w b k value) a k ≡ value_at w a k
-put-apart_first w a b k apart value =
-    put-apart w b k value a (record { differ = λ same. apart.differ (sym same); no_group = λ g one two. apart.no_group g two one })
+put-apart_first w a b k apart value = search (rules, put-apart)
 
 pub ruleset apart = (put-itself, put-other_key, put-apart, put-apart_first)
 

@@ -1,5 +1,5 @@
 -- Fresh worlds: the empty world is one, each change of a world keeps it so, and in it the next names of a job are new.
-use Rattle.std.proofs.Common.{◌≡◌, ℕ, ◌+◌, ◌<◌, sym, subst, ◌∙◌, inl, inr, true, false, eqb, Some, None, List, length, arith, rules}
+use Rattle.std.proofs.Common.{◌≡◌, ℕ, ◌+◌, ◌<◌, ◌∙◌, true, false, eqb, Some, None, List, length, arith, rules}
 use Rattle.std.proofs.lemmas.Bool.Decides.{nat_tests}
 use Rattle.std.proofs.lemmas.Bool.{cases_Bool, cond_both, eqb-true}
 use Rattle.std.specs.FinMap as fm
@@ -12,13 +12,13 @@ use Rattle.lwc_base.specs.declared.page.PageValue.TheVariants.{Zero}
 use Rattle.lwc_base.specs.declared.regs.Regs.{Regs}
 use Rattle.lwc_base.specs.declared.size.WorldSize.{WorldSize}
 use Rattle.lwc_base.specs.Cells.{put_at}
-use Rattle.lwc_base.specs.Facts.{KeepsNames, SharesValues, with_context, with_group}
+use Rattle.lwc_base.specs.Facts.{KeepsNames, with_context, with_group}
 use Rattle.lwc_base.specs.Fresh.{IsFresh, IsNamedContext, IsNamedGroup, Rises, named_groups}
 use Rattle.lwc_base.specs.Holders.{InCell, InContext, Keeps}
 use Rattle.lwc_base.specs.Keys.{ValueOf}
 use Rattle.lwc_base.specs.Mapping.{map_pages, unmap_pages}
 use Rattle.lwc_base.specs.Memory.{touched}
-use Rattle.lwc_base.specs.Sharing.{cloned_context, share, clone_context, needs_group}
+use Rattle.lwc_base.specs.Sharing.{cloned_context, share, clone_context}
 use Rattle.lwc_base.specs.Store.{Piece, after_store, parting_count, plan, put_pages}
 use Rattle.lwc_base.specs.World.{World, Context, Group, Counters, is_live, context, change_context, change_group, change_counters, empty_world, add_context, next_context, add_group, next_group}
 use Rattle.lwc_base.proofs.Holders.{keeps-weaker, in_cell-weaker, keeps-empty_world, keeps-insert_context, keeps-insert_group, keeps-change_context, keeps-change_group, keeps-change_counters, keeps-put_at, keeps-put_pages, keeps-on_pages, keeps-share, may_have-free, in_clone, lets-everywhere}
@@ -55,11 +55,7 @@ module _ (next later : ℕ → Counters) (rises : (job : ℕ) → Rises (next jo
 
 -- a fresh world stays fresh where no name is new
 fresh-names : (w v : World) → KeepsNames w v → (Keeps (named_groups w.next) w → Keeps (named_groups w.next) v) → IsFresh w → IsFresh v
-fresh-names w v names cells fresh = record {
-  contexts = λ c live. grind (arith, fresh.contexts c, names.live c);
-  groups = λ g live. grind (arith, fresh.groups g, names.groups g);
-  cells = subst (λ next. Keeps (named_groups next) v) (sym names.next) (cells fresh.cells);
-}
+fresh-names w v names cells fresh = search rules
 
 pub fresh-empty_world : (size : WorldSize) → IsFresh (empty_world size)
 unfolding empty_world
@@ -91,15 +87,7 @@ fresh-change_group w g f = fresh-names w _ (changes-change_group w g f).names (k
 
 pub fresh-change_counters : (w : World) (job : ℕ) (f : Counters → Counters) → Rises (w.next job) (f (w.next job)) → IsFresh w → IsFresh (change_counters w job f)
 unfolding change_counters
-fresh-change_counters w job f rises fresh =
-    let later : ℕ → Counters = (change_counters w job f).next in
-    let up : (j : ℕ) → Rises (w.next j) (later j) =
-    λ j. cond_both (eqb j job) (f (w.next j)) (w.next j) (Rises (w.next j)) (λ same. subst (λ i. Rises (w.next i) (f (w.next i))) (sym (eqb-true j job same)) rises) (λ _. search rules) in
-    record {
-      contexts = λ c live. omega (arith, fresh.contexts c live, (up c.job).contexts);
-      groups = λ g live. omega (arith, fresh.groups g live, (up g.job).groups);
-      cells = keeps-change_counters _ w job f (named_groups-rises w.next later up w fresh.cells);
-    }
+fresh-change_counters w job f rises fresh = search (rules, cond_both, eqb-true, keeps-change_counters, named_groups-rises)
 
 pub fresh-put_at : (w : World) (c : Name) (k : Key) (value : ValueOf k) → IsFresh w → IsFresh (put_at w c k value)
 fresh-put_at w c k value = fresh-names w _ (names-put_at w c k value) (keeps-put_at _ w c k value tt (λ g _. tt))
@@ -139,22 +127,7 @@ fresh-add_group w job x fresh =
 
 module _ (w : World) (c : Name) (job : ℕ) (items : List Item) (live : is_live w c ≡ true) (fresh : IsFresh w) where
   pub fresh-share : IsFresh (share w c job items)
-  fresh-share =
-      let v : World = share w c job items in
-      let shares : SharesValues w c job items v = shares-share w c job items in
-      elim (cases_Bool (needs_group w c items)) [
-        | inr none ↦ subst IsFresh (sym (shares.none none)) fresh
-        | inl needs ↦
-            let next : with_group w.next job ≡ v.next = sym (shares.next needs) in
-            let up : (j : ℕ) → Rises (w.next j) (v.next j) = λ j. subst (λ (n : ℕ → Counters). Rises (w.next j) (n j)) next (rises-with_group w.next job j) in
-            let new : IsNamedGroup v.next (next_group w job) = subst (λ n. IsNamedGroup n (next_group w job)) next (one_more_group w.next job) in
-            record {
-              contexts = λ d there. omega (arith, fresh.contexts d (sym (shares.live d) ∙ there), (up d.job).contexts);
-              groups = λ g there. grind (arith, cases_name, fresh.groups g, shares.still_live g, (up g.job).groups);
-              cells = keeps-share (named_groups v.next) w c job items live (λ i k. tt) (lets-everywhere _ _ c.job job)
-                  (named_groups-rises w.next v.next up w fresh.cells) (λ k _. new);
-            }
-      ]
+  fresh-share = search (rules, shares-share, cases_Bool, rises-with_group, one_more_group, cases_name, keeps-share, lets-everywhere, named_groups-rises)
 
   pub fresh-clone_context : (entry : Regs) → IsFresh (clone_context w c job items entry)
   unfolding clone_context

@@ -1,5 +1,5 @@
 -- The mode of a key is that of the one item that names it.
-use Rattle.std.proofs.Common.{◌≡◌, ℕ, zero, suc, ◌<◌, refl, ap, subst, true, false, Some, None, List, [], ◌∷◌, length, get_or, arith}
+use Rattle.std.proofs.Common.{◌≡◌, ℕ, zero, suc, ◌<◌, refl, ap, subst, true, false, Some, None, List, [], ◌∷◌, length, get_or, arith, rules}
 use Rattle.std.specs.Prelude.{All}
 use Rattle.std.specs.List.{find, AllPairs, Contains}
 use Rattle.std.specs.Option.{option_map}
@@ -25,8 +25,7 @@ find-named (x ∷ xs) (suc j) item key apart within is named =
 -- an item of a specifier that names a key gives it its mode
 pub mode-named : (pages : ℕ) (items : List Item) (item : Item) (key : Key) → IsSpec pages items → Contains items item → names item key ≡ true → mode items key ≡ Some item.mode
 unfolding mode
-mode-named pages items item key spec has named =
-    ap (option_map (λ (i : Item). i.mode)) (find-named items has.0 item key spec.apart has.1 has.2 named)
+mode-named pages items item key spec has named = search (rules, find-named)
 
 find-none : (items : List Item) (key : Key) → All (λ i. names i key ≡ false) items → find (λ i. names i key) items ≡ None
 find-none [] key fails = refl

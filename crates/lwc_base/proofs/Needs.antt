@@ -1,5 +1,5 @@
 -- When a group is needed: where a value moves under a key that there is.
-use Rattle.std.proofs.Common.{◌≡◌, ℕ, zero, suc, ◌+◌, ◌<◌, ◌≤◌, refl, true, false, Bool, List, arith}
+use Rattle.std.proofs.Common.{◌≡◌, ℕ, zero, suc, ◌+◌, ◌<◌, ◌≤◌, refl, true, false, Bool, List, arith, rules}
 use Rattle.std.specs.List.{list_any, range_with_len}
 use Rattle.std.proofs.lemmas.Bool.{or_from, or_left, or_right}
 use Rattle.lwc_base.specs.declared.cell.Cell.TheVariants.{Own}
@@ -34,10 +34,7 @@ any_key-some pages test Cred within passes = or_right _ _ passes
 -- none does
 any_key-none : (pages : ℕ) (test : Key → Bool) → ((k : Key) → IsKey pages k → test k ≡ false) → any_key pages test ≡ false
 unfolding any_key
-any_key-none pages test fails =
-    or_from _ _
-    (or_from _ _ (none_in_range (λ p. test (Page p)) pages 0 (λ p within. fails (Page p) (omega arith))) (none_in_range (λ n. test (Slot n)) SLOTS 0 (λ n within. fails (Slot n) (omega arith))))
-    (fails Cred (omega arith))
+any_key-none pages test fails = search (rules, or_from, none_in_range)
 
 module _ (w : World) (c : Name) (items : List Item) where
   abbrev moves : Key → Bool

@@ -1,5 +1,5 @@
 -- What a put, a mapping and a store leave as it was: no name is new or gone.
-use Rattle.std.proofs.Common.{◌≡◌, ℕ, true, false, List, [], ◌∷◌, length, arith, rules}
+use Rattle.std.proofs.Common.{◌≡◌, ℕ, true, false, List, [], ◌∷◌, arith, rules}
 use Rattle.lwc_base.specs.declared.cell.Cell.TheVariants.{Own, Common}
 use Rattle.lwc_base.specs.declared.key.Key.{Key}
 use Rattle.lwc_base.specs.declared.key.Key.TheVariants.{Page}
@@ -8,8 +8,7 @@ use Rattle.lwc_base.specs.declared.page.PageValue.{PageValue}
 use Rattle.lwc_base.specs.Cells.{put_at, put_page, with_cell, with_value}
 use Rattle.lwc_base.specs.Facts.{KeepsNames, TakesTags}
 use Rattle.lwc_base.specs.Keys.{ValueOf, is_there}
-use Rattle.lwc_base.specs.Memory.{touched}
-use Rattle.lwc_base.specs.Store.{Piece, after_store, parting_count, plan, put_pages}
+use Rattle.lwc_base.specs.Store.{Piece, after_store, parting_count, put_pages}
 use Rattle.lwc_base.specs.World.{World, context, is_live, change_context, change_counters, change_group}
 use Rattle.lwc_base.proofs.Lookups.{context-dead, keeps_names-itself, keeps_names-then, changes-change_context, changes-change_group}
 
@@ -37,5 +36,4 @@ names-put_pages w c (v ∷ vs) =
 
 pub takes-after_store : (w : World) (c : Name) (job : ℕ) (piece : Piece) → TakesTags w job (parting_count w c piece) (after_store w c job piece)
 unfolding after_store change_counters
-takes-after_store w c job piece =
-    let names = names-put_pages w c (plan w c job piece (w.next job).tags (touched piece.at (length piece.bytes))) in search rules
+takes-after_store w c job piece = search (rules, names-put_pages)

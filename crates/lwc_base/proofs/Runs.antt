@@ -1,5 +1,5 @@
 -- Present pages that are one run are one range, and where none is present there is no range.
-use Rattle.std.proofs.Common.{◌≡◌, ◌≢◌, ℕ, zero, suc, ◌+◌, ◌<◌, ◌≤◌, refl, Bool, true, false, cond, None, arith}
+use Rattle.std.proofs.Common.{◌≡◌, ◌≢◌, ℕ, zero, suc, ◌+◌, ◌<◌, ◌≤◌, refl, Bool, true, false, cond, None, arith, rules}
 use Rattle.std.specs.Prelude.{[], if◌then◌else◌, count_by}
 use Rattle.std.specs.List.{range_with_len}
 use Rattle.std.proofs.lemmas.List.Sums.{sum_by-cons}
@@ -37,11 +37,7 @@ module _ (pages from to : ℕ) (x : Context) (run : IsOneRun pages from to x) wh
 
   begins_nowhere_else : (p : ℕ) → p ≢ from → p < pages → begins_range x p ≡ false
   unfolding begins_range
-  begins_nowhere_else p other high =
-      let before = run.before p in
-      let joined = run.joined p in
-      let after = run.after p in
-      grind arith
+  begins_nowhere_else p other high = search rules
 
   pub ranges-one_run : ranges pages x ≡ 1
   unfolding ranges

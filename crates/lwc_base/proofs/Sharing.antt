@@ -88,12 +88,7 @@ module _ (w : World) (c : Name) (job : ℕ) (items : List Item) (fresh : IsFresh
   -- what is under a key of any context
   pub value_at-share : (d : Name) (k : Key) → value_at shared d k ≡ value_at w d k
   unfolding value_at with_shared moved_values
-  value_at-share d k =
-      let shares : SharesValues w c job items shared = shares-share w c job items in
-      let same = value_of-same shared w k ((context w d).cell k) (old_groups d k) in
-      let moved = value_of-moved shared w (next_group w job) k (mode_or_copy items k) ((context w c).cell k) in
-      let old = old_groups c k in
-      grind (arith, cases_name, moved)
+  value_at-share d k = search (rules, shares-share, value_of-same, old_groups, value_of-moved, cases_name)
 
 -- sharing changes no value
 pub ruleset shared_values = (value_at-share)

@@ -79,10 +79,7 @@ module _ (w : World) (sound : IsSound w) where
   in_sound_cell job k (Common g) group is = group
 
   pub sound-rules : Keeps (sound_rules w sound.home) w
-  sound-rules = record {
-    contexts = λ c live k. in_sound_cell c.job k ((context w c).cell k) (sound.groups.contexts c live k) (sound.pages.contexts c live k);
-    groups = sound.pages.groups;
-  }
+  sound-rules = search (rules, in_sound_cell)
 
 -- a world is sound whose cells and values are so
 pub sound-by : (w : World) (home : Tag → ℕ) → IsFresh w → Keeps (sound_rules w home) w → IsSound w
@@ -145,10 +142,7 @@ groups-put_at w c k value there groups =
 
 pub groups-change_counters : (w : World) (job : ℕ) (f : Counters → Counters) → HasItsGroups w → HasItsGroups (change_counters w job f)
 unfolding change_counters group
-groups-change_counters w job f groups =
-    let v : World = change_counters w job f in
-    keeps-change_counters (live_groups v) w job f
-    (keeps-weaker (live_groups w) (live_groups v) (λ i k g has. record { live = has.live; there = has.there }) (λ i k value is. tt) w groups)
+groups-change_counters w job f groups = search (rules, keeps-change_counters, keeps-weaker)
 
 -- something is put that may be anywhere
 sound-put_at : (w : World) (c : Name) (k : Key) (value : ValueOf k) → is_there k value ≡ true → ((v : World) (home : Tag → ℕ) → IsSoundValue v home k value) →

@@ -1,5 +1,5 @@
 -- What each context reads once a piece is stored.
-use Rattle.std.proofs.Common.{◌≡◌, ◌≢◌, ℕ, ◌/◌, refl, ap, ◌∙◌, Some, List, [], ◌∷◌, length, arith}
+use Rattle.std.proofs.Common.{◌≡◌, ◌≢◌, ℕ, ◌/◌, refl, ap, ◌∙◌, Some, List, [], ◌∷◌, length, arith, rules}
 use Rattle.lwc_base.specs.declared.key.Key.{Key}
 use Rattle.lwc_base.specs.declared.key.Key.TheVariants.{Page}
 use Rattle.lwc_base.specs.declared.name.Name.{Name}
@@ -42,21 +42,14 @@ module _ (w v : World) (c : Name) (job : ℕ) (piece : Piece) (done : store w c 
   -- a byte of a context that is apart
   pub store-apart : (d : Name) (at : ℕ) → AreApart w c d (Page (at / PAGE_BYTES)) → byte_at v d at ≡ byte_at w d at
   unfolding byte_at
-  store-apart d at apart =
-      let page : ℕ = at / PAGE_BYTES in
-      let stored = page_at-after_store w c job piece d page in
-      let same = put_pages-apart w c d page (plan w c job piece (w.next job).tags (touched piece.at (length piece.bytes))) apart in
-      grind (arith, is.after)
+  store-apart d at apart = search (rules, page_at-after_store, put_pages-apart, is)
 
   -- a byte of a page that is common
   pub store-common : (d : Name) (at : ℕ) → HaveInCommon w c d (Page (at / PAGE_BYTES)) → byte_at v d at ≡ byte_at v c at
   unfolding byte_at
-  store-common d at both =
-      let page : ℕ = at / PAGE_BYTES in
-      let same = value_at-common (after_store w c job piece) c d (Page page) (common-after_store w c job piece c d (Page page) both) in grind (arith, is.after)
+  store-common d at both = search (rules, value_at-common, common-after_store, is)
 
   -- what is under other keys
   pub store-other_keys : (d : Name) (k : Key) → ((p : ℕ) → k ≢ Page p) → value_at v d k ≡ value_at w d k
   unfolding after_store change_counters value_at context group
-  store-other_keys d k other =
-      ap (λ u. value_at u d k) is.after ∙ put_pages-other_keys w c (plan w c job piece (w.next job).tags (touched piece.at (length piece.bytes))) d k other
+  store-other_keys d k other = search (rules, is, put_pages-other_keys)
