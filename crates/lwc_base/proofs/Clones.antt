@@ -1,8 +1,6 @@
 -- The cells of a context and of its clone, what they read, and what they have apart and in common.
-use Rattle.std.proofs.Common.{◌≡◌, ◌≢◌, ℕ, refl, sym, ap, subst, ◌∙◌, true, false, List, arith, rules}
+use Rattle.std.proofs.Common.{◌≡◌, ◌≢◌, ℕ, sym, ap, subst, ◌∙◌, true, false, List, arith, rules}
 use Rattle.std.proofs.lemmas.Bool.Decides.{nat_tests}
-use Rattle.std.specs.FinMap as fm
-use Rattle.lwc_base.specs.declared.cell.Cell.{Cell}
 use Rattle.lwc_base.specs.declared.cell.Cell.TheVariants.{Own, Common}
 use Rattle.lwc_base.specs.declared.item.Item.{Item}
 use Rattle.lwc_base.specs.declared.item.Mode.{Mode}
@@ -12,11 +10,10 @@ use Rattle.lwc_base.specs.declared.name.Name.{Name}
 use Rattle.lwc_base.specs.Cells.{value_at}
 use Rattle.lwc_base.specs.Clones.{IsClone, AreApart, HaveInCommon}
 use Rattle.lwc_base.specs.Facts.{AddsContext, SharesValues}
-use Rattle.lwc_base.specs.Holders.{InCell, IsGroup}
+use Rattle.lwc_base.specs.Holders.{IsGroup}
 use Rattle.lwc_base.specs.Keys.{ValueOf, is_there, nothing}
 use Rattle.lwc_base.specs.Modes.{IsKey, mode_or_copy}
-use Rattle.lwc_base.specs.Sharing.{is_moved, needs_group, with_shared, share, cloned_cell, cloned_context, clone_context}
-use Rattle.lwc_base.specs.Sound.{HasValue, live_groups}
+use Rattle.lwc_base.specs.Sharing.{is_moved, with_shared, share, cloned_cell, cloned_context, clone_context}
 use Rattle.lwc_base.specs.World.{World, Context, Group, context, is_live, next_context, next_group}
 use Rattle.lwc_base.proofs.Common.{value_at-same, value_at-cell}
 use Rattle.lwc_base.proofs.Fresh.{next_context-new, next_group-new}
@@ -156,19 +153,7 @@ module _ (w v : World) (c d : Name) (items : List Item) (made : IsClone w v c d 
 
   -- what is shared, and is there, is in common
   pub clone-in_common : (k : Key) → mode_or_copy items k ≡ Share → IsKey w.size.pages k → is_there k (value_at w c k) ≡ true → HaveInCommon v c d k
-  clone-in_common k mode within there = at ((context w c).cell k) refl
-    where
-      both : (g : Name) → IsGroup v g → (context v c).cell k ≡ Common g → HaveInCommon v c d k
-      both g live is = record { group = g; live = live; first = is; second = clone-shared k mode ∙ is }
-
-      at : (cell : Cell (ValueOf k)) → (context w c).cell k ≡ cell → HaveInCommon v c d k
-      at (Own value) is =
-          let own_there : is_there k value ≡ true = ap (is_there k) (sym (value_at-cell w c k (Own value) is)) ∙ there in
-          let needs : needs_group w c items ≡ true = needed-own w c items k value within mode is own_there in
-          both (next_group w made.job) (ap (λ m. fm.contains_key m (next_group w made.job)) adds.groups ∙ shares.new_group needs)
-          (clone-moved k value mode within is own_there)
-      at (Common g) is =
-          let has : HasValue w k g = subst (InCell (live_groups w) c.job k) is (made.groups.contexts c made.live k) in both g (group_live g has.live) (clone-common k g is)
+  clone-in_common k mode within there = search (rules, clone-shared, value_at-cell, needed-own, adds, shares, clone-moved, group_live, clone-common)
 
   -- and so is what the context had in common with another one, and the clone is apart from each context from which the context was
   pub clone-joins : (k : Key) → mode_or_copy items k ≡ Share → (e : Name) → HaveInCommon w c e k → HaveInCommon v d e k

@@ -20,8 +20,7 @@ use Rattle.lwc_base.specs.Keys.{ValueOf, nothing}
 use Rattle.lwc_base.specs.Mapping.{on_pages}
 use Rattle.lwc_base.specs.Memory.{touched}
 use Rattle.lwc_base.specs.Modes.{mode_or_copy}
-use Rattle.lwc_base.specs.Names.{name_cmp}
-use Rattle.lwc_base.specs.Sharing.{is_moved, moved_value, moved_values, needs_group, with_shared, share, cloned_cell, cloned_context}
+use Rattle.lwc_base.specs.Sharing.{is_moved, moved_value, moved_values, with_shared, share, cloned_cell, cloned_context}
 use Rattle.lwc_base.specs.Store.{Piece, after_store, plan, put_pages}
 use Rattle.lwc_base.specs.World.{World, Context, Group, Counters, context, group, is_live, change_context, change_group, change_counters, add_context, next_context, add_group, next_group, empty_world}
 use Rattle.lwc_base.proofs.Keys.{with_key-cases, on_pages-cases}
@@ -46,10 +45,7 @@ module _ (rules weaker : Rules) (groups : (job : ℕ) (k : Key) (g : Name) → r
 module _ (rules : Rules) where
   pub keeps-empty_world : (size : WorldSize) → Keeps rules (empty_world size)
   unfolding empty_world
-  keeps-empty_world size = record {
-    contexts = λ c live. let none = fm.get-empty {X = Context} name_cmp c in grind arith;
-    groups = λ g live. let none = fm.get-empty {X = Group} name_cmp g in grind arith;
-  }
+  keeps-empty_world size = grind (arith, fm.get-empty)
 
   pub keeps-insert_context : (w : World) (c : Name) (x : Context) → InContext rules c.job x → Keeps rules w → Keeps rules (record w { contexts = fm.insert w.contexts c x })
   unfolding context group
@@ -146,13 +142,7 @@ module _ (rules : Rules) (w : World) (c : Name) (job : ℕ) (items : List Item) 
   pub keeps-share : ((k : Key) → is_moved (mode_or_copy items k) k ((context w c).cell k) ≡ true → rules.group c.job k (next_group w job)) →
       Keeps rules (share w c job items)
   unfolding share with_shared moved_values
-  keeps-share named =
-      cond_both (needs_group w c items) _ w (Keeps rules)
-      (λ _. keeps-add_group rules _ job _ (λ k. in_moved (mode_or_copy items k) k ((context w c).cell k) (keeps.contexts c live k))
-      (keeps-change_context rules w c _
-      (λ _ k. cond_both (is_moved (mode_or_copy items k) k ((context w c).cell k)) (Common (next_group w job)) ((context w c).cell k)
-      (InCell rules c.job k) (named k) (λ _. keeps.contexts c live k)) keeps))
-      (λ _. keeps)
+  keeps-share named = grind (arith, cond_both, keeps-add_group, in_moved, keeps-change_context)
 
   in_lets : (k : Key) (cell : Cell (ValueOf k)) → InCell rules c.job k cell → InCell rules job k cell
   in_lets k (Own value) is = lets.value k value is

@@ -27,8 +27,7 @@ count_one test at a (suc n) low high passes fails =
     grind (arith, sum_by-cons (λ x. cond (test x) 1 0) a (range_with_len (a + 1) n), fails, none, rest)
 
 first_continues_range : (x : Context) (p : ℕ) → ((q : ℕ) → q < p → x.cell (Page q) ≡ Own None) → continues_range x p ≡ false
-first_continues_range x zero absent = refl
-first_continues_range x (suc q) absent = let before = absent q (omega arith) in grind arith
+first_continues_range x p none = search rules
 
 module _ (pages from to : ℕ) (x : Context) (run : IsOneRun pages from to x) where
   begins_at_first : begins_range x from ≡ true

@@ -3,7 +3,6 @@ use Rattle.std.proofs.Common.{◌≡◌, ◌≢◌, ℕ, ◌<◌, ◌≤◌, ref
 use Rattle.std.specs.FinMap as fm
 use Rattle.std.proofs.lemmas.Bool.{cases_Bool}
 use Rattle.lwc_base.specs.declared.cell.Cell.{Cell}
-use Rattle.lwc_base.specs.declared.cell.Cell.TheVariants.{Own, Common}
 use Rattle.lwc_base.specs.declared.descriptor.Descriptor.{Descriptor}
 use Rattle.lwc_base.specs.declared.item.Item.{Item}
 use Rattle.lwc_base.specs.declared.item.Mode.{Mode}
@@ -75,8 +74,7 @@ sound_rules w home = everywhere (HasValue w) (IsSoundValue w home)
 module _ (w : World) (sound : IsSound w) where
   in_sound_cell : (job : ℕ) (k : Key) (cell : Cell (ValueOf k)) → InCell (live_groups w) job k cell → InCell (sound_pages w sound.home) job k cell →
       InCell (sound_rules w sound.home) job k cell
-  in_sound_cell job k (Own value) group is = is
-  in_sound_cell job k (Common g) group is = group
+  in_sound_cell job k cell group is = search rules
 
   pub sound-rules : Keeps (sound_rules w sound.home) w
   sound-rules = search (rules, in_sound_cell)
@@ -122,9 +120,7 @@ sound-extends : (w v : World) → Extends w v → IsFresh v → (sound : IsSound
 sound-extends w v more fresh sound keeps = sound-by v sound.home fresh (keeps (rules-extends w v sound.home more w (sound-rules w sound)))
 
 pub sound_nothing : (w : World) (home : Tag → ℕ) (k : Key) → IsSoundValue w home k (nothing k)
-sound_nothing w home (Page p) = tt
-sound_nothing w home (Slot n) = tt
-sound_nothing w home Cred = tt
+sound_nothing w home k = search rules
 
 -- what is under a page of a live context, where each page is sound
 pub page_at-sound : (w u : World) (home : Tag → ℕ) (c : Name) → is_live u c ≡ true → Keeps (sound_pages w home) u → (p : ℕ) → IsSoundPage w home p (page_at u c p)
@@ -185,9 +181,7 @@ pub sound-add_new_context : (w : World) (job uid : ℕ) (entry : Regs) → IsSou
 sound-add_new_context w job uid entry sound = sound-add_context w job (new_context uid entry) sound (λ k. tt) new
   where
     new : (k : Key) → IsSoundValue w sound.home k (new_value uid k)
-    new (Page p) = tt
-    new (Slot n) = tt
-    new Cred = tt
+    new k = search rules
 
 moved_there : (mode : Mode) (k : Key) (cell : Cell (ValueOf k)) → is_moved mode k cell ≡ true → is_there k (moved_value mode k cell) ≡ true
 moved_there mode k cell is = grind arith
