@@ -13,7 +13,7 @@ pub record Frame : Type 0 where
 abbrev pub zero_frame : ℕ → Tag → Frame
 zero_frame count stamp = record { count = count; stamp = stamp; bytes = zero_page }
 
--- what stands past the end of a pool
+-- what is read past the end of a pool
 abbrev pub no_frame : Frame
 no_frame = record { count = 0; stamp = record { job = 0; k = 0 }; bytes = [] }
 

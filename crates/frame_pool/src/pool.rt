@@ -39,7 +39,7 @@ impl Pool {
     ghost use Rattle.frame_pool.specs.Frame.{frame_count, frame_stamp, frame_bytes, recount_frame, refill_frame, free_frames, used_frames, zero_frame};
     ghost use Rattle.frame_pool.specs.PoolLending.{LendsBytes};
 
-    /// A pool of so many frames, none of them held. The one error is want of memory.
+    /// A pool of this many frames, all free. The only error is out of memory.
     pub fn open(alloc: Global, frames: u32) -> Result<Pool, OutOfMemory>
         ensures { IfOk result (λ pool. pool ≡ replicate frames (zero_frame 0 (record { job = 0; k = 0 }))) }
     {

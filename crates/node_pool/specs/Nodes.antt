@@ -12,7 +12,7 @@ pub record Node : Type 0 where
 abbrev pub empty_node : ℕ → ℕ → Node
 empty_node count level = record { count = count; level = level; entries = replicate NODE_ENTRIES 0 }
 
--- what stands past the end of a pool
+-- what is read past the end of a pool
 abbrev pub no_node : Node
 no_node = record { count = 0; level = 0; entries = [] }
 

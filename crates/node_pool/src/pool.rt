@@ -47,7 +47,7 @@ impl Model for NodePool {
 impl NodePool {
     ghost use Rattle.node_pool.specs.Nodes.{count_of, level_of, entry_of, recount, enter, free_of, empty_node};
 
-    /// A pool of so many nodes, none of them held. The one error is want of memory.
+    /// A pool of this many nodes, all free. The only error is out of memory.
     pub fn open(alloc: Global, nodes: u32) -> Result<NodePool, OutOfMemory>
         ensures { IfOk result (λ pool. pool ≡ replicate nodes (empty_node 0 0)) }
     {

@@ -56,7 +56,7 @@ unfoldable pub leaf_short : List Node → ℕ → ℕ → ℕ
 leaf_short nodes tree i =
     if root_short nodes tree == 1 then 1 else (if link_of nodes tree i == 0 then 1 else (if count_of nodes (link_of nodes tree i - 1) == 1 then 0 else 1))
 
--- leaf i of an owned root has these cells now, its other leaves theirs, and at most so many free nodes were taken
+-- leaf i of an owned root has these cells now, its other leaves theirs, and at most this number of free nodes were taken
 pub record PutsLeaf (old new : List Node) (frames frames' : List Frame) (root i : ℕ) (cells : ℕ → ℕ) (taken : ℕ) : Type 0 where
   pub keeps : Keeps old new frames frames' (root + 1) (root + 1)
   pub own : IsOwned new root
@@ -78,7 +78,7 @@ pub record OwnsRoot (old new : List Node) (frames frames' : List Frame) (tree ro
 abbrev pub IsApart : List Node → ℕ → ℕ → Type 0
 IsApart nodes root tree = (t : ℕ) → tree ≡ t + 1 → is_root (root + 1) t < trees_at nodes t
 
--- so many leaves of an owned root have the cells of another tree now, and all others theirs
+-- the first leaves of an owned root have the cells of another tree now, and all others theirs
 pub record PutsLeaves (old new : List Node) (frames frames' : List Frame) (root tree first end : ℕ) : Type 0 where
   pub keeps : Keeps old new frames frames' (root + 1) (root + 1)
   pub own : IsOwned new root
@@ -109,7 +109,7 @@ pub record OwnsPath (old new : List Node) (frames frames' : List Frame) (tree ro
   pub cells : (k j : ℕ) → k < NODE_ENTRIES → j < NODE_ENTRIES → cell_at new (root + 1) k j ≡ cell_at old tree k j
   pub free : free_of old ≤ free_of new + (root_short old tree + leaf_short old tree i)
 
--- so many leaves of a root are cut off
+-- the first leaves of a root are cut off
 pub record CutsAll (old new : List Node) (frames frames' : List Frame) (root end : ℕ) : Type 0 where
   pub keeps : Keeps old new frames frames' (root + 1) (root + 1)
   pub own : IsOwned new root
@@ -120,7 +120,7 @@ pub record CutsAll (old new : List Node) (frames frames' : List Frame) (root end
 abbrev pub page_entry : List Node → ℕ → ℕ → ℕ
 page_entry nodes tree p = cell_at nodes tree (p / NODE_ENTRIES) (p % NODE_ENTRIES)
 
--- so many pages of an owned root are those of another tree now, and all others as they were
+-- the first pages of an owned root are those of another tree now, and all others as they were
 pub record PutsPages (old new : List Node) (frames frames' : List Frame) (root tree first end taken : ℕ) : Type 0 where
   pub keeps : Keeps old new frames frames' (root + 1) (root + 1)
   pub own : IsOwned new root

@@ -12,7 +12,7 @@ use node_pool::{NODE_ENTRIES, NodeNo};
 use std::sync::ledger::Ledger;
 
 impl Store {
-    /// The leaf that holds so many pages of a tree, if the tree has one there.
+    /// The leaf at a place of a tree, if the tree has one there.
     pub(crate) fn leaf_of(&self, tree: Option<NodeNo>, i: usize) -> Option<NodeNo>
         requires root { IsRooted self.now.nodes (tree_of tree) }
         requires place { i < NODE_ENTRIES }

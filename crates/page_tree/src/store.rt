@@ -31,7 +31,7 @@ pub struct Store {
 }
 
 impl Store {
-    /// A store of so many frames and nodes, none of them held. The one error is want of memory.
+    /// A store of this many frames and nodes, all free. The only error is out of memory.
     pub fn open(alloc: Global, frames: u32, nodes: u32) -> Result<Store, OutOfMemory>
         requires few_frames { frames ≤ 65536 }
         requires few_nodes { nodes ≤ 65536 }

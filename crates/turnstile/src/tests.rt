@@ -57,7 +57,7 @@ impl Log {
     }
 }
 
-/// Takes so many turns, each of which appends the pass's number.
+/// Takes this many turns, each of which appends the pass's number.
 fn take_turns<R: Wait>(rt: &R, gate: &Turnstile<Log>, pass: Pass<Log>, turns: u64) -> Pass<Log>
     requires ours { IsPassOf gate.now pass }
     requires seat { pass.number < gate.now.name }
@@ -95,7 +95,7 @@ fn two_passes(mut passes: Passes<Log>) -> (Pass<Log>, Pass<Log>, Passes<Log>)
     (first, second, passes)
 }
 
-/// Two threads take so many turns each.
+/// Two threads take this many turns each.
 fn take_both<R: Threads + Wait + Sync>(
     rt: &R,
     gate: &Turnstile<Log>,
@@ -177,7 +177,7 @@ fn close_both(
     Ok(gate.close(passes))
 }
 
-/// How often the number stands in the log.
+/// How often the number is in the log.
 fn turns_of(log: &Log, number: u64) -> usize {
     log.turns.iter().filter(|turn| **turn == number).count()
 }

@@ -1,7 +1,7 @@
 //! What a seat at the table knows. No value of these types is made: they stand in contracts alone.
 use std::collections::LinkedList;
 
-/// Where a seat stands in the queue.
+/// The place of a seat in the queue.
 pub enum Stage {
     /// It has no ticket.
     Idle,
