@@ -1,0 +1,11 @@
+//! Reachability: which places are reached from roots by links.
+#![tactic(auto)]
+
+pub mod links;
+pub mod marks;
+mod search;
+#[cfg(test)]
+mod tests;
+
+pub use links::Links;
+pub use marks::{Marks, mark};
