@@ -10,7 +10,8 @@ ghost use Rattle.lwc_base.specs.declared.key.Key.{Key};
 
 use lwc_base::Cap;
 
-/// The word of the 64 pages from page 64 i on, in the capability of this number of pages: a bit for each page.
+/// The word of the 64 pages from page 64 i on, in the capability of this number of pages: a bit for each
+/// page.
 fn full_word(pages: u32, i: usize) -> u64
     requires few { pages ≤ MOST_PAGES }
     requires within { i < 16 }

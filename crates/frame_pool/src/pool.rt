@@ -53,7 +53,8 @@ impl Pool {
         })
     }
 
-    /// Takes a free frame: it is held once, has the stamp, and all its bytes are 0. None exactly where no frame is free.
+    /// Takes a free frame: it is held once, has the stamp, and all its bytes are 0. None exactly where no
+    /// frame is free.
     pub fn take(&mut self, stamp: Tag) -> Option<FrameNo>
         ensures full { IsNone result ↔ (free_frames self.old ≡ 0) }
         ensures full_same { IfNone result (self.new ≡ self.old) }

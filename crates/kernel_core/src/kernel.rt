@@ -226,7 +226,8 @@ impl<W: World> Kernel<W> {
         self.threads[t as usize].view()
     }
 
-    /// The number of steps that the threads may still make: the budgets of those that run, and 1 for each idle one.
+    /// The number of steps that the threads may still make: the budgets of those that run, and 1 for each
+    /// idle one.
     pub fn work(&self) -> u32
         ensures { result ≡ work (machine_of self.now) }
     {

@@ -58,12 +58,7 @@ pub adds-add_group : (w : World) (job : ℕ) (x : Group) → AddsGroup w job x (
 unfolding add_group change_counters group
 adds-add_group w job x = search (rules, contains_key-insert, name-itself, other_name, entry-insert)
 
--- what is so of the context that has changed, and of each context as it was, is so of each context
-pub context-cases : (w : World) (c : Name) (f : Context → Context) (v : World) → ChangesContext w c f v → (P : Name → Context → Type 0) →
-    (is_live w c ≡ true → P c (f (context w c))) → (a : Name) → P a (context w a) → P a (context v a)
-context-cases w c f v changes P changed a same = grind (arith, cases_name)
-
--- the same of groups
+-- what is so of the group that has changed, and of each group as it was, is so of each group
 pub group-cases : (w : World) (g : Name) (f : Group → Group) (v : World) → ChangesGroup w g f v → (P : Name → Group → Type 0) →
     (IsGroup w g → P g (f (group w g))) → (h : Name) → P h (group w h) → P h (group v h)
 group-cases w g f v changes P changed h same = grind (arith, cases_name)

@@ -60,7 +60,8 @@ impl NodePool {
         Ok(NodePool { counts, contents })
     }
 
-    /// Takes a free node: it is held once, has the level, and all its entries are 0. None exactly where no node is free.
+    /// Takes a free node: it is held once, has the level, and all its entries are 0. None exactly where no
+    /// node is free.
     pub fn take<L: Ledger>(&mut self, level: u8, steps: &mut Steps<L>) -> Option<NodeNo>
         ensures full { IsNone result ↔ (free_of self.old ≡ 0) }
         ensures full_same { IfNone result (self.new ≡ self.old) }

@@ -1,4 +1,5 @@
-//! Trees of pages over counted nodes and frames: many trees stand in one store, and share what is equal in them.
+//! Trees of pages over counted nodes and frames: many trees stand in one store, and share what is equal in
+//! them.
 #![tactic(auto)]
 
 pub mod cell;

@@ -106,7 +106,8 @@ impl Store {
         self.nodes.set_entry(root, i, leaf.n + 1);
     }
 
-    /// Cuts off the leaf that an entry of an owned root leads to, where it is held elsewhere too or has no pages.
+    /// Cuts off the leaf that an entry of an owned root leads to, where it is held elsewhere too or has no
+    /// pages.
     fn cut<L: Ledger>(&mut self, root: NodeNo, i: usize, leaf: NodeNo, steps: &mut Steps<L>)
         requires sound { IsSound self.old.nodes self.old.frames }
         requires own { IsOwned self.old.nodes root.n }

@@ -18,8 +18,9 @@ use node_pool::{NODE_ENTRIES, NodeNo};
 use std::marker::Model;
 use std::sync::ledger::Ledger;
 
-/// A tree of pages. By itself it is no more than the number of its root, which is how contracts see it: 0 is the
-/// empty tree, and n + 1 has node n as its root. Together with its store it stands for a map from pages to cells.
+/// A tree of pages. By itself it is no more than the number of its root, which is how contracts see it: 0
+/// is the empty tree, and n + 1 has node n as its root. Together with its store it stands for a map from
+/// pages to cells.
 #[derive(Drop)]
 pub struct PageTree {
     root: Option<NodeNo>,
@@ -156,7 +157,8 @@ impl PageTree {
         self.root = Some(store.share_pages(self.root, first, end, from.root, steps));
     }
 
-    /// Makes the pages of a range absent. Where these are all pages, the root is given up, and no node is taken.
+    /// Makes the pages of a range absent. Where these are all pages, the root is given up, and no node is
+    /// taken.
     pub fn clear_range<L: Ledger>(&mut self, store: &mut Store, range: Range, steps: &mut Steps<L>)
         requires sound { IsSound store.old.nodes store.old.frames }
         requires tree { IsTree store.old.nodes self.old }

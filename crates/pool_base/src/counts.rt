@@ -4,8 +4,8 @@ ghost use Rattle.pool_base.specs.Counts.{free_count, held_count, IsStack};
 use std::alloc::{AllocError, Global};
 use std::marker::Model;
 
-/// How often each of a fixed number of places is held, seen as the list of these counts. The free places are kept on
-/// a stack, so that no call searches for one.
+/// How often each of a fixed number of places is held, seen as the list of these counts. The free places
+/// are kept on a stack, so that no call searches for one.
 #[derive(Drop)]
 pub struct Counts {
     counts: Vec<u32>,

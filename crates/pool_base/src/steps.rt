@@ -3,8 +3,8 @@ ghost use Rattle.std.specs.Prelude.{◌≡◌, ℕ, ◌+◌, ◌<◌};
 use std::marker::Model;
 use std::sync::ledger::{Blank, Book, Ledger, Share};
 
-/// How many steps were taken, seen as that number. It takes no bytes at run time, and only `tick` changes it. Any
-/// ledger will do; a caller that counts nothing makes a counter of its own and drops it.
+/// How many steps were taken, seen as that number. It takes no bytes at run time, and only `tick` changes
+/// it. Any ledger will do; a caller that counts nothing makes a counter of its own and drops it.
 #[derive(Drop)]
 pub struct Steps<L: Ledger> {
     book: Book<L>,

@@ -44,7 +44,8 @@ impl Marks {
 /// Marks exactly the places that are reached from the roots by links (`Reaches`), whatever was marked before.
 pub fn mark<K: Links>(links: &K, roots: &[usize], marks: &mut Marks)
     requires { All (λ root. root < MOST_CONTEXTS) roots.now }
-    ensures { (place : ℕ) → place < MOST_CONTEXTS → (spec.is_marked marks.new place ≡ true) ↔ Reaches (K.link_of links.now) roots.now place }
+    ensures { (place : ℕ) → place < MOST_CONTEXTS →
+        (spec.is_marked marks.new place ≡ true) ↔ Reaches (K.link_of links.now) roots.now place }
 {
     let mut search = Search::new();
     'roots: for i in 0..roots.len() {

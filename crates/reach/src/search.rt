@@ -73,7 +73,8 @@ impl Search {
     pub(crate) fn expand<K: Links>(&mut self, links: &K, i: usize)
         requires { i < length self.old.order → slice_index self.old.order i < MOST_CONTEXTS }
         ensures found { self.new ≡ spec.expanded (K.link_of links.now) self.old i }
-        ensures within { i < length self.old.order → spec.LinksWithin (K.link_of links.now) (slice_index self.old.order i) SLOTS }
+        ensures within { i < length self.old.order →
+            spec.LinksWithin (K.link_of links.now) (slice_index self.old.order i) SLOTS }
     {
         let place = self.order.as_slice().get(i).copied();
         if let Some(place) = place {

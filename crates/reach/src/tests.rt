@@ -10,7 +10,8 @@ struct Cycles;
 impl Links for Cycles {
     ghost use Rattle.std.specs.Prelude.{◌+◌, ◌-◌, ◌%◌, ◌&&◌, ◌==◌, if◌then◌else◌, None, Some, nat_lt};
 
-    ghost link_of = { λ _ place slot. if nat_lt place 4 && slot == 63 then Some (if place % 2 == 0 then place + 1 else place - 1) else None };
+    ghost link_of = { λ _ place slot. if nat_lt place 4 && slot == 63
+        then Some (if place % 2 == 0 then place + 1 else place - 1) else None };
 
     fn link(&self, place: usize, slot: u8) -> Option<usize> {
         if place < 4 && slot == 63 {

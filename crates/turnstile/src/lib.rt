@@ -1,9 +1,9 @@
 //! A ticket lock round a state that knows its past.
 //!
-//! A `Turnstile` guards a state whose type is `Turned`: its contracts give it a name, and a past, which is the
-//! list of the numbers of the passes that had a turn. `Turnstile::new` makes the lock and its passes. A thread
-//! with a pass has a turn by `with_turn`, asks how many turns there were by `served`, and whoever has all the
-//! passes takes the state back by `close`. What the holder of a pass knows lies in the pass:
+//! A `Turnstile` guards a state whose type is `Turned`: its contracts give it a name, and a past, which is
+//! the list of the numbers of the passes that had a turn. `Turnstile::new` makes the lock and its passes. A
+//! thread with a pass has a turn by `with_turn`, asks how many turns there were by `served`, and whoever
+//! has all the passes takes the state back by `close`. What the holder of a pass knows lies in the pass:
 //!
 //! - after each turn it has seen the whole past up to its turn, and of its own turns there are just those that
 //!   it had (`with_turn`: `called`, `front`, `count`);
@@ -11,10 +11,10 @@
 //!   and `later` of `with_turn`, `noted` of `close`);
 //! - at the end all passes agree: each has seen a beginning of the one past (`close`: `seen`).
 //!
-//! Beneath lies a table of the kit's `atomic_table` with two words, `next` and `serving`, and one slot for the
-//! state. `specs/Rule.antt` has the rule that holds at every moment, and `specs/Steps.antt` what each kind of
-//! step does: draw ticket, look, move out, move in, pass on, split seat and join seat. `moves.rt` has one
-//! function for each kind.
+//! Beneath lies a table of the kit's `atomic_table` with two words, `next` and `serving`, and one slot for
+//! the state. `specs/Rule.antt` has the rule that holds at every moment, and `specs/Steps.antt` what each
+//! kind of step does: draw ticket, look, move out, move in, pass on, split seat and join seat. `moves.rt`
+//! has one function for each kind.
 #![tactic(auto)]
 
 mod lock;

@@ -27,7 +27,8 @@ impl From<AllocError> for OutOfMemory {
 
 /// A ticket lock round a state. Threads share it by `&`, each with a pass of its own.
 ///
-/// Contracts see it as its table, the name of its state, and how many passes it gave (`specs/Passes.antt`, `Lock`).
+/// Contracts see it as its table, the name of its state, and how many passes it gave (`specs/Passes.antt`,
+/// `Lock`).
 #[derive(Drop)]
 pub struct Turnstile<S: Turned> {
     seats: u32,
@@ -72,10 +73,10 @@ impl<S: Turned> Turnstile<S> {
 
     /// Has one turn: calls the action once on the state, and answers what it answered. It may wait.
     ///
-    /// The state is due for the pass (`IsDueFor`): it has the turnstile's name, and its past begins with what
-    /// the pass has seen and has no further turn of the pass. On each such state the action must be callable,
-    /// keep the name, and add exactly the pass's number to the past. Afterwards the pass has seen the past that
-    /// the action left.
+    /// The state is due for the pass (`IsDueFor`): it has the turnstile's name, and its past begins with
+    /// what the pass has seen and has no further turn of the pass. On each such state the action must be
+    /// callable, keep the name, and add exactly the pass's number to the past. Afterwards the pass has seen
+    /// the past that the action left.
     pub fn with_turn<H: Wait, R, A: FnOnce(&mut S) -> R>(
         &self,
         rt: &H,
@@ -114,8 +115,8 @@ impl<S: Turned> Turnstile<S> {
 
     /// Ends the turnstile, and gives its state back. The passes are all those that `new` gave, in any order.
     ///
-    /// The past of the state begins with what each pass had seen, has no further turn of that pass, and has at
-    /// least as many turns as the pass had noted.
+    /// The past of the state begins with what each pass had seen, has no further turn of that pass, and has
+    /// at least as many turns as the pass had noted.
     pub fn close(self, mut passes: Passes<S>) -> S
         requires { AreAllOf self passes.items }
         ensures name { S.name result ≡ self.name }

@@ -1,4 +1,5 @@
-//! The face of a world: the calls that every representation of contexts and groups meets, each by the definitions of what it does.
+//! The face of a world: the calls that every representation of contexts and groups meets, each by the
+//! definitions of what it does.
 #![tactic(auto)]
 
 pub mod memory;

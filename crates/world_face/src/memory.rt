@@ -7,7 +7,7 @@ ghost use Rattle.world_face.specs.Calls.{IsLive};
 use crate::world::World;
 use lwc_base::{Name, PAGE_BYTES};
 
-/// Whether so many bytes from an address on stand below the end of so many pages.
+/// Whether `count` bytes from the address `at` on end within `pages` pages.
 pub fn is_within(pages: u32, at: u64, count: usize) -> bool
     requires { pages ≤ MOST_PAGES }
     ensures { result ≡ nat_le (at + count) (pages * PAGE_BYTES) }
@@ -16,8 +16,8 @@ pub fn is_within(pages: u32, at: u64, count: usize) -> bool
     at <= memory && count as u64 <= memory - at
 }
 
-/// Reads bytes of a context's memory from an address that a guest names, as many as `out` has room for. `false` says
-/// that one of them is past the last page or in an absent page, and `out` is then as it was.
+/// Reads bytes of a context's memory from an address that a guest names, as many as `out` has room for.
+/// `false` says that one of them is past the last page or in an absent page, and `out` is then as it was.
 #[tactic(auto, unfolding(lwc_base::specs::Memory::bytes_for))]
 pub fn bytes_for<W: World>(world: &W, c: Name, at: u64, out: &mut [u8]) -> bool
     requires live { IsLive (W.seen world.now) c }

@@ -22,8 +22,8 @@ ghost use Rattle.world_face.specs.Calls.{AreFew, HasGroupPlace, HasPlace, IsSize
 use lwc_base::{Descriptor, Name, OutOfMemory, Range, Regs, Spec, StoreFault, Summary, WorldSize};
 use std::alloc::Global;
 
-/// A world of contexts and groups. However it is represented, it stands for the value `seen`; each call changes `seen`
-/// as its definition says, and nothing else of it. After an error nothing has changed.
+/// A world of contexts and groups. However it is represented, it stands for the value `seen`; each call
+/// changes `seen` as its definition says, and nothing else of it. After an error nothing has changed.
 pub trait World: Sized + Drop + Send + Sync {
     /// The contexts, the groups, the counters of each job, and the size.
     ghost seen: { Self → worlds.World };
@@ -41,18 +41,19 @@ pub trait World: Sized + Drop + Send + Sync {
         ensures pages { result ≡ (seen self.now).size.pages }
         ensures few { (seen self.now).size.pages ≤ MOST_PAGES };
 
-    /// Makes a new context of job 0 with no page, empty slots, this uid, and these registers to begin with. Answers
-    /// its name. The only error is out of memory.
+    /// Makes a new context of job 0 with no page, empty slots, this uid, and these registers to begin with.
+    /// Answers its name. The only error is out of memory.
     fn first(&mut self, uid: u32, entry: &Regs) -> Result<Name, OutOfMemory>
         requires may { MayName (seen self.old) 0 }
         requires place { HasPlace (seen self.old) }
         ensures name { IfOk result (λ c. c ≡ next_context (seen self.old) 0) }
-        ensures made { OnOk result (seen self.new ≡ add_context (seen self.old) 0 (new_context uid entry.now)) }
+        ensures made { OnOk result (seen self.new ≡
+            add_context (seen self.old) 0 (new_context uid entry.now)) }
         ensures err { OnErr result (seen self.new ≡ seen self.old) }
         ensures ample { roomy ≡ true → IsOk result };
 
-    /// Makes each page of the range a page of zeros of the context's own, whatever it was. The only error is out of
-    /// memory.
+    /// Makes each page of the range a page of zeros of the context's own, whatever it was. The only error
+    /// is out of memory.
     fn map(&mut self, c: Name, range: Range) -> Result<(), OutOfMemory>
         requires live { IsLive (seen self.old) c }
         requires some { range.from < range.to }
@@ -72,8 +73,8 @@ pub trait World: Sized + Drop + Send + Sync {
         ensures err { OnErr result (seen self.new ≡ seen self.old) }
         ensures ample { roomy ≡ true → IsOk result };
 
-    /// Reads `out.len()` bytes of the context's memory from the address `at` on into `out`. Answers `false`, with `out`
-    /// unchanged, if a page of them is absent.
+    /// Reads `out.len()` bytes of the context's memory from the address `at` on into `out`. Answers
+    /// `false`, with `out` unchanged, if a page of them is absent.
     fn bytes(&self, c: Name, at: u32, out: &mut [u8]) -> bool
         requires live { IsLive (seen self.now) c }
         requires within { at + length out.old ≤ (seen self.now).size.pages * PAGE_BYTES }
@@ -85,16 +86,19 @@ pub trait World: Sized + Drop + Send + Sync {
     ///
     /// # Errors
     ///
-    /// `BadAddress` if a touched page is absent; else `NoFrame` if the frames in use and the pages that part are more
-    /// than the frames; or `OutOfMemory`.
+    /// `BadAddress` if a touched page is absent; else `NoFrame` if the frames in use and the pages that
+    /// part are more than the frames; or `OutOfMemory`.
     fn store(&mut self, c: Name, at: u32, piece: &[u8], job: u32) -> Result<(), StoreFault>
         requires live { IsLive (seen self.old) c }
         requires within { at + length piece.now ≤ (seen self.old).size.pages * PAGE_BYTES }
         requires short { length piece.now ≤ PAGE_BYTES }
         requires may { MayName (seen self.old) job }
-        ensures done { OnOk result (store (seen self.old) c job (record { at = at; bytes = piece.now }) ≡ stores.Done (seen self.new)) }
-        ensures bad_address { (result ≡ Err StoreFault.BadAddress) ↔ (store (seen self.old) c job (record { at = at; bytes = piece.now }) ≡ stores.Absent) }
-        ensures no_frame { (result ≡ Err StoreFault.NoFrame) ↔ (store (seen self.old) c job (record { at = at; bytes = piece.now }) ≡ stores.Full) }
+        ensures done { OnOk result (store (seen self.old) c job (record { at = at; bytes = piece.now }) ≡
+            stores.Done (seen self.new)) }
+        ensures bad_address { (result ≡ Err StoreFault.BadAddress) ↔
+            (store (seen self.old) c job (record { at = at; bytes = piece.now }) ≡ stores.Absent) }
+        ensures no_frame { (result ≡ Err StoreFault.NoFrame) ↔
+            (store (seen self.old) c job (record { at = at; bytes = piece.now }) ≡ stores.Full) }
         ensures err { OnErr result (seen self.new ≡ seen self.old) }
         ensures ample { roomy ≡ true → result ≢ Err StoreFault.OutOfMemory };
 
@@ -130,10 +134,11 @@ pub trait World: Sized + Drop + Send + Sync {
         requires live { IsLive (seen self.now) c }
         ensures value { result ≡ (context (seen self.now) c).entry };
 
-    /// Makes a new context of a job from another one. Values of mode share that are the other's own move into one new
-    /// group, and both contexts have them in common from then on; what was common already stays so. Values of mode copy
-    /// and values that no item names are copied, and those of mode unmap are left out. The new context begins with these
-    /// registers and has no saved ones. Answers its name. The only error is out of memory.
+    /// Makes a new context of a job from another one. Values of mode share that are the other's own move
+    /// into one new group, and both contexts have them in common from then on; what was common already
+    /// stays so. Values of mode copy and values that no item names are copied, and those of mode unmap are
+    /// left out. The new context begins with these registers and has no saved ones. Answers its name. The
+    /// only error is out of memory.
     fn clone_context(
         &mut self,
         c: Name,
@@ -148,24 +153,27 @@ pub trait World: Sized + Drop + Send + Sync {
         requires group { needs_group (seen self.old) c spec.now ≡ true → HasGroupPlace (seen self.old) }
         requires few { AreFew (ranges_after_clone (seen self.old) c job spec.now) }
         ensures name { IfOk result (λ made. made ≡ next_context (seen self.old) job) }
-        ensures cloned { OnOk result (seen self.new ≡ clone_context (seen self.old) c job spec.now entry.now) }
+        ensures cloned { OnOk result (seen self.new ≡
+            clone_context (seen self.old) c job spec.now entry.now) }
         ensures err { OnErr result (seen self.new ≡ seen self.old) }
         ensures ample { roomy ≡ true → IsOk result };
 
-    /// Whether `clone_context` makes a group: an item of mode share names a key that is present and the context's own.
+    /// Whether `clone_context` makes a group: an item of mode share names a key that is present and the
+    /// context's own.
     fn needs_group(&self, c: Name, spec: &Spec) -> bool
         requires live { IsLive (seen self.now) c }
         requires within { IsSpec (seen self.now).size.pages spec.now }
         ensures value { result ≡ needs_group (seen self.now) c spec.now };
 
-    /// The numbers of ranges that the context and the new one would have after `clone_context`, in this order. They are
-    /// the same for every job.
+    /// The numbers of ranges that the context and the new one would have after `clone_context`, in this
+    /// order. They are the same for every job.
     fn ranges_after_clone(&self, c: Name, spec: &Spec) -> (u32, u32)
         requires live { IsLive (seen self.now) c }
         requires within { IsSpec (seen self.now).size.pages spec.now }
         ensures value { (job : ℕ) → result ≡ ranges_after_clone (seen self.now) c job spec.now };
 
-    /// The number of ranges that the context would have after `map` if `present` is true, and else after `unmap`.
+    /// The number of ranges that the context would have after `map` if `present` is true, and else after
+    /// `unmap`.
     fn ranges_after_map(&self, c: Name, range: Range, present: bool) -> u32
         requires live { IsLive (seen self.now) c }
         requires some { range.from < range.to }
