@@ -6,10 +6,12 @@ pub mod Fresh
 pub mod Holders
 pub mod ItemModes
 pub mod Keys
+pub mod Life
 pub mod Lookups
 pub mod Needs
 pub mod Orders
 pub mod Puts
+pub mod Reaped
 pub mod Runs
 pub mod Sharing
 pub mod Sound

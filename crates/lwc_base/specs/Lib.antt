@@ -7,6 +7,7 @@ pub mod Frames
 pub mod Fresh
 pub mod Holders
 pub mod Keys
+pub mod Life
 pub mod Mapping
 pub mod Memory
 pub mod Modes

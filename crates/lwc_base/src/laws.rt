@@ -3,6 +3,7 @@
 pub mod apart;
 pub mod cloning;
 pub mod facts;
+pub mod life;
 pub mod modes;
 pub mod ranges;
 pub mod soundness;
@@ -19,6 +20,10 @@ pub use cloning::{
 };
 pub use facts::{
     changes_leave_the_rest, live_names_are_counted, names_are_ordered, names_stay_old,
+};
+pub use life::{
+    a_reaped_world_keeps_what_is_reached, reached_contexts_are_those_with_a_chain,
+    what_is_dropped_is_named_by_nothing,
 };
 pub use modes::an_item_gives_its_mode;
 pub use ranges::one_run_is_one_range;
