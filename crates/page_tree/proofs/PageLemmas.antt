@@ -239,16 +239,6 @@ pages-after old new frames frames' tree root from first end taken p shares high 
 pub pages-path : (old new : List Node) (frames frames' : List Frame) (tree root i leaf p : ℕ) → OwnsPath old new frames frames' tree root i leaf → p < 1024 → page new (root + 1) p ≡ page old tree p
 pages-path old new frames frames' tree root i leaf p path lt = page-from old new tree (root + 1) p (page-path old new frames frames' tree root i leaf p path lt)
 
--- an owned root is a tree's
-pub IsTree-own : (nodes : List Node) (root : ℕ) → IsOwned nodes root → IsTree nodes (root + 1)
-IsTree-own nodes root own = λ n is.
-    let same : trees_at nodes n ≡ trees_at nodes root = ap (λ x. trees_at nodes x) (omega (arith, is)) in
-    let one = trees-is nodes root own.level in
-    (omega (arith, same, one, own.once), omega (arith, same, one, own.once))
-
-pub IsTree-none : (nodes : List Node) → IsTree nodes 0
-IsTree-none nodes = λ n is. absurd (omega (arith, is))
-
 -- a path of its own is not short
 pub short-path : (nodes : List Node) (root i leaf : ℕ) → IsOwned nodes root → OwnsLeaf nodes root i leaf → root_short nodes (root + 1) + leaf_short nodes (root + 1) i ≡ 0
 short-path nodes root i leaf own owns =

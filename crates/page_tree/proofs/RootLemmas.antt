@@ -155,7 +155,3 @@ OwnsRoot-copied a b d e fa fb fd fe root copy level shared was_free made links l
       short = λ i. let x = leaf_short-le e (copy + 1) i in let y = leaf_short-root a (root + 1) i short in omega (arith, x, y);
       free = let x = root_short-none a in omega (arith, made.free, links.free, free, short, x);
     }
-
-pub OwnsRoot-same : (old : List Node) (frames : List Frame) (n : ℕ) → IsSound old frames → IsOwned old n → OwnsRoot old old frames frames (n + 1) n
-OwnsRoot-same old frames n sound own =
-    record { keeps = Keeps-refl old frames (n + 1) sound; own = own; cells = λ i j _ _. refl; short = λ i. omega arith; free = omega arith }

@@ -407,11 +407,6 @@ empty-entries old new frames frames' n i m puts owns j =
     get_or_past (entries_of new m) j 0 (omega (arith, wide, past)))
     (cases_lt j 32)
 
--- a leaf of its own stays as it is
-pub PutsLeaf-same : (old : List Node) (frames : List Frame) (n i : ℕ) (taken : ℕ) → IsSound old frames → IsOwned old n → PutsLeaf old old frames frames n i (λ j. cell_at old (n + 1) i j) taken
-PutsLeaf-same old frames n i taken sound own =
-    record { keeps = Keeps-refl old frames (n + 1) sound; own = own; here = λ j _. refl; there = λ k j _. refl; entries = λ k _. refl; short = λ k _. refl; free = omega arith }
-
 -- cells and the number of nodes as another says them
 pub PutsLeaf-as : (old new : List Node) (frames frames' : List Frame) (n i : ℕ) (cells cells' : ℕ → ℕ) (t t' : ℕ) → PutsLeaf old new frames frames' n i cells t → ((j : ℕ) → j < 32 → cells j ≡ cells' j) → t ≤ t' → PutsLeaf old new frames frames' n i cells' t'
 PutsLeaf-as old new frames frames' n i cells cells' t t' puts same le =

@@ -8,9 +8,6 @@ use Rattle.node_pool.specs.Nodes.{Node, no_node, node_at, count_of, level_of, en
 use Rattle.page_tree.specs.Pages.{entries_of}
 use Rattle.page_tree.specs.Sound.{uses_in, uses, one_if}
 
-pub one_if-same : (n : ℕ) → one_if (eqb n n) ≡ 1
-one_if-same n = ap (λ b. one_if b) (eq-eqb n n refl)
-
 pub one_if-yes : (m n : ℕ) → m ≡ n → one_if (eqb m n) ≡ 1
 one_if-yes m n e = ap (λ b. one_if b) (eq-eqb m n e)
 

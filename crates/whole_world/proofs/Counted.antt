@@ -15,10 +15,6 @@ pub record IsCountedNew (others all rest : List Tag) (count : ℕ) : Type 0 wher
   pub sum : count + different (rest ++ others) ≡ different (all ++ others)
   pub few : length rest ≤ length all
 
--- nothing is counted yet
-pub none_counted : (tag : Tag) (all : List Tag) → IsCounted tag all all 0
-none_counted tag all = record { sum = omega arith; few = omega arith }
-
 -- the tags of one holder more are counted
 pub counted_more : (tag : Tag) (all front after : List Tag) (count more : ℕ) → IsCounted tag all (front ++ after) count → more ≡ times tag front →
     IsCounted tag all after (count + more)

@@ -19,7 +19,7 @@ pub fn reached_contexts_are_those_with_a_chain()
 {}
 
 /// A reaped world has exactly the live contexts that a chain leads to, each with every value that it had. A
-/// group that is left has all its values. To reap once more drops nothing.
+/// group that is left has all its values, and sizes and counters stay. To reap once more drops nothing.
 pub fn a_reaped_world_keeps_what_is_reached()
     ensures kept { (w : World) (roots : List Name) (c : Name) → is_live w c ≡ true → Reaches w roots c →
         is_live (reap w roots) c ≡ true }
@@ -31,6 +31,8 @@ pub fn a_reaped_world_keeps_what_is_reached()
         is_live (reap w roots) c ≡ true → value_at (reap w roots) c k ≡ value_at w c k }
     ensures group { (w : World) (roots : List Name) (g : Name) → IsGroup (reap w roots) g →
         group (reap w roots) g ≡ group w g }
+    ensures rest { (w : World) (roots : List Name) → ((reap w roots).size ≡ w.size)
+        × ((reap w roots).next ≡ w.next) }
     ensures reaped { (w : World) (roots : List Name) → IsReaped (reap w roots) roots }
     ensures same { (w : World) (roots : List Name) → IsReaped w roots → reap w roots ≡ w }
     ensures twice { (w : World) (roots : List Name) → reap (reap w roots) roots ≡ reap w roots }

@@ -1,4 +1,4 @@
-use Rattle.lwc_base.proofs.Reaped.{context-kept, group-kept, kept-by_way, reap-reaped, reap-twice, reaped-reap, value_at-kept, way-of_kept}
+use Rattle.lwc_base.proofs.Reaped.{context-kept, group-kept, kept-by_way, reap-reaped, reap-stays, reap-twice, reaped-reap, value_at-kept, way-of_kept}
 use Rattle.lwc_base.proofs.laws.life.a_reaped_world_keeps_what_is_reached.Goals as goal
 
 pub returns-clause-kept : goal.returns-clause-kept
@@ -24,3 +24,6 @@ returns-clause-reaped c = reaped-reap
 
 pub returns-clause-same : goal.returns-clause-same
 returns-clause-same c = reap-reaped
+
+pub returns-clause-rest : goal.returns-clause-rest
+returns-clause-rest c = reap-stays
