@@ -90,13 +90,13 @@ same_where p q (k ∷ ks) more few c there passes =
           ] refl
       | inr later ↦
           let fewer : count_by q ks ≤ count_by p ks =
-              elim (p k) as (λ b. p k ≡ b → count_by q ks ≤ count_by p ks) [
-                | true ↦ λ is.
-                    let here_p = ap {B = ℕ} (λ b. cond b 1 0) is in
-                    let here_q = ap {B = ℕ} (λ b. cond b 1 0) (more k is) in
-                    omega (arith, few, one_p, one_q, here_p, here_q)
-                | false ↦ λ is. let here_p = ap {B = ℕ} (λ b. cond b 1 0) is in omega (arith, few, one_p, one_q, here_p)
-              ] refl in
+          elim (p k) as (λ b. p k ≡ b → count_by q ks ≤ count_by p ks) [
+            | true ↦ λ is.
+                let here_p = ap {B = ℕ} (λ b. cond b 1 0) is in
+                let here_q = ap {B = ℕ} (λ b. cond b 1 0) (more k is) in
+                omega (arith, few, one_p, one_q, here_p, here_q)
+            | false ↦ λ is. let here_p = ap {B = ℕ} (λ b. cond b 1 0) is in omega (arith, few, one_p, one_q, here_p)
+          ] refl in
           same_where p q ks more fewer c later passes
     ]
 

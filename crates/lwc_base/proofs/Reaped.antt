@@ -244,9 +244,10 @@ module _ {X : Type 0} where
   -- what holds of each value that is found holds of each entry
   each_entry : (P : Name → X → Type 0) (es : List (Name × X)) → T (is_sorted name_cmp es) → ((q : Name) → OfSome (P q) (find name_cmp q es)) → AllEntries P es
   each_entry P [] sorted all = tt
-  each_entry P (e ∷ es) sorted all =
-      (subst (λ b. OfSome (P e.0) (cond b (Some e.1) (find name_cmp e.0 es))) (ap is_eq (tied_itself name_cmp-total e.0)) (all e.0),
-      each_entry P es (tail_of _ _ sorted) (λ q. later_entry P q e es _ refl (head_of _ _ sorted) (all q)))
+  each_entry P (e ∷ es) sorted all = (
+    subst (λ b. OfSome (P e.0) (cond b (Some e.1) (find name_cmp e.0 es))) (ap is_eq (tied_itself name_cmp-total e.0)) (all e.0),
+    each_entry P es (tail_of _ _ sorted) (λ q. later_entry P q e es _ refl (head_of _ _ sorted) (all q)),
+  )
 
   itself : (o : Option X) → OfSome (λ x. o ≡ Some x) o
   itself None = tt
@@ -310,8 +311,8 @@ reap-reaped w roots reaped =
     let groups : fm.retain_keys w.groups (named w roots) ≡ w.groups =
     fm.same_map name_cmp-total name_cmp-IsAntisymmetric _ _
     (λ g. get-kept w.groups (named w roots) g ∙ kept_or_gone (named w roots g) (fm.get w.groups g)
-        (λ live. let by = reaped.groups g live in
-        named-kept w roots by.0 g by.1 by.2 by.3 (reached_by_way w roots by.0 (reaped.contexts by.0 by.3) by.3) by.4)) in
+    (λ live. let by = reaped.groups g live in
+    named-kept w roots by.0 g by.1 by.2 by.3 (reached_by_way w roots by.0 (reaped.contexts by.0 by.3) by.3) by.4)) in
     λ i. record w { contexts = contexts i; groups = groups i }
 
 -- nothing is left to drop in a reaped world

@@ -149,7 +149,10 @@ module _ (w : World) (c : Name) (job : ℕ) (piece : Piece) where
             let away : stage.home t ≢ a = λ at_a. omega (arith, at_a, mine.at_home, past) in
             let far : later t ≢ a = λ at_a. away (sym (same t mine.old) ∙ at_a) in
             omega (
-              arith, change t, times-page (counted k) stage.home t a (Some value) here (inr away), times-page (counted m) later t a (Some new) sound (inr far),
+              arith,
+              change t,
+              times-page (counted k) stage.home t a (Some value) here (inr away),
+              times-page (counted m) later t a (Some new) sound (inr far),
               stage.counts p t bytes (omega (arith, past)) there,
             );
       }
@@ -229,7 +232,7 @@ module _ (w : World) (c : Name) (job : ℕ) (piece : Piece) where
         } in
         let n : ℕ = touched_count piece.at (length piece.bytes) in
         let all = subst (λ ps. list_all (λ p. is_some (page_at w c p)) ps ≡ true →
-          (last : ℕ) × (end : ℕ) × (last ≡ taken + count_by parts ps) × (end ≡ first + n) × IsStage (put_pages w c (plan w c job piece taken ps)) last end) (sym (touched-range piece.at (length piece.bytes)))
+        (last : ℕ) × (end : ℕ) × (last ≡ taken + count_by parts ps) × (end ≡ first + n) × IsStage (put_pages w c (plan w c job piece taken ps)) last end) (sym (touched-range piece.at (length piece.bytes)))
         (stored n first taken w (omega arith) start) present in
         subst (λ end. IsStage (put_pages w c values) (taken + parting_count w c piece) end) all.3 (subst (λ last. IsStage (put_pages w c values) last all.1) all.2 all.4)
 

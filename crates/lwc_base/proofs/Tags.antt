@@ -99,7 +99,8 @@ module _ (t : Tag) where
   times-nothing w contexts groups =
       let pages : List ℕ = range_with_len 0 w.size.pages in
       omega (
-        arith, times-tags w,
+        arith,
+        times-tags w,
         times-table t (tags_of_context w.size.pages) w.contexts (new_context 0 (fresh_registers 0)) (λ c live. times-none t (λ p. tag_of (own_value ((context w c).cell (Page p)))) (contexts c live) pages),
         times-table t (tags_of_group w.size.pages) w.groups new_group (λ g live. times-none t (λ p. tag_of ((group w g).value (Page p))) (groups g live) pages),
       )

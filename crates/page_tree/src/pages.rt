@@ -7,8 +7,8 @@ ghost use Rattle.page_tree.specs.Short.{part_short, range_short};
 ghost use Rattle.page_tree.specs.Steps.{IsApart, IsOwned, PutsPages, SharesPages, root_short, tree_of};
 
 use crate::store::Store;
-use pool_base::Steps;
 use node_pool::{NODE_ENTRIES, NodeNo};
+use pool_base::Steps;
 use std::sync::ledger::Ledger;
 
 impl Store {

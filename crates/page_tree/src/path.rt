@@ -8,8 +8,8 @@ ghost use Rattle.page_tree.specs.Changes.{Keeps};
 ghost use Rattle.page_tree.specs.Steps.{CutsAll, IsOwned, OwnsPath, root_short, leaf_short, tree_of};
 
 use crate::store::Store;
-use pool_base::Steps;
 use node_pool::{NODE_ENTRIES, NodeNo};
+use pool_base::Steps;
 use std::sync::ledger::Ledger;
 
 /// The root of a tree and one of its leaves.

@@ -8,8 +8,8 @@ ghost use Rattle.page_tree.specs.Changes.{Keeps};
 ghost use Rattle.page_tree.specs.Steps.{IsOwned, PutsLeaf, LinksAll, OwnsRoot, root_short, tree_of};
 
 use crate::store::{ROOT_LEVEL, Store};
-use pool_base::Steps;
 use node_pool::{NODE_ENTRIES, NodeNo};
+use pool_base::Steps;
 use std::sync::ledger::Ledger;
 
 impl Store {

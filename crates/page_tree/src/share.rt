@@ -7,8 +7,8 @@ ghost use Rattle.page_tree.specs.Steps.{IsOwned, IsApart, IsRooted, OwnsLeaf, Pu
 
 use crate::cell::{PageCell, cell_from};
 use crate::store::Store;
-use pool_base::Steps;
 use node_pool::{NODE_ENTRIES, NodeNo};
+use pool_base::Steps;
 use std::sync::ledger::Ledger;
 
 impl Store {

@@ -9,8 +9,8 @@ ghost use Rattle.page_tree.specs.Steps.{HoldsMore, HoldsLess, IsOwned, IsLeaf, I
 use crate::cell::{PageCell, cell_from, entry_from};
 use frame_pool::Pool;
 use lwc_base::OutOfMemory;
-use pool_base::Steps;
 use node_pool::{NODE_ENTRIES, NodeNo, NodePool};
+use pool_base::Steps;
 use std::alloc::Global;
 use std::sync::ledger::Ledger;
 

@@ -13,8 +13,8 @@ ghost use Rattle.page_tree.specs.Steps.{root_short};
 use crate::cell::PageCell;
 use crate::store::{PAGES, Store};
 use lwc_base::Range;
-use pool_base::Steps;
 use node_pool::{NODE_ENTRIES, NodeNo};
+use pool_base::Steps;
 use std::marker::Model;
 use std::sync::ledger::Ledger;
 
