@@ -3,6 +3,7 @@
 
 use lwc_io::{OpenGate, RealFiles, RealSink, Sink};
 use lwcrun_core::{ExitStatus, lwcrun};
+use std::alloc::Global;
 use std::env;
 use std::io::{self, ErrorKind};
 use std::process::ExitCode;
@@ -20,10 +21,10 @@ fn words<R: Env + AllocGlobal>(rt: &R) -> io::Result<Vec<String>> {
     Ok(env::args(rt)?.collect(rt.alloc())?)
 }
 
-/// The words of the line, or none where they are not text: a line of no words is not accepted.
-fn words_or_none<R: Env + AllocGlobal>(rt: &R) -> io::Result<Vec<String>> {
-    match words(rt) {
-        Err(error) if error.kind() != ErrorKind::OutOfMemory => Ok(Vec::new(rt.alloc())),
+/// The words that were read, or none if they are not UTF-8: a line of no words is not accepted.
+fn words_or_none(alloc: Global, words: io::Result<Vec<String>>) -> io::Result<Vec<String>> {
+    match words {
+        Err(error) if error.kind() != ErrorKind::OutOfMemory => Ok(Vec::new(alloc)),
         words => words,
     }
 }
@@ -32,7 +33,7 @@ fn main(rt: HostRuntime) -> ExitCode {
     let mut out = RealSink::new(rt.stdout());
     let mut err = RealSink::new(rt.stderr());
     let mut files = RealFiles::new(rt);
-    let status = match words_or_none(&rt) {
+    let status = match words_or_none(rt.alloc(), words(&rt)) {
         Ok(words) => lwcrun(
             &rt,
             rt.alloc(),

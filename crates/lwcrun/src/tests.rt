@@ -1,8 +1,10 @@
 //! Guests that are run whole, through the call behind the program, over files and sinks in memory.
 
+use crate::words_or_none;
 use lwc_io::{MemoryFiles, MemorySink, NamedFile, OpenGate};
 use lwcrun_core::{ExitStatus, lwcrun};
 use std::alloc::{AllocError, Global};
+use std::io::{Error, ErrorKind};
 use std::sync::Wait;
 use std::test::Fail;
 use std::thread::Threads;
@@ -429,5 +431,17 @@ fn a_write_that_fails_leaves_the_first_bytes_of_the_text(rt: HostRuntime) -> Res
     }
     let none = call(&rt, &guest, b"000", &REPLAY, Outside { most: 0, ..SURE })?;
     assert_eq!(rt; none.status, ExitStatus::WriteFault);
+    Ok(())
+}
+
+#[test]
+fn words_that_are_not_utf_8_are_answered_by_the_usage(rt: HostRuntime) -> Result<(), Fail> {
+    let words = words_or_none(rt.alloc(), Err(Error::from(ErrorKind::InvalidData)))?;
+    assert!(rt; words.is_empty());
+    let guest = image(rt.alloc(), &STORE_LOAD, &[ZEROS], &[0])?;
+    let left = call(&rt, &guest, b"000", &[], SURE)?;
+    assert_eq!(rt; left.status, ExitStatus::Usage);
+    assert_eq!(rt; left.err.bytes(), USAGE.as_bytes());
+    assert_eq!(rt; left.out.bytes().len(), 0);
     Ok(())
 }
