@@ -5,6 +5,7 @@
 mod call;
 mod ending;
 mod inputs;
+mod limits;
 mod line;
 mod messages;
 mod numbers;
@@ -14,5 +15,6 @@ mod status;
 mod writing;
 
 pub use call::lwcrun;
+pub use limits::limits_are_as_documented;
 pub use line::{Line, LineFault, read_line};
 pub use status::ExitStatus;

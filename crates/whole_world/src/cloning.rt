@@ -15,7 +15,7 @@ use lwc_base::{Key, Mode, NOBODY, Name, OutOfMemory, PageBytes, PageValue, Regs,
 use res_spec::mode_or_copy;
 use std::alloc::Global;
 
-/// A copy of what stands under a page. The only error is out of memory.
+/// A copy of a page's value. The only error is out of memory.
 fn copied_page(alloc: Global, value: Option<&PageValue>) -> Result<Option<PageValue>, OutOfMemory>
     ensures { IfOk result (λ copy. copy ≡ option_copied value.entry) }
 {
@@ -135,7 +135,7 @@ impl WholeWorld {
         Ok(())
     }
 
-    /// A copy of what stands under a key of a context. The only error is out of memory.
+    /// A copy of the value under a key of a context. The only error is out of memory.
     fn copied_value(&self, c: Name, key: Key) -> Result<KeyValue, OutOfMemory>
         requires live { IsTrue (is_live (seen self.now) c) }
         requires within { HasSlot SLOTS key }

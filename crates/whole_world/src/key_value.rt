@@ -24,7 +24,7 @@ impl KeyValue {
         }
     }
 
-    /// What stands under a key that is left out: an absent page, an empty slot, or the uid of nobody.
+    /// The value under a key that is left out: an absent page, an empty slot, or the uid of nobody.
     pub fn nothing(key: Key) -> KeyValue
         ensures key { key_in result ≡ key }
         ensures value { value_in result ≡ nothing (key_in result) }

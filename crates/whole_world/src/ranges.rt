@@ -92,7 +92,7 @@ impl WholeWorld {
         self.row(c).holder(Key::Page(p))
     }
 
-    /// Who has it after the context has been cloned.
+    /// The holder of a page of the context after it has been cloned.
     #[tactic(auto, unfolding(crate::specs::Holders::holder_after_clone))]
     fn holder_after_clone(&self, c: Name, spec: &Spec, p: u16) -> Holder
         requires { IsTrue (is_live (seen self.now) c) }
@@ -102,7 +102,7 @@ impl WholeWorld {
         moved_holder(mode, self.page_holder(c, p))
     }
 
-    /// Who has it in the clone.
+    /// The holder of a page of the clone.
     #[tactic(auto, unfolding(crate::specs::Holders::holder_in_clone))]
     fn holder_in_clone(&self, c: Name, spec: &Spec, p: u16) -> Holder
         requires { IsTrue (is_live (seen self.now) c) }
@@ -115,7 +115,7 @@ impl WholeWorld {
         }
     }
 
-    /// Who has it once the pages of a range are present or absent.
+    /// The holder of a page of the context after the pages of a range are made present or absent.
     #[tactic(auto, unfolding(crate::specs::Holders::holder_after_map))]
     fn holder_after_map(&self, c: Name, range: Range, present: bool, p: u16) -> Holder
         requires { IsTrue (is_live (seen self.now) c) }

@@ -79,7 +79,7 @@ impl WholeWorld {
         }
     }
 
-    /// What stands under a page of a context.
+    /// The value of a page of a context.
     #[tactic(auto, unfolding(lwc_base::specs::Cells::value_at))]
     pub(crate) fn page_value(&self, c: Name, p: u16) -> Option<&PageValue>
         requires { IsTrue (is_live (seen self.now) c) }
@@ -92,7 +92,7 @@ impl WholeWorld {
         }
     }
 
-    /// What stands under a slot of a context.
+    /// The descriptor in a slot of a context.
     #[tactic(auto, unfolding(lwc_base::specs::Cells::value_at))]
     pub(crate) fn slot_value(&self, c: Name, n: u8) -> Descriptor
         requires live { IsTrue (is_live (seen self.now) c) }

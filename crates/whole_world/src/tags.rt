@@ -11,7 +11,7 @@ use crate::group_row::GroupRow;
 use crate::world::WholeWorld;
 use lwc_base::{Cell, Name, PageValue, Tag};
 
-/// The tag of what stands under a page, if it has one.
+/// The tag of a page's value, if it has one.
 fn tag_of(value: Option<&PageValue>) -> Option<Tag>
     ensures { option_to_list result ≡ tag_of (option_copied value.entry) }
 {

@@ -1,0 +1,35 @@
+ghost use Rattle.std.specs.Prelude.{◌≡◌, ◌^◌};
+ghost use Rattle.guest_image.specs.declared.image.TheConstants.{FIRST_SLOT};
+ghost use Rattle.kernel_core.specs.declared.calling.TheConstants.{LW_CREATE};
+ghost use Rattle.lwc_base.specs.declared.descriptor.TheConstants.{SLOTS};
+ghost use Rattle.lwc_base.specs.declared.key.TheConstants.{NOBODY};
+ghost use Rattle.lwc_base.specs.declared.limits.TheConstants.{MOST_BUDGET, MOST_CONTEXTS, MOST_CONTEXTS_OF_JOB, MOST_FILES, MOST_FILE_BYTES, MOST_FRAMES, MOST_GROUPS, MOST_GROUPS_OF_JOB, MOST_IMAGE_BYTES, MOST_IMAGE_SLOTS, MOST_INSTRUCTIONS, MOST_ITEMS, MOST_JOBS, MOST_PAGES, MOST_RANGES, MOST_SCHEDULE_BYTES, MOST_STEPS, MOST_THREADS};
+ghost use Rattle.lwc_base.specs.declared.page.TheConstants.{PAGE_BYTES};
+
+/// A law: the numbers behind the names that definitions use for limits. A change of one of these constants
+/// changes what the program accepts, and does not pass.
+pub fn limits_are_as_documented()
+    ensures pages { MOST_PAGES ≡ 1024 }
+    ensures page_bytes { PAGE_BYTES ≡ 4096 }
+    ensures slots { SLOTS ≡ 64 }
+    ensures first_slot { FIRST_SLOT ≡ 2 }
+    ensures image_slots { MOST_IMAGE_SLOTS ≡ 62 }
+    ensures nobody { NOBODY ≡ 65534 }
+    ensures ranges { MOST_RANGES ≡ 64 }
+    ensures items { MOST_ITEMS ≡ 32 }
+    ensures contexts_of_job { MOST_CONTEXTS_OF_JOB ≡ 32 }
+    ensures groups_of_job { MOST_GROUPS_OF_JOB ≡ 64 }
+    ensures contexts { MOST_CONTEXTS ≡ 529 }
+    ensures groups { MOST_GROUPS ≡ 1024 }
+    ensures jobs { MOST_JOBS ≡ 1025 }
+    ensures frames { MOST_FRAMES ≡ 65536 }
+    ensures threads { MOST_THREADS ≡ 16 }
+    ensures budget { MOST_BUDGET ≡ 100000 }
+    ensures steps { MOST_STEPS ≡ 16000000 }
+    ensures instructions { MOST_INSTRUCTIONS ≡ 65536 }
+    ensures files { MOST_FILES ≡ 64 }
+    ensures file_bytes { MOST_FILE_BYTES ≡ 2 ^ 20 }
+    ensures image_bytes { MOST_IMAGE_BYTES ≡ 2 ^ 23 }
+    ensures schedule_bytes { MOST_SCHEDULE_BYTES ≡ 2 ^ 24 }
+    ensures create { LW_CREATE ≡ 16 }
+{}
