@@ -29,7 +29,7 @@ fn a_kernel_uses_only_an_advance_of_its_thread(rt: HostRuntime) -> Result<(), Fa
     advance_is_determined();
     let turn = kernel.step(0, Some(&own))?;
     assert_eq!(rt; (turn.regs.pc, kernel.work()), (2, 9999));
-    assert!(rt; kernel.room() != 0);
+    assert!(rt; kernel.room() != 0 && kernel.thread_count() == 1);
     let other = advance(kernel.text(), &Regs::fresh(3));
     let turn = kernel.step(0, Some(&other))?;
     assert_eq!(rt; (turn.regs.pc, kernel.work(), kernel.room()), (3, 9998, 1));
