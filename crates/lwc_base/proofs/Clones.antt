@@ -38,17 +38,17 @@ module _ (w : World) (c : Name) (job : ℕ) (items : List Item) where
   unfolding with_shared
   cell-stays k stays = let shares = shares-share w c job items in grind arith
 
-  cell-moves : (k : Key) → is_live w c ≡ true → IsKey w.size.pages k → is_moved (mode_or_copy items k) k ((context w c).cell k) ≡ true →
+  pub cell-moves : (k : Key) → is_live w c ≡ true → IsKey w.size.pages k → is_moved (mode_or_copy items k) k ((context w c).cell k) ≡ true →
       (context shared c).cell k ≡ Common (next_group w job)
   unfolding with_shared
   cell-moves k live within moves = let shares = shares-share w c job items in let needs = needed-key w c items k within moves in grind arith
 
   -- a group that a cell names was named by that cell, or it is the new one; and a group that was named is so still
-  named-before : (a : Name) (k : Key) (g : Name) → (context shared a).cell k ≡ Common g → g ≢ next_group w job → (context w a).cell k ≡ Common g
+  pub named-before : (a : Name) (k : Key) (g : Name) → (context shared a).cell k ≡ Common g → g ≢ next_group w job → (context w a).cell k ≡ Common g
   unfolding with_shared
   named-before a k g names other = let shares = shares-share w c job items in grind (arith, cases_name)
 
-  named-after : (a : Name) (k : Key) (g : Name) → (context w a).cell k ≡ Common g → (context shared a).cell k ≡ Common g
+  pub named-after : (a : Name) (k : Key) (g : Name) → (context w a).cell k ≡ Common g → (context shared a).cell k ≡ Common g
   unfolding with_shared
   named-after a k g names = let shares = shares-share w c job items in grind (arith, cases_name)
 

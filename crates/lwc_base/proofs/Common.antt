@@ -16,14 +16,14 @@ use Rattle.lwc_base.specs.Keys.{ValueOf, is_there, with_key}
 use Rattle.lwc_base.specs.Mapping.{on_pages, map_pages, unmap_pages}
 use Rattle.lwc_base.specs.Memory.{touched}
 use Rattle.lwc_base.specs.Sound.{HasItsGroups, HasValue, live_groups}
-use Rattle.lwc_base.specs.Holders.{InCell}
+use Rattle.lwc_base.specs.Holders.{InCell, IsGroup}
 use Rattle.lwc_base.specs.Store.{Piece, after_store, plan, put_pages}
 use Rattle.lwc_base.specs.World.{World, Context, context, group, is_live, change_context, change_group, change_counters}
 use Rattle.lwc_base.proofs.Keys.{with_key-cases, with_key-itself, with_key-other, on_pages-cases}
 use Rattle.lwc_base.proofs.Lookups.{changes-change_context, changes-change_group}
 use Rattle.lwc_base.proofs.Sharing.{value_of-same}
 use Rattle.lwc_base.proofs.Orders.{cases_name}
-use Rattle.lwc_base.proofs.Puts.{after_put_at, names-put_at, takes-after_store}
+use Rattle.lwc_base.proofs.Puts.{after_put_at, live_of_common, names-put_at, takes-after_store}
 
 -- a context reads the same under a key in two worlds where its cell is the same, and so is the value of the group that it names
 pub value_at-same : (v w : World) (a : Name) (k : Key) → (context v a).cell k ≡ (context w a).cell k →
@@ -35,6 +35,11 @@ value_at-same v w a k same groups = ap (value_of v k) same ∙ value_of-same v w
 pub value_at-cell : (w : World) (a : Name) (k : Key) (cell : Cell (ValueOf k)) → (context w a).cell k ≡ cell → value_at w a k ≡ value_of w k cell
 unfolding value_at
 value_at-cell w a k cell is = ap (value_of w k) is
+
+-- a group that a cell names is live in a world that has the groups that its cells name
+pub group_of_cell : (w : World) → HasItsGroups w → (c : Name) (k : Key) (g : Name) → (context w c).cell k ≡ Common g → IsGroup w g
+group_of_cell w groups c k g common =
+    let has : HasValue w k g = subst (InCell (live_groups w) c.job k) common (groups.contexts c (live_of_common w c k g common) k) in has.live
 
 -- a change of a context's own cell
 own_changes : (w : World) (c : Name) (k : Key) (value : ValueOf k) → ChangesContext w c (with_cell k (Own value)) (change_context w c (with_cell k (Own value)))
@@ -71,18 +76,20 @@ module _ (w : World) (c : Name) (k : Key) (value : ValueOf k) where
       let put = with_key-itself (λ T. T) k value (group w g).value in
       grind (arith, both.live, both.first, both.second, changes.changed, changes.contexts a))
 
-  -- and so does the context itself, where something is there
-  pub put-itself : is_live w c ≡ true → HasItsGroups w → is_there k (value_at w c k) ≡ true → value_at (put_at w c k value) c k ≡ value
+  -- and so does the context itself, where something is there, and the group that its cell names is live
+  pub put-there : is_live w c ≡ true → ((g : Name) → (context w c).cell k ≡ Common g → IsGroup w g) → is_there k (value_at w c k) ≡ true →
+      value_at (put_at w c k value) c k ≡ value
   unfolding value_at
-  put-itself live groups there =
-      let has = groups.contexts c live k in
+  put-there live groups there =
       after_put_at (λ v. value_at v c k ≡ value) w c k value (λ old own absent. grind arith)
       (λ old own _. let changes = own_changes w c k value in let put = with_key-itself Cell k (Own value) (context w c).cell in grind (arith, changes.changed live))
       (λ g common.
       let changes = group_changes w g k value in
       let put = with_key-itself (λ T. T) k value (group w g).value in
-      let in_group : HasValue w k g = subst (InCell (live_groups w) c.job k) common has in
-      grind (arith, in_group.live, changes.changed, changes.contexts c))
+      grind (arith, groups g common, changes.changed, changes.contexts c))
+
+  pub put-itself : is_live w c ≡ true → HasItsGroups w → is_there k (value_at w c k) ≡ true → value_at (put_at w c k value) c k ≡ value
+  put-itself live groups there = put-there live (group_of_cell w groups c k) there
 
 -- the same cells name the same groups
 pub record NamesSame (w v : World) : Type 0 where
@@ -101,7 +108,7 @@ common-with_key : (k : Key) (old value : ValueOf k) (cells : (r : Key) → Cell 
 common-with_key k old value cells q g is =
     with_key-cases Cell k (Own value) cells (λ r x. (cells r ≡ Common g → x ≡ Common g) × (x ≡ Common g → cells r ≡ Common g)) ((λ e. grind arith), (λ e. grind arith)) q (λ _. ((λ e. e), (λ e. e)))
 
-names_same-put_at : (w : World) (c : Name) (k : Key) (value : ValueOf k) → NamesSame w (put_at w c k value)
+pub names_same-put_at : (w : World) (c : Name) (k : Key) (value : ValueOf k) → NamesSame w (put_at w c k value)
 names_same-put_at w c k value =
     after_put_at (NamesSame w) w c k value (λ _ _ _. names_same-itself w)
     (λ old is _. let changes = own_changes w c k value in record {
@@ -115,7 +122,7 @@ names_same-put_pages w c [] = names_same-itself w
 names_same-put_pages w c (v ∷ vs) =
     names_same-then w (put_page w c v.0 v.1) _ (names_same-put_at w c (Page v.0) (Some v.1)) (names_same-put_pages (put_page w c v.0 v.1) c vs)
 
-names_same-after_store : (w : World) (c : Name) (job : ℕ) (piece : Piece) → NamesSame w (after_store w c job piece)
+pub names_same-after_store : (w : World) (c : Name) (job : ℕ) (piece : Piece) → NamesSame w (after_store w c job piece)
 unfolding after_store change_counters context
 names_same-after_store w c job piece =
     let same = names_same-put_pages w c (plan w c job piece (w.next job).tags (touched piece.at (length piece.bytes))) in record { there = same.there; back = same.back }

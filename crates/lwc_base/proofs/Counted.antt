@@ -1,5 +1,5 @@
 -- How many names live, in all and of each job, where the same names live and where there is one more.
-use Rattle.std.proofs.Common.{◌≡◌, ◌≢◌, ℕ, ◌+◌, sym, ap, ◌∙◌, Bool, true, false, cond, eqb, List, [], ◌∷◌, map, length, arith}
+use Rattle.std.proofs.Common.{◌≡◌, ◌≢◌, ℕ, ◌+◌, ◌≤◌, sym, ap, subst, ◌∙◌, Bool, true, false, cond, eqb, None, List, [], ◌∷◌, map, length, arith}
 use Rattle.std.proofs.lemmas.List.{length-map}
 use Rattle.std.proofs.lemmas.List.Sums.{sum_by-cons}
 use Rattle.std.specs.Prelude.{if◌then◌else◌, is_some, count_by, T}
@@ -8,8 +8,8 @@ use Rattle.std.specs.FinMap as fm
 use Rattle.std.specs.List.{AllByRecursion}
 use Rattle.std.specs.List.Sorted.{IsStrictlySortedBy}
 use Rattle.std.proofs.lemmas.Map.Lookups.{btree_set_from_contains}
-use Rattle.std.specs.declared.cmp.Ordering.TheVariants.{Less}
-use Rattle.std.specs.FinMap.Entries.{put, find, is_sorted, below_all}
+use Rattle.std.specs.declared.cmp.Ordering.TheVariants.{Less, Equal}
+use Rattle.std.specs.FinMap.Entries.{put, find, is_sorted, below_all, where_key, is_sorted-where_key, find-where_key}
 use Rattle.lwc_base.specs.declared.name.Name.{Name}
 use Rattle.lwc_base.specs.Names.{name_cmp}
 use Rattle.lwc_base.proofs.Orders.{name_cmp-total, name_cmp-IsAntisymmetric, cases_name, name-itself, other_name}
@@ -62,3 +62,33 @@ module _ {X : Type 0} (m n : fm.FinMap name_cmp X) (c : Name) (y : X) (there : f
 
   pub len-more : fm.len m ≡ fm.len n + 1
   len-more = grind (arith, len-alike m (fm.insert n c y) as_inserted, fm.len-insert name_cmp-total n c y)
+
+-- a count of keys, where some are left out
+count_by-where : {X : Type 0} (kept test : Name → Bool) (es : List (Name × X)) → count_by test (keys_of (where_key name_cmp kept es)) ≤ count_by test (keys_of es)
+count_by-where kept test [] = omega arith
+count_by-where kept test (e ∷ es) =
+    let rest = count_by-where kept test es in
+    grind (arith, nat_tests, sum_by-cons (λ x. cond (test x) 1 0) e.0 (keys_of es), sum_by-cons (λ x. cond (test x) 1 0) e.0 (keys_of (where_key name_cmp kept es)))
+
+length-where : {X : Type 0} (kept : Name → Bool) (es : List (Name × X)) → length (where_key name_cmp kept es) ≤ length es
+length-where kept [] = omega arith
+length-where kept (e ∷ es) = let rest = length-where kept es in grind (arith, nat_tests)
+
+module _ {X : Type 0} (m : fm.FinMap name_cmp X) (kept : Name → Bool) where
+  entries-retain_keys : fm.entries (fm.retain_keys m kept) ≡ where_key name_cmp kept (fm.entries m)
+  entries-retain_keys =
+      let alike = λ (q x : Name) (tie : name_cmp q x ≡ Equal). ap kept (sym (name_cmp-IsAntisymmetric q x tie)) in
+      let sorted = is_sorted-where_key name_cmp kept (fm.entries m) (fm.entries_sorted m) in
+      ap fm.entries (fm.same_map name_cmp-total name_cmp-IsAntisymmetric (fm.retain_keys m kept) (fm.from_sorted (where_key name_cmp kept (fm.entries m)))
+      (λ q. fm.get-retain_keys m kept q (alike q) ∙ ap (λ o. cond (kept q) o None) (fm.get-entries m q)
+      ∙ sym (find-where_key name_cmp kept q (alike q) (fm.entries m)) ∙ sym (fm.get-from_sorted name_cmp (where_key name_cmp kept (fm.entries m)) q sorted)))
+      ∙ fm.entries-from_sorted name_cmp (where_key name_cmp kept (fm.entries m)) sorted
+
+  -- no more names live once some are left out
+  pub count_by-retain_keys : (test : Name → Bool) → count_by test (fm.keys (fm.retain_keys m kept)) ≤ count_by test (fm.keys m)
+  count_by-retain_keys test = subst (λ es. count_by test (keys_of es) ≤ count_by test (fm.keys m)) (sym entries-retain_keys) (count_by-where kept test (fm.entries m))
+
+  pub len-retain_keys : fm.len (fm.retain_keys m kept) ≤ fm.len m
+  len-retain_keys =
+      let few = subst (λ es. length es ≤ length (fm.entries m)) (sym entries-retain_keys) (length-where kept (fm.entries m)) in
+      omega (arith, few, fm.len-entries m, fm.len-entries (fm.retain_keys m kept))

@@ -13,15 +13,18 @@ use Rattle.lwc_base.specs.Fresh.{IsFresh, IsNamedGroup, named_groups}
 use Rattle.lwc_base.specs.Holders.{InCell, InContext, IsGroup}
 use Rattle.lwc_base.specs.Keys.{ValueOf, is_there}
 use Rattle.lwc_base.specs.Mapping.{map_pages, unmap_pages}
+use Rattle.lwc_base.specs.Overlay.{overlay}
+use Rattle.lwc_base.specs.Saved.{save}
 use Rattle.lwc_base.specs.Sharing.{clone_context, cloned_context, needs_group}
 use Rattle.lwc_base.specs.World.{World, Context, context, groups_of, live_of, is_live, new_group, change_context, change_group, next_context, next_group}
 use Rattle.lwc_base.proofs.Clones.{next_context-share}
 use Rattle.lwc_base.proofs.Counted.{count_by-same, count_by-more, len-alike, len-more}
-use Rattle.lwc_base.proofs.Fresh.{fresh-add_context, fresh-add_group, fresh-after_store, fresh-change_context, fresh-change_counters, fresh-change_group, fresh-clone_context, fresh-empty_world, fresh-insert_context, fresh-insert_group, fresh-map_pages, fresh-put_at, fresh-put_pages, fresh-share, fresh-unmap_pages, next_context-new, next_group-new}
+use Rattle.lwc_base.proofs.Fresh.{fresh-add_context, fresh-add_group, fresh-after_store, fresh-change_context, fresh-change_counters, fresh-change_group, fresh-clone_context, fresh-empty_world, fresh-insert_context, fresh-insert_group, fresh-map_pages, fresh-overlay, fresh-put_at, fresh-put_pages, fresh-save, fresh-share, fresh-unmap_pages, next_context-new, next_group-new}
 use Rattle.lwc_base.proofs.Holders.{in_clone, lets-everywhere}
 use Rattle.lwc_base.proofs.Lookups.{adds-add_context, adds-add_group, changes-change_context, changes-change_group}
 use Rattle.lwc_base.proofs.Orders.{name_cmp-total, name_cmp-IsAntisymmetric, tag_cmp-total, tag_cmp-IsAntisymmetric}
 use Rattle.lwc_base.proofs.Puts.{live_of_common, names-put_at, names-put_pages, takes-after_store}
+use Rattle.lwc_base.proofs.Reaps.{fewer-reap, fresh-reap}
 use Rattle.lwc_base.proofs.Sharing.{context-same, group-same, shares-share}
 
 pub orders : OrderFacts
@@ -39,7 +42,7 @@ put_common w c k g value common = grind arith
 ruleset small = (context-same, group-same, changes-change_context, changes-change_group, adds-add_context, adds-add_group)
 
 pub changes : ChangeFacts
-unfolding map_pages unmap_pages clone_context
+unfolding map_pages unmap_pages clone_context save overlay
 changes = search (rules, small, names-put_at, put_own, put_common, names-put_pages, takes-after_store, shares-share, next_context-share)
 
 module _ (w v : World) (job j : ℕ) where
@@ -77,6 +80,7 @@ counts = record {
   context_added = λ w v job j x fresh. contexts-more w v job j fresh x;
   group_added = λ w v job j x fresh adds. groups-more w v job j fresh adds.live adds.still_live;
   shared = λ w v c job j items fresh. groups-shared w v job j fresh c items;
+  reaped = fewer-reap;
 }
 
 named : (w : World) (c : Name) (k : Key) (g : Name) → IsFresh w → (context w c).cell k ≡ Common g → IsNamedGroup w.next g
@@ -91,7 +95,7 @@ clone_cells w c job items entry live fresh = in_clone (named_groups w.next) w c 
 
 ruleset small_fresh = (fresh-empty_world, fresh-insert_context, fresh-insert_group, change, fresh-change_group, fresh-change_counters, fresh-add_context, fresh-add_group)
 
-ruleset calls_fresh = (fresh-put_at, fresh-put_pages, fresh-map_pages, fresh-unmap_pages, fresh-after_store, fresh-share, clone_cells, fresh-clone_context)
+ruleset calls_fresh = (fresh-put_at, fresh-put_pages, fresh-map_pages, fresh-unmap_pages, fresh-after_store, fresh-share, clone_cells, fresh-clone_context, fresh-save, fresh-overlay, fresh-reap)
 
 pub stays_fresh : FreshFacts
 stays_fresh = search (rules, next_context-new, next_group-new, named, small_fresh, calls_fresh)

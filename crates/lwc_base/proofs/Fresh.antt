@@ -18,10 +18,12 @@ use Rattle.lwc_base.specs.Holders.{InCell, InContext, Keeps}
 use Rattle.lwc_base.specs.Keys.{ValueOf}
 use Rattle.lwc_base.specs.Mapping.{map_pages, unmap_pages}
 use Rattle.lwc_base.specs.Memory.{touched}
+use Rattle.lwc_base.specs.Overlay.{overlay, with_overlay}
+use Rattle.lwc_base.specs.Saved.{save, with_saved}
 use Rattle.lwc_base.specs.Sharing.{cloned_context, share, clone_context}
 use Rattle.lwc_base.specs.Store.{Piece, after_store, parting_count, plan, put_pages}
 use Rattle.lwc_base.specs.World.{World, Context, Group, Counters, is_live, context, change_context, change_group, change_counters, empty_world, add_context, next_context, add_group, next_group}
-use Rattle.lwc_base.proofs.Holders.{keeps-weaker, in_cell-weaker, keeps-empty_world, keeps-insert_context, keeps-insert_group, keeps-change_context, keeps-change_group, keeps-change_counters, keeps-put_at, keeps-put_pages, keeps-on_pages, keeps-share, may_have-free, in_clone, lets-everywhere}
+use Rattle.lwc_base.proofs.Holders.{keeps-weaker, in_cell-weaker, keeps-empty_world, keeps-insert_context, keeps-insert_group, keeps-change_context, keeps-change_group, keeps-change_counters, keeps-put_at, keeps-put_pages, keeps-on_pages, keeps-share, may_have-free, in_clone, keeps-with_overlay, lets-everywhere}
 use Rattle.lwc_base.proofs.Lookups.{changes-change_context, changes-change_group}
 use Rattle.lwc_base.proofs.Orders.{cases_name}
 use Rattle.lwc_base.proofs.Puts.{names-put_at, names-put_pages}
@@ -136,6 +138,18 @@ module _ (w : World) (c : Name) (job : ℕ) (items : List Item) (live : is_live 
       fresh-add_context v job (cloned_context v c items entry)
       (in_clone (named_groups v.next) v c job items ((shares-share w c job items).live c ∙ live) (λ i k. tt) (lets-everywhere _ _ c.job job)
       fresh-share.cells entry (λ k g value _ _. tt)) fresh-share
+
+pub fresh-save : (w : World) (c : Name) (t : ℕ) (regs : Regs) → IsFresh w → IsFresh (save w c t regs)
+unfolding save
+fresh-save w c t regs fresh = fresh-change_context w c (with_saved t regs) (λ live. fresh.cells.contexts c live) fresh
+
+pub fresh-overlay : (w : World) (c d : Name) (job : ℕ) (items : List Item) → is_live w d ≡ true → IsFresh w → IsFresh (overlay w c d job items)
+unfolding overlay
+fresh-overlay w c d job items there fresh =
+    let s : World = share w d job items in
+    let shared : IsFresh s = fresh-share w d job items there fresh in
+    fresh-names s _ (changes-change_context s c (with_overlay s d items)).names
+    (keeps-with_overlay (named_groups s.next) s c d items ((shares-share w d job items).live d ∙ there) (λ i k. tt) (lets-everywhere _ _ d.job c.job) (λ k g value _ _. tt)) shared
 
 -- no context has the next name of a job
 pub next_context-new : (w : World) (job : ℕ) → IsFresh w → is_live w (next_context w job) ≡ false

@@ -1,5 +1,5 @@
 -- What is so of each holder of a world stays so after each change that puts nothing else there.
-use Rattle.std.proofs.Common.{◌≡◌, ℕ, ◌<◌, subst, true, Option, Some, List, [], ◌∷◌, length, arith, rules}
+use Rattle.std.proofs.Common.{◌≡◌, ℕ, ◌<◌, subst, true, Option, Some, None, List, [], ◌∷◌, length, arith, rules}
 use Rattle.std.specs.List.{AllByRecursion}
 use Rattle.std.proofs.lemmas.Bool.{cond_both}
 use Rattle.std.specs.FinMap as fm
@@ -19,7 +19,8 @@ use Rattle.lwc_base.specs.Holders.{Rules, everywhere, InCell, InContext, InGroup
 use Rattle.lwc_base.specs.Keys.{ValueOf, nothing}
 use Rattle.lwc_base.specs.Mapping.{on_pages}
 use Rattle.lwc_base.specs.Memory.{touched}
-use Rattle.lwc_base.specs.Modes.{mode_or_copy}
+use Rattle.lwc_base.specs.Modes.{mode, mode_or_copy}
+use Rattle.lwc_base.specs.Overlay.{overlaid_cell, with_overlay}
 use Rattle.lwc_base.specs.Sharing.{is_moved, moved_value, moved_values, with_shared, share, cloned_cell, cloned_context}
 use Rattle.lwc_base.specs.Store.{Piece, after_store, plan, put_pages}
 use Rattle.lwc_base.specs.World.{World, Context, Group, Counters, context, group, is_live, change_context, change_group, change_counters, add_context, next_context, add_group, next_group, empty_world}
@@ -148,13 +149,25 @@ module _ (rules : Rules) (w : World) (c : Name) (job : ℕ) (items : List Item) 
   in_lets k (Own value) is = lets.value k value is
   in_lets k (Common g) is = lets.group k g is
 
+  -- a cell that a context of the job gets of the context
+  pub in_cloned_cell : ((k : Key) (g : Name) (value : ValueOf k) → rules.group c.job k g → rules.value g.job k value → rules.value c.job k value) →
+      (k : Key) (mode : Mode) → InCell rules job k (cloned_cell w c k mode)
+  in_cloned_cell out k Copy = lets.value k _ (value_at-keeps rules w c live none out keeps k)
+  in_cloned_cell out k Share = in_lets k ((context w c).cell k) (keeps.contexts c live k)
+  in_cloned_cell out k Unmap = none job k
+
   -- the cells of a context that is made from the context
   pub in_clone : (entry : Regs) → ((k : Key) (g : Name) (value : ValueOf k) → rules.group c.job k g → rules.value g.job k value → rules.value c.job k value) →
       InContext rules job (cloned_context w c items entry)
   unfolding cloned_context
-  in_clone entry out k = at (mode_or_copy items k)
-    where
-      at : (mode : Mode) → InCell rules job k (cloned_cell w c k mode)
-      at Copy = lets.value k _ (value_at-keeps rules w c live none out keeps k)
-      at Share = in_lets k ((context w c).cell k) (keeps.contexts c live k)
-      at Unmap = none job k
+  in_clone entry out k = in_cloned_cell out k (mode_or_copy items k)
+
+-- a context takes over from another one
+pub keeps-with_overlay : (rules : Rules) (w : World) (c d : Name) (items : List Item) → is_live w d ≡ true → ((i : ℕ) (k : Key) → rules.value i k (nothing k)) → Lets rules d.job c.job →
+    ((k : Key) (g : Name) (value : ValueOf k) → rules.group d.job k g → rules.value g.job k value → rules.value d.job k value) → Keeps rules w →
+    Keeps rules (change_context w c (with_overlay w d items))
+keeps-with_overlay rules w c d items there none lets out keeps = keeps-change_context rules w c (with_overlay w d items) (λ live k. at live k (mode items k)) keeps
+  where
+    at : is_live w c ≡ true → (k : Key) (m : Option Mode) → InCell rules c.job k (overlaid_cell w d k m ((context w c).cell k))
+    at live k None = keeps.contexts c live k
+    at live k (Some m) = in_cloned_cell rules w d c.job items there none lets keeps out k m

@@ -1,12 +1,13 @@
 -- The mode of a key is that of the one item that names it.
 use Rattle.std.proofs.Common.{◌≡◌, ℕ, zero, suc, ◌<◌, refl, ap, subst, true, false, Some, None, List, [], ◌∷◌, length, get_or, arith, rules}
-use Rattle.std.specs.Prelude.{All}
+use Rattle.std.specs.Prelude.{All, is_some}
 use Rattle.std.specs.List.{find, AllPairs, Contains}
 use Rattle.std.specs.Option.{option_map}
 use Rattle.std.proofs.lemmas.Bool.Decides.{nat_tests}
 use Rattle.lwc_base.specs.declared.item.Item.{Item}
 use Rattle.lwc_base.specs.declared.key.Key.{Key}
-use Rattle.lwc_base.specs.Modes.{names, mode, overlaps, AreApart, IsSpec}
+use Rattle.lwc_base.specs.declared.key.Kind.{Kind}
+use Rattle.lwc_base.specs.Modes.{names, mode, overlaps, AreApart, IsItem, IsKey, IsSpec, limit, same_kind}
 
 -- two items that name one key overlap
 overlap_at : (a b : Item) (key : Key) → names a key ≡ true → names b key ≡ true → overlaps a b ≡ true
@@ -36,3 +37,19 @@ find-none (x ∷ xs) key fails =
 pub mode-none : (items : List Item) (key : Key) → All (λ item. names item key ≡ false) items → mode items key ≡ None
 unfolding mode
 mode-none items key fails = ap (option_map (λ (i : Item). i.mode)) (find-none items key fails)
+
+-- kinds that are the same have as many keys
+limit-same : (pages : ℕ) (a b : Kind) → same_kind a b ≡ true → limit pages a ≡ limit pages b
+limit-same pages a b same = grind arith
+
+named-key-find : (pages : ℕ) (items : List Item) (key : Key) → All (IsItem pages) items → is_some (option_map (λ (i : Item). i.mode) (find (λ i. names i key) items)) ≡ true → IsKey pages key
+named-key-find pages [] key each named = cc
+named-key-find pages (x ∷ xs) key each named =
+    let first : IsItem pages x = each 0 x (omega arith) in
+    let rest = named-key-find pages xs key (λ k d within. each (suc k) d (omega arith)) in
+    grind (arith, nat_tests, first.within, limit-same)
+
+-- a key that an item of a specifier names is one that there is
+pub named-key : (pages : ℕ) (items : List Item) (key : Key) → IsSpec pages items → is_some (mode items key) ≡ true → IsKey pages key
+unfolding mode
+named-key pages items key spec named = named-key-find pages items key spec.each named

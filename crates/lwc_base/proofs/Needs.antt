@@ -15,7 +15,7 @@ use Rattle.lwc_base.specs.Sharing.{any_key, has_own, is_moved, needs_group}
 use Rattle.lwc_base.specs.World.{World, context}
 
 -- one number of a range passes
-some_in_range : (test : ℕ → Bool) (n a k : ℕ) → a ≤ k → k < a + n → test k ≡ true → list_any test (range_with_len a n) ≡ true
+pub some_in_range : (test : ℕ → Bool) (n a k : ℕ) → a ≤ k → k < a + n → test k ≡ true → list_any test (range_with_len a n) ≡ true
 some_in_range test zero a k low high passes = absurd (omega arith)
 some_in_range test (suc n) a k low high passes = let rest = some_in_range test n (a + 1) k in grind arith
 
@@ -25,7 +25,7 @@ none_in_range test zero a fails = refl
 none_in_range test (suc n) a fails = let here = fails a (omega arith) in let rest = none_in_range test n (a + 1) (λ k high. fails k (omega arith)) in grind arith
 
 -- a key that there is passes
-any_key-some : (pages : ℕ) (test : Key → Bool) (k : Key) → IsKey pages k → test k ≡ true → any_key pages test ≡ true
+pub any_key-some : (pages : ℕ) (test : Key → Bool) (k : Key) → IsKey pages k → test k ≡ true → any_key pages test ≡ true
 unfolding any_key
 any_key-some pages test (Page p) within passes = or_left _ _ (or_left _ _ (some_in_range (λ q. test (Page q)) pages 0 p (omega arith) (omega arith) passes))
 any_key-some pages test (Slot n) within passes = or_left _ _ (or_right _ _ (some_in_range (λ m. test (Slot m)) SLOTS 0 n (omega arith) (omega arith) passes))

@@ -1,5 +1,5 @@
 -- What a reaped world has, and what it has kept.
-use Rattle.std.proofs.Common.{subst, T, ◌&&◌, ◌≡◌, ◌⊎◌, inl, inr, ℕ, zero, suc, ◌+◌, ◌≤◌, ◌<◌, refl, sym, ap, ◌∙◌, Bool, true, false, cond, ◌||◌, Option, Some, None, List, [], ◌∷◌, map, arith}
+use Rattle.std.proofs.Common.{subst, T, ◌&&◌, ◌≡◌, inl, inr, ℕ, zero, suc, ◌+◌, ◌≤◌, ◌<◌, refl, sym, ap, ◌∙◌, Bool, true, false, cond, ◌||◌, Option, Some, None, List, [], ◌∷◌, map, arith}
 use Rattle.std.proofs.lemmas.Bool.{false≢true}
 use Rattle.std.specs.Prelude.{is_some, unwrap_or}
 use Rattle.std.specs.List.{list_any, range_with_len}
@@ -21,6 +21,7 @@ use Rattle.lwc_base.specs.Registers.{fresh_registers}
 use Rattle.lwc_base.specs.Sharing.{any_key}
 use Rattle.lwc_base.specs.World.{World, Context, Group, is_live, context, group, new_context, new_group}
 use Rattle.lwc_base.proofs.Life.{or_cases, or_left, or_right, reached_by_way, way_of_reached}
+use Rattle.lwc_base.proofs.Needs.{any_key-some, some_in_range}
 use Rattle.lwc_base.proofs.Orders.{name_cmp-total, name_cmp-IsAntisymmetric, name-itself, same_name}
 use Rattle.std.proofs.lemmas.Cmp.{tied_itself}
 use Rattle.std.specs.Ordering.{is_eq, is_lt}
@@ -34,24 +35,6 @@ number_in test (suc n) a e =
       | inl here ↦ (a, omega arith, omega arith, here)
       | inr later ↦ let found = number_in test n (a + 1) later in (found.0, omega (arith, found.1), omega (arith, found.2), found.3)
     ]
-
-le_cases : (a p : ℕ) → a ≤ p → (a ≡ p) ⊎ (a + 1 ≤ p)
-le_cases a p low = grind arith
-
-pub in_numbers : (test : ℕ → Bool) (n a p : ℕ) → a ≤ p → p < a + n → test p ≡ true → list_any test (range_with_len a n) ≡ true
-in_numbers test zero a p low high e = absurd (omega arith)
-in_numbers test (suc n) a p low high e =
-    elim (le_cases a p low) [
-      | inl same ↦ or_left _ _ (ap test same ∙ e)
-      | inr more ↦ or_right _ _ (in_numbers test n (a + 1) p more (omega arith) e)
-    ]
-
--- a test passes for some key where it passes for a key that there is
-pub key_in : (pages : ℕ) (test : Key → Bool) (k : Key) → IsKey pages k → test k ≡ true → any_key pages test ≡ true
-unfolding any_key
-key_in pages test (Page p) within e = or_left _ _ (or_left _ _ (in_numbers (λ q. test (Page q)) pages 0 p (omega arith) (omega (arith, within)) e))
-key_in pages test (Slot n) within e = or_left _ _ (or_right _ _ (in_numbers (λ m. test (Slot m)) SLOTS 0 n (omega arith) (omega (arith, within)) e))
-key_in pages test Cred within e = or_right _ _ e
 
 any_entry : {X : Type 0} (test : X → Bool) (es : List (Name × X)) (q : Name) (x : X) → find name_cmp q es ≡ Some x → test x ≡ true → list_any test (map (λ (e : Name × X). e.1) es) ≡ true
 any_entry test [] q x there passes = cc
@@ -127,7 +110,16 @@ module _ (w : World) (roots : List Name) where
   named-kept c g k within live e is =
       any_value (names_group w.size.pages g) (fm.retain_keys w.contexts (is_reached w roots)) c (context w c)
       (get-kept w.contexts (is_reached w roots) c ∙ ap (λ b. cond b (fm.get w.contexts c) None) e ∙ there w c live)
-      (key_in w.size.pages (λ q. is_in g ((context w c).cell q)) k within (ap (is_in g) is ∙ name-itself g))
+      (any_key-some w.size.pages (λ q. is_in g ((context w c).cell q)) k within (ap (is_in g) is ∙ name-itself g))
+
+  -- a group that is left was there
+  pub was_group-reap : (g : Name) → fm.contains_key (reap w roots).groups g ≡ true → fm.contains_key w.groups g ≡ true
+  was_group-reap g live = was_there (named g) (fm.get w.groups g) (sym (ap is_some (get-group g)) ∙ live)
+
+  -- a group is left that a cell of a context that is left names
+  pub group-left : (c g : Name) (k : Key) → IsKey w.size.pages k → is_live (reap w roots) c ≡ true → (context w c).cell k ≡ Common g → fm.contains_key w.groups g ≡ true →
+      fm.contains_key (reap w roots).groups g ≡ true
+  group-left c g k within live is there = ap is_some (get-group g ∙ ap (λ b. cond b (fm.get w.groups g) None) (named-kept c g k within (live-was_live c live) (live-was_reached c live) is)) ∙ there
 
   same-group : (g : Name) → named g ≡ true → group (reap w roots) g ≡ group w g
   unfolding group
@@ -156,14 +148,14 @@ module _ (w : World) (roots : List Name) where
   unfolding links
   links-kept d c live link =
       let found = number_in (λ n. is_of c (slot_at w d n)) SLOTS 0 link in
-      in_numbers (λ n. is_of c (slot_at (reap w roots) d n)) SLOTS 0 found.0 found.1 found.2
+      some_in_range (λ n. is_of c (slot_at (reap w roots) d n)) SLOTS 0 found.0 found.1 found.2
       (ap (is_of c) (value_at-kept d (Slot found.0) (omega (arith, found.2)) live) ∙ found.3)
 
-  links-were : (d c : Name) → is_live (reap w roots) d ≡ true → links (reap w roots) d c ≡ true → links w d c ≡ true
+  pub links-were : (d c : Name) → is_live (reap w roots) d ≡ true → links (reap w roots) d c ≡ true → links w d c ≡ true
   unfolding links
   links-were d c live link =
       let found = number_in (λ n. is_of c (slot_at (reap w roots) d n)) SLOTS 0 link in
-      in_numbers (λ n. is_of c (slot_at w d n)) SLOTS 0 found.0 found.1 found.2
+      some_in_range (λ n. is_of c (slot_at w d n)) SLOTS 0 found.0 found.1 found.2
       (ap (is_of c) (sym (value_at-kept d (Slot found.0) (omega (arith, found.2)) live)) ∙ found.3)
 
   -- a live context is kept exactly where a chain of live contexts leads to it

@@ -15,19 +15,20 @@ use Rattle.lwc_base.specs.declared.name.Tag.{Tag}
 use Rattle.lwc_base.specs.declared.page.PageValue.{PageValue}
 use Rattle.lwc_base.specs.declared.page.PageValue.TheVariants.{Zero, Data}
 use Rattle.lwc_base.specs.declared.page.TheConstants.{PAGE_BYTES}
+use Rattle.lwc_base.specs.declared.size.WorldSize.{WorldSize}
 use Rattle.lwc_base.specs.Cells.{page_at, put_page, value_at}
 use Rattle.lwc_base.specs.Frames.{is_parting, own_value, tag_of, tags, used}
-use Rattle.lwc_base.specs.Holders.{InCell, Keeps}
+use Rattle.lwc_base.specs.Holders.{InCell, Keeps, everywhere}
 use Rattle.lwc_base.specs.Memory.{byte_at, is_present, touched}
-use Rattle.lwc_base.specs.Modes.{number_of}
+use Rattle.lwc_base.specs.Modes.{IsKey, number_of}
 use Rattle.lwc_base.specs.Names.{tag_cmp}
 use Rattle.lwc_base.specs.Pages.{bytes_of}
-use Rattle.lwc_base.specs.Sound.{HasItsGroups, IsSound, IsSoundPage, sound_pages}
+use Rattle.lwc_base.specs.Sound.{HasItsGroups, IsSound, IsSoundPage, common_keys, sound_pages}
 use Rattle.lwc_base.specs.Store.{Piece, Done, after_store, byte_after, bytes_after, page_value_at, parting_count, plan, put_pages, store, stored_value}
 use Rattle.lwc_base.specs.World.{World, Counters, context, group, is_live, change_counters}
 use Rattle.lwc_base.proofs.Common.{put-itself, put-other_key}
 use Rattle.lwc_base.proofs.Fresh.{fresh-after_store}
-use Rattle.lwc_base.proofs.Holders.{keeps-change_counters, keeps-put_at}
+use Rattle.lwc_base.proofs.Holders.{keeps-change_counters, keeps-put_at, keeps-put_pages, may_have-free}
 use Rattle.lwc_base.proofs.Orders.{same_tag, tag-itself}
 use Rattle.lwc_base.proofs.Puts.{names-put_at, takes-after_store}
 use Rattle.lwc_base.proofs.Sound.{groups-change_counters, groups-put_at, page_at-sound, pages-extends}
@@ -259,6 +260,8 @@ module _ (w : World) (c : Name) (job : ℕ) (piece : Piece) where
         record {
           fresh = fresh-after_store w c job piece sound.fresh;
           groups = groups-change_counters (put_pages w c values) job _ all.groups;
+          keys = keeps-change_counters (common_keys after) (put_pages w c values) job _ (keeps-put_pages (common_keys after) w c values (may_have-free (common_keys after) c.job (λ i p value. tt) values)
+              (subst (λ (s : WorldSize). Keeps (everywhere (λ k g. IsKey s.pages k) (λ k value. Unit {0})) w) (sym takes.size) sound.keys));
           home = all.home;
           pages = keeps-change_counters (sound_pages after all.home) (put_pages w c values) job _
               (pages-extends (counted last) after all.home all.home takes.size more (λ t old. refl) (put_pages w c values) all.cells);

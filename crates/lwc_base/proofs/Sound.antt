@@ -3,6 +3,7 @@ use Rattle.std.proofs.Common.{◌≡◌, ◌≢◌, ℕ, ◌<◌, ◌≤◌, ref
 use Rattle.std.specs.FinMap as fm
 use Rattle.std.proofs.lemmas.Bool.{cases_Bool}
 use Rattle.lwc_base.specs.declared.cell.Cell.{Cell}
+use Rattle.lwc_base.specs.declared.cell.Cell.TheVariants.{Own, Common}
 use Rattle.lwc_base.specs.declared.descriptor.Descriptor.{Descriptor}
 use Rattle.lwc_base.specs.declared.item.Item.{Item}
 use Rattle.lwc_base.specs.declared.item.Mode.{Mode}
@@ -19,15 +20,21 @@ use Rattle.lwc_base.specs.Fresh.{IsFresh, Rises, named_groups}
 use Rattle.lwc_base.specs.Holders.{Rules, everywhere, InCell, InContext, Keeps}
 use Rattle.lwc_base.specs.Keys.{ValueOf, is_there, nothing}
 use Rattle.lwc_base.specs.Mapping.{map_pages, unmap_pages}
-use Rattle.lwc_base.specs.Modes.{mode_or_copy}
+use Rattle.lwc_base.specs.Life.{reap}
+use Rattle.lwc_base.specs.Modes.{IsKey, IsSpec, mode_or_copy}
+use Rattle.lwc_base.specs.Overlay.{overlay, with_overlay}
+use Rattle.lwc_base.specs.Saved.{save, with_saved}
 use Rattle.lwc_base.specs.Sharing.{cloned_context, clone_context, is_moved, moved_value, moved_values, needs_group, share}
-use Rattle.lwc_base.specs.Sound.{HasItsGroups, HasValue, IsSound, IsSoundPage, IsSoundValue, live_groups, sound_pages}
+use Rattle.lwc_base.specs.Sound.{HasItsGroups, HasValue, IsSound, IsSoundPage, IsSoundValue, common_keys, live_groups, sound_pages}
 use Rattle.lwc_base.specs.World.{World, Context, Counters, Group, context, group, is_live, new_context, new_value, change_context, change_counters, change_group, add_context, empty_world, next_group}
-use Rattle.lwc_base.proofs.Fresh.{fresh-empty_world, fresh-put_at, fresh-map_pages, fresh-unmap_pages, fresh-add_context, fresh-share, rises-itself, rises-with_context, rises-with_group}
-use Rattle.lwc_base.proofs.Holders.{keeps-weaker, in_cell-weaker, keeps-empty_world, keeps-change_counters, keeps-put_at, keeps-on_pages, keeps-add_context, keeps-share, value_at-keeps, in_clone, lets-everywhere}
+use Rattle.lwc_base.proofs.Fresh.{fresh-empty_world, fresh-put_at, fresh-map_pages, fresh-unmap_pages, fresh-add_context, fresh-overlay, fresh-save, fresh-share, rises-itself, rises-with_context, rises-with_group}
+use Rattle.lwc_base.proofs.Holders.{keeps-weaker, in_cell-weaker, keeps-empty_world, keeps-change_counters, keeps-put_at, keeps-on_pages, keeps-add_context, keeps-change_context, keeps-share, keeps-with_overlay, value_at-keeps, in_clone, lets-everywhere}
+use Rattle.lwc_base.proofs.ItemModes.{named-key}
 use Rattle.lwc_base.proofs.Keys.{with_key-cases}
 use Rattle.lwc_base.proofs.Lookups.{changes-change_context, changes-change_group, group-cases}
 use Rattle.lwc_base.proofs.Puts.{after_put_at}
+use Rattle.lwc_base.proofs.Reaped.{context-kept, group-kept, group-left, live-was_live}
+use Rattle.lwc_base.proofs.Reaps.{fresh-reap, keeps-reap}
 use Rattle.lwc_base.proofs.Sharing.{shares-share}
 
 -- a world has at least what another has: its size, its names and tags, and something wherever a group has something
@@ -69,12 +76,13 @@ extends-add_context w job x = record { size = refl; next = rises-with_context w.
 
 -- what cells may name and values may be in a sound world
 abbrev sound_rules : World → (Tag → ℕ) → Rules
-sound_rules w home = everywhere (HasValue w) (IsSoundValue w home)
+sound_rules w home = everywhere (λ k g. HasValue w k g × IsKey w.size.pages k) (IsSoundValue w home)
 
 module _ (w : World) (sound : IsSound w) where
-  in_sound_cell : (job : ℕ) (k : Key) (cell : Cell (ValueOf k)) → InCell (live_groups w) job k cell → InCell (sound_pages w sound.home) job k cell →
-      InCell (sound_rules w sound.home) job k cell
-  in_sound_cell job k cell group is = search rules
+  in_sound_cell : (job : ℕ) (k : Key) (cell : Cell (ValueOf k)) → InCell (live_groups w) job k cell → InCell (common_keys w) job k cell →
+      InCell (sound_pages w sound.home) job k cell → InCell (sound_rules w sound.home) job k cell
+  in_sound_cell job k (Own value) group key is = is
+  in_sound_cell job k (Common g) group key is = (group, key)
 
   pub sound-rules : Keeps (sound_rules w sound.home) w
   sound-rules = search (rules, in_sound_cell)
@@ -83,7 +91,8 @@ module _ (w : World) (sound : IsSound w) where
 pub sound-by : (w : World) (home : Tag → ℕ) → IsFresh w → Keeps (sound_rules w home) w → IsSound w
 sound-by w home fresh keeps = record {
   fresh = fresh;
-  groups = keeps-weaker (sound_rules w home) (live_groups w) (λ job k g is. is) (λ job k value is. tt) w keeps;
+  groups = keeps-weaker (sound_rules w home) (live_groups w) (λ job k g is. is.0) (λ job k value is. tt) w keeps;
+  keys = keeps-weaker (sound_rules w home) (common_keys w) (λ job k g is. is.1) (λ job k value is. tt) w keeps;
   home = home;
   pages = keeps-weaker (sound_rules w home) (sound_pages w home) (λ job k g is. tt) (λ job k value is. is) w keeps;
 }
@@ -109,11 +118,14 @@ module _ (w v : World) (home : Tag → ℕ) (more : Extends w v) where
   value-extends : (job : ℕ) (k : Key) (value : ValueOf k) → IsSoundValue w home k value → IsSoundValue v home k value
   value-extends job = sound_value-extends w v home home more.size (λ j. (more.next j).tags) (λ tag _. refl)
 
+  may_name-extends : (k : Key) (g : Name) → HasValue w k g × IsKey w.size.pages k → HasValue v k g × IsKey v.size.pages k
+  may_name-extends k g is = (more.values k g is.0, subst (λ (s : WorldSize). IsKey s.pages k) (sym more.size) is.1)
+
   in_cell-extends : (job : ℕ) (k : Key) (cell : Cell (ValueOf k)) → InCell (sound_rules w home) job k cell → InCell (sound_rules v home) job k cell
-  in_cell-extends = in_cell-weaker (sound_rules w home) (sound_rules v home) (λ job. more.values) value-extends
+  in_cell-extends = in_cell-weaker (sound_rules w home) (sound_rules v home) (λ job. may_name-extends) value-extends
 
   rules-extends : (u : World) → Keeps (sound_rules w home) u → Keeps (sound_rules v home) u
-  rules-extends = keeps-weaker (sound_rules w home) (sound_rules v home) (λ job. more.values) value-extends
+  rules-extends = keeps-weaker (sound_rules w home) (sound_rules v home) (λ job. may_name-extends) value-extends
 
 -- a world that has at least as much stays sound, where what is put at holders is sound
 sound-extends : (w v : World) → Extends w v → IsFresh v → (sound : IsSound w) → (Keeps (sound_rules v sound.home) w → Keeps (sound_rules v sound.home) v) → IsSound v
@@ -186,7 +198,12 @@ sound-add_new_context w job uid entry sound = sound-add_context w job (new_conte
 moved_there : (mode : Mode) (k : Key) (cell : Cell (ValueOf k)) → is_moved mode k cell ≡ true → is_there k (moved_value mode k cell) ≡ true
 moved_there mode k cell is = grind arith
 
-module _ (w : World) (c : Name) (job : ℕ) (items : List Item) (sound : IsSound w) (live : is_live w c ≡ true) where
+-- a key under which a value moves is named by an item
+moved-key : (pages : ℕ) (items : List Item) (k : Key) (cell : Cell (ValueOf k)) → IsSpec pages items → is_moved (mode_or_copy items k) k cell ≡ true → IsKey pages k
+unfolding mode_or_copy
+moved-key pages items k cell spec moves = named-key pages items k spec (grind arith)
+
+module _ (w : World) (c : Name) (job : ℕ) (items : List Item) (spec : IsSpec w.size.pages items) (live : is_live w c ≡ true) (sound : IsSound w) where
   abbrev shared : World
   shared = share w c job items
 
@@ -205,10 +222,13 @@ module _ (w : World) (c : Name) (job : ℕ) (items : List Item) (sound : IsSound
             } in
             sound-extends w shared more (fresh-share w c job items live sound.fresh) sound
             (λ keeps. keeps-share (sound_rules shared sound.home) w c job items live (λ i k. sound_nothing shared sound.home k) (lets-everywhere _ _ c.job job) keeps
-            (λ k moves. record {
-              live = shares.new_group needs;
-              there = ap (λ (x : Group). is_there k (x.value k)) (shares.moved needs) ∙ moved_there (mode_or_copy items k) k ((context w c).cell k) moves;
-            }))
+            (λ k moves. (
+              record {
+                live = shares.new_group needs;
+                there = ap (λ (x : Group). is_there k (x.value k)) (shares.moved needs) ∙ moved_there (mode_or_copy items k) k ((context w c).cell k) moves;
+              },
+              subst (λ (s : WorldSize). IsKey s.pages k) (sym shares.size) (moved-key w.size.pages items k ((context w c).cell k) spec moves),
+            )))
       ]
 
   pub sound-clone_context : (entry : Regs) → IsSound (clone_context w c job items entry)
@@ -219,3 +239,41 @@ module _ (w : World) (c : Name) (job : ℕ) (items : List Item) (sound : IsSound
       (in_clone (named_groups shared.next) shared c job items there (λ i k. tt) (lets-everywhere _ _ c.job job) sound-share.fresh.cells entry (λ k g value _ _. tt))
       (in_clone (sound_rules shared sound-share.home) shared c job items there (λ i k. sound_nothing shared sound-share.home k) (lets-everywhere _ _ c.job job)
       (sound-rules shared sound-share) entry (λ k g value _ is. is))
+
+pub sound-save : (w : World) (c : Name) (t : ℕ) (regs : Regs) → IsSound w → IsSound (save w c t regs)
+unfolding save
+sound-save w c t regs sound =
+    sound-extends w _ (extends-change_context w c (with_saved t regs)) (fresh-save w c t regs sound.fresh) sound
+    (λ keeps. keeps-change_context _ w c (with_saved t regs) (λ live. keeps.contexts c live) keeps)
+
+pub sound-overlay : (w : World) (c d : Name) (job : ℕ) (items : List Item) → IsSpec w.size.pages items → is_live w d ≡ true → IsSound w → IsSound (overlay w c d job items)
+unfolding overlay
+sound-overlay w c d job items spec there sound =
+    let s : World = share w d job items in
+    let shared : IsSound s = sound-share w d job items spec there sound in
+    let v : World = change_context s c (with_overlay s d items) in
+    sound-extends s v (extends-change_context s c (with_overlay s d items)) (fresh-overlay w c d job items there sound.fresh) shared
+    (keeps-with_overlay (sound_rules v shared.home) s c d items ((shares-share w d job items).live d ∙ there) (λ i k. sound_nothing v shared.home k) (lets-everywhere _ _ d.job c.job)
+    (λ k g value _ is. is))
+
+-- what cells of a sound world name is left with what it has
+pub sound-reap : (w : World) (roots : List Name) → IsSound w → IsSound (reap w roots)
+unfolding reap
+sound-reap w roots sound = record {
+  fresh = fresh-reap w roots sound.fresh;
+  groups = record { contexts = λ c live k. in_reaped c live k ((context (reap w roots) c).cell k) refl; groups = λ g live k. tt };
+  keys = keeps-reap w roots (common_keys w) sound.keys;
+  home = sound.home;
+  pages = pages-extends w (reap w roots) sound.home sound.home refl (λ j. omega arith) (λ tag old. refl) (reap w roots)
+      (keeps-reap w roots (sound_pages w sound.home) sound.pages);
+}
+  where
+    in_reaped : (c : Name) → is_live (reap w roots) c ≡ true → (k : Key) (cell : Cell (ValueOf k)) → (context (reap w roots) c).cell k ≡ cell → InCell (live_groups (reap w roots)) c.job k cell
+    in_reaped c live k (Own value) is = tt
+    in_reaped c live k (Common g) is =
+        let was = live-was_live w roots c live in
+        let before : (context w c).cell k ≡ Common g = ap (λ (x : Context). x.cell k) (sym (context-kept w roots c live)) ∙ is in
+        let key : IsKey w.size.pages k = subst (InCell (common_keys w) c.job k) before (sound.keys.contexts c was k) in
+        let has : HasValue w k g = subst (InCell (live_groups w) c.job k) before (sound.groups.contexts c was k) in
+        let left = group-left w roots c g k key live before has.live in
+        record { live = left; there = ap (λ (x : Group). is_there k (x.value k)) (group-kept w roots g left) ∙ has.there }

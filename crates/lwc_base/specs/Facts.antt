@@ -1,5 +1,5 @@
 -- What each change of a world makes, and what it leaves as it was, for the crates above.
-use Rattle.std.specs.Prelude.{◌≡◌, ◌≢◌, ℕ, ◌+◌, ◌==◌, ◌&&◌, if◌then◌else◌, List, false, true}
+use Rattle.std.specs.Prelude.{◌≡◌, ◌≢◌, ℕ, ◌+◌, ◌≤◌, ◌==◌, ◌&&◌, if◌then◌else◌, List, false, true}
 use Rattle.std.specs.Cmp.{IsTotalOrder}
 use Rattle.std.specs.FinMap as fm
 use Rattle.lwc_base.specs.declared.cell.Cell.TheVariants.{Own, Common}
@@ -14,7 +14,10 @@ use Rattle.lwc_base.specs.Fresh.{IsFresh, IsNamedContext, IsNamedGroup, Rises, n
 use Rattle.lwc_base.specs.Holders.{InContext, IsGroup}
 use Rattle.lwc_base.specs.Keys.{ValueOf, is_there}
 use Rattle.lwc_base.specs.Mapping.{map_pages, unmap_pages, with_zeros, without_pages}
+use Rattle.lwc_base.specs.Life.{reap}
 use Rattle.lwc_base.specs.Names.{name_cmp, tag_cmp}
+use Rattle.lwc_base.specs.Overlay.{overlay, with_overlay}
+use Rattle.lwc_base.specs.Saved.{save, with_saved}
 use Rattle.lwc_base.specs.Sharing.{clone_context, cloned_context, moved_values, needs_group, share, with_shared}
 use Rattle.lwc_base.specs.Store.{Piece, after_store, parting_count, put_pages}
 use Rattle.lwc_base.specs.World.{World, Context, Counters, Group, add_context, add_group, change_context, change_counters, change_group, context, empty_world, group, groups_of, is_live, live_of, next_context, next_group}
@@ -133,6 +136,18 @@ pub record ChangeFacts : Type 0 where
   pub cloned : (w : World) (c : Name) (job : ℕ) (items : List Item) (entry : Regs) →
       AddsContext (share w c job items) job (cloned_context (share w c job items) c items entry)
       (clone_context w c job items entry)
+  pub saved : (w : World) (c : Name) (t : ℕ) (regs : Regs) →
+      ChangesContext w c (with_saved t regs) (save w c t regs)
+  pub overlaid : (w : World) (c d : Name) (job : ℕ) (items : List Item) →
+      ChangesContext (share w d job items) c (with_overlay (share w d job items) d items)
+      (overlay w c d job items)
+
+-- at most as many names live as in another world
+pub record HasFewer (w v : World) : Type 0 where
+  pub live_of : (job : ℕ) → live_of v job ≤ live_of w job
+  pub groups_of : (job : ℕ) → groups_of v job ≤ groups_of w job
+  pub contexts : fm.len v.contexts ≤ fm.len w.contexts
+  pub groups : fm.len v.groups ≤ fm.len w.groups
 
 -- the number of live names after each change of them
 pub record CountFacts : Type 0 where
@@ -151,6 +166,7 @@ pub record CountFacts : Type 0 where
       SharesValues w c job items v →
       (groups_of v j ≡ (if needs_group w c items && j == job then groups_of w j + 1 else groups_of w j))
       × (fm.len v.groups ≡ (if needs_group w c items then fm.len w.groups + 1 else fm.len w.groups))
+  pub reaped : (w : World) (roots : List Name) → HasFewer w (reap w roots)
 
 -- the next names of a fresh world are new, and each change of it keeps it fresh
 pub record FreshFacts : Type 0 where
@@ -190,3 +206,7 @@ pub record FreshFacts : Type 0 where
   pub cloned : (w : World) (c : Name) (job : ℕ) (items : List Item) (entry : Regs) → is_live w c ≡ true →
       IsFresh w →
       IsFresh (clone_context w c job items entry)
+  pub saved : (w : World) (c : Name) (t : ℕ) (regs : Regs) → IsFresh w → IsFresh (save w c t regs)
+  pub overlaid : (w : World) (c d : Name) (job : ℕ) (items : List Item) → is_live w c ≡ true →
+      is_live w d ≡ true → IsFresh w → IsFresh (overlay w c d job items)
+  pub reaped : (w : World) (roots : List Name) → IsFresh w → IsFresh (reap w roots)

@@ -1,5 +1,6 @@
 pub mod Capabilities
 pub mod Cells
+pub mod Channels
 pub mod Clones
 pub mod Facts
 pub mod Faults
@@ -12,11 +13,13 @@ pub mod Mapping
 pub mod Memory
 pub mod Modes
 pub mod Names
+pub mod Overlay
 pub mod Pages
 pub mod Ranges
 pub mod Refusals
 pub mod Registers
 pub mod Runs
+pub mod Saved
 pub mod Sharing
 pub mod Slots
 pub mod Sound

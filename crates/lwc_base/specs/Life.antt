@@ -68,3 +68,7 @@ pub record IsReaped (w : World) (roots : List Name) : Type 0 where
   pub contexts : (c : Name) → is_live w c ≡ true → Reaches w roots c
   pub groups : (g : Name) → IsGroup w g →
       (c : Name) × (k : Key) × IsKey w.size.pages k × (is_live w c ≡ true) × ((context w c).cell k ≡ Common g)
+
+-- each context that a slot of a live context has a descriptor of is live
+pub record HasItsContexts (w : World) : Type 0 where
+  pub live : (c d : Name) → is_live w c ≡ true → links w c d ≡ true → is_live w d ≡ true

@@ -10,6 +10,7 @@ use Rattle.lwc_base.specs.declared.page.TheConstants.{PAGE_BYTES}
 use Rattle.lwc_base.specs.Fresh.{IsFresh}
 use Rattle.lwc_base.specs.Holders.{Rules, everywhere, IsGroup, Keeps}
 use Rattle.lwc_base.specs.Keys.{ValueOf, is_there}
+use Rattle.lwc_base.specs.Modes.{IsKey}
 use Rattle.lwc_base.specs.World.{World, group}
 
 -- a live group has something under a key
@@ -47,9 +48,15 @@ IsSoundValue w home Cred value = Unit {0}
 abbrev pub sound_pages : World → (Tag → ℕ) → Rules
 sound_pages w home = everywhere (λ k g. Unit {0}) (IsSoundValue w home)
 
--- names are old, groups have what cells name them for, and each tag is under one page number
+-- a cell may name a group only under a key that there is
+abbrev pub common_keys : World → Rules
+common_keys w = everywhere (λ k g. IsKey w.size.pages k) (λ k value. Unit {0})
+
+-- names are old, groups have what cells name them for, which they do under keys that there are, and each tag is
+-- under one page number
 pub record IsSound (w : World) : Type 0 where
   pub fresh : IsFresh w
   pub groups : HasItsGroups w
+  pub keys : Keeps (common_keys w) w
   pub home : Tag → ℕ
   pub pages : Keeps (sound_pages w home) w

@@ -1,3 +1,4 @@
+use crate::name::Name;
 use crate::refusal::Refusal;
 use crate::regs::Regs;
 
@@ -5,5 +6,13 @@ use crate::regs::Regs;
 #[derive(Clone, Copy, Debug, PartialEq, Eq)]
 pub enum Answer {
     Done(Regs),
+    Refused(Refusal),
+}
+
+/// What a switch answers: the context that the thread goes on in, with the registers that it has there, or why
+/// the call was refused.
+#[derive(Clone, Copy, Debug, PartialEq, Eq)]
+pub enum Moved {
+    To { context: Name, regs: Regs },
     Refused(Refusal),
 }

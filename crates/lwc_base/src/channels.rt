@@ -1,4 +1,13 @@
+ghost use Rattle.std.specs.Prelude.{◌≡◌, ◌<◌, ◌≤◌, ◌+◌, ◌++◌, [], IfOk, length, replicate, slice_set};
+ghost use Rattle.lwc_base.specs.Channels.{AreSmall, bytes_in};
+ghost use Rattle.lwc_base.specs.Channels as spec;
+ghost use Rattle.lwc_base.specs.declared.limits.TheConstants.{MOST_CONSOLE_BYTES, MOST_REPLY_BYTES};
+
+use crate::limits::{MOST_CONSOLE_BYTES, MOST_REPLY_BYTES};
+use crate::memory::OutOfMemory;
 use crate::sequence::Sequence;
+use std::alloc::Global;
+use std::marker::Model;
 
 /// A file of an image: the uid of its owner, whether others may open it, and its bytes.
 #[derive(Debug, Drop)]
@@ -10,3 +19,222 @@ pub struct FileImage {
 
 /// Requests, each a list of bytes.
 pub type Requests = Sequence<Sequence<u8>>;
+
+/// What calls of guests read and write beside the world: the files of the image, the requests, the console,
+/// and a reply for each request. The memory for all of it is taken at opening.
+#[derive(Drop)]
+pub struct Channels {
+    files: Sequence<FileImage>,
+    requests: Requests,
+    console: Vec<u8>,
+    replies: Vec<Reply>,
+}
+
+impl Model for Channels {
+    ghost use Rattle.std.specs.Prelude.{◌≡◌, ◌≤◌, length, vec_len, vec_capacity};
+    ghost use Rattle.lwc_base.specs.Channels.{AreSmall};
+    ghost use Rattle.lwc_base.specs.Channels as spec;
+    ghost use Rattle.lwc_base.specs.declared.limits.TheConstants.{MOST_CONSOLE_BYTES};
+
+    ghost Value = { spec.Channels };
+
+    ghost view = { λ io. record {
+      files = io.files;
+      requests = io.requests;
+      console = io.console.items;
+      replies = io.replies.items;
+    } };
+
+    ghost invariant = { λ io. record {
+      small : AreSmall io.files io.requests;
+      console : vec_len io.console ≤ MOST_CONSOLE_BYTES;
+      room : MOST_CONSOLE_BYTES ≤ vec_capacity io.console;
+      replies : length io.replies.items ≡ length io.requests;
+    } };
+}
+
+impl Channels {
+    /// Channels to which nothing has been written. The only error is out of memory, and no later call takes
+    /// memory.
+    pub fn open(
+        alloc: Global,
+        files: Sequence<FileImage>,
+        requests: Requests,
+    ) -> Result<Channels, OutOfMemory>
+        requires { AreSmall files requests }
+        ensures { IfOk result (λ io. io ≡ spec.opened files requests) }
+    {
+        let console = Vec::with_capacity(alloc, MOST_CONSOLE_BYTES)?;
+        let replies = Reply::for_each(alloc, requests.len())?;
+        Ok(Channels {
+            files,
+            requests,
+            console,
+            replies,
+        })
+    }
+
+    /// The files of the image.
+    pub fn files(&self) -> &[FileImage]
+        ensures files { result.now ≡ self.now.files }
+        ensures small { AreSmall self.now.files self.now.requests }
+    {
+        self.files.as_slice()
+    }
+
+    /// The requests.
+    pub fn requests(&self) -> &Requests
+        ensures requests { result.now ≡ self.now.requests }
+        ensures small { AreSmall self.now.files self.now.requests }
+    {
+        &self.requests
+    }
+
+    /// The bytes that have been written to the console.
+    pub fn console(&self) -> &[u8]
+        ensures bytes { result.now ≡ self.now.console }
+        ensures few { length self.now.console ≤ MOST_CONSOLE_BYTES }
+    {
+        self.console.as_slice()
+    }
+
+    /// The bytes that have been written to the reply of a request.
+    pub fn reply(&self, r: u16) -> &[u8]
+        requires { r < length self.now.requests }
+        ensures bytes { result.now ≡ bytes_in self.now.replies r }
+        ensures few { length (bytes_in self.now.replies r) ≤ MOST_REPLY_BYTES }
+    {
+        self.replies[r as usize].as_slice()
+    }
+
+    /// Appends bytes to the console, which has room for them.
+    pub fn append_console(&mut self, piece: &[u8])
+        requires { length self.old.console + length piece.now ≤ MOST_CONSOLE_BYTES }
+        ensures { self.new ≡ record self.old { console = self.old.console ++ piece.now } }
+    {
+        let _ = self.console.extend_from_slice(piece);
+    }
+
+    /// Appends bytes to the reply of a request, which has room for them.
+    pub fn append_reply(&mut self, r: u16, piece: &[u8])
+        requires there { r < length self.old.requests }
+        requires room { length (bytes_in self.old.replies r) + length piece.now ≤ MOST_REPLY_BYTES }
+        ensures { self.new ≡ record self.old {
+          replies = slice_set self.old.replies r (bytes_in self.old.replies r ++ piece.now);
+        } }
+    {
+        self.replies[r as usize].append(piece);
+    }
+}
+
+/// Whether a uid may open a file.
+pub fn may_open(uid: u32, file: &FileImage) -> bool
+    ensures { result ≡ spec.may_open uid file.now }
+{
+    uid == 0 || uid == file.owner || file.public
+}
+
+/// Whether a uid may become the one that is asked for.
+pub fn may_set(uid: u32, asked: u64) -> bool
+    ensures { result ≡ spec.may_set uid asked }
+{
+    uid == 0 || u64::from(uid) == asked
+}
+
+/// The bytes written to a reply, with room for as many as it may have.
+#[derive(Drop)]
+struct Reply {
+    bytes: Vec<u8>,
+}
+
+impl Model for Reply {
+    ghost use Rattle.std.specs.Prelude.{◌≤◌, ℕ, List, vec_len, vec_capacity};
+    ghost use Rattle.lwc_base.specs.declared.limits.TheConstants.{MOST_REPLY_BYTES};
+
+    ghost Value = { List ℕ };
+
+    ghost view = { λ reply. reply.bytes.items };
+
+    ghost invariant = { λ reply. record {
+      few : vec_len reply.bytes ≤ MOST_REPLY_BYTES;
+      room : MOST_REPLY_BYTES ≤ vec_capacity reply.bytes;
+    } };
+}
+
+impl Reply {
+    /// This number of replies without bytes. The only error is out of memory.
+    fn for_each(alloc: Global, count: usize) -> Result<Vec<Reply>, OutOfMemory>
+        ensures { IfOk result (λ replies. replies.items ≡ replicate count []) }
+    {
+        let mut replies = Vec::with_capacity(alloc, count)?;
+        for _ in 0..count {
+            replies.push(Reply::empty(alloc)?)?;
+        }
+        Ok(replies)
+    }
+
+    /// A reply without bytes. The only error is out of memory.
+    fn empty(alloc: Global) -> Result<Reply, OutOfMemory>
+        ensures { IfOk result (λ reply. reply ≡ []) }
+    {
+        Ok(Reply {
+            bytes: Vec::with_capacity(alloc, MOST_REPLY_BYTES)?,
+        })
+    }
+
+    /// The bytes, in order.
+    fn as_slice(&self) -> &[u8]
+        ensures bytes { result.now ≡ self.now }
+        ensures few { length self.now ≤ MOST_REPLY_BYTES }
+    {
+        self.bytes.as_slice()
+    }
+
+    /// Appends bytes that there is room for.
+    fn append(&mut self, piece: &[u8])
+        requires { length self.old + length piece.now ≤ MOST_REPLY_BYTES }
+        ensures { self.new ≡ self.old ++ piece.now }
+    {
+        let _ = self.bytes.extend_from_slice(piece);
+    }
+}
+
+#[cfg(test)]
+mod tests {
+    use super::*;
+    use std::test::Fail;
+
+    #[test]
+    fn what_is_written_is_read_back_in_order(rt: HostRuntime) -> Result<(), Fail> {
+        let requests = Sequence::of(vec![in rt.alloc(); Sequence::of(vec![in rt.alloc(); 9u8]?)]?);
+        let mut io = Channels::open(rt.alloc(), Sequence::of(Vec::new(rt.alloc())), requests)?;
+        io.append_console([1, 2].as_slice());
+        io.append_console([3].as_slice());
+        io.append_reply(0, [4].as_slice());
+        assert_eq!(rt; io.console(), [1, 2, 3].as_slice());
+        assert_eq!(rt; io.reply(0), [4].as_slice());
+        assert_eq!(rt; io.requests().get(0).as_slice(), [9].as_slice());
+        assert_eq!(rt; io.files().len(), 0);
+        Ok(())
+    }
+
+    #[test]
+    fn uid_0_the_owner_and_all_for_what_is_public(rt: HostRuntime) -> Result<(), Fail> {
+        let table = [
+            (0, 9, false, true),
+            (9, 9, false, true),
+            (7, 9, false, false),
+            (7, 9, true, true),
+        ];
+        for (uid, owner, public, allowed) in table {
+            let bytes = Sequence::of(Vec::new(rt.alloc()));
+            let file = FileImage {
+                owner,
+                public,
+                bytes,
+            };
+            assert_eq!(rt; may_open(uid, &file), allowed);
+        }
+        Ok(())
+    }
+}

@@ -1,11 +1,16 @@
 //! Laws of the definitions: functions with empty bodies, each with a contract that is the law.
 
 pub mod apart;
+pub mod capabilities;
+pub mod channels;
 pub mod cloning;
 pub mod facts;
 pub mod life;
 pub mod modes;
+pub mod overlaying;
 pub mod ranges;
+pub mod saved;
+pub mod slots;
 pub mod soundness;
 pub mod storing;
 
@@ -13,6 +18,10 @@ pub use apart::{
     a_put_changes_one_key, what_is_apart_is_not_seen, what_is_apart_stays_apart,
     what_is_common_stays_common,
 };
+pub use capabilities::{
+    a_capability_covers_what_it_has, a_restriction_adds_no_key, capabilities_are_sets_of_keys,
+};
+pub use channels::descriptors_stay_in_range;
 pub use cloning::{
     a_group_is_needed_where_a_value_moves, a_new_group_has_what_has_moved,
     cloning_changes_no_value, only_what_is_shared_becomes_common, sharing_changes_no_value,
@@ -22,10 +31,14 @@ pub use facts::{
     changes_leave_the_rest, live_names_are_counted, names_are_ordered, names_stay_old,
 };
 pub use life::{
-    a_reaped_world_keeps_what_is_reached, reached_contexts_are_those_with_a_chain,
+    a_reaped_world_keeps_what_is_reached, changes_that_cut_no_link_leave_nothing_to_drop,
+    contexts_keep_the_contexts_that_they_name, reached_contexts_are_those_with_a_chain,
     what_is_dropped_is_named_by_nothing,
 };
 pub use modes::an_item_gives_its_mode;
+pub use overlaying::{an_overlay_changes_what_it_names, an_overlay_copies_or_shares};
 pub use ranges::one_run_is_one_range;
+pub use saved::saving_changes_saved_registers_alone;
+pub use slots::the_lowest_empty_slot_is_empty;
 pub use soundness::sound_worlds_stay_sound;
 pub use storing::{each_page_that_parts_takes_a_frame, what_is_stored_reads_back};

@@ -21,17 +21,19 @@ pub mod sequence;
 pub mod size;
 pub mod spec;
 
-pub use answer::Answer;
+pub use answer::{Answer, Moved};
 pub use cell::Cell;
-pub use channels::{FileImage, Requests};
+pub use channels::{Channels, FileImage, Requests, may_open, may_set};
 pub use descriptor::{Cap, Descriptor, SLOTS};
 pub use fault::{Fault, ThreadStatus};
 pub use item::{Item, Mode};
 pub use key::{Key, Kind, NOBODY};
 pub use limits::{
-    MOST_BUDGET, MOST_CONTEXTS, MOST_CONTEXTS_OF_JOB, MOST_FILE_BYTES, MOST_FILES, MOST_FRAMES,
-    MOST_GROUPS, MOST_GROUPS_OF_JOB, MOST_IMAGE_BYTES, MOST_IMAGE_SLOTS, MOST_INSTRUCTIONS,
-    MOST_ITEMS, MOST_JOBS, MOST_PAGES, MOST_RANGES, MOST_SCHEDULE_BYTES, MOST_STEPS, MOST_THREADS,
+    MOST_BUDGET, MOST_BYTES_OF_CALL, MOST_CONSOLE_BYTES, MOST_CONTEXTS, MOST_CONTEXTS_OF_JOB,
+    MOST_FILE_BYTES, MOST_FILES, MOST_FRAMES, MOST_GROUPS, MOST_GROUPS_OF_JOB, MOST_IMAGE_BYTES,
+    MOST_IMAGE_SLOTS, MOST_INSTRUCTIONS, MOST_ITEMS, MOST_JOBS, MOST_PAGES, MOST_RANGES,
+    MOST_REPLY_BYTES, MOST_REQUEST_BYTES, MOST_REQUESTS, MOST_ROOTS, MOST_SCHEDULE_BYTES,
+    MOST_STEPS, MOST_THREADS,
 };
 pub use memory::OutOfMemory;
 pub use name::{Name, Tag};

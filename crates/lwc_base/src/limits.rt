@@ -28,6 +28,9 @@ pub const MOST_FRAMES: u32 = 65536;
 /// The most threads of a run, and the most workers of a serve.
 pub const MOST_THREADS: u32 = 16;
 
+/// The most roots of a search for the contexts that are reached: the contexts of threads, and the homes.
+pub const MOST_ROOTS: u32 = 32;
+
 /// The most steps that one thread may make.
 pub const MOST_BUDGET: u32 = 100000;
 
@@ -42,6 +45,21 @@ pub const MOST_FILES: u32 = 64;
 
 /// The most bytes that the files of an image have together.
 pub const MOST_FILE_BYTES: u32 = 1048576;
+
+/// The most requests of a serve.
+pub const MOST_REQUESTS: u32 = 1024;
+
+/// The most bytes of a request.
+pub const MOST_REQUEST_BYTES: usize = 4096;
+
+/// The most bytes that one read or write may ask for.
+pub const MOST_BYTES_OF_CALL: usize = 4096;
+
+/// The most bytes of a reply.
+pub const MOST_REPLY_BYTES: usize = 4096;
+
+/// The most bytes of the console.
+pub const MOST_CONSOLE_BYTES: usize = 65536;
 
 /// The most slots that an image fills.
 pub const MOST_IMAGE_SLOTS: u32 = 62;

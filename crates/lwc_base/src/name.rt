@@ -1,6 +1,6 @@
 /// The name of a context or of a group: the job that made it, and the number of its kind that the job had
 /// made before.
-#[derive(Clone, Copy, Debug, PartialEq, Eq, PartialOrd, Ord)]
+#[derive(Clone, Copy, Debug, Default, PartialEq, Eq, PartialOrd, Ord)]
 pub struct Name {
     pub job: u32,
     pub k: u32,
