@@ -1,13 +1,16 @@
-ghost use Rattle.std.specs.Prelude.{◌≡◌, ◌≢◌, ◌<◌, ◌≤◌, ◌*◌, ◌+◌, ◌↔◌, ℕ, Bool, true, length, is_some, slice_get, IfOk, IfSome, IfNone, IsOk, OnOk, OnErr};
+ghost use Rattle.std.specs.Prelude.{◌≡◌, ◌≢◌, ◌<◌, ◌≤◌, ◌*◌, ◌+◌, ◌↔◌, ℕ, All, Bool, true, length, is_some, slice_get, IfOk, IfSome, IfNone, IsOk, OnOk, OnErr};
 ghost use Rattle.std.specs.FinMap as fm;
 ghost use Rattle.lwc_base.specs.World as worlds;
 ghost use Rattle.lwc_base.specs.World.{empty_world, add_context, context, groups_of, live_of, new_context, next_context};
 ghost use Rattle.lwc_base.specs.Cells.{slot_at, put_slot, uid_at, put_uid};
 ghost use Rattle.lwc_base.specs.Frames.{used};
+ghost use Rattle.lwc_base.specs.Life.{reap};
 ghost use Rattle.lwc_base.specs.Mapping.{map_pages, mapped_or_not, unmap_pages};
 ghost use Rattle.lwc_base.specs.Modes.{IsSpec};
 ghost use Rattle.lwc_base.specs.Memory.{load};
+ghost use Rattle.lwc_base.specs.Overlay.{overlay, ranges_after_overlay};
 ghost use Rattle.lwc_base.specs.Ranges.{ranges_of};
+ghost use Rattle.lwc_base.specs.Saved.{save};
 ghost use Rattle.lwc_base.specs.Sharing.{clone_context, needs_group, ranges_after_clone};
 ghost use Rattle.lwc_base.specs.Slots.{lowest_empty};
 ghost use Rattle.lwc_base.specs.Store.{store};
@@ -15,7 +18,7 @@ ghost use Rattle.lwc_base.specs.Store as stores;
 ghost use Rattle.lwc_base.specs.Summaries.{summary_of};
 ghost use Rattle.lwc_base.specs.declared.descriptor.Descriptor.{Descriptor};
 ghost use Rattle.lwc_base.specs.declared.descriptor.TheConstants.{SLOTS};
-ghost use Rattle.lwc_base.specs.declared.limits.TheConstants.{MOST_PAGES, MOST_RANGES};
+ghost use Rattle.lwc_base.specs.declared.limits.TheConstants.{MOST_PAGES, MOST_RANGES, MOST_ROOTS, MOST_THREADS};
 ghost use Rattle.lwc_base.specs.declared.page.TheConstants.{PAGE_BYTES};
 ghost use Rattle.world_face.specs.Calls.{AreFew, HasGroupPlace, HasPlace, IsSize, IsLive, MayName};
 
@@ -134,6 +137,18 @@ pub trait World: Sized + Drop + Send + Sync {
         requires live { IsLive (seen self.now) c }
         ensures value { result ≡ (context (seen self.now) c).entry };
 
+    /// The registers that the context keeps for a thread; `None` if it keeps none for it.
+    fn saved(&self, c: Name, t: u32) -> Option<Regs>
+        requires live { IsLive (seen self.now) c }
+        requires thread { t < MOST_THREADS }
+        ensures value { result ≡ (context (seen self.now) c).saved t };
+
+    /// Keeps registers for a thread in the context, in place of those that it kept for it.
+    fn save(&mut self, c: Name, t: u32, regs: &Regs)
+        requires live { IsLive (seen self.old) c }
+        requires thread { t < MOST_THREADS }
+        ensures saved { seen self.new ≡ save (seen self.old) c t regs.now };
+
     /// Makes a new context of a job from another one. Values of mode share that are the other's own move
     /// into one new group, and both contexts have them in common from then on; what was common already
     /// stays so. Values of mode copy and values that no item names are copied, and those of mode unmap are
@@ -158,8 +173,30 @@ pub trait World: Sized + Drop + Send + Sync {
         ensures err { OnErr result (seen self.new ≡ seen self.old) }
         ensures ample { roomy ≡ true → IsOk result };
 
-    /// Whether `clone_context` makes a group: an item of mode share names a key that is present and the
-    /// context's own.
+    /// Takes over what the items name from the context `from` into the context `to`, for a job; both may be the
+    /// same. First the values of mode share that are `from`'s own move into one new group. Then `to` gets a copy
+    /// of each value of mode copy, has each value of mode share in common with `from`, and nothing under a key of
+    /// mode unmap. An absent page of `from` becomes absent in `to`. The only error is out of memory.
+    fn overlay(&mut self, to: Name, from: Name, spec: &Spec, job: u32) -> Result<(), OutOfMemory>
+        requires to { IsLive (seen self.old) to }
+        requires from { IsLive (seen self.old) from }
+        requires within { IsSpec (seen self.old).size.pages spec.now }
+        requires may { MayName (seen self.old) job }
+        requires group { needs_group (seen self.old) from spec.now ≡ true → HasGroupPlace (seen self.old) }
+        requires few { AreFew (ranges_after_overlay (seen self.old) to from job spec.now) }
+        ensures overlaid { OnOk result (seen self.new ≡ overlay (seen self.old) to from job spec.now) }
+        ensures err { OnErr result (seen self.new ≡ seen self.old) }
+        ensures ample { roomy ≡ true → IsOk result };
+
+    /// Drops the contexts that are not reached from the roots by descriptors in slots, and then the groups that
+    /// no cell names.
+    fn reap(&mut self, roots: &[Name])
+        requires few { length roots.now ≤ MOST_ROOTS }
+        requires live { All (λ root. IsLive (seen self.old) root) roots.now }
+        ensures reaped { seen self.new ≡ reap (seen self.old) roots.now };
+
+    /// Whether `clone_context` and `overlay` make a group: an item of mode share names a key that is present and
+    /// the context's own.
     fn needs_group(&self, c: Name, spec: &Spec) -> bool
         requires live { IsLive (seen self.now) c }
         requires within { IsSpec (seen self.now).size.pages spec.now }
@@ -171,6 +208,14 @@ pub trait World: Sized + Drop + Send + Sync {
         requires live { IsLive (seen self.now) c }
         requires within { IsSpec (seen self.now).size.pages spec.now }
         ensures value { (job : ℕ) → result ≡ ranges_after_clone (seen self.now) c job spec.now };
+
+    /// The numbers of ranges that the contexts `from` and `to` would have after `overlay`, in this order. They are
+    /// the same for every job.
+    fn ranges_after_overlay(&self, to: Name, from: Name, spec: &Spec) -> (u32, u32)
+        requires to { IsLive (seen self.now) to }
+        requires from { IsLive (seen self.now) from }
+        requires within { IsSpec (seen self.now).size.pages spec.now }
+        ensures value { (job : ℕ) → result ≡ ranges_after_overlay (seen self.now) to from job spec.now };
 
     /// The number of ranges that the context would have after `map` if `present` is true, and else after
     /// `unmap`.
