@@ -1,5 +1,5 @@
 -- Items that passed the tests of a specifier.
-use Rattle.std.proofs.Common.{refl, ◌≡◌, ◌<◌, ◌≤◌, ◌&&◌, ℕ, zero, suc, Bool, true, false, List, [], ◌∷◌, arith, get_or, length, length-take, ltb, leb, take}
+use Rattle.std.proofs.Common.{refl, Option, Ok, ◌*◌, ◌/◌, subst, ◌≡◌, ◌<◌, ◌≤◌, ◌&&◌, ℕ, zero, suc, Bool, true, false, List, [], ◌∷◌, arith, get_or, length, length-take, ltb, leb, take}
 use Rattle.std.proofs.lemmas.List.{get_or-take}
 use Rattle.std.proofs.lemmas.Bool.{and_from, le-leb, lt-ltb, or_parts}
 use Rattle.std.proofs.lemmas.List.Elements.{All-head, All-tail}
@@ -7,13 +7,16 @@ use Rattle.std.proofs.lemmas.Bool.Decides.{nat_tests}
 use Rattle.std.proofs.lemmas.List.{get_or_default}
 use Rattle.std.proofs.lemmas.List.Kept.{AllPairs-cons}
 use Rattle.std.proofs.lemmas.List.Sums.{AllPass-from_list_all, list_all-from_AllPass}
-use Rattle.std.specs.List.{All, AllPairs, list_any}
+use Rattle.std.proofs.lemmas.List.FromFn.{length-map-range_with_len}
+use Rattle.std.specs.List.{All, AllPairs, filter_map, list_any}
 use Rattle.lwc_base.specs.Modes.{AreApart, IsItem, IsSpec, limit, overlaps}
 use Rattle.lwc_base.specs.declared.item.Item.{Item}
 use Rattle.lwc_base.specs.declared.key.Kind.{Kind}
 use Rattle.lwc_base.specs.declared.limits.TheConstants.{MOST_ITEMS}
 use Rattle.lwc_base.specs.declared.key.Kind.TheVariants.{Page, Slot, Cred}
-use Rattle.res_spec.specs.Items.{all_within, has_overlap}
+use Rattle.res_spec.specs.declared.items.SpecCall.{SpecCall}
+use Rattle.res_spec.specs.declared.items.TheConstants.{ITEM_BYTES}
+use Rattle.res_spec.specs.Items.{all_within, faults, has_overlap, item_of, items_in, read, spelled, spelled_at}
 
 -- an item that passes the test of its range is one
 within_item : (pages : ℕ) (item : Item) → (ltb item.from item.to && leb item.to (limit pages item.kind)) ≡ true → IsItem pages item
@@ -85,3 +88,25 @@ apart_before items i first apart inside k d before =
     let earlier : k < i = omega (arith, length-take i items) in
     let h : overlaps (get_or items k d) (get_or items i d) ≡ false = apart k i d earlier inside in
     rw (get_or-take i items k d earlier, get_or_default items i first d inside) h
+
+-- what is made of some elements is no longer than all of them
+filter_map_few : {X Y : Type 0} (h : X → Option Y) (xs : List X) → length (filter_map h xs) ≤ length xs
+filter_map_few h [] = omega arith
+filter_map_few h (x ∷ xs) = grind (arith, filter_map_few h xs)
+
+-- bytes spell as many items as they have room for
+few_items : (call : SpecCall) (bytes : List ℕ) → length bytes ≤ MOST_ITEMS * ITEM_BYTES → length (items_in call bytes) ≤ MOST_ITEMS
+unfolding items_in spelled
+few_items call bytes short =
+    let count : length (spelled bytes) ≡ length bytes / ITEM_BYTES = length-map-range_with_len (λ i. spelled_at bytes (i * ITEM_BYTES)) 0 (length bytes / ITEM_BYTES) in
+    omega (arith, filter_map_few (item_of call) (spelled bytes), count)
+
+-- the items that are read are a specifier
+pub read_spec : (call : SpecCall) (pages : ℕ) (bytes : List ℕ) (items : List Item) → length bytes ≤ MOST_ITEMS * ITEM_BYTES → read call pages bytes ≡ Ok items → IsSpec pages items
+unfolding read faults
+read_spec call pages bytes items short is =
+    let few = few_items call bytes short in
+    let within : all_within pages (items_in call bytes) ≡ true = grind arith in
+    let apart : has_overlap (items_in call bytes) ≡ false = grind arith in
+    let same : items_in call bytes ≡ items = grind arith in
+    subst (IsSpec pages) same (passed_items pages (items_in call bytes) few within apart)

@@ -1,9 +1,10 @@
-ghost use Rattle.std.specs.Prelude.{◌≡◌, ◌↔◌, ◌<◌, ◌≤◌, ◌+◌, ◌*◌, ◌%◌, IfOk, Ok, Err, List, length};
+ghost use Rattle.std.specs.Prelude.{◌≡◌, ◌↔◌, ◌<◌, ◌≤◌, ◌+◌, ◌*◌, ◌%◌, ℕ, IfOk, Ok, Err, List, length};
 ghost use Rattle.std.specs.List.{list_any};
 ghost use Rattle.lwc_base.specs.Modes as modes;
 ghost use Rattle.lwc_base.specs.Modes.{IsSpec};
 ghost use Rattle.lwc_base.specs.declared.limits.TheConstants.{MOST_ITEMS, MOST_PAGES};
 ghost use Rattle.lwc_base.specs.declared.item.Item.{Item};
+ghost use Rattle.res_spec.specs.declared.items.SpecCall as calls;
 ghost use Rattle.res_spec.specs.declared.items.SpecFault.TheVariants.{BadMode, BadRange, Overlap};
 ghost use Rattle.res_spec.specs.Items as spec;
 ghost use Rattle.res_spec.specs.Items.{read};
@@ -59,6 +60,13 @@ pub fn read_items(bytes: &[u8], call: SpecCall, pages: u32) -> Result<Spec, Spec
 {
     test_items(bytes, call, pages)
 }
+
+/// The items that are read are a specifier.
+#[tactic(auto, using(crate::proofs::ValidItems::read_spec))]
+pub fn items_that_are_read_are_a_spec()
+    ensures { (call : calls.SpecCall) (pages : ℕ) (bytes : List ℕ) (items : List Item) →
+        length bytes ≤ MOST_ITEMS * ITEM_BYTES → read call pages bytes ≡ Ok items → IsSpec pages items }
+{}
 
 /// The items that bytes spell, tested in the order of the faults.
 #[tactic(auto, unfolding(crate::specs::Items::faults, crate::specs::Items::read))]

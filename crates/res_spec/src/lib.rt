@@ -6,5 +6,5 @@ pub mod modes;
 #[cfg(test)]
 mod tests;
 
-pub use items::{ITEM_BYTES, SpecCall, SpecFault, read_items};
+pub use items::{ITEM_BYTES, SpecCall, SpecFault, items_that_are_read_are_a_spec, read_items};
 pub use modes::{mode_of, mode_or_copy};
