@@ -1,0 +1,77 @@
+-- Segments of the runs of pages below a page.
+use Rattle.std.proofs.Common.{◌≡◌, ℕ, ◌+◌, ◌-◌, ◌<◌, ◌≤◌, ◌++◌, true, false, List, [], ◌∷◌, ap, arith, leb, length, length-append, ltb, refl, sym, ◌∙◌, ⊎_elim, Option, None, Some}
+use Rattle.std.specs.Prelude.{is_some}
+use Rattle.std.specs.List.{find}
+use Rattle.std.specs.Option.{option_map, option_or}
+use Rattle.std.proofs.lemmas.Bool.{cases_lt, and_from, and_left, and_right, lt-ltb, le-ltb, le-leb, lt-leb}
+use Rattle.std.proofs.lemmas.List.Folds.{find-append}
+use Rattle.lwc_base.specs.declared.limits.TheConstants.{MOST_PAGES}
+use Rattle.range_map.specs.Kinds.{IsExact, begins_range, is_between, kind_at, ranges}
+use Rattle.range_map.specs.declared.segment.Segment.{Segment}
+use Rattle.range_map.specs.declared.segment.SegmentKind.{SegmentKind}
+use Rattle.range_map.proofs.Ranges.{absent_ranges, one_more, ranges_same}
+
+-- segments have these kinds of the pages below one, one for each range, and no other page
+pub record HasRunsBelow (p : ℕ) (kinds : ℕ → Option SegmentKind) (segments : List Segment) : Type 0 where
+  pub counted : length segments ≡ ranges p kinds
+  pub done : (q : ℕ) → q < p → kind_at segments q ≡ kinds q
+  pub rest : (q : ℕ) → p ≤ q → kind_at segments q ≡ None
+
+-- a further segment leaves the pages that it has not
+push_off : (segments : List Segment) (s : Segment) (q : ℕ) → is_between s.from s.to q ≡ false → kind_at (segments ++ s ∷ []) q ≡ kind_at segments q
+unfolding kind_at
+push_off segments s q off = rw (find-append (λ s. is_between s.from s.to q) segments (s ∷ []), off) (or_none (find (λ s. is_between s.from s.to q) segments))
+  where
+    or_none : (o : Option Segment) → option_map (λ s. s.kind) (option_or o None) ≡ option_map (λ s. s.kind) o
+    or_none None = refl
+    or_none (Some t) = refl
+
+-- a further segment gives its kind to absent pages
+push_on : (segments : List Segment) (s : Segment) (q : ℕ) → is_between s.from s.to q ≡ true → kind_at segments q ≡ None → kind_at (segments ++ s ∷ []) q ≡ Some s.kind
+unfolding kind_at
+push_on segments s q on none = rw (find-append (λ s. is_between s.from s.to q) segments (s ∷ []), on) (or_some (find (λ s. is_between s.from s.to q) segments) none)
+  where
+    or_some : (o : Option Segment) → option_map (λ s. s.kind) o ≡ None → option_map (λ s. s.kind) (option_or o (Some s)) ≡ Some s.kind
+    or_some None is = refl
+    or_some (Some t) is = absurd (grind arith)
+
+between : (from to q : ℕ) → from ≤ q → q < to → is_between from to q ≡ true
+between from to q low high = and_from (leb from q) (ltb q to) (le-leb from q low) (lt-ltb q to high)
+
+module _ (kinds : ℕ → Option SegmentKind) (p e : ℕ) (segments : List Segment) (past : p < e) (alike : (q : ℕ) → p ≤ q → q < e → kinds q ≡ kinds p)
+    (begins : begins_range kinds p ≡ is_some (kinds p)) (built : HasRunsBelow p kinds segments) where
+  -- with a run of absent pages the segments stay
+  pub run_absent : kinds p ≡ None → HasRunsBelow e kinds segments
+  run_absent none = record {
+    counted = built.counted ∙ sym (one_more kinds p (e - p - 1) e (omega arith) alike begins ∙ rw none (omega arith));
+    done = λ q high. ⊎_elim (λ low. built.done q low) (λ low. built.rest q low ∙ sym (alike q low high ∙ none)) (cases_lt q p);
+    rest = λ q low. built.rest q (omega arith);
+  }
+
+  -- a run of present pages is a further segment
+  pub run_present : (s : Segment) → s.from ≡ p → s.to ≡ e → kinds p ≡ Some s.kind → HasRunsBelow e kinds (segments ++ s ∷ [])
+  run_present s from to some = record {
+    counted = length-append segments (s ∷ []) ∙ ap (λ n. n + 1) built.counted ∙ sym (one_more kinds p (e - p - 1) e (omega arith) alike begins ∙ rw some refl);
+    done = λ q high. ⊎_elim
+        (λ low. push_off segments s q (and_left (leb s.from q) (ltb q s.to) (lt-leb s.from q (omega arith))) ∙ built.done q low)
+        (λ low. push_on segments s q (between s.from s.to q (omega arith) (omega arith)) (built.rest q low) ∙ sym (alike q low high ∙ some))
+        (cases_lt q p);
+    rest = λ q low. push_off segments s q (and_right (leb s.from q) (ltb q s.to) (le-ltb q s.to (omega arith))) ∙ built.rest q (omega arith);
+  }
+
+-- segments of the runs of all pages are exact
+pub all_built : (kinds : ℕ → Option SegmentKind) (segments : List Segment) → HasRunsBelow MOST_PAGES kinds segments → IsExact segments
+all_built kinds segments built = record {
+  within = built.rest;
+  counted = built.counted ∙ sym (ranges_same (kind_at segments) kinds MOST_PAGES built.done);
+}
+
+-- no segments have the runs below the first page
+pub none_built : (kinds : ℕ → Option SegmentKind) → HasRunsBelow 0 kinds []
+unfolding ranges kind_at
+none_built kinds = record { counted = refl; done = λ q low. absurd (omega arith); rest = λ q low. refl }
+
+-- no segments are exact
+pub none_exact : IsExact []
+unfolding kind_at
+none_exact = record { within = λ p low. refl; counted = sym (absent_ranges (kind_at []) (λ p. refl)) }

@@ -1,0 +1,13 @@
+//! Which pages of a context are present, and whether each is its own or common of a group, by segments.
+#![tactic(auto)]
+
+pub mod laws;
+pub mod map;
+pub mod segment;
+pub(crate) mod stretches;
+#[cfg(test)]
+mod tests;
+
+pub use laws::ranges_are_those_of_the_context;
+pub use map::{RangeMap, TooManyRanges};
+pub use segment::{Change, Segment, SegmentKind};

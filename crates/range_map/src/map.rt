@@ -1,0 +1,119 @@
+ghost use Rattle.std.specs.Prelude.{◌≡◌, ◌<◌, ◌≤◌, ℕ, [], None, OnOk, OnErr, is_err, nat_lt};
+ghost use Rattle.lwc_base.specs.declared.limits.TheConstants.{MOST_PAGES, MOST_RANGES};
+ghost use Rattle.range_map.specs.Kinds as spec;
+ghost use Rattle.range_map.specs.Kinds.{IsExact, ranges};
+
+use crate::segment::{Change, Segment, SegmentKind};
+use crate::stretches;
+use arrayvec::ArrayVec;
+use lwc_base::{MOST_PAGES, MOST_RANGES};
+use std::marker::Model;
+
+/// A change would leave a context with more than 64 ranges.
+#[derive(Clone, Copy, Debug, PartialEq, Eq)]
+pub struct TooManyRanges;
+
+/// The kinds of a context's pages, as one segment for each range. It is seen as the list of its segments.
+#[derive(Drop)]
+pub struct RangeMap {
+    segments: ArrayVec<Segment, 64>,
+}
+
+impl Model for RangeMap {
+    ghost use Rattle.std.specs.Prelude.{List};
+    ghost use Rattle.range_map.specs.Kinds.{IsExact};
+    ghost use Rattle.range_map.specs.declared.segment.Segment.{Segment};
+
+    ghost Value = { List Segment };
+
+    ghost view = { λ map. map.segments.items };
+
+    ghost invariant = { λ map. IsExact map.segments.items };
+}
+
+impl RangeMap {
+    /// No page is present.
+    pub fn empty() -> RangeMap
+        ensures { result ≡ [] }
+    {
+        RangeMap {
+            segments: ArrayVec::new(),
+        }
+    }
+
+    /// The kind of a page; `None` where it is absent, as are all past the last one.
+    pub fn kind_at(&self, p: u16) -> Option<SegmentKind>
+        ensures kind { result ≡ spec.kind_at self.now p }
+        ensures past { MOST_PAGES ≤ p → result ≡ None }
+    {
+        stretches::kind_at(self.segments.as_slice(), p)
+    }
+
+    /// The number of ranges, which is at most 64.
+    pub fn count(&self) -> u32
+        ensures ranges { result ≡ ranges MOST_PAGES (spec.kind_at self.now) }
+        ensures few { result ≤ MOST_RANGES }
+    {
+        self.segments.len() as u32
+    }
+
+    /// The number of ranges that there would be after the changes. Of two changes that have a page the first
+    /// counts.
+    pub fn count_after(&self, changes: &[Change]) -> u32
+        ensures { result ≡ ranges MOST_PAGES (spec.kind_after changes.now self.now) }
+    {
+        let segments = self.segments.as_slice();
+        let mut count = 0u32;
+        let mut p = 0u16;
+        'runs: while u32::from(p) < MOST_PAGES {
+            if stretches::kind_after(segments, changes, p).is_some() {
+                count += 1;
+            }
+            p = stretches::run_end(segments, changes, p);
+        }
+        count
+    }
+
+    /// Gives the pages of each change its kind, and leaves all other pages. Of two changes that have a page
+    /// the first counts.
+    ///
+    /// # Errors
+    ///
+    /// `TooManyRanges` exactly where there would be more than 64 ranges; nothing is changed then.
+    pub fn replace(&mut self, changes: &[Change]) -> Result<(), TooManyRanges>
+        ensures ok { OnOk result ((p : ℕ) → p < MOST_PAGES
+            → spec.kind_at self.new p ≡ spec.kind_after changes.now self.old p) }
+        ensures err { OnErr result (self.new ≡ self.old) }
+        ensures refused { is_err result
+            ≡ nat_lt MOST_RANGES (ranges MOST_PAGES (spec.kind_after changes.now self.old)) }
+    {
+        if self.count_after(changes) > MOST_RANGES {
+            return Err(TooManyRanges);
+        }
+        self.segments = segments_after(self.segments.as_slice(), changes);
+        Ok(())
+    }
+}
+
+/// A segment for each range of the pages after the changes.
+fn segments_after(segments: &[Segment], changes: &[Change]) -> ArrayVec<Segment, 64>
+    requires { ranges MOST_PAGES (spec.kind_after changes.now segments.now) ≤ MOST_RANGES }
+    ensures exact { IsExact result.items }
+    ensures kinds { (p : ℕ) → p < MOST_PAGES
+        → spec.kind_at result.items p ≡ spec.kind_after changes.now segments.now p }
+{
+    let mut after = ArrayVec::new();
+    let mut p = 0u16;
+    'runs: while u32::from(p) < MOST_PAGES {
+        let end = stretches::run_end(segments, changes, p);
+        if let Some(kind) = stretches::kind_after(segments, changes, p) {
+            after.push(Segment {
+                from: p,
+                to: end,
+                kind,
+            });
+        }
+        p = end;
+    }
+    after
+}

@@ -1,0 +1,92 @@
+ghost use Rattle.std.specs.Prelude.{◌≡◌, ◌<◌, ◌≤◌, ℕ, All, is_some};
+ghost use Rattle.std.specs.List.{find};
+ghost use Rattle.std.specs.Option.{option_copied};
+ghost use Rattle.lwc_base.specs.declared.limits.TheConstants.{MOST_PAGES};
+ghost use Rattle.range_map.specs.Kinds as spec;
+ghost use Rattle.range_map.specs.Kinds.{begins_range, is_between};
+ghost use Rattle.range_map.specs.Stretches.{HasNoEdge};
+
+use crate::segment::{Change, Segment, SegmentKind};
+use lwc_base::MOST_PAGES;
+
+/// The kind of a page; `None` where it is absent.
+#[tactic(auto, unfolding(crate::specs::Kinds::kind_at))]
+pub(crate) fn kind_at(segments: &[Segment], p: u16) -> Option<SegmentKind>
+    ensures { result ≡ spec.kind_at segments.now p }
+{
+    segments
+        .iter()
+        .find(|segment| segment.from <= p && p < segment.to)
+        .map(|segment| segment.kind)
+}
+
+/// The kind of a page after the changes: that of the first change that has it, or the kind before.
+#[tactic(auto, unfolding(crate::specs::Kinds::kind_after))]
+pub(crate) fn kind_after(segments: &[Segment], changes: &[Change], p: u16) -> Option<SegmentKind>
+    ensures { result ≡ spec.kind_after changes.now segments.now p }
+{
+    match change_at(changes, p) {
+        Some(change) => change.kind,
+        None => kind_at(segments, p),
+    }
+}
+
+/// The first change that has a page.
+fn change_at(changes: &[Change], p: u16) -> Option<&Change>
+    ensures { option_copied result ≡ find (λ c. is_between c.from c.to p) changes.now }
+{
+    changes
+        .iter()
+        .find(|change| change.from <= p && p < change.to)
+}
+
+/// The first page past a page at which the kind after the changes is another one; the end of all pages
+/// where there is none.
+pub(crate) fn run_end(segments: &[Segment], changes: &[Change], p: u16) -> u16
+    requires { p < MOST_PAGES }
+    ensures past { p < result }
+    ensures within { result ≤ MOST_PAGES }
+    ensures alike { (q : ℕ) → p ≤ q → q < result
+        → spec.kind_after changes.now segments.now q ≡ spec.kind_after changes.now segments.now p }
+    ensures begins { result < MOST_PAGES → begins_range (spec.kind_after changes.now segments.now) result
+        ≡ is_some (spec.kind_after changes.now segments.now result) }
+{
+    let kind = kind_after(segments, changes, p);
+    let mut end = next_edge(segments, changes, p);
+    'stretches: while u32::from(end) < MOST_PAGES && kind == kind_after(segments, changes, end) {
+        end = next_edge(segments, changes, end);
+    }
+    end
+}
+
+/// Where the first segment or change after a page begins or ends, or the end of all pages.
+fn next_edge(segments: &[Segment], changes: &[Change], p: u16) -> u16
+    requires { p < MOST_PAGES }
+    ensures past { p < result }
+    ensures within { result ≤ MOST_PAGES }
+    ensures alike { (q : ℕ) → p ≤ q → q < result
+        → spec.kind_after changes.now segments.now q ≡ spec.kind_after changes.now segments.now p }
+{
+    let mut edge = MOST_PAGES as u16;
+    for segment in segments {
+        edge = sooner(p, sooner(p, edge, segment.from), segment.to);
+    }
+    for change in changes {
+        edge = sooner(p, sooner(p, edge, change.from), change.to);
+    }
+    edge
+}
+
+/// The lesser of an edge and another number, if that lies past the page.
+fn sooner(p: u16, edge: u16, other: u16) -> u16
+    requires { p < edge }
+    ensures past { p < result }
+    ensures within { result ≤ edge }
+    ensures other { p < other → result ≤ other }
+{
+    if p < other && other < edge {
+        other
+    } else {
+        edge
+    }
+}
