@@ -1,0 +1,63 @@
+-- A capability that has each key of another covers what that one stands for.
+use Rattle.std.proofs.Common.{◌≡◌, ◌∙◌, ◌↔◌, ap, sym, ℕ, ◌<◌, ◌≤◌, Bool, true, false, not, ◌&&◌, arith}
+use Rattle.std.specs.Prelude.{nat_lt}
+use Rattle.std.specs.List.{list_any, range_with_len}
+use Rattle.std.proofs.lemmas.Bool.{and_from, and_parts, both_ways, lt-ltb, ltb-true, not_from_false, or_from, or_left, or_right, true_from_ne_false}
+use Rattle.std.proofs.lemmas.List.Folds.{list_any_at, list_any_none}
+use Rattle.std.proofs.lemmas.List.FromFn.{get_or-range_with_len, length-range_with_len}
+use Rattle.access_cap.proofs.Keys.{HasKeysOf, within_most}
+use Rattle.lwc_base.specs.Capabilities.{has_key}
+use Rattle.lwc_base.specs.declared.descriptor.Cap.{Cap}
+use Rattle.lwc_base.specs.declared.descriptor.TheConstants.{SLOTS}
+use Rattle.lwc_base.specs.declared.key.Key.{Key}
+use Rattle.lwc_base.specs.declared.key.Key.TheVariants.{Page, Slot, Cred}
+use Rattle.lwc_base.specs.declared.limits.TheConstants.{MOST_PAGES}
+use Rattle.lwc_base.specs.Modes.{IsKey, kind_of, limit, number_of}
+use Rattle.lwc_base.specs.Sharing.{any_key}
+
+-- a number below n passes, or none does
+some_below : (test : ℕ → Bool) (n k : ℕ) → k < n → test k ≡ true → list_any test (range_with_len 0 n) ≡ true
+some_below test n k within passes =
+    list_any_at test (range_with_len 0 n) k 0 (rw (length-range_with_len 0 n) within) (ap test (get_or-range_with_len 0 n k 0 within ∙ omega arith) ∙ passes)
+
+none_below : (test : ℕ → Bool) (n : ℕ) → ((k : ℕ) → k < n → test k ≡ false) → list_any test (range_with_len 0 n) ≡ false
+none_below test n fails =
+    list_any_none test (range_with_len 0 n) (λ k d within. let inside : k < n = omega (arith, length-range_with_len 0 n) in ap test (get_or-range_with_len 0 n k d inside ∙ omega arith) ∙ fails k inside)
+
+some_key : (pages : ℕ) (test : Key → Bool) (k : Key) → IsKey pages k → test k ≡ true → any_key pages test ≡ true
+unfolding any_key
+some_key pages test (Page p) within passes = or_left _ _ (or_left _ _ (some_below (λ q. test (Page q)) pages p within passes))
+some_key pages test (Slot n) within passes = or_left _ _ (or_right _ _ (some_below (λ m. test (Slot m)) SLOTS n within passes))
+some_key pages test Cred within passes = or_right _ _ passes
+
+no_key : (pages : ℕ) (test : Key → Bool) → ((k : Key) → IsKey pages k → test k ≡ false) → any_key pages test ≡ false
+unfolding any_key
+no_key pages test fails = or_from _ _ (or_from _ _ (none_below (λ q. test (Page q)) pages (λ p. fails (Page p))) (none_below (λ m. test (Slot m)) SLOTS (λ n. fails (Slot n)))) (fails Cred (omega arith))
+
+-- a test is another's opposite where each way is shown from one side
+opposite : (t x : Bool) → (t ≡ true → x ≡ false) → (x ≡ false → t ≡ true) → t ≡ not x
+opposite t x off on = grind arith
+
+-- the keys of a part are those that there are and that pass a test; each is had exactly if none that passes is missing
+module _ (pages : ℕ) (cap part : Cap) (test : Key → Bool) (few : pages ≤ MOST_PAGES)
+    (has : (k : Key) → IsKey MOST_PAGES k → has_key part k ≡ (nat_lt (number_of k) (limit pages (kind_of k)) && test k)) where
+  is_missing : Key → Bool
+  is_missing k = test k && not (has_key cap k)
+
+  none_missing : HasKeysOf cap part → any_key pages is_missing ≡ false
+  unfolding is_missing
+  none_missing all = no_key pages is_missing (λ k within.
+      let most = within_most pages few k within in
+      let is = has k most in
+      let each = all k most in
+      let below = lt-ltb (number_of k) (limit pages (kind_of k)) within in grind arith)
+
+  all_had : any_key pages is_missing ≡ false → HasKeysOf cap part
+  unfolding is_missing
+  all_had none k most had = true_from_ne_false (has_key cap k) (λ lacks.
+      let both = and_parts (nat_lt (number_of k) (limit pages (kind_of k))) (test k) (sym (has k most) ∙ had) in
+      both_ways _ none (some_key pages is_missing k (ltb-true (number_of k) (limit pages (kind_of k)) both.0) (and_from _ _ both.1 (not_from_false _ lacks))))
+
+  pub had_exactly : (t : Bool) → ((t ≡ true) ↔ HasKeysOf cap part) → t ≡ not (any_key pages (λ k. test k && not (has_key cap k)))
+  unfolding is_missing
+  had_exactly t is = opposite t (any_key pages is_missing) (λ yes. none_missing (is.0 yes)) (λ none. is.1 (all_had none))

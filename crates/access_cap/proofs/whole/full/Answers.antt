@@ -1,0 +1,14 @@
+use Rattle.access_cap.proofs.Keys.{full_has, is_full, no_words, one_word_more}
+use Rattle.access_cap.proofs.whole.full.Goals as goal
+
+pub words-init : goal.words-init
+words-init c = no_words _
+
+pub words-preserved : goal.words-preserved
+words-preserved c = one_word_more _ _ _ _ c.words-test.true c.low_word.ensures.word c.words.invariant
+
+pub returns-clause-full : goal.returns-clause-full
+returns-clause-full c = is_full c.args.pages _ _ c.words-test.false c.words.auto.i-end c.words.invariant
+
+pub returns-clause-keys : goal.returns-clause-keys
+returns-clause-keys c = full_has c.args.pages _ c.requires (is_full c.args.pages _ _ c.words-test.false c.words.auto.i-end c.words.invariant)

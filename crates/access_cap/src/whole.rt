@@ -1,0 +1,40 @@
+ghost use Rattle.std.specs.Prelude.{◌≡◌, ◌≤◌, false, nat_lt};
+ghost use Rattle.lwc_base.specs.Capabilities.{empty_cap, full_cap, has_key};
+ghost use Rattle.lwc_base.specs.Modes.{IsKey, kind_of, limit, number_of};
+ghost use Rattle.lwc_base.specs.declared.limits.TheConstants.{MOST_PAGES};
+ghost use Rattle.lwc_base.specs.declared.key.Key.{Key};
+
+use crate::words::low_word;
+use lwc_base::Cap;
+
+/// The capability of every key of a context with this number of pages, at most 1024 (`full_cap`).
+#[tactic(auto, unfolding(lwc_base::specs::Capabilities::full_cap))]
+pub fn full(pages: u32) -> Cap
+    requires { pages ≤ MOST_PAGES }
+    ensures full { result ≡ full_cap pages }
+    ensures keys { (key : Key) → IsKey MOST_PAGES key →
+        has_key result key ≡ nat_lt (number_of key) (limit pages (kind_of key)) }
+{
+    let mut words = [0; 16];
+    'words: for i in 0..16usize {
+        words[i] = low_word(pages, i);
+    }
+    Cap {
+        pages: words,
+        slots: u64::MAX,
+        cred: true,
+    }
+}
+
+/// The capability of no key (`empty_cap`).
+#[tactic(auto, unfolding(lwc_base::specs::Capabilities::empty_cap))]
+pub fn empty() -> Cap
+    ensures empty { result ≡ empty_cap }
+    ensures none { (key : Key) → has_key result key ≡ false }
+{
+    Cap {
+        pages: [0; 16],
+        slots: 0,
+        cred: false,
+    }
+}
