@@ -1,0 +1,74 @@
+ghost use Rattle.std.specs.Prelude.{◌≡◌, ◌++◌, ℕ, Bool, List, Some, None, IfErr, IfOk};
+ghost use Rattle.call_items.specs.Asked as spec;
+ghost use Rattle.call_items.specs.Asked.{item_refusals, items_of};
+ghost use Rattle.lwc_base.specs.Modes.{IsSpec};
+ghost use Rattle.lwc_base.specs.Refusals.{first_refusal};
+ghost use Rattle.lwc_base.specs.World as worlds;
+ghost use Rattle.lwc_base.specs.declared.name.Name as names;
+ghost use Rattle.lwc_base.specs.declared.refusal.Refusal.{Refusal};
+ghost use Rattle.res_spec.specs.declared.items.SpecCall as calls;
+ghost use Rattle.world_face.specs.Calls.{IsLive};
+
+use lwc_base::{MOST_ITEMS, Name, Refusal, Spec};
+use res_spec::{ITEM_BYTES, SpecCall, SpecFault, items_that_are_read_are_a_spec, read_items};
+use world_face::{World, bytes_for};
+
+/// The number of bytes of the most items.
+const BUFFER_BYTES: usize = MOST_ITEMS * ITEM_BYTES;
+
+/// The items that a call of a guest asks for: `count` of them, from the address `at` on.
+///
+/// # Errors
+///
+/// `TooManyItems`, `BadAddress`, `BadMode`, `BadRange`, `Overlap`: the first that holds (`item_refusals`).
+/// Rows that follow these five in a call's table decide only where none of them holds.
+#[tactic(auto, unfolding(crate::specs::Asked::item_bytes, crate::specs::Asked::item_refusals, crate::specs::Asked::items_of, res_spec::specs::Items::read, res_spec::specs::Items::faults))]
+pub fn items_for<W: World>(
+    world: &W,
+    c: Name,
+    call: SpecCall,
+    at: u64,
+    count: u64,
+) -> Result<Spec, Refusal>
+    requires live { IsLive (W.seen world.now) c }
+    ensures refused { IfErr result (λ refusal. (rows : List (Bool × Refusal)) →
+        first_refusal (item_refusals (W.seen world.now) c call at count ++ rows) ≡ Some refusal) }
+    ensures passed { IfOk result (λ items. (rows : List (Bool × Refusal)) →
+        first_refusal (item_refusals (W.seen world.now) c call at count ++ rows) ≡ first_refusal rows) }
+    ensures items { IfOk result (λ items. items ≡ items_of (W.seen world.now) c call at count) }
+    ensures valid { IfOk result (λ items. IsSpec (W.seen world.now).size.pages items) }
+{
+    if count > MOST_ITEMS as u64 {
+        return Err(Refusal::TooManyItems);
+    }
+    let mut buffer = [0; BUFFER_BYTES];
+    let bytes = &mut buffer[..count as usize * ITEM_BYTES];
+    if !bytes_for(world, c, at, bytes) {
+        return Err(Refusal::BadAddress);
+    }
+    read_items(bytes, call, world.pages()).map_err(refusal_of)
+}
+
+/// Items that a call with these rows in its table is not refused for are a specifier, and none of the other
+/// rows holds.
+pub fn items_that_are_not_refused_are_a_spec()
+    ensures spec { (w : worlds.World) (c : names.Name) (call : calls.SpecCall) (at count : ℕ)
+        (rows : List (Bool × Refusal)) → first_refusal (item_refusals w c call at count ++ rows) ≡ None →
+        IsSpec w.size.pages (items_of w c call at count) }
+    ensures rest { (w : worlds.World) (c : names.Name) (call : calls.SpecCall) (at count : ℕ)
+        (rows : List (Bool × Refusal)) → first_refusal (item_refusals w c call at count ++ rows) ≡ None →
+        first_refusal rows ≡ None }
+{
+    items_that_are_read_are_a_spec();
+}
+
+/// The refusal of a fault of the items.
+fn refusal_of(fault: SpecFault) -> Refusal
+    ensures { result ≡ spec.refusal_of fault }
+{
+    match fault {
+        SpecFault::BadMode => Refusal::BadMode,
+        SpecFault::BadRange => Refusal::BadRange,
+        SpecFault::Overlap => Refusal::Overlap,
+    }
+}

@@ -1,0 +1,29 @@
+-- What a put under a slot, and what saving registers, may change.
+use Rattle.std.specs.Prelude.{◌≡◌, ◌≢◌, ℕ}
+use Rattle.lwc_base.specs.declared.key.Key.{Key}
+use Rattle.lwc_base.specs.declared.key.Key.TheVariants.{Slot}
+use Rattle.lwc_base.specs.declared.name.Name.{Name}
+use Rattle.lwc_base.specs.Cells.{value_at}
+use Rattle.lwc_base.specs.Clones.{AreApart}
+use Rattle.lwc_base.specs.Facts.{KeepsNames}
+use Rattle.lwc_base.specs.World.{World, context}
+
+-- a key is not this slot, or the context with the slot and the other one are apart under it
+abbrev pub IsUntouched : World → Name → ℕ → Name → Key → Type 0
+IsUntouched w d n e k = k ≡ Slot n → AreApart w d e k
+
+-- nothing but a slot of a context has changed, and the same slot of each context that has it in common
+pub record ChangesSlot (w v : World) (d : Name) (n : ℕ) : Type 0 where
+  pub names : KeepsNames w v
+  pub values : (e : Name) (k : Key) → IsUntouched w d n e k → value_at v e k ≡ value_at w e k
+  pub cells : (e : Name) (k : Key) → IsUntouched w d n e k → (context v e).cell k ≡ (context w e).cell k
+  pub entries : (e : Name) → (context v e).entry ≡ (context w e).entry
+  pub saved : (e : Name) (t : ℕ) → (context v e).saved t ≡ (context w e).saved t
+
+-- nothing but the registers that a context keeps for a thread has changed
+pub record ChangesSaved (w v : World) (c : Name) (t : ℕ) : Type 0 where
+  pub names : KeepsNames w v
+  pub values : (e : Name) (k : Key) → value_at v e k ≡ value_at w e k
+  pub cells : (e : Name) (k : Key) → (context v e).cell k ≡ (context w e).cell k
+  pub entries : (e : Name) → (context v e).entry ≡ (context w e).entry
+  pub saved : (e : Name) (s : ℕ) → (e ≡ c → s ≢ t) → (context v e).saved s ≡ (context w e).saved s

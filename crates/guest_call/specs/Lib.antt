@@ -1,0 +1,11 @@
+pub use Rattle.lwc_base.specs.Cells
+pub use Rattle.lwc_base.specs.Clones
+pub use Rattle.lwc_base.specs.Facts
+pub use Rattle.lwc_base.specs.Life
+pub use Rattle.lwc_base.specs.Refusals
+pub use Rattle.lwc_base.specs.Saved
+pub use Rattle.lwc_base.specs.Summaries
+pub use Rattle.lwc_base.specs.World
+pub use Rattle.world_face.specs.Calls
+pub mod Changes
+pub mod Guest
