@@ -1,68 +1,45 @@
 -- The call that makes a new context: its refusals in their order, and what it does where none of them holds.
-use Rattle.std.specs.Prelude.{◌≡◌, ◌<◌, ℕ, ◌+◌, ◌*◌, ◌-◌, ◌%◌, ◌^◌, ◌&&◌, ◌||◌, Bool, true, not, List, [], ◌∷◌, Option, None, Some, is_none, nat_le, nat_lt, slice_index, slice_set, unwrap_or}
+use Rattle.std.specs.Prelude.{◌≡◌, ◌<◌, ℕ, ◌+◌, ◌++◌, ◌-◌, ◌%◌, ◌^◌, ◌&&◌, Bool, true, List, [], ◌∷◌, Option, None, Some, is_none, nat_le, slice_index, slice_set, unwrap_or}
+use Rattle.call_items.specs.Asked as asked
+use Rattle.call_items.specs.Asked.{item_refusals}
+use Rattle.guest_call.specs.Guest.{are_too_many}
 use Rattle.lwc_base.specs.declared.answer.Answer.{Answer}
 use Rattle.lwc_base.specs.declared.answer.Answer.TheVariants.{Done, Refused}
 use Rattle.lwc_base.specs.declared.descriptor.Descriptor.TheVariants.{Ctx}
 use Rattle.lwc_base.specs.declared.item.Item.{Item}
 use Rattle.lwc_base.specs.declared.name.Name.{Name}
-use Rattle.lwc_base.specs.declared.limits.TheConstants.{MOST_CONTEXTS_OF_JOB, MOST_GROUPS_OF_JOB, MOST_ITEMS, MOST_RANGES}
+use Rattle.lwc_base.specs.declared.limits.TheConstants.{MOST_CONTEXTS_OF_JOB, MOST_GROUPS_OF_JOB}
 use Rattle.lwc_base.specs.declared.refusal.Refusal.{Refusal}
-use Rattle.lwc_base.specs.declared.refusal.Refusal.TheVariants.{TooManyItems, BadAddress, BadMode, BadRange, Overlap, TooManyContexts, NoSlot, TooManyGroups, TooManyRanges}
+use Rattle.lwc_base.specs.declared.refusal.Refusal.TheVariants.{TooManyContexts, NoSlot, TooManyGroups, TooManyRanges}
 use Rattle.lwc_base.specs.declared.regs.Regs.{Regs}
 use Rattle.lwc_base.specs.Capabilities.{full_cap}
 use Rattle.lwc_base.specs.Cells.{put_slot}
-use Rattle.lwc_base.specs.Memory.{bytes_for}
 use Rattle.lwc_base.specs.Modes.{IsSpec}
 use Rattle.lwc_base.specs.Refusals.{first_refusal}
 use Rattle.lwc_base.specs.Sharing.{clone_context, needs_group, ranges_after_clone}
 use Rattle.lwc_base.specs.Slots.{lowest_empty}
 use Rattle.lwc_base.specs.World.{World, groups_of, live_of, next_context}
-use Rattle.res_spec.specs.Items.{all_taken, all_within, has_overlap, items_in}
 use Rattle.res_spec.specs.declared.items.SpecCall.TheVariants.{Create}
-use Rattle.res_spec.specs.declared.items.SpecFault.{SpecFault}
-use Rattle.res_spec.specs.declared.items.SpecFault.TheVariants as fault
-use Rattle.res_spec.specs.declared.items.TheConstants.{ITEM_BYTES}
 use Rattle.world_face.specs.Calls.{AreFew, HasGroupPlace, HasPlace}
 
--- the number of items that the caller asks for: register 2
-abbrev pub count_of : Regs → ℕ
-count_of regs = slice_index regs.r 2
+-- the items that the caller asks for: their address is in register 1, and their number in register 2
+abbrev pub items_of : World → Name → Regs → List Item
+items_of w c regs = asked.items_of w c Create (slice_index regs.r 1) (slice_index regs.r 2)
 
--- the bytes of the items, from the address in register 1 on; none if one of them cannot be read
-unfoldable pub item_bytes : World → Name → Regs → Option (List ℕ)
-item_bytes w c regs = bytes_for w c (slice_index regs.r 1) (count_of regs * ITEM_BYTES)
-
--- those bytes, if they can be read
-abbrev pub asked : World → Name → Regs → List ℕ
-asked w c regs = unwrap_or (item_bytes w c regs) []
-
--- the items that the caller asks for
-unfoldable pub items_of : World → Name → Regs → List Item
-items_of w c regs = items_in Create (asked w c regs)
-
--- the refusal of a fault of the items
-abbrev pub refusal_of : SpecFault → Refusal
-refusal_of fault.BadMode = BadMode
-refusal_of fault.BadRange = BadRange
-refusal_of fault.Overlap = Overlap
-
--- whether one of two numbers of ranges is past the limit
-abbrev pub are_too_many : ℕ × ℕ → Bool
-are_too_many counts = nat_lt MOST_RANGES counts.0 || nat_lt MOST_RANGES counts.1
+-- why there is no room for a context that is made by items: the first of these that holds
+unfoldable pub room_refusals : World → Name → ℕ → List Item → List (Bool × Refusal)
+room_refusals w c job items =
+    (nat_le MOST_CONTEXTS_OF_JOB (live_of w job), TooManyContexts)
+    ∷ (is_none (lowest_empty w c), NoSlot)
+    ∷ (needs_group w c items && nat_le MOST_GROUPS_OF_JOB (groups_of w job), TooManyGroups)
+    ∷ (are_too_many (ranges_after_clone w c job items), TooManyRanges)
+    ∷ []
 
 -- why the call is refused: the first of these that holds
 unfoldable pub refusals : World → Name → ℕ → Regs → List (Bool × Refusal)
 refusals w c job regs =
-    (nat_lt MOST_ITEMS (count_of regs), TooManyItems)
-    ∷ (is_none (item_bytes w c regs), BadAddress)
-    ∷ (not (all_taken Create (asked w c regs)), BadMode)
-    ∷ (not (all_within w.size.pages (items_of w c regs)), BadRange)
-    ∷ (has_overlap (items_of w c regs), Overlap)
-    ∷ (nat_le MOST_CONTEXTS_OF_JOB (live_of w job), TooManyContexts)
-    ∷ (is_none (lowest_empty w c), NoSlot)
-    ∷ (needs_group w c (items_of w c regs) && nat_le MOST_GROUPS_OF_JOB (groups_of w job), TooManyGroups)
-    ∷ (are_too_many (ranges_after_clone w c job (items_of w c regs)), TooManyRanges)
-    ∷ []
+    item_refusals w c Create (slice_index regs.r 1) (slice_index regs.r 2)
+    ++ room_refusals w c job (items_of w c regs)
 
 -- the register value that says that there is no caller: -1
 abbrev pub no_caller : ℕ
@@ -101,12 +78,17 @@ pub record HasPlaces (w : World) (job : ℕ) : Type 0 where
   pub context : live_of w job < MOST_CONTEXTS_OF_JOB → HasPlace w
   pub group : groups_of w job < MOST_GROUPS_OF_JOB → HasGroupPlace w
 
+-- there is room for a context that is made by items, with its descriptor in this slot
+pub record HasRoom (w : World) (c : Name) (job : ℕ) (items : List Item) (n : ℕ) : Type 0 where
+  pub passed : first_refusal (room_refusals w c job items) ≡ None
+  pub live : live_of w job < MOST_CONTEXTS_OF_JOB
+  pub lowest : lowest_empty w c ≡ Some n
+  pub group : needs_group w c items ≡ true → groups_of w job < MOST_GROUPS_OF_JOB
+  pub few : AreFew (ranges_after_clone w c job items)
+
 -- no refusal holds: the call makes a context by these items, with its descriptor in this slot
 pub record IsAllowed (w : World) (c : Name) (job : ℕ) (regs : Regs) (items : List Item) (n : ℕ) : Type 0 where
   pub passed : first_refusal (refusals w c job regs) ≡ None
   pub asked : items ≡ items_of w c regs
   pub valid : IsSpec w.size.pages items
-  pub live : live_of w job < MOST_CONTEXTS_OF_JOB
-  pub lowest : lowest_empty w c ≡ Some n
-  pub group : needs_group w c items ≡ true → groups_of w job < MOST_GROUPS_OF_JOB
-  pub few : AreFew (ranges_after_clone w c job items)
+  pub room : HasRoom w c job items n

@@ -1,12 +1,12 @@
+pub use Rattle.call_items.specs.Asked
+pub use Rattle.guest_call.specs.Guest
 pub use Rattle.lwc_base.specs.Capabilities
 pub use Rattle.lwc_base.specs.Cells
-pub use Rattle.lwc_base.specs.Memory
 pub use Rattle.lwc_base.specs.Modes
 pub use Rattle.lwc_base.specs.Ranges
 pub use Rattle.lwc_base.specs.Refusals
 pub use Rattle.lwc_base.specs.Sharing
 pub use Rattle.lwc_base.specs.Slots
 pub use Rattle.lwc_base.specs.World
-pub use Rattle.res_spec.specs.Items
 pub use Rattle.world_face.specs.Calls
 pub mod Create

@@ -1,24 +1,23 @@
-ghost use Rattle.std.specs.Prelude.{◌≡◌, ℕ, Some, true, IfErr, IfOk, IsOk, OnErr, drop};
+ghost use Rattle.std.specs.Prelude.{◌≡◌, Some, true, IfErr, IfOk, IsOk, OnErr};
 ghost use Rattle.lwc_base.specs.Modes.{IsSpec};
 ghost use Rattle.lwc_base.specs.Refusals.{first_refusal};
 ghost use Rattle.lwc_create.specs.Create as spec;
-ghost use Rattle.lwc_create.specs.Create.{HasPlaces, IfRefused, IsAllowed};
+ghost use Rattle.lwc_create.specs.Create.{HasPlaces, HasRoom, IfRefused, IsAllowed};
 ghost use Rattle.world_face.specs.Calls.{IsLive, MayName};
 
 use access_cap::full;
-use lwc_base::laws::{changes_leave_the_rest, names_are_ordered};
+use call_items::items_for;
+use guest_call::are_too_many;
+use lwc_base::laws::{changes_leave_the_rest, names_are_ordered, the_lowest_empty_slot_is_empty};
 use lwc_base::{
-    Answer, Descriptor, MOST_CONTEXTS_OF_JOB, MOST_GROUPS_OF_JOB, MOST_ITEMS, MOST_RANGES, Name,
-    OutOfMemory, Refusal, Regs, Spec,
+    Answer, Descriptor, MOST_CONTEXTS_OF_JOB, MOST_GROUPS_OF_JOB, Name, OutOfMemory, Refusal, Regs,
+    Spec,
 };
-use res_spec::{ITEM_BYTES, SpecCall, SpecFault, read_items};
-use world_face::{World, bytes_for};
+use res_spec::SpecCall;
+use world_face::World;
 
 /// In r1 and in the new context's r0: there is no caller.
 const NO_CALLER: u64 = u64::MAX;
-
-/// The number of bytes of the most items.
-const BUFFER_BYTES: usize = MOST_ITEMS * ITEM_BYTES;
 
 /// Makes a new context from context `c`, for a job. The registers are those at the call: r1 has the address
 /// of the items, and r2 how many there are (`create`). The only error is out of memory, and then nothing has
@@ -45,6 +44,7 @@ pub fn create<W: World>(
     };
     names_are_ordered();
     changes_leave_the_rest();
+    the_lowest_empty_slot_is_empty();
     let cap = full(world.pages());
     let name = world.clone_context(c, &items, job, &after_call(regs, NO_CALLER))?;
     world.set_slot(c, slot, Descriptor::Ctx { name, cap });
@@ -52,70 +52,39 @@ pub fn create<W: World>(
 }
 
 /// The items and the slot that the new context is made with, or the first refusal.
-#[tactic(auto, unfolding(crate::specs::Create::refusals))]
 fn allowed<W: World>(world: &W, c: Name, job: u32, regs: &Regs) -> Result<(Spec, u8), Refusal>
     requires live { IsLive (W.seen world.now) c }
     ensures refused { IfErr result (λ refusal.
         first_refusal (spec.refusals (W.seen world.now) c job regs.now) ≡ Some refusal) }
     ensures passed { IfOk result (λ made. IsAllowed (W.seen world.now) c job regs.now made.0 made.1) }
 {
-    let items = asked(world, c, regs)?;
+    let items = items_for(world, c, SpecCall::Create, regs.r[1], regs.r[2])?;
+    let slot = room_for(world, c, job, &items)?;
+    Ok((items, slot))
+}
+
+/// The slot for the descriptor of a context that is made by these items, or the first refusal.
+#[tactic(auto, unfolding(crate::specs::Create::room_refusals))]
+fn room_for<W: World>(world: &W, c: Name, job: u32, items: &Spec) -> Result<u8, Refusal>
+    requires live { IsLive (W.seen world.now) c }
+    requires valid { IsSpec (W.seen world.now).size.pages items.now }
+    ensures refused { IfErr result (λ refusal.
+        first_refusal (spec.room_refusals (W.seen world.now) c job items.now) ≡ Some refusal) }
+    ensures room { IfOk result (λ slot. HasRoom (W.seen world.now) c job items.now slot) }
+{
     if world.live_of(job) >= MOST_CONTEXTS_OF_JOB {
         return Err(Refusal::TooManyContexts);
     }
     let Some(slot) = world.lowest_empty(c) else {
         return Err(Refusal::NoSlot);
     };
-    if world.needs_group(c, &items) && world.groups_of(job) >= MOST_GROUPS_OF_JOB {
+    if world.needs_group(c, items) && world.groups_of(job) >= MOST_GROUPS_OF_JOB {
         return Err(Refusal::TooManyGroups);
     }
-    if are_too_many(world.ranges_after_clone(c, &items)) {
+    if are_too_many(world.ranges_after_clone(c, items)) {
         return Err(Refusal::TooManyRanges);
     }
-    Ok((items, slot))
-}
-
-/// The items that the caller asks for, or the first refusal. The first five rows of the table of refusals
-/// speak of the items alone; where none of them holds, the rest decides.
-#[tactic(auto, unfolding(crate::specs::Create::item_bytes, crate::specs::Create::items_of, crate::specs::Create::refusals, res_spec::specs::Items::read, res_spec::specs::Items::faults))]
-fn asked<W: World>(world: &W, c: Name, regs: &Regs) -> Result<Spec, Refusal>
-    requires live { IsLive (W.seen world.now) c }
-    ensures refused { IfErr result (λ refusal. (job : ℕ) →
-        first_refusal (spec.refusals (W.seen world.now) c job regs.now) ≡ Some refusal) }
-    ensures passed { IfOk result (λ items. (job : ℕ) →
-        first_refusal (spec.refusals (W.seen world.now) c job regs.now)
-        ≡ first_refusal (drop 5 (spec.refusals (W.seen world.now) c job regs.now))) }
-    ensures items { IfOk result (λ items. items ≡ spec.items_of (W.seen world.now) c regs.now) }
-    ensures within { IfOk result (λ items. IsSpec (W.seen world.now).size.pages items) }
-{
-    let count = regs.r[2];
-    if count > MOST_ITEMS as u64 {
-        return Err(Refusal::TooManyItems);
-    }
-    let mut buffer = [0; BUFFER_BYTES];
-    let bytes = &mut buffer[..count as usize * ITEM_BYTES];
-    if !bytes_for(world, c, regs.r[1], bytes) {
-        return Err(Refusal::BadAddress);
-    }
-    read_items(bytes, SpecCall::Create, world.pages()).map_err(refusal_of)
-}
-
-/// The refusal of a fault of the items.
-fn refusal_of(fault: SpecFault) -> Refusal
-    ensures { result ≡ spec.refusal_of fault }
-{
-    match fault {
-        SpecFault::BadMode => Refusal::BadMode,
-        SpecFault::BadRange => Refusal::BadRange,
-        SpecFault::Overlap => Refusal::Overlap,
-    }
-}
-
-/// Whether one of two numbers of ranges is past the limit.
-fn are_too_many(counts: (u32, u32)) -> bool
-    ensures { result ≡ spec.are_too_many counts }
-{
-    counts.0 > MOST_RANGES || counts.1 > MOST_RANGES
+    Ok(slot)
 }
 
 /// The registers after the call, with this value in r0.

@@ -2,5 +2,6 @@
 #![tactic(auto)]
 
 pub mod creating;
+pub mod laws;
 
 pub use creating::create;

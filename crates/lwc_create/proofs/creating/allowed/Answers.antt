@@ -1,15 +1,24 @@
 use Rattle.std.proofs.Common.{rules}
-use Rattle.std.specs.declared.result.Result.{Result}
-use Rattle.std.specs.declared.result.Result.TheVariants.{Ok, Err}
-use Rattle.std.specs.Result.{IfErr, IsErrAnd}
+use Rattle.lwc_create.specs.Create.{refusals, room_refusals, items_of}
 use Rattle.lwc_create.proofs.creating.allowed.Goals as goal
 
--- what holds of an error holds where there is one
-if_err : {T E : Type 0} (r : Result T E) (Q P : E → Type 0) → IsErrAnd r Q → ((e : E) → Q e → P e) → IfErr r P
-if_err (Ok x) Q P is then = tt
-if_err (Err e) Q P is then = then e is
-
 pub returns-in_err-items-clause-refused : goal.returns-in_err-items-clause-refused
+unfolding refusals
 returns-in_err-items-clause-refused g c =
-    let refused = c.in_err-items.ensures.refused c.args.job in
-    if_err c.from_residual.result _ _ c.from_residual.ensures.1 (λ e same. search (rules, refused))
+    let w = g.W.World.seen c.args.world.now in
+    let refused = c.in_err-items.ensures.refused (room_refusals w c.args.c c.args.job (items_of w c.args.c c.args.regs.now)) in
+    search rules
+
+pub returns-in_err-slot-clause-refused : goal.returns-in_err-slot-clause-refused
+unfolding refusals
+returns-in_err-slot-clause-refused g c =
+    let w = g.W.World.seen c.args.world.now in
+    let passed = c.in_ok-items.ensures.passed (room_refusals w c.args.c c.args.job (items_of w c.args.c c.args.regs.now)) in
+    search rules
+
+pub returns-clause-passed : goal.returns-clause-passed
+unfolding refusals
+returns-clause-passed g c =
+    let w = g.W.World.seen c.args.world.now in
+    let passed = c.in_ok-items.ensures.passed (room_refusals w c.args.c c.args.job (items_of w c.args.c c.args.regs.now)) in
+    search rules
