@@ -1,0 +1,12 @@
+pub use Rattle.guest_call.specs.Changes
+pub use Rattle.guest_call.specs.Guest
+pub use Rattle.lwc_base.specs.Capabilities
+pub use Rattle.lwc_base.specs.Cells
+pub use Rattle.lwc_base.specs.Facts
+pub use Rattle.lwc_base.specs.Life
+pub use Rattle.lwc_base.specs.Refusals
+pub use Rattle.lwc_base.specs.Saved
+pub use Rattle.lwc_base.specs.Slots
+pub use Rattle.lwc_base.specs.World
+pub use Rattle.world_face.specs.Calls
+pub mod Switch

@@ -1,0 +1,85 @@
+ghost use Rattle.std.specs.Prelude.{◌≡◌, ◌<◌, Some, None, IfErr, IfOk};
+ghost use Rattle.lwc_base.specs.Life.{HasItsContexts};
+ghost use Rattle.lwc_base.specs.Refusals.{first_refusal};
+ghost use Rattle.lwc_base.specs.Saved.{entered};
+ghost use Rattle.lwc_base.specs.Slots.{lowest_empty};
+ghost use Rattle.lwc_base.specs.World.{context};
+ghost use Rattle.lwc_base.specs.declared.limits.TheConstants.{MOST_THREADS};
+ghost use Rattle.lwc_switch.specs.Switch as spec;
+ghost use Rattle.lwc_switch.specs.Switch.{IfRefused};
+ghost use Rattle.world_face.specs.Calls.{IsLive};
+
+use access_cap::empty;
+use guest_call::{context_for, with_answer};
+use lwc_base::laws::{changes_leave_the_rest, the_lowest_empty_slot_is_empty};
+use lwc_base::{Descriptor, Moved, Name, Refusal, Regs};
+use world_face::World;
+
+/// Takes a thread from context `c` to the context that the slot in r1 has a descriptor of, with r2 as the
+/// argument. The registers are those at the call (`switch`). A refusal changes nothing.
+#[tactic(auto, using(crate::proofs::Saving::live_after_save), unfolding(crate::specs::Switch::switch))]
+pub fn switch<W: World>(world: &mut W, c: Name, t: u32, regs: &Regs) -> Moved
+    requires live { IsLive (W.seen world.old) c }
+    requires thread { t < MOST_THREADS }
+    requires named { HasItsContexts (W.seen world.old) }
+    ensures done { spec.switch (W.seen world.old) c t regs.now ≡ (result, W.seen world.new) }
+    ensures refused { IfRefused result (W.seen world.new ≡ W.seen world.old) }
+{
+    let (target, slot) = match allowed(world, c, regs) {
+        Ok(found) => found,
+        Err(refusal) => return Moved::Refused(refusal),
+    };
+    changes_leave_the_rest();
+    the_lowest_empty_slot_is_empty();
+    world.save(c, t, &with_answer(regs, 0));
+    let entered = entered(world, target, t);
+    let cap = empty();
+    world.set_slot(target, slot, Descriptor::Ctx { name: c, cap });
+    Moved::To {
+        context: target,
+        regs: arriving(&entered, slot, regs.r[2]),
+    }
+}
+
+/// The target and its slot, or the first refusal.
+#[tactic(auto, unfolding(crate::specs::Switch::refusals, crate::specs::Switch::target))]
+fn allowed<W: World>(world: &W, c: Name, regs: &Regs) -> Result<(Name, u8), Refusal>
+    requires live { IsLive (W.seen world.now) c }
+    requires named { HasItsContexts (W.seen world.now) }
+    ensures refused { IfErr result (λ refusal.
+        first_refusal (spec.refusals (W.seen world.now) c regs.now) ≡ Some refusal) }
+    ensures passed { IfOk result (λ found.
+        first_refusal (spec.refusals (W.seen world.now) c regs.now) ≡ None) }
+    ensures target { IfOk result (λ found. found.0 ≡ spec.target (W.seen world.now) c regs.now) }
+    ensures live { IfOk result (λ found. IsLive (W.seen world.now) found.0) }
+    ensures lowest { IfOk result (λ found. lowest_empty (W.seen world.now) found.0 ≡ Some found.1) }
+{
+    let (target, _) = context_for(world, c, regs.r[1])?;
+    match world.lowest_empty(target) {
+        Some(slot) => Ok((target, slot)),
+        None => Err(Refusal::NoSlotThere),
+    }
+}
+
+/// The registers that a thread enters a context with: those that the context keeps for it, else those that
+/// it begins with.
+fn entered<W: World>(world: &W, c: Name, t: u32) -> Regs
+    requires live { IsLive (W.seen world.now) c }
+    requires thread { t < MOST_THREADS }
+    ensures { result ≡ entered (context (W.seen world.now) c) t }
+{
+    match world.saved(c, t) {
+        Some(saved) => saved,
+        None => world.entry(c),
+    }
+}
+
+/// The registers that a thread arrives with: the slot's number is in r1, and the argument in r2.
+fn arriving(regs: &Regs, slot: u8, argument: u64) -> Regs
+    ensures { result ≡ spec.arriving regs.now slot argument }
+{
+    let mut r = regs.r;
+    r[1] = u64::from(slot);
+    r[2] = argument;
+    Regs { r, pc: regs.pc }
+}
