@@ -1,0 +1,54 @@
+ghost use Rattle.std.specs.Prelude.{◌≡◌, ℕ, slice_index, true};
+ghost use Rattle.guest_call.specs.Changes.{ChangesSlot};
+ghost use Rattle.lwc_base.specs.Fresh.{IsFresh};
+ghost use Rattle.lwc_base.specs.Life.{HasItsContexts};
+ghost use Rattle.lwc_base.specs.Sound.{HasItsGroups};
+ghost use Rattle.lwc_base.specs.World.{World, is_live};
+ghost use Rattle.lwc_base.specs.declared.answer.Answer.TheVariants.{Done};
+ghost use Rattle.lwc_base.specs.declared.name.Name.{Name};
+ghost use Rattle.lwc_base.specs.declared.regs.Regs.{Regs};
+ghost use Rattle.lwc_overlay.specs.Named.{items_of};
+ghost use Rattle.lwc_overlay.specs.OverlayCall.{IsTaken, LeavesRest, overlay};
+ghost use Rattle.lwc_overlay.specs.RestrictCall.{IsRestriction, restrict};
+ghost use Rattle.res_spec.specs.declared.items.SpecCall.TheVariants.{Overlay};
+
+use call_items::items_that_are_not_refused_are_a_spec;
+use guest_call::laws::{a_descriptor_in_a_slot_is_a_link, a_put_changes_one_slot};
+use lwc_base::laws::{an_overlay_changes_what_it_names, changes_leave_the_rest, names_are_ordered};
+
+/// An accepted restriction takes keys from the capability of a descriptor of a context.
+pub fn an_accepted_restriction_takes_keys()
+    ensures { (w v : World) (c : Name) (regs after : Regs) → restrict w c regs ≡ (Done after, v) →
+        IsRestriction w v c regs }
+{
+    items_that_are_not_refused_are_a_spec();
+}
+
+/// A restriction changes its slot alone, also for the contexts that have the slot in common.
+pub fn a_restriction_changes_one_slot()
+    ensures { (w v : World) (c : Name) (regs : Regs) → IsRestriction w v c regs →
+        ChangesSlot w v c (slice_index regs.r 1) }
+{
+    a_put_changes_one_slot();
+}
+
+/// An accepted overlay takes over from a live context what the capability in the slot covers.
+pub fn an_accepted_overlay_takes_what_is_covered()
+    ensures { (w v : World) (c : Name) (job : ℕ) (regs after : Regs) → HasItsContexts w → is_live w c ≡ true →
+        overlay w c job regs ≡ (Done after, v) → IsTaken w v c job regs }
+{
+    a_descriptor_in_a_slot_is_a_link();
+    items_that_are_not_refused_are_a_spec();
+}
+
+/// An overlay changes what its items name in the context that gets it. In the context that it takes from,
+/// cells under share become common, with their values. It changes nothing else.
+pub fn an_overlay_leaves_the_rest()
+    ensures { (w v : World) (c : Name) (job : ℕ) (regs : Regs) → IsFresh w → HasItsGroups w →
+        is_live w c ≡ true → (taken : IsTaken w v c job regs) →
+        LeavesRest w v c taken.source (items_of w c Overlay regs) }
+{
+    names_are_ordered();
+    changes_leave_the_rest();
+    an_overlay_changes_what_it_names();
+}
