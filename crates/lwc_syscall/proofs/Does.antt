@@ -1,0 +1,161 @@
+-- What each plain call does.
+use Rattle.std.proofs.Common.{◌≡◌, ◌⊎◌, inl, inr, ◌<◌, ◌≤◌, ℕ, Bool, true, false, List, [], None, Some, refl, length, length-drop, sym, subst, arith}
+use Rattle.std.proofs.lemmas.Bool.Decides.{nat_tests}
+use Rattle.std.proofs.lemmas.List.{length-map, length-take}
+use Rattle.std.specs.Prelude.{◌==◌, if◌then◌else◌, slice_index, is_none, unwrap_or}
+use Rattle.guest_call.specs.Guest.{descriptor_for}
+use Rattle.lwc_base.specs.Cells.{put_slot, put_uid, slot_at, uid_at}
+use Rattle.lwc_base.specs.Channels.{Channels, bytes_in, contents}
+use Rattle.lwc_base.specs.Mapping.{mapped_or_not}
+use Rattle.lwc_base.specs.Memory.{bytes_for}
+use Rattle.lwc_base.specs.Refusals.{first_refusal}
+use Rattle.lwc_base.specs.Slots.{lowest_empty}
+use Rattle.lwc_base.specs.Store.{Piece, Stored, store}
+use Rattle.lwc_base.specs.Store as stores
+use Rattle.lwc_base.specs.Summaries.{is_empty}
+use Rattle.lwc_base.specs.World.{World, is_live}
+use Rattle.lwc_base.specs.declared.descriptor.Descriptor.{Descriptor}
+use Rattle.lwc_base.specs.declared.descriptor.Descriptor.TheVariants.{Empty, Console, File, Request, Reply, Ctx}
+use Rattle.lwc_base.specs.declared.descriptor.TheConstants.{SLOTS}
+use Rattle.lwc_base.specs.declared.limits.TheConstants.{MOST_BYTES_OF_CALL}
+use Rattle.lwc_base.specs.declared.refusal.Refusal.{Refusal}
+use Rattle.lwc_base.specs.declared.refusal.Refusal.TheVariants.{BadCall}
+use Rattle.lwc_syscall.specs.Changes.{IsKnown, IsPlainChange, Mapped, Nothing, Read, SlotPut, UidPut, Written}
+use Rattle.lwc_syscall.specs.Plain.{Outcome, answering, becoming, close_refusals, closing, copy_refusals, copying, ended, is_absent, is_full, left, map_refusals, mapping, moved, open_refusals, opening, placed, plain, read_on, read_refusals, reading, refused_or, store_at, uid_refusals, world_after, write_refusals, writing, written}
+use Rattle.lwc_syscall.specs.declared.answer.CallAnswer.TheVariants.{Exit, Refused}
+use Rattle.lwc_syscall.specs.declared.calls.Three.{Three}
+
+-- a call ends as it does where it is refused, or as it is done where no row of its table holds
+pub ended-cases : (P : Outcome → Type 0) (w : World) (io : Channels) (rows : List (Bool × Refusal)) (done : Outcome) →
+    ((refusal : Refusal) → P (record { answer = Refused refusal; world = w; io = io })) → (first_refusal rows ≡ None → P done) → P (ended w io rows done)
+ended-cases P w io rows done refused all =
+    elim (first_refusal rows) as (λ r. first_refusal rows ≡ r → P (refused_or w io done r)) [
+      | Some refusal ↦ λ _. refused refusal
+      | None ↦ all
+    ] refl
+
+-- what is so of each of eleven outcomes is so of the one of a call's number
+pub by_number : (P : Outcome → Type 0) (call : ℕ) (a b c d e f g h i j k : Outcome) → P a → P b → P c → P d → P e → P f → P g → P h → P i → P j → P k →
+    P (if call == 1 then a else (if call == 2 then b else (if call == 3 then c else (if call == 4 then d else (if call == 5 then e else (if call == 6 then f
+    else (if call == 7 then g else (if call == 8 then h else (if call == 9 then i else (if call == 10 then j else k))))))))))
+by_number P call a b c d e f g h i j k pa pb pc pd pe pf pg ph pi pj pk = grind arith
+
+-- what is so of the slots of the three contexts
+pub record Ready (w : World) (io : Channels) (three : Three) : Type 0 where
+  pub live : is_live w three.slots ≡ true
+  pub known : (n : ℕ) → n < SLOTS → IsKnown w io (slot_at w three.slots n)
+  pub lowest : (n : ℕ) → lowest_empty w three.slots ≡ Some n → n < SLOTS
+
+-- what a call does by its outcome
+abbrev Does : World → Channels → Three → ℕ → Outcome → Type 0
+Does w io three job outcome = IsPlainChange w io three job outcome.world outcome.io
+
+module _ (w : World) (io : Channels) (three : Three) (job : ℕ) (ready : Ready w io three) where
+  -- what is found under a number is known
+  found-known : (n : ℕ) → IsKnown w io (descriptor_for w three.slots n)
+  unfolding descriptor_for
+  found-known n = let known = ready.known n in grind (arith, nat_tests)
+
+  -- and where something is found, the number is a slot's
+  found-slot : (n : ℕ) → is_empty (descriptor_for w three.slots n) ≡ false → n < SLOTS
+  unfolding descriptor_for
+  found-slot n filled = grind (arith, nat_tests)
+
+  closing-does : (n : ℕ) → Does w io three job (closing w io three.slots n)
+  closing-does n =
+      ended-cases (Does w io three job) w io (close_refusals w three.slots n) (answering 0 (put_slot w three.slots n Empty) io) (λ _. Nothing)
+      (λ passed. SlotPut n Empty (found-slot n (grind arith)) (record { in_range = tt; named = λ d is. grind arith }))
+
+  placed-does : (value : Descriptor) (rows : List (Bool × Refusal)) → (first_refusal rows ≡ None → is_none (lowest_empty w three.slots) ≡ false) →
+      (first_refusal rows ≡ None → IsKnown w io value) → Does w io three job (ended w io rows (placed w io three.slots value))
+  placed-does value rows some known =
+      ended-cases (Does w io three job) w io rows (placed w io three.slots value) (λ _. Nothing)
+      (λ passed. SlotPut (unwrap_or (lowest_empty w three.slots) 0) value (let lowest = ready.lowest in let there = some passed in grind arith) (known passed))
+
+  copying-does : (n : ℕ) → Does w io three job (copying w io three.slots n)
+  copying-does n = placed-does (descriptor_for w three.slots n) (copy_refusals w three.slots n) (λ passed. grind arith) (λ passed. found-known n)
+
+  -- a file that is there is in range at its beginning
+  file-known : (file : ℕ) → file < length io.files → IsKnown w io (File file 0)
+  file-known file there = record { in_range = record { there = simp length-map there; within = omega arith }; named = λ d is. grind arith }
+
+  opening-does : (file : ℕ) → Does w io three job (opening w io three file)
+  opening-does file = placed-does (File file 0) (open_refusals w io three file) (λ passed. grind arith) (λ passed. file-known file (grind (arith, nat_tests)))
+
+  mapping-does : (from to : ℕ) (present : Bool) → Does w io three job (mapping w io three.memory from to present)
+  mapping-does from to present =
+      ended-cases (Does w io three job) w io (map_refusals w three.memory from to present) (answering 0 (mapped_or_not w three.memory from to present) io) (λ _. Nothing)
+      (λ passed. Mapped from to present (grind (arith, nat_tests)))
+
+  becoming-does : (uid : ℕ) → Does w io three job (becoming w io three.cred uid)
+  becoming-does uid =
+      ended-cases (Does w io three job) w io (uid_refusals w three.cred uid) (answering 0 (put_uid w three.cred uid) io) (λ _. Nothing) (λ passed. UidPut uid)
+
+  writing-does : (n at count : ℕ) → Does w io three job (writing w io three n at count)
+  unfolding writing
+  writing-does n at count =
+      let value = descriptor_for w three.slots n in
+      let bytes = bytes_for w three.memory at count in
+      ended-cases (Does w io three job) w io (write_refusals io value count bytes) (answering count w (written io value (unwrap_or bytes []))) (λ _. Nothing)
+      (λ passed. Written value (unwrap_or bytes []))
+
+  -- a descriptor that has been read on, at most as far as bytes are left, is known
+  on-known : (value : Descriptor) (count : ℕ) → count ≤ length (unwrap_or (left io value) []) → IsKnown w io value → IsKnown w io (read_on count value)
+  on-known (File file at) count few known =
+      let range = known.in_range in
+      record {
+        in_range = record { there = range.there; within = let within = range.within in omega (arith, length-drop at (bytes_in (contents io.files) file)) };
+        named = λ d is. grind arith;
+      }
+  on-known (Request r at) count few known =
+      let range = known.in_range in
+      record {
+        in_range = record { there = range.there; within = let within = range.within in omega (arith, length-drop at (bytes_in io.requests r)) };
+        named = λ d is. grind arith;
+      }
+  on-known Empty count few known = known
+  on-known Console count few known = known
+  on-known (Reply r) count few known = known
+  on-known (Ctx name cap) count few known = known
+
+  -- bytes are stored at a guest's address if there are some
+  stored-cases : (at : ℕ) (bytes : List ℕ) → (store_at w three.memory job at bytes ≡ stores.Done w) ⊎ ((store_at w three.memory job at bytes ≡ stores.Absent)
+      ⊎ (store_at w three.memory job at bytes ≡ store w three.memory job (record { at = at; bytes = bytes })))
+  unfolding store_at
+  stored-cases at bytes = grind arith
+
+  -- what a read does once its bytes are stored
+  done-does : (stored : Stored) (piece : Piece) (n : ℕ) (value : Descriptor) → is_absent stored ≡ false → is_full stored ≡ false →
+      (stored ≡ stores.Done w) ⊎ ((stored ≡ stores.Absent) ⊎ (stored ≡ store w three.memory job piece)) → length piece.bytes ≤ MOST_BYTES_OF_CALL → n < SLOTS → IsKnown w io value →
+      IsPlainChange w io three job (put_slot (world_after w stored) three.slots n value) io
+  done-does stores.Absent piece n value there room by short within known = absurd (grind arith)
+  done-does stores.Full piece n value there room by short within known = absurd (grind arith)
+  done-does (stores.Done v) piece n value there room (inl same) short within known =
+      let is : w ≡ v = grind arith in subst (λ (u : World). IsPlainChange w io three job (put_slot u three.slots n value) io) is (SlotPut n value within known)
+  done-does (stores.Done v) piece n value there room (inr (inl same)) short within known = absurd (grind arith)
+  done-does (stores.Done v) piece n value there room (inr (inr is)) short within known = Read v piece n value short (sym is) within known
+
+  reading-does : (n at count : ℕ) → Does w io three job (reading w io three job n at count)
+  unfolding reading
+  reading-does n at count =
+      let value = descriptor_for w three.slots n in
+      let bytes = moved io value count in
+      let stored = store_at w three.memory job at bytes in
+      ended-cases (Does w io three job) w io (read_refusals io value count stored)
+      (answering (length bytes) (put_slot (world_after w stored) three.slots n (read_on (length bytes) value)) io) (λ _. Nothing)
+      (λ passed.
+      let few : length bytes ≤ count = omega (arith, length-take count (unwrap_or (left io value) [])) in
+      let within : length bytes ≤ length (unwrap_or (left io value) []) = omega (arith, length-take count (unwrap_or (left io value) [])) in
+      let short : count ≤ MOST_BYTES_OF_CALL = grind (arith, nat_tests) in
+      done-does stored (record { at = at; bytes = bytes }) n (read_on (length bytes) value) (grind arith) (grind arith) (stored-cases at bytes) (omega arith) (found-slot n (grind arith))
+      (on-known value (length bytes) within (found-known n)))
+
+  pub plain-does : (call : ℕ) (args : List ℕ) → Does w io three job (plain w io three job call args)
+  unfolding plain
+  plain-does call args =
+      let arg = λ (i : ℕ). slice_index args i in
+      by_number (Does w io three job) call (opening w io three (arg 0)) (closing w io three.slots (arg 0)) (copying w io three.slots (arg 0)) (reading w io three job (arg 0) (arg 1) (arg 2))
+      (writing w io three (arg 0) (arg 1) (arg 2)) (mapping w io three.memory (arg 0) (arg 1) true) (mapping w io three.memory (arg 0) (arg 1) false)
+      (answering (uid_at w three.cred) w io) (becoming w io three.cred (arg 0)) (record { answer = Exit (arg 0); world = w; io = io }) (record { answer = Refused BadCall; world = w; io = io })
+      (opening-does (arg 0)) (closing-does (arg 0)) (copying-does (arg 0)) (reading-does (arg 0) (arg 1) (arg 2)) (writing-does (arg 0) (arg 1) (arg 2))
+      (mapping-does (arg 0) (arg 1) true) (mapping-does (arg 0) (arg 1) false) Nothing (becoming-does (arg 0)) Nothing Nothing

@@ -1,0 +1,6 @@
+pub mod Does
+pub mod Filled
+pub mod Kept
+pub mod Refused
+pub mod Syscalls
+pub mod Links

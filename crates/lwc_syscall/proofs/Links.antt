@@ -1,0 +1,173 @@
+-- Which calls cut no link.
+use Rattle.std.proofs.Common.{◌≡◌, ◌≢◌, ◌⊎◌, inl, inr, ◌∙◌, ◌+◌, ◌<◌, ℕ, Bool, true, false, cond, List, [], ◌∷◌, None, Option, Some, ap, refl, length, subst, sym, arith}
+use Rattle.std.proofs.lemmas.Bool.Decides.{nat_tests}
+use Rattle.std.specs.Prelude.{◌==◌, ◌||◌, if◌then◌else◌, is_none, slice_index, unwrap_or}
+use Rattle.guest_call.specs.Guest.{descriptor_for}
+use Rattle.lwc_base.specs.Cells.{put_at, put_page, put_slot, put_uid, slot_at, uid_at, value_at}
+use Rattle.lwc_base.specs.Channels.{Channels}
+use Rattle.lwc_base.specs.Keys.{ValueOf}
+use Rattle.lwc_base.specs.Life.{is_of}
+use Rattle.lwc_base.specs.Mapping.{mapped_or_not}
+use Rattle.lwc_base.specs.Memory.{bytes_for, touched}
+use Rattle.lwc_base.specs.Refusals.{first_refusal}
+use Rattle.lwc_base.specs.Slots.{lowest_empty}
+use Rattle.lwc_base.specs.Store.{Piece, Stored, after_store, parting_count, plan, put_pages, store}
+use Rattle.lwc_base.specs.Store as stores
+use Rattle.lwc_base.specs.Summaries.{is_empty}
+use Rattle.lwc_base.specs.World.{World, Counters, change_counters, context, group}
+use Rattle.lwc_base.specs.declared.descriptor.Descriptor.{Descriptor}
+use Rattle.lwc_base.specs.declared.descriptor.Descriptor.TheVariants.{Empty, Console, File, Request, Reply, Ctx}
+use Rattle.lwc_base.specs.declared.descriptor.TheConstants.{SLOTS}
+use Rattle.lwc_base.specs.declared.key.Key.{Key}
+use Rattle.lwc_base.specs.declared.key.Key.TheVariants.{Page, Slot}
+use Rattle.lwc_base.specs.declared.name.Name.{Name}
+use Rattle.lwc_base.specs.declared.page.PageValue.{PageValue}
+use Rattle.lwc_base.specs.declared.refusal.Refusal.{Refusal}
+use Rattle.lwc_base.specs.declared.refusal.Refusal.TheVariants.{BadCall}
+use Rattle.lwc_base.specs.declared.regs.Regs.{Regs}
+use Rattle.lwc_syscall.proofs.Does.{by_number, ended-cases}
+use Rattle.lwc_syscall.specs.Changes.{CutsNone, LosesNone, Put, Same, StoredPut, cuts_none, leaves_world}
+use Rattle.lwc_syscall.specs.Plain.{Outcome, answering, becoming, closing, copy_refusals, copying, ended, is_absent, is_full, left, mapping, moved, open_refusals, opening, placed, plain, read_on, read_refusals, reading, store_at, world_after, write_refusals, writing, written}
+use Rattle.lwc_syscall.specs.Syscall.{inner_args, inner_call, lw_syscall, refusals, three_of}
+use Rattle.lwc_syscall.specs.declared.answer.CallAnswer.TheVariants.{Exit, Refused}
+use Rattle.lwc_syscall.specs.declared.calls.Three.{Three}
+
+-- what is known of puts and of empty slots
+pub record LinkFacts : Type 0 where
+  pub others : (w : World) (c : Name) (k : Key) (value : ValueOf k) (d : Name) (q : Key) → q ≢ k → value_at (put_at w c k value) d q ≡ value_at w d q
+  pub empty : (w : World) (c : Name) (n : ℕ) → lowest_empty w c ≡ Some n → is_empty (slot_at w c n) ≡ true
+
+-- an outcome by a number that is one of three, in the order of the calls
+one_of_cutting : (Q : Outcome → Type 0) (call : ℕ) (a b c d e f g h i j k : Outcome) → cuts_none call ≡ true → Q a → Q c → Q d →
+    Q (if call == 1 then a else (if call == 2 then b else (if call == 3 then c else (if call == 4 then d else (if call == 5 then e else (if call == 6 then f
+    else (if call == 7 then g else (if call == 8 then h else (if call == 9 then i else (if call == 10 then j else k))))))))))
+one_of_cutting Q call a b c d e f g h i j k is qa qc qd = grind (arith, nat_tests)
+
+one_of_leaving : (Q : Outcome → Type 0) (call : ℕ) (a b c d e f g h i j k : Outcome) → leaves_world call ≡ true → Q e → Q h → Q j →
+    Q (if call == 1 then a else (if call == 2 then b else (if call == 3 then c else (if call == 4 then d else (if call == 5 then e else (if call == 6 then f
+    else (if call == 7 then g else (if call == 8 then h else (if call == 9 then i else (if call == 10 then j else k))))))))))
+one_of_leaving Q call a b c d e f g h i j k is qe qh qj = grind (arith, nat_tests)
+
+-- an empty slot is of no context, and what can be read is of none
+empty-of-none : (d : Name) (value : Descriptor) → is_empty value ≡ true → is_of d value ≡ false
+empty-of-none d Empty is = refl
+empty-of-none d Console is = refl
+empty-of-none d (File file at) is = refl
+empty-of-none d (Request r at) is = refl
+empty-of-none d (Reply r) is = refl
+empty-of-none d (Ctx name cap) is = cc
+
+read-of-none : (io : Channels) (d : Name) (value : Descriptor) → is_none (left io value) ≡ false → is_of d value ≡ false
+read-of-none io d Empty is = refl
+read-of-none io d Console is = refl
+read-of-none io d (File file at) is = refl
+read-of-none io d (Request r at) is = refl
+read-of-none io d (Reply r) is = refl
+read-of-none io d (Ctx name cap) is = cc
+
+loses-none : (old new : Descriptor) → ((d : Name) → is_of d old ≡ false) → LosesNone old new
+loses-none old new none d is = absurd (cc (none d, is))
+
+-- pages that are put leave slots, and so does a store
+pages-leave : LinkFacts → (w : World) (c : Name) (values : List (ℕ × PageValue)) (d : Name) (n : ℕ) → slot_at (put_pages w c values) d n ≡ slot_at w d n
+pages-leave facts w c [] d n = refl
+pages-leave facts w c (v ∷ vs) d n = pages-leave facts (put_page w c v.0 v.1) c vs d n ∙ facts.others w c (Page v.0) (Some v.1) d (Slot n) (λ is. cc)
+
+counters-leave : (w : World) (job : ℕ) (f : Counters → Counters) (d : Name) (n : ℕ) → slot_at (change_counters w job f) d n ≡ slot_at w d n
+unfolding change_counters value_at context group
+counters-leave w job f d n = refl
+
+store-leaves : LinkFacts → (w : World) (c : Name) (job : ℕ) (piece : Piece) (d : Name) (n : ℕ) → slot_at (after_store w c job piece) d n ≡ slot_at w d n
+unfolding after_store
+store-leaves facts w c job piece d n =
+    let put = plan w c job piece (w.next job).tags (touched piece.at (length piece.bytes)) in
+    counters-leave (put_pages w c put) job (λ (k : Counters). record k { tags = k.tags + parting_count w c piece }) d n ∙ pages-leave facts w c put d n
+
+done-leaves : LinkFacts → (w v : World) (c : Name) (job : ℕ) (piece : Piece) (d : Name) (n : ℕ) → store w c job piece ≡ stores.Done v → slot_at v d n ≡ slot_at w d n
+unfolding store
+done-leaves facts w v c job piece d n is = let done : v ≡ after_store w c job piece = grind arith in ap (λ u. slot_at u d n) done ∙ store-leaves facts w c job piece d n
+
+module _ (facts : LinkFacts) (w : World) (io : Channels) (three : Three) (job : ℕ) where
+  lowest-of-none : (lowest : Option ℕ) → lowest_empty w three.slots ≡ lowest → is_none lowest ≡ false → (d : Name) → is_of d (slot_at w three.slots (unwrap_or lowest 0)) ≡ false
+  lowest-of-none None is some d = cc
+  lowest-of-none (Some n) is some d = empty-of-none d _ (facts.empty w three.slots n is)
+
+  placed-cuts : (value : Descriptor) (rows : List (Bool × Refusal)) → (first_refusal rows ≡ None → is_none (lowest_empty w three.slots) ≡ false) →
+      CutsNone w three job (ended w io rows (placed w io three.slots value)).world
+  placed-cuts value rows some =
+      ended-cases (λ o. CutsNone w three job o.world) w io rows (placed w io three.slots value) (λ _. Same)
+      (λ passed. Put (unwrap_or (lowest_empty w three.slots) 0) value (loses-none _ _ (lowest-of-none (lowest_empty w three.slots) refl (some passed))))
+
+  -- bytes are stored at a guest's address if there are some
+  stored-cases : (at : ℕ) (bytes : List ℕ) → (store_at w three.memory job at bytes ≡ stores.Done w) ⊎ ((store_at w three.memory job at bytes ≡ stores.Absent)
+      ⊎ (store_at w three.memory job at bytes ≡ store w three.memory job (record { at = at; bytes = bytes })))
+  unfolding store_at
+  stored-cases at bytes = grind arith
+
+  done-cuts : (stored : Stored) (piece : Piece) (n : ℕ) (value : Descriptor) → is_absent stored ≡ false → is_full stored ≡ false →
+      (stored ≡ stores.Done w) ⊎ ((stored ≡ stores.Absent) ⊎ (stored ≡ store w three.memory job piece)) → ((d : Name) → is_of d (slot_at w three.slots n) ≡ false) →
+      CutsNone w three job (put_slot (world_after w stored) three.slots n value)
+  done-cuts stores.Absent piece n value there room by none = absurd (grind arith)
+  done-cuts stores.Full piece n value there room by none = absurd (grind arith)
+  done-cuts (stores.Done v) piece n value there room (inl same) none =
+      let is : w ≡ v = grind arith in subst (λ (u : World). CutsNone w three job (put_slot u three.slots n value)) is (Put n value (loses-none _ _ none))
+  done-cuts (stores.Done v) piece n value there room (inr (inl same)) none = absurd (grind arith)
+  done-cuts (stores.Done v) piece n value there room (inr (inr is)) none =
+      StoredPut v piece n value (sym is) (loses-none _ _ (λ d. ap (is_of d) (done-leaves facts w v three.memory job piece three.slots n (sym is)) ∙ none d))
+
+  -- what is found under a number is of no context where the slot is of none
+  found-of-none : (n : ℕ) (d : Name) → is_empty (descriptor_for w three.slots n) ≡ false → is_of d (descriptor_for w three.slots n) ≡ false → is_of d (slot_at w three.slots n) ≡ false
+  unfolding descriptor_for
+  found-of-none n d filled is = grind (arith, nat_tests)
+
+  reading-cuts : (n at count : ℕ) → CutsNone w three job (reading w io three job n at count).world
+  unfolding reading
+  reading-cuts n at count =
+      let value = descriptor_for w three.slots n in
+      let bytes = moved io value count in
+      let stored = store_at w three.memory job at bytes in
+      ended-cases (λ o. CutsNone w three job o.world) w io (read_refusals io value count stored)
+      (answering (length bytes) (put_slot (world_after w stored) three.slots n (read_on (length bytes) value)) io) (λ _. Same)
+      (λ passed. done-cuts stored (record { at = at; bytes = bytes }) n (read_on (length bytes) value) (grind arith) (grind arith) (stored-cases at bytes)
+      (λ d. found-of-none n d (grind arith) (read-of-none io d value (grind arith))))
+
+  writing-leaves : (n at count : ℕ) → (writing w io three n at count).world ≡ w
+  unfolding writing
+  writing-leaves n at count =
+      let value = descriptor_for w three.slots n in
+      let bytes = bytes_for w three.memory at count in
+      ended-cases (λ o. o.world ≡ w) w io (write_refusals io value count bytes) (answering count w (written io value (unwrap_or bytes []))) (λ _. refl) (λ _. refl)
+
+  pub plain-cuts : (call : ℕ) (args : List ℕ) → cuts_none call ≡ true → CutsNone w three job (plain w io three job call args).world
+  unfolding plain
+  plain-cuts call args is =
+      let arg = λ (i : ℕ). slice_index args i in
+      one_of_cutting (λ o. CutsNone w three job o.world) call (opening w io three (arg 0)) (closing w io three.slots (arg 0)) (copying w io three.slots (arg 0))
+      (reading w io three job (arg 0) (arg 1) (arg 2)) (writing w io three (arg 0) (arg 1) (arg 2)) (mapping w io three.memory (arg 0) (arg 1) true)
+      (mapping w io three.memory (arg 0) (arg 1) false) (answering (uid_at w three.cred) w io) (becoming w io three.cred (arg 0))
+      (record { answer = Exit (arg 0); world = w; io = io }) (record { answer = Refused BadCall; world = w; io = io }) is
+      (placed-cuts (File (arg 0) 0) (open_refusals w io three (arg 0)) (λ passed. grind arith))
+      (placed-cuts (descriptor_for w three.slots (arg 0)) (copy_refusals w three.slots (arg 0)) (λ passed. grind arith)) (reading-cuts (arg 0) (arg 1) (arg 2))
+
+  pub plain-leaves : (call : ℕ) (args : List ℕ) → leaves_world call ≡ true → (plain w io three job call args).world ≡ w
+  unfolding plain
+  plain-leaves call args is =
+      let arg = λ (i : ℕ). slice_index args i in
+      one_of_leaving (λ o. o.world ≡ w) call (opening w io three (arg 0)) (closing w io three.slots (arg 0)) (copying w io three.slots (arg 0))
+      (reading w io three job (arg 0) (arg 1) (arg 2)) (writing w io three (arg 0) (arg 1) (arg 2)) (mapping w io three.memory (arg 0) (arg 1) true)
+      (mapping w io three.memory (arg 0) (arg 1) false) (answering (uid_at w three.cred) w io) (becoming w io three.cred (arg 0))
+      (record { answer = Exit (arg 0); world = w; io = io }) (record { answer = Refused BadCall; world = w; io = io }) is
+      (writing-leaves (arg 0) (arg 1) (arg 2)) refl refl
+
+-- and so over the contexts that a mask chooses
+pub syscall-cuts : LinkFacts → (w : World) (io : Channels) (c : Name) (job : ℕ) (regs : Regs) → cuts_none (inner_call regs) ≡ true → CutsNone w (three_of w c regs) job (lw_syscall w io c job regs).world
+unfolding lw_syscall
+syscall-cuts facts w io c job regs is =
+    ended-cases (λ o. CutsNone w (three_of w c regs) job o.world) w io (refusals w c regs) (plain w io (three_of w c regs) job (inner_call regs) (inner_args regs)) (λ _. Same)
+    (λ _. plain-cuts facts w io (three_of w c regs) job (inner_call regs) (inner_args regs) is)
+
+pub syscall-leaves : LinkFacts → (w : World) (io : Channels) (c : Name) (job : ℕ) (regs : Regs) → leaves_world (inner_call regs) ≡ true → (lw_syscall w io c job regs).world ≡ w
+unfolding lw_syscall
+syscall-leaves facts w io c job regs is =
+    ended-cases (λ o. o.world ≡ w) w io (refusals w c regs) (plain w io (three_of w c regs) job (inner_call regs) (inner_args regs)) (λ _. refl)
+    (λ _. plain-leaves facts w io (three_of w c regs) job (inner_call regs) (inner_args regs) is)

@@ -1,0 +1,77 @@
+-- What plain calls do to the world and the channels.
+use Rattle.std.specs.Prelude.{◌≡◌, ◌<◌, ◌≤◌, ℕ, ◌+◌, ◌==◌, ◌||◌, Bool, List, true, length}
+use Rattle.std.specs.FinMap as fm
+use Rattle.lwc_base.specs.Cells.{put_slot, put_uid, slot_at}
+use Rattle.lwc_base.specs.Channels.{Channels, HasItsFiles, IsInRange}
+use Rattle.lwc_base.specs.Life.{HasItsContexts, is_of}
+use Rattle.lwc_base.specs.Mapping.{mapped_or_not}
+use Rattle.lwc_base.specs.Sound.{IsSound}
+use Rattle.lwc_base.specs.Store.{Done, Piece, store}
+use Rattle.lwc_base.specs.World.{World, is_live}
+use Rattle.lwc_base.specs.declared.descriptor.Descriptor.{Descriptor}
+use Rattle.lwc_base.specs.declared.descriptor.TheConstants.{SLOTS}
+use Rattle.lwc_base.specs.declared.limits.TheConstants.{MOST_BYTES_OF_CALL}
+use Rattle.lwc_base.specs.declared.name.Name.{Name}
+use Rattle.lwc_base.specs.declared.refusal.Refusal.{Refusal}
+use Rattle.lwc_syscall.specs.declared.calls.Three.{Three}
+use Rattle.lwc_syscall.specs.Plain.{Outcome, written}
+use Rattle.lwc_syscall.specs.declared.answer.CallAnswer.TheVariants.{Refused}
+
+-- a descriptor that may be in a slot: it is in range, and each context that it is of is live
+pub record IsKnown (w : World) (io : Channels) (value : Descriptor) : Type 0 where
+  pub in_range : IsInRange io value
+  pub named : (d : Name) → is_of d value ≡ true → is_live w d ≡ true
+
+-- what a plain call may do over three contexts: nothing, a put, a mapping, a store and a put, or a write
+pub data IsPlainChange (w : World) (io : Channels) (three : Three) (job : ℕ) : World → Channels → Type 0 where
+  Nothing : IsPlainChange w io three job w io
+  SlotPut : (n : ℕ) (value : Descriptor) → n < SLOTS → IsKnown w io value →
+      IsPlainChange w io three job (put_slot w three.slots n value) io
+  UidPut : (uid : ℕ) → IsPlainChange w io three job (put_uid w three.cred uid) io
+  Mapped : (from to : ℕ) (present : Bool) → to ≤ w.size.pages →
+      IsPlainChange w io three job (mapped_or_not w three.memory from to present) io
+  Read : (v : World) (piece : Piece) (n : ℕ) (value : Descriptor) → length piece.bytes ≤ MOST_BYTES_OF_CALL →
+      store w three.memory job piece ≡ Done v → n < SLOTS → IsKnown w io value →
+      IsPlainChange w io three job (put_slot v three.slots n value) io
+  Written : (value : Descriptor) (bytes : List ℕ) → IsPlainChange w io three job w (written io value bytes)
+
+-- the same names live, sizes stay, and at most two tags have been taken
+pub record KeepsNumbers (w v : World) : Type 0 where
+  pub live : (c : Name) → is_live v c ≡ is_live w c
+  pub groups : (g : Name) → fm.contains_key v.groups g ≡ fm.contains_key w.groups g
+  pub size : v.size ≡ w.size
+  pub contexts_counted : (j : ℕ) → (v.next j).contexts ≡ (w.next j).contexts
+  pub groups_counted : (j : ℕ) → (v.next j).groups ≡ (w.next j).groups
+  pub tags_counted : (j : ℕ) → ((w.next j).tags ≤ (v.next j).tags) × ((v.next j).tags ≤ (w.next j).tags + 2)
+
+-- what runs keep: the world is sound, and has the contexts and files that its slots name
+pub record IsWell (w : World) (io : Channels) : Type 0 where
+  pub sound : IsSound w
+  pub named : HasItsContexts w
+  pub files : HasItsFiles io w
+
+-- an outcome that is a refusal has changed neither the world nor the channels
+abbrev pub ChangesIfDone : World → Channels → Outcome → Type 0
+ChangesIfDone w io outcome =
+    (refusal : Refusal) → outcome.answer ≡ Refused refusal → (outcome.world ≡ w) × (outcome.io ≡ io)
+
+-- a descriptor in the place of another one is of each context that that one was of
+abbrev pub LosesNone : Descriptor → Descriptor → Type 0
+LosesNone old new = (d : Name) → is_of d old ≡ true → is_of d new ≡ true
+
+-- what cuts no link: nothing, or a put under a slot that loses no context, perhaps after a store
+pub data CutsNone (w : World) (three : Three) (job : ℕ) : World → Type 0 where
+  Same : CutsNone w three job w
+  Put : (n : ℕ) (value : Descriptor) → LosesNone (slot_at w three.slots n) value →
+      CutsNone w three job (put_slot w three.slots n value)
+  StoredPut : (v : World) (piece : Piece) (n : ℕ) (value : Descriptor) →
+      store w three.memory job piece ≡ Done v → LosesNone (slot_at v three.slots n) value →
+      CutsNone w three job (put_slot v three.slots n value)
+
+-- the plain calls that cut no link: open, dup, read, and those that leave the world
+abbrev pub cuts_none : ℕ → Bool
+cuts_none call = call == 1 || call == 3 || call == 4
+
+-- the plain calls that leave the world: write, getuid and exit
+abbrev pub leaves_world : ℕ → Bool
+leaves_world call = call == 5 || call == 8 || call == 10

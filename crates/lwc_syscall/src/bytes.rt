@@ -1,0 +1,200 @@
+ghost use Rattle.std.specs.Prelude.{◌≡◌, ◌≢◌, ◌≤◌, ◌↔◌, ◌+◌, ◌<◌, ◌^◌, if◌then◌else◌, true, length, is_some, not, IfOk, IfSome, IsOk, OnErr, OnOk};
+ghost use Rattle.lwc_base.specs.Channels.{HasItsFiles, IsInRange};
+ghost use Rattle.lwc_base.specs.Store as stores;
+ghost use Rattle.lwc_base.specs.World.{is_live};
+ghost use Rattle.lwc_base.specs.declared.name.Name as names;
+ghost use Rattle.lwc_base.specs.declared.page.TheConstants.{PAGE_BYTES};
+ghost use Rattle.lwc_syscall.specs.Plain as spec;
+ghost use Rattle.world_face.specs.Calls.{IsLive, MayName};
+
+use crate::answer::CallAnswer;
+use crate::calls::Three;
+use crate::slots::filled_slot;
+use lwc_base::laws::changes_leave_the_rest;
+use lwc_base::{
+    Channels, Descriptor, MOST_BYTES_OF_CALL, MOST_CONSOLE_BYTES, MOST_REPLY_BYTES, Name,
+    OutOfMemory, Refusal, StoreFault,
+};
+use world_face::{World, bytes_for, is_within};
+
+/// Reads through the descriptor in slot `n`: at most `count` bytes go to the address `at`, for a job. The
+/// only error is out of memory, and then nothing has changed.
+#[tactic(auto, unfolding(crate::specs::Plain::reading))]
+pub fn read<W: World>(
+    world: &mut W,
+    io: &Channels,
+    three: &Three,
+    job: u32,
+    n: u64,
+    at: u64,
+    count: u64,
+) -> Result<CallAnswer, OutOfMemory>
+    requires memory { IsLive (W.seen world.old) three.now.memory }
+    requires slots { IsLive (W.seen world.old) three.now.slots }
+    requires may { MayName (W.seen world.old) job }
+    requires files { HasItsFiles io.now (W.seen world.old) }
+    ensures done { IfOk result (λ answer. spec.reading (W.seen world.old) io.now three.now job n at count
+        ≡ record { answer = answer; world = W.seen world.new; io = io.now }) }
+    ensures err { OnErr result (W.seen world.new ≡ W.seen world.old) }
+    ensures ample { W.roomy ≡ true → IsOk result }
+{
+    let Some((slot, value)) = filled_slot(world, three.slots, n) else {
+        return Ok(CallAnswer::Refused(Refusal::BadFd));
+    };
+    let Some(left) = left(io, value) else {
+        return Ok(CallAnswer::Refused(Refusal::WrongKind));
+    };
+    if count > MOST_BYTES_OF_CALL as u64 {
+        return Ok(CallAnswer::Refused(Refusal::TooLong));
+    }
+    let bytes = &left[..left.len().min(count as usize)];
+    match store_at(world, three.memory, at, bytes, job) {
+        Ok(()) => {}
+        Err(StoreFault::BadAddress) => return Ok(CallAnswer::Refused(Refusal::BadAddress)),
+        Err(StoreFault::NoFrame) => return Ok(CallAnswer::Refused(Refusal::NoFrame)),
+        Err(StoreFault::OutOfMemory) => return Err(OutOfMemory),
+    }
+    world.set_slot(three.slots, slot, read_on(value, bytes.len()));
+    Ok(CallAnswer::Value(bytes.len() as u64))
+}
+
+/// The bytes that are left to read through a descriptor; `None` if it cannot be read.
+fn left(io: &Channels, value: Descriptor) -> Option<&[u8]>
+    requires { IsInRange io.now value }
+    ensures some { is_some result ≡ is_some (spec.left io.now value) }
+    ensures bytes { IfSome result (λ bytes. spec.left io.now value ≡ Some bytes.now) }
+    ensures offset { IfSome result (λ bytes. spec.offset_of value + length bytes.now < 2 ^ 32) }
+{
+    match value {
+        Descriptor::Console => Some(&[]),
+        Descriptor::File { file, at } => {
+            let bytes = io.files()[file as usize].bytes.as_slice();
+            Some(&bytes[at as usize..])
+        }
+        Descriptor::Request { r, at } => {
+            let bytes = io.requests().get(r as usize).as_slice();
+            Some(&bytes[at as usize..])
+        }
+        _ => None,
+    }
+}
+
+/// A descriptor once more bytes have been read through it.
+fn read_on(value: Descriptor, count: usize) -> Descriptor
+    requires { spec.offset_of value + count < 2 ^ 32 }
+    ensures { result ≡ spec.read_on count value }
+{
+    match value {
+        Descriptor::File { file, at } => Descriptor::File {
+            file,
+            at: at + count as u32,
+        },
+        Descriptor::Request { r, at } => Descriptor::Request {
+            r,
+            at: at + count as u32,
+        },
+        other => other,
+    }
+}
+
+/// Stores bytes at a guest's address, for a job. No bytes need no address.
+///
+/// # Errors
+///
+/// `BadAddress` if one of them is past the last page or in an absent page; else `NoFrame` if too few frames
+/// are free; or `OutOfMemory`.
+#[tactic(auto, unfolding(crate::specs::Plain::store_at, lwc_base::specs::Store::store))]
+fn store_at<W: World>(
+    world: &mut W,
+    c: Name,
+    at: u64,
+    bytes: &[u8],
+    job: u32,
+) -> Result<(), StoreFault>
+    requires live { IsLive (W.seen world.old) c }
+    requires short { length bytes.now ≤ PAGE_BYTES }
+    requires may { MayName (W.seen world.old) job }
+    ensures done { OnOk result (spec.store_at (W.seen world.old) c job at bytes.now
+        ≡ stores.Done (W.seen world.new)) }
+    ensures bad_address { (result ≡ Err StoreFault.BadAddress) ↔
+        (spec.store_at (W.seen world.old) c job at bytes.now ≡ stores.Absent) }
+    ensures no_frame { (result ≡ Err StoreFault.NoFrame) ↔
+        (spec.store_at (W.seen world.old) c job at bytes.now ≡ stores.Full) }
+    ensures err { OnErr result (W.seen world.new ≡ W.seen world.old) }
+    ensures ample { W.roomy ≡ true → result ≢ Err StoreFault.OutOfMemory }
+    ensures live { OnOk result ((d : names.Name) →
+        is_live (W.seen world.new) d ≡ is_live (W.seen world.old) d) }
+{
+    changes_leave_the_rest();
+    if bytes.is_empty() {
+        return Ok(());
+    }
+    if !is_within(world.pages(), at, bytes.len()) {
+        return Err(StoreFault::BadAddress);
+    }
+    world.store(c, at as u32, bytes, job)
+}
+
+/// Writes `count` bytes from the address `at` through the descriptor in slot `n`.
+#[tactic(auto, unfolding(crate::specs::Plain::writing))]
+pub fn write<W: World>(
+    world: &W,
+    io: &mut Channels,
+    three: &Three,
+    n: u64,
+    at: u64,
+    count: u64,
+) -> CallAnswer
+    requires memory { IsLive (W.seen world.now) three.now.memory }
+    requires slots { IsLive (W.seen world.now) three.now.slots }
+    requires files { HasItsFiles io.old (W.seen world.now) }
+    ensures { spec.writing (W.seen world.now) io.old three.now n at count
+        ≡ record { answer = result; world = W.seen world.now; io = io.new } }
+{
+    let Some((_, value)) = filled_slot(world, three.slots, n) else {
+        return CallAnswer::Refused(Refusal::BadFd);
+    };
+    if !is_written(value) {
+        return CallAnswer::Refused(Refusal::WrongKind);
+    }
+    if count > MOST_BYTES_OF_CALL as u64 {
+        return CallAnswer::Refused(Refusal::TooLong);
+    }
+    let mut buffer = [0; MOST_BYTES_OF_CALL];
+    let bytes = &mut buffer[..count as usize];
+    if !bytes_for(world, three.memory, at, bytes) {
+        return CallAnswer::Refused(Refusal::BadAddress);
+    }
+    if !append(io, value, bytes) {
+        return CallAnswer::Refused(Refusal::ReplyFull);
+    }
+    CallAnswer::Value(count)
+}
+
+/// Whether a descriptor can be written.
+fn is_written(value: Descriptor) -> bool
+    ensures { result ≡ spec.is_written value }
+{
+    matches!(value, Descriptor::Console | Descriptor::Reply { .. })
+}
+
+/// Appends bytes where a descriptor writes. `false` says that the limit would be passed, and then nothing has
+/// changed.
+fn append(io: &mut Channels, value: Descriptor, bytes: &[u8]) -> bool
+    requires { IsInRange io.old value }
+    ensures room { result ≡ not (spec.passes_limit io.old value (length bytes.now)) }
+    ensures written { io.new ≡ (if result then spec.written io.old value bytes.now else io.old) }
+{
+    match value {
+        Descriptor::Console if io.console().len() + bytes.len() <= MOST_CONSOLE_BYTES => {
+            io.append_console(bytes);
+            true
+        }
+        Descriptor::Reply { r } if io.reply(r).len() + bytes.len() <= MOST_REPLY_BYTES => {
+            io.append_reply(r, bytes);
+            true
+        }
+        Descriptor::Console | Descriptor::Reply { .. } => false,
+        _ => true,
+    }
+}

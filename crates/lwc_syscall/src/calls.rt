@@ -1,0 +1,58 @@
+ghost use Rattle.std.specs.Prelude.{◌≡◌, true, IfOk, IsOk, OnErr};
+ghost use Rattle.lwc_base.specs.Channels.{HasItsFiles};
+ghost use Rattle.lwc_syscall.specs.Plain as spec;
+ghost use Rattle.world_face.specs.Calls.{IsLive, MayName};
+
+use crate::answer::CallAnswer;
+use crate::bytes::{read, write};
+use crate::pages::map;
+use crate::slots::{close, dup, open};
+use crate::uids::set_uid;
+use lwc_base::{Channels, Name, OutOfMemory, Refusal};
+use world_face::World;
+
+/// The contexts of a call: one for the memory, one for the slots, and one for the credential.
+#[derive(Clone, Copy, Debug, PartialEq, Eq)]
+pub struct Three {
+    pub memory: Name,
+    pub slots: Name,
+    pub cred: Name,
+}
+
+/// Makes the call of a number over three contexts, for a job, with its three arguments (`plain`). The only
+/// error is out of memory, and then nothing has changed.
+#[tactic(auto, unfolding(crate::specs::Plain::plain))]
+pub fn plain<W: World>(
+    world: &mut W,
+    io: &mut Channels,
+    three: &Three,
+    job: u32,
+    call: u32,
+    args: [u64; 3],
+) -> Result<CallAnswer, OutOfMemory>
+    requires memory { IsLive (W.seen world.old) three.now.memory }
+    requires slots { IsLive (W.seen world.old) three.now.slots }
+    requires cred { IsLive (W.seen world.old) three.now.cred }
+    requires may { MayName (W.seen world.old) job }
+    requires files { HasItsFiles io.old (W.seen world.old) }
+    ensures done { IfOk result (λ answer. spec.plain (W.seen world.old) io.old three.now job call args
+        ≡ record { answer = answer; world = W.seen world.new; io = io.new }) }
+    ensures err { OnErr result (W.seen world.new ≡ W.seen world.old) }
+    ensures err_io { OnErr result (io.new ≡ io.old) }
+    ensures ample { W.roomy ≡ true → IsOk result }
+{
+    let [first, second, third] = args;
+    match call {
+        1 => Ok(open(world, io.files(), three, first)),
+        2 => Ok(close(world, three.slots, first)),
+        3 => Ok(dup(world, three.slots, first)),
+        4 => read(world, io, three, job, first, second, third),
+        5 => Ok(write(world, io, three, first, second, third)),
+        6 => map(world, three.memory, first, second, true),
+        7 => map(world, three.memory, first, second, false),
+        8 => Ok(CallAnswer::Value(u64::from(world.uid(three.cred)))),
+        9 => Ok(set_uid(world, three.cred, first)),
+        10 => Ok(CallAnswer::Exit(first)),
+        _ => Ok(CallAnswer::Refused(Refusal::BadCall)),
+    }
+}

@@ -1,0 +1,95 @@
+//! Laws of the calls: functions with empty bodies, each with a contract that is the law.
+
+ghost use Rattle.std.specs.Prelude.{◌≡◌, ℕ, List, None, true};
+ghost use Rattle.lwc_base.specs.Channels.{Channels, HasItsFiles};
+ghost use Rattle.lwc_base.specs.Life.{HasItsContexts};
+ghost use Rattle.lwc_base.specs.Refusals.{first_refusal};
+ghost use Rattle.lwc_base.specs.World.{World, is_live};
+ghost use Rattle.lwc_syscall.specs.Changes.{ChangesIfDone, CutsNone, IsPlainChange, IsWell, KeepsNumbers, cuts_none, leaves_world};
+ghost use Rattle.lwc_base.specs.declared.name.Name.{Name};
+ghost use Rattle.lwc_base.specs.declared.regs.Regs.{Regs};
+ghost use Rattle.lwc_syscall.specs.Plain.{plain};
+ghost use Rattle.lwc_syscall.specs.Syscall.{IsAllowed, inner_call, lw_syscall, refusals, three_of};
+ghost use Rattle.lwc_syscall.specs.declared.calls.Three.{Three};
+
+use guest_call::laws::a_descriptor_in_a_slot_is_a_link;
+use lwc_base::laws::{
+    a_put_changes_one_key, changes_leave_the_rest, contexts_keep_the_contexts_that_they_name,
+    descriptors_stay_in_range, sound_worlds_stay_sound, the_lowest_empty_slot_is_empty,
+};
+
+/// A plain call does at most one thing: a put under a slot or of the credential, a mapping, a store and then
+/// a put, or a write. A descriptor that it puts is in range, and of a live context if it is of one.
+pub fn a_plain_call_does_one_thing()
+    ensures { (w : World) (io : Channels) (three : Three) (job call : ℕ) (args : List ℕ) → HasItsContexts w →
+        HasItsFiles io w → is_live w three.slots ≡ true → IsPlainChange w io three job
+        (plain w io three job call args).world (plain w io three job call args).io }
+{
+    contexts_keep_the_contexts_that_they_name();
+    descriptors_stay_in_range();
+    the_lowest_empty_slot_is_empty();
+}
+
+/// What a plain call does over live contexts keeps the world sound, with the contexts and files that its
+/// slots name. It makes and drops no context and no group, and takes at most two tags.
+pub fn a_plain_call_keeps_the_world_well()
+    ensures well { (w : World) (io : Channels) (three : Three) (job : ℕ) (v : World) (after : Channels) →
+        IsPlainChange w io three job v after → is_live w three.memory ≡ true → IsWell w io → IsWell v after }
+    ensures numbers { (w : World) (io : Channels) (three : Three) (job : ℕ) (v : World) (after : Channels) →
+        IsPlainChange w io three job v after → KeepsNumbers w v }
+    ensures inputs { (w : World) (io : Channels) (three : Three) (job : ℕ) (v : World) (after : Channels) →
+        IsPlainChange w io three job v after → (after.files ≡ io.files) × (after.requests ≡ io.requests) }
+{
+    changes_leave_the_rest();
+    contexts_keep_the_contexts_that_they_name();
+    descriptors_stay_in_range();
+    sound_worlds_stay_sound();
+}
+
+/// A call over the contexts that a mask chooses that is not refused before the inner one takes from live
+/// contexts, and the capability in the slot has every key of each chosen kind.
+pub fn an_allowed_syscall_takes_what_is_covered()
+    ensures { (w : World) (c : Name) (regs : Regs) → HasItsContexts w → is_live w c ≡ true →
+        first_refusal (refusals w c regs) ≡ None → IsAllowed w c regs }
+{
+    a_descriptor_in_a_slot_is_a_link();
+}
+
+/// A call over the contexts that a mask chooses keeps the world well, as plain calls do.
+pub fn a_syscall_keeps_the_world_well()
+    ensures well { (w : World) (io : Channels) (c : Name) (job : ℕ) (regs : Regs) → is_live w c ≡ true →
+        IsWell w io → IsWell (lw_syscall w io c job regs).world (lw_syscall w io c job regs).io }
+    ensures numbers { (w : World) (io : Channels) (c : Name) (job : ℕ) (regs : Regs) → is_live w c ≡ true →
+        IsWell w io → KeepsNumbers w (lw_syscall w io c job regs).world }
+    ensures inputs { (w : World) (io : Channels) (c : Name) (job : ℕ) (regs : Regs) → is_live w c ≡ true →
+        IsWell w io → ((lw_syscall w io c job regs).io.files ≡ io.files)
+        × ((lw_syscall w io c job regs).io.requests ≡ io.requests) }
+{
+    a_descriptor_in_a_slot_is_a_link();
+    a_plain_call_does_one_thing();
+    a_plain_call_keeps_the_world_well();
+}
+
+/// A call that is refused changes nothing.
+pub fn a_refused_call_changes_nothing()
+    ensures plain { (w : World) (io : Channels) (three : Three) (job call : ℕ) (args : List ℕ) →
+        ChangesIfDone w io (plain w io three job call args) }
+    ensures syscall { (w : World) (io : Channels) (c : Name) (job : ℕ) (regs : Regs) →
+        ChangesIfDone w io (lw_syscall w io c job regs) }
+{}
+
+/// What an open, a dup and a read change loses no descriptor of a context, and a write, a getuid and an exit leave
+/// the world: no link is cut. So it is where they are made over chosen contexts.
+pub fn some_plain_calls_cut_no_link()
+    ensures none { (w : World) (io : Channels) (three : Three) (job call : ℕ) (args : List ℕ) →
+        cuts_none call ≡ true → CutsNone w three job (plain w io three job call args).world }
+    ensures same { (w : World) (io : Channels) (three : Three) (job call : ℕ) (args : List ℕ) →
+        leaves_world call ≡ true → (plain w io three job call args).world ≡ w }
+    ensures chosen_none { (w : World) (io : Channels) (c : Name) (job : ℕ) (regs : Regs) →
+        cuts_none (inner_call regs) ≡ true → CutsNone w (three_of w c regs) job (lw_syscall w io c job regs).world }
+    ensures chosen_same { (w : World) (io : Channels) (c : Name) (job : ℕ) (regs : Regs) →
+        leaves_world (inner_call regs) ≡ true → (lw_syscall w io c job regs).world ≡ w }
+{
+    a_put_changes_one_key();
+    the_lowest_empty_slot_is_empty();
+}

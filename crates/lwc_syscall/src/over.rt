@@ -1,0 +1,75 @@
+ghost use Rattle.std.specs.Prelude.{◌≡◌, ◌≤◌, None, Some, true, IfErr, IfOk, IsOk, OnErr, slice_index};
+ghost use Rattle.lwc_base.specs.Channels.{HasItsFiles};
+ghost use Rattle.lwc_base.specs.Life.{HasItsContexts};
+ghost use Rattle.lwc_base.specs.Refusals.{first_refusal};
+ghost use Rattle.lwc_syscall.specs.Syscall as spec;
+ghost use Rattle.world_face.specs.Calls.{IsLive, MayName};
+
+use crate::answer::CallAnswer;
+use crate::calls::{Three, plain};
+use access_cap::{Mask, covers_kinds};
+use guest_call::context_for;
+use lwc_base::{Channels, Kind, Name, OutOfMemory, Refusal, Regs};
+use world_face::World;
+
+/// Makes a plain call for context `c` and a job, over the contexts that the mask in r2 chooses: what it
+/// chooses is taken from the context that the slot in r1 names, and the rest from `c` (`lw_syscall`). The
+/// only error is out of memory, and then nothing has changed.
+#[tactic(auto, unfolding(crate::specs::Syscall::lw_syscall))]
+pub fn lw_syscall<W: World>(
+    world: &mut W,
+    io: &mut Channels,
+    c: Name,
+    job: u32,
+    regs: &Regs,
+) -> Result<CallAnswer, OutOfMemory>
+    requires live { IsLive (W.seen world.old) c }
+    requires named { HasItsContexts (W.seen world.old) }
+    requires may { MayName (W.seen world.old) job }
+    requires files { HasItsFiles io.old (W.seen world.old) }
+    ensures done { IfOk result (λ answer. spec.lw_syscall (W.seen world.old) io.old c job regs.now
+        ≡ record { answer = answer; world = W.seen world.new; io = io.new }) }
+    ensures err { OnErr result (W.seen world.new ≡ W.seen world.old) }
+    ensures err_io { OnErr result (io.new ≡ io.old) }
+    ensures ample { W.roomy ≡ true → IsOk result }
+{
+    let three = match chosen(world, c, regs) {
+        Ok(three) => three,
+        Err(refusal) => return Ok(CallAnswer::Refused(refusal)),
+    };
+    let args = [regs.r[4], regs.r[5], regs.r[6]];
+    plain(world, io, &three, job, regs.r[3] as u32, args)
+}
+
+/// The contexts of the inner call, or the first refusal before it is looked at.
+#[tactic(auto, unfolding(crate::specs::Syscall::refusals))]
+fn chosen<W: World>(world: &W, c: Name, regs: &Regs) -> Result<Three, Refusal>
+    requires live { IsLive (W.seen world.now) c }
+    requires named { HasItsContexts (W.seen world.now) }
+    ensures refused { IfErr result (λ refusal.
+        first_refusal (spec.refusals (W.seen world.now) c regs.now) ≡ Some refusal) }
+    ensures passed { IfOk result (λ three.
+        first_refusal (spec.refusals (W.seen world.now) c regs.now) ≡ None) }
+    ensures three { IfOk result (λ three. three ≡ spec.three_of (W.seen world.now) c regs.now) }
+    ensures call { IfOk result (λ three. spec.inner_call regs.now ≤ 9) }
+    ensures memory { IfOk result (λ three. IsLive (W.seen world.now) three.memory) }
+    ensures slots { IfOk result (λ three. IsLive (W.seen world.now) three.slots) }
+    ensures cred { IfOk result (λ three. IsLive (W.seen world.now) three.cred) }
+{
+    let (d, cap) = context_for(world, c, regs.r[1])?;
+    let Some(mask) = Mask::of(regs.r[2]) else {
+        return Err(Refusal::BadMode);
+    };
+    if !covers_kinds(&cap, mask, world.pages()) {
+        return Err(Refusal::NotCovered);
+    }
+    if regs.r[3] < 1 || regs.r[3] > 9 {
+        return Err(Refusal::BadCall);
+    }
+    let taken = |kind| if mask.chooses(kind) { d } else { c };
+    Ok(Three {
+        memory: taken(Kind::Page),
+        slots: taken(Kind::Slot),
+        cred: taken(Kind::Cred),
+    })
+}

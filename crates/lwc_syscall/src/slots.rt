@@ -1,0 +1,90 @@
+ghost use Rattle.std.specs.Prelude.{◌≡◌, ◌<◌, ◌≤◌, IfSome, is_none, length};
+ghost use Rattle.guest_call.specs.Guest.{descriptor_for};
+ghost use Rattle.lwc_base.specs.Channels.{Channels, HasItsFiles, IsInRange};
+ghost use Rattle.lwc_base.specs.Summaries.{is_empty};
+ghost use Rattle.lwc_base.specs.declared.descriptor.TheConstants.{SLOTS};
+ghost use Rattle.lwc_base.specs.declared.limits.TheConstants.{MOST_FILES};
+ghost use Rattle.lwc_syscall.specs.Plain as spec;
+ghost use Rattle.world_face.specs.Calls.{IsLive};
+
+use crate::answer::CallAnswer;
+use crate::calls::Three;
+use guest_call::descriptor_for;
+use lwc_base::laws::{descriptors_stay_in_range, the_lowest_empty_slot_is_empty};
+use lwc_base::{Descriptor, FileImage, Name, Refusal, may_open};
+use world_face::World;
+
+/// Opens a file: the lowest empty slot gets a descriptor of it.
+pub fn open<W: World>(world: &mut W, files: &[FileImage], three: &Three, file: u64) -> CallAnswer
+    requires slots { IsLive (W.seen world.old) three.now.slots }
+    requires cred { IsLive (W.seen world.old) three.now.cred }
+    requires few { length files.now ≤ MOST_FILES }
+    ensures { (io : Channels) → io.files ≡ files.now → spec.opening (W.seen world.old) io three.now file
+        ≡ record { answer = result; world = W.seen world.new; io = io } }
+{
+    if file >= files.len() as u64 {
+        return CallAnswer::Refused(Refusal::NoFile);
+    }
+    if !may_open(world.uid(three.cred), &files[file as usize]) {
+        return CallAnswer::Refused(Refusal::NotPermitted);
+    }
+    let file = file as u8;
+    place(world, three.slots, Descriptor::File { file, at: 0 })
+}
+
+/// Empties a slot.
+pub fn close<W: World>(world: &mut W, slots: Name, n: u64) -> CallAnswer
+    requires { IsLive (W.seen world.old) slots }
+    ensures { (io : Channels) → spec.closing (W.seen world.old) io slots n
+        ≡ record { answer = result; world = W.seen world.new; io = io } }
+{
+    let Some((slot, _)) = filled_slot(world, slots, n) else {
+        return CallAnswer::Refused(Refusal::BadFd);
+    };
+    world.set_slot(slots, slot, Descriptor::Empty);
+    CallAnswer::Value(0)
+}
+
+/// Copies what is in a slot into the lowest empty one.
+pub fn dup<W: World>(world: &mut W, slots: Name, n: u64) -> CallAnswer
+    requires { IsLive (W.seen world.old) slots }
+    ensures { (io : Channels) → spec.copying (W.seen world.old) io slots n
+        ≡ record { answer = result; world = W.seen world.new; io = io } }
+{
+    let Some((_, value)) = filled_slot(world, slots, n) else {
+        return CallAnswer::Refused(Refusal::BadFd);
+    };
+    place(world, slots, value)
+}
+
+/// The slot of a number and the descriptor in it; `None` if no slot has the number or the slot is empty.
+#[tactic(auto, unfolding(guest_call::specs::Guest::descriptor_for))]
+pub(crate) fn filled_slot<W: World>(world: &W, slots: Name, n: u64) -> Option<(u8, Descriptor)>
+    requires { IsLive (W.seen world.now) slots }
+    ensures empty { is_none result ≡ is_empty (descriptor_for (W.seen world.now) slots n) }
+    ensures slot { IfSome result (λ found. (found.0 ≡ n) × (n < SLOTS)) }
+    ensures value { IfSome result (λ found. found.1 ≡ descriptor_for (W.seen world.now) slots n) }
+    ensures range { IfSome result (λ found. (io : Channels) → HasItsFiles io (W.seen world.now) →
+        IsInRange io found.1) }
+{
+    descriptors_stay_in_range();
+    match descriptor_for(world, slots, n) {
+        Descriptor::Empty => None,
+        value => Some((n as u8, value)),
+    }
+}
+
+/// Puts a descriptor into the lowest empty slot.
+fn place<W: World>(world: &mut W, slots: Name, value: Descriptor) -> CallAnswer
+    requires { IsLive (W.seen world.old) slots }
+    ensures { (io : Channels) → spec.ended (W.seen world.old) io
+        (spec.place_refusals (W.seen world.old) slots) (spec.placed (W.seen world.old) io slots value)
+        ≡ record { answer = result; world = W.seen world.new; io = io } }
+{
+    the_lowest_empty_slot_is_empty();
+    let Some(n) = world.lowest_empty(slots) else {
+        return CallAnswer::Refused(Refusal::NoSlot);
+    };
+    world.set_slot(slots, n, value);
+    CallAnswer::Value(u64::from(n))
+}
