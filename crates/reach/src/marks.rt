@@ -1,4 +1,4 @@
-ghost use Rattle.std.specs.Prelude.{◌≡◌, ◌<◌, ◌↔◌, ℕ, All, false, replicate, true};
+ghost use Rattle.std.specs.Prelude.{◌≡◌, ◌<◌, ◌↔◌, ℕ, All, false, length, replicate, true};
 ghost use Rattle.lwc_base.specs.declared.limits.TheConstants.{MOST_CONTEXTS};
 ghost use Rattle.reach.specs.Reach as spec;
 ghost use Rattle.reach.specs.Reach.{Reaches};
@@ -30,6 +30,14 @@ impl Marks {
         Marks {
             marks: [false; 529],
         }
+    }
+
+    /// All marks, in the order of places.
+    pub fn as_slice(&self) -> &[bool]
+        ensures same { result.now ≡ self.now }
+        ensures all { length result.now ≡ MOST_CONTEXTS }
+    {
+        &self.marks
     }
 
     /// Whether a place is marked.

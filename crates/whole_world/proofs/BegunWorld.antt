@@ -1,7 +1,16 @@
 -- What a world has in which a context has been made and its first pages mapped.
-use Rattle.std.proofs.Common.{◌≡◌, Bool, true, false, length, ℕ, ◌+◌, ◌≤◌, refl, sym, ap, subst, ◌∙◌}
+use Rattle.std.proofs.Common.{◌≡◌, Bool, true, false, length, List, [], ◌∷◌, ◌||◌, ℕ, ◌+◌, ◌≤◌, refl, sym, ap, subst, ◌∙◌}
 use Rattle.std.specs.Prelude.{if◌then◌else◌, not, nat_lt, IsTrue}
+use Rattle.std.specs.Cmp.{eq_by_cmp_equiv}
+use Rattle.std.proofs.lemmas.Bool.{false≢true}
+use Rattle.lwc_base.specs.declared.descriptor.Descriptor.{Descriptor}
+use Rattle.lwc_base.specs.declared.item.Item.{Item}
+use Rattle.lwc_base.specs.declared.key.Key.TheVariants.{Slot}
 use Rattle.lwc_base.specs.declared.name.Name.{Name}
+use Rattle.lwc_base.specs.declared.regs.Regs.{Regs}
+use Rattle.lwc_base.specs.Cells.{put_slot}
+use Rattle.lwc_base.specs.Life.{Reaches, Root}
+use Rattle.lwc_base.specs.Sharing.{clone_context, share}
 use Rattle.lwc_base.specs.declared.size.WorldSize.{WorldSize}
 use Rattle.std.specs.FinMap as fm
 use Rattle.lwc_base.specs.Mapping.{map_pages}
@@ -76,6 +85,29 @@ module _ (facts : Facts) (size : WorldSize) (opened made mapped : World) (c : Na
   no_group-begun =
       (facts.counts.same_groups made mapped 0 kept.groups).1 ∙ ap (fm.len {R = name_cmp}) added.groups
       ∙ ap (λ (w : World). fm.len w.groups) is_opened ∙ no_group-empty size
+
+-- a context stays live when a copy of it is made
+pub live-copied : (facts : Facts) (w v : World) (c : Name) (job : ℕ) (items : List Item) (entry : Regs) → IsFresh w → is_live w c ≡ true →
+    v ≡ clone_context w c job items entry → is_live v c ≡ true
+live-copied facts w v c job items entry fresh live is =
+    let still = (facts.changes.shared w c job items).live c ∙ live in
+    let new = facts.fresh.next_context_is_new (share w c job items) job (facts.fresh.shared w c job items live fresh) in
+    ap (λ u. is_live u c) is
+    ∙ (facts.changes.cloned w c job items entry).still_live c (λ same. false≢true (sym new ∙ ap (is_live (share w c job items)) (sym same) ∙ still)) ∙ still
+
+-- and when a slot gets another descriptor
+pub live-put : (facts : Facts) (w v : World) (c d : Name) (n : ℕ) (value : Descriptor) → is_live w c ≡ true → v ≡ put_slot w d n value → is_live v c ≡ true
+live-put facts w v c d n value live is = ap (λ u. is_live u c) is ∙ (facts.changes.put w d (Slot n) value).live c ∙ live
+
+-- and when the copy's slot gets one, and then its own
+pub live-linked : (facts : Facts) (w copied linked both : World) (c made : Name) (job n m : ℕ) (items : List Item) (entry : Regs) (a b : Descriptor) → IsFresh w →
+    is_live w c ≡ true → copied ≡ clone_context w c job items entry → linked ≡ put_slot copied made n a → both ≡ put_slot linked c m b → is_live both c ≡ true
+live-linked facts w copied linked both c made job n m items entry a b fresh live is_copied is_linked is_both =
+    live-put facts linked both c c m b (live-put facts copied linked c made n a (live-copied facts w copied c job items entry fresh live is_copied) is_linked) is_both
+
+-- a root is reached from itself
+pub reached-root : (facts : Facts) (w : World) (c : Name) → Reaches w (c ∷ []) c
+reached-root facts w c = Root c (ap (λ b. b || false) ((eq_by_cmp_equiv facts.orders.names).refl c))
 
 done_of : (present full : Bool) (w v : World) → (if not present then Absent else (if full then Full else Done w)) ≡ Done v → v ≡ w
 done_of true true w v is = cc

@@ -1,10 +1,12 @@
 -- The cells of a new context, from the world as it is before what is under share has moved.
-use Rattle.std.proofs.Common.{◌≡◌, ℕ, ◌≤◌, refl, sym, ap, subst, ◌∙◌, true, List}
+use Rattle.std.proofs.Common.{◌≡◌, ◌≢◌, ℕ, ◌≤◌, refl, sym, ap, subst, ◌∙◌, true, List, Option, None, Some}
+use Rattle.std.specs.Prelude.{unwrap_or}
 use Rattle.std.specs.FinMap as fm
 use Rattle.lwc_base.specs.declared.cell.Cell.{Cell}
 use Rattle.lwc_base.specs.declared.cell.Cell.TheVariants.{Own}
 use Rattle.lwc_base.specs.declared.descriptor.TheConstants.{SLOTS}
 use Rattle.lwc_base.specs.declared.item.Item.{Item}
+use Rattle.lwc_base.specs.declared.item.Mode.{Mode}
 use Rattle.lwc_base.specs.declared.item.Mode.TheVariants.{Copy, Share, Unmap}
 use Rattle.lwc_base.specs.declared.key.Key.{Key}
 use Rattle.lwc_base.specs.declared.key.Key.TheVariants.{Page, Slot, Cred}
@@ -16,47 +18,60 @@ use Rattle.lwc_base.specs.Cells.{value_at, value_of, with_cell}
 use Rattle.lwc_base.specs.Fresh.{IsFresh, named_groups}
 use Rattle.lwc_base.specs.Holders.{InContext}
 use Rattle.lwc_base.specs.Keys.{ValueOf, nothing}
-use Rattle.lwc_base.specs.Modes.{IsSpec, kind_of, limit, mode_or_copy, number_of}
+use Rattle.lwc_base.specs.Modes.{IsSpec, kind_of, limit, mode, mode_or_copy, number_of}
 use Rattle.lwc_base.specs.Sharing.{shared_cell, cloned_context, clone_context, cloned_cell, with_shared, share}
 use Rattle.lwc_base.specs.World.{World, Context, add_context, context, is_live, new_context, next_context, next_group}
 use Rattle.whole_world.specs.Facts.{Facts}
 use Rattle.whole_world.specs.Sharing.{clone_cells, is_below, with_cells}
 use Rattle.whole_world.proofs.Moves.{with_cells-all, with_cells-next, with_cells-none}
 use Rattle.whole_world.proofs.SharedCells.{context-shared}
-use Rattle.whole_world.proofs.Unnamed.{copied_past}
+use Rattle.whole_world.proofs.Unnamed.{unnamed_past}
 
-module _ (facts : Facts) (w : World) (c : Name) (job : ℕ) (items : List Item) (fresh : IsFresh w) (live : is_live w c ≡ true) (spec : IsSpec w.size.pages items) where
+module _ (facts : Facts) (w : World) (c : Name) (job : ℕ) (items : List Item) (fresh : IsFresh w) (live : is_live w c ≡ true) (spec : IsSpec w.size.pages items)
+    (rest : Mode) (not_shared : rest ≢ Share) where
   abbrev shared : World
   shared = share w c job items
 
   -- the cells of the new context
   abbrev cells : (k : Key) → Cell (ValueOf k)
-  cells = clone_cells w c job items
+  cells = clone_cells w c job items rest
+
+  abbrev mode_of : Key → Mode
+  mode_of k = unwrap_or (mode items k) rest
 
   abbrev new : Name
   new = next_group w job
 
-  pub key_copied : (k : Key) → mode_or_copy items k ≡ Copy → Own (value_at w c k) ≡ cloned_cell shared c k (mode_or_copy items k)
+  pub key_copied : (k : Key) → mode_of k ≡ Copy → Own (value_at w c k) ≡ cells k
   key_copied k is = sym (ap (cloned_cell shared c k) is ∙ ap Own (facts.same_values w c job items fresh c k))
 
-  pub key_shared : (k : Key) → mode_or_copy items k ≡ Share → shared_cell new Share k ((context w c).cell k) ≡ cloned_cell shared c k (mode_or_copy items k)
-  unfolding with_shared
+  -- a key under share is one in a clone too
+  share_mode : (o : Option Mode) → unwrap_or o rest ≡ Share → unwrap_or o Copy ≡ Share
+  share_mode None is = absurd (not_shared is)
+  share_mode (Some m) is = is
+
+  pub key_shared : (k : Key) → mode_of k ≡ Share → shared_cell new Share k ((context w c).cell k) ≡ cells k
+  unfolding with_shared mode_or_copy
   key_shared k is =
       sym (ap (cloned_cell shared c k) is ∙ ap (λ (x : Context). x.cell k) (context-shared facts w c job items live spec)
-      ∙ ap (λ m. shared_cell new m k ((context w c).cell k)) is)
+      ∙ ap (λ m. shared_cell new m k ((context w c).cell k)) (share_mode (mode items k) is))
 
-  pub key_unmapped : (k : Key) → mode_or_copy items k ≡ Unmap → Own (nothing k) ≡ cloned_cell shared c k (mode_or_copy items k)
+  pub key_unmapped : (k : Key) → mode_of k ≡ Unmap → Own (nothing k) ≡ cells k
   key_unmapped k is = sym (ap (cloned_cell shared c k) is)
 
   module _ (past_keys : (k : Key) → limit w.size.pages (kind_of k) ≤ number_of k → (context w c).cell k ≡ Own (nothing k)) where
-    key_past : (k : Key) → limit w.size.pages (kind_of k) ≤ number_of k → cloned_cell shared c k (mode_or_copy items k) ≡ Own (nothing k)
+    rest_past : (k : Key) → limit w.size.pages (kind_of k) ≤ number_of k → (m : Mode) → m ≢ Share → cloned_cell shared c k m ≡ Own (nothing k)
     unfolding value_at
-    key_past k past = sym (key_copied k (copied_past w.size.pages k items spec past)) ∙ ap (λ cell. Own (value_of w k cell)) (past_keys k past)
+    rest_past k past Copy other = ap Own (facts.same_values w c job items fresh c k) ∙ ap (λ cell. Own (value_of w k cell)) (past_keys k past)
+    rest_past k past Share other = absurd (other refl)
+    rest_past k past Unmap other = refl
+
+    key_past : (k : Key) → limit w.size.pages (kind_of k) ≤ number_of k → cells k ≡ Own (nothing k)
+    key_past k past = ap (λ o. cloned_cell shared c k (unwrap_or o rest)) (unnamed_past w.size.pages k items spec past) ∙ rest_past k past rest not_shared
 
     -- the row that has these cells is the new context
     pub context-made : (x y z : Context) (entry : Regs) → x ≡ new_context NOBODY entry → y ≡ with_cells (is_below kind.Page w.size.pages) cells x →
-        z ≡ with_cells (is_below kind.Slot SLOTS) cells y → (v : Context) → v ≡ with_cell Cred (cells Cred) z → v ≡ cloned_context shared c items entry
-    unfolding cloned_context
+        z ≡ with_cells (is_below kind.Slot SLOTS) cells y → (v : Context) → v ≡ with_cell Cred (cells Cred) z → v ≡ record (new_context NOBODY entry) { cell = cells }
     context-made x y z entry begun pages slots v cred =
         let before : Context = with_cells (is_below kind.Slot SLOTS) cells (with_cells (is_below kind.Page w.size.pages) cells x) in
         let is : z ≡ before = slots ∙ ap (with_cells (is_below kind.Slot SLOTS) cells) pages in
@@ -68,6 +83,12 @@ module _ (facts : Facts) (w : World) (c : Name) (job : ℕ) (items : List Item) 
         fresh_cell (Page p) = refl
         fresh_cell (Slot n) = refl
         fresh_cell Cred = refl
+
+-- where keys that no item names are copied, it is a clone
+pub context-copied : (w : World) (c : Name) (job : ℕ) (items : List Item) (entry : Regs) (x : Context) →
+    x ≡ record (new_context NOBODY entry) { cell = clone_cells w c job items Copy } → x ≡ cloned_context (share w c job items) c items entry
+unfolding cloned_context mode_or_copy
+context-copied w c job items entry x is = is
 
 -- the world once the new context is added to the one in which what is under share has moved
 module _ (facts : Facts) (w shared : World) (c : Name) (job : ℕ) (items : List Item) (is_shared : shared ≡ share w c job items) where

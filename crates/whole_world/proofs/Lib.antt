@@ -5,10 +5,14 @@ pub mod Counted
 pub mod Gathered
 pub mod Keyed
 pub mod Opening
+pub mod Overlaid
 pub mod PartingTags
 pub mod Places
+pub mod Reached
 pub mod RowCounts
 pub mod Rows
+pub mod Keeping
+pub mod Marking
 pub mod Moves
 pub mod SeenTags
 pub mod ShareSteps
@@ -17,5 +21,6 @@ pub mod Runs
 pub mod Stores
 pub mod Tables
 pub mod TagLists
+pub mod Taking
 pub mod Unnamed
 pub mod Worlds

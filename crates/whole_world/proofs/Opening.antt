@@ -37,7 +37,8 @@ sound_there : (facts : Facts) (size : WorldSize) (counts : List Counts) → IsSi
 sound_there facts size counts is_size many nothing = record {
   some_job = is_size.jobs.0;
   few_pages = is_size.pages.1;
-  few_rows = omega (arith, is_size.contexts.1, is_size.groups.1);
+  size_contexts = is_size.contexts.1;
+  size_groups = is_size.groups.1;
   few_contexts = omega arith;
   few_groups = omega arith;
   counted = many;

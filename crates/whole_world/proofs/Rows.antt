@@ -1,5 +1,6 @@
 -- What a change of a row makes of the context, or of the group, that it stands for.
-use Rattle.std.proofs.Common.{◌≡◌, ℕ, ◌+◌, ◌<◌, ◌≤◌, ◌&&◌, leb, ltb, arith, get_or, refl, ap, ◌∙◌, eqb, cond, None, Option, vec_len}
+use Rattle.std.proofs.Common.{◌≡◌, ℕ, ◌+◌, ◌<◌, ◌≤◌, ◌&&◌, leb, ltb, arith, get_or, refl, ap, ◌∙◌, eqb, cond, None, Some, Option, length, vec_len}
+use Rattle.std.proofs.Math.ListN.{set}
 use Rattle.std.specs.Prelude.{replicate}
 use Rattle.std.specs.Vec.{with_item}
 use Rattle.std.proofs.lemmas.Bool.Decides.{nat_tests}
@@ -13,10 +14,12 @@ use Rattle.lwc_base.specs.declared.key.Key.{Key}
 use Rattle.lwc_base.specs.declared.key.Key.TheVariants.{Page, Slot, Cred}
 use Rattle.lwc_base.specs.declared.key.TheConstants.{NOBODY}
 use Rattle.lwc_base.specs.declared.page.PageValue.{PageValue}
+use Rattle.lwc_base.specs.declared.regs.Regs.{Regs}
 use Rattle.lwc_base.specs.Cells.{with_cell, with_value}
 use Rattle.lwc_base.specs.Keys.{nothing, with_key}
 use Rattle.lwc_base.specs.Mapping.{on_pages}
 use Rattle.lwc_base.specs.Modes.{kind_of, limit, number_of}
+use Rattle.lwc_base.specs.Saved.{with_saved}
 use Rattle.lwc_base.specs.World.{Context, new_context, new_group, new_value}
 use Rattle.whole_world.specs.declared.context_row.ContextRow.{ContextRow}
 use Rattle.whole_world.specs.declared.group_row.GroupRow.{GroupRow}
@@ -36,7 +39,7 @@ module _ (row : ContextRow) where
         | Slot n ↦ refl
         | Cred ↦ refl
       ] in
-      λ i. record { cell = λ k. at k i; entry = row.entry; saved = λ t. None }
+      λ i. record (context_of row) { cell = λ k. at k i }
 
   -- of a slot
   pub context-slot : (n : ℕ) (cell : Cell Descriptor) → n < vec_len row.slots →
@@ -49,7 +52,7 @@ module _ (row : ContextRow) where
         | Slot m ↦ place_after_set row.slots.items n cell m (Own Empty) (omega (arith, row.slots.ok.0))
         | Cred ↦ refl
       ] in
-      λ i. record { cell = λ k. at k i; entry = row.entry; saved = λ t. None }
+      λ i. record (context_of row) { cell = λ k. at k i }
 
   -- of the credential
   pub context-cred : (cell : Cell ℕ) → context_of (record row { uid = cell }) ≡ with_cell Cred cell (context_of row)
@@ -57,20 +60,29 @@ module _ (row : ContextRow) where
   context-cred cell =
       let at : (k : Key) → cell_of (record row { uid = cell }) k ≡ with_key Cell Cred cell (cell_of row) k =
       λ k. elim k as (λ k. cell_of (record row { uid = cell }) k ≡ with_key Cell Cred cell (cell_of row) k) [ Page p ↦ refl | Slot n ↦ refl | Cred ↦ refl ] in
-      λ i. record { cell = λ k. at k i; entry = row.entry; saved = λ t. None }
+      λ i. record (context_of row) { cell = λ k. at k i }
+
+  -- other registers that are kept for a thread
+  pub context-saved : (t : ℕ) (regs : Regs) → t < length row.saved → context_of (record row { saved = set row.saved t (Some regs) }) ≡ with_saved t regs (context_of row)
+  unfolding context_of cell_of
+  context-saved t regs within =
+      let at : (k : Key) → cell_of (record row { saved = set row.saved t (Some regs) }) k ≡ cell_of row k =
+      λ k. elim k as (λ k. cell_of (record row { saved = set row.saved t (Some regs) }) k ≡ cell_of row k) [ Page p ↦ refl | Slot n ↦ refl | Cred ↦ refl ] in
+      λ i. record (context_of row) { cell = λ k. at k i; saved = λ s. place_after_set row.saved t (Some regs) s None within i }
 
   -- a context as it is made
-  pub context-new : (count slots uid : ℕ) → row.pages.items ≡ replicate count (Own None) → row.slots.items ≡ replicate slots (Own Empty) →
-      row.uid ≡ Own uid → context_of row ≡ new_context uid row.entry
+  pub context-new : (count slots threads uid : ℕ) → row.pages.items ≡ replicate count (Own None) → row.slots.items ≡ replicate slots (Own Empty) →
+      row.saved ≡ replicate threads None → row.uid ≡ Own uid → context_of row ≡ new_context uid row.entry
   unfolding context_of cell_of
-  context-new count slots uid absent empty is =
+  context-new count slots threads uid absent empty unsaved is =
       let at : (k : Key) → cell_of row k ≡ Own (new_value uid k) =
       λ k. elim k as (λ k. cell_of row k ≡ Own (new_value uid k)) [
         | Page p ↦ ap (λ l. get_or l p (Own None)) absent ∙ place_of_replicate count (Own None) p
         | Slot n ↦ ap (λ l. get_or l n (Own Empty)) empty ∙ place_of_replicate slots (Own Empty) n
         | Cred ↦ is
       ] in
-      λ i. record (context_of row) { cell = λ k. at k i }
+      let none : (t : ℕ) → get_or row.saved t None ≡ None = λ t. ap (λ l. get_or l t None) unsaved ∙ place_of_replicate threads None t in
+      λ i. record (context_of row) { cell = λ k. at k i; saved = λ t. none t i }
 
   -- nothing is past the keys of a row
   pub cell-past : (count : ℕ) (k : Key) → IsWhole count row → limit count (kind_of k) ≤ number_of k → (context_of row).cell k ≡ Own (nothing k)

@@ -34,7 +34,7 @@ use Rattle.whole_world.proofs.SharedCells.{context-shared}
 
 module _ (facts : Facts) where
   -- what a page with this cell is to its context, seen from a new group
-  abbrev seen_from : Name → Cell (Option PageValue) → Holder
+  abbrev pub seen_from : Name → Cell (Option PageValue) → Holder
   seen_from g (cell.Own None) = Nobody
   seen_from g (cell.Own (Some value)) = Own
   seen_from g (cell.Common h) = cond (is_eq (name_cmp h g)) NewGroup (Group h)
@@ -95,11 +95,11 @@ module _ (facts : Facts) where
     begins-each zero = sym (begins-first g (x.cell (Page 0))) ∙ ap (begins_after Nobody) (each 0)
     begins-each (suc p) = sym (begins-cells g (x.cell (Page p)) (x.cell (Page (suc p)))) ∙ (λ i. begins_after (each p i) (each (suc p) i))
 
-    ranges-holders : (pages : ℕ) → ranges pages x ≡ count_of_ranges pages holders
+    pub ranges-holders : (pages : ℕ) → ranges pages x ≡ count_of_ranges pages holders
     unfolding ranges count_of_ranges
     ranges-holders pages = ap (λ f. count_by f (range_with_len 0 pages)) (λ i p. begins-each p i)
 
-  seen_from-shared : (g : Name) (p : ℕ) (mode : Mode) (c : Cell (Option PageValue)) → c ≢ cell.Common g →
+  pub seen_from-shared : (g : Name) (p : ℕ) (mode : Mode) (c : Cell (Option PageValue)) → c ≢ cell.Common g →
       seen_from g (shared_cell g mode (Page p) c) ≡ moved_holder mode (holder_of (Page p) c)
   seen_from-shared g p Copy (cell.Own None) other = refl
   seen_from-shared g p Share (cell.Own None) other = refl
@@ -116,14 +116,14 @@ module _ (facts : Facts) where
   seen_from-own g (Some value) = refl
 
   module _ (w : World) (c : Name) (fresh : IsFresh w) where
-    not_new : (job p : ℕ) → (context w c).cell (Page p) ≢ cell.Common (next_group w job)
+    pub not_new : (job p : ℕ) → (context w c).cell (Page p) ≢ cell.Common (next_group w job)
     not_new job p is = let h : (w.next job).groups < (w.next job).groups = facts.fresh.named w c (Page p) (next_group w job) fresh is in absurd (omega arith)
 
     module _ (job : ℕ) (items : List Item) (live : is_live w c ≡ true) (spec : IsSpec w.size.pages items) where
       abbrev new : Name
       new = next_group w job
 
-      page-shared : (p : ℕ) → seen_from new ((context (share w c job items) c).cell (Page p)) ≡ moved_holder (mode_or_copy items (Page p)) (holder_of (Page p) ((context w c).cell (Page p)))
+      pub page-shared : (p : ℕ) → seen_from new ((context (share w c job items) c).cell (Page p)) ≡ moved_holder (mode_or_copy items (Page p)) (holder_of (Page p) ((context w c).cell (Page p)))
       unfolding with_shared moved_values
       page-shared p =
           ap (λ (x : Context). seen_from new (x.cell (Page p))) (context-shared facts w c job items live spec)
@@ -136,7 +136,7 @@ module _ (facts : Facts) where
           ap (λ (s : WorldSize). ranges s.pages (context (share w c job items) c)) ((facts.changes.shared w c job items).size)
           ∙ ranges-holders new (context (share w c job items) c) (holder_after_clone w c items) page-shared w.size.pages
 
-      page-cloned : (p : ℕ) (mode : Mode) → mode_or_copy items (Page p) ≡ mode →
+      pub page-cloned : (p : ℕ) (mode : Mode) → mode_or_copy items (Page p) ≡ mode →
           seen_from new (cloned_cell (share w c job items) c (Page p) mode) ≡ cloned_holder mode (is_some (page_at w c p)) (holder_of (Page p) ((context w c).cell (Page p)))
       page-cloned p Copy is =
           ap (λ o. seen_from new (cell.Own o)) (facts.same_values w c job items fresh c (Page p)) ∙ seen_from-own new (page_at w c p)

@@ -81,7 +81,7 @@ module _ (w : WholeWorld) where
       let in_groups : length (flat_map (λ row. page_tags (λ v. v) row.1.pages.items) groups) ≤ length groups * pages =
       length-flat_map-le (λ row. page_tags (λ v. v) row.1.pages.items) pages groups (λ k d within. let row = get_or groups k d in
       omega (arith, length-page_tags (λ v. v) row.1.pages.items, (w.sound.groups_whole k d within).pages, row.1.pages.ok.0)) in
-      let rows : length contexts + length groups ≤ 2 ^ 16 = omega (arith, w.sound.few_rows, w.sound.few_contexts, w.sound.few_groups) in
+      let rows : length contexts + length groups ≤ 2 ^ 16 = omega (arith, w.sound.size_contexts, w.sound.size_groups, w.sound.few_contexts, w.sound.few_groups) in
       let most : (length contexts + length groups) * pages ≤ 65536 * 1024 = mul-le-mul rows w.sound.few_pages in
       omega (arith, in_contexts, in_groups, most, length-append (flat_map (λ row. page_tags own_value row.1.pages.items) contexts) (flat_map (λ row. page_tags (λ v. v) row.1.pages.items) groups))
 

@@ -1,16 +1,18 @@
 -- Rows by name, and the map that they stand for.
-use Rattle.std.proofs.Common.{◌≡◌, ℕ, zero, suc, ◌+◌, ◌<◌, ◌≤◌, List, [], ◌∷◌, arith, length, refl, sym, ap, subst, ◌∙◌, Bool, true, false, cond, Option, Some, None, get_or, map, not}
-use Rattle.std.specs.Prelude.{T, ◌&&◌, if◌then◌else◌, nat_lt, is_ok, All, Err, IsOk, Ok, Result}
-use Rattle.std.specs.List.{position, position_or_len, insert}
+use Rattle.std.proofs.Common.{◌≡◌, ℕ, zero, suc, ◌+◌, ◌<◌, ◌≤◌, List, [], ◌∷◌, arith, length, refl, sym, ap, subst, ◌∙◌, Bool, true, false, cond, Option, Some, None, get_or, map, not, eqb}
+use Rattle.std.specs.Prelude.{T, ◌&&◌, if◌then◌else◌, nat_lt, is_ok, slice_get, All, Err, IsOk, Ok, Result}
+use Rattle.std.specs.List.{filter, position, position_or_len, insert}
 use Rattle.std.specs.Option.{option_map}
 use Rattle.std.specs.Ordering.{is_eq, is_lt, ordering_reverse}
 use Rattle.std.specs.declared.cmp.Ordering.{Ordering}
 use Rattle.std.specs.declared.cmp.Ordering.TheVariants.{Less, Equal, Greater}
 use Rattle.std.specs.Cmp.{eq_by_cmp_equiv}
 use Rattle.std.specs.FinMap as fm
-use Rattle.std.specs.FinMap.Entries.{below_all, by_order}
+use Rattle.std.specs.FinMap.Entries.{below_all, by_order, find-where_key, is_sorted-where_key}
 use Rattle.std.proofs.Math.ListN.{set}
-use Rattle.std.proofs.lemmas.Bool.{ltb-true, ltb-false, false≢true}
+use Rattle.std.proofs.lemmas.Bool.{ltb-true, ltb-false, lt-ltb, false≢true}
+use Rattle.std.proofs.lemmas.Bool.Decides.{nat_tests}
+use Rattle.std.proofs.lemmas.Option.{get_or_from_slice_get, slice_get_within}
 use Rattle.std.proofs.lemmas.List.{length-map}
 use Rattle.std.proofs.lemmas.List.Elements.{All-cons, All-head, All-nil, All-tail}
 use Rattle.lwc_base.specs.declared.name.Name.{Name}
@@ -73,6 +75,21 @@ place_past_all test rows e =
 pub chosen_ok : {A V F : Type 0} (r : Result V F) (x y : A) → IsOk r → (if is_ok r then x else y) ≡ x
 chosen_ok (Ok v) x y ok = refl
 chosen_ok (Err e) x y ok = absurd (false≢true ok)
+
+-- the place of the first element that passes a test
+at_place : {E : Type 0} (test : E → Bool) (rows : List E) (i : ℕ) → position_or_len test rows ≡ i → i < length rows → position test rows ≡ Some i
+at_place test rows i first within = ap (λ j. cond (nat_lt j (length rows)) (Some j) None) first ∙ ap (λ b. cond b (Some i) None) (lt-ltb i (length rows) within)
+
+-- whether a place is the one that was found
+abbrev pub is_place : ℕ → Option ℕ → Bool
+is_place i None = false
+is_place i (Some j) = eqb i j
+
+eqb-itself : (n : ℕ) → eqb n n ≡ true
+eqb-itself n = grind (arith, nat_tests)
+
+eqb-same : (m n : ℕ) → eqb m n ≡ true → m ≡ n
+eqb-same m n same = grind (arith, nat_tests)
 
 less_of : (r : Ordering) → is_lt r ≡ true → r ≡ Less
 less_of Less e = refl
@@ -180,6 +197,14 @@ module _ {A X : Type 0} (value : A → X) where
         names [] = refl
         names (e ∷ es) = ap (λ l. e.0 ∷ l) (names es)
 
+    -- the values of the map are those of the rows
+    pub map-values : fm.values (map_of value rows) ≡ map (λ row. value row.1) rows
+    map-values = ap (map (λ (e : Name × X). e.1)) map-entries ∙ values rows
+      where
+        values : (rows : List (Name × A)) → map (λ (e : Name × X). e.1) (entries_of rows) ≡ map (λ row. value row.1) rows
+        values [] = refl
+        values (e ∷ es) = ap (λ l. value e.1 ∷ l) (values es)
+
 module _ (facts : Facts) where
   -- names that tie are the same
   pub same_name : (a b : Name) → is_eq (name_cmp a b) ≡ true → a ≡ b
@@ -236,10 +261,52 @@ module _ (facts : Facts) where
     below-at k (e ∷ es) zero d below within = less_of _ (first_true _ _ below)
     below-at k (e ∷ es) (suc i) d below within = below-at k es i d (both_second _ _ below) (omega arith)
 
-    name-at : (c : Name) (rows : List (Name × A)) (i : ℕ) (d : Name × A) → position_or_len (has_name c) rows ≡ i → i < length rows → (get_or rows i d).0 ≡ c
+    pub name-at : (c : Name) (rows : List (Name × A)) (i : ℕ) (d : Name × A) → position_or_len (has_name c) rows ≡ i → i < length rows → (get_or rows i d).0 ≡ c
     name-at c [] i d first within = absurd (omega arith)
     name-at c (e ∷ es) zero d first within = same_name e.0 c (here (has_name c e) _ first)
     name-at c (e ∷ es) (suc i) d first within = name-at c es i d (further_place (has_name c e) _ i first) (omega arith)
+
+    -- each row is at the place of its name
+    pub placed : (rows : List (Name × A)) (i : ℕ) (row : Name × A) → T (fm.is_sorted name_cmp rows) → slice_get rows i ≡ Some row →
+        position (has_name row.0) rows ≡ Some i
+    placed rows i row sorted is = at_place (has_name row.0) rows i (first rows i sorted is) (slice_get_within rows i row is)
+      where
+        first : (rows : List (Name × A)) (i : ℕ) → T (fm.is_sorted name_cmp rows) → slice_get rows i ≡ Some row → position_or_len (has_name row.0) rows ≡ i
+        first [] i sorted is = cc
+        first (e ∷ es) zero sorted is =
+            let itself : is_eq (name_cmp e.0 row.0) ≡ true =
+            ap (λ (r : Name × A). is_eq (name_cmp e.0 r.0)) (sym (same_Some e row is)) ∙ (eq_by_cmp_equiv facts.orders.names).refl e.0 in
+            ap (λ b. cond (not b) (1 + position_or_len (has_name row.0) es) 0) itself
+        first (e ∷ es) (suc i) sorted is =
+            let later : name_cmp e.0 row.0 ≡ Less =
+            ap (λ (r : Name × A). name_cmp e.0 r.0) (sym (get_or_from_slice_get es i row row is))
+            ∙ below-at e.0 es i row (both_first _ _ sorted) (slice_get_within es i row is) in
+            ap (λ r. cond (not (is_eq r)) (1 + position_or_len (has_name row.0) es) 0) later
+            ∙ ap (λ n. 1 + n) (first es i (both_second _ _ sorted) is) ∙ omega arith
+
+    -- a name is that of a row exactly where its place is
+    pub tied-at : (c : Name) (rows : List (Name × A)) (o : Option ℕ) (i : ℕ) (row : Name × A) → T (fm.is_sorted name_cmp rows) → position (has_name c) rows ≡ o →
+        slice_get rows i ≡ Some row → is_eq (name_cmp c row.0) ≡ is_place i o
+    tied-at c rows o i row sorted found is =
+        elim (is_eq (name_cmp c row.0)) as (λ b. is_eq (name_cmp c row.0) ≡ b → b ≡ is_place i o) [
+          | true ↦ λ tied.
+              let at_i : Some i ≡ o = sym (placed rows i row sorted is) ∙ ap (λ d. position (has_name d) rows) (sym (same_name c row.0 tied)) ∙ found in
+              sym (eqb-itself i) ∙ ap (is_place i) at_i
+          | false ↦ λ differ. sym (not_there o found differ)
+        ] refl
+      where
+        not_there : (o : Option ℕ) → position (has_name c) rows ≡ o → is_eq (name_cmp c row.0) ≡ false → is_place i o ≡ false
+        not_there None found differ = refl
+        not_there (Some j) found differ =
+            elim (eqb i j) as (λ b. eqb i j ≡ b → b ≡ false) [
+              | true ↦ λ same.
+                  let place : IsPlace (has_name c) rows j = place_found (has_name c) rows j found in
+                  let here : row.0 ≡ c =
+                  ap (λ (r : Name × A). r.0) (sym (get_or_from_slice_get rows i row row is)) ∙ ap (λ k. (get_or rows k row).0) (eqb-same i j same)
+                  ∙ name-at c rows j row place.first place.within in
+                  sym ((eq_by_cmp_equiv facts.orders.names).refl c) ∙ ap (λ d. is_eq (name_cmp c d)) (sym here) ∙ differ
+              | false ↦ λ differ. refl
+            ] refl
 
     -- another value in the row of a name
     set-put : (c : Name) (new : A) (rows : List (Name × A)) (i : ℕ) (d : Name × A) → T (fm.is_sorted name_cmp rows) → position_or_len (has_name c) rows ≡ i → i < length rows →
@@ -269,6 +336,30 @@ module _ (facts : Facts) where
         subst (λ es. T (fm.is_sorted name_cmp es))
         (fm.entries-insert facts.orders.names (fm.from_sorted rows) c new ∙ ap (fm.put name_cmp c new) (fm.entries-from_sorted name_cmp rows sorted))
         (fm.entries_sorted (fm.insert (fm.from_sorted rows) c new))
+
+  -- the rows whose names pass a test stay in order
+  pub kept-sorted : {A : Type 0} (p : Name → Bool) (rows : List (Name × A)) → T (fm.is_sorted name_cmp rows) → T (fm.is_sorted name_cmp (filter (λ row. p row.0) rows))
+  kept-sorted p rows sorted = is_sorted-where_key name_cmp p rows sorted
+
+  -- a test answers alike at names that tie
+  pub alike : (p : Name → Bool) (c x : Name) → name_cmp c x ≡ Equal → p x ≡ p c
+  alike p c x tied = ap p (sym (facts.orders.one_name c x tied))
+
+  -- they are what is kept of the map
+  pub map-kept : {A X : Type 0} (value : A → X) (p : Name → Bool) (rows : List (Name × A)) → T (fm.is_sorted name_cmp rows) →
+      map_of value (filter (λ row. p row.0) rows) ≡ fm.retain_keys (map_of value rows) p
+  map-kept value p rows sorted =
+      fm.same_map facts.orders.names facts.orders.one_name _ _
+      (λ c.
+      map-get value (filter (λ row. p row.0) rows) (kept-sorted p rows sorted) c
+      ∙ ap (option_map value) (find-where_key name_cmp p c (alike p c) rows)
+      ∙ mapped_if value (p c) (fm.find name_cmp c rows)
+      ∙ ap (λ o. cond (p c) o None) (sym (map-get value rows sorted c))
+      ∙ sym (fm.get-retain_keys (map_of value rows) p c (alike p c)))
+    where
+      mapped_if : {A X : Type 0} (f : A → X) (b : Bool) (o : Option A) → option_map f (cond b o None) ≡ cond b (option_map f o) None
+      mapped_if f true o = refl
+      mapped_if f false o = refl
 
   -- another value under a name
   pub map-put : {A X : Type 0} (value : A → X) (c : Name) (new : A) (rows : List (Name × A)) → T (fm.is_sorted name_cmp rows) →

@@ -33,7 +33,12 @@ no_item_found pages key (item ∷ items) past each =
     ap (λ b. cond b (Some item) (find (λ item. names item key) items)) (not_named pages item.kind (kind_of key) item.from item.to (number_of key) first.within past)
     ∙ no_item_found pages key items past (λ k d h. each (suc k) d (omega (arith, h)))
 
--- such a key is copied
+-- such a key has no mode
+pub unnamed_past : (pages : ℕ) (key : Key) (items : List Item) → IsSpec pages items → limit pages (kind_of key) ≤ number_of key → mode items key ≡ None
+unfolding mode
+unnamed_past pages key items spec past = ap (option_map (λ (item : Item). item.mode)) (no_item_found pages key items past spec.each)
+
+-- so it is copied
 pub copied_past : (pages : ℕ) (key : Key) (items : List Item) → IsSpec pages items → limit pages (kind_of key) ≤ number_of key → mode_or_copy items key ≡ Copy
-unfolding mode_or_copy mode
-copied_past pages key items spec past = ap (λ o. unwrap_or (option_map (λ (item : Item). item.mode) o) Copy) (no_item_found pages key items past spec.each)
+unfolding mode_or_copy
+copied_past pages key items spec past = ap (λ o. unwrap_or o Copy) (unnamed_past pages key items spec past)

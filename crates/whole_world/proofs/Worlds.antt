@@ -35,7 +35,7 @@ use Rattle.whole_world.specs.States.{counters_of, nothing_counted, world_of}
 use Rattle.whole_world.specs.Worlds.{seen}
 use Rattle.whole_world.proofs.Places.{place_after_set}
 use Rattle.whole_world.proofs.Rows.{cell-past}
-use Rattle.whole_world.proofs.Tables.{found-at, found-holds, map-get, map-keys, map-len, map-put, nothing-at, put-at, put-holds, put-sorted}
+use Rattle.whole_world.proofs.Tables.{found-at, found-holds, map-get, map-keys, map-len, map-put, map-values, nothing-at, put-at, put-holds, put-sorted}
 
 get_or_default : {A : Type 0} (xs : List A) (i : ℕ) (d e : A) → i < length xs → get_or xs i d ≡ get_or xs i e
 get_or_default [] i d e h = absurd (omega arith)
@@ -81,6 +81,9 @@ module _ (size : WorldSize) (contexts : List (Name × ContextRow)) (groups : Lis
   pub dead-missed : (c : Name) → fm.find name_cmp c contexts ≡ None → is_live now c ≡ false
   dead-missed c missed = ap is_some (get-context c ∙ ap (option_map context_of) missed)
 
+  pub live-found : (c : Name) (row : ContextRow) → fm.find name_cmp c contexts ≡ Some row → is_live now c ≡ true
+  live-found c row found = ap is_some (get-context c ∙ ap (option_map context_of) found)
+
   -- and the other way round
   pub missed-dead : (c : Name) → is_live now c ≡ false → fm.find name_cmp c contexts ≡ None
   missed-dead c dead = nothing_mapped context_of (fm.find name_cmp c contexts) (sym (ap is_some (get-context c)) ∙ dead)
@@ -123,6 +126,11 @@ module _ (size : WorldSize) (contexts : List (Name × ContextRow)) (groups : Lis
   pub len-groups : fm.len now.groups ≡ length groups
   unfolding world_of
   len-groups = map-len group_of groups sound.groups_sorted
+
+  -- the contexts of the rows
+  pub values-contexts : fm.values now.contexts ≡ map (λ row. context_of row.1) contexts
+  unfolding world_of
+  values-contexts = map-values context_of contexts sound.contexts_sorted
 
   -- the names of the rows are those of the contexts, and of the groups
   pub names-contexts : fm.keys now.contexts ≡ map (λ row. row.0) contexts
@@ -177,7 +185,8 @@ module _ (size : WorldSize) (contexts : List (Name × ContextRow)) (groups : Lis
     sound-put c row whole few fresh = record {
       some_job = sound.some_job;
       few_pages = sound.few_pages;
-      few_rows = sound.few_rows;
+      size_contexts = sound.size_contexts;
+      size_groups = sound.size_groups;
       few_contexts = subst (λ n. n ≤ size.contexts) (sym (length-put c row)) few;
       few_groups = sound.few_groups;
       counted = sound.counted;
@@ -193,7 +202,8 @@ module _ (size : WorldSize) (contexts : List (Name × ContextRow)) (groups : Lis
     sound-put_group g row whole few fresh = record {
       some_job = sound.some_job;
       few_pages = sound.few_pages;
-      few_rows = sound.few_rows;
+      size_contexts = sound.size_contexts;
+      size_groups = sound.size_groups;
       few_contexts = sound.few_contexts;
       few_groups = subst (λ n. n ≤ size.groups) (sym (length-put_group g row)) few;
       counted = sound.counted;
@@ -308,7 +318,8 @@ module _ (size : WorldSize) (contexts : List (Name × ContextRow)) (groups : Lis
     sound-counts job n there rises = record {
       some_job = sound.some_job;
       few_pages = sound.few_pages;
-      few_rows = sound.few_rows;
+      size_contexts = sound.size_contexts;
+      size_groups = sound.size_groups;
       few_contexts = sound.few_contexts;
       few_groups = sound.few_groups;
       counted = length-set counts job n ∙ sound.counted;

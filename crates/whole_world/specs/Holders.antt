@@ -1,5 +1,5 @@
 -- Who has the value under a key, and how many ranges pages make by who has them.
-use Rattle.std.specs.Prelude.{ℕ, zero, suc, ◌&&◌, if◌then◌else◌, Bool, true, false, not, List, count_by, is_some, nat_le, nat_lt}
+use Rattle.std.specs.Prelude.{ℕ, zero, suc, ◌&&◌, if◌then◌else◌, Bool, true, false, not, List, Option, None, Some, count_by, is_some, nat_le, nat_lt}
 use Rattle.std.specs.List.{range_with_len}
 use Rattle.std.specs.Ordering.{is_eq}
 use Rattle.lwc_base.specs.declared.cell.Cell.{Cell}
@@ -12,7 +12,7 @@ use Rattle.lwc_base.specs.declared.key.Key.TheVariants.{Page}
 use Rattle.lwc_base.specs.declared.name.Name.{Name}
 use Rattle.lwc_base.specs.Cells.{page_at}
 use Rattle.lwc_base.specs.Keys.{ValueOf, is_there}
-use Rattle.lwc_base.specs.Modes.{mode_or_copy}
+use Rattle.lwc_base.specs.Modes.{mode, mode_or_copy}
 use Rattle.lwc_base.specs.Names.{name_cmp}
 use Rattle.lwc_base.specs.World.{World, context}
 use Rattle.whole_world.specs.declared.holder.Holder.{Holder}
@@ -50,6 +50,16 @@ holder_after_clone w c items p = moved_holder (mode_or_copy items (Page p)) (pag
 -- who has it in the clone
 unfoldable pub holder_in_clone : World → Name → List Item → ℕ → Holder
 holder_in_clone w c items p = cloned_holder (mode_or_copy items (Page p)) (is_some (page_at w c p)) (page_holder w c p)
+
+-- who has a page's value in a context that takes over from another one, by who had it in both
+abbrev pub overlaid_holder : Option Mode → Bool → Holder → Holder → Holder
+overlaid_holder None present h old = old
+overlaid_holder (Some m) present h old = cloned_holder m present h
+
+-- who has it in the context that gets what it takes over
+unfoldable pub holder_after_overlay : World → Name → Name → List Item → ℕ → Holder
+holder_after_overlay w c d items p =
+    overlaid_holder (mode items (Page p)) (is_some (page_at w d p)) (page_holder w d p) (page_holder w c p)
 
 -- who has it once the pages of a range are present or absent
 unfoldable pub holder_after_map : World → Name → ℕ → ℕ → Bool → ℕ → Holder

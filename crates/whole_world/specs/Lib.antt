@@ -1,6 +1,7 @@
 pub mod Facts
 pub mod Holders
 pub mod KeyValues
+pub mod Reaping
 pub mod Rows
 pub mod Sharing
 pub mod Sound

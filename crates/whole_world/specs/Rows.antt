@@ -20,7 +20,7 @@ cell_of row Cred = row.uid
 
 -- the context of a row
 unfoldable pub context_of : ContextRow → Context
-context_of row = record { cell = cell_of row; entry = row.entry; saved = λ t. None }
+context_of row = record { cell = cell_of row; entry = row.entry; saved = λ t. slice_index_or row.saved t None }
 
 -- the value under a key of a group
 unfoldable pub value_of : GroupRow → (k : Key) → ValueOf k

@@ -1,14 +1,15 @@
 -- A sharing, and a clone, key by key.
-use Rattle.std.specs.Prelude.{ℕ, ◌&&◌, if◌then◌else◌, Bool, List, nat_lt}
+use Rattle.std.specs.Prelude.{ℕ, ◌&&◌, if◌then◌else◌, Bool, List, nat_lt, unwrap_or}
 use Rattle.lwc_base.specs.declared.cell.Cell.{Cell}
 use Rattle.lwc_base.specs.declared.item.Item.{Item}
+use Rattle.lwc_base.specs.declared.item.Mode.{Mode}
 use Rattle.lwc_base.specs.declared.key.Key.{Key}
 use Rattle.lwc_base.specs.declared.key.Key.TheVariants as key
 use Rattle.lwc_base.specs.declared.key.Kind.{Kind}
 use Rattle.lwc_base.specs.declared.key.Kind.TheVariants as kind
 use Rattle.lwc_base.specs.declared.name.Name.{Name}
 use Rattle.lwc_base.specs.Keys.{ValueOf}
-use Rattle.lwc_base.specs.Modes.{kind_of, mode_or_copy, number_of, same_kind}
+use Rattle.lwc_base.specs.Modes.{kind_of, mode, mode_or_copy, number_of, same_kind}
 use Rattle.lwc_base.specs.Sharing.{cloned_cell, is_moved, moved_value, share, shared_cell}
 use Rattle.lwc_base.specs.World.{World, Context, Group}
 
@@ -26,9 +27,9 @@ is_below kind n k = same_kind kind (kind_of k) && nat_lt (number_of k) n
 abbrev pub with_cells : (Key → Bool) → ((k : Key) → Cell (ValueOf k)) → Context → Context
 with_cells done cells x = record x { cell = λ k. if done k then cells k else x.cell k }
 
--- the cells of the context that a clone makes
-abbrev pub clone_cells : World → Name → ℕ → List Item → (k : Key) → Cell (ValueOf k)
-clone_cells w c job items k = cloned_cell (share w c job items) c k (mode_or_copy items k)
+-- the cells that a clone gets, or an overlay: by the mode of the item that names the key, and by a mode where none does
+abbrev pub clone_cells : World → Name → ℕ → List Item → Mode → (k : Key) → Cell (ValueOf k)
+clone_cells w c job items rest k = cloned_cell (share w c job items) c k (unwrap_or (mode items k) rest)
 
 -- a context that has given a group what moves under the keys that pass a test
 abbrev pub gave : (Key → Bool) → Name → List Item → Context → Context

@@ -1,5 +1,5 @@
 -- What a world of whole copies keeps true of itself.
-use Rattle.std.specs.Prelude.{◌≡◌, ℕ, ◌+◌, ◌<◌, ◌≤◌, ◌^◌, List, T, ⊤, length, vec_len, All}
+use Rattle.std.specs.Prelude.{◌≡◌, ℕ, ◌<◌, ◌≤◌, List, T, ⊤, length, vec_len, All}
 use Rattle.std.specs.Coded.{Unit-prop, le_prop}
 use Rattle.std.specs.FinMap as fm
 use Rattle.lwc_base.specs.declared.cell.Cell.{Cell}
@@ -7,7 +7,7 @@ use Rattle.lwc_base.specs.declared.cell.Cell.TheVariants.{Common, Own}
 use Rattle.lwc_base.specs.declared.descriptor.TheConstants.{SLOTS}
 use Rattle.lwc_base.specs.declared.key.Key.{Key}
 use Rattle.lwc_base.specs.declared.key.Key.TheVariants.{Page, Slot, Cred}
-use Rattle.lwc_base.specs.declared.limits.TheConstants.{MOST_PAGES}
+use Rattle.lwc_base.specs.declared.limits.TheConstants.{MOST_CONTEXTS, MOST_GROUPS, MOST_PAGES}
 use Rattle.lwc_base.specs.declared.name.Name.{Name}
 use Rattle.lwc_base.specs.declared.size.WorldSize.{WorldSize}
 use Rattle.lwc_base.specs.Fresh.{IsFresh, named_groups}
@@ -55,7 +55,8 @@ pub record HasGroupSizeOf (old new : GroupRow) : Type 0 where
 pub record IsSound (size : WorldSize) (contexts : List (Name × ContextRow)) (groups : List (Name × GroupRow)) (counts : List Counts) : Type 0 where
   pub some_job : 1 ≤ size.jobs
   pub few_pages : size.pages ≤ MOST_PAGES
-  pub few_rows : size.contexts + size.groups ≤ 2 ^ 16
+  pub size_contexts : size.contexts ≤ MOST_CONTEXTS
+  pub size_groups : size.groups ≤ MOST_GROUPS
   pub few_contexts : length contexts ≤ size.contexts
   pub few_groups : length groups ≤ size.groups
   pub counted : length counts ≡ size.jobs

@@ -1,9 +1,10 @@
-ghost use Rattle.std.specs.Prelude.{◌≡◌, ◌<◌, IfOk, IsTrue, OnErr, OnOk};
+ghost use Rattle.std.specs.Prelude.{◌≡◌, ◌≢◌, ◌<◌, IfOk, IsTrue, OnOk, unwrap_or};
 ghost use Rattle.std.specs.Option.{option_copied};
 ghost use Rattle.lwc_base.specs.declared.descriptor.TheConstants.{SLOTS};
+ghost use Rattle.lwc_base.specs.declared.item.Mode.TheVariants.{Share};
 ghost use Rattle.lwc_base.specs.declared.key.Kind.TheVariants as kind;
 ghost use Rattle.lwc_base.specs.Cells.{value_at, with_cell};
-ghost use Rattle.lwc_base.specs.Modes.{IsKey, IsSpec};
+ghost use Rattle.lwc_base.specs.Modes.{IsKey, IsSpec, mode};
 ghost use Rattle.whole_world.specs.KeyValues.{key_in, value_in};
 
 use crate::context_row::ContextRow;
@@ -12,7 +13,7 @@ use crate::holder::Holder;
 use crate::key_value::KeyValue;
 use crate::world::WholeWorld;
 use lwc_base::{Key, Mode, NOBODY, Name, OutOfMemory, PageBytes, PageValue, Regs, SLOTS, Spec};
-use res_spec::mode_or_copy;
+use res_spec::mode_of;
 use std::alloc::Global;
 
 /// A copy of a page's value. The only error is out of memory.
@@ -28,34 +29,46 @@ fn copied_page(alloc: Global, value: Option<&PageValue>) -> Result<Option<PageVa
     })
 }
 
+/// The mode of a key, or another one where no item names it.
+fn mode_or(spec: &Spec, key: Key, rest: Mode) -> Mode
+    ensures { result ≡ unwrap_or (mode spec.now key) rest }
+{
+    mode_of(spec, key).unwrap_or(rest)
+}
+
 impl WholeWorld {
-    ghost use Rattle.lwc_base.specs.Sharing.{cloned_context, share};
-    ghost use Rattle.lwc_base.specs.World.{context, is_live};
+    ghost use Rattle.lwc_base.specs.declared.key.TheConstants.{NOBODY};
+    ghost use Rattle.lwc_base.specs.World.{is_live, new_context};
     ghost use Rattle.whole_world.specs.Rows.{context_of};
     ghost use Rattle.whole_world.specs.Sharing.{clone_cells, is_below, with_cells};
     ghost use Rattle.whole_world.specs.Sound.{HasSizeOf, HasSlot, IsWhole};
     ghost use Rattle.whole_world.specs.Worlds.{seen};
 
-    /// The row of the new context that a clone makes. The only error is out of memory.
+    /// The row of a new context with what a clone gets of another one. Keys that no item names go by the mode
+    /// `rest`, which is copy or unmap. The only error is out of memory.
     pub(crate) fn cloned_row(
         &self,
         c: Name,
         spec: &Spec,
         job: u32,
+        rest: Mode,
         entry: &Regs,
     ) -> Result<ContextRow, OutOfMemory>
         requires live { IsTrue (is_live (seen self.now) c) }
         requires within { IsSpec (seen self.now).size.pages spec.now }
         requires known { job < (seen self.now).size.jobs }
+        requires rest { rest ≢ Share }
         ensures whole { IfOk result (IsWhole (seen self.now).size.pages) }
         ensures context { IfOk result (λ row. context_of row
-            ≡ cloned_context (share (seen self.now) c job spec.now) c spec.now entry.now) }
+            ≡ record (new_context NOBODY entry.now) {
+              cell = clone_cells (seen self.now) c job spec.now rest;
+            }) }
     {
         facts();
         let mut row = ContextRow::new(self.alloc, self.page_count(), NOBODY, entry)?;
-        self.clone_pages(c, spec, job, &mut row)?;
-        self.clone_slots(c, spec, job, &mut row)?;
-        self.clone_key(c, spec, job, Key::Cred, &mut row)?;
+        self.clone_pages(c, spec, job, rest, &mut row)?;
+        self.clone_slots(c, spec, job, rest, &mut row)?;
+        self.clone_key(c, spec, job, rest, Key::Cred, &mut row)?;
         Ok(row)
     }
 
@@ -65,19 +78,21 @@ impl WholeWorld {
         c: Name,
         spec: &Spec,
         job: u32,
+        rest: Mode,
         row: &mut ContextRow,
     ) -> Result<(), OutOfMemory>
         requires live { IsTrue (is_live (seen self.now) c) }
         requires within { IsSpec (seen self.now).size.pages spec.now }
         requires known { job < (seen self.now).size.jobs }
+        requires rest { rest ≢ Share }
         requires whole { IsWhole (seen self.now).size.pages row.old }
         ensures whole { IsWhole (seen self.now).size.pages row.new }
         ensures context { OnOk result (context_of row.new
             ≡ with_cells (is_below kind.Page (seen self.now).size.pages)
-            (clone_cells (seen self.now) c job spec.now) (context_of row.old)) }
+            (clone_cells (seen self.now) c job spec.now rest) (context_of row.old)) }
     {
         for p in 0..self.page_count() {
-            self.clone_key(c, spec, job, Key::Page(p), row)?;
+            self.clone_key(c, spec, job, rest, Key::Page(p), row)?;
         }
         Ok(())
     }
@@ -88,18 +103,20 @@ impl WholeWorld {
         c: Name,
         spec: &Spec,
         job: u32,
+        rest: Mode,
         row: &mut ContextRow,
     ) -> Result<(), OutOfMemory>
         requires live { IsTrue (is_live (seen self.now) c) }
         requires within { IsSpec (seen self.now).size.pages spec.now }
         requires known { job < (seen self.now).size.jobs }
+        requires rest { rest ≢ Share }
         requires whole { IsWhole (seen self.now).size.pages row.old }
         ensures whole { IsWhole (seen self.now).size.pages row.new }
         ensures context { OnOk result (context_of row.new ≡ with_cells (is_below kind.Slot SLOTS)
-            (clone_cells (seen self.now) c job spec.now) (context_of row.old)) }
+            (clone_cells (seen self.now) c job spec.now rest) (context_of row.old)) }
     {
         for n in 0..SLOTS {
-            self.clone_key(c, spec, job, Key::Slot(n), row)?;
+            self.clone_key(c, spec, job, rest, Key::Slot(n), row)?;
         }
         Ok(())
     }
@@ -110,20 +127,22 @@ impl WholeWorld {
         c: Name,
         spec: &Spec,
         job: u32,
+        rest: Mode,
         key: Key,
         row: &mut ContextRow,
     ) -> Result<(), OutOfMemory>
         requires live { IsTrue (is_live (seen self.now) c) }
         requires within { IsSpec (seen self.now).size.pages spec.now }
         requires known { job < (seen self.now).size.jobs }
+        requires rest { rest ≢ Share }
         requires key { IsKey (seen self.now).size.pages key }
         requires whole { IsWhole (seen self.now).size.pages row.old }
         ensures size { HasSizeOf row.old row.new }
         ensures context { OnOk result (context_of row.new ≡ with_cell key
-            (clone_cells (seen self.now) c job spec.now key) (context_of row.old)) }
+            (clone_cells (seen self.now) c job spec.now rest key) (context_of row.old)) }
     {
         facts();
-        match mode_or_copy(spec, key) {
+        match mode_or(spec, key, rest) {
             Mode::Copy => row.put(self.copied_value(c, key)?),
             Mode::Share => match self.row(c).holder(key) {
                 Holder::Own => row.join(key, self.next_group(job)),

@@ -6,6 +6,8 @@ ghost use Rattle.lwc_base.specs.declared.descriptor.TheConstants.{SLOTS};
 ghost use Rattle.lwc_base.specs.declared.key.Key.TheVariants.{Page, Slot, Cred};
 ghost use Rattle.lwc_base.specs.declared.page.PageValue.TheVariants.{Zero};
 ghost use Rattle.lwc_base.specs.Cells.{with_cell};
+ghost use Rattle.lwc_base.specs.declared.limits.TheConstants.{MOST_THREADS};
+ghost use Rattle.lwc_base.specs.Saved.{with_saved};
 ghost use Rattle.lwc_base.specs.Sharing.{has_own, is_moved};
 ghost use Rattle.lwc_base.specs.World.{new_context};
 ghost use Rattle.whole_world.specs.Holders.{holder, holder_of};
@@ -19,13 +21,15 @@ use crate::key_value::KeyValue;
 use lwc_base::{Cell, Descriptor, Key, Mode, Name, OutOfMemory, PageValue, Regs, SLOTS};
 use std::alloc::Global;
 
-/// What a context has: under each key its cell, and the registers that it begins with.
+/// What a context has: under each key its cell, the registers that it begins with, and those that it keeps
+/// for each thread.
 #[derive(Drop)]
 pub struct ContextRow {
     pub pages: Vec<Cell<Option<PageValue>>>,
     pub slots: Vec<Cell<Descriptor>>,
     pub uid: Cell<u32>,
     pub entry: Regs,
+    pub saved: [Option<Regs>; 16],
 }
 
 impl ContextRow {
@@ -40,6 +44,7 @@ impl ContextRow {
             slots: empty_slots(alloc)?,
             uid: Cell::Own(uid),
             entry: *entry,
+            saved: [None; 16],
         })
     }
 
@@ -148,6 +153,24 @@ impl ContextRow {
             Key::Slot(n) => self.slots[n as usize] = Cell::Common(group),
             Key::Cred => self.uid = Cell::Common(group),
         }
+    }
+
+    /// The registers that are kept for a thread.
+    #[tactic(auto, unfolding(crate::specs::Rows::context_of))]
+    pub fn saved(&self, t: u32) -> Option<Regs>
+        requires { t < MOST_THREADS }
+        ensures { result ≡ (context_of self.now).saved t }
+    {
+        self.saved[t as usize]
+    }
+
+    /// Keeps registers for a thread.
+    pub fn save(&mut self, t: u32, regs: &Regs)
+        requires { t < MOST_THREADS }
+        ensures size { HasSizeOf self.old self.new }
+        ensures context { context_of self.new ≡ with_saved t regs.now (context_of self.old) }
+    {
+        self.saved[t as usize] = Some(*regs);
     }
 
     /// Makes each page of a range present, as zeros of the context's own, or absent.

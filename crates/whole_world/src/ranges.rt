@@ -7,7 +7,7 @@ use crate::facts::facts;
 use crate::holder::Holder;
 use crate::world::WholeWorld;
 use lwc_base::{Key, Mode, Name, Range, Spec};
-use res_spec::mode_or_copy;
+use res_spec::{mode_of, mode_or_copy};
 
 /// Who has a value once a clone has moved the context's own values of mode share.
 fn moved_holder(mode: Mode, holder: Holder) -> Holder
@@ -52,10 +52,11 @@ fn begins_after(before: Holder, here: Holder) -> bool
 impl WholeWorld {
     ghost use Rattle.lwc_base.specs.Mapping.{mapped_or_not};
     ghost use Rattle.lwc_base.specs.Modes.{IsSpec};
+    ghost use Rattle.lwc_base.specs.Overlay.{ranges_after_overlay};
     ghost use Rattle.lwc_base.specs.Ranges.{ranges_of};
     ghost use Rattle.lwc_base.specs.Sharing.{ranges_after_clone};
     ghost use Rattle.lwc_base.specs.World.{is_live};
-    ghost use Rattle.whole_world.specs.Holders.{holder_after_clone, holder_after_map, holder_in_clone, page_holder};
+    ghost use Rattle.whole_world.specs.Holders.{holder_after_clone, holder_after_map, holder_after_overlay, holder_in_clone, page_holder};
     ghost use Rattle.whole_world.specs.Worlds.{seen};
 
     /// The numbers of ranges that the context and the new one would have after a clone, in this order.
@@ -70,6 +71,23 @@ impl WholeWorld {
             count_ranges(pages, |p| self.holder_after_clone(c, spec, p)),
             count_ranges(pages, |p| self.holder_in_clone(c, spec, p)),
         )
+    }
+
+    /// The numbers of ranges that the contexts `from` and `to` would have after an overlay, in this order.
+    pub(crate) fn overlay_ranges(&self, to: Name, from: Name, spec: &Spec) -> (u32, u32)
+        requires to { IsTrue (is_live (seen self.now) to) }
+        requires from { IsTrue (is_live (seen self.now) from) }
+        requires within { IsSpec (seen self.now).size.pages spec.now }
+        ensures { (job : ℕ) → result ≡ ranges_after_overlay (seen self.now) to from job spec.now }
+    {
+        facts();
+        let pages = self.page_count();
+        let taken = count_ranges(pages, |p| self.holder_after_overlay(to, from, spec, p));
+        if to == from {
+            return (taken, taken);
+        }
+        let left = count_ranges(pages, |p| self.holder_after_clone(from, spec, p));
+        (left, taken)
     }
 
     /// The number of ranges that the context would have once the pages of a range are present or absent.
@@ -112,6 +130,21 @@ impl WholeWorld {
             Mode::Copy => own_if(self.is_present(c, p)),
             Mode::Share => moved_holder(Mode::Share, self.page_holder(c, p)),
             Mode::Unmap => Holder::Nobody,
+        }
+    }
+
+    /// The holder of a page of the context `to` once it has taken over from the context `from`.
+    #[tactic(auto, unfolding(crate::specs::Holders::holder_after_overlay))]
+    fn holder_after_overlay(&self, to: Name, from: Name, spec: &Spec, p: u16) -> Holder
+        requires to { IsTrue (is_live (seen self.now) to) }
+        requires from { IsTrue (is_live (seen self.now) from) }
+        ensures { result ≡ holder_after_overlay (seen self.now) to from spec.now p }
+    {
+        match mode_of(spec, Key::Page(p)) {
+            Some(Mode::Copy) => own_if(self.is_present(from, p)),
+            Some(Mode::Share) => moved_holder(Mode::Share, self.page_holder(from, p)),
+            Some(Mode::Unmap) => Holder::Nobody,
+            None => self.page_holder(to, p),
         }
     }
 

@@ -1,6 +1,6 @@
 ghost use Rattle.std.specs.Prelude.{◌≡◌, ◌==◌, ◌<◌, ◌≤◌, List, [], None, OnOk, count_by, map, slice_get, vec_capacity, vec_len};
 ghost use Rattle.std.specs.FinMap as fm;
-ghost use Rattle.std.specs.List.{position, position_or_len};
+ghost use Rattle.std.specs.List.{items_where_true, position, position_or_len};
 ghost use Rattle.std.specs.Option.{option_copied};
 ghost use Rattle.lwc_base.specs.Names.{name_cmp};
 ghost use Rattle.whole_world.specs.Tables.{has_name, is_past};
@@ -79,6 +79,16 @@ impl<T> Table<T> {
         facts();
         let place = self.place_for(name);
         self.rows.insert(place, (name, value)).unwrap();
+    }
+
+    /// Drops each row whose place is not marked.
+    pub fn keep(&mut self, marks: &[bool])
+    where
+        T: Drop,
+        ensures { self.new.rows.items ≡ items_where_true marks.now self.old.rows.items }
+    {
+        let mut marks = marks.iter();
+        self.rows.retain(|_| marks.next().copied().unwrap_or(false));
     }
 
     /// The number of rows whose names are of this job.

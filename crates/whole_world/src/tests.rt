@@ -5,8 +5,9 @@ ghost use Rattle.world_face.specs.Calls.{HasGroupPlace, HasPlace};
 
 use crate::WholeWorld;
 use crate::facts::facts;
+use lwc_base::laws::a_reaped_world_keeps_what_is_reached;
 use lwc_base::{
-    Descriptor, Item, Kind, Mode, Name, OutOfMemory, Range, Regs, Spec, StoreFault, Summary,
+    Cap, Descriptor, Item, Kind, Mode, Name, OutOfMemory, Range, Regs, Spec, StoreFault, Summary,
     WorldSize,
 };
 use std::alloc::Global;
@@ -157,5 +158,77 @@ fn ranges_after_a_mapping_are_counted(rt: HostRuntime) -> Result<(), Fail> {
         world.ranges_after_map(c, Range { from: 0, to: 2 }, false),
         0
     );
+    Ok(())
+}
+
+#[test]
+fn an_overlay_onto_itself_shares_a_page_that_stays(rt: HostRuntime) -> Result<(), Fail> {
+    facts();
+    let (mut world, c) = begun(rt.alloc(), 2)?;
+    let mut spec = Spec::empty();
+    spec.push(Item {
+        kind: Kind::Page,
+        mode: Mode::Share,
+        from: 1,
+        to: 2,
+    });
+    let counts = world.ranges_after_overlay(c, c, &spec);
+    assert!(rt; counts.0 == 2 && counts.1 == 2);
+    world.overlay(c, c, &spec, 1)?;
+    assert_eq!(rt; (world.context_count(), world.groups_of(1)), (1, 1));
+    let mut out = [9; 2];
+    assert!(rt; world.bytes(c, 4096, &mut out));
+    assert_eq!(rt; out, [0, 0]);
+    Ok(())
+}
+
+/// A capability of no key.
+const NO_KEY: Cap = Cap {
+    pages: [0; 16],
+    slots: 0,
+    cred: false,
+};
+
+#[test]
+fn a_context_is_dropped_once_nothing_reaches_it(rt: HostRuntime) -> Result<(), Fail> {
+    facts();
+    a_reaped_world_keeps_what_is_reached();
+    let (mut world, c) = begun(rt.alloc(), 2)?;
+    let spec = Spec::empty();
+    let counts = world.ranges_after_clone(c, &spec);
+    assert!(rt; counts.0 == 1 && counts.1 == 1);
+    let made = world.clone_context(c, &spec, 1, &Regs::fresh(5))?;
+    world.set_slot(
+        made,
+        2,
+        Descriptor::Ctx {
+            name: c,
+            cap: NO_KEY,
+        },
+    );
+    world.set_slot(
+        c,
+        2,
+        Descriptor::Ctx {
+            name: made,
+            cap: NO_KEY,
+        },
+    );
+    world.reap(&[c]);
+    assert_eq!(rt; world.context_count(), 2);
+    world.set_slot(c, 2, Descriptor::Empty);
+    world.reap(&[c]);
+    assert_eq!(rt; world.context_count(), 1);
+    assert_eq!(rt; world.nth_context(0), Some(c));
+    Ok(())
+}
+
+#[test]
+fn registers_are_kept_for_one_thread(rt: HostRuntime) -> Result<(), Fail> {
+    facts();
+    let (mut world, c) = begun(rt.alloc(), 2)?;
+    world.save(c, 15, &Regs::fresh(9));
+    assert_eq!(rt; world.saved(c, 15), Some(Regs::fresh(9)));
+    assert_eq!(rt; world.saved(c, 14), None);
     Ok(())
 }

@@ -11,7 +11,7 @@ use crate::key_value::KeyValue;
 use crate::table::Table;
 use crate::touched::touched_pages;
 use lwc_base::{
-    Descriptor, Name, OutOfMemory, Range, Regs, SLOTS, Spec, StoreFault, Summary, WorldSize,
+    Descriptor, Mode, Name, OutOfMemory, Range, Regs, SLOTS, Spec, StoreFault, Summary, WorldSize,
 };
 use std::alloc::Global;
 use world_face::World;
@@ -121,6 +121,14 @@ impl World for WholeWorld {
         self.row(c).entry
     }
 
+    fn saved(&self, c: Name, t: u32) -> Option<Regs> {
+        self.row(c).saved(t)
+    }
+
+    fn save(&mut self, c: Name, t: u32, regs: &Regs) {
+        self.save_regs(c, t, regs);
+    }
+
     fn clone_context(
         &mut self,
         c: Name,
@@ -129,10 +137,24 @@ impl World for WholeWorld {
         entry: &Regs,
     ) -> Result<Name, OutOfMemory> {
         facts();
-        let row = self.cloned_row(c, spec, job, entry)?;
+        let row = self.cloned_row(c, spec, job, Mode::Copy, entry)?;
         self.reserve()?;
         self.share(c, spec, job)?;
         Ok(self.add_context(job, row))
+    }
+
+    fn overlay(&mut self, to: Name, from: Name, spec: &Spec, job: u32) -> Result<(), OutOfMemory> {
+        facts();
+        let row = self.cloned_row(from, spec, job, Mode::Unmap, &Regs::fresh(0))?;
+        self.reserve()?;
+        self.share(from, spec, job)?;
+        self.take_over(to, spec, row);
+        Ok(())
+    }
+
+    fn reap(&mut self, roots: &[Name]) {
+        self.drop_contexts(roots);
+        self.drop_groups();
     }
 
     fn needs_group(&self, c: Name, spec: &Spec) -> bool {
@@ -141,6 +163,10 @@ impl World for WholeWorld {
 
     fn ranges_after_clone(&self, c: Name, spec: &Spec) -> (u32, u32) {
         self.clone_ranges(c, spec)
+    }
+
+    fn ranges_after_overlay(&self, to: Name, from: Name, spec: &Spec) -> (u32, u32) {
+        self.overlay_ranges(to, from, spec)
     }
 
     fn ranges_after_map(&self, c: Name, range: Range, present: bool) -> u32 {

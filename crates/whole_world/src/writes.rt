@@ -6,7 +6,7 @@ use crate::facts::facts;
 use crate::holder::Holder;
 use crate::key_value::KeyValue;
 use crate::world::WholeWorld;
-use lwc_base::{Name, OutOfMemory, PageValue, Range};
+use lwc_base::{Name, OutOfMemory, PageValue, Range, Regs};
 
 impl WholeWorld {
     ghost use Rattle.lwc_base.specs.Cells.{put_at, with_value};
@@ -16,6 +16,8 @@ impl WholeWorld {
     ghost use Rattle.whole_world.specs.declared.holder.Holder.TheVariants as spec;
     ghost use Rattle.lwc_base.specs.Mapping.{mapped_or_not};
     ghost use Rattle.lwc_base.specs.Modes.{IsKey};
+    ghost use Rattle.lwc_base.specs.Saved.{save};
+    ghost use Rattle.lwc_base.specs.declared.limits.TheConstants.{MOST_THREADS};
     ghost use Rattle.lwc_base.specs.Store.{put_pages};
     ghost use Rattle.lwc_base.specs.World.{add_context, change_group, context, is_live, next_context};
     ghost use Rattle.whole_world.specs.KeyValues.{key_in, value_in};
@@ -85,6 +87,18 @@ impl WholeWorld {
             Some(i) => self.contexts.rows[i]
                 .1
                 .set_pages(range.from, range.to, present),
+            None => {}
+        }
+    }
+
+    /// Keeps registers for a thread in a context.
+    pub(crate) fn save_regs(&mut self, c: Name, t: u32, regs: &Regs)
+        requires { t < MOST_THREADS }
+        ensures { seen self.new ≡ save (seen self.old) c t regs.now }
+    {
+        facts();
+        match self.contexts.position(c) {
+            Some(i) => self.contexts.rows[i].1.save(t, regs),
             None => {}
         }
     }

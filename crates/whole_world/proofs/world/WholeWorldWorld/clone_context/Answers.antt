@@ -6,7 +6,7 @@ use Rattle.lwc_base.specs.World.{World}
 use Rattle.whole_world.specs.Rows.{context_of}
 use Rattle.whole_world.specs.Worlds.{seen}
 use Rattle.whole_world.specs.Sound.{IsWhole}
-use Rattle.whole_world.proofs.CloneCells.{shared-added, shared-contexts, shared-len, shared-name, shared-old_groups, shared-size}
+use Rattle.whole_world.proofs.CloneCells.{context-copied, shared-added, shared-contexts, shared-len, shared-name, shared-old_groups, shared-size}
 use Rattle.whole_world.proofs.Worlds.{fresh-seen}
 use Rattle.whole_world.proofs.world.WholeWorldWorld.clone_context.Goals as goal
 
@@ -23,7 +23,7 @@ add_context-requires-clause-few c =
 pub add_context-requires-clause-old_groups : goal.add_context-requires-clause-old_groups
 add_context-requires-clause-old_groups c =
     let is_shared = c.in_ok-share.ensures.shared ∙ ap (λ w. share w c.args.c c.args.job c.args.spec.now) c.in_ok-reserve.ensures.world in
-    shared-old_groups c.facts.ensures _ _ c.args.c c.args.job c.args.spec.now is_shared (context_of c.in_ok-row.row) c.args.entry.now c.requires.live (fresh-seen c.args.self.now) c.in_ok-row.ensures.context
+    shared-old_groups c.facts.ensures _ _ c.args.c c.args.job c.args.spec.now is_shared (context_of c.in_ok-row.row) c.args.entry.now c.requires.live (fresh-seen c.args.self.now) (context-copied _ c.args.c c.args.job c.args.spec.now c.args.entry.now _ c.in_ok-row.ensures.context)
 
 pub add_context-requires-clause-whole : goal.add_context-requires-clause-whole
 add_context-requires-clause-whole c =
@@ -53,4 +53,4 @@ returns-clause-name c =
 pub returns-clause-cloned : goal.returns-clause-cloned
 returns-clause-cloned c =
     let is_shared = c.in_ok-share.ensures.shared ∙ ap (λ w. share w c.args.c c.args.job c.args.spec.now) c.in_ok-reserve.ensures.world in
-    shared-added c.facts.ensures _ _ c.args.c c.args.job c.args.spec.now is_shared (seen c.add_context.new.self) (context_of c.in_ok-row.row) c.args.entry.now c.in_ok-row.ensures.context c.add_context.ensures.world
+    shared-added c.facts.ensures _ _ c.args.c c.args.job c.args.spec.now is_shared (seen c.add_context.new.self) (context_of c.in_ok-row.row) c.args.entry.now (context-copied _ c.args.c c.args.job c.args.spec.now c.args.entry.now _ c.in_ok-row.ensures.context) c.add_context.ensures.world

@@ -12,4 +12,4 @@ unfolding seen
 returns c =
     let sound = c.args.self.now.sound in
     let few = count_by-le-length (λ (row : Name × GroupRow). row.0.job == c.args.job) c.args.self.now.groups.rows.items in
-    record { value = omega (arith, groups_of-rows _ _ _ _ sound c.args.job, c.count_of.ensures, few, sound.few_groups, sound.few_rows) }
+    record { value = omega (arith, groups_of-rows _ _ _ _ sound c.args.job, c.count_of.ensures, few, sound.few_groups, sound.size_groups) }
