@@ -1,0 +1,4 @@
+pub mod Alike
+pub mod Held
+pub mod Rows
+pub mod Taken

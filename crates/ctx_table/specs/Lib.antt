@@ -1,0 +1,4 @@
+pub mod Contexts
+pub mod Lends
+pub mod Places
+pub mod Slots

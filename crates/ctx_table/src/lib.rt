@@ -1,0 +1,10 @@
+//! A table of contexts by name, each at a place of its own.
+#![tactic(auto)]
+
+mod index;
+mod place;
+pub mod table;
+#[cfg(test)]
+mod tests;
+
+pub use table::CtxTable;
