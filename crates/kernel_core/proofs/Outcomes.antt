@@ -12,17 +12,22 @@ use Rattle.guest_machine.specs.Advances.{advanced}
 use Rattle.guest_machine.specs.declared.progress.Advance.{Advance}
 use Rattle.guest_machine.specs.declared.progress.Next.{Next}
 use Rattle.guest_machine.specs.declared.progress.Next.TheVariants.{Shared, Pause, BadPc}
-use Rattle.kernel_core.proofs.Worlds.{Grows, WorldFacts, grows_created, grows_not, grows_store, sound_created}
+use Rattle.kernel_core.proofs.Worlds.{Grows, WorldFacts, grows_created, grows_more, grows_not, grows_numbers, grows_overlay, grows_slot, grows_store, grows_switched, well_created, well_slot, well_store, well_switched}
 use Rattle.kernel_core.specs.Machine.{Environment, steps_left}
 use Rattle.kernel_core.specs.Ready.{IsReadyThread, IsRunnable, IsWithinLimits, WhileRunning}
-use Rattle.kernel_core.specs.Step.{Outcome, advance_outcome, call_outcome, create_outcome, faulted, guest_calls, is_aligned, loaded, next_outcome, refused, shared_outcome, status_with, store_outcome, stored_outcome, thread_outcome, unchanged, with_regs, with_result, with_status, word_outcome}
-use Rattle.kernel_core.specs.declared.calling.TheConstants.{LW_CREATE}
+use Rattle.kernel_core.specs.Step.{Outcome, advance_outcome, args_of, beside, call_outcome, create_outcome, faulted, guest_calls, is_aligned, loaded, next_outcome, overlay_outcome, plain_outcome, plainly, refused, restrict_outcome, shared_outcome, status_with, store_outcome, stored_outcome, switch_outcome, switched, syscall_outcome, thread_outcome, three_times, unchanged, with_regs, with_result, with_status, with_world, word_outcome}
+use Rattle.kernel_core.specs.declared.calling.TheConstants.{LW_CREATE, LW_OVERLAY, LW_RESTRICT, LW_SWITCH, LW_SYSCALL}
 use Rattle.kernel_core.specs.declared.thread.Thread.{Thread}
+use Rattle.lwc_base.specs.Life.{HasItsContexts, is_of}
 use Rattle.lwc_base.specs.Refusals.{first_refusal}
 use Rattle.lwc_base.specs.Sharing.{needs_group}
 use Rattle.lwc_base.specs.Sound.{IsSound}
 use Rattle.lwc_base.specs.Store.{Absent, Done, Full, Piece, Stored, store}
 use Rattle.lwc_base.specs.World.{World, groups_of, is_live, live_of}
+use Rattle.lwc_base.specs.declared.answer.Answer.{Answer}
+use Rattle.lwc_base.specs.declared.answer.Answer.TheVariants as answers
+use Rattle.lwc_base.specs.declared.answer.Moved.{Moved}
+use Rattle.lwc_base.specs.declared.answer.Moved.TheVariants as moved
 use Rattle.lwc_base.specs.declared.fault.Fault.{Fault}
 use Rattle.lwc_base.specs.declared.fault.Fault.TheVariants as fault
 use Rattle.lwc_base.specs.declared.fault.ThreadStatus.{ThreadStatus}
@@ -30,28 +35,49 @@ use Rattle.lwc_base.specs.declared.fault.ThreadStatus.TheVariants as status
 use Rattle.lwc_base.specs.declared.name.Name.{Name}
 use Rattle.lwc_base.specs.declared.page.TheConstants.{PAGE_BYTES}
 use Rattle.lwc_base.specs.declared.refusal.Refusal.{Refusal}
-use Rattle.lwc_base.specs.declared.refusal.Refusal.TheVariants.{BadCall}
 use Rattle.lwc_base.specs.declared.regs.Regs.{Regs}
 use Rattle.lwc_create.specs.Create as create
 use Rattle.lwc_create.specs.Create.{after_call, items_of, no_caller, refusals}
+use Rattle.lwc_overlay.specs.OverlayCall as overlaying
+use Rattle.lwc_overlay.specs.OverlayCall.{IsTaken}
+use Rattle.lwc_overlay.specs.RestrictCall as restricting
+use Rattle.lwc_overlay.specs.RestrictCall.{IsRestriction}
+use Rattle.lwc_switch.specs.Switch as switching
+use Rattle.lwc_switch.specs.Switch.{IsSwitch, switch}
+use Rattle.lwc_syscall.specs.Changes.{IsPlainChange, IsWell}
+use Rattle.lwc_syscall.specs.Plain.{plain}
+use Rattle.lwc_syscall.specs.Syscall.{lw_syscall}
+use Rattle.lwc_syscall.specs.declared.answer.CallAnswer.{CallAnswer}
+use Rattle.lwc_syscall.specs.declared.answer.CallAnswer.TheVariants.{Value, Exit}
+use Rattle.lwc_syscall.specs.declared.answer.CallAnswer.TheVariants as call_answers
+use Rattle.lwc_syscall.specs.declared.calls.Three.{Three}
 
--- what an act may do to the world, for a job: it stays sound and grows little
-pub record Changes (job : ℕ) (w v : World) : Type 0 where
-  pub grows : Grows job 2 w v
-  pub sound : IsSound v
+-- what an act may do to what threads have in common, for a job: the world stays well and grows little, and files and requests stay
+pub record Changes (job : ℕ) (e f : Environment) : Type 0 where
+  pub grows : Grows job 2 e.world f.world
+  pub well : IsWell f.world f.channels
+  pub inputs : (f.channels.files ≡ e.channels.files) × (f.channels.requests ≡ e.channels.requests)
 
--- the thread keeps its context and its job, and may make no more steps; the world changes as it may, where it was sound and the context live
+-- what threads have in common changes as it may for a job, and the thread is in a live context
+record Ends (job : ℕ) (e : Environment) (outcome : Outcome) : Type 0 where
+  changes : Changes job e outcome.environment
+  live : is_live outcome.environment.world outcome.thread.context ≡ true
+
+-- the thread keeps its job, and may make no more steps; the rest is so where the world was well, and the thread's context was live
 record Acts (e : Environment) (x : Thread) (outcome : Outcome) : Type 0 where
-  context : outcome.thread.context ≡ x.context
   job : outcome.thread.job ≡ x.job
   left : (n : ℕ) → steps_left n outcome.thread.status ≤ steps_left n x.status
-  world : IsSound e.world → is_live e.world x.context ≡ true → Changes x.job e.world outcome.environment.world
+  ends : IsWell e.world e.channels → is_live e.world x.context ≡ true → Ends x.job e outcome
 
-same_world : (job : ℕ) (w : World) → IsSound w → Changes job w w
-same_world job w sound = record { grows = grows_not job 2 w; sound = sound }
+same_world : (job : ℕ) (e : Environment) → IsWell e.world e.channels → Changes job e e
+same_world job e well = record { grows = grows_not job 2 e.world; well = well; inputs = (refl, refl) }
 
 acts_unchanged : (e : Environment) (x y : Thread) → y.context ≡ x.context → y.job ≡ x.job → ((n : ℕ) → steps_left n y.status ≤ steps_left n x.status) → Acts e x (unchanged e y)
-acts_unchanged e x y context job left = record { context = context; job = job; left = left; world = λ sound live. same_world x.job e.world sound }
+acts_unchanged e x y context job left = record {
+  job = job;
+  left = left;
+  ends = λ well live. record { changes = same_world x.job e well; live = ap (is_live e.world) context ∙ live };
+}
 
 acts_regs : (e : Environment) (x : Thread) (regs : Regs) → Acts e x (unchanged e (with_regs x regs))
 acts_regs e x regs = acts_unchanged e x (with_regs x regs) refl refl (λ n. omega arith)
@@ -67,55 +93,26 @@ acts_chosen : (e : Environment) (x : Thread) (b : Bool) (first second : Outcome)
 acts_chosen e x true first second p q = p
 acts_chosen e x false first second p q = q
 
-row_clear : {R : Type 0} (b : Bool) (refusal : R) (rest : Option R) → cond b (Some refusal) rest ≡ None → (b ≡ false) × (rest ≡ None)
-row_clear true refusal rest none = cc
-row_clear false refusal rest none = (refl, none)
-
-abbrev IsClear : Bool × Refusal → Type 0
-IsClear row = row.0 ≡ false
-
--- where no row refuses, the test of none holds
-rows_clear : (rows : List (Bool × Refusal)) → first_refusal rows ≡ None → All IsClear rows
-rows_clear [] none = All-nil IsClear
-rows_clear (row ∷ rows) none =
-    let clear = row_clear row.0 row.1 (first_refusal rows) none in All-cons IsClear row rows clear.0 (rows_clear rows clear.1)
-
-not_too_many : (many most : ℕ) → leb most many ≡ false → many < most
-not_too_many many most fewer = grind (arith, nat_tests)
-
-not_both : (a b : Bool) → (a && b) ≡ false → a ≡ true → b ≡ false
-not_both true b neither is = neither
-not_both false b neither is = cc
-
-module _ (w : World) (c : Name) (job : ℕ) (regs : Regs) (none : first_refusal (refusals w c job regs) ≡ None) where
-  clear : All IsClear (refusals w c job regs)
-  clear = rows_clear (refusals w c job regs) none
-
-  fewer_contexts : live_of w job < 32
-  unfolding refusals
-  fewer_contexts = not_too_many (live_of w job) 32 (All-get_or IsClear (refusals w c job regs) 5 (true, BadCall) (omega arith) clear)
-
-  fewer_groups : needs_group w c (items_of w c regs) ≡ true → groups_of w job < 64
-  unfolding refusals
-  fewer_groups needs =
-      not_too_many (groups_of w job) 64
-      (not_both (needs_group w c (items_of w c regs)) _ (All-get_or IsClear (refusals w c job regs) 7 (true, BadCall) (omega arith) clear) needs)
-
 module _ (facts : WorldFacts) where
-  acts_stored : (e : Environment) (x : Thread) (s : Stored) → ((v : World) → s ≡ Done v → IsSound e.world → is_live e.world x.context ≡ true → Changes x.job e.world v) →
+  acts_stored : (e : Environment) (x : Thread) (s : Stored) → ((v : World) → s ≡ Done v → IsWell e.world e.channels → is_live e.world x.context ≡ true → Changes x.job e (with_world e v)) →
       Acts e x (stored_outcome e x s)
   acts_stored e x Absent changes = acts_faulted e x fault.BadStore
   acts_stored e x Full changes = acts_faulted e x fault.NoFrame
-  acts_stored e x (Done v) changes = record { context = refl; job = refl; left = λ n. omega arith; world = changes v refl }
+  acts_stored e x (Done v) changes = record {
+    job = refl;
+    left = λ n. omega arith;
+    ends = λ well live. let done = changes v refl well live in record { changes = done; live = done.grows.live x.context live };
+  }
 
   acts_store : (e : Environment) (x : Thread) (piece : Piece) → length piece.bytes ≤ 4096 → Acts e x (store_outcome e x piece)
   unfolding store_outcome
   acts_store e x piece short =
       acts_chosen e x (leb (piece.at + length piece.bytes) (e.world.size.pages * PAGE_BYTES))
       (stored_outcome e x (store e.world x.context x.job piece)) (unchanged e (faulted x fault.BadStore))
-      (acts_stored e x (store e.world x.context x.job piece) (λ v done sound live. record {
+      (acts_stored e x (store e.world x.context x.job piece) (λ v done well live. record {
         grows = grows_store facts e.world v x.context x.job piece short done;
-        sound = facts.sound.store e.world v x.context x.job piece sound live done;
+        well = well_store facts e.world v e.channels x.context x.job piece live done well;
+        inputs = (refl, refl);
       }))
       (acts_faulted e x fault.BadStore)
 
@@ -129,25 +126,171 @@ module _ (facts : WorldFacts) where
       Acts e x (call_outcome e x (create.ended e.world x.context x.job x.regs slot refusal))
   acts_ended e x slot (Some r) is = acts_regs e x (with_result x.regs 0 _)
   acts_ended e x slot None is = record {
-    context = refl;
     job = refl;
     left = λ n. omega arith;
-    world = λ sound live. record {
-      grows = grows_created facts e.world x.context x.job (items_of e.world x.context x.regs) sound live (fewer_groups e.world x.context x.job x.regs is)
-          (after_call x.regs no_caller) slot _ (fewer_contexts e.world x.context x.job x.regs is);
-      sound = sound_created facts e.world x.context x.job (items_of e.world x.context x.regs) sound live (fewer_groups e.world x.context x.job x.regs is)
-          (after_call x.regs no_caller) slot _;
-    };
+    ends = λ well live.
+        let items = items_of e.world x.context x.regs in
+        let spec = facts.creates.spec e.world x.context x.job x.regs is in
+        let room = facts.creates.groups e.world x.context x.job x.regs is in
+        let grows = grows_created facts e.world x.context x.job items spec well.sound live room (after_call x.regs no_caller) slot _ (facts.creates.contexts e.world x.context x.job x.regs is) in
+        record {
+          changes = record {
+            grows = grows;
+            well = well_created facts e.world x.context x.job items spec well.sound live room (after_call x.regs no_caller) slot _ e.channels well;
+            inputs = (refl, refl);
+          };
+          live = grows.live x.context live;
+        };
   }
 
   acts_create : (e : Environment) (x : Thread) → Acts e x (create_outcome e x)
   unfolding create.create
   acts_create e x = acts_ended e x _ _ refl
 
+  -- where a call was refused nothing has changed
+  acts_answered : (e : Environment) (x : Thread) (answer : Answer) (v : World) → ((refusal : Refusal) → answer ≡ answers.Refused refusal → v ≡ e.world) →
+      ((regs : Regs) → answer ≡ answers.Done regs → IsWell e.world e.channels → is_live e.world x.context ≡ true → Changes x.job e (with_world e v)) →
+      Acts e x (call_outcome e x (answer, v))
+  acts_answered e x (answers.Refused r) v stays changes =
+      subst (λ (u : World). Acts e x (unchanged (with_world e u) (refused x r))) (sym (stays r refl)) (acts_regs e x (with_result x.regs 0 _))
+  acts_answered e x (answers.Done regs) v stays changes = record {
+    job = refl;
+    left = λ n. omega arith;
+    ends = λ well live. let done = changes regs refl well live in record { changes = done; live = done.grows.live x.context live };
+  }
+
+  stays_restricted : (w v : World) (c : Name) (regs : Regs) (first : Option Refusal) (refusal : Refusal) → restricting.ended w c regs first ≡ (answers.Refused refusal, v) → v ≡ w
+  stays_restricted w v c regs (Some r) refusal is = sym (ap (λ (p : Answer × World). p.1) is)
+  stays_restricted w v c regs None refusal is = let other = ap (λ (p : Answer × World). p.0) is in cc
+
+  stays_overlaid : (w v : World) (c : Name) (job : ℕ) (regs : Regs) (first : Option Refusal) (refusal : Refusal) → overlaying.ended w c job regs first ≡ (answers.Refused refusal, v) → v ≡ w
+  stays_overlaid w v c job regs (Some r) refusal is = sym (ap (λ (p : Answer × World). p.1) is)
+  stays_overlaid w v c job regs None refusal is = let other = ap (λ (p : Answer × World). p.0) is in cc
+
+  restricted_changes : (e : Environment) (x : Thread) (v : World) → IsRestriction e.world v x.context x.regs → IsWell e.world e.channels → is_live e.world x.context ≡ true → Changes x.job e (with_world e v)
+  restricted_changes e x v is well live =
+      subst (λ (u : World). Changes x.job e (with_world e u)) (sym is.made)
+      (record {
+        grows = grows_more x.job 0 2 e.world _ (omega arith) (grows_slot facts x.job e.world x.context _ _);
+        well = well_slot facts e.world e.channels x.context _ _ tt (λ d of. facts.named.named e.world x.context d _ well.named live is.within (ap (is_of d) is.had ∙ of)) well;
+        inputs = (refl, refl);
+      })
+
+  acts_restrict : (e : Environment) (x : Thread) → Acts e x (restrict_outcome e x)
+  unfolding restricting.restrict
+  acts_restrict e x =
+      acts_answered e x (restricting.restrict e.world x.context x.regs).0 (restricting.restrict e.world x.context x.regs).1 (λ r is. restrict_stays r is)
+      (λ regs is. restricted_changes e x _ (facts.restricts e.world _ x.context x.regs regs (ap (λ a. (a, (restricting.restrict e.world x.context x.regs).1)) is)))
+    where
+      restrict_stays : (r : Refusal) → (restricting.restrict e.world x.context x.regs).0 ≡ answers.Refused r → (restricting.restrict e.world x.context x.regs).1 ≡ e.world
+      restrict_stays r is = stays_restricted e.world _ x.context x.regs _ r (ap (λ a. (a, (restricting.restrict e.world x.context x.regs).1)) is)
+
+  taken_changes : (e : Environment) (x : Thread) (v : World) → IsTaken e.world v x.context x.job x.regs → IsWell e.world e.channels → is_live e.world x.context ≡ true → Changes x.job e (with_world e v)
+  taken_changes e x v is well live =
+      subst (λ (u : World). Changes x.job e (with_world e u)) (sym is.made)
+      (record {
+        grows = grows_overlay facts e.world is.source x.job _ is.spec well.sound is.live is.group x.context;
+        well = record {
+          sound = facts.sound.overlay e.world x.context is.source x.job _ is.spec live is.live well.sound;
+          named = facts.named.overlay e.world x.context is.source x.job _ well.sound.fresh live is.live well.named;
+          files = facts.files.overlay e.channels e.world x.context is.source x.job _ is.live well.files;
+        };
+        inputs = (refl, refl);
+      })
+
+  acts_overlay : (e : Environment) (x : Thread) → Acts e x (overlay_outcome e x)
+  unfolding overlaying.overlay
+  acts_overlay e x =
+      acts_answered e x (overlaying.overlay e.world x.context x.job x.regs).0 (overlaying.overlay e.world x.context x.job x.regs).1 (λ r is. overlay_stays r is)
+      (λ regs is well live. taken_changes e x _ (facts.takes e.world _ x.context x.job x.regs regs well.named live (ap (λ a. (a, (overlaying.overlay e.world x.context x.job x.regs).1)) is)) well live)
+    where
+      overlay_stays : (r : Refusal) → (overlaying.overlay e.world x.context x.job x.regs).0 ≡ answers.Refused r → (overlaying.overlay e.world x.context x.job x.regs).1 ≡ e.world
+      overlay_stays r is = stays_overlaid e.world _ x.context x.job x.regs _ r (ap (λ a. (a, (overlaying.overlay e.world x.context x.job x.regs).1)) is)
+
+  -- where a switch was refused nothing has changed
+  stays_refused : (w v : World) (c d : Name) (t n : ℕ) (regs : Regs) (first : Option Refusal) (refusal : Refusal) →
+      switching.ended w c t regs d n first ≡ (moved.Refused refusal, v) → v ≡ w
+  stays_refused w v c d t n regs (Some r) refusal is = sym (ap (λ (p : Moved × World). p.1) is)
+  stays_refused w v c d t n regs None refusal is = let other = ap (λ (p : Moved × World). p.0) is in cc
+
+  acts_moved : (t : ℕ) (e : Environment) (x : Thread) (answer : Moved) (v : World) → switch e.world x.context t x.regs ≡ (answer, v) →
+      Acts e x (unchanged (with_world e v) (switched x answer))
+  unfolding switch
+  acts_moved t e x (moved.Refused r) v is =
+      let same : v ≡ e.world = stays_refused e.world v x.context _ t _ x.regs _ r is in
+      subst (λ (u : World). Acts e x (unchanged (with_world e u) (refused x r))) (sym same) (acts_regs e x (with_result x.regs 0 _))
+  acts_moved t e x (moved.To d regs) v is = record {
+    job = refl;
+    left = λ n. omega arith;
+    ends = λ well live.
+        let went : IsSwitch e.world v x.context d t x.regs regs = facts.switches e.world v x.context d t x.regs regs well.named live is in
+        let grows = grows_switched facts x.job e.world x.context d t _ went.slot _ in
+        let more : Grows x.job 2 e.world (switching.switched e.world x.context t x.regs d went.slot) = grows_more x.job 0 2 e.world _ (omega arith) grows in
+        subst (λ (u : World). Ends x.job e (unchanged (with_world e u) (record x { context = d; regs = regs }))) (sym went.made)
+        (record {
+          changes = record {
+            grows = more;
+            well = well_switched facts e.world x.context d t _ went.slot _ e.channels live well;
+            inputs = (refl, refl);
+          };
+          live = grows.live d went.live;
+        });
+  }
+
+  acts_switch : (t : ℕ) (e : Environment) (x : Thread) → Acts e x (switch_outcome t e x)
+  acts_switch t e x = acts_moved t e x _ _ refl
+
+  -- numbers that are kept grow little
+  plain_changes : (e f : Environment) (job : ℕ) (three : Three) → IsPlainChange e.world e.channels three job f.world f.channels → IsWell e.world e.channels → is_live e.world three.memory ≡ true →
+      Changes job e f
+  plain_changes e f job three does well live = record {
+    grows = grows_numbers facts job e.world f.world (facts.calls.numbers e.world e.channels three job f.world f.channels does);
+    well = facts.calls.well e.world e.channels three job f.world f.channels does live well;
+    inputs = facts.calls.inputs e.world e.channels three job f.world f.channels does;
+  }
+
+  acts_plainly : (e f : Environment) (x : Thread) (answer : CallAnswer) → (IsWell e.world e.channels → is_live e.world x.context ≡ true → Changes x.job e f) → Acts e x (unchanged f (plainly x answer))
+  acts_plainly e f x (Value value) changes = record {
+    job = refl;
+    left = λ n. omega arith;
+    ends = λ well live. let done = changes well live in record { changes = done; live = done.grows.live x.context live };
+  }
+  acts_plainly e f x (Exit code) changes = record {
+    job = refl;
+    left = λ n. omega arith;
+    ends = λ well live. let done = changes well live in record { changes = done; live = done.grows.live x.context live };
+  }
+  acts_plainly e f x (call_answers.Refused r) changes = record {
+    job = refl;
+    left = λ n. omega arith;
+    ends = λ well live. let done = changes well live in record { changes = done; live = done.grows.live x.context live };
+  }
+
+  acts_plain : (number : ℕ) (e : Environment) (x : Thread) → Acts e x (plain_outcome number e x)
+  acts_plain number e x =
+      let ended = plain e.world e.channels (three_times x.context) x.job number (args_of x.regs) in
+      acts_plainly e (beside ended.world ended.io) x ended.answer
+      (λ well live. plain_changes e (beside ended.world ended.io) x.job (three_times x.context)
+      (facts.calls.plain e.world e.channels (three_times x.context) x.job number (args_of x.regs) well.named well.files live) well live)
+
+  acts_syscall : (e : Environment) (x : Thread) → Acts e x (syscall_outcome e x)
+  acts_syscall e x =
+      let ended = lw_syscall e.world e.channels x.context x.job x.regs in
+      acts_plainly e (beside ended.world ended.io) x ended.answer
+      (λ well live. record {
+        grows = grows_numbers facts x.job e.world ended.world (facts.calls.over_numbers e.world e.channels x.context x.job x.regs live well);
+        well = facts.calls.over_well e.world e.channels x.context x.job x.regs live well;
+        inputs = facts.calls.over_inputs e.world e.channels x.context x.job x.regs live well;
+      })
+
   acts_call : (t number : ℕ) (e : Environment) (x : Thread) → Acts e x (guest_calls number t e x)
   unfolding guest_calls
   acts_call t number e x =
-      acts_chosen e x (eqb number LW_CREATE) (create_outcome e x) (unchanged e (refused x BadCall)) (acts_create e x) (acts_regs e x (with_result x.regs 0 _))
+      acts_chosen e x (eqb number LW_CREATE) (create_outcome e x) _ (acts_create e x)
+      (acts_chosen e x (eqb number LW_SWITCH) (switch_outcome t e x) _ (acts_switch t e x)
+      (acts_chosen e x (eqb number LW_RESTRICT) (restrict_outcome e x) _ (acts_restrict e x)
+      (acts_chosen e x (eqb number LW_OVERLAY) (overlay_outcome e x) _ (acts_overlay e x)
+      (acts_chosen e x (eqb number LW_SYSCALL) (syscall_outcome e x) (plain_outcome number e x) (acts_syscall e x) (acts_plain number e x)))))
 
   acts_shared : (t : ℕ) (e : Environment) (x : Thread) (i : Instr) (op : Op) → Acts e x (shared_outcome guest_calls t e x i op)
   unfolding shared_outcome
@@ -178,10 +321,10 @@ still_ready job most w v grows x ready = record { live = grows.live x.context re
     still_runs (status.Done code) runs = tt
     still_runs (status.Faulted f) runs = tt
 
--- what a step leaves: the world has changed as it may, the thread is ready for the same job, and it may make fewer steps
-pub record IsStep (w : World) (x : Thread) (outcome : Outcome) : Type 0 where
-  pub changes : Changes x.job w outcome.environment.world
-  pub limits : (jobs : List ℕ) → Contains jobs x.job → IsWithinLimits w jobs → IsWithinLimits outcome.environment.world jobs
+-- what a step leaves: what threads have in common has changed as it may, the thread is ready for the same job, and it may make fewer steps
+pub record IsStep (e : Environment) (x : Thread) (outcome : Outcome) : Type 0 where
+  pub changes : Changes x.job e outcome.environment
+  pub limits : (jobs : List ℕ) → Contains jobs x.job → IsWithinLimits e.world jobs → IsWithinLimits outcome.environment.world jobs
   pub ready : IsReadyThread outcome.environment.world outcome.thread
   pub job : outcome.thread.job ≡ x.job
   pub fewer : steps_left outcome.thread.budget outcome.thread.status < steps_left x.budget x.status
@@ -210,13 +353,14 @@ runs_by v x left (status.Done code) some known = tt
 runs_by v x left (status.Faulted f) some known = tt
 
 module _ (facts : WorldFacts) where
-  step_running : (t : ℕ) (e : Environment) (x : Thread) (advance : Advance) → IsSound e.world → x.status ≡ status.Running → IsReadyThread e.world x →
-      IsStep e.world x (advance_outcome guest_calls t e x advance)
+  step_running : (t : ℕ) (e : Environment) (x : Thread) (advance : Advance) → IsWell e.world e.channels → x.status ≡ status.Running → IsReadyThread e.world x →
+      IsStep e x (advance_outcome guest_calls t e x advance)
   unfolding advance_outcome
-  step_running t e x advance sound running ready =
+  step_running t e x advance well running ready =
       let outcome = next_outcome guest_calls t e (with_regs x advance.after) advance.next in
       let acts = acts_next facts t e (with_regs x advance.after) advance.next in
-      let changes = acts.world sound ready.live in
+      let ends = acts.ends well ready.live in
+      let changes = ends.changes in
       let runs : IsRunnable e.world x = subst (λ (s : ThreadStatus). WhileRunning s (IsRunnable e.world x)) running ready.runs in
       let had : steps_left x.budget x.status ≡ x.budget = ap (steps_left x.budget) running in
       let few : steps_left (x.budget - 1) outcome.thread.status ≤ x.budget - 1 =
@@ -225,7 +369,7 @@ module _ (facts : WorldFacts) where
         changes = changes;
         limits = λ jobs there limits. changes.grows.limits jobs there runs.some_job limits;
         ready = record {
-          live = ap (is_live outcome.environment.world) acts.context ∙ changes.grows.live x.context ready.live;
+          live = ends.live;
           budget = omega (arith, ready.budget);
           runs = runs_by outcome.environment.world (with_status outcome.thread (status_with (x.budget - 1) outcome.thread.status)) (x.budget - 1) outcome.thread.status
               (omega (arith, acts.job, runs.some_job)) (omega (arith, acts.job, runs.known_job, ap (λ s. s.jobs) changes.grows.size));
@@ -234,26 +378,26 @@ module _ (facts : WorldFacts) where
         fewer = omega (arith, left_by (x.budget - 1) outcome.thread.status few, had, runs.some_step);
       }
 
-  step_idle : (e : Environment) (x : Thread) → IsSound e.world → x.status ≡ status.Idle → IsReadyThread e.world x → IsStep e.world x (unchanged e (with_status x (status.Done 0)))
-  step_idle e x sound idle ready = record {
-    changes = same_world x.job e.world sound;
+  step_idle : (e : Environment) (x : Thread) → IsWell e.world e.channels → x.status ≡ status.Idle → IsReadyThread e.world x → IsStep e x (unchanged e (with_status x (status.Done 0)))
+  step_idle e x well idle ready = record {
+    changes = same_world x.job e well;
     limits = λ jobs there limits. limits;
     ready = record { live = ready.live; budget = ready.budget; runs = tt };
     job = refl;
     fewer = subst (λ (s : ThreadStatus). 0 < steps_left x.budget s) (sym idle) (omega arith);
   }
 
-  step_by_status : (t : ℕ) (e : Environment) (text : List Instr) (x : Thread) (s : ThreadStatus) (outcome : Outcome) → IsSound e.world → x.status ≡ s → IsReadyThread e.world x →
-      thread_outcome guest_calls t e text x s ≡ Some outcome → IsStep e.world x outcome
-  step_by_status t e text x status.Running outcome sound is ready made =
+  step_by_status : (t : ℕ) (e : Environment) (text : List Instr) (x : Thread) (s : ThreadStatus) (outcome : Outcome) → IsWell e.world e.channels → x.status ≡ s → IsReadyThread e.world x →
+      thread_outcome guest_calls t e text x s ≡ Some outcome → IsStep e x outcome
+  step_by_status t e text x status.Running outcome well is ready made =
       let same : advance_outcome guest_calls t e x (advanced text x.regs) ≡ outcome = cc in
-      subst (IsStep e.world x) same (step_running t e x (advanced text x.regs) sound is ready)
-  step_by_status t e text x status.Idle outcome sound is ready made =
-      let same : unchanged e (with_status x (status.Done 0)) ≡ outcome = cc in subst (IsStep e.world x) same (step_idle e x sound is ready)
-  step_by_status t e text x (status.Done code) outcome sound is ready made = cc
-  step_by_status t e text x (status.Faulted f) outcome sound is ready made = cc
+      subst (IsStep e x) same (step_running t e x (advanced text x.regs) well is ready)
+  step_by_status t e text x status.Idle outcome well is ready made =
+      let same : unchanged e (with_status x (status.Done 0)) ≡ outcome = cc in subst (IsStep e x) same (step_idle e x well is ready)
+  step_by_status t e text x (status.Done code) outcome well is ready made = cc
+  step_by_status t e text x (status.Faulted f) outcome well is ready made = cc
 
   -- a step that was made
-  pub step_made : (t : ℕ) (e : Environment) (text : List Instr) (x : Thread) (outcome : Outcome) → IsSound e.world → IsReadyThread e.world x →
-      thread_outcome guest_calls t e text x x.status ≡ Some outcome → IsStep e.world x outcome
-  step_made t e text x outcome sound ready made = step_by_status t e text x x.status outcome sound refl ready made
+  pub step_made : (t : ℕ) (e : Environment) (text : List Instr) (x : Thread) (outcome : Outcome) → IsWell e.world e.channels → IsReadyThread e.world x →
+      thread_outcome guest_calls t e text x x.status ≡ Some outcome → IsStep e x outcome
+  step_made t e text x outcome well ready made = step_by_status t e text x x.status outcome well refl ready made

@@ -1,29 +1,37 @@
 -- A machine that is ready stays so over each step.
-use Rattle.std.proofs.Common.{◌≡◌, ℕ, zero, suc, ◌+◌, ◌^◌, ◌≤◌, ◌<◌, refl, sym, ap, subst, ◌∙◌, Option, Some, None, List, [], ◌∷◌, length, arith}
+use Rattle.std.proofs.Common.{◌≡◌, ℕ, zero, suc, ◌+◌, ◌^◌, ◌≤◌, ◌<◌, refl, sym, ap, subst, ◌∙◌, true, Option, Some, None, List, [], ◌∷◌, length, get_or, arith}
 use Rattle.std.specs.List.{Contains}
-use Rattle.std.specs.Prelude.{slice_get, slice_set}
+use Rattle.std.specs.Prelude.{All, slice_get, slice_set}
 use Rattle.std.proofs.lemmas.List.{length-map, length-set}
 use Rattle.std.proofs.lemmas.List.Elements.{All-get_or, All-set, All-weaker}
 use Rattle.std.proofs.lemmas.Option.{slice_get_within, get_or_from_slice_get}
 use Rattle.kernel_core.proofs.Limits.{has_places}
 use Rattle.kernel_core.proofs.Outcomes.{IsStep, step_made, still_ready}
+use Rattle.kernel_core.proofs.Reaping.{each_root, limits_reaped, root_kept}
 use Rattle.kernel_core.proofs.Worlds.{RisesBy, WorldFacts, name_itself}
 use Rattle.kernel_core.specs.Machine.{Machine, steps_left}
 use Rattle.kernel_core.specs.Ready.{CanAct, IsCounted, IsReady, IsReadyThread, IsRunnable, IsWithinLimits, WhileRunning, jobs_of, most_counted}
 use Rattle.kernel_core.specs.Runs.{run}
 use Rattle.kernel_core.specs.Start.{Inputs}
-use Rattle.kernel_core.specs.Step.{Outcome, after_outcome, after_thread, guest_calls, step, step_by, thread_outcome}
+use Rattle.kernel_core.specs.Step.{Outcome, after_outcome, after_thread, guest_calls, roots, step, step_by, thread_outcome}
 use Rattle.kernel_core.specs.declared.thread.Thread.{Thread}
-use Rattle.lwc_base.specs.World.{Counters}
+use Rattle.lwc_base.specs.Life.{is_among, reap}
+use Rattle.lwc_base.specs.World.{World, Counters, is_live}
 use Rattle.lwc_base.specs.declared.fault.ThreadStatus.{ThreadStatus}
 use Rattle.lwc_base.specs.declared.fault.ThreadStatus.TheVariants.{Idle, Running, Done, Faulted}
 use Rattle.lwc_base.specs.declared.limits.TheConstants.{MOST_STEPS}
+use Rattle.lwc_base.specs.declared.name.Name.{Name}
+use Rattle.lwc_syscall.specs.Changes.{IsWell}
 
 -- the thread of a number is ready
 pub ready_thread : (inputs : Inputs) (steps t : ℕ) (m : Machine) (x : Thread) → IsReady inputs steps m → slice_get m.threads t ≡ Some x → IsReadyThread m.environment.world x
 ready_thread inputs steps t m x ready found =
     subst (λ (y : Thread). IsReadyThread m.environment.world y) (get_or_from_slice_get m.threads t x x found)
     (All-get_or (IsReadyThread m.environment.world) m.threads t x (slice_get_within m.threads t x found) ready.threads)
+
+-- a ready machine's world is well
+well_ready : (inputs : Inputs) (steps : ℕ) (m : Machine) → IsReady inputs steps m → IsWell m.environment.world m.environment.channels
+well_ready inputs steps m ready = record { sound = ready.sound; named = ready.named; files = ready.files }
 
 -- the job of a thread is one of the threads' jobs
 known_job : (threads : List Thread) (t : ℕ) (x : Thread) → slice_get threads t ≡ Some x → Contains (jobs_of threads) x.job
@@ -52,6 +60,10 @@ pub ready_later : (inputs : Inputs) (steps later : ℕ) (m : Machine) → steps 
 ready_later inputs steps later m more ready = record {
   size = ready.size;
   sound = ready.sound;
+  named = ready.named;
+  files = ready.files;
+  given = ready.given;
+  reaped = ready.reaped;
   limits = ready.limits;
   counted = λ job. counts_later (most_counted steps) (most_counted later) _ (omega arith) (ready.counted job);
   threads = ready.threads;
@@ -75,6 +87,8 @@ module _ (facts : WorldFacts) where
       let few : most_counted steps < 2 ^ 31 = omega arith in
       let jobs : length (jobs_of m.threads) ≤ 16 = omega (arith, length-map m.threads (λ (y : Thread). y.job), ready.few) in
       record {
+        sound = ready.sound;
+        named = ready.named;
         live = (ready_thread inputs steps t m x ready found).live;
         may = record {
           known = runs.known_job;
@@ -82,7 +96,7 @@ module _ (facts : WorldFacts) where
           groups = omega (arith, counted.groups, few);
           tags = omega (arith, counted.tags, few);
         };
-        places = has_places (name_itself facts) inputs.settings.frames x.job m.environment.world (jobs_of m.threads) ready.size ready.limits jobs (known_job m.threads t x found);
+        places = has_places (name_itself facts.orders) inputs.settings.frames x.job m.environment.world (jobs_of m.threads) ready.size ready.limits jobs (known_job m.threads t x found);
       }
 
   -- a ready thread can act while it runs
@@ -96,21 +110,56 @@ module _ (facts : WorldFacts) where
   pub fewer_steps : (inputs : Inputs) (steps t : ℕ) (m : Machine) (x : Thread) (outcome : Outcome) → IsReady inputs steps m → slice_get m.threads t ≡ Some x →
       thread_outcome guest_calls t m.environment m.text x x.status ≡ Some outcome → steps_left outcome.thread.budget outcome.thread.status < steps_left x.budget x.status
   fewer_steps inputs steps t m x outcome ready found made =
-      (step_made facts t m.environment m.text x outcome ready.sound (ready_thread inputs steps t m x ready found) made).fewer
+      (step_made facts t m.environment m.text x outcome (well_ready inputs steps m ready) (ready_thread inputs steps t m x ready found) made).fewer
+
+  -- a thread whose context is a root is ready in the reaped world
+  kept_ready : (w : World) (names : List Name) (x : Thread) → is_among names x.context ≡ true → IsReadyThread w x → IsReadyThread (reap w names) x
+  kept_ready w names x among ready =
+      let size = (facts.life.rest w names).0 in
+      record {
+        live = root_kept facts w names x.context ready.live among;
+        budget = ready.budget;
+        runs = while_running (IsRunnable w x) (IsRunnable (reap w names) x) x.status
+            (λ runs. record { some_job = runs.some_job; known_job = omega (arith, ap (λ s. s.jobs) size, runs.known_job); some_step = runs.some_step }) ready.runs;
+      }
+
+  -- the threads after a step are ready in the world that it leaves
+  pub threads_after : (inputs : Inputs) (steps t : ℕ) (m : Machine) (x : Thread) (outcome : Outcome) → IsReady inputs steps m → IsStep m.environment x outcome →
+      All (IsReadyThread outcome.environment.world) (slice_set m.threads t outcome.thread)
+  threads_after inputs steps t m x outcome ready made =
+      let v = outcome.environment.world in
+      All-set (IsReadyThread v) m.threads t outcome.thread made.ready
+      (All-weaker (IsReadyThread m.environment.world) (IsReadyThread v) (still_ready x.job 2 m.environment.world v made.changes.grows) m.threads ready.threads)
+
+  -- and each in a live context
+  pub live_after : (inputs : Inputs) (steps t : ℕ) (m : Machine) (x : Thread) (outcome : Outcome) → IsReady inputs steps m → slice_get m.threads t ≡ Some x →
+      thread_outcome guest_calls t m.environment m.text x x.status ≡ Some outcome → All (λ (y : Thread). is_live outcome.environment.world y.context ≡ true) (slice_set m.threads t outcome.thread)
+  live_after inputs steps t m x outcome ready found made =
+      All-weaker (IsReadyThread outcome.environment.world) (λ (y : Thread). is_live outcome.environment.world y.context ≡ true) (λ y is. is.live) (slice_set m.threads t outcome.thread)
+      (threads_after inputs steps t m x outcome ready (step_made facts t m.environment m.text x outcome (well_ready inputs steps m ready) (ready_thread inputs steps t m x ready found) made))
 
   ready_outcome : (inputs : Inputs) (steps t : ℕ) (m : Machine) (x : Thread) (outcome : Outcome) → IsReady inputs steps m → slice_get m.threads t ≡ Some x →
-      IsStep m.environment.world x outcome → IsReady inputs (steps + 1) (after_outcome m t (Some outcome))
+      IsStep m.environment x outcome → IsReady inputs (steps + 1) (after_outcome m t (Some outcome))
   ready_outcome inputs steps t m x outcome ready found made =
       let v = outcome.environment.world in
       let grows = made.changes.grows in
+      let well = made.changes.well in
+      let threads : List Thread = slice_set m.threads t outcome.thread in
+      let names : List Name = roots threads in
+      let rest = facts.life.rest v names in
+      let there = threads_after inputs steps t m x outcome ready made in
       record {
-        size = grows.size ∙ ready.size;
-        sound = made.changes.sound;
-        limits = subst (λ (jobs : List ℕ). IsWithinLimits v jobs) (sym (same_jobs m.threads t x outcome.thread found made.job))
-            (made.limits (jobs_of m.threads) (known_job m.threads t x found) ready.limits);
-        counted = λ job. counts_later (most_counted steps + 2) (most_counted (steps + 1)) _ (omega arith) (counts_more (most_counted steps) 2 _ _ (ready.counted job) (grows.counts job));
-        threads = All-set (IsReadyThread v) m.threads t outcome.thread made.ready
-            (All-weaker (IsReadyThread m.environment.world) (IsReadyThread v) (still_ready x.job 2 m.environment.world v grows) m.threads ready.threads);
+        size = rest.0 ∙ grows.size ∙ ready.size;
+        sound = facts.sound.reap v names well.sound;
+        named = facts.named.reap v names well.named;
+        files = facts.files.reap outcome.environment.channels v names well.files;
+        given = (made.changes.inputs.0 ∙ ready.given.0, made.changes.inputs.1 ∙ ready.given.1);
+        reaped = facts.life.reaped v names;
+        limits = limits_reaped facts v names (jobs_of threads) (subst (λ (jobs : List ℕ). IsWithinLimits v jobs) (sym (same_jobs m.threads t x outcome.thread found made.job))
+            (made.limits (jobs_of m.threads) (known_job m.threads t x found) ready.limits));
+        counted = λ job. subst (λ (next : ℕ → Counters). IsCounted (most_counted (steps + 1)) (next job)) (sym rest.1)
+            (counts_later (most_counted steps + 2) (most_counted (steps + 1)) _ (omega arith) (counts_more (most_counted steps) 2 _ _ (ready.counted job) (grows.counts job)));
+        threads = λ k d within. kept_ready v names (get_or threads k d) (each_root facts.orders threads k d within) (there k d within);
         count = length-set m.threads t outcome.thread ∙ ready.count;
         some = rw length-set ready.some;
         few = rw length-set ready.few;
@@ -122,7 +171,7 @@ module _ (facts : WorldFacts) where
   ready_after inputs steps t m x None ready found made = ready_later inputs steps (steps + 1) m (omega arith) ready
   ready_after inputs steps t m x (Some outcome) ready found made =
       ready_outcome inputs steps t m x outcome ready found
-      (step_made facts t m.environment m.text x outcome ready.sound (ready_thread inputs steps t m x ready found) made)
+      (step_made facts t m.environment m.text x outcome (well_ready inputs steps m ready) (ready_thread inputs steps t m x ready found) made)
 
   ready_found : (inputs : Inputs) (steps t : ℕ) (m : Machine) (found : Option Thread) → IsReady inputs steps m → slice_get m.threads t ≡ found →
       IsReady inputs (steps + 1) (after_thread guest_calls m t found)

@@ -1,7 +1,8 @@
 -- The machine of a start is ready, and its world sound.
-use Rattle.std.proofs.Common.{◌≡◌, ℕ, zero, suc, ◌+◌, ◌≤◌, ◌<◌, refl, sym, ap, subst, ◌∙◌, Bool, true, false, cond, eqb, Some, None, List, [], ◌∷◌, ◌++◌, length, map, take, get_or, arith}
+use Rattle.std.proofs.Common.{◌≡◌, ◌⊎◌, inl, inr, ℕ, zero, suc, ◌+◌, ◌≤◌, ◌<◌, refl, sym, ap, subst, ◌∙◌, Bool, true, false, cond, eqb, ltb, Option, Some, None, List, [], ◌∷◌, ◌++◌, length, map, take, get_or, arith}
 use Rattle.std.specs.FinMap as fm
-use Rattle.std.specs.List.{Contains, enumerate_from}
+use Rattle.std.specs.List.{Contains, enumerate_from, find}
+use Rattle.std.specs.Option.{option_map_or}
 use Rattle.std.specs.Ordering.{eq_by_cmp}
 use Rattle.std.specs.Prelude.{All, is_some, slice_get}
 use Rattle.std.proofs.lemmas.Bool.{false≢true}
@@ -13,18 +14,25 @@ use Rattle.std.proofs.Math.Seq.{take-length}
 use Rattle.guest_image.specs.Limits.{IsImage}
 use Rattle.guest_image.specs.declared.image.Image.{Image}
 use Rattle.guest_image.specs.declared.image.PageImage.{PageImage}
+use Rattle.guest_image.specs.declared.image.SlotImage.{SlotImage}
 use Rattle.kernel_core.proofs.Building.{enumerate-push, first_made, first_world, mapped_world, number_below, page_stored, slot_put}
+use Rattle.kernel_core.proofs.FirstLife.{named_first, reaped_first}
 use Rattle.kernel_core.proofs.FirstWorld.{get-first, page_piece}
 use Rattle.kernel_core.proofs.Limits.{length_of_keys}
-use Rattle.kernel_core.proofs.Worlds.{WorldFacts, same_name}
+use Rattle.kernel_core.proofs.Worlds.{WorldFacts, files_store, same_name}
 use Rattle.kernel_core.specs.Kernel.{CanOpen}
 use Rattle.kernel_core.specs.Ready.{IsCounted, IsReady, IsReadyThread, IsWithinLimits, jobs_of, most_counted}
 use Rattle.kernel_core.specs.Start.{Inputs, counted, first_context, first_entry, first_name, first_slot, first_thread, first_threads, start, start_world, thread_count, threads_for, world_size, world_so_far, world_with}
+use Rattle.lwc_base.specs.Cells.{put_slot}
+use Rattle.lwc_base.specs.Channels.{HasItsFiles, IsInRange, opened}
 use Rattle.lwc_base.specs.Mapping.{map_pages}
 use Rattle.lwc_base.specs.Names.{name_cmp}
 use Rattle.lwc_base.specs.Registers.{fresh_registers}
 use Rattle.lwc_base.specs.Sound.{IsSound}
-use Rattle.lwc_base.specs.World.{World, Context, Group, empty_world, groups_of, is_live, live_of}
+use Rattle.lwc_base.specs.Store.{Done, Piece, store}
+use Rattle.lwc_base.specs.World.{World, Context, Group, add_context, empty_world, groups_of, is_live, live_of, new_context}
+use Rattle.lwc_base.specs.declared.channels.FileImage.{FileImage}
+use Rattle.lwc_base.specs.declared.descriptor.Descriptor.TheVariants.{Console, Empty, File}
 use Rattle.lwc_base.specs.declared.limits.TheConstants.{MOST_BUDGET}
 use Rattle.lwc_base.specs.declared.name.Name.{Name}
 
@@ -66,6 +74,40 @@ page_there [] k within = absurd (omega arith)
 page_there (x ∷ xs) zero within = (x, refl)
 page_there (x ∷ xs) (suc k) within = page_there xs k (omega arith)
 
+-- what stays so while the world of a start is built
+record StaysSo (image : Image) (frames : ℕ) (P : World → Type 0) : Type 0 where
+  add : P (add_context (empty_world (world_size frames)) 0 (new_context image.uid (fresh_registers (first_entry image))))
+  map : (w : World) (c : Name) (from to : ℕ) → to ≤ w.size.pages → P w → P (map_pages w c from to)
+  store : (w v : World) (c : Name) (job : ℕ) (piece : Piece) → P w → is_live w c ≡ true → store w c job piece ≡ Done v → P v
+  slot : (w : World) (n : ℕ) → P w → P (put_slot w first_name n (first_slot image.slots n))
+
+found_by : (b : Bool) (x : SlotImage) (later : Option SlotImage) (s : SlotImage) → cond b (Some x) later ≡ Some s → (x ≡ s) ⊎ (later ≡ Some s)
+found_by true x later s is = inl cc
+found_by false x later s is = inr is
+
+-- what is found has what each one has
+found_has : (P : SlotImage → Type 0) (test : SlotImage → Bool) (slots : List SlotImage) → All P slots → (s : SlotImage) → find test slots ≡ Some s → P s
+found_has P test [] all s found = cc
+found_has P test (x ∷ xs) all s found =
+    elim (found_by (test x) x (find test xs) s found) [
+      | inl same ↦ subst P same (all 0 x (omega arith))
+      | inr later ↦ found_has P test xs (λ k d within. all (suc k) d (omega (arith, within))) s later
+    ]
+
+-- what is in a slot at the start is in range
+first_in_range : (files : List FileImage) (requests : List (List ℕ)) (slots : List SlotImage) → All (λ s. s.file < length files) slots → (n : ℕ) →
+    IsInRange (opened files requests) (first_slot slots n)
+unfolding first_slot
+first_in_range files requests slots there n = by_number (ltb n 2)
+  where
+    by_found : (o : Option SlotImage) → find (λ s. eqb s.slot n) slots ≡ o → IsInRange (opened files requests) (option_map_or (λ (s : SlotImage). File s.file 0) o Empty)
+    by_found None is = tt
+    by_found (Some s) is = record { there = rw length-map (found_has (λ t. t.file < length files) (λ t. eqb t.slot n) slots there s is); within = omega arith }
+
+    by_number : (b : Bool) → IsInRange (opened files requests) (cond b Console (option_map_or (λ (s : SlotImage). File s.file 0) (find (λ s. eqb s.slot n) slots) Empty))
+    by_number true = tt
+    by_number false = by_found _ refl
+
 abbrev nobody : fm.FinMap name_cmp Context
 nobody = fm.empty
 
@@ -92,39 +134,59 @@ module _ (facts : WorldFacts) where
     where
       only_first : (c : Name) (b : Bool) → eq_by_cmp name_cmp c first_name ≡ b → is_some (cond b (Some x) None) ≡ true → Contains (0 ∷ jobs) c.job
       only_first c true same live =
-          let is : c ≡ first_name = same_name facts c first_name same in (zero, omega arith, sym (ap (λ (n : Name). n.job) is))
+          let is : c ≡ first_name = same_name facts.orders c first_name same in (zero, omega arith, sym (ap (λ (n : Name). n.job) is))
       only_first c false other live = absurd (false≢true live)
 
   module _ (image : Image) (is : IsImage image) (frames : ℕ) (fits : length image.pages ≤ frames) where
-    sound_pages : (k : ℕ) → k ≤ length image.pages → IsSound (world_so_far image frames k 0)
-    sound_pages zero within =
-        subst IsSound (first_made image frames (fresh_registers (first_entry image)) _ _ refl refl refl)
-        (facts.sound.add (empty_world (world_size frames)) 0 image.uid (fresh_registers (first_entry image)) (facts.sound.empty (world_size frames)))
-    sound_pages (suc k) within =
-        let there = page_there image.pages k (omega arith) in
-        let x = there.0 in
-        let w : World = world_so_far image frames k 0 in
-        let v : World = map_pages w first_name x.number (x.number + 1) in
-        let first = first_world facts.orders image is frames k 0 w refl (omega (arith, is.page_count)) in
-        let number : x.number < 1024 = number_below facts.orders image is k x there.1 in
-        let sound : IsSound v = facts.sound.map w first_name x.number (x.number + 1) (omega (arith, number, ap (λ s. s.pages) first.size)) (sound_pages k (omega arith)) in
-        let live = (mapped_world facts.orders image is k x there.1 frames fits w v refl refl).live in
-        let next : k + 1 ≡ suc k = omega arith in
-        subst (λ (n : ℕ). IsSound (world_so_far image frames n 0)) next
-        (facts.sound.store v (world_so_far image frames (k + 1) 0) first_name 0 (page_piece x.number x.bytes) sound live
-        (page_stored facts.orders image is k x there.1 frames fits w v refl refl))
+    module _ (P : World → Type 0) (stays : StaysSo image frames P) where
+      so_after_pages : (k : ℕ) → k ≤ length image.pages → P (world_so_far image frames k 0)
+      so_after_pages zero within = subst P (first_made image frames (fresh_registers (first_entry image)) _ _ refl refl refl) stays.add
+      so_after_pages (suc k) within =
+          let there = page_there image.pages k (omega arith) in
+          let x = there.0 in
+          let w : World = world_so_far image frames k 0 in
+          let v : World = map_pages w first_name x.number (x.number + 1) in
+          let first = first_world facts.orders image is frames k 0 w refl (omega (arith, is.page_count)) in
+          let number : x.number < 1024 = number_below facts.orders image is k x there.1 in
+          let so : P v = stays.map w first_name x.number (x.number + 1) (omega (arith, number, ap (λ s. s.pages) first.size)) (so_after_pages k (omega arith)) in
+          let live = (mapped_world facts.orders image is k x there.1 frames fits w v refl refl).live in
+          let next : k + 1 ≡ suc k = omega arith in
+          subst (λ (n : ℕ). P (world_so_far image frames n 0)) next
+          (stays.store v (world_so_far image frames (k + 1) 0) first_name 0 (page_piece x.number x.bytes) so live
+          (page_stored facts.orders image is k x there.1 frames fits w v refl refl))
 
-    sound_slots : (n : ℕ) → IsSound (world_so_far image frames (length image.pages) n)
-    sound_slots zero = sound_pages (length image.pages) (omega arith)
-    sound_slots (suc n) =
-        let w : World = world_so_far image frames (length image.pages) n in
-        let next : n + 1 ≡ suc n = omega arith in
-        subst (λ (m : ℕ). IsSound (world_so_far image frames (length image.pages) m)) next
-        (subst IsSound (slot_put facts.orders image is frames (length image.pages) n (first_slot image.slots n) w _ refl refl refl)
-        (facts.sound.slot w first_name n (first_slot image.slots n) (sound_slots n)))
+      so_after_slots : (n : ℕ) → P (world_so_far image frames (length image.pages) n)
+      so_after_slots zero = so_after_pages (length image.pages) (omega arith)
+      so_after_slots (suc n) =
+          let w : World = world_so_far image frames (length image.pages) n in
+          let next : n + 1 ≡ suc n = omega arith in
+          subst (λ (m : ℕ). P (world_so_far image frames (length image.pages) m)) next
+          (subst P (slot_put facts.orders image is frames (length image.pages) n (first_slot image.slots n) w _ refl refl refl) (stays.slot w n (so_after_slots n)))
+
+      so_at_start : P (start_world image frames)
+      so_at_start = subst P (all_put image frames) (so_after_slots 64)
 
     sound_start : IsSound (start_world image frames)
-    sound_start = subst IsSound (all_put image frames) (sound_slots 64)
+    sound_start =
+        so_at_start IsSound
+        (record {
+          add = facts.sound.add (empty_world (world_size frames)) 0 image.uid (fresh_registers (first_entry image)) (facts.sound.empty (world_size frames));
+          map = facts.sound.map;
+          store = facts.sound.store;
+          slot = λ w n. facts.sound.slot w first_name n (first_slot image.slots n);
+        })
+
+    -- each file that a slot names is there
+    files_start : (requests : List (List ℕ)) → HasItsFiles (opened image.files requests) (start_world image frames)
+    files_start requests =
+        let io = opened image.files requests in
+        so_at_start (HasItsFiles io)
+        (record {
+          add = facts.files.add io (empty_world (world_size frames)) 0 image.uid (fresh_registers (first_entry image)) (facts.files.empty io (world_size frames));
+          map = λ w c from to within. facts.files.map io w c from to;
+          store = λ w v c job piece has live done. files_store facts w v io c job piece done has;
+          slot = λ w n. facts.files.slot io w first_name n (first_slot image.slots n) (first_in_range image.files requests image.slots is.slots.files n);
+        })
 
   -- the machine of a start is ready
   pub ready_start : (inputs : Inputs) → CanOpen inputs → IsReady inputs 0 (start inputs)
@@ -137,6 +199,10 @@ module _ (facts : WorldFacts) where
       record {
         size = refl;
         sound = sound_start image can.image frames can.fits;
+        named = named_first facts image frames (length image.pages) image.pages;
+        files = files_start image can.image frames can.fits inputs.requests;
+        given = (refl, refl);
+        reaped = reaped_first facts frames (length image.pages) (first_context image image.pages 64) inputs.settings.budget entries can.image.some_thread;
         limits = within_limits frames (length image.pages) (first_context image image.pages 64) (jobs_of (first_threads inputs.settings.budget entries));
         counted = λ job. counted_by (eqb job 0) (length image.pages) can.image.page_count;
         threads = ready_from (start_world image frames) inputs.settings.budget 0 entries

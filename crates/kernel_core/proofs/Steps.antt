@@ -1,6 +1,6 @@
 -- A kernel stays steady over a step, and what the step makes of its history.
-use Rattle.std.proofs.Common.{◌≡◌, ℕ, ◌+◌, ◌-◌, ◌^◌, ◌≤◌, ◌<◌, refl, sym, ap, subst, ◌∙◌, Bool, true, false, cond, Option, Some, None, List, [], ◌∷◌, ◌++◌, length, arith, length-append, get_or}
-use Rattle.std.specs.Prelude.{IfNone, max, slice_get, slice_set}
+use Rattle.std.proofs.Common.{◌≡◌, ◌≢◌, ℕ, ◌+◌, ◌-◌, ◌^◌, ◌≤◌, ◌<◌, refl, sym, ap, subst, ◌∙◌, Bool, true, false, cond, Option, Some, None, List, [], ◌∷◌, ◌++◌, length, arith, length-append, get_or}
+use Rattle.std.specs.Prelude.{All, max, slice_get, slice_set}
 use Rattle.std.specs.List.{sum_by}
 use Rattle.std.specs.Option.{option_map, option_map_or}
 use Rattle.std.proofs.lemmas.Option.{slice_get_within, get_or_from_slice_get, slice_get-get_or}
@@ -12,22 +12,26 @@ use Rattle.std.proofs.Math.ListN.{set}
 use Rattle.guest_image.specs.declared.image.Image.{Image}
 use Rattle.guest_isa.specs.declared.instr.Instr.{Instr}
 use Rattle.kernel_core.proofs.ReadyRuns.{ready_thread, while_running}
+use Rattle.kernel_core.proofs.Reaping.{uncut}
 use Rattle.kernel_core.proofs.Runs.{run-push, peak-push, used_last}
-use Rattle.kernel_core.specs.Changes.{LeavesWorld, made}
+use Rattle.kernel_core.specs.Changes.{Keeps, KeepsAll, made}
 use Rattle.kernel_core.specs.Kernel.{CanOpen, History, machine_of, stepped, turn, view_of}
 use Rattle.kernel_core.specs.Machine.{Environment, Machine, has_ended, is_ended, steps_left, work}
 use Rattle.kernel_core.specs.Ready.{CanAct, IsReady, IsReadyThread, IsRunnable, RunFacts, WhileRunning}
 use Rattle.kernel_core.specs.Runs.{frames_of, peak}
 use Rattle.kernel_core.specs.Start.{Inputs, first_threads, start, start_world, thread_count}
 use Rattle.kernel_core.specs.Steady.{IsSteady, history, machine}
-use Rattle.kernel_core.specs.Step.{Outcome, after_outcome, after_thread, guest_calls, step, step_by, thread_outcome, unchanged, with_world}
+use Rattle.kernel_core.specs.Step.{Outcome, after_outcome, after_thread, guest_calls, beside, roots, step, step_by, thread_outcome, unchanged, with_world}
 use Rattle.kernel_core.specs.declared.acting.Change.{Change}
 use Rattle.kernel_core.specs.declared.acting.Change.TheVariants as changes
 use Rattle.kernel_core.specs.declared.settings.Settings.{Settings}
 use Rattle.kernel_core.specs.declared.thread.Thread.{Thread}
 use Rattle.kernel_core.specs.declared.thread.Turn.{Turn}
+use Rattle.lwc_base.specs.Channels.{Channels}
+use Rattle.lwc_base.specs.Channels as channels
 use Rattle.lwc_base.specs.Frames.{used}
-use Rattle.lwc_base.specs.World.{World}
+use Rattle.lwc_base.specs.Life.{IsReaped, reap}
+use Rattle.lwc_base.specs.World.{World, is_live}
 use Rattle.lwc_base.specs.declared.fault.ThreadStatus.{ThreadStatus}
 use Rattle.lwc_base.specs.declared.fault.ThreadStatus.TheVariants.{Idle, Running, Done, Faulted}
 use Rattle.lwc_base.specs.declared.limits.TheConstants.{MOST_BUDGET, MOST_STEPS}
@@ -89,13 +93,13 @@ steady_as m most now h after peak_is is steady =
     subst (λ (n : ℕ). IsSteady m n after) (sym peak_is) (subst (IsSteady m most) (sym is) steady)
 
 -- a kernel whose parts are those of a start
-pub steady_start : (inputs : Inputs) (steps : List ℕ) (room : ℕ) (threads : List Thread) (w : World) (text : List Instr) (console : List ℕ) (most : ℕ) → CanOpen inputs →
+pub steady_start : (inputs : Inputs) (steps : List ℕ) (room : ℕ) (threads : List Thread) (w : World) (io : Channels) (text : List Instr) (most : ℕ) → CanOpen inputs →
     room ≤ MOST_STEPS → steps ≡ [] → threads ≡ first_threads inputs.settings.budget inputs.image.entries → w ≡ start_world inputs.image inputs.settings.frames →
-    text ≡ inputs.image.text → console ≡ [] → most ≡ used w → IsSteady (machine inputs.image w threads text console) most (record { inputs = inputs; steps = steps; room = room })
+    io ≡ channels.opened inputs.image.files inputs.requests → text ≡ inputs.image.text → most ≡ used w → IsSteady (machine w io threads text) most (record { inputs = inputs; steps = steps; room = room })
 unfolding machine_of start
-steady_start inputs steps room threads w text console most can short none threads_are world_is text_is empty used_is =
-    let begun : machine inputs.image w threads text console ≡ start inputs = λ i. machine inputs.image (world_is i) (threads_are i) (text_is i) (empty i) in
-    subst (λ (l : List ℕ). IsSteady (machine inputs.image w threads text console) most (record { inputs = inputs; steps = l; room = room })) (sym none)
+steady_start inputs steps room threads w io text most can short none threads_are world_is io_is text_is used_is =
+    let begun : machine w io threads text ≡ start inputs = λ i. machine (world_is i) (io_is i) (threads_are i) (text_is i) in
+    subst (λ (l : List ℕ). IsSteady (machine w io threads text) most (record { inputs = inputs; steps = l; room = room })) (sym none)
     (record { inputs = can; machine = begun; peak = used_is ∙ ap used world_is; room = omega (arith, short) })
 
 -- the history of a kernel's parts after one more step
@@ -108,7 +112,9 @@ one_longer image requests settings steps after room t value is appended =
 pub record IsMade (m : Machine) (most t : ℕ) (outcome : Outcome) (h : History) : Type 0 where
   pub going : is_ended (machine_of h) t ≡ false
   pub kept : stepped h t ≡ longer h t
-  pub steady : 0 < h.room → IsSteady (after_outcome m t (Some outcome)) (max most (used outcome.environment.world)) (longer h t)
+  pub live : All (λ (y : Thread). is_live outcome.environment.world y.context ≡ true) (slice_set m.threads t outcome.thread)
+  pub steady : 0 < h.room → (u : World) → u ≡ reap outcome.environment.world (roots (slice_set m.threads t outcome.thread)) →
+      IsSteady (record m { threads = slice_set m.threads t outcome.thread; environment = with_world outcome.environment u }) (max most (used u)) (longer h t)
   pub turn : turn (longer h t) t ≡ Some (turn_of outcome.thread)
   pub less : work (machine_of (longer h t)) < work (machine_of h)
 
@@ -187,10 +193,10 @@ module _ (facts : RunFacts) (m : Machine) (most : ℕ) (h : History) (steady : I
       one_less : 0 < h.room → length (h.steps ++ t ∷ []) + (h.room - 1) ≤ MOST_STEPS
       one_less some = omega (arith, length-append h.steps (t ∷ []), steady.room)
 
-      peak_after : max most (used outcome.environment.world) ≡ peak (start h.inputs) (h.steps ++ t ∷ [])
+      peak_after : max most (frames_of after) ≡ peak (start h.inputs) (h.steps ++ t ∷ [])
       unfolding machine_of after
       peak_after =
-          ap (λ n. max n (used outcome.environment.world)) steady.peak
+          ap (λ n. max n (frames_of after)) steady.peak
           ∙ ap (λ (k : Machine). max (peak (start h.inputs) h.steps) (frames_of k)) (machine_after ∙ run-push (start h.inputs) h.steps t)
           ∙ sym (peak-push (start h.inputs) h.steps t)
 
@@ -202,7 +208,10 @@ module _ (facts : RunFacts) (m : Machine) (most : ℕ) (h : History) (steady : I
           record {
             going = going;
             kept = stepped_by h t false going;
-            steady = λ some. record { inputs = steady.inputs; machine = machine_after; peak = peak_after; room = one_less some };
+            live = facts.live h.inputs (length h.steps) t m x outcome is_ready found made;
+            steady = λ some u reaped.
+                subst (λ (u : World). IsSteady (record m { threads = slice_set m.threads t outcome.thread; environment = with_world outcome.environment u }) (max most (used u)) (longer h t)) (sym reaped)
+                (record { inputs = steady.inputs; machine = machine_after; peak = peak_after; room = one_less some });
             turn = ap (λ (k : Machine). option_map turn_of (slice_get k.threads t)) (sym machine_after)
                 ∙ ap (option_map turn_of) (found_after m.threads t x outcome.thread found);
             less = subst (λ (k : Machine). work k < work (machine_of h)) machine_after
@@ -216,20 +225,28 @@ module _ (facts : RunFacts) (m : Machine) (most : ℕ) (h : History) (steady : I
       let last : frames_of (machine_of h) ≤ peak (start h.inputs) h.steps = used_last (start h.inputs) h.steps in
       omega (arith, last, steady.peak, ap frames_of steady.machine)
 
-  module _ (t : ℕ) (x y : Thread) (v : World) (change : Option Change) (few : t < thread_count h.inputs) (index : x ≡ get_or m.threads t x)
-      (outcome : thread_outcome guest_calls t m.environment m.text x x.status ≡ made change (with_world m.environment v) y) where
+  module _ (t : ℕ) (x y : Thread) (v : World) (after : Channels) (change : Option Change) (few : t < thread_count h.inputs) (index : x ≡ get_or m.threads t x)
+      (outcome : thread_outcome guest_calls t m.environment m.text x x.status ≡ made change (beside v after) y) where
     -- a step of the code
-    pub made_here : (c : Change) → change ≡ Some c → IsMade m most t (unchanged (with_world m.environment v) y) h
-    made_here c is = made_step t x few index (unchanged (with_world m.environment v) y) (outcome ∙ ap (λ k. made k (with_world m.environment v) y) is)
+    pub made_here : (c : Change) → change ≡ Some c → IsMade m most t (unchanged (beside v after) y) h
+    made_here c is = made_step t x few index (unchanged (beside v after) y) (outcome ∙ ap (λ k. made k (beside v after) y) is)
 
-    -- or of a thread that has ended
-    pub rested_here : change ≡ None → IfNone change (y ≡ x) → IsRest t y h
-    rested_here is same =
-        let stays : y ≡ x = subst (λ (k : Option Change). IfNone k (y ≡ x)) is same in
-        subst (λ (z : Thread). IsRest t z h) (sym stays) (rested t x few index (outcome ∙ ap (λ k. made k (with_world m.environment v) y) is))
+    module _ (keeps : KeepsAll change m.environment.world m.environment.channels x v after y) where
+      -- or of a thread that has ended
+      pub rested_here : change ≡ None → IsRest t y h
+      rested_here is =
+          let stays : y ≡ x = (subst (λ (k : Option Change). KeepsAll k m.environment.world m.environment.channels x v after y) is keeps).1.1 in
+          subst (λ (z : Thread). IsRest t z h) (sym stays) (rested t x few index (outcome ∙ ap (λ k. made k (beside v after) y) is))
 
-  -- a change of the thread alone does not raise the peak
-  pub used_kept : (v : World) (change : Option Change) (c : Change) → LeavesWorld change m.environment.world v → change ≡ Some c → c ≡ changes.Thread → used v ≤ most
-  used_kept v change c leaves is thread =
-      let same : v ≡ m.environment.world = subst (λ (k : Option Change). LeavesWorld k m.environment.world v) (is ∙ ap Some thread) leaves in
-      omega (arith, ap used same, used_below)
+      -- a step that may cut no link leaves nothing to drop
+      pub nothing_left : (c : Change) → change ≡ Some c → c ≢ changes.Links → IsReaped v (roots (slice_set m.threads t y))
+      nothing_left c is other =
+          uncut c m.environment.world v m.threads t x y (subst (λ (k : Option Change). KeepsAll k m.environment.world m.environment.channels x v after y) is keeps) other (found t x few index) is_ready.reaped
+
+      -- a change of the thread alone does not raise the peak
+      pub used_kept : (c : Change) (u : World) → change ≡ Some c → u ≡ reap v (roots (slice_set m.threads t y)) → c ≡ changes.Thread → used u ≤ most
+      used_kept c u is reaped thread =
+          let some : change ≡ Some changes.Thread = is ∙ ap Some thread in
+          let kept : Keeps changes.Thread m.environment.world x v y = subst (λ (k : Option Change). KeepsAll k m.environment.world m.environment.channels x v after y) some keeps in
+          let left = nothing_left changes.Thread some (λ same. cc) in
+          omega (arith, ap used (reaped ∙ facts.same v (roots (slice_set m.threads t y)) left ∙ kept.0), used_below)

@@ -1,5 +1,5 @@
 -- How far a store and a call that makes a context change a world.
-use Rattle.std.proofs.Common.{◌≡◌, ◌≢◌, ◌⊎◌, inl, inr, ℕ, suc, ◌+◌, ◌-◌, ◌/◌, ◌≤◌, ◌<◌, refl, sym, ap, subst, ◌∙◌, Bool, true, false, cond, eqb, ◌&&◌, List, [], ◌∷◌, length, arith}
+use Rattle.std.proofs.Common.{◌≡◌, ◌≢◌, ◌⊎◌, inl, inr, ℕ, suc, ◌+◌, ◌-◌, ◌/◌, ◌≤◌, ◌<◌, refl, sym, ap, subst, ◌∙◌, Bool, true, false, cond, eqb, ◌&&◌, None, List, [], ◌∷◌, length, arith}
 use Rattle.std.specs.FinMap as fm
 use Rattle.std.specs.List.{Contains, range_with_len}
 use Rattle.std.specs.Ordering.{eq_by_cmp, is_eq}
@@ -10,23 +10,44 @@ use Rattle.std.proofs.lemmas.Cmp.{tied_itself}
 use Rattle.std.proofs.lemmas.List.Sums.{count_by-le-length}
 use Rattle.std.proofs.lemmas.List.FromFn.{length-range_with_len}
 use Rattle.kernel_core.specs.Ready.{IsWithinLimits}
-use Rattle.lwc_base.specs.Cells.{put_slot}
+use Rattle.lwc_base.specs.Cells.{put_slot, slot_at}
+use Rattle.lwc_base.specs.Channels.{Channels, HasItsFiles, IsInRange}
 use Rattle.lwc_base.specs.Facts.{AddsContext, ChangeFacts, CountFacts, KeepsNames, OrderFacts, SharesValues, TakesTags}
 use Rattle.lwc_base.specs.Frames.{is_parting}
 use Rattle.lwc_base.specs.Fresh.{IsFresh}
 use Rattle.lwc_base.specs.Holders.{IsGroup}
+use Rattle.lwc_base.specs.Life.{HasItsContexts, IsReaped, Reaches, is_of, reap}
 use Rattle.lwc_base.specs.Mapping.{map_pages}
 use Rattle.lwc_base.specs.Memory.{touched}
+use Rattle.lwc_base.specs.Modes.{IsSpec}
 use Rattle.lwc_base.specs.Names.{name_cmp}
+use Rattle.lwc_base.specs.Overlay.{overlay, with_overlay}
+use Rattle.lwc_base.specs.Saved.{save, with_saved}
+use Rattle.lwc_base.specs.Refusals.{first_refusal}
 use Rattle.lwc_base.specs.Sharing.{clone_context, needs_group, share}
 use Rattle.lwc_base.specs.Sound.{IsSound}
 use Rattle.lwc_base.specs.Store.{Absent, Done, Full, Piece, after_store, page_value_at, parting_count, store}
 use Rattle.lwc_base.specs.World.{World, Context, Counters, add_context, empty_world, groups_of, is_live, live_of, new_context, next_context, next_group}
+use Rattle.lwc_base.specs.declared.answer.Answer.TheVariants as answers
+use Rattle.lwc_base.specs.declared.answer.Moved.TheVariants.{To}
+use Rattle.lwc_base.specs.declared.descriptor.Cap.{Cap}
 use Rattle.lwc_base.specs.declared.descriptor.Descriptor.{Descriptor}
+use Rattle.lwc_base.specs.declared.descriptor.Descriptor.TheVariants.{Ctx}
+use Rattle.lwc_base.specs.declared.descriptor.TheConstants.{SLOTS}
 use Rattle.lwc_base.specs.declared.item.Item.{Item}
+use Rattle.lwc_base.specs.declared.limits.TheConstants.{MOST_CONTEXTS_OF_JOB, MOST_GROUPS_OF_JOB}
 use Rattle.lwc_base.specs.declared.name.Name.{Name}
 use Rattle.lwc_base.specs.declared.regs.Regs.{Regs}
 use Rattle.lwc_base.specs.declared.size.WorldSize.{WorldSize}
+use Rattle.lwc_create.specs.Create.{items_of, refusals}
+use Rattle.lwc_overlay.specs.OverlayCall.{IsTaken}
+use Rattle.lwc_overlay.specs.OverlayCall as overlaying
+use Rattle.lwc_overlay.specs.RestrictCall.{IsRestriction, restrict}
+use Rattle.lwc_switch.specs.Switch.{IsSwitch, switch}
+use Rattle.lwc_syscall.specs.Changes.{IsPlainChange, IsWell, KeepsNumbers}
+use Rattle.lwc_syscall.specs.Plain.{plain}
+use Rattle.lwc_syscall.specs.Syscall.{lw_syscall}
+use Rattle.lwc_syscall.specs.declared.calls.Three.{Three}
 
 -- the changes that keep a world sound
 pub record SoundFacts : Type 0 where
@@ -35,9 +56,60 @@ pub record SoundFacts : Type 0 where
   pub map : (w : World) (c : Name) (from to : ℕ) → to ≤ w.size.pages → IsSound w → IsSound (map_pages w c from to)
   pub slot : (w : World) (c : Name) (n : ℕ) (value : Descriptor) → IsSound w → IsSound (put_slot w c n value)
   pub store : (w v : World) (c : Name) (job : ℕ) (piece : Piece) → IsSound w → is_live w c ≡ true → store w c job piece ≡ Done v → IsSound v
-  pub share : (w : World) (c : Name) (job : ℕ) (items : List Item) → IsSound w → is_live w c ≡ true → IsSound (share w c job items)
-  pub clone : (w : World) (c : Name) (job : ℕ) (items : List Item) (entry : Regs) → IsSound w → is_live w c ≡ true →
+  pub share : (w : World) (c : Name) (job : ℕ) (items : List Item) → IsSpec w.size.pages items → is_live w c ≡ true → IsSound w → IsSound (share w c job items)
+  pub clone : (w : World) (c : Name) (job : ℕ) (items : List Item) (entry : Regs) → IsSpec w.size.pages items → is_live w c ≡ true → IsSound w →
       IsSound (clone_context w c job items entry)
+  pub save : (w : World) (c : Name) (t : ℕ) (regs : Regs) → IsSound w → IsSound (save w c t regs)
+  pub overlay : (w : World) (c d : Name) (job : ℕ) (items : List Item) → IsSpec w.size.pages items → is_live w c ≡ true → is_live w d ≡ true → IsSound w → IsSound (overlay w c d job items)
+  pub reap : (w : World) (roots : List Name) → IsSound w → IsSound (reap w roots)
+
+-- the changes after which each slot still has a descriptor of a live context or of none
+pub record NamedFacts : Type 0 where
+  pub store : (w : World) (c : Name) (job : ℕ) (piece : Piece) → HasItsContexts w → HasItsContexts (after_store w c job piece)
+  pub put : (w : World) (c : Name) (n : ℕ) (value : Descriptor) → ((d : Name) → is_of d value ≡ true → is_live w d ≡ true) → HasItsContexts w → HasItsContexts (put_slot w c n value)
+  pub clone : (w : World) (c : Name) (job : ℕ) (items : List Item) (entry : Regs) → IsFresh w → is_live w c ≡ true → HasItsContexts w → HasItsContexts (clone_context w c job items entry)
+  pub save : (w : World) (c : Name) (t : ℕ) (regs : Regs) → HasItsContexts w → HasItsContexts (save w c t regs)
+  pub overlay : (w : World) (c d : Name) (job : ℕ) (items : List Item) → IsFresh w → is_live w c ≡ true → is_live w d ≡ true → HasItsContexts w → HasItsContexts (overlay w c d job items)
+  pub reap : (w : World) (roots : List Name) → HasItsContexts w → HasItsContexts (reap w roots)
+  pub named : (w : World) (c d : Name) (n : ℕ) → HasItsContexts w → is_live w c ≡ true → n < SLOTS → is_of d (slot_at w c n) ≡ true → is_live w d ≡ true
+
+-- the changes after which each descriptor is still in range
+pub record FileFacts : Type 0 where
+  pub empty : (io : Channels) (size : WorldSize) → HasItsFiles io (empty_world size)
+  pub add : (io : Channels) (w : World) (job uid : ℕ) (entry : Regs) → HasItsFiles io w → HasItsFiles io (add_context w job (new_context uid entry))
+  pub map : (io : Channels) (w : World) (c : Name) (from to : ℕ) → HasItsFiles io w → HasItsFiles io (map_pages w c from to)
+  pub slot : (io : Channels) (w : World) (c : Name) (n : ℕ) (value : Descriptor) → IsInRange io value → HasItsFiles io w → HasItsFiles io (put_slot w c n value)
+  pub store : (io : Channels) (w : World) (c : Name) (job : ℕ) (piece : Piece) → HasItsFiles io w → HasItsFiles io (after_store w c job piece)
+  pub clone : (io : Channels) (w : World) (c : Name) (job : ℕ) (items : List Item) (entry : Regs) → is_live w c ≡ true → HasItsFiles io w → HasItsFiles io (clone_context w c job items entry)
+  pub save : (io : Channels) (w : World) (c : Name) (t : ℕ) (regs : Regs) → HasItsFiles io w → HasItsFiles io (save w c t regs)
+  pub overlay : (io : Channels) (w : World) (c d : Name) (job : ℕ) (items : List Item) → is_live w d ≡ true → HasItsFiles io w → HasItsFiles io (overlay w c d job items)
+  pub reap : (io : Channels) (w : World) (roots : List Name) → HasItsFiles io w → HasItsFiles io (reap w roots)
+
+-- what is known of plain calls and of the call over chosen contexts
+pub record CallFacts : Type 0 where
+  pub plain : (w : World) (io : Channels) (three : Three) (job call : ℕ) (args : List ℕ) → HasItsContexts w → HasItsFiles io w → is_live w three.slots ≡ true →
+      IsPlainChange w io three job (plain w io three job call args).world (plain w io three job call args).io
+  pub well : (w : World) (io : Channels) (three : Three) (job : ℕ) (v : World) (after : Channels) → IsPlainChange w io three job v after → is_live w three.memory ≡ true → IsWell w io → IsWell v after
+  pub numbers : (w : World) (io : Channels) (three : Three) (job : ℕ) (v : World) (after : Channels) → IsPlainChange w io three job v after → KeepsNumbers w v
+  pub inputs : (w : World) (io : Channels) (three : Three) (job : ℕ) (v : World) (after : Channels) → IsPlainChange w io three job v after → (after.files ≡ io.files) × (after.requests ≡ io.requests)
+  pub over_well : (w : World) (io : Channels) (c : Name) (job : ℕ) (regs : Regs) → is_live w c ≡ true → IsWell w io → IsWell (lw_syscall w io c job regs).world (lw_syscall w io c job regs).io
+  pub over_numbers : (w : World) (io : Channels) (c : Name) (job : ℕ) (regs : Regs) → is_live w c ≡ true → IsWell w io → KeepsNumbers w (lw_syscall w io c job regs).world
+  pub over_inputs : (w : World) (io : Channels) (c : Name) (job : ℕ) (regs : Regs) → is_live w c ≡ true → IsWell w io →
+      ((lw_syscall w io c job regs).io.files ≡ io.files) × ((lw_syscall w io c job regs).io.requests ≡ io.requests)
+
+-- what a reaped world keeps
+pub record LifeFacts : Type 0 where
+  pub kept : (w : World) (roots : List Name) (c : Name) → is_live w c ≡ true → Reaches w roots c → is_live (reap w roots) c ≡ true
+  pub was_live : (w : World) (roots : List Name) (c : Name) → is_live (reap w roots) c ≡ true → is_live w c ≡ true
+  pub was_group : (w : World) (roots : List Name) (g : Name) → IsGroup (reap w roots) g → IsGroup w g
+  pub rest : (w : World) (roots : List Name) → ((reap w roots).size ≡ w.size) × ((reap w roots).next ≡ w.next)
+  pub reaped : (w : World) (roots : List Name) → IsReaped (reap w roots) roots
+
+-- what is known of a call that makes a context and that no refusal stops
+pub record CreateFacts : Type 0 where
+  pub spec : (w : World) (c : Name) (job : ℕ) (regs : Regs) → first_refusal (refusals w c job regs) ≡ None → IsSpec w.size.pages (items_of w c regs)
+  pub contexts : (w : World) (c : Name) (job : ℕ) (regs : Regs) → first_refusal (refusals w c job regs) ≡ None → live_of w job < MOST_CONTEXTS_OF_JOB
+  pub groups : (w : World) (c : Name) (job : ℕ) (regs : Regs) → first_refusal (refusals w c job regs) ≡ None → needs_group w c (items_of w c regs) ≡ true → groups_of w job < MOST_GROUPS_OF_JOB
 
 -- what is known of the changes of a world
 pub record WorldFacts : Type 0 where
@@ -45,6 +117,14 @@ pub record WorldFacts : Type 0 where
   pub changes : ChangeFacts
   pub counts : CountFacts
   pub sound : SoundFacts
+  pub named : NamedFacts
+  pub files : FileFacts
+  pub life : LifeFacts
+  pub calls : CallFacts
+  pub switches : (w v : World) (c d : Name) (t : ℕ) (regs arrived : Regs) → HasItsContexts w → is_live w c ≡ true → switch w c t regs ≡ (To d arrived, v) → IsSwitch w v c d t regs arrived
+  pub creates : CreateFacts
+  pub restricts : (w v : World) (c : Name) (regs after : Regs) → restrict w c regs ≡ (answers.Done after, v) → IsRestriction w v c regs
+  pub takes : (w v : World) (c : Name) (job : ℕ) (regs after : Regs) → HasItsContexts w → is_live w c ≡ true → overlaying.overlay w c job regs ≡ (answers.Done after, v) → IsTaken w v c job regs
 
 -- none of a job's counts rises by more than this
 pub record RisesBy (most : ℕ) (before after : Counters) : Type 0 where
@@ -64,6 +144,15 @@ rises_not most n = record { contexts = omega arith; groups = omega arith; tags =
 
 pub grows_not : (job most : ℕ) (w : World) → Grows job most w w
 grows_not job most w = record { live = λ c live. live; size = refl; counts = λ j. rises_not most (w.next j); limits = λ jobs there some limits. limits }
+
+-- a bound may be greater
+pub grows_more : (job m n : ℕ) (w v : World) → m ≤ n → Grows job m w v → Grows job n w v
+grows_more job m n w v more grows = record {
+  live = grows.live;
+  size = grows.size;
+  counts = λ j. record { contexts = omega (arith, (grows.counts j).contexts); groups = omega (arith, (grows.counts j).groups); tags = omega (arith, (grows.counts j).tags) };
+  limits = grows.limits;
+}
 
 then_rises : (m n : ℕ) (a b c : Counters) → RisesBy m a b → RisesBy n b c → RisesBy (m + n) a c
 then_rises m n a b c first second = record {
@@ -144,22 +233,23 @@ few_parting w c piece short =
     let pages = at_most_two (eqb count 0) (piece.at / 4096) ((piece.at + count - 1) / 4096 + 1 - piece.at / 4096) (omega arith) in
     omega (arith, count_by-le-length (λ p. is_parting w (page_value_at w c p)) (touched piece.at count), pages)
 
-done_after : (absent full : Bool) (after v : World) → cond absent Absent (cond full Full (Done after)) ≡ Done v → after ≡ v
+pub done_after : (absent full : Bool) (after v : World) → cond absent Absent (cond full Full (Done after)) ≡ Done v → after ≡ v
 done_after true full after v done = cc
 done_after false true after v done = cc
 done_after false false after v done = cc
 
-module _ (facts : WorldFacts) where
+module _ (orders : OrderFacts) where
   pub name_itself : (c : Name) → eq_by_cmp name_cmp c c ≡ true
-  name_itself c = ap is_eq (tied_itself facts.orders.names c)
+  name_itself c = ap is_eq (tied_itself orders.names c)
 
   -- names that tie are one
   pub same_name : (c d : Name) → eq_by_cmp name_cmp c d ≡ true → c ≡ d
-  same_name c d same = facts.orders.one_name c d (equal_of_is_eq (name_cmp c d) same)
+  same_name c d same = orders.one_name c d (equal_of_is_eq (name_cmp c d) same)
 
+module _ (facts : WorldFacts) where
   one_or_other : (c d : Name) (b : Bool) → eq_by_cmp name_cmp c d ≡ b → (c ≡ d) ⊎ (c ≢ d)
-  one_or_other c d true same = inl (same_name c d same)
-  one_or_other c d false other = inr (λ same. let itself = name_itself d in let is : eq_by_cmp name_cmp d d ≡ false = ap (λ (n : Name). eq_by_cmp name_cmp n d) (sym same) ∙ other in cc)
+  one_or_other c d true same = inl (same_name facts.orders c d same)
+  one_or_other c d false other = inr (λ same. let itself = name_itself facts.orders d in let is : eq_by_cmp name_cmp d d ≡ false = ap (λ (n : Name). eq_by_cmp name_cmp n d) (sym same) ∙ other in cc)
 
   -- two names are the same or not
   pub same_or_not : (c d : Name) → (c ≡ d) ⊎ (c ≢ d)
@@ -184,7 +274,7 @@ module _ (facts : WorldFacts) where
   }
 
   -- another value under a slot
-  grows_slot : (job : ℕ) (w : World) (c : Name) (n : ℕ) (value : Descriptor) → Grows job 0 w (put_slot w c n value)
+  pub grows_slot : (job : ℕ) (w : World) (c : Name) (n : ℕ) (value : Descriptor) → Grows job 0 w (put_slot w c n value)
   grows_slot job w c n value =
       let names : KeepsNames w (put_slot w c n value) = facts.changes.put w c _ value in
       grows_names job 0 w (put_slot w c n value) names.live names.groups names.size
@@ -200,6 +290,33 @@ module _ (facts : WorldFacts) where
   pub grows_store : (w v : World) (c : Name) (job : ℕ) (piece : Piece) → length piece.bytes ≤ 4096 → store w c job piece ≡ Done v → Grows job 2 w v
   unfolding store
   grows_store w v c job piece short done = subst (Grows job 2 w) (done_after _ _ _ v done) (grows_after_store w c job piece short)
+
+  -- numbers that are kept
+  pub grows_numbers : (job : ℕ) (w v : World) → KeepsNumbers w v → Grows job 2 w v
+  grows_numbers job w v numbers =
+      grows_names job 2 w v numbers.live numbers.groups numbers.size
+      (λ j. record { contexts = omega (arith, numbers.contexts_counted j); groups = omega (arith, numbers.groups_counted j); tags = (numbers.tags_counted j).1 })
+
+  -- a value that may be under a slot
+  pub well_slot : (w : World) (io : Channels) (c : Name) (n : ℕ) (value : Descriptor) → IsInRange io value → ((d : Name) → is_of d value ≡ true → is_live w d ≡ true) → IsWell w io → IsWell (put_slot w c n value) io
+  well_slot w io c n value range named well = record {
+    sound = facts.sound.slot w c n value well.sound;
+    named = facts.named.put w c n value named well.named;
+    files = facts.files.slot io w c n value range well.files;
+  }
+
+  -- a store puts no descriptor
+  pub files_store : (w v : World) (io : Channels) (c : Name) (job : ℕ) (piece : Piece) → store w c job piece ≡ Done v → HasItsFiles io w → HasItsFiles io v
+  unfolding store
+  files_store w v io c job piece done files = subst (HasItsFiles io) (done_after _ _ _ v done) (facts.files.store io w c job piece files)
+
+  pub well_store : (w v : World) (io : Channels) (c : Name) (job : ℕ) (piece : Piece) → is_live w c ≡ true → store w c job piece ≡ Done v → IsWell w io → IsWell v io
+  unfolding store
+  well_store w v io c job piece live done well = record {
+    sound = facts.sound.store w v c job piece well.sound live done;
+    named = subst HasItsContexts (done_after _ _ _ v done) (facts.named.store w c job piece well.named);
+    files = files_store w v io c job piece done well.files;
+  }
 
   grows_context : (job : ℕ) (w v : World) (x : Context) → IsFresh w → AddsContext w job x v → live_of w job < 32 → Grows job 1 w v
   grows_context job w v x fresh adds fewer = record {
@@ -224,7 +341,23 @@ module _ (facts : WorldFacts) where
         limits;
   }
 
-  module _ (w : World) (c : Name) (job : ℕ) (items : List Item) (sound : IsSound w) (here : is_live w c ≡ true) (room : needs_group w c items ≡ true → groups_of w job < 64) where
+  -- registers that are saved, and another value under a slot
+  pub grows_switched : (job : ℕ) (w : World) (c d : Name) (t : ℕ) (regs : Regs) (n : ℕ) (value : Descriptor) → Grows job 0 w (put_slot (save w c t regs) d n value)
+  grows_switched job w c d t regs n value =
+      let v : World = save w c t regs in
+      let names : KeepsNames w v = (facts.changes.saved w c t regs).names in
+      let first : Grows job 0 w v = grows_names job 0 w v names.live names.groups names.size (λ j. subst (λ (next : ℕ → Counters). RisesBy 0 (w.next j) (next j)) (sym names.next) (rises_not 0 (w.next j))) in
+      then_grows job 0 0 w v (put_slot v d n value) first (grows_slot job v d n value)
+
+  -- the context that was left lives
+  pub well_switched : (w : World) (c d : Name) (t : ℕ) (regs : Regs) (n : ℕ) (cap : Cap) (io : Channels) → is_live w c ≡ true → IsWell w io → IsWell (put_slot (save w c t regs) d n (Ctx c cap)) io
+  well_switched w c d t regs n cap io live well =
+      let v : World = save w c t regs in
+      let names : KeepsNames w v = (facts.changes.saved w c t regs).names in
+      well_slot v io d n (Ctx c cap) tt (λ e is. ap (is_live v) (sym (same_name facts.orders c e is)) ∙ names.live c ∙ live)
+      (record { sound = facts.sound.save w c t regs well.sound; named = facts.named.save w c t regs well.named; files = facts.files.save io w c t regs well.files })
+
+  module _ (w : World) (c : Name) (job : ℕ) (items : List Item) (spec : IsSpec w.size.pages items) (sound : IsSound w) (here : is_live w c ≡ true) (room : needs_group w c items ≡ true → groups_of w job < 64) where
     shares : SharesValues w c job items (share w c job items)
     shares = facts.changes.shared w c job items
 
@@ -252,6 +385,17 @@ module _ (facts : WorldFacts) where
     grows_by true needs = grows_group needs
     grows_by false none = subst (Grows job 1 w) (sym (shares.none none)) (grows_not job 1 w)
 
+    -- a context that takes over
+    pub grows_overlay : (e : Name) → Grows job 2 w (overlay w e c job items)
+    unfolding overlay
+    grows_overlay e =
+        let shared = share w c job items in
+        let made = overlay w e c job items in
+        let names : KeepsNames shared made = (facts.changes.overlaid w e c job items).names in
+        let second : Grows job 0 shared made = grows_names job 0 shared made names.live names.groups names.size
+        (λ j. subst (λ (next : ℕ → Counters). RisesBy 0 (shared.next j) (next j)) (sym names.next) (rises_not 0 (shared.next j))) in
+        grows_more job 1 2 w made (omega arith) (then_grows job 1 0 w shared made (grows_by (needs_group w c items) refl) second)
+
     -- a context that is made, and another value under a slot
     pub grows_created : (entry : Regs) (n : ℕ) (value : Descriptor) → live_of w job < 32 → Grows job 2 w (put_slot (clone_context w c job items entry) c n value)
     unfolding shares
@@ -261,8 +405,18 @@ module _ (facts : WorldFacts) where
         let fewer_now : live_of shared job < 32 = omega (arith, live_as_before w shared shares.live job, fewer) in
         let adds = facts.changes.cloned w c job items entry in
         let first : Grows job 1 w shared = grows_by (needs_group w c items) refl in
-        let second : Grows job 1 shared made = grows_context job shared made _ (facts.sound.share w c job items sound here).fresh adds fewer_now in
+        let second : Grows job 1 shared made = grows_context job shared made _ (facts.sound.share w c job items spec here sound).fresh adds fewer_now in
         then_grows job 2 0 w made (put_slot made c n value) (then_grows job 1 1 w shared made first second) (grows_slot job made c n value)
 
-    pub sound_created : (entry : Regs) (n : ℕ) (value : Descriptor) → IsSound (put_slot (clone_context w c job items entry) c n value)
-    sound_created entry n value = facts.sound.slot (clone_context w c job items entry) c n value (facts.sound.clone w c job items entry sound here)
+    -- the new context is live
+    pub well_created : (entry : Regs) (n : ℕ) (cap : Cap) (io : Channels) → IsWell w io → IsWell (put_slot (clone_context w c job items entry) c n (Ctx (next_context w job) cap)) io
+    well_created entry n cap io well =
+        let made = clone_context w c job items entry in
+        let adds = facts.changes.cloned w c job items entry in
+        well_slot made io c n (Ctx (next_context w job) cap) tt
+        (λ d is. ap (is_live made) (sym (same_name facts.orders (next_context w job) d is) ∙ sym (facts.changes.next_shared w c job job items)) ∙ adds.live)
+        (record {
+          sound = facts.sound.clone w c job items entry spec here sound;
+          named = facts.named.clone w c job items entry sound.fresh here well.named;
+          files = facts.files.clone io w c job items entry here well.files;
+        })

@@ -1,28 +1,64 @@
 -- How functions of the code say which outcome they have made.
-use Rattle.std.specs.Prelude.{◌≡◌, ℕ, Option, None, Some}
+use Rattle.std.specs.Prelude.{◌≡◌, ℕ, if◌then◌else◌, List, Option, None, Some, slice_get, slice_set}
 use Rattle.std.specs.Option.{option_map}
 use Rattle.kernel_core.specs.Machine.{Environment}
-use Rattle.kernel_core.specs.Step.{Outcome, unchanged, with_world}
+use Rattle.kernel_core.specs.Step.{Outcome, beside, unchanged}
 use Rattle.kernel_core.specs.declared.acting.Change.{Change}
 use Rattle.kernel_core.specs.declared.acting.Change.TheVariants as change
 use Rattle.kernel_core.specs.declared.thread.Thread.{Thread}
+use Rattle.lwc_base.specs.Channels.{Channels}
+use Rattle.lwc_base.specs.Life.{IsReaped}
 use Rattle.lwc_base.specs.World.{World}
+use Rattle.lwc_base.specs.declared.answer.Answer.{Answer}
+use Rattle.lwc_base.specs.declared.answer.Answer.TheVariants.{Done, Refused}
+use Rattle.lwc_base.specs.declared.name.Name.{Name}
+use Rattle.lwc_syscall.specs.Changes.{cuts_none, leaves_world}
+use Rattle.lwc_syscall.specs.declared.answer.CallAnswer.{CallAnswer}
+use Rattle.lwc_syscall.specs.declared.answer.CallAnswer.TheVariants.{Value, Exit}
+use Rattle.lwc_syscall.specs.declared.answer.CallAnswer.TheVariants as answers
 
--- an outcome of the first world and thread is the second ones, whatever else the environment has
-abbrev pub Makes : (ℕ → Environment → Thread → Outcome) → World → Thread → World → Thread → Type 0
-Makes outcome w x v y =
-    (t : ℕ) (e : Environment) → outcome t (with_world e w) x ≡ unchanged (with_world e v) y
+-- an outcome of the first world, channels and thread is the second ones
+abbrev pub MakesAll :
+    (Environment → Thread → Outcome) → World → Channels → Thread → World → Channels → Thread → Type 0
+MakesAll outcome w io x v after y = outcome (beside w io) x ≡ unchanged (beside v after) y
 
--- where the thread alone has changed, the world has not
-abbrev pub KeepsWorld : Change → World → World → Type 0
-KeepsWorld change.Thread w v = v ≡ w
-KeepsWorld change.World w v = Unit {0}
+-- an outcome of the first world and thread is the second ones, and any channels stay
+abbrev pub Makes : (Environment → Thread → Outcome) → World → Thread → World → Thread → Type 0
+Makes outcome w x v y = (io : Channels) → MakesAll outcome w io x v io y
+
+-- where nothing was left to drop, nothing is once a thread has gone from one context to another
+abbrev pub LeavesNothing : World → Name → World → Name → Type 0
+LeavesNothing w c v d =
+    (contexts : List Name) (t : ℕ) → slice_get contexts t ≡ Some c → IsReaped w contexts →
+    IsReaped v (slice_set contexts t d)
+
+-- by what has changed: neither the world nor the thread's context, or no link is cut, or one may be
+abbrev pub Keeps : Change → World → Thread → World → Thread → Type 0
+Keeps change.Thread w x v y = (v ≡ w) × (y.context ≡ x.context)
+Keeps change.World w x v y = LeavesNothing w x.context v y.context
+Keeps change.Links w x v y = Unit {0}
+
+-- what a call has changed by its answer: this if it was accepted, and no more than the thread if it was refused
+abbrev pub change_by : Answer → Change → Change
+change_by (Done regs) accepted = accepted
+change_by (Refused refusal) accepted = change.Thread
+
+-- what an accepted plain call may have changed, by its number
+abbrev pub change_by_number : ℕ → Change
+change_by_number call =
+    if leaves_world call then change.Thread else (if cuts_none call then change.World else change.Links)
+
+-- what a plain call has changed by its answer: this, or no more than the thread if it was refused
+abbrev pub change_by_end : CallAnswer → Change → Change
+change_by_end (Value value) accepted = accepted
+change_by_end (Exit code) accepted = accepted
+change_by_end (answers.Refused refusal) accepted = change.Thread
 
 -- the outcome of a step, if one was made
 abbrev pub made : Option Change → Environment → Thread → Option Outcome
 made change e x = option_map (λ c. unchanged e x) change
 
--- a step that has not changed the world, or was not made, leaves the world
-abbrev pub LeavesWorld : Option Change → World → World → Type 0
-LeavesWorld None w v = v ≡ w
-LeavesWorld (Some change) w v = KeepsWorld change w v
+-- by what a step has changed, if one was made; else the world, the channels and the thread are as they were
+abbrev pub KeepsAll : Option Change → World → Channels → Thread → World → Channels → Thread → Type 0
+KeepsAll None w io x v after y = (v ≡ w) × ((after ≡ io) × (y ≡ x))
+KeepsAll (Some change) w io x v after y = Keeps change w x v y

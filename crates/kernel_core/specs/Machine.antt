@@ -4,16 +4,15 @@ use Rattle.std.specs.List.{sum_by}
 use Rattle.std.specs.Option.{option_map_or}
 use Rattle.guest_isa.specs.declared.instr.Instr.{Instr}
 use Rattle.kernel_core.specs.declared.thread.Thread.{Thread}
-use Rattle.lwc_base.specs.declared.channels.FileImage.{FileImage}
 use Rattle.lwc_base.specs.declared.fault.ThreadStatus.{ThreadStatus}
 use Rattle.lwc_base.specs.declared.fault.ThreadStatus.TheVariants.{Idle, Running, Done, Faulted}
+use Rattle.lwc_base.specs.Channels.{Channels}
 use Rattle.lwc_base.specs.World.{World}
 
--- what the threads have in common: the world, the files of the image, and the bytes written to the console
+-- what the threads have in common: the world, and what calls read and write beside it
 pub record Environment : Type 0 where
   pub world : World
-  pub files : List FileImage
-  pub console : List ℕ
+  pub channels : Channels
 
 -- the machine: its threads, what they have in common, and the instructions
 pub record Machine : Type 0 where

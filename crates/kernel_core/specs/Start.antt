@@ -24,6 +24,7 @@ use Rattle.lwc_base.specs.declared.name.Tag.{Tag}
 use Rattle.lwc_base.specs.declared.page.PageValue.{PageValue}
 use Rattle.lwc_base.specs.declared.page.PageValue.TheVariants.{Data}
 use Rattle.lwc_base.specs.declared.size.WorldSize.{WorldSize}
+use Rattle.lwc_base.specs.Channels.{opened}
 use Rattle.lwc_base.specs.Keys.{ValueOf}
 use Rattle.lwc_base.specs.Registers.{fresh_registers}
 use Rattle.lwc_base.specs.World.{World, Context, Counters}
@@ -120,14 +121,13 @@ world_with frames tags x = record {
 unfoldable pub start_world : Image → ℕ → World
 start_world image frames = world_with frames (length image.pages) (first_context image image.pages SLOTS)
 
--- the machine of a start: the text and the files are the image's, and nothing is written to the console
+-- the machine of a start: the text and the files are the image's, and nothing has been written
 unfoldable pub start : Inputs → Machine
 start inputs = record {
   threads = first_threads inputs.settings.budget inputs.image.entries;
   environment = record {
     world = start_world inputs.image inputs.settings.frames;
-    files = inputs.image.files;
-    console = [];
+    channels = opened inputs.image.files inputs.requests;
   };
   text = inputs.image.text;
 }

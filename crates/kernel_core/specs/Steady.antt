@@ -8,7 +8,9 @@ use Rattle.kernel_core.specs.Runs.{peak}
 use Rattle.kernel_core.specs.Start.{start}
 use Rattle.kernel_core.specs.declared.settings.Settings.{Settings}
 use Rattle.kernel_core.specs.declared.thread.Thread.{Thread}
+use Rattle.kernel_core.specs.Step.{beside}
 use Rattle.lwc_base.specs.declared.limits.TheConstants.{MOST_STEPS}
+use Rattle.lwc_base.specs.Channels.{Channels}
 use Rattle.lwc_base.specs.World.{World}
 
 -- the history of a kernel's parts
@@ -20,10 +22,10 @@ history image requests settings steps room = record {
 }
 
 -- the machine of a kernel's parts
-abbrev pub machine : Image → World → List Thread → List Instr → List ℕ → Machine
-machine image world threads text console = record {
+abbrev pub machine : World → Channels → List Thread → List Instr → Machine
+machine world channels threads text = record {
   threads = threads;
-  environment = record { world = world; files = image.files; console = console };
+  environment = beside world channels;
   text = text;
 }
 

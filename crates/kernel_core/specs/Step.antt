@@ -1,5 +1,5 @@
 -- One step of a thread.
-use Rattle.std.specs.Prelude.{ℕ, ◌+◌, ◌-◌, ◌*◌, ◌%◌, ◌^◌, ◌==◌, if◌then◌else◌, Bool, List, [], ◌∷◌, length, Option, None, Some, nat_le, slice_get, slice_index, slice_set}
+use Rattle.std.specs.Prelude.{ℕ, ◌+◌, ◌-◌, ◌*◌, ◌%◌, ◌^◌, ◌==◌, if◌then◌else◌, Bool, List, [], ◌∷◌, length, map, Option, None, Some, nat_le, slice_get, slice_index, slice_set}
 use Rattle.std.specs.Int.{w64, from_le_bytes, to_le_bytes}
 use Rattle.std.specs.Option.{option_map}
 use Rattle.guest_isa.specs.Instructions.{sx}
@@ -12,9 +12,11 @@ use Rattle.guest_machine.specs.declared.progress.Next.{Next}
 use Rattle.guest_machine.specs.declared.progress.Next.TheVariants as next
 use Rattle.kernel_core.specs.Machine.{Environment, Machine}
 use Rattle.kernel_core.specs.declared.thread.Thread.{Thread}
-use Rattle.kernel_core.specs.declared.calling.TheConstants.{LW_CREATE}
+use Rattle.kernel_core.specs.declared.calling.TheConstants.{LW_CREATE, LW_OVERLAY, LW_RESTRICT, LW_SWITCH, LW_SYSCALL}
 use Rattle.lwc_base.specs.declared.answer.Answer.{Answer}
 use Rattle.lwc_base.specs.declared.answer.Answer.TheVariants as answer
+use Rattle.lwc_base.specs.declared.answer.Moved.{Moved}
+use Rattle.lwc_base.specs.declared.answer.Moved.TheVariants as moved
 use Rattle.lwc_base.specs.declared.fault.Fault.{Fault}
 use Rattle.lwc_base.specs.declared.fault.Fault.TheVariants as fault
 use Rattle.lwc_base.specs.declared.fault.ThreadStatus.{ThreadStatus}
@@ -22,14 +24,24 @@ use Rattle.lwc_base.specs.declared.fault.ThreadStatus.TheVariants.{Idle, Running
 use Rattle.lwc_base.specs.declared.name.Name.{Name}
 use Rattle.lwc_base.specs.declared.page.TheConstants.{PAGE_BYTES}
 use Rattle.lwc_base.specs.declared.refusal.Refusal.{Refusal}
-use Rattle.lwc_base.specs.declared.refusal.Refusal.TheVariants.{BadCall}
 use Rattle.lwc_base.specs.declared.regs.Regs.{Regs}
+use Rattle.lwc_base.specs.Channels.{Channels}
 use Rattle.lwc_base.specs.Faults.{refusal_number}
+use Rattle.lwc_base.specs.Life as life
 use Rattle.lwc_base.specs.Memory.{bytes_for}
 use Rattle.lwc_base.specs.Store.{Piece, Stored, store}
 use Rattle.lwc_base.specs.Store as stores
 use Rattle.lwc_base.specs.World.{World}
 use Rattle.lwc_create.specs.Create.{create}
+use Rattle.lwc_overlay.specs.OverlayCall.{overlay}
+use Rattle.lwc_overlay.specs.RestrictCall.{restrict}
+use Rattle.lwc_switch.specs.Switch.{switch}
+use Rattle.lwc_syscall.specs.Plain as calls
+use Rattle.lwc_syscall.specs.Plain.{plain}
+use Rattle.lwc_syscall.specs.Syscall.{lw_syscall}
+use Rattle.lwc_syscall.specs.declared.answer.CallAnswer.{CallAnswer}
+use Rattle.lwc_syscall.specs.declared.answer.CallAnswer.TheVariants as ends
+use Rattle.lwc_syscall.specs.declared.calls.Three.{Three}
 
 -- what a step of a thread leaves: the thread, and what it has in common with the others
 pub record Outcome : Type 0 where
@@ -39,6 +51,10 @@ pub record Outcome : Type 0 where
 -- what each call does, by its number, for the thread of a number
 abbrev pub Calls : Type 0
 Calls = ℕ → ℕ → Environment → Thread → Outcome
+
+-- what threads have in common, of a world and of channels
+abbrev pub beside : World → Channels → Environment
+beside w io = record { world = w; channels = io }
 
 -- the environment with another world
 abbrev pub with_world : Environment → World → Environment
@@ -129,11 +145,60 @@ call_outcome e x result = unchanged (with_world e result.1) (answered x result.0
 abbrev pub create_outcome : Environment → Thread → Outcome
 create_outcome e x = call_outcome e x (create e.world x.context x.job x.regs)
 
--- the calls of guests, one row for each; any other number names no call
+-- the outcome of the call that takes keys from a capability
+abbrev pub restrict_outcome : Environment → Thread → Outcome
+restrict_outcome e x = call_outcome e x (restrict e.world x.context x.regs)
+
+-- the outcome of the call that takes over from a context what items name
+abbrev pub overlay_outcome : Environment → Thread → Outcome
+overlay_outcome e x = call_outcome e x (overlay e.world x.context x.job x.regs)
+
+-- the thread after a switch: it goes on in another context, or the switch was refused
+abbrev pub switched : Thread → Moved → Thread
+switched x (moved.To context regs) = record x { context = context; regs = regs }
+switched x (moved.Refused refusal) = refused x refusal
+
+-- the outcome of the call that takes the thread of a number to another context
+abbrev pub switch_outcome : ℕ → Environment → Thread → Outcome
+switch_outcome t e x =
+    let result = switch e.world x.context t x.regs in unchanged (with_world e result.1) (switched x result.0)
+
+-- the thread after a plain call: a value is in r0, an exit ends it, or r0 says why the call was refused
+abbrev pub plainly : Thread → CallAnswer → Thread
+plainly x (ends.Value value) = with_regs x (with_result x.regs 0 value)
+plainly x (ends.Exit code) = with_status x (Done code)
+plainly x (ends.Refused refusal) = refused x refusal
+
+-- the outcome of a plain call by how it ends
+abbrev pub ended_outcome : Thread → calls.Outcome → Outcome
+ended_outcome x ended = unchanged (beside ended.world ended.io) (plainly x ended.answer)
+
+-- one context for the memory, the slots and the credential
+abbrev pub three_times : Name → Three
+three_times c = record { memory = c; slots = c; cred = c }
+
+-- the arguments of a plain call, in r1 to r3
+abbrev pub args_of : Regs → List ℕ
+args_of regs = slice_index regs.r 1 ∷ slice_index regs.r 2 ∷ slice_index regs.r 3 ∷ []
+
+-- the outcome of the plain call of a number over the thread's own context
+abbrev pub plain_outcome : ℕ → Environment → Thread → Outcome
+plain_outcome number e x =
+    ended_outcome x (plain e.world e.channels (three_times x.context) x.job number (args_of x.regs))
+
+-- the outcome of the call that makes a plain one over the contexts that a mask chooses
+abbrev pub syscall_outcome : Environment → Thread → Outcome
+syscall_outcome e x = ended_outcome x (lw_syscall e.world e.channels x.context x.job x.regs)
+
+-- the calls of guests: one row for each from 16 on, and the plain ones, which refuse any other number
 unfoldable pub guest_calls : Calls
 guest_calls number t e x =
     if number == LW_CREATE then create_outcome e x
-    else unchanged e (refused x BadCall)
+    else (if number == LW_SWITCH then switch_outcome t e x
+    else (if number == LW_RESTRICT then restrict_outcome e x
+    else (if number == LW_OVERLAY then overlay_outcome e x
+    else (if number == LW_SYSCALL then syscall_outcome e x
+    else plain_outcome number e x))))
 
 -- the outcome of a shared instruction, by its operation; no other operation comes here
 unfoldable pub shared_outcome : Calls → ℕ → Environment → Thread → Instr → Op → Outcome
@@ -178,9 +243,14 @@ thread_outcome calls t e text x Idle = Some (unchanged e (with_status x (Done 0)
 thread_outcome calls t e text x (Done code) = None
 thread_outcome calls t e text x (Faulted f) = None
 
--- the machine without what no thread reaches; nothing is dropped yet
+-- the contexts that threads are in, those of ended threads among them
+abbrev pub roots : List Thread → List Name
+roots threads = map (λ x. x.context) threads
+
+-- the machine without the contexts that no thread reaches, and then without the groups that no cell names
 abbrev pub reap : Machine → Machine
-reap m = m
+reap m =
+    record m { environment = with_world m.environment (life.reap m.environment.world (roots m.threads)) }
 
 -- the machine after a step of the thread of a number, if it made one
 abbrev pub after_outcome : Machine → ℕ → Option Outcome → Machine

@@ -1,81 +1,95 @@
-ghost use Rattle.std.specs.Prelude.{◌≡◌, ◌<◌, ℕ, IfNone, IfOk, IfSome, IsOk, OnErr, OnOk, true};
+ghost use Rattle.std.specs.Prelude.{◌≡◌, ◌<◌, IfOk, IfSome, IsOk, OnErr, OnOk, true};
 ghost use Rattle.guest_isa.specs.Instructions.{IsInstruction, IsText};
 ghost use Rattle.guest_machine.specs.Advances.{IfShared, advanced};
-ghost use Rattle.kernel_core.specs.Changes.{KeepsWorld, LeavesWorld, Makes, made};
-ghost use Rattle.kernel_core.specs.Machine.{Environment};
+ghost use Rattle.kernel_core.specs.Changes.{Keeps, KeepsAll, MakesAll, made};
 ghost use Rattle.kernel_core.specs.Ready.{CanAct, WhileRunning};
 ghost use Rattle.kernel_core.specs.Step as spec;
+ghost use Rattle.lwc_base.specs.Channels.{HasItsFiles};
+ghost use Rattle.lwc_base.specs.declared.limits.TheConstants.{MOST_THREADS};
 
 use crate::calling::call;
 use crate::memory::{address_of, byte_at, store_byte, store_word, word_at};
 use crate::thread::Thread;
 use guest_isa::{Instr, Op, Text, fields_are_in_range};
 use guest_machine::{Advance, Next, advances_come_to_instructions, run_on};
-use lwc_base::{Fault, OutOfMemory, Regs, ThreadStatus};
+use lwc_base::{Channels, Fault, OutOfMemory, Regs, ThreadStatus};
 use world_face::World;
 
 /// What a step has changed.
 #[derive(Clone, Copy, Debug, PartialEq, Eq)]
 pub enum Change {
-    /// The thread alone.
+    /// Not the world, and not the context that the thread is in.
     Thread,
-    /// The thread and the world.
+    /// The world too, but no link is cut: what was reached still is.
     World,
+    /// The world too, and a link may be cut.
+    Links,
 }
 
-/// Makes a step of a thread in place. Answers what has changed; `None` if the thread had ended. The only
-/// error is out of memory: then the world is as before, and the thread may have changed.
+/// Makes a step of thread `t` in place. Answers what has changed; `None` if the thread had ended. The only
+/// error is out of memory: then the world and the channels are as before, and the thread may have changed.
 pub(crate) fn step_thread<W: World>(
     world: &mut W,
+    io: &mut Channels,
     text: &Text,
+    t: u32,
     thread: &mut Thread,
     proposal: Option<&Advance>,
 ) -> Result<Option<Change>, OutOfMemory>
+    requires number { t < MOST_THREADS }
     requires ready { WhileRunning thread.old.status (CanAct (W.seen world.old) thread.old) }
+    requires files { HasItsFiles io.old (W.seen world.old) }
     requires steps { WhileRunning thread.old.status (0 < thread.old.budget) }
     requires proposal { IfSome proposal (λ a. a.now ≡ advanced text.now a.now.before) }
     requires text { IsText text.now }
-    ensures outcome { IfOk result (λ change. (t : ℕ) (e : Environment) →
-        spec.thread_outcome spec.guest_calls t (spec.with_world e (W.seen world.old)) text.now
+    ensures outcome { IfOk result (λ change.
+        spec.thread_outcome spec.guest_calls t (spec.beside (W.seen world.old) io.old) text.now
         thread.old thread.old.status
-        ≡ made change (spec.with_world e (W.seen world.new)) thread.new) }
-    ensures ended { IfOk result (λ change. IfNone change (thread.new ≡ thread.old)) }
-    ensures kept { IfOk result (λ change. LeavesWorld change (W.seen world.old) (W.seen world.new)) }
+        ≡ made change (spec.beside (W.seen world.new) io.new) thread.new) }
+    ensures kept { IfOk result (λ change.
+        KeepsAll change (W.seen world.old) io.old thread.old (W.seen world.new) io.new thread.new) }
     ensures err { OnErr result (W.seen world.new ≡ W.seen world.old) }
+    ensures err_io { OnErr result (io.new ≡ io.old) }
     ensures ample { W.roomy ≡ true → IsOk result }
 {
     match thread.status {
-        ThreadStatus::Running => Ok(Some(run_thread(world, text, thread, proposal)?)),
+        ThreadStatus::Running => Ok(Some(run_thread(world, io, text, t, thread, proposal)?)),
         ThreadStatus::Idle => {
-            thread.finish();
+            thread.finish(0);
             Ok(Some(Change::Thread))
         }
         ThreadStatus::Done { .. } | ThreadStatus::Faulted { .. } => Ok(None),
     }
 }
 
-/// Makes a step of a running thread.
+/// Makes a step of running thread `t`.
 #[tactic(auto, unfolding(crate::specs::Step::advance_outcome))]
 fn run_thread<W: World>(
     world: &mut W,
+    io: &mut Channels,
     text: &Text,
+    t: u32,
     thread: &mut Thread,
     proposal: Option<&Advance>,
 ) -> Result<Change, OutOfMemory>
+    requires number { t < MOST_THREADS }
     requires ready { CanAct (W.seen world.old) thread.old }
+    requires files { HasItsFiles io.old (W.seen world.old) }
     requires steps { 0 < thread.old.budget }
     requires proposal { IfSome proposal (λ a. a.now ≡ advanced text.now a.now.before) }
     requires text { IsText text.now }
-    ensures outcome { OnOk result (Makes
-        (λ t e x. spec.advance_outcome spec.guest_calls t e x (advanced text.now x.regs))
-        (W.seen world.old) thread.old (W.seen world.new) thread.new) }
-    ensures kept { IfOk result (λ change. KeepsWorld change (W.seen world.old) (W.seen world.new)) }
+    ensures outcome { OnOk result (MakesAll
+        (λ e x. spec.advance_outcome spec.guest_calls t e x (advanced text.now x.regs))
+        (W.seen world.old) io.old thread.old (W.seen world.new) io.new thread.new) }
+    ensures kept { IfOk result (λ change.
+        Keeps change (W.seen world.old) thread.old (W.seen world.new) thread.new) }
     ensures err { OnErr result (W.seen world.new ≡ W.seen world.old) }
+    ensures err_io { OnErr result (io.new ≡ io.old) }
     ensures ample { W.roomy ≡ true → IsOk result }
 {
     let left = thread.budget - 1;
     let next = advance_regs(text, &mut thread.regs, proposal);
-    let change = run_next(world, thread, next)?;
+    let change = run_next(world, io, t, thread, next)?;
     thread.set_steps(left);
     Ok(change)
 }
@@ -99,15 +113,25 @@ fn advance_regs(text: &Text, regs: &mut Regs, proposal: Option<&Advance>) -> Nex
     }
 }
 
-/// Does what comes after the private instructions.
+/// Does what comes after the private instructions of thread `t`.
 #[tactic(auto, unfolding(crate::specs::Step::next_outcome))]
-fn run_next<W: World>(world: &mut W, thread: &mut Thread, next: Next) -> Result<Change, OutOfMemory>
+fn run_next<W: World>(
+    world: &mut W,
+    io: &mut Channels,
+    t: u32,
+    thread: &mut Thread,
+    next: Next,
+) -> Result<Change, OutOfMemory>
+    requires number { t < MOST_THREADS }
     requires ready { CanAct (W.seen world.old) thread.old }
+    requires files { HasItsFiles io.old (W.seen world.old) }
     requires instruction { IfShared next IsInstruction }
-    ensures outcome { OnOk result (Makes (λ t e x. spec.next_outcome spec.guest_calls t e x next)
-        (W.seen world.old) thread.old (W.seen world.new) thread.new) }
-    ensures kept { IfOk result (λ change. KeepsWorld change (W.seen world.old) (W.seen world.new)) }
+    ensures outcome { OnOk result (MakesAll (λ e x. spec.next_outcome spec.guest_calls t e x next)
+        (W.seen world.old) io.old thread.old (W.seen world.new) io.new thread.new) }
+    ensures kept { IfOk result (λ change.
+        Keeps change (W.seen world.old) thread.old (W.seen world.new) thread.new) }
     ensures err { OnErr result (W.seen world.new ≡ W.seen world.old) }
+    ensures err_io { OnErr result (io.new ≡ io.old) }
     ensures ample { W.roomy ≡ true → IsOk result }
 {
     match next {
@@ -116,19 +140,29 @@ fn run_next<W: World>(world: &mut W, thread: &mut Thread, next: Next) -> Result<
             thread.fail(Fault::BadPc);
             Ok(Change::Thread)
         }
-        Next::Shared(i) => execute(world, thread, &i),
+        Next::Shared(i) => execute(world, io, t, thread, &i),
     }
 }
 
-/// Does a shared instruction.
+/// Does a shared instruction of thread `t`.
 #[tactic(auto, unfolding(crate::specs::Step::shared_outcome))]
-fn execute<W: World>(world: &mut W, thread: &mut Thread, i: &Instr) -> Result<Change, OutOfMemory>
+fn execute<W: World>(
+    world: &mut W,
+    io: &mut Channels,
+    t: u32,
+    thread: &mut Thread,
+    i: &Instr,
+) -> Result<Change, OutOfMemory>
+    requires number { t < MOST_THREADS }
     requires ready { CanAct (W.seen world.old) thread.old }
+    requires files { HasItsFiles io.old (W.seen world.old) }
     requires instruction { IsInstruction i.now }
-    ensures outcome { OnOk result (Makes (λ t e x. spec.shared_outcome spec.guest_calls t e x i.now i.now.op)
-        (W.seen world.old) thread.old (W.seen world.new) thread.new) }
-    ensures kept { IfOk result (λ change. KeepsWorld change (W.seen world.old) (W.seen world.new)) }
+    ensures outcome { OnOk result (MakesAll (λ e x. spec.shared_outcome spec.guest_calls t e x i.now i.now.op)
+        (W.seen world.old) io.old thread.old (W.seen world.new) io.new thread.new) }
+    ensures kept { IfOk result (λ change.
+        Keeps change (W.seen world.old) thread.old (W.seen world.new) thread.new) }
     ensures err { OnErr result (W.seen world.new ≡ W.seen world.old) }
+    ensures err_io { OnErr result (io.new ≡ io.old) }
     ensures ample { W.roomy ≡ true → IsOk result }
 {
     fields_are_in_range();
@@ -144,9 +178,9 @@ fn execute<W: World>(world: &mut W, thread: &mut Thread, i: &Instr) -> Result<Ch
         }
         Op::Stb => store_byte(world, thread, at, thread.regs.r[usize::from(i.rb)]),
         Op::Stw => store_word(world, thread, at, thread.regs.r[usize::from(i.rb)]),
-        Op::Sys => call(world, thread, i.imm),
+        Op::Sys => call(world, io, t, thread, i.imm),
         Op::Halt => {
-            thread.finish();
+            thread.finish(0);
             Ok(Change::Thread)
         }
         _ => Ok(Change::Thread),

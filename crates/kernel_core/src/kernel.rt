@@ -1,4 +1,4 @@
-ghost use Rattle.std.specs.Prelude.{◌≡◌, ◌<◌, ◌≤◌, ◌+◌, ◌^◌, ◌++◌, ◌∷◌, [], false, max, true, IfErr, IfOk, IfSome, IsOk, OnErr, OnOk, Some, length, vec_capacity, vec_len};
+ghost use Rattle.std.specs.Prelude.{◌≡◌, ◌≢◌, ◌<◌, All, ◌≤◌, ◌+◌, ◌^◌, ◌++◌, ◌∷◌, [], false, max, true, IfErr, IfOk, IfSome, IsOk, OnErr, OnOk, Some, length, vec_capacity, vec_len};
 ghost use Rattle.guest_image.specs.Limits.{IsImage};
 ghost use Rattle.guest_machine.specs.Advances.{advanced};
 ghost use Rattle.kernel_core.specs.Kernel as spec;
@@ -9,19 +9,25 @@ ghost use Rattle.kernel_core.specs.Settings.{IsSettings};
 ghost use Rattle.kernel_core.specs.Start.{start, thread_count};
 ghost use Rattle.kernel_core.specs.declared.acting.Change.TheVariants as changes;
 ghost use Rattle.kernel_core.specs.declared.settings.Job.TheVariants as jobs;
+ghost use Rattle.kernel_core.specs.Step.{roots};
 ghost use Rattle.lwc_base.specs.Frames.{used};
+ghost use Rattle.lwc_base.specs.Life as life;
+ghost use Rattle.lwc_base.specs.Life.{IsReaped};
 ghost use Rattle.lwc_base.specs.declared.limits.TheConstants.{MOST_STEPS, MOST_THREADS};
 ghost use Rattle.std.specs.List.{sum_by};
+ghost use Rattle.world_face.specs.Calls.{IsLive};
 
 use crate::acting::{Change, step_thread};
 use crate::laws::runs_stay_ready;
 use crate::settings::{OpenFault, Settings};
-use crate::starting::{first_threads, start_world};
+use crate::starting::{first_threads, open_channels, start_world};
 use crate::thread::{Thread, ThreadView, Turn};
+use arrayvec::ArrayVec;
 use guest_image::Image;
 use guest_isa::Text;
 use guest_machine::Advance;
-use lwc_base::{OutOfMemory, Requests};
+use lwc_base::laws::a_reaped_world_keeps_what_is_reached;
+use lwc_base::{Channels, Name, OutOfMemory, Requests};
 use std::alloc::Global;
 use std::marker::Model;
 use std::snapshot::Snapshot;
@@ -33,12 +39,12 @@ use world_face::World;
 #[derive(Drop)]
 pub struct Kernel<W: World> {
     image: Snapshot<Image>,
-    requests: Requests,
+    requests: Snapshot<Requests>,
     settings: Settings,
     text: Text,
     world: W,
+    channels: Channels,
     threads: Vec<Thread>,
-    console: Vec<u8>,
     schedule: Vec<u8>,
     room: u32,
     peak: u32,
@@ -52,11 +58,11 @@ impl<W: World> Model for Kernel<W> {
 
     ghost use Rattle.kernel_core.specs.Steady.{IsSteady, history, machine};
 
-    ghost view = { λ k. history k.image.value k.requests k.settings k.schedule.items k.room };
+    ghost view = { λ k. history k.image.value k.requests.value k.settings k.schedule.items k.room };
 
     ghost invariant = { λ k. (vec_len k.schedule + k.room ≤ vec_capacity k.schedule)
-        × IsSteady (machine k.image.value (W.seen k.world) k.threads.items k.text k.console.items) k.peak
-        (history k.image.value k.requests k.settings k.schedule.items k.room) };
+        × IsSteady (machine (W.seen k.world) k.channels k.threads.items k.text) k.peak
+        (history k.image.value k.requests.value k.settings k.schedule.items k.room) };
 }
 
 impl<W: World> Kernel<W> {
@@ -115,19 +121,20 @@ impl<W: World> Kernel<W> {
             (record { image = image.now; requests = requests; settings = settings.now }) steps) }
     {
         let world: W = start_world(alloc, image, settings.frames)?;
+        let asked = Snapshot::of(&requests);
+        let channels = open_channels(alloc, image, requests)?;
         let text = image.text.copy(alloc)?;
         let threads = first_threads(alloc, settings.budget, image.entries.as_slice())?;
-        let console = Vec::new(alloc);
         let schedule = Vec::with_capacity(alloc, steps as usize)?;
         let peak = world.used();
         Ok(Kernel {
             image: Snapshot::of(image),
-            requests,
+            requests: asked,
             settings: *settings,
             text,
             world,
+            channels,
             threads,
-            console,
             schedule,
             room: steps,
             peak,
@@ -152,10 +159,13 @@ impl<W: World> Kernel<W> {
     {
         runs_stay_ready();
         let mut thread = self.threads[t as usize];
-        let Some(change) = step_thread(&mut self.world, &self.text, &mut thread, proposal)? else {
+        let world = &mut self.world;
+        let io = &mut self.channels;
+        let Some(change) = step_thread(world, io, &self.text, t, &mut thread, proposal)? else {
             return Ok(thread.turn());
         };
         self.threads[t as usize] = thread;
+        drop_unreached(&mut self.world, self.threads.as_slice(), change);
         self.peak = peak_after(self.peak, &self.world, change);
         append(&mut self.schedule, t as u8);
         self.room -= 1;
@@ -203,11 +213,11 @@ impl<W: World> Kernel<W> {
         self.peak
     }
 
-    /// What has been written to the console. It is empty, since no call that writes there is built yet.
+    /// What has been written to the console.
     pub fn console(&self) -> &[u8]
-        ensures { result.now ≡ (machine_of self.now).environment.console }
+        ensures { result.now ≡ (machine_of self.now).environment.channels.console }
     {
-        self.console.as_slice()
+        self.channels.console()
     }
 
     /// The world of the threads.
@@ -236,6 +246,24 @@ impl<W: World> Kernel<W> {
     }
 }
 
+/// Drops the contexts that no thread reaches, and then the groups that no cell names. There are none if the step
+/// has cut no link, and then nothing is done.
+fn drop_unreached<W: World>(world: &mut W, threads: &[Thread], change: Change)
+    requires few { length threads.now ≤ MOST_THREADS }
+    requires live { All (λ x. IsLive (W.seen world.old) x.context) threads.now }
+    requires uncut { change ≢ changes.Links → IsReaped (W.seen world.old) (roots threads.now) }
+    ensures { W.seen world.new ≡ life.reap (W.seen world.old) (roots threads.now) }
+{
+    a_reaped_world_keeps_what_is_reached();
+    if change == Change::Links {
+        let mut contexts: ArrayVec<Name, 32> = ArrayVec::new();
+        'threads: for i in 0..threads.len() {
+            contexts.push(threads[i].context);
+        }
+        world.reap(contexts.as_slice());
+    }
+}
+
 /// The peak after a step, which a step that leaves the world does not raise.
 fn peak_after<W: World>(peak: u32, world: &W, change: Change) -> u32
     requires { change ≡ changes.Thread → used (W.seen world.now) ≤ peak }
@@ -243,7 +271,7 @@ fn peak_after<W: World>(peak: u32, world: &W, change: Change) -> u32
 {
     match change {
         Change::Thread => peak,
-        Change::World => peak.max(world.used()),
+        Change::World | Change::Links => peak.max(world.used()),
     }
 }
 

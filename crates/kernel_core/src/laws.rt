@@ -1,13 +1,29 @@
-ghost use Rattle.std.specs.Prelude.{◌≡◌, ◌++◌, ◌∷◌, [], if◌then◌else◌, ℕ, List};
+ghost use Rattle.std.specs.Prelude.{◌≡◌, ◌++◌, ◌∷◌, [], if◌then◌else◌, ℕ, List, Some};
+ghost use Rattle.guest_isa.specs.declared.instr.Instr.{Instr};
 ghost use Rattle.kernel_core.specs.Kernel.{CanOpen};
-ghost use Rattle.kernel_core.specs.Machine.{Machine, is_ended};
+ghost use Rattle.kernel_core.specs.Machine.{Environment, Machine, is_ended};
 ghost use Rattle.kernel_core.specs.Ready.{RunFacts};
+ghost use Rattle.kernel_core.specs.Refused.{ComesToRefusal, after_refusal, refusal_of};
 ghost use Rattle.kernel_core.specs.Runs.{kept, peak, run};
 ghost use Rattle.kernel_core.specs.Start.{Inputs, start};
+ghost use Rattle.kernel_core.specs.Step.{guest_calls, refused, step, unchanged};
+ghost use Rattle.kernel_core.specs.declared.thread.Thread.{Thread};
 ghost use Rattle.lwc_base.specs.Sound.{IsSound};
+ghost use Rattle.lwc_base.specs.declared.refusal.Refusal.{Refusal};
 
 use lwc_base::laws::{
-    changes_leave_the_rest, live_names_are_counted, names_are_ordered, sound_worlds_stay_sound,
+    a_reaped_world_keeps_what_is_reached, changes_leave_the_rest,
+    contexts_keep_the_contexts_that_they_name, descriptors_stay_in_range, live_names_are_counted,
+    names_are_ordered, sound_worlds_stay_sound,
+};
+use lwc_create::laws::an_accepted_call_is_within_limits;
+use lwc_overlay::laws::{
+    an_accepted_overlay_takes_what_is_covered, an_accepted_restriction_takes_keys,
+};
+use lwc_switch::laws::an_accepted_switch_goes_to_a_linked_context;
+use lwc_syscall::laws::{
+    a_plain_call_does_one_thing, a_plain_call_keeps_the_world_well, a_refused_call_changes_nothing,
+    a_syscall_keeps_the_world_well,
 };
 
 /// Of kept steps all are kept.
@@ -39,6 +55,18 @@ pub fn worlds_of_runs_are_sound()
     runs_stay_ready();
 }
 
+/// A call that is refused, whatever its number, changes its thread alone, and of it r0, pc and the budget.
+pub fn a_refused_call_changes_its_thread_alone()
+    ensures call { (number t : ℕ) (e : Environment) (x : Thread) (refusal : Refusal) →
+        refusal_of number t e x ≡ Some refusal → guest_calls number t e x ≡ unchanged e (refused x refusal) }
+    ensures step { (inputs : Inputs) (steps : List ℕ) (t : ℕ) (x : Thread) (i : Instr) (refusal : Refusal) →
+        CanOpen inputs → ComesToRefusal (run (start inputs) steps) t x i refusal →
+        step (run (start inputs) steps) t ≡ after_refusal (run (start inputs) steps) t x refusal }
+{
+    runs_stay_ready();
+    a_refused_call_changes_nothing();
+}
+
 /// From everything that a kernel can be opened with, each run comes to a machine that is ready. In a ready
 /// machine running threads can act, and each step leaves its thread fewer steps.
 pub(crate) fn runs_stay_ready()
@@ -48,4 +76,14 @@ pub(crate) fn runs_stay_ready()
     changes_leave_the_rest();
     live_names_are_counted();
     sound_worlds_stay_sound();
+    contexts_keep_the_contexts_that_they_name();
+    a_reaped_world_keeps_what_is_reached();
+    an_accepted_call_is_within_limits();
+    an_accepted_switch_goes_to_a_linked_context();
+    an_accepted_restriction_takes_keys();
+    an_accepted_overlay_takes_what_is_covered();
+    descriptors_stay_in_range();
+    a_plain_call_does_one_thing();
+    a_plain_call_keeps_the_world_well();
+    a_syscall_keeps_the_world_well();
 }

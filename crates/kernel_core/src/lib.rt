@@ -11,10 +11,11 @@ pub mod settings;
 mod starting;
 pub mod thread;
 
-pub use calling::LW_CREATE;
+pub use calling::{LW_CREATE, LW_OVERLAY, LW_RESTRICT, LW_SWITCH, LW_SYSCALL};
 pub use kernel::Kernel;
 pub use laws::{
-    kept_steps_are_enough, kept_steps_are_kept, next_step_is_kept, worlds_of_runs_are_sound,
+    a_refused_call_changes_its_thread_alone, kept_steps_are_enough, kept_steps_are_kept,
+    next_step_is_kept, worlds_of_runs_are_sound,
 };
 pub use settings::{Job, OpenFault, Settings};
 pub use thread::{Thread, ThreadView, Turn};

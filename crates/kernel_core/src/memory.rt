@@ -1,5 +1,5 @@
 ghost use Rattle.std.specs.Prelude.{◌≡◌, ◌<◌, ◌≤◌, IfOk, IsOk, OnErr, OnOk, length, true};
-ghost use Rattle.kernel_core.specs.Changes.{KeepsWorld, Makes};
+ghost use Rattle.kernel_core.specs.Changes.{Keeps, Makes};
 ghost use Rattle.kernel_core.specs.Ready.{CanAct};
 ghost use Rattle.kernel_core.specs.Step as spec;
 ghost use Rattle.lwc_base.specs.declared.page.TheConstants.{PAGE_BYTES};
@@ -8,6 +8,7 @@ ghost use Rattle.world_face.specs.Calls.{IsLive};
 use crate::acting::Change;
 use crate::thread::Thread;
 use guest_isa::Instr;
+use lwc_base::laws::changes_that_cut_no_link_leave_nothing_to_drop;
 use lwc_base::{Fault, Name, OutOfMemory, Regs};
 use world_face::{StoreFault, World, bytes_for, is_within};
 
@@ -59,9 +60,10 @@ pub(crate) fn store_byte<W: World>(
     value: u64,
 ) -> Result<Change, OutOfMemory>
     requires ready { CanAct (W.seen world.old) thread.old }
-    ensures outcome { OnOk result (Makes (λ t e x. spec.byte_outcome e x at value)
+    ensures outcome { OnOk result (Makes (λ e x. spec.byte_outcome e x at value)
         (W.seen world.old) thread.old (W.seen world.new) thread.new) }
-    ensures kept { IfOk result (λ change. KeepsWorld change (W.seen world.old) (W.seen world.new)) }
+    ensures kept { IfOk result (λ change.
+        Keeps change (W.seen world.old) thread.old (W.seen world.new) thread.new) }
     ensures err { OnErr result (W.seen world.new ≡ W.seen world.old) }
     ensures ample { W.roomy ≡ true → IsOk result }
 {
@@ -76,9 +78,10 @@ pub(crate) fn store_word<W: World>(
     value: u64,
 ) -> Result<Change, OutOfMemory>
     requires ready { CanAct (W.seen world.old) thread.old }
-    ensures outcome { OnOk result (Makes (λ t e x. spec.word_outcome e x at value)
+    ensures outcome { OnOk result (Makes (λ e x. spec.word_outcome e x at value)
         (W.seen world.old) thread.old (W.seen world.new) thread.new) }
-    ensures kept { IfOk result (λ change. KeepsWorld change (W.seen world.old) (W.seen world.new)) }
+    ensures kept { IfOk result (λ change.
+        Keeps change (W.seen world.old) thread.old (W.seen world.new) thread.new) }
     ensures err { OnErr result (W.seen world.new ≡ W.seen world.old) }
     ensures ample { W.roomy ≡ true → IsOk result }
 {
@@ -100,9 +103,10 @@ fn store_bytes<W: World>(
     requires ready { CanAct (W.seen world.old) thread.old }
     requires short { length bytes.now ≤ PAGE_BYTES }
     ensures outcome { OnOk result (Makes
-        (λ t e x. spec.store_outcome e x (record { at = at; bytes = bytes.now }))
+        (λ e x. spec.store_outcome e x (record { at = at; bytes = bytes.now }))
         (W.seen world.old) thread.old (W.seen world.new) thread.new) }
-    ensures kept { IfOk result (λ change. KeepsWorld change (W.seen world.old) (W.seen world.new)) }
+    ensures kept { IfOk result (λ change.
+        Keeps change (W.seen world.old) thread.old (W.seen world.new) thread.new) }
     ensures err { OnErr result (W.seen world.new ≡ W.seen world.old) }
     ensures ample { W.roomy ≡ true → IsOk result }
 {
@@ -110,6 +114,7 @@ fn store_bytes<W: World>(
         thread.fail(Fault::BadStore);
         return Ok(Change::Thread);
     }
+    changes_that_cut_no_link_leave_nothing_to_drop();
     match world.store(thread.context, at as u32, bytes, thread.job) {
         Ok(()) => {
             thread.advance();

@@ -1,7 +1,8 @@
-ghost use Rattle.std.specs.Prelude.{◌≡◌, ◌≢◌, ◌==◌, ◌<◌, ◌≤◌, ◌+◌, IfOk, OnOk, length, take};
+ghost use Rattle.std.specs.Prelude.{[], ◌≡◌, ◌≢◌, ◌==◌, ◌<◌, ◌≤◌, ◌+◌, IfOk, OnOk, length, take};
 ghost use Rattle.std.specs.List.{find};
 ghost use Rattle.guest_image.specs.Limits.{IsImage};
 ghost use Rattle.kernel_core.specs.Start as spec;
+ghost use Rattle.lwc_base.specs.Channels.{opened};
 ghost use Rattle.lwc_base.specs.declared.descriptor.TheConstants.{SLOTS};
 ghost use Rattle.lwc_base.specs.declared.limits.TheConstants.{MOST_FRAMES, MOST_THREADS};
 
@@ -9,8 +10,8 @@ use crate::thread::Thread;
 use guest_image::{Image, SlotImage};
 use lwc_base::laws::names_are_ordered;
 use lwc_base::{
-    Descriptor, MOST_CONTEXTS, MOST_GROUPS, MOST_JOBS, MOST_PAGES, Name, OutOfMemory, PAGE_BYTES,
-    Range, Regs, SLOTS, StoreFault, ThreadStatus,
+    Channels, Descriptor, FileImage, MOST_CONTEXTS, MOST_GROUPS, MOST_JOBS, MOST_PAGES, Name,
+    OutOfMemory, PAGE_BYTES, Range, Regs, Requests, SLOTS, Sequence, StoreFault, ThreadStatus,
 };
 use std::alloc::Global;
 use world_face::{World, WorldSize};
@@ -49,6 +50,42 @@ fn first_thread(budget: u32, t: u32, entry: u32) -> Thread
         job: t + 1,
         budget,
     }
+}
+
+/// The channels of a start: the image's files, these requests, and nothing that has been written. The only error
+/// is out of memory.
+pub(crate) fn open_channels(
+    alloc: Global,
+    image: &Image,
+    requests: Requests,
+) -> Result<Channels, OutOfMemory>
+    requires image { IsImage image.now }
+    requires none { requests ≡ [] }
+    ensures { IfOk result (λ io. io ≡ opened image.now.files requests) }
+{
+    Channels::open(alloc, copy_files(alloc, image.files.as_slice())?, requests)
+}
+
+/// The same files. The only error is out of memory.
+fn copy_files(alloc: Global, files: &[FileImage]) -> Result<Sequence<FileImage>, OutOfMemory>
+    ensures { IfOk result (λ copy. copy ≡ files.now) }
+{
+    let mut copies = Vec::new(alloc);
+    'files: for i in 0..files.len() {
+        copies.push(copy_file(alloc, &files[i])?)?;
+    }
+    Ok(Sequence::of(copies))
+}
+
+/// The same file. The only error is out of memory.
+fn copy_file(alloc: Global, file: &FileImage) -> Result<FileImage, OutOfMemory>
+    ensures { IfOk result (λ copy. copy ≡ file.now) }
+{
+    Ok(FileImage {
+        owner: file.owner,
+        public: file.public,
+        bytes: Sequence::of(Vec::from_slice(alloc, file.bytes.as_slice())?),
+    })
 }
 
 /// The world of a start. The only error is out of memory.

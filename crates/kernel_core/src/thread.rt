@@ -73,11 +73,11 @@ impl Thread {
         }
     }
 
-    /// Ends the thread with code 0.
-    pub(crate) fn finish(&mut self)
-        ensures { self.new ≡ spec.with_status self.old (ThreadStatus.Done 0) }
+    /// Ends the thread with a code.
+    pub(crate) fn finish(&mut self, code: u64)
+        ensures { self.new ≡ spec.with_status self.old (ThreadStatus.Done code) }
     {
-        self.status = ThreadStatus::Done { code: 0 };
+        self.status = ThreadStatus::Done { code };
     }
 
     /// Ends the thread by a fault.

@@ -27,7 +27,7 @@ contexts_text w = flat_map (λ c. context_line c (summary_of w c)) (fm.keys w.co
 unfoldable pub report_of : Machine → ℕ → List ℕ → List ℕ
 report_of m most steps =
     threads_text m ++ contexts_text m.environment.world ++ groups_line (fm.len m.environment.world.groups)
-    ++ tail_lines m.environment.console (frames_of m) most steps
+    ++ tail_lines m.environment.channels.console (frames_of m) most steps
 
 -- the report of the run of these steps from the start
 abbrev pub report_after : Inputs → List ℕ → List ℕ

@@ -1,5 +1,5 @@
 use Rattle.std.proofs.Common.{◌+◌, arith, length}
-use Rattle.kernel_core.proofs.ReadyRuns.{fewer_steps, ready_later, ready_run, running_acts}
+use Rattle.kernel_core.proofs.ReadyRuns.{fewer_steps, live_after, ready_later, ready_run, running_acts}
 use Rattle.kernel_core.proofs.Started.{ready_start}
 use Rattle.kernel_core.proofs.Worlds.{WorldFacts}
 use Rattle.kernel_core.specs.Runs.{run}
@@ -20,7 +20,54 @@ returns c =
         store = c.sound_worlds_stay_sound.ensures.store;
         share = c.sound_worlds_stay_sound.ensures.share;
         clone = c.sound_worlds_stay_sound.ensures.clone;
+        save = c.sound_worlds_stay_sound.ensures.save;
+        overlay = c.sound_worlds_stay_sound.ensures.overlay;
+        reap = c.sound_worlds_stay_sound.ensures.reap;
       };
+      named = record {
+        store = c.contexts_keep_the_contexts_that_they_name.ensures.store;
+        put = c.contexts_keep_the_contexts_that_they_name.ensures.put;
+        clone = c.contexts_keep_the_contexts_that_they_name.ensures.clone;
+        save = c.contexts_keep_the_contexts_that_they_name.ensures.save;
+        overlay = c.contexts_keep_the_contexts_that_they_name.ensures.overlay;
+        reap = c.contexts_keep_the_contexts_that_they_name.ensures.reap;
+        named = c.contexts_keep_the_contexts_that_they_name.ensures.named;
+      };
+      files = record {
+        empty = c.descriptors_stay_in_range.ensures.empty;
+        add = c.descriptors_stay_in_range.ensures.add;
+        map = c.descriptors_stay_in_range.ensures.map;
+        slot = c.descriptors_stay_in_range.ensures.slot;
+        store = c.descriptors_stay_in_range.ensures.store;
+        clone = c.descriptors_stay_in_range.ensures.clone;
+        save = c.descriptors_stay_in_range.ensures.save;
+        overlay = c.descriptors_stay_in_range.ensures.overlay;
+        reap = c.descriptors_stay_in_range.ensures.reap;
+      };
+      calls = record {
+        plain = c.a_plain_call_does_one_thing.ensures;
+        well = c.a_plain_call_keeps_the_world_well.ensures.well;
+        numbers = c.a_plain_call_keeps_the_world_well.ensures.numbers;
+        inputs = c.a_plain_call_keeps_the_world_well.ensures.inputs;
+        over_well = c.a_syscall_keeps_the_world_well.ensures.well;
+        over_numbers = c.a_syscall_keeps_the_world_well.ensures.numbers;
+        over_inputs = c.a_syscall_keeps_the_world_well.ensures.inputs;
+      };
+      life = record {
+        kept = c.a_reaped_world_keeps_what_is_reached.ensures.kept;
+        was_live = c.a_reaped_world_keeps_what_is_reached.ensures.was_live;
+        was_group = c.a_reaped_world_keeps_what_is_reached.ensures.was_group;
+        rest = c.a_reaped_world_keeps_what_is_reached.ensures.rest;
+        reaped = c.a_reaped_world_keeps_what_is_reached.ensures.reaped;
+      };
+      switches = c.an_accepted_switch_goes_to_a_linked_context.ensures;
+      creates = record {
+        spec = c.an_accepted_call_is_within_limits.ensures.spec;
+        contexts = c.an_accepted_call_is_within_limits.ensures.contexts;
+        groups = c.an_accepted_call_is_within_limits.ensures.groups;
+      };
+      restricts = c.an_accepted_restriction_takes_keys.ensures;
+      takes = c.an_accepted_overlay_takes_what_is_covered.ensures;
     } in
     record {
       ready = λ inputs steps can.
@@ -28,4 +75,6 @@ returns c =
           (ready_run facts inputs 0 steps (start inputs) (ready_start facts inputs can));
       act = running_acts facts;
       fewer = fewer_steps facts;
+      live = live_after facts;
+      same = c.a_reaped_world_keeps_what_is_reached.ensures.same;
     }

@@ -1,0 +1,48 @@
+-- What a plain call keeps, by its number and its answer.
+use Rattle.std.proofs.Common.{◌≡◌, ℕ, refl, sym, subst, Bool, true, false, cond, List}
+use Rattle.kernel_core.proofs.Reaping.{CutFacts, leaves_same}
+use Rattle.kernel_core.proofs.Worlds.{done_after}
+use Rattle.kernel_core.specs.Changes.{Keeps, LeavesNothing, change_by_end, change_by_number}
+use Rattle.kernel_core.specs.Step.{plainly}
+use Rattle.kernel_core.specs.declared.acting.Change.{Change}
+use Rattle.kernel_core.specs.declared.acting.Change.TheVariants as changes
+use Rattle.kernel_core.specs.declared.thread.Thread.{Thread}
+use Rattle.lwc_base.specs.Life.{IsReaped}
+use Rattle.lwc_base.specs.Store.{Done, Piece, store}
+use Rattle.lwc_base.specs.World.{World}
+use Rattle.lwc_base.specs.declared.name.Name.{Name}
+use Rattle.lwc_base.specs.declared.refusal.Refusal.{Refusal}
+use Rattle.lwc_syscall.specs.Changes.{CutsNone, Put, Same, StoredPut, cuts_none, leaves_world}
+use Rattle.lwc_syscall.specs.declared.answer.CallAnswer.{CallAnswer}
+use Rattle.lwc_syscall.specs.declared.answer.CallAnswer.TheVariants as ends
+use Rattle.lwc_syscall.specs.declared.calls.Three.{Three}
+
+stored_reaped : CutFacts → (w v : World) (names : List Name) (c : Name) (job : ℕ) (piece : Piece) → store w c job piece ≡ Done v → IsReaped w names → IsReaped v names
+unfolding store
+stored_reaped cuts w v names c job piece done reaped = subst (λ (u : World). IsReaped u names) (done_after _ _ _ v done) (cuts.stored w names c job piece reaped)
+
+-- what cuts no link leaves nothing to drop
+pub cuts_leaves : CutFacts → (w : World) (c : Name) (three : Three) (job : ℕ) (v : World) → CutsNone w three job v → LeavesNothing w c v c
+cuts_leaves cuts w c three job v Same = leaves_same w w c (λ names reaped. reaped)
+cuts_leaves cuts w c three job v (Put n value loses) = leaves_same w _ c (λ names. cuts.put w names three.slots n value loses)
+cuts_leaves cuts w c three job v (StoredPut u piece n value done loses) =
+    leaves_same w _ c (λ names reaped. cuts.put u names three.slots n value loses (stored_reaped cuts w u names three.memory job piece done reaped))
+
+-- what an accepted call keeps, for a thread that stays in its context
+by_number : (w v : World) (x y : Thread) (leaves cuts : Bool) → y.context ≡ x.context → (leaves ≡ true → v ≡ w) → (cuts ≡ true → LeavesNothing w x.context v x.context) →
+    Keeps (cond leaves changes.Thread (cond cuts changes.World changes.Links)) w x v y
+by_number w v x y true cuts same stays none = (stays refl, same)
+by_number w v x y false true same stays none = subst (λ (d : Name). LeavesNothing w x.context v d) (sym same) (none refl)
+by_number w v x y false false same stays none = tt
+
+-- what a plain call keeps
+pub plain_keeps : (w v : World) (x y : Thread) (answer : CallAnswer) (call : ℕ) (change : Change) → (leaves_world call ≡ true → v ≡ w) →
+    (cuts_none call ≡ true → LeavesNothing w x.context v x.context) → ((refusal : Refusal) → answer ≡ ends.Refused refusal → v ≡ w) →
+    change ≡ change_by_end answer (change_by_number call) → y ≡ plainly x answer → Keeps change w x v y
+plain_keeps w v x y answer call change stays none refused changed ended =
+    subst (λ (c : Change). Keeps c w x v y) (sym changed) (subst (λ (z : Thread). Keeps (change_by_end answer (change_by_number call)) w x v z) (sym ended) (by_answer answer refused))
+  where
+    by_answer : (a : CallAnswer) → ((refusal : Refusal) → a ≡ ends.Refused refusal → v ≡ w) → Keeps (change_by_end a (change_by_number call)) w x v (plainly x a)
+    by_answer (ends.Value value) refused = by_number w v x (plainly x (ends.Value value)) (leaves_world call) (cuts_none call) refl stays none
+    by_answer (ends.Exit code) refused = by_number w v x (plainly x (ends.Exit code)) (leaves_world call) (cuts_none call) refl stays none
+    by_answer (ends.Refused r) refused = (refused r refl, refl)

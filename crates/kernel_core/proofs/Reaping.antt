@@ -1,0 +1,205 @@
+-- The contexts of threads as roots: what a step that cuts no link leaves reached, and what a reaped world keeps.
+use Rattle.std.proofs.Common.{◌≡◌, ◌≢◌, ◌⊎◌, inl, inr, ℕ, zero, suc, ◌+◌, ◌<◌, ◌≤◌, refl, sym, ap, subst, ◌∙◌, Bool, true, false, ◌||◌, Option, Some, None, List, [], ◌∷◌, ◌++◌, length, map, take, get_or, arith}
+use Rattle.std.specs.List.{Contains, list_any}
+use Rattle.std.specs.Ordering.{eq_by_cmp}
+use Rattle.std.specs.Prelude.{All, is_none, slice_get, slice_set, unwrap_or}
+use Rattle.std.proofs.lemmas.List.{length-map, length-take-le, map-append, take_all, take_more}
+use Rattle.std.proofs.lemmas.List.Elements.{All-cons, All-map, All-nil, All-weaker}
+use Rattle.kernel_core.proofs.Worlds.{WorldFacts, done_after, name_itself, same_name}
+use Rattle.kernel_core.specs.Changes.{Keeps, LeavesNothing, change_by}
+use Rattle.kernel_core.specs.Ready.{IsWithinLimits}
+use Rattle.kernel_core.specs.Step.{answered, roots, with_regs}
+use Rattle.kernel_core.specs.declared.acting.Change.{Change}
+use Rattle.kernel_core.specs.declared.acting.Change.TheVariants as changes
+use Rattle.kernel_core.specs.declared.thread.Thread.{Thread}
+use Rattle.lwc_base.specs.Cells.{put_slot, slot_at}
+use Rattle.lwc_base.specs.Facts.{HasFewer, OrderFacts}
+use Rattle.lwc_base.specs.Fresh.{IsFresh}
+use Rattle.lwc_base.specs.Life.{IsReaped, Root, is_among, is_of, reap}
+use Rattle.lwc_base.specs.Names.{name_cmp}
+use Rattle.lwc_base.specs.Refusals.{first_refusal}
+use Rattle.lwc_base.specs.Saved.{save}
+use Rattle.lwc_base.specs.Sharing.{clone_context}
+use Rattle.lwc_base.specs.Slots.{lowest_empty}
+use Rattle.lwc_base.specs.Sound.{HasItsGroups, IsSound}
+use Rattle.lwc_base.specs.Store.{Done, Piece, after_store, store}
+use Rattle.lwc_base.specs.Summaries.{is_empty}
+use Rattle.lwc_base.specs.World.{World, is_live, next_context}
+use Rattle.lwc_base.specs.declared.answer.Answer.{Answer}
+use Rattle.lwc_base.specs.declared.answer.Answer.TheVariants as answers
+use Rattle.lwc_base.specs.declared.descriptor.Cap.{Cap}
+use Rattle.lwc_base.specs.declared.descriptor.Descriptor.{Descriptor}
+use Rattle.lwc_base.specs.declared.descriptor.Descriptor.TheVariants.{Ctx}
+use Rattle.lwc_base.specs.declared.descriptor.TheConstants.{SLOTS}
+use Rattle.lwc_base.specs.declared.item.Item.{Item}
+use Rattle.lwc_base.specs.declared.name.Name.{Name}
+use Rattle.lwc_base.specs.declared.refusal.Refusal.{Refusal}
+use Rattle.lwc_base.specs.declared.regs.Regs.{Regs}
+use Rattle.lwc_create.specs.Create as create
+use Rattle.lwc_overlay.specs.RestrictCall.{IsRestriction}
+
+-- the contexts of threads, where one of them is another one
+roots-set : (threads : List Thread) (t : ℕ) (y : Thread) → roots (slice_set threads t y) ≡ slice_set (roots threads) t y.context
+roots-set [] t y = refl
+roots-set (x ∷ xs) zero y = refl
+roots-set (x ∷ xs) (suc t) y = ap (λ l. x.context ∷ l) (roots-set xs t y)
+
+-- the contexts of the first threads
+pub roots_more : (threads : List Thread) (i : ℕ) (x : Thread) (names more : List Name) → i < length threads → names ≡ roots (take i threads) → more ≡ names ++ (get_or threads i x).context ∷ [] →
+    more ≡ roots (take (i + 1) threads)
+roots_more threads i x names more within so_far pushed =
+    pushed ∙ ap (λ (l : List Name). l ++ (get_or threads i x).context ∷ []) so_far
+    ∙ sym (ap roots (take_more threads i x within) ∙ map-append (λ (y : Thread). y.context) (take i threads) (get_or threads i x ∷ []))
+
+pub length-roots : (threads : List Thread) (i : ℕ) → i < length threads → length (roots (take i threads)) < length threads
+length-roots threads i within = omega (arith, length-map (take i threads) (λ (y : Thread). y.context), length-take-le i threads (omega arith), within)
+
+pub roots_all : (threads : List Thread) (i : ℕ) → length threads ≤ i → roots (take i threads) ≡ roots threads
+roots_all threads i all = ap roots (take_all i threads all)
+
+-- the contexts of threads are live where each one's is
+pub live_roots : (w : World) (threads : List Thread) → All (λ (x : Thread). is_live w x.context ≡ true) threads → All (λ c. is_live w c ≡ true) (roots threads)
+live_roots w threads live = All-map (λ c. is_live w c ≡ true) (λ (x : Thread). x.context) threads live
+
+root_of : (threads : List Thread) (t : ℕ) (x : Thread) → slice_get threads t ≡ Some x → slice_get (roots threads) t ≡ Some x.context
+root_of [] t x found = cc
+root_of (y ∷ ys) zero x found = let same : y ≡ x = cc in ap (λ (z : Thread). Some z.context) same
+root_of (y ∷ ys) (suc t) x found = root_of ys t x found
+
+-- a list in which an element is put in its own place
+set-same : (names : List Name) (t : ℕ) (c : Name) → slice_get names t ≡ Some c → slice_set names t c ≡ names
+set-same [] t c found = refl
+set-same (d ∷ ds) zero c found = let same : d ≡ c = cc in ap (λ e. e ∷ ds) (sym same)
+set-same (d ∷ ds) (suc t) c found = ap (λ l. d ∷ l) (set-same ds t c found)
+
+-- a change after which nothing is left to drop, for a thread that stays in its context
+pub leaves_same : (w v : World) (c : Name) → ((contexts : List Name) → IsReaped w contexts → IsReaped v contexts) → LeavesNothing w c v c
+leaves_same w v c stays contexts t found reaped = subst (IsReaped v) (sym (set-same contexts t c found)) (stays contexts reaped)
+
+-- the changes that cut no link
+pub record CutFacts : Type 0 where
+  pub stored : (w : World) (names : List Name) (c : Name) (job : ℕ) (piece : Piece) → IsReaped w names → IsReaped (after_store w c job piece) names
+  pub put : (w : World) (names : List Name) (c : Name) (n : ℕ) (value : Descriptor) → ((d : Name) → is_of d (slot_at w c n) ≡ true → is_of d value ≡ true) → IsReaped w names →
+      IsReaped (put_slot w c n value) names
+  pub created : (w : World) (names : List Name) (c : Name) (job : ℕ) (items : List Item) (entry : Regs) (n : ℕ) (cap : Cap) → IsFresh w → HasItsGroups w → is_live w c ≡ true → n < SLOTS →
+      is_empty (slot_at w c n) ≡ true → IsReaped w names → IsReaped (put_slot (clone_context w c job items entry) c n (Ctx (next_context w job) cap)) names
+  pub switched : (w : World) (names others : List Name) (c d : Name) (t : ℕ) (regs : Regs) (n : ℕ) (cap : Cap) → HasItsGroups w → is_live w c ≡ true → is_live w d ≡ true → n < SLOTS →
+      is_empty (slot_at w d n) ≡ true → is_among others d ≡ true → ((e : Name) → is_among names e ≡ true → (is_among others e ≡ true) ⊎ (e ≡ c)) → IsReaped w names →
+      IsReaped (put_slot (save w c t regs) d n (Ctx c cap)) others
+
+-- a store that is done
+pub leaves_stored : CutFacts → (w v : World) (c : Name) (job : ℕ) (piece : Piece) → store w c job piece ≡ Done v → LeavesNothing w c v c
+unfolding store
+leaves_stored cuts w v c job piece done =
+    subst (λ (u : World). LeavesNothing w c u c) (done_after _ _ _ v done) (leaves_same w (after_store w c job piece) c (λ contexts. cuts.stored w contexts c job piece))
+
+-- the end of a call that made a context
+created_by : (w v : World) (c : Name) (job : ℕ) (regs after : Regs) (slot : ℕ) (refusal : Option Refusal) → create.ended w c job regs slot refusal ≡ (answers.Done after, v) →
+    (refusal ≡ None) × (v ≡ create.created w c job regs slot)
+created_by w v c job regs after slot (Some r) is = let other = ap (λ (p : Answer × World). p.0) is in cc
+created_by w v c job regs after slot None is = (refl, sym (ap (λ (p : Answer × World). p.1) is))
+
+-- the lowest empty slot was found
+slot_of : (o : Option ℕ) → is_none o ≡ false → o ≡ Some (unwrap_or o 0)
+slot_of None there = cc
+slot_of (Some n) there = refl
+
+-- a context that was made
+pub leaves_created : CutFacts → ((w : World) (c : Name) (n : ℕ) → lowest_empty w c ≡ Some n → (n < SLOTS) × (is_empty (slot_at w c n) ≡ true)) →
+    ((w : World) (c : Name) (job : ℕ) (regs : Regs) → first_refusal (create.refusals w c job regs) ≡ None → is_none (lowest_empty w c) ≡ false) →
+    (w v : World) (c : Name) (job : ℕ) (regs after : Regs) → IsSound w → is_live w c ≡ true → create.create w c job regs ≡ (answers.Done after, v) → LeavesNothing w c v c
+unfolding create.create
+leaves_created cuts lowest slots w v c job regs after sound live done =
+    let ended = created_by w v c job regs after _ _ done in
+    let slot = lowest w c _ (slot_of (lowest_empty w c) (slots w c job regs ended.0)) in
+    subst (λ (u : World). LeavesNothing w c u c) (sym ended.1)
+    (leaves_same w _ c (λ contexts. cuts.created w contexts c job _ _ _ _ sound.fresh sound.groups live slot.0 slot.1))
+
+-- a capability that was restricted
+pub leaves_restricted : CutFacts → (w v : World) (c : Name) (regs : Regs) → IsRestriction w v c regs → LeavesNothing w c v c
+leaves_restricted cuts w v c regs is =
+    subst (λ (u : World). LeavesNothing w c u c) (sym is.made)
+    (leaves_same w _ c (λ contexts. cuts.put w contexts c _ _ (λ d of. sym (ap (is_of d) is.had) ∙ of)))
+
+-- a call that ended by its answer
+pub ended_keeps : (w v : World) (x y : Thread) (answer : Answer) (accepted change : Change) → ((regs : Regs) → answer ≡ answers.Done regs → Keeps accepted w x v (with_regs x regs)) →
+    ((refusal : Refusal) → answer ≡ answers.Refused refusal → v ≡ w) → change ≡ change_by answer accepted → y ≡ answered x answer → Keeps change w x v y
+ended_keeps w v x y answer accepted change done refused changed ended =
+    subst (λ (c : Change). Keeps c w x v y) (sym changed) (subst (λ (z : Thread). Keeps (change_by answer accepted) w x v z) (sym ended) (by_answer answer done refused))
+  where
+    by_answer : (a : Answer) → ((regs : Regs) → a ≡ answers.Done regs → Keeps accepted w x v (with_regs x regs)) → ((refusal : Refusal) → a ≡ answers.Refused refusal → v ≡ w) →
+        Keeps (change_by a accepted) w x v (answered x a)
+    by_answer (answers.Done regs) done refused = done regs refl
+    by_answer (answers.Refused r) done refused = (refused r refl, refl)
+
+-- a step that may cut no link leaves nothing to drop
+pub uncut : (change : Change) (w v : World) (threads : List Thread) (t : ℕ) (x y : Thread) → Keeps change w x v y → change ≢ changes.Links → slice_get threads t ≡ Some x →
+    IsReaped w (roots threads) → IsReaped v (roots (slice_set threads t y))
+uncut changes.Thread w v threads t x y keeps other found reaped =
+    subst (IsReaped v) (sym (roots-set threads t y ∙ ap (slice_set (roots threads) t) keeps.1 ∙ set-same (roots threads) t x.context (root_of threads t x found)))
+    (subst (λ (u : World). IsReaped u (roots threads)) (sym keeps.0) reaped)
+uncut changes.World w v threads t x y keeps other found reaped =
+    subst (IsReaped v) (sym (roots-set threads t y)) (keeps (roots threads) t (root_of threads t x found) reaped)
+uncut changes.Links w v threads t x y keeps other found reaped = absurd (other refl)
+
+either : (a b : Bool) → b ≡ true → (a || b) ≡ true
+either true b is = refl
+either false b is = is
+
+or_rest : (a b : Bool) → (a || b) ≡ true → (a ≡ true) ⊎ (b ≡ true)
+or_rest true b is = inl refl
+or_rest false b is = inr is
+
+module _ (orders : OrderFacts) where
+  first_is : (c : Name) (names : List Name) → is_among (c ∷ names) c ≡ true
+  first_is c names = ap (λ b. b || is_among names c) (name_itself orders c)
+
+  -- each thread's context is a root
+  pub each_root : (threads : List Thread) → All (λ (x : Thread). is_among (roots threads) x.context ≡ true) threads
+  each_root [] = All-nil _
+  each_root (x ∷ xs) =
+      All-cons (λ (y : Thread). is_among (roots (x ∷ xs)) y.context ≡ true) x xs (first_is x.context (roots xs))
+      (All-weaker (λ (y : Thread). is_among (roots xs) y.context ≡ true) (λ (y : Thread). is_among (roots (x ∷ xs)) y.context ≡ true) (λ y is. either _ _ is) xs (each_root xs))
+
+  -- a root that is put in the place of another one, and what the other roots were
+  pub put_root : (names : List Name) (t : ℕ) (c d : Name) → slice_get names t ≡ Some c → is_among (slice_set names t d) d ≡ true
+  put_root [] t c d found = cc
+  put_root (e ∷ es) zero c d found = first_is d es
+  put_root (e ∷ es) (suc t) c d found = either _ _ (put_root es t c d found)
+
+  pub was_root : (names : List Name) (t : ℕ) (c d : Name) → slice_get names t ≡ Some c → (e : Name) → is_among names e ≡ true → (is_among (slice_set names t d) e ≡ true) ⊎ (e ≡ c)
+  was_root [] t c d found e among = cc
+  was_root (f ∷ fs) zero c d found e among =
+      let same : f ≡ c = cc in
+      elim (or_rest (eq_by_cmp name_cmp e f) (is_among fs e) among) [
+        | inl here ↦ inr (same_name orders e f here ∙ same)
+        | inr later ↦ inl (either _ _ later)
+      ]
+  was_root (f ∷ fs) (suc t) c d found e among =
+      elim (or_rest (eq_by_cmp name_cmp e f) (is_among fs e) among) [
+        | inl here ↦ inl (ap (λ b. b || is_among (slice_set fs t d) e) here)
+        | inr later ↦ elim (was_root fs t c d found e later) [ inl still ↦ inl (either _ _ still) | inr is ↦ inr is ]
+      ]
+
+  -- a thread that goes from a context to a live one, an empty slot of which gets a descriptor of the first, cuts no link
+  pub leaves_switched : CutFacts → (w : World) (c d : Name) (t : ℕ) (regs : Regs) (n : ℕ) (cap : Cap) → HasItsGroups w → is_live w c ≡ true → is_live w d ≡ true → n < SLOTS →
+      is_empty (slot_at w d n) ≡ true → LeavesNothing w c (put_slot (save w c t regs) d n (Ctx c cap)) d
+  leaves_switched cuts w c d t regs n cap groups here there within empty contexts place found =
+      cuts.switched w contexts (slice_set contexts place d) c d t regs n cap groups here there within empty (put_root contexts place c d found) (was_root contexts place c d found)
+
+module _ (facts : WorldFacts) where
+  -- a root that lives is kept
+  pub root_kept : (w : World) (names : List Name) (c : Name) → is_live w c ≡ true → is_among names c ≡ true → is_live (reap w names) c ≡ true
+  root_kept w names c live among = facts.life.kept w names c live (Root c among)
+
+  -- a world within its limits stays so
+  pub limits_reaped : (w : World) (names : List Name) (jobs : List ℕ) → IsWithinLimits w jobs → IsWithinLimits (reap w names) jobs
+  limits_reaped w names jobs limits =
+      let fewer : HasFewer w (reap w names) = facts.counts.reaped w names in
+      record {
+        contexts = λ c live. limits.contexts c (facts.life.was_live w names c live);
+        groups = λ g live. limits.groups g (facts.life.was_group w names g live);
+        homes = omega (arith, fewer.live_of 0, limits.homes);
+        few_contexts = λ job. omega (arith, fewer.live_of job, limits.few_contexts job);
+        few_groups = λ job. omega (arith, fewer.groups_of job, limits.few_groups job);
+      }

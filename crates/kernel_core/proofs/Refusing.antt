@@ -1,0 +1,126 @@
+-- A call that is refused changes nothing but its thread.
+use Rattle.std.proofs.Common.{◌≡◌, ℕ, ◌-◌, refl, sym, ap, ◌∙◌, Bool, true, false, cond, eqb, Option, Some, None, List}
+use Rattle.std.specs.Prelude.{slice_get, slice_set}
+use Rattle.guest_isa.specs.declared.instr.Instr.{Instr}
+use Rattle.guest_isa.specs.declared.op.Op.{Op}
+use Rattle.guest_machine.specs.Advances.{advanced}
+use Rattle.guest_machine.specs.declared.progress.Next.{Next}
+use Rattle.kernel_core.proofs.Reaping.{uncut}
+use Rattle.kernel_core.specs.Machine.{Environment, Machine}
+use Rattle.kernel_core.specs.Ready.{IsReady}
+use Rattle.kernel_core.specs.Refused.{ComesToRefusal, advanced_thread, refusal_at_end, refusal_in, refusal_of, refusal_to_move}
+use Rattle.kernel_core.specs.Step.{Outcome, advance_outcome, after_outcome, after_thread, args_of, beside, call_outcome, counted, create_outcome, ended_outcome, guest_calls, next_outcome, overlay_outcome, plain_outcome, plainly, refused, restrict_outcome, roots, shared_outcome, step, step_by, switch_outcome, switched, syscall_outcome, thread_outcome, three_times, unchanged, with_steps, with_world}
+use Rattle.kernel_core.specs.declared.acting.Change.TheVariants as changes
+use Rattle.kernel_core.specs.declared.calling.TheConstants.{LW_CREATE, LW_OVERLAY, LW_RESTRICT, LW_SWITCH, LW_SYSCALL}
+use Rattle.kernel_core.specs.declared.thread.Thread.{Thread}
+use Rattle.lwc_base.specs.Channels.{Channels}
+use Rattle.lwc_base.specs.Life.{IsReaped, reap}
+use Rattle.lwc_base.specs.World.{World}
+use Rattle.lwc_base.specs.declared.answer.Answer.TheVariants as answers
+use Rattle.lwc_base.specs.declared.fault.ThreadStatus.{ThreadStatus}
+use Rattle.lwc_base.specs.declared.name.Name.{Name}
+use Rattle.lwc_base.specs.declared.refusal.Refusal.{Refusal}
+use Rattle.lwc_create.specs.Create as create
+use Rattle.lwc_overlay.specs.OverlayCall as overlaying
+use Rattle.lwc_overlay.specs.RestrictCall as restricting
+use Rattle.lwc_switch.specs.Switch as switching
+use Rattle.lwc_syscall.specs.Changes.{ChangesIfDone}
+use Rattle.lwc_syscall.specs.Plain as calls
+use Rattle.lwc_syscall.specs.Plain.{plain}
+use Rattle.lwc_syscall.specs.Syscall.{lw_syscall}
+use Rattle.lwc_syscall.specs.declared.answer.CallAnswer.{CallAnswer}
+use Rattle.lwc_syscall.specs.declared.answer.CallAnswer.TheVariants as ends
+use Rattle.lwc_syscall.specs.declared.calls.Three.{Three}
+
+-- what is known of plain calls that are refused
+pub record IdleFacts : Type 0 where
+  pub plain : (w : World) (io : Channels) (three : Three) (job call : ℕ) (args : List ℕ) → ChangesIfDone w io (plain w io three job call args)
+  pub chosen : (w : World) (io : Channels) (c : Name) (job : ℕ) (regs : _) → ChangesIfDone w io (lw_syscall w io c job regs)
+
+module _ (e : Environment) (x : Thread) (r : Refusal) where
+  create-refused : (slot : ℕ) (first : Option Refusal) → refusal_in (create.ended e.world x.context x.job x.regs slot first).0 ≡ Some r →
+      call_outcome e x (create.ended e.world x.context x.job x.regs slot first) ≡ unchanged e (refused x r)
+  create-refused slot (Some s) is = let same : s ≡ r = cc in ap (λ q. unchanged e (refused x q)) same
+  create-refused slot None is = cc
+
+  restrict-refused : (first : Option Refusal) → refusal_in (restricting.ended e.world x.context x.regs first).0 ≡ Some r →
+      call_outcome e x (restricting.ended e.world x.context x.regs first) ≡ unchanged e (refused x r)
+  restrict-refused (Some s) is = let same : s ≡ r = cc in ap (λ q. unchanged e (refused x q)) same
+  restrict-refused None is = cc
+
+  overlay-refused : (first : Option Refusal) → refusal_in (overlaying.ended e.world x.context x.job x.regs first).0 ≡ Some r →
+      call_outcome e x (overlaying.ended e.world x.context x.job x.regs first) ≡ unchanged e (refused x r)
+  overlay-refused (Some s) is = let same : s ≡ r = cc in ap (λ q. unchanged e (refused x q)) same
+  overlay-refused None is = cc
+
+  switch-refused : (t : ℕ) (d : Name) (n : ℕ) (first : Option Refusal) → refusal_to_move (switching.ended e.world x.context t x.regs d n first).0 ≡ Some r →
+      unchanged (with_world e (switching.ended e.world x.context t x.regs d n first).1) (switched x (switching.ended e.world x.context t x.regs d n first).0) ≡ unchanged e (refused x r)
+  switch-refused t d n (Some s) is = let same : s ≡ r = cc in ap (λ q. unchanged e (refused x q)) same
+  switch-refused t d n None is = cc
+
+  end-refused : (answer : CallAnswer) (v : World) (after : Channels) → ((refusal : Refusal) → answer ≡ ends.Refused refusal → (v ≡ e.world) × (after ≡ e.channels)) → refusal_at_end answer ≡ Some r →
+      unchanged (beside v after) (plainly x answer) ≡ unchanged e (refused x r)
+  end-refused (ends.Value value) v after idle is = cc
+  end-refused (ends.Exit code) v after idle is = cc
+  end-refused (ends.Refused s) v after idle is =
+      let stays = idle s refl in
+      let same : s ≡ r = cc in λ i. unchanged (beside (stays.0 i) (stays.1 i)) (refused x (same i))
+
+  by_row : (b : Bool) (first later : Option Refusal) (p q : Outcome) → (first ≡ Some r → p ≡ unchanged e (refused x r)) → (later ≡ Some r → q ≡ unchanged e (refused x r)) →
+      cond b first later ≡ Some r → cond b p q ≡ unchanged e (refused x r)
+  by_row true first later p q here rest is = here is
+  by_row false first later p q here rest is = rest is
+
+  create-row : refusal_in (create.create e.world x.context x.job x.regs).0 ≡ Some r → create_outcome e x ≡ unchanged e (refused x r)
+  unfolding create.create
+  create-row is = create-refused _ _ is
+
+  switch-row : (t : ℕ) → refusal_to_move (switching.switch e.world x.context t x.regs).0 ≡ Some r → switch_outcome t e x ≡ unchanged e (refused x r)
+  unfolding switching.switch
+  switch-row t is = switch-refused t _ _ _ is
+
+  restrict-row : refusal_in (restricting.restrict e.world x.context x.regs).0 ≡ Some r → restrict_outcome e x ≡ unchanged e (refused x r)
+  unfolding restricting.restrict
+  restrict-row is = restrict-refused _ is
+
+  overlay-row : refusal_in (overlaying.overlay e.world x.context x.job x.regs).0 ≡ Some r → overlay_outcome e x ≡ unchanged e (refused x r)
+  unfolding overlaying.overlay
+  overlay-row is = overlay-refused _ is
+
+  -- of a call that is refused
+  pub call_refused : IdleFacts → (number t : ℕ) → refusal_of number t e x ≡ Some r → guest_calls number t e x ≡ unchanged e (refused x r)
+  unfolding refusal_of guest_calls
+  call_refused facts number t is =
+      by_row (eqb number LW_CREATE) _ _ (create_outcome e x) _ create-row
+      (by_row (eqb number LW_SWITCH) _ _ (switch_outcome t e x) _ (switch-row t)
+      (by_row (eqb number LW_RESTRICT) _ _ (restrict_outcome e x) _ restrict-row
+      (by_row (eqb number LW_OVERLAY) _ _ (overlay_outcome e x) _ overlay-row
+      (by_row (eqb number LW_SYSCALL) _ _ (syscall_outcome e x) (plain_outcome number e x)
+      (end-refused (lw_syscall e.world e.channels x.context x.job x.regs).answer _ _ (facts.chosen e.world e.channels x.context x.job x.regs))
+      (end-refused (plain e.world e.channels (three_times x.context) x.job number (args_of x.regs)).answer _ _
+      (facts.plain e.world e.channels (three_times x.context) x.job number (args_of x.regs))))))) is
+
+module _ (m : Machine) (t : ℕ) (x : Thread) (i : Instr) (r : Refusal) (comes : ComesToRefusal m t x i r) where
+  -- the thread afterwards
+  after_refusal : Thread
+  after_refusal = with_steps (x.budget - 1) (refused (advanced_thread m x) r)
+
+  made : IdleFacts → thread_outcome guest_calls t m.environment m.text x x.status ≡ Some (unchanged m.environment after_refusal)
+  unfolding advance_outcome next_outcome shared_outcome after_refusal
+  made facts =
+      ap (thread_outcome guest_calls t m.environment m.text x) comes.running
+      ∙ ap (λ (next : Next). Some (counted (x.budget - 1) (next_outcome guest_calls t m.environment (advanced_thread m x) next))) comes.next
+      ∙ ap (λ (op : Op). Some (counted (x.budget - 1) (shared_outcome guest_calls t m.environment (advanced_thread m x) i op))) comes.call
+      ∙ ap (λ (outcome : Outcome). Some (counted (x.budget - 1) outcome)) (call_refused m.environment (advanced_thread m x) r facts i.imm t comes.refused)
+
+  -- a step that comes to it changes its thread alone, where nothing was left to drop
+  pub step_refused : IdleFacts → ((w : World) (names : List Name) → IsReaped w names → reap w names ≡ w) → IsReaped m.environment.world (roots m.threads) →
+      step m t ≡ record m { threads = slice_set m.threads t (with_steps (x.budget - 1) (refused (advanced_thread m x) r)) }
+  unfolding step_by after_refusal
+  step_refused facts same reaped =
+      let threads : List Thread = slice_set m.threads t after_refusal in
+      let w = m.environment.world in
+      ap (after_thread guest_calls m t) comes.found
+      ∙ ap (after_outcome m t) (made facts)
+      ∙ ap (λ (u : World). record m { threads = threads; environment = with_world m.environment u })
+      (same w (roots threads) (uncut changes.Thread w w m.threads t x after_refusal (refl, refl) (λ is. cc) comes.found reaped))
