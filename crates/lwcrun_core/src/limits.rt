@@ -1,9 +1,9 @@
 ghost use Rattle.std.specs.Prelude.{◌≡◌, ◌^◌};
 ghost use Rattle.guest_image.specs.declared.image.TheConstants.{FIRST_SLOT};
-ghost use Rattle.kernel_core.specs.declared.calling.TheConstants.{LW_CREATE};
+ghost use Rattle.kernel_core.specs.declared.calling.TheConstants.{LW_CREATE, LW_OVERLAY, LW_RESTRICT, LW_SWITCH, LW_SYSCALL};
 ghost use Rattle.lwc_base.specs.declared.descriptor.TheConstants.{SLOTS};
 ghost use Rattle.lwc_base.specs.declared.key.TheConstants.{NOBODY};
-ghost use Rattle.lwc_base.specs.declared.limits.TheConstants.{MOST_BUDGET, MOST_CONTEXTS, MOST_CONTEXTS_OF_JOB, MOST_FILES, MOST_FILE_BYTES, MOST_FRAMES, MOST_GROUPS, MOST_GROUPS_OF_JOB, MOST_IMAGE_BYTES, MOST_IMAGE_SLOTS, MOST_INSTRUCTIONS, MOST_ITEMS, MOST_JOBS, MOST_PAGES, MOST_RANGES, MOST_SCHEDULE_BYTES, MOST_STEPS, MOST_THREADS};
+ghost use Rattle.lwc_base.specs.declared.limits.TheConstants.{MOST_BUDGET, MOST_BYTES_OF_CALL, MOST_CONSOLE_BYTES, MOST_CONTEXTS, MOST_CONTEXTS_OF_JOB, MOST_FILES, MOST_FILE_BYTES, MOST_FRAMES, MOST_GROUPS, MOST_GROUPS_OF_JOB, MOST_IMAGE_BYTES, MOST_IMAGE_SLOTS, MOST_INSTRUCTIONS, MOST_ITEMS, MOST_JOBS, MOST_PAGES, MOST_RANGES, MOST_REPLY_BYTES, MOST_REQUESTS, MOST_REQUEST_BYTES, MOST_ROOTS, MOST_SCHEDULE_BYTES, MOST_STEPS, MOST_THREADS};
 ghost use Rattle.lwc_base.specs.declared.page.TheConstants.{PAGE_BYTES};
 
 /// A law: the numbers behind the names that definitions use for limits. A change of one of these constants
@@ -24,12 +24,22 @@ pub fn limits_are_as_documented()
     ensures jobs { MOST_JOBS ≡ 1025 }
     ensures frames { MOST_FRAMES ≡ 65536 }
     ensures threads { MOST_THREADS ≡ 16 }
+    ensures roots { MOST_ROOTS ≡ 32 }
     ensures budget { MOST_BUDGET ≡ 100000 }
     ensures steps { MOST_STEPS ≡ 16000000 }
     ensures instructions { MOST_INSTRUCTIONS ≡ 65536 }
     ensures files { MOST_FILES ≡ 64 }
     ensures file_bytes { MOST_FILE_BYTES ≡ 2 ^ 20 }
     ensures image_bytes { MOST_IMAGE_BYTES ≡ 2 ^ 23 }
+    ensures bytes_of_call { MOST_BYTES_OF_CALL ≡ 4096 }
+    ensures console_bytes { MOST_CONSOLE_BYTES ≡ 65536 }
+    ensures reply_bytes { MOST_REPLY_BYTES ≡ 4096 }
+    ensures requests { MOST_REQUESTS ≡ 1024 }
+    ensures request_bytes { MOST_REQUEST_BYTES ≡ 4096 }
     ensures schedule_bytes { MOST_SCHEDULE_BYTES ≡ 2 ^ 24 }
     ensures create { LW_CREATE ≡ 16 }
+    ensures switch { LW_SWITCH ≡ 17 }
+    ensures restrict { LW_RESTRICT ≡ 18 }
+    ensures overlay { LW_OVERLAY ≡ 19 }
+    ensures syscall { LW_SYSCALL ≡ 20 }
 {}
