@@ -13,7 +13,7 @@ const HALT: u64 = 0x2500_0000_0000_0000;
 
 /// `SYS 16` / `LI r5, 1` / `STW r5, r4, 0` / `LI r6, 2` / `EQ r6, r0, r6` / `JZ r6, end` / `MOV r1, r0` /
 /// `LI r2, 9` / `SYS 17` / `end: HALT`.
-const CREATE_SWITCH: [u64; 10] = [
+pub const CREATE_SWITCH: [u64; 10] = [
     MAKE,
     0x0105_0000_0100_0000,
     0x2300_0405_0000_0000,

@@ -10,9 +10,13 @@ use std::process::ExitCode;
 use std::rt::Env;
 
 #[cfg(test)]
+mod calling;
+#[cfg(test)]
 mod creating;
 #[cfg(test)]
 mod stepping;
+#[cfg(test)]
+mod switching;
 #[cfg(test)]
 mod tests;
 

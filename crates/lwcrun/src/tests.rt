@@ -57,6 +57,18 @@ pub type PageOf = (u32, &'static [u8]);
 /// The page 0, of zeros.
 pub const ZEROS: PageOf = (0, &[]);
 
+/// A file of an image: the uid of its owner, 1 if others may open it or 0, and its bytes.
+pub type FileOf = (u32, u32, &'static [u8]);
+
+/// What an image has beside instructions and entries. Each of the slots has the first file.
+#[derive(Clone, Copy)]
+pub struct Rest<'a> {
+    pub uid: u32,
+    pub pages: &'a [PageOf],
+    pub files: &'a [FileOf],
+    pub slots: &'a [u32],
+}
+
 /// The bytes of an image of these instructions, pages and entries.
 pub fn image(
     alloc: Global,
@@ -64,25 +76,71 @@ pub fn image(
     pages: &[PageOf],
     entries: &[u32],
 ) -> Result<Vec<u8>, AllocError> {
+    let rest = Rest {
+        uid: 0,
+        pages,
+        files: &[],
+        slots: &[],
+    };
+    image_with(alloc, instructions, &rest, entries)
+}
+
+/// The bytes of an image.
+pub fn image_with(
+    alloc: Global,
+    instructions: &[u64],
+    rest: &Rest,
+    entries: &[u32],
+) -> Result<Vec<u8>, AllocError> {
     let mut bytes = Vec::from_slice(alloc, b"LWC1")?;
-    for count in [instructions.len(), pages.len(), 0, 0, entries.len(), 0] {
-        bytes.extend_from_slice(&u32::try_from(count).unwrap_or(u32::MAX).to_le_bytes())?;
-    }
+    append_count(&mut bytes, instructions.len())?;
+    append_count(&mut bytes, rest.pages.len())?;
+    append_count(&mut bytes, rest.files.len())?;
+    append_count(&mut bytes, rest.slots.len())?;
+    append_count(&mut bytes, entries.len())?;
+    append(&mut bytes, rest.uid)?;
     for instruction in instructions {
         bytes.extend_from_slice(&instruction.to_be_bytes())?;
     }
-    for (number, front) in pages {
-        bytes.extend_from_slice(&number.to_le_bytes())?;
-        let mut page = [0; 4096];
-        for (byte, value) in page.iter_mut().zip(front.iter()) {
-            *byte = *value;
-        }
-        bytes.extend_from_slice(&page)?;
+    for page in rest.pages {
+        append_page(&mut bytes, *page)?;
+    }
+    for (owner, public, content) in rest.files {
+        append(&mut bytes, *owner)?;
+        append(&mut bytes, *public)?;
+        append_count(&mut bytes, content.len())?;
+        bytes.extend_from_slice(content)?;
+    }
+    for slot in rest.slots {
+        append(&mut bytes, *slot)?;
+        append(&mut bytes, 0)?;
     }
     for entry in entries {
-        bytes.extend_from_slice(&entry.to_le_bytes())?;
+        append(&mut bytes, *entry)?;
     }
     Ok(bytes)
+}
+
+/// Appends a page: its number, and its bytes.
+fn append_page(bytes: &mut Vec<u8>, page: PageOf) -> Result<(), AllocError> {
+    append(bytes, page.0)?;
+    let mut whole = [0; 4096];
+    for (byte, value) in whole.iter_mut().zip(page.1.iter()) {
+        *byte = *value;
+    }
+    bytes.extend_from_slice(&whole)?;
+    Ok(())
+}
+
+/// Appends a number of four bytes, the lowest first.
+fn append(bytes: &mut Vec<u8>, number: u32) -> Result<(), AllocError> {
+    bytes.extend_from_slice(&number.to_le_bytes())?;
+    Ok(())
+}
+
+/// Appends how many there are of something.
+fn append_count(bytes: &mut Vec<u8>, count: usize) -> Result<(), AllocError> {
+    append(bytes, u32::try_from(count).unwrap_or(u32::MAX))
 }
 
 /// What a call left behind.
