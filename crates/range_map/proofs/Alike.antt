@@ -5,9 +5,13 @@ use Rattle.std.specs.List.{find}
 use Rattle.std.proofs.lemmas.Bool.{cases_lt, lt-ltb, le-ltb, le-leb, lt-leb}
 use Rattle.std.proofs.lemmas.List.Elements.{All-more}
 use Rattle.range_map.specs.Kinds.{is_between, kind_at, kind_after}
-use Rattle.range_map.specs.Stretches.{HasNoEdge}
 use Rattle.range_map.specs.declared.segment.Change.{Change}
 use Rattle.range_map.specs.declared.segment.Segment.{Segment}
+
+-- what goes from one page to another neither begins nor ends after a page and before an edge
+pub record HasNoEdge (p edge from to : ℕ) : Type 0 where
+  pub from_off : p < from → edge ≤ from
+  pub to_off : p < to → edge ≤ to
 
 -- what has no edge in a stretch has all of its pages or none
 between_same : (p edge q from to : ℕ) → HasNoEdge p edge from to → p ≤ q → q < edge → is_between from to q ≡ is_between from to p

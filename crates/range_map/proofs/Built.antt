@@ -1,18 +1,28 @@
 -- Segments of the runs of pages below a page.
-use Rattle.std.proofs.Common.{◌≡◌, ℕ, ◌+◌, ◌-◌, ◌<◌, ◌≤◌, ◌++◌, true, false, List, [], ◌∷◌, ap, arith, leb, length, length-append, ltb, refl, sym, ◌∙◌, ⊎_elim, Option, None, Some}
-use Rattle.std.specs.Prelude.{is_some}
-use Rattle.std.specs.List.{find}
+use Rattle.std.proofs.Common.{◌≡◌, ℕ, zero, suc, get_or, ◌+◌, ◌-◌, ◌<◌, ◌≤◌, ◌++◌, true, false, List, [], ◌∷◌, ap, arith, leb, length, length-append, ltb, refl, sym, ◌∙◌, ⊎_elim, Option, None, Some}
+use Rattle.std.specs.Prelude.{All, is_some}
+use Rattle.std.specs.List.{AllPairs, find}
+use Rattle.std.proofs.lemmas.List.Elements.{All-append}
+use Rattle.std.proofs.lemmas.List.Quantifiers.{all_pairs_push}
 use Rattle.std.specs.Option.{option_map, option_or}
 use Rattle.std.proofs.lemmas.Bool.{cases_lt, and_from, and_left, and_right, lt-ltb, le-ltb, le-leb, lt-leb}
 use Rattle.std.proofs.lemmas.List.Folds.{find-append}
 use Rattle.lwc_base.specs.declared.limits.TheConstants.{MOST_PAGES}
-use Rattle.range_map.specs.Kinds.{IsExact, begins_range, is_between, kind_at, ranges}
+use Rattle.range_map.specs.Kinds.{IsBefore, IsCanonical, begins_range, is_between, kind_at, ranges}
 use Rattle.range_map.specs.declared.segment.Segment.{Segment}
 use Rattle.range_map.specs.declared.segment.SegmentKind.{SegmentKind}
-use Rattle.range_map.proofs.Ranges.{absent_ranges, one_more, ranges_same}
+use Rattle.range_map.proofs.Ranges.{absent_ranges, kinds_parted, one_more, ranges_same}
+
+-- a segment ends at or before a page, with the kind of its last page
+pub record EndsBelow (p : ℕ) (kinds : ℕ → Option SegmentKind) (s : Segment) : Type 0 where
+  pub some : s.from < s.to
+  pub below : s.to ≤ p
+  pub kind : kinds (s.to - 1) ≡ Some s.kind
 
 -- segments have these kinds of the pages below one, one for each range, and no other page
 pub record HasRunsBelow (p : ℕ) (kinds : ℕ → Option SegmentKind) (segments : List Segment) : Type 0 where
+  pub each : All (EndsBelow p kinds) segments
+  pub apart : AllPairs IsBefore segments
   pub counted : length segments ≡ ranges p kinds
   pub done : (q : ℕ) → q < p → kind_at segments q ≡ kinds q
   pub rest : (q : ℕ) → p ≤ q → kind_at segments q ≡ None
@@ -35,14 +45,23 @@ push_on segments s q on none = rw (find-append (λ s. is_between s.from s.to q) 
     or_some None is = refl
     or_some (Some t) is = absurd (grind arith)
 
+all_one : {X : Type 0} (P : X → Type 0) (x : X) → P x → All P (x ∷ [])
+all_one P x holds zero d inside = holds
+all_one P x holds (suc k) d inside = absurd (omega arith)
+
 between : (from to q : ℕ) → from ≤ q → q < to → is_between from to q ≡ true
 between from to q low high = and_from (leb from q) (ltb q to) (le-leb from q low) (lt-ltb q to high)
 
 module _ (kinds : ℕ → Option SegmentKind) (p e : ℕ) (segments : List Segment) (past : p < e) (alike : (q : ℕ) → p ≤ q → q < e → kinds q ≡ kinds p)
     (begins : begins_range kinds p ≡ is_some (kinds p)) (built : HasRunsBelow p kinds segments) where
+  ends_later : All (EndsBelow e kinds) segments
+  ends_later k d inside = let before = built.each k d inside in record { some = before.some; below = omega (arith, before.below, past); kind = before.kind }
+
   -- with a run of absent pages the segments stay
   pub run_absent : kinds p ≡ None → HasRunsBelow e kinds segments
   run_absent none = record {
+    each = ends_later;
+    apart = built.apart;
     counted = built.counted ∙ sym (one_more kinds p (e - p - 1) e (omega arith) alike begins ∙ rw none (omega arith));
     done = λ q high. ⊎_elim (λ low. built.done q low) (λ low. built.rest q low ∙ sym (alike q low high ∙ none)) (cases_lt q p);
     rest = λ q low. built.rest q (omega arith);
@@ -51,6 +70,17 @@ module _ (kinds : ℕ → Option SegmentKind) (p e : ℕ) (segments : List Segme
   -- a run of present pages is a further segment
   pub run_present : (s : Segment) → s.from ≡ p → s.to ≡ e → kinds p ≡ Some s.kind → HasRunsBelow e kinds (segments ++ s ∷ [])
   run_present s from to some = record {
+    each = All-append (EndsBelow e kinds) segments (s ∷ []) ends_later (all_one (EndsBelow e kinds) s (record {
+      some = omega (arith, from, to, past);
+      below = omega (arith, to);
+      kind = alike (s.to - 1) (omega (arith, to, past)) (omega (arith, to, past)) ∙ some;
+    }));
+    apart = all_pairs_push IsBefore segments s built.apart (λ k d inside.
+        let before = built.each k d inside in
+        record {
+          ordered = omega (arith, before.below, from);
+          parted = λ meets. kinds_parted kinds p ((get_or segments k d).to - 1) _ s.kind (omega (arith, before.some, meets, from)) before.kind some begins;
+        });
     counted = length-append segments (s ∷ []) ∙ ap (λ n. n + 1) built.counted ∙ sym (one_more kinds p (e - p - 1) e (omega arith) alike begins ∙ rw some refl);
     done = λ q high. ⊎_elim
         (λ low. push_off segments s q (and_left (leb s.from q) (ltb q s.to) (lt-leb s.from q (omega arith))) ∙ built.done q low)
@@ -59,9 +89,11 @@ module _ (kinds : ℕ → Option SegmentKind) (p e : ℕ) (segments : List Segme
     rest = λ q low. push_off segments s q (and_right (leb s.from q) (ltb q s.to) (le-ltb q s.to (omega arith))) ∙ built.rest q (omega arith);
   }
 
--- segments of the runs of all pages are exact
-pub all_built : (kinds : ℕ → Option SegmentKind) (segments : List Segment) → HasRunsBelow MOST_PAGES kinds segments → IsExact segments
+-- segments of the runs of all pages are canonical
+pub all_built : (kinds : ℕ → Option SegmentKind) (segments : List Segment) → HasRunsBelow MOST_PAGES kinds segments → IsCanonical segments
 all_built kinds segments built = record {
+  some = λ k d inside. (built.each k d inside).some;
+  apart = built.apart;
   within = built.rest;
   counted = built.counted ∙ sym (ranges_same (kind_at segments) kinds MOST_PAGES built.done);
 }
@@ -69,9 +101,9 @@ all_built kinds segments built = record {
 -- no segments have the runs below the first page
 pub none_built : (kinds : ℕ → Option SegmentKind) → HasRunsBelow 0 kinds []
 unfolding ranges kind_at
-none_built kinds = record { counted = refl; done = λ q low. absurd (omega arith); rest = λ q low. refl }
+none_built kinds = record { each = λ k d inside. absurd (omega arith); apart = λ i j d before inside. absurd (omega arith); counted = refl; done = λ q low. absurd (omega arith); rest = λ q low. refl }
 
--- no segments are exact
-pub none_exact : IsExact []
+-- no segments are canonical
+pub none_canonical : IsCanonical []
 unfolding kind_at
-none_exact = record { within = λ p low. refl; counted = sym (absent_ranges (kind_at []) (λ p. refl)) }
+none_canonical = record { some = λ k d inside. absurd (omega arith); apart = λ i j d before inside. absurd (omega arith); within = λ p low. refl; counted = sym (absent_ranges (kind_at []) (λ p. refl)) }

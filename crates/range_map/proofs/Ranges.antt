@@ -1,5 +1,5 @@
 -- Numbers of ranges.
-use Rattle.std.proofs.Common.{◌≡◌, ℕ, zero, suc, ◌+◌, ◌-◌, ◌<◌, ◌≤◌, Bool, true, false, [], ap, arith, cond, refl, sym, ◌∙◌, Option, None, Some}
+use Rattle.std.proofs.Common.{◌≡◌, ℕ, zero, suc, ◌+◌, ◌-◌, ◌<◌, ◌≤◌, Bool, true, false, [], ap, arith, cond, refl, subst, sym, ◌∙◌, Option, None, Some}
 use Rattle.std.specs.Prelude.{count_by, is_some, ◌&&◌, ◌==◌, not}
 use Rattle.std.specs.List.{range_with_len}
 use Rattle.std.specs.Option.{option_eq}
@@ -92,6 +92,18 @@ begins_past kinds p k (suc e) is same other =
     let here : e ≡ k = omega arith in
     let before : kinds e ≡ kinds p = ap kinds here ∙ same in
     rw (before, differ (kinds p) (kinds (suc e)) other) (grind (arith, common_steps))
+
+-- where a range begins, the page before is of another kind
+pub kinds_parted : (kinds : ℕ → Option SegmentKind) (p k : ℕ) (a b : SegmentKind) → p ≡ suc k → kinds k ≡ Some a → kinds p ≡ Some b →
+    begins_range kinds p ≡ is_some (kinds p) → are_alike (Some a) (Some b) ≡ false
+unfolding begins_range
+kinds_parted kinds zero k a b is before here begins = absurd (omega arith)
+kinds_parted kinds (suc p) k a b is before here begins =
+    let same : p ≡ k = omega arith in
+    let last : kinds p ≡ Some a = ap kinds same ∙ before in
+    let other : not (are_alike (kinds p) (kinds (suc p))) ≡ true = grind (arith, common_steps) in
+    let parted : are_alike (kinds p) (kinds (suc p)) ≡ false = grind (arith, common_steps) in
+    subst (λ o. are_alike o (Some b) ≡ false) last (subst (λ o. are_alike (kinds p) o ≡ false) here parted)
 
 -- pages of one kind, of which the first begins a range if it is present, are one range or none
 pub one_more : (kinds : ℕ → Option SegmentKind) (p n e : ℕ) → e ≡ p + suc n → ((q : ℕ) → p ≤ q → q < e → kinds q ≡ kinds p) →

@@ -1,6 +1,6 @@
 -- The kinds of a context's pages by segments, what changes make of them, and their number of ranges.
-use Rattle.std.specs.Prelude.{◌≡◌, ◌≤◌, ◌&&◌, ℕ, zero, suc, Bool, true, false, not, List, Option, None, Some, count_by, is_some, length, nat_le, nat_lt}
-use Rattle.std.specs.List.{find, range_with_len}
+use Rattle.std.specs.Prelude.{◌≡◌, ◌<◌, ◌≤◌, All, ◌&&◌, ℕ, zero, suc, Bool, true, false, not, List, Option, None, Some, count_by, is_some, length, nat_le, nat_lt}
+use Rattle.std.specs.List.{AllPairs, find, range_with_len}
 use Rattle.std.specs.Option.{option_map}
 use Rattle.std.specs.Ordering.{is_eq}
 use Rattle.lwc_base.specs.Names.{name_cmp}
@@ -55,7 +55,14 @@ begins_range kinds p = is_some (kinds p) && not (continues_range kinds p)
 unfoldable pub ranges : ℕ → (ℕ → Option SegmentKind) → ℕ
 ranges pages kinds = count_by (begins_range kinds) (range_with_len 0 pages)
 
--- there is one segment for each range, and none has a page past the last one
-pub record IsExact (segments : List Segment) : Type 0 where
+-- a segment ends before another begins, or where it begins if they are not alike
+pub record IsBefore (s t : Segment) : Type 0 where
+  pub ordered : s.to ≤ t.from
+  pub parted : s.to ≡ t.from → are_alike (Some s.kind) (Some t.kind) ≡ false
+
+-- segments have pages and stand in order, one for each range, and none has a page past the last one
+pub record IsCanonical (segments : List Segment) : Type 0 where
+  pub some : All (λ s. s.from < s.to) segments
+  pub apart : AllPairs IsBefore segments
   pub within : (p : ℕ) → MOST_PAGES ≤ p → kind_at segments p ≡ None
   pub counted : length segments ≡ ranges MOST_PAGES (kind_at segments)

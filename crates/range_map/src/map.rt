@@ -1,7 +1,7 @@
 ghost use Rattle.std.specs.Prelude.{◌≡◌, ◌<◌, ◌≤◌, ℕ, [], None, OnOk, OnErr, is_err, nat_lt};
 ghost use Rattle.lwc_base.specs.declared.limits.TheConstants.{MOST_PAGES, MOST_RANGES};
 ghost use Rattle.range_map.specs.Kinds as spec;
-ghost use Rattle.range_map.specs.Kinds.{IsExact, ranges};
+ghost use Rattle.range_map.specs.Kinds.{IsCanonical, ranges};
 
 use crate::segment::{Change, Segment, SegmentKind};
 use crate::stretches;
@@ -21,14 +21,14 @@ pub struct RangeMap {
 
 impl Model for RangeMap {
     ghost use Rattle.std.specs.Prelude.{List};
-    ghost use Rattle.range_map.specs.Kinds.{IsExact};
+    ghost use Rattle.range_map.specs.Kinds.{IsCanonical};
     ghost use Rattle.range_map.specs.declared.segment.Segment.{Segment};
 
     ghost Value = { List Segment };
 
     ghost view = { λ map. map.segments.items };
 
-    ghost invariant = { λ map. IsExact map.segments.items };
+    ghost invariant = { λ map. IsCanonical map.segments.items };
 }
 
 impl RangeMap {
@@ -57,8 +57,8 @@ impl RangeMap {
         self.segments.len() as u32
     }
 
-    /// The number of ranges that there would be after the changes. Of two changes that have a page the first
-    /// counts.
+    /// The number of ranges that there would be after the changes. Of two changes that have a page, the
+    /// first counts.
     pub fn count_after(&self, changes: &[Change]) -> u32
         ensures { result ≡ ranges MOST_PAGES (spec.kind_after changes.now self.now) }
     {
@@ -74,8 +74,8 @@ impl RangeMap {
         count
     }
 
-    /// Gives the pages of each change its kind, and leaves all other pages. Of two changes that have a page
-    /// the first counts.
+    /// Gives the pages of each change its kind, and leaves all other pages. Of two changes that have a
+    /// page, the first counts.
     ///
     /// # Errors
     ///
@@ -98,7 +98,7 @@ impl RangeMap {
 /// A segment for each range of the pages after the changes.
 fn segments_after(segments: &[Segment], changes: &[Change]) -> ArrayVec<Segment, 64>
     requires { ranges MOST_PAGES (spec.kind_after changes.now segments.now) ≤ MOST_RANGES }
-    ensures exact { IsExact result.items }
+    ensures canonical { IsCanonical result.items }
     ensures kinds { (p : ℕ) → p < MOST_PAGES
         → spec.kind_at result.items p ≡ spec.kind_after changes.now segments.now p }
 {

@@ -50,8 +50,8 @@ runs-preserved c =
           (sym c.kind_after.ensures ∙ c.in_default.is);
     }
 
-pub returns-clause-exact : goal.returns-clause-exact
-returns-clause-exact c =
+pub returns-clause-canonical : goal.returns-clause-canonical
+returns-clause-canonical c =
     let kinds = kind_after c.args.changes.now c.args.segments.now in
     let last : c.runs.p ≡ MOST_PAGES = omega (arith, c.runs-test.false, c.from.ensures, c.runs.invariant.inside) in
     all_built kinds c.runs.after.items (subst (λ p. HasRunsBelow p kinds c.runs.after.items) last c.runs.invariant.built)

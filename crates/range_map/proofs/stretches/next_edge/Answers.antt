@@ -1,8 +1,7 @@
 use Rattle.std.proofs.Common.{arith, subst}
 use Rattle.std.proofs.lemmas.List.{take_all}
 use Rattle.std.specs.Prelude.{All}
-use Rattle.range_map.specs.Stretches.{HasNoEdge}
-use Rattle.range_map.proofs.Alike.{no_edge_more, no_edge_nearer, stretch_alike}
+use Rattle.range_map.proofs.Alike.{HasNoEdge, no_edge_more, no_edge_nearer, stretch_alike}
 use Rattle.range_map.proofs.stretches.next_edge.Goals as goal
 
 pub loop-segment-preserved : goal.loop-segment-preserved

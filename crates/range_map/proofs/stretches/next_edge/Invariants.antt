@@ -1,7 +1,7 @@
 use Rattle.std.proofs.Common.{◌<◌, ◌≤◌, take}
 use Rattle.std.specs.Prelude.{All}
 use Rattle.lwc_base.specs.declared.limits.TheConstants.{MOST_PAGES}
-use Rattle.range_map.specs.Stretches.{HasNoEdge}
+use Rattle.range_map.proofs.Alike.{HasNoEdge}
 use Rattle.range_map.proofs.stretches.next_edge.Given as goal
 
 abbrev pub invariant-loop-segment : goal.invariant-loop-segment
