@@ -153,6 +153,26 @@ const ONE_AFTER_ANOTHER: [u8; 48] = [
     0, 0, 0, 0, 0, 0, 0, 0, 0, 0, 0, 0, 1, 0, 0, 0,
 ];
 
+/// The descriptor that a switch hands out has no key, so nothing is taken over through it:
+/// `SYS 16` / `LI r8, 2` / `EQ r9, r0, r8` / `JZ r9, child` / `MOV r1, r0` / `SYS 17` / `HALT` /
+/// `child: LI r2, 0` / `LI r3, 1` / `SYS 19` / `HALT`.
+const TAKES_FROM_ITS_CALLER: [u64; 11] = [
+    0x2400_0000_1000_0000,
+    0x0108_0000_0200_0000,
+    0x0f09_0008_0000_0000,
+    0x1200_0900_0700_0000,
+    0x0301_0000_0000_0000,
+    0x2400_0000_1100_0000,
+    0x2500_0000_0000_0000,
+    0x0102_0000_0000_0000,
+    0x0103_0000_0100_0000,
+    0x2400_0000_1300_0000,
+    0x2500_0000_0000_0000,
+];
+
+/// An item: page 0 is copied.
+const PAGE_0_COPIED: [u8; 16] = [0, 0, 0, 0, 0, 0, 0, 0, 0, 0, 0, 0, 1, 0, 0, 0];
+
 /// An item: page 0 is shared.
 const PAGE_0_SHARED: [u8; 16] = [0, 0, 0, 0, 1, 0, 0, 0, 0, 0, 0, 0, 1, 0, 0, 0];
 
@@ -171,7 +191,7 @@ const LEFT_OUT_AND_SHARED: [u8; 32] = [
 
 #[test]
 fn guests_switch_restrict_and_take_over(rt: HostRuntime) -> Result<(), Fail> {
-    let cases: [(&[u64], &[PageOf], &str, &str); 9] = [
+    let cases: [(&[u64], &[PageOf], &str, &str); 10] = [
         (
             &CREATE_SWITCH,
             &[ZEROS],
@@ -244,6 +264,14 @@ fn guests_switch_restrict_and_take_over(rt: HostRuntime) -> Result<(), Fail> {
             "thread 0 done 0 ctx 1.0 pc 16\nregs 0 0 2 32 1 0 0 0 0 2 0 0 1 0 0 0 0\n\
             context 0.0 pages 1 slots 3 uid 0\ncontext 1.0 pages 1 slots 4 uid 0\n\
             groups 1\nconsole -\nused 1\npeak 1\nsteps 6\nschedule 000000\n",
+        ),
+        (
+            &TAKES_FROM_ITS_CALLER,
+            &[(0, &PAGE_0_COPIED)],
+            "000",
+            "thread 0 running ctx 1.0 pc 10\nregs 0 18446744073709551606 2 0 1 0 0 0 0 2 0 0 0 0 0 0 0\n\
+            context 0.0 pages 1 slots 3 uid 0\ncontext 1.0 pages 1 slots 3 uid 0\n\
+            groups 0\nconsole -\nused 1\npeak 1\nsteps 3\nschedule 000\n",
         ),
     ];
     for (instructions, pages, schedule, report) in cases {
