@@ -1,10 +1,8 @@
 -- What the outcome of a step leaves of its thread and of the world.
-use Rattle.std.proofs.Common.{◌≡◌, ℕ, ◌+◌, ◌-◌, ◌*◌, ◌≤◌, ◌<◌, refl, sym, ap, subst, ◌∙◌, Bool, true, false, cond, eqb, leb, ◌&&◌, Option, Some, None, List, [], ◌∷◌, length, arith}
+use Rattle.std.proofs.Common.{◌≡◌, ℕ, ◌+◌, ◌-◌, ◌*◌, ◌≤◌, ◌<◌, refl, sym, ap, subst, ◌∙◌, Bool, true, false, cond, eqb, leb, Option, Some, None, List, length, arith}
 use Rattle.std.specs.Int.{w64, to_le_bytes}
 use Rattle.std.specs.List.{Contains}
-use Rattle.std.specs.Prelude.{All}
 use Rattle.std.proofs.lemmas.Bool.Decides.{nat_tests}
-use Rattle.std.proofs.lemmas.List.Elements.{All-cons, All-get_or, All-nil}
 use Rattle.guest_isa.specs.declared.instr.Instr.{Instr}
 use Rattle.guest_isa.specs.declared.op.Op.{Op}
 use Rattle.guest_isa.specs.declared.op.Op.TheVariants.{Ldb, Ldw, Stb, Stw, Sys, Halt}
@@ -18,12 +16,10 @@ use Rattle.kernel_core.specs.Ready.{IsReadyThread, IsRunnable, IsWithinLimits, W
 use Rattle.kernel_core.specs.Step.{Outcome, advance_outcome, args_of, beside, call_outcome, create_outcome, faulted, guest_calls, is_aligned, loaded, next_outcome, overlay_outcome, plain_outcome, plainly, refused, restrict_outcome, shared_outcome, status_with, store_outcome, stored_outcome, switch_outcome, switched, syscall_outcome, thread_outcome, three_times, unchanged, with_regs, with_result, with_status, with_world, word_outcome}
 use Rattle.kernel_core.specs.declared.calling.TheConstants.{LW_CREATE, LW_OVERLAY, LW_RESTRICT, LW_SWITCH, LW_SYSCALL}
 use Rattle.kernel_core.specs.declared.thread.Thread.{Thread}
-use Rattle.lwc_base.specs.Life.{HasItsContexts, is_of}
+use Rattle.lwc_base.specs.Life.{is_of}
 use Rattle.lwc_base.specs.Refusals.{first_refusal}
-use Rattle.lwc_base.specs.Sharing.{needs_group}
-use Rattle.lwc_base.specs.Sound.{IsSound}
 use Rattle.lwc_base.specs.Store.{Absent, Done, Full, Piece, Stored, store}
-use Rattle.lwc_base.specs.World.{World, groups_of, is_live, live_of}
+use Rattle.lwc_base.specs.World.{World, is_live}
 use Rattle.lwc_base.specs.declared.answer.Answer.{Answer}
 use Rattle.lwc_base.specs.declared.answer.Answer.TheVariants as answers
 use Rattle.lwc_base.specs.declared.answer.Moved.{Moved}

@@ -62,7 +62,8 @@ ready_later inputs steps later m more ready = record {
   sound = ready.sound;
   named = ready.named;
   files = ready.files;
-  given = ready.given;
+  given_files = ready.given_files;
+  given_requests = ready.given_requests;
   reaped = ready.reaped;
   limits = ready.limits;
   counted = λ job. counts_later (most_counted steps) (most_counted later) _ (omega arith) (ready.counted job);
@@ -153,7 +154,8 @@ module _ (facts : WorldFacts) where
         sound = facts.sound.reap v names well.sound;
         named = facts.named.reap v names well.named;
         files = facts.files.reap outcome.environment.channels v names well.files;
-        given = (made.changes.inputs.0 ∙ ready.given.0, made.changes.inputs.1 ∙ ready.given.1);
+        given_files = made.changes.inputs.0 ∙ ready.given_files;
+        given_requests = made.changes.inputs.1 ∙ ready.given_requests;
         reaped = facts.life.reaped v names;
         limits = limits_reaped facts v names (jobs_of threads) (subst (λ (jobs : List ℕ). IsWithinLimits v jobs) (sym (same_jobs m.threads t x outcome.thread found made.job))
             (made.limits (jobs_of m.threads) (known_job m.threads t x found) ready.limits));

@@ -1,23 +1,19 @@
 -- A call that is refused changes nothing but its thread.
-use Rattle.std.proofs.Common.{◌≡◌, ℕ, ◌-◌, refl, sym, ap, ◌∙◌, Bool, true, false, cond, eqb, Option, Some, None, List}
-use Rattle.std.specs.Prelude.{slice_get, slice_set}
+use Rattle.std.proofs.Common.{◌≡◌, ℕ, ◌-◌, refl, ap, ◌∙◌, Bool, true, false, cond, eqb, Option, Some, None, List}
+use Rattle.std.specs.Prelude.{slice_set}
 use Rattle.guest_isa.specs.declared.instr.Instr.{Instr}
 use Rattle.guest_isa.specs.declared.op.Op.{Op}
-use Rattle.guest_machine.specs.Advances.{advanced}
 use Rattle.guest_machine.specs.declared.progress.Next.{Next}
 use Rattle.kernel_core.proofs.Reaping.{uncut}
 use Rattle.kernel_core.specs.Machine.{Environment, Machine}
-use Rattle.kernel_core.specs.Ready.{IsReady}
 use Rattle.kernel_core.specs.Refused.{ComesToRefusal, advanced_thread, refusal_at_end, refusal_in, refusal_of, refusal_to_move}
-use Rattle.kernel_core.specs.Step.{Outcome, advance_outcome, after_outcome, after_thread, args_of, beside, call_outcome, counted, create_outcome, ended_outcome, guest_calls, next_outcome, overlay_outcome, plain_outcome, plainly, refused, restrict_outcome, roots, shared_outcome, step, step_by, switch_outcome, switched, syscall_outcome, thread_outcome, three_times, unchanged, with_steps, with_world}
+use Rattle.kernel_core.specs.Step.{Outcome, advance_outcome, after_outcome, after_thread, args_of, beside, call_outcome, counted, create_outcome, guest_calls, next_outcome, overlay_outcome, plain_outcome, plainly, refused, restrict_outcome, roots, shared_outcome, step, step_by, switch_outcome, switched, syscall_outcome, thread_outcome, three_times, unchanged, with_steps, with_world}
 use Rattle.kernel_core.specs.declared.acting.Change.TheVariants as changes
 use Rattle.kernel_core.specs.declared.calling.TheConstants.{LW_CREATE, LW_OVERLAY, LW_RESTRICT, LW_SWITCH, LW_SYSCALL}
 use Rattle.kernel_core.specs.declared.thread.Thread.{Thread}
 use Rattle.lwc_base.specs.Channels.{Channels}
 use Rattle.lwc_base.specs.Life.{IsReaped, reap}
 use Rattle.lwc_base.specs.World.{World}
-use Rattle.lwc_base.specs.declared.answer.Answer.TheVariants as answers
-use Rattle.lwc_base.specs.declared.fault.ThreadStatus.{ThreadStatus}
 use Rattle.lwc_base.specs.declared.name.Name.{Name}
 use Rattle.lwc_base.specs.declared.refusal.Refusal.{Refusal}
 use Rattle.lwc_create.specs.Create as create
@@ -25,7 +21,6 @@ use Rattle.lwc_overlay.specs.OverlayCall as overlaying
 use Rattle.lwc_overlay.specs.RestrictCall as restricting
 use Rattle.lwc_switch.specs.Switch as switching
 use Rattle.lwc_syscall.specs.Changes.{ChangesIfDone}
-use Rattle.lwc_syscall.specs.Plain as calls
 use Rattle.lwc_syscall.specs.Plain.{plain}
 use Rattle.lwc_syscall.specs.Syscall.{lw_syscall}
 use Rattle.lwc_syscall.specs.declared.answer.CallAnswer.{CallAnswer}

@@ -201,7 +201,8 @@ module _ (facts : WorldFacts) where
         sound = sound_start image can.image frames can.fits;
         named = named_first facts image frames (length image.pages) image.pages;
         files = files_start image can.image frames can.fits inputs.requests;
-        given = (refl, refl);
+        given_files = refl;
+        given_requests = refl;
         reaped = reaped_first facts frames (length image.pages) (first_context image image.pages 64) inputs.settings.budget entries can.image.some_thread;
         limits = within_limits frames (length image.pages) (first_context image image.pages 64) (jobs_of (first_threads inputs.settings.budget entries));
         counted = λ job. counted_by (eqb job 0) (length image.pages) can.image.page_count;

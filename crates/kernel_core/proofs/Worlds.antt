@@ -21,8 +21,8 @@ use Rattle.lwc_base.specs.Mapping.{map_pages}
 use Rattle.lwc_base.specs.Memory.{touched}
 use Rattle.lwc_base.specs.Modes.{IsSpec}
 use Rattle.lwc_base.specs.Names.{name_cmp}
-use Rattle.lwc_base.specs.Overlay.{overlay, with_overlay}
-use Rattle.lwc_base.specs.Saved.{save, with_saved}
+use Rattle.lwc_base.specs.Overlay.{overlay}
+use Rattle.lwc_base.specs.Saved.{save}
 use Rattle.lwc_base.specs.Refusals.{first_refusal}
 use Rattle.lwc_base.specs.Sharing.{clone_context, needs_group, share}
 use Rattle.lwc_base.specs.Sound.{IsSound}

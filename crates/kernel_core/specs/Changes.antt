@@ -38,7 +38,7 @@ Keeps change.Thread w x v y = (v ≡ w) × (y.context ≡ x.context)
 Keeps change.World w x v y = LeavesNothing w x.context v y.context
 Keeps change.Links w x v y = Unit {0}
 
--- what a call has changed by its answer: this if it was accepted, and no more than the thread if it was refused
+-- what a call has changed by its answer: this, or no more than the thread if it was refused
 abbrev pub change_by : Answer → Change → Change
 change_by (Done regs) accepted = accepted
 change_by (Refused refusal) accepted = change.Thread
@@ -48,7 +48,7 @@ abbrev pub change_by_number : ℕ → Change
 change_by_number call =
     if leaves_world call then change.Thread else (if cuts_none call then change.World else change.Links)
 
--- what a plain call has changed by its answer: this, or no more than the thread if it was refused
+-- and what a plain call has changed by its answer
 abbrev pub change_by_end : CallAnswer → Change → Change
 change_by_end (Value value) accepted = accepted
 change_by_end (Exit code) accepted = accepted

@@ -75,7 +75,8 @@ pub record IsReady (inputs : Inputs) (steps : ℕ) (m : Machine) : Type 0 where
   pub sound : IsSound m.environment.world
   pub named : HasItsContexts m.environment.world
   pub files : HasItsFiles m.environment.channels m.environment.world
-  pub given : (m.environment.channels.files ≡ inputs.image.files) × (m.environment.channels.requests ≡ inputs.requests)
+  pub given_files : m.environment.channels.files ≡ inputs.image.files
+  pub given_requests : m.environment.channels.requests ≡ inputs.requests
   pub reaped : IsReaped m.environment.world (roots m.threads)
   pub limits : IsWithinLimits m.environment.world (jobs_of m.threads)
   pub counted : (job : ℕ) → IsCounted (most_counted steps) (m.environment.world.next job)

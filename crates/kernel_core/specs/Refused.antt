@@ -46,7 +46,8 @@ refusal_of number t e x =
     else (if number == LW_SWITCH then refusal_to_move (switch e.world x.context t x.regs).0
     else (if number == LW_RESTRICT then refusal_in (restrict e.world x.context x.regs).0
     else (if number == LW_OVERLAY then refusal_in (overlay e.world x.context x.job x.regs).0
-    else (if number == LW_SYSCALL then refusal_at_end (lw_syscall e.world e.channels x.context x.job x.regs).answer
+    else (if number == LW_SYSCALL
+    then refusal_at_end (lw_syscall e.world e.channels x.context x.job x.regs).answer
     else refusal_at_end
     (plain e.world e.channels (three_times x.context) x.job number (args_of x.regs)).answer))))
 
@@ -65,4 +66,5 @@ pub record ComesToRefusal (m : Machine) (t : ℕ) (x : Thread) (i : Instr) (refu
 -- a machine once this call is refused: of its thread r0, pc and the budget are others, and nothing else is
 abbrev pub after_refusal : Machine → ℕ → Thread → Refusal → Machine
 after_refusal m t x refusal =
-    record m { threads = slice_set m.threads t (with_steps (x.budget - 1) (refused (advanced_thread m x) refusal)) }
+    let after = with_steps (x.budget - 1) (refused (advanced_thread m x) refusal) in
+    record m { threads = slice_set m.threads t after }

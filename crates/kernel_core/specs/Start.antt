@@ -1,5 +1,5 @@
 -- The machine that a run of an image starts from.
-use Rattle.std.specs.Prelude.{ℕ, ◌+◌, ◌==◌, if◌then◌else◌, List, [], Option, None, length, map, nat_lt, slice_index, take}
+use Rattle.std.specs.Prelude.{ℕ, ◌+◌, ◌==◌, if◌then◌else◌, List, Option, None, length, map, nat_lt, slice_index, take}
 use Rattle.std.specs.FinMap as fm
 use Rattle.std.specs.List.{enumerate_from, find}
 use Rattle.std.specs.Option.{option_map, option_map_or}

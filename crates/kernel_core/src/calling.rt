@@ -138,8 +138,8 @@ fn call_overlay<W: World>(world: &mut W, thread: &mut Thread) -> Result<Change, 
     Ok(end_call(thread, answer, Change::Links))
 }
 
-/// Makes the call that makes a plain one over the contexts that a mask chooses. The only error is out of memory,
-/// and then the world and the channels are as before.
+/// Makes the call that makes a plain one over the contexts that a mask chooses. The only error is out of
+/// memory, and then the world and the channels are as before.
 fn call_syscall<W: World>(
     world: &mut W,
     io: &mut Channels,
@@ -163,8 +163,8 @@ fn call_syscall<W: World>(
     Ok(end_plain(thread, answer, accepted))
 }
 
-/// Makes the plain call of a number over the thread's own context. The only error is out of memory, and then the
-/// world and the channels are as before.
+/// Makes the plain call of a number over the thread's own context. The only error is out of memory, and then
+/// the world and the channels are as before.
 fn call_plain<W: World>(
     world: &mut W,
     io: &mut Channels,
@@ -195,8 +195,8 @@ fn call_plain<W: World>(
     Ok(end_plain(thread, answer, change_by_number(u64::from(number))))
 }
 
-/// What an accepted plain call of a number may change: a write, a getuid and an exit leave the world, and an open,
-/// a dup and a read cut no link.
+/// What an accepted plain call of a number may change: a write, a getuid and an exit leave the world, and an
+/// open, a dup and a read cut no link.
 fn change_by_number(number: u64) -> Change
     ensures { result ≡ spec_changes.change_by_number number }
 {
@@ -207,8 +207,8 @@ fn change_by_number(number: u64) -> Change
     }
 }
 
-/// Ends a plain call by its answer: the thread goes on with a value in r0, or with the reason of a refusal, or it
-/// ends. Answers what has changed: by an accepted call this change, and by a refused one the thread alone.
+/// Ends a plain call by its answer: the thread goes on with a value in r0, or with the reason of a refusal, or
+/// it ends. Answers what has changed: by an accepted call this change, and by a refused one the thread alone.
 fn end_plain(thread: &mut Thread, answer: CallAnswer, change: Change) -> Change
     ensures thread { thread.new ≡ spec.plainly thread.old answer }
     ensures change { result ≡ change_by_end answer change }

@@ -52,8 +52,8 @@ fn first_thread(budget: u32, t: u32, entry: u32) -> Thread
     }
 }
 
-/// The channels of a start: the image's files, these requests, and nothing that has been written. The only error
-/// is out of memory.
+/// The channels of a start: the image's files, these requests, and nothing that has been written. The only
+/// error is out of memory.
 pub(crate) fn open_channels(
     alloc: Global,
     image: &Image,

@@ -1,6 +1,6 @@
 use Rattle.std.proofs.Common.{rules}
 use Rattle.kernel_core.proofs.Makes.{makes_all, makes_with}
-use Rattle.kernel_core.specs.Step.{create_outcome, guest_calls, overlay_outcome, plain_outcome, syscall_outcome}
+use Rattle.kernel_core.specs.Step.{create_outcome, guest_calls, overlay_outcome, syscall_outcome}
 use Rattle.kernel_core.proofs.calling.call.Goals as goal
 
 pub returns-in-16-clause-outcome : goal.returns-in-16-clause-outcome

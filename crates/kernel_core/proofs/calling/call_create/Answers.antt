@@ -1,6 +1,5 @@
 use Rattle.std.proofs.Common.{◌≡◌, ◌∙◌, ap, subst}
 use Rattle.kernel_core.proofs.Reaping.{ended_keeps, leaves_created}
-use Rattle.lwc_base.specs.World.{World}
 use Rattle.lwc_base.specs.declared.answer.Answer.{Answer}
 use Rattle.lwc_create.specs.Create.{IfRefused}
 use Rattle.kernel_core.proofs.calling.call_create.Goals as goal

@@ -1,4 +1,3 @@
-use Rattle.std.proofs.Common.{length}
 use Rattle.kernel_core.proofs.Refusing.{IdleFacts, call_refused, step_refused}
 use Rattle.kernel_core.specs.Runs.{run}
 use Rattle.kernel_core.specs.Start.{start}

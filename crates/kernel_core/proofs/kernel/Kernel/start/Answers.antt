@@ -1,8 +1,6 @@
 use Rattle.std.proofs.Common.{◌∙◌, List, ℕ, ap, arith, rules}
-use Rattle.guest_image.specs.declared.image.Image.{Image}
 use Rattle.kernel_core.proofs.Steps.{steady_start}
 use Rattle.kernel_core.specs.Start.{first_threads}
-use Rattle.kernel_core.specs.Steady.{IsSteady, history, machine}
 use Rattle.kernel_core.proofs.kernel.Kernel.start.Goals as goal
 
 pub invariant_of-result : goal.invariant_of-result
