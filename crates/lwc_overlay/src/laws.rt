@@ -1,10 +1,14 @@
-ghost use Rattle.std.specs.Prelude.{◌≡◌, ℕ, slice_index, true};
+ghost use Rattle.std.specs.Prelude.{◌≡◌, ℕ, false, slice_index, true};
 ghost use Rattle.guest_call.specs.Changes.{ChangesSlot};
+ghost use Rattle.lwc_base.specs.Capabilities.{has_key};
+ghost use Rattle.lwc_base.specs.Cells.{value_at};
 ghost use Rattle.lwc_base.specs.Fresh.{IsFresh};
 ghost use Rattle.lwc_base.specs.Life.{HasItsContexts};
+ghost use Rattle.lwc_base.specs.Modes.{IsKey};
 ghost use Rattle.lwc_base.specs.Sound.{HasItsGroups};
 ghost use Rattle.lwc_base.specs.World.{World, is_live};
 ghost use Rattle.lwc_base.specs.declared.answer.Answer.TheVariants.{Done};
+ghost use Rattle.lwc_base.specs.declared.key.Key.{Key};
 ghost use Rattle.lwc_base.specs.declared.name.Name.{Name};
 ghost use Rattle.lwc_base.specs.declared.regs.Regs.{Regs};
 ghost use Rattle.lwc_overlay.specs.Named.{items_of};
@@ -14,7 +18,10 @@ ghost use Rattle.res_spec.specs.declared.items.SpecCall.TheVariants.{Overlay};
 
 use call_items::items_that_are_not_refused_are_a_spec;
 use guest_call::laws::{a_descriptor_in_a_slot_is_a_link, a_put_changes_one_slot};
-use lwc_base::laws::{an_overlay_changes_what_it_names, changes_leave_the_rest, names_are_ordered};
+use lwc_base::laws::{
+    a_capability_covers_what_it_has, an_overlay_changes_what_it_names, changes_leave_the_rest,
+    names_are_ordered,
+};
 
 /// An accepted restriction takes keys from the capability of a descriptor of a context.
 pub fn an_accepted_restriction_takes_keys()
@@ -51,4 +58,14 @@ pub fn an_overlay_leaves_the_rest()
     names_are_ordered();
     changes_leave_the_rest();
     an_overlay_changes_what_it_names();
+}
+
+/// An overlay leaves the value under each key that the capability does not have.
+pub fn an_overlay_changes_only_keys_of_its_capability()
+    ensures { (w v : World) (c : Name) (job : ℕ) (regs : Regs) → IsFresh w → HasItsGroups w →
+        is_live w c ≡ true → (taken : IsTaken w v c job regs) → (k : Key) → IsKey w.size.pages k →
+        has_key taken.cap k ≡ false → value_at v c k ≡ value_at w c k }
+{
+    an_overlay_leaves_the_rest();
+    a_capability_covers_what_it_has();
 }
