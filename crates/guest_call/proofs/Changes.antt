@@ -1,21 +1,20 @@
--- What a put under a slot, and saving registers, leave as they were.
-use Rattle.std.proofs.Common.{◌≡◌, ◌≢◌, ℕ, ◌==◌, true, false, ap, arith, refl, sym, subst}
+-- What a put under a key, and saving registers, leave as they were.
+use Rattle.std.proofs.Common.{◌≡◌, ◌≢◌, ℕ, ◌==◌, if◌then◌else◌, true, false, ap, arith, refl, sym, subst}
 use Rattle.std.specs.Ordering.{eq_by_cmp, is_eq}
 use Rattle.std.proofs.lemmas.Cmp.{tied_itself}
 use Rattle.lwc_base.specs.declared.cell.Cell.TheVariants.{Own, Common}
-use Rattle.lwc_base.specs.declared.descriptor.Descriptor.{Descriptor}
 use Rattle.lwc_base.specs.declared.key.Key.{Key}
 use Rattle.lwc_base.specs.declared.key.Key.TheVariants.{Page, Slot, Cred}
 use Rattle.lwc_base.specs.declared.name.Name.{Name}
 use Rattle.lwc_base.specs.declared.regs.Regs.{Regs}
-use Rattle.lwc_base.specs.Cells.{put_at, put_slot, value_at, with_cell, with_value}
+use Rattle.lwc_base.specs.Cells.{put_at, put_in, value_at, with_cell, with_value}
 use Rattle.lwc_base.specs.Clones.{AreApart}
 use Rattle.lwc_base.specs.Facts.{ChangeFacts, ChangesContext, OrderFacts}
-use Rattle.lwc_base.specs.Keys.{ValueOf}
+use Rattle.lwc_base.specs.Keys.{ValueOf, is_there}
 use Rattle.lwc_base.specs.Names.{name_cmp}
 use Rattle.lwc_base.specs.Saved.{save}
 use Rattle.lwc_base.specs.World.{World, Context, change_context, change_group, context, is_live}
-use Rattle.guest_call.specs.Changes.{ChangesSaved, ChangesSlot, IsUntouched}
+use Rattle.guest_call.specs.Changes.{ChangesKey, ChangesSaved, IsUntouched}
 
 module _ (orders : OrderFacts) (changes : ChangeFacts) where
   -- two names are one, or they differ
@@ -37,44 +36,61 @@ module _ (orders : OrderFacts) (changes : ChangeFacts) where
       ] refl)
       (λ other. ap part (changed.others e other))
 
-  -- what is so once a slot has another descriptor: a context's own cell has it, or a group
-  after_put : (P : World → Type 0) (w : World) (c : Name) (n : ℕ) (value : Descriptor) → P (change_context w c (with_cell (Slot n) (Own value))) →
-      ((g : Name) → P (change_group w g (with_value (Slot n) value))) → P (put_slot w c n value)
-  after_put P w c n value own common =
-      elim ((context w c).cell (Slot n)) as (λ cell. (context w c).cell (Slot n) ≡ cell → P (put_slot w c n value)) [
-        | Own old ↦ λ is. rw (changes.put_own w c (Slot n) old value is refl) own
-        | Common g ↦ λ is. rw (changes.put_common w c (Slot n) g value is) (common g)
-      ] refl
+  -- what is so once a key has another value: of the world itself, of one with the context's own cell, and of one with the group's
+  after_put : (P : World → Type 0) (w : World) (c : Name) (k : Key) (value : ValueOf k) → P w → P (change_context w c (with_cell k (Own value))) →
+      ((g : Name) → P (change_group w g (with_value k value))) → P (put_at w c k value)
+  unfolding put_at
+  after_put P w c k value same own common =
+      elim ((context w c).cell k) as (λ cell. P (put_in w c k value cell)) [
+        | Own old ↦ elim (is_there k old) as (λ b. P (if b then change_context w c (with_cell k (Own value)) else w)) [ | true ↦ own | false ↦ same ]
+        | Common g ↦ common g
+      ]
 
-  -- what another cell under the slot leaves of a context, a put leaves of each
-  left_by_put : {X : Type 0} (part : Context → X) (w : World) (c : Name) (n : ℕ) (value : Descriptor) →
-      ((x : Context) → part (with_cell (Slot n) (Own value) x) ≡ part x) → (e : Name) → part (context (put_slot w c n value) e) ≡ part (context w e)
-  left_by_put part w c n value left e =
-      after_put (λ v. part (context v e) ≡ part (context w e)) w c n value
+  -- what another cell under the key leaves of a context, a put leaves of each
+  left_by_put : {X : Type 0} (part : Context → X) (w : World) (c : Name) (k : Key) (value : ValueOf k) →
+      ((x : Context) → part (with_cell k (Own value) x) ≡ part x) → (e : Name) → part (context (put_at w c k value) e) ≡ part (context w e)
+  left_by_put part w c k value left e =
+      after_put (λ v. part (context v e) ≡ part (context w e)) w c k value refl
       (left_of_each part w _ c _ (changes.context_changed w c _) left e)
       (λ g. ap part ((changes.group_changed w g _).contexts e))
 
   -- a put leaves each other context
-  others_by_put : (w : World) (c : Name) (n : ℕ) (value : Descriptor) (e : Name) → e ≢ c → context (put_slot w c n value) e ≡ context w e
-  others_by_put w c n value e other =
-      after_put (λ v. context v e ≡ context w e) w c n value
+  others_by_put : (w : World) (c : Name) (k : Key) (value : ValueOf k) (e : Name) → e ≢ c → context (put_at w c k value) e ≡ context w e
+  others_by_put w c k value e other =
+      after_put (λ v. context v e ≡ context w e) w c k value refl
       ((changes.context_changed w c _).others e other) (λ g. (changes.group_changed w g _).contexts e)
 
-  -- a key is the slot, or it is not
-  cases_slot : {A : Type 0} (k : Key) (n : ℕ) → (k ≡ Slot n → A) → (k ≢ Slot n → A) → A
-  cases_slot (Page p) n one two = two (λ e. cc)
-  cases_slot Cred n one two = two (λ e. cc)
-  cases_slot {A} (Slot m) n one two =
+  -- two numbers are one, or they differ
+  cases_number : {A : Type 0} (m n : ℕ) → (m ≡ n → A) → (m ≢ n → A) → A
+  cases_number {A} m n one two =
       elim (m == n) as (λ b. (m == n) ≡ b → A) [
-        | true ↦ λ same. one (let e : m ≡ n = grind arith in ap Slot e)
-        | false ↦ λ other. two (λ e. let same : m ≡ n = cc in grind arith)
+        | true ↦ λ same. one (grind arith)
+        | false ↦ λ other. two (λ e. grind arith)
       ] refl
 
+  -- two keys are one, or they differ
+  cases_key : {A : Type 0} (k q : Key) → (k ≡ q → A) → (k ≢ q → A) → A
+  cases_key (Page m) (Page n) one two = cases_number m n (λ e. one (ap Page e)) (λ differ. two (λ e. differ cc))
+  cases_key (Slot m) (Slot n) one two = cases_number m n (λ e. one (ap Slot e)) (λ differ. two (λ e. differ cc))
+  cases_key Cred Cred one two = one refl
+  cases_key (Page m) (Slot n) one two = two (λ e. cc)
+  cases_key (Page m) Cred one two = two (λ e. cc)
+  cases_key (Slot m) (Page n) one two = two (λ e. cc)
+  cases_key (Slot m) Cred one two = two (λ e. cc)
+  cases_key Cred (Page n) one two = two (λ e. cc)
+  cases_key Cred (Slot n) one two = two (λ e. cc)
+
   -- another cell under a key leaves each other cell
-  other_cell : (k : Key) (n : ℕ) (value : Descriptor) (x : Context) → k ≢ Slot n → (with_cell (Slot n) (Own value) x).cell k ≡ x.cell k
-  other_cell (Page p) n value x other = refl
-  other_cell Cred n value x other = refl
-  other_cell (Slot m) n value x other = let differ : m ≢ n = λ e. other (ap Slot e) in grind arith
+  other_cell : (k q : Key) (value : ValueOf q) (x : Context) → k ≢ q → (with_cell q (Own value) x).cell k ≡ x.cell k
+  other_cell (Page m) (Page n) value x other = let differ : m ≢ n = λ e. other (ap Page e) in grind arith
+  other_cell (Slot m) (Slot n) value x other = let differ : m ≢ n = λ e. other (ap Slot e) in grind arith
+  other_cell Cred Cred value x other = absurd (other refl)
+  other_cell (Page m) (Slot n) value x other = refl
+  other_cell (Page m) Cred value x other = refl
+  other_cell (Slot m) (Page n) value x other = refl
+  other_cell (Slot m) Cred value x other = refl
+  other_cell Cred (Page n) value x other = refl
+  other_cell Cred (Slot n) value x other = refl
 
   -- all that saving leaves
   pub saving : ((w : World) (c : Name) (t : ℕ) (regs : Regs) (d : Name) (k : Key) → value_at (save w c t regs) d k ≡ value_at w d k) →
@@ -92,28 +108,28 @@ module _ (orders : OrderFacts) (changes : ChangeFacts) where
             (λ other. ap (λ x. x.saved s) (saved.others e other));
       }
 
-  module _ (w : World) (c : Name) (n : ℕ) (value : Descriptor)
+  module _ (w : World) (c : Name) (q : Key) (value : ValueOf q)
       (other_keys : (w : World) (c : Name) (k : Key) (value : ValueOf k) (d : Name) (q : Key) → q ≢ k → value_at (put_at w c k value) d q ≡ value_at w d q)
       (unseen : (w : World) (a b : Name) (k : Key) → AreApart w a b k → (value : ValueOf k) → value_at (put_at w a k value) b k ≡ value_at w b k) where
-    values_by_put : (e : Name) (k : Key) → IsUntouched w c n e k → value_at (put_slot w c n value) e k ≡ value_at w e k
+    values_by_put : (e : Name) (k : Key) → IsUntouched w c q e k → value_at (put_at w c q value) e k ≡ value_at w e k
     values_by_put e k untouched =
-        cases_slot k n
-        (λ is. subst (λ q. value_at (put_slot w c n value) e q ≡ value_at w e q) (sym is)
-        (unseen w c e (Slot n) (subst (AreApart w c e) is (untouched is)) value))
-        (λ other. other_keys w c (Slot n) value e k other)
+        cases_key k q
+        (λ is. subst (λ k. value_at (put_at w c q value) e k ≡ value_at w e k) (sym is)
+        (unseen w c e q (subst (AreApart w c e) is (untouched is)) value))
+        (λ other. other_keys w c q value e k other)
 
-    cells_by_put : (e : Name) (k : Key) → IsUntouched w c n e k → (context (put_slot w c n value) e).cell k ≡ (context w e).cell k
+    cells_by_put : (e : Name) (k : Key) → IsUntouched w c q e k → (context (put_at w c q value) e).cell k ≡ (context w e).cell k
     cells_by_put e k untouched =
-        cases_slot k n
-        (λ is. ap (λ x. x.cell k) (others_by_put w c n value e (λ same. (untouched is).differ (sym same))))
-        (λ other. left_by_put (λ x. x.cell k) w c n value (λ x. other_cell k n value x other) e)
+        cases_key k q
+        (λ is. ap (λ x. x.cell k) (others_by_put w c q value e (λ same. (untouched is).differ (sym same))))
+        (λ other. left_by_put (λ x. x.cell k) w c q value (λ x. other_cell k q value x other) e)
 
     -- all that a put leaves
-    pub putting : ChangesSlot w (put_slot w c n value) c n
+    pub putting : ChangesKey w (put_at w c q value) c q
     putting = record {
-      names = changes.put w c (Slot n) value;
+      names = changes.put w c q value;
       values = values_by_put;
       cells = cells_by_put;
-      entries = left_by_put (λ x. x.entry) w c n value (λ x. refl);
-      saved = λ e t. left_by_put (λ x. x.saved t) w c n value (λ x. refl) e;
+      entries = left_by_put (λ x. x.entry) w c q value (λ x. refl);
+      saved = λ e t. left_by_put (λ x. x.saved t) w c q value (λ x. refl) e;
     }

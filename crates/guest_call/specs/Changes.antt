@@ -1,22 +1,21 @@
--- What a put under a slot, and what saving registers, may change.
+-- What a put under a key, and what saving registers, may change.
 use Rattle.std.specs.Prelude.{◌≡◌, ◌≢◌, ℕ}
 use Rattle.lwc_base.specs.declared.key.Key.{Key}
-use Rattle.lwc_base.specs.declared.key.Key.TheVariants.{Slot}
 use Rattle.lwc_base.specs.declared.name.Name.{Name}
 use Rattle.lwc_base.specs.Cells.{value_at}
 use Rattle.lwc_base.specs.Clones.{AreApart}
 use Rattle.lwc_base.specs.Facts.{KeepsNames}
 use Rattle.lwc_base.specs.World.{World, context}
 
--- a key is not this slot, or the context with the slot and the other one are apart under it
-abbrev pub IsUntouched : World → Name → ℕ → Name → Key → Type 0
-IsUntouched w d n e k = k ≡ Slot n → AreApart w d e k
+-- a key is not the one that changes, or the context in which that changes and the other one are apart under it
+abbrev pub IsUntouched : World → Name → Key → Name → Key → Type 0
+IsUntouched w d changed e k = k ≡ changed → AreApart w d e k
 
--- nothing but a slot of a context has changed, and the same slot of each context that has it in common
-pub record ChangesSlot (w v : World) (d : Name) (n : ℕ) : Type 0 where
+-- nothing but a key of a context has changed, and the same key of each context that has it in common
+pub record ChangesKey (w v : World) (d : Name) (changed : Key) : Type 0 where
   pub names : KeepsNames w v
-  pub values : (e : Name) (k : Key) → IsUntouched w d n e k → value_at v e k ≡ value_at w e k
-  pub cells : (e : Name) (k : Key) → IsUntouched w d n e k → (context v e).cell k ≡ (context w e).cell k
+  pub values : (e : Name) (k : Key) → IsUntouched w d changed e k → value_at v e k ≡ value_at w e k
+  pub cells : (e : Name) (k : Key) → IsUntouched w d changed e k → (context v e).cell k ≡ (context w e).cell k
   pub entries : (e : Name) → (context v e).entry ≡ (context w e).entry
   pub saved : (e : Name) (t : ℕ) → (context v e).saved t ≡ (context w e).saved t
 

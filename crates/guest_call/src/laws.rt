@@ -1,12 +1,13 @@
 ghost use Rattle.std.specs.Prelude.{◌≡◌, ℕ, Some, true};
-ghost use Rattle.guest_call.specs.Changes.{ChangesSaved, ChangesSlot};
+ghost use Rattle.guest_call.specs.Changes.{ChangesKey, ChangesSaved};
 ghost use Rattle.guest_call.specs.Guest.{descriptor_for, link_of};
-ghost use Rattle.lwc_base.specs.Cells.{put_slot};
+ghost use Rattle.lwc_base.specs.Cells.{put_at};
+ghost use Rattle.lwc_base.specs.Keys.{ValueOf};
 ghost use Rattle.lwc_base.specs.Life.{links};
 ghost use Rattle.lwc_base.specs.Saved.{save};
 ghost use Rattle.lwc_base.specs.World.{World};
 ghost use Rattle.lwc_base.specs.declared.descriptor.Cap.{Cap};
-ghost use Rattle.lwc_base.specs.declared.descriptor.Descriptor.{Descriptor};
+ghost use Rattle.lwc_base.specs.declared.key.Key.{Key};
 ghost use Rattle.lwc_base.specs.declared.name.Name.{Name};
 ghost use Rattle.lwc_base.specs.declared.regs.Regs.{Regs};
 
@@ -24,10 +25,9 @@ pub fn a_descriptor_in_a_slot_is_a_link()
     names_are_ordered();
 }
 
-/// Another descriptor in a slot of a context changes that slot alone, also for the contexts that have it in
-/// common.
-pub fn a_put_changes_one_slot()
-    ensures { (w : World) (c : Name) (n : ℕ) (value : Descriptor) → ChangesSlot w (put_slot w c n value) c n }
+/// Another value under a key of a context changes that key alone, also for the contexts that have it in common.
+pub fn a_put_leaves_the_rest()
+    ensures { (w : World) (c : Name) (k : Key) (value : ValueOf k) → ChangesKey w (put_at w c k value) c k }
 {
     names_are_ordered();
     changes_leave_the_rest();

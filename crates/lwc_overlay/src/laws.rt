@@ -1,5 +1,5 @@
 ghost use Rattle.std.specs.Prelude.{◌≡◌, ℕ, false, slice_index, true};
-ghost use Rattle.guest_call.specs.Changes.{ChangesSlot};
+ghost use Rattle.guest_call.specs.Changes.{ChangesKey};
 ghost use Rattle.lwc_base.specs.Capabilities.{has_key};
 ghost use Rattle.lwc_base.specs.Cells.{value_at};
 ghost use Rattle.lwc_base.specs.Fresh.{IsFresh};
@@ -9,6 +9,7 @@ ghost use Rattle.lwc_base.specs.Sound.{HasItsGroups};
 ghost use Rattle.lwc_base.specs.World.{World, is_live};
 ghost use Rattle.lwc_base.specs.declared.answer.Answer.TheVariants.{Done};
 ghost use Rattle.lwc_base.specs.declared.key.Key.{Key};
+ghost use Rattle.lwc_base.specs.declared.key.Key.TheVariants.{Slot};
 ghost use Rattle.lwc_base.specs.declared.name.Name.{Name};
 ghost use Rattle.lwc_base.specs.declared.regs.Regs.{Regs};
 ghost use Rattle.lwc_overlay.specs.Named.{items_of};
@@ -17,7 +18,7 @@ ghost use Rattle.lwc_overlay.specs.RestrictCall.{IsRestriction, restrict};
 ghost use Rattle.res_spec.specs.declared.items.SpecCall.TheVariants.{Overlay};
 
 use call_items::items_that_are_not_refused_are_a_spec;
-use guest_call::laws::{a_descriptor_in_a_slot_is_a_link, a_put_changes_one_slot};
+use guest_call::laws::{a_descriptor_in_a_slot_is_a_link, a_put_leaves_the_rest};
 use lwc_base::laws::{
     a_capability_covers_what_it_has, an_overlay_changes_what_it_names, changes_leave_the_rest,
     names_are_ordered,
@@ -34,9 +35,9 @@ pub fn an_accepted_restriction_takes_keys()
 /// A restriction changes its slot alone, also for the contexts that have the slot in common.
 pub fn a_restriction_changes_one_slot()
     ensures { (w v : World) (c : Name) (regs : Regs) → IsRestriction w v c regs →
-        ChangesSlot w v c (slice_index regs.r 1) }
+        ChangesKey w v c (Slot (slice_index regs.r 1)) }
 {
-    a_put_changes_one_slot();
+    a_put_leaves_the_rest();
 }
 
 /// An accepted overlay takes over from a live context what the capability in the slot covers.

@@ -1,7 +1,8 @@
 -- What a switch leaves as it was.
 use Rattle.std.proofs.Common.{◌∙◌, ℕ, rules, sym}
-use Rattle.guest_call.specs.Changes.{ChangesSaved, ChangesSlot}
+use Rattle.guest_call.specs.Changes.{ChangesKey, ChangesSaved}
 use Rattle.lwc_base.specs.declared.key.Key.{Key}
+use Rattle.lwc_base.specs.declared.key.Key.TheVariants.{Slot}
 use Rattle.lwc_base.specs.declared.name.Name.{Name}
 use Rattle.lwc_base.specs.Clones.{AreApart}
 use Rattle.lwc_base.specs.World.{World}
@@ -15,7 +16,7 @@ apart_before w u c d e t k saved apart = record {
 }
 
 -- a put after saving leaves the rest
-pub leaves_rest : (w u v : World) (c d : Name) (t n : ℕ) → ChangesSaved w u c t → ChangesSlot u v d n → LeavesRest w v c d t n
+pub leaves_rest : (w u v : World) (c d : Name) (t n : ℕ) → ChangesSaved w u c t → ChangesKey u v d (Slot n) → LeavesRest w v c d t n
 leaves_rest w u v c d t n saved put = record {
   names = let first = saved.names in let second = put.names in search rules;
   values = λ e k untouched. put.values e k (λ is. apart_before w u c d e t k saved (untouched is)) ∙ saved.values e k;

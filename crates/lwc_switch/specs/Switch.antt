@@ -8,6 +8,7 @@ use Rattle.lwc_base.specs.declared.answer.Moved.TheVariants.{To, Refused}
 use Rattle.lwc_base.specs.declared.descriptor.Descriptor.TheVariants.{Ctx}
 use Rattle.lwc_base.specs.declared.descriptor.TheConstants.{SLOTS}
 use Rattle.lwc_base.specs.declared.key.Key.{Key}
+use Rattle.lwc_base.specs.declared.key.Key.TheVariants.{Slot}
 use Rattle.lwc_base.specs.declared.name.Name.{Name}
 use Rattle.lwc_base.specs.declared.refusal.Refusal.{Refusal}
 use Rattle.lwc_base.specs.declared.refusal.Refusal.TheVariants.{NoSlotThere}
@@ -79,7 +80,7 @@ pub record IsSwitch (w v : World) (c d : Name) (t : ℕ) (regs arrived : Regs) :
 -- nothing has changed but the registers that a context keeps for the thread, and a slot of the target
 pub record LeavesRest (w v : World) (c d : Name) (t slot : ℕ) : Type 0 where
   pub names : KeepsNames w v
-  pub values : (e : Name) (k : Key) → IsUntouched w d slot e k → value_at v e k ≡ value_at w e k
-  pub cells : (e : Name) (k : Key) → IsUntouched w d slot e k → (context v e).cell k ≡ (context w e).cell k
+  pub values : (e : Name) (k : Key) → IsUntouched w d (Slot slot) e k → value_at v e k ≡ value_at w e k
+  pub cells : (e : Name) (k : Key) → IsUntouched w d (Slot slot) e k → (context v e).cell k ≡ (context w e).cell k
   pub entries : (e : Name) → (context v e).entry ≡ (context w e).entry
   pub saved : (e : Name) (s : ℕ) → (e ≡ c → s ≢ t) → (context v e).saved s ≡ (context w e).saved s

@@ -7,7 +7,7 @@ ghost use Rattle.lwc_base.specs.declared.regs.Regs.{Regs};
 ghost use Rattle.lwc_switch.specs.Switch.{IsSwitch, LeavesRest, switch};
 
 use guest_call::laws::{
-    a_descriptor_in_a_slot_is_a_link, a_put_changes_one_slot, a_save_changes_one_threads_registers,
+    a_descriptor_in_a_slot_is_a_link, a_put_leaves_the_rest, a_save_changes_one_threads_registers,
 };
 use lwc_base::laws::the_lowest_empty_slot_is_empty;
 
@@ -28,5 +28,5 @@ pub fn a_switch_leaves_the_rest()
         (moved : IsSwitch w v c d t regs arrived) → LeavesRest w v c d t moved.slot }
 {
     a_save_changes_one_threads_registers();
-    a_put_changes_one_slot();
+    a_put_leaves_the_rest();
 }

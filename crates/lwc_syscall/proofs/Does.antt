@@ -18,6 +18,7 @@ use Rattle.lwc_base.specs.declared.descriptor.Descriptor.{Descriptor}
 use Rattle.lwc_base.specs.declared.descriptor.Descriptor.TheVariants.{Empty, Console, File, Request, Reply, Ctx}
 use Rattle.lwc_base.specs.declared.descriptor.TheConstants.{SLOTS}
 use Rattle.lwc_base.specs.declared.limits.TheConstants.{MOST_BYTES_OF_CALL}
+use Rattle.lwc_base.specs.declared.name.Name.{Name}
 use Rattle.lwc_base.specs.declared.refusal.Refusal.{Refusal}
 use Rattle.lwc_base.specs.declared.refusal.Refusal.TheVariants.{BadCall}
 use Rattle.lwc_syscall.specs.Changes.{IsKnown, IsPlainChange, Mapped, Nothing, Read, SlotPut, UidPut, Written}
@@ -39,6 +40,12 @@ pub by_number : (P : Outcome → Type 0) (call : ℕ) (a b c d e f g h i j k : O
     P (if call == 1 then a else (if call == 2 then b else (if call == 3 then c else (if call == 4 then d else (if call == 5 then e else (if call == 6 then f
     else (if call == 7 then g else (if call == 8 then h else (if call == 9 then i else (if call == 10 then j else k))))))))))
 by_number P call a b c d e f g h i j k pa pb pc pd pe pf pg ph pi pj pk = grind arith
+
+-- bytes are stored at a guest's address if there are some
+pub stored-cases : (w : World) (m : Name) (job at : ℕ) (bytes : List ℕ) → (store_at w m job at bytes ≡ stores.Done w) ⊎ ((store_at w m job at bytes ≡ stores.Absent)
+    ⊎ (store_at w m job at bytes ≡ store w m job (record { at = at; bytes = bytes })))
+unfolding store_at
+stored-cases w m job at bytes = grind arith
 
 -- what is so of the slots of the three contexts
 pub record Ready (w : World) (io : Channels) (three : Three) : Type 0 where
@@ -118,12 +125,6 @@ module _ (w : World) (io : Channels) (three : Three) (job : ℕ) (ready : Ready 
   on-known (Reply r) count few known = known
   on-known (Ctx name cap) count few known = known
 
-  -- bytes are stored at a guest's address if there are some
-  stored-cases : (at : ℕ) (bytes : List ℕ) → (store_at w three.memory job at bytes ≡ stores.Done w) ⊎ ((store_at w three.memory job at bytes ≡ stores.Absent)
-      ⊎ (store_at w three.memory job at bytes ≡ store w three.memory job (record { at = at; bytes = bytes })))
-  unfolding store_at
-  stored-cases at bytes = grind arith
-
   -- what a read does once its bytes are stored
   done-does : (stored : Stored) (piece : Piece) (n : ℕ) (value : Descriptor) → is_absent stored ≡ false → is_full stored ≡ false →
       (stored ≡ stores.Done w) ⊎ ((stored ≡ stores.Absent) ⊎ (stored ≡ store w three.memory job piece)) → length piece.bytes ≤ MOST_BYTES_OF_CALL → n < SLOTS → IsKnown w io value →
@@ -147,7 +148,7 @@ module _ (w : World) (io : Channels) (three : Three) (job : ℕ) (ready : Ready 
       let few : length bytes ≤ count = omega (arith, length-take count (unwrap_or (left io value) [])) in
       let within : length bytes ≤ length (unwrap_or (left io value) []) = omega (arith, length-take count (unwrap_or (left io value) [])) in
       let short : count ≤ MOST_BYTES_OF_CALL = grind (arith, nat_tests) in
-      done-does stored (record { at = at; bytes = bytes }) n (read_on (length bytes) value) (grind arith) (grind arith) (stored-cases at bytes) (omega arith) (found-slot n (grind arith))
+      done-does stored (record { at = at; bytes = bytes }) n (read_on (length bytes) value) (grind arith) (grind arith) (stored-cases w three.memory job at bytes) (omega arith) (found-slot n (grind arith))
       (on-known value (length bytes) within (found-known n)))
 
   pub plain-does : (call : ℕ) (args : List ℕ) → Does w io three job (plain w io three job call args)

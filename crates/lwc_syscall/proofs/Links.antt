@@ -25,7 +25,7 @@ use Rattle.lwc_base.specs.declared.page.PageValue.{PageValue}
 use Rattle.lwc_base.specs.declared.refusal.Refusal.{Refusal}
 use Rattle.lwc_base.specs.declared.refusal.Refusal.TheVariants.{BadCall}
 use Rattle.lwc_base.specs.declared.regs.Regs.{Regs}
-use Rattle.lwc_syscall.proofs.Does.{by_number, ended-cases}
+use Rattle.lwc_syscall.proofs.Does.{by_number, ended-cases, stored-cases}
 use Rattle.lwc_syscall.specs.Changes.{CutsNone, LosesNone, Put, Same, StoredPut, cuts_none, leaves_world}
 use Rattle.lwc_syscall.specs.Plain.{Outcome, answering, becoming, closing, copy_refusals, copying, ended, is_absent, is_full, left, mapping, moved, open_refusals, opening, placed, plain, read_on, read_refusals, reading, store_at, world_after, write_refusals, writing, written}
 use Rattle.lwc_syscall.specs.Syscall.{inner_args, inner_call, lw_syscall, refusals, three_of}
@@ -98,12 +98,6 @@ module _ (facts : LinkFacts) (w : World) (io : Channels) (three : Three) (job : 
       ended-cases (λ o. CutsNone w three job o.world) w io rows (placed w io three.slots value) (λ _. Same)
       (λ passed. Put (unwrap_or (lowest_empty w three.slots) 0) value (loses-none _ _ (lowest-of-none (lowest_empty w three.slots) refl (some passed))))
 
-  -- bytes are stored at a guest's address if there are some
-  stored-cases : (at : ℕ) (bytes : List ℕ) → (store_at w three.memory job at bytes ≡ stores.Done w) ⊎ ((store_at w three.memory job at bytes ≡ stores.Absent)
-      ⊎ (store_at w three.memory job at bytes ≡ store w three.memory job (record { at = at; bytes = bytes })))
-  unfolding store_at
-  stored-cases at bytes = grind arith
-
   done-cuts : (stored : Stored) (piece : Piece) (n : ℕ) (value : Descriptor) → is_absent stored ≡ false → is_full stored ≡ false →
       (stored ≡ stores.Done w) ⊎ ((stored ≡ stores.Absent) ⊎ (stored ≡ store w three.memory job piece)) → ((d : Name) → is_of d (slot_at w three.slots n) ≡ false) →
       CutsNone w three job (put_slot (world_after w stored) three.slots n value)
@@ -128,7 +122,7 @@ module _ (facts : LinkFacts) (w : World) (io : Channels) (three : Three) (job : 
       let stored = store_at w three.memory job at bytes in
       ended-cases (λ o. CutsNone w three job o.world) w io (read_refusals io value count stored)
       (answering (length bytes) (put_slot (world_after w stored) three.slots n (read_on (length bytes) value)) io) (λ _. Same)
-      (λ passed. done-cuts stored (record { at = at; bytes = bytes }) n (read_on (length bytes) value) (grind arith) (grind arith) (stored-cases at bytes)
+      (λ passed. done-cuts stored (record { at = at; bytes = bytes }) n (read_on (length bytes) value) (grind arith) (grind arith) (stored-cases w three.memory job at bytes)
       (λ d. found-of-none n d (grind arith) (read-of-none io d value (grind arith))))
 
   writing-leaves : (n at count : ℕ) → (writing w io three n at count).world ≡ w

@@ -1,20 +1,28 @@
 -- What plain calls do to the world and the channels.
-use Rattle.std.specs.Prelude.{◌≡◌, ◌<◌, ◌≤◌, ℕ, ◌+◌, ◌==◌, ◌||◌, Bool, List, true, length}
+use Rattle.std.specs.Prelude.{◌≡◌, ◌<◌, ◌≤◌, ℕ, ◌+◌, ◌==◌, ◌&&◌, ◌||◌, Bool, List, true, false, length, nat_le, nat_lt, slice_index}
 use Rattle.std.specs.FinMap as fm
-use Rattle.lwc_base.specs.Cells.{put_slot, put_uid, slot_at}
+use Rattle.std.specs.List.{list_any}
+use Rattle.std.specs.Option.{option_map_or}
+use Rattle.guest_call.specs.Guest.{descriptor_for}
+use Rattle.lwc_base.specs.Cells.{put_slot, put_uid, slot_at, value_at}
 use Rattle.lwc_base.specs.Channels.{Channels, HasItsFiles, IsInRange}
+use Rattle.lwc_base.specs.Clones.{AreApart}
 use Rattle.lwc_base.specs.Life.{HasItsContexts, is_of}
 use Rattle.lwc_base.specs.Mapping.{mapped_or_not}
+use Rattle.lwc_base.specs.Memory.{touched}
+use Rattle.lwc_base.specs.Slots.{lowest_empty}
 use Rattle.lwc_base.specs.Sound.{IsSound}
 use Rattle.lwc_base.specs.Store.{Done, Piece, store}
-use Rattle.lwc_base.specs.World.{World, is_live}
+use Rattle.lwc_base.specs.World.{World, context, is_live}
 use Rattle.lwc_base.specs.declared.descriptor.Descriptor.{Descriptor}
 use Rattle.lwc_base.specs.declared.descriptor.TheConstants.{SLOTS}
+use Rattle.lwc_base.specs.declared.key.Key.{Key}
+use Rattle.lwc_base.specs.declared.key.Key.TheVariants.{Page, Slot, Cred}
 use Rattle.lwc_base.specs.declared.limits.TheConstants.{MOST_BYTES_OF_CALL}
 use Rattle.lwc_base.specs.declared.name.Name.{Name}
 use Rattle.lwc_base.specs.declared.refusal.Refusal.{Refusal}
 use Rattle.lwc_syscall.specs.declared.calls.Three.{Three}
-use Rattle.lwc_syscall.specs.Plain.{Outcome, written}
+use Rattle.lwc_syscall.specs.Plain.{Outcome, moved, written}
 use Rattle.lwc_syscall.specs.declared.answer.CallAnswer.TheVariants.{Refused}
 
 -- a descriptor that may be in a slot: it is in range, and each context that it is of is live
@@ -43,6 +51,42 @@ pub record KeepsNumbers (w v : World) : Type 0 where
   pub contexts_counted : (j : ℕ) → (v.next j).contexts ≡ (w.next j).contexts
   pub groups_counted : (j : ℕ) → (v.next j).groups ≡ (w.next j).groups
   pub tags_counted : (j : ℕ) → ((w.next j).tags ≤ (v.next j).tags) × ((v.next j).tags ≤ (w.next j).tags + 2)
+
+-- the context that a key is taken from: of the three, the one for its kind
+abbrev pub holder : Three → Key → Name
+holder three (Page p) = three.memory
+holder three (Slot n) = three.slots
+holder three Cred = three.cred
+
+-- whether a page is in a list
+abbrev pub has_page : List ℕ → ℕ → Bool
+has_page pages p = list_any (λ q. q == p) pages
+
+-- the pages that a read touches
+abbrev pub read_pages : World → Channels → Three → List ℕ → List ℕ
+read_pages w io three args =
+    touched (slice_index args 1)
+    (length (moved io (descriptor_for w three.slots (slice_index args 0)) (slice_index args 2)))
+
+-- whether a plain call may change what is under a key: a page that a read touches or that is in the range of a map or
+-- unmap, the slot that an open or a dup fills or that a close or a read names, and the uid by a setuid
+unfoldable pub may_change : World → Channels → Three → ℕ → List ℕ → Key → Bool
+may_change w io three call args (Page p) =
+    call == 4 && has_page (read_pages w io three args) p
+    || (call == 6 || call == 7) && nat_le (slice_index args 0) p && nat_lt p (slice_index args 1)
+may_change w io three call args (Slot n) =
+    (call == 1 || call == 3) && option_map_or (λ m. m == n) (lowest_empty w three.slots) false
+    || (call == 2 || call == 4) && n == slice_index args 0
+may_change w io three call args Cred = call == 9
+
+-- nothing has changed but what is under some keys of the three contexts, and of each context that has it in common
+pub record ChangesOnly (w v : World) (three : Three) (keys : Key → Bool) : Type 0 where
+  pub values : (e : Name) (k : Key) → (keys k ≡ true → AreApart w (holder three k) e k) →
+      value_at v e k ≡ value_at w e k
+  pub cells : (e : Name) (k : Key) → (keys k ≡ true → AreApart w (holder three k) e k) →
+      (context v e).cell k ≡ (context w e).cell k
+  pub entries : (e : Name) → (context v e).entry ≡ (context w e).entry
+  pub saved : (e : Name) (t : ℕ) → (context v e).saved t ≡ (context w e).saved t
 
 -- what runs keep: the world is sound, and has the contexts and files that its slots name
 pub record IsWell (w : World) (io : Channels) : Type 0 where

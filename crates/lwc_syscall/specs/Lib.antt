@@ -1,7 +1,10 @@
 pub use Rattle.access_cap.specs.Kinds
 pub use Rattle.guest_call.specs.Guest
 pub use Rattle.lwc_base.specs.Cells
+pub use Rattle.lwc_base.specs.Capabilities
 pub use Rattle.lwc_base.specs.Channels
+pub use Rattle.lwc_base.specs.Clones
+pub use Rattle.lwc_base.specs.Facts
 pub use Rattle.lwc_base.specs.Mapping
 pub use Rattle.lwc_base.specs.Memory
 pub use Rattle.lwc_base.specs.Ranges

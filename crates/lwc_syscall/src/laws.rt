@@ -1,21 +1,25 @@
 //! Laws of the calls: functions with empty bodies, each with a contract that is the law.
 
-ghost use Rattle.std.specs.Prelude.{◌≡◌, ℕ, List, None, true};
+ghost use Rattle.std.specs.Prelude.{◌≡◌, ◌⊎◌, ℕ, List, None, true};
+ghost use Rattle.lwc_base.specs.Capabilities.{has_key};
 ghost use Rattle.lwc_base.specs.Channels.{Channels, HasItsFiles};
 ghost use Rattle.lwc_base.specs.Life.{HasItsContexts};
+ghost use Rattle.lwc_base.specs.Modes.{IsKey};
 ghost use Rattle.lwc_base.specs.Refusals.{first_refusal};
 ghost use Rattle.lwc_base.specs.World.{World, is_live};
-ghost use Rattle.lwc_syscall.specs.Changes.{ChangesIfDone, CutsNone, IsPlainChange, IsWell, KeepsNumbers, cuts_none, leaves_world};
+ghost use Rattle.lwc_syscall.specs.Changes.{ChangesIfDone, ChangesOnly, CutsNone, IsPlainChange, IsWell, KeepsNumbers, cuts_none, holder, leaves_world, may_change};
+ghost use Rattle.lwc_base.specs.declared.key.Key.{Key};
 ghost use Rattle.lwc_base.specs.declared.name.Name.{Name};
 ghost use Rattle.lwc_base.specs.declared.regs.Regs.{Regs};
 ghost use Rattle.lwc_syscall.specs.Plain.{plain};
-ghost use Rattle.lwc_syscall.specs.Syscall.{IsAllowed, inner_call, lw_syscall, refusals, three_of};
+ghost use Rattle.lwc_syscall.specs.Syscall.{IsAllowed, inner_args, inner_call, link, lw_syscall, refusals, three_of};
 ghost use Rattle.lwc_syscall.specs.declared.calls.Three.{Three};
 
-use guest_call::laws::a_descriptor_in_a_slot_is_a_link;
+use guest_call::laws::{a_descriptor_in_a_slot_is_a_link, a_put_leaves_the_rest};
 use lwc_base::laws::{
     a_put_changes_one_key, changes_leave_the_rest, contexts_keep_the_contexts_that_they_name,
-    descriptors_stay_in_range, sound_worlds_stay_sound, the_lowest_empty_slot_is_empty,
+    descriptors_stay_in_range, names_are_ordered, sound_worlds_stay_sound,
+    the_lowest_empty_slot_is_empty, what_is_apart_stays_apart,
 };
 
 /// A plain call does at most one thing: a put under a slot or of the credential, a mapping, a store and then
@@ -29,6 +33,29 @@ pub fn a_plain_call_does_one_thing()
     descriptors_stay_in_range();
     the_lowest_empty_slot_is_empty();
 }
+
+/// A plain call changes what it may: a page, a slot or the uid of one of its three contexts, also for the contexts that
+/// have it in common. It changes nothing else.
+pub fn a_plain_call_changes_what_it_may()
+    ensures plain { (w : World) (io : Channels) (three : Three) (job call : ℕ) (args : List ℕ) →
+        ChangesOnly w (plain w io three job call args).world three (may_change w io three call args) }
+    ensures syscall { (w : World) (io : Channels) (c : Name) (job : ℕ) (regs : Regs) →
+        ChangesOnly w (lw_syscall w io c job regs).world (three_of w c regs)
+        (may_change w io (three_of w c regs) (inner_call regs) (inner_args regs)) }
+{
+    names_are_ordered();
+    changes_leave_the_rest();
+    a_put_leaves_the_rest();
+    what_is_apart_stays_apart();
+}
+
+/// What a call over chosen contexts may change is the caller's, or of the context that the slot names and under a key
+/// that the capability has.
+pub fn a_syscall_changes_only_keys_of_its_capability()
+    ensures { (w : World) (c : Name) (regs : Regs) (k : Key) → IsAllowed w c regs → IsKey w.size.pages k →
+        (holder (three_of w c regs) k ≡ c) ⊎ ((holder (three_of w c regs) k ≡ (link w c regs).0)
+        × (has_key (link w c regs).1 k ≡ true)) }
+{}
 
 /// What a plain call does over live contexts keeps the world sound, with the contexts and files that its
 /// slots name. It makes and drops no context and no group, and takes at most two tags.

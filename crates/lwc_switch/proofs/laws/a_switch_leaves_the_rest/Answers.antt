@@ -1,6 +1,7 @@
 use Rattle.std.proofs.Common.{subst, sym}
 use Rattle.guest_call.specs.Guest.{with_answer}
 use Rattle.lwc_base.specs.declared.descriptor.Descriptor.TheVariants.{Ctx}
+use Rattle.lwc_base.specs.declared.key.Key.TheVariants.{Slot}
 use Rattle.lwc_base.specs.Capabilities.{empty_cap}
 use Rattle.lwc_base.specs.Saved.{save}
 use Rattle.lwc_switch.proofs.Rest.{leaves_rest}
@@ -11,4 +12,4 @@ pub returns : goal.returns
 returns c = λ w v from d t regs arrived moved.
     subst (λ v. LeavesRest w v from d t moved.slot) (sym moved.made)
     (leaves_rest w _ _ from d t moved.slot (c.a_save_changes_one_threads_registers.ensures w from t (with_answer regs 0))
-    (c.a_put_changes_one_slot.ensures (save w from t (with_answer regs 0)) d moved.slot (Ctx from empty_cap)))
+    (c.a_put_leaves_the_rest.ensures (save w from t (with_answer regs 0)) d (Slot moved.slot) (Ctx from empty_cap)))

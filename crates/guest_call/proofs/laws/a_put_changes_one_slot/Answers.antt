@@ -1,6 +1,0 @@
-use Rattle.guest_call.proofs.Changes.{putting}
-use Rattle.guest_call.proofs.laws.a_put_changes_one_slot.Goals as goal
-
-pub returns : goal.returns
-returns c = λ w d n value.
-    putting c.names_are_ordered.ensures c.changes_leave_the_rest.ensures w d n value c.a_put_changes_one_key.ensures.others c.what_is_apart_is_not_seen.ensures.first

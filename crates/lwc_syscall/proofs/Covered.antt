@@ -1,0 +1,56 @@
+-- What a capability that has all keys of chosen kinds has.
+use Rattle.std.proofs.Common.{◌≡◌, ◌⊎◌, inl, inr, ◌∙◌, ◌<◌, ℕ, Bool, true, false, ap, arith, refl, length}
+use Rattle.std.specs.Prelude.{◌&&◌, ◌||◌, if◌then◌else◌, not}
+use Rattle.std.specs.List.{list_any, range_with_len}
+use Rattle.std.proofs.lemmas.Bool.{or_left, or_right}
+use Rattle.std.proofs.lemmas.List.Folds.{list_any_at}
+use Rattle.std.proofs.lemmas.List.FromFn.{get_or-range_with_len, length-range_with_len}
+use Rattle.access_cap.specs.Kinds.{has_kinds, is_chosen}
+use Rattle.lwc_base.specs.Capabilities.{has_key}
+use Rattle.lwc_base.specs.Modes.{IsKey, kind_of}
+use Rattle.lwc_base.specs.Sharing.{any_key}
+use Rattle.lwc_base.specs.World.{World}
+use Rattle.lwc_base.specs.declared.descriptor.Cap.{Cap}
+use Rattle.lwc_base.specs.declared.descriptor.TheConstants.{SLOTS}
+use Rattle.lwc_base.specs.declared.key.Key.{Key}
+use Rattle.lwc_base.specs.declared.key.Key.TheVariants.{Page, Slot, Cred}
+use Rattle.lwc_base.specs.declared.name.Name.{Name}
+use Rattle.lwc_base.specs.declared.regs.Regs.{Regs}
+use Rattle.lwc_syscall.specs.Changes.{holder}
+use Rattle.lwc_syscall.specs.Syscall.{IsAllowed, link, mask_in, taken_from, three_of}
+
+-- a number below an end that passes a test
+some_below : (test : ℕ → Bool) (n k : ℕ) → k < n → test k ≡ true → list_any test (range_with_len 0 n) ≡ true
+some_below test n k inside passes =
+    list_any_at test (range_with_len 0 n) k 0 (omega (arith, length-range_with_len 0 n)) (ap test (get_or-range_with_len 0 n k 0 inside ∙ omega arith) ∙ passes)
+
+-- a key that passes a test
+some_key : (pages : ℕ) (test : Key → Bool) (k : Key) → IsKey pages k → test k ≡ true → any_key pages test ≡ true
+unfolding any_key
+some_key pages test (Page p) within passes = or_left _ _ (or_left _ _ (some_below (λ q. test (Page q)) pages p within passes))
+some_key pages test (Slot n) within passes = or_left _ _ (or_right _ _ (some_below (λ m. test (Slot m)) SLOTS n within passes))
+some_key pages test Cred within passes = or_right _ _ passes
+
+-- a capability with all keys of the chosen kinds has each key of one of them
+has_chosen : (pages : ℕ) (cap : Cap) (mask : ℕ) (k : Key) → has_kinds pages cap mask ≡ true → IsKey pages k → is_chosen mask (kind_of k) ≡ true → has_key cap k ≡ true
+unfolding has_kinds
+has_chosen pages cap mask k all within chosen =
+    elim (has_key cap k) as (λ b. has_key cap k ≡ b → b ≡ true) [
+      | true ↦ λ has. refl
+      | false ↦ λ lacks. let some = some_key pages (λ k. is_chosen mask (kind_of k) && not (has_key cap k)) k within (grind arith) in grind arith
+    ] refl
+
+-- a key's context is the one that its kind is taken from
+holder-kind : (w : World) (c : Name) (regs : Regs) (k : Key) → holder (three_of w c regs) k ≡ taken_from w c regs (kind_of k)
+holder-kind w c regs (Page p) = refl
+holder-kind w c regs (Slot n) = refl
+holder-kind w c regs Cred = refl
+
+pub holder-covered : (w : World) (c : Name) (regs : Regs) (k : Key) → IsAllowed w c regs → IsKey w.size.pages k →
+    (holder (three_of w c regs) k ≡ c) ⊎ ((holder (three_of w c regs) k ≡ (link w c regs).0) × (has_key (link w c regs).1 k ≡ true))
+holder-covered w c regs k allowed within =
+    elim (is_chosen (mask_in regs) (kind_of k)) as (λ b. is_chosen (mask_in regs) (kind_of k) ≡ b →
+        (holder (three_of w c regs) k ≡ c) ⊎ ((holder (three_of w c regs) k ≡ (link w c regs).0) × (has_key (link w c regs).1 k ≡ true))) [
+      | true ↦ λ chosen. inr (holder-kind w c regs k ∙ ap (λ b. if b then (link w c regs).0 else c) chosen, has_chosen w.size.pages (link w c regs).1 (mask_in regs) k allowed.covered within chosen)
+      | false ↦ λ other. inl (holder-kind w c regs k ∙ ap (λ b. if b then (link w c regs).0 else c) other)
+    ] refl

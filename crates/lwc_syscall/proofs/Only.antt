@@ -1,0 +1,287 @@
+-- What plain calls leave as it was.
+use Rattle.std.proofs.Common.{◌≡◌, ◌≢◌, ◌⊎◌, inl, inr, ◌∙◌, ◌+◌, ◌<◌, ◌≤◌, ℕ, Bool, true, false, List, [], ◌∷◌, None, Option, Some, ap, refl, length, subst, sym, arith}
+use Rattle.std.proofs.lemmas.Bool.Decides.{nat_tests}
+use Rattle.std.proofs.lemmas.Cmp.{tied_itself}
+use Rattle.std.specs.Ordering.{eq_by_cmp, is_eq}
+use Rattle.std.specs.Option.{option_map_or}
+use Rattle.std.specs.Prelude.{◌==◌, ◌&&◌, ◌||◌, if◌then◌else◌, is_none, map, nat_le, nat_lt, slice_index, unwrap_or}
+use Rattle.guest_call.specs.Changes.{ChangesKey, IsUntouched}
+use Rattle.guest_call.specs.Guest.{descriptor_for}
+use Rattle.lwc_base.specs.Cells.{put_at, put_page, put_slot, put_uid, uid_at, value_at, value_of}
+use Rattle.lwc_base.specs.declared.cell.Cell.TheVariants.{Own, Common}
+use Rattle.lwc_base.specs.Channels.{Channels}
+use Rattle.lwc_base.specs.Clones.{AreApart}
+use Rattle.lwc_base.specs.Facts.{ChangeFacts, ChangesContext, OrderFacts}
+use Rattle.lwc_base.specs.Frames.{is_parting}
+use Rattle.lwc_base.specs.Keys.{ValueOf}
+use Rattle.lwc_base.specs.Mapping.{map_pages, mapped_or_not, unmap_pages, with_zeros, without_pages}
+use Rattle.lwc_base.specs.Memory.{bytes_for, touched}
+use Rattle.lwc_base.specs.Names.{name_cmp}
+use Rattle.lwc_base.specs.Refusals.{first_refusal}
+use Rattle.lwc_base.specs.Slots.{lowest_empty}
+use Rattle.lwc_base.specs.Store.{Piece, Stored, after_store, page_value_at, parting_count, plan, put_pages, store}
+use Rattle.lwc_base.specs.Store as stores
+use Rattle.lwc_base.specs.Summaries.{is_empty}
+use Rattle.lwc_base.specs.World.{World, Context, Counters, change_counters, context, group, is_live}
+use Rattle.lwc_base.specs.declared.descriptor.Descriptor.{Descriptor}
+use Rattle.lwc_base.specs.declared.descriptor.Descriptor.TheVariants.{Empty, File}
+use Rattle.lwc_base.specs.declared.key.Key.{Key}
+use Rattle.lwc_base.specs.declared.key.Key.TheVariants.{Page, Slot, Cred}
+use Rattle.lwc_base.specs.declared.name.Name.{Name}
+use Rattle.lwc_base.specs.declared.page.PageValue.{PageValue}
+use Rattle.lwc_base.specs.declared.refusal.Refusal.{Refusal}
+use Rattle.lwc_base.specs.declared.refusal.Refusal.TheVariants.{BadCall}
+use Rattle.lwc_base.specs.declared.regs.Regs.{Regs}
+use Rattle.lwc_syscall.proofs.Does.{ended-cases, stored-cases}
+use Rattle.lwc_syscall.specs.Changes.{ChangesOnly, has_page, holder, may_change, read_pages}
+use Rattle.lwc_syscall.specs.Plain.{Outcome, answering, becoming, close_refusals, closing, copy_refusals, copying, ended, is_absent, is_full, map_refusals, mapping, moved, open_refusals, opening, placed, plain, read_on, read_refusals, reading, store_at, uid_refusals, world_after, write_refusals, writing, written}
+use Rattle.lwc_syscall.specs.Syscall.{inner_args, inner_call, lw_syscall, refusals, three_of}
+use Rattle.lwc_syscall.specs.declared.answer.CallAnswer.TheVariants.{Exit, Refused}
+use Rattle.lwc_syscall.specs.declared.calls.Three.{Three}
+
+-- what is so of each outcome under its number is so of the one of a call's number
+by_call : (P : Outcome → Type 0) (call : ℕ) (a b c d e f g h i j k : Outcome) → (call ≡ 1 → P a) → (call ≡ 2 → P b) → (call ≡ 3 → P c) → (call ≡ 4 → P d) → P e →
+    (call ≡ 6 → P f) → (call ≡ 7 → P g) → P h → (call ≡ 9 → P i) → P j → P k →
+    P (if call == 1 then a else (if call == 2 then b else (if call == 3 then c else (if call == 4 then d else (if call == 5 then e else (if call == 6 then f
+    else (if call == 7 then g else (if call == 8 then h else (if call == 9 then i else (if call == 10 then j else k))))))))))
+by_call P call a b c d e f g h i j k pa pb pc pd pe pf pg ph pi pj pk = grind (arith, nat_tests)
+
+-- what is known of puts
+pub record PutFacts : Type 0 where
+  pub orders : OrderFacts
+  pub changes : ChangeFacts
+  pub leaves : (w : World) (c : Name) (k : Key) (value : ValueOf k) → ChangesKey w (put_at w c k value) c k
+  pub apart : (w : World) (c : Name) (q : Key) (value : ValueOf q) (a b : Name) (k : Key) → AreApart w a b k → AreApart (put_at w c q value) a b k
+
+-- what is apart in one world is apart in another
+abbrev KeepsApart : World → World → Type 0
+KeepsApart w v = (a b : Name) (k : Key) → AreApart w a b k → AreApart v a b k
+
+-- a change of some keys that keeps what is apart
+record Leaves (w v : World) (three : Three) (keys : Key → Bool) : Type 0 where
+  only : ChangesOnly w v three keys
+  apart : KeepsApart w v
+
+-- each page of some values is one of the keys
+abbrev PagesIn : (Key → Bool) → List ℕ → Type 0
+PagesIn keys pages = (p : ℕ) → has_page pages p ≡ true → keys (Page p) ≡ true
+
+module _ (facts : PutFacts) (w : World) (three : Three) (keys : Key → Bool) where
+  same : Leaves w w three keys
+  same = record { only = record { values = λ e k out. refl; cells = λ e k out. refl; entries = λ e. refl; saved = λ e t. refl }; apart = λ a b k is. is }
+
+  -- one more put under one of the keys
+  put_on : (v : World) (q : Key) (value : ValueOf q) → keys q ≡ true → Leaves w v three keys → Leaves w (put_at v (holder three q) q value) three keys
+  put_on v q value is left =
+      let put = facts.leaves v (holder three q) q value in
+      let out : (e : Name) (k : Key) → (keys k ≡ true → AreApart w (holder three k) e k) → IsUntouched v (holder three q) q e k =
+          λ e k out same. left.apart (holder three q) e k (subst (λ r. AreApart w (holder three r) e k) same (out (subst (λ r. keys r ≡ true) (sym same) is))) in
+      record {
+        only = record {
+          values = λ e k untouched. put.values e k (out e k untouched) ∙ left.only.values e k untouched;
+          cells = λ e k untouched. put.cells e k (out e k untouched) ∙ left.only.cells e k untouched;
+          entries = λ e. put.entries e ∙ left.only.entries e;
+          saved = λ e t. put.saved e t ∙ left.only.saved e t;
+        };
+        apart = λ a b k is. facts.apart v (holder three q) q value a b k (left.apart a b k is);
+      }
+
+  -- pages of the memory's context that get new values
+  pages_on : (v : World) (values : List (ℕ × PageValue)) → PagesIn keys (map (λ x. x.0) values) → Leaves w v three keys → Leaves w (put_pages v three.memory values) three keys
+  pages_on v [] named left = left
+  pages_on v (x ∷ xs) named left =
+      pages_on (put_page v three.memory x.0 x.1) xs (λ p is. named p (grind arith)) (put_on v (Page x.0) (Some x.1) (named x.0 (grind (arith, nat_tests))) left)
+
+  -- the pages of a plan are those that are touched
+  planned : (c : Name) (job : ℕ) (piece : Piece) (ps : List ℕ) (k : ℕ) → map (λ x. x.0) (plan w c job piece k ps) ≡ ps
+  planned c job piece [] k = refl
+  planned c job piece (p ∷ ps) k = ap (λ qs. p ∷ qs) (planned c job piece ps (if is_parting w (page_value_at w c p) then k + 1 else k))
+
+  counters_on : (v : World) (job : ℕ) (f : Counters → Counters) → Leaves w v three keys → Leaves w (change_counters v job f) three keys
+  unfolding change_counters value_at context group
+  counters_on v job f left = record {
+    only = record { values = left.only.values; cells = left.only.cells; entries = left.only.entries; saved = left.only.saved };
+    apart = λ a b k is. let was = left.apart a b k is in record { differ = was.differ; no_group = was.no_group };
+  }
+
+  store_on : (job : ℕ) (piece : Piece) → PagesIn keys (touched piece.at (length piece.bytes)) → (v : World) → store w three.memory job piece ≡ stores.Done v → Leaves w v three keys
+  unfolding store after_store
+  store_on job piece named v is =
+      let pages = touched piece.at (length piece.bytes) in
+      let put = plan w three.memory job piece (w.next job).tags pages in
+      let left = pages_on w put (subst (PagesIn keys) (sym (planned three.memory job piece pages (w.next job).tags)) named) same in
+      let f = λ (n : Counters). record n { tags = n.tags + parting_count w three.memory piece } in
+      let done : v ≡ change_counters (put_pages w three.memory put) job f = grind arith in
+      subst (λ u. Leaves w u three keys) (sym done) (counters_on (put_pages w three.memory put) job f left)
+
+  -- two names are one, or they differ
+  cases_name : {A : Type 0} (a b : Name) → (a ≡ b → A) → (a ≢ b → A) → A
+  cases_name {A} a b one two =
+      elim (eq_by_cmp name_cmp a b) as (λ t. eq_by_cmp name_cmp a b ≡ t → A) [
+        | true ↦ λ same. one (grind (arith, facts.orders.one_name))
+        | false ↦ λ other. two (λ same. let itself = ap is_eq (tied_itself facts.orders.names a) in grind arith)
+      ] refl
+
+  -- a context in which cells of pages of a range have changed
+  record TurnsPages (from to : ℕ) (change : Context → Context) : Type 0 where
+    cell : (x : Context) (k : Key) → ((p : ℕ) → k ≡ Page p → (nat_le from p && nat_lt p to) ≡ false) → (change x).cell k ≡ x.cell k
+    entry : (x : Context) → (change x).entry ≡ x.entry
+    saved : (x : Context) (t : ℕ) → (change x).saved t ≡ x.saved t
+
+  zeros_turn : (from to : ℕ) → TurnsPages from to (with_zeros from to)
+  zeros_turn from to = record {
+    cell = λ x k out. elim k as (λ k. ((p : ℕ) → k ≡ Page p → (nat_le from p && nat_lt p to) ≡ false) → (with_zeros from to x).cell k ≡ x.cell k) [
+      | Page p ↦ λ out. let h = out p refl in grind arith
+      | Slot n ↦ λ out. refl
+      | Cred ↦ λ out. refl
+    ] out;
+    entry = λ x. refl;
+    saved = λ x t. refl;
+  }
+
+  absent_turn : (from to : ℕ) → TurnsPages from to (without_pages from to)
+  absent_turn from to = record {
+    cell = λ x k out. elim k as (λ k. ((p : ℕ) → k ≡ Page p → (nat_le from p && nat_lt p to) ≡ false) → (without_pages from to x).cell k ≡ x.cell k) [
+      | Page p ↦ λ out. let h = out p refl in grind arith
+      | Slot n ↦ λ out. refl
+      | Cred ↦ λ out. refl
+    ] out;
+    entry = λ x. refl;
+    saved = λ x t. refl;
+  }
+
+  module _ (from to : ℕ) (change : Context → Context) (v : World) (turns : TurnsPages from to change) (changed : ChangesContext w three.memory change v)
+      (within : (p : ℕ) → nat_le from p && nat_lt p to ≡ true → keys (Page p) ≡ true) where
+    -- what the change leaves of a context, it leaves of each
+    each : {X : Type 0} (part : Context → X) (e : Name) → (e ≡ three.memory → (x : Context) → part (change x) ≡ part x) → part (context v e) ≡ part (context w e)
+    each part e left =
+        cases_name e three.memory
+        (λ is. elim (is_live w three.memory) as (λ b. is_live w three.memory ≡ b → part (context v e) ≡ part (context w e)) [
+          | true ↦ λ live. let h = changed.changed live in let l = left is (context w three.memory) in grind arith
+          | false ↦ λ dead. let h = changed.same dead in grind arith
+        ] refl)
+        (λ other. ap part (changed.others e other))
+
+    -- a key that is left in the memory's context is no page of the range
+    outside : (e : Name) (k : Key) → (keys k ≡ true → AreApart w (holder three k) e k) → e ≡ three.memory → (p : ℕ) → k ≡ Page p → (nat_le from p && nat_lt p to) ≡ false
+    outside e k out is p at =
+        elim (nat_le from p && nat_lt p to) as (λ b. (nat_le from p && nat_lt p to) ≡ b → b ≡ false) [
+          | false ↦ λ none. refl
+          | true ↦ λ some.
+              let apart = out (subst (λ r. keys r ≡ true) (sym at) (within p some)) in
+              absurd ((subst (λ r. AreApart w (holder three r) e r) at apart).differ (sym is))
+        ] refl
+
+    cells_on : (e : Name) (k : Key) → (keys k ≡ true → AreApart w (holder three k) e k) → (context v e).cell k ≡ (context w e).cell k
+    cells_on e k out = each (λ x. x.cell k) e (λ is x. turns.cell x k (outside e k out is))
+
+    values_on : (e : Name) (k : Key) → (keys k ≡ true → AreApart w (holder three k) e k) → value_at v e k ≡ value_at w e k
+    unfolding value_at
+    values_on e k out = let c = cells_on e k out in elim ((context w e).cell k) as (λ cell. (context w e).cell k ≡ cell → value_of v k ((context v e).cell k) ≡ value_of w k ((context w e).cell k)) [
+      | Own value ↦ λ is. grind arith
+      | Common g ↦ λ is. let h = changed.groups g in grind arith
+    ] refl
+
+    mapped_on : ChangesOnly w v three keys
+    mapped_on = record { values = values_on; cells = cells_on; entries = λ e. each (λ x. x.entry) e (λ is. turns.entry); saved = λ e t. each (λ x. x.saved t) e (λ is x. turns.saved x t) }
+
+module _ (facts : PutFacts) (w : World) (io : Channels) (three : Three) (job : ℕ) (call : ℕ) (args : List ℕ) where
+  abbrev keys : Key → Bool
+  keys = may_change w io three call args
+
+  abbrev arg : ℕ → ℕ
+  arg = slice_index args
+
+  abbrev Only : Outcome → Type 0
+  Only o = ChangesOnly w o.world three keys
+
+  none : ChangesOnly w w three keys
+  none = (same facts w three keys).only
+
+  slot_on : (n : ℕ) (value : Descriptor) → keys (Slot n) ≡ true → ChangesOnly w (put_slot w three.slots n value) three keys
+  slot_on n value is = (put_on facts w three keys w (Slot n) value is (same facts w three keys)).only
+
+  closing_only : call ≡ 2 → Only (closing w io three.slots (arg 0))
+  unfolding may_change
+  closing_only is =
+      ended-cases Only w io (close_refusals w three.slots (arg 0)) (answering 0 (put_slot w three.slots (arg 0) Empty) io) (λ _. none)
+      (λ passed. slot_on (arg 0) Empty (grind (arith, nat_tests)))
+
+  placed_only : (value : Descriptor) (rows : List (Bool × Refusal)) → (call ≡ 1) ⊎ (call ≡ 3) → (first_refusal rows ≡ None → is_none (lowest_empty w three.slots) ≡ false) →
+      Only (ended w io rows (placed w io three.slots value))
+  unfolding may_change
+  placed_only value rows is some =
+      ended-cases Only w io rows (placed w io three.slots value) (λ _. none)
+      (λ passed. let there = some passed in slot_on (unwrap_or (lowest_empty w three.slots) 0) value (grind (arith, nat_tests)))
+
+  uid_only : (uid : ℕ) → call ≡ 9 → Only (becoming w io three.cred uid)
+  unfolding may_change
+  uid_only uid is =
+      ended-cases Only w io (uid_refusals w three.cred uid) (answering 0 (put_uid w three.cred uid) io) (λ _. none)
+      (λ passed. (put_on facts w three keys w Cred uid (grind (arith, nat_tests)) (same facts w three keys)).only)
+
+  range_in : (call ≡ 6) ⊎ (call ≡ 7) → (p : ℕ) → (nat_le (arg 0) p && nat_lt p (arg 1)) ≡ true → keys (Page p) ≡ true
+  unfolding may_change
+  range_in is p within = grind (arith, nat_tests)
+
+  mapping_only : (present : Bool) → (call ≡ 6) ⊎ (call ≡ 7) → Only (mapping w io three.memory (arg 0) (arg 1) present)
+  mapping_only present is =
+      ended-cases Only w io (map_refusals w three.memory (arg 0) (arg 1) present) (answering 0 (mapped_or_not w three.memory (arg 0) (arg 1) present) io) (λ _. none)
+      (λ passed. elim present as (λ b. ChangesOnly w (mapped_or_not w three.memory (arg 0) (arg 1) b) three keys) [
+        | true ↦ mapped_on facts w three keys (arg 0) (arg 1) _ _ (zeros_turn facts w three keys (arg 0) (arg 1)) (facts.changes.mapped w three.memory (arg 0) (arg 1)) (range_in is)
+        | false ↦ mapped_on facts w three keys (arg 0) (arg 1) _ _ (absent_turn facts w three keys (arg 0) (arg 1)) (facts.changes.unmapped w three.memory (arg 0) (arg 1)) (range_in is)
+      ])
+
+  writing_only : (n at count : ℕ) → Only (writing w io three n at count)
+  unfolding writing
+  writing_only n at count =
+      let value = descriptor_for w three.slots n in
+      let bytes = bytes_for w three.memory at count in
+      ended-cases Only w io (write_refusals io value count bytes) (answering count w (written io value (unwrap_or bytes []))) (λ _. none) (λ _. none)
+
+  pages_in : call ≡ 4 → (p : ℕ) → has_page (read_pages w io three args) p ≡ true → keys (Page p) ≡ true
+  unfolding may_change
+  pages_in is p within = grind (arith, nat_tests)
+
+  slot_in : call ≡ 4 → keys (Slot (arg 0)) ≡ true
+  unfolding may_change
+  slot_in is = grind (arith, nat_tests)
+
+  done_only : (stored : Stored) (piece : Piece) (value : Descriptor) → is_absent stored ≡ false → is_full stored ≡ false →
+      (stored ≡ stores.Done w) ⊎ ((stored ≡ stores.Absent) ⊎ (stored ≡ store w three.memory job piece)) → keys (Slot (arg 0)) ≡ true → PagesIn keys (touched piece.at (length piece.bytes)) →
+      ChangesOnly w (put_slot (world_after w stored) three.slots (arg 0) value) three keys
+  done_only stores.Absent piece value there room by slot pages = absurd (grind arith)
+  done_only stores.Full piece value there room by slot pages = absurd (grind arith)
+  done_only (stores.Done v) piece value there room (inl is) slot pages =
+      let one : w ≡ v = grind arith in subst (λ (u : World). ChangesOnly w (put_slot u three.slots (arg 0) value) three keys) one (slot_on (arg 0) value slot)
+  done_only (stores.Done v) piece value there room (inr (inl is)) slot pages = absurd (grind arith)
+  done_only (stores.Done v) piece value there room (inr (inr is)) slot pages =
+      (put_on facts w three keys v (Slot (arg 0)) value slot (store_on facts w three keys job piece pages v (sym is))).only
+
+  reading_only : call ≡ 4 → Only (reading w io three job (arg 0) (arg 1) (arg 2))
+  unfolding reading
+  reading_only is =
+      let value = descriptor_for w three.slots (arg 0) in
+      let bytes = moved io value (arg 2) in
+      let stored = store_at w three.memory job (arg 1) bytes in
+      ended-cases Only w io (read_refusals io value (arg 2) stored)
+      (answering (length bytes) (put_slot (world_after w stored) three.slots (arg 0) (read_on (length bytes) value)) io) (λ _. none)
+      (λ passed. done_only stored (record { at = arg 1; bytes = bytes }) (read_on (length bytes) value) (grind arith) (grind arith) (stored-cases w three.memory job (arg 1) bytes) (slot_in is) (pages_in is))
+
+  pub plain_only : Only (plain w io three job call args)
+  unfolding plain
+  plain_only =
+      by_call Only call (opening w io three (arg 0)) (closing w io three.slots (arg 0)) (copying w io three.slots (arg 0)) (reading w io three job (arg 0) (arg 1) (arg 2))
+      (writing w io three (arg 0) (arg 1) (arg 2)) (mapping w io three.memory (arg 0) (arg 1) true) (mapping w io three.memory (arg 0) (arg 1) false)
+      (answering (uid_at w three.cred) w io) (becoming w io three.cred (arg 0)) (record { answer = Exit (arg 0); world = w; io = io }) (record { answer = Refused BadCall; world = w; io = io })
+      (λ is. placed_only (File (arg 0) 0) (open_refusals w io three (arg 0)) (inl is) (λ passed. grind arith)) closing_only
+      (λ is. placed_only (descriptor_for w three.slots (arg 0)) (copy_refusals w three.slots (arg 0)) (inr is) (λ passed. grind arith)) reading_only (writing_only (arg 0) (arg 1) (arg 2))
+      (λ is. mapping_only true (inl is)) (λ is. mapping_only false (inr is)) none (uid_only (arg 0)) none none
+
+pub syscall_only : PutFacts → (w : World) (io : Channels) (c : Name) (job : ℕ) (regs : Regs) →
+    ChangesOnly w (lw_syscall w io c job regs).world (three_of w c regs) (may_change w io (three_of w c regs) (inner_call regs) (inner_args regs))
+unfolding lw_syscall
+syscall_only facts w io c job regs =
+    ended-cases (λ o. ChangesOnly w o.world (three_of w c regs) (may_change w io (three_of w c regs) (inner_call regs) (inner_args regs))) w io (refusals w c regs)
+    (plain w io (three_of w c regs) job (inner_call regs) (inner_args regs)) (λ _. none facts w io (three_of w c regs) job (inner_call regs) (inner_args regs))
+    (λ _. plain_only facts w io (three_of w c regs) job (inner_call regs) (inner_args regs))
