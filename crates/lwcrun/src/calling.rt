@@ -178,6 +178,67 @@ const COMMON: [u64; 18] = [
     0x2500_0000_0000_0000,
 ];
 
+/// Slots 2 and 4 are common: a read through slot 2 in one context moves the offset for the other, and a dup into slot 4 fills
+/// it for the other:
+/// `LI r2, 2` / `SYS 16` / `LI r8, 3` / `EQ r9, r0, r8` / `JZ r9, child` / `MOV r7, r0` / `LI r1, 2` /
+/// `LI r2, 100` / `LI r3, 3` / `SYS 4` / `SYS 3` / `MOV r1, r7` / `MOV r2, r0` / `SYS 17` / `HALT` /
+/// `child: MOV r10, r2` / `LI r1, 2` / `LI r2, 200` / `LI r3, 4` / `SYS 4` / `MOV r11, r0` / `MOV r1, r10` /
+/// `SYS 4` / `LDB r12, r2, 0` / `HALT`.
+const COMMON_OFFSET: [u64; 25] = [
+    0x0102_0000_0200_0000,
+    0x2400_0000_1000_0000,
+    0x0108_0000_0300_0000,
+    0x0f09_0008_0000_0000,
+    0x1200_0900_0f00_0000,
+    0x0307_0000_0000_0000,
+    0x0101_0000_0200_0000,
+    0x0102_0000_6400_0000,
+    0x0103_0000_0300_0000,
+    0x2400_0000_0400_0000,
+    0x2400_0000_0300_0000,
+    0x0301_0700_0000_0000,
+    0x0302_0000_0000_0000,
+    0x2400_0000_1100_0000,
+    0x2500_0000_0000_0000,
+    0x030a_0200_0000_0000,
+    0x0101_0000_0200_0000,
+    0x0102_0000_c800_0000,
+    0x0103_0000_0400_0000,
+    0x2400_0000_0400_0000,
+    0x030b_0000_0000_0000,
+    0x0301_0a00_0000_0000,
+    0x2400_0000_0400_0000,
+    0x200c_0200_0000_0000,
+    0x2500_0000_0000_0000,
+];
+
+/// Calls on behalf of another context with two causes or more to be refused; the first in the order of the table is answered:
+/// `SYS 16` / `LI r1, 2` / `LI r2, 7` / `LI r3, 10` / `SYS 20` / `MOV r10, r0` / `LI r2, 0` / `LI r3, 0` /
+/// `SYS 18` / `LI r2, 8` / `LI r3, 10` / `SYS 20` / `MOV r11, r0` / `LI r2, 7` / `SYS 20` / `HALT`.
+const FIRST_CAUSE: [u64; 16] = [
+    0x2400_0000_1000_0000,
+    0x0101_0000_0200_0000,
+    0x0102_0000_0700_0000,
+    0x0103_0000_0a00_0000,
+    0x2400_0000_1400_0000,
+    0x030a_0000_0000_0000,
+    0x0102_0000_0000_0000,
+    0x0103_0000_0000_0000,
+    0x2400_0000_1200_0000,
+    0x0102_0000_0800_0000,
+    0x0103_0000_0a00_0000,
+    0x2400_0000_1400_0000,
+    0x030b_0000_0000_0000,
+    0x0102_0000_0700_0000,
+    0x2400_0000_1400_0000,
+    0x2500_0000_0000_0000,
+];
+
+/// Two items: slot 2 is shared, and slot 4.
+const SLOTS_2_AND_4: [u8; 32] = [
+    1, 0, 0, 0, 1, 0, 0, 0, 2, 0, 0, 0, 3, 0, 0, 0, 1, 0, 0, 0, 1, 0, 0, 0, 4, 0, 0, 0, 5, 0, 0, 0,
+];
+
 /// An item: the slots 0 to 62 are copied.
 const ALL_SLOTS_BUT_ONE: [u8; 16] = [1, 0, 0, 0, 0, 0, 0, 0, 0, 0, 0, 0, 63, 0, 0, 0];
 
@@ -210,7 +271,7 @@ const NOTHING: Rest<'static> = Rest {
 
 #[test]
 fn guests_make_every_call(rt: HostRuntime) -> Result<(), Fail> {
-    let cases: [(&[u64], Rest, &[&str], &str, &str); 11] = [
+    let cases: [(&[u64], Rest, &[&str], &str, &str); 13] = [
         (
             &ZERO_PAGE,
             NOTHING,
@@ -346,6 +407,29 @@ fn guests_make_every_call(rt: HostRuntime) -> Result<(), Fail> {
             "thread 0 running ctx 1.0 pc 17\nregs 0 5 2 0 0 0 0 0 0 3 0 0 7 0 0 0 0\n\
             context 0.0 pages 1 slots 4 uid 5\ncontext 1.0 pages 1 slots 3 uid 5\n\
             groups 1\nconsole -\nused 1\npeak 1\nsteps 7\nschedule 0000000\n",
+        ),
+        (
+            &COMMON_OFFSET,
+            Rest {
+                pages: &[(0, &SLOTS_2_AND_4)],
+                files: &FOUR_BYTES,
+                slots: &[2],
+                ..NOTHING
+            },
+            &REPLAY,
+            "00000000",
+            "thread 0 done 0 ctx 1.0 pc 24\nregs 0 1 4 200 4 0 0 0 0 3 0 4 1 13 0 0 0\n\
+            context 0.0 pages 1 slots 5 uid 0\ncontext 1.0 pages 1 slots 5 uid 0\n\
+            groups 1\nconsole -\nused 2\npeak 2\nsteps 8\nschedule 00000000\n",
+        ),
+        (
+            &FIRST_CAUSE,
+            NOTHING,
+            &REPLAY,
+            "000000",
+            "thread 0 done 0 ctx 0.0 pc 15\nregs 0 18446744073709551606 2 7 10 0 0 0 0 0 0 18446744073709551614 18446744073709551609 0 0 0 0\n\
+            context 0.0 pages 0 slots 3 uid 0\ncontext 1.0 pages 0 slots 2 uid 0\n\
+            groups 0\nconsole -\nused 0\npeak 0\nsteps 6\nschedule 000000\n",
         ),
     ];
     for (instructions, rest, words, schedule, report) in cases {

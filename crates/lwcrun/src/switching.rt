@@ -283,6 +283,63 @@ fn guests_switch_restrict_and_take_over(rt: HostRuntime) -> Result<(), Fail> {
     Ok(())
 }
 
+/// Maps page 1 and 63 single pages, makes a context, shares the credential and the single pages with it, each into a group,
+/// and then one of the pages 0 and 1, which would be a group too many and a range too many:
+/// `LI r1, 1` / `LI r2, 2` / `SYS 6` / `LI r8, 127` / `page: ADDI r1, r1, 2` / `ADDI r2, r2, 2` / `SYS 6` /
+/// `EQ r9, r1, r8` / `JZ r9, page` / `LI r1, 0` / `LI r2, 0` / `SYS 16` / `LI r1, 2` / `LI r2, 32` / `LI r3, 1` /
+/// `SYS 19` / `LI r2, 0` / `LDW r5, r4, 8` / `LDW r6, r4, 16` / `LI r8, 63` / `share: SYS 19` / `ADD r5, r5, r6` /
+/// `STW r5, r4, 8` / `ADDI r7, r7, 1` / `EQ r9, r7, r8` / `JZ r9, share` / `LI r2, 48` / `SYS 19` / `HALT`.
+const GROUPS_AND_RANGES: [u64; 29] = [
+    0x0101_0000_0100_0000,
+    0x0102_0000_0200_0000,
+    0x2400_0000_0600_0000,
+    0x0108_0000_7f00_0000,
+    0x1001_0100_0200_0000,
+    0x1002_0200_0200_0000,
+    0x2400_0000_0600_0000,
+    0x0f09_0108_0000_0000,
+    0x1200_0900_0400_0000,
+    0x0101_0000_0000_0000,
+    0x0102_0000_0000_0000,
+    0x2400_0000_1000_0000,
+    0x0101_0000_0200_0000,
+    0x0102_0000_2000_0000,
+    0x0103_0000_0100_0000,
+    0x2400_0000_1300_0000,
+    0x0102_0000_0000_0000,
+    0x2105_0400_0800_0000,
+    0x2106_0400_1000_0000,
+    0x0108_0000_3f00_0000,
+    0x2400_0000_1300_0000,
+    0x0405_0506_0000_0000,
+    0x2300_0405_0800_0000,
+    0x1007_0700_0100_0000,
+    0x0f09_0708_0000_0000,
+    0x1200_0900_1400_0000,
+    0x0102_0000_3000_0000,
+    0x2400_0000_1300_0000,
+    0x2500_0000_0000_0000,
+];
+
+/// An item: page 3 is shared; what is added to it for the next page but one; and two items: the credential is shared, and page 1.
+const ITEMS_OF_SHARES: [u8; 64] = [
+    0, 0, 0, 0, 1, 0, 0, 0, 3, 0, 0, 0, 4, 0, 0, 0, 2, 0, 0, 0, 2, 0, 0, 0, 0, 0, 0, 0, 0, 0, 0, 0,
+    2, 0, 0, 0, 1, 0, 0, 0, 0, 0, 0, 0, 1, 0, 0, 0, 0, 0, 0, 0, 1, 0, 0, 0, 1, 0, 0, 0, 2, 0, 0, 0,
+];
+
+#[test]
+fn too_many_groups_is_answered_before_too_many_ranges(rt: HostRuntime) -> Result<(), Fail> {
+    let guest = image(rt.alloc(), &GROUPS_AND_RANGES, &[(0, &ITEMS_OF_SHARES)], &[0])?;
+    let left = call(&rt, &guest, &[b'0'; 196], &REPLAY, SURE)?;
+    let report =
+        "thread 0 done 0 ctx 0.0 pc 28\nregs 0 18446744073709551599 2 48 1 0 558345748609 8589934594 63 63 1 0 0 0 0 0 0\n\
+        context 0.0 pages 65 slots 3 uid 0\ncontext 1.0 pages 65 slots 2 uid 0\n\
+        groups 64\nconsole -\nused 2\npeak 2\nsteps 196\n";
+    assert_eq!(rt; left.status, ExitStatus::Ok);
+    assert!(rt; left.out.bytes().starts_with(report.as_bytes()));
+    Ok(())
+}
+
 #[test]
 fn a_switch_needs_an_empty_slot_at_its_target(rt: HostRuntime) -> Result<(), Fail> {
     let mut slots = Vec::new(rt.alloc());
