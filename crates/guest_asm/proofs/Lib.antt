@@ -1,0 +1,4 @@
+pub mod Lexis
+pub mod Numbers
+pub mod Fields
+pub mod Steps

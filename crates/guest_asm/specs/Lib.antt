@@ -1,0 +1,10 @@
+pub use Rattle.byte_reading.specs.Outcomes
+pub use Rattle.guest_image.specs.Reading
+pub use Rattle.guest_image.specs.Spelling
+pub mod Rules
+pub mod Lexis
+pub mod Numbers
+pub mod Statements
+pub mod Sources
+pub mod Drafts
+pub mod Views

@@ -1,0 +1,92 @@
+-- What the values that borrow from a source stand for.
+use Rattle.std.specs.Prelude.{◌≡◌, ℕ, List, [], ◌∷◌, map, Option, Some, None, Result, Ok, Err}
+use Rattle.std.specs.Option.{option_map}
+use Rattle.std.specs.BTreeMap as tree
+use Rattle.std.specs.Cmp.Lexicographic.{slice_cmp}
+use Rattle.std.specs.Ordering.{nat_cmp}
+use Rattle.guest_isa.specs.declared.instr.Instr.{Instr}
+use Rattle.guest_asm.specs.declared.error.SourceRule.{SourceRule}
+use Rattle.guest_asm.specs.declared.error.SourceRule.TheVariants.{BadLine}
+use Rattle.guest_asm.specs.declared.operand.Immediate.{Immediate}
+use Rattle.guest_asm.specs.declared.operand.Immediate.TheVariants as immediates
+use Rattle.guest_asm.specs.declared.statement.Statement.{Statement}
+use Rattle.guest_asm.specs.declared.statement.Statement.TheVariants as statements
+use Rattle.guest_asm.specs.declared.statement.Line.{Line}
+use Rattle.guest_asm.specs.declared.source.Use.{Use}
+use Rattle.guest_asm.specs.declared.source.Source.{Source}
+use Rattle.guest_asm.specs.Statements as said
+use Rattle.guest_asm.specs.Sources as source
+use denote.Bor.{Bor}
+
+-- a borrowed text, as its bytes
+abbrev pub bytes_in : Bor (List ℕ) → List ℕ
+bytes_in text = text.now
+
+-- an immediate
+abbrev pub immediate_in : Immediate → said.Immediate
+immediate_in (immediates.Value n) = said.Value n
+immediate_in (immediates.Label name) = said.Label name.now
+
+-- an instruction and its immediate
+abbrev pub coded_in : Instr × Immediate → said.Coded
+coded_in coded = (coded.0, immediate_in coded.1)
+
+-- a statement; the bytes of pages and files are still hexadecimal in it
+abbrev pub statement_in : Statement → said.Statement
+statement_in (statements.Instruction i n) = said.Instruction i (immediate_in n)
+statement_in (statements.Uid n) = said.Uid n
+statement_in (statements.Entry n) = said.Entry (immediate_in n)
+statement_in (statements.Page n text) = said.Page (record { number = n; bytes = said.bytes_of text.now })
+statement_in (statements.File owner public text) =
+    said.File (record { owner = owner; public = public; bytes = said.bytes_of text.now })
+statement_in (statements.Slot s) = said.Slot s
+
+-- a line: its label and its statement
+abbrev pub line_in : Line → Option (List ℕ) × Option said.Statement
+line_in line = (option_map bytes_in line.label, option_map statement_in line.statement)
+
+-- the use of a label
+abbrev pub use_in : Use → source.Use
+use_in u = record { at = u.at; name = u.name.now }
+
+-- what a map of labels has at a name
+abbrev pub label_at : tree.BTreeMap (Bor (List ℕ)) ℕ → List ℕ → Option ℕ
+label_at labels name = tree.get_by (λ k. slice_cmp nat_cmp name k.now) labels
+
+-- what lines have said
+abbrev pub source_in : Source → source.Source
+source_in s = record {
+  labels = label_at s.labels;
+  uses = map use_in s.uses.items;
+  uid = s.uid;
+  text = map coded_in s.text.items;
+  pages = s.pages.items;
+  files = s.files.items;
+  slots = s.slots.items;
+  entries = map immediate_in s.entries.items;
+}
+
+-- an answer, seen by view, is what a line gives
+abbrev pub Gives : {X Y : Type 0} → (X → Y) → Result X SourceRule → Result Y SourceRule → Type 0
+Gives view (Ok x) read = read ≡ Ok (view x)
+Gives view (Err rule) read = read ≡ Err rule
+
+-- a number of words that is not the right one
+abbrev pub only : {X : Type 0} → Option X → Result X SourceRule
+only (Some x) = Ok x
+only None = Err BadLine
+
+-- a list of one word
+abbrev pub one : {X : Type 0} → List X → Option X
+one (x ∷ []) = Some x
+one _ = None
+
+-- a list of two words
+abbrev pub two : {X : Type 0} → List X → Option (X × X)
+two (x ∷ y ∷ []) = Some (x, y)
+two _ = None
+
+-- a list of three words
+abbrev pub three : {X : Type 0} → List X → Option (X × X × X)
+three (x ∷ y ∷ z ∷ []) = Some (x, y, z)
+three _ = None

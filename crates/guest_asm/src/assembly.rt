@@ -1,0 +1,62 @@
+//! From a source to an image.
+
+ghost use Rattle.byte_reading.specs.Outcomes.{Answers};
+ghost use Rattle.guest_image.specs.Reading.{image_at};
+ghost use Rattle.guest_asm.specs.Drafts as spec;
+ghost use Rattle.guest_asm.specs.Views.{source_in};
+
+use crate::draft::{check_labels, draft_bytes, draft_length};
+use crate::error::{SourceError, SourceRule};
+use crate::source::Source;
+use byte_reading::ReadError;
+use guest_image::{Image, ImageRule, read_image};
+use lwc_base::MOST_IMAGE_BYTES;
+use std::alloc::Global;
+
+/// The most bytes of a source.
+pub const MOST_SOURCE_BYTES: usize = 16_777_216;
+
+/// The image that a source makes (`assembled`).
+///
+/// # Errors
+///
+/// Out of memory, or the first refusal. These are looked for in this order: `TooLong`, at
+/// `MOST_SOURCE_BYTES`; then over the lines, at the offset in bytes of the line, `BadLine`, `BadOperand`, and
+/// `BadLabel` for a label that an earlier line defines; then `BadLabel` at the first line that uses a label
+/// that no line defines; then the rules of images, at the offset in the image that was made.
+#[tactic(auto, unfolding(crate::specs::Drafts::assembled, crate::specs::Drafts::draft_at))]
+pub fn assemble(alloc: Global, source: &[u8]) -> Result<Image, SourceError>
+    ensures { Answers (λ image. image) result (spec.assembled source.now) }
+{
+    if source.len() > MOST_SOURCE_BYTES {
+        return Err(ReadError::Refused {
+            rule: SourceRule::TooLong,
+            at: MOST_SOURCE_BYTES as u64,
+        });
+    }
+    let source = Source::read(alloc, source)?;
+    check_labels(&source)?;
+    read_draft(alloc, source)
+}
+
+/// Reads the draft of what all lines say as an image.
+fn read_draft(alloc: Global, source: Source<'_>) -> Result<Image, SourceError>
+    ensures { Answers (λ image. image) result (spec.of_image (image_at (spec.draft_bytes (spec.draft_of (source_in source.entry))))) }
+{
+    if draft_length(&source) > MOST_IMAGE_BYTES as u128 {
+        return Err(ReadError::Refused {
+            rule: SourceRule::Image(ImageRule::TooLong),
+            at: MOST_IMAGE_BYTES as u64,
+        });
+    }
+    let bytes = draft_bytes(alloc, &source)?;
+    drop(source);
+    match read_image(alloc, bytes.as_slice()) {
+        Ok(image) => Ok(image),
+        Err(ReadError::OutOfMemory) => Err(ReadError::OutOfMemory),
+        Err(ReadError::Refused { rule, at }) => Err(ReadError::Refused {
+            rule: SourceRule::Image(rule),
+            at,
+        }),
+    }
+}

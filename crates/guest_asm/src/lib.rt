@@ -1,0 +1,19 @@
+//! Sources of guests, made into images.
+#![tactic(auto)]
+
+mod assembly;
+mod draft;
+mod error;
+mod mnemonics;
+mod numbers;
+mod operand;
+mod parts;
+mod source;
+mod statement;
+mod words;
+
+pub use assembly::{MOST_SOURCE_BYTES, assemble};
+pub use error::{SourceError, SourceRule};
+
+#[cfg(test)]
+mod tests;

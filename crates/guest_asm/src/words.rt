@@ -1,0 +1,163 @@
+//! Lines and words.
+
+ghost use Rattle.std.specs.Prelude.{◌≡◌, ◌++◌, ◌∷◌, [], ◌<◌, ◌≤◌, ◌==◌, length, IfSome, IfNone};
+ghost use Rattle.std.specs.List.{list_all, position_or_len, prefix_len};
+ghost use Rattle.std.specs.Option.{option_map};
+ghost use Rattle.guest_asm.specs.Lexis as spec;
+ghost use Rattle.guest_asm.specs.Views.{bytes_in};
+
+/// The first line, with its line feed, and what follows it.
+pub(crate) fn next_line(bytes: &[u8]) -> (&[u8], &[u8])
+    requires { 0 < length bytes.now }
+    ensures first { spec.lines bytes.now ≡ result.0.now ∷ spec.lines result.1.now }
+    ensures whole { bytes.now ≡ result.0.now ++ result.1.now }
+    ensures some { 0 < length result.0.now }
+{
+    let place = place_of(bytes, b'\n');
+    if place < bytes.len() {
+        bytes.split_at(place + 1)
+    } else {
+        (bytes, &[])
+    }
+}
+
+/// A line up to its comment.
+pub(crate) fn text_of(line: &[u8]) -> &[u8]
+    ensures { result.now ≡ spec.text_of line.now }
+{
+    let line = without_end(line);
+    &line[..place_of(line, b';')]
+}
+
+/// Whether every byte of a text may come outside a comment.
+pub(crate) fn all_plain(text: &[u8]) -> bool
+    ensures { result ≡ list_all spec.is_plain text.now }
+{
+    text.iter().all(|b| is_plain(*b))
+}
+
+/// The label that a text begins with, and what follows it.
+#[tactic(auto, unfolding(crate::specs::Lexis::labelled))]
+pub(crate) fn labelled(text: &[u8]) -> (Option<&[u8]>, &[u8])
+    ensures label { option_map bytes_in result.0 ≡ (spec.labelled text.now).0 }
+    ensures rest { result.1.now ≡ (spec.labelled text.now).1 }
+{
+    let text = from_first_word(text);
+    let colon = place_of(text, b':');
+    if colon < text.len() && is_name(&text[..colon]) {
+        (Some(&text[..colon]), &text[colon + 1..])
+    } else {
+        (None, text)
+    }
+}
+
+/// The first word of a text, and what follows it.
+pub(crate) fn next_word(text: &[u8]) -> Option<(&[u8], &[u8])>
+    ensures some { IfSome result (λ x. spec.words text.now ≡ x.0.now ∷ spec.words x.1.now) }
+    ensures none { IfNone result (spec.words text.now ≡ []) }
+{
+    let text = from_first_word(text);
+    if text.is_empty() {
+        return None;
+    }
+    Some(text.split_at(word_end(text)))
+}
+
+/// Whether a word is a name: a letter or `_`, and up to 31 letters, digits or `_`.
+pub(crate) fn is_name(word: &[u8]) -> bool
+    ensures { result ≡ spec.is_name word.now }
+{
+    match word {
+        [] => false,
+        [first, rest @ ..] => begins_name(*first) && all_in_name(rest) && rest.len() <= 31,
+    }
+}
+
+/// A line without the line feed that ends it, and the carriage return before that.
+fn without_end(line: &[u8]) -> &[u8]
+    ensures { result.now ≡ spec.without_end line.now }
+{
+    let count = line.len();
+    if count == 0 || line[count - 1] != b'\n' {
+        return line;
+    }
+    let front = &line[..count - 1];
+    if count > 1 && front[count - 2] == b'\r' {
+        &front[..count - 2]
+    } else {
+        front
+    }
+}
+
+/// A text from its first word on.
+fn from_first_word(text: &[u8]) -> &[u8]
+    ensures { result.now ≡ spec.from_first_word text.now }
+{
+    &text[word_start(text)..]
+}
+
+/// The first place of a byte, or the length.
+fn place_of(bytes: &[u8], wanted: u8) -> usize
+    ensures place { result ≡ position_or_len (λ b. b == wanted) bytes.now }
+    ensures within { result ≤ length bytes.now }
+{
+    bytes
+        .iter()
+        .position(|b| *b == wanted)
+        .unwrap_or(bytes.len())
+}
+
+/// The first place of a separator, or the length.
+fn word_end(text: &[u8]) -> usize
+    ensures place { result ≡ position_or_len spec.is_separator text.now }
+    ensures within { result ≤ length text.now }
+{
+    text.iter()
+        .position(|b| is_separator(*b))
+        .unwrap_or(text.len())
+}
+
+/// The first place of another byte than a separator, or the length.
+fn word_start(text: &[u8]) -> usize
+    ensures place { result ≡ prefix_len spec.is_separator text.now }
+    ensures within { result ≤ length text.now }
+{
+    text.iter()
+        .position(|b| !is_separator(*b))
+        .unwrap_or(text.len())
+}
+
+/// Whether a byte separates words.
+fn is_separator(byte: u8) -> bool
+    ensures { result ≡ spec.is_separator byte }
+{
+    matches!(byte, b' ' | b'\t' | b',')
+}
+
+/// Whether a byte may come outside a comment.
+fn is_plain(byte: u8) -> bool
+    ensures { result ≡ spec.is_plain byte }
+{
+    (0x20 <= byte && byte <= 0x7e) || byte == b'\t'
+}
+
+/// Whether a name may begin with this byte.
+fn begins_name(byte: u8) -> bool
+    ensures { result ≡ spec.begins_name byte }
+{
+    byte.is_ascii_alphabetic() || byte == b'_'
+}
+
+/// Whether a name may have this byte.
+fn is_in_name(byte: u8) -> bool
+    ensures { result ≡ spec.is_in_name byte }
+{
+    begins_name(byte) || byte.is_ascii_digit()
+}
+
+/// Whether a name may go on with these bytes.
+fn all_in_name(bytes: &[u8]) -> bool
+    ensures { result ≡ list_all spec.is_in_name bytes.now }
+{
+    bytes.iter().all(|b| is_in_name(*b))
+}
