@@ -1,7 +1,7 @@
 -- Words that are put into fields one after another.
 use Rattle.std.proofs.Common.{◌≡◌, ℕ, suc, ◌+◌, ◌<◌, List, [], ◌∷◌, length, drop, get_or, Result, Ok, Err, refl, sym, ◌∙◌, arith, drop-cons}
-use Rattle.guest_asm.specs.declared.fault.SourceRule.{SourceRule}
-use Rattle.guest_asm.specs.declared.fault.SourceRule.TheVariants.{BadLine}
+use Rattle.guest_asm.specs.declared.error.SourceRule.{SourceRule}
+use Rattle.guest_asm.specs.declared.error.SourceRule.TheVariants.{BadLine}
 use Rattle.guest_asm.specs.declared.operand.Field.{Field}
 use Rattle.guest_asm.specs.Statements.{Coded, with_field, with_fields}
 

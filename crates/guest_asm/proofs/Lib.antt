@@ -1,4 +1,7 @@
 pub mod Lexis
-pub mod Numbers
+pub mod Digits
 pub mod Fields
 pub mod Steps
+pub mod Labels
+pub mod Writes
+pub mod Lengths

@@ -68,7 +68,7 @@ pub(crate) fn draft_bytes(alloc: Global, source: &Source<'_>) -> Result<Vec<u8>,
 /// The number of bytes of pages.
 fn pages_length(pages: &[PageDraft]) -> u128
     ensures length { result ≡ length (flat_map spec.page pages.now) }
-    ensures few { result ≤ 18446744073709551620 * length pages.now }
+    ensures few { result ≤ 18446744073709555712 * length pages.now }
 {
     let mut length = 0;
     for page in pages {
@@ -80,7 +80,7 @@ fn pages_length(pages: &[PageDraft]) -> u128
 /// The number of bytes of files.
 fn files_length(files: &[FileDraft]) -> u128
     ensures length { result ≡ length (flat_map spec.file files.now) }
-    ensures few { result ≤ 18446744073709551628 * length files.now }
+    ensures few { result ≤ 18446744073709555712 * length files.now }
 {
     let mut length = 0;
     for file in files {
@@ -118,7 +118,8 @@ fn put_header(out: &mut Vec<u8>, source: &Source<'_>) -> Result<(), OutOfMemory>
     put_number(out, source.files.len() as u32)?;
     put_number(out, source.slots.len() as u32)?;
     put_number(out, source.entries.len() as u32)?;
-    put_number(out, source.uid.unwrap_or(0))
+    put_number(out, source.uid.unwrap_or(0))?;
+    Ok(())
 }
 
 /// Appends the instructions.
