@@ -63,7 +63,8 @@ pub record ComesToRefusal (m : Machine) (t : ℕ) (x : Thread) (i : Instr) (refu
   pub call : i.op ≡ Sys
   pub refused : refusal_of i.imm t m.environment (advanced_thread m x) ≡ Some refusal
 
--- a machine once this call is refused: of its thread r0, pc and the budget are others, and nothing else is
+-- a machine once this call is refused: after its private instructions its thread has another r0, pc and budget,
+-- and ends if that is used up; nothing else has changed
 abbrev pub after_refusal : Machine → ℕ → Thread → Refusal → Machine
 after_refusal m t x refusal =
     let after = with_steps (x.budget - 1) (refused (advanced_thread m x) refusal) in
