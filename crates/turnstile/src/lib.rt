@@ -14,7 +14,7 @@
 //! Beneath lies a table of the kit's `atomic_table` with two words, `next` and `serving`, and one slot for
 //! the state. `specs/Rule.antt` has the rule that holds at every moment, and `specs/Steps.antt` what each
 //! kind of step does: draw ticket, look, move out, move in, pass on, split seat and join seat. `moves.rt`
-//! has one function for each kind.
+//! has one function for each kind. Beside the table are sixteen words that waiting threads sleep on (`waiting.rt`).
 #![tactic(auto)]
 
 mod lock;
@@ -25,7 +25,9 @@ mod states;
 #[cfg(test)]
 mod tests;
 mod views;
+mod waiting;
 
-pub use lock::{OutOfMemory, Turnstile};
+pub use lock::Turnstile;
+pub use lwc_base::OutOfMemory;
 pub use passes::{Pass, Passes};
 pub use states::Turned;

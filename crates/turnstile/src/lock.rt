@@ -9,21 +9,11 @@ use crate::moves::{act, end_turn, look, open_table, settle, take_turn};
 use crate::passes::{Pass, Passes, deal_passes, join_all, take_first};
 use crate::queue::LockTable;
 use crate::states::Turned;
-use std::alloc::{AllocError, Global};
+use crate::waiting::WaitWords;
+use lwc_base::OutOfMemory;
+use std::alloc::Global;
 use std::marker::Model;
 use std::sync::Wait;
-use thiserror::Error;
-
-/// Want of memory: an allocation was refused.
-#[derive(Clone, Copy, Debug, PartialEq, Eq, Error)]
-#[error("out of memory")]
-pub struct OutOfMemory;
-
-impl From<AllocError> for OutOfMemory {
-    fn from(_error: AllocError) -> OutOfMemory {
-        OutOfMemory
-    }
-}
 
 /// A ticket lock round a state. Threads share it by `&`, each with a pass of its own.
 ///
@@ -32,6 +22,7 @@ impl From<AllocError> for OutOfMemory {
 #[derive(Drop)]
 pub struct Turnstile<S: Turned> {
     seats: u32,
+    words: WaitWords,
     table: LockTable<S>,
 }
 
@@ -68,7 +59,15 @@ impl<S: Turned> Turnstile<S> {
     {
         let (table, first) = open_table(alloc, state)?;
         let passes = deal_passes(alloc, &table.shared, first, seats)?;
-        Ok((Turnstile { seats, table }, passes))
+        let words = WaitWords::new();
+        Ok((
+            Turnstile {
+                seats,
+                words,
+                table,
+            },
+            passes,
+        ))
     }
 
     /// Has one turn: calls the action once on the state, and answers what it answered. It may wait.
@@ -95,9 +94,10 @@ impl<S: Turned> Turnstile<S> {
         ensures noted { pass.old.noted ≤ pass.new.noted }
     {
         let shared = &self.table.shared;
-        let state = take_turn(rt, shared, &mut pass.seat);
+        let state = take_turn(rt, shared, &self.words, &mut pass.seat);
         let (state, answer) = act(state, action);
-        end_turn(shared, &mut pass.seat, state);
+        let next = end_turn(shared, &mut pass.seat, state);
+        self.words.wake(next);
         answer
     }
 
@@ -123,7 +123,11 @@ impl<S: Turned> Turnstile<S> {
         ensures seen { All (λ p. Knows (S.past result) p.number p.seen) passes.items }
         ensures noted { All (λ p. p.noted ≤ length (S.past result)) passes.items }
     {
-        let Turnstile { seats: _, table } = self;
+        let Turnstile {
+            seats: _,
+            words: _,
+            table,
+        } = self;
         let first = take_first(&mut passes);
         let first = join_all(&table.shared, first, passes);
         settle(table, first)

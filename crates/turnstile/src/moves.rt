@@ -12,6 +12,7 @@ use crate::queue::{
     SplitSeat,
 };
 use crate::states::Turned;
+use crate::waiting::WaitWords;
 use atomic_table::Table;
 use std::alloc::{AllocError, Global};
 use std::snapshot::Snapshot;
@@ -58,17 +59,15 @@ pub(crate) fn move_in<S: Turned>(shared: &LockShared<S>, seat: &mut LockSeat<S>,
     shared.exchange(seat, STATE, Some(state));
 }
 
-/// Gives the slot back, ends the turn, and wakes those who wait, if a ticket is out.
-pub(crate) fn pass_on<S: Turned>(shared: &LockShared<S>, seat: &mut LockSeat<S>)
+/// Gives the slot back, and ends the turn. Returns the ticket whose turn has come.
+pub(crate) fn pass_on<S: Turned>(shared: &LockShared<S>, seat: &mut LockSeat<S>) -> u64
     requires seat { IsSeatAt shared.now.table_id seat.old }
     requires turn { (state : S) × (seat.old.me.1 ≡ (0, Some state) ∷ []) × MayEnd S.name S.past seat.old.me.0 state }
     ensures seat { IsSameSeat seat.old seat.new }
     ensures passed { PassesOn S.past seat.old.me seat.new.me }
 {
-    let served = shared.fetch_add::<PassOn>(seat, SERVING, 1).wrapping_add(1);
-    if shared.peek(NEXT) != served {
-        shared.wake_all(SERVING);
-    }
+    let served = shared.fetch_add::<PassOn>(seat, SERVING, 1);
+    served.wrapping_add(1)
 }
 
 /// Calls the action on the state.
@@ -84,6 +83,7 @@ pub(crate) fn act<S, R, A: FnOnce(&mut S) -> R>(mut state: S, action: A) -> (S, 
 pub(crate) fn wait<S: Turned, H: Wait>(
     rt: &H,
     shared: &LockShared<S>,
+    words: &WaitWords,
     seat: &mut LockSeat<S>,
     ticket: u64,
 )
@@ -93,12 +93,13 @@ pub(crate) fn wait<S: Turned, H: Wait>(
     ensures noted { seat.old.me.0.noted ≤ ticket }
     ensures turn { TakesState S.name S.past seat.old.me ticket seat.new.me }
 {
+    let mut looks = 0;
     for _ in rt.forever() {
         let serving = look(shared, seat);
         if serving == ticket {
             return;
         }
-        shared.park(rt, SERVING, (serving & 0xffff_ffff) as u32);
+        looks = words.pause(rt, ticket, looks);
     }
     unreachable!()
 }
@@ -136,6 +137,7 @@ pub(crate) fn join_seat<S: Turned>(
 pub(crate) fn take_turn<S: Turned, H: Wait>(
     rt: &H,
     shared: &LockShared<S>,
+    words: &WaitWords,
     seat: &mut LockSeat<S>,
 ) -> S
     requires seat { IsSeatAt shared.now.table_id seat.old }
@@ -144,12 +146,12 @@ pub(crate) fn take_turn<S: Turned, H: Wait>(
     ensures turn { TakesTurn S.name S.past seat.old.me result seat.new.me }
 {
     let ticket = draw_ticket(shared, seat);
-    wait(rt, shared, seat, ticket);
+    wait(rt, shared, words, seat, ticket);
     move_out(shared, seat)
 }
 
-/// Puts the state back, and ends the turn.
-pub(crate) fn end_turn<S: Turned>(shared: &LockShared<S>, seat: &mut LockSeat<S>, state: S)
+/// Puts the state back, and ends the turn. Returns the ticket whose turn has come.
+pub(crate) fn end_turn<S: Turned>(shared: &LockShared<S>, seat: &mut LockSeat<S>, state: S) -> u64
     requires seat { IsSeatAt shared.now.table_id seat.old }
     requires holds { seat.old.me.1 ≡ (0, None) ∷ [] }
     requires turn { MayEnd S.name S.past seat.old.me.0 state }
@@ -157,7 +159,7 @@ pub(crate) fn end_turn<S: Turned>(shared: &LockShared<S>, seat: &mut LockSeat<S>
     ensures ended { seat.new.me ≡ (rested (S.past state) seat.old.me.0, []) }
 {
     move_in(shared, seat, state);
-    pass_on(shared, seat);
+    pass_on(shared, seat)
 }
 
 /// Makes the table, with the state in its slot, and the first seat.

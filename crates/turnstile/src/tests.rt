@@ -2,7 +2,7 @@ ghost use Rattle.std.specs.Prelude.{◌≡◌, ◌+◌, ◌*◌, ◌<◌, ◌≤
 ghost use Rattle.turnstile.specs.Past.{times};
 ghost use Rattle.turnstile.specs.Passes.{Held, IsPassOf, IsNewPass, AreAllOf};
 
-use crate::{OutOfMemory, Pass, Passes, Turned, Turnstile};
+use crate::{Pass, Passes, Turned, Turnstile};
 use std::alloc::{AllocError, Global};
 use std::sync::Wait;
 use std::test::Fail;
@@ -46,19 +46,29 @@ impl Log {
         Ok(Log { turns, left })
     }
 
-    fn append(&mut self, number: u32)
+    /// Appends a number, after the thread has yielded this many times.
+    fn append(&mut self, number: u32, yields: u32)
         requires seat { number < length self.old.left.items }
         requires budget { times number self.old.turns.items < 1000 }
         ensures name { length self.new.left.items ≡ length self.old.left.items }
         ensures past { self.new.turns.items ≡ self.old.turns.items ++ number ∷ [] }
     {
+        for _ in 0..yields {
+            thread::yield_now();
+        }
         self.left[number as usize] -= 1;
         self.turns.push_reserved(u64::from(number));
     }
 }
 
-/// Takes this many turns, each of which appends the pass's number.
-fn take_turns<R: Wait>(rt: &R, gate: &Turnstile<Log>, pass: Pass<Log>, turns: u64) -> Pass<Log>
+/// Takes this many turns, each of which appends the pass's number after this many yields.
+fn take_turns<R: Wait>(
+    rt: &R,
+    gate: &Turnstile<Log>,
+    pass: Pass<Log>,
+    turns: u64,
+    yields: u32,
+) -> Pass<Log>
     requires ours { IsPassOf gate.now pass }
     requires seat { pass.number < gate.now.name }
     requires budget { times pass.number pass.seen + turns ≤ 1000 }
@@ -69,7 +79,7 @@ fn take_turns<R: Wait>(rt: &R, gate: &Turnstile<Log>, pass: Pass<Log>, turns: u6
     let mut pass = pass;
     for _turn in 0..turns {
         let number = pass.number();
-        gate.with_turn(rt, &mut pass, |log| log.append(number));
+        gate.with_turn(rt, &mut pass, |log| log.append(number, yields));
     }
     pass
 }
@@ -95,13 +105,14 @@ fn two_passes(mut passes: Passes<Log>) -> (Pass<Log>, Pass<Log>, Passes<Log>)
     (first, second, passes)
 }
 
-/// Two threads take this many turns each.
+/// Two threads take this many turns each, with this many yields in each turn.
 fn take_both<R: Threads + Wait + Sync>(
     rt: &R,
     gate: &Turnstile<Log>,
     one: Pass<Log>,
     other: Pass<Log>,
     turns: u64,
+    yields: u32,
 ) -> (Pass<Log>, Pass<Log>)
     requires new { IsNewPass gate.now 0 one × IsNewPass gate.now 1 other }
     requires gate { gate.now.name ≡ 2 }
@@ -115,11 +126,11 @@ fn take_both<R: Threads + Wait + Sync>(
         || -> Pass<Log>
             requires { IsNewPass gate.now 0 one × (gate.now.name ≡ 2) × (turns ≤ 1000) }
             ensures { IsPassOf gate.entry.now result × (result.number ≡ 0) × (times 0 result.seen ≡ turns) }
-        { take_turns(rt, gate, one, turns) },
+        { take_turns(rt, gate, one, turns, yields) },
         || -> Pass<Log>
             requires { IsNewPass gate.now 1 other × (gate.now.name ≡ 2) × (turns ≤ 1000) }
             ensures { IsPassOf gate.entry.now result × (result.number ≡ 1) × (times 1 result.seen ≡ turns) }
-        { take_turns(rt, gate, other, turns) },
+        { take_turns(rt, gate, other, turns, yields) },
     )
 }
 
@@ -182,17 +193,36 @@ fn turns_of(log: &Log, number: u64) -> usize {
     log.turns.iter().filter(|turn| **turn == number).count()
 }
 
-#[test]
-fn two_threads_have_their_turns(rt: HostRuntime) -> Result<(), Fail> {
+/// Two threads take this many turns each, with this many yields in each turn. Returns the log at the end.
+fn log_of_both<R: AllocGlobal + Threads + Wait + Sync>(
+    rt: &R,
+    turns: u64,
+    yields: u32,
+) -> Result<Log, Fail>
+    requires { turns ≤ 1000 }
+{
     let log = Log::new(rt.alloc(), 2)?;
     let (gate, passes) = Turnstile::new(rt.alloc(), log, 2)?;
     let (one, other, rest) = two_passes(passes);
-    let (one, other) = take_both(&rt, &gate, one, other, 1000);
-    let (one, other) = both_ask(&rt, &gate, one, other);
-    let log = close_both(gate, rest, one, other)?;
+    let (one, other) = take_both(rt, &gate, one, other, turns, yields);
+    let (one, other) = both_ask(rt, &gate, one, other);
+    Ok(close_both(gate, rest, one, other)?)
+}
+
+#[test]
+fn two_threads_have_their_turns(rt: HostRuntime) -> Result<(), Fail> {
+    let log = log_of_both(&rt, 1000, 0)?;
     assert_eq!(rt; turns_of(&log, 0), 1000);
     assert_eq!(rt; turns_of(&log, 1), 1000);
     assert_eq!(rt; log.turns.len(), 2000);
+    Ok(())
+}
+
+/// A turn takes longer than a waiting thread looks and yields, so the other one sleeps, and has to be woken.
+#[test]
+fn a_thread_that_waits_long_is_woken(rt: HostRuntime) -> Result<(), Fail> {
+    let log = log_of_both(&rt, 20, 2000)?;
+    assert_eq!(rt; log.turns.len(), 40);
     Ok(())
 }
 
@@ -206,7 +236,7 @@ fn one_turn_each<R: Wait>(rt: &R, gate: &Turnstile<Log>, passes: &mut Passes<Log
     for i in 0..passes.len() {
         let pass = &mut passes[i];
         let number = pass.number();
-        gate.with_turn(rt, pass, |log| log.append(number));
+        gate.with_turn(rt, pass, |log| log.append(number, 0));
         sum = sum.wrapping_add(turns_so_far(gate, pass));
     }
     sum
