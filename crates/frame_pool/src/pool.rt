@@ -2,7 +2,7 @@ ghost use Rattle.std.specs.Prelude.{◌≡◌, ◌≢◌, ℕ, ◌+◌, ◌-◌,
 ghost use Rattle.lwc_base.specs.declared.page.TheConstants.{PAGE_BYTES};
 
 use lwc_base::{OutOfMemory, PAGE_BYTES, Tag};
-use pool_base::Counts;
+use pool_base::{Counts, put_next};
 use std::alloc::Global;
 use std::marker::Model;
 
@@ -13,7 +13,7 @@ pub struct FrameNo {
 }
 
 /// Frames in one region, seen as the list of them: of each its count, its stamp and its 4096 bytes.
-/// No call looks for a free frame.
+/// No call looks for a free frame, and a frame's memory is first written when the frame is taken.
 #[derive(Drop)]
 pub struct Pool {
     counts: Counts,
@@ -31,7 +31,13 @@ impl Model for Pool {
 
     ghost view = { λ pool. seen_frames pool.counts pool.stamps.items pool.bytes.items };
 
-    ghost invariant = { λ pool. IsWhole pool.counts pool.stamps.items pool.bytes.items };
+    ghost use Rattle.std.specs.Prelude.{◌≤◌, length, vec_capacity};
+
+    ghost invariant = { λ pool. record {
+      whole : IsWhole pool.counts pool.stamps.items pool.bytes.items;
+      room : length pool.counts.counts ≤ vec_capacity pool.stamps;
+      bytes_room : length pool.counts.counts ≤ vec_capacity pool.bytes;
+    } };
 }
 
 impl Pool {
@@ -44,8 +50,8 @@ impl Pool {
         ensures { IfOk result (λ pool. pool ≡ replicate frames (zero_frame 0 (record { job = 0; k = 0 }))) }
     {
         let counts = Counts::open(alloc, frames)?;
-        let stamps = vec![in alloc; Tag { job: 0, k: 0 }; frames as usize]?;
-        let bytes = vec![in alloc; [0; PAGE_BYTES]; frames as usize]?;
+        let stamps = Vec::with_capacity(alloc, frames as usize)?;
+        let bytes = Vec::with_capacity(alloc, frames as usize)?;
         Ok(Pool {
             counts,
             stamps,
@@ -63,8 +69,8 @@ impl Pool {
         ensures taken { IfSome result (λ frame. self.new ≡ slice_set self.old frame.n (zero_frame 1 stamp)) }
     {
         let n = self.counts.take()?;
-        self.stamps[n as usize] = stamp;
-        self.bytes[n as usize] = [0; PAGE_BYTES];
+        put_next(&mut self.stamps, n as usize, stamp);
+        put_next(&mut self.bytes, n as usize, [0; PAGE_BYTES]);
         Some(FrameNo { n })
     }
 
@@ -127,7 +133,19 @@ impl Pool {
         requires { frame.n < length self.now }
         ensures { result ≡ frame_stamp self.now frame.n }
     {
-        self.stamps[frame.n as usize]
+        let n = frame.n as usize;
+        if n < self.stamps.len() {
+            self.stamps[n]
+        } else {
+            Tag { job: 0, k: 0 }
+        }
+    }
+
+    /// How many frames there are, held or free.
+    pub fn len(&self) -> u32
+        ensures { result ≡ length self.now }
+    {
+        self.counts.len()
     }
 
     /// How many frames are held.
@@ -149,6 +167,7 @@ mod tests {
         let first = pool.take(Tag { job: 1, k: 0 }).ok_or("none is held")?;
         let second = pool.take(Tag { job: 1, k: 1 }).ok_or("one is held")?;
         assert_eq!(rt; pool.take(Tag { job: 1, k: 2 }), None);
+        assert_eq!(rt; pool.len(), 2);
         pool.bytes_mut(first)[4095] = 7;
         assert!(rt; first != second);
         pool.copy_to(first, second);

@@ -1,7 +1,7 @@
 ghost use Rattle.std.specs.Prelude.{◌≡◌, ℕ, ◌+◌, ◌-◌, ◌<◌, ◌^◌, ◌↔◌, List, IfOk, IfSome, IfNone, IsNone, length, replicate, slice_set};
 
 use lwc_base::OutOfMemory;
-use pool_base::{Counts, Steps};
+use pool_base::{Counts, Steps, put_next};
 use std::alloc::Global;
 use std::marker::Model;
 use std::sync::ledger::Ledger;
@@ -23,7 +23,8 @@ struct NodeContent {
 }
 
 /// Nodes in one region, seen as the list of them: of each its count, its level and its 32 entries.
-/// No call looks for a free node. Each `take`, `hold` and `drop_hold` is one node step.
+/// No call looks for a free node, and a node's memory is first written when the node is taken. Each `take`,
+/// `hold` and `drop_hold` is one node step.
 #[derive(Drop)]
 pub struct NodePool {
     counts: Counts,
@@ -36,12 +37,15 @@ impl Model for NodePool {
 
     ghost Value = { List Node };
 
-    ghost use Rattle.std.specs.Prelude.{◌≡◌, length};
-    ghost use Rattle.node_pool.specs.View.{seen_nodes};
+    ghost use Rattle.std.specs.Prelude.{◌≤◌, length, vec_capacity};
+    ghost use Rattle.node_pool.specs.View.{seen_nodes, IsWhole};
 
     ghost view = { λ pool. seen_nodes pool.counts pool.contents.items };
 
-    ghost invariant = { λ pool. length pool.counts ≡ length pool.contents.items };
+    ghost invariant = { λ pool. record {
+      whole : IsWhole pool.counts pool.contents.items;
+      room : length pool.counts.counts ≤ vec_capacity pool.contents;
+    } };
 }
 
 impl NodePool {
@@ -52,11 +56,7 @@ impl NodePool {
         ensures { IfOk result (λ pool. pool ≡ replicate nodes (empty_node 0 0)) }
     {
         let counts = Counts::open(alloc, nodes)?;
-        let empty = NodeContent {
-            level: 0,
-            entries: [0; NODE_ENTRIES],
-        };
-        let contents = vec![in alloc; empty; nodes as usize]?;
+        let contents = Vec::with_capacity(alloc, nodes as usize)?;
         Ok(NodePool { counts, contents })
     }
 
@@ -72,10 +72,11 @@ impl NodePool {
     {
         steps.tick();
         let n = self.counts.take()?;
-        self.contents[n as usize] = NodeContent {
+        let content = NodeContent {
             level,
             entries: [0; NODE_ENTRIES],
         };
+        put_next(&mut self.contents, n as usize, content);
         Some(NodeNo { n })
     }
 
@@ -114,7 +115,12 @@ impl NodePool {
         requires entry { i < NODE_ENTRIES }
         ensures { result ≡ entry_of self.now node.n i }
     {
-        self.contents[node.n as usize].entries[i]
+        let n = node.n as usize;
+        if n < self.contents.len() {
+            self.contents[n].entries[i]
+        } else {
+            0
+        }
     }
 
     /// Writes one entry of a node that is held once.

@@ -14,6 +14,10 @@ one_if b = cond b 1 0
 one_of_two : (c : ℕ) → one_if (eqb c 0) + one_if (ltb 0 c) ≡ 1
 one_of_two c = grind (arith, nat_tests)
 
+empty-count : (test : ℕ → Bool) (xs : List ℕ) → length xs ≡ 0 → count_by test xs ≡ 0
+empty-count test [] none = refl
+empty-count test (x ∷ xs) none = absurd (omega (arith, none))
+
 -- each place is free or held
 pub free-held : (counts : List ℕ) → free_count counts + held_count counts ≡ length counts
 free-held [] = refl
@@ -116,54 +120,21 @@ IsStack-drop counts free n stack held =
           omega (arith, stack.many, change, was);
     }
 
--- so many places in rising order are the stack of as many places that nobody holds
-pub record IsRun (n : ℕ) (free : List ℕ) : Type 0 where
-  pub long : length free ≡ n
-  pub inside : (k : ℕ) → k < n → get_or free k 0 < n
-  pub there : (m : ℕ) → m < n → count_by (λ x. eqb x m) free ≡ 1
-  pub not_there : (m : ℕ) → n ≤ m → count_by (λ x. eqb x m) free ≡ 0
-
-pub IsRun-none : IsRun 0 []
-IsRun-none = record { long = refl; inside = λ k lt. absurd (omega arith); there = λ m lt. absurd (omega arith); not_there = λ m _. refl }
-
-pub IsRun_push : (n : ℕ) (free : List ℕ) → IsRun n free → IsRun (n + 1) (free ++ n ∷ [])
-IsRun_push n free run =
-    let long = length_push free n in
-    let was = run.long in
+-- a place that was never taken comes and is held, where no place was given back
+pub IsStack-next : (counts free : List ℕ) → IsStack counts free → length free ≡ 0 → IsStack (counts ++ 1 ∷ []) free
+IsStack-next counts free stack none =
+    let long = length_push counts 1 in
     record {
-      long = omega arith;
-      inside = λ k lt.
-          ⊎_elim
-          (λ below. let same = get_or_append_left free (n ∷ []) 0 k (omega arith) in omega (arith, run.inside k below))
-          (λ above. let at = get_or_push free n 0 k (omega arith) in omega arith)
-          (cases_lt k n);
-      there = λ m lt.
-          let split = sum_by_push (λ x. one_if (eqb x m)) free n in
-          ⊎_elim
-          (λ below. let no = count-no n m (omega arith) in omega (arith, run.there m below))
-          (λ above. let is : m ≡ n = omega arith in let zero = run.not_there m above in let yes = eq-eqb n m (sym is) in grind (arith, nat_tests))
-          (cases_lt m n);
-      not_there = λ m above.
-          let split = sum_by_push (λ x. one_if (eqb x m)) free n in
-          let no = count-no n m (omega arith) in
-          omega (arith, run.not_there m (omega arith));
-    }
-
-free-replicate : (n : ℕ) → free_count (replicate n 0) ≡ n
-free-replicate zero = refl
-free-replicate (suc n) = omega (arith, free-replicate n, sum_by-cons (λ x. one_if (eqb x 0)) 0 (replicate n 0))
-
-pub IsStack-run : (n : ℕ) (free : List ℕ) → IsRun n free → IsStack (replicate n 0) free
-IsStack-run n free run =
-    let size = length-replicate {A = ℕ} n 0 in
-    let was = run.long in
-    record {
-      inside = λ k lt. omega (arith, size, was, run.inside k (omega (arith, was)));
+      inside = λ k lt. absurd (omega arith);
       once = λ m lt.
-          let below : m < n = omega (arith, size) in
-          let at : get_or (replicate n 0) m 0 ≡ 0 = get_or-replicate n m 0 0 below in
-          run.there m below ∙ sym (ap (λ c. one_if (eqb c 0)) at);
-      many = omega (arith, was, free-replicate n);
+          let nowhere : count_by (λ x. eqb x m) free ≡ 0 = empty-count (λ x. eqb x m) free none in
+          ⊎_elim
+          (λ below. let same = get_or_append_left counts (1 ∷ []) 0 m below in let old = stack.once m below in old ∙ ap (λ c. one_if (eqb c 0)) (sym same))
+          (λ above. let at = get_or_push counts 1 0 m (omega arith) in nowhere ∙ sym (ap (λ c. one_if (eqb c 0)) at))
+          (cases_lt m (length counts));
+      many =
+          let split = sum_by_push (λ x. one_if (eqb x 0)) counts 1 in
+          omega (arith, stack.many, split);
     }
 
 -- where a place is held, not all are free

@@ -1,6 +1,11 @@
 -- How often places are held, and the stack of those that nobody holds.
 use Rattle.std.specs.Prelude.{◌≡◌, ℕ, ◌<◌, ◌==◌, if◌then◌else◌, List, length, slice_index, nat_lt, count_by}
 
+-- how often each place is held, and how many places were ever taken, which are the first ones
+pub record Places : Type 0 where
+  pub counts : List ℕ
+  pub taken : ℕ
+
 -- how many places nobody holds
 abbrev pub free_count : List ℕ → ℕ
 free_count counts = count_by (λ count. count == 0) counts

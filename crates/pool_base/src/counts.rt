@@ -1,82 +1,92 @@
-ghost use Rattle.std.specs.Prelude.{◌≡◌, ◌≤◌, ℕ, ◌+◌, ◌-◌, ◌<◌, ◌^◌, ◌↔◌, List, IfOk, IfSome, IfNone, IsNone, length, replicate, slice_index, slice_set, vec_capacity};
-ghost use Rattle.pool_base.specs.Counts.{free_count, held_count, IsStack};
+ghost use Rattle.std.specs.Prelude.{◌≡◌, ◌≤◌, ℕ, ◌+◌, ◌-◌, ◌<◌, ◌^◌, ◌↔◌, List, IfOk, IfSome, IfNone, IsNone, length, max, replicate, slice_index, slice_set, vec_capacity};
+ghost use Rattle.pool_base.specs.Counts.{free_count, held_count};
+ghost use Rattle.pool_base.specs.Padded.{padded};
 
 use std::alloc::{AllocError, Global};
 use std::marker::Model;
 
-/// How often each of a fixed number of places is held, seen as the list of these counts. The free places
-/// are kept on a stack, so that no call searches for one.
+/// How often each of a fixed number of places is held. Places that were given back are kept on a stack, and
+/// the others are taken in order, so that no call searches for a free one, and opening writes none.
 #[derive(Drop)]
 pub struct Counts {
     counts: Vec<u32>,
     free: Vec<u32>,
+    places: u32,
 }
 
 impl Model for Counts {
-    ghost use Rattle.std.specs.Prelude.{ℕ, List};
-    ghost use Rattle.pool_base.specs.Counts.{IsStack};
+    ghost use Rattle.pool_base.specs.Counts.{Places, IsStack};
 
-    ghost Value = { List ℕ };
+    ghost Value = { Places };
 
-    ghost view = { λ c. c.counts.items };
+    ghost use Rattle.std.specs.Prelude.{length};
+    ghost use Rattle.pool_base.specs.Padded.{padded};
+
+    ghost view = { λ c. record { counts = padded c.places 0 c.counts.items; taken = length c.counts.items } };
 
     ghost use Rattle.std.specs.Prelude.{◌^◌, ◌<◌, ◌≤◌, vec_len, vec_capacity};
 
     ghost invariant = { λ c. record {
       stack : IsStack c.counts.items c.free.items;
-      room : vec_len c.counts ≤ vec_capacity c.free;
-      small : vec_len c.counts < 2 ^ 32;
+      few : vec_len c.counts ≤ c.places;
+      small : c.places < 2 ^ 32;
+      room : c.places ≤ vec_capacity c.counts;
+      free_room : c.places ≤ vec_capacity c.free;
     } };
 }
 
-/// The numbers below `places`, as a stack with room for all of them.
-fn all_free(alloc: Global, places: u32) -> Result<Vec<u32>, AllocError>
-    ensures stack { IfOk result (λ free. IsStack (replicate places 0) free.items) }
-    ensures room { IfOk result (λ free. places ≤ vec_capacity free) }
-{
-    let mut free = Vec::with_capacity(alloc, places as usize)?;
-    'places: for place in 0..places {
-        free.push_reserved(place);
-    }
-    Ok(free)
-}
-
 impl Counts {
-    /// A list of this many places, none of them held. The error says that memory ran out.
+    /// This number of places, none of them held. The error says that memory ran out.
     pub fn open(alloc: Global, places: u32) -> Result<Counts, AllocError>
-        ensures { IfOk result (λ counts. counts ≡ replicate places 0) }
+        ensures { IfOk result (λ counts. counts ≡ record { counts = replicate places 0; taken = 0 }) }
     {
-        let counts = vec![in alloc; 0; places as usize]?;
-        let free = all_free(alloc, places)?;
-        Ok(Counts { counts, free })
+        let counts = Vec::with_capacity(alloc, places as usize)?;
+        let free = Vec::with_capacity(alloc, places as usize)?;
+        Ok(Counts {
+            counts,
+            free,
+            places,
+        })
     }
 
-    /// Takes a free place and holds it once. `None` exactly where every place is held.
+    /// Takes a free place and holds it once. `None` exactly where every place is held. A place that was never
+    /// taken is the next one.
     pub fn take(&mut self) -> Option<u32>
-        ensures full { IsNone result ↔ (free_count self.old ≡ 0) }
+        ensures full { IsNone result ↔ (free_count self.old.counts ≡ 0) }
         ensures full_same { IfNone result (self.new ≡ self.old) }
-        ensures inside { IfSome result (λ place. place < length self.old) }
-        ensures was_free { IfSome result (λ place. slice_index self.old place ≡ 0) }
-        ensures taken { IfSome result (λ place. self.new ≡ slice_set self.old place 1) }
+        ensures inside { IfSome result (λ place. place < length self.old.counts) }
+        ensures was_free { IfSome result (λ place. slice_index self.old.counts place ≡ 0) }
+        ensures held { IfSome result (λ place. self.new.counts ≡ slice_set self.old.counts place 1) }
+        ensures next { IfSome result (λ place. place ≤ self.old.taken) }
+        ensures taken { IfSome result (λ place. self.new.taken ≡ max self.old.taken (place + 1)) }
     {
-        let place = self.free.pop()?;
-        self.counts[place as usize] = 1;
+        if let Some(place) = self.free.pop() {
+            self.counts[place as usize] = 1;
+            return Some(place);
+        }
+        let place = self.counts.len() as u32;
+        if place == self.places {
+            return None;
+        }
+        self.counts.push_reserved(1);
         Some(place)
     }
 
     /// Holds a held place once more.
     pub fn hold(&mut self, place: u32)
-        requires held { 0 < slice_index self.old place }
-        requires fits { slice_index self.old place + 1 < 2 ^ 32 }
-        ensures { self.new ≡ slice_set self.old place (slice_index self.old place + 1) }
+        requires held { 0 < slice_index self.old.counts place }
+        requires fits { slice_index self.old.counts place + 1 < 2 ^ 32 }
+        ensures counts { self.new.counts ≡ slice_set self.old.counts place (slice_index self.old.counts place + 1) }
+        ensures taken { self.new.taken ≡ self.old.taken }
     {
         self.counts[place as usize] += 1;
     }
 
     /// Gives one hold of a held place back. A place without a hold is free.
     pub fn drop_hold(&mut self, place: u32)
-        requires { 0 < slice_index self.old place }
-        ensures { self.new ≡ slice_set self.old place (slice_index self.old place - 1) }
+        requires { 0 < slice_index self.old.counts place }
+        ensures counts { self.new.counts ≡ slice_set self.old.counts place (slice_index self.old.counts place - 1) }
+        ensures taken { self.new.taken ≡ self.old.taken }
     {
         let count = self.counts[place as usize] - 1;
         self.counts[place as usize] = count;
@@ -87,24 +97,45 @@ impl Counts {
 
     /// How often a place is held.
     pub fn count(&self, place: u32) -> u32
-        requires { place < length self.now }
-        ensures { result ≡ slice_index self.now place }
+        requires { place < length self.now.counts }
+        ensures { result ≡ slice_index self.now.counts place }
     {
-        self.counts[place as usize]
+        let place = place as usize;
+        if place < self.counts.len() {
+            self.counts[place]
+        } else {
+            0
+        }
     }
 
     /// How many places are held.
     pub fn used(&self) -> u32
-        ensures { result ≡ held_count self.now }
+        ensures { result ≡ held_count self.now.counts }
     {
         (self.counts.len() - self.free.len()) as u32
     }
 
     /// How many places there are.
-    pub fn len(&self) -> usize
-        ensures { result ≡ length self.now }
+    pub fn len(&self) -> u32
+        ensures { result ≡ length self.now.counts }
     {
-        self.counts.len()
+        self.places
+    }
+}
+
+/// Puts an element at a place of a list, or after its last one, where memory is reserved.
+pub fn put_next<T: Copy + Drop>(items: &mut Vec<T>, place: usize, item: T)
+    requires next { place ≤ length items.old.items }
+    requires room { place < vec_capacity items.old }
+    ensures padded { (size : ℕ) (fill : T) → place < size →
+        padded size fill items.new.items ≡ slice_set (padded size fill items.old.items) place item }
+    ensures len { length items.new.items ≡ max (length items.old.items) (place + 1) }
+    ensures capacity { vec_capacity items.old ≤ vec_capacity items.new }
+{
+    if place < items.len() {
+        items[place] = item;
+    } else {
+        items.push_reserved(item);
     }
 }
 
@@ -126,6 +157,16 @@ mod tests {
         counts.drop_hold(second);
         assert_eq!(rt; counts.used(), 1);
         assert_eq!(rt; counts.take(), Some(second));
+        Ok(())
+    }
+
+    #[test]
+    fn an_element_is_put_over_another_and_after_it(rt: HostRuntime) -> Result<(), Fail> {
+        let mut items = Vec::with_capacity(rt.alloc(), 2)?;
+        put_next(&mut items, 0, 7u8);
+        put_next(&mut items, 0, 8u8);
+        put_next(&mut items, 1, 9u8);
+        assert_eq!(rt; items.as_slice(), [8, 9].as_slice());
         Ok(())
     }
 }

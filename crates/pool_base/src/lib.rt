@@ -4,5 +4,5 @@
 pub mod counts;
 pub mod steps;
 
-pub use counts::Counts;
+pub use counts::{Counts, put_next};
 pub use steps::Steps;

@@ -1,13 +1,24 @@
-use Rattle.frame_pool.proofs.PoolLemmas.{seen_count, seen_inside, seen_recount}
+use Rattle.std.proofs.Common.{length, ap, ◌∙◌, arith}
+use Rattle.std.proofs.Math.ListN.{length-set}
+use Rattle.frame_pool.proofs.PoolLemmas.{seen_count, seen_inside, seen_recount, whole-recount}
 use Rattle.frame_pool.proofs.pool.Pool.hold.Goals as goal
 
 pub hold-requires-clause-held : goal.hold-requires-clause-held
-hold-requires-clause-held c = rw (seen_count _ _ _ _ c.self.view_is c.self.invariant c.args.frame.n) c.requires.held
+hold-requires-clause-held c = rw (seen_count _ _ _ _ c.self.view_is c.self.invariant.whole c.args.frame.n) c.requires.held
 
 pub hold-requires-clause-fits : goal.hold-requires-clause-fits
-hold-requires-clause-fits c = rw (seen_count _ _ _ _ c.self.view_is c.self.invariant c.args.frame.n) c.requires.fits
+hold-requires-clause-fits c = rw (seen_count _ _ _ _ c.self.view_is c.self.invariant.whole c.args.frame.n) c.requires.fits
 
 pub returns : goal.returns
 returns c =
-    seen_recount _ _ _ _ c.self.view_is c.self.invariant _ _ _ (seen_inside _ _ _ _ c.self.view_is c.self.invariant _ c.requires.held)
-    (rw (seen_count _ _ _ _ c.self.view_is c.self.invariant c.args.frame.n) at c.hold.ensures)
+    seen_recount _ _ _ _ c.self.view_is c.self.invariant.whole c.hold.new.self _ _ (seen_inside _ _ _ _ c.self.view_is c.self.invariant.whole _ c.requires.held)
+    (rw (seen_count _ _ _ _ c.self.view_is c.self.invariant.whole c.args.frame.n) at c.hold.ensures.counts)
+
+pub invariant_of-self : goal.invariant_of-self
+invariant_of-self c =
+    let size = ap length c.hold.ensures.counts ∙ length-set c.self.inside.counts.counts c.args.frame.n _ in
+    record {
+      whole = whole-recount _ _ _ _ c.self.view_is c.self.invariant.whole _ _ _ (seen_inside _ _ _ _ c.self.view_is c.self.invariant.whole _ c.requires.held) c.hold.ensures.counts c.hold.ensures.taken;
+      room = omega (arith, size);
+      bytes_room = omega (arith, size);
+    }

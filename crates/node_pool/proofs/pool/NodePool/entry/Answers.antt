@@ -1,13 +1,14 @@
-use Rattle.std.proofs.Common.{get_or, arith, ap}
-use Rattle.node_pool.proofs.PoolLemmas.{seen_length, seen_node_at}
+use Rattle.std.proofs.Common.{◌≡◌, get_or, replicate, ◌∙◌, sym, arith, ap}
+use Rattle.std.proofs.lemmas.List.{get_or-replicate}
+use Rattle.node_pool.proofs.PoolLemmas.{seen_node_at, seen_no_entry}
 use Rattle.node_pool.proofs.pool.NodePool.entry.Goals as goal
 
-pub index-requires : goal.index-requires
-index-requires c =
-    omega (arith, seen_length _ _ _ c.self.view_is c.self.invariant, c.self.inside.contents.ok, c.requires.node, c.self.invariant)
-
-pub returns : goal.returns
-returns c =
-    let inside = seen_length _ _ _ c.self.view_is c.self.invariant in
+pub returns-then-n-len : goal.returns-then-n-len
+returns-then-n-len c =
     ap (λ node. get_or node.entries c.args.i 0)
-    (seen_node_at _ _ _ _ _ c.self.view_is c.self.invariant (omega (arith, inside, c.self.invariant, c.requires.node)) c.index.ensures)
+    (seen_node_at _ _ _ c.self.view_is c.self.invariant.whole _ _ (omega (arith, c.if-n-len.true, c.self.invariant.whole.filled, c.self.inside.contents.ok)) c.index.ensures)
+
+pub returns-else-n-len : goal.returns-else-n-len
+returns-else-n-len c =
+    sym (get_or-replicate 32 c.args.i 0 0 c.requires.entry)
+    ∙ seen_no_entry _ _ _ c.self.view_is c.self.invariant.whole _ c.args.i (omega (arith, c.if-n-len.false, c.self.inside.contents.ok)) c.requires.node

@@ -4,9 +4,9 @@ use Rattle.node_pool.proofs.pool.NodePool.level.Goals as goal
 
 pub index-requires : goal.index-requires
 index-requires c =
-    omega (arith, seen_inside _ _ _ _ c.self.view_is c.self.invariant c.requires, c.self.inside.contents.ok)
+    omega (arith, seen_inside _ _ _ c.self.view_is c.self.invariant.whole _ c.requires, c.self.inside.contents.ok, c.self.invariant.whole.filled)
 
 pub returns : goal.returns
 returns c =
     ap (λ node. node.level)
-    (seen_node_at _ _ _ _ _ c.self.view_is c.self.invariant (seen_inside _ _ _ _ c.self.view_is c.self.invariant c.requires) c.index.ensures)
+    (seen_node_at _ _ _ c.self.view_is c.self.invariant.whole _ _ (seen_inside _ _ _ c.self.view_is c.self.invariant.whole _ c.requires) c.index.ensures)

@@ -4,9 +4,9 @@ use Rattle.node_pool.proofs.pool.NodePool.set_entry.Goals as goal
 
 pub index_mut-requires : goal.index_mut-requires
 index_mut-requires c =
-    omega (arith, seen_inside _ _ _ c.args.node.n c.self.view_is c.self.invariant (omega (arith, c.requires.once)), c.self.inside.contents.ok)
+    omega (arith, seen_inside _ _ _ c.self.view_is c.self.invariant.whole c.args.node.n (omega (arith, c.requires.once)), c.self.inside.contents.ok, c.self.invariant.whole.filled)
 
 pub returns : goal.returns
 returns c =
-    seen_enter _ _ _ _ _ _ _ c.self.view_is c.self.invariant
-    (seen_inside _ _ _ c.args.node.n c.self.view_is c.self.invariant (omega (arith, c.requires.once))) c.index_mut.ensures.value
+    seen_enter _ _ _ c.self.view_is c.self.invariant.whole _ _ _ _
+    (seen_inside _ _ _ c.self.view_is c.self.invariant.whole c.args.node.n (omega (arith, c.requires.once))) c.index_mut.ensures.value

@@ -1,7 +1,10 @@
-use Rattle.std.proofs.Common.{arith}
+use Rattle.std.proofs.Common.{ap, arith}
+use Rattle.pool_base.specs.Counts.{held_count}
+use Rattle.pool_base.proofs.PaddedLemmas.{held-padded}
 use Rattle.pool_base.proofs.StackLemmas.{free-held}
 use Rattle.pool_base.proofs.counts.Counts.used.Goals as goal
 
 pub returns : goal.returns
 returns c =
-    rw (← c.self.view_is) (omega (arith, free-held c.self.inside.counts.items, c.self.invariant.stack.many, c.self.inside.counts.ok, c.self.inside.free.ok))
+    let seen = ap (λ places. held_count places.counts) c.self.view_is in
+    omega (arith, seen, held-padded c.self.inside.places c.self.inside.counts.items, free-held c.self.inside.counts.items, c.self.invariant.stack.many, c.self.inside.counts.ok, c.self.inside.free.ok)
