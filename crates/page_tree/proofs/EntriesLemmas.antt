@@ -11,6 +11,7 @@ use Rattle.page_tree.specs.Changes.{KeepsTrees, KeepsShared}
 use Rattle.page_tree.proofs.UsesLemmas.{one_if-yes, one_if-no, one_if-le, uses_in-yes, uses_in-no, uses-enter, inside-count, inside-entries}
 use Rattle.page_tree.proofs.KeepsLemmas.{trees-is, link_of-tree}
 use Rattle.page_tree.proofs.RawLemmas.{at-here, at-there}
+use Rattle.page_tree.proofs.SoundLemmas.{level-cases}
 
 -- what is counted in a list is at some place of it
 count_by-find : (es : List ℕ) (e : ℕ) → 0 < count_by (λ x. eqb x e) es → (i : ℕ) × (get_or es i 0 ≡ e)
@@ -94,4 +95,4 @@ module _ (old new : List Node) (frames : List Frame) (tree came : ℕ) (sound : 
       (λ more. let one = one_if-le (eqb tree (n + 1)) in keeps.root n (omega (arith, trees, more, one)))
       (λ away. let none = one_if-no tree (n + 1) (λ is. away (inl is)) in keeps.root n (omega (arith, trees, held, none)))
       why)
-      (sound.levels n held)
+      (level-cases (level_of old n) (sound.levels n held))

@@ -1,7 +1,7 @@
 -- The other trees and the frames under each kind of small change, and under one change after another.
 use Rattle.std.proofs.Common.{◌≡◌, ◌≢◌, ℕ, zero, suc, ◌+◌, ◌-◌, ◌<◌, ◌≤◌, ◌⊎◌, inl, inr, ⊎_elim, eqb, List, [], get_or, refl, sym, ◌∙◌, ap, arith}
 use Rattle.std.proofs.lemmas.Bool.{cases_eq, eq-eqb, ne_eqb, cond-true, cond-false}
-use Rattle.frame_pool.specs.Frame.{Frame, frame_stamp, frame_bytes}
+use Rattle.frame_pool.specs.Frame.{Frame, frame_count, frame_stamp, frame_bytes}
 use Rattle.node_pool.specs.Nodes.{Node, count_of, level_of, entry_of}
 use Rattle.page_tree.specs.Pages.{entries_of, link_of, cells_of, cell_at}
 use Rattle.page_tree.specs.Sound.{uses, trees_at, is_root, IsSound}
@@ -71,11 +71,17 @@ KeepsTrees-swap a b d l c ab bd =
     }
 
 pub KeepsFrames-refl : (nodes : List Node) (frames : List Frame) → KeepsFrames nodes nodes frames frames
-KeepsFrames-refl nodes frames = record { holds = λ f. refl; stamps = λ f. refl; bytes = λ f. refl }
+KeepsFrames-refl nodes frames = record { size = refl; free = λ f none. none; holds = λ f. refl; stamps = λ f. refl; bytes = λ f. refl }
 
 pub KeepsFrames-trans : (a b d : List Node) (fa fb fd : List Frame) → KeepsFrames a b fa fb → KeepsFrames b d fb fd → KeepsFrames a d fa fd
 KeepsFrames-trans a b d fa fb fd ab bd =
-    record { holds = λ f. omega (arith, ab.holds f, bd.holds f); stamps = λ f. bd.stamps f ∙ ab.stamps f; bytes = λ f. bd.bytes f ∙ ab.bytes f }
+    record {
+      size = bd.size ∙ ab.size;
+      free = λ f none. bd.free f (ab.free f none);
+      holds = λ f. omega (arith, ab.holds f, bd.holds f);
+      stamps = λ f. bd.stamps f ∙ ab.stamps f;
+      bytes = λ f. bd.bytes f ∙ ab.bytes f;
+    }
 
 pub Keeps-refl : (nodes : List Node) (frames : List Frame) (tree : ℕ) → IsSound nodes frames → Keeps nodes nodes frames frames tree tree
 Keeps-refl nodes frames tree sound = record { sound = sound; trees = KeepsTrees-refl nodes tree; frames_kept = KeepsFrames-refl nodes frames }
@@ -91,7 +97,7 @@ Keeps-swap a b d fa fb fd l c ab bd =
 -- where the entries of leaves stay and the frames too, the frames are kept
 pub KeepsFrames-nodes : (old new : List Node) (frames : List Frame) → ((e : ℕ) → 0 < e → uses 1 new e ≡ uses 1 old e) → KeepsFrames old new frames frames
 KeepsFrames-nodes old new frames same =
-    record { holds = λ f. omega (arith, same (f + 2) (omega arith)); stamps = λ f. refl; bytes = λ f. refl }
+    record { size = refl; free = λ f none. none; holds = λ f. omega (arith, same (f + 2) (omega arith)); stamps = λ f. refl; bytes = λ f. refl }
 
 -- an entry of a root that one tree has alone
 pub Keeps-relink : (old new : List Node) (frames : List Frame) (n i v : ℕ) → IsSound old frames → count_of old n ≡ 1 → IsRelink old new n i v → CanRelink old new n i v → Keeps old new frames frames (n + 1) (n + 1)
@@ -123,8 +129,8 @@ Keeps-relink old new frames n i v sound once change can =
     }
 
 -- an entry of a leaf that one tree has alone
-pub Keeps-write : (old new : List Node) (frames frames' : List Frame) (n i m j v : ℕ) → IsSound old frames → level_of old n ≡ 2 → count_of old n ≡ 1 → entry_of old n i ≡ m + 1 → count_of old m ≡ 1 → IsWrite old new frames frames' m j v → ((f : ℕ) → frame_stamp frames' f ≡ frame_stamp frames f) → ((f : ℕ) → frame_bytes frames' f ≡ frame_bytes frames f) → Keeps old new frames frames' (n + 1) (n + 1)
-Keeps-write old new frames frames' n i m j v sound root once leads alone change stamps bytes =
+pub Keeps-write : (old new : List Node) (frames frames' : List Frame) (n i m j v : ℕ) → IsSound old frames → level_of old n ≡ 2 → count_of old n ≡ 1 → entry_of old n i ≡ m + 1 → count_of old m ≡ 1 → IsWrite old new frames frames' m j v → ((f : ℕ) → v ≡ f + 2 → 0 < frame_count frames f) → ((f : ℕ) → frame_stamp frames' f ≡ frame_stamp frames f) → ((f : ℕ) → frame_bytes frames' f ≡ frame_bytes frames f) → Keeps old new frames frames' (n + 1) (n + 1)
+Keeps-write old new frames frames' n i m j v sound root once leads alone change named stamps bytes =
     record {
       sound = IsSound-write old new frames frames' m j v sound change;
       trees = record {
@@ -138,7 +144,15 @@ Keeps-write old new frames frames' n i m j v sound root once leads alone change 
             let one = once-one old frames sound m n x i k change.leaf alone root lx leads at in
             absurd (other-apart old n x (omega (arith, once)) other one));
       };
-      frames_kept = record { holds = λ f. omega (arith, change.holds f, change.naming (f + 2) (omega arith)); stamps = stamps; bytes = bytes };
+      frames_kept = record {
+        size = change.frames_size;
+        free = λ f none.
+            let came = one_if-no v (f + 2) (λ is. let held = named f is in absurd (omega (arith, held, none))) in
+            omega (arith, change.holds f, came, none);
+        holds = λ f. omega (arith, change.holds f, change.naming (f + 2) (omega arith));
+        stamps = stamps;
+        bytes = bytes;
+      };
     }
 
 -- a root that comes to a tree, or that a tree gives up

@@ -1,3 +1,4 @@
+pub mod CutLemmas
 pub mod EntriesLemmas
 pub mod KeepsLemmas
 pub mod NewLemmas

@@ -1,20 +1,21 @@
 -- Pages, of the cells of leaves.
-use Rattle.std.proofs.Common.{◌≡◌, ◌≢◌, ℕ, ◌+◌, ◌-◌, ◌*◌, ◌/◌, ◌%◌, ◌<◌, ◌≤◌, ⊎_elim, cond, eqb, leb, ltb, ◌&&◌, List, refl, sym, ◌∙◌, ap, arith}
+use Rattle.std.proofs.Common.{◌≡◌, ◌≢◌, ℕ, ◌+◌, ◌-◌, ◌*◌, ◌/◌, ◌%◌, ◌<◌, ◌≤◌, ◌⊎◌, inl, inr, ⊎_elim, true, cond, eqb, leb, ltb, ◌&&◌, List, refl, sym, ◌∙◌, ap, arith}
 use Rattle.std.proofs.lemmas.Bool.{cases_eq, cases_lt, eq-eqb, ne_eqb, cond-true, cond-false, le-leb, lt-leb, lt-ltb, le-ltb, and_from, and_left, and_right}
 use Rattle.frame_pool.specs.Frame.{Frame}
-use Rattle.node_pool.specs.Nodes.{Node, count_of}
+use Rattle.node_pool.specs.Nodes.{Node, count_of, free_of}
 use Rattle.page_tree.specs.declared.cell.PageCell.{PageCell}
 use Rattle.page_tree.specs.declared.cell.PageCell.TheVariants.{Absent, Zero, Frame as Framed}
-use Rattle.page_tree.specs.Pages.{cell_of, entry_for, cell_at, page}
-use Rattle.page_tree.specs.Short.{page_short, part_short, range_short, clear_short, head_end, tail_start}
+use Rattle.page_tree.specs.Pages.{cell_of, entry_for, cell_at, page, is_cut}
+use Rattle.page_tree.specs.Short.{page_short, part_short, range_short, clear_short}
 use Rattle.page_tree.specs.Sound.{IsSound, IsTree, trees_at, is_root}
 use Rattle.page_tree.specs.Changes.{KeepsTrees, Keeps}
-use Rattle.page_tree.specs.Steps.{IsOwned, IsApart, OwnsLeaf, OwnsRoot, OwnsPath, PutsLeaf, PutsLeaves, PutsPages, SharesPages, page_entry, leaf_short, root_short}
+use Rattle.page_tree.specs.Steps.{IsOwned, IsApart, IsMet, IsBeyond, OwnsLeaf, OwnsRoot, OwnsPath, PutsLeaf, PutsLeaves, PutsPages, SharesPages, page_entry, leaf_short, root_short}
 use Rattle.page_tree.proofs.KeepsLemmas.{Keeps-refl, Keeps-trans, cell_at-none, link_of-none, other-cells, zero_or_more, trees-is}
 use Rattle.page_tree.proofs.RootLemmas.{root_short-shared, leaf_short-le, le-cond}
 use Rattle.page_tree.proofs.ShortLemmas.{root_short-own, leaf_short-alone}
 use Rattle.page_tree.proofs.UsesLemmas.{one_if-no, one_if-le}
 use Rattle.page_tree.proofs.ShareLemmas.{apart-cells}
+use Rattle.page_tree.proofs.CutLemmas.{cut-from, head_end, tail_start, ends-cuts, cuts-le}
 
 pub cell_of-entry_for : (cell : PageCell) → cell_of (entry_for cell) ≡ cell
 cell_of-entry_for Absent = refl
@@ -61,13 +62,15 @@ PutsPages-none old frames root tree first end none sound own =
       before = λ p _. refl;
       after = λ p _ _. refl;
       short = λ i _. refl;
+      shorter = λ i _. omega arith;
+      parted = λ i met _. absurd (omega (arith, met.some, none));
       entries = λ i _. refl;
       free = omega arith;
     }
 
 -- the pages of one leaf
-pub PutsPages-leaf : (old new : List Node) (frames frames' : List Frame) (root tree first end : ℕ) → first < end → (end - 1) / 32 ≡ first / 32 → PutsLeaf old new frames frames' root (first / 32) (λ j. cond (leb (first % 32) j && ltb j ((end - 1) % 32 + 1)) (cell_at old tree (first / 32) j) (cell_at old (root + 1) (first / 32) j)) (leaf_short old (root + 1) (first / 32)) → PutsPages old new frames frames' root tree first end (leaf_short old (root + 1) (first / 32))
-PutsPages-leaf old new frames frames' root tree first end some one puts =
+pub PutsPages-leaf : (old new : List Node) (frames frames' : List Frame) (root tree first end : ℕ) → first < end → (end - 1) / 32 ≡ first / 32 → PutsLeaf old new frames frames' root (first / 32) (λ j. cond (leb (first % 32) j && ltb j ((end - 1) % 32 + 1)) (cell_at old tree (first / 32) j) (cell_at old (root + 1) (first / 32) j)) (leaf_short old (root + 1) (first / 32)) → leaf_short new (root + 1) (first / 32) ≡ 0 → PutsPages old new frames frames' root tree first end (leaf_short old (root + 1) (first / 32))
+PutsPages-leaf old new frames frames' root tree first end some one puts alone =
     record {
       keeps = puts.keeps;
       own = puts.own;
@@ -90,6 +93,12 @@ PutsPages-leaf old new frames frames' root tree first end some one puts =
           (λ off. puts.there (p / 32) (p % 32) off)
           (cases_eq (p / 32) (first / 32));
       short = λ i high. puts.short i (λ is. absurd (omega (arith, is, high, one, some)));
+      shorter = λ i _.
+          ⊎_elim
+          (λ here. let same = ap (λ x. leaf_short new (root + 1) x) here in omega (arith, same, alone))
+          (λ off. let same = puts.short i off in omega (arith, same))
+          (cases_eq i (first / 32));
+      parted = λ i met _. ap (λ x. leaf_short new (root + 1) x) (let here : i ≡ first / 32 = omega (arith, met.low, met.high, one, some) in here) ∙ alone;
       entries = λ i high. puts.entries i (λ is. absurd (omega (arith, is, high, one, some)));
       free = puts.free;
     }
@@ -104,9 +113,32 @@ PutsPages-leaves old new frames frames' root tree a b within puts =
       before = λ p low. puts.before (p / 32) (p % 32) (omega (arith, low)) (omega arith);
       after = λ p high lt. puts.after (p / 32) (p % 32) (omega (arith, high)) (omega (arith, lt)) (omega arith);
       short = λ i high. puts.short i (omega (arith, high));
+      shorter = λ i beyond.
+          ⊎_elim
+          (λ low. let same = puts.early i (omega (arith, low)) in omega (arith, same))
+          (λ high. let same = puts.short i (omega (arith, high)) in omega (arith, same))
+          beyond;
+      parted = λ i met beyond. ⊎_elim (λ low. absurd (omega (arith, low, met.low))) (λ high. absurd (omega (arith, high, met.high))) beyond;
       entries = λ i high. puts.entries i (omega (arith, high));
       free = omega (arith, puts.free);
     }
+
+beyond-head : (first middle end i : ℕ) → middle ≤ end → IsBeyond first end i → IsBeyond first middle i
+beyond-head first middle end i le beyond = ⊎_elim (λ low. inl low) (λ high. inr (omega (arith, high, le))) beyond
+
+beyond-tail : (first middle end i : ℕ) → first ≤ middle → IsBeyond first end i → IsBeyond middle end i
+beyond-tail first middle end i le beyond = ⊎_elim (λ low. inl (omega (arith, low, le))) (λ high. inr high) beyond
+
+-- a range in two parts has a leaf's pages in one of them
+met-part : (first middle end i : ℕ) → IsMet first end i → IsMet middle end i ⊎ IsMet first middle i
+met-part first middle end i met =
+    ⊎_elim
+    (λ late. ⊎_elim
+    (λ some. inl (record { some = some; low = late; high = met.high }))
+    (λ none. inr (record { some = omega (arith, none, met.some); low = met.low; high = omega (arith, none, met.high) }))
+    (cases_lt middle end))
+    (λ early. inr (record { some = omega (arith, early, met.low); low = met.low; high = omega (arith, early) }))
+    (cases_lt middle (i * 32 + 32))
 
 -- one part after another
 pub PutsPages-then : (a b d : List Node) (fa fb fd : List Frame) (root tree first middle end s t : ℕ) → IsApart a root tree → first ≤ middle → middle ≤ end → PutsPages a b fa fb root tree first middle s → PutsPages b d fb fd root tree middle end t → PutsPages a d fa fd root tree first end (s + t)
@@ -122,6 +154,18 @@ PutsPages-then a b d fa fb fd root tree first middle end s t apart low high ab b
       before = λ p lt. bd.before p (omega (arith, lt, low)) ∙ ab.before p lt;
       after = λ p gt lt. bd.after p gt lt ∙ ab.after p (omega (arith, gt, high)) lt;
       short = λ i gt. bd.short i gt ∙ ab.short i (omega (arith, gt, high));
+      shorter = λ i beyond.
+          let one = ab.shorter i (beyond-head first middle end i high beyond) in
+          let two = bd.shorter i (beyond-tail first middle end i low beyond) in
+          omega (arith, one, two);
+      parted = λ i met beyond.
+          ⊎_elim
+          (λ tail. bd.parted i tail (beyond-tail first middle end i low beyond))
+          (λ head.
+          let none = ab.parted i head (beyond-head first middle end i high beyond) in
+          let less = bd.shorter i (beyond-tail first middle end i low beyond) in
+          omega (arith, none, less))
+          (met-part first middle end i met);
       entries = λ i gt. bd.entries i gt ∙ ab.entries i (omega (arith, gt, high));
       free = omega (arith, ab.free, bd.free);
     }
@@ -142,6 +186,10 @@ PutsPages-as old new frames frames' root tree first end first' end' s t ef ee le
       before = λ p lt. puts.before p (omega (arith, ef, lt));
       after = λ p gt lt. puts.after p (omega (arith, ee, gt)) lt;
       short = λ i gt. puts.short i (omega (arith, ee, gt));
+      shorter = λ i beyond. puts.shorter i (⊎_elim (λ low. inl (omega (arith, low, ef))) (λ high. inr (omega (arith, high, ee))) beyond);
+      parted = λ i met beyond.
+          puts.parted i (record { some = omega (arith, met.some, ef, ee); low = omega (arith, met.low, ef); high = omega (arith, met.high, ee) })
+          (⊎_elim (λ low. inl (omega (arith, low, ef))) (λ high. inr (omega (arith, high, ee))) beyond);
       entries = λ i gt. puts.entries i (omega (arith, ee, gt));
       free = omega (arith, puts.free, le);
     }
@@ -198,8 +246,31 @@ SharesPages-from old mid new frames middle frames' tree root from first end take
       within = λ p low below. puts.within p low below ∙ still old mid frames middle tree root from p owns.keeps held both;
       before = λ p lt. puts.before p lt ∙ same p (omega (arith, lt, place, order));
       after = λ p gt lt. puts.after p gt lt ∙ same p lt;
+      shorter = λ i beyond. let one = puts.shorter i beyond in let two = owns.short i in omega (arith, one, two);
+      parted = puts.parted;
       free = omega (arith, owns.free, puts.free);
     }
+
+-- there are nodes for the part at the beginning of a range
+pub head-room : (a b : List Node) (fa fb : List Frame) (tree root first end middle : ℕ) → end ≤ 1024 → first ≤ end → middle ≡ head_end first end → OwnsRoot a b fa fb tree root → range_short a tree first end ≤ free_of a → part_short b (root + 1) first middle ≤ free_of b
+head-room a b fa fb tree root first end middle place order is_middle owns free =
+    let cuts = ends-cuts a tree first end place order in
+    let one = part_short-owned a b fa fb tree root first middle owns in
+    let same : part_short a tree first middle ≡ part_short a tree first (head_end first end) = ap (λ x. part_short a tree first x) is_middle in
+    omega (arith, cuts, one, same, owns.free, free)
+
+-- and for the part at its end
+pub tail-room : (a b c d : List Node) (fa fb fc fd : List Frame) (tree root from first end middle tail : ℕ) → end ≤ 1024 → first ≤ end → middle ≡ head_end first end → tail ≡ tail_start first end → OwnsRoot a b fa fb tree root → IsTree a from → ((n : ℕ) → tree ≡ n + 1 → from ≡ n + 1 → 1 < trees_at a n) → PutsPages b c fb fc root from first middle (part_short b (root + 1) first middle) → PutsPages c d fc fd root from middle tail 0 → range_short a tree first end ≤ free_of a → part_short d (root + 1) tail end ≤ free_of d
+tail-room a b c d fa fb fc fd tree root from first end middle tail place order is_middle is_tail owns held both head whole free =
+    let apart = apart-owned a b fa fb tree root from owns.keeps held both in
+    let front = PutsPages-then b c d fb fc fd root from first middle tail (part_short b (root + 1) first middle) 0 apart (omega (arith, is_middle, order)) (omega (arith, is_tail, is_middle)) head whole in
+    let cuts = ends-cuts a tree first end place order in
+    let one = part_short-owned a b fa fb tree root first middle owns in
+    let two = part_short-put b d fb fd root from first tail tail end (part_short b (root + 1) first middle + 0) front (omega arith) (λ some. omega (arith, some, is_tail, is_middle, order)) in
+    let three = part_short-owned a b fa fb tree root tail end owns in
+    let four : part_short a tree first middle ≡ part_short a tree first (head_end first end) = ap (λ x. part_short a tree first x) is_middle in
+    let five : part_short a tree tail end ≡ part_short a tree (tail_start first end) end = ap (λ x. part_short a tree x end) is_tail in
+    omega (arith, cuts, one, two, three, four, five, owns.free, front.free, free)
 
 -- a root of its own, a part, whole leaves, and a part
 pub SharesPages-all : (a b c d e : List Node) (fa fb fc fd fe : List Frame) (tree root from first end middle tail : ℕ) → end ≤ 1024 → first ≤ end → middle ≡ head_end first end → tail ≡ tail_start first end → OwnsRoot a b fa fb tree root → IsTree a from → ((n : ℕ) → tree ≡ n + 1 → from ≡ n + 1 → 1 < trees_at a n) → PutsPages b c fb fc root from first middle (part_short b (root + 1) first middle) → PutsPages c d fc fd root from middle tail 0 → PutsPages d e fd fe root from tail end (part_short d (root + 1) tail end) → SharesPages a e fa fe tree root from first end (range_short a tree first end)
@@ -223,7 +294,9 @@ SharesPages-all a b c d e fa fb fc fd fe tree root from first end middle tail pl
       within = shares.within;
       before = shares.before;
       after = shares.after;
-      free = omega (arith, shares.free, one, two, three, four, five);
+      shorter = shares.shorter;
+      parted = shares.parted;
+      free = let cuts = ends-cuts a tree first end place order in omega (arith, shares.free, one, two, three, four, five, cuts);
     }
 
 -- pages that were shared, as a map
@@ -243,6 +316,41 @@ pages-path old new frames frames' tree root i leaf p path lt = page-from old new
 pub short-path : (nodes : List Node) (root i leaf : ℕ) → IsOwned nodes root → OwnsLeaf nodes root i leaf → root_short nodes (root + 1) + leaf_short nodes (root + 1) i ≡ 0
 short-path nodes root i leaf own owns =
     omega (arith, root_short-own nodes root own, leaf_short-alone nodes root i leaf own owns.leads owns.once)
+
+-- pages outside a range that was shared are no shorter of nodes than before, and those of a leaf that it cuts are short of none
+pub short-outside : (old new : List Node) (frames frames' : List Frame) (tree root from first end taken q : ℕ) → SharesPages old new frames frames' tree root from first end taken → (q < first) ⊎ (end ≤ q) → page_short new (root + 1) q ≤ page_short old tree q
+short-outside old new frames frames' tree root from first end taken q shares outside =
+    let none = root_short-own new root shares.own in
+    let less = shares.shorter (q / 32) (⊎_elim (λ low. inl (omega (arith, low))) (λ high. inr (omega (arith, high))) outside) in
+    omega (arith, none, less)
+
+pub short-cut : (old new : List Node) (frames frames' : List Frame) (tree root from first end taken q : ℕ) → SharesPages old new frames frames' tree root from first end taken → is_cut first end (q / 32) ≡ true → page_short new (root + 1) q ≡ 0
+short-cut old new frames frames' tree root from first end taken q shares cut =
+    let none = root_short-own new root shares.own in
+    let found = cut-from first end (q / 32) cut in
+    let alone = shares.parted (q / 32) found.0 found.1 in
+    omega (arith, none, alone)
+
+-- all pages cut no leaf
+pub cut-not_all : (from to q : ℕ) → from ≡ 0 → to ≡ 1024 → is_cut from to (q / 32) ≡ true → ⊥
+cut-not_all from to q none all cut =
+    let found = cut-from from to (q / 32) cut in
+    ⊎_elim (λ low. omega (arith, low, none)) (λ high. omega (arith, high, all, found.0.high)) found.1
+
+-- no page of a tree with a path of its own is shorter of nodes than before
+pub short-kept_path : (old new : List Node) (frames frames' : List Frame) (tree root i leaf q : ℕ) → OwnsPath old new frames frames' tree root i leaf → page_short new (root + 1) q ≤ page_short old tree q
+short-kept_path old new frames frames' tree root i leaf q path =
+    let short = path.short (q / 32) in
+    omega (arith, root_short-own new root path.own, short)
+
+-- nor once a cell of that path's leaf is written
+pub short-kept_put : (old mid new : List Node) (frames middle frames' : List Frame) (tree root i leaf q : ℕ) (cells : ℕ → ℕ) → OwnsPath old mid frames middle tree root i leaf → PutsLeaf mid new middle frames' root i cells 0 → OwnsLeaf new root i leaf → page_short new (root + 1) q ≤ page_short old tree q
+short-kept_put old mid new frames middle frames' tree root i leaf q cells path puts owns =
+    let none = root_short-own new root puts.own in
+    ⊎_elim
+    (λ here. let alone = short-path new root i leaf puts.own owns in let same = ap (λ x. leaf_short new (root + 1) x) here in omega (arith, none, alone, same))
+    (λ off. let kept = puts.short (q / 32) off in let short = path.short (q / 32) in omega (arith, none, kept, short))
+    (cases_eq (q / 32) i)
 
 pub clear_short-all : (nodes : List Node) (tree from to : ℕ) → from ≡ 0 → to ≡ 1024 → clear_short nodes tree from to ≡ 0
 clear_short-all nodes tree from to zero' all =
@@ -267,15 +375,12 @@ root_short-le : (nodes : List Node) (tree : ℕ) → root_short nodes tree ≤ 1
 unfolding root_short
 root_short-le nodes tree = le-cond (eqb tree 0) 1 (cond (eqb (count_of nodes (tree - 1)) 1) 0 1) (omega arith) (le-cond (eqb (count_of nodes (tree - 1)) 1) 0 1 (omega arith) (omega arith))
 
-part_short-le : (nodes : List Node) (tree first end : ℕ) → part_short nodes tree first end ≤ 1
-part_short-le nodes tree first end = le-cond (ltb first end) (leaf_short nodes tree (first / 32)) 0 (leaf_short-le nodes tree (first / 32)) (omega arith)
-
 pub page_short-le : (nodes : List Node) (tree p : ℕ) → page_short nodes tree p ≤ 2
 page_short-le nodes tree p = omega (arith, root_short-le nodes tree, leaf_short-le nodes tree (p / 32))
 
 pub range_short-le : (nodes : List Node) (tree from to : ℕ) → range_short nodes tree from to ≤ 3
 range_short-le nodes tree from to =
-    omega (arith, root_short-le nodes tree, part_short-le nodes tree from (head_end from to), part_short-le nodes tree (tail_start from to) to)
+    omega (arith, root_short-le nodes tree, cuts-le nodes tree from to)
 
 pub clear_short-le : (nodes : List Node) (tree from to : ℕ) → clear_short nodes tree from to ≤ 3
 clear_short-le nodes tree from to =

@@ -10,6 +10,7 @@ use Rattle.page_tree.specs.Changes.{Keeps}
 use Rattle.page_tree.specs.Steps.{IsOwned, OwnsLeaf, OwnsRoot, OwnsPath, PutsLeaf, CutsAll, leaf_short}
 use Rattle.page_tree.proofs.UsesLemmas.{inside-count}
 use Rattle.page_tree.proofs.KeepsLemmas.{Keeps-refl, Keeps-trans}
+use Rattle.page_tree.proofs.ShortLemmas.{leaf_short-alone}
 
 pub OwnsPath-from : (old mid new : List Node) (frames middle frames' : List Frame) (tree root i leaf : ℕ) → OwnsRoot old mid frames middle tree root → PutsLeaf mid new middle frames' root i (λ j. cell_at mid (root + 1) i j) (leaf_short mid (root + 1) i) → OwnsLeaf new root i leaf → OwnsPath old new frames frames' tree root i leaf
 OwnsPath-from old mid new frames middle frames' tree root i leaf rooted puts owns =
@@ -21,6 +22,11 @@ OwnsPath-from old mid new frames middle frames' tree root i leaf rooted puts own
           ⊎_elim
           (λ here. ap (λ x. cell_at new (root + 1) x j) here ∙ puts.here j j_in ∙ ap (λ x. cell_at mid (root + 1) x j) (sym here) ∙ rooted.cells k j k_in j_in)
           (λ off. puts.there k j off ∙ rooted.cells k j k_in j_in)
+          (cases_eq k i);
+      short = λ k.
+          ⊎_elim
+          (λ here. let none = leaf_short-alone new root i leaf puts.own owns.leads owns.once in let same = ap (λ x. leaf_short new (root + 1) x) here in omega (arith, none, same))
+          (λ off. let kept = puts.short k off in let less = rooted.short k in omega (arith, kept, less))
           (cases_eq k i);
       free = let short = rooted.short i in omega (arith, rooted.free, puts.free, short);
     }

@@ -108,6 +108,40 @@ module _ (old : List Node) (frames : List Frame) (m : ℕ) (sound : IsSound old 
       let b = one_if-no (count_of old m) 0 (λ is. absurd (omega (arith, is, held))) in
       omega (arith, a, b)
 
+-- a root is held once more
+module _ (old : List Node) (frames : List Frame) (m : ℕ) (sound : IsSound old frames) (level : level_of old m ≡ 2) (held : 0 < count_of old m) where
+  abbrev raised : List Node
+  raised = recount old m (count_of old m + 1)
+
+  raised-inside : m < length old
+  raised-inside = inside-count old m held
+
+  pub at-raised : node_at raised m ≡ counted (node_at old m) (count_of old m + 1)
+  at-raised = at-here old m (counted (node_at old m) (count_of old m + 1)) raised-inside
+
+  change-raised : IsRerooted old raised m
+  change-raised =
+      IsRerooted-made old frames sound m (counted (node_at old m) (count_of old m + 1)) raised-inside refl (inl refl) level (λ none i. absurd (omega (arith, none)))
+
+  pub Keeps-raised : Keeps old raised frames frames 0 (m + 1)
+  Keeps-raised =
+      Keeps-reroot old raised frames m 0 (m + 1) sound change-raised
+      (let l = ap (λ node. node.level) at-raised in
+      let c = ap (λ node. node.count) at-raised in
+      let a = trees-is raised m (l ∙ level) in
+      let b = trees-is old m level in
+      let d = is_root-none m in
+      let e = is_root-here m in
+      omega (arith, a, b, c, d, e, held))
+      (λ x _. is_root-none x)
+      (λ x apart. is_root-there m x apart)
+
+  pub free-raised : free_of old ≤ free_of raised
+  free-raised =
+      let a = free_of-set old m (counted (node_at old m) (count_of old m + 1)) raised-inside in
+      let b = one_if-no (count_of old m) 0 (λ is. absurd (omega (arith, is, held))) in
+      omega (arith, a, b)
+
 -- the first leaves are linked
 pub LinksAll-none : (old : List Node) (frames : List Frame) (copy root : ℕ) → IsSound old frames → IsOwned old copy → ((i : ℕ) → entry_of old copy i ≡ 0) → LinksAll old old frames frames copy root 0
 LinksAll-none old frames copy root sound own empty =

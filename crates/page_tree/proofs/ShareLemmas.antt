@@ -63,6 +63,7 @@ PutsLeaves-none old frames root tree first sound own =
       within = λ i j from below _. absurd (omega (arith, from, below));
       before = λ i j _ _. refl;
       after = λ i j _ _ _. refl;
+      early = λ i _. refl;
       short = λ i _. refl;
       entries = λ i _. refl;
       free = omega arith;
@@ -81,6 +82,7 @@ PutsLeaves-more old mid new frames middle frames' root tree first i apart from s
           (cases_eq k i);
       before = λ k j low inside. step.there k j (λ is. absurd (omega (arith, is, low, from))) ∙ so_far.before k j low inside;
       after = λ k j high lt inside. step.there k j (λ is. absurd (omega (arith, is, high))) ∙ so_far.after k j (omega (arith, high)) lt inside;
+      early = λ k low. step.short k (λ is. absurd (omega (arith, is, low, from))) ∙ so_far.early k low;
       short = λ k high. step.short k (λ is. absurd (omega (arith, is, high))) ∙ so_far.short k (omega (arith, high));
       entries = λ k high. step.entries k (λ is. absurd (omega (arith, is, high))) ∙ so_far.entries k (omega (arith, high));
       free = omega (arith, so_far.free, step.free);

@@ -1,6 +1,6 @@
 -- When a root and a leaf are short.
-use Rattle.std.proofs.Common.{◌≡◌, ◌≢◌, ℕ, ◌+◌, ◌-◌, ⊎_elim, cond, eqb, List, sym, ◌∙◌, ap, arith}
-use Rattle.std.proofs.lemmas.Bool.{eq-eqb, ne_eqb, cond-true, cond-false}
+use Rattle.std.proofs.Common.{◌≡◌, ◌≢◌, ℕ, ◌+◌, ◌-◌, ⊎_elim, Bool, true, false, cond, eqb, List, sym, ◌∙◌, ap, arith}
+use Rattle.std.proofs.lemmas.Bool.{cases_eq, eq-eqb, ne_eqb, cond-true, cond-false}
 use Rattle.node_pool.specs.Nodes.{Node, count_of, entry_of}
 use Rattle.page_tree.specs.Pages.{link_of}
 use Rattle.page_tree.specs.Steps.{IsOwned, root_short, leaf_short}
@@ -41,3 +41,14 @@ leaf_short-kept old new n k own own' entry count =
     let same = count some.0 some.1 in
     leaf_short-held new n k some.0 own' (entry ∙ some.1) ∙ ap (λ c. cond (eqb c 1) 0 1) same ∙ sym (leaf_short-held old n k some.0 own some.1))
     (zero_or_more (entry_of old n k))
+
+-- a leaf is short exactly where it is held more than once
+pub leaf_short-tells : (nodes : List Node) (n i m : ℕ) → IsOwned nodes n → entry_of nodes n i ≡ m + 1 → (eqb (count_of nodes m) 1 ≡ true → leaf_short nodes (n + 1) i ≡ 0) × (leaf_short nodes (n + 1) i ≡ 0 → eqb (count_of nodes m) 1 ≡ true)
+leaf_short-tells nodes n i m own leads =
+    ⊎_elim
+    (λ once. ((λ _. leaf_short-alone nodes n i m own leads once), (λ _. eq-eqb (count_of nodes m) 1 once)))
+    (λ more.
+    let short = leaf_short-shared nodes n i m own leads more in
+    let no = ne_eqb (count_of nodes m) 1 more in
+    ((λ yes. absurd (cc (no, yes))), (λ none. absurd (omega (arith, short, none)))))
+    (cases_eq (count_of nodes m) 1)

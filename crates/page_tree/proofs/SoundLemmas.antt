@@ -114,11 +114,11 @@ module _ (old : List Node) (frames : List Frame) (sound : IsSound old frames) wh
               ⊎_elim
               (λ kind.
               ⊎_elim
-              (λ was. ⊎_elim (λ l. inl (kind ∙ l)) (λ l. inr (kind ∙ l)) (sound.levels x was))
+              (λ was. let both = sound.levels x was in (omega (arith, kind, both.0), omega (arith, kind, both.1)))
               (λ not_was.
-              ⊎_elim (λ is. inl (can.leaf x is)) (λ no. let none = one_if-no v (x + 1) no in let count = change.counts x in absurd (omega (arith, none, count, held, not_was))) (cases_eq v (x + 1)))
+              ⊎_elim (λ is. let leaf = can.leaf x is in (omega (arith, leaf), omega (arith, leaf))) (λ no. let none = one_if-no v (x + 1) no in let count = change.counts x in absurd (omega (arith, none, count, held, not_was))) (cases_eq v (x + 1)))
               (cases_lt 0 (count_of old x)))
-              (λ fresh. inl fresh.1)
+              (λ fresh. (omega (arith, fresh.1), omega (arith, fresh.1)))
               (change.level x);
           held = held';
           leaves = leaves';
@@ -139,6 +139,10 @@ module _ (old : List Node) (frames : List Frame) (sound : IsSound old frames) wh
           framed = λ f. omega (arith, change.naming (f + 2) (omega arith), sound.framed f);
           near = λ f. omega (arith, change.naming (f + 2) (omega arith), sound.near f);
         }
+
+-- a level is that of a leaf or that of a root
+pub level-cases : (l : ℕ) → (1 ≤ l) × (l ≤ 2) → (l ≡ 1) ⊎ (l ≡ 2)
+level-cases l both = ⊎_elim (λ is. inl is) (λ off. inr (omega (arith, both.0, both.1, off))) (cases_eq l 1)
 
 -- one root is held more or less often, or anew
 pub record IsRerooted (old new : List Node) (m : ℕ) : Type 0 where
@@ -173,10 +177,10 @@ module _ (old new : List Node) (frames : List Frame) (m : ℕ) (sound : IsSound 
             entry-same x k ∙ ⊎_elim (λ is. ap (λ y. entry_of old y k) is ∙ change.clean k (ap (λ y. count_of new y) (sym is) ∙ free)) (λ apart. sound.clean x k (sym (change.counts x apart) ∙ free)) (cases_eq x m);
         levels = λ x held.
             ⊎_elim
-            (λ is. inr (ap (λ y. level_of new y) is ∙ change.root))
+            (λ is. let root = ap (λ y. level_of new y) is ∙ change.root in (omega (arith, root), omega (arith, root)))
             (λ apart.
             ⊎_elim
-            (λ kind. ⊎_elim (λ l. inl (kind ∙ l)) (λ l. inr (kind ∙ l)) (sound.levels x (omega (arith, change.counts x apart, held))))
+            (λ kind. let both = sound.levels x (omega (arith, change.counts x apart, held)) in (omega (arith, kind, both.0), omega (arith, kind, both.1)))
             (λ fresh. absurd (apart fresh.0))
             (change.level x))
             (cases_eq x m);
@@ -241,7 +245,10 @@ module _ (old new : List Node) (frames frames' : List Frame) (m j v : ℕ) (soun
             (λ is. let c = change.counts x in let same = ap (λ y. count_of old y) is in absurd (omega (arith, c, same, change.held, free)))
             (λ apart. ap (λ es. get_or es k 0) (change.there x apart) ∙ sound.clean x k (sym (change.counts x) ∙ free))
             (cases_eq x m);
-        levels = λ x held. ⊎_elim (λ l. inl (change.level x ∙ l)) (λ l. inr (change.level x ∙ l)) (sound.levels x (omega (arith, change.counts x, held)));
+        levels = λ x held.
+            let both = sound.levels x (omega (arith, change.counts x, held)) in
+            let kind = change.level x in
+            (omega (arith, kind, both.0), omega (arith, kind, both.1));
         held = λ q k y l is. omega (arith, change.counts y, sound.held q k y (sym (change.level q) ∙ l) (sym (root_entry q k l) ∙ is));
         leaves = λ q k y l is. change.level y ∙ sound.leaves q k y (sym (change.level q) ∙ l) (sym (root_entry q k l) ∙ is);
         counted = λ y l. omega (arith, change.counts y, change.leading (y + 1) (omega arith), sound.counted y (sym (change.level y) ∙ l));

@@ -230,7 +230,7 @@ pub named-held : (nodes : List Node) (frames : List Frame) (m j f : ℕ) → IsS
 named-held nodes frames m j f sound leaf is =
     omega (arith, uses-some 1 nodes m j (f + 2) (omega arith) leaf is (omega arith), sound.framed f)
 
-module _ (old : List Node) (frames mid frames' : List Frame) (n i m j v : ℕ) (sound : IsSound old frames) (own : IsOwned old n) (owns : OwnsLeaf old n i m) (place : j < 32) (more : HoldsMore frames mid v) (less : HoldsLess mid frames' (entry_of old m j)) where
+module _ (old : List Node) (frames mid frames' : List Frame) (n i m j v : ℕ) (sound : IsSound old frames) (own : IsOwned old n) (owns : OwnsLeaf old n i m) (place : j < 32) (named : (f : ℕ) → v ≡ f + 2 → 0 < frame_count frames f) (more : HoldsMore frames mid v) (less : HoldsLess mid frames' (entry_of old m j)) where
   abbrev written : List Node
   written = enter old m j v
 
@@ -284,7 +284,7 @@ module _ (old : List Node) (frames mid frames' : List Frame) (n i m j v : ℕ) (
   pub PutsLeaf-written : PutsLeaf old written frames frames' n i (λ k. cond (eqb k j) v (cell_at old (n + 1) i k)) 0
   PutsLeaf-written =
       record {
-        keeps = Keeps-write old written frames frames' n i m j v sound own.level own.once owns.leads owns.once change-written (λ f. less.stamps f ∙ more.stamps f) (λ f. less.bytes f ∙ more.bytes f);
+        keeps = Keeps-write old written frames frames' n i m j v sound own.level own.once owns.leads owns.once change-written named (λ f. less.stamps f ∙ more.stamps f) (λ f. less.bytes f ∙ more.bytes f);
         own = record { level = change-written.level n ∙ own.level; once = change-written.counts n ∙ own.once };
         here = λ k _.
             let leads = link_of-tree old n i ∙ owns.leads in

@@ -25,8 +25,10 @@ abbrev pub KeepsShared : List Node → List Node → ℕ → Type 0
 KeepsShared old new tree =
     (n : ℕ) → 0 < count_of old n → (1 < count_of old n) ⊎ (¬ IsReached old tree n) → entries_of new n ≡ entries_of old n
 
--- each frame has its bytes and its stamp, and is held more or less by just as much as more or fewer entries name it
+-- there are as many frames, a free one stays free, and each has its bytes and its stamp and is held more or less by just as much as more or fewer entries name it
 pub record KeepsFrames (old new : List Node) (frames frames' : List Frame) : Type 0 where
+  pub size : length frames' ≡ length frames
+  pub free : (f : ℕ) → frame_count frames f ≡ 0 → frame_count frames' f ≡ 0
   pub holds : (f : ℕ) → frame_count frames' f + naming old f ≡ frame_count frames f + naming new f
   pub stamps : (f : ℕ) → frame_stamp frames' f ≡ frame_stamp frames f
   pub bytes : (f : ℕ) → frame_bytes frames' f ≡ frame_bytes frames f

@@ -1,5 +1,5 @@
 -- A tree as a map from pages to cells.
-use Rattle.std.specs.Prelude.{ℕ, ◌+◌, ◌-◌, ◌/◌, ◌%◌, ◌==◌, if◌then◌else◌, List, [], slice_index}
+use Rattle.std.specs.Prelude.{ℕ, ◌+◌, ◌-◌, ◌*◌, ◌/◌, ◌%◌, ◌==◌, ◌&&◌, if◌then◌else◌, Bool, not, max, min, nat_le, nat_lt, List, [], slice_index}
 use Rattle.node_pool.specs.declared.pool.TheConstants.{NODE_ENTRIES}
 use Rattle.node_pool.specs.Nodes.{Node, node_at, entry_of}
 use Rattle.page_tree.specs.declared.cell.PageCell.{PageCell}
@@ -34,3 +34,15 @@ cell_at nodes tree i j = slice_index (cells_of nodes (link_of nodes tree i)) j
 -- what a tree has for a page
 unfoldable pub page : List Node → ℕ → ℕ → PageCell
 page nodes tree p = cell_of (cell_at nodes tree (p / NODE_ENTRIES) (p % NODE_ENTRIES))
+
+-- whether a range of pages has pages of a leaf
+abbrev pub meets_leaf : ℕ → ℕ → ℕ → Bool
+meets_leaf from to i = nat_lt (max from (i * NODE_ENTRIES)) (min to (i * NODE_ENTRIES + NODE_ENTRIES))
+
+-- whether a range of pages has all pages of a leaf
+abbrev pub covers_leaf : ℕ → ℕ → ℕ → Bool
+covers_leaf from to i = nat_le from (i * NODE_ENTRIES) && nat_le (i * NODE_ENTRIES + NODE_ENTRIES) to
+
+-- whether a range of pages has some pages of a leaf, and not all
+abbrev pub is_cut : ℕ → ℕ → ℕ → Bool
+is_cut from to i = meets_leaf from to i && not (covers_leaf from to i)

@@ -1,5 +1,5 @@
 -- When a store of nodes and frames is sound.
-use Rattle.std.specs.Prelude.{◌≡◌, ℕ, ◌+◌, ◌^◌, ◌<◌, ◌≤◌, ◌==◌, ◌⊎◌, if◌then◌else◌, Bool, List, length, sum_by, count_by}
+use Rattle.std.specs.Prelude.{◌≡◌, ℕ, ◌+◌, ◌^◌, ◌<◌, ◌≤◌, ◌==◌, if◌then◌else◌, Bool, List, length, sum_by, count_by}
 use Rattle.frame_pool.specs.Frame.{Frame, frame_count}
 use Rattle.node_pool.specs.declared.pool.TheConstants.{NODE_ENTRIES}
 use Rattle.node_pool.specs.Nodes.{Node, count_of, level_of, entry_of}
@@ -32,7 +32,7 @@ pub record IsSound (nodes : List Node) (frames : List Frame) : Type 0 where
   pub few_frames : length frames ≤ 65536
   pub shape : (n : ℕ) → n < length nodes → length (entries_of nodes n) ≡ NODE_ENTRIES
   pub clean : (n i : ℕ) → count_of nodes n ≡ 0 → entry_of nodes n i ≡ 0
-  pub levels : (n : ℕ) → 0 < count_of nodes n → (level_of nodes n ≡ LEAF_LEVEL) ⊎ (level_of nodes n ≡ ROOT_LEVEL)
+  pub levels : (n : ℕ) → 0 < count_of nodes n → (LEAF_LEVEL ≤ level_of nodes n) × (level_of nodes n ≤ ROOT_LEVEL)
   pub held : (n i m : ℕ) → level_of nodes n ≡ ROOT_LEVEL → entry_of nodes n i ≡ m + 1 → 0 < count_of nodes m
   pub leaves : (n i m : ℕ) → level_of nodes n ≡ ROOT_LEVEL → entry_of nodes n i ≡ m + 1 → level_of nodes m ≡ LEAF_LEVEL
   pub counted : (n : ℕ) → level_of nodes n ≡ LEAF_LEVEL → count_of nodes n ≡ leading_to nodes n

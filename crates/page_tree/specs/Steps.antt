@@ -1,5 +1,5 @@
 -- What the small steps of a change do: words of the functions that trees are made of.
-use Rattle.std.specs.Prelude.{◌≡◌, ◌≢◌, ℕ, ◌+◌, ◌-◌, ◌*◌, ◌/◌, ◌%◌, ◌<◌, ◌≤◌, ◌==◌, if◌then◌else◌, List, length, Option, Some, None}
+use Rattle.std.specs.Prelude.{◌≡◌, ◌≢◌, ℕ, ◌+◌, ◌-◌, ◌*◌, ◌/◌, ◌%◌, ◌<◌, ◌≤◌, ◌==◌, ◌⊎◌, if◌then◌else◌, List, length, Option, Some, None}
 use Rattle.frame_pool.specs.Frame.{Frame, frame_count, frame_stamp, frame_bytes}
 use Rattle.node_pool.specs.declared.pool.NodeNo.{NodeNo}
 use Rattle.node_pool.specs.declared.pool.TheConstants.{NODE_ENTRIES}
@@ -78,6 +78,16 @@ pub record OwnsRoot (old new : List Node) (frames frames' : List Frame) (tree ro
 abbrev pub IsApart : List Node → ℕ → ℕ → Type 0
 IsApart nodes root tree = (t : ℕ) → tree ≡ t + 1 → is_root (root + 1) t < trees_at nodes t
 
+-- a range of pages has pages of a leaf
+pub record IsMet (first end i : ℕ) : Type 0 where
+  pub some : first < end
+  pub low : first < i * NODE_ENTRIES + NODE_ENTRIES
+  pub high : i * NODE_ENTRIES < end
+
+-- a leaf has pages that a range of pages does not have
+abbrev pub IsBeyond : ℕ → ℕ → ℕ → Type 0
+IsBeyond first end i = (i * NODE_ENTRIES < first) ⊎ (end < i * NODE_ENTRIES + NODE_ENTRIES)
+
 -- the first leaves of an owned root have the cells of another tree now, and all others theirs
 pub record PutsLeaves (old new : List Node) (frames frames' : List Frame) (root tree first end : ℕ) : Type 0 where
   pub keeps : Keeps old new frames frames' (root + 1) (root + 1)
@@ -85,6 +95,7 @@ pub record PutsLeaves (old new : List Node) (frames frames' : List Frame) (root 
   pub within : (i j : ℕ) → first ≤ i → i < end → j < NODE_ENTRIES → cell_at new (root + 1) i j ≡ cell_at old tree i j
   pub before : (i j : ℕ) → i < first → j < NODE_ENTRIES → cell_at new (root + 1) i j ≡ cell_at old (root + 1) i j
   pub after : (i j : ℕ) → end ≤ i → i < NODE_ENTRIES → j < NODE_ENTRIES → cell_at new (root + 1) i j ≡ cell_at old (root + 1) i j
+  pub early : (i : ℕ) → i < first → leaf_short new (root + 1) i ≡ leaf_short old (root + 1) i
   pub short : (i : ℕ) → end ≤ i → leaf_short new (root + 1) i ≡ leaf_short old (root + 1) i
   pub entries : (i : ℕ) → end ≤ i → entry_of new root i ≡ entry_of old root i
   pub free : free_of old ≤ free_of new
@@ -101,12 +112,13 @@ pub record LinksAll (old new : List Node) (frames frames' : List Frame) (copy ro
 abbrev pub IsRooted : List Node → ℕ → Type 0
 IsRooted nodes tree = (t : ℕ) → tree ≡ t + 1 → 0 < trees_at nodes t
 
--- a tree has a root and a leaf of its own now on the way to some page, and all its cells
+-- a tree has a root and a leaf of its own now on the way to some page, all its cells, and no leaf that is shorter of nodes
 pub record OwnsPath (old new : List Node) (frames frames' : List Frame) (tree root i leaf : ℕ) : Type 0 where
   pub keeps : Keeps old new frames frames' tree (root + 1)
   pub own : IsOwned new root
   pub owns : OwnsLeaf new root i leaf
   pub cells : (k j : ℕ) → k < NODE_ENTRIES → j < NODE_ENTRIES → cell_at new (root + 1) k j ≡ cell_at old tree k j
+  pub short : (k : ℕ) → leaf_short new (root + 1) k ≤ leaf_short old tree k
   pub free : free_of old ≤ free_of new + (root_short old tree + leaf_short old tree i)
 
 -- the first leaves of a root are cut off
@@ -128,6 +140,8 @@ pub record PutsPages (old new : List Node) (frames frames' : List Frame) (root t
   pub before : (p : ℕ) → p < first → page_entry new (root + 1) p ≡ page_entry old (root + 1) p
   pub after : (p : ℕ) → end ≤ p → p < PAGES → page_entry new (root + 1) p ≡ page_entry old (root + 1) p
   pub short : (i : ℕ) → end ≤ i * NODE_ENTRIES → leaf_short new (root + 1) i ≡ leaf_short old (root + 1) i
+  pub shorter : (i : ℕ) → IsBeyond first end i → leaf_short new (root + 1) i ≤ leaf_short old (root + 1) i
+  pub parted : (i : ℕ) → IsMet first end i → IsBeyond first end i → leaf_short new (root + 1) i ≡ 0
   pub entries : (i : ℕ) → end ≤ i * NODE_ENTRIES → entry_of new root i ≡ entry_of old root i
   pub free : free_of old ≤ free_of new + taken
 
@@ -138,4 +152,6 @@ pub record SharesPages (old new : List Node) (frames frames' : List Frame) (tree
   pub within : (p : ℕ) → first ≤ p → p < end → page_entry new (root + 1) p ≡ page_entry old from p
   pub before : (p : ℕ) → p < first → page_entry new (root + 1) p ≡ page_entry old tree p
   pub after : (p : ℕ) → end ≤ p → p < PAGES → page_entry new (root + 1) p ≡ page_entry old tree p
+  pub shorter : (i : ℕ) → IsBeyond first end i → leaf_short new (root + 1) i ≤ leaf_short old tree i
+  pub parted : (i : ℕ) → IsMet first end i → IsBeyond first end i → leaf_short new (root + 1) i ≡ 0
   pub free : free_of old ≤ free_of new + taken

@@ -42,6 +42,20 @@ impl Store {
         self.nodes.drop_hold(root, steps);
     }
 
+    /// Holds a root once more, for another tree.
+    pub(crate) fn hold_root<L: Ledger>(&mut self, root: NodeNo, steps: &mut Steps<L>)
+        requires sound { IsSound self.old.nodes self.old.frames }
+        requires level { level_of self.old.nodes root.n ≡ ROOT_LEVEL }
+        requires held { 0 < count_of self.old.nodes root.n }
+        requires fits { count_of self.old.nodes root.n + 1 < 2 ^ 32 }
+        ensures keeps { Keeps self.old.nodes self.new.nodes self.old.frames self.new.frames 0 (root.n + 1) }
+        ensures free { free_of self.old.nodes ≤ free_of self.new.nodes }
+        ensures frames { self.new.frames ≡ self.old.frames }
+        ensures one_step { steps.new ≡ steps.old + 1 }
+    {
+        self.nodes.hold(root, steps);
+    }
+
     /// Lets the entries of an empty root lead to the leaves of another.
     fn link_all<L: Ledger>(&mut self, copy: NodeNo, root: NodeNo, steps: &mut Steps<L>)
         requires sound { IsSound self.old.nodes self.old.frames }

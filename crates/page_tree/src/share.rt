@@ -107,6 +107,7 @@ impl Store {
             (λ j. if nat_le first j && nat_lt j end then cell_at self.old.nodes (tree_of from) i j
             else cell_at self.old.nodes (root.n + 1) i j)
             (leaf_short self.old.nodes (root.n + 1) i) }
+        ensures alone { leaf_short self.new.nodes (root.n + 1) i ≡ 0 }
         ensures cost { steps.new ≤ steps.old + 2 }
         ensures cost_absent { entry_of self.old.nodes root.n i ≡ 0 → steps.new ≤ steps.old + 1 }
     {
@@ -133,6 +134,7 @@ impl Store {
         ensures puts { PutsLeaf self.old.nodes self.new.nodes self.old.frames self.new.frames root.n i
             (λ j. if nat_le first j && nat_lt j end then cell_at self.old.nodes (tree_of from) i j
             else cell_at self.old.nodes (root.n + 1) i j) 0 }
+        ensures owns { OwnsLeaf self.new.nodes root.n i leaf.n }
     {
         'cells: for j in first..end {
             let cell = self.cell(from, i, j);

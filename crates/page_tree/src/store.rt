@@ -1,4 +1,4 @@
-ghost use Rattle.std.specs.Prelude.{◌≡◌, ◌≢◌, ℕ, ◌+◌, ◌-◌, ◌^◌, ◌<◌, ◌≤◌, ◌==◌, if◌then◌else◌, IfOk, IfSome, IfNone, length, List, replicate};
+ghost use Rattle.std.specs.Prelude.{◌≡◌, ◌≢◌, ℕ, ◌+◌, ◌-◌, ◌^◌, ◌<◌, ◌≤◌, ◌==◌, if◌then◌else◌, ◌↔◌, true, IfOk, IfSome, IfNone, length, List, replicate};
 ghost use Rattle.frame_pool.specs.Frame.{frame_count, zero_frame};
 ghost use Rattle.node_pool.specs.declared.pool.TheConstants.{NODE_ENTRIES};
 ghost use Rattle.node_pool.specs.Nodes.{node_at, count_of, level_of, entry_of, counted, empty_node, free_of};
@@ -78,6 +78,19 @@ impl Store {
         match self.nodes.entry(root, i) {
             0 => None,
             link => Some(NodeNo { n: link - 1 }),
+        }
+    }
+
+    /// Whether an entry of a root leads to a leaf that is held once.
+    pub(crate) fn owns_leaf(&self, root: NodeNo, i: usize) -> bool
+        requires sound { IsSound self.now.nodes self.now.frames }
+        requires own { IsOwned self.now.nodes root.n }
+        requires place { i < NODE_ENTRIES }
+        ensures { (result ≡ true) ↔ (leaf_short self.now.nodes (root.n + 1) i ≡ 0) }
+    {
+        match self.leaf_at(root, i) {
+            None => false,
+            Some(leaf) => self.nodes.count(leaf) == 1,
         }
     }
 

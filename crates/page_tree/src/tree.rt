@@ -1,11 +1,11 @@
-ghost use Rattle.std.specs.Prelude.{◌≡◌, ◌≢◌, ℕ, ◌+◌, ◌/◌, ◌<◌, ◌≤◌};
+ghost use Rattle.std.specs.Prelude.{◌≡◌, ◌≢◌, ℕ, ◌+◌, ◌/◌, ◌^◌, ◌<◌, ◌≤◌, ◌↔◌, true};
 ghost use Rattle.frame_pool.specs.Frame.{frame_count};
 ghost use Rattle.node_pool.specs.declared.pool.TheConstants.{NODE_ENTRIES};
 ghost use Rattle.node_pool.specs.Nodes.{free_of};
 ghost use Rattle.page_tree.specs.declared.cell.PageCell.TheVariants.{Absent};
 ghost use Rattle.page_tree.specs.declared.store.TheConstants.{PAGES};
 ghost use Rattle.page_tree.specs.Changes.{KeepsFrames, KeepsMaps, KeepsShared, KeepsTrees};
-ghost use Rattle.page_tree.specs.Pages.{entry_for, page};
+ghost use Rattle.page_tree.specs.Pages.{entry_for, is_cut, page};
 ghost use Rattle.page_tree.specs.Short.{page_short, range_short, clear_short};
 ghost use Rattle.page_tree.specs.Sound.{IsSound, IsTree, trees_at};
 ghost use Rattle.page_tree.specs.Steps.{root_short};
@@ -43,6 +43,27 @@ impl PageTree {
         PageTree { root: None }
     }
 
+    /// Another tree with all pages of this one: its root is held once more, and no node is taken.
+    pub fn held_too<L: Ledger>(&self, store: &mut Store, steps: &mut Steps<L>) -> PageTree
+        requires sound { IsSound store.old.nodes store.old.frames }
+        requires tree { IsTree store.old.nodes self.now }
+        requires few { (n : ℕ) → self.now ≡ n + 1 → trees_at store.old.nodes n + 1 < 2 ^ 31 }
+
+        ensures same { result ≡ self.now }
+        ensures sound { IsSound store.new.nodes store.new.frames }
+        ensures tree { IsTree store.new.nodes result }
+        ensures trees { KeepsTrees store.old.nodes store.new.nodes 0 result }
+        ensures maps { KeepsMaps store.old.nodes store.new.nodes 0 }
+        ensures frames { KeepsFrames store.old.nodes store.new.nodes store.old.frames store.new.frames }
+        ensures free { free_of store.old.nodes ≤ free_of store.new.nodes }
+        ensures cost { steps.new ≤ steps.old + 1 }
+    {
+        if let Some(root) = self.root {
+            store.hold_root(root, steps);
+        }
+        PageTree { root: self.root }
+    }
+
     /// What the tree has for a page.
     pub fn get(&self, store: &Store, p: u16) -> PageCell
         requires sound { IsSound store.now.nodes store.now.frames }
@@ -52,6 +73,19 @@ impl PageTree {
     {
         let p = p as usize;
         store.cell(self.root, p / NODE_ENTRIES, p % NODE_ENTRIES)
+    }
+
+    /// Whether nobody else holds the nodes on the way to a page, and all of them are there.
+    pub fn is_alone(&self, store: &Store, p: u16) -> bool
+        requires sound { IsSound store.now.nodes store.now.frames }
+        requires tree { IsTree store.now.nodes self.now }
+        requires page { p < PAGES }
+        ensures { (result ≡ true) ↔ (page_short store.now.nodes self.now p ≡ 0) }
+    {
+        match self.root {
+            None => false,
+            Some(root) => store.nodes.count(root) == 1 && store.owns_leaf(root, p as usize / NODE_ENTRIES),
+        }
     }
 
     /// Makes a page of the tree that cell. Its frame is held once more, and that of the old cell once less.
@@ -69,7 +103,8 @@ impl PageTree {
         requires free { page_short store.old.nodes self.old p ≤ free_of store.old.nodes }
 
         ensures page { page store.new.nodes self.new p ≡ cell }
-        ensures alone { root_short store.new.nodes self.new ≡ 0 }
+        ensures alone { page_short store.new.nodes self.new p ≡ 0 }
+        ensures short { (q : ℕ) → page_short store.new.nodes self.new q ≤ page_short store.old.nodes self.old q }
         ensures pages { (q : ℕ) → q ≢ p → q < PAGES → page store.new.nodes self.new q ≡ page store.old.nodes self.old q }
 
         ensures sound { IsSound store.new.nodes store.new.frames }
@@ -101,6 +136,7 @@ impl PageTree {
         requires free { page_short store.old.nodes self.old p ≤ free_of store.old.nodes }
 
         ensures alone { page_short store.new.nodes self.new p ≡ 0 }
+        ensures short { (q : ℕ) → page_short store.new.nodes self.new q ≤ page_short store.old.nodes self.old q }
         ensures pages { (q : ℕ) → q < PAGES → page store.new.nodes self.new q ≡ page store.old.nodes self.old q }
 
         ensures sound { IsSound store.new.nodes store.new.frames }
@@ -110,6 +146,7 @@ impl PageTree {
         ensures shared { KeepsShared store.old.nodes store.new.nodes self.old }
         ensures frames { KeepsFrames store.old.nodes store.new.nodes store.old.frames store.new.frames }
         ensures free { free_of store.old.nodes ≤ free_of store.new.nodes + page_short store.old.nodes self.old p }
+        ensures grows { (f : ℕ) → frame_count store.old.frames f ≤ frame_count store.new.frames f }
         ensures cost { steps.new ≤ steps.old + 36 }
     {
         let path = store.own_path(self.root, p as usize / NODE_ENTRIES, steps);
@@ -134,6 +171,12 @@ impl PageTree {
         requires free { range_short store.old.nodes self.old range.from range.to ≤ free_of store.old.nodes }
 
         ensures alone { root_short store.new.nodes self.new ≡ 0 }
+        ensures short_before { (q : ℕ) → q < range.from →
+            page_short store.new.nodes self.new q ≤ page_short store.old.nodes self.old q }
+        ensures short_after { (q : ℕ) → range.to ≤ q → q < PAGES →
+            page_short store.new.nodes self.new q ≤ page_short store.old.nodes self.old q }
+        ensures cut { (q : ℕ) → is_cut range.from range.to (q / NODE_ENTRIES) ≡ true →
+            page_short store.new.nodes self.new q ≡ 0 }
         ensures within { (q : ℕ) → range.from ≤ q → q < range.to →
             page store.new.nodes self.new q ≡ page store.old.nodes from.now q }
         ensures before { (q : ℕ) → q < range.from → page store.new.nodes self.new q ≡ page store.old.nodes self.old q }
@@ -167,6 +210,12 @@ impl PageTree {
         requires free { clear_short store.old.nodes self.old range.from range.to ≤ free_of store.old.nodes }
 
         ensures all { range.from ≡ 0 → range.to ≡ PAGES → self.new ≡ 0 }
+        ensures short_before { (q : ℕ) → q < range.from →
+            page_short store.new.nodes self.new q ≤ page_short store.old.nodes self.old q }
+        ensures short_after { (q : ℕ) → range.to ≤ q → q < PAGES →
+            page_short store.new.nodes self.new q ≤ page_short store.old.nodes self.old q }
+        ensures cut { (q : ℕ) → is_cut range.from range.to (q / NODE_ENTRIES) ≡ true →
+            page_short store.new.nodes self.new q ≡ 0 }
         ensures within { (q : ℕ) → range.from ≤ q → q < range.to → page store.new.nodes self.new q ≡ Absent }
         ensures before { (q : ℕ) → q < range.from → page store.new.nodes self.new q ≡ page store.old.nodes self.old q }
         ensures after { (q : ℕ) → range.to ≤ q → q < PAGES →

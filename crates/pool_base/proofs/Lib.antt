@@ -1,3 +1,4 @@
 pub mod PaddedLemmas
 pub mod PairedLemmas
 pub mod StackLemmas
+pub mod Totals

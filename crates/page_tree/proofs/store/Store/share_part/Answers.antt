@@ -15,7 +15,7 @@ share_cells-requires-clause-free g c =
 pub returns-then-first-end-clause-puts : goal.returns-then-first-end-clause-puts
 returns-then-first-end-clause-puts g c =
     PutsPages-as _ _ _ _ _ _ _ _ _ _ _ _ refl refl (omega (arith, part_short-some c.args.self.now.nodes (c.args.root.n + 1) c.args.first c.args.end c.if-first-end.true))
-    (PutsPages-leaf _ _ _ _ _ _ c.args.first c.args.end c.if-first-end.true (c.requires.one c.if-first-end.true) c.share_cells.ensures.puts)
+    (PutsPages-leaf _ _ _ _ _ _ c.args.first c.args.end c.if-first-end.true (c.requires.one c.if-first-end.true) c.share_cells.ensures.puts c.share_cells.ensures.alone)
 
 pub returns-else-first-end-clause-puts : goal.returns-else-first-end-clause-puts
 returns-else-first-end-clause-puts g c =

@@ -18,13 +18,13 @@ pub returns-clause-puts : goal.returns-clause-puts
 returns-clause-puts c =
     let less = rw (c.cell_from-old.ensures.entry, c.entry.ensures) at c.drop_cell.ensures in
     rw (c.set_entry.ensures, c.entry_from.ensures)
-    (PutsLeaf-written _ _ _ _ _ _ _ _ _ c.requires.sound c.requires.own c.requires.owns c.requires.cell c.hold_cell.ensures less)
+    (PutsLeaf-written _ _ _ _ _ _ _ _ _ c.requires.sound c.requires.own c.requires.owns c.requires.cell c.requires.held c.hold_cell.ensures less)
 
 pub returns-clause-others : goal.returns-clause-others
 returns-clause-others c = λ x apart.
     let less = rw (c.cell_from-old.ensures.entry, c.entry.ensures) at c.drop_cell.ensures in
     rw (c.set_entry.ensures, c.entry_from.ensures)
-    (off-written _ _ _ _ _ _ _ _ _ c.requires.sound c.requires.own c.requires.owns c.requires.cell c.hold_cell.ensures less x apart)
+    (off-written _ _ _ _ _ _ _ _ _ c.requires.sound c.requires.own c.requires.owns c.requires.cell c.requires.held c.hold_cell.ensures less x apart)
 
 pub returns-clause-holds : goal.returns-clause-holds
 returns-clause-holds c = λ f.

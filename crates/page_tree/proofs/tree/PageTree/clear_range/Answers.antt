@@ -1,5 +1,5 @@
-use Rattle.std.proofs.Common.{◌∙◌}
-use Rattle.page_tree.proofs.PageLemmas.{page-none, pages-within, pages-before, pages-after}
+use Rattle.std.proofs.Common.{◌∙◌, inl, inr, arith}
+use Rattle.page_tree.proofs.PageLemmas.{page-none, pages-within, pages-before, pages-after, short-outside, short-cut, cut-not_all}
 use Rattle.page_tree.proofs.PageLemmas.{pages-other}
 use Rattle.page_tree.proofs.EntriesLemmas.{kept-entries}
 use Rattle.page_tree.proofs.tree.PageTree.clear_range.Goals as goal
@@ -33,3 +33,20 @@ returns-in-Some-clause-maps g c = rw (← c.self.view_is, c.in-Some.is) (λ t p 
 
 pub returns-in-Some-clause-shared : goal.returns-in-Some-clause-shared
 returns-in-Some-clause-shared g c = rw (← c.self.view_is, c.in-Some.is) (kept-entries _ _ _ _ _ c.requires.sound c.give_up.ensures.keeps.trees)
+
+pub returns-else-first-eq0-clause-short_before : goal.returns-else-first-eq0-clause-short_before
+returns-else-first-eq0-clause-short_before g c = λ q low.
+    rw (← c.self.view_is) (short-outside _ _ _ _ _ _ _ _ _ _ q c.share_pages.ensures.shares (inl low))
+
+pub returns-else-first-eq0-clause-short_after : goal.returns-else-first-eq0-clause-short_after
+returns-else-first-eq0-clause-short_after g c = λ q high _.
+    rw (← c.self.view_is) (short-outside _ _ _ _ _ _ _ _ _ _ q c.share_pages.ensures.shares (inr high))
+
+pub returns-else-first-eq0-clause-cut : goal.returns-else-first-eq0-clause-cut
+returns-else-first-eq0-clause-cut g c = λ q cut. short-cut _ _ _ _ _ _ _ _ _ _ q c.share_pages.ensures.shares cut
+
+pub returns-in-Some-clause-cut : goal.returns-in-Some-clause-cut
+returns-in-Some-clause-cut g c = λ q cut. absurd (cut-not_all c.args.range.from c.args.range.to q (omega arith) (omega arith) cut)
+
+pub returns-in_default-clause-cut : goal.returns-in_default-clause-cut
+returns-in_default-clause-cut g c = λ q cut. absurd (cut-not_all c.args.range.from c.args.range.to q (omega arith) (omega arith) cut)

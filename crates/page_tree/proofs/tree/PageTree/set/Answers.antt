@@ -1,9 +1,8 @@
 use Rattle.std.proofs.Common.{arith}
-use Rattle.page_tree.proofs.PageLemmas.{page-put, page-kept}
+use Rattle.page_tree.proofs.PageLemmas.{page-put, page-kept, short-path, short-kept_put}
 use Rattle.page_tree.proofs.PageLemmas.{pages-other}
 use Rattle.page_tree.proofs.EntriesLemmas.{kept-entries}
 use Rattle.page_tree.proofs.KeepsLemmas.{Keeps-trans}
-use Rattle.page_tree.proofs.ShortLemmas.{root_short-own}
 use Rattle.page_tree.proofs.tree.PageTree.set.Goals as goal
 
 pub write-requires-clause-held : goal.write-requires-clause-held
@@ -23,4 +22,8 @@ pub returns-clause-shared : goal.returns-clause-shared
 returns-clause-shared g c = rw (← c.self.view_is) (kept-entries _ _ _ _ _ c.requires.sound (Keeps-trans _ _ _ _ _ _ _ _ _ c.own_path-path.ensures.owns.keeps c.write.ensures.puts.keeps).trees)
 
 pub returns-clause-alone : goal.returns-clause-alone
-returns-clause-alone g c = root_short-own _ _ c.write.ensures.puts.own
+returns-clause-alone g c = short-path _ _ _ _ c.write.ensures.puts.own c.write.ensures.owns
+
+pub returns-clause-short : goal.returns-clause-short
+returns-clause-short g c = λ q.
+    rw (← c.self.view_is) (short-kept_put _ _ _ _ _ _ _ _ _ _ q _ c.own_path-path.ensures.owns c.write.ensures.puts c.write.ensures.owns)

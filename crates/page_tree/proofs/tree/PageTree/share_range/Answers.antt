@@ -1,4 +1,5 @@
-use Rattle.page_tree.proofs.PageLemmas.{pages-within, pages-before, pages-after}
+use Rattle.std.proofs.Common.{inl, inr}
+use Rattle.page_tree.proofs.PageLemmas.{pages-within, pages-before, pages-after, short-outside, short-cut}
 use Rattle.page_tree.proofs.PageLemmas.{pages-other}
 use Rattle.page_tree.proofs.EntriesLemmas.{kept-entries}
 use Rattle.page_tree.proofs.ShortLemmas.{root_short-own}
@@ -24,3 +25,14 @@ returns-clause-shared g c = rw (← c.self.view_is) (kept-entries _ _ _ _ _ c.re
 
 pub returns-clause-alone : goal.returns-clause-alone
 returns-clause-alone g c = root_short-own _ _ c.share_pages.ensures.shares.own
+
+pub returns-clause-short_before : goal.returns-clause-short_before
+returns-clause-short_before g c = λ q low.
+    rw (← c.self.view_is) (short-outside _ _ _ _ _ _ _ _ _ _ q c.share_pages.ensures.shares (inl low))
+
+pub returns-clause-short_after : goal.returns-clause-short_after
+returns-clause-short_after g c = λ q high _.
+    rw (← c.self.view_is) (short-outside _ _ _ _ _ _ _ _ _ _ q c.share_pages.ensures.shares (inr high))
+
+pub returns-clause-cut : goal.returns-clause-cut
+returns-clause-cut g c = λ q cut. short-cut _ _ _ _ _ _ _ _ _ _ q c.share_pages.ensures.shares cut

@@ -1,4 +1,4 @@
-use Rattle.page_tree.proofs.PageLemmas.{pages-path, short-path}
+use Rattle.page_tree.proofs.PageLemmas.{pages-path, short-path, short-kept_path}
 use Rattle.page_tree.proofs.PageLemmas.{pages-other}
 use Rattle.page_tree.proofs.EntriesLemmas.{kept-entries}
 use Rattle.page_tree.proofs.tree.PageTree.unshare_path.Goals as goal
@@ -15,3 +15,7 @@ returns-clause-maps g c = rw (← c.self.view_is) (λ t p other. pages-other _ _
 
 pub returns-clause-shared : goal.returns-clause-shared
 returns-clause-shared g c = rw (← c.self.view_is) (kept-entries _ _ _ _ _ c.requires.sound c.own_path-path.ensures.owns.keeps.trees)
+
+pub returns-clause-short : goal.returns-clause-short
+returns-clause-short g c = λ q.
+    rw (← c.self.view_is) (short-kept_path _ _ _ _ _ _ _ _ q c.own_path-path.ensures.owns)
