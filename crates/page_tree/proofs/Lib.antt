@@ -1,7 +1,10 @@
 pub mod CutLemmas
+pub mod ElsewhereLemmas
 pub mod EntriesLemmas
+pub mod HolderLemmas
 pub mod KeepsLemmas
 pub mod NewLemmas
+pub mod NodeBound
 pub mod PageLemmas
 pub mod PathLemmas
 pub mod RawLemmas

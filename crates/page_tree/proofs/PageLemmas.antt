@@ -371,7 +371,7 @@ pages-other old new left came t p keeps other =
 
 -- a page takes at most two nodes, and a range at most three
 
-root_short-le : (nodes : List Node) (tree : ℕ) → root_short nodes tree ≤ 1
+pub root_short-le : (nodes : List Node) (tree : ℕ) → root_short nodes tree ≤ 1
 unfolding root_short
 root_short-le nodes tree = le-cond (eqb tree 0) 1 (cond (eqb (count_of nodes (tree - 1)) 1) 0 1) (omega arith) (le-cond (eqb (count_of nodes (tree - 1)) 1) 0 1 (omega arith) (omega arith))
 

@@ -3,6 +3,7 @@
 #![tactic(auto)]
 
 pub mod cell;
+pub mod laws;
 mod pages;
 mod path;
 mod root;

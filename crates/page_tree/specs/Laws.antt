@@ -1,0 +1,29 @@
+-- Laws of trees, of which each is proved by the function of the same name in laws.rt.
+use Rattle.std.specs.Prelude.{◌≡◌, ◌≢◌, ℕ, ◌+◌, ◌*◌, ◌<◌, ◌≤◌, ◌⊎◌, ◌↔◌, List, length, slice_index}
+use Rattle.frame_pool.specs.Frame.{Frame, frame_count}
+use Rattle.node_pool.specs.Nodes.{Node, free_of}
+use Rattle.page_tree.specs.declared.cell.PageCell.TheVariants.{Absent}
+use Rattle.page_tree.specs.declared.cell.PageCell.TheVariants as cell
+use Rattle.page_tree.specs.declared.store.TheConstants.{PAGES}
+use Rattle.page_tree.specs.Pages.{page}
+use Rattle.page_tree.specs.Short.{page_short, range_short, clear_short}
+use Rattle.page_tree.specs.Sound.{IsTree}
+use Rattle.page_tree.specs.Steps.{root_short}
+use Rattle.page_tree.specs.Tied.{IsTied, HasElsewhere, HasFrame, page_of}
+
+-- the laws of one tree: the empty one has no page, and a change of a page or a range takes few nodes
+pub record TreeLaws : Type 0 where
+  pub empty : (nodes : List Node) (p : ℕ) → page nodes 0 p ≡ Absent
+  pub page_takes : (nodes : List Node) (tree p : ℕ) → page_short nodes tree p ≤ 2
+  pub range_takes : (nodes : List Node) (tree from to : ℕ) → range_short nodes tree from to ≤ root_short nodes tree + 2
+  pub root_takes : (nodes : List Node) (tree : ℕ) → root_short nodes tree ≤ 1
+  pub clear_takes : (nodes : List Node) (tree from to : ℕ) → clear_short nodes tree from to ≤ 3
+
+-- the laws of all trees of a store: each is a tree, they take at most 33 nodes each, the held frames are those at pages, and a page's frame is elsewhere too where the way to the page is shared or the frame is held more than once
+pub record TiedLaws : Type 0 where
+  pub are_trees : (nodes : List Node) (frames : List Frame) (trees : List ℕ) (k : ℕ) → IsTied nodes frames trees → length trees ≤ 65536 → k < length trees → IsTree nodes (slice_index trees k)
+  pub free : (nodes : List Node) (frames : List Frame) (trees : List ℕ) → IsTied nodes frames trees → length nodes ≤ free_of nodes + 33 * length trees
+  pub held : (nodes : List Node) (frames : List Frame) (trees : List ℕ) (f : ℕ) → IsTied nodes frames trees → 0 < frame_count frames f → HasFrame nodes trees f
+  pub has_held : (nodes : List Node) (frames : List Frame) (trees : List ℕ) (f : ℕ) → IsTied nodes frames trees → HasFrame nodes trees f → 0 < frame_count frames f
+  pub elsewhere : (nodes : List Node) (frames : List Frame) (trees : List ℕ) (k p f : ℕ) → IsTied nodes frames trees → k < length trees → p < PAGES → page_of nodes trees k p ≡ cell.Frame (record { n = f }) →
+      HasElsewhere nodes trees k p f ↔ ((page_short nodes (slice_index trees k) p ≢ 0) ⊎ (1 < frame_count frames f))
