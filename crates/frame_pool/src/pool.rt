@@ -150,7 +150,8 @@ impl Pool {
 
     /// How many frames are held.
     pub fn used(&self) -> u32
-        ensures { result ≡ used_frames self.now }
+        ensures used { result ≡ used_frames self.now }
+        ensures all { result + free_frames self.now ≡ length self.now }
     {
         self.counts.used()
     }

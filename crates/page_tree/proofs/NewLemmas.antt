@@ -1,5 +1,5 @@
 -- A new store is sound.
-use Rattle.std.proofs.Common.{◌≡◌, ℕ, zero, suc, ◌+◌, ◌≤◌, ⊎_elim, eqb, List, length, get_or, replicate, refl, subst, sym, ◌∙◌, ap, arith}
+use Rattle.std.proofs.Common.{◌≡◌, ℕ, zero, suc, ◌+◌, ◌≤◌, ⊎_elim, eqb, List, [], length, get_or, replicate, refl, subst, sym, ◌∙◌, ap, arith}
 use Rattle.std.proofs.lemmas.List.{length-replicate, get_or-replicate, get_or_past}
 use Rattle.std.proofs.lemmas.List.Sums.{sum_by-cons}
 use Rattle.std.proofs.lemmas.Bool.{cases_lt}
@@ -7,6 +7,8 @@ use Rattle.lwc_base.specs.declared.name.Tag.{Tag}
 use Rattle.frame_pool.specs.Frame.{Frame, zero_frame, no_frame, frame_count}
 use Rattle.node_pool.specs.Nodes.{Node, empty_node, no_node, node_at, count_of, level_of, entry_of, free_of}
 use Rattle.page_tree.specs.Sound.{IsSound, naming, one_if}
+use Rattle.page_tree.specs.Tied.{IsTied}
+use Rattle.page_tree.proofs.KeepsLemmas.{trees-none}
 use Rattle.page_tree.proofs.UsesLemmas.{uses-none}
 
 abbrev blank : List ℕ
@@ -64,6 +66,14 @@ module _ (n m : ℕ) (tag : Tag) where
         placed = λ k y i j l _ _ _. absurd (omega (arith, l, no-level k));
         framed = λ f. omega (arith, no-naming f);
         near = λ f. omega (arith, no-holds f);
+      }
+
+  pub IsTied-new : n ≤ 65536 → m ≤ 65536 → IsTied nodes frames []
+  IsTied-new few few' =
+      record {
+        sound = IsSound-new few few';
+        rooted = λ k. trees-none nodes k (λ is. absurd (omega (arith, is, no-level k)));
+        exact = λ f. no-holds f ∙ sym (no-naming f);
       }
 
 pub free_of-new : (n : ℕ) → free_of (replicate n (empty_node 0 0)) ≡ n

@@ -1,9 +1,10 @@
-ghost use Rattle.std.specs.Prelude.{◌≡◌, ◌≢◌, ℕ, ◌+◌, ◌-◌, ◌^◌, ◌<◌, ◌≤◌, ◌==◌, if◌then◌else◌, ◌↔◌, true, IfOk, IfSome, IfNone, length, List, replicate};
+ghost use Rattle.std.specs.Prelude.{◌≡◌, ◌≢◌, ℕ, ◌+◌, ◌-◌, ◌^◌, ◌<◌, ◌≤◌, ◌==◌, if◌then◌else◌, ◌↔◌, true, IfOk, IfSome, IfNone, [], length, List, replicate};
 ghost use Rattle.frame_pool.specs.Frame.{frame_count, zero_frame};
 ghost use Rattle.node_pool.specs.declared.pool.TheConstants.{NODE_ENTRIES};
 ghost use Rattle.node_pool.specs.Nodes.{node_at, count_of, level_of, entry_of, counted, empty_node, free_of};
 ghost use Rattle.page_tree.specs.Pages.{cell_at, entry_for, link_of};
 ghost use Rattle.page_tree.specs.Sound.{IsSound, one_if};
+ghost use Rattle.page_tree.specs.Tied.{IsTied};
 ghost use Rattle.page_tree.specs.Steps.{HoldsMore, HoldsLess, IsOwned, IsLeaf, IsPlaced, OwnsLeaf, PutsLeaf, leaf_short};
 
 use crate::cell::{PageCell, cell_from, entry_from};
@@ -35,6 +36,7 @@ impl Store {
     pub fn open(alloc: Global, frames: u32, nodes: u32) -> Result<Store, OutOfMemory>
         requires few_frames { frames ≤ 65536 }
         requires few_nodes { nodes ≤ 65536 }
+        ensures tied { IfOk result (λ store. IsTied store.nodes store.frames []) }
         ensures sound { IfOk result (λ store. IsSound store.nodes store.frames) }
         ensures nodes { IfOk result (λ store. store.nodes ≡ replicate nodes (empty_node 0 0)) }
         ensures frames { IfOk result (λ store. store.frames ≡ replicate frames (zero_frame 0 (record { job = 0; k = 0 }))) }

@@ -230,6 +230,8 @@ impl PageTree {
         ensures free { free_of store.old.nodes
             ≤ free_of store.new.nodes + clear_short store.old.nodes self.old range.from range.to }
         ensures cost { steps.new ≤ steps.old + 98 }
+        ensures cost_all { range.from ≡ 0 → range.to ≡ PAGES → steps.new ≤ steps.old + 33 }
+        ensures cost_none { range.from ≡ 0 → range.to ≡ PAGES → self.old ≡ 0 → steps.new ≡ steps.old }
     {
         let first = range.from as usize;
         let end = range.to as usize;

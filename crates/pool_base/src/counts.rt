@@ -110,7 +110,8 @@ impl Counts {
 
     /// How many places are held.
     pub fn used(&self) -> u32
-        ensures { result ≡ held_count self.now.counts }
+        ensures held { result ≡ held_count self.now.counts }
+        ensures all { result + free_count self.now.counts ≡ length self.now.counts }
     {
         (self.counts.len() - self.free.len()) as u32
     }

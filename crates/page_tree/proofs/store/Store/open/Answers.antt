@@ -1,4 +1,4 @@
-use Rattle.page_tree.proofs.NewLemmas.{IsSound-new, free_of-new}
+use Rattle.page_tree.proofs.NewLemmas.{IsSound-new, IsTied-new, free_of-new}
 use Rattle.page_tree.proofs.store.Store.open.Goals as goal
 
 pub returns-clause-sound : goal.returns-clause-sound
@@ -7,3 +7,7 @@ returns-clause-sound c =
 
 pub returns-clause-free : goal.returns-clause-free
 returns-clause-free c = rw c.in_ok-nodes.ensures (free_of-new _)
+
+pub returns-clause-tied : goal.returns-clause-tied
+returns-clause-tied c =
+    rw (c.in_ok-nodes.ensures, c.in_ok-frames.ensures) (IsTied-new _ _ _ c.requires.few_nodes c.requires.few_frames)
