@@ -1,0 +1,6 @@
+pub mod Lists
+pub mod PieceLemmas
+pub mod TagLemmas
+pub mod Trees
+pub mod UsedLemmas
+pub mod WriteLemmas

@@ -1,0 +1,66 @@
+-- Bytes of a page that are written one after another.
+use Rattle.std.proofs.Common.{◌≡◌, ◌≢◌, ℕ, zero, suc, ◌+◌, ◌-◌, ◌*◌, ◌<◌, ◌≤◌, ◌⊎◌, inl, inr, ⊎_elim, Bool, cond, leb, ltb, ◌&&◌, List, length, get_or, set, map, max, min, refl, sym, ◌∙◌, ap, arith, length-set, get_or-set_other}
+use Rattle.std.specs.List.{range_with_len}
+use Rattle.std.proofs.lemmas.Bool.{cases_eq, cases_lt, and_from, and_left, and_right, le-leb, lt-leb, lt-ltb, le-ltb, cond-true, cond-false}
+use Rattle.std.proofs.lemmas.List.{ext_get_or, get_or-map, length-map, get_or-set_same}
+use Rattle.std.proofs.lemmas.List.FromFn.{get_or-range_with_len, length-range_with_len}
+use Rattle.lwc_base.specs.Store.{Piece, byte_after, bytes_after}
+
+-- the first bytes of a piece from one on are in a page from a place on, and the others of the page are the old ones
+pub record PutsBytes (old page bytes : List ℕ) (lo skip k : ℕ) : Type 0 where
+  pub long : length page ≡ length old
+  pub put : (j : ℕ) → j < k → get_or page (lo + j) 0 ≡ get_or bytes (skip + j) 0
+  pub rest : (j : ℕ) → (j < lo) ⊎ (lo + k ≤ j) → get_or page j 0 ≡ get_or old j 0
+
+pub PutsBytes-none : (old bytes : List ℕ) (lo skip : ℕ) → PutsBytes old old bytes lo skip 0
+PutsBytes-none old bytes lo skip = record { long = refl; put = λ j lt. absurd (omega (arith, lt)); rest = λ j _. refl }
+
+pub PutsBytes-more : (old page page' bytes : List ℕ) (lo skip k b : ℕ) → PutsBytes old page bytes lo skip k → lo + k < length old → page' ≡ set page (lo + k) b → b ≡ get_or bytes (skip + k) 0 → PutsBytes old page' bytes lo skip (k + 1)
+PutsBytes-more old page page' bytes lo skip k b so_far inside is same =
+    record {
+      long = ap length is ∙ length-set page (lo + k) b ∙ so_far.long;
+      put = λ j lt.
+          ⊎_elim
+          (λ here. ap (λ x. get_or page' (lo + x) 0) here ∙ ap (λ l. get_or l (lo + k) 0) is ∙ get_or-set_same page (lo + k) b 0 (omega (arith, inside, so_far.long)) ∙ same ∙ ap (λ x. get_or bytes (skip + x) 0) (sym here))
+          (λ off. ap (λ l. get_or l (lo + j) 0) is ∙ get_or-set_other page (lo + k) (lo + j) b 0 (λ e. off (omega (arith, e))) ∙ so_far.put j (omega (arith, lt, off)))
+          (cases_eq j k);
+      rest = λ j out.
+          ap (λ l. get_or l j 0) is
+          ∙ get_or-set_other page (lo + k) j b 0 (λ e. ⊎_elim (λ low. absurd (omega (arith, e, low))) (λ high. absurd (omega (arith, e, high))) out)
+          ∙ so_far.rest j (⊎_elim (λ low. inl low) (λ high. inr (omega (arith, high))) out);
+    }
+
+-- where the piece was put as far as it reaches, the page is what a store makes of it
+pub PutsBytes-all : (old page : List ℕ) (piece : Piece) (p lo skip k : ℕ) → length old ≡ 4096 → PutsBytes old page piece.bytes lo skip k → ((j : ℕ) → j < 4096 → piece.at ≤ p * 4096 + j → p * 4096 + j < piece.at + length piece.bytes → (lo ≤ j) × (j < lo + k) × (skip + (j - lo) ≡ p * 4096 + j - piece.at)) → ((j : ℕ) → lo ≤ j → j < lo + k → (piece.at ≤ p * 4096 + j) × (p * 4096 + j < piece.at + length piece.bytes)) → page ≡ bytes_after piece p old
+unfolding bytes_after
+PutsBytes-all old page piece p lo skip k size puts inner outer =
+    let f : ℕ → ℕ = λ i. byte_after piece (p * 4096 + i) (get_or old i 0) in
+    ext_get_or 0 page (map f (range_with_len 0 (length old)))
+    (puts.long ∙ sym (length-map (range_with_len 0 (length old)) f ∙ length-range_with_len 0 (length old)))
+    (λ j lt.
+    let below : j < length old = omega (arith, lt, puts.long) in
+    at j (omega (arith, below, size))
+    ∙ sym (get_or-map f (range_with_len 0 (length old)) j 0 0 (omega (arith, below, length-range_with_len 0 (length old))) ∙ ap f (get_or-range_with_len 0 (length old) j 0 below ∙ omega arith)))
+  where
+  at : (j : ℕ) → j < 4096 → get_or page j 0 ≡ cond (leb piece.at (p * 4096 + j) && ltb (p * 4096 + j) (piece.at + length piece.bytes)) (get_or piece.bytes (p * 4096 + j - piece.at) 0) (get_or old j 0)
+  at j lt =
+      ⊎_elim
+      (λ low.
+      puts.rest j (out j (λ l. absurd (omega (arith, low, l.0))))
+      ∙ sym (cond-false (leb piece.at (p * 4096 + j) && ltb (p * 4096 + j) (piece.at + length piece.bytes)) (get_or piece.bytes (p * 4096 + j - piece.at) 0) (get_or old j 0) (and_left (leb piece.at (p * 4096 + j)) (ltb (p * 4096 + j) (piece.at + length piece.bytes)) (lt-leb piece.at (p * 4096 + j) low))))
+      (λ from_on.
+      ⊎_elim
+      (λ within.
+      let places = inner j lt from_on within in
+      let place : lo + (j - lo) ≡ j = omega (arith, places.0) in
+      ap (λ x. get_or page x 0) (sym place) ∙ puts.put (j - lo) (omega (arith, places.0, places.1)) ∙ ap (λ x. get_or piece.bytes x 0) places.2
+      ∙ sym (cond-true (leb piece.at (p * 4096 + j) && ltb (p * 4096 + j) (piece.at + length piece.bytes)) (get_or piece.bytes (p * 4096 + j - piece.at) 0) (get_or old j 0) (and_from (leb piece.at (p * 4096 + j)) (ltb (p * 4096 + j) (piece.at + length piece.bytes)) (le-leb piece.at (p * 4096 + j) from_on) (lt-ltb (p * 4096 + j) (piece.at + length piece.bytes) within))))
+      (λ past.
+      puts.rest j (out j (λ l. absurd (omega (arith, past, l.1))))
+      ∙ sym (cond-false (leb piece.at (p * 4096 + j) && ltb (p * 4096 + j) (piece.at + length piece.bytes)) (get_or piece.bytes (p * 4096 + j - piece.at) 0) (get_or old j 0) (and_right (leb piece.at (p * 4096 + j)) (ltb (p * 4096 + j) (piece.at + length piece.bytes)) (le-ltb (p * 4096 + j) (piece.at + length piece.bytes) past))))
+      (cases_lt (p * 4096 + j) (piece.at + length piece.bytes)))
+      (cases_lt (p * 4096 + j) piece.at)
+    where
+    out : (j : ℕ) → ((piece.at ≤ p * 4096 + j) × (p * 4096 + j < piece.at + length piece.bytes) → ⊥) → (j < lo) ⊎ (lo + k ≤ j)
+    out j off =
+        ⊎_elim (λ low. inl low) (λ from_on. ⊎_elim (λ here. absurd (off (outer j from_on here))) (λ past. inr past) (cases_lt j (lo + k))) (cases_lt j lo)

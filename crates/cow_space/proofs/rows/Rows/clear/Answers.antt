@@ -1,0 +1,51 @@
+use Rattle.std.proofs.Common.{◌≡◌, ℕ, length, get_or, sym, ap, ◌∙◌, arith}
+use Rattle.std.proofs.lemmas.List.{get_or_read}
+use Rattle.page_tree.specs.declared.cell.PageCell.TheVariants.{Absent}
+use Rattle.cow_space.specs.Seen.{maps, frames_of, free_nodes}
+use Rattle.cow_space.proofs.Trees.{rows-in, kept-tree, kept-free, kept-set, maps-range}
+use Rattle.cow_space.proofs.rows.Rows.clear.Goals as goal
+
+pub index_mut-requires : goal.index_mut-requires
+unfolding maps
+index_mut-requires g c =
+    omega (arith, rows-in _ _ c.args.self.now.trees.items c.args.i c.requires.row, c.args.self.now.trees.ok)
+
+pub clear_range-requires-clause-tree : goal.clear_range-requires-clause-tree
+unfolding maps
+clear_range-requires-clause-tree g c =
+    let inside = rows-in _ _ c.args.self.now.trees.items c.args.i c.requires.row in
+    kept-tree c.trees_account_for_their_store.ensures _ _ _ c.args.i _ c.args.self.now.kept inside
+    (get_or_read c.args.self.now.trees.items c.args.i _ inside c.index_mut.ensures.value 0)
+
+pub clear_range-requires-clause-free : goal.clear_range-requires-clause-free
+clear_range-requires-clause-free g c =
+    let free = kept-free c.trees_account_for_their_store.ensures _ _ _ c.args.self.now.kept in
+    let takes = c.a_change_takes_few_nodes.ensures.clear_takes c.args.self.now.store.nodes c.index_mut.result.now c.args.range.from c.args.range.to in
+    omega (arith, free, takes)
+
+pub invariant_of-self : goal.invariant_of-self
+unfolding maps
+invariant_of-self g c =
+    let inside = rows-in _ _ c.args.self.now.trees.items c.args.i c.requires.row in
+    record {
+      kept = kept-set c.a_change_takes_few_nodes.ensures c.args.self.now.store.nodes _ c.args.self.now.store.frames _ c.args.self.now.trees.items c.args.i _ _ c.args.self.now.kept inside
+          (get_or_read c.args.self.now.trees.items c.args.i _ inside c.index_mut.ensures.value 0) c.clear_range.ensures.sound c.clear_range.ensures.trees c.clear_range.ensures.maps c.clear_range.ensures.frames;
+    }
+
+pub returns-clause-maps : goal.returns-clause-maps
+unfolding maps
+returns-clause-maps g c =
+    let inside = rows-in _ _ c.args.self.now.trees.items c.args.i c.requires.row in
+    maps-range c.a_change_takes_few_nodes.ensures c.args.self.now.store.nodes c.clear_range.new.store.nodes c.args.self.now.store.frames c.clear_range.new.store.frames c.args.self.now.trees.items c.args.i _ c.clear_range.new.self c.args.self.now.kept inside
+    (get_or_read c.args.self.now.trees.items c.args.i _ inside c.index_mut.ensures.value 0) c.clear_range.ensures.sound c.clear_range.ensures.trees c.clear_range.ensures.maps c.clear_range.ensures.frames
+    c.args.range.from c.args.range.to (λ q. Absent) c.requires.inside c.clear_range.ensures.within c.clear_range.ensures.before c.clear_range.ensures.after
+
+pub returns-clause-frames : goal.returns-clause-frames
+unfolding frames_of
+returns-clause-frames g c = c.clear_range.ensures.frames.size
+
+pub returns-clause-nodes : goal.returns-clause-nodes
+unfolding free_nodes
+returns-clause-nodes g c =
+    let takes = c.a_change_takes_few_nodes.ensures.clear_takes c.args.self.now.store.nodes c.index_mut.result.now c.args.range.from c.args.range.to in
+    omega (arith, takes, c.clear_range.ensures.free)

@@ -1,0 +1,7 @@
+use Rattle.cow_space.specs.Seen.{frames_of}
+use Rattle.cow_space.proofs.Trees.{row-page}
+use Rattle.cow_space.proofs.rows.Rows.frames.Goals as goal
+
+pub returns : goal.returns
+unfolding frames_of
+returns c = c.len.ensures

@@ -1,0 +1,27 @@
+-- What rows over a store are seen as.
+use Rattle.std.specs.Prelude.{◌≡◌, ℕ, List, Option, length, slice_index}
+use Rattle.lwc_base.specs.declared.page.PageValue.{PageValue}
+use Rattle.node_pool.specs.Nodes.{free_of}
+use Rattle.page_tree.specs.Steps.{root_short}
+use Rattle.cow_space.specs.declared.rows.Rows.{Rows}
+use Rattle.cow_space.specs.Cells.{tree_maps}
+
+-- the maps of the rows
+unfoldable pub maps : Rows → List (ℕ → Option PageValue)
+maps w = tree_maps w.store.frames w.store.nodes w.trees.items
+
+-- how many frames there are
+unfoldable pub frames_of : Rows → ℕ
+frames_of w = length w.store.frames
+
+-- how many tree nodes are free
+unfoldable pub free_nodes : Rows → ℕ
+free_nodes w = free_of w.store.nodes
+
+-- a row shares the root of its tree with no other
+unfoldable pub HasOwnRoot : Rows → ℕ → Type 0
+HasOwnRoot w i = root_short w.store.nodes (slice_index w.trees.items i) ≡ 0
+
+-- a row has no tree: it holds no node
+unfoldable pub HasNoTree : Rows → ℕ → Type 0
+HasNoTree w i = slice_index w.trees.items i ≡ 0

@@ -1,0 +1,123 @@
+use crate::rows::Rows;
+use lwc_base::Range;
+use page_tree::laws::{a_change_takes_few_nodes, trees_account_for_their_store};
+use page_tree::{PAGES, PageTree};
+use pool_base::Steps;
+use std::mem::replace;
+use std::sync::ledger::Ledger;
+
+/// A range of pages of a row.
+#[derive(Clone, Copy, Debug, PartialEq, Eq)]
+pub struct Piece {
+    pub source: usize,
+    pub range: Range,
+}
+
+/// All pages of a row.
+const ALL_PAGES: Range = Range {
+    from: 0,
+    to: PAGES as u16,
+};
+
+impl Rows {
+    ghost use Rattle.std.specs.Prelude.{◌≡◌, ◌≢◌, ℕ, ◌+◌, ◌*◌, ◌<◌, ◌≤◌, All, length, slice_set};
+    ghost use Rattle.page_tree.specs.declared.store.TheConstants.{PAGES};
+    ghost use Rattle.cow_space.specs.Maps.{copy_pieces, no_pages, put_range, row_of, share_range};
+    ghost use Rattle.cow_space.specs.Pieces.{IsPiece};
+    ghost use Rattle.cow_space.specs.Seen.{frames_of, free_nodes, maps, HasNoTree, HasOwnRoot};
+
+    /// Makes the pages of a range of one row those of another. No frame is taken, and at most the root and
+    /// two leaves.
+    pub fn share_between<L: Ledger>(
+        &mut self,
+        to: usize,
+        from: usize,
+        range: Range,
+        steps: &mut Steps<L>,
+    )
+        requires to { to < length (maps self.old) }
+        requires from { from < length (maps self.old) }
+        requires apart { from ≢ to }
+        requires order { range.from ≤ range.to }
+        requires inside { range.to ≤ PAGES }
+        ensures maps { maps self.new ≡ share_range (maps self.old) to from range.from range.to }
+        ensures frames { frames_of self.new ≡ frames_of self.old }
+        ensures own { HasOwnRoot self.new to }
+        ensures nodes { free_nodes self.old ≤ free_nodes self.new + 3 }
+        ensures nodes_own { HasOwnRoot self.old to → free_nodes self.old ≤ free_nodes self.new + 2 }
+        ensures cost { steps.new ≤ steps.old + 98 }
+        ensures cost_own { HasOwnRoot self.old to → steps.new ≤ steps.old + 64 }
+        ensures cost_empty { HasNoTree self.old to → steps.new ≤ steps.old + 35 }
+    {
+        a_change_takes_few_nodes();
+        trees_account_for_their_store();
+        let mut tree = replace(&mut self.trees[to], PageTree::empty());
+        tree.share_range(&self.trees[from], &mut self.store, range, steps);
+        self.trees[to] = tree;
+    }
+
+    /// Puts pieces of other rows into a row, one after another.
+    pub fn copy_by<L: Ledger>(&mut self, to: usize, pieces: &[Piece], steps: &mut Steps<L>)
+        requires to { to < length (maps self.old) }
+        requires pieces { All (IsPiece (length (maps self.old)) to) pieces.now }
+        ensures maps { maps self.new ≡ copy_pieces (maps self.old) to pieces.now }
+        ensures frames { frames_of self.new ≡ frames_of self.old }
+        ensures nodes { free_nodes self.old ≤ free_nodes self.new + (1 + 2 * length pieces.now) }
+        ensures cost { steps.new ≤ steps.old + (34 + 64 * length pieces.now) }
+        ensures cost_empty { HasNoTree self.old to → steps.new ≤ steps.old + 64 * length pieces.now }
+    {
+        for piece in pieces {
+            self.share_between(to, piece.source, piece.range, steps);
+        }
+    }
+
+    /// Takes the pages of a range from a row.
+    pub fn clear<L: Ledger>(&mut self, i: usize, range: Range, steps: &mut Steps<L>)
+        requires row { i < length (maps self.old) }
+        requires order { range.from ≤ range.to }
+        requires inside { range.to ≤ PAGES }
+        ensures maps { maps self.new
+            ≡ slice_set (maps self.old) i (put_range (row_of (maps self.old) i) range.from range.to no_pages) }
+        ensures frames { frames_of self.new ≡ frames_of self.old }
+        ensures nodes { free_nodes self.old ≤ free_nodes self.new + 3 }
+        ensures cost { steps.new ≤ steps.old + 98 }
+    {
+        a_change_takes_few_nodes();
+        trees_account_for_their_store();
+        self.trees[i].clear_range(&mut self.store, range, steps);
+    }
+
+    /// Takes all pages from a row, and gives back all that no other row holds.
+    pub fn drop_row<L: Ledger>(&mut self, i: usize, steps: &mut Steps<L>)
+        requires row { i < length (maps self.old) }
+        ensures maps { maps self.new ≡ slice_set (maps self.old) i no_pages }
+        ensures frames { frames_of self.new ≡ frames_of self.old }
+        ensures nodes { free_nodes self.old ≤ free_nodes self.new }
+        ensures empty { HasNoTree self.new i }
+        ensures cost { steps.new ≤ steps.old + 33 }
+        ensures cost_empty { HasNoTree self.old i → steps.new ≡ steps.old }
+    {
+        a_change_takes_few_nodes();
+        trees_account_for_their_store();
+        self.trees[i].clear_range(&mut self.store, ALL_PAGES, steps);
+    }
+
+    /// Makes all pages of a row those of another, by one hold of its root. The row's own pages are given up
+    /// first.
+    pub fn clone_row<L: Ledger>(&mut self, to: usize, from: usize, steps: &mut Steps<L>)
+        requires to { to < length (maps self.old) }
+        requires from { from < length (maps self.old) }
+        requires apart { from ≢ to }
+        ensures maps { maps self.new ≡ slice_set (maps self.old) to (row_of (maps self.old) from) }
+        ensures frames { frames_of self.new ≡ frames_of self.old }
+        ensures nodes { free_nodes self.old ≤ free_nodes self.new }
+        ensures cost { steps.new ≤ steps.old + 34 }
+        ensures cost_empty { HasNoTree self.old to → steps.new ≤ steps.old + 1 }
+    {
+        a_change_takes_few_nodes();
+        trees_account_for_their_store();
+        self.drop_row(to, steps);
+        let tree = self.trees[from].held_too(&mut self.store, steps);
+        self.trees[to] = tree;
+    }
+}

@@ -1,0 +1,112 @@
+ghost use Rattle.std.specs.Prelude.{◌≡◌, ℕ, IfOk, replicate};
+ghost use Rattle.cow_space.specs.Kept.{IsKept};
+
+use lwc_base::OutOfMemory;
+use lwc_base::laws::names_are_ordered;
+use page_tree::laws::{a_change_takes_few_nodes, trees_account_for_their_store};
+use page_tree::{PAGES, PageCell, PageTree, Store};
+use std::alloc::Global;
+
+/// How many rows there can be: a tree has at most 33 nodes, a change takes a few more, and a store has at
+/// most 65536.
+pub const MOST_ROWS: u32 = 1983;
+
+/// A fixed number of rows, each a map from pages to values. A page with bytes has a frame under a tag, and
+/// pages that were copied share it until one of them is written. After `open` no call takes memory, and none
+/// wants for nodes.
+#[derive(Drop)]
+pub struct Rows {
+    pub(crate) store: Store,
+    pub(crate) trees: Vec<PageTree>,
+    ghost kept: { IsKept store.nodes store.frames trees.items },
+}
+
+/// This number of empty trees. The only error is out of memory.
+fn empty_trees(alloc: Global, rows: u32) -> Result<Vec<PageTree>, OutOfMemory>
+    ensures { IfOk result (λ trees. trees.items ≡ replicate rows 0) }
+{
+    let mut trees = Vec::with_capacity(alloc, rows as usize)?;
+    'rows: for _ in 0..rows {
+        trees.push_reserved(PageTree::empty());
+    }
+    Ok(trees)
+}
+
+impl Rows {
+    ghost use Rattle.std.specs.Prelude.{◌≡◌, ℕ, ◌<◌, ◌≤◌, ◌↔◌, true, IfOk, length, replicate, slice_index};
+    ghost use Rattle.std.specs.Option.{option_copied};
+    ghost use Rattle.page_tree.specs.declared.store.TheConstants.{PAGES};
+    ghost use Rattle.page_tree.specs.Pages.{page};
+    ghost use Rattle.cow_space.specs.declared.rows.TheConstants.{MOST_ROWS};
+    ghost use Rattle.cow_space.specs.Maps.{data_of, no_pages, row_of};
+    ghost use Rattle.cow_space.specs.Seen.{frames_of, maps, HasNoTree};
+    ghost use Rattle.cow_space.specs.Tags.{is_parting, used};
+
+    /// This number of rows without pages, over this number of frames. The only error is out of memory.
+    pub fn open(alloc: Global, frames: u32, rows: u32) -> Result<Rows, OutOfMemory>
+        requires few_frames { frames ≤ 65536 }
+        requires few_rows { rows ≤ MOST_ROWS }
+        ensures maps { IfOk result (λ opened. maps opened ≡ replicate rows no_pages) }
+        ensures frames { IfOk result (λ opened. frames_of opened ≡ frames) }
+        ensures empty { IfOk result (λ opened. (i : ℕ) → HasNoTree opened i) }
+    {
+        a_change_takes_few_nodes();
+        let store = Store::open(alloc, frames, 33 * rows + 66)?;
+        let trees = empty_trees(alloc, rows)?;
+        Ok(Rows { store, trees })
+    }
+
+    /// What a row's tree has for a page.
+    pub(crate) fn cell(&self, i: usize, p: u16) -> PageCell
+        requires row { i < length self.now.trees.items }
+        requires page { p < PAGES }
+        ensures { result ≡ page self.now.store.nodes (slice_index self.now.trees.items i) p }
+    {
+        trees_account_for_their_store();
+        self.trees[i].get(&self.store, p)
+    }
+
+    /// The bytes of a page. A page without bytes, which reads as zeros, has none.
+    pub fn bytes(&self, i: usize, p: u16) -> Option<&[u8]>
+        requires row { i < length (maps self.now) }
+        requires page { p < PAGES }
+        ensures { option_copied result ≡ data_of (row_of (maps self.now) i p) }
+    {
+        trees_account_for_their_store();
+        match self.cell(i, p) {
+            PageCell::Frame(frame) => Some(self.store.frames.bytes(frame)),
+            _ => None,
+        }
+    }
+
+    /// Whether a page parts when it is written: it is absent or zeros, or its tag is at another page too.
+    pub fn parts(&self, i: usize, p: u16) -> bool
+        requires row { i < length (maps self.now) }
+        requires page { p < PAGES }
+        ensures { result ≡ is_parting (maps self.now) (row_of (maps self.now) i p) }
+    {
+        trees_account_for_their_store();
+        names_are_ordered();
+        match self.cell(i, p) {
+            PageCell::Frame(frame) => !self.trees[i].is_alone(&self.store, p) || self.store.frames.count(frame) > 1,
+            _ => true,
+        }
+    }
+
+    /// How many frames are in use: one for each different tag.
+    pub fn used(&self) -> u32
+        ensures used { result ≡ used (maps self.now) }
+        ensures within { result ≤ frames_of self.now }
+    {
+        trees_account_for_their_store();
+        names_are_ordered();
+        self.store.frames.used()
+    }
+
+    /// How many frames there are, in use or free.
+    pub fn frames(&self) -> u32
+        ensures { result ≡ frames_of self.now }
+    {
+        self.store.frames.len()
+    }
+}
