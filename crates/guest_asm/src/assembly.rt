@@ -1,6 +1,8 @@
 //! From a source to an image.
 
+ghost use Rattle.std.specs.Prelude.{IfOk};
 ghost use Rattle.byte_reading.specs.Outcomes.{Answers};
+ghost use Rattle.guest_image.specs.Limits.{IsImage};
 ghost use Rattle.guest_image.specs.Reading.{image_at};
 ghost use Rattle.guest_asm.specs.Drafts as spec;
 ghost use Rattle.guest_asm.specs.Views.{source_in};
@@ -16,7 +18,7 @@ use std::alloc::Global;
 /// The most bytes of a source.
 pub const MOST_SOURCE_BYTES: usize = 16_777_216;
 
-/// The image that a source makes (`assembled`).
+/// The image that a source makes (`assembled`), which is within the limits of images.
 ///
 /// # Errors
 ///
@@ -26,7 +28,8 @@ pub const MOST_SOURCE_BYTES: usize = 16_777_216;
 /// that no line defines; then the rules of images, at the offset in the image that was made.
 #[tactic(auto, unfolding(crate::specs::Drafts::assembled, crate::specs::Drafts::draft_at))]
 pub fn assemble(alloc: Global, source: &[u8]) -> Result<Image, SourceError>
-    ensures { Answers (λ image. image) result (spec.assembled source.now) }
+    ensures exact { Answers (λ image. image) result (spec.assembled source.now) }
+    ensures within { IfOk result (λ image. IsImage image) }
 {
     if source.len() > MOST_SOURCE_BYTES {
         return Err(ReadError::Refused {
@@ -41,7 +44,8 @@ pub fn assemble(alloc: Global, source: &[u8]) -> Result<Image, SourceError>
 
 /// Reads the draft of what all lines say as an image.
 fn read_draft(alloc: Global, source: Source<'_>) -> Result<Image, SourceError>
-    ensures { Answers (λ image. image) result (spec.of_image (image_at (spec.draft_bytes (spec.draft_of (source_in source.entry))))) }
+    ensures exact { Answers (λ image. image) result (spec.of_image (image_at (spec.draft_bytes (spec.draft_of (source_in source.entry))))) }
+    ensures within { IfOk result (λ image. IsImage image) }
 {
     if draft_length(&source) > MOST_IMAGE_BYTES as u128 {
         return Err(ReadError::Refused {

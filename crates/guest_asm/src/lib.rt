@@ -14,6 +14,9 @@ mod words;
 
 pub use assembly::{MOST_SOURCE_BYTES, assemble};
 pub use error::{SourceError, SourceRule};
+pub use mnemonics::{fields_of, mnemonic};
+pub use operand::Field;
+pub use parts::{FileDraft, PageDraft, SlotDraft};
 
 #[cfg(test)]
 mod tests;

@@ -15,7 +15,7 @@ pub(crate) fn op_named(word: &[u8]) -> Option<Op>
 }
 
 /// The fields of an operation, in the order of its operands.
-pub(crate) fn fields_of(op: Op) -> &'static [Field]
+pub fn fields_of(op: Op) -> &'static [Field]
     ensures { result.now ≡ spec.fields_of op }
 {
     match op {
@@ -33,8 +33,8 @@ pub(crate) fn fields_of(op: Op) -> &'static [Field]
     }
 }
 
-/// The mnemonic of an operation.
-fn mnemonic(op: Op) -> &'static [u8]
+/// The mnemonic of an operation, in upper case.
+pub fn mnemonic(op: Op) -> &'static [u8]
     ensures { result.now ≡ spec.mnemonic op }
 {
     match op {

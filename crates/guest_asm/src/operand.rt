@@ -12,12 +12,16 @@ use crate::error::SourceRule;
 use crate::numbers::{number_of, register_of};
 use crate::words::{is_name, next_word};
 
-/// A field of an instruction.
+/// A field of an instruction, which an operand gives.
 #[derive(Clone, Copy, Debug, PartialEq, Eq)]
-pub(crate) enum Field {
+pub enum Field {
+    /// The register that is written.
     Rd,
+    /// The first register that is read.
     Ra,
+    /// The second register that is read.
     Rb,
+    /// The number.
     Imm,
 }
 
