@@ -42,7 +42,7 @@ module _ (orders : OrderFacts) (changes : ChangeFacts) where
   unfolding put_at
   after_put P w c k value same own common =
       elim ((context w c).cell k) as (λ cell. P (put_in w c k value cell)) [
-        | Own old ↦ elim (is_there k old) as (λ b. P (if b then change_context w c (with_cell k (Own value)) else w)) [ | true ↦ own | false ↦ same ]
+        | Own old ↦ elim (is_there k old) as (λ b. P (if b then change_context w c (with_cell k (Own value)) else w)) [ true ↦ own | false ↦ same ]
         | Common g ↦ common g
       ]
 

@@ -1,6 +1,6 @@
 -- What a capability that has all keys of chosen kinds has.
-use Rattle.std.proofs.Common.{◌≡◌, ◌⊎◌, inl, inr, ◌∙◌, ◌<◌, ℕ, Bool, true, false, ap, arith, refl, length}
-use Rattle.std.specs.Prelude.{◌&&◌, ◌||◌, if◌then◌else◌, not}
+use Rattle.std.proofs.Common.{◌≡◌, ◌⊎◌, inl, inr, ◌∙◌, ◌<◌, ℕ, Bool, true, false, ap, arith, refl}
+use Rattle.std.specs.Prelude.{◌&&◌, if◌then◌else◌, not}
 use Rattle.std.specs.List.{list_any, range_with_len}
 use Rattle.std.proofs.lemmas.Bool.{or_left, or_right}
 use Rattle.std.proofs.lemmas.List.Folds.{list_any_at}
@@ -50,7 +50,7 @@ pub holder-covered : (w : World) (c : Name) (regs : Regs) (k : Key) → IsAllowe
     (holder (three_of w c regs) k ≡ c) ⊎ ((holder (three_of w c regs) k ≡ (link w c regs).0) × (has_key (link w c regs).1 k ≡ true))
 holder-covered w c regs k allowed within =
     elim (is_chosen (mask_in regs) (kind_of k)) as (λ b. is_chosen (mask_in regs) (kind_of k) ≡ b →
-        (holder (three_of w c regs) k ≡ c) ⊎ ((holder (three_of w c regs) k ≡ (link w c regs).0) × (has_key (link w c regs).1 k ≡ true))) [
+    (holder (three_of w c regs) k ≡ c) ⊎ ((holder (three_of w c regs) k ≡ (link w c regs).0) × (has_key (link w c regs).1 k ≡ true))) [
       | true ↦ λ chosen. inr (holder-kind w c regs k ∙ ap (λ b. if b then (link w c regs).0 else c) chosen, has_chosen w.size.pages (link w c regs).1 (mask_in regs) k allowed.covered within chosen)
       | false ↦ λ other. inl (holder-kind w c regs k ∙ ap (λ b. if b then (link w c regs).0 else c) other)
     ] refl

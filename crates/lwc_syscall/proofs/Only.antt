@@ -1,10 +1,9 @@
 -- What plain calls leave as it was.
-use Rattle.std.proofs.Common.{◌≡◌, ◌≢◌, ◌⊎◌, inl, inr, ◌∙◌, ◌+◌, ◌<◌, ◌≤◌, ℕ, Bool, true, false, List, [], ◌∷◌, None, Option, Some, ap, refl, length, subst, sym, arith}
+use Rattle.std.proofs.Common.{◌≡◌, ◌≢◌, ◌⊎◌, inl, inr, ◌∙◌, ◌+◌, ℕ, Bool, true, false, List, [], ◌∷◌, None, Some, ap, refl, length, subst, sym, arith}
 use Rattle.std.proofs.lemmas.Bool.Decides.{nat_tests}
 use Rattle.std.proofs.lemmas.Cmp.{tied_itself}
 use Rattle.std.specs.Ordering.{eq_by_cmp, is_eq}
-use Rattle.std.specs.Option.{option_map_or}
-use Rattle.std.specs.Prelude.{◌==◌, ◌&&◌, ◌||◌, if◌then◌else◌, is_none, map, nat_le, nat_lt, slice_index, unwrap_or}
+use Rattle.std.specs.Prelude.{◌==◌, ◌&&◌, if◌then◌else◌, is_none, map, nat_le, nat_lt, slice_index, unwrap_or}
 use Rattle.guest_call.specs.Changes.{ChangesKey, IsUntouched}
 use Rattle.guest_call.specs.Guest.{descriptor_for}
 use Rattle.lwc_base.specs.Cells.{put_at, put_page, put_slot, put_uid, uid_at, value_at, value_of}
@@ -14,14 +13,13 @@ use Rattle.lwc_base.specs.Clones.{AreApart}
 use Rattle.lwc_base.specs.Facts.{ChangeFacts, ChangesContext, OrderFacts}
 use Rattle.lwc_base.specs.Frames.{is_parting}
 use Rattle.lwc_base.specs.Keys.{ValueOf}
-use Rattle.lwc_base.specs.Mapping.{map_pages, mapped_or_not, unmap_pages, with_zeros, without_pages}
+use Rattle.lwc_base.specs.Mapping.{mapped_or_not, with_zeros, without_pages}
 use Rattle.lwc_base.specs.Memory.{bytes_for, touched}
 use Rattle.lwc_base.specs.Names.{name_cmp}
 use Rattle.lwc_base.specs.Refusals.{first_refusal}
 use Rattle.lwc_base.specs.Slots.{lowest_empty}
 use Rattle.lwc_base.specs.Store.{Piece, Stored, after_store, page_value_at, parting_count, plan, put_pages, store}
 use Rattle.lwc_base.specs.Store as stores
-use Rattle.lwc_base.specs.Summaries.{is_empty}
 use Rattle.lwc_base.specs.World.{World, Context, Counters, change_counters, context, group, is_live}
 use Rattle.lwc_base.specs.declared.descriptor.Descriptor.{Descriptor}
 use Rattle.lwc_base.specs.declared.descriptor.Descriptor.TheVariants.{Empty, File}
@@ -75,7 +73,7 @@ module _ (facts : PutFacts) (w : World) (three : Three) (keys : Key → Bool) wh
   put_on v q value is left =
       let put = facts.leaves v (holder three q) q value in
       let out : (e : Name) (k : Key) → (keys k ≡ true → AreApart w (holder three k) e k) → IsUntouched v (holder three q) q e k =
-          λ e k out same. left.apart (holder three q) e k (subst (λ r. AreApart w (holder three r) e k) same (out (subst (λ r. keys r ≡ true) (sym same) is))) in
+      λ e k out same. left.apart (holder three q) e k (subst (λ r. AreApart w (holder three r) e k) same (out (subst (λ r. keys r ≡ true) (sym same) is))) in
       record {
         only = record {
           values = λ e k untouched. put.values e k (out e k untouched) ∙ left.only.values e k untouched;

@@ -35,7 +35,12 @@ pub fn check_replays<R: AllocGlobal + Threads + Wait + Sync + Abort>(
         let schedule = replay.schedule.as_bytes();
         let left = call(rt, &guest, schedule, replay.words, SURE)?;
         assert_eq!(rt; left.status, ExitStatus::Ok, "{}", replay.report);
-        assert_eq!(rt; left.out.bytes(), replay.report.as_bytes(), "{}", replay.report);
+        assert_eq!(rt;
+            left.out.bytes(),
+            replay.report.as_bytes(),
+            "{}",
+            replay.report
+        );
     }
     Ok(())
 }
