@@ -1,3 +1,5 @@
+pub mod Coding
 pub mod Memory
 pub mod Outside
 pub mod Real
+pub mod Sure

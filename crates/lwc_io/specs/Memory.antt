@@ -1,7 +1,7 @@
 -- The files and the sink in memory, as their contracts see them.
-use Rattle.std.specs.Prelude.{ℕ, Bool, ◌&&◌, ◌||◌, List, ◌++◌, length, Option, option_map, unwrap_or, is_none, slice_get, slice_index, slice_set, bytes_eq, position, ◌==◌, nat_lt}
+use Rattle.std.specs.Prelude.{ℕ, Bool, ◌&&◌, ◌||◌, List, ◌∷◌, ◌++◌, [], length, Option, option_map, unwrap_or, is_none, slice_get, slice_index, slice_set, bytes_eq, position, ◌==◌, nat_lt}
 use Rattle.std.specs.List.{list_any}
-use Rattle.lwc_io.specs.Outside.{incremented}
+use Rattle.lwc_io.specs.Outside.{Fetch, incremented}
 
 -- a name, and the bytes of its file
 pub record Named : Type 0 where
@@ -16,12 +16,14 @@ place_of files name = unwrap_or (position (λ file. bytes_eq file.name name) fil
 abbrev pub bytes_of : List Named → List ℕ → Option (List ℕ)
 bytes_of files name = option_map (λ file. file.bytes) (slice_get files (place_of files name))
 
--- files in memory: the faults by file and last of all other names, the calls so far, and the calls that fail
+-- files in memory: the faults by file and last of all other names, the calls so far, the calls that fail, and
+-- the fetches so far
 pub record FilesInMemory : Type 0 where
   pub files : List Named
   pub faults : List ℕ
   pub calls : ℕ
   pub failing : List ℕ
+  pub fetches : List Fetch
 
 -- how often a fetch of that name failed
 abbrev pub faults_of : FilesInMemory → List ℕ → ℕ
@@ -33,14 +35,16 @@ fetch_fails state name =
     list_any (λ call. call == state.calls) state.failing || is_none (bytes_of state.files name)
 
 -- the files after a fetch
-abbrev pub after_fetch : FilesInMemory → FilesInMemory
-after_fetch state = record state { calls = incremented state.calls }
-
--- the files after a fetch of that name that failed
-abbrev pub after_failed_fetch : FilesInMemory → List ℕ → FilesInMemory
-after_failed_fetch state name = record state {
-  faults = slice_set state.faults (place_of state.files name) (incremented (faults_of state name));
+abbrev pub after_fetch : FilesInMemory → Fetch → FilesInMemory
+after_fetch state fetch = record state {
   calls = incremented state.calls;
+  fetches = state.fetches ++ fetch ∷ [];
+}
+
+-- the files with one more fault of that name
+abbrev pub with_fault : FilesInMemory → List ℕ → FilesInMemory
+with_fault state name = record state {
+  faults = slice_set state.faults (place_of state.files name) (incremented (faults_of state name));
 }
 
 -- a sink in memory: its bytes and the capacity for them, the most that it takes a call, and as for files

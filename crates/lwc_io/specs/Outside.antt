@@ -1,15 +1,31 @@
 -- What files and sinks give and take, and how they count what failed.
-use Rattle.std.specs.Prelude.{◌≡◌, ◌↔◌, ℕ, ◌+◌, ◌<◌, ◌≤◌, min, List, ◌++◌, length, take, drop, Option, option_map, IfSome}
+use Rattle.std.specs.Prelude.{◌≡◌, ◌↔◌, ℕ, ◌+◌, ◌<◌, ◌≤◌, min, List, [], ◌∷◌, ◌++◌, length, take, drop, Option, option_map, IfSome}
 
--- files as contracts see them: the contents by name, where they are known, and the faults of each name
+-- a fetch: of the file of that name, from the offset `at` on, of at most `most` bytes
+pub record Fetch : Type 0 where
+  pub name : List ℕ
+  pub at : ℕ
+  pub most : ℕ
+
+-- files as contracts see them: the contents by name, where they are known, the faults of each name, and all
+-- fetches so far, in their order
 pub record FilesView : Type 0 where
   pub contents : List ℕ → Option (List ℕ)
   pub faults : List ℕ → ℕ
+  pub fetches : List Fetch
 
 -- a sink as contracts see it: all the bytes that it took, where they are known, and its faults
 pub record SinkView : Type 0 where
   pub taken : Option (List ℕ)
   pub faults : ℕ
+
+-- a fetch of the file of that name, from the offset `at` on, into this buffer
+abbrev pub fetch_into : List ℕ → ℕ → List ℕ → Fetch
+fetch_into name at buffer = record { name = name; at = at; most = length buffer }
+
+-- the fetches, and one more
+abbrev pub with_fetch : List Fetch → List ℕ → ℕ → List ℕ → List Fetch
+with_fetch fetches name at buffer = fetches ++ fetch_into name at buffer ∷ []
 
 -- one more, or the most that a u64 can count
 abbrev pub incremented : ℕ → ℕ

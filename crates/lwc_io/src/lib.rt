@@ -1,6 +1,7 @@
 //! The outside as its callers see it: files to read, a sink to write to, and a gate to wait at.
 #![tactic(auto)]
 
+mod log;
 mod memory;
 mod outside;
 mod real;

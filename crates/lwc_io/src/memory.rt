@@ -1,8 +1,9 @@
 ghost use Rattle.std.specs.Prelude.{◌≡◌, ℕ, ◌+◌, ◌-◌, ◌<◌, ◌≤◌, ◌↔◌, min, ◌⊎◌, List, [], length, take, replicate, Some, option_copied, IfOk, IfSome, OnOk, OnErr, IsErr, IsTrue, bytes_eq, position, ◌==◌};
 ghost use Rattle.std.specs.List.{list_any};
-ghost use Rattle.lwc_io.specs.Outside.{FaultsIncreased, IsPiece};
-ghost use Rattle.lwc_io.specs.Memory.{place_of, bytes_of, faults_of, fetch_fails, after_fetch, after_failed_fetch, write_fails, after_write, after_failed_write};
+ghost use Rattle.lwc_io.specs.Outside.{FaultsIncreased, IsPiece, fetch_into};
+ghost use Rattle.lwc_io.specs.Memory.{place_of, bytes_of, faults_of, fetch_fails, after_fetch, with_fault, write_fails, after_write, after_failed_write};
 
+use crate::log::{Asked, FetchLog};
 use crate::outside::{Failed, Files, Sink};
 use std::alloc::{AllocError, Global};
 use std::marker::Model;
@@ -94,6 +95,7 @@ pub struct MemoryFiles {
     faults: Vec<u64>,
     calls: u64,
     failing: Vec<u64>,
+    log: FetchLog,
 }
 
 impl Model for MemoryFiles {
@@ -107,6 +109,7 @@ impl Model for MemoryFiles {
       faults = m.faults.items;
       calls = m.calls;
       failing = m.failing.items;
+      fetches = m.log.fetches;
     } };
 
     ghost invariant = { λ m. length m.faults.items ≡ length m.files.items + 1 };
@@ -125,6 +128,7 @@ impl MemoryFiles {
           faults = replicate (length files.items + 1) 0;
           calls = 0;
           failing = failing.items;
+          fetches = [];
         }) }
     {
         let faults = Vec::from_elem(alloc, 0, files.len() + 1)?;
@@ -133,6 +137,7 @@ impl MemoryFiles {
             faults,
             calls: 0,
             failing,
+            log: FetchLog::new(),
         })
     }
 
@@ -150,20 +155,35 @@ impl MemoryFiles {
         self.failing.contains(&self.calls)
     }
 
-    /// Counts a call that failed at that name.
+    /// Counts a call.
+    fn count_call(&mut self, asked: &Asked<'_>)
+        ensures { self.new ≡ after_fetch self.old (record {
+          name = asked.now.name.now;
+          at = asked.now.at;
+          most = asked.now.most;
+        }) }
+    {
+        self.calls = self.calls.saturating_add(1);
+        self.log = self.log.then(asked);
+    }
+
+    /// Counts a fault of that name.
     fn count_fault(&mut self, name: &str)
-        ensures counted { self.new ≡ after_failed_fetch self.old name.now }
+        ensures counted { self.new ≡ with_fault self.old name.now }
         ensures never_decreases { (q : List ℕ) → faults_of self.old q ≤ faults_of self.new q }
         ensures increased { FaultsIncreased (faults_of self.old name.now) (faults_of self.new name.now) }
     {
         let place = place_named(&self.files, name);
-        self.calls = self.calls.saturating_add(1);
         self.faults[place] = self.faults[place].saturating_add(1);
     }
 }
 
 impl Files for MemoryFiles {
-    ghost seen = { λ state. record { contents = bytes_of state.files; faults = faults_of state } };
+    ghost seen = { λ state. record {
+      contents = bytes_of state.files;
+      faults = faults_of state;
+      fetches = state.fetches;
+    } };
 
     /// Reads as many bytes as the file has and the buffer takes.
     ///
@@ -177,19 +197,18 @@ impl Files for MemoryFiles {
             (λ bytes. n ≡ min (length buffer.new) (length bytes - at))) }
         ensures piece { IfOk result (λ n. IfSome (bytes_of self.old.files name.now)
             (λ bytes. IsPiece bytes at n buffer.new)) }
-        ensures ok { OnOk result (self.new ≡ after_fetch self.old) }
-        ensures err { OnErr result (self.new ≡ after_failed_fetch self.old name.now) }
+        ensures ok { OnOk result (self.new ≡ after_fetch self.old (fetch_into name.now at buffer.old)) }
+        ensures err { OnErr result
+            (self.new ≡ with_fault (after_fetch self.old (fetch_into name.now at buffer.old)) name.now) }
         ensures never_decreases { (q : List ℕ) → faults_of self.old q ≤ faults_of self.new q }
         ensures cause { OnErr result
             (FaultsIncreased (faults_of self.old name.now) (faults_of self.new name.now)) }
     {
         let fails_next = self.fails_next();
+        let most = buffer.len();
+        self.count_call(&Asked { name, at, most });
         match bytes_named(&self.files, name) {
-            Some(bytes) if !fails_next => {
-                let count = copy_piece(bytes, at, buffer);
-                self.calls = self.calls.saturating_add(1);
-                Ok(count)
-            }
+            Some(bytes) if !fails_next => Ok(copy_piece(bytes, at, buffer)),
             _ => {
                 self.count_fault(name);
                 Err(Failed)

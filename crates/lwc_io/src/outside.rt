@@ -1,5 +1,5 @@
-ghost use Rattle.std.specs.Prelude.{◌≡◌, ℕ, ◌<◌, ◌≤◌, List, length, take, IfOk, IfSome, OnErr};
-ghost use Rattle.lwc_io.specs.Outside.{FaultsIncreased, FilesView, IsPiece, SinkView, appended};
+ghost use Rattle.std.specs.Prelude.{◌≡◌, ℕ, ◌<◌, ◌≤◌, List, length, take, IfOk, IfSome, OnErr, OnOk};
+ghost use Rattle.lwc_io.specs.Outside.{FaultsIncreased, FilesView, IsPiece, SinkView, appended, with_fetch};
 
 use std::sync::Wait;
 use thiserror::Error;
@@ -11,13 +11,13 @@ pub struct Failed;
 
 /// Files that are fetched piece by piece, by their names.
 pub trait Files {
-    /// The contents of each file by its name, where they are known, and how often a fetch of each name
-    /// failed.
+    /// The contents of each file by its name, where they are known, how often a fetch of each name failed,
+    /// and all fetches so far.
     ghost seen: { Self → FilesView };
 
     /// Reads bytes of the file from the offset `at` on into the front of the buffer, and returns their
     /// number. With a buffer that is not empty, 0 says that the file ends at `at` or before it. No contents
-    /// change.
+    /// change, and no count of faults does unless it fails.
     ///
     /// # Errors
     ///
@@ -30,7 +30,9 @@ pub trait Files {
         ensures same { (seen self.new).contents ≡ (seen self.old).contents }
         ensures never_decreases { (q : List ℕ) → (seen self.old).faults q ≤ (seen self.new).faults q }
         ensures cause { OnErr result
-            (FaultsIncreased ((seen self.old).faults name.now) ((seen self.new).faults name.now)) };
+            (FaultsIncreased ((seen self.old).faults name.now) ((seen self.new).faults name.now)) }
+        ensures no_fault { OnOk result ((seen self.new).faults ≡ (seen self.old).faults) }
+        ensures logged { (seen self.new).fetches ≡ with_fetch (seen self.old).fetches name.now at buffer.old };
 }
 
 /// What takes bytes, piece by piece.
@@ -39,7 +41,7 @@ pub trait Sink {
     ghost seen: { Self → SinkView };
 
     /// Takes bytes from the front of the piece and returns their number, which is at least one if the piece
-    /// is not empty.
+    /// is not empty. Then the count of faults is as before.
     ///
     /// # Errors
     ///
@@ -51,14 +53,19 @@ pub trait Sink {
             (seen self.new).taken ≡ appended (seen self.old).taken (take n piece.now)) }
         ensures kept { OnErr result ((seen self.new).taken ≡ (seen self.old).taken) }
         ensures never_decreases { (seen self.old).faults ≤ (seen self.new).faults }
-        ensures cause { OnErr result (FaultsIncreased (seen self.old).faults (seen self.new).faults) };
+        ensures cause { OnErr result (FaultsIncreased (seen self.old).faults (seen self.new).faults) }
+        ensures no_fault { OnOk result ((seen self.new).faults ≡ (seen self.old).faults) };
 }
 
 /// Where threads may be made to wait before their turns.
 pub trait Gate: Sync {
+    /// The leave to come to the gate. A call that is not given it cannot wait there.
+    ghost leave: { Self → Type 0 };
+
     /// Called before a thread takes a turn; the first turn of each thread is turn 0. It promises
     /// nothing, and may wait.
-    fn before<R: Wait>(&self, rt: &R, thread: u32, turn: u64);
+    fn before<R: Wait>(&self, rt: &R, thread: u32, turn: u64)
+        requires leave { leave self.now };
 }
 
 /// A gate at which nobody waits.
@@ -66,6 +73,8 @@ pub trait Gate: Sync {
 pub struct OpenGate;
 
 impl Gate for OpenGate {
+    ghost leave = { λ _. Unit {0} };
+
     /// Returns at once.
     fn before<R: Wait>(&self, _rt: &R, _thread: u32, _turn: u64) {}
 }

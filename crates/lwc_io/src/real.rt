@@ -1,6 +1,7 @@
-ghost use Rattle.std.specs.Prelude.{◌≡◌, ◌<◌, ◌≤◌, None, length, IfOk, OnOk, OnErr};
-ghost use Rattle.lwc_io.specs.Outside.{incremented};
+ghost use Rattle.std.specs.Prelude.{◌≡◌, ◌<◌, ◌≤◌, [], None, length, IfOk, OnOk, OnErr};
+ghost use Rattle.lwc_io.specs.Outside.{incremented, with_fetch};
 
+use crate::log::{Asked, FetchLog};
 use crate::outside::{Failed, Files, Sink};
 use std::fs::File;
 use std::io::{self, ErrorKind, Read, Seek, SeekFrom, Write};
@@ -11,23 +12,33 @@ use std::rt;
 #[derive(Drop)]
 pub struct RealFiles<R> {
     rt: R,
+    // Of all names together.
     faults: u64,
+    log: FetchLog,
 }
 
 impl<R> Model for RealFiles<R> {
-    ghost use Rattle.lwc_io.specs.Real.{Counted};
+    ghost use Rattle.lwc_io.specs.Real.{SystemFiles};
 
-    ghost Value = { Counted R };
+    ghost Value = { SystemFiles R };
 
-    ghost view = { λ files. record { inner = files.rt; faults = files.faults } };
+    ghost view = { λ files. record {
+      runtime = files.rt;
+      faults = files.faults;
+      fetches = files.log.fetches;
+    } };
 }
 
 impl<R: rt::Files> RealFiles<R> {
     /// The files that the runtime reaches.
     pub fn new(rt: R) -> Self
-        ensures { result ≡ record { inner = rt; faults = 0 } }
+        ensures { result ≡ record { runtime = rt; faults = 0; fetches = [] } }
     {
-        RealFiles { rt, faults: 0 }
+        RealFiles {
+            rt,
+            faults: 0,
+            log: FetchLog::new(),
+        }
     }
 
     /// Opens the file anew and reads one piece.
@@ -54,7 +65,11 @@ fn read_some<R: Read>(reader: &mut R, buffer: &mut [u8]) -> io::Result<usize>
 }
 
 impl<R: rt::Files> Files for RealFiles<R> {
-    ghost seen = { λ files. record { contents = λ _. None; faults = λ _. files.faults } };
+    ghost seen = { λ files. record {
+      contents = λ _. None;
+      faults = λ _. files.faults;
+      fetches = files.fetches;
+    } };
 
     /// Opens the file and reads once at that offset. It may read less than the buffer takes.
     ///
@@ -64,10 +79,16 @@ impl<R: rt::Files> Files for RealFiles<R> {
     /// folder. It increments the count, which all names share.
     fn fetch(&mut self, name: &str, at: u64, buffer: &mut [u8]) -> Result<usize, Failed>
         ensures count { IfOk result (λ n. n ≤ length buffer.new) }
-        ensures ok { OnOk result (self.new ≡ self.old) }
-        ensures err { OnErr result (self.new ≡ record self.old { faults = incremented self.old.faults }) }
+        ensures ok { OnOk result (self.new ≡ record self.old { fetches = self.new.fetches }) }
+        ensures err { OnErr result (self.new ≡ record self.old {
+          faults = incremented self.old.faults;
+          fetches = self.new.fetches;
+        }) }
         ensures never_decreases { self.old.faults ≤ self.new.faults }
+        ensures logged { self.new.fetches ≡ with_fetch self.old.fetches name.now at buffer.old }
     {
+        let most = buffer.len();
+        self.log = self.log.then(&Asked { name, at, most });
         match self.read_piece(name, at, buffer) {
             Ok(count) => Ok(count),
             Err(_) => {
@@ -99,24 +120,24 @@ fn write_some<W: Write>(writer: &mut W, piece: &[u8]) -> io::Result<usize>
 }
 
 impl<W> Model for RealSink<W> {
-    ghost use Rattle.lwc_io.specs.Real.{Counted};
+    ghost use Rattle.lwc_io.specs.Real.{SystemSink};
 
-    ghost Value = { Counted W };
+    ghost Value = { SystemSink W };
 
-    ghost view = { λ sink. record { inner = sink.writer; faults = sink.faults } };
+    ghost view = { λ sink. record { writer = sink.writer; faults = sink.faults } };
 }
 
 impl<W: Write> RealSink<W> {
     /// A sink that writes to the writer.
     pub fn new(writer: W) -> Self
-        ensures { result ≡ record { inner = writer; faults = 0 } }
+        ensures { result ≡ record { writer = writer; faults = 0 } }
     {
         RealSink { writer, faults: 0 }
     }
 
     /// The writer, with all that it was given.
     pub fn into_inner(self) -> W
-        ensures { result ≡ self.inner }
+        ensures { result ≡ self.writer }
     {
         let RealSink { writer, faults: _ } = self;
         writer

@@ -1,6 +1,7 @@
 ghost use Rattle.std.specs.Prelude.{◌≡◌, Some, None, unwrap_or, []};
 ghost use Rattle.lwc_io.specs.Memory.{bytes_of};
 
+use crate::log::{Asked, FetchLog};
 use crate::memory::{NamedFile, bytes_named, copy_piece};
 use crate::outside::{Failed, Files, Sink};
 use std::marker::Model;
@@ -9,34 +10,38 @@ use std::marker::Model;
 #[derive(Drop)]
 pub struct SureFiles {
     files: Vec<NamedFile>,
+    log: FetchLog,
 }
 
 impl Model for SureFiles {
-    ghost use Rattle.std.specs.Prelude.{List};
-    ghost use Rattle.lwc_io.specs.Memory.{Named};
+    ghost use Rattle.lwc_io.specs.Sure.{FilesThatNeverFail};
 
-    ghost Value = { List Named };
+    ghost Value = { FilesThatNeverFail };
 
-    ghost view = { λ s. s.files.items };
+    ghost view = { λ s. record { files = s.files.items; fetches = s.log.fetches } };
 }
 
 impl SureFiles {
     /// These files; where two have one name, the first counts.
     pub fn new(files: Vec<NamedFile>) -> Self
-        ensures { result ≡ files.items }
+        ensures { result ≡ record { files = files.items; fetches = [] } }
     {
-        SureFiles { files }
+        let log = FetchLog::new();
+        SureFiles { files, log }
     }
 }
 
 impl Files for SureFiles {
-    ghost seen = { λ files. record {
-      contents = λ name. Some (unwrap_or (bytes_of files name) []);
+    ghost seen = { λ state. record {
+      contents = λ name. Some (unwrap_or (bytes_of state.files name) []);
       faults = λ _. 0;
+      fetches = state.fetches;
     } };
 
     /// Reads as many bytes as the file has and the buffer takes. Never fails.
     fn fetch(&mut self, name: &str, at: u64, buffer: &mut [u8]) -> Result<usize, Failed> {
+        let most = buffer.len();
+        self.log = self.log.then(&Asked { name, at, most });
         let bytes = bytes_named(&self.files, name).unwrap_or(&[]);
         Ok(copy_piece(bytes, at, buffer))
     }
