@@ -1,4 +1,4 @@
-; two contexts that share page 0: what one stores, the other loads
+; shares page 0 with one new context and copies it into another: what the first one stores, the second one does not see
 .entry 0
 .page 0 05
 .page 1 00000000010000000000000001000000

@@ -20,7 +20,7 @@ SYS 17
 end: HALT
 ";
 
-/// Two new contexts have page 0 in common: what one stores, the other loads.
+/// Page 0 is shared with one new context and copied into another: what the first one stores, the second one does not see.
 const SHARED_PAGES: &str = ".entry 0
 .page 0 05
 .page 1 00000000010000000000000001000000

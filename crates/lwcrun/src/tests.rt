@@ -154,9 +154,9 @@ pub struct Left {
 /// How the outside of a call behaves: which fetch fails, how many bytes a write takes at most, and which write fails.
 #[derive(Clone, Copy)]
 pub struct Outside {
-    fetch: u64,
-    most: usize,
-    write: u64,
+    pub fetch: u64,
+    pub most: usize,
+    pub write: u64,
 }
 
 /// An outside in which nothing fails.
@@ -202,7 +202,7 @@ pub fn call<R: AllocGlobal + Threads + Wait + Sync>(
 pub const REPLAY: [&str; 3] = ["replay", "guest", "schedule"];
 
 /// The report of `store_load` under three steps.
-const STORED: &str =
+pub const STORED: &str =
     "thread 0 done 0 ctx 0.0 pc 3\nregs 0 0 7 7 0 0 0 0 0 0 0 0 0 0 0 0 0\ncontext 0.0 pages 1 slots 2 uid 0\n\
     groups 0\nconsole -\nused 1\npeak 1\nsteps 3\nschedule 000\n";
 
@@ -446,49 +446,6 @@ fn inputs_are_refused_with_rule_and_offset(rt: HostRuntime) -> Result<(), Fail> 
         assert_eq!(rt; left.err.bytes(), said.as_bytes());
         assert_eq!(rt; left.out.bytes().len(), 0);
     }
-    Ok(())
-}
-
-#[test]
-fn a_fetch_that_fails_is_reported_with_its_file(rt: HostRuntime) -> Result<(), Fail> {
-    let guest = image(rt.alloc(), &STORE_LOAD, &[ZEROS], &[0])?;
-    let none = call(&rt, &guest, b"000", &["replay", "none", "schedule"], SURE)?;
-    assert_eq!(rt; none.status, ExitStatus::ReadFault);
-    assert_eq!(rt; none.err.bytes(), b"lwcrun: cannot read none\n".as_slice());
-    // Each file is fetched once for its bytes and once for its end.
-    for fetch in 0..5 {
-        let left = call(&rt, &guest, b"000", &REPLAY, Outside { fetch, ..SURE })?;
-        let said = match fetch {
-            0 | 1 => "lwcrun: cannot read guest\n",
-            2 | 3 => "lwcrun: cannot read schedule\n",
-            _ => "",
-        };
-        assert_eq!(rt; left.err.bytes(), said.as_bytes(), "at fetch {fetch}");
-        assert_eq!(rt; left.status == ExitStatus::Ok, fetch == 4);
-        assert_eq!(rt; left.out.bytes().is_empty(), fetch != 4);
-    }
-    Ok(())
-}
-
-#[test]
-fn a_write_that_fails_leaves_the_first_bytes_of_the_text(rt: HostRuntime) -> Result<(), Fail> {
-    let guest = image(rt.alloc(), &STORE_LOAD, &[ZEROS], &[0])?;
-    for write in 0..STORED.len() + 1 {
-        let outside = Outside {
-            most: 1,
-            write: write as u64,
-            ..SURE
-        };
-        let left = call(&rt, &guest, b"000", &REPLAY, outside)?;
-        assert_eq!(rt; Some(left.out.bytes()), STORED.as_bytes().get(..write));
-        assert_eq!(rt; left.status == ExitStatus::Ok, write == STORED.len());
-        assert_eq!(rt;
-            left.err.bytes() == b"lwcrun: cannot write\n".as_slice(),
-            write < STORED.len()
-        );
-    }
-    let none = call(&rt, &guest, b"000", &REPLAY, Outside { most: 0, ..SURE })?;
-    assert_eq!(rt; none.status, ExitStatus::WriteFault);
     Ok(())
 }
 

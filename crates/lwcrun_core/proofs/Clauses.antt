@@ -1,6 +1,7 @@
 -- What the exit status of a call says, from how the call ended.
-use Rattle.std.proofs.Common.{◌≡◌, ◌≢◌, ◌⊎◌, ◌<◌, ◌≤◌, inl, inr, ℕ, Bool, true, false, cond, List, [], Option, None, Some, Result, Ok, Err, length, refl, sym, subst, ap, ◌∙◌, arith, All}
+use Rattle.std.proofs.Common.{◌≡◌, ◌≢◌, ◌⊎◌, ◌<◌, ◌≤◌, inl, inr, ℕ, Bool, true, false, cond, List, [], ◌++◌, Option, None, Some, Result, Ok, Err, length, refl, sym, subst, ap, ◌∙◌, arith, All}
 use Rattle.std.proofs.lemmas.Bool.{le-ltb, ltb-false}
+use Rattle.std.proofs.lemmas.List.Elements.{All-append, All-nil, All-same, All-weaker}
 use Rattle.std.specs.Prelude.{nat_lt}
 use Rattle.byte_reading.specs.Outcomes.{Refusal}
 use Rattle.guest_image.specs.Facts.{ReadingFacts}
@@ -9,22 +10,22 @@ use Rattle.guest_image.specs.Reading.{image_at}
 use Rattle.guest_image.specs.Spelling.{spelling}
 use Rattle.guest_image.specs.declared.image.Image.{Image}
 use Rattle.kernel_core.specs.declared.settings.Settings.{Settings}
-use Rattle.lwc_io.specs.Outside.{appended}
+use Rattle.lwc_io.specs.Outside.{Fetch, FilesView, appended}
 use Rattle.lwc_text.specs.Facts.{ScheduleFacts}
 use Rattle.lwc_text.specs.Schedules.{IsSchedule, schedule_at}
 use Rattle.lwcrun_core.specs.declared.ending.Rejection.{Rejection}
 use Rattle.lwcrun_core.specs.declared.ending.Rejection.TheVariants as rejections
 use Rattle.lwcrun_core.specs.declared.status.ExitStatus.{ExitStatus}
 use Rattle.lwcrun_core.specs.declared.status.ExitStatus.TheVariants as statuses
-use Rattle.lwcrun_core.specs.Calls.{AreContents, CallEnded, FileFailed, Headline, IsOrNoMemory, IsRejected, IsRunnable, IsUndisturbed, Names, NoFault, status_by}
-use Rattle.lwcrun_core.specs.Ends.{End, Outside, Ended, FetchFailed, IsUnwritten, NothingFailed, WriteFailed, end_by}
+use Rattle.lwcrun_core.specs.Calls.{AreContents, CallEnded, FetchesNamed, FetchesPlan, FileFailed, Headline, IsOrNoMemory, IsRejected, IsRunnable, IsUndisturbed, Names, NoFault, status_by}
+use Rattle.lwcrun_core.specs.Ends.{End, Outside, Ended, FetchFailed, IsUnhindered, IsUnwritten, NothingFailed, WriteFailed, end_by}
 use Rattle.lwcrun_core.specs.Ends as ends
 use Rattle.lwcrun_core.specs.Headline.{IsText, Work, after_image, after_size, plan_of, replay_plan, run_inputs, text_of}
 use Rattle.lwcrun_core.specs.Headline as works
 use Rattle.lwcrun_core.specs.Images.{image_of, or_rejected, schedule_of}
 use Rattle.lwcrun_core.specs.Lines.{Command}
 use Rattle.lwcrun_core.specs.Lines as commands
-use Rattle.lwcrun_core.specs.Plans.{Plan, FileContents, LeadsTo, Reads, AreKnown, accepted, outcome}
+use Rattle.lwcrun_core.specs.Plans.{Plan, AreFetchesOf, FileContents, LeadsTo, Reads, AreKnown, accepted, outcome}
 use Rattle.lwcrun_core.specs.Plans as plans
 use Rattle.lwcrun_core.specs.Statuses.{exit_number, status_of, status_of_rejection}
 use Rattle.lwcrun_core.proofs.Promises.{known_bytes, leads_known, settled}
@@ -57,8 +58,8 @@ reads_names files (commands.Replay image schedule settings) q (inr h) = inr (rea
 are_known : (files : FileContents) (command : Command) (bytes : List ℕ → List ℕ) → AreContents files command bytes → AreKnown files (plan_of command) bytes
 are_known files command bytes h q reads = h q (reads_names files command q reads)
 
-nothing_failed : (o : Outside) (command : Command) → NoFault o command → NothingFailed o (plan_of command)
-nothing_failed o command h = record {
+unhindered : (o : Outside) (command : Command) → NoFault o command → IsUnhindered o (plan_of command)
+unhindered o command h = record {
   files = λ q reads. h.files q (reads_names o.files.contents command q reads);
   out = h.out;
 }
@@ -192,6 +193,36 @@ untouched o command (ends.Unread name) not_done not_cut h = h.2
 untouched o command ends.Unwritten not_done not_cut h = absurd (not_cut refl)
 untouched o command (ends.Refused rejection) not_done not_cut h = h.1
 
+-- at the other ends nothing failed
+fine : (o : Outside) (command : Command) (e : End Rejection) → status_of e ≢ statuses.NoMemory → status_of e ≢ statuses.ReadFault → status_of e ≢ statuses.WriteFault → Ended IsText o (plan_of command) e → NothingFailed o
+unfolding Ended
+fine o command ends.Done memory read written h = h.3
+fine o command ends.NoMemory memory read written h = absurd (memory refl)
+fine o command ends.Usage memory read written h = absurd h
+fine o command (ends.Unread name) memory read written h = absurd (read refl)
+fine o command ends.Unwritten memory read written h = absurd (written refl)
+fine o command (ends.Refused rejection) memory read written h = record { files = h.2; out = ap (λ s. s.faults) h.1 }
+
+-- each fetch of a plan is of a file that it reads
+fetches_read : {R W : Type 0} (files : FileContents) (p : Plan R W) (made : List Fetch) → AreFetchesOf files p made → All (λ f. Reads files p f.name) made
+fetches_read files (plans.Read name limit next) made (inl h) = All-weaker (λ f. f.name ≡ name) (λ f. Reads files (plans.Read name limit next) f.name) (λ f is. inl is) made h.named
+fetches_read files (plans.Read name limit next) made (inr (first, rest, is, h, (bytes, may, more))) =
+    let P : Fetch → Type 0 = λ f. Reads files (plans.Read name limit next) f.name in
+    All-same P made (first ++ rest) is (All-append P first rest
+      (All-weaker (λ f. f.name ≡ name) P (λ f here. inl here) first h.named)
+      (All-weaker (λ f. Reads files (next bytes) f.name) P (λ f there. inr (bytes, may, there)) rest (fetches_read files (next bytes) rest more)))
+fetches_read {R} {W} files (plans.Refuse refusal) made is = All-same (λ f. Reads {R = R} {W = W} files (plans.Refuse refusal) f.name) made [] is (All-nil _)
+fetches_read {R} {W} files (plans.Write work) made is = All-same (λ f. Reads {R = R} {W = W} files (plans.Write work) f.name) made [] is (All-nil _)
+
+-- no file but those of the line is fetched
+pub fetches_named : (files after : FilesView) (asked : Option Command) → FetchesPlan asked files after → FetchesNamed asked files after
+fetches_named files after None same = same
+fetches_named files after (Some command) h = (
+  h.0, h.1,
+  All-weaker (λ f. Reads files.contents (plan_of command) f.name) (λ f. Names command f.name)
+      (λ f reads. reads_names files.contents command f.name reads) h.0 (fetches_read files.contents (plan_of command) h.0 h.2),
+)
+
 -- the clauses of the call
 
 module _ (o : Outside) (asked : Option Command) (result : ExitStatus) (e : End Rejection) (ended : CallEnded o asked e) (answered : result ≡ status_of e) where
@@ -220,7 +251,7 @@ module _ (o : Outside) (asked : Option Command) (result : ExitStatus) (e : End R
 
   pub ends_by : (command : Command) (bytes : List ℕ → List ℕ) → asked ≡ Some command → IsUndisturbed o command bytes → IsOrNoMemory result (status_by (outcome bytes (plan_of command)))
   ends_by command bytes is calm =
-      by_end (settled IsText o (plan_of command) bytes (are_known o.files.contents command bytes calm.contents) e (ended_asked command is) (nothing_failed o command calm.faults))
+      by_end (settled IsText o (plan_of command) bytes (are_known o.files.contents command bytes calm.contents) e (ended_asked command is) (unhindered o command calm.faults))
     where
       by_end : (e ≡ ends.NoMemory) ⊎ (e ≡ end_by (outcome bytes (plan_of command))) → IsOrNoMemory result (status_by (outcome bytes (plan_of command)))
       by_end (inl m) = inr (answered ∙ ap status_of m)
@@ -276,3 +307,13 @@ module _ (o : Outside) (asked : Option Command) (result : ExitStatus) (e : End R
       by_asked : (a : Option Command) → asked ≡ a → IsUnwritten o
       by_asked None q = (subst (λ a. CallEnded o a e) q ended).1
       by_asked (Some command) q = untouched o command e (λ is. not_ok (answered ∙ ap status_of is)) (λ is. not_cut (answered ∙ ap status_of is)) (ended_asked command q)
+
+  pub no_fault : result ≢ statuses.NoMemory → result ≢ statuses.ReadFault → result ≢ statuses.WriteFault → NothingFailed o
+  unfolding CallEnded
+  no_fault memory read written = by_asked asked refl
+    where
+      by_asked : (a : Option Command) → asked ≡ a → NothingFailed o
+      by_asked None q =
+          (let h = subst (λ a. CallEnded o a e) q ended in
+          record { files = ap (λ f. f.faults) h.2; out = ap (λ s. s.faults) h.1 })
+      by_asked (Some command) q = fine o command e (λ is. memory (answered ∙ is)) (λ is. read (answered ∙ is)) (λ is. written (answered ∙ is)) (ended_asked command q)

@@ -1,9 +1,11 @@
 -- What has been read of a file, piece by piece.
-use Rattle.std.proofs.Common.{◌≡◌, ◌≤◌, ◌<◌, ℕ, ◌+◌, List, [], ◌++◌, Option, None, Some, IfSome, take, drop, length, refl, ap, sym, subst, ◌∙◌, arith, length-append, length-take}
-use Rattle.std.proofs.Math.Nat.{le_trans}
+use Rattle.std.proofs.Common.{◌≡◌, ◌≤◌, ◌<◌, ℕ, ◌+◌, List, [], ◌∷◌, ◌++◌, Option, None, Some, IfSome, All, take, drop, length, refl, ap, sym, subst, ◌∙◌, append_assoc, arith, length-append, length-take}
 use Rattle.std.proofs.Math.Seq.{take-add}
-use Rattle.lwc_io.specs.Outside.{FilesView, IsPiece, MayBeContents}
-use Rattle.lwcrun_core.specs.Reading.{MayBeginWith, MayExceed}
+use Rattle.std.proofs.lemmas.List.{append-nil}
+use Rattle.std.proofs.lemmas.List.Elements.{All-get_or, All-nil, All-push, All-weaker}
+use Rattle.std.proofs.lemmas.List.Quantifiers.{all_pairs_push}
+use Rattle.lwc_io.specs.Outside.{FaultsIncreased, Fetch, FilesView, IsPiece, MayBeContents}
+use Rattle.lwcrun_core.specs.Reading.{Fetched, MayBeginWith, MayExceed, ReadsOnward}
 
 length-taken : (n : ℕ) (xs : List ℕ) → n ≤ length xs → length (take n xs) ≡ n
 length-taken n xs h = omega (arith, length-take n xs)
@@ -30,13 +32,52 @@ begins_empty : (contents : Option (List ℕ)) (bytes : List ℕ) → bytes ≡ [
 begins_empty None bytes e = tt
 begins_empty (Some known) bytes e = ap (λ xs. take (length xs) known) e ∙ sym e
 
--- a part of a file was read, into a buffer of 65536 bytes; no contents have changed, and no count of faults has decreased
+-- fetches that read onward, each from before the n-th byte
+pub record ReadsBefore (name : List ℕ) (limit n : ℕ) (fetches : List Fetch) : Type 0 where
+  pub onward : ReadsOnward name limit fetches
+  pub before : All (λ f. f.at < n) fetches
+
+-- no fetches read onward
+pub none_onward : (name : List ℕ) (limit : ℕ) → ReadsOnward name limit []
+none_onward name limit = record {
+  named = All-nil (λ f. f.name ≡ name);
+  within = All-nil (λ f. (0 < f.most) × (f.at + f.most ≤ limit + 1));
+  onward = λ i j d earlier inside. absurd (omega (arith, inside));
+}
+
+-- a fetch of the n-th byte and more
+abbrev from_byte : List ℕ → ℕ → ℕ → Fetch
+from_byte name n most = record { name = name; at = n; most = most }
+
+one_more : (name : List ℕ) (limit n most later : ℕ) (fetches : List Fetch) → ReadsBefore name limit n fetches → 0 < most → n + most ≤ limit + 1 → n < later → ReadsBefore name limit later (fetches ++ from_byte name n most ∷ [])
+one_more name limit n most later fetches h some fits grows = record {
+  onward = record {
+    named = All-push (λ f. f.name ≡ name) fetches (from_byte name n most) h.onward.named refl;
+    within = All-push (λ f. (0 < f.most) × (f.at + f.most ≤ limit + 1)) fetches (from_byte name n most) h.onward.within (some, fits);
+    onward = all_pairs_push (λ f g. f.at < g.at) fetches (from_byte name n most) h.onward.onward (λ k d inside. All-get_or (λ f. f.at < n) fetches k d inside h.before);
+  };
+  before = All-push (λ f. f.at < later) fetches (from_byte name n most) (All-weaker (λ f. f.at < n) (λ f. f.at < later) (λ f earlier. omega (arith, earlier, grows)) fetches h.before) grows;
+}
+
+fetched_more : (before mid after : List Fetch) (name : List ℕ) (limit n most later : ℕ) → Fetched (ReadsBefore name limit n) before mid → after ≡ mid ++ from_byte name n most ∷ [] → 0 < most → n + most ≤ limit + 1 → n < later → Fetched (ReadsBefore name limit later) before after
+fetched_more before mid after name limit n most later (made, is, h) logged some fits grows = (
+  made ++ from_byte name n most ∷ [],
+  logged ∙ ap (λ xs. xs ++ from_byte name n most ∷ []) is ∙ append_assoc before made (from_byte name n most ∷ []),
+  one_more name limit n most later made h some fits grows,
+)
+
+-- a part of a file was read, into a buffer of 65536 bytes; no contents have changed, and no fetch failed
 pub record ReadSoFar (files after : FilesView) (name : List ℕ) (limit : ℕ) (bytes : List ℕ) (buffer : ℕ) : Type 0 where
   pub begins : MayBeginWith (files.contents name) bytes
   pub short : length bytes ≤ limit + 1
   pub same : after.contents ≡ files.contents
-  pub never_decreases : (q : List ℕ) → files.faults q ≤ after.faults q
+  pub faults : after.faults ≡ files.faults
+  pub fetched : Fetched (ReadsBefore name limit (length bytes)) files.fetches after.fetches
   pub chunk : buffer ≡ 65536
+
+-- nothing was fetched so far
+pub nothing_fetched : {P : List Fetch → Type 0} (fetches : List Fetch) → P [] → Fetched P fetches fetches
+nothing_fetched fetches holds = ([], sym (append-nil fetches), holds)
 
 -- nothing was read so far
 pub nothing_read : (files : FilesView) (name : List ℕ) (limit : ℕ) (bytes : List ℕ) (buffer : ℕ) → bytes ≡ [] → buffer ≡ 65536 → ReadSoFar files files name limit bytes buffer
@@ -44,21 +85,41 @@ nothing_read files name limit bytes buffer none chunk = record {
   begins = begins_empty (files.contents name) bytes none;
   short = omega (arith, ap length none);
   same = refl;
-  never_decreases = λ q. omega arith;
+  faults = refl;
+  fetched = nothing_fetched files.fetches (record { onward = none_onward name limit; before = All-nil (λ f. f.at < length bytes) });
   chunk = chunk;
 }
 
--- one more piece was read
-pub more_read : (files mid after : FilesView) (name : List ℕ) (limit : ℕ) (bytes bytes_now : List ℕ) (buffer buffer_now : ℕ) →
-    ReadSoFar files mid name limit bytes buffer → MayBeginWith (mid.contents name) bytes_now → length bytes_now ≤ limit + 1 → after.contents ≡ mid.contents → ((q : List ℕ) → mid.faults q ≤ after.faults q) → buffer_now ≡ buffer →
-    ReadSoFar files after name limit bytes_now buffer_now
-more_read files mid after name limit bytes bytes_now buffer buffer_now so_far begins short same rises chunk = record {
-  begins = (let P : (List ℕ → Option (List ℕ)) → Type 0 = λ f. MayBeginWith (f name) bytes_now in subst P so_far.same begins);
-  short = short;
-  same = same ∙ so_far.same;
-  never_decreases = λ q. le_trans (so_far.never_decreases q) (rises q);
-  chunk = chunk ∙ so_far.chunk;
-}
+-- what was fetched of a file of which a part was read
+pub fetched_so_far : (files after : FilesView) (name : List ℕ) (limit : ℕ) (bytes : List ℕ) (buffer : ℕ) → ReadSoFar files after name limit bytes buffer → Fetched (ReadsOnward name limit) files.fetches after.fetches
+fetched_so_far files after name limit bytes buffer so_far = (so_far.fetched.0, so_far.fetched.1, so_far.fetched.2.onward)
+
+module _ (files mid after : FilesView) (name : List ℕ) (limit : ℕ) (bytes : List ℕ) (buffer at most : ℕ) (so_far : ReadSoFar files mid name limit bytes buffer) (is_at : at ≡ length bytes) (logged : after.fetches ≡ mid.fetches ++ from_byte name at most ∷ []) (some : 0 < most) (fits : at + most ≤ limit + 1) where
+  next_fetched : (later : ℕ) → length bytes < later → Fetched (ReadsBefore name limit later) files.fetches after.fetches
+  next_fetched later grows =
+      fetched_more files.fetches mid.fetches after.fetches name limit (length bytes) most later so_far.fetched
+      (logged ∙ ap (λ n. mid.fetches ++ from_byte name n most ∷ []) is_at) some (omega (arith, fits, is_at)) grows
+
+  -- what was fetched with one more piece
+  pub fetched_next : Fetched (ReadsOnward name limit) files.fetches after.fetches
+  fetched_next =
+      let more = next_fetched (length bytes + 1) (omega arith) in
+      (more.0, more.1, more.2.onward)
+
+  -- one more piece was read, which was not empty
+  pub more_read : (bytes_now : List ℕ) (buffer_now : ℕ) → MayBeginWith (mid.contents name) bytes_now → length bytes_now ≤ limit + 1 → length bytes < length bytes_now → after.contents ≡ mid.contents → after.faults ≡ mid.faults → buffer_now ≡ buffer → ReadSoFar files after name limit bytes_now buffer_now
+  more_read bytes_now buffer_now begins short grows same faults chunk = record {
+    begins = (let P : (List ℕ → Option (List ℕ)) → Type 0 = λ f. MayBeginWith (f name) bytes_now in subst P so_far.same begins);
+    short = short;
+    same = same ∙ so_far.same;
+    faults = faults ∙ so_far.faults;
+    fetched = next_fetched (length bytes_now) grows;
+    chunk = chunk ∙ so_far.chunk;
+  }
+
+-- a count that has increased since it was what it was at first
+pub increased_by_then : (files mid after : FilesView) (name : List ℕ) → mid.faults ≡ files.faults → FaultsIncreased (mid.faults name) (after.faults name) → FaultsIncreased (files.faults name) (after.faults name)
+increased_by_then files mid after name same rose = (let P : (List ℕ → ℕ) → Type 0 = λ f. FaultsIncreased (f name) (after.faults name) in subst P same rose)
 
 -- the same bytes under another name
 pub same_contents : (contents : Option (List ℕ)) (bytes now : List ℕ) → now ≡ bytes → MayBeContents contents bytes → MayBeContents contents now

@@ -15,19 +15,19 @@ pub takes_none : (before : Option (List ℕ)) → before ≡ appended before []
 takes_none None = refl
 takes_none (Some xs) = grind (arith, common_steps)
 
--- the first `at` bytes of a text have been taken, and the count of faults has not decreased
+-- the first `at` bytes of a text have been taken, and no write failed
 pub record TakenSoFar (before now : SinkView) (at : ℕ) (text : List ℕ) : Type 0 where
   pub within : at ≤ length text
   pub taken : now.taken ≡ appended before.taken (take at text)
-  pub never_decreases : before.faults ≤ now.faults
+  pub faults : now.faults ≡ before.faults
 
 -- what is taken next of the rest of the text
-pub more_taken : (before mid now : SinkView) (at n : ℕ) (text : List ℕ) → TakenSoFar before mid at text → n ≤ length (take (length text - at) (drop at text)) → now.taken ≡ appended mid.taken (take n (take (length text - at) (drop at text))) → mid.faults ≤ now.faults → TakenSoFar before now (at + n) text
-more_taken before mid now at n text so_far fits next rises =
+pub more_taken : (before mid now : SinkView) (at n : ℕ) (text : List ℕ) → TakenSoFar before mid at text → n ≤ length (take (length text - at) (drop at text)) → now.taken ≡ appended mid.taken (take n (take (length text - at) (drop at text))) → now.faults ≡ mid.faults → TakenSoFar before now (at + n) text
+more_taken before mid now at n text so_far fits next same =
     let rest : take (length text - at) (drop at text) ≡ drop at text = take_rest text at in
     let fits_rest : n ≤ length (drop at text) = rw rest at fits in
     record {
       within = omega (arith, length-drop at text, so_far.within);
       taken = next ∙ ap (λ xs. appended mid.taken (take n xs)) rest ∙ ap (λ b. appended b (take n (drop at text))) so_far.taken ∙ appended-appended before.taken text at n;
-      never_decreases = omega (arith, so_far.never_decreases);
+      faults = same ∙ so_far.faults;
     }

@@ -1,7 +1,7 @@
 -- What users are promised of a call's ending.
 use Rattle.std.proofs.Common.{◌≡◌, ◌⊎◌, inl, inr, ℕ, List, Option, Some, Result, Ok, Err, IfSome, refl, sym, subst, ap, ◌∙◌}
 use Rattle.lwc_io.specs.Outside.{MayBeContents}
-use Rattle.lwcrun_core.specs.Ends.{End, Outside, Ended, NothingFailed, end_by}
+use Rattle.lwcrun_core.specs.Ends.{End, Outside, Ended, IsUnhindered, end_by}
 use Rattle.lwcrun_core.specs.Ends as ends
 use Rattle.lwcrun_core.specs.Plans.{Plan, FileContents, LeadsTo, Reads, AreKnown, outcome}
 use Rattle.lwcrun_core.specs.Plans as plans
@@ -12,7 +12,7 @@ known_bytes contents known bytes e may = subst (λ t. IfSome t (λ k. k ≡ byte
 
 -- over known files the plan leads to its outcome
 pub leads_known : {R W : Type 0} (files : FileContents) (bytes : List ℕ → List ℕ) (p : Plan R W) (end : Result W R) → AreKnown files p bytes → LeadsTo files p end → end ≡ outcome bytes p
-leads_known files bytes (plans.Read name next) end known leads =
+leads_known files bytes (plans.Read name limit next) end known leads =
     let is : bytes name ≡ leads.0 = known_bytes (files name) (bytes name) leads.0 (known name (inl refl)) leads.1 in
     leads_known files bytes (next leads.0) end (λ q reads. known q (inr (leads.0, leads.1, reads))) leads.3 ∙ ap (λ b. outcome bytes (next b)) (sym is)
 leads_known files bytes (plans.Refuse refusal) end known leads = leads
@@ -20,7 +20,7 @@ leads_known files bytes (plans.Write work) end known leads = leads
 
 module _ {R W : Type 0} (IsText : W → List ℕ → Type 0) (o : Outside) (p : Plan R W) (bytes : List ℕ → List ℕ) (known : AreKnown o.files.contents p bytes) where
   -- over known files, where nothing failed, the call ends by the plan's outcome, or memory ran out
-  pub settled : (e : End R) → Ended IsText o p e → NothingFailed o p → (e ≡ ends.NoMemory) ⊎ (e ≡ end_by (outcome bytes p))
+  pub settled : (e : End R) → Ended IsText o p e → IsUnhindered o p → (e ≡ ends.NoMemory) ⊎ (e ≡ end_by (outcome bytes p))
   unfolding Ended
   settled ends.Done h fine = inr (ap end_by (leads_known o.files.contents bytes p (Ok h.0) known h.1))
   settled ends.NoMemory h fine = inl refl

@@ -1,10 +1,10 @@
 -- What a call of the program promises.
-use Rattle.std.specs.Prelude.{◌≡◌, ◌⊎◌, ◌≤◌, ℕ, List, Option, None, Some, Result, Ok, Err, length}
+use Rattle.std.specs.Prelude.{◌≡◌, ◌⊎◌, ◌≤◌, ℕ, List, Option, None, Some, Result, Ok, Err, All, length}
 use Rattle.guest_image.specs.Limits.{IsImage}
 use Rattle.guest_image.specs.Spelling.{spelling}
 use Rattle.guest_image.specs.declared.image.Image.{Image}
 use Rattle.kernel_core.specs.declared.settings.Settings.{Settings}
-use Rattle.lwc_io.specs.Outside.{SinkView, appended}
+use Rattle.lwc_io.specs.Outside.{FilesView, SinkView, appended}
 use Rattle.lwc_text.specs.Schedules.{IsSchedule}
 use Rattle.lwcrun_core.specs.declared.ending.Rejection.{Rejection}
 use Rattle.lwcrun_core.specs.declared.status.ExitStatus.{ExitStatus}
@@ -14,13 +14,14 @@ use Rattle.lwcrun_core.specs.Ends as ends
 use Rattle.lwcrun_core.specs.Headline.{IsText, Work, plan_of, run_inputs, text_of}
 use Rattle.lwcrun_core.specs.Lines.{Command}
 use Rattle.lwcrun_core.specs.Lines as commands
-use Rattle.lwcrun_core.specs.Plans.{FileContents, outcome}
+use Rattle.lwcrun_core.specs.Plans.{AreFetchesOf, FileContents, outcome}
+use Rattle.lwcrun_core.specs.Reading.{Fetched}
 use Rattle.lwcrun_core.specs.Statuses.{IsAnswered, status_of_rejection}
 
 -- what holds at each end of a call: what holds at that end of the command's plan; a line that is not accepted
--- ends by that, or out of memory, and nothing is written
+-- ends by that, or out of memory, and nothing is fetched or written
 unfoldable pub CallEnded : Outside → Option Command → End Rejection → Type 0
-CallEnded o None e = ((e ≡ ends.Usage) ⊎ (e ≡ ends.NoMemory)) × IsUnwritten o
+CallEnded o None e = ((e ≡ ends.Usage) ⊎ (e ≡ ends.NoMemory)) × IsUnwritten o × (o.files_after ≡ o.files)
 CallEnded o (Some command) e = Ended IsText o (plan_of command) e
 
 -- how a call ended, its exit status, and its message on the error output
@@ -31,6 +32,18 @@ Answers o asked status err err_after =
 -- the files that a command names
 abbrev pub Names : Command → List ℕ → Type 0
 Names (commands.Replay image schedule settings) q = (q ≡ image) ⊎ (q ≡ schedule)
+
+-- a call fetched what its command's plan comes to, and nothing where the line is not accepted
+abbrev pub FetchesPlan : Option Command → FilesView → FilesView → Type 0
+FetchesPlan None files after = after.fetches ≡ files.fetches
+FetchesPlan (Some command) files after =
+    Fetched (AreFetchesOf files.contents (plan_of command)) files.fetches after.fetches
+
+-- a call fetched no file but those that its command names, and nothing where the line is not accepted
+abbrev pub FetchesNamed : Option Command → FilesView → FilesView → Type 0
+FetchesNamed None files after = after.fetches ≡ files.fetches
+FetchesNamed (Some command) files after =
+    Fetched (All (λ f. Names command f.name)) files.fetches after.fetches
 
 -- the files that the command names have these contents
 abbrev pub AreContents : FileContents → Command → (List ℕ → List ℕ) → Type 0

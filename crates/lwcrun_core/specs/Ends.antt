@@ -21,9 +21,18 @@ pub record Outside : Type 0 where
   pub out : SinkView
   pub out_after : SinkView
 
--- nothing was written to the output
+-- the output is as it was: nothing was written to it, and no write failed
 abbrev pub IsUnwritten : Outside → Type 0
-IsUnwritten o = o.out_after.taken ≡ o.out.taken
+IsUnwritten o = o.out_after ≡ o.out
+
+-- no fetch failed: the count of faults of each name is what it was
+abbrev pub NoFetchFailed : Outside → Type 0
+NoFetchFailed o = o.files_after.faults ≡ o.files.faults
+
+-- nothing failed: each count of faults is what it was
+pub record NothingFailed (o : Outside) : Type 0 where
+  pub files : NoFetchFailed o
+  pub out : o.out_after.faults ≡ o.out.faults
 
 -- a fetch of the file of that name failed
 abbrev pub FetchFailed : Outside → List ℕ → Type 0
@@ -38,16 +47,19 @@ unfoldable pub Ended : {R W : Type 0} → (W → List ℕ → Type 0) → Outsid
 Ended {R} {W} IsText o p Done =
     (work : W) × LeadsTo o.files.contents p (Ok work)
     × ((text : List ℕ) × IsText work text × (o.out_after.taken ≡ appended o.out.taken text))
+    × NothingFailed o
 Ended {R} {W} IsText o p NoMemory = IsUnwritten o
 Ended {R} {W} IsText o p Usage = ⊥
 Ended {R} {W} IsText o p (Unread name) = Reads o.files.contents p name × FetchFailed o name × IsUnwritten o
 Ended {R} {W} IsText o p Unwritten =
     (work : W) × LeadsTo o.files.contents p (Ok work)
     × ((text : List ℕ) × IsText work text × IsPartTaken o.out.taken o.out_after.taken text) × WriteFailed o
-Ended {R} {W} IsText o p (Refused refusal) = LeadsTo o.files.contents p (Err refusal) × IsUnwritten o
+    × NoFetchFailed o
+Ended {R} {W} IsText o p (Refused refusal) =
+    LeadsTo o.files.contents p (Err refusal) × IsUnwritten o × NoFetchFailed o
 
--- no fetch of a file that the plan reads failed, and no write did
-pub record NothingFailed {R W : Type 0} (o : Outside) (p : Plan R W) : Type 0 where
+-- no fetch of a file that the plan reads counted a fault, and no write did
+pub record IsUnhindered {R W : Type 0} (o : Outside) (p : Plan R W) : Type 0 where
   pub files : (q : List ℕ) → Reads o.files.contents p q → FetchFailed o q → ⊥
   pub out : WriteFailed o → ⊥
 

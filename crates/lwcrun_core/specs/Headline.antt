@@ -4,6 +4,7 @@ use Rattle.guest_image.specs.declared.image.Image.{Image}
 use Rattle.kernel_core.specs.declared.settings.Settings.{Settings}
 use Rattle.kernel_core.specs.Runs.{kept}
 use Rattle.kernel_core.specs.Start.{Inputs, start}
+use Rattle.lwc_base.specs.declared.limits.TheConstants.{MOST_IMAGE_BYTES, MOST_SCHEDULE_BYTES}
 use Rattle.lwc_text.specs.Report.{report_after}
 use Rattle.lwcrun_core.specs.declared.ending.Rejection.{Rejection}
 use Rattle.lwcrun_core.specs.declared.ending.Rejection.TheVariants as rejections
@@ -31,7 +32,7 @@ run_inputs image settings = record { image = image; requests = []; settings = se
 -- what follows an image whose pages fit the frames: the schedule is read
 unfoldable pub after_size : List ℕ → Settings → Image → Plan Rejection Work
 after_size schedule settings image =
-    Read schedule (λ bytes.
+    Read schedule MOST_SCHEDULE_BYTES (λ bytes.
     accepted (schedule_of (length image.entries) bytes) (λ steps.
     Write (Replaying (run_inputs image settings) steps)))
 
@@ -45,7 +46,7 @@ after_image schedule settings image =
 -- the run of an image under a schedule: the image is read and compared with the frames, then the schedule
 unfoldable pub replay_plan : List ℕ → List ℕ → Settings → Plan Rejection Work
 replay_plan image schedule settings =
-    Read image (λ bytes. accepted (image_of bytes) (after_image schedule settings))
+    Read image MOST_IMAGE_BYTES (λ bytes. accepted (image_of bytes) (after_image schedule settings))
 
 -- the plan of what a line asks for
 abbrev pub plan_of : Command → Plan Rejection Work

@@ -9,15 +9,17 @@ pub data Found (A R : Type 0) : Type 0 where
   Value : A → Found A R
   Missing : End R → Found A R
 
--- what was found in a file is what the grammar gives for its contents; or a fetch failed, or memory ran out
+-- what was found in a file is what the grammar gives for its contents, and no fetch failed; or one did, or memory
+-- ran out
 unfoldable pub ReadsBy : {A R : Type 0}
     → (List ℕ → Result A R) → FilesView → FilesView → List ℕ → Found A R → Type 0
 ReadsBy grammar files after name (Value x) =
     (bytes : List ℕ) × MayBeContents (files.contents name) bytes × All (λ b. b < 256) bytes
-    × (grammar bytes ≡ Ok x)
+    × (grammar bytes ≡ Ok x) × (after.faults ≡ files.faults)
 ReadsBy grammar files after name (Missing ends.NoMemory) = Unit {0}
 ReadsBy grammar files after name (Missing (ends.Unread asked)) =
     (asked ≡ name) × FaultsIncreased (files.faults name) (after.faults name)
 ReadsBy grammar files after name (Missing (ends.Refused refusal)) =
     (bytes : List ℕ) × MayBeContents (files.contents name) bytes × (grammar bytes ≡ Err refusal)
+    × (after.faults ≡ files.faults)
 ReadsBy grammar files after name (Missing _) = ⊥

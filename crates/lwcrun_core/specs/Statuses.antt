@@ -9,6 +9,7 @@ use Rattle.lwcrun_core.specs.declared.status.ExitStatus.{ExitStatus}
 use Rattle.lwcrun_core.specs.declared.status.ExitStatus.TheVariants as statuses
 use Rattle.lwcrun_core.specs.Ends.{End}
 use Rattle.lwcrun_core.specs.Ends as ends
+use Rattle.lwcrun_core.specs.Writing.{IsPartTaken}
 
 -- the number of an exit status
 abbrev pub exit_number : ExitStatus → ℕ
@@ -64,10 +65,11 @@ message_of (ends.Unread name) = message (codes "cannot read " ++ name)
 message_of ends.Unwritten = message (codes "cannot write")
 message_of (ends.Refused rejection) = message (rejection_words rejection)
 
--- a sink took a text, and nothing else, unless a write failed
+-- a sink took a text and nothing else, and no write failed; or one did, and it took the first bytes and nothing else
 abbrev pub Takes : List ℕ → SinkView → SinkView → Type 0
 Takes text before after =
-    (after.taken ≡ appended before.taken text) ⊎ FaultsIncreased before.faults after.faults
+    ((after.taken ≡ appended before.taken text) × (after.faults ≡ before.faults))
+    ⊎ (IsPartTaken before.taken after.taken text × FaultsIncreased before.faults after.faults)
 
 -- an end was answered by its exit status and its message
 pub record IsAnswered (e : End Rejection) (status : ExitStatus) (err err_after : SinkView) : Type 0 where

@@ -1,11 +1,12 @@
 ghost use Rattle.std.specs.Prelude.{◌≡◌, ◌≢◌, ◌⊎◌, ℕ, List, None, Some, map, string_bytes};
 ghost use Rattle.lwcrun_core.specs.declared.ending.Rejection.{Rejection};
-ghost use Rattle.lwcrun_core.specs.Calls.{Answers, AreContents, FileFailed, Headline, IsOrNoMemory, IsRejected, IsRunnable, IsUndisturbed, status_by};
+ghost use Rattle.lwcrun_core.specs.Calls.{Answers, AreContents, FetchesNamed, FetchesPlan, FileFailed, Headline, IsOrNoMemory, IsRejected, IsRunnable, IsUndisturbed, status_by};
 ghost use Rattle.lwcrun_core.specs.Ends as ends;
-ghost use Rattle.lwcrun_core.specs.Ends.{Ended, IsUnwritten, WriteFailed};
+ghost use Rattle.lwcrun_core.specs.Ends.{Ended, IsUnwritten, NothingFailed, WriteFailed};
 ghost use Rattle.lwcrun_core.specs.Headline.{IsText, plan_of};
 ghost use Rattle.lwcrun_core.specs.Lines.{AreRunSettings, Command, asked_by, command_of, settings_asked};
-ghost use Rattle.lwcrun_core.specs.Plans.{outcome};
+ghost use Rattle.lwcrun_core.specs.Plans.{AreFetchesOf, outcome};
+ghost use Rattle.lwcrun_core.specs.Reading.{Fetched};
 ghost use Rattle.lwcrun_core.specs.Statuses.{status_of_rejection};
 ghost use Rattle.lwcrun_core.specs.Views.{end_of, outside};
 
@@ -24,7 +25,8 @@ use std::thread::Threads;
 /// What the program does: it reads the line, the program's name first, reads the files that the line names
 /// in their order, tests each before the next, runs what is asked for, and writes the report to `out`. If
 /// it does not come to that, it writes why in one line to `err`; a fault of `err` changes nothing. The
-/// result is the exit status. Nobody waits at the gate, and no thread is started, for a replay.
+/// result is the exit status. A replay has no leave to come to the gate, so nobody waits there, and it starts no
+/// thread, of which no clause speaks.
 ///
 /// `outcome` is the whole table: how the call ended, what holds then, and the message on `err`. The other
 /// clauses follow from it, each a promise by itself. `NoMemory` may always come, and then nothing was
@@ -83,6 +85,18 @@ pub fn lwcrun<R: Threads + Wait + Sync, F: Files, O: Sink, E: Sink, G: Gate>(
     // Nothing is written with any other status.
     ensures nothing { result ≢ ExitStatus.Ok → result ≢ ExitStatus.WriteFault → IsUnwritten
         (outside (F.seen files.old) (F.seen files.new) (O.seen out.old) (O.seen out.new)) }
+
+    // With status 0, 2, 5, 6 or 7 nothing failed.
+    ensures no_fault { result ≢ ExitStatus.NoMemory → result ≢ ExitStatus.ReadFault
+        → result ≢ ExitStatus.WriteFault → NothingFailed
+        (outside (F.seen files.old) (F.seen files.new) (O.seen out.old) (O.seen out.new)) }
+
+    // No file is fetched to which the plan does not come, none further than one byte past its limit, and none twice.
+    ensures fetches { FetchesPlan (command_of (map string_bytes words.now)) (F.seen files.old) (F.seen files.new) }
+
+    // So no file but those of the line is fetched.
+    ensures no_other_file { FetchesNamed (command_of (map string_bytes words.now))
+        (F.seen files.old) (F.seen files.new) }
 {
     images_are_read_as_spelled();
     schedules_are_read_as_named();
@@ -97,8 +111,10 @@ fn answer<F: Files, O: Sink, E: Sink>(
     out: &mut O,
     err: &mut E,
 ) -> ExitStatus
-    ensures { Answers (outside (F.seen files.old) (F.seen files.new) (O.seen out.old) (O.seen out.new))
+    ensures answers { Answers
+        (outside (F.seen files.old) (F.seen files.new) (O.seen out.old) (O.seen out.new))
         (command_of (map string_bytes words.now)) result (E.seen err.old) (E.seen err.new) }
+    ensures fetches { FetchesPlan (command_of (map string_bytes words.now)) (F.seen files.old) (F.seen files.new) }
 {
     let line = match read_line(alloc, words) {
         Ok(line) => line,
@@ -126,8 +142,11 @@ fn carry_out<'a, F: Files, O: Sink>(
     out: &mut O,
 ) -> Ending<'a>
     requires { AreRunSettings (settings_asked line.now) }
-    ensures { Ended IsText (outside (F.seen files.old) (F.seen files.new) (O.seen out.old) (O.seen out.new))
+    ensures ended { Ended IsText
+        (outside (F.seen files.old) (F.seen files.new) (O.seen out.old) (O.seen out.new))
         (plan_of (asked_by line.now)) (end_of result) }
+    ensures fetches { Fetched (AreFetchesOf (F.seen files.old).contents (plan_of (asked_by line.now)))
+        (F.seen files.old).fetches (F.seen files.new).fetches }
 {
     match line {
         Line::Replay {

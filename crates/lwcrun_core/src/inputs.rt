@@ -1,8 +1,9 @@
-ghost use Rattle.std.specs.Prelude.{◌≡◌, ◌≤◌, ◌<◌, ℕ, List, All, IfOk, length};
+ghost use Rattle.std.specs.Prelude.{◌≡◌, ◌≤◌, ◌<◌, All, IfOk, length};
 ghost use Rattle.guest_image.specs.Limits.{IsImage};
-ghost use Rattle.lwc_base.specs.declared.limits.TheConstants.{MOST_STEPS};
+ghost use Rattle.lwc_base.specs.declared.limits.TheConstants.{MOST_IMAGE_BYTES, MOST_SCHEDULE_BYTES, MOST_STEPS};
 ghost use Rattle.lwcrun_core.specs.Images.{image_of, schedule_of};
 ghost use Rattle.lwcrun_core.specs.Parts.{ReadsBy};
+ghost use Rattle.lwcrun_core.specs.Reading.{Fetched, ReadsOnward};
 ghost use Rattle.lwcrun_core.specs.Views.{found};
 
 use crate::ending::{Ending, Rejection};
@@ -23,7 +24,8 @@ pub fn image_in<'a, F: Files>(
         (found (λ image. image) result) }
     ensures limits { IfOk result IsImage }
     ensures same { (F.seen files.new).contents ≡ (F.seen files.old).contents }
-    ensures never_decreases { (q : List ℕ) → (F.seen files.old).faults q ≤ (F.seen files.new).faults q }
+    ensures fetches { Fetched (ReadsOnward name.now MOST_IMAGE_BYTES)
+        (F.seen files.old).fetches (F.seen files.new).fetches }
 {
     let bytes = match read_whole(alloc, files, name, MOST_IMAGE_BYTES) {
         Ok(bytes) => bytes,
@@ -58,7 +60,8 @@ pub fn schedule_in<'a, F: Files>(
     ensures there { IfOk result (λ steps. All (λ t. t < threads) steps) }
     ensures short { IfOk result (λ steps. length steps ≤ MOST_STEPS) }
     ensures same { (F.seen files.new).contents ≡ (F.seen files.old).contents }
-    ensures never_decreases { (q : List ℕ) → (F.seen files.old).faults q ≤ (F.seen files.new).faults q }
+    ensures fetches { Fetched (ReadsOnward name.now MOST_SCHEDULE_BYTES)
+        (F.seen files.old).fetches (F.seen files.new).fetches }
 {
     let bytes = match read_whole(alloc, files, name, MOST_SCHEDULE_BYTES) {
         Ok(bytes) => bytes,

@@ -1,6 +1,6 @@
-ghost use Rattle.std.specs.Prelude.{◌≡◌, ◌<◌, ◌≤◌, ◌^◌, ◌+◌, ℕ, List, All, length, IfOk, IfErr, OnOk, vec_len};
+ghost use Rattle.std.specs.Prelude.{◌≡◌, ◌≢◌, ◌<◌, ◌≤◌, ◌^◌, ◌+◌, ◌++◌, ◌∷◌, [], ℕ, List, All, length, IfOk, IfErr, OnOk, vec_len};
 ghost use Rattle.lwc_io.specs.Outside.{FaultsIncreased, MayBeContents};
-ghost use Rattle.lwcrun_core.specs.Reading.{MayBeginWith, MayExceed};
+ghost use Rattle.lwcrun_core.specs.Reading.{Fetched, MayBeginWith, MayExceed, ReadsOnward};
 
 use lwc_io::Files;
 use std::alloc::Global;
@@ -18,7 +18,8 @@ pub enum FetchError {
     TooLong,
 }
 
-/// Reads a file of at most `limit` bytes whole; of a longer one, at most one byte past the limit.
+/// Reads a file of at most `limit` bytes whole; of a longer one, at most one byte past the limit. Each fetch
+/// gives a byte or more, or ends the reading, so there are at most `limit + 1` of them.
 ///
 /// # Errors
 ///
@@ -38,7 +39,10 @@ pub fn read_whole<F: Files>(
     ensures cause { (result ≡ Err FetchError.Failed) → FaultsIncreased
         ((F.seen files.old).faults name.now) ((F.seen files.new).faults name.now) }
     ensures same { (F.seen files.new).contents ≡ (F.seen files.old).contents }
-    ensures never_decreases { (q : List ℕ) → (F.seen files.old).faults q ≤ (F.seen files.new).faults q }
+    ensures no_fault { result ≢ Err FetchError.Failed
+        → (F.seen files.new).faults ≡ (F.seen files.old).faults }
+    ensures fetches { Fetched (ReadsOnward name.now limit)
+        (F.seen files.old).fetches (F.seen files.new).fetches }
 {
     let mut bytes = Vec::new(alloc);
     let mut buffer = match buffer_of(alloc, CHUNK) {
@@ -103,7 +107,13 @@ fn read_piece<F: Files>(
     ensures cause { (result ≡ Err FetchError.Failed) → FaultsIncreased
         ((F.seen files.old).faults name.now) ((F.seen files.new).faults name.now) }
     ensures same { (F.seen files.new).contents ≡ (F.seen files.old).contents }
-    ensures never_decreases { (q : List ℕ) → (F.seen files.old).faults q ≤ (F.seen files.new).faults q }
+    ensures no_fault { result ≢ Err FetchError.Failed
+        → (F.seen files.new).faults ≡ (F.seen files.old).faults }
+    ensures logged { (F.seen files.new).fetches ≡ (F.seen files.old).fetches ++ record {
+      name = name.now;
+      at = vec_len bytes.old;
+      most = most;
+    } ∷ [] }
 {
     let piece = &mut buffer[..most];
     let Ok(count) = files.fetch(name, bytes.len() as u64, piece) else {

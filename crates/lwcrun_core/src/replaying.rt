@@ -9,6 +9,8 @@ ghost use Rattle.lwcrun_core.specs.Headline.{IsText, after_image, after_size, re
 ghost use Rattle.lwcrun_core.specs.Headline as works;
 ghost use Rattle.lwcrun_core.specs.Lines.{AreRunSettings};
 ghost use Rattle.lwcrun_core.specs.Plans as plans;
+ghost use Rattle.lwcrun_core.specs.Plans.{AreFetchesOf};
+ghost use Rattle.lwcrun_core.specs.Reading.{Fetched};
 ghost use Rattle.lwcrun_core.specs.Views.{end_of, outside};
 
 use crate::ending::{Ending, Rejection};
@@ -33,8 +35,11 @@ pub fn replay<'a, F: Files, O: Sink>(
     settings: &Settings,
 ) -> Ending<'a>
     requires settings { AreRunSettings settings.now }
-    ensures { Ended IsText (outside (F.seen files.old) (F.seen files.new) (O.seen out.old) (O.seen out.new))
+    ensures ended { Ended IsText
+        (outside (F.seen files.old) (F.seen files.new) (O.seen out.old) (O.seen out.new))
         (replay_plan image.now schedule.now settings.now) (end_of result) }
+    ensures fetches { Fetched (AreFetchesOf (F.seen files.old).contents (replay_plan image.now schedule.now settings.now))
+        (F.seen files.old).fetches (F.seen files.new).fetches }
 {
     match image_in(alloc, files, image) {
         Ok(image) => replay_image(alloc, files, out, &image, schedule, settings),
@@ -53,8 +58,11 @@ fn replay_image<'a, F: Files, O: Sink>(
 ) -> Ending<'a>
     requires image { IsImage image.now }
     requires settings { AreRunSettings settings.now }
-    ensures { Ended IsText (outside (F.seen files.old) (F.seen files.new) (O.seen out.old) (O.seen out.new))
+    ensures ended { Ended IsText
+        (outside (F.seen files.old) (F.seen files.new) (O.seen out.old) (O.seen out.new))
         (after_image schedule.now settings.now image.now) (end_of result) }
+    ensures fetches { Fetched (AreFetchesOf (F.seen files.old).contents (after_image schedule.now settings.now image.now))
+        (F.seen files.old).fetches (F.seen files.new).fetches }
 {
     let pages = image.pages.len() as u32;
     if settings.frames < pages {
@@ -78,8 +86,11 @@ fn replay_schedule<'a, F: Files, O: Sink>(
     requires image { IsImage image.now }
     requires settings { AreRunSettings settings.now }
     requires fits { length image.now.pages ≤ settings.now.frames }
-    ensures { Ended IsText (outside (F.seen files.old) (F.seen files.new) (O.seen out.old) (O.seen out.new))
+    ensures ended { Ended IsText
+        (outside (F.seen files.old) (F.seen files.new) (O.seen out.old) (O.seen out.new))
         (after_size schedule.now settings.now image.now) (end_of result) }
+    ensures fetches { Fetched (AreFetchesOf (F.seen files.old).contents (after_size schedule.now settings.now image.now))
+        (F.seen files.old).fetches (F.seen files.new).fetches }
 {
     match schedule_in(alloc, files, schedule, image.entries.len() as u32) {
         Ok(steps) => replay_steps(alloc, out, image, &steps, settings),
@@ -100,8 +111,8 @@ fn replay_steps<'a, O: Sink>(
     requires fits { length image.now.pages ≤ settings.now.frames }
     requires threads { All (λ t. t < length image.now.entries) schedule.now }
     requires short { length schedule.now ≤ MOST_STEPS }
-    ensures { (files after : FilesView) → Ended IsText
-        (outside files after (O.seen out.old) (O.seen out.new))
+    ensures { (files : FilesView) → Ended IsText
+        (outside files files (O.seen out.old) (O.seen out.new))
         (plans.Write (works.Replaying (run_inputs image.now settings.now) schedule.now)) (end_of result) }
 {
     match run_text(alloc, image, schedule, settings) {

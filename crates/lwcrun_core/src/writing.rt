@@ -12,7 +12,7 @@ use lwc_io::{Failed, Sink};
 pub fn write_whole<O: Sink>(out: &mut O, text: &[u8]) -> Result<(), Failed>
     ensures whole { OnOk result ((O.seen out.new).taken ≡ appended (O.seen out.old).taken text.now) }
     ensures part { OnErr result (IsPartTaken (O.seen out.old).taken (O.seen out.new).taken text.now) }
-    ensures never_decreases { (O.seen out.old).faults ≤ (O.seen out.new).faults }
+    ensures no_fault { OnOk result ((O.seen out.new).faults ≡ (O.seen out.old).faults) }
     ensures cause { OnErr result (FaultsIncreased (O.seen out.old).faults (O.seen out.new).faults) }
 {
     let mut at = 0;

@@ -17,12 +17,12 @@ pub returns-in-Err-TooLong-clause-reads : goal.returns-in-Err-TooLong-clause-rea
 unfolding ReadsBy
 returns-in-Err-TooLong-clause-reads g c =
     let longer = c.in-Err-TooLong.ensures.too_long (ap Err c.in-Err-TooLong.field-0-is) in
-    (longer.0, longer.1, too_long_schedule _ longer.0 longer.2)
+    (longer.0, longer.1, too_long_schedule _ longer.0 longer.2, c.in-Err-TooLong.ensures.no_fault (λ is. absurd cc))
 
 pub returns-in-Ok-read_schedule-clause-reads : goal.returns-in-Ok-read_schedule-clause-reads
 unfolding ReadsBy schedule_of
 returns-in-Ok-read_schedule-clause-reads g c =
-    (c.deref.result.now, same_contents _ _ _ c.deref.ensures.value c.in-Ok.ensures.bytes, subst (All (λ b. b < 256)) (sym c.deref.ensures.value) c.in-Ok.ensures.are_bytes, read_of _ _ _ c.in-Ok-read_schedule.ensures.exact)
+    (c.deref.result.now, same_contents _ _ _ c.deref.ensures.value c.in-Ok.ensures.bytes, subst (All (λ b. b < 256)) (sym c.deref.ensures.value) c.in-Ok.ensures.are_bytes, read_of _ _ _ c.in-Ok-read_schedule.ensures.exact, c.in-Ok.ensures.no_fault (λ is. absurd cc))
 
 pub returns-in-Err-OutOfMemory-read_schedule-clause-reads : goal.returns-in-Err-OutOfMemory-read_schedule-clause-reads
 unfolding ReadsBy
@@ -31,4 +31,4 @@ returns-in-Err-OutOfMemory-read_schedule-clause-reads g c = tt
 pub returns-clause-reads : goal.returns-clause-reads
 unfolding ReadsBy schedule_of
 returns-clause-reads g c =
-    (c.deref.result.now, same_contents _ _ _ c.deref.ensures.value c.in-Ok.ensures.bytes, refused_of _ _ _ _ _ c.in-Err-Refused.field-0-is c.in-Err-Refused.ensures.exact)
+    (c.deref.result.now, same_contents _ _ _ c.deref.ensures.value c.in-Ok.ensures.bytes, refused_of _ _ _ _ _ c.in-Err-Refused.field-0-is c.in-Err-Refused.ensures.exact, c.in-Ok.ensures.no_fault (λ is. absurd cc))

@@ -1,14 +1,23 @@
 use Rattle.std.proofs.Common.{refl}
 use Rattle.lwcrun_core.specs.Headline.{IsText, after_size}
-use Rattle.lwcrun_core.proofs.Follows.{reads_on, stops_reading}
+use Rattle.lwcrun_core.proofs.Fetches.{nothing_fetched}
+use Rattle.lwcrun_core.proofs.Follows.{fetches_on, fetches_stop, reads_on, stops_reading}
 use Rattle.lwcrun_core.proofs.replaying.replay_schedule.Goals as goal
 
-pub returns-in-Ok : goal.returns-in-Ok
+pub returns-in-Ok-clause-ended : goal.returns-in-Ok-clause-ended
 unfolding after_size
-returns-in-Ok g c =
-    reads_on IsText _ _ _ _ _ _ _ _ _ _ (rw c.len.ensures at c.in-Ok.ensures.reads) c.schedule_in.ensures.same c.schedule_in.ensures.never_decreases
-    (c.replay_steps.ensures _ _)
+returns-in-Ok-clause-ended g c =
+    reads_on IsText _ _ _ _ _ _ _ _ _ _ _ (rw c.len.ensures at c.in-Ok.ensures.reads) c.schedule_in.ensures.same (c.replay_steps.ensures _)
 
-pub returns-in-Err : goal.returns-in-Err
+pub returns-in-Ok-clause-fetches : goal.returns-in-Ok-clause-fetches
 unfolding after_size
-returns-in-Err g c = stops_reading IsText _ _ _ _ _ (rw c.len.ensures at c.in-Err.ensures.reads) refl
+returns-in-Ok-clause-fetches g c =
+    fetches_on IsText _ _ _ _ _ _ _ _ (rw c.len.ensures at c.in-Ok.ensures.reads) c.schedule_in.ensures.same c.schedule_in.ensures.fetches (nothing_fetched _ refl)
+
+pub returns-in-Err-clause-ended : goal.returns-in-Err-clause-ended
+unfolding after_size
+returns-in-Err-clause-ended g c = stops_reading IsText _ _ _ _ _ _ (rw c.len.ensures at c.in-Err.ensures.reads) refl
+
+pub returns-in-Err-clause-fetches : goal.returns-in-Err-clause-fetches
+unfolding after_size
+returns-in-Err-clause-fetches g c = fetches_stop _ _ _ _ _ _ c.schedule_in.ensures.fetches
