@@ -25,8 +25,8 @@ use std::thread::Threads;
 /// What the program does: it reads the line, the program's name first, reads the files that the line names
 /// in their order, tests each before the next, runs what is asked for, and writes the report to `out`. If
 /// it does not come to that, it writes why in one line to `err`; a fault of `err` changes nothing. The
-/// result is the exit status. A replay has no leave to come to the gate, so nobody waits there, and it starts no
-/// thread, of which no clause speaks.
+/// result is the exit status. Nobody waits at the gate for a replay, which has no leave to come there; that it
+/// starts no thread is not proved.
 ///
 /// `outcome` is the whole table: how the call ended, what holds then, and the message on `err`. The other
 /// clauses follow from it, each a promise by itself. `NoMemory` may always come, and then nothing was
@@ -91,8 +91,10 @@ pub fn lwcrun<R: Threads + Wait + Sync, F: Files, O: Sink, E: Sink, G: Gate>(
         → result ≢ ExitStatus.WriteFault → NothingFailed
         (outside (F.seen files.old) (F.seen files.new) (O.seen out.old) (O.seen out.new)) }
 
-    // No file is fetched to which the plan does not come, none further than one byte past its limit, and none twice.
-    ensures fetches { FetchesPlan (command_of (map string_bytes words.now)) (F.seen files.old) (F.seen files.new) }
+    // No file is fetched to which the plan does not come, none twice, and none further than one byte past its
+    // limit.
+    ensures fetches { FetchesPlan (command_of (map string_bytes words.now))
+        (F.seen files.old) (F.seen files.new) }
 
     // So no file but those of the line is fetched.
     ensures no_other_file { FetchesNamed (command_of (map string_bytes words.now))
@@ -114,7 +116,8 @@ fn answer<F: Files, O: Sink, E: Sink>(
     ensures answers { Answers
         (outside (F.seen files.old) (F.seen files.new) (O.seen out.old) (O.seen out.new))
         (command_of (map string_bytes words.now)) result (E.seen err.old) (E.seen err.new) }
-    ensures fetches { FetchesPlan (command_of (map string_bytes words.now)) (F.seen files.old) (F.seen files.new) }
+    ensures fetches { FetchesPlan (command_of (map string_bytes words.now))
+        (F.seen files.old) (F.seen files.new) }
 {
     let line = match read_line(alloc, words) {
         Ok(line) => line,

@@ -38,7 +38,8 @@ pub fn replay<'a, F: Files, O: Sink>(
     ensures ended { Ended IsText
         (outside (F.seen files.old) (F.seen files.new) (O.seen out.old) (O.seen out.new))
         (replay_plan image.now schedule.now settings.now) (end_of result) }
-    ensures fetches { Fetched (AreFetchesOf (F.seen files.old).contents (replay_plan image.now schedule.now settings.now))
+    ensures fetches { Fetched
+        (AreFetchesOf (F.seen files.old).contents (replay_plan image.now schedule.now settings.now))
         (F.seen files.old).fetches (F.seen files.new).fetches }
 {
     match image_in(alloc, files, image) {
@@ -61,7 +62,8 @@ fn replay_image<'a, F: Files, O: Sink>(
     ensures ended { Ended IsText
         (outside (F.seen files.old) (F.seen files.new) (O.seen out.old) (O.seen out.new))
         (after_image schedule.now settings.now image.now) (end_of result) }
-    ensures fetches { Fetched (AreFetchesOf (F.seen files.old).contents (after_image schedule.now settings.now image.now))
+    ensures fetches { Fetched
+        (AreFetchesOf (F.seen files.old).contents (after_image schedule.now settings.now image.now))
         (F.seen files.old).fetches (F.seen files.new).fetches }
 {
     let pages = image.pages.len() as u32;
@@ -89,7 +91,8 @@ fn replay_schedule<'a, F: Files, O: Sink>(
     ensures ended { Ended IsText
         (outside (F.seen files.old) (F.seen files.new) (O.seen out.old) (O.seen out.new))
         (after_size schedule.now settings.now image.now) (end_of result) }
-    ensures fetches { Fetched (AreFetchesOf (F.seen files.old).contents (after_size schedule.now settings.now image.now))
+    ensures fetches { Fetched
+        (AreFetchesOf (F.seen files.old).contents (after_size schedule.now settings.now image.now))
         (F.seen files.old).fetches (F.seen files.new).fetches }
 {
     match schedule_in(alloc, files, schedule, image.entries.len() as u32) {
