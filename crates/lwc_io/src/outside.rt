@@ -32,8 +32,7 @@ pub trait Files {
         ensures cause { OnErr result
             (FaultsIncreased ((seen self.old).faults name.now) ((seen self.new).faults name.now)) }
         ensures no_fault { OnOk result ((seen self.new).faults ≡ (seen self.old).faults) }
-        ensures logged {
-            (seen self.new).fetches ≡ with_fetch (seen self.old).fetches name.now at buffer.old };
+        ensures logged { (seen self.new).fetches ≡ with_fetch (seen self.old).fetches name.now at buffer.old };
 }
 
 /// What takes bytes, piece by piece.
