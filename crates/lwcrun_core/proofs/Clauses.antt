@@ -209,8 +209,8 @@ fetches_read files (plans.Read name limit next) made (inl h) = All-weaker (λ f.
 fetches_read files (plans.Read name limit next) made (inr (first, rest, is, h, (bytes, may, more))) =
     let P : Fetch → Type 0 = λ f. Reads files (plans.Read name limit next) f.name in
     All-same P made (first ++ rest) is (All-append P first rest
-      (All-weaker (λ f. f.name ≡ name) P (λ f here. inl here) first h.named)
-      (All-weaker (λ f. Reads files (next bytes) f.name) P (λ f there. inr (bytes, may, there)) rest (fetches_read files (next bytes) rest more)))
+    (All-weaker (λ f. f.name ≡ name) P (λ f here. inl here) first h.named)
+    (All-weaker (λ f. Reads files (next bytes) f.name) P (λ f there. inr (bytes, may, there)) rest (fetches_read files (next bytes) rest more)))
 fetches_read {R} {W} files (plans.Refuse refusal) made is = All-same (λ f. Reads {R = R} {W = W} files (plans.Refuse refusal) f.name) made [] is (All-nil _)
 fetches_read {R} {W} files (plans.Write work) made is = All-same (λ f. Reads {R = R} {W = W} files (plans.Write work) f.name) made [] is (All-nil _)
 
@@ -218,7 +218,8 @@ fetches_read {R} {W} files (plans.Write work) made is = All-same (λ f. Reads {R
 pub fetches_named : (files after : FilesView) (asked : Option Command) → FetchesPlan asked files after → FetchesNamed asked files after
 fetches_named files after None same = same
 fetches_named files after (Some command) h = (
-  h.0, h.1,
+  h.0,
+  h.1,
   All-weaker (λ f. Reads files.contents (plan_of command) f.name) (λ f. Names command f.name)
       (λ f reads. reads_names files.contents command f.name reads) h.0 (fetches_read files.contents (plan_of command) h.0 h.2),
 )

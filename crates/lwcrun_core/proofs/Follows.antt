@@ -1,6 +1,6 @@
 -- How a call's end follows from what its parts answered.
 use Rattle.std.proofs.Common.{◌≡◌, ◌<◌, inl, inr, ℕ, List, [], ◌++◌, Result, Ok, Err, refl, sym, subst, ap, ◌∙◌, append_assoc, All}
-use Rattle.lwc_io.specs.Outside.{FaultsIncreased, Fetch, FilesView, MayBeContents, SinkView, appended}
+use Rattle.lwc_io.specs.Outside.{Fetch, FilesView, MayBeContents, SinkView, appended}
 use Rattle.lwcrun_core.specs.Ends.{End, Outside, Ended, FetchFailed, IsUnwritten, NoFetchFailed, NothingFailed, WriteFailed}
 use Rattle.lwcrun_core.specs.Ends as ends
 use Rattle.lwcrun_core.specs.Parts.{Found, ReadsBy}
@@ -76,9 +76,13 @@ module _ {A R W : Type 0} (IsText : W → List ℕ → Type 0) (grammar : List �
     first.0 ++ rest.0,
     rest.1 ∙ ap (λ xs. xs ++ rest.0) first.1 ∙ append_assoc files.fetches first.0 rest.0,
     inr (
-      first.0, rest.0, refl, first.2,
+      first.0,
+      rest.0,
+      refl,
+      first.2,
       (
-        h.0, h.1,
+        h.0,
+        h.1,
         subst (λ y. AreFetchesOf files.contents (accepted y next) rest.0) (sym h.3) (subst (λ f. AreFetchesOf f (next x) rest.0) same rest.2),
       ),
     ),
