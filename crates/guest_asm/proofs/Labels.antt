@@ -17,6 +17,10 @@ is_new at name s after none same =
     let e : after ≡ update bytes_eq s.labels name (Some (length s.text)) = fun_ext same in
     rw (none, e) refl
 
+-- a name that is a label already
+pub is_old : (at : ℕ) (name : List ℕ) (s : Source) → is_some (s.labels name) ≡ true → at_offset at (with_label (Some name) s) Ok ≡ Err (record { rule = BadLabel; at = at })
+is_old at name s there = rw there refl
+
 -- the use that is next is of an unknown label
 pub unknown : (s : Source) (rest more : List Use) (u : Use) → rest ≡ u ∷ more → is_some (s.labels u.name) ≡ false → find (λ u. not (is_some (s.labels u.name))) rest ≡ find (λ u. not (is_some (s.labels u.name))) s.uses → resolved s ≡ Err (record { rule = BadLabel; at = u.at })
 unfolding resolved

@@ -36,8 +36,18 @@ length_of d =
     let e = flat_map slot d.slots in
     let f = flat_map number d.entries in
     let h : length (header d) ≡ 28 = refl in
-    omega (arith, length-append (header d) (a ++ (b ++ (c ++ (e ++ f)))), h, length-append a (b ++ (c ++ (e ++ f))), length-append b (c ++ (e ++ f)), length-append c (e ++ f), length-append e f,
-    each_of_8 spelling d.text (λ i. refl), each_of_8 slot d.slots (λ s. refl), each_of_4 number d.entries (λ n. refl))
+    omega (
+      arith,
+      length-append (header d) (a ++ (b ++ (c ++ (e ++ f)))),
+      h,
+      length-append a (b ++ (c ++ (e ++ f))),
+      length-append b (c ++ (e ++ f)),
+      length-append c (e ++ f),
+      length-append e f,
+      each_of_8 spelling d.text (λ i. refl),
+      each_of_8 slot d.slots (λ s. refl),
+      each_of_4 number d.entries (λ n. refl),
+    )
 
 -- a draft that is not too long has few values in each list
 pub record HasFew (d : Draft) : Type 0 where

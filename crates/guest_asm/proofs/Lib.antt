@@ -1,3 +1,4 @@
+pub mod Finds
 pub mod Lexis
 pub mod Digits
 pub mod Fields

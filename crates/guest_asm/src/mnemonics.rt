@@ -1,17 +1,48 @@
 //! The mnemonics of instructions, and their operands.
 
-ghost use Rattle.std.specs.Prelude.{◌≡◌};
+ghost use Rattle.std.specs.Prelude.{◌≡◌, ◌==◌, filter, find, slice_index};
+ghost use Rattle.std.specs.Str.{bytes_eq};
+ghost use Rattle.guest_isa.specs.Opcodes.{ops};
 ghost use Rattle.guest_asm.specs.Statements as spec;
 
 use crate::operand::Field;
 use guest_isa::Op;
 
 /// The operation with a mnemonic.
-#[tactic(auto, unfolding(crate::specs::Statements::op_named))]
 pub(crate) fn op_named(word: &[u8]) -> Option<Op>
     ensures { result ≡ spec.op_named word.now }
 {
-    Op::ALL.iter().copied().find(|op| mnemonic(*op) == word)
+    match word {
+        [] => None,
+        [first, ..] => op_among(ops_with_first(*first), word),
+    }
+}
+
+/// The operation with a mnemonic, if it is one of these.
+fn op_among(ops: &[Op], word: &[u8]) -> Option<Op>
+    ensures { result ≡ find (λ op. bytes_eq (spec.mnemonic op) word.now) ops.now }
+{
+    ops.iter().copied().find(|op| mnemonic(*op) == word)
+}
+
+/// The operations whose mnemonics begin with a byte.
+fn ops_with_first(byte: u8) -> &'static [Op]
+    ensures { result.now ≡ filter (λ op. slice_index (spec.mnemonic op) 0 == byte) ops }
+{
+    match byte {
+        b'A' => &[Op::Add, Op::And, Op::Addi],
+        b'D' => &[Op::Divu],
+        b'E' => &[Op::Eq],
+        b'H' => &[Op::Halt],
+        b'J' => &[Op::Jmp, Op::Jz, Op::Jnz, Op::Jal, Op::Jr],
+        b'L' => &[Op::Li, Op::Lih, Op::Ltu, Op::Ldb, Op::Ldw],
+        b'M' => &[Op::Mov, Op::Mul],
+        b'O' => &[Op::Or],
+        b'R' => &[Op::Remu],
+        b'S' => &[Op::Sub, Op::Shl, Op::Shr, Op::Stb, Op::Stw, Op::Sys],
+        b'X' => &[Op::Xor],
+        _ => &[],
+    }
 }
 
 /// The fields of an operation, in the order of its operands.

@@ -96,13 +96,12 @@ impl<'a> Source<'a> {
         let Some(name) = label else {
             return Ok(());
         };
-        if self.labels.contains_key(&name) {
+        if self.labels.insert(name, self.text.len() as u32)?.is_some() {
             return Err(ReadError::Refused {
                 rule: SourceRule::BadLabel,
                 at,
             });
         }
-        self.labels.insert(name, self.text.len() as u32)?;
         Ok(())
     }
 

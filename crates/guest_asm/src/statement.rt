@@ -62,11 +62,7 @@ fn read_statement(has_uid: bool, text: &[u8]) -> Result<Option<Statement<'_>>, S
 
 /// Reads the directive or instruction with a name.
 #[tactic(auto, unfolding(crate::specs::Statements::named))]
-fn read_named<'a>(
-    has_uid: bool,
-    name: &[u8],
-    text: &'a [u8],
-) -> Result<Statement<'a>, SourceRule>
+fn read_named<'a>(has_uid: bool, name: &[u8], text: &'a [u8]) -> Result<Statement<'a>, SourceRule>
     ensures { Gives statement_in result (spec.named has_uid name.now (words text.now)) }
 {
     if name == b".uid".as_slice() {
