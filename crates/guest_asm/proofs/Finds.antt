@@ -1,10 +1,9 @@
 -- Finding an operation among those with the same first byte.
-use Rattle.std.proofs.Common.{◌≡◌, ℕ, Bool, true, false, List, [], ◌∷◌, Option, Some, None, refl, sym, ap, ◌∙◌, arith, find, filter}
+use Rattle.std.proofs.Common.{◌≡◌, ℕ, Bool, true, false, List, [], ◌∷◌, None, refl, sym, ◌∙◌, arith, find, filter}
 use Rattle.std.specs.Prelude.{◌==◌, slice_index}
 use Rattle.std.specs.Str.{bytes_eq}
 use Rattle.std.proofs.lemmas.Bool.Decides.{nat_tests}
 use Rattle.std.proofs.lemmas.Bool.{and_parts, eqb-true}
-use Rattle.guest_isa.specs.declared.op.Op.{Op}
 use Rattle.guest_isa.specs.Opcodes.{ops}
 use Rattle.guest_asm.specs.Statements.{mnemonic, op_named}
 

@@ -1,9 +1,8 @@
 -- A label more, and the labels that are used.
-use Rattle.std.proofs.Common.{◌≡◌, ℕ, suc, ◌+◌, ◌<◌, true, false, get_or, drop-cons, arith, List, [], ◌∷◌, length, drop, map, find, Option, Some, None, Result, Ok, Err, refl, sym, ap, ◌∙◌}
+use Rattle.std.proofs.Common.{◌≡◌, ℕ, suc, ◌+◌, ◌<◌, true, false, get_or, drop-cons, arith, List, [], ◌∷◌, length, drop, map, find, Option, Some, None, Ok, Err, refl, sym, ◌∙◌}
 use Rattle.std.specs.Prelude.{not, is_some}
 use Rattle.std.specs.Map.{update}
 use Rattle.std.specs.Str.{bytes_eq}
-use Rattle.byte_reading.specs.Outcomes.{Refusal}
 use Rattle.guest_asm.specs.declared.error.SourceRule.TheVariants.{BadLabel}
 use Rattle.guest_asm.specs.declared.source.Use.{Use as Kept}
 use Rattle.guest_asm.specs.Views.{use_in}

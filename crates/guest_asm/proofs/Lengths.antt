@@ -1,14 +1,11 @@
 -- The number of bytes of a draft.
-use Rattle.std.proofs.Common.{◌≡◌, ℕ, suc, ◌+◌, ◌*◌, ◌^◌, ◌<◌, ◌≤◌, List, [], ◌∷◌, ◌++◌, length, map, take, get_or, refl, ap, ◌∙◌, arith, length-append}
+use Rattle.std.proofs.Common.{◌≡◌, ℕ, ◌+◌, ◌*◌, ◌^◌, ◌<◌, ◌≤◌, List, [], ◌∷◌, ◌++◌, length, map, get_or, refl, ap, ◌∙◌, arith, length-append}
 use Rattle.std.specs.List.{flat_map}
 use Rattle.std.proofs.lemmas.List.Folds.{length-flat_map-take}
 use Rattle.lwc_base.specs.declared.limits.TheConstants.{MOST_IMAGE_BYTES}
-use Rattle.guest_isa.specs.declared.instr.Instr.{Instr}
 use Rattle.guest_isa.specs.Spelling.{spelling}
 use Rattle.guest_image.specs.Spelling.{number}
-use Rattle.guest_asm.specs.declared.parts.PageDraft.{PageDraft}
 use Rattle.guest_asm.specs.declared.parts.FileDraft.{FileDraft}
-use Rattle.guest_asm.specs.declared.parts.SlotDraft.{SlotDraft}
 use Rattle.std.proofs.lemmas.List.{length-map}
 use Rattle.guest_asm.specs.declared.source.Source.{Source}
 use Rattle.guest_asm.specs.Views.{source_in, coded_in, immediate_in, label_at}

@@ -1,5 +1,5 @@
 -- One line after another, as a loop reads them.
-use Rattle.std.proofs.Common.{◌≡◌, ℕ, ◌+◌, List, [], ◌∷◌, length, Result, Ok, Err, refl, sym, ◌∙◌, arith}
+use Rattle.std.proofs.Common.{◌≡◌, ℕ, ◌+◌, List, [], ◌∷◌, length, Result, Ok, Err, refl, sym, ◌∙◌}
 use Rattle.byte_reading.specs.Outcomes.{Refusal, Fails}
 use Rattle.byte_reading.specs.declared.error.ReadError.{ReadError}
 use Rattle.byte_reading.specs.declared.error.ReadError.TheVariants as errors

@@ -3,7 +3,6 @@ use Rattle.std.specs.Prelude.{ℕ, ◌+◌, if◌then◌else◌, List, [], ◌�
 use Rattle.std.specs.Map.{update}
 use Rattle.std.specs.Str.{bytes_eq}
 use Rattle.byte_reading.specs.Outcomes.{Refusal}
-use Rattle.guest_isa.specs.declared.instr.Instr.{Instr}
 use Rattle.guest_asm.specs.declared.error.SourceRule.{SourceRule}
 use Rattle.guest_asm.specs.declared.error.SourceRule.TheVariants.{BadLabel}
 use Rattle.guest_asm.specs.declared.parts.PageDraft.{PageDraft}

@@ -1,8 +1,8 @@
 -- Words and lines that are read as they are written.
-use Rattle.std.proofs.Common.{◌≡◌, ℕ, suc, ◌+◌, ◌-◌, ◌<◌, ◌^◌, zero, Bool, true, false, not, eqb, ltb, List, [], ◌∷◌, ◌++◌, length, get_or, Some, None, refl, sym, ap, ◌∙◌, arith, filter, All, Ok, take, append_assoc, length-append}
+use Rattle.std.proofs.Common.{◌≡◌, ℕ, suc, ◌-◌, ◌<◌, zero, Bool, true, false, not, eqb, ltb, List, [], ◌∷◌, ◌++◌, length, get_or, None, refl, sym, ap, ◌∙◌, arith, filter, All, Ok, take, append_assoc, length-append}
 use Rattle.std.proofs.Math.Seq.{take-length}
-use Rattle.std.specs.Prelude.{nat_le, ◌&&◌, ◌||◌, ◌==◌, codes}
-use Rattle.std.specs.List.{list_all, prefix_len, position, before_first, slice_split}
+use Rattle.std.specs.Prelude.{nat_le, ◌&&◌, ◌||◌, ◌==◌}
+use Rattle.std.specs.List.{list_all, prefix_len, position, before_first}
 use Rattle.std.proofs.lemmas.Bool.{and_parts}
 use Rattle.std.proofs.lemmas.Bool.Decides.{nat_tests}
 use Rattle.std.proofs.lemmas.List.{append-nil, take-append-le, get_or_push}

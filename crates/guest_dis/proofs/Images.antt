@@ -1,7 +1,7 @@
 -- The listing of an image is assembled to the image.
-use Rattle.std.proofs.Common.{◌≡◌, ℕ, suc, ◌+◌, ◌*◌, ◌-◌, ◌<◌, ◌≤◌, ◌^◌, Bool, true, false, List, [], ◌∷◌, ◌++◌, length, map, Ok, Err, Result, refl, sym, ap, ◌∙◌, arith, All, append_assoc, length-append, replicate}
+use Rattle.std.proofs.Common.{◌≡◌, ℕ, suc, ◌+◌, ◌*◌, ◌-◌, ◌<◌, ◌≤◌, ◌^◌, Bool, true, false, List, [], ◌∷◌, ◌++◌, length, map, Ok, Err, Result, refl, sym, ap, ◌∙◌, arith, All, length-append, replicate}
 use Rattle.std.specs.Prelude.{IfOk, OnOk, codes, decimal}
-use Rattle.std.specs.List.{flat_map, sum_by}
+use Rattle.std.specs.List.{flat_map}
 use Rattle.std.proofs.lemmas.List.{length-map}
 use Rattle.std.proofs.lemmas.List.Sums.{sum_by-cons}
 use Rattle.std.proofs.lemmas.List.Folds.{flat_map-map}
@@ -9,7 +9,6 @@ use Rattle.std.proofs.lemmas.List.Elements.{All-nil, All-cons, All-head, All-tai
 use Rattle.lwc_base.specs.declared.channels.FileImage.{FileImage}
 use Rattle.guest_isa.specs.declared.instr.Instr.{Instr}
 use Rattle.guest_isa.specs.Instructions.{IsInstruction, HasFieldsInRange}
-use Rattle.guest_isa.specs.Spelling as instructions
 use Rattle.guest_image.specs.declared.image.Image.{Image}
 use Rattle.guest_image.specs.declared.image.PageImage.{PageImage}
 use Rattle.guest_image.specs.declared.image.SlotImage.{SlotImage}
@@ -83,6 +82,7 @@ files_at_most (f ∷ fs) all =
     flag_short : (b : Bool) → length (decimal (flag b)) ≤ 10
     flag_short true = decimal_short 1 (omega arith)
     flag_short false = decimal_short 0 (omega arith)
+
     one : (f : FileImage) → f.owner < 2 ^ 32 → length (file_line f) ≤ 64 + 2 * length f.bytes
     one f small =
         let c = bytes_text f.bytes in
@@ -119,8 +119,26 @@ listing_short i is listed =
     let ps = at_most page_line 8211 (λ p. (p.number < 2 ^ 32) × (length p.bytes ≡ 4096) × All (λ b. b < 256) p.bytes) (λ p h. page_short p h.0 h.1) i.pages listed.pages in
     let ss = at_most slot_line 28 (λ s. (s.slot < 2 ^ 32) × (s.file < 2 ^ 32)) (λ s h. slot_short s h.0 h.1) i.slots listed.slots in
     let fs = files_at_most i.files is.files.owners in
-    omega (arith, uid_short i.uid listed.uid, es, ts, ps, ss, fs, is.thread_count, is.text.bounded, is.page_count, is.file_count, is.slot_count, is.files.content,
-    length-append u (e ++ (t ++ (p ++ (f ++ s)))), length-append e (t ++ (p ++ (f ++ s))), length-append t (p ++ (f ++ s)), length-append p (f ++ s), length-append f s)
+    omega (
+      arith,
+      uid_short i.uid listed.uid,
+      es,
+      ts,
+      ps,
+      ss,
+      fs,
+      is.thread_count,
+      is.text.bounded,
+      is.page_count,
+      is.file_count,
+      is.slot_count,
+      is.files.content,
+      length-append u (e ++ (t ++ (p ++ (f ++ s)))),
+      length-append e (t ++ (p ++ (f ++ s))),
+      length-append t (p ++ (f ++ s)),
+      length-append p (f ++ s),
+      length-append f s,
+    )
 
 pub assembled_again : (i : Image) → IsImage i → HasBytes i → ((x : Instr) → IsInstruction x → HasFieldsInRange x) → image_at (image.spelling i) ≡ Ok i → assembled (listing i) ≡ Ok i
 unfolding assembled

@@ -1,5 +1,5 @@
 -- Each operation: its mnemonic and operands, as they are written and read.
-use Rattle.std.proofs.Common.{◌≡◌, ℕ, ◌<◌, ◌≤◌, ◌^◌, ◌*◌, Bool, true, false, List, [], ◌∷◌, ◌++◌, length, map, Option, Some, None, Ok, refl, sym, ap, ◌∙◌, arith, append_assoc, length-append}
+use Rattle.std.proofs.Common.{◌≡◌, ℕ, ◌≤◌, ◌^◌, ◌*◌, Bool, true, false, List, [], ◌∷◌, ◌++◌, length, map, Option, Some, None, Ok, refl, sym, ap, ◌∙◌, arith, append_assoc, length-append}
 use Rattle.std.specs.Prelude.{if◌then◌else◌, ◌==◌, ◌&&◌, codes}
 use Rattle.std.specs.List.{list_all}
 use Rattle.std.proofs.lemmas.List.{length-map}
@@ -12,7 +12,7 @@ use Rattle.guest_isa.specs.Opcodes.{form_of}
 use Rattle.guest_isa.specs.Instructions.{IsInstruction, is_instruction, fits, HasFieldsInRange}
 use Rattle.guest_asm.specs.declared.operand.Field.{Field}
 use Rattle.guest_asm.specs.declared.operand.Field.TheVariants.{Rd, Ra, Rb, Imm}
-use Rattle.guest_asm.specs.Statements.{Coded, Value, Statement, Instruction, mnemonic, fields_of, blank, named, op_named, instruction_of, with_fields, statement_of, line_of, ◌>>=◌}
+use Rattle.guest_asm.specs.Statements.{Coded, Value, Statement, Instruction, mnemonic, fields_of, blank, named, op_named, instruction_of, with_fields, statement_of, line_of}
 use Rattle.guest_asm.specs.Drafts.{instruction_with}
 use Rattle.guest_dis.specs.Listing.{operand_for, operands_of, operands_after, instruction_line}
 use Rattle.guest_asm.specs.Lexis.{lines, has_bytes, is_separator}

@@ -1,6 +1,6 @@
 -- The listing of an image makes its draft.
-use Rattle.std.proofs.Common.{◌≡◌, ℕ, suc, ◌+◌, ◌*◌, ◌<◌, ◌≤◌, ◌^◌, Bool, true, false, ltb, List, [], ◌∷◌, ◌++◌, length, map, Option, Some, None, Ok, refl, sym, ap, subst, ◌∙◌, arith, append_assoc, All, length-append}
-use Rattle.std.specs.Prelude.{is_some, decimal, codes, ◌==◌, if◌then◌else◌}
+use Rattle.std.proofs.Common.{◌≡◌, ℕ, ◌+◌, ◌<◌, ◌≤◌, ◌^◌, Bool, true, false, ltb, List, [], ◌∷◌, ◌++◌, length, map, Option, Some, None, Ok, refl, sym, ap, subst, ◌∙◌, arith, append_assoc, All}
+use Rattle.std.specs.Prelude.{is_some, decimal, codes}
 use Rattle.std.specs.List.{flat_map, list_all}
 use Rattle.std.proofs.lemmas.List.{append-nil, map-append}
 use Rattle.std.proofs.lemmas.List.Elements.{All-head, All-tail}
@@ -17,9 +17,9 @@ use Rattle.guest_asm.specs.declared.parts.SlotDraft.{SlotDraft}
 use Rattle.guest_asm.specs.Lexis.{lines}
 use Rattle.guest_asm.specs.Statements.{Immediate, Value, Coded, Statement, Uid, Entry, Page, File, Slot, named}
 use Rattle.guest_asm.specs.Sources.{Source, nothing, with_said, with_line, with_lines}
-use Rattle.guest_asm.specs.Drafts.{Draft, value_of, instruction_with, draft_of, resolved, draft_at}
-use Rattle.guest_dis.specs.Listing.{HasBytes, trimmed, flag, bytes_text, uid_line, entry_line, instruction_line, page_line, file_line, slot_line, listing}
-use Rattle.guest_dis.proofs.Bytes.{Spaced, is_spaced, line_with, line_again, lines_again}
+use Rattle.guest_asm.specs.Drafts.{Draft, value_of, instruction_with, resolved, draft_at}
+use Rattle.guest_dis.specs.Listing.{trimmed, flag, bytes_text, uid_line, entry_line, instruction_line, page_line, file_line, slot_line, listing}
+use Rattle.guest_dis.proofs.Bytes.{Spaced, is_spaced, line_again, lines_again}
 use Rattle.guest_dis.proofs.Numerals.{decimal_clean, number_of-decimal, bytes_again, bytes_clean, is_text, text_fits}
 use Rattle.guest_dis.proofs.Operations.{IsLine, coded_for, instruction_for, instruction_is, instruction_again}
 use Rattle.guest_dis.proofs.Trims.{trimmed_all, trimmed_short}
@@ -110,7 +110,7 @@ section line s grow u uid step P each (x ∷ xs) before at rest all =
     let later = section line s grow u uid step P each xs (before ++ x ∷ []) (at + length (line x)) rest (All-tail P x xs all) in (
       later.0,
       ap (λ b. with_lines at (lines b) (grow before)) (append_assoc (line x) (flat_map line xs) rest) ∙ one_line at (line x) (flat_map line xs ++ rest) (grow before) (s x) is
-      ∙ ap (λ t. with_lines (at + length (line x)) (lines (flat_map line xs ++ rest)) t) (step at before x) ∙ later.1 ∙ ap (λ ys. with_lines later.0 (lines rest) (grow ys)) (append_assoc before (x ∷ []) xs),
+          ∙ ap (λ t. with_lines (at + length (line x)) (lines (flat_map line xs ++ rest)) t) (step at before x) ∙ later.1 ∙ ap (λ ys. with_lines later.0 (lines rest) (grow ys)) (append_assoc before (x ∷ []) xs),
     )
 
 -- what lines of a listing have said

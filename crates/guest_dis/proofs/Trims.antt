@@ -65,6 +65,7 @@ trimmed_short (b ∷ bs) = by (trimmed bs) (trimmed_short bs)
     zero_or : (z : Bool) → length (if z then [] else b ∷ []) ≤ suc (length bs)
     zero_or true = omega arith
     zero_or false = omega arith
+
     by : (t : List ℕ) → length t ≤ length bs → length (before_trimmed b t) ≤ suc (length bs)
     by [] le = zero_or (b == 0)
     by (c ∷ cs) le = omega (arith, le)

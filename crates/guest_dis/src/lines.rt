@@ -55,7 +55,13 @@ fn put_operand(out: &mut Vec<u8>, instr: &Instr, field: Field) -> Result<(), Out
     ensures { OnOk result (out.new.items ≡ out.old.items ++ spec.operand_for instr.now field) }
 {
     let alloc = *out.allocator();
-    let Instr { rd, ra, rb, imm, .. } = *instr;
+    let Instr {
+        rd,
+        ra,
+        rb,
+        imm,
+        ..
+    } = *instr;
     let text = match field {
         Field::Rd => format!(in alloc; "r{rd}")?,
         Field::Ra => format!(in alloc; "r{ra}")?,

@@ -1,4 +1,4 @@
-use Rattle.std.proofs.Common.{◌≡◌, ◌<◌, true, length, ltb, refl, arith}
+use Rattle.std.proofs.Common.{◌≡◌, true, length, ltb, refl, arith}
 use Rattle.std.proofs.lemmas.Bool.{lt-ltb}
 use Rattle.guest_image.specs.Reading.{image_at}
 use Rattle.guest_asm.specs.Drafts.{draft_bytes, draft_of}

@@ -1,4 +1,4 @@
-use Rattle.std.proofs.Common.{◌≡◌, refl}
+use Rattle.std.proofs.Common.{refl}
 use Rattle.guest_asm.specs.Drafts.{draft_of}
 use Rattle.guest_asm.specs.Views.{source_in}
 use Rattle.guest_asm.proofs.Lengths.{length_of, counts_of}

@@ -1,4 +1,4 @@
-use Rattle.std.proofs.Common.{◌≡◌, ◌++◌, length, sym, ap, ◌∙◌, arith, ℕ, List}
+use Rattle.std.proofs.Common.{◌≡◌, ◌++◌, length, sym, ap, ◌∙◌, arith}
 use Rattle.guest_image.specs.Spelling.{number}
 use Rattle.guest_asm.specs.Drafts.{draft_of}
 use Rattle.guest_asm.specs.Views.{source_in}
