@@ -4,6 +4,7 @@ use Rattle.std.proofs.lemmas.Bool.{le-ltb, ltb-false}
 use Rattle.std.proofs.lemmas.List.Elements.{All-append, All-nil, All-same, All-weaker}
 use Rattle.std.specs.Prelude.{nat_lt}
 use Rattle.byte_reading.specs.Outcomes.{Refusal}
+use Rattle.guest_asm.specs.Drafts.{assembled}
 use Rattle.guest_image.specs.Facts.{ReadingFacts}
 use Rattle.guest_image.specs.Limits.{IsImage}
 use Rattle.guest_image.specs.Reading.{image_at}
@@ -20,9 +21,9 @@ use Rattle.lwcrun_core.specs.declared.status.ExitStatus.TheVariants as statuses
 use Rattle.lwcrun_core.specs.Calls.{AreContents, CallEnded, FetchesNamed, FetchesPlan, FileFailed, Headline, IsOrNoMemory, IsRejected, IsRunnable, IsUndisturbed, Names, NoFault, status_by}
 use Rattle.lwcrun_core.specs.Ends.{End, Outside, Ended, FetchFailed, IsUnhindered, IsUnwritten, NothingFailed, WriteFailed, end_by}
 use Rattle.lwcrun_core.specs.Ends as ends
-use Rattle.lwcrun_core.specs.Headline.{IsText, Work, after_image, after_size, plan_of, replay_plan, run_inputs, text_of}
+use Rattle.lwcrun_core.specs.Headline.{IsText, Work, after_image, after_size, asm_plan, plan_of, replay_plan, run_inputs, text_of}
 use Rattle.lwcrun_core.specs.Headline as works
-use Rattle.lwcrun_core.specs.Images.{image_of, or_rejected, schedule_of}
+use Rattle.lwcrun_core.specs.Images.{image_of, or_rejected, schedule_of, source_of}
 use Rattle.lwcrun_core.specs.Lines.{Command}
 use Rattle.lwcrun_core.specs.Lines as commands
 use Rattle.lwcrun_core.specs.Plans.{Plan, AreFetchesOf, FileContents, LeadsTo, Reads, AreKnown, accepted, outcome}
@@ -50,10 +51,16 @@ unfolding after_image
 reads_after_image files schedule settings (Ok image) q h = reads_by_size files schedule settings image q _ _ h
 reads_after_image files schedule settings (Err rejection) q h = absurd h
 
+reads_after_source : (files : FileContents) (r : Result Image Rejection) (q : List ℕ) → Reads files (accepted r (λ image. plans.Write (works.Assembling image))) q → ⊥
+reads_after_source files (Ok image) q h = h
+reads_after_source files (Err rejection) q h = h
+
 reads_names : (files : FileContents) (command : Command) (q : List ℕ) → Reads files (plan_of command) q → Names command q
-unfolding replay_plan
+unfolding replay_plan asm_plan
 reads_names files (commands.Replay image schedule settings) q (inl is) = inl is
 reads_names files (commands.Replay image schedule settings) q (inr h) = inr (reads_after_image files schedule settings _ q h.2)
+reads_names files (commands.Asm source) q (inl is) = is
+reads_names files (commands.Asm source) q (inr h) = absurd (reads_after_source files _ q h.2)
 
 are_known : (files : FileContents) (command : Command) (bytes : List ℕ → List ℕ) → AreContents files command bytes → AreKnown files (plan_of command) bytes
 are_known files command bytes h q reads = h q (reads_names files command q reads)
@@ -68,6 +75,7 @@ unhindered o command h = record {
 
 late : (r : Rejection) → 5 ≤ exit_number (status_of_rejection r)
 late (rejections.Image rule at) = omega arith
+late (rejections.Source rule at) = omega arith
 late (rejections.Input rule at) = omega arith
 late (rejections.TooLarge pages frames) = omega arith
 
@@ -105,6 +113,19 @@ or_rejected_ok : {R A : Type 0} (reject : R → ℕ → Rejection) (r : Result A
 or_rejected_ok reject (Ok y) x e = cc
 or_rejected_ok reject (Err refusal) x e = absurd cc
 
+source_accepted : (bytes : List ℕ) (image : Image) → assembled bytes ≡ Ok image → source_of bytes ≡ Ok image
+unfolding source_of
+source_accepted bytes image is = ap (or_rejected rejections.Source) is
+
+source_found : (bytes : List ℕ) (image : Image) → source_of bytes ≡ Ok image → assembled bytes ≡ Ok image
+unfolding source_of
+source_found bytes image is = or_rejected_ok rejections.Source (assembled bytes) image is
+
+-- the image of a source that was assembled
+image_made : (files : FileContents) (work : Work) (r : Result Image Rejection) → LeadsTo files (accepted r (λ image. plans.Write (works.Assembling image))) (Ok work) → (image : Image) × (r ≡ Ok image) × (work ≡ works.Assembling image)
+image_made files work (Ok image) e = (image, refl, cc)
+image_made files work (Err rejection) e = absurd cc
+
 module _ (images : ReadingFacts) (schedules : ScheduleFacts) where
   schedule_accepted : (threads : ℕ) (bytes steps : List ℕ) → IsSchedule threads bytes steps → schedule_of threads bytes ≡ Ok steps
   unfolding schedule_of
@@ -132,14 +153,19 @@ module _ (images : ReadingFacts) (schedules : ScheduleFacts) where
   over_image bytes schedule settings image steps fits e = rw (le-ltb _ _ fits) (over_steps bytes image settings _ steps e)
 
   runs : (bytes : List ℕ → List ℕ) (command : Command) → IsRunnable command bytes → (work : Work) × (outcome bytes (plan_of command) ≡ Ok work)
-  unfolding replay_plan
+  unfolding replay_plan asm_plan
   runs bytes (commands.Replay image schedule settings) (x, steps, h) = (
     works.Replaying (run_inputs x settings) steps,
     ap (λ r. outcome bytes (accepted r (after_image schedule settings))) (image_accepted (bytes image) x h.image h.spelled)
         ∙ over_image bytes schedule settings x steps h.fits (schedule_accepted _ _ steps h.schedule),
   )
 
-  -- the text of a replay that was carried out is the headline
+  runs bytes (commands.Asm source) (x, is) = (
+    works.Assembling x,
+    ap (λ r. outcome bytes (accepted r (λ image. plans.Write (works.Assembling image)))) (source_accepted (bytes source) x is),
+  )
+
+  -- what was written is the headline
 
   steps_of : (files : FileContents) (bytes steps : List ℕ) (inputs_of : List ℕ → Work) (work : Work) (r : Result (List ℕ) Rejection) → LeadsTo files (accepted r (λ xs. plans.Write (inputs_of xs))) (Ok work) → (found : List ℕ) × (r ≡ Ok found) × (work ≡ inputs_of found)
   steps_of files bytes steps inputs_of work (Ok found) e = (found, refl, cc)
@@ -154,7 +180,7 @@ module _ (images : ReadingFacts) (schedules : ScheduleFacts) where
   of_image files schedule settings work (Err rejection) e = absurd cc
 
   headline_of : (o : Outside) (command : Command) (bytes : List ℕ → List ℕ) (work : Work) (text : List ℕ) → AreContents o.files.contents command bytes → LeadsTo o.files.contents (plan_of command) (Ok work) → IsText work text → o.out_after.taken ≡ appended o.out.taken text → Headline o command bytes
-  unfolding replay_plan after_image after_size
+  unfolding replay_plan after_image after_size asm_plan
   headline_of o (commands.Replay image schedule settings) bytes work text known (image_bytes, may, fits, leads) is taken =
       let read = of_image o.files.contents schedule settings work (image_of image_bytes) leads in
       let sized = of_size o.files.contents schedule settings read.0 work _ _ refl read.2 in
@@ -171,6 +197,14 @@ module _ (images : ReadingFacts) (schedules : ScheduleFacts) where
           schedule = subst (λ b. IsSchedule (length read.0.entries) b steps.0) same_schedule (schedule_found _ _ steps.0 steps.1);
         },
         taken ∙ ap (appended o.out.taken) (let P : Work → Type 0 = λ w. IsText w text in subst P steps.2 is),
+      )
+
+  headline_of o (commands.Asm source) bytes work text known (source_bytes, may, fits, leads) is taken =
+      let made = image_made o.files.contents work (source_of source_bytes) leads in
+      let same : source_bytes ≡ bytes source = sym (known_bytes _ _ _ (known source refl) may) in (
+        made.0,
+        subst (λ b. assembled b ≡ Ok made.0) same (source_found source_bytes made.0 made.1),
+        taken ∙ ap (appended o.out.taken) (let P : Work → Type 0 = λ w. IsText w text in subst P made.2 is),
       )
 
 -- a line that is not accepted reads no file and writes no text

@@ -1,6 +1,7 @@
 pub mod Answered
 pub mod Clauses
 pub mod Decimals
+pub mod TakenWords
 pub mod Fetches
 pub mod Frames
 pub mod Follows

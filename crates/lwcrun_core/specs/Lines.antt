@@ -1,5 +1,5 @@
 -- What a line of words asks for.
-use Rattle.std.specs.Prelude.{◌≡◌, ℕ, ◌&&◌, if◌then◌else◌, List, [], ◌∷◌, Option, None, Some, bytes_eq, codes, string_bytes}
+use Rattle.std.specs.Prelude.{◌≡◌, ℕ, ◌||◌, if◌then◌else◌, List, Option, None, Some, is_some, bytes_eq, codes, string_bytes}
 use Rattle.std.specs.Option.{option_map, option_and_then}
 use Rattle.kernel_core.specs.Settings.{IsSettings}
 use Rattle.kernel_core.specs.declared.settings.Settings.{Settings}
@@ -7,11 +7,13 @@ use Rattle.kernel_core.specs.declared.settings.Job.TheVariants.{Run}
 use Rattle.lwc_base.specs.declared.limits.TheConstants.{MOST_BUDGET, MOST_FRAMES}
 use Rattle.lwcrun_core.specs.declared.line.Line.{Line}
 use Rattle.lwcrun_core.specs.declared.line.Line.TheVariants as lines
+use Rattle.lwcrun_core.specs.Entries.{Entries, entries_of}
 use Rattle.lwcrun_core.specs.Numbers.{number_within}
 
--- what is asked for: the run of an image under a schedule, each a file by its name
+-- what is asked for, each file by its name: the run of an image under a schedule; the image of a source
 pub data Command : Type 0 where
   Replay : List ℕ → List ℕ → Settings → Command
+  Asm : List ℕ → Command
 
 -- settings of a run, within their limits
 pub record AreRunSettings (settings : Settings) : Type 0 where
@@ -22,49 +24,53 @@ pub record AreRunSettings (settings : Settings) : Type 0 where
 abbrev pub run_settings : ℕ → ℕ → Settings
 run_settings frames budget = record { frames = frames; budget = budget; job = Run }
 
--- the number of frames that a word asks for
-abbrev pub frames_of : List ℕ → Option ℕ
-frames_of word = number_within 1 MOST_FRAMES word
+-- the number that an option has: one within its limits, or the default where the option is not there
+abbrev pub number_or : ℕ → ℕ → Option (List ℕ) → Option ℕ
+number_or default most None = Some default
+number_or default most (Some word) = number_within 1 most word
 
--- the number of steps of a thread that a word asks for
-abbrev pub budget_of : List ℕ → Option ℕ
-budget_of word = number_within 1 MOST_BUDGET word
+-- the number of frames: 4096 where the line has none
+abbrev pub frames_of : Entries → Option ℕ
+frames_of e = number_or 4096 MOST_FRAMES e.frames
 
--- frames and budget, where neither word is refused
-abbrev pub both_settings : Option ℕ → Option ℕ → Option Settings
-both_settings frames budget = option_and_then (λ f. option_map (run_settings f) budget) frames
+-- the number of steps of a thread: 10000 where the line has none
+abbrev pub budget_of : Entries → Option ℕ
+budget_of e = number_or 10000 MOST_BUDGET e.budget
 
--- the number of frames, where the line asks for none
-abbrev pub default_frames : ℕ
-default_frames = 4096
+-- the settings of a line, where neither number is refused
+abbrev pub settings_of : Entries → Option Settings
+settings_of e = option_and_then (λ frames. option_map (run_settings frames) (budget_of e)) (frames_of e)
 
--- the number of steps of a thread, where the line asks for none
-abbrev pub default_budget : ℕ
-default_budget = 10000
+-- the only word behind the mode, where there is no option
+abbrev pub only_word : Entries → Option (List ℕ)
+only_word e =
+    if is_some e.second || is_some e.third || is_some e.frames || is_some e.budget || is_some e.workers then None
+    else e.first
 
--- the settings that the words after the files ask for: the frames, the budget, or both in this order; what is
--- left out has its default
-unfoldable pub settings_of : List (List ℕ) → Option Settings
-settings_of [] = Some (run_settings default_frames default_budget)
-settings_of (name ∷ value ∷ []) =
-    if bytes_eq name (codes "--frames") then both_settings (frames_of value) (Some default_budget)
-    else if bytes_eq name (codes "--budget") then both_settings (Some default_frames) (budget_of value)
+-- `replay` wants an image and a schedule, and takes frames and a budget
+abbrev pub replay_of : Entries → Option Command
+replay_of e =
+    if is_some e.third || is_some e.workers then None
+    else option_and_then (λ image. option_and_then (λ schedule.
+    option_map (Replay image schedule) (settings_of e)) e.second) e.first
+
+-- the table of modes: what each asks for, if it takes the other entries
+abbrev pub asked_in : List ℕ → Entries → Option Command
+asked_in mode e =
+    if bytes_eq mode (codes "replay") then replay_of e
+    else if bytes_eq mode (codes "asm") then option_map Asm (only_word e)
     else None
-settings_of (first ∷ frames ∷ second ∷ budget ∷ []) =
-    if bytes_eq first (codes "--frames") && bytes_eq second (codes "--budget")
-    then both_settings (frames_of frames) (budget_of budget) else None
-settings_of _ = None
 
 -- what the words ask for, the program's name first; none where the line is not accepted
 unfoldable pub command_of : List (List ℕ) → Option Command
-command_of (program ∷ mode ∷ image ∷ schedule ∷ rest) =
-    if bytes_eq mode (codes "replay") then option_map (Replay image schedule) (settings_of rest) else None
-command_of _ = None
+command_of words = option_and_then (λ e. option_and_then (λ mode. asked_in mode e) e.mode) (entries_of words)
 
 -- what a line that was read asks for
 abbrev pub asked_by : Line → Command
 asked_by (lines.Replay image schedule settings) = Replay (string_bytes image) (string_bytes schedule) settings
+asked_by (lines.Asm source) = Asm (string_bytes source)
 
--- the settings of a line that was read
-abbrev pub settings_asked : Line → Settings
-settings_asked (lines.Replay image schedule settings) = settings
+-- the settings of a line that was read are within their limits, if it has any
+abbrev pub IsWithinLimits : Line → Type 0
+IsWithinLimits (lines.Replay image schedule settings) = AreRunSettings settings
+IsWithinLimits (lines.Asm source) = Unit {0}

@@ -1,5 +1,6 @@
 -- The exit status of each end, and its message.
 use Rattle.std.specs.Prelude.{◌≡◌, ◌⊎◌, ℕ, List, [], ◌∷◌, ◌++◌, codes, decimal}
+use Rattle.guest_asm.specs.Rules as sources
 use Rattle.guest_image.specs.Rules as images
 use Rattle.lwc_io.specs.Outside.{FaultsIncreased, SinkView, appended}
 use Rattle.lwc_text.specs.Rules as inputs
@@ -25,6 +26,7 @@ exit_number statuses.ImageTooLarge = 7
 -- the exit status of a refused input
 abbrev pub status_of_rejection : Rejection → ExitStatus
 status_of_rejection (rejections.Image rule at) = statuses.ImageRefused
+status_of_rejection (rejections.Source rule at) = statuses.ImageRefused
 status_of_rejection (rejections.Input rule at) = statuses.InputRefused
 status_of_rejection (rejections.TooLarge pages frames) = statuses.ImageTooLarge
 
@@ -51,6 +53,8 @@ usage_words =
 abbrev pub rejection_words : Rejection → List ℕ
 rejection_words (rejections.Image rule at) =
     codes "image refused: " ++ images.rule_name rule ++ codes " at " ++ decimal at
+rejection_words (rejections.Source rule at) =
+    codes "image refused: " ++ sources.rule_name rule ++ codes " at " ++ decimal at
 rejection_words (rejections.Input rule at) =
     codes "input refused: " ++ inputs.rule_name rule ++ codes " at " ++ decimal at
 rejection_words (rejections.TooLarge pages frames) =

@@ -4,12 +4,13 @@ ghost use Rattle.lwcrun_core.specs.Calls.{Answers, AreContents, FetchesNamed, Fe
 ghost use Rattle.lwcrun_core.specs.Ends as ends;
 ghost use Rattle.lwcrun_core.specs.Ends.{Ended, IsUnwritten, NothingFailed, WriteFailed};
 ghost use Rattle.lwcrun_core.specs.Headline.{IsText, plan_of};
-ghost use Rattle.lwcrun_core.specs.Lines.{AreRunSettings, Command, asked_by, command_of, settings_asked};
+ghost use Rattle.lwcrun_core.specs.Lines.{Command, IsWithinLimits, asked_by, command_of};
 ghost use Rattle.lwcrun_core.specs.Plans.{AreFetchesOf, outcome};
 ghost use Rattle.lwcrun_core.specs.Reading.{Fetched};
 ghost use Rattle.lwcrun_core.specs.Statuses.{status_of_rejection};
 ghost use Rattle.lwcrun_core.specs.Views.{end_of, outside};
 
+use crate::assembling::asm;
 use crate::ending::Ending;
 use crate::line::{Line, LineFault, read_line};
 use crate::messages::write_message;
@@ -144,7 +145,7 @@ fn carry_out<'a, F: Files, O: Sink>(
     files: &mut F,
     out: &mut O,
 ) -> Ending<'a>
-    requires { AreRunSettings (settings_asked line.now) }
+    requires { IsWithinLimits line.now }
     ensures ended { Ended IsText
         (outside (F.seen files.old) (F.seen files.new) (O.seen out.old) (O.seen out.new))
         (plan_of (asked_by line.now)) (end_of result) }
@@ -164,5 +165,6 @@ fn carry_out<'a, F: Files, O: Sink>(
             schedule.as_str(),
             settings,
         ),
+        Line::Asm { source } => asm(alloc, files, out, source.as_str()),
     }
 }

@@ -1,13 +1,15 @@
 ghost use Rattle.std.specs.Prelude.{◌≡◌, ◌≤◌, ◌<◌, All, IfOk, length};
+ghost use Rattle.guest_asm.specs.declared.assembly.TheConstants.{MOST_SOURCE_BYTES};
 ghost use Rattle.guest_image.specs.Limits.{IsImage};
 ghost use Rattle.lwc_base.specs.declared.limits.TheConstants.{MOST_IMAGE_BYTES, MOST_SCHEDULE_BYTES, MOST_STEPS};
-ghost use Rattle.lwcrun_core.specs.Images.{image_of, schedule_of};
+ghost use Rattle.lwcrun_core.specs.Images.{image_of, schedule_of, source_of};
 ghost use Rattle.lwcrun_core.specs.Parts.{ReadsBy};
 ghost use Rattle.lwcrun_core.specs.Reading.{Fetched, ReadsOnward};
 ghost use Rattle.lwcrun_core.specs.Views.{found};
 
 use crate::ending::{Ending, Rejection};
 use crate::reading::{FetchError, read_whole};
+use guest_asm::{MOST_SOURCE_BYTES, SourceError, SourceRule, assemble};
 use guest_image::{Image, ImageFault, ImageRule, read_image};
 use lwc_base::{MOST_IMAGE_BYTES, MOST_SCHEDULE_BYTES};
 use lwc_io::Files;
@@ -42,6 +44,40 @@ pub fn image_in<'a, F: Files>(
         Ok(image) => Ok(image),
         Err(ImageFault::OutOfMemory) => Err(Ending::NoMemory),
         Err(ImageFault::Refused { rule, at }) => Err(Ending::Refused(Rejection::Image {
+            rule,
+            at,
+        })),
+    }
+}
+
+/// The image of the source in the file of that name, or the end of the call without it.
+pub fn source_in<'a, F: Files>(
+    alloc: Global,
+    files: &mut F,
+    name: &'a str,
+) -> Result<Image, Ending<'a>>
+    ensures reads { ReadsBy source_of (F.seen files.old) (F.seen files.new) name.now
+        (found (λ image. image) result) }
+    ensures limits { IfOk result IsImage }
+    ensures same { (F.seen files.new).contents ≡ (F.seen files.old).contents }
+    ensures fetches { Fetched (ReadsOnward name.now MOST_SOURCE_BYTES)
+        (F.seen files.old).fetches (F.seen files.new).fetches }
+{
+    let bytes = match read_whole(alloc, files, name, MOST_SOURCE_BYTES) {
+        Ok(bytes) => bytes,
+        Err(FetchError::OutOfMemory) => return Err(Ending::NoMemory),
+        Err(FetchError::Failed) => return Err(Ending::Unread(name)),
+        Err(FetchError::TooLong) => {
+            return Err(Ending::Refused(Rejection::Source {
+                rule: SourceRule::TooLong,
+                at: MOST_SOURCE_BYTES as u64,
+            }));
+        }
+    };
+    match assemble(alloc, &bytes) {
+        Ok(image) => Ok(image),
+        Err(SourceError::OutOfMemory) => Err(Ending::NoMemory),
+        Err(SourceError::Refused { rule, at }) => Err(Ending::Refused(Rejection::Source {
             rule,
             at,
         })),

@@ -2,8 +2,10 @@
 //! and writes the report.
 #![tactic(auto)]
 
+mod assembling;
 mod call;
 mod ending;
+mod entries;
 mod inputs;
 mod limits;
 mod line;

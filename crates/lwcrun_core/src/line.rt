@@ -1,8 +1,11 @@
-ghost use Rattle.std.specs.Prelude.{◌≡◌, ◌≤◌, ◌↔◌, Some, None, map, IfSome, IfOk, IfErr, string_bytes};
+ghost use Rattle.std.specs.Prelude.{◌≡◌, ◌≢◌, ◌≤◌, ◌↔◌, None, Some, map, IfErr, IfOk, IfSome, string_bytes};
+ghost use Rattle.std.specs.Option.{option_map};
 ghost use Rattle.lwc_base.specs.declared.limits.TheConstants.{MOST_BUDGET, MOST_FRAMES};
-ghost use Rattle.lwcrun_core.specs.Lines as Command;
-ghost use Rattle.lwcrun_core.specs.Lines.{AreRunSettings, asked_by, settings_asked, command_of, settings_of, both_settings};
+ghost use Rattle.lwcrun_core.specs.Entries.{entries_in};
+ghost use Rattle.lwcrun_core.specs.Lines as spec;
+ghost use Rattle.lwcrun_core.specs.Lines.{AreRunSettings, IsWithinLimits, asked_by, command_of};
 
+use crate::entries::{Entries, read_entries};
 use crate::numbers::number_within;
 use kernel_core::{Job, Settings};
 use lwc_base::{MOST_BUDGET, MOST_FRAMES};
@@ -17,6 +20,8 @@ pub enum Line {
         schedule: String,
         settings: Settings,
     },
+    /// The image of a source, a file by its name.
+    Asm { source: String },
 }
 
 /// Why a line was not read.
@@ -37,91 +42,104 @@ const DEFAULT_BUDGET: u32 = 10000;
 ///
 /// # Errors
 ///
-/// `Usage` exactly where the line is not accepted, or out of memory.
+/// `Usage` exactly where the line is not accepted, unless memory runs out before that is known.
 #[tactic(auto, unfolding(crate::specs::Lines::command_of))]
 pub fn read_line(alloc: Global, words: &[String]) -> Result<Line, LineFault>
     ensures accepted { IfOk result (λ line. command_of (map string_bytes words.now) ≡ Some (asked_by line)) }
-    ensures limits { IfOk result (λ line. AreRunSettings (settings_asked line)) }
-    ensures usage { (result ≡ Err LineFault.Usage) ↔ (command_of (map string_bytes words.now) ≡ None) }
+    ensures limits { IfOk result IsWithinLimits }
+    ensures usage { (result ≡ Err LineFault.Usage)
+        ↔ ((result ≢ Err LineFault.OutOfMemory) × (command_of (map string_bytes words.now) ≡ None)) }
 {
-    let [_program, mode, image, schedule, rest @ ..] = words else {
-        return Err(LineFault::Usage);
-    };
-    if mode.as_str() != "replay" {
-        return Err(LineFault::Usage);
-    }
-    match settings_of(rest) {
-        Some(settings) => replay_line(alloc, image.as_str(), schedule.as_str(), settings),
+    let entries = read_entries(alloc, words)?;
+    match entries.mode {
+        Some(mode) => line_in(alloc, mode, &entries),
         None => Err(LineFault::Usage),
     }
 }
 
-/// The line of a replay: its files, and what the words after them ask for.
-fn replay_line(
-    alloc: Global,
-    image: &str,
-    schedule: &str,
-    settings: Settings,
-) -> Result<Line, LineFault>
-    requires limits { AreRunSettings settings }
-    ensures line { IfOk result (λ line. asked_by line ≡ Command.Replay image.now schedule.now settings) }
-    ensures limits { IfOk result (λ line. AreRunSettings (settings_asked line)) }
-    ensures only { IfErr result (λ fault. fault ≡ LineFault.OutOfMemory) }
+/// The table of modes: what each asks for, if it takes the other entries.
+fn line_in(alloc: Global, mode: &str, entries: &Entries<'_>) -> Result<Line, LineFault>
+    ensures accepted { IfOk result (λ line. spec.asked_in mode.now (entries_in entries.now) ≡ Some (asked_by line)) }
+    ensures limits { IfOk result IsWithinLimits }
+    ensures usage { result ≡ Err LineFault.Usage → spec.asked_in mode.now (entries_in entries.now) ≡ None }
 {
-    let Ok(image) = String::from_str(alloc, image) else {
-        return Err(LineFault::OutOfMemory);
-    };
-    let Ok(schedule) = String::from_str(alloc, schedule) else {
-        return Err(LineFault::OutOfMemory);
+    match mode {
+        "replay" => replay_line(alloc, entries),
+        "asm" => Ok(Line::Asm {
+            source: name_of(alloc, only_word(entries))?,
+        }),
+        _ => Err(LineFault::Usage),
+    }
+}
+
+/// The line of a replay: an image and a schedule, with frames and a budget.
+fn replay_line(alloc: Global, entries: &Entries<'_>) -> Result<Line, LineFault>
+    ensures accepted { IfOk result (λ line. spec.replay_of (entries_in entries.now) ≡ Some (asked_by line)) }
+    ensures limits { IfOk result IsWithinLimits }
+    ensures usage { result ≡ Err LineFault.Usage → spec.replay_of (entries_in entries.now) ≡ None }
+{
+    if entries.third.is_some() || entries.workers.is_some() {
+        return Err(LineFault::Usage);
+    }
+    let Some(settings) = settings_of(entries) else {
+        return Err(LineFault::Usage);
     };
     Ok(Line::Replay {
-        image,
-        schedule,
+        image: name_of(alloc, entries.first)?,
+        schedule: name_of(alloc, entries.second)?,
         settings,
     })
 }
 
-/// The settings that the words after the files ask for.
-#[tactic(auto, unfolding(crate::specs::Lines::settings_of))]
-fn settings_of(words: &[String]) -> Option<Settings>
-    ensures value { result ≡ settings_of (map string_bytes words.now) }
-    ensures limits { IfSome result AreRunSettings }
+/// The name of a file, if it is given.
+fn name_of(alloc: Global, word: Option<&str>) -> Result<String, LineFault>
+    ensures name { IfOk result (λ name. option_map (λ s. s.now) word.entry ≡ Some (string_bytes name)) }
+    ensures usage { result ≡ Err LineFault.Usage → option_map (λ s. s.now) word.entry ≡ None }
 {
-    match words {
-        [] => both_settings(Some(DEFAULT_FRAMES), Some(DEFAULT_BUDGET)),
-        [name, value] if name.as_str() == "--frames" => {
-            both_settings(
-                number_within(1, MOST_FRAMES, value.as_str()),
-                Some(DEFAULT_BUDGET),
-            )
-        }
-        [name, value] if name.as_str() == "--budget" => {
-            both_settings(
-                Some(DEFAULT_FRAMES),
-                number_within(1, MOST_BUDGET, value.as_str()),
-            )
-        }
-        [first, frames, second, budget]
-            if first.as_str() == "--frames" && second.as_str() == "--budget" => {
-            both_settings(
-                number_within(1, MOST_FRAMES, frames.as_str()),
-                number_within(1, MOST_BUDGET, budget.as_str()),
-            )
-        }
+    match word {
+        Some(word) => String::from_str(alloc, word).map_err(|_| LineFault::OutOfMemory),
+        None => Err(LineFault::Usage),
+    }
+}
+
+/// The only word behind the mode, where there is no option.
+fn only_word<'a>(entries: &Entries<'a>) -> Option<&'a str>
+    ensures { option_map (λ s. s.now) result ≡ spec.only_word (entries_in entries.now) }
+{
+    match entries {
+        Entries {
+            second: None,
+            third: None,
+            frames: None,
+            budget: None,
+            workers: None,
+            first,
+            ..
+        } => *first,
         _ => None,
     }
 }
 
-/// The settings of frames and a budget, if both are given.
-fn both_settings(frames: Option<u32>, budget: Option<u32>) -> Option<Settings>
-    requires frames { IfSome frames (λ number. (1 ≤ number) × (number ≤ MOST_FRAMES)) }
-    requires budget { IfSome budget (λ number. (1 ≤ number) × (number ≤ MOST_BUDGET)) }
-    ensures value { result ≡ both_settings frames budget }
+/// The settings of a line, if neither number is refused.
+fn settings_of(entries: &Entries<'_>) -> Option<Settings>
+    ensures value { result ≡ spec.settings_of (entries_in entries.now) }
     ensures limits { IfSome result AreRunSettings }
 {
     Some(Settings {
-        frames: frames?,
-        budget: budget?,
+        frames: number_or(DEFAULT_FRAMES, MOST_FRAMES, entries.frames)?,
+        budget: number_or(DEFAULT_BUDGET, MOST_BUDGET, entries.budget)?,
         job: Job::Run,
     })
+}
+
+/// The number that an option has, if it is within its limits; the default if the option is not there.
+fn number_or(default: u32, most: u32, word: Option<&str>) -> Option<u32>
+    requires { (1 ≤ default) × (default ≤ most) }
+    ensures value { result ≡ spec.number_or default most (option_map (λ s. s.now) word.entry) }
+    ensures within { IfSome result (λ number. (1 ≤ number) × (number ≤ most)) }
+{
+    match word {
+        Some(word) => number_within(1, most, word),
+        None => Some(default),
+    }
 }

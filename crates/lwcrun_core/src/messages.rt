@@ -114,6 +114,10 @@ fn rejection_line(alloc: Global, rejection: &Rejection) -> Result<String, OutOfM
             let rule = rule.name();
             Ok(format!(in alloc; "lwcrun: image refused: {rule} at {at}\n")?)
         }
+        Rejection::Source { rule, at } => {
+            let rule = rule.name();
+            Ok(format!(in alloc; "lwcrun: image refused: {rule} at {at}\n")?)
+        }
         Rejection::Input { rule, at } => {
             let rule = rule.name();
             Ok(format!(in alloc; "lwcrun: input refused: {rule} at {at}\n")?)
@@ -135,7 +139,7 @@ fn rejection_status(rejection: &Rejection) -> ExitStatus
     ensures { result ≡ status_of_rejection rejection.now }
 {
     match rejection {
-        Rejection::Image { .. } => ExitStatus::ImageRefused,
+        Rejection::Image { .. } | Rejection::Source { .. } => ExitStatus::ImageRefused,
         Rejection::Input { .. } => ExitStatus::InputRefused,
         Rejection::TooLarge { .. } => ExitStatus::ImageTooLarge,
     }

@@ -15,7 +15,7 @@ ghost use Rattle.lwcrun_core.specs.Views.{end_of, outside};
 
 use crate::ending::{Ending, Rejection};
 use crate::inputs::{image_in, schedule_in};
-use crate::writing::write_whole;
+use crate::writing::write_work;
 use guest_image::Image;
 use kernel_core::{Kernel, Settings};
 use lwc_base::{OutOfMemory, Requests};
@@ -118,13 +118,7 @@ fn replay_steps<'a, O: Sink>(
         (outside files files (O.seen out.old) (O.seen out.new))
         (plans.Write (works.Replaying (run_inputs image.now settings.now) schedule.now)) (end_of result) }
 {
-    match run_text(alloc, image, schedule, settings) {
-        Ok(text) => match write_whole(out, text.as_slice()) {
-            Ok(()) => Ending::Done,
-            Err(_) => Ending::Unwritten,
-        },
-        Err(_) => Ending::NoMemory,
-    }
+    write_work(out, run_text(alloc, image, schedule, settings))
 }
 
 /// The report of the image's run under the schedule.

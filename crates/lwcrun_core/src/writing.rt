@@ -1,8 +1,28 @@
 ghost use Rattle.std.specs.Prelude.{◌≡◌, ◌<◌, ◌≤◌, ◌+◌, ℕ, List, length, take, IfOk, OnOk, OnErr};
-ghost use Rattle.lwc_io.specs.Outside.{FaultsIncreased, appended};
+ghost use Rattle.lwc_io.specs.Outside.{FaultsIncreased, FilesView, appended};
+ghost use Rattle.lwcrun_core.specs.Ends.{Ended};
+ghost use Rattle.lwcrun_core.specs.Headline.{IsText, Work};
+ghost use Rattle.lwcrun_core.specs.Plans as plans;
+ghost use Rattle.lwcrun_core.specs.Views.{end_of, outside};
 ghost use Rattle.lwcrun_core.specs.Writing.{IsPartTaken};
 
+use crate::ending::Ending;
+use lwc_base::OutOfMemory;
 use lwc_io::{Failed, Sink};
+
+/// Writes the text of a work, or ends the call without it if there was no memory for it.
+pub fn write_work<'a, O: Sink>(out: &mut O, text: Result<Vec<u8>, OutOfMemory>) -> Ending<'a>
+    ensures { (work : Work) (files : FilesView) → IfOk text (λ bytes. IsText work bytes.items)
+        → Ended IsText (outside files files (O.seen out.old) (O.seen out.new)) (plans.Write work) (end_of result) }
+{
+    match text {
+        Ok(text) => match write_whole(out, text.as_slice()) {
+            Ok(()) => Ending::Done,
+            Err(_) => Ending::Unwritten,
+        },
+        Err(_) => Ending::NoMemory,
+    }
+}
 
 /// Writes the text whole, piece by piece.
 ///

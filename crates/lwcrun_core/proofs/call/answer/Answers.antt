@@ -6,7 +6,7 @@ pub returns-in-Err-clause-answers : goal.returns-in-Err-clause-answers
 returns-in-Err-clause-answers g c = (
   c.write_message.ensures.0,
   not_begun _ _ c.write_message.ensures.0 refl refl
-      (line_ended _ _ c.write_message.ensures.0 (line_fault _ c.in-Err.fault _ (λ is. c.in-Err.ensures.usage.0 (ap Err is)) c.fault_ending.ensures) c.write_message.ensures.1),
+      (line_ended _ _ c.write_message.ensures.0 (line_fault _ c.in-Err.fault _ (λ is. (c.in-Err.ensures.usage.0 (ap Err is)).1) c.fault_ending.ensures) c.write_message.ensures.1),
   c.write_message.ensures.2,
 )
 

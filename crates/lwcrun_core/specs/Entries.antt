@@ -1,0 +1,64 @@
+-- The words of a line, as the command takes them.
+use Rattle.std.specs.Prelude.{ℕ, true, List, [], ◌∷◌, Option, None, Some, codes}
+use Rattle.std.specs.Option.{option_map}
+use Rattle.clap.specs.Words.{App, Kinds, Row, Rule, fault_of, first_of, matches_of, new_app, new_rule, with_rule}
+use Rattle.lwcrun_core.specs.declared.entries.Entries.{Entries as Taken}
+
+-- a place for a word that has to be there
+abbrev pub required : List ℕ → Rule
+required name = record (new_rule name) { required = true }
+
+-- an option with two dashes before its name, and one value
+abbrev pub valued : List ℕ → Rule
+valued name = record (new_rule name) { long = Some name }
+
+-- the command: the mode and one to three words behind it, and three options
+unfoldable pub command : App
+command =
+    with_rule (with_rule (with_rule (with_rule (with_rule (with_rule (with_rule (new_app (codes "lwcrun"))
+    (required (codes "mode"))) (required (codes "first"))) (new_rule (codes "second")))
+    (new_rule (codes "third"))) (valued (codes "frames"))) (valued (codes "budget"))) (valued (codes "workers"))
+
+-- the mode, the words behind it and the values of the options, as far as they are given
+pub record Entries : Type 0 where
+  pub mode : Option (List ℕ)
+  pub first : Option (List ℕ)
+  pub second : Option (List ℕ)
+  pub third : Option (List ℕ)
+  pub frames : Option (List ℕ)
+  pub budget : Option (List ℕ)
+  pub workers : Option (List ℕ)
+
+-- the entries among the matches of a parse
+abbrev pub entries_among : List Row → Entries
+entries_among rows = record {
+  mode = first_of (codes "mode") rows;
+  first = first_of (codes "first") rows;
+  second = first_of (codes "second") rows;
+  third = first_of (codes "third") rows;
+  frames = first_of (codes "frames") rows;
+  budget = first_of (codes "budget") rows;
+  workers = first_of (codes "workers") rows;
+}
+
+-- the entries, where the parse has no fault
+abbrev pub if_faultless : Kinds → Entries → Option Entries
+if_faultless [] entries = Some entries
+if_faultless (kind ∷ kinds) entries = None
+
+-- the entries of a line of words, the program's name first; none where the command does not take the words
+unfoldable pub entries_of : List (List ℕ) → Option Entries
+entries_of words =
+    if_faultless (fault_of command words) (entries_among (matches_of command words))
+
+-- the entries that were taken from a line
+abbrev pub entries_in : Taken → Entries
+entries_in e = record {
+  mode = option_map (λ s. s.now) e.mode;
+  first = option_map (λ s. s.now) e.first;
+  second = option_map (λ s. s.now) e.second;
+  third = option_map (λ s. s.now) e.third;
+  frames = option_map (λ s. s.now) e.frames;
+  budget = option_map (λ s. s.now) e.budget;
+  workers = option_map (λ s. s.now) e.workers;
+}

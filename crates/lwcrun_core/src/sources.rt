@@ -1,0 +1,32 @@
+ghost use Rattle.std.specs.Prelude.{◌≡◌};
+ghost use Rattle.lwcrun_core.specs.Ends.{Ended};
+ghost use Rattle.lwcrun_core.specs.Headline.{IsText, asm_plan};
+ghost use Rattle.lwcrun_core.specs.Plans.{AreFetchesOf};
+ghost use Rattle.lwcrun_core.specs.Reading.{Fetched};
+ghost use Rattle.lwcrun_core.specs.Views.{end_of, outside};
+
+use crate::ending::Ending;
+use crate::inputs::source_in;
+use crate::writing::write_work;
+use guest_image::write_image;
+use lwc_io::{Files, Sink};
+use std::alloc::Global;
+
+/// Reads the source of this name, and writes the bytes of the image that it makes.
+pub fn asm<'a, F: Files, O: Sink>(
+    alloc: Global,
+    files: &mut F,
+    out: &mut O,
+    source: &'a str,
+) -> Ending<'a>
+    ensures ended { Ended IsText
+        (outside (F.seen files.old) (F.seen files.new) (O.seen out.old) (O.seen out.new))
+        (asm_plan source.now) (end_of result) }
+    ensures fetches { Fetched (AreFetchesOf (F.seen files.old).contents (asm_plan source.now))
+        (F.seen files.old).fetches (F.seen files.new).fetches }
+{
+    match source_in(alloc, files, source) {
+        Ok(image) => write_work(out, write_image(alloc, &image)),
+        Err(ending) => ending,
+    }
+}
