@@ -14,6 +14,8 @@ mod calling;
 #[cfg(test)]
 mod creating;
 #[cfg(test)]
+mod lines;
+#[cfg(test)]
 mod outside;
 #[cfg(test)]
 mod replays;

@@ -282,7 +282,7 @@ fn guests_run_as_their_schedules_say(rt: HostRuntime) -> Result<(), Fail> {
 }
 
 /// The message of a line that is not accepted.
-const USAGE: &str =
+pub const USAGE: &str =
     "lwcrun: usage: lwcrun replay IMAGE SCHEDULE [REQUESTS], run IMAGE, serve IMAGE REQUESTS, asm SOURCE, \
     dis IMAGE, gen NUMBER; --frames F --budget B --workers W\n";
 
@@ -318,65 +318,15 @@ fn lines_set_frames_and_budget(rt: HostRuntime) -> Result<(), Fail> {
         context 0.0 pages 2 slots 2 uid 0\ngroups 0\nconsole -\nused 2\npeak 2\nsteps 3\nschedule 000\n"
             .as_slice()
     );
-    let cases: [(&[&str], ExitStatus, &str); 9] = [
-        (
-            &["replay", "guest", "schedule", "--frames", "1"],
-            ExitStatus::ImageTooLarge,
-            "lwcrun: image has 2 pages, frames are 1\n",
-        ),
-        (
-            &[
-                "replay",
-                "guest",
-                "schedule",
-                "--frames",
-                "2",
-                "--budget",
-                "0000000003",
-            ],
-            ExitStatus::Usage,
-            USAGE,
-        ),
-        (
-            &[
-                "replay",
-                "guest",
-                "schedule",
-                "--frames",
-                "2",
-                "--budget",
-                "000000003",
-            ],
-            ExitStatus::Ok,
-            "",
-        ),
-        (
-            &["replay", "guest", "schedule", "--frames", "65537"],
-            ExitStatus::Usage,
-            USAGE,
-        ),
-        (
-            &["replay", "guest", "schedule", "--budget", "0"],
-            ExitStatus::Usage,
-            USAGE,
-        ),
-        (
-            &[
-                "replay", "guest", "schedule", "--budget", "3", "--frames", "2",
-            ],
-            ExitStatus::Usage,
-            USAGE,
-        ),
-        (&["replay", "guest"], ExitStatus::Usage, USAGE),
-        (&["walk", "guest", "schedule"], ExitStatus::Usage, USAGE),
-        (&[], ExitStatus::Usage, USAGE),
-    ];
-    for (words, status, said) in cases {
-        let left = call(&rt, &two_pages, b"000", words, SURE)?;
-        assert_eq!(rt; left.status, status, "{said}");
-        assert_eq!(rt; left.err.bytes(), said.as_bytes());
-        assert_eq!(rt; left.out.bytes().is_empty(), status != ExitStatus::Ok);
-    }
+    let left = call(
+        &rt,
+        &two_pages,
+        b"000",
+        &["replay", "guest", "schedule", "--frames", "1"],
+        SURE,
+    )?;
+    assert_eq!(rt; left.status, ExitStatus::ImageTooLarge);
+    assert_eq!(rt; left.err.bytes(), b"lwcrun: image has 2 pages, frames are 1\n".as_slice());
     Ok(())
 }
 
