@@ -21,7 +21,7 @@ use Rattle.lwcrun_core.specs.declared.status.ExitStatus.TheVariants as statuses
 use Rattle.lwcrun_core.specs.Calls.{AreContents, CallEnded, FetchesNamed, FetchesPlan, FileFailed, Headline, IsOrNoMemory, IsRejected, IsRunnable, IsUndisturbed, Names, NoFault, status_by}
 use Rattle.lwcrun_core.specs.Ends.{End, Outside, Ended, FetchFailed, IsUnhindered, IsUnwritten, NothingFailed, WriteFailed, end_by}
 use Rattle.lwcrun_core.specs.Ends as ends
-use Rattle.lwcrun_core.specs.Headline.{IsText, Work, after_image, after_size, asm_plan, plan_of, replay_plan, run_inputs, text_of}
+use Rattle.lwcrun_core.specs.Headline.{IsText, Work, after_image, after_size, asm_plan, dis_plan, plan_of, replay_plan, run_inputs, text_of}
 use Rattle.lwcrun_core.specs.Headline as works
 use Rattle.lwcrun_core.specs.Images.{image_of, or_rejected, schedule_of, source_of}
 use Rattle.lwcrun_core.specs.Lines.{Command}
@@ -33,14 +33,15 @@ use Rattle.lwcrun_core.proofs.Promises.{known_bytes, leads_known, settled}
 
 -- the files that a plan reads are those that its command names
 
-reads_after_steps : (files : FileContents) (inputs_of : List ℕ → Work) (r : Result (List ℕ) Rejection) (q : List ℕ) → Reads files (accepted r (λ steps. plans.Write (inputs_of steps))) q → ⊥
-reads_after_steps files inputs_of (Ok steps) q h = h
-reads_after_steps files inputs_of (Err rejection) q h = h
+-- behind the last input nothing is read
+reads_no_more : {A : Type 0} (files : FileContents) (work_of : A → Work) (r : Result A Rejection) (q : List ℕ) → Reads files (accepted r (λ x. plans.Write (work_of x))) q → ⊥
+reads_no_more files work_of (Ok x) q h = h
+reads_no_more files work_of (Err rejection) q h = h
 
 reads_after_size : (files : FileContents) (schedule : List ℕ) (settings : Settings) (image : Image) (q : List ℕ) → Reads files (after_size schedule settings image) q → q ≡ schedule
 unfolding after_size
 reads_after_size files schedule settings image q (inl is) = is
-reads_after_size files schedule settings image q (inr h) = absurd (reads_after_steps files _ _ q h.2)
+reads_after_size files schedule settings image q (inr h) = absurd (reads_no_more files _ _ q h.2)
 
 reads_by_size : (files : FileContents) (schedule : List ℕ) (settings : Settings) (image : Image) (q : List ℕ) (b : Bool) (r : Rejection) → Reads files (cond b (plans.Refuse r) (after_size schedule settings image)) q → q ≡ schedule
 reads_by_size files schedule settings image q true r h = absurd h
@@ -51,16 +52,14 @@ unfolding after_image
 reads_after_image files schedule settings (Ok image) q h = reads_by_size files schedule settings image q _ _ h
 reads_after_image files schedule settings (Err rejection) q h = absurd h
 
-reads_after_source : (files : FileContents) (r : Result Image Rejection) (q : List ℕ) → Reads files (accepted r (λ image. plans.Write (works.Assembling image))) q → ⊥
-reads_after_source files (Ok image) q h = h
-reads_after_source files (Err rejection) q h = h
-
 reads_names : (files : FileContents) (command : Command) (q : List ℕ) → Reads files (plan_of command) q → Names command q
-unfolding replay_plan asm_plan
+unfolding replay_plan asm_plan dis_plan
 reads_names files (commands.Replay image schedule settings) q (inl is) = inl is
 reads_names files (commands.Replay image schedule settings) q (inr h) = inr (reads_after_image files schedule settings _ q h.2)
 reads_names files (commands.Asm source) q (inl is) = is
-reads_names files (commands.Asm source) q (inr h) = absurd (reads_after_source files _ q h.2)
+reads_names files (commands.Asm source) q (inr h) = absurd (reads_no_more files _ _ q h.2)
+reads_names files (commands.Dis image) q (inl is) = is
+reads_names files (commands.Dis image) q (inr h) = absurd (reads_no_more files _ _ q h.2)
 
 are_known : (files : FileContents) (command : Command) (bytes : List ℕ → List ℕ) → AreContents files command bytes → AreKnown files (plan_of command) bytes
 are_known files command bytes h q reads = h q (reads_names files command q reads)
@@ -121,10 +120,10 @@ source_found : (bytes : List ℕ) (image : Image) → source_of bytes ≡ Ok ima
 unfolding source_of
 source_found bytes image is = or_rejected_ok rejections.Source (assembled bytes) image is
 
--- the image of a source that was assembled
-image_made : (files : FileContents) (work : Work) (r : Result Image Rejection) → LeadsTo files (accepted r (λ image. plans.Write (works.Assembling image))) (Ok work) → (image : Image) × (r ≡ Ok image) × (work ≡ works.Assembling image)
-image_made files work (Ok image) e = (image, refl, cc)
-image_made files work (Err rejection) e = absurd cc
+-- a work is that of the last input
+work_found : {A : Type 0} (files : FileContents) (work_of : A → Work) (work : Work) (r : Result A Rejection) → LeadsTo files (accepted r (λ x. plans.Write (work_of x))) (Ok work) → (x : A) × (r ≡ Ok x) × (work ≡ work_of x)
+work_found files work_of work (Ok x) e = (x, refl, cc)
+work_found files work_of work (Err rejection) e = absurd cc
 
 module _ (images : ReadingFacts) (schedules : ScheduleFacts) where
   schedule_accepted : (threads : ℕ) (bytes steps : List ℕ) → IsSchedule threads bytes steps → schedule_of threads bytes ≡ Ok steps
@@ -153,7 +152,7 @@ module _ (images : ReadingFacts) (schedules : ScheduleFacts) where
   over_image bytes schedule settings image steps fits e = rw (le-ltb _ _ fits) (over_steps bytes image settings _ steps e)
 
   runs : (bytes : List ℕ → List ℕ) (command : Command) → IsRunnable command bytes → (work : Work) × (outcome bytes (plan_of command) ≡ Ok work)
-  unfolding replay_plan asm_plan
+  unfolding replay_plan asm_plan dis_plan
   runs bytes (commands.Replay image schedule settings) (x, steps, h) = (
     works.Replaying (run_inputs x settings) steps,
     ap (λ r. outcome bytes (accepted r (after_image schedule settings))) (image_accepted (bytes image) x h.image h.spelled)
@@ -164,12 +163,12 @@ module _ (images : ReadingFacts) (schedules : ScheduleFacts) where
     works.Assembling x,
     ap (λ r. outcome bytes (accepted r (λ image. plans.Write (works.Assembling image)))) (source_accepted (bytes source) x is),
   )
+  runs bytes (commands.Dis image) (x, is, spelled) = (
+    works.Disassembling x,
+    ap (λ r. outcome bytes (accepted r (λ y. plans.Write (works.Disassembling y)))) (image_accepted (bytes image) x is spelled),
+  )
 
   -- what was written is the headline
-
-  steps_of : (files : FileContents) (bytes steps : List ℕ) (inputs_of : List ℕ → Work) (work : Work) (r : Result (List ℕ) Rejection) → LeadsTo files (accepted r (λ xs. plans.Write (inputs_of xs))) (Ok work) → (found : List ℕ) × (r ≡ Ok found) × (work ≡ inputs_of found)
-  steps_of files bytes steps inputs_of work (Ok found) e = (found, refl, cc)
-  steps_of files bytes steps inputs_of work (Err rejection) e = absurd cc
 
   of_size : (files : FileContents) (schedule : List ℕ) (settings : Settings) (image : Image) (work : Work) (b : Bool) (r : Rejection) → nat_lt settings.frames (length image.pages) ≡ b → LeadsTo files (cond b (plans.Refuse r) (after_size schedule settings image)) (Ok work) → (length image.pages ≤ settings.frames) × LeadsTo files (after_size schedule settings image) (Ok work)
   of_size files schedule settings image work true r is e = absurd cc
@@ -180,11 +179,11 @@ module _ (images : ReadingFacts) (schedules : ScheduleFacts) where
   of_image files schedule settings work (Err rejection) e = absurd cc
 
   headline_of : (o : Outside) (command : Command) (bytes : List ℕ → List ℕ) (work : Work) (text : List ℕ) → AreContents o.files.contents command bytes → LeadsTo o.files.contents (plan_of command) (Ok work) → IsText work text → o.out_after.taken ≡ appended o.out.taken text → Headline o command bytes
-  unfolding replay_plan after_image after_size asm_plan
+  unfolding replay_plan after_image after_size asm_plan dis_plan
   headline_of o (commands.Replay image schedule settings) bytes work text known (image_bytes, may, fits, leads) is taken =
       let read = of_image o.files.contents schedule settings work (image_of image_bytes) leads in
       let sized = of_size o.files.contents schedule settings read.0 work _ _ refl read.2 in
-      let steps = steps_of o.files.contents (bytes schedule) [] (works.Replaying (run_inputs read.0 settings)) work (schedule_of (length read.0.entries) sized.1.0) sized.1.3 in
+      let steps = work_found o.files.contents (works.Replaying (run_inputs read.0 settings)) work (schedule_of (length read.0.entries) sized.1.0) sized.1.3 in
       let same : image_bytes ≡ bytes image = sym (known_bytes _ _ _ (known image (inl refl)) may) in
       let same_schedule : sized.1.0 ≡ bytes schedule = sym (known_bytes _ _ _ (known schedule (inr refl)) sized.1.1) in
       let spelled = image_found image_bytes read.0 fits read.1 in (
@@ -200,11 +199,21 @@ module _ (images : ReadingFacts) (schedules : ScheduleFacts) where
       )
 
   headline_of o (commands.Asm source) bytes work text known (source_bytes, may, fits, leads) is taken =
-      let made = image_made o.files.contents work (source_of source_bytes) leads in
+      let made = work_found o.files.contents works.Assembling work (source_of source_bytes) leads in
       let same : source_bytes ≡ bytes source = sym (known_bytes _ _ _ (known source refl) may) in (
         made.0,
         subst (λ b. assembled b ≡ Ok made.0) same (source_found source_bytes made.0 made.1),
         taken ∙ ap (appended o.out.taken) (let P : Work → Type 0 = λ w. IsText w text in subst P made.2 is),
+      )
+
+  headline_of o (commands.Dis image) bytes work text known (image_bytes, may, fits, leads) is taken =
+      let read = work_found o.files.contents works.Disassembling work (image_of image_bytes) leads in
+      let same : image_bytes ≡ bytes image = sym (known_bytes _ _ _ (known image refl) may) in
+      let spelled = image_found image_bytes read.0 fits read.1 in (
+        read.0,
+        spelled.0,
+        sym same ∙ spelled.1,
+        taken ∙ ap (appended o.out.taken) (let P : Work → Type 0 = λ w. IsText w text in subst P read.2 is),
       )
 
 -- a line that is not accepted reads no file and writes no text

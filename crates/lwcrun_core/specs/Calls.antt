@@ -1,6 +1,7 @@
 -- What a call of the program promises.
 use Rattle.std.specs.Prelude.{◌≡◌, ◌⊎◌, ◌≤◌, ℕ, List, Option, None, Some, Result, Ok, Err, All, length}
 use Rattle.guest_asm.specs.Drafts.{assembled}
+use Rattle.guest_dis.specs.Listing.{listing}
 use Rattle.guest_image.specs.Limits.{IsImage}
 use Rattle.guest_image.specs.Spelling.{spelling}
 use Rattle.guest_image.specs.declared.image.Image.{Image}
@@ -34,6 +35,7 @@ Answers o asked status err err_after =
 abbrev pub Names : Command → List ℕ → Type 0
 Names (commands.Replay image schedule settings) q = (q ≡ image) ⊎ (q ≡ schedule)
 Names (commands.Asm source) q = q ≡ source
+Names (commands.Dis image) q = q ≡ image
 
 -- a call fetched what its command's plan comes to, and nothing where the line is not accepted
 abbrev pub FetchesPlan : Option Command → FilesView → FilesView → Type 0
@@ -90,16 +92,20 @@ pub record AreAccepted
   pub schedule : IsSchedule (length x.entries) schedule_bytes steps
 
 -- the headline of a command over the contents of its files: they are accepted, and what was written is the
--- report of the steps that the run of the image keeps of the schedule, or the bytes of the source's image
+-- report of the steps that the run of the image keeps of the schedule, the bytes of the source's image, or the source
+-- of the image
 abbrev pub Headline : Outside → Command → (List ℕ → List ℕ) → Type 0
 Headline o (commands.Replay image schedule settings) bytes =
     (x : Image) × (steps : List ℕ) × AreAccepted settings (bytes image) (bytes schedule) x steps
     × (o.out_after.taken ≡ appended o.out.taken (text_of (run_inputs x settings) steps))
 Headline o (commands.Asm source) bytes =
     (x : Image) × (assembled (bytes source) ≡ Ok x) × (o.out_after.taken ≡ appended o.out.taken (spelling x))
+Headline o (commands.Dis image) bytes =
+    (x : Image) × IsImage x × (bytes image ≡ spelling x) × (o.out_after.taken ≡ appended o.out.taken (listing x))
 
 -- the contents of the command's files are accepted
 abbrev pub IsRunnable : Command → (List ℕ → List ℕ) → Type 0
 IsRunnable (commands.Replay image schedule settings) bytes =
     (x : Image) × (steps : List ℕ) × AreAccepted settings (bytes image) (bytes schedule) x steps
 IsRunnable (commands.Asm source) bytes = (x : Image) × (assembled (bytes source) ≡ Ok x)
+IsRunnable (commands.Dis image) bytes = (x : Image) × IsImage x × (bytes image ≡ spelling x)

@@ -1,5 +1,6 @@
 -- What a call does: its work, its plan, and the text that it writes.
 use Rattle.std.specs.Prelude.{◌≡◌, ℕ, if◌then◌else◌, List, [], length, nat_lt}
+use Rattle.guest_dis.specs.Listing.{listing}
 use Rattle.guest_asm.specs.declared.assembly.TheConstants.{MOST_SOURCE_BYTES}
 use Rattle.guest_image.specs.Spelling.{spelling}
 use Rattle.guest_image.specs.declared.image.Image.{Image}
@@ -15,10 +16,11 @@ use Rattle.lwcrun_core.specs.Lines.{Command}
 use Rattle.lwcrun_core.specs.Lines as commands
 use Rattle.lwcrun_core.specs.Plans.{Plan, Read, Refuse, Write, accepted}
 
--- what is done when all inputs are accepted: the run of a schedule, or the writing of an image
+-- what is done when all inputs are accepted: the run of a schedule, the bytes of an image, or its source
 pub data Work : Type 0 where
   Replaying : Inputs → List ℕ → Work
   Assembling : Image → Work
+  Disassembling : Image → Work
 
 -- the text of a schedule's run: the report of the steps that are kept
 unfoldable pub text_of : Inputs → List ℕ → List ℕ
@@ -28,6 +30,7 @@ text_of inputs schedule = report_after inputs (kept (start inputs) schedule)
 abbrev pub IsText : Work → List ℕ → Type 0
 IsText (Replaying inputs schedule) text = text ≡ text_of inputs schedule
 IsText (Assembling image) text = text ≡ spelling image
+IsText (Disassembling image) text = text ≡ listing image
 
 -- the inputs of an image's run
 abbrev pub run_inputs : Image → Settings → Inputs
@@ -57,7 +60,13 @@ unfoldable pub asm_plan : List ℕ → Plan Rejection Work
 asm_plan source =
     Read source MOST_SOURCE_BYTES (λ bytes. accepted (source_of bytes) (λ image. Write (Assembling image)))
 
+-- the source of an image: the image is read
+unfoldable pub dis_plan : List ℕ → Plan Rejection Work
+dis_plan image =
+    Read image MOST_IMAGE_BYTES (λ bytes. accepted (image_of bytes) (λ x. Write (Disassembling x)))
+
 -- the plan of what a line asks for
 abbrev pub plan_of : Command → Plan Rejection Work
 plan_of (commands.Replay image schedule settings) = replay_plan image schedule settings
 plan_of (commands.Asm source) = asm_plan source
+plan_of (commands.Dis image) = dis_plan image

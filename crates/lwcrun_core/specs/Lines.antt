@@ -10,10 +10,12 @@ use Rattle.lwcrun_core.specs.declared.line.Line.TheVariants as lines
 use Rattle.lwcrun_core.specs.Entries.{Entries, entries_of}
 use Rattle.lwcrun_core.specs.Numbers.{number_within}
 
--- what is asked for, each file by its name: the run of an image under a schedule; the image of a source
+-- what is asked for, each file by its name: the run of an image under a schedule; the image of a source; the source of
+-- an image
 pub data Command : Type 0 where
   Replay : List ℕ → List ℕ → Settings → Command
   Asm : List ℕ → Command
+  Dis : List ℕ → Command
 
 -- settings of a run, within their limits
 pub record AreRunSettings (settings : Settings) : Type 0 where
@@ -59,6 +61,7 @@ abbrev pub asked_in : List ℕ → Entries → Option Command
 asked_in mode e =
     if bytes_eq mode (codes "replay") then replay_of e
     else if bytes_eq mode (codes "asm") then option_map Asm (only_word e)
+    else if bytes_eq mode (codes "dis") then option_map Dis (only_word e)
     else None
 
 -- what the words ask for, the program's name first; none where the line is not accepted
@@ -69,8 +72,10 @@ command_of words = option_and_then (λ e. option_and_then (λ mode. asked_in mod
 abbrev pub asked_by : Line → Command
 asked_by (lines.Replay image schedule settings) = Replay (string_bytes image) (string_bytes schedule) settings
 asked_by (lines.Asm source) = Asm (string_bytes source)
+asked_by (lines.Dis image) = Dis (string_bytes image)
 
 -- the settings of a line that was read are within their limits, if it has any
 abbrev pub IsWithinLimits : Line → Type 0
 IsWithinLimits (lines.Replay image schedule settings) = AreRunSettings settings
 IsWithinLimits (lines.Asm source) = Unit {0}
+IsWithinLimits (lines.Dis image) = Unit {0}

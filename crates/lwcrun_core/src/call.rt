@@ -10,11 +10,11 @@ ghost use Rattle.lwcrun_core.specs.Reading.{Fetched};
 ghost use Rattle.lwcrun_core.specs.Statuses.{status_of_rejection};
 ghost use Rattle.lwcrun_core.specs.Views.{end_of, outside};
 
-use crate::assembling::asm;
 use crate::ending::Ending;
 use crate::line::{Line, LineFault, read_line};
 use crate::messages::write_message;
 use crate::replaying::replay;
+use crate::sources::{asm, dis};
 use crate::status::ExitStatus;
 use guest_image::images_are_read_as_spelled;
 use lwc_io::{Files, Gate, Sink};
@@ -166,5 +166,6 @@ fn carry_out<'a, F: Files, O: Sink>(
             settings,
         ),
         Line::Asm { source } => asm(alloc, files, out, source.as_str()),
+        Line::Dis { image } => dis(alloc, files, out, image.as_str()),
     }
 }

@@ -2,7 +2,6 @@
 //! and writes the report.
 #![tactic(auto)]
 
-mod assembling;
 mod call;
 mod ending;
 mod entries;
@@ -13,6 +12,7 @@ mod messages;
 mod numbers;
 mod reading;
 mod replaying;
+mod sources;
 mod status;
 mod writing;
 

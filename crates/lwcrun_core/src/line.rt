@@ -22,6 +22,8 @@ pub enum Line {
     },
     /// The image of a source, a file by its name.
     Asm { source: String },
+    /// The source of an image, a file by its name.
+    Dis { image: String },
 }
 
 /// Why a line was not read.
@@ -67,6 +69,9 @@ fn line_in(alloc: Global, mode: &str, entries: &Entries<'_>) -> Result<Line, Lin
         "replay" => replay_line(alloc, entries),
         "asm" => Ok(Line::Asm {
             source: name_of(alloc, only_word(entries))?,
+        }),
+        "dis" => Ok(Line::Dis {
+            image: name_of(alloc, only_word(entries))?,
         }),
         _ => Err(LineFault::Usage),
     }

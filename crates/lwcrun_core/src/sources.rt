@@ -1,13 +1,14 @@
 ghost use Rattle.std.specs.Prelude.{◌≡◌};
 ghost use Rattle.lwcrun_core.specs.Ends.{Ended};
-ghost use Rattle.lwcrun_core.specs.Headline.{IsText, asm_plan};
+ghost use Rattle.lwcrun_core.specs.Headline.{IsText, asm_plan, dis_plan};
 ghost use Rattle.lwcrun_core.specs.Plans.{AreFetchesOf};
 ghost use Rattle.lwcrun_core.specs.Reading.{Fetched};
 ghost use Rattle.lwcrun_core.specs.Views.{end_of, outside};
 
 use crate::ending::Ending;
-use crate::inputs::source_in;
+use crate::inputs::{image_in, source_in};
 use crate::writing::write_work;
+use guest_dis::disassemble;
 use guest_image::write_image;
 use lwc_io::{Files, Sink};
 use std::alloc::Global;
@@ -27,6 +28,25 @@ pub fn asm<'a, F: Files, O: Sink>(
 {
     match source_in(alloc, files, source) {
         Ok(image) => write_work(out, write_image(alloc, &image)),
+        Err(ending) => ending,
+    }
+}
+
+/// Reads the image of this name, and writes its source.
+pub fn dis<'a, F: Files, O: Sink>(
+    alloc: Global,
+    files: &mut F,
+    out: &mut O,
+    image: &'a str,
+) -> Ending<'a>
+    ensures ended { Ended IsText
+        (outside (F.seen files.old) (F.seen files.new) (O.seen out.old) (O.seen out.new))
+        (dis_plan image.now) (end_of result) }
+    ensures fetches { Fetched (AreFetchesOf (F.seen files.old).contents (dis_plan image.now))
+        (F.seen files.old).fetches (F.seen files.new).fetches }
+{
+    match image_in(alloc, files, image) {
+        Ok(image) => write_work(out, disassemble(alloc, &image)),
         Err(ending) => ending,
     }
 }

@@ -2,7 +2,7 @@ use Rattle.std.proofs.Common.{refl}
 use Rattle.lwcrun_core.specs.Headline.{IsText, asm_plan}
 use Rattle.lwcrun_core.proofs.Fetches.{nothing_fetched}
 use Rattle.lwcrun_core.proofs.Follows.{fetches_on, fetches_stop, reads_on, stops_reading}
-use Rattle.lwcrun_core.proofs.assembling.asm.Goals as goal
+use Rattle.lwcrun_core.proofs.sources.asm.Goals as goal
 
 pub returns-in-Ok-clause-ended : goal.returns-in-Ok-clause-ended
 unfolding asm_plan
