@@ -8,7 +8,7 @@ use Rattle.clap.specs.declared.error.kind.ErrorKind.TheVariants.{OutOfMemory}
 use Rattle.clap.specs.declared.parser.matches.Found.{Found}
 use Rattle.clap.proofs.OnLiterals.{clap_on_literals}
 use Rattle.clap.proofs.WalkLemmas.{first_value-rows}
-use Rattle.lwcrun_core.specs.Entries.{Entries, command, entries_among, entries_of}
+use Rattle.lwcrun_core.specs.Arguments.{Arguments, command, arguments_among, arguments_of}
 
 -- the word that is taken is that of the matches
 pub taken : (f : Found) (id : Text) (word : Option (Bor Text)) → option_map (λ s. s.now) word ≡ first_value f id → option_map (λ s. s.now) word ≡ first_of id (rows_of f)
@@ -22,23 +22,23 @@ is_free_command : is_simple_and_free command ≡ true
 unfolding clap_on_literals command
 is_free_command = refl
 
--- words that the command takes have the entries among its matches
-pub entries_found : (app : App) (words : List Text) (rows : List Row) (e : Entries) (Rest : Type 0) → app ≡ command
-    → (is_simple_and_free app ≡ true → fault_of app words ≡ []) → (is_simple app ≡ true → (rows ≡ matches_of app words) × Rest) → e ≡ entries_among rows → entries_of words ≡ Some e
-unfolding entries_of
-entries_found app words rows e Rest is faults matches taken_from =
+-- words that the command takes have the arguments among its matches
+pub arguments_found : (app : App) (words : List Text) (rows : List Row) (e : Arguments) (Rest : Type 0) → app ≡ command
+    → (is_simple_and_free app ≡ true → fault_of app words ≡ []) → (is_simple app ≡ true → (rows ≡ matches_of app words) × Rest) → e ≡ arguments_among rows → arguments_of words ≡ Some e
+unfolding arguments_of
+arguments_found app words rows e Rest is faults matches taken_from =
     let none : fault_of command words ≡ [] = sym (ap (λ a. fault_of a words) is) ∙ faults (ap is_simple_and_free is ∙ is_free_command) in
     let found : rows ≡ matches_of command words = (matches (ap is_simple is ∙ is_simple_command)).0 ∙ ap (λ a. matches_of a words) is in
-    rw none (ap Some (sym (taken_from ∙ ap entries_among found)))
+    rw none (ap Some (sym (taken_from ∙ ap arguments_among found)))
 
-no_entries : (kinds : Kinds) (words : List Text) (e : Error) → fault_of command words ≡ kinds → HasKind kinds e → (kind_of e ≡ OutOfMemory → ⊥) → entries_of words ≡ None
-unfolding entries_of
-no_entries [] words e is (inl memory) other = absurd (other memory)
-no_entries [] words e is (inr among) other = absurd among
-no_entries (kind ∷ kinds) words e is h other = rw is refl
+no_arguments : (kinds : Kinds) (words : List Text) (e : Error) → fault_of command words ≡ kinds → HasKind kinds e → (kind_of e ≡ OutOfMemory → ⊥) → arguments_of words ≡ None
+unfolding arguments_of
+no_arguments [] words e is (inl memory) other = absurd (other memory)
+no_arguments [] words e is (inr among) other = absurd among
+no_arguments (kind ∷ kinds) words e is h other = rw is refl
 
 -- words that the command refuses, for another reason than memory, have none
-pub entries_missing : (app : App) (words : List Text) (e : Error) → app ≡ command
-    → (is_simple_and_free app ≡ true → HasKind (fault_of app words) e) → (kind_of e ≡ OutOfMemory → ⊥) → entries_of words ≡ None
-entries_missing app words e is faults other =
-    no_entries (fault_of app words) words e (sym (ap (λ a. fault_of a words) is)) (faults (ap is_simple_and_free is ∙ is_free_command)) other
+pub arguments_missing : (app : App) (words : List Text) (e : Error) → app ≡ command
+    → (is_simple_and_free app ≡ true → HasKind (fault_of app words) e) → (kind_of e ≡ OutOfMemory → ⊥) → arguments_of words ≡ None
+arguments_missing app words e is faults other =
+    no_arguments (fault_of app words) words e (sym (ap (λ a. fault_of a words) is)) (faults (ap is_simple_and_free is ∙ is_free_command)) other

@@ -1,7 +1,7 @@
 pub use Rattle.lwc_io.specs.Outside
 pub mod Calls
 pub mod Ends
-pub mod Entries
+pub mod Arguments
 pub mod Headline
 pub mod Images
 pub mod Lines

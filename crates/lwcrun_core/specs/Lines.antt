@@ -7,7 +7,7 @@ use Rattle.kernel_core.specs.declared.settings.Job.TheVariants.{Run}
 use Rattle.lwc_base.specs.declared.limits.TheConstants.{MOST_BUDGET, MOST_FRAMES}
 use Rattle.lwcrun_core.specs.declared.line.Line.{Line}
 use Rattle.lwcrun_core.specs.declared.line.Line.TheVariants as lines
-use Rattle.lwcrun_core.specs.Entries.{Entries, entries_of}
+use Rattle.lwcrun_core.specs.Arguments.{Arguments, arguments_of}
 use Rattle.lwcrun_core.specs.Numbers.{number_within}
 
 -- what is asked for, each file by its name: the run of an image under a schedule; the image of a source; the source of
@@ -32,32 +32,32 @@ number_or default most None = Some default
 number_or default most (Some word) = number_within 1 most word
 
 -- the number of frames: 4096 where the line has none
-abbrev pub frames_of : Entries → Option ℕ
+abbrev pub frames_of : Arguments → Option ℕ
 frames_of e = number_or 4096 MOST_FRAMES e.frames
 
 -- the number of steps of a thread: 10000 where the line has none
-abbrev pub budget_of : Entries → Option ℕ
+abbrev pub budget_of : Arguments → Option ℕ
 budget_of e = number_or 10000 MOST_BUDGET e.budget
 
 -- the settings of a line, where neither number is refused
-abbrev pub settings_of : Entries → Option Settings
+abbrev pub settings_of : Arguments → Option Settings
 settings_of e = option_and_then (λ frames. option_map (run_settings frames) (budget_of e)) (frames_of e)
 
 -- the only word behind the mode, where there is no option
-abbrev pub only_word : Entries → Option (List ℕ)
+abbrev pub only_word : Arguments → Option (List ℕ)
 only_word e =
     if is_some e.second || is_some e.third || is_some e.frames || is_some e.budget || is_some e.workers then None
     else e.first
 
 -- `replay` wants an image and a schedule, and takes frames and a budget
-abbrev pub replay_of : Entries → Option Command
+abbrev pub replay_of : Arguments → Option Command
 replay_of e =
     if is_some e.third || is_some e.workers then None
     else option_and_then (λ image. option_and_then (λ schedule.
     option_map (Replay image schedule) (settings_of e)) e.second) e.first
 
--- the table of modes: what each asks for, if it takes the other entries
-abbrev pub asked_in : List ℕ → Entries → Option Command
+-- the table of modes: what each asks for, if it takes the other arguments
+abbrev pub asked_in : List ℕ → Arguments → Option Command
 asked_in mode e =
     if bytes_eq mode (codes "replay") then replay_of e
     else if bytes_eq mode (codes "asm") then option_map Asm (only_word e)
@@ -66,7 +66,7 @@ asked_in mode e =
 
 -- what the words ask for, the program's name first; none where the line is not accepted
 unfoldable pub command_of : List (List ℕ) → Option Command
-command_of words = option_and_then (λ e. option_and_then (λ mode. asked_in mode e) e.mode) (entries_of words)
+command_of words = option_and_then (λ e. option_and_then (λ mode. asked_in mode e) e.mode) (arguments_of words)
 
 -- what a line that was read asks for
 abbrev pub asked_by : Line → Command

@@ -4,7 +4,7 @@
 
 mod call;
 mod ending;
-mod entries;
+mod arguments;
 mod inputs;
 mod limits;
 mod line;

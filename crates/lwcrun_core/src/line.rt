@@ -1,11 +1,11 @@
 ghost use Rattle.std.specs.Prelude.{◌≡◌, ◌≢◌, ◌≤◌, ◌↔◌, None, Some, map, IfErr, IfOk, IfSome, string_bytes};
 ghost use Rattle.std.specs.Option.{option_map};
 ghost use Rattle.lwc_base.specs.declared.limits.TheConstants.{MOST_BUDGET, MOST_FRAMES};
-ghost use Rattle.lwcrun_core.specs.Entries.{entries_in};
+ghost use Rattle.lwcrun_core.specs.Arguments.{arguments_in};
 ghost use Rattle.lwcrun_core.specs.Lines as spec;
 ghost use Rattle.lwcrun_core.specs.Lines.{AreRunSettings, IsWithinLimits, asked_by, command_of};
 
-use crate::entries::{Entries, read_entries};
+use crate::arguments::{Arguments, parse_words};
 use crate::numbers::number_within;
 use kernel_core::{Job, Settings};
 use lwc_base::{MOST_BUDGET, MOST_FRAMES};
@@ -52,46 +52,46 @@ pub fn read_line(alloc: Global, words: &[String]) -> Result<Line, LineFault>
     ensures usage { (result ≡ Err LineFault.Usage)
         ↔ ((result ≢ Err LineFault.OutOfMemory) × (command_of (map string_bytes words.now) ≡ None)) }
 {
-    let entries = read_entries(alloc, words)?;
-    match entries.mode {
-        Some(mode) => line_in(alloc, mode, &entries),
+    let arguments = parse_words(alloc, words)?;
+    match arguments.mode {
+        Some(mode) => line_in(alloc, mode, &arguments),
         None => Err(LineFault::Usage),
     }
 }
 
-/// The table of modes: what each asks for, if it takes the other entries.
-fn line_in(alloc: Global, mode: &str, entries: &Entries<'_>) -> Result<Line, LineFault>
-    ensures accepted { IfOk result (λ line. spec.asked_in mode.now (entries_in entries.now) ≡ Some (asked_by line)) }
+/// The table of modes: what each asks for, if it takes the other arguments.
+fn line_in(alloc: Global, mode: &str, arguments: &Arguments<'_>) -> Result<Line, LineFault>
+    ensures accepted { IfOk result (λ line. spec.asked_in mode.now (arguments_in arguments.now) ≡ Some (asked_by line)) }
     ensures limits { IfOk result IsWithinLimits }
-    ensures usage { result ≡ Err LineFault.Usage → spec.asked_in mode.now (entries_in entries.now) ≡ None }
+    ensures usage { result ≡ Err LineFault.Usage → spec.asked_in mode.now (arguments_in arguments.now) ≡ None }
 {
     match mode {
-        "replay" => replay_line(alloc, entries),
+        "replay" => replay_line(alloc, arguments),
         "asm" => Ok(Line::Asm {
-            source: name_of(alloc, only_word(entries))?,
+            source: name_of(alloc, only_word(arguments))?,
         }),
         "dis" => Ok(Line::Dis {
-            image: name_of(alloc, only_word(entries))?,
+            image: name_of(alloc, only_word(arguments))?,
         }),
         _ => Err(LineFault::Usage),
     }
 }
 
 /// The line of a replay: an image and a schedule, with frames and a budget.
-fn replay_line(alloc: Global, entries: &Entries<'_>) -> Result<Line, LineFault>
-    ensures accepted { IfOk result (λ line. spec.replay_of (entries_in entries.now) ≡ Some (asked_by line)) }
+fn replay_line(alloc: Global, arguments: &Arguments<'_>) -> Result<Line, LineFault>
+    ensures accepted { IfOk result (λ line. spec.replay_of (arguments_in arguments.now) ≡ Some (asked_by line)) }
     ensures limits { IfOk result IsWithinLimits }
-    ensures usage { result ≡ Err LineFault.Usage → spec.replay_of (entries_in entries.now) ≡ None }
+    ensures usage { result ≡ Err LineFault.Usage → spec.replay_of (arguments_in arguments.now) ≡ None }
 {
-    if entries.third.is_some() || entries.workers.is_some() {
+    if arguments.third.is_some() || arguments.workers.is_some() {
         return Err(LineFault::Usage);
     }
-    let Some(settings) = settings_of(entries) else {
+    let Some(settings) = settings_of(arguments) else {
         return Err(LineFault::Usage);
     };
     Ok(Line::Replay {
-        image: name_of(alloc, entries.first)?,
-        schedule: name_of(alloc, entries.second)?,
+        image: name_of(alloc, arguments.first)?,
+        schedule: name_of(alloc, arguments.second)?,
         settings,
     })
 }
@@ -108,11 +108,11 @@ fn name_of(alloc: Global, word: Option<&str>) -> Result<String, LineFault>
 }
 
 /// The only word behind the mode, where there is no option.
-fn only_word<'a>(entries: &Entries<'a>) -> Option<&'a str>
-    ensures { option_map (λ s. s.now) result ≡ spec.only_word (entries_in entries.now) }
+fn only_word<'a>(arguments: &Arguments<'a>) -> Option<&'a str>
+    ensures { option_map (λ s. s.now) result ≡ spec.only_word (arguments_in arguments.now) }
 {
-    match entries {
-        Entries {
+    match arguments {
+        Arguments {
             second: None,
             third: None,
             frames: None,
@@ -126,13 +126,13 @@ fn only_word<'a>(entries: &Entries<'a>) -> Option<&'a str>
 }
 
 /// The settings of a line, if neither number is refused.
-fn settings_of(entries: &Entries<'_>) -> Option<Settings>
-    ensures value { result ≡ spec.settings_of (entries_in entries.now) }
+fn settings_of(arguments: &Arguments<'_>) -> Option<Settings>
+    ensures value { result ≡ spec.settings_of (arguments_in arguments.now) }
     ensures limits { IfSome result AreRunSettings }
 {
     Some(Settings {
-        frames: number_or(DEFAULT_FRAMES, MOST_FRAMES, entries.frames)?,
-        budget: number_or(DEFAULT_BUDGET, MOST_BUDGET, entries.budget)?,
+        frames: number_or(DEFAULT_FRAMES, MOST_FRAMES, arguments.frames)?,
+        budget: number_or(DEFAULT_BUDGET, MOST_BUDGET, arguments.budget)?,
         job: Job::Run,
     })
 }

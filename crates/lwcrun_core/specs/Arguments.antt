@@ -2,7 +2,7 @@
 use Rattle.std.specs.Prelude.{ℕ, true, List, [], ◌∷◌, Option, None, Some, codes}
 use Rattle.std.specs.Option.{option_map}
 use Rattle.clap.specs.Words.{App, Kinds, Row, Rule, fault_of, first_of, matches_of, new_app, new_rule, with_rule}
-use Rattle.lwcrun_core.specs.declared.entries.Entries.{Entries as Taken}
+use Rattle.lwcrun_core.specs.declared.arguments.Arguments.{Arguments as Taken}
 
 -- a place for a word that has to be there
 abbrev pub required : List ℕ → Rule
@@ -20,7 +20,7 @@ command =
     (new_rule (codes "third"))) (valued (codes "frames"))) (valued (codes "budget"))) (valued (codes "workers"))
 
 -- the mode, the words behind it and the values of the options, as far as they are given
-pub record Entries : Type 0 where
+pub record Arguments : Type 0 where
   pub mode : Option (List ℕ)
   pub first : Option (List ℕ)
   pub second : Option (List ℕ)
@@ -29,9 +29,9 @@ pub record Entries : Type 0 where
   pub budget : Option (List ℕ)
   pub workers : Option (List ℕ)
 
--- the entries among the matches of a parse
-abbrev pub entries_among : List Row → Entries
-entries_among rows = record {
+-- the arguments among the matches of a parse
+abbrev pub arguments_among : List Row → Arguments
+arguments_among rows = record {
   mode = first_of (codes "mode") rows;
   first = first_of (codes "first") rows;
   second = first_of (codes "second") rows;
@@ -41,19 +41,19 @@ entries_among rows = record {
   workers = first_of (codes "workers") rows;
 }
 
--- the entries, where the parse has no fault
-abbrev pub if_faultless : Kinds → Entries → Option Entries
-if_faultless [] entries = Some entries
-if_faultless (kind ∷ kinds) entries = None
+-- the arguments, where the parse has no fault
+abbrev pub if_faultless : Kinds → Arguments → Option Arguments
+if_faultless [] arguments = Some arguments
+if_faultless (kind ∷ kinds) arguments = None
 
--- the entries of a line of words, the program's name first; none where the command does not take the words
-unfoldable pub entries_of : List (List ℕ) → Option Entries
-entries_of words =
-    if_faultless (fault_of command words) (entries_among (matches_of command words))
+-- the arguments of a line of words, the program's name first; none where the command does not take the words
+unfoldable pub arguments_of : List (List ℕ) → Option Arguments
+arguments_of words =
+    if_faultless (fault_of command words) (arguments_among (matches_of command words))
 
--- the entries that were taken from a line
-abbrev pub entries_in : Taken → Entries
-entries_in e = record {
+-- the arguments that were taken from a line
+abbrev pub arguments_in : Taken → Arguments
+arguments_in e = record {
   mode = option_map (λ s. s.now) e.mode;
   first = option_map (λ s. s.now) e.first;
   second = option_map (λ s. s.now) e.second;

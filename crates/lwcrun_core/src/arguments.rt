@@ -2,7 +2,7 @@
 
 ghost use Rattle.std.specs.Prelude.{◌≡◌, ◌≢◌, None, Some, map, IfOk, string_bytes};
 ghost use Rattle.clap.specs.Words.{app_of, found_of, rows_of};
-ghost use Rattle.lwcrun_core.specs.Entries as spec;
+ghost use Rattle.lwcrun_core.specs.Arguments as spec;
 
 use crate::line::LineFault;
 use clap::error::ErrorKind;
@@ -11,7 +11,7 @@ use std::alloc::{AllocError, Global};
 
 /// The mode, the words behind it and the values of the options, as far as they are given.
 #[derive(Clone, Copy, Debug)]
-pub struct Entries<'a> {
+pub struct Arguments<'a> {
     pub mode: Option<&'a str>,
     pub first: Option<&'a str>,
     pub second: Option<&'a str>,
@@ -21,16 +21,16 @@ pub struct Entries<'a> {
     pub workers: Option<&'a str>,
 }
 
-/// The entries of a line of words, the program's name first.
+/// The arguments of a line of words, the program's name first.
 ///
 /// # Errors
 ///
 /// `Usage` where the command does not take the words, or out of memory.
-#[tactic(auto, unfolding(crate::specs::Entries::entries_of))]
-pub fn read_entries<'a>(alloc: Global, words: &'a [String]) -> Result<Entries<'a>, LineFault>
-    ensures accepted { IfOk result (λ entries.
-        spec.entries_of (map string_bytes words.entry.now) ≡ Some (spec.entries_in entries)) }
-    ensures usage { result ≡ Err LineFault.Usage → spec.entries_of (map string_bytes words.entry.now) ≡ None }
+#[tactic(auto, unfolding(crate::specs::Arguments::arguments_of))]
+pub fn parse_words<'a>(alloc: Global, words: &'a [String]) -> Result<Arguments<'a>, LineFault>
+    ensures accepted { IfOk result (λ arguments.
+        spec.arguments_of (map string_bytes words.entry.now) ≡ Some (spec.arguments_in arguments)) }
+    ensures usage { result ≡ Err LineFault.Usage → spec.arguments_of (map string_bytes words.entry.now) ≡ None }
 {
     let Ok(command) = command(alloc) else {
         return Err(LineFault::OutOfMemory);
@@ -70,11 +70,11 @@ fn fault_of(kind: ErrorKind) -> LineFault
     }
 }
 
-/// The entries among the matches of a parse.
-fn taken_from<'a>(matches: &ArgMatches<'a>) -> Entries<'a>
-    ensures { spec.entries_in result ≡ spec.entries_among (rows_of (found_of matches.now)) }
+/// The arguments among the matches of a parse.
+fn taken_from<'a>(matches: &ArgMatches<'a>) -> Arguments<'a>
+    ensures { spec.arguments_in result ≡ spec.arguments_among (rows_of (found_of matches.now)) }
 {
-    Entries {
+    Arguments {
         mode: matches.get_str("mode"),
         first: matches.get_str("first"),
         second: matches.get_str("second"),

@@ -2,8 +2,8 @@ use Rattle.std.proofs.Common.{◌≡◌, ◌∙◌, Some, ap, ap₂, codes, true
 use Rattle.std.proofs.lemmas.Result.{IfOk-weaker}
 use Rattle.clap.specs.Words.{Rule, rule_of, with_rule}
 use Rattle.clap.specs.declared.builder.arg.Arg.{Arg}
-use Rattle.lwcrun_core.specs.Entries as spec
-use Rattle.lwcrun_core.proofs.entries.command.Goals as goal
+use Rattle.lwcrun_core.specs.Arguments as spec
+use Rattle.lwcrun_core.proofs.arguments.command.Goals as goal
 
 pub returns : goal.returns
 unfolding spec.command

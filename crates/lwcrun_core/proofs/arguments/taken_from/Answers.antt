@@ -1,7 +1,7 @@
 use Rattle.std.proofs.Common.{codes, refl}
 use Rattle.clap.specs.Words.{found_of}
 use Rattle.lwcrun_core.proofs.TakenWords.{taken}
-use Rattle.lwcrun_core.proofs.entries.taken_from.Goals as goal
+use Rattle.lwcrun_core.proofs.arguments.taken_from.Goals as goal
 
 pub returns : goal.returns
 returns c =
