@@ -34,6 +34,8 @@ fn lines_are_accepted_with_their_options_anywhere(rt: HostRuntime) -> Result<(),
         ("replay guest ", "ReadFault", "lwcrun: cannot read \n"),
         ("asm guest", "ImageRefused", "lwcrun: image refused: BadLine at 0\n"),
         ("asm none", "ReadFault", "lwcrun: cannot read none\n"),
+        ("dis schedule", "ImageRefused", "lwcrun: image refused: BadMagic at 0\n"),
+        ("dis -", "ReadFault", "lwcrun: cannot read -\n"),
     ];
     for (line, status, said) in cases {
         let left = call_line(&rt, &guest, line)?;
@@ -78,6 +80,9 @@ fn other_lines_are_answered_by_the_usage(rt: HostRuntime) -> Result<(), Fail> {
         "asm guest --frames 2",
         "asm guest --budget=3",
         "asm guest --workers 1",
+        "dis",
+        "dis guest schedule",
+        "dis guest --frames 2",
         "run",
         "run guest",
         "run guest schedule",
@@ -97,12 +102,26 @@ fn other_lines_are_answered_by_the_usage(rt: HostRuntime) -> Result<(), Fail> {
 }
 
 #[test]
-fn sources_become_images(rt: HostRuntime) -> Result<(), Fail> {
+fn sources_become_images_and_images_sources(rt: HostRuntime) -> Result<(), Fail> {
+    let guest = image(rt.alloc(), &STORE_LOAD, &[ZEROS], &[0])?;
     let source = b".page 0 -\nLI r1, 7\nSTW r1, r0, 0\nLDW r2, r0, 0\nHALT\n.entry 0\n";
-    let left = call_line(&rt, source, "asm guest")?;
-    assert_eq!(rt; left.status, ExitStatus::Ok);
-    let expected = image(rt.alloc(), &STORE_LOAD, &[ZEROS], &[0])?;
-    assert_eq!(rt; left.out.bytes(), expected.as_slice());
+    let listed = b".uid 0\n.entry 0\nLI r1, 7\nSTW r1, r0, 0\nLDW r2, r0, 0\nHALT\n.page 0 -\n";
+    let cases: [(&str, &[u8], &[u8]); 3] = [
+        ("asm guest", source, &guest),
+        ("dis guest", &guest, listed),
+        ("asm guest", listed, &guest),
+    ];
+    for (line, file, written) in cases {
+        let left = call_line(&rt, file, line)?;
+        assert_eq!(rt; left.status, ExitStatus::Ok, "{line}");
+        assert_eq!(rt; left.out.bytes(), written, "{line}");
+        assert!(rt; left.err.bytes().is_empty(), "{line}");
+    }
+    Ok(())
+}
+
+#[test]
+fn sources_are_refused_with_rule_and_offset(rt: HostRuntime) -> Result<(), Fail> {
     let cases = [
         ("HALT\nHALT 1\n", "lwcrun: image refused: BadLine at 5\n"),
         ("HALT\nLI r1, 007\n", "lwcrun: image refused: BadOperand at 5\n"),
