@@ -1,5 +1,5 @@
 -- A label more, and the labels that are used.
-use Rattle.std.proofs.Common.{◌≡◌, ℕ, suc, ◌+◌, ◌<◌, true, false, get_or, drop-cons, arith, List, [], ◌∷◌, length, drop, map, find, Option, Some, None, Ok, Err, refl, sym, ◌∙◌}
+use Rattle.std.proofs.Common.{◌≡◌, ℕ, suc, ◌+◌, ◌<◌, true, false, get_or, drop-cons, arith, List, ◌∷◌, length, drop, map, find, Option, Some, Ok, Err, refl, sym, ◌∙◌}
 use Rattle.std.specs.Prelude.{not, is_some}
 use Rattle.std.specs.Map.{update}
 use Rattle.std.specs.Str.{bytes_eq}
@@ -7,7 +7,7 @@ use Rattle.guest_asm.specs.declared.error.SourceRule.TheVariants.{BadLabel}
 use Rattle.guest_asm.specs.declared.source.Use.{Use as Kept}
 use Rattle.guest_asm.specs.Views.{use_in}
 use Rattle.guest_asm.specs.Sources.{Source, Use, with_label, at_offset}
-use Rattle.guest_asm.specs.Drafts.{resolved, draft_of}
+use Rattle.guest_asm.specs.Drafts.{resolved}
 use mathlib.Core.Path.{fun_ext}
 
 -- a name that is not a label yet
@@ -26,13 +26,6 @@ unfolding resolved
 unknown s rest more u e none clear =
     let found : find (λ u. not (is_some (s.labels u.name))) s.uses ≡ Some u = sym clear ∙ rw (e, none) refl in
     rw found refl
-
--- every use is of a label
-pub all_known : (s : Source) (rest : List Use) → rest ≡ [] → find (λ u. not (is_some (s.labels u.name))) rest ≡ find (λ u. not (is_some (s.labels u.name))) s.uses → resolved s ≡ Ok (draft_of s)
-unfolding resolved
-all_known s rest e clear =
-    let none : find (λ u. not (is_some (s.labels u.name))) s.uses ≡ None = sym clear ∙ rw e refl in
-    rw none refl
 
 -- the use at a place is of a label
 pub known_next : (labels : List ℕ → Option ℕ) (uses : List Kept) (i : ℕ) (d : Kept) → i < length uses → is_some (labels (get_or uses i d).name.now) ≡ true

@@ -16,6 +16,7 @@ use Rattle.guest_asm.specs.declared.source.Use.{Use}
 use Rattle.guest_asm.specs.declared.source.Source.{Source}
 use Rattle.guest_asm.specs.Statements as said
 use Rattle.guest_asm.specs.Sources as source
+use Rattle.guest_asm.specs.Drafts as draft
 use denote.Bor.{Bor}
 
 -- a borrowed text, as its bytes
@@ -65,6 +66,10 @@ source_in s = record {
   slots = s.slots.items;
   entries = map immediate_in s.entries.items;
 }
+
+-- the draft of what lines have said
+abbrev pub draft_in : Source → draft.Draft
+draft_in s = draft.draft_of (source_in s)
 
 -- an answer, seen by view, is what a line gives
 abbrev pub Gives : {X Y : Type 0} → (X → Y) → Result X SourceRule → Result Y SourceRule → Type 0

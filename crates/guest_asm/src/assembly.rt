@@ -5,7 +5,7 @@ ghost use Rattle.byte_reading.specs.Outcomes.{Answers};
 ghost use Rattle.guest_image.specs.Limits.{IsImage};
 ghost use Rattle.guest_image.specs.Reading.{image_at};
 ghost use Rattle.guest_asm.specs.Drafts as spec;
-ghost use Rattle.guest_asm.specs.Views.{source_in};
+ghost use Rattle.guest_asm.specs.Views.{draft_in};
 
 use crate::draft::{check_labels, draft_bytes, draft_length};
 use crate::error::{SourceError, SourceRule};
@@ -44,7 +44,8 @@ pub fn assemble(alloc: Global, source: &[u8]) -> Result<Image, SourceError>
 
 /// Reads the draft of what all lines say as an image.
 fn read_draft(alloc: Global, source: Source<'_>) -> Result<Image, SourceError>
-    ensures exact { Answers (λ image. image) result (spec.of_image (image_at (spec.draft_bytes (spec.draft_of (source_in source.entry))))) }
+    ensures exact { Answers (λ image. image) result
+        (spec.of_image (image_at (spec.draft_bytes (draft_in source.entry)))) }
     ensures within { IfOk result (λ image. IsImage image) }
 {
     if draft_length(&source) > MOST_IMAGE_BYTES as u128 {

@@ -8,7 +8,7 @@ ghost use Rattle.guest_image.specs.Spelling.{number};
 ghost use Rattle.lwc_base.specs.declared.limits.TheConstants.{MOST_IMAGE_BYTES};
 ghost use Rattle.lwc_base.specs.declared.page.TheConstants.{PAGE_BYTES};
 ghost use Rattle.guest_asm.specs.Drafts as spec;
-ghost use Rattle.guest_asm.specs.Views.{immediate_in, label_at, source_in};
+ghost use Rattle.guest_asm.specs.Views.{draft_in, immediate_in, label_at, source_in};
 
 use crate::error::{SourceError, SourceRule};
 use crate::operand::Immediate;
@@ -23,7 +23,7 @@ use std::collections::BTreeMap;
 /// Tests that each label that is used is defined.
 #[tactic(auto, unfolding(crate::specs::Drafts::resolved))]
 pub(crate) fn check_labels(source: &Source<'_>) -> Result<(), SourceError>
-    ensures { Answers (λ _. spec.draft_of (source_in source.now)) result (spec.resolved (source_in source.now)) }
+    ensures { Answers (λ _. draft_in source.now) result (spec.resolved (source_in source.now)) }
 {
     for label in source.uses.iter() {
         if !source.labels.contains_key(&label.name) {
@@ -39,7 +39,7 @@ pub(crate) fn check_labels(source: &Source<'_>) -> Result<(), SourceError>
 /// The number of bytes of a draft. It is a u128 so that no product or sum can overflow.
 #[tactic(auto, unfolding(crate::specs::Drafts::draft_bytes))]
 pub(crate) fn draft_length(source: &Source<'_>) -> u128
-    ensures { result ≡ length (spec.draft_bytes (spec.draft_of (source_in source.now))) }
+    ensures { result ≡ length (spec.draft_bytes (draft_in source.now)) }
 {
     let text = 8 * source.text.len() as u128;
     let pages = pages_length(source.pages.as_slice());
@@ -52,8 +52,8 @@ pub(crate) fn draft_length(source: &Source<'_>) -> u128
 /// The bytes of a draft.
 #[tactic(auto, unfolding(crate::specs::Drafts::draft_bytes))]
 pub(crate) fn draft_bytes(alloc: Global, source: &Source<'_>) -> Result<Vec<u8>, OutOfMemory>
-    requires { length (spec.draft_bytes (spec.draft_of (source_in source.now))) ≤ MOST_IMAGE_BYTES }
-    ensures { IfOk result (λ bytes. bytes.items ≡ spec.draft_bytes (spec.draft_of (source_in source.now))) }
+    requires { length (spec.draft_bytes (draft_in source.now)) ≤ MOST_IMAGE_BYTES }
+    ensures { IfOk result (λ bytes. bytes.items ≡ spec.draft_bytes (draft_in source.now)) }
 {
     let mut out = Vec::with_capacity(alloc, draft_length(source) as usize)?;
     put_header(&mut out, source)?;
@@ -109,8 +109,8 @@ fn put_number(out: &mut Vec<u8>, value: u32) -> Result<(), OutOfMemory>
 
 /// Appends the magic, the counts and the uid.
 fn put_header(out: &mut Vec<u8>, source: &Source<'_>) -> Result<(), OutOfMemory>
-    requires { length (spec.draft_bytes (spec.draft_of (source_in source.now))) ≤ MOST_IMAGE_BYTES }
-    ensures { OnOk result (out.new.items ≡ out.old.items ++ spec.header (spec.draft_of (source_in source.now))) }
+    requires { length (spec.draft_bytes (draft_in source.now)) ≤ MOST_IMAGE_BYTES }
+    ensures { OnOk result (out.new.items ≡ out.old.items ++ spec.header (draft_in source.now)) }
 {
     out.extend_from_slice(b"LWC1")?;
     put_number(out, source.text.len() as u32)?;
@@ -124,7 +124,8 @@ fn put_header(out: &mut Vec<u8>, source: &Source<'_>) -> Result<(), OutOfMemory>
 
 /// Appends the instructions.
 fn put_text(out: &mut Vec<u8>, source: &Source<'_>) -> Result<(), OutOfMemory>
-    ensures { OnOk result (out.new.items ≡ out.old.items ++ flat_map instructions.spelling (spec.draft_of (source_in source.now)).text) }
+    ensures { OnOk result (out.new.items
+        ≡ out.old.items ++ flat_map instructions.spelling (draft_in source.now).text) }
 {
     for (instr, imm) in source.text.iter() {
         put_instruction(out, instr, value_of(&source.labels, imm))?;
@@ -203,7 +204,7 @@ fn put_slots(out: &mut Vec<u8>, slots: &[SlotDraft]) -> Result<(), OutOfMemory>
 
 /// Appends where each thread begins.
 fn put_entries(out: &mut Vec<u8>, source: &Source<'_>) -> Result<(), OutOfMemory>
-    ensures { OnOk result (out.new.items ≡ out.old.items ++ flat_map number (spec.draft_of (source_in source.now)).entries) }
+    ensures { OnOk result (out.new.items ≡ out.old.items ++ flat_map number (draft_in source.now).entries) }
 {
     for entry in source.entries.iter() {
         put_number(out, value_of(&source.labels, entry))?;

@@ -77,7 +77,8 @@ impl<'a> Source<'a> {
     #[tactic(auto, unfolding(crate::specs::Sources::with_line))]
     fn add_line(&mut self, alloc: Global, line: &'a [u8], at: u64) -> Result<(), SourceError>
         requires { length self.old.text.items + 1 < 2 ^ 32 }
-        ensures added { Answers (λ _. source_in self.new) result (spec.at_offset at (spec.with_line at line.now (source_in self.old)) Ok) }
+        ensures added { Answers (λ _. source_in self.new) result
+            (spec.at_offset at (spec.with_line at line.now (source_in self.old)) Ok) }
         ensures count { OnOk result (length self.new.text.items ≤ length self.old.text.items + 1) }
     {
         let line = match read_line(self.uid.is_some(), line) {
@@ -91,7 +92,8 @@ impl<'a> Source<'a> {
     /// Adds the label of a line, if it has one.
     fn add_label(&mut self, label: Option<&'a [u8]>, at: u64) -> Result<(), SourceError>
         requires { length self.old.text.items < 2 ^ 32 }
-        ensures { Answers (λ _. source_in self.new) result (spec.at_offset at (spec.with_label (option_map bytes_in label.entry) (source_in self.old)) Ok) }
+        ensures { Answers (λ _. source_in self.new) result
+            (spec.at_offset at (spec.with_label (option_map bytes_in label.entry) (source_in self.old)) Ok) }
     {
         let Some(name) = label else {
             return Ok(());
@@ -112,7 +114,8 @@ impl<'a> Source<'a> {
         statement: Option<Statement<'a>>,
         at: u64,
     ) -> Result<(), SourceError>
-        ensures added { OnOk result (source_in self.new ≡ spec.with_statement at (option_map statement_in statement.entry) (source_in self.old)) }
+        ensures added { OnOk result (source_in self.new
+            ≡ spec.with_statement at (option_map statement_in statement.entry) (source_in self.old)) }
         ensures memory { IfErr result (λ e. e ≡ OutOfMemory) }
     {
         match statement {
@@ -145,7 +148,8 @@ impl<'a> Source<'a> {
 
     /// Adds the use of a label, if an immediate is one.
     fn add_use(&mut self, imm: Immediate<'a>, at: u64) -> Result<(), SourceError>
-        ensures added { OnOk result (source_in self.new ≡ spec.with_uses (spec.uses_in at (immediate_in imm.entry)) (source_in self.old)) }
+        ensures added { OnOk result (source_in self.new
+            ≡ spec.with_uses (spec.uses_in at (immediate_in imm.entry)) (source_in self.old)) }
         ensures memory { IfErr result (λ e. e ≡ OutOfMemory) }
     {
         if let Immediate::Label(name) = imm {

@@ -27,9 +27,6 @@ Spaced = List ℕ × List ℕ
 abbrev pub is_spaced : Spaced → Bool
 is_spaced x = (has_bytes x.0 && list_all is_separator x.0) && is_clean_word x.1
 
-abbrev pub word_of : Spaced → List ℕ
-word_of x = x.1
-
 -- what comes after the name in a line
 abbrev pub tail : List Spaced → List ℕ
 tail [] = []

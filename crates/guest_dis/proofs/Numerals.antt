@@ -59,10 +59,6 @@ no_sign b e = grind (arith, nat_tests)
 no_x : (b : ℕ) → is_digit b 10 ≡ true → (b == 0x78) ≡ false
 no_x b e = grind (arith, nat_tests)
 
-no_prefix : (s t : Bool) → t ≡ false → ((s && t) ≡ false)
-no_prefix true t e = e
-no_prefix false t e = refl
-
 number_plain : (w : List ℕ) → all_digits 10 w ≡ true → number_of w ≡ decimal_of w
 unfolding number_of
 number_plain [] all = refl

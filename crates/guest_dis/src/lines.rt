@@ -39,7 +39,8 @@ pub(crate) fn put_instruction(out: &mut Vec<u8>, instr: &Instr) -> Result<(), Ou
 
 /// Appends the operands of an instruction.
 fn put_operands(out: &mut Vec<u8>, instr: &Instr) -> Result<(), OutOfMemory>
-    ensures { OnOk result (out.new.items ≡ out.old.items ++ spec.operands_after (codes " ") (spec.operands_of instr.now)) }
+    ensures { OnOk result (out.new.items
+        ≡ out.old.items ++ spec.operands_after (codes " ") (spec.operands_of instr.now)) }
 {
     let mut separator = b" ".as_slice();
     for field in fields_of(instr.op) {
