@@ -1,6 +1,6 @@
 -- What changes of the counts, the stamps and the bytes are in the list of frames.
-use Rattle.std.proofs.Common.{◌≡◌, ◌≢◌, ℕ, ◌+◌, ◌<◌, ◌≤◌, ⊎_elim, cond, eqb, ltb, List, [], length, get_or, set, replicate, refl, sym, ◌∙◌, ap, arith, length-set, get_or-set_other}
-use Rattle.std.proofs.lemmas.List.{set-get_or, get_or_past, get_or_read, length-replicate}
+use Rattle.std.proofs.Common.{◌≡◌, ℕ, ◌<◌, ◌≤◌, ⊎_elim, cond, eqb, ltb, List, [], length, get_or, set, replicate, refl, sym, ◌∙◌, ap, arith, length-set, get_or-set_other}
+use Rattle.std.proofs.lemmas.List.{set-get_or, get_or_past, get_or_read}
 use Rattle.std.proofs.lemmas.Bool.{cases_lt}
 use Rattle.lwc_base.specs.declared.name.Tag.{Tag}
 use Rattle.lwc_base.specs.Pages.{zero_page}

@@ -1,5 +1,5 @@
 -- What changes of the counts and of the contents are in the list of nodes.
-use Rattle.std.proofs.Common.{◌≡◌, ℕ, ◌<◌, ◌≤◌, ⊎_elim, cond, eqb, List, [], length, get_or, set, refl, sym, ◌∙◌, ap, arith, length-set, get_or-set_other}
+use Rattle.std.proofs.Common.{◌≡◌, ℕ, ◌<◌, ◌≤◌, ⊎_elim, cond, eqb, List, length, get_or, set, refl, sym, ◌∙◌, ap, arith, length-set, get_or-set_other}
 use Rattle.std.proofs.lemmas.List.{set-get_or, get_or_past, get_or_read}
 use Rattle.std.proofs.lemmas.Bool.{cases_lt}
 use Rattle.pool_base.specs.Counts.{Places, free_count}
@@ -8,7 +8,7 @@ use Rattle.pool_base.specs.Paired.{paired}
 use Rattle.pool_base.proofs.PaddedLemmas.{length-padded, get_or-padded, get_or-padding, padded-set}
 use Rattle.pool_base.proofs.PairedLemmas.{length-paired, get_or-paired, paired-set, sum_by-paired}
 use Rattle.node_pool.specs.declared.pool.NodeContent.{NodeContent}
-use Rattle.node_pool.specs.Nodes.{Node, no_node, node_at, count_of, level_of, entry_of, recount, enter, entered, free_of}
+use Rattle.node_pool.specs.Nodes.{Node, no_node, node_at, count_of, entry_of, recount, enter, entered, free_of}
 use Rattle.node_pool.specs.View.{seen_node, seen_nodes, blank_content, IsWhole}
 
 module _ (places : Places) (contents : List NodeContent) (nodes : List Node) (v : seen_nodes places contents ≡ nodes) (whole : IsWhole places contents) where

@@ -1,8 +1,8 @@
 -- Leaves of which a range has some pages and not all: there are at most two, at its ends.
-use Rattle.std.proofs.Common.{◌≡◌, ◌≢◌, ℕ, zero, suc, ◌+◌, ◌-◌, ◌*◌, ◌/◌, ◌%◌, ◌<◌, ◌≤◌, ◌⊎◌, inl, inr, ⊎_elim, Bool, true, false, cond, eqb, leb, ltb, ◌&&◌, List, length, get_or, max, min, refl, sym, ◌∙◌, ap, arith}
+use Rattle.std.proofs.Common.{◌≡◌, ℕ, ◌+◌, ◌*◌, ◌/◌, ◌<◌, ◌≤◌, inl, inr, ⊎_elim, Bool, true, false, cond, eqb, leb, ltb, ◌&&◌, List, get_or, max, min, refl, ◌∙◌, ap, arith}
 use Rattle.std.specs.Prelude.{not}
-use Rattle.std.specs.List.{sum_by, range_with_len}
-use Rattle.std.proofs.lemmas.Bool.{cases_eq, cases_lt, cond-true, cond-false, le-leb, lt-leb, lt-ltb, le-ltb, and_from, and_left, and_right}
+use Rattle.std.specs.List.{range_with_len}
+use Rattle.std.proofs.lemmas.Bool.{cases_lt, cond-true, cond-false, le-leb, lt-leb, lt-ltb, le-ltb, and_from, and_left, and_right}
 use Rattle.std.proofs.lemmas.List.FromFn.{get_or-range_with_len, length-range_with_len}
 use Rattle.pool_base.proofs.Totals.{total, total-le, total-same, total-add, total-list, total-once, total-at, total-two}
 use Rattle.node_pool.specs.Nodes.{Node}
@@ -10,7 +10,7 @@ use Rattle.page_tree.specs.Pages.{meets_leaf, covers_leaf, is_cut}
 use Rattle.page_tree.specs.Short.{part_short, cut_short, cuts_short}
 use Rattle.page_tree.specs.Steps.{IsMet, IsBeyond, leaf_short}
 use Rattle.page_tree.proofs.RootLemmas.{leaf_short-le}
-use Rattle.page_tree.proofs.UsesLemmas.{one_if-yes, one_if-le}
+use Rattle.page_tree.proofs.UsesLemmas.{one_if-yes}
 
 both-true : (a b : Bool) → (a && b) ≡ true → (a ≡ true) × (b ≡ true)
 both-true true b h = (refl, h)
@@ -21,15 +21,16 @@ pub cut-from : (first end i : ℕ) → is_cut first end i ≡ true → IsMet fir
 cut-from first end i cut =
     let parts = both-true (meets_leaf first end i) (not (covers_leaf first end i)) cut in
     let met : max first (i * 32) < min end (i * 32 + 32) =
-    ⊎_elim (λ lt. lt) (λ le. absurd (let none = le-ltb (max first (i * 32)) (min end (i * 32 + 32)) le in cc (none, parts.0))) (cases_lt (max first (i * 32)) (min end (i * 32 + 32))) in
-    (record { some = omega (arith, met); low = omega (arith, met); high = omega (arith, met) },
-    ⊎_elim
-    (λ low. inl low)
-    (λ from_on. ⊎_elim
-    (λ high. inr high)
-    (λ to_on. absurd (let all = ap not (and_from (leb first (i * 32)) (leb (i * 32 + 32) end) (le-leb first (i * 32) from_on) (le-leb (i * 32 + 32) end to_on)) in cc (all, parts.1)))
-    (cases_lt end (i * 32 + 32)))
-    (cases_lt (i * 32) first))
+    ⊎_elim (λ lt. lt) (λ le. absurd (let none = le-ltb (max first (i * 32)) (min end (i * 32 + 32)) le in cc (none, parts.0))) (cases_lt (max first (i * 32)) (min end (i * 32 + 32))) in (
+      record { some = omega (arith, met); low = omega (arith, met); high = omega (arith, met) },
+      ⊎_elim
+          (λ low. inl low)
+          (λ from_on. ⊎_elim
+          (λ high. inr high)
+          (λ to_on. absurd (let all = ap not (and_from (leb first (i * 32)) (leb (i * 32 + 32) end) (le-leb first (i * 32) from_on) (le-leb (i * 32 + 32) end to_on)) in cc (all, parts.1)))
+          (cases_lt end (i * 32 + 32)))
+          (cases_lt (i * 32) first),
+    )
 
 cut-yes : (first end i : ℕ) → IsMet first end i → IsBeyond first end i → is_cut first end i ≡ true
 cut-yes first end i met beyond =
@@ -63,15 +64,15 @@ module _ (nodes : List Node) (tree from to : ℕ) where
   short-le : (i : ℕ) → short_at i ≤ cond (eqb (from / 32 + 1) (i + 1)) 1 0 + cond (eqb (to / 32 + 1) (i + 1)) 1 0
   short-le i = choose (is_cut from to i) refl
     where
-    choose : (b : Bool) → is_cut from to i ≡ b → cond b (leaf_short nodes tree i) 0 ≤ cond (eqb (from / 32 + 1) (i + 1)) 1 0 + cond (eqb (to / 32 + 1) (i + 1)) 1 0
-    choose true cut =
-        let found = cut-from from to i cut in
-        let most = leaf_short-le nodes tree i in
-        ⊎_elim
-        (λ low. let one = one_if-yes (from / 32 + 1) (i + 1) (omega (arith, low, found.0.low)) in omega (arith, one, most))
-        (λ high. let one = one_if-yes (to / 32 + 1) (i + 1) (omega (arith, high, found.0.high)) in omega (arith, one, most))
-        found.1
-    choose false cut = omega arith
+      choose : (b : Bool) → is_cut from to i ≡ b → cond b (leaf_short nodes tree i) 0 ≤ cond (eqb (from / 32 + 1) (i + 1)) 1 0 + cond (eqb (to / 32 + 1) (i + 1)) 1 0
+      choose true cut =
+          let found = cut-from from to i cut in
+          let most = leaf_short-le nodes tree i in
+          ⊎_elim
+          (λ low. let one = one_if-yes (from / 32 + 1) (i + 1) (omega (arith, low, found.0.low)) in omega (arith, one, most))
+          (λ high. let one = one_if-yes (to / 32 + 1) (i + 1) (omega (arith, high, found.0.high)) in omega (arith, one, most))
+          found.1
+      choose false cut = omega arith
 
   pub cuts-le : cuts_short nodes tree from to ≤ 2
   cuts-le =

@@ -1,15 +1,15 @@
 -- A page's frame is at another page too exactly where the way to the page is shared or the frame is held more than once.
-use Rattle.std.proofs.Common.{◌≡◌, ◌≢◌, ℕ, zero, suc, ◌+◌, ◌-◌, ◌/◌, ◌%◌, ◌<◌, ◌≤◌, ◌⊎◌, inl, inr, ⊎_elim, Bool, cond, eqb, List, length, get_or, refl, sym, ◌∙◌, ap, arith}
-use Rattle.std.proofs.lemmas.Bool.{cases_eq, cases_lt, eq-eqb, ne_eqb, cond-true, cond-false}
+use Rattle.std.proofs.Common.{◌≡◌, ◌≢◌, ℕ, ◌+◌, ◌/◌, ◌%◌, ◌<◌, ◌⊎◌, inl, inr, ⊎_elim, cond, eqb, List, length, get_or, sym, ◌∙◌, ap, arith}
+use Rattle.std.proofs.lemmas.Bool.{cases_eq, eq-eqb, ne_eqb, cond-true, cond-false}
 use Rattle.pool_base.proofs.Totals.{total, total-same, total-zero, total-list, total-some, total-other, total-two, total2, total2-two, total2-other}
 use Rattle.frame_pool.specs.Frame.{Frame, frame_count}
 use Rattle.node_pool.specs.Nodes.{Node, no_node, node_at, count_of, level_of, entry_of}
 use Rattle.page_tree.specs.declared.cell.PageCell.TheVariants as cell
 use Rattle.page_tree.specs.Pages.{page, cell_at, entries_of, link_of}
 use Rattle.page_tree.specs.Short.{page_short}
-use Rattle.page_tree.specs.Sound.{IsSound, one_if, uses_in, uses, naming, leading_to, trees_at, is_root}
+use Rattle.page_tree.specs.Sound.{IsSound, one_if, uses_in, uses, trees_at, is_root}
 use Rattle.page_tree.specs.Steps.{root_short, leaf_short, IsOwned}
-use Rattle.page_tree.specs.Tied.{having, IsTied, HasFrame, HasElsewhere, IsElsewhere, page_of}
+use Rattle.page_tree.specs.Tied.{IsTied, HasElsewhere, IsElsewhere, page_of}
 use Rattle.page_tree.proofs.KeepsLemmas.{trees-is, trees-root, link_of-tree}
 use Rattle.page_tree.proofs.RootLemmas.{root_short-shared}
 use Rattle.page_tree.proofs.ShortLemmas.{root_short-own, leaf_short-alone, leaf_short-shared}
@@ -48,7 +48,6 @@ used-from nodes level e n j some =
     (cases_eq (level_of nodes n) level)
 
 module _ (nodes : List Node) (frames : List Frame) (trees : List ℕ) (k p f : ℕ) (tied : IsTied nodes frames trees) (k_in : k < length trees) (p_in : p < 1024) (is : page_of nodes trees k p ≡ cell.Frame (record { n = f })) where
-
   lead-of : (a b : ℕ) → page_of nodes trees a b ≡ cell.Frame (record { n = f }) → Leads nodes (get_or trees a 0) (b / 32) (b % 32) (f + 2)
   unfolding page
   lead-of a b at = leads-from nodes (get_or trees a 0) (b / 32) (b % 32) (f + 2) (entry-of_cell _ f at) (omega arith)
@@ -93,10 +92,13 @@ module _ (nodes : List Node) (frames : List Frame) (trees : List ℕ) (k p f : �
       let has = holder-of_spot nodes frames trees tied off.c off.d f s at.1 in
       let apart : IsElsewhere k p s.k s.p =
       ⊎_elim
-      (λ same. inr (same, (λ q.
-      let link : off.c + 1 ≡ lead.leaf + 1 = sym s.link ∙ (λ i. link_of nodes (get_or trees (same i) 0) (q i / 32)) ∙ ap (λ t. link_of nodes t (p / 32)) lead.is_tree ∙ link_of-tree nodes lead.root (p / 32) ∙ lead.link in
-      let place : off.d ≡ p % 32 = sym s.place ∙ ap (λ x. x % 32) q in
-      ⊎_elim (λ c_off. c_off (omega (arith, link))) (λ d_off. d_off.1 place) off.apart)))
+      (λ same. inr (
+        same,
+        (λ q.
+            let link : off.c + 1 ≡ lead.leaf + 1 = sym s.link ∙ (λ i. link_of nodes (get_or trees (same i) 0) (q i / 32)) ∙ ap (λ t. link_of nodes t (p / 32)) lead.is_tree ∙ link_of-tree nodes lead.root (p / 32) ∙ lead.link in
+            let place : off.d ≡ p % 32 = sym s.place ∙ ap (λ x. x % 32) q in
+            ⊎_elim (λ c_off. c_off (omega (arith, link))) (λ d_off. d_off.1 place) off.apart),
+      ))
       (λ other. inl other)
       (cases_eq s.k k) in
       record { other = record { k = s.k; p = s.p; inside = s.inside; below = s.below; has = has }; elsewhere = apart }
@@ -114,28 +116,31 @@ module _ (nodes : List Node) (frames : List Frame) (trees : List ℕ) (k p f : �
       let second = used-yes nodes 1 (f + 2) there.leaf (b % 32) there_leaf there.entry in
       let apart : IsElsewhere lead.leaf (p % 32) there.leaf (b % 32) =
       ⊎_elim
-      (λ leaf. inr (leaf, (λ place.
-      let entries : entry_of nodes lead.root (p / 32) ≡ entry_of nodes there.root (b / 32) = lead.link ∙ ap (λ n. n + 1) (sym leaf) ∙ sym there.link in
-      let row : p / 32 ≡ b / 32 = tied.sound.placed lead.root there.root (p / 32) (b / 32) root_level there_level entries (omega (arith, lead.link)) in
-      let page_same : b ≡ p = omega (arith, row, place) in
-      ⊎_elim
-      (λ root.
-      ⊎_elim
-      (λ k_off.
-      let trees_is = trees-is nodes lead.root root_level in
-      let rooted = tied.rooted lead.root in
-      let places = total-list (λ tree. is_root tree lead.root) trees 0 in
-      let two = total-two (λ t. is_root (get_or trees t 0) lead.root) (length trees) a k elsewhere.other.inside k_in k_off in
-      let one_here = one_if-yes (get_or trees k 0) (lead.root + 1) lead.is_tree in
-      let one_there = one_if-yes (get_or trees a 0) (lead.root + 1) (there.is_tree ∙ ap (λ n. n + 1) root) in
-      omega (arith, trees_is, rooted, places, two, one_here, one_there, root_once alone))
-      (λ at. at.1 page_same)
-      elsewhere.elsewhere)
-      (λ root_off.
-      let counted = tied.sound.counted lead.leaf leaf_level in
-      let two = uses-two 2 nodes lead.root there.root (p / 32) (b / 32) (lead.leaf + 1) (omega arith) root_level there_level lead.link (there.link ∙ ap (λ n. n + 1) leaf) (omega arith) (λ r. root_off (sym r)) in
-      omega (arith, counted, two, leaf_once alone))
-      (cases_eq there.root lead.root))))
+      (λ leaf. inr (
+        leaf,
+        (λ place.
+            let entries : entry_of nodes lead.root (p / 32) ≡ entry_of nodes there.root (b / 32) = lead.link ∙ ap (λ n. n + 1) (sym leaf) ∙ sym there.link in
+            let row : p / 32 ≡ b / 32 = tied.sound.placed lead.root there.root (p / 32) (b / 32) root_level there_level entries (omega (arith, lead.link)) in
+            let page_same : b ≡ p = omega (arith, row, place) in
+            ⊎_elim
+            (λ root.
+            ⊎_elim
+            (λ k_off.
+            let trees_is = trees-is nodes lead.root root_level in
+            let rooted = tied.rooted lead.root in
+            let places = total-list (λ tree. is_root tree lead.root) trees 0 in
+            let two = total-two (λ t. is_root (get_or trees t 0) lead.root) (length trees) a k elsewhere.other.inside k_in k_off in
+            let one_here = one_if-yes (get_or trees k 0) (lead.root + 1) lead.is_tree in
+            let one_there = one_if-yes (get_or trees a 0) (lead.root + 1) (there.is_tree ∙ ap (λ n. n + 1) root) in
+            omega (arith, trees_is, rooted, places, two, one_here, one_there, root_once alone))
+            (λ at. at.1 page_same)
+            elsewhere.elsewhere)
+            (λ root_off.
+            let counted = tied.sound.counted lead.leaf leaf_level in
+            let two = uses-two 2 nodes lead.root there.root (p / 32) (b / 32) (lead.leaf + 1) (omega arith) root_level there_level lead.link (there.link ∙ ap (λ n. n + 1) leaf) (omega arith) (λ r. root_off (sym r)) in
+            omega (arith, counted, two, leaf_once alone))
+            (cases_eq there.root lead.root)),
+      ))
       (λ off. inl off)
       (cases_eq there.leaf lead.leaf) in
       let sums = uses-total nodes frames 1 (f + 2) tied.sound in
@@ -201,6 +206,7 @@ module _ (nodes : List Node) (frames : List Frame) (trees : List ℕ) (k p f : �
       (cases_eq (count_of nodes lead.root) 1)
 
   pub elsewhere-is : (HasElsewhere nodes trees k p f → (page_short nodes (get_or trees k 0) p ≢ 0) ⊎ (1 < frame_count frames f)) × ((page_short nodes (get_or trees k 0) p ≢ 0) ⊎ (1 < frame_count frames f) → HasElsewhere nodes trees k p f)
-  elsewhere-is =
-      ((λ elsewhere. ⊎_elim (λ alone. inr (elsewhere-counted alone elsewhere)) (λ short. inl short) (cases_eq (page_short nodes (get_or trees k 0) p) 0)),
-      (λ either. ⊎_elim shared-elsewhere counted-elsewhere either))
+  elsewhere-is = (
+    (λ elsewhere. ⊎_elim (λ alone. inr (elsewhere-counted alone elsewhere)) (λ short. inl short) (cases_eq (page_short nodes (get_or trees k 0) p) 0)),
+    (λ either. ⊎_elim shared-elsewhere counted-elsewhere either),
+  )

@@ -1,33 +1,31 @@
 -- A frame is held exactly where some tree has it at some page.
-use Rattle.std.proofs.Common.{◌≡◌, ◌≢◌, ℕ, zero, suc, ◌+◌, ◌-◌, ◌*◌, ◌/◌, ◌%◌, ◌<◌, ◌≤◌, ◌⊎◌, inl, inr, ⊎_elim, Bool, true, false, cond, eqb, List, [], ◌∷◌, length, get_or, refl, sym, ◌∙◌, ap, arith}
-use Rattle.std.specs.List.{sum_by, count_by}
+use Rattle.std.proofs.Common.{◌≡◌, ℕ, ◌+◌, ◌-◌, ◌*◌, ◌/◌, ◌%◌, ◌<◌, ◌≤◌, ⊎_elim, cond, eqb, List, [], ◌∷◌, length, get_or, refl, sym, ◌∙◌, ap, arith}
 use Rattle.std.proofs.lemmas.List.Sums.{get_or-le-sum_by, sum_by-cons}
-use Rattle.std.proofs.lemmas.Bool.{cases_eq, cases_lt, eq-eqb, ne_eqb, cond-true, cond-false}
+use Rattle.std.proofs.lemmas.Bool.{cases_eq, eq-eqb, ne_eqb, cond-true, cond-false}
 use Rattle.frame_pool.specs.Frame.{Frame, frame_count}
 use Rattle.node_pool.specs.Nodes.{Node, no_node, node_at, count_of, level_of, entry_of}
-use Rattle.page_tree.specs.declared.cell.PageCell.{PageCell}
 use Rattle.page_tree.specs.declared.cell.PageCell.TheVariants.{Absent, Zero}
 use Rattle.page_tree.specs.declared.cell.PageCell.TheVariants as cell
-use Rattle.page_tree.specs.Pages.{page, cell_of, cell_at, link_of, cells_of, entries_of, entry_for}
-use Rattle.page_tree.specs.Sound.{IsSound, one_if, uses_in, uses, naming, leading_to, trees_at, is_root, IsTree}
+use Rattle.page_tree.specs.Pages.{page, cell_of, cell_at, link_of, entries_of, entry_for}
+use Rattle.page_tree.specs.Sound.{one_if, uses_in, uses, trees_at, is_root, IsTree}
 use Rattle.page_tree.proofs.KeepsLemmas.{trees-is, trees-root, zero_or_more, link_of-tree, cell_at-none, cell_at-leaf}
-use Rattle.page_tree.proofs.UsesLemmas.{one_if-yes, one_if-no, one_if-le, uses_in-yes, uses_in-no, uses-some, inside-entries, inside-level, inside-count}
+use Rattle.page_tree.proofs.UsesLemmas.{one_if-yes, one_if-no, one_if-le, uses_in-yes, uses_in-no, uses-some}
 use Rattle.page_tree.specs.Tied.{having, IsTied, HasFrame}
-use Rattle.pool_base.proofs.Totals.{total, total-list, total-some, none_or_some}
+use Rattle.pool_base.proofs.Totals.{total-list, total-some, none_or_some}
 
 -- an entry that says that a page has a frame
 pub entry-of_cell : (e f : ℕ) → cell_of e ≡ cell.Frame (record { n = f }) → e ≡ f + 2
 entry-of_cell e f is = entry-back e ∙ ap entry_for is
   where
-  entry-back : (e : ℕ) → e ≡ entry_for (cell_of e)
-  entry-back e =
-      ⊎_elim
-      (λ none. none ∙ sym (ap entry_for (cond-true (eqb e 0) Absent (cond (eqb e 1) Zero (cell.Frame (record { n = e - 2 }))) (eq-eqb e 0 none))))
-      (λ some. ⊎_elim
-      (λ one. one ∙ sym (ap entry_for (cond-false (eqb e 0) Absent (cond (eqb e 1) Zero (cell.Frame (record { n = e - 2 }))) (ne_eqb e 0 some) ∙ cond-true (eqb e 1) Zero (cell.Frame (record { n = e - 2 })) (eq-eqb e 1 one))))
-      (λ more. sym (ap entry_for (cond-false (eqb e 0) Absent (cond (eqb e 1) Zero (cell.Frame (record { n = e - 2 }))) (ne_eqb e 0 some) ∙ cond-false (eqb e 1) Zero (cell.Frame (record { n = e - 2 })) (ne_eqb e 1 more)) ∙ omega (arith, some, more)))
-      (cases_eq e 1))
-      (cases_eq e 0)
+    entry-back : (e : ℕ) → e ≡ entry_for (cell_of e)
+    entry-back e =
+        ⊎_elim
+        (λ none. none ∙ sym (ap entry_for (cond-true (eqb e 0) Absent (cond (eqb e 1) Zero (cell.Frame (record { n = e - 2 }))) (eq-eqb e 0 none))))
+        (λ some. ⊎_elim
+        (λ one. one ∙ sym (ap entry_for (cond-false (eqb e 0) Absent (cond (eqb e 1) Zero (cell.Frame (record { n = e - 2 }))) (ne_eqb e 0 some) ∙ cond-true (eqb e 1) Zero (cell.Frame (record { n = e - 2 })) (eq-eqb e 1 one))))
+        (λ more. sym (ap entry_for (cond-false (eqb e 0) Absent (cond (eqb e 1) Zero (cell.Frame (record { n = e - 2 }))) (ne_eqb e 0 some) ∙ cond-false (eqb e 1) Zero (cell.Frame (record { n = e - 2 })) (ne_eqb e 1 more)) ∙ omega (arith, some, more)))
+        (cases_eq e 1))
+        (cases_eq e 0)
 
 pub cell_of-entry : (e f : ℕ) → e ≡ f + 2 → cell_of e ≡ cell.Frame (record { n = f })
 cell_of-entry e f is =
@@ -75,7 +73,6 @@ page-has nodes i j f tree lt at =
     cell_of-entry (cell_at nodes tree ((i * 32 + j) / 32) ((i * 32 + j) % 32)) f ((λ x. cell_at nodes tree (first x) (second x)) ∙ at)
 
 module _ (nodes : List Node) (frames : List Frame) (trees : List ℕ) (tied : IsTied nodes frames trees) where
-
   -- a tree of the trees is empty or has a held root
   pub root-there : (k root : ℕ) → k < length trees → get_or trees k 0 ≡ root + 1 → 0 < trees_at nodes root
   root-there k root lt is =
@@ -111,8 +108,8 @@ module _ (nodes : List Node) (frames : List Frame) (trees : List ℕ) (tied : Is
       (λ off. absurd (let none = uses_in-no level e (node_at nodes node.0) off in omega (arith, none, node.1.1)))
       (cases_eq (level_of nodes node.0) level)
     where
-    one-of : (x : ℕ) → 0 < one_if (eqb x e) → x ≡ e
-    one-of x more = ⊎_elim (λ is. is) (λ off. absurd (let zero_is = one_if-no x e off in omega (arith, zero_is, more))) (cases_eq x e)
+      one-of : (x : ℕ) → 0 < one_if (eqb x e) → x ≡ e
+      one-of x more = ⊎_elim (λ is. is) (λ off. absurd (let zero_is = one_if-no x e off in omega (arith, zero_is, more))) (cases_eq x e)
 
   -- a root leads to a held leaf
   pub record Above (leaf : ℕ) : Type 0 where

@@ -1,16 +1,15 @@
 -- How many nodes are free, where the held roots are those of the trees.
-use Rattle.std.proofs.Common.{◌≡◌, ◌≢◌, ℕ, zero, suc, ◌+◌, ◌-◌, ◌*◌, ◌<◌, ◌≤◌, ◌⊎◌, inl, inr, ⊎_elim, Bool, cond, eqb, List, [], ◌∷◌, length, get_or, refl, sym, ◌∙◌, ap, arith}
-use Rattle.std.specs.List.{sum_by, count_by}
-use Rattle.std.proofs.lemmas.List.{get_or_past}
+use Rattle.std.proofs.Common.{◌≡◌, ℕ, ◌+◌, ◌*◌, ◌<◌, ◌≤◌, ⊎_elim, eqb, List, [], ◌∷◌, length, ◌∙◌, arith}
+use Rattle.std.specs.List.{count_by}
 use Rattle.std.proofs.lemmas.List.Sums.{sum_by-cons}
-use Rattle.std.proofs.lemmas.Bool.{cases_eq, cases_lt, eq-eqb, ne_eqb, cond-true, cond-false}
+use Rattle.std.proofs.lemmas.Bool.{cases_eq}
 use Rattle.frame_pool.specs.Frame.{Frame}
-use Rattle.node_pool.specs.Nodes.{Node, no_node, node_at, count_of, level_of, entry_of, free_of}
+use Rattle.node_pool.specs.Nodes.{Node, no_node, node_at, count_of, level_of, free_of}
 use Rattle.page_tree.specs.Pages.{entries_of}
 use Rattle.page_tree.specs.Sound.{IsSound, one_if, uses_in, uses, leading_to, trees_at, is_root}
-use Rattle.page_tree.proofs.KeepsLemmas.{trees-is, trees-none}
+use Rattle.page_tree.proofs.KeepsLemmas.{trees-is}
 use Rattle.page_tree.proofs.SoundLemmas.{level-cases}
-use Rattle.page_tree.proofs.UsesLemmas.{one_if-yes, one_if-no, one_if-le, uses_in-yes, uses_in-no, count_by-none}
+use Rattle.page_tree.proofs.UsesLemmas.{one_if-yes, uses_in-yes, uses_in-no, count_by-none}
 use Rattle.page_tree.specs.Tied.{having, IsTied}
 use Rattle.pool_base.proofs.Totals.{total, total-le, total-same, total-zero, total-one, total-add, total-times, total-swap, total-list, total-once, none_or_some}
 

@@ -10,7 +10,7 @@ use Rattle.page_tree.specs.Short.{page_short, part_short, range_short, clear_sho
 use Rattle.page_tree.specs.Sound.{IsSound, IsTree, trees_at, is_root}
 use Rattle.page_tree.specs.Changes.{KeepsTrees, Keeps}
 use Rattle.page_tree.specs.Steps.{IsOwned, IsApart, IsMet, IsBeyond, OwnsLeaf, OwnsRoot, OwnsPath, PutsLeaf, PutsLeaves, PutsPages, SharesPages, page_entry, leaf_short, root_short}
-use Rattle.page_tree.proofs.KeepsLemmas.{Keeps-refl, Keeps-trans, cell_at-none, link_of-none, other-cells, zero_or_more, trees-is}
+use Rattle.page_tree.proofs.KeepsLemmas.{Keeps-refl, Keeps-trans, cell_at-none, link_of-none, other-cells, zero_or_more}
 use Rattle.page_tree.proofs.RootLemmas.{root_short-shared, leaf_short-le, le-cond}
 use Rattle.page_tree.proofs.ShortLemmas.{root_short-own, leaf_short-alone}
 use Rattle.page_tree.proofs.UsesLemmas.{one_if-no, one_if-le}

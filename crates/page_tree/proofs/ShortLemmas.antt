@@ -1,5 +1,5 @@
 -- When a root and a leaf are short.
-use Rattle.std.proofs.Common.{◌≡◌, ◌≢◌, ℕ, ◌+◌, ◌-◌, ⊎_elim, Bool, true, false, cond, eqb, List, sym, ◌∙◌, ap, arith}
+use Rattle.std.proofs.Common.{◌≡◌, ◌≢◌, ℕ, ◌+◌, ◌-◌, ⊎_elim, true, cond, eqb, List, sym, ◌∙◌, ap, arith}
 use Rattle.std.proofs.lemmas.Bool.{cases_eq, eq-eqb, ne_eqb, cond-true, cond-false}
 use Rattle.node_pool.specs.Nodes.{Node, count_of, entry_of}
 use Rattle.page_tree.specs.Pages.{link_of}

@@ -84,7 +84,8 @@ impl PageTree {
     {
         match self.root {
             None => false,
-            Some(root) => store.nodes.count(root) == 1 && store.owns_leaf(root, p as usize / NODE_ENTRIES),
+            Some(root) => store.nodes.count(root) == 1
+                && store.owns_leaf(root, p as usize / NODE_ENTRIES),
         }
     }
 

@@ -1,6 +1,5 @@
 -- Lists with copies of an element after them: their places, their changes, and their sums.
-use Rattle.std.proofs.Common.{◌≡◌, ◌≢◌, ℕ, zero, suc, ◌+◌, ◌-◌, ◌<◌, ◌≤◌, ⊎_elim, Bool, cond, eqb, ltb, List, [], ◌∷◌, ◌++◌, length, get_or, set, replicate, refl, sym, ◌∙◌, ap, arith, length-append}
-use Rattle.std.specs.List.{sum_by}
+use Rattle.std.proofs.Common.{◌≡◌, ℕ, zero, suc, ◌+◌, ◌-◌, ◌<◌, ◌≤◌, ⊎_elim, cond, eqb, ltb, List, [], ◌∷◌, ◌++◌, length, get_or, set, replicate, refl, sym, ◌∙◌, ap, arith, length-append}
 use Rattle.std.proofs.Math.Seq.{set-append_seam}
 use Rattle.std.proofs.lemmas.List.{get_or_append_left, get_or_past, length-replicate, get_or-replicate, set-append_left, length_push}
 use Rattle.std.proofs.lemmas.List.Sums.{sum_by-append, sum_by-cons}
@@ -62,18 +61,18 @@ free-padded size xs le =
     let split = sum_by-append (λ c. cond (eqb c 0) 1 0) xs (replicate (size - length xs) 0) in
     omega (arith, split, zeros-free (size - length xs))
   where
-  zeros-free : (n : ℕ) → free_count (replicate n 0) ≡ n
-  zeros-free zero = refl
-  zeros-free (suc n) = omega (arith, zeros-free n, sum_by-cons (λ c. cond (eqb c 0) 1 0) 0 (replicate n 0))
+    zeros-free : (n : ℕ) → free_count (replicate n 0) ≡ n
+    zeros-free zero = refl
+    zeros-free (suc n) = omega (arith, zeros-free n, sum_by-cons (λ c. cond (eqb c 0) 1 0) 0 (replicate n 0))
 
 pub held-padded : (size : ℕ) (xs : List ℕ) → held_count (padded size 0 xs) ≡ held_count xs
 held-padded size xs =
     let split = sum_by-append (λ c. cond (ltb 0 c) 1 0) xs (replicate (size - length xs) 0) in
     omega (arith, split, none-held (size - length xs))
   where
-  none-held : (n : ℕ) → held_count (replicate n 0) ≡ 0
-  none-held zero = refl
-  none-held (suc n) = omega (arith, none-held n, sum_by-cons (λ c. cond (ltb 0 c) 1 0) 0 (replicate n 0))
+    none-held : (n : ℕ) → held_count (replicate n 0) ≡ 0
+    none-held zero = refl
+    none-held (suc n) = omega (arith, none-held n, sum_by-cons (λ c. cond (ltb 0 c) 1 0) 0 (replicate n 0))
 
 -- what is held is one of the list
 pub held-in_list : (size : ℕ) (xs : List ℕ) (n : ℕ) → 0 < get_or (padded size 0 xs) n 0 → n < length xs

@@ -1,7 +1,5 @@
-use Rattle.std.proofs.Common.{◌≡◌, ℕ, List, [], ◌++◌, ◌-◌, length, replicate, ap, refl, sym, ◌∙◌, arith}
+use Rattle.std.proofs.Common.{◌≡◌, ℕ, [], ◌-◌, length, replicate, ap, ◌∙◌, arith}
 use Rattle.std.proofs.lemmas.List.{length-replicate}
-use Rattle.pool_base.specs.Counts.{Places}
-use Rattle.pool_base.specs.Padded.{padded}
 use Rattle.pool_base.specs.Paired.{paired}
 use Rattle.lwc_base.specs.Pages.{zero_page}
 use Rattle.frame_pool.specs.View.{content, no_tag, seen_frame, seen_contents, seen_frames}

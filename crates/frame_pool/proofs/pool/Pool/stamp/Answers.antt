@@ -1,4 +1,4 @@
-use Rattle.std.proofs.Common.{◌<◌, arith}
+use Rattle.std.proofs.Common.{arith}
 use Rattle.frame_pool.proofs.PoolLemmas.{seen_stamp, seen_no_stamp}
 use Rattle.frame_pool.proofs.pool.Pool.stamp.Goals as goal
 

@@ -1,4 +1,4 @@
-use Rattle.std.proofs.Common.{◌≡◌, get_or, replicate, ◌∙◌, sym, arith, ap}
+use Rattle.std.proofs.Common.{get_or, ◌∙◌, sym, arith, ap}
 use Rattle.std.proofs.lemmas.List.{get_or-replicate}
 use Rattle.node_pool.proofs.PoolLemmas.{seen_node_at, seen_no_entry}
 use Rattle.node_pool.proofs.pool.NodePool.entry.Goals as goal

@@ -1,4 +1,4 @@
-use Rattle.std.proofs.Common.{arith, ◌∙◌}
+use Rattle.std.proofs.Common.{arith}
 use Rattle.page_tree.proofs.ShortLemmas.{leaf_short-absent, leaf_short-tells}
 use Rattle.page_tree.proofs.UsesLemmas.{inside-count}
 use Rattle.page_tree.proofs.store.Store.owns_leaf.Goals as goal

@@ -1,4 +1,4 @@
-use Rattle.std.proofs.Common.{◌≡◌, ◌+◌, ap, sym, arith, ◌∙◌}
+use Rattle.std.proofs.Common.{ap, sym, arith, ◌∙◌}
 use Rattle.std.proofs.lemmas.Bool.{ne_eqb}
 use Rattle.page_tree.specs.Steps.{IsOwned, tree_of}
 use Rattle.page_tree.proofs.KeepsLemmas.{trees-root, trees-le}

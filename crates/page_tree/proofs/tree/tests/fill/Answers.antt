@@ -23,7 +23,7 @@ pages-preserved g c =
     record {
       sound = c.set.ensures.sound;
       tree = c.set.ensures.tree;
-      alone = λ _. c.set.ensures.alone;
+      alone = λ _. omega (arith, c.set.ensures.alone);
       room = omega (arith, c.pages.invariant.room, c.set.ensures.free, page_short-le c.pages.store.nodes c.pages.tree c.pages.p);
       size = c.set.ensures.trees.size ∙ c.pages.invariant.size;
     }

@@ -13,3 +13,7 @@ clear_range-requires-clause-free g c =
 pub returns-clause-room : goal.returns-clause-room
 returns-clause-room g c =
     omega (arith, c.share_range.ensures.free, c.share_range-2.ensures.free, c.clear_range.ensures.free, c.clear_range-2.ensures.free, range_short-le c.args.store.now.nodes c.empty-copy.result c.args.range.from c.args.range.to, range_short-le c.share_range.new.store.nodes c.share_range.new.self 0 1024, clear_short-le c.share_range-2.new.store.nodes c.share_range-2.new.self c.args.range.from c.args.range.to, clear_short-all c.clear_range.new.store.nodes c.clear_range.new.self 0 1024 refl refl)
+
+pub share_range-requires-2-clause-free : goal.share_range-requires-2-clause-free
+share_range-requires-2-clause-free g c =
+    omega (arith, c.requires.room, c.share_range.ensures.free, range_short-le c.args.store.now.nodes c.empty-copy.result c.args.range.from c.args.range.to, range_short-le c.share_range.new.store.nodes c.share_range.new.self 0 1024)

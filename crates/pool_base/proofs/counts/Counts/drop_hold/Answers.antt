@@ -1,4 +1,4 @@
-use Rattle.std.proofs.Common.{◌≡◌, ◌<◌, ◌-◌, get_or, ap, arith, refl, sym, ◌∙◌, set}
+use Rattle.std.proofs.Common.{◌-◌, get_or, ap, arith, refl, sym, ◌∙◌, set}
 use Rattle.std.proofs.Math.ListN.{length-set}
 use Rattle.std.proofs.lemmas.List.{get_or_read}
 use Rattle.pool_base.proofs.PaddedLemmas.{padded-set, held-in_list, get_or-padded}
