@@ -1,3 +1,4 @@
+pub mod CopyLemmas
 pub mod Lists
 pub mod PieceLemmas
 pub mod TagLemmas

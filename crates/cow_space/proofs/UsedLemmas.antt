@@ -94,7 +94,7 @@ inside-frame frames f held = ⊎_elim (λ lt. lt) (λ past. absurd (let none = a
 
 module _ (total_order : IsTotalOrder tag_cmp) (one_tag : fm.IsAntisymmetric tag_cmp) where
 
-  contains-tags : (tag : Tag) (xs : List Tag) → set.contains (set.from_list {R = tag_cmp} xs) tag ≡ has_tag tag xs
+  pub contains-tags : (tag : Tag) (xs : List Tag) → set.contains (set.from_list {R = tag_cmp} xs) tag ≡ has_tag tag xs
   unfolding has_tag
   contains-tags tag xs =
       set.contains-from_list total_order xs tag

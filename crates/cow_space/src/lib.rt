@@ -3,9 +3,13 @@
 #![tactic(auto)]
 
 pub mod copies;
+pub mod laws;
 pub mod rows;
 pub mod writes;
 
 pub use copies::Piece;
 pub use rows::{MOST_ROWS, Rows};
 pub use writes::NoFrame;
+
+#[cfg(test)]
+mod tests;

@@ -103,6 +103,13 @@ impl Rows {
         self.store.frames.used()
     }
 
+    /// How many rows there are.
+    pub fn len(&self) -> usize
+        ensures { result ≡ length (maps self.now) }
+    {
+        self.trees.len()
+    }
+
     /// How many frames there are, in use or free.
     pub fn frames(&self) -> u32
         ensures { result ≡ frames_of self.now }

@@ -1,0 +1,12 @@
+//! Laws of rows: functions with empty bodies, each with a contract that is the law.
+
+ghost use Rattle.cow_space.specs.Laws.{CopyLaws};
+
+use lwc_base::laws::names_are_ordered;
+
+/// A copy into a row without pages takes no frame, and gives none back.
+pub fn copies_take_no_frame()
+    ensures { CopyLaws }
+{
+    names_are_ordered();
+}
