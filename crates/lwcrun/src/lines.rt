@@ -26,20 +26,44 @@ fn lines_are_accepted_with_their_options_anywhere(rt: HostRuntime) -> Result<(),
     let cases = [
         ("replay guest schedule", "Ok", ""),
         ("replay guest schedule --frames 2 --budget 3", "Ok", ""),
-        ("--budget=000000003 replay guest --frames 0002 schedule", "Ok", ""),
+        (
+            "--budget=000000003 replay guest --frames 0002 schedule",
+            "Ok",
+            "",
+        ),
         ("replay --frames 2 -- guest schedule", "Ok", ""),
-        ("replay guest schedule --frames=1", "ImageTooLarge", "lwcrun: image has 2 pages, frames are 1\n"),
-        ("replay guest -- --help", "ReadFault", "lwcrun: cannot read --help\n"),
+        (
+            "replay guest schedule --frames=1",
+            "ImageTooLarge",
+            "lwcrun: image has 2 pages, frames are 1\n",
+        ),
+        (
+            "replay guest -- --help",
+            "ReadFault",
+            "lwcrun: cannot read --help\n",
+        ),
         ("replay guest -", "ReadFault", "lwcrun: cannot read -\n"),
         ("replay guest ", "ReadFault", "lwcrun: cannot read \n"),
-        ("asm guest", "ImageRefused", "lwcrun: image refused: BadLine at 0\n"),
+        (
+            "asm guest",
+            "ImageRefused",
+            "lwcrun: image refused: BadLine at 0\n",
+        ),
         ("asm none", "ReadFault", "lwcrun: cannot read none\n"),
-        ("dis schedule", "ImageRefused", "lwcrun: image refused: BadMagic at 0\n"),
+        (
+            "dis schedule",
+            "ImageRefused",
+            "lwcrun: image refused: BadMagic at 0\n",
+        ),
         ("dis -", "ReadFault", "lwcrun: cannot read -\n"),
     ];
     for (line, status, said) in cases {
         let left = call_line(&rt, &guest, line)?;
-        assert_eq!(rt; format!(in rt.alloc(); "{:?}", left.status)?.as_str(), status, "{line}");
+        assert_eq!(rt;
+            format!(in rt.alloc(); "{:?}", left.status)?.as_str(),
+            status,
+            "{line}"
+        );
         assert_eq!(rt; left.err.bytes(), said.as_bytes(), "{line}");
         assert_eq!(rt; left.out.bytes().is_empty(), status != "Ok", "{line}");
     }
@@ -124,9 +148,15 @@ fn sources_become_images_and_images_sources(rt: HostRuntime) -> Result<(), Fail>
 fn sources_are_refused_with_rule_and_offset(rt: HostRuntime) -> Result<(), Fail> {
     let cases = [
         ("HALT\nHALT 1\n", "lwcrun: image refused: BadLine at 5\n"),
-        ("HALT\nLI r1, 007\n", "lwcrun: image refused: BadOperand at 5\n"),
+        (
+            "HALT\nLI r1, 007\n",
+            "lwcrun: image refused: BadOperand at 5\n",
+        ),
         ("JMP a\nHALT\n", "lwcrun: image refused: BadLabel at 0\n"),
-        ("HALT\n.entry 1\n", "lwcrun: image refused: BadEntry at 36\n"),
+        (
+            "HALT\n.entry 1\n",
+            "lwcrun: image refused: BadEntry at 36\n",
+        ),
     ];
     for (source, said) in cases {
         let left = call_line(&rt, source.as_bytes(), "asm guest")?;

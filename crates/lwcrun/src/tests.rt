@@ -57,63 +57,25 @@ pub type PageOf = (u32, &'static [u8]);
 /// The page 0, of zeros.
 pub const ZEROS: PageOf = (0, &[]);
 
-/// A file of an image: the uid of its owner, 1 if others may open it or 0, and its bytes.
-pub type FileOf = (u32, u32, &'static [u8]);
-
-/// What an image has beside instructions and entries. Each of the slots has the first file.
-#[derive(Clone, Copy)]
-pub struct Rest<'a> {
-    pub uid: u32,
-    pub pages: &'a [PageOf],
-    pub files: &'a [FileOf],
-    pub slots: &'a [u32],
-}
-
-/// The bytes of an image of these instructions, pages and entries.
+/// The bytes of an image of these instructions, pages and entries, with uid 0, no file and no slot.
 pub fn image(
     alloc: Global,
     instructions: &[u64],
     pages: &[PageOf],
     entries: &[u32],
 ) -> Result<Vec<u8>, AllocError> {
-    let rest = Rest {
-        uid: 0,
-        pages,
-        files: &[],
-        slots: &[],
-    };
-    image_with(alloc, instructions, &rest, entries)
-}
-
-/// The bytes of an image.
-pub fn image_with(
-    alloc: Global,
-    instructions: &[u64],
-    rest: &Rest,
-    entries: &[u32],
-) -> Result<Vec<u8>, AllocError> {
     let mut bytes = Vec::from_slice(alloc, b"LWC1")?;
     append_count(&mut bytes, instructions.len())?;
-    append_count(&mut bytes, rest.pages.len())?;
-    append_count(&mut bytes, rest.files.len())?;
-    append_count(&mut bytes, rest.slots.len())?;
+    append_count(&mut bytes, pages.len())?;
+    append(&mut bytes, 0)?;
+    append(&mut bytes, 0)?;
     append_count(&mut bytes, entries.len())?;
-    append(&mut bytes, rest.uid)?;
+    append(&mut bytes, 0)?;
     for instruction in instructions {
         bytes.extend_from_slice(&instruction.to_be_bytes())?;
     }
-    for page in rest.pages {
+    for page in pages {
         append_page(&mut bytes, *page)?;
-    }
-    for (owner, public, content) in rest.files {
-        append(&mut bytes, *owner)?;
-        append(&mut bytes, *public)?;
-        append_count(&mut bytes, content.len())?;
-        bytes.extend_from_slice(content)?;
-    }
-    for slot in rest.slots {
-        append(&mut bytes, *slot)?;
-        append(&mut bytes, 0)?;
     }
     for entry in entries {
         append(&mut bytes, *entry)?;
@@ -326,7 +288,10 @@ fn lines_set_frames_and_budget(rt: HostRuntime) -> Result<(), Fail> {
         SURE,
     )?;
     assert_eq!(rt; left.status, ExitStatus::ImageTooLarge);
-    assert_eq!(rt; left.err.bytes(), b"lwcrun: image has 2 pages, frames are 1\n".as_slice());
+    assert_eq!(rt;
+        left.err.bytes(),
+        b"lwcrun: image has 2 pages, frames are 1\n".as_slice()
+    );
     Ok(())
 }
 
