@@ -26,8 +26,8 @@ use std::thread::Threads;
 /// What the program does: it reads the line, the program's name first, reads the files that the line names
 /// in their order, tests each before the next, runs what is asked for, and writes the report to `out`. If
 /// it does not come to that, it writes why in one line to `err`; a fault of `err` changes nothing. The
-/// result is the exit status. Nobody waits at the gate for a replay, which has no leave to come there; that it
-/// starts no thread is not proved.
+/// result is the exit status. Nobody waits at the gate for a replay, which has no leave to come there. That it starts
+/// no thread is tested: it is carried out in a function that has no handle of the runtime.
 ///
 /// `outcome` is the whole table: how the call ended, what holds then, and the message on `err`. The other
 /// clauses follow from it, each a promise by itself. `NoMemory` may always come, and then nothing was
@@ -107,7 +107,7 @@ pub fn lwcrun<R: Threads + Wait + Sync, F: Files, O: Sink, E: Sink, G: Gate>(
 }
 
 /// Reads the line, does what it asks for, and writes the message of how that ended.
-fn answer<F: Files, O: Sink, E: Sink>(
+pub(crate) fn answer<F: Files, O: Sink, E: Sink>(
     alloc: Global,
     words: &[String],
     files: &mut F,

@@ -2,9 +2,9 @@
 //! and writes the report.
 #![tactic(auto)]
 
+mod arguments;
 mod call;
 mod ending;
-mod arguments;
 mod inputs;
 mod limits;
 mod line;
@@ -14,6 +14,8 @@ mod reading;
 mod replaying;
 mod sources;
 mod status;
+#[cfg(test)]
+mod tests;
 mod writing;
 
 pub use call::lwcrun;

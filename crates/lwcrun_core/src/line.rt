@@ -21,9 +21,13 @@ pub enum Line {
         settings: Settings,
     },
     /// The image of a source, a file by its name.
-    Asm { source: String },
+    Asm {
+        source: String,
+    },
     /// The source of an image, a file by its name.
-    Dis { image: String },
+    Dis {
+        image: String,
+    },
 }
 
 /// Why a line was not read.
