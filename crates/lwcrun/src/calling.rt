@@ -205,8 +205,8 @@ SYS 8
 HALT
 ";
 
-/// Slots 2 and 4 are common: a read through slot 2 in one context moves the offset for the other, and a dup into
-/// slot 4 fills it for the other.
+/// Slots 2 and 4 are common: a read through slot 2 in one context moves the offset for the other, and a dup
+/// into slot 4 fills it for the other.
 const COMMON_OFFSET: &str = ".entry 0
 .page 0 0100000001000000020000000300000001000000010000000400000005000000
 .file 0 1 0a0b0c0d
@@ -238,8 +238,8 @@ LDB r12, r2, 0
 HALT
 ";
 
-/// Pages 1 to 3 are common: the context that maps or unmaps one has it alone, and the other reads what it read
-/// before.
+/// Pages 1 to 3 are common: the context that maps or unmaps one has it alone, and the other reads what it
+/// read before.
 const COMMON_MAPPED: &str = ".entry 0
 .page 0 00000000010000000100000004000000
 .page 1 05
@@ -270,8 +270,8 @@ LDB r13, r6, 12288
 HALT
 ";
 
-/// Calls on behalf of another context, which take the memory, the slots or the credential from there, or two of
-/// them; and an exit.
+/// Calls on behalf of another context, which take the memory, the slots or the credential from there, or
+/// two of them; and an exit.
 const MASKS: &str = ".entry 0
 .page 0 -
 .page 1 -
@@ -361,8 +361,8 @@ SYS 20
 HALT
 ";
 
-/// Fills every slot, and then makes plain calls with two causes to be refused; the first in the order of the table
-/// is answered.
+/// Fills every slot, and then makes plain calls with two causes to be refused; the first in the order of
+/// the table is answered.
 const FIRST_OF_FULL_TABLE: &str = ".entry 0
 .uid 7
 .file 0 1 aa
@@ -400,8 +400,8 @@ MOV r4, r0
 HALT
 ";
 
-/// Writes until the console is full, then no byte, one byte, one of an absent page, and too many; and reads from
-/// the console.
+/// Writes until the console is full, then no byte, one byte, one of an absent page, and too many; and reads
+/// from the console.
 const FULL_CONSOLE: &str = ".entry 0
 .page 0 -
 LI r1, 1

@@ -67,8 +67,8 @@ SYS 16
 HALT
 ";
 
-/// After `.entry 0` and the instructions that map the pages from r1 on and below r2: 32 items share the odd pages
-/// 1, 3, .. 63.
+/// After `.entry 0` and the instructions that map the pages from r1 on and below r2: 32 items share the odd
+/// pages 1, 3, .. 63.
 const MANY_RANGES: &str = "SYS 6
 LI r5, 0
 LI r6, 0

@@ -20,7 +20,8 @@ SYS 17
 end: HALT
 ";
 
-/// Page 0 is shared with one new context and copied into another: what the first one stores, the second one does not see.
+/// Page 0 is shared with one new context and copied into another: what the first one stores, the second one
+/// does not see.
 const SHARED_PAGES: &str = ".entry 0
 .page 0 05
 .page 1 00000000010000000000000001000000
@@ -69,8 +70,8 @@ child: SYS 17
 HALT
 ";
 
-/// A capability is restricted to the pages 3 and 4, after which only they can be taken over; the dup has every key
-/// still.
+/// A capability is restricted to the pages 3 and 4, after which only they can be taken over; the dup has
+/// every key still.
 const RESTRICT_OVERLAY: &str = ".entry 0
 .page 0 0000000000000000030000000500000000000000000000000300000006000000
 .page 3 -
@@ -133,7 +134,8 @@ SYS 19
 HALT
 ";
 
-/// The new context has a descriptor of itself, and takes over page 0 from itself, once by share, once by copy.
+/// The new context has a descriptor of itself, and takes over page 0 from itself, once by share, once by
+/// copy.
 const ONTO_ITSELF: &str = ".entry 0
 .page 0 010000000100000002000000030000000000000001000000000000000100000000000000000000000000000001000000
 LI r2, 1
@@ -171,8 +173,8 @@ SYS 19
 HALT
 ";
 
-/// Switches to a context with one empty slot, which the switch fills, and back to one that has none. The file is in
-/// the slots 2 to 62.
+/// Switches to a context with one empty slot, which the switch fills, and back to one that has none. The
+/// file is in the slots 2 to 62.
 const FULL_TABLE: &str = ".entry 0
 .file 0 1 -
 SYS 16
@@ -186,8 +188,9 @@ child: SYS 17
 HALT
 ";
 
-/// Maps page 1 and 63 single pages, makes a context, shares the credential and the single pages with it, each into
-/// a group, and then one of the pages 0 and 1, which would be a group too many and a range too many.
+/// Maps page 1 and 63 single pages, makes a context, shares the credential and the single pages with it,
+/// each into a group, and then one of the pages 0 and 1, which would be a group too many and a range too
+/// many.
 const GROUPS_AND_RANGES: &str = ".entry 0
 .page 0 00000000010000000300000004000000020000000200000000000000000000000200000001000000000000000100000000000000010000000100000002000000
 LI r1, 1

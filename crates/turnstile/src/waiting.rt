@@ -1,16 +1,17 @@
-//! How a thread waits for its turn: it looks a few times, then yields between looks, and then sleeps on the word of
-//! its ticket, so that the end of a turn wakes the next thread alone.
+//! How a thread waits for its turn: it looks a few times, then yields between looks, and then sleeps on
+//! the word of its ticket, so that the end of a turn wakes the next thread alone.
 //!
-//! At most 16 tickets are drawn and not served, so ticket t has the word t mod 16 to itself while it waits. A word is
-//! odd while a thread has announced that it may sleep there. Words only count up.
+//! At most 16 tickets are drawn and not served, so ticket t has the word t mod 16 to itself while it
+//! waits. A word is odd while a thread has announced that it may sleep there. Words only count up.
 //!
-//! - A thread that waits announces itself (even to odd), looks again at the number of turns that have ended, and then
-//!   sleeps while the word is still the same odd one.
-//! - A thread that ends a turn passes it on first. Then it makes an odd word even and wakes the thread that sleeps there.
+//! - A thread that waits announces itself (even to odd), looks again at the number of turns that have
+//!   ended, and then sleeps while the word is still the same odd one.
+//! - A thread that ends a turn passes it on first. Then it makes an odd word even and wakes the thread
+//!   that sleeps there.
 //!
-//! All accesses are sequentially consistent: either the second look sees the turn, or the end of the turn sees the
-//! announcement. A wake that comes late may wake the thread of a later ticket, which then looks and announces itself
-//! again. No clause speaks of any of this: words are no part of the rule.
+//! All accesses are sequentially consistent: either the second look sees the turn, or the end of the turn
+//! sees the announcement. A wake that comes late may wake the thread of a later ticket, which then looks
+//! and announces itself again. No clause speaks of any of this: words are no part of the rule.
 
 use std::hint::spin_loop;
 use std::sync::Wait;
