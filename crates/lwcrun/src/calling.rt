@@ -15,6 +15,13 @@ STW r2, r4, 0
 HALT
 ";
 
+/// Closes an empty slot.
+const CLOSE_EMPTY: &str = ".entry 0
+LI r1, 2
+SYS 2
+HALT
+";
+
 /// Makes a context and closes its descriptor, so that one frame is enough.
 const CREATE_CLOSE: &str = ".entry 0
 .page 0 -
@@ -458,6 +465,13 @@ fn guests_make_plain_calls(rt: HostRuntime) -> Result<(), Fail> {
             report: "thread 0 done 0 ctx 0.0 pc 5\nregs 0 0 0 1 0 0 0 0 0 0 0 0 0 0 0 0 0\n\
             context 0.0 pages 1 slots 2 uid 0\ngroups 0\nconsole -\nused 1\npeak 1\nsteps 4\n\
             schedule 0000\n",
+        },
+        Replay {
+            source: CLOSE_EMPTY,
+            words: &REPLAY,
+            schedule: "00",
+            report: "thread 0 done 0 ctx 0.0 pc 2\nregs 0 18446744073709551613 2 0 0 0 0 0 0 0 0 0 0 0 0 0 0\n\
+            context 0.0 pages 0 slots 2 uid 0\ngroups 0\nconsole -\nused 0\npeak 0\nsteps 2\nschedule 00\n",
         },
         Replay {
             source: CREATE_CLOSE,
