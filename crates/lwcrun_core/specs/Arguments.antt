@@ -53,12 +53,12 @@ arguments_of words =
 
 -- the arguments that were taken from a line
 abbrev pub arguments_in : Taken → Arguments
-arguments_in e = record {
-  mode = option_map (λ s. s.now) e.mode;
-  first = option_map (λ s. s.now) e.first;
-  second = option_map (λ s. s.now) e.second;
-  third = option_map (λ s. s.now) e.third;
-  frames = option_map (λ s. s.now) e.frames;
-  budget = option_map (λ s. s.now) e.budget;
-  workers = option_map (λ s. s.now) e.workers;
+arguments_in a = record {
+  mode = option_map (λ s. s.now) a.mode;
+  first = option_map (λ s. s.now) a.first;
+  second = option_map (λ s. s.now) a.second;
+  third = option_map (λ s. s.now) a.third;
+  frames = option_map (λ s. s.now) a.frames;
+  budget = option_map (λ s. s.now) a.budget;
+  workers = option_map (λ s. s.now) a.workers;
 }

@@ -33,40 +33,40 @@ number_or default most (Some word) = number_within 1 most word
 
 -- the number of frames: 4096 where the line has none
 abbrev pub frames_of : Arguments → Option ℕ
-frames_of e = number_or 4096 MOST_FRAMES e.frames
+frames_of a = number_or 4096 MOST_FRAMES a.frames
 
 -- the number of steps of a thread: 10000 where the line has none
 abbrev pub budget_of : Arguments → Option ℕ
-budget_of e = number_or 10000 MOST_BUDGET e.budget
+budget_of a = number_or 10000 MOST_BUDGET a.budget
 
 -- the settings of a line, where neither number is refused
 abbrev pub settings_of : Arguments → Option Settings
-settings_of e = option_and_then (λ frames. option_map (run_settings frames) (budget_of e)) (frames_of e)
+settings_of a = option_and_then (λ frames. option_map (run_settings frames) (budget_of a)) (frames_of a)
 
 -- the only word behind the mode, where there is no option
 abbrev pub only_word : Arguments → Option (List ℕ)
-only_word e =
-    if is_some e.second || is_some e.third || is_some e.frames || is_some e.budget || is_some e.workers then None
-    else e.first
+only_word a =
+    if is_some a.second || is_some a.third || is_some a.frames || is_some a.budget || is_some a.workers then None
+    else a.first
 
 -- `replay` wants an image and a schedule, and takes frames and a budget
 abbrev pub replay_of : Arguments → Option Command
-replay_of e =
-    if is_some e.third || is_some e.workers then None
+replay_of a =
+    if is_some a.third || is_some a.workers then None
     else option_and_then (λ image. option_and_then (λ schedule.
-    option_map (Replay image schedule) (settings_of e)) e.second) e.first
+    option_map (Replay image schedule) (settings_of a)) a.second) a.first
 
 -- the table of modes: what each asks for, if it takes the other arguments
 abbrev pub asked_in : List ℕ → Arguments → Option Command
-asked_in mode e =
-    if bytes_eq mode (codes "replay") then replay_of e
-    else if bytes_eq mode (codes "asm") then option_map Asm (only_word e)
-    else if bytes_eq mode (codes "dis") then option_map Dis (only_word e)
+asked_in mode a =
+    if bytes_eq mode (codes "replay") then replay_of a
+    else if bytes_eq mode (codes "asm") then option_map Asm (only_word a)
+    else if bytes_eq mode (codes "dis") then option_map Dis (only_word a)
     else None
 
 -- what the words ask for, the program's name first; none where the line is not accepted
 unfoldable pub command_of : List (List ℕ) → Option Command
-command_of words = option_and_then (λ e. option_and_then (λ mode. asked_in mode e) e.mode) (arguments_of words)
+command_of words = option_and_then (λ a. option_and_then (λ mode. asked_in mode a) a.mode) (arguments_of words)
 
 -- what a line that was read asks for
 abbrev pub asked_by : Line → Command

@@ -30,7 +30,8 @@ pub struct Arguments<'a> {
 pub fn parse_words<'a>(alloc: Global, words: &'a [String]) -> Result<Arguments<'a>, LineFault>
     ensures accepted { IfOk result (λ arguments.
         spec.arguments_of (map string_bytes words.entry.now) ≡ Some (spec.arguments_in arguments)) }
-    ensures usage { result ≡ Err LineFault.Usage → spec.arguments_of (map string_bytes words.entry.now) ≡ None }
+    ensures usage { result ≡ Err LineFault.Usage
+        → spec.arguments_of (map string_bytes words.entry.now) ≡ None }
 {
     let Ok(command) = command(alloc) else {
         return Err(LineFault::OutOfMemory);

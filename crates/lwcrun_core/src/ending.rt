@@ -8,8 +8,8 @@ pub enum Rejection {
     /// The image is not in its grammar or limits: the rule that it breaks first, and the offset where it
     /// does.
     Image { rule: ImageRule, at: u64 },
-    /// The source is not in its grammar, or the image that it makes is not: the rule that it breaks first, and the
-    /// offset in the source or, for a rule of images, in the image.
+    /// The source is not in its grammar, or the image that it makes is not: the rule that it breaks first,
+    /// and the offset in the source or, for a rule of images, in the image.
     Source { rule: SourceRule, at: u64 },
     /// The schedule is not in its grammar or limits: the rule that it breaks first, and the offset where it
     /// does.

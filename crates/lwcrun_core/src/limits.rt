@@ -1,4 +1,5 @@
 ghost use Rattle.std.specs.Prelude.{◌≡◌, ◌^◌};
+ghost use Rattle.guest_asm.specs.declared.assembly.TheConstants.{MOST_SOURCE_BYTES};
 ghost use Rattle.guest_image.specs.declared.image.TheConstants.{FIRST_SLOT};
 ghost use Rattle.kernel_core.specs.declared.calling.TheConstants.{LW_CREATE, LW_OVERLAY, LW_RESTRICT, LW_SWITCH, LW_SYSCALL};
 ghost use Rattle.lwc_base.specs.declared.descriptor.TheConstants.{SLOTS};
@@ -31,6 +32,7 @@ pub fn limits_are_as_documented()
     ensures files { MOST_FILES ≡ 64 }
     ensures file_bytes { MOST_FILE_BYTES ≡ 2 ^ 20 }
     ensures image_bytes { MOST_IMAGE_BYTES ≡ 2 ^ 23 }
+    ensures source_bytes { MOST_SOURCE_BYTES ≡ 2 ^ 24 }
     ensures bytes_of_call { MOST_BYTES_OF_CALL ≡ 4096 }
     ensures console_bytes { MOST_CONSOLE_BYTES ≡ 65536 }
     ensures reply_bytes { MOST_REPLY_BYTES ≡ 4096 }

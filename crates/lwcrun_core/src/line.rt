@@ -65,9 +65,11 @@ pub fn read_line(alloc: Global, words: &[String]) -> Result<Line, LineFault>
 
 /// The table of modes: what each asks for, if it takes the other arguments.
 fn line_in(alloc: Global, mode: &str, arguments: &Arguments<'_>) -> Result<Line, LineFault>
-    ensures accepted { IfOk result (λ line. spec.asked_in mode.now (arguments_in arguments.now) ≡ Some (asked_by line)) }
+    ensures accepted { IfOk result (λ line.
+        spec.asked_in mode.now (arguments_in arguments.now) ≡ Some (asked_by line)) }
     ensures limits { IfOk result IsWithinLimits }
-    ensures usage { result ≡ Err LineFault.Usage → spec.asked_in mode.now (arguments_in arguments.now) ≡ None }
+    ensures usage { result ≡ Err LineFault.Usage
+        → spec.asked_in mode.now (arguments_in arguments.now) ≡ None }
 {
     match mode {
         "replay" => replay_line(alloc, arguments),
@@ -83,7 +85,8 @@ fn line_in(alloc: Global, mode: &str, arguments: &Arguments<'_>) -> Result<Line,
 
 /// The line of a replay: an image and a schedule, with frames and a budget.
 fn replay_line(alloc: Global, arguments: &Arguments<'_>) -> Result<Line, LineFault>
-    ensures accepted { IfOk result (λ line. spec.replay_of (arguments_in arguments.now) ≡ Some (asked_by line)) }
+    ensures accepted { IfOk result (λ line.
+        spec.replay_of (arguments_in arguments.now) ≡ Some (asked_by line)) }
     ensures limits { IfOk result IsWithinLimits }
     ensures usage { result ≡ Err LineFault.Usage → spec.replay_of (arguments_in arguments.now) ≡ None }
 {

@@ -13,7 +13,8 @@ use lwc_io::{Failed, Sink};
 /// Writes the text of a work, or ends the call without it if there was no memory for it.
 pub fn write_work<'a, O: Sink>(out: &mut O, text: Result<Vec<u8>, OutOfMemory>) -> Ending<'a>
     ensures { (work : Work) (files : FilesView) → IfOk text (λ bytes. IsText work bytes.items)
-        → Ended IsText (outside files files (O.seen out.old) (O.seen out.new)) (plans.Write work) (end_of result) }
+        → Ended IsText (outside files files (O.seen out.old) (O.seen out.new))
+        (plans.Write work) (end_of result) }
 {
     match text {
         Ok(text) => match write_whole(out, text.as_slice()) {
