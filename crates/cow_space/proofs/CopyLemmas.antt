@@ -1,23 +1,21 @@
 -- What copies do to the tags of rows: they bring none, and into a row without pages they take none away.
-use Rattle.std.proofs.Common.{◌≡◌, ◌≢◌, ℕ, zero, suc, ◌+◌, ◌<◌, ◌≤◌, ◌⊎◌, inl, inr, ⊎_elim, Bool, true, false, cond, eqb, leb, ltb, ◌&&◌, List, [], ◌∷◌, length, get_or, set, refl, sym, ◌∙◌, ap, arith, subst, length-set, get_or-set_other, Option, None, Some}
+use Rattle.std.proofs.Common.{◌≡◌, ◌≢◌, ℕ, suc, ◌<◌, ◌⊎◌, inl, inr, ⊎_elim, Bool, true, false, cond, leb, ltb, ◌&&◌, List, [], ◌∷◌, length, get_or, set, sym, ◌∙◌, ap, arith, subst, length-set, get_or-set_other, Option, None, Some}
 use Rattle.std.specs.Prelude.{All}
 use Rattle.std.specs.Bool.{one_answer}
 use Rattle.std.specs.Cmp.{IsTotalOrder}
 use Rattle.std.specs.FinMap as fm
 use Rattle.std.specs.FinSet as set
-use Rattle.std.proofs.lemmas.Bool.{cases_eq, cond-true, cond-false, eq-eqb, ne_eqb}
+use Rattle.std.proofs.lemmas.Bool.{cases_eq}
 use Rattle.std.proofs.lemmas.List.{get_or-set_same}
 use Rattle.lwc_base.specs.declared.name.Tag.{Tag}
 use Rattle.lwc_base.specs.declared.page.PageValue.{PageValue}
-use Rattle.lwc_base.specs.declared.page.PageValue.TheVariants.{Zero, Data}
+use Rattle.lwc_base.specs.declared.page.PageValue.TheVariants.{Data}
 use Rattle.lwc_base.specs.Names.{tag_cmp}
-use Rattle.lwc_base.specs.Store.{Piece as Written, stored_value}
 use Rattle.cow_space.specs.declared.copies.Piece.{Piece}
-use Rattle.cow_space.specs.Maps.{no_pages, row_of, put_page, put_range, share_range, copy_pieces}
+use Rattle.cow_space.specs.Maps.{no_pages, row_of, put_range, share_range, copy_pieces}
 use Rattle.cow_space.specs.Pieces.{IsPiece}
-use Rattle.cow_space.specs.Tags.{tags, used, IsNewTag, is_parting}
-use Rattle.cow_space.specs.Writes.{read_value, written_value, write_page}
-use Rattle.cow_space.proofs.TagLemmas.{has_tag, HasTag, tags-tell}
+use Rattle.cow_space.specs.Tags.{tags, used}
+use Rattle.cow_space.proofs.TagLemmas.{HasTag, tags-tell}
 use Rattle.cow_space.proofs.UsedLemmas.{contains-tags}
 
 -- where the same tags are at pages of rows, the same number of frames is used
@@ -86,8 +84,8 @@ no-tag maps to tag none has is =
     let value = sym has.is ∙ ap (λ (f : ℕ → Option PageValue). f has.p) (ap (row_of maps) is ∙ none) in
     absurd (some-none value)
   where
-  some-none : Some (Data tag has.bytes) ≡ None → ⊥
-  some-none h = cc
+    some-none : Some (Data tag has.bytes) ≡ None → ⊥
+    some-none h = cc
 
 -- copies into a row without pages use as many frames
 pub copied-used : IsTotalOrder tag_cmp → fm.IsAntisymmetric tag_cmp → (maps : List (ℕ → Option PageValue)) (to : ℕ) (pieces : List Piece) → to < length maps → row_of maps to ≡ no_pages → All (IsPiece (length maps) to) pieces → used (copy_pieces maps to pieces) ≡ used maps

@@ -1,11 +1,10 @@
 -- The tags of maps: where each is, and how often.
-use Rattle.std.proofs.Common.{◌≡◌, ◌≢◌, ℕ, zero, suc, ◌+◌, ◌<◌, ◌≤◌, ◌⊎◌, inl, inr, ⊎_elim, Bool, true, false, cond, ltb, List, [], ◌∷◌, ◌++◌, ◌||◌, length, get_or, refl, sym, ◌∙◌, ap, arith, subst, Option, None, Some}
+use Rattle.std.proofs.Common.{◌≡◌, ℕ, ◌+◌, ◌<◌, ◌≤◌, Bool, true, false, cond, List, [], ◌∷◌, ◌||◌, length, get_or, refl, sym, ◌∙◌, ap, arith, subst, Option, None, Some}
 use Rattle.std.specs.List.{flat_map, list_any, range_with_len, sum_by}
 use Rattle.std.specs.Bool.{Decides}
 use Rattle.std.specs.Ordering.{is_eq}
 use Rattle.std.specs.Cmp.{IsTotalOrder, eq_by_cmp_equiv, Equal-is}
 use Rattle.std.specs.FinMap as fm
-use Rattle.std.proofs.lemmas.Bool.{cases_lt, lt-ltb, le-ltb}
 use Rattle.std.proofs.lemmas.List.{get_or_default}
 use Rattle.std.proofs.lemmas.List.Folds.{list_any-append, list_any_at, Any-from_list_any}
 use Rattle.std.proofs.lemmas.List.FromFn.{get_or-range_with_len, length-range_with_len}
@@ -33,7 +32,6 @@ pub record HasTag (maps : List (ℕ → Option PageValue)) (tag : Tag) : Type 0 
   pub is : row_of maps k p ≡ Some (Data tag bytes)
 
 module _ (total_order : IsTotalOrder tag_cmp) (one_tag : fm.IsAntisymmetric tag_cmp) where
-
   -- tags that compare alike are one
   pub same-tag : (a b : Tag) → is_eq (tag_cmp a b) ≡ true → a ≡ b
   same-tag a b h = one_tag a b ((Equal-is (tag_cmp a b)).0 h)
@@ -50,9 +48,9 @@ module _ (total_order : IsTotalOrder tag_cmp) (one_tag : fm.IsAntisymmetric tag_
   unfolding has_tag
   has_tag-one tag own h = same-tag own tag (or-none (is_eq (tag_cmp own tag)) h)
     where
-    or-none : (b : Bool) → (b || false) ≡ true → b ≡ true
-    or-none true h = refl
-    or-none false h = h
+      or-none : (b : Bool) → (b || false) ≡ true → b ≡ true
+      or-none true h = refl
+      or-none false h = h
 
   pub one-has_tag : (tag own : Tag) → own ≡ tag → has_tag tag (own ∷ []) ≡ true
   unfolding has_tag
@@ -72,23 +70,24 @@ module _ (total_order : IsTotalOrder tag_cmp) (one_tag : fm.IsAntisymmetric tag_
   unfolding tags tags_of_map
   tags-tell maps tag = (there, back)
     where
-    there : has_tag tag (tags maps) ≡ true → HasTag maps tag
-    there h =
-        let row = Any-from_list_any (λ m. has_tag tag (tags_of_map m)) maps (sym (has_tag-flat_map tag tags_of_map maps) ∙ h) in
-        let at = Any-from_list_any (λ p. has_tag tag (tag_of (row.1 p))) (range_with_len 0 1024) (sym (has_tag-flat_map tag (λ p. tag_of (row.1 p)) (range_with_len 0 1024)) ∙ row.4) in
-        let found = value-has tag (row.1 at.1) at.4 in
-        let below : at.0 < 1024 = omega (arith, at.2, length-range_with_len 0 1024) in
-        let page : at.0 ≡ at.1 = sym (get_or-range_with_len 0 1024 at.0 at.1 below ∙ omega arith) ∙ at.3 in
-        let same : row_of maps row.0 ≡ row.1 = get_or_default maps row.0 no_pages row.1 row.2 ∙ row.3 in
-        record { k = row.0; p = at.1; bytes = found.0; inside = row.2; below = omega (arith, below, page); is = ap (λ (m : ℕ → Option PageValue). m at.1) same ∙ found.1 }
-    back : HasTag maps tag → has_tag tag (tags maps) ≡ true
-    back has =
-        let here : get_or (range_with_len 0 1024) has.p 0 ≡ has.p = get_or-range_with_len 0 1024 has.p 0 has.below ∙ omega arith in
-        has_tag-flat_map tag tags_of_map maps
-        ∙ list_any_at (λ m. has_tag tag (tags_of_map m)) maps has.k no_pages has.inside
-        (has_tag-flat_map tag (λ p. tag_of (row_of maps has.k p)) (range_with_len 0 1024)
-        ∙ list_any_at (λ p. has_tag tag (tag_of (row_of maps has.k p))) (range_with_len 0 1024) has.p 0 (omega (arith, has.below, length-range_with_len 0 1024))
-        (ap (λ p. has_tag tag (tag_of (row_of maps has.k p))) here ∙ ap (λ v. has_tag tag (tag_of v)) has.is ∙ one-has_tag tag tag refl))
+      there : has_tag tag (tags maps) ≡ true → HasTag maps tag
+      there h =
+          let row = Any-from_list_any (λ m. has_tag tag (tags_of_map m)) maps (sym (has_tag-flat_map tag tags_of_map maps) ∙ h) in
+          let at = Any-from_list_any (λ p. has_tag tag (tag_of (row.1 p))) (range_with_len 0 1024) (sym (has_tag-flat_map tag (λ p. tag_of (row.1 p)) (range_with_len 0 1024)) ∙ row.4) in
+          let found = value-has tag (row.1 at.1) at.4 in
+          let below : at.0 < 1024 = omega (arith, at.2, length-range_with_len 0 1024) in
+          let page : at.0 ≡ at.1 = sym (get_or-range_with_len 0 1024 at.0 at.1 below ∙ omega arith) ∙ at.3 in
+          let same : row_of maps row.0 ≡ row.1 = get_or_default maps row.0 no_pages row.1 row.2 ∙ row.3 in
+          record { k = row.0; p = at.1; bytes = found.0; inside = row.2; below = omega (arith, below, page); is = ap (λ (m : ℕ → Option PageValue). m at.1) same ∙ found.1 }
+
+      back : HasTag maps tag → has_tag tag (tags maps) ≡ true
+      back has =
+          let here : get_or (range_with_len 0 1024) has.p 0 ≡ has.p = get_or-range_with_len 0 1024 has.p 0 has.below ∙ omega arith in
+          has_tag-flat_map tag tags_of_map maps
+          ∙ list_any_at (λ m. has_tag tag (tags_of_map m)) maps has.k no_pages has.inside
+          (has_tag-flat_map tag (λ p. tag_of (row_of maps has.k p)) (range_with_len 0 1024)
+          ∙ list_any_at (λ p. has_tag tag (tag_of (row_of maps has.k p))) (range_with_len 0 1024) has.p 0 (omega (arith, has.below, length-range_with_len 0 1024))
+          (ap (λ p. has_tag tag (tag_of (row_of maps has.k p))) here ∙ ap (λ v. has_tag tag (tag_of v)) has.is ∙ one-has_tag tag tag refl))
 
   -- how often a tag is in the list
 

@@ -1,10 +1,9 @@
 -- A store that is tied to trees of which one changes: what is kept, and what the trees stand for.
-use Rattle.std.proofs.Common.{◌≡◌, ◌≢◌, ℕ, zero, suc, ◌+◌, ◌*◌, ◌<◌, ◌≤◌, ⊎_elim, Bool, true, false, cond, eqb, ltb, leb, ◌&&◌, List, [], ◌∷◌, length, get_or, set, map, replicate, refl, sym, ◌∙◌, ap, arith, subst, length-set, get_or-set_other, Option, None, Some}
-use Rattle.std.specs.List.{sum_by}
+use Rattle.std.proofs.Common.{◌≡◌, ◌≢◌, ℕ, zero, suc, ◌+◌, ◌*◌, ◌<◌, ◌≤◌, ⊎_elim, true, false, cond, eqb, ltb, leb, ◌&&◌, List, [], ◌∷◌, length, get_or, set, map, replicate, refl, sym, ◌∙◌, ap, arith, subst, length-set, get_or-set_other, Option, None, Some}
 use Rattle.std.proofs.lemmas.Bool.{and_from, and_left, and_right, le-leb, lt-leb, cases_eq, cases_lt, lt-ltb, le-ltb, cond-true, cond-false, eq-eqb, ne_eqb}
-use Rattle.std.proofs.lemmas.List.{map-set, get_or-map, length-map, length-replicate, get_or-replicate, get_or_past, get_or-set_same, get_or_read}
+use Rattle.std.proofs.lemmas.List.{map-set, get_or-map, length-map, length-replicate, get_or-replicate, get_or_past, get_or_read}
 use Rattle.std.proofs.lemmas.List.Sums.{sum_by-set, get_or-le-sum_by, sum_by-cons}
-use Rattle.frame_pool.specs.Frame.{Frame, no_frame, zero_frame, frame_count, frame_stamp, frame_bytes}
+use Rattle.frame_pool.specs.Frame.{Frame, no_frame, zero_frame, frame_count}
 use Rattle.lwc_base.specs.declared.name.Tag.{Tag}
 use Rattle.lwc_base.specs.declared.page.PageValue.{PageValue}
 use Rattle.lwc_base.specs.declared.page.PageValue.TheVariants.{Data}
@@ -15,22 +14,22 @@ use Rattle.page_tree.specs.declared.cell.PageCell.TheVariants as cell
 use Rattle.page_tree.specs.Changes.{KeepsTrees, KeepsMaps, KeepsFrames}
 use Rattle.page_tree.specs.Laws.{TreeLaws, TiedLaws}
 use Rattle.page_tree.specs.Pages.{page, entry_for}
-use Rattle.page_tree.specs.Sound.{IsSound, IsTree, trees_at, is_root, naming}
+use Rattle.page_tree.specs.Sound.{IsSound, IsTree, trees_at, is_root}
 use Rattle.page_tree.specs.Tied.{having, IsTied}
 use Rattle.cow_space.specs.Cells.{cells, all_cells, cell_value, values, tree_maps}
 use Rattle.cow_space.specs.Kept.{IsStamped, IsKept}
 use Rattle.frame_pool.specs.declared.pool.FrameNo.{FrameNo}
 use Rattle.cow_space.specs.Tags.{is_parting}
-use Rattle.cow_space.specs.Maps.{data_of, no_pages, row_of, put_page, put_range, share_range}
-use Rattle.cow_space.proofs.Lists.{one_if, one-yes, one-no, zero_or_more, cond-of, map-same, map-set_changed, two_terms, set-twice, map-replicate}
+use Rattle.cow_space.specs.Maps.{data_of, no_pages, row_of, put_page, put_range}
+use Rattle.cow_space.proofs.Lists.{one_if, one-yes, one-no, zero_or_more, cond-of, map-set_changed, two_terms, set-twice, map-replicate}
 
 -- held frames have stamps of their own still, where free ones stay free
 pub stamped-kept : (old new : List Node) (frames frames' : List Frame) → KeepsFrames old new frames frames' → IsStamped frames → IsStamped frames'
 stamped-kept old new frames frames' keeps stamped = λ f g f_held g_held is.
     stamped f g (was f f_held) (was g g_held) (sym (keeps.stamps f) ∙ is ∙ keeps.stamps g)
   where
-  was : (f : ℕ) → 0 < frame_count frames' f → 0 < frame_count frames f
-  was f held = ⊎_elim (λ some. some) (λ none. absurd (let free = keeps.free f (omega (arith, none)) in omega (arith, free, held))) (cases_lt 0 (frame_count frames f))
+    was : (f : ℕ) → 0 < frame_count frames' f → 0 < frame_count frames f
+    was f held = ⊎_elim (λ some. some) (λ none. absurd (let free = keeps.free f (omega (arith, none)) in omega (arith, free, held))) (cases_lt 0 (frame_count frames f))
 
 pub few-trees : (nodes : List Node) (frames : List Frame) (trees : List ℕ) → IsKept nodes frames trees → length trees ≤ 65536
 few-trees nodes frames trees kept = let few = kept.tied.sound.few in omega (arith, kept.room, few)
@@ -65,57 +64,58 @@ cells-past nodes tree p le = cond-false (ltb p 1024) (page nodes tree p) Absent 
 pub cells-empty : TreeLaws → (nodes : List Node) → cells nodes 0 ≡ (λ p. Absent)
 cells-empty laws nodes = λ i p. at p i
   where
-  at : (p : ℕ) → cells nodes 0 p ≡ Absent
-  at p = ⊎_elim (λ lt. cells-page nodes 0 p lt ∙ laws.empty nodes p) (λ le. cells-past nodes 0 p le) (cases_lt p 1024)
+    at : (p : ℕ) → cells nodes 0 p ≡ Absent
+    at p = ⊎_elim (λ lt. cells-page nodes 0 p lt ∙ laws.empty nodes p) (λ le. cells-past nodes 0 p le) (cases_lt p 1024)
 
 -- two trees have the same cells where they have the same pages
 pub cells-same : (old new : List Node) (tree tree' : ℕ) → ((p : ℕ) → p < 1024 → page new tree' p ≡ page old tree p) → cells new tree' ≡ cells old tree
 cells-same old new tree tree' same = λ i p. at p i
   where
-  at : (p : ℕ) → cells new tree' p ≡ cells old tree p
-  at p =
-      ⊎_elim
-      (λ lt. cells-page new tree' p lt ∙ same p lt ∙ sym (cells-page old tree p lt))
-      (λ le. cells-past new tree' p le ∙ sym (cells-past old tree p le))
-      (cases_lt p 1024)
+    at : (p : ℕ) → cells new tree' p ≡ cells old tree p
+    at p =
+        ⊎_elim
+        (λ lt. cells-page new tree' p lt ∙ same p lt ∙ sym (cells-page old tree p lt))
+        (λ le. cells-past new tree' p le ∙ sym (cells-past old tree p le))
+        (cases_lt p 1024)
 
 -- a page is another now
 pub cells-put : (old new : List Node) (left came p : ℕ) (c : PageCell) → p < 1024 → page new came p ≡ c → ((q : ℕ) → q ≢ p → q < 1024 → page new came q ≡ page old left q) → cells new came ≡ put_page (cells old left) p c
 cells-put old new left came p c lt here there = λ i q. at q i
   where
-  at : (q : ℕ) → cells new came q ≡ cond (eqb q p) c (cells old left q)
-  at q =
-      ⊎_elim
-      (λ is. ap (cells new came) is ∙ cells-page new came p lt ∙ here ∙ sym (cond-true (eqb q p) c (cells old left q) (eq-eqb q p is)))
-      (λ off.
-      ⊎_elim
-      (λ below. cells-page new came q below ∙ there q off below ∙ sym (cells-page old left q below))
-      (λ past. cells-past new came q past ∙ sym (cells-past old left q past))
-      (cases_lt q 1024)
-      ∙ sym (cond-false (eqb q p) c (cells old left q) (ne_eqb q p off)))
-      (cases_eq q p)
+    at : (q : ℕ) → cells new came q ≡ cond (eqb q p) c (cells old left q)
+    at q =
+        ⊎_elim
+        (λ is. ap (cells new came) is ∙ cells-page new came p lt ∙ here ∙ sym (cond-true (eqb q p) c (cells old left q) (eq-eqb q p is)))
+        (λ off.
+        ⊎_elim
+        (λ below. cells-page new came q below ∙ there q off below ∙ sym (cells-page old left q below))
+        (λ past. cells-past new came q past ∙ sym (cells-past old left q past))
+        (cases_lt q 1024)
+        ∙ sym (cond-false (eqb q p) c (cells old left q) (ne_eqb q p off)))
+        (cases_eq q p)
 
 -- a range of pages is another tree's now
 pub cells-share : (old new : List Node) (left came from to : ℕ) (other : ℕ → PageCell) → to ≤ 1024 → ((q : ℕ) → from ≤ q → q < to → page new came q ≡ other q) → ((q : ℕ) → q < from → page new came q ≡ page old left q) → ((q : ℕ) → to ≤ q → q < 1024 → page new came q ≡ page old left q) → cells new came ≡ put_range (cells old left) from to other
 cells-share old new left came from to other most within before after = λ i q. at q i
   where
-  out : (q : ℕ) → (leb from q && ltb q to) ≡ false → page new came q ≡ page old left q → q < 1024 → cells new came q ≡ cond (leb from q && ltb q to) (other q) (cells old left q)
-  out q outside same below = cells-page new came q below ∙ same ∙ sym (cells-page old left q below) ∙ sym (cond-false (leb from q && ltb q to) (other q) (cells old left q) outside)
-  at : (q : ℕ) → cells new came q ≡ cond (leb from q && ltb q to) (other q) (cells old left q)
-  at q =
-      ⊎_elim
-      (λ below.
-      ⊎_elim
-      (λ low. out q (and_left (leb from q) (ltb q to) (lt-leb from q low)) (before q low) below)
-      (λ from_on. ⊎_elim
-      (λ here. cells-page new came q below ∙ within q from_on here ∙ sym (cond-true (leb from q && ltb q to) (other q) (cells old left q) (and_from (leb from q) (ltb q to) (le-leb from q from_on) (lt-ltb q to here))))
-      (λ high. out q (and_right (leb from q) (ltb q to) (le-ltb q to high)) (after q high below) below)
-      (cases_lt q to))
-      (cases_lt q from))
-      (λ past.
-      cells-past new came q past ∙ sym (cells-past old left q past)
-      ∙ sym (cond-false (leb from q && ltb q to) (other q) (cells old left q) (and_right (leb from q) (ltb q to) (le-ltb q to (omega (arith, past, most))))))
-      (cases_lt q 1024)
+    out : (q : ℕ) → (leb from q && ltb q to) ≡ false → page new came q ≡ page old left q → q < 1024 → cells new came q ≡ cond (leb from q && ltb q to) (other q) (cells old left q)
+    out q outside same below = cells-page new came q below ∙ same ∙ sym (cells-page old left q below) ∙ sym (cond-false (leb from q && ltb q to) (other q) (cells old left q) outside)
+
+    at : (q : ℕ) → cells new came q ≡ cond (leb from q && ltb q to) (other q) (cells old left q)
+    at q =
+        ⊎_elim
+        (λ below.
+        ⊎_elim
+        (λ low. out q (and_left (leb from q) (ltb q to) (lt-leb from q low)) (before q low) below)
+        (λ from_on. ⊎_elim
+        (λ here. cells-page new came q below ∙ within q from_on here ∙ sym (cond-true (leb from q && ltb q to) (other q) (cells old left q) (and_from (leb from q) (ltb q to) (le-leb from q from_on) (lt-ltb q to here))))
+        (λ high. out q (and_right (leb from q) (ltb q to) (le-ltb q to high)) (after q high below) below)
+        (cases_lt q to))
+        (cases_lt q from))
+        (λ past.
+        cells-past new came q past ∙ sym (cells-past old left q past)
+        ∙ sym (cond-false (leb from q && ltb q to) (other q) (cells old left q) (and_right (leb from q) (ltb q to) (le-ltb q to (omega (arith, past, most))))))
+        (cases_lt q 1024)
 
 -- a tree that is one of the trees beside the one that left stands for the same
 pub cells-other : TreeLaws → (old new : List Node) (frames : List Frame) (trees : List ℕ) (left tree : ℕ) → IsTied old frames trees → KeepsMaps old new left → ((n : ℕ) → tree ≡ n + 1 → is_root left n < having trees n) → cells new tree ≡ cells old tree
@@ -135,10 +135,10 @@ cells-other laws old new frames trees left tree tied kept other =
 pub values-kept : (old new : List Node) (frames frames' : List Frame) → KeepsFrames old new frames frames' → values frames' ≡ values frames
 values-kept old new frames frames' keeps = λ i m p. at (m p) i
   where
-  at : (c : PageCell) → cell_value frames' c ≡ cell_value frames c
-  at Absent = refl
-  at Zero = refl
-  at (cell.Frame f) = λ i. Some (Data (keeps.stamps f.n i) (keeps.bytes f.n i))
+    at : (c : PageCell) → cell_value frames' c ≡ cell_value frames c
+    at Absent = refl
+    at Zero = refl
+    at (cell.Frame f) = λ i. Some (Data (keeps.stamps f.n i) (keeps.bytes f.n i))
 
 pub values-put_range : (frames : List Frame) (m other : ℕ → PageCell) (from to : ℕ) → values frames (put_range m from to other) ≡ put_range (values frames m) from to (values frames other)
 values-put_range frames m other from to = λ i q. cond-of (cell_value frames) (leb from q && ltb q to) (other q) (m q) i
@@ -190,7 +190,6 @@ other-tree laws old new frames trees i left kept i_in left_is maps j j_in off =
 
 -- one tree left its place in the list for another
 module _ (tree_laws : TreeLaws) (old new : List Node) (frames frames' : List Frame) (trees : List ℕ) (i left came : ℕ) (kept : IsKept old frames trees) (i_in : i < length trees) (left_is : left ≡ get_or trees i 0) (sound : IsSound new frames') (keeps : KeepsTrees old new left came) (maps : KeepsMaps old new left) (frames_kept : KeepsFrames old new frames frames') where
-
   pub kept-set : IsKept new frames' (set trees i came)
   kept-set =
       record {
@@ -246,7 +245,6 @@ kept-few nodes frames trees n kept =
 
 -- an empty place of the list gets a tree that another place has
 module _ (tree_laws : TreeLaws) (old new : List Node) (frames frames' : List Frame) (trees : List ℕ) (maps : List (ℕ → Option PageValue)) (to from tree came : ℕ) (kept : IsKept old frames trees) (to_in : to < length trees) (from_in : from < length trees) (apart : from ≢ to) (none : get_or trees to 0 ≡ 0) (tree_is : tree ≡ get_or trees from 0) (same : came ≡ tree) (sound : IsSound new frames') (keeps : KeepsTrees old new 0 came) (kept_maps : KeepsMaps old new 0) (frames_kept : KeepsFrames old new frames frames') (are : tree_maps frames old trees ≡ set maps to no_pages) where
-
   cells-held : cells new came ≡ cells old (get_or trees from 0)
   cells-held =
       ap (cells new) (same ∙ tree_is)

@@ -1,12 +1,11 @@
 -- The tags of rows are the stamps of the held frames, so there are as many different ones as frames are held.
-use Rattle.std.proofs.Common.{◌≡◌, ◌≢◌, ℕ, zero, suc, ◌+◌, ◌<◌, ◌≤◌, ◌⊎◌, inl, inr, ⊎_elim, Bool, true, false, cond, eqb, ltb, List, [], ◌∷◌, ◌++◌, length, get_or, refl, sym, ◌∙◌, ap, arith, subst, Option, None, Some}
+use Rattle.std.proofs.Common.{◌≡◌, ◌≢◌, ℕ, suc, ◌+◌, ◌<◌, ◌≤◌, inl, inr, ⊎_elim, Bool, true, false, cond, eqb, ltb, List, [], ◌∷◌, ◌++◌, length, get_or, refl, sym, ◌∙◌, ap, arith, subst, Option, Some}
 use Rattle.std.specs.List.{flat_map, list_any, sum_by}
 use Rattle.std.specs.Bool.{Decides, one_answer}
-use Rattle.std.specs.Ordering.{is_eq}
 use Rattle.std.specs.Cmp.{IsTotalOrder, eq_by_cmp_equiv}
 use Rattle.std.specs.FinMap as fm
 use Rattle.std.specs.FinSet as set
-use Rattle.std.proofs.lemmas.Bool.{cases_lt, cases_eq, lt-ltb, le-ltb, cond-true, cond-false}
+use Rattle.std.proofs.lemmas.Bool.{cases_lt, lt-ltb, le-ltb, cond-true, cond-false}
 use Rattle.std.proofs.lemmas.List.{get_or_past, get_or_default}
 use Rattle.std.proofs.lemmas.Bool.Decides.{nat_tests}
 use Rattle.std.proofs.lemmas.List.Concat.{length-flat_map}
@@ -23,9 +22,8 @@ use Rattle.page_tree.specs.declared.cell.PageCell.{PageCell}
 use Rattle.page_tree.specs.declared.cell.PageCell.TheVariants.{Absent, Zero}
 use Rattle.page_tree.specs.declared.cell.PageCell.TheVariants as cell
 use Rattle.page_tree.specs.Laws.{TiedLaws}
-use Rattle.page_tree.specs.Pages.{page}
 use Rattle.page_tree.specs.Short.{page_short}
-use Rattle.page_tree.specs.Tied.{IsTied, HasFrame, HasElsewhere, page_of}
+use Rattle.page_tree.specs.Tied.{HasFrame, HasElsewhere, page_of}
 use Rattle.cow_space.specs.Cells.{cell_value, tree_maps}
 use Rattle.cow_space.specs.Kept.{IsStamped, IsKept}
 use Rattle.cow_space.specs.Maps.{row_of}
@@ -46,7 +44,6 @@ pub record IsHeld (frames : List Frame) (tag : Tag) : Type 0 where
   pub is : frame_stamp frames f ≡ tag
 
 module _ (laws : TiedLaws) (nodes : List Node) (frames : List Frame) (trees : List ℕ) (kept : IsKept nodes frames trees) where
-
   -- the frame of a tag that a row has
   pub frame-of : (tag : Tag) (has : HasTag (tree_maps frames nodes trees) tag) → (f : ℕ) × ((page_of nodes trees has.k has.p ≡ cell.Frame (record { n = f })) × (frame_stamp frames f ≡ tag))
   frame-of tag has =
@@ -57,7 +54,9 @@ module _ (laws : TiedLaws) (nodes : List Node) (frames : List Frame) (trees : Li
   pub tag-of : (f : ℕ) (has : HasFrame nodes trees f) → HasTag (tree_maps frames nodes trees) (frame_stamp frames f)
   tag-of f has =
       record {
-        k = has.k; p = has.p; bytes = frame_bytes frames f;
+        k = has.k;
+        p = has.p;
+        bytes = frame_bytes frames f;
         inside = omega (arith, has.inside, length-maps frames nodes trees);
         below = has.below;
         is = row-page frames nodes trees has.k has.p has.inside has.below ∙ ap (cell_value frames) has.has;
@@ -93,7 +92,6 @@ pub inside-frame : (frames : List Frame) (f : ℕ) → 0 < frame_count frames f 
 inside-frame frames f held = ⊎_elim (λ lt. lt) (λ past. absurd (let none = ap (λ (frame : Frame). frame.count) (get_or_past frames f no_frame past) in omega (arith, none, held))) (cases_lt f (length frames))
 
 module _ (total_order : IsTotalOrder tag_cmp) (one_tag : fm.IsAntisymmetric tag_cmp) where
-
   pub contains-tags : (tag : Tag) (xs : List Tag) → set.contains (set.from_list {R = tag_cmp} xs) tag ≡ has_tag tag xs
   unfolding has_tag
   contains-tags tag xs =
@@ -103,11 +101,12 @@ module _ (total_order : IsTotalOrder tag_cmp) (one_tag : fm.IsAntisymmetric tag_
   length-stamps : (frames : List Frame) → length (stamps frames) ≡ used_frames frames
   length-stamps frames = length-flat_map own_stamp frames ∙ ap (λ (f : Frame → ℕ). sum_by f frames) (λ i frame. length-own frame i)
     where
-    length-if : (b : Bool) (t : Tag) → length (cond b (t ∷ []) []) ≡ cond b 1 0
-    length-if true t = refl
-    length-if false t = refl
-    length-own : (frame : Frame) → length (own_stamp frame) ≡ cond (ltb 0 frame.count) 1 0
-    length-own frame = length-if (ltb 0 frame.count) frame.stamp
+      length-if : (b : Bool) (t : Tag) → length (cond b (t ∷ []) []) ≡ cond b 1 0
+      length-if true t = refl
+      length-if false t = refl
+
+      length-own : (frame : Frame) → length (own_stamp frame) ≡ cond (ltb 0 frame.count) 1 0
+      length-own frame = length-if (ltb 0 frame.count) frame.stamp
 
   different-cons : (t : Tag) (ts : List Tag) → has_tag t ts ≡ false → set.len (set.from_list {R = tag_cmp} (t ∷ ts)) ≡ set.len (set.from_list {R = tag_cmp} ts) + 1
   different-cons t ts new =
@@ -117,23 +116,25 @@ module _ (total_order : IsTotalOrder tag_cmp) (one_tag : fm.IsAntisymmetric tag_
   stamp-held : (frames : List Frame) (tag : Tag) → Decides (has_tag tag (stamps frames)) (IsHeld frames tag)
   stamp-held frames tag = (there, back)
     where
-    own-has : (frame : Frame) → has_tag tag (own_stamp frame) ≡ true → (0 < frame.count) × (frame.stamp ≡ tag)
-    own-has frame h =
-        ⊎_elim
-        (λ some. (some, has_tag-one total_order one_tag tag frame.stamp (ap (has_tag tag) (sym (cond-true (ltb 0 frame.count) (frame.stamp ∷ []) [] (lt-ltb 0 frame.count some))) ∙ h)))
-        (λ none. absurd (has_tag-none total_order one_tag tag (ap (has_tag tag) (sym (cond-false (ltb 0 frame.count) (frame.stamp ∷ []) [] (le-ltb 0 frame.count none))) ∙ h)))
-        (cases_lt 0 frame.count)
-    there : has_tag tag (stamps frames) ≡ true → IsHeld frames tag
-    there h =
-        let at = Any-from_list_any (λ frame. has_tag tag (own_stamp frame)) frames (sym (has_tag-flat_map total_order one_tag tag own_stamp frames) ∙ h) in
-        let own = own-has at.1 at.4 in
-        let same : frame_at frames at.0 ≡ at.1 = get_or_default frames at.0 no_frame at.1 at.2 ∙ at.3 in
-        record { f = at.0; held = subst (λ (frame : Frame). 0 < frame.count) (sym same) own.0; is = ap (λ (frame : Frame). frame.stamp) same ∙ own.1 }
-    back : IsHeld frames tag → has_tag tag (stamps frames) ≡ true
-    back held =
-        has_tag-flat_map total_order one_tag tag own_stamp frames
-        ∙ list_any_at (λ frame. has_tag tag (own_stamp frame)) frames held.f no_frame (inside-frame frames held.f held.held)
-        (ap (has_tag tag) (cond-true (ltb 0 (frame_count frames held.f)) (frame_stamp frames held.f ∷ []) [] (lt-ltb 0 (frame_count frames held.f) held.held)) ∙ one-has_tag total_order one_tag tag (frame_stamp frames held.f) held.is)
+      own-has : (frame : Frame) → has_tag tag (own_stamp frame) ≡ true → (0 < frame.count) × (frame.stamp ≡ tag)
+      own-has frame h =
+          ⊎_elim
+          (λ some. (some, has_tag-one total_order one_tag tag frame.stamp (ap (has_tag tag) (sym (cond-true (ltb 0 frame.count) (frame.stamp ∷ []) [] (lt-ltb 0 frame.count some))) ∙ h)))
+          (λ none. absurd (has_tag-none total_order one_tag tag (ap (has_tag tag) (sym (cond-false (ltb 0 frame.count) (frame.stamp ∷ []) [] (le-ltb 0 frame.count none))) ∙ h)))
+          (cases_lt 0 frame.count)
+
+      there : has_tag tag (stamps frames) ≡ true → IsHeld frames tag
+      there h =
+          let at = Any-from_list_any (λ frame. has_tag tag (own_stamp frame)) frames (sym (has_tag-flat_map total_order one_tag tag own_stamp frames) ∙ h) in
+          let own = own-has at.1 at.4 in
+          let same : frame_at frames at.0 ≡ at.1 = get_or_default frames at.0 no_frame at.1 at.2 ∙ at.3 in
+          record { f = at.0; held = subst (λ (frame : Frame). 0 < frame.count) (sym same) own.0; is = ap (λ (frame : Frame). frame.stamp) same ∙ own.1 }
+
+      back : IsHeld frames tag → has_tag tag (stamps frames) ≡ true
+      back held =
+          has_tag-flat_map total_order one_tag tag own_stamp frames
+          ∙ list_any_at (λ frame. has_tag tag (own_stamp frame)) frames held.f no_frame (inside-frame frames held.f held.held)
+          (ap (has_tag tag) (cond-true (ltb 0 (frame_count frames held.f)) (frame_stamp frames held.f ∷ []) [] (lt-ltb 0 (frame_count frames held.f) held.held)) ∙ one-has_tag total_order one_tag tag (frame_stamp frames held.f) held.is)
 
   -- held frames with stamps of their own have as many different ones as they are
   different-stamps : (frames : List Frame) → IsStamped frames → set.len (set.from_list {R = tag_cmp} (stamps frames)) ≡ length (stamps frames)
@@ -157,9 +158,9 @@ module _ (total_order : IsTotalOrder tag_cmp) (one_tag : fm.IsAntisymmetric tag_
       ap (λ ts. set.len (set.from_list {R = tag_cmp} (ts ++ stamps frames))) own ∙ rest ∙ ap (λ ts. length (ts ++ stamps frames)) (sym own))
       (cases_lt 0 frame.count)
     where
-    not-true : (b : Bool) → (b ≡ true → ⊥) → b ≡ false
-    not-true true h = absurd (h refl)
-    not-true false h = refl
+      not-true : (b : Bool) → (b ≡ true → ⊥) → b ≡ false
+      not-true true h = absurd (h refl)
+      not-true false h = refl
 
   module _ (laws : TiedLaws) (nodes : List Node) (frames : List Frame) (trees : List ℕ) (kept : IsKept nodes frames trees) where
     abbrev maps : List (ℕ → Option PageValue)
@@ -180,7 +181,6 @@ module _ (total_order : IsTotalOrder tag_cmp) (one_tag : fm.IsAntisymmetric tag_
 
     -- the tag of a page with a frame is at another page too exactly where the frame is
     module _ (i p f : ℕ) (i_in : i < length trees) (p_in : p < 1024) (is : page_of nodes trees i p ≡ cell.Frame (record { n = f })) where
-
       pub value-is : row_of maps i p ≡ Some (Data (frame_stamp frames f) (frame_bytes frames f))
       value-is = row-page frames nodes trees i p i_in p_in ∙ ap (cell_value frames) is
 

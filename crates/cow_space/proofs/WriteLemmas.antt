@@ -1,5 +1,5 @@
 -- A page of a row is written: in a new frame, or in its own.
-use Rattle.std.proofs.Common.{◌≡◌, ◌≢◌, ℕ, zero, suc, ◌+◌, ◌-◌, ◌*◌, ◌^◌, ◌<◌, ◌≤◌, ◌⊎◌, inl, inr, ⊎_elim, Bool, true, false, cond, eqb, ltb, List, [], ◌∷◌, length, get_or, set, map, refl, sym, ◌∙◌, ap, arith, length-set, get_or-set_other, Option, None, Some}
+use Rattle.std.proofs.Common.{◌≡◌, ◌≢◌, ℕ, ◌+◌, ◌-◌, ◌^◌, ◌<◌, ◌≤◌, inl, inr, ⊎_elim, true, false, cond, eqb, List, [], ◌∷◌, length, get_or, set, map, refl, sym, ◌∙◌, ap, arith, length-set, get_or-set_other, Option, Some}
 use Rattle.std.specs.Prelude.{unwrap_or}
 use Rattle.std.specs.Cmp.{IsTotalOrder}
 use Rattle.std.specs.FinMap as fm
@@ -21,7 +21,7 @@ use Rattle.page_tree.specs.Laws.{TreeLaws, TiedLaws}
 use Rattle.page_tree.specs.Pages.{page}
 use Rattle.page_tree.specs.Short.{page_short}
 use Rattle.page_tree.specs.Sound.{IsSound, naming}
-use Rattle.page_tree.specs.Tied.{IsTied, HasFrame, HasElsewhere, IsElsewhere, page_of}
+use Rattle.page_tree.specs.Tied.{HasElsewhere, IsElsewhere, page_of}
 use Rattle.cow_space.specs.Cells.{cells, all_cells, cell_value, values, tree_maps}
 use Rattle.cow_space.specs.Kept.{IsStamped, IsKept}
 use Rattle.cow_space.specs.Maps.{row_of, put_page}
@@ -29,7 +29,7 @@ use Rattle.cow_space.specs.Tags.{IsNewTag, is_parting}
 use Rattle.cow_space.specs.Takes.{Takes, cell_bytes}
 use Rattle.cow_space.specs.Writes.{read_value, written_value}
 use Rattle.cow_space.proofs.Lists.{map-set_changed}
-use Rattle.cow_space.proofs.Trees.{cells-page, cells-past, cells-put, having-set, other-tree, row-at, row-page}
+use Rattle.cow_space.proofs.Trees.{cells-page, cells-past, cells-put, having-set, other-tree, row-at}
 use Rattle.cow_space.proofs.UsedLemmas.{inside-frame, tag-of, parting-shared, parting-alone}
 
 -- a store stays sound with other frames that are held near enough to as often as entries name them
@@ -62,8 +62,7 @@ fused frames nodes (t ∷ trees) = ap (λ ms. values frames (cells nodes t) ∷ 
 
 -- one page of one row has another value, and all others have theirs
 module _ (old new : List Node) (frames frames' : List Frame) (trees : List ℕ) (i came p : ℕ) (c : PageCell) (v : Option PageValue) (i_in : i < length trees) (here : cells new came ≡ put_page (cells old (get_or trees i 0)) p c) (others : (j : ℕ) → j < length trees → j ≢ i → cells new (get_or trees j 0) ≡ cells old (get_or trees j 0)) (is : cell_value frames' c ≡ v)
-  (elsewhere : (k q g : ℕ) → k < length trees → q < 1024 → IsElsewhere i p k q → page_of old trees k q ≡ cell.Frame (record { n = g }) → (frame_stamp frames' g ≡ frame_stamp frames g) × (frame_bytes frames' g ≡ frame_bytes frames g)) where
-
+    (elsewhere : (k q g : ℕ) → k < length trees → q < 1024 → IsElsewhere i p k q → page_of old trees k q ≡ cell.Frame (record { n = g }) → (frame_stamp frames' g ≡ frame_stamp frames g) × (frame_bytes frames' g ≡ frame_bytes frames g)) where
   value-elsewhere : (k q : ℕ) → k < length trees → IsElsewhere i p k q → cell_value frames' (cells old (get_or trees k 0) q) ≡ cell_value frames (cells old (get_or trees k 0) q)
   value-elsewhere k q lt off =
       ⊎_elim
@@ -139,8 +138,7 @@ recount-here frames n c lt = get_or-set_same frames n (record (frame_at frames n
 
 -- a page parts: a frame is taken and filled, the page gets it, and the hand lets it go
 module _ (tree_laws : TreeLaws) (laws : TiedLaws) (old new : List Node) (first second third fourth : List Frame) (trees : List ℕ) (i left came p n : ℕ) (tag : Tag) (bytes : List ℕ) (kept : IsKept old first trees) (i_in : i < length trees) (left_is : left ≡ get_or trees i 0)
-  (takes : Takes first second n tag bytes) (sound : IsSound new third) (keeps : KeepsTrees old new left came) (kept_maps : KeepsMaps old new left) (kept_frames : KeepsFrames old new second third) (gone : fourth ≡ recount_frame third n (frame_count third n - 1)) where
-
+    (takes : Takes first second n tag bytes) (sound : IsSound new third) (keeps : KeepsTrees old new left came) (kept_maps : KeepsMaps old new left) (kept_frames : KeepsFrames old new second third) (gone : fourth ≡ recount_frame third n (frame_count third n - 1)) where
   exact : (f : ℕ) → frame_count first f ≡ naming old f
   exact = kept.tied.exact
 
@@ -251,11 +249,10 @@ refill-here frames n bs lt = get_or-set_same frames n (record (frame_at frames n
 put-same : (m : ℕ → PageCell) (p : ℕ) (c : PageCell) → m p ≡ c → put_page m p c ≡ m
 put-same m p c is = λ i q. at q i
   where
-  at : (q : ℕ) → cond (eqb q p) c (m q) ≡ m q
-  at q = ⊎_elim (λ here. cond-true (eqb q p) c (m q) (eq-eqb q p here) ∙ sym is ∙ ap m (sym here)) (λ off. cond-false (eqb q p) c (m q) (ne_eqb q p off)) (cases_eq q p)
+    at : (q : ℕ) → cond (eqb q p) c (m q) ≡ m q
+    at q = ⊎_elim (λ here. cond-true (eqb q p) c (m q) (eq-eqb q p here) ∙ sym is ∙ ap m (sym here)) (λ off. cond-false (eqb q p) c (m q) (ne_eqb q p off)) (cases_eq q p)
 
 module _ (total_order : IsTotalOrder tag_cmp) (one_tag : fm.IsAntisymmetric tag_cmp) (laws : TiedLaws) (nodes : List Node) (frames frames' : List Frame) (trees : List ℕ) (i p f : ℕ) (kept : IsKept nodes frames trees) (i_in : i < length trees) (p_in : p < 1024) (is : page_of nodes trees i p ≡ cell.Frame (record { n = f })) (alone : is_parting (tree_maps frames nodes trees) (row_of (tree_maps frames nodes trees) i p) ≡ false) where
-
   way-alone : page_short nodes (get_or trees i 0) p ≡ 0
   way-alone =
       ⊎_elim (λ none. none)

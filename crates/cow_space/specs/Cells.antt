@@ -1,5 +1,5 @@
 -- The maps that trees stand for, of their cells and of the frames.
-use Rattle.std.specs.Prelude.{ℕ, if◌then◌else◌, List, Option, None, Some, map, nat_lt, slice_index_or}
+use Rattle.std.specs.Prelude.{ℕ, if◌then◌else◌, List, Option, None, Some, map, nat_lt}
 use Rattle.frame_pool.specs.Frame.{Frame, frame_stamp, frame_bytes}
 use Rattle.lwc_base.specs.declared.page.PageValue.{PageValue}
 use Rattle.lwc_base.specs.declared.page.PageValue.TheVariants as value

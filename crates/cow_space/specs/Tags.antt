@@ -1,5 +1,5 @@
 -- The tags of rows, the frames that they use, and the pages that part.
-use Rattle.std.specs.Prelude.{◌≢◌, ℕ, Bool, true, List, [], ◌∷◌, Option, None, Some, if◌then◌else◌, count_by, nat_lt}
+use Rattle.std.specs.Prelude.{◌≢◌, ℕ, Bool, true, List, Option, None, Some, if◌then◌else◌, count_by, nat_lt}
 use Rattle.std.specs.List.{flat_map, range_with_len}
 use Rattle.std.specs.Ordering.{is_eq}
 use Rattle.std.specs.FinSet as set

@@ -88,7 +88,8 @@ impl Rows {
         trees_account_for_their_store();
         names_are_ordered();
         match self.cell(i, p) {
-            PageCell::Frame(frame) => !self.trees[i].is_alone(&self.store, p) || self.store.frames.count(frame) > 1,
+            PageCell::Frame(frame) => !self.trees[i].is_alone(&self.store, p)
+                || self.store.frames.count(frame) > 1,
             _ => true,
         }
     }

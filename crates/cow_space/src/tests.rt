@@ -19,7 +19,14 @@ fn try_rows<L: Ledger>(rt: &impl Abort, alloc: Global, blank: Blank) -> Result<(
     let mut rows = Rows::open(alloc, 4, 3)?;
     assert_eq!(rt; (rows.len(), rows.frames(), rows.used()), (3, 4, 0));
     assert!(rt; rows.parts(0, 5));
-    let parted = rows.write(0, 5, 5 * 4096 + 4094, &[7, 8, 9], Tag { job: 1, k: 0 }, &mut steps);
+    let parted = rows.write(
+        0,
+        5,
+        5 * 4096 + 4094,
+        &[7, 8, 9],
+        Tag { job: 1, k: 0 },
+        &mut steps,
+    );
     assert_eq!(rt; parted, Ok(true));
     assert_eq!(rt; rows.len(), 3);
     assert!(rt; !rows.parts(0, 5));

@@ -1,4 +1,4 @@
-use Rattle.std.proofs.Common.{◌≡◌, ◌+◌, ◌-◌, ◌*◌, length, arith, max, min}
+use Rattle.std.proofs.Common.{arith}
 use Rattle.cow_space.proofs.PieceLemmas.{PutsBytes-all}
 use Rattle.cow_space.proofs.writes.put_piece.Goals as goal
 

@@ -1,4 +1,4 @@
-use Rattle.std.proofs.Common.{◌≡◌, ◌-◌, ◌*◌}
+use Rattle.std.proofs.Common.{◌-◌}
 use Rattle.cow_space.proofs.PieceLemmas.{PutsBytes}
 use Rattle.cow_space.proofs.writes.put_piece.Given as goal
 

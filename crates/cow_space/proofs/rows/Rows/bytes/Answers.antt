@@ -1,4 +1,4 @@
-use Rattle.std.proofs.Common.{◌≡◌, sym, ap, ◌∙◌, arith, Some}
+use Rattle.std.proofs.Common.{sym, ap, ◌∙◌, Some}
 use Rattle.cow_space.specs.Cells.{cell_value}
 use Rattle.cow_space.specs.Maps.{data_of}
 use Rattle.cow_space.specs.Seen.{maps}

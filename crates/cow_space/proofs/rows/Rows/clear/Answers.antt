@@ -1,4 +1,4 @@
-use Rattle.std.proofs.Common.{◌≡◌, ℕ, length, get_or, sym, ap, ◌∙◌, arith}
+use Rattle.std.proofs.Common.{arith}
 use Rattle.std.proofs.lemmas.List.{get_or_read}
 use Rattle.page_tree.specs.declared.cell.PageCell.TheVariants.{Absent}
 use Rattle.cow_space.specs.Seen.{maps, frames_of, free_nodes}

@@ -1,9 +1,8 @@
-use Rattle.std.proofs.Common.{◌≡◌, ℕ, ◌<◌, ◌≤◌, ◌+◌, ◌*◌, [], ◌∷◌, length, drop, set, get_or, refl, sym, ap, ◌∙◌, arith, length-set, ⊎_elim}
+use Rattle.std.proofs.Common.{◌<◌, ◌+◌, length, drop, refl, sym, ap, ◌∙◌, arith, length-set, ⊎_elim}
 use Rattle.std.proofs.lemmas.Bool.{cases_eq}
-use Rattle.std.proofs.lemmas.List.{get_or_default}
 use Rattle.cow_space.specs.declared.copies.Piece.{Piece}
-use Rattle.cow_space.specs.Maps.{copy_pieces, share_range, put_range, row_of}
-use Rattle.cow_space.specs.Seen.{maps, HasNoTree}
+use Rattle.cow_space.specs.Maps.{copy_pieces}
+use Rattle.cow_space.specs.Seen.{maps}
 use Rattle.cow_space.proofs.Lists.{drop-one, drop-all}
 use Rattle.cow_space.proofs.rows.Rows.copy_by.Goals as goal
 

@@ -1,9 +1,9 @@
-use Rattle.std.proofs.Common.{◌≡◌, ℕ, length, get_or, sym, ap, ◌∙◌, arith}
+use Rattle.std.proofs.Common.{ap, ◌∙◌, arith}
 use Rattle.std.proofs.lemmas.List.{get_or_read, get_or-set_same}
 use Rattle.page_tree.specs.declared.cell.PageCell.TheVariants.{Absent}
 use Rattle.cow_space.specs.Cells.{cells}
 use Rattle.cow_space.specs.Seen.{maps, frames_of, free_nodes, HasNoTree}
-use Rattle.cow_space.proofs.Trees.{rows-in, kept-tree, kept-free, kept-set, maps-set, cells-empty}
+use Rattle.cow_space.proofs.Trees.{rows-in, kept-tree, kept-set, maps-set, cells-empty}
 use Rattle.cow_space.proofs.rows.Rows.drop_row.Goals as goal
 
 pub index_mut-requires : goal.index_mut-requires

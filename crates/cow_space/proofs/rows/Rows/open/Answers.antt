@@ -1,4 +1,4 @@
-use Rattle.std.proofs.Common.{◌≡◌, ◌+◌, ◌*◌, length, replicate, refl, ap, ◌∙◌, arith, ⊎_elim, get_or}
+use Rattle.std.proofs.Common.{◌+◌, ◌*◌, length, ap, ◌∙◌, arith, get_or}
 use Rattle.std.proofs.lemmas.List.{length-replicate}
 use Rattle.node_pool.specs.Nodes.{empty_node}
 use Rattle.cow_space.specs.Seen.{maps, frames_of, HasNoTree}

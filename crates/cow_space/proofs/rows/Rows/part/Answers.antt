@@ -1,10 +1,10 @@
-use Rattle.std.proofs.Common.{◌≡◌, ◌<◌, sym, ap, ◌∙◌, arith, Some, ℕ}
+use Rattle.std.proofs.Common.{sym, ap, ◌∙◌, arith, Some}
 use Rattle.std.proofs.lemmas.List.{get_or_read}
 use Rattle.cow_space.specs.Cells.{cell_value}
 use Rattle.cow_space.specs.Seen.{maps, frames_of, free_nodes}
 use Rattle.cow_space.proofs.Trees.{rows-in, row-page, kept-tree, kept-free, entry-frame}
 use Rattle.cow_space.proofs.UsedLemmas.{free-used, used-is}
-use Rattle.cow_space.proofs.WriteLemmas.{sound-take, held-taken, third-held, part-kept, part-maps, part-size, written-parting}
+use Rattle.cow_space.proofs.WriteLemmas.{sound-take, held-taken, part-kept, part-maps, part-size, written-parting}
 use Rattle.cow_space.proofs.rows.Rows.part.Goals as goal
 
 pub cell-cell-requires-clause-row : goal.cell-cell-requires-clause-row

@@ -1,10 +1,10 @@
-use Rattle.std.proofs.Common.{◌≡◌, ℕ, ◌<◌, length, get_or, set, sym, ap, ◌∙◌, arith, subst}
+use Rattle.std.proofs.Common.{set, sym, ap, ◌∙◌, arith, subst}
 use Rattle.std.proofs.lemmas.List.{get_or_read, get_or-set_same}
 use Rattle.std.proofs.Math.ListN.{length-set}
 use Rattle.page_tree.specs.Steps.{root_short}
 use Rattle.cow_space.specs.Cells.{cells, values, tree_maps}
 use Rattle.cow_space.specs.Kept.{IsKept}
-use Rattle.cow_space.specs.Maps.{put_range, row_of, share_range}
+use Rattle.cow_space.specs.Maps.{put_range, row_of}
 use Rattle.cow_space.specs.Seen.{maps, frames_of, free_nodes, HasOwnRoot, HasNoTree}
 use Rattle.cow_space.proofs.Lists.{set-twice}
 use Rattle.cow_space.proofs.Trees.{rows-in, other-read, kept-tree, kept-both, kept-free, kept-set, maps-range, row-at, cells-page}

@@ -1,4 +1,4 @@
-use Rattle.std.proofs.Common.{◌≡◌, refl, sym, ap, ◌∙◌, arith, Some}
+use Rattle.std.proofs.Common.{refl, sym, ap, ◌∙◌, arith, Some}
 use Rattle.cow_space.specs.Cells.{cell_value}
 use Rattle.cow_space.specs.Seen.{maps, frames_of, free_nodes}
 use Rattle.cow_space.specs.Tags.{is_parting}
