@@ -1,4 +1,4 @@
--- Laws of trees, of which each is proved by the function of the same name in laws.rt.
+-- What the laws of trees say.
 use Rattle.std.specs.Prelude.{◌≡◌, ◌≢◌, ℕ, ◌+◌, ◌*◌, ◌<◌, ◌≤◌, ◌⊎◌, ◌↔◌, List, length, slice_index}
 use Rattle.frame_pool.specs.Frame.{Frame, frame_count}
 use Rattle.node_pool.specs.Nodes.{Node, free_of}

@@ -112,7 +112,7 @@ pub record LinksAll (old new : List Node) (frames frames' : List Frame) (copy ro
 abbrev pub IsRooted : List Node → ℕ → Type 0
 IsRooted nodes tree = (t : ℕ) → tree ≡ t + 1 → 0 < trees_at nodes t
 
--- a tree has a root and a leaf of its own now on the way to some page, all its cells, and no leaf that is shorter of nodes
+-- a tree has a root and a leaf of its own now on the way to some page, and all its cells, and must take no leaf that it did not have to take before
 pub record OwnsPath (old new : List Node) (frames frames' : List Frame) (tree root i leaf : ℕ) : Type 0 where
   pub keeps : Keeps old new frames frames' tree (root + 1)
   pub own : IsOwned new root
