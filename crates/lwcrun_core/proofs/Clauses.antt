@@ -158,7 +158,6 @@ module _ (images : ReadingFacts) (schedules : ScheduleFacts) where
     ap (λ r. outcome bytes (accepted r (after_image schedule settings))) (image_accepted (bytes image) x h.image h.spelled)
         ∙ over_image bytes schedule settings x steps h.fits (schedule_accepted _ _ steps h.schedule),
   )
-
   runs bytes (commands.Asm source) (x, is) = (
     works.Assembling x,
     ap (λ r. outcome bytes (accepted r (λ image. plans.Write (works.Assembling image)))) (source_accepted (bytes source) x is),
@@ -197,7 +196,6 @@ module _ (images : ReadingFacts) (schedules : ScheduleFacts) where
         },
         taken ∙ ap (appended o.out.taken) (let P : Work → Type 0 = λ w. IsText w text in subst P steps.2 is),
       )
-
   headline_of o (commands.Asm source) bytes work text known (source_bytes, may, fits, leads) is taken =
       let made = work_found o.files.contents works.Assembling work (source_of source_bytes) leads in
       let same : source_bytes ≡ bytes source = sym (known_bytes _ _ _ (known source refl) may) in (
@@ -205,7 +203,6 @@ module _ (images : ReadingFacts) (schedules : ScheduleFacts) where
         subst (λ b. assembled b ≡ Ok made.0) same (source_found source_bytes made.0 made.1),
         taken ∙ ap (appended o.out.taken) (let P : Work → Type 0 = λ w. IsText w text in subst P made.2 is),
       )
-
   headline_of o (commands.Dis image) bytes work text known (image_bytes, may, fits, leads) is taken =
       let read = work_found o.files.contents works.Disassembling work (image_of image_bytes) leads in
       let same : image_bytes ≡ bytes image = sym (known_bytes _ _ _ (known image refl) may) in
