@@ -3,7 +3,7 @@ use Rattle.std.specs.Prelude.{◌≡◌, ◌⊎◌, ◌<◌, ℕ, List, [], ◌+
 use Rattle.lwc_io.specs.Outside.{Fetch, MayBeContents}
 use Rattle.lwcrun_core.specs.Reading.{ReadsOnward}
 
--- a file of a name and at most so many bytes is read and its bytes say what follows, or an input is refused, or a
+-- a file of a name, up to a limit, is read and its bytes say what follows, or an input is refused, or a
 -- work is done and its text is written
 pub data Plan (R W : Type 0) : Type 0 where
   Read : List ℕ → ℕ → (List ℕ → Plan R W) → Plan R W
@@ -15,7 +15,7 @@ abbrev pub FileContents : Type 0
 FileContents = List ℕ → Option (List ℕ)
 
 -- over contents that the files may have, the plan leads to this work or this refusal; before a work, each
--- file is read whole
+-- file is known to have bytes
 abbrev pub LeadsTo : {R W : Type 0} → FileContents → Plan R W → Result W R → Type 0
 LeadsTo files (Read name limit next) end =
     (bytes : List ℕ) × MayBeContents (files name) bytes × OnOk end (All (λ b. b < 256) bytes)

@@ -12,7 +12,7 @@ abbrev pub MayExceed : ℕ → Option (List ℕ) → Type 0
 MayExceed limit contents = (bytes : List ℕ) × MayBeContents contents bytes × (limit < length bytes)
 
 -- these fetches read one file onward: each asks for a byte or more, none for more than one byte past the limit, and
--- each from further on than those before it, so that nothing is fetched twice
+-- each at a later offset than those before it
 pub record ReadsOnward (name : List ℕ) (limit : ℕ) (fetches : List Fetch) : Type 0 where
   pub named : All (λ f. f.name ≡ name) fetches
   pub within : All (λ f. (0 < f.most) × (f.at + f.most ≤ limit + 1)) fetches

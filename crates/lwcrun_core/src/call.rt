@@ -24,9 +24,9 @@ use std::sync::Wait;
 use std::thread::Threads;
 
 /// What the program does: it reads the line, the program's name first, reads the files that the line names
-/// in their order, tests each before the next, runs what is asked for, and writes the report to `out`. If
+/// in their order, tests each before the next, runs or makes what is asked for, and writes it to `out`. If
 /// it does not come to that, it writes why in one line to `err`; a fault of `err` changes nothing. The
-/// result is the exit status. Nobody waits at the gate for a replay, which has no leave to come there. That it starts
+/// result is the exit status. Nobody waits at the gate: no line that is accepted yet has leave to come there. That it starts
 /// no thread is tested: it is carried out in a function that has no handle of the runtime.
 ///
 /// `outcome` is the whole table: how the call ended, what holds then, and the message on `err`. The other
@@ -92,8 +92,8 @@ pub fn lwcrun<R: Threads + Wait + Sync, F: Files, O: Sink, E: Sink, G: Gate>(
         → result ≢ ExitStatus.WriteFault → NothingFailed
         (outside (F.seen files.old) (F.seen files.new) (O.seen out.old) (O.seen out.new)) }
 
-    // No file is fetched to which the plan does not come, none twice, and none further than one byte past its
-    // limit.
+    // No file is fetched to which the plan does not come, each is read at rising offsets, and none further than
+    // one byte past its limit.
     ensures fetches { FetchesPlan (command_of (map string_bytes words.now))
         (F.seen files.old) (F.seen files.new) }
 

@@ -19,7 +19,7 @@ pub enum FetchError {
 }
 
 /// Reads a file of at most `limit` bytes whole; of a longer one, at most one byte past the limit. Each fetch
-/// gives a byte or more, or ends the reading, so there are at most `limit + 1` of them.
+/// asks for a byte or more, at a later offset than those before, so there are at most `limit + 1` of them.
 ///
 /// # Errors
 ///
