@@ -5,12 +5,14 @@ ghost use Rattle.lwc_io.specs.Outside.{Fetch};
 
 use std::marker::Model;
 
-/// A fetch of the file of that name, from the offset `at` on, into a buffer of `most` bytes.
+/// A fetch of the file of that name, from the offset `at` on, into a buffer of `most` bytes, which gave this
+/// number of them, or failed.
 #[derive(Clone, Copy, Drop)]
 pub(crate) struct Asked<'a> {
     pub name: &'a str,
     pub at: u64,
     pub most: usize,
+    pub given: Option<usize>,
 }
 
 /// The fetches so far, in their order. Only proofs see them: a log has no bytes and takes no memory.
@@ -37,6 +39,7 @@ impl FetchLog {
           name = _asked.now.name.now;
           at = _asked.now.at;
           most = _asked.now.most;
+          given = _asked.now.given;
         } ∷ [] }
     {
         FetchLog {}

@@ -1,6 +1,6 @@
-ghost use Rattle.std.specs.Prelude.{◌≡◌, ℕ, ◌+◌, ◌-◌, ◌<◌, ◌≤◌, ◌↔◌, min, ◌⊎◌, List, [], length, take, replicate, Some, option_copied, IfOk, IfSome, OnOk, OnErr, IsErr, IsTrue, bytes_eq, position, ◌==◌};
+ghost use Rattle.std.specs.Prelude.{◌≡◌, ℕ, ◌+◌, ◌-◌, ◌<◌, ◌≤◌, ◌↔◌, min, ◌⊎◌, List, [], length, take, replicate, Some, None, option_copied, IfOk, IfSome, OnOk, OnErr, IsErr, IsTrue, bytes_eq, position, ◌==◌};
 ghost use Rattle.std.specs.List.{list_any};
-ghost use Rattle.lwc_io.specs.Outside.{FaultsIncreased, IsPiece, fetch_into};
+ghost use Rattle.lwc_io.specs.Outside.{CountsOneFault, IsPiece, fetch_into, given_by};
 ghost use Rattle.lwc_io.specs.Memory.{place_of, bytes_of, faults_of, fetch_fails, after_fetch, with_fault, write_fails, after_write, after_failed_write};
 
 use crate::log::{Asked, FetchLog};
@@ -161,6 +161,7 @@ impl MemoryFiles {
           name = asked.now.name.now;
           at = asked.now.at;
           most = asked.now.most;
+          given = asked.now.given;
         }) }
     {
         self.calls = self.calls.saturating_add(1);
@@ -171,7 +172,7 @@ impl MemoryFiles {
     fn count_fault(&mut self, name: &str)
         ensures counted { self.new ≡ with_fault self.old name.now }
         ensures never_decreases { (q : List ℕ) → faults_of self.old q ≤ faults_of self.new q }
-        ensures increased { FaultsIncreased (faults_of self.old name.now) (faults_of self.new name.now) }
+        ensures one { CountsOneFault (faults_of self.old name.now) (faults_of self.new name.now) }
     {
         let place = place_named(&self.files, name);
         self.faults[place] = self.faults[place].saturating_add(1);
@@ -197,19 +198,28 @@ impl Files for MemoryFiles {
             (λ bytes. n ≡ min (length buffer.new) (length bytes - at))) }
         ensures piece { IfOk result (λ n. IfSome (bytes_of self.old.files name.now)
             (λ bytes. IsPiece bytes at n buffer.new)) }
-        ensures ok { OnOk result (self.new ≡ after_fetch self.old (fetch_into name.now at buffer.old)) }
+        ensures ok { OnOk result
+            (self.new ≡ after_fetch self.old (fetch_into name.now at buffer.old (given_by result))) }
         ensures err { OnErr result
-            (self.new ≡ with_fault (after_fetch self.old (fetch_into name.now at buffer.old)) name.now) }
+            (self.new ≡ with_fault (after_fetch self.old (fetch_into name.now at buffer.old None)) name.now) }
         ensures never_decreases { (q : List ℕ) → faults_of self.old q ≤ faults_of self.new q }
         ensures cause { OnErr result
-            (FaultsIncreased (faults_of self.old name.now) (faults_of self.new name.now)) }
+            (CountsOneFault (faults_of self.old name.now) (faults_of self.new name.now)) }
     {
-        let fails_next = self.fails_next();
         let most = buffer.len();
-        self.count_call(&Asked { name, at, most });
-        match bytes_named(&self.files, name) {
-            Some(bytes) if !fails_next => Ok(copy_piece(bytes, at, buffer)),
-            _ => {
+        let given = match bytes_named(&self.files, name) {
+            Some(bytes) if !self.fails_next() => Some(copy_piece(bytes, at, buffer)),
+            _ => None,
+        };
+        self.count_call(&Asked {
+            name,
+            at,
+            most,
+            given,
+        });
+        match given {
+            Some(count) => Ok(count),
+            None => {
                 self.count_fault(name);
                 Err(Failed)
             }

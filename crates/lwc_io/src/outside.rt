@@ -1,5 +1,5 @@
 ghost use Rattle.std.specs.Prelude.{◌≡◌, ℕ, ◌<◌, ◌≤◌, List, length, take, IfOk, IfSome, OnErr, OnOk};
-ghost use Rattle.lwc_io.specs.Outside.{FaultsIncreased, FilesView, IsPiece, SinkView, appended, with_fetch};
+ghost use Rattle.lwc_io.specs.Outside.{CountsOneFault, FilesView, IsPiece, SinkView, appended, given_by, with_fetch};
 
 use std::sync::Wait;
 use thiserror::Error;
@@ -21,7 +21,7 @@ pub trait Files {
     ///
     /// # Errors
     ///
-    /// `Failed` if the file cannot be read; then the count of faults of that name has increased. Nothing is
+    /// `Failed` if the file cannot be read; then the count of faults of that name is one more. Nothing is
     /// said of the buffer then.
     fn fetch(&mut self, name: &str, at: u64, buffer: &mut [u8]) -> Result<usize, Failed>
         ensures count { IfOk result (λ n. n ≤ length buffer.new) }
@@ -30,9 +30,10 @@ pub trait Files {
         ensures same { (seen self.new).contents ≡ (seen self.old).contents }
         ensures never_decreases { (q : List ℕ) → (seen self.old).faults q ≤ (seen self.new).faults q }
         ensures cause { OnErr result
-            (FaultsIncreased ((seen self.old).faults name.now) ((seen self.new).faults name.now)) }
+            (CountsOneFault ((seen self.old).faults name.now) ((seen self.new).faults name.now)) }
         ensures no_fault { OnOk result ((seen self.new).faults ≡ (seen self.old).faults) }
-        ensures logged { (seen self.new).fetches ≡ with_fetch (seen self.old).fetches name.now at buffer.old };
+        ensures logged { (seen self.new).fetches
+            ≡ with_fetch (seen self.old).fetches name.now at buffer.old (given_by result) };
 }
 
 /// What takes bytes, piece by piece.
@@ -45,7 +46,7 @@ pub trait Sink {
     ///
     /// # Errors
     ///
-    /// `Failed` if it takes nothing; then the count of faults has increased.
+    /// `Failed` if it takes nothing; then the count of faults is one more.
     fn write(&mut self, piece: &[u8]) -> Result<usize, Failed>
         ensures count { IfOk result (λ n. n ≤ length piece.now) }
         ensures some { IfOk result (λ n. 0 < length piece.now → 0 < n) }
@@ -53,7 +54,7 @@ pub trait Sink {
             (seen self.new).taken ≡ appended (seen self.old).taken (take n piece.now)) }
         ensures kept { OnErr result ((seen self.new).taken ≡ (seen self.old).taken) }
         ensures never_decreases { (seen self.old).faults ≤ (seen self.new).faults }
-        ensures cause { OnErr result (FaultsIncreased (seen self.old).faults (seen self.new).faults) }
+        ensures cause { OnErr result (CountsOneFault (seen self.old).faults (seen self.new).faults) }
         ensures no_fault { OnOk result ((seen self.new).faults ≡ (seen self.old).faults) };
 }
 

@@ -1,5 +1,5 @@
 ghost use Rattle.std.specs.Prelude.{◌≡◌, ◌<◌, ◌≤◌, [], None, length, IfOk, OnOk, OnErr};
-ghost use Rattle.lwc_io.specs.Outside.{incremented, with_fetch};
+ghost use Rattle.lwc_io.specs.Outside.{given_by, incremented, with_fetch};
 
 use crate::log::{Asked, FetchLog};
 use crate::outside::{Failed, Files, Sink};
@@ -85,13 +85,23 @@ impl<R: rt::Files> Files for RealFiles<R> {
           fetches = self.new.fetches;
         }) }
         ensures never_decreases { self.old.faults ≤ self.new.faults }
-        ensures logged { self.new.fetches ≡ with_fetch self.old.fetches name.now at buffer.old }
+        ensures logged { self.new.fetches
+            ≡ with_fetch self.old.fetches name.now at buffer.old (given_by result) }
     {
         let most = buffer.len();
-        self.log = self.log.then(&Asked { name, at, most });
-        match self.read_piece(name, at, buffer) {
-            Ok(count) => Ok(count),
-            Err(_) => {
+        let given = match self.read_piece(name, at, buffer) {
+            Ok(count) => Some(count),
+            Err(_) => None,
+        };
+        self.log = self.log.then(&Asked {
+            name,
+            at,
+            most,
+            given,
+        });
+        match given {
+            Some(count) => Ok(count),
+            None => {
                 self.faults = self.faults.saturating_add(1);
                 Err(Failed)
             }

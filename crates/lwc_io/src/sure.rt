@@ -41,9 +41,15 @@ impl Files for SureFiles {
     /// Reads as many bytes as the file has and the buffer takes. Never fails.
     fn fetch(&mut self, name: &str, at: u64, buffer: &mut [u8]) -> Result<usize, Failed> {
         let most = buffer.len();
-        self.log = self.log.then(&Asked { name, at, most });
         let bytes = bytes_named(&self.files, name).unwrap_or(&[]);
-        Ok(copy_piece(bytes, at, buffer))
+        let count = copy_piece(bytes, at, buffer);
+        self.log = self.log.then(&Asked {
+            name,
+            at,
+            most,
+            given: Some(count),
+        });
+        Ok(count)
     }
 }
 

@@ -4,7 +4,7 @@ use Rattle.std.proofs.Math.Seq.{take-add}
 use Rattle.std.proofs.lemmas.List.{append-nil}
 use Rattle.std.proofs.lemmas.List.Elements.{All-get_or, All-nil, All-push, All-weaker}
 use Rattle.std.proofs.lemmas.List.Quantifiers.{all_pairs_push}
-use Rattle.lwc_io.specs.Outside.{FaultsIncreased, Fetch, FilesView, IsPiece, MayBeContents}
+use Rattle.lwc_io.specs.Outside.{CountsOneFault, Fetch, FilesView, IsPiece, MayBeContents}
 use Rattle.lwcrun_core.specs.Reading.{Fetched, MayBeginWith, MayExceed, ReadsOnward}
 
 length-taken : (n : ℕ) (xs : List ℕ) → n ≤ length xs → length (take n xs) ≡ n
@@ -32,10 +32,10 @@ begins_empty : (contents : Option (List ℕ)) (bytes : List ℕ) → bytes ≡ [
 begins_empty None bytes e = tt
 begins_empty (Some known) bytes e = ap (λ xs. take (length xs) known) e ∙ sym e
 
--- fetches that read onward, each from before the n-th byte
+-- fetches that read onward, each of which gave something before the n-th byte
 pub record ReadsBefore (name : List ℕ) (limit n : ℕ) (fetches : List Fetch) : Type 0 where
   pub onward : ReadsOnward name limit fetches
-  pub before : All (λ f. f.at < n) fetches
+  pub before : All (λ f. (0 < f.given) × (f.at + f.given ≤ n)) fetches
 
 -- no fetches read onward
 pub none_onward : (name : List ℕ) (limit : ℕ) → ReadsOnward name limit []
@@ -45,25 +45,33 @@ none_onward name limit = record {
   onward = λ i j d earlier inside. absurd (omega (arith, inside));
 }
 
--- a fetch of the n-th byte and more
-abbrev from_byte : List ℕ → ℕ → ℕ → Fetch
-from_byte name n most = record { name = name; at = n; most = most }
+-- a fetch of the n-th byte and more, which gave this number of them
+abbrev from_byte : List ℕ → ℕ → ℕ → ℕ → Fetch
+from_byte name n most given = record { name = name; at = n; most = most; given = given }
 
-one_more : (name : List ℕ) (limit n most later : ℕ) (fetches : List Fetch) → ReadsBefore name limit n fetches → 0 < most → n + most ≤ limit + 1 → n < later → ReadsBefore name limit later (fetches ++ from_byte name n most ∷ [])
-one_more name limit n most later fetches h some fits grows = record {
-  onward = record {
-    named = All-push (λ f. f.name ≡ name) fetches (from_byte name n most) h.onward.named refl;
-    within = All-push (λ f. (0 < f.most) × (f.at + f.most ≤ limit + 1)) fetches (from_byte name n most) h.onward.within (some, fits);
-    onward = all_pairs_push (λ f g. f.at < g.at) fetches (from_byte name n most) h.onward.onward (λ k d inside. All-get_or (λ f. f.at < n) fetches k d inside h.before);
-  };
-  before = All-push (λ f. f.at < later) fetches (from_byte name n most) (All-weaker (λ f. f.at < n) (λ f. f.at < later) (λ f earlier. omega (arith, earlier, grows)) fetches h.before) grows;
+one_more : (name : List ℕ) (limit n most given : ℕ) (fetches : List Fetch) → ReadsBefore name limit n fetches → 0 < most → n + most ≤ limit + 1 → ReadsOnward name limit (fetches ++ from_byte name n most given ∷ [])
+one_more name limit n most given fetches h some fits = record {
+  named = All-push (λ f. f.name ≡ name) fetches (from_byte name n most given) h.onward.named refl;
+  within = All-push (λ f. (0 < f.most) × (f.at + f.most ≤ limit + 1)) fetches (from_byte name n most given) h.onward.within (some, fits);
+  onward = all_pairs_push (λ f g. (0 < f.given) × (f.at + f.given ≤ g.at)) fetches (from_byte name n most given) h.onward.onward
+      (λ k d inside. All-get_or (λ f. (0 < f.given) × (f.at + f.given ≤ n)) fetches k d inside h.before);
 }
 
-fetched_more : (before mid after : List Fetch) (name : List ℕ) (limit n most later : ℕ) → Fetched (ReadsBefore name limit n) before mid → after ≡ mid ++ from_byte name n most ∷ [] → 0 < most → n + most ≤ limit + 1 → n < later → Fetched (ReadsBefore name limit later) before after
-fetched_more before mid after name limit n most later (made, is, h) logged some fits grows = (
-  made ++ from_byte name n most ∷ [],
-  logged ∙ ap (λ xs. xs ++ from_byte name n most ∷ []) is ∙ append_assoc before made (from_byte name n most ∷ []),
-  one_more name limit n most later made h some fits grows,
+one_before : (name : List ℕ) (limit n most given : ℕ) (fetches : List Fetch) → ReadsBefore name limit n fetches → 0 < most → n + most ≤ limit + 1 → 0 < given →
+    ReadsBefore name limit (n + given) (fetches ++ from_byte name n most given ∷ [])
+one_before name limit n most given fetches h some fits gave = record {
+  onward = one_more name limit n most given fetches h some fits;
+  before = All-push (λ f. (0 < f.given) × (f.at + f.given ≤ n + given)) fetches (from_byte name n most given)
+      (All-weaker (λ f. (0 < f.given) × (f.at + f.given ≤ n)) (λ f. (0 < f.given) × (f.at + f.given ≤ n + given)) (λ f earlier. (earlier.0, omega (arith, earlier.1))) fetches h.before)
+      (gave, omega arith);
+}
+
+fetched_more : {P : List Fetch → Type 0} (before mid after : List Fetch) (name : List ℕ) (limit n : ℕ) (fetch : Fetch) (read : Fetched (ReadsBefore name limit n) before mid) →
+    after ≡ mid ++ fetch ∷ [] → P (read.0 ++ fetch ∷ []) → Fetched P before after
+fetched_more before mid after name limit n fetch (made, is, h) logged holds = (
+  made ++ fetch ∷ [],
+  logged ∙ ap (λ xs. xs ++ fetch ∷ []) is ∙ append_assoc before made (fetch ∷ []),
+  holds,
 )
 
 -- a part of a file was read, into a buffer of 65536 bytes; no contents have changed, and no fetch failed
@@ -86,7 +94,7 @@ nothing_read files name limit bytes buffer none chunk = record {
   short = omega (arith, ap length none);
   same = refl;
   faults = refl;
-  fetched = nothing_fetched files.fetches (record { onward = none_onward name limit; before = All-nil (λ f. f.at < length bytes) });
+  fetched = nothing_fetched files.fetches (record { onward = none_onward name limit; before = All-nil (λ f. (0 < f.given) × (f.at + f.given ≤ length bytes)) });
   chunk = chunk;
 }
 
@@ -94,32 +102,32 @@ nothing_read files name limit bytes buffer none chunk = record {
 pub fetched_so_far : (files after : FilesView) (name : List ℕ) (limit : ℕ) (bytes : List ℕ) (buffer : ℕ) → ReadSoFar files after name limit bytes buffer → Fetched (ReadsOnward name limit) files.fetches after.fetches
 fetched_so_far files after name limit bytes buffer so_far = (so_far.fetched.0, so_far.fetched.1, so_far.fetched.2.onward)
 
-module _ (files mid after : FilesView) (name : List ℕ) (limit : ℕ) (bytes : List ℕ) (buffer at most : ℕ) (so_far : ReadSoFar files mid name limit bytes buffer) (is_at : at ≡ length bytes) (logged : after.fetches ≡ mid.fetches ++ from_byte name at most ∷ []) (some : 0 < most) (fits : at + most ≤ limit + 1) where
-  next_fetched : (later : ℕ) → length bytes < later → Fetched (ReadsBefore name limit later) files.fetches after.fetches
-  next_fetched later grows =
-      fetched_more files.fetches mid.fetches after.fetches name limit (length bytes) most later so_far.fetched
-      (logged ∙ ap (λ n. mid.fetches ++ from_byte name n most ∷ []) is_at) some (omega (arith, fits, is_at)) grows
+module _ (files mid after : FilesView) (name : List ℕ) (limit : ℕ) (bytes : List ℕ) (buffer at most given : ℕ) (so_far : ReadSoFar files mid name limit bytes buffer) (is_at : at ≡ length bytes) (logged : after.fetches ≡ mid.fetches ++ from_byte name at most given ∷ []) (some : 0 < most) (fits : at + most ≤ limit + 1) where
+  is_logged : after.fetches ≡ mid.fetches ++ from_byte name (length bytes) most given ∷ []
+  is_logged = logged ∙ ap (λ n. mid.fetches ++ from_byte name n most given ∷ []) is_at
 
   -- what was fetched with one more piece
   pub fetched_next : Fetched (ReadsOnward name limit) files.fetches after.fetches
   fetched_next =
-      let more = next_fetched (length bytes + 1) (omega arith) in
-      (more.0, more.1, more.2.onward)
+      fetched_more {P = ReadsOnward name limit} files.fetches mid.fetches after.fetches name limit (length bytes) _ so_far.fetched is_logged
+      (one_more name limit (length bytes) most given so_far.fetched.0 so_far.fetched.2 some (omega (arith, fits, is_at)))
 
   -- one more piece was read, which was not empty
-  pub more_read : (bytes_now : List ℕ) (buffer_now : ℕ) → MayBeginWith (mid.contents name) bytes_now → length bytes_now ≤ limit + 1 → length bytes < length bytes_now → after.contents ≡ mid.contents → after.faults ≡ mid.faults → buffer_now ≡ buffer → ReadSoFar files after name limit bytes_now buffer_now
-  more_read bytes_now buffer_now begins short grows same faults chunk = record {
+  pub more_read : (bytes_now : List ℕ) (buffer_now : ℕ) → MayBeginWith (mid.contents name) bytes_now → length bytes_now ≤ limit + 1 → length bytes_now ≡ length bytes + given → 0 < given → after.contents ≡ mid.contents → after.faults ≡ mid.faults → buffer_now ≡ buffer → ReadSoFar files after name limit bytes_now buffer_now
+  more_read bytes_now buffer_now begins short grows gave same faults chunk = record {
     begins = (let P : (List ℕ → Option (List ℕ)) → Type 0 = λ f. MayBeginWith (f name) bytes_now in subst P so_far.same begins);
     short = short;
     same = same ∙ so_far.same;
     faults = faults ∙ so_far.faults;
-    fetched = next_fetched (length bytes_now) grows;
+    fetched = subst (λ n. Fetched (ReadsBefore name limit n) files.fetches after.fetches) (sym grows)
+        (fetched_more {P = ReadsBefore name limit (length bytes + given)} files.fetches mid.fetches after.fetches name limit (length bytes) _ so_far.fetched is_logged
+          (one_before name limit (length bytes) most given so_far.fetched.0 so_far.fetched.2 some (omega (arith, fits, is_at)) gave));
     chunk = chunk ∙ so_far.chunk;
   }
 
 -- a count that has increased since it was what it was at first
-pub increased_by_then : (files mid after : FilesView) (name : List ℕ) → mid.faults ≡ files.faults → FaultsIncreased (mid.faults name) (after.faults name) → FaultsIncreased (files.faults name) (after.faults name)
-increased_by_then files mid after name same rose = (let P : (List ℕ → ℕ) → Type 0 = λ f. FaultsIncreased (f name) (after.faults name) in subst P same rose)
+pub increased_by_then : (files mid after : FilesView) (name : List ℕ) → mid.faults ≡ files.faults → CountsOneFault (mid.faults name) (after.faults name) → CountsOneFault (files.faults name) (after.faults name)
+increased_by_then files mid after name same rose = (let P : (List ℕ → ℕ) → Type 0 = λ f. CountsOneFault (f name) (after.faults name) in subst P same rose)
 
 -- the same bytes under another name
 pub same_contents : (contents : Option (List ℕ)) (bytes now : List ℕ) → now ≡ bytes → MayBeContents contents bytes → MayBeContents contents now

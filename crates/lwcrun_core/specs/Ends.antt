@@ -1,6 +1,6 @@
 -- How a call of the program ends, and what holds then.
 use Rattle.std.specs.Prelude.{◌≡◌, ℕ, List, Result, Ok, Err}
-use Rattle.lwc_io.specs.Outside.{FaultsIncreased, FilesView, SinkView, appended}
+use Rattle.lwc_io.specs.Outside.{CountsOneFault, FilesView, SinkView, appended}
 use Rattle.lwcrun_core.specs.Plans.{Plan, LeadsTo, Reads}
 use Rattle.lwcrun_core.specs.Writing.{IsPartTaken}
 
@@ -34,13 +34,13 @@ pub record NothingFailed (o : Outside) : Type 0 where
   pub files : NoFetchFailed o
   pub out : o.out_after.faults ≡ o.out.faults
 
--- a fetch of the file of that name failed
+-- one fetch of the file of that name failed
 abbrev pub FetchFailed : Outside → List ℕ → Type 0
-FetchFailed o name = FaultsIncreased (o.files.faults name) (o.files_after.faults name)
+FetchFailed o name = CountsOneFault (o.files.faults name) (o.files_after.faults name)
 
--- a write to the output failed
+-- one write to the output failed
 abbrev pub WriteFailed : Outside → Type 0
-WriteFailed o = FaultsIncreased o.out.faults o.out_after.faults
+WriteFailed o = CountsOneFault o.out.faults o.out_after.faults
 
 -- what holds at each end of a plan, where `IsText work text` says which texts a work may have
 unfoldable pub Ended : {R W : Type 0} → (W → List ℕ → Type 0) → Outside → Plan R W → End R → Type 0

@@ -1,6 +1,6 @@
 -- What the parts of a call answer: a file that is read by a grammar.
 use Rattle.std.specs.Prelude.{◌≡◌, ◌<◌, ℕ, List, Result, Ok, Err, All}
-use Rattle.lwc_io.specs.Outside.{FaultsIncreased, FilesView, MayBeContents}
+use Rattle.lwc_io.specs.Outside.{CountsOneFault, FilesView, MayBeContents}
 use Rattle.lwcrun_core.specs.Ends.{End}
 use Rattle.lwcrun_core.specs.Ends as ends
 
@@ -18,7 +18,7 @@ ReadsBy grammar files after name (Value x) =
     × (grammar bytes ≡ Ok x) × (after.faults ≡ files.faults)
 ReadsBy grammar files after name (Missing ends.NoMemory) = Unit {0}
 ReadsBy grammar files after name (Missing (ends.Unread asked)) =
-    (asked ≡ name) × FaultsIncreased (files.faults name) (after.faults name)
+    (asked ≡ name) × CountsOneFault (files.faults name) (after.faults name)
 ReadsBy grammar files after name (Missing (ends.Refused refusal)) =
     (bytes : List ℕ) × MayBeContents (files.contents name) bytes × (grammar bytes ≡ Err refusal)
     × (after.faults ≡ files.faults)

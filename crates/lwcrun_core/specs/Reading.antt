@@ -11,12 +11,12 @@ MayBeginWith contents bytes = IfSome contents (λ known. take (length bytes) kno
 abbrev pub MayExceed : ℕ → Option (List ℕ) → Type 0
 MayExceed limit contents = (bytes : List ℕ) × MayBeContents contents bytes × (limit < length bytes)
 
--- these fetches read one file onward: each asks for a byte or more, none for more than one byte past the limit, and
--- each at a later offset than those before it
+-- these fetches read one file onward: each asks for a byte or more, none for more than one byte past the limit, each from
+-- the end of those before it on or later, and none comes after one that gave nothing, which failed or was at the file's end
 pub record ReadsOnward (name : List ℕ) (limit : ℕ) (fetches : List Fetch) : Type 0 where
   pub named : All (λ f. f.name ≡ name) fetches
   pub within : All (λ f. (0 < f.most) × (f.at + f.most ≤ limit + 1)) fetches
-  pub onward : AllPairs (λ f g. f.at < g.at) fetches
+  pub onward : AllPairs (λ f g. (0 < f.given) × (f.at + f.given ≤ g.at)) fetches
 
 -- what was fetched between the fetches before and those after has this property
 abbrev pub Fetched : (List Fetch → Type 0) → List Fetch → List Fetch → Type 0

@@ -2,7 +2,7 @@
 use Rattle.std.specs.Prelude.{◌≡◌, ◌⊎◌, ℕ, List, [], ◌∷◌, ◌++◌, codes, decimal}
 use Rattle.guest_asm.specs.Rules as sources
 use Rattle.guest_image.specs.Rules as images
-use Rattle.lwc_io.specs.Outside.{FaultsIncreased, SinkView, appended}
+use Rattle.lwc_io.specs.Outside.{CountsOneFault, SinkView, appended}
 use Rattle.lwc_text.specs.Rules as inputs
 use Rattle.lwcrun_core.specs.declared.ending.Rejection.{Rejection}
 use Rattle.lwcrun_core.specs.declared.ending.Rejection.TheVariants as rejections
@@ -73,7 +73,7 @@ message_of (ends.Refused rejection) = message (rejection_words rejection)
 abbrev pub Takes : List ℕ → SinkView → SinkView → Type 0
 Takes text before after =
     ((after.taken ≡ appended before.taken text) × (after.faults ≡ before.faults))
-    ⊎ (IsPartTaken before.taken after.taken text × FaultsIncreased before.faults after.faults)
+    ⊎ (IsPartTaken before.taken after.taken text × CountsOneFault before.faults after.faults)
 
 -- an end was answered by its exit status and its message
 pub record IsAnswered (e : End Rejection) (status : ExitStatus) (err err_after : SinkView) : Type 0 where

@@ -1,5 +1,5 @@
 ghost use Rattle.std.specs.Prelude.{◌≡◌, ◌≢◌, ◌<◌, ◌≤◌, ◌^◌, ◌+◌, ◌++◌, ◌∷◌, [], ℕ, List, All, length, IfOk, IfErr, OnOk, vec_len};
-ghost use Rattle.lwc_io.specs.Outside.{FaultsIncreased, MayBeContents};
+ghost use Rattle.lwc_io.specs.Outside.{CountsOneFault, MayBeContents};
 ghost use Rattle.lwcrun_core.specs.Reading.{Fetched, MayBeginWith, MayExceed, ReadsOnward};
 
 use lwc_io::Files;
@@ -19,7 +19,8 @@ pub enum FetchError {
 }
 
 /// Reads a file of at most `limit` bytes whole; of a longer one, at most one byte past the limit. Each fetch
-/// asks for a byte or more, at a later offset than those before, so there are at most `limit + 1` of them.
+/// asks for a byte or more behind those that were given, so there are at most `limit + 2` of them. After one
+/// that fails, or that is at the end of the file, there is no other.
 ///
 /// # Errors
 ///
@@ -36,7 +37,7 @@ pub fn read_whole<F: Files>(
     ensures short { IfOk result (λ bytes. vec_len bytes ≤ limit) }
     ensures too_long { (result ≡ Err FetchError.TooLong)
         → MayExceed limit ((F.seen files.old).contents name.now) }
-    ensures cause { (result ≡ Err FetchError.Failed) → FaultsIncreased
+    ensures cause { (result ≡ Err FetchError.Failed) → CountsOneFault
         ((F.seen files.old).faults name.now) ((F.seen files.new).faults name.now) }
     ensures same { (F.seen files.new).contents ≡ (F.seen files.old).contents }
     ensures no_fault { result ≢ Err FetchError.Failed
@@ -104,16 +105,17 @@ fn read_piece<F: Files>(
     ensures whole { IfOk result (λ count. count ≡ 0
         → MayBeContents ((F.seen files.old).contents name.now) bytes.new.items) }
     ensures in_range { IfErr result (λ error. (error ≡ FetchError.TooLong) → ⊥) }
-    ensures cause { (result ≡ Err FetchError.Failed) → FaultsIncreased
+    ensures cause { (result ≡ Err FetchError.Failed) → CountsOneFault
         ((F.seen files.old).faults name.now) ((F.seen files.new).faults name.now) }
     ensures same { (F.seen files.new).contents ≡ (F.seen files.old).contents }
     ensures no_fault { result ≢ Err FetchError.Failed
         → (F.seen files.new).faults ≡ (F.seen files.old).faults }
-    ensures logged { (F.seen files.new).fetches ≡ (F.seen files.old).fetches ++ record {
+    ensures logged { (given : ℕ) × ((F.seen files.new).fetches ≡ (F.seen files.old).fetches ++ record {
       name = name.now;
       at = vec_len bytes.old;
       most = most;
-    } ∷ [] }
+      given = given;
+    } ∷ []) × IfOk result (λ count. given ≡ count) }
 {
     let piece = &mut buffer[..most];
     let Ok(count) = files.fetch(name, bytes.len() as u64, piece) else {

@@ -1,5 +1,5 @@
 ghost use Rattle.std.specs.Prelude.{◌≡◌, ◌<◌, ◌≤◌, ◌+◌, ℕ, List, length, take, IfOk, OnOk, OnErr};
-ghost use Rattle.lwc_io.specs.Outside.{FaultsIncreased, FilesView, appended};
+ghost use Rattle.lwc_io.specs.Outside.{CountsOneFault, FilesView, appended};
 ghost use Rattle.lwcrun_core.specs.Ends.{Ended};
 ghost use Rattle.lwcrun_core.specs.Headline.{IsText, Work};
 ghost use Rattle.lwcrun_core.specs.Plans as plans;
@@ -34,7 +34,7 @@ pub fn write_whole<O: Sink>(out: &mut O, text: &[u8]) -> Result<(), Failed>
     ensures whole { OnOk result ((O.seen out.new).taken ≡ appended (O.seen out.old).taken text.now) }
     ensures part { OnErr result (IsPartTaken (O.seen out.old).taken (O.seen out.new).taken text.now) }
     ensures no_fault { OnOk result ((O.seen out.new).faults ≡ (O.seen out.old).faults) }
-    ensures cause { OnErr result (FaultsIncreased (O.seen out.old).faults (O.seen out.new).faults) }
+    ensures cause { OnErr result (CountsOneFault (O.seen out.old).faults (O.seen out.new).faults) }
 {
     let mut at = 0;
     while at < text.len() {

@@ -11,20 +11,22 @@ loop-bytes-preserved g c =
     let fits : vec_len c.loop-bytes.bytes + c.next_count-most.result ≤ c.args.limit + 1 = omega arith in
     let short : length c.read_piece.new.bytes.items ≤ c.args.limit + 1 =
     omega (arith, c.in-Ok-read_piece.ensures.longer, c.in-Ok-read_piece.ensures.count) in
-    let grows : length c.loop-bytes.bytes.items < length c.read_piece.new.bytes.items = omega (arith, c.in-Ok-read_piece.ensures.longer) in
-    more_read _ _ _ _ _ _ _ _ _ c.loop-bytes.invariant is_at c.read_piece.ensures.logged c.next_count-most.ensures.some fits _ _ c.in-Ok-read_piece.ensures.front short grows c.read_piece.ensures.same (c.in-Ok-read_piece.ensures.no_fault (λ is. absurd cc)) refl
+    let logged = c.in-Ok-read_piece.ensures.logged in
+    let grows : length c.read_piece.new.bytes.items ≡ length c.loop-bytes.bytes.items + logged.0 = omega (arith, c.in-Ok-read_piece.ensures.longer, logged.2) in
+    let gave : 0 < logged.0 = omega (arith, logged.2) in
+    more_read _ _ _ _ _ _ _ _ _ logged.0 c.loop-bytes.invariant is_at logged.1 c.next_count-most.ensures.some fits _ _ c.in-Ok-read_piece.ensures.front short grows gave c.read_piece.ensures.same (c.in-Ok-read_piece.ensures.no_fault (λ is. absurd cc)) refl
 
 pub returns-in-Err-read_piece-clause-fetches : goal.returns-in-Err-read_piece-clause-fetches
 returns-in-Err-read_piece-clause-fetches g c =
     let is_at : vec_len c.loop-bytes.bytes ≡ length c.loop-bytes.bytes.items = omega arith in
     let fits : vec_len c.loop-bytes.bytes + c.next_count-most.result ≤ c.args.limit + 1 = omega arith in
-    fetched_next _ _ (g.F.Files.seen c.read_piece.new.files) _ _ _ _ _ _ c.loop-bytes.invariant is_at c.read_piece.ensures.logged c.next_count-most.ensures.some fits
+    fetched_next _ _ (g.F.Files.seen c.read_piece.new.files) _ _ _ _ _ _ c.read_piece.ensures.logged.0 c.loop-bytes.invariant is_at c.read_piece.ensures.logged.1 c.next_count-most.ensures.some fits
 
 pub returns-then-count-eq0-clause-fetches : goal.returns-then-count-eq0-clause-fetches
 returns-then-count-eq0-clause-fetches g c =
     let is_at : vec_len c.loop-bytes.bytes ≡ length c.loop-bytes.bytes.items = omega arith in
     let fits : vec_len c.loop-bytes.bytes + c.next_count-most.result ≤ c.args.limit + 1 = omega arith in
-    fetched_next _ _ (g.F.Files.seen c.read_piece.new.files) _ _ _ _ _ _ c.loop-bytes.invariant is_at c.read_piece.ensures.logged c.next_count-most.ensures.some fits
+    fetched_next _ _ (g.F.Files.seen c.read_piece.new.files) _ _ _ _ _ _ c.read_piece.ensures.logged.0 c.loop-bytes.invariant is_at c.read_piece.ensures.logged.1 c.next_count-most.ensures.some fits
 
 pub returns-clause-too_long : goal.returns-clause-too_long
 returns-clause-too_long g c _ =
