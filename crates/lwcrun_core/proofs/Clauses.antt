@@ -249,7 +249,7 @@ fetches_read files (plans.Read name limit next) made (inl h) = All-weaker (λ f.
 fetches_read files (plans.Read name limit next) made (inr (first, rest, is, h, (bytes, may, more))) =
     let P : Fetch → Type 0 = λ f. Reads files (plans.Read name limit next) f.name in
     All-same P made (first ++ rest) is (All-append P first rest
-    (All-weaker (λ f. f.name ≡ name) P (λ f here. inl here) first h.named)
+    (All-weaker (λ f. f.name ≡ name) P (λ f here. inl here) first h.onward.named)
     (All-weaker (λ f. Reads files (next bytes) f.name) P (λ f there. inr (bytes, may, there)) rest (fetches_read files (next bytes) rest more)))
 fetches_read {R} {W} files (plans.Refuse refusal) made is = All-same (λ f. Reads {R = R} {W = W} files (plans.Refuse refusal) f.name) made [] is (All-nil _)
 fetches_read {R} {W} files (plans.Write work) made is = All-same (λ f. Reads {R = R} {W = W} files (plans.Write work) f.name) made [] is (All-nil _)

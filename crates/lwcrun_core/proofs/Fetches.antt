@@ -5,7 +5,7 @@ use Rattle.std.proofs.lemmas.List.{append-nil}
 use Rattle.std.proofs.lemmas.List.Elements.{All-get_or, All-nil, All-push, All-weaker}
 use Rattle.std.proofs.lemmas.List.Quantifiers.{all_pairs_push}
 use Rattle.lwc_io.specs.Outside.{CountsOneFault, Fetch, FilesView, IsPiece, MayBeContents}
-use Rattle.lwcrun_core.specs.Reading.{Fetched, MayBeginWith, MayExceed, ReadsOnward}
+use Rattle.lwcrun_core.specs.Reading.{Fetched, GaveBefore, MayBeginWith, MayExceed, ReadsOnward, ReadsToTheEnd}
 
 length-taken : (n : ℕ) (xs : List ℕ) → n ≤ length xs → length (take n xs) ≡ n
 length-taken n xs h = omega (arith, length-take n xs)
@@ -35,7 +35,7 @@ begins_empty (Some known) bytes e = ap (λ xs. take (length xs) known) e ∙ sym
 -- fetches that read onward, each of which gave something before the n-th byte
 pub record ReadsBefore (name : List ℕ) (limit n : ℕ) (fetches : List Fetch) : Type 0 where
   pub onward : ReadsOnward name limit fetches
-  pub before : All (λ f. (0 < f.given) × (f.at + f.given ≤ n)) fetches
+  pub before : All (GaveBefore n) fetches
 
 -- no fetches read onward
 pub none_onward : (name : List ℕ) (limit : ℕ) → ReadsOnward name limit []
@@ -46,24 +46,24 @@ none_onward name limit = record {
 }
 
 -- a fetch of the n-th byte and more, which gave this number of them
-abbrev from_byte : List ℕ → ℕ → ℕ → ℕ → Fetch
+abbrev from_byte : List ℕ → ℕ → ℕ → Option ℕ → Fetch
 from_byte name n most given = record { name = name; at = n; most = most; given = given }
 
-one_more : (name : List ℕ) (limit n most given : ℕ) (fetches : List Fetch) → ReadsBefore name limit n fetches → 0 < most → n + most ≤ limit + 1 → ReadsOnward name limit (fetches ++ from_byte name n most given ∷ [])
+one_more : (name : List ℕ) (limit n most : ℕ) (given : Option ℕ) (fetches : List Fetch) → ReadsBefore name limit n fetches → 0 < most → n + most ≤ limit + 1 → ReadsOnward name limit (fetches ++ from_byte name n most given ∷ [])
 one_more name limit n most given fetches h some fits = record {
   named = All-push (λ f. f.name ≡ name) fetches (from_byte name n most given) h.onward.named refl;
   within = All-push (λ f. (0 < f.most) × (f.at + f.most ≤ limit + 1)) fetches (from_byte name n most given) h.onward.within (some, fits);
-  onward = all_pairs_push (λ f g. (0 < f.given) × (f.at + f.given ≤ g.at)) fetches (from_byte name n most given) h.onward.onward
-      (λ k d inside. All-get_or (λ f. (0 < f.given) × (f.at + f.given ≤ n)) fetches k d inside h.before);
+  onward = all_pairs_push (λ f g. GaveBefore g.at f) fetches (from_byte name n most given) h.onward.onward
+      (λ k d inside. All-get_or (GaveBefore n) fetches k d inside h.before);
 }
 
-one_before : (name : List ℕ) (limit n most given : ℕ) (fetches : List Fetch) → ReadsBefore name limit n fetches → 0 < most → n + most ≤ limit + 1 → 0 < given →
-    ReadsBefore name limit (n + given) (fetches ++ from_byte name n most given ∷ [])
-one_before name limit n most given fetches h some fits gave = record {
-  onward = one_more name limit n most given fetches h some fits;
-  before = All-push (λ f. (0 < f.given) × (f.at + f.given ≤ n + given)) fetches (from_byte name n most given)
-      (All-weaker (λ f. (0 < f.given) × (f.at + f.given ≤ n)) (λ f. (0 < f.given) × (f.at + f.given ≤ n + given)) (λ f earlier. (earlier.0, omega (arith, earlier.1))) fetches h.before)
-      (gave, omega arith);
+one_before : (name : List ℕ) (limit n most gave : ℕ) (fetches : List Fetch) → ReadsBefore name limit n fetches → 0 < most → n + most ≤ limit + 1 → 0 < gave →
+    ReadsBefore name limit (n + gave) (fetches ++ from_byte name n most (Some gave) ∷ [])
+one_before name limit n most gave fetches h some fits any = record {
+  onward = one_more name limit n most (Some gave) fetches h some fits;
+  before = All-push (GaveBefore (n + gave)) fetches (from_byte name n most (Some gave))
+      (All-weaker (GaveBefore n) (GaveBefore (n + gave)) (λ f earlier. (earlier.0, earlier.1, earlier.2, omega (arith, earlier.3))) fetches h.before)
+      (gave, refl, any, omega arith);
 }
 
 fetched_more : {P : List Fetch → Type 0} (before mid after : List Fetch) (name : List ℕ) (limit n : ℕ) (fetch : Fetch) (read : Fetched (ReadsBefore name limit n) before mid) →
@@ -94,7 +94,7 @@ nothing_read files name limit bytes buffer none chunk = record {
   short = omega (arith, ap length none);
   same = refl;
   faults = refl;
-  fetched = nothing_fetched files.fetches (record { onward = none_onward name limit; before = All-nil (λ f. (0 < f.given) × (f.at + f.given ≤ length bytes)) });
+  fetched = nothing_fetched files.fetches (record { onward = none_onward name limit; before = All-nil (GaveBefore (length bytes)) });
   chunk = chunk;
 }
 
@@ -102,7 +102,7 @@ nothing_read files name limit bytes buffer none chunk = record {
 pub fetched_so_far : (files after : FilesView) (name : List ℕ) (limit : ℕ) (bytes : List ℕ) (buffer : ℕ) → ReadSoFar files after name limit bytes buffer → Fetched (ReadsOnward name limit) files.fetches after.fetches
 fetched_so_far files after name limit bytes buffer so_far = (so_far.fetched.0, so_far.fetched.1, so_far.fetched.2.onward)
 
-module _ (files mid after : FilesView) (name : List ℕ) (limit : ℕ) (bytes : List ℕ) (buffer at most given : ℕ) (so_far : ReadSoFar files mid name limit bytes buffer) (is_at : at ≡ length bytes) (logged : after.fetches ≡ mid.fetches ++ from_byte name at most given ∷ []) (some : 0 < most) (fits : at + most ≤ limit + 1) where
+module _ (files mid after : FilesView) (name : List ℕ) (limit : ℕ) (bytes : List ℕ) (buffer at most : ℕ) (given : Option ℕ) (so_far : ReadSoFar files mid name limit bytes buffer) (is_at : at ≡ length bytes) (logged : after.fetches ≡ mid.fetches ++ from_byte name at most given ∷ []) (some : 0 < most) (fits : at + most ≤ limit + 1) where
   is_logged : after.fetches ≡ mid.fetches ++ from_byte name (length bytes) most given ∷ []
   is_logged = logged ∙ ap (λ n. mid.fetches ++ from_byte name n most given ∷ []) is_at
 
@@ -112,16 +112,29 @@ module _ (files mid after : FilesView) (name : List ℕ) (limit : ℕ) (bytes : 
       fetched_more {P = ReadsOnward name limit} files.fetches mid.fetches after.fetches name limit (length bytes) _ so_far.fetched is_logged
       (one_more name limit (length bytes) most given so_far.fetched.0 so_far.fetched.2 some (omega (arith, fits, is_at)))
 
+  -- what was fetched with one that was at the file's end
+  pub fetched_to_the_end : given ≡ Some 0 → Fetched (ReadsToTheEnd name limit) files.fetches after.fetches
+  fetched_to_the_end end =
+      fetched_more {P = ReadsToTheEnd name limit} files.fetches mid.fetches after.fetches name limit (length bytes) _ so_far.fetched is_logged
+      (record {
+        onward = one_more name limit (length bytes) most given so_far.fetched.0 so_far.fetched.2 some (omega (arith, fits, is_at));
+        front = so_far.fetched.0;
+        last = from_byte name (length bytes) most given;
+        is = refl;
+        end = end;
+      })
+
   -- one more piece was read, which was not empty
-  pub more_read : (bytes_now : List ℕ) (buffer_now : ℕ) → MayBeginWith (mid.contents name) bytes_now → length bytes_now ≤ limit + 1 → length bytes_now ≡ length bytes + given → 0 < given → after.contents ≡ mid.contents → after.faults ≡ mid.faults → buffer_now ≡ buffer → ReadSoFar files after name limit bytes_now buffer_now
-  more_read bytes_now buffer_now begins short grows gave same faults chunk = record {
+  pub more_read : (bytes_now : List ℕ) (buffer_now : ℕ) → MayBeginWith (mid.contents name) bytes_now → length bytes_now ≤ limit + 1 → (n : ℕ) → given ≡ Some n → length bytes_now ≡ length bytes + n → 0 < n → after.contents ≡ mid.contents → after.faults ≡ mid.faults → buffer_now ≡ buffer → ReadSoFar files after name limit bytes_now buffer_now
+  more_read bytes_now buffer_now begins short n gave grows any same faults chunk = record {
     begins = (let P : (List ℕ → Option (List ℕ)) → Type 0 = λ f. MayBeginWith (f name) bytes_now in subst P so_far.same begins);
     short = short;
     same = same ∙ so_far.same;
     faults = faults ∙ so_far.faults;
     fetched = subst (λ n. Fetched (ReadsBefore name limit n) files.fetches after.fetches) (sym grows)
-        (fetched_more {P = ReadsBefore name limit (length bytes + given)} files.fetches mid.fetches after.fetches name limit (length bytes) _ so_far.fetched is_logged
-          (one_before name limit (length bytes) most given so_far.fetched.0 so_far.fetched.2 some (omega (arith, fits, is_at)) gave));
+        (fetched_more {P = ReadsBefore name limit (length bytes + n)} files.fetches mid.fetches after.fetches name limit (length bytes) _ so_far.fetched
+        (is_logged ∙ ap (λ o. mid.fetches ++ from_byte name (length bytes) most o ∷ []) gave)
+        (one_before name limit (length bytes) most n so_far.fetched.0 so_far.fetched.2 some (omega (arith, fits, is_at)) any));
     chunk = chunk ∙ so_far.chunk;
   }
 

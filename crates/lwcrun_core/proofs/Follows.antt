@@ -7,7 +7,7 @@ use Rattle.lwcrun_core.specs.Parts.{Found, ReadsBy}
 use Rattle.lwcrun_core.specs.Parts as parts
 use Rattle.lwcrun_core.specs.Plans.{Plan, AreFetchesOf, FileContents, LeadsTo, Reads, accepted}
 use Rattle.lwcrun_core.specs.Plans as plans
-use Rattle.lwcrun_core.specs.Reading.{Fetched, ReadsOnward}
+use Rattle.lwcrun_core.specs.Reading.{Fetched, ReadsOnward, ReadsToTheEnd}
 use Rattle.lwcrun_core.specs.Views.{outside}
 use Rattle.lwcrun_core.specs.Writing.{IsPartTaken}
 use Rattle.lwcrun_core.proofs.Fetches.{increased_by_then, none_onward}
@@ -69,7 +69,7 @@ module _ {A R W : Type 0} (IsText : W → List ℕ → Type 0) (grammar : List �
       (since IsText files mid after out out_after (next x) e same h.4 ended)
 
   -- behind a file that was read, what follows is fetched
-  pub fetches_on : (files mid : FilesView) (after : List Fetch) (x : A) → ReadsBy grammar files mid name (parts.Value x) → mid.contents ≡ files.contents → Fetched (ReadsOnward name limit) files.fetches mid.fetches →
+  pub fetches_on : (files mid : FilesView) (after : List Fetch) (x : A) → ReadsBy grammar files mid name (parts.Value x) → mid.contents ≡ files.contents → Fetched (ReadsToTheEnd name limit) files.fetches mid.fetches →
       Fetched (AreFetchesOf mid.contents (next x)) mid.fetches after → Fetched (AreFetchesOf files.contents (reading IsText grammar name limit next)) files.fetches after
   unfolding ReadsBy
   fetches_on files mid after x h same first rest = (

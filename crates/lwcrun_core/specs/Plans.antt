@@ -1,7 +1,7 @@
 -- What a call of the program asks of the outside, one thing after another, and where that leads.
 use Rattle.std.specs.Prelude.{◌≡◌, ◌⊎◌, ◌<◌, ℕ, List, [], ◌++◌, Option, Some, Result, Ok, Err, All, OnOk}
 use Rattle.lwc_io.specs.Outside.{Fetch, MayBeContents}
-use Rattle.lwcrun_core.specs.Reading.{ReadsOnward}
+use Rattle.lwcrun_core.specs.Reading.{ReadsOnward, ReadsToTheEnd}
 
 -- a file of a name, up to a limit, is read and its bytes say what follows, or an input is refused, or a
 -- work is done and its text is written
@@ -30,12 +30,12 @@ Reads files (Read name limit next) asked =
 Reads files (Refuse refusal) asked = ⊥
 Reads files (Write work) asked = ⊥
 
--- over contents that the files may have, these are fetches of the plan: each file that it reads is read onward, once
--- and before what follows it, and what the plan does not come to is not fetched
+-- over contents that the files may have, these are fetches of the plan: each file that it reads is read onward, once, and
+-- to the end before what follows it; what the plan does not come to is not fetched
 abbrev pub AreFetchesOf : {R W : Type 0} → FileContents → Plan R W → List Fetch → Type 0
 AreFetchesOf files (Read name limit next) fetches =
     ReadsOnward name limit fetches
-    ⊎ ((first rest : List Fetch) × (fetches ≡ first ++ rest) × ReadsOnward name limit first
+    ⊎ ((first rest : List Fetch) × (fetches ≡ first ++ rest) × ReadsToTheEnd name limit first
     × ((bytes : List ℕ) × MayBeContents (files name) bytes × AreFetchesOf files (next bytes) rest))
 AreFetchesOf files (Refuse refusal) fetches = fetches ≡ []
 AreFetchesOf files (Write work) fetches = fetches ≡ []

@@ -1,5 +1,5 @@
 -- Whole files.
-use Rattle.std.specs.Prelude.{◌≡◌, ◌<◌, ◌≤◌, ◌+◌, ◌++◌, ℕ, List, Option, IfSome, All, length, take}
+use Rattle.std.specs.Prelude.{◌≡◌, ◌<◌, ◌≤◌, ◌+◌, ◌++◌, ℕ, List, [], ◌∷◌, Option, Some, IfSome, All, length, take}
 use Rattle.std.specs.List.{AllPairs}
 use Rattle.lwc_io.specs.Outside.{Fetch, MayBeContents}
 
@@ -11,12 +11,24 @@ MayBeginWith contents bytes = IfSome contents (λ known. take (length bytes) kno
 abbrev pub MayExceed : ℕ → Option (List ℕ) → Type 0
 MayExceed limit contents = (bytes : List ℕ) × MayBeContents contents bytes × (limit < length bytes)
 
--- these fetches read one file onward: each asks for a byte or more, none for more than one byte past the limit, each from
--- the end of those before it on or later, and none comes after one that gave nothing, which failed or was at the file's end
+-- a fetch gave some bytes, all of them before this offset
+abbrev pub GaveBefore : ℕ → Fetch → Type 0
+GaveBefore at f = (n : ℕ) × (f.given ≡ Some n) × (0 < n) × (f.at + n ≤ at)
+
+-- these fetches read one file onward: each asks for a byte or more, none for more than one byte past the limit, and each
+-- before the last one gave some bytes, all of them before the fetches after it
 pub record ReadsOnward (name : List ℕ) (limit : ℕ) (fetches : List Fetch) : Type 0 where
   pub named : All (λ f. f.name ≡ name) fetches
   pub within : All (λ f. (0 < f.most) × (f.at + f.most ≤ limit + 1)) fetches
-  pub onward : AllPairs (λ f g. (0 < f.given) × (f.at + f.given ≤ g.at)) fetches
+  pub onward : AllPairs (λ f g. GaveBefore g.at f) fetches
+
+-- besides, the last one was at the end of the file
+pub record ReadsToTheEnd (name : List ℕ) (limit : ℕ) (fetches : List Fetch) : Type 0 where
+  pub onward : ReadsOnward name limit fetches
+  pub front : List Fetch
+  pub last : Fetch
+  pub is : fetches ≡ front ++ last ∷ []
+  pub end : last.given ≡ Some 0
 
 -- what was fetched between the fetches before and those after has this property
 abbrev pub Fetched : (List Fetch → Type 0) → List Fetch → List Fetch → Type 0

@@ -57,7 +57,7 @@ pub fn lwcrun<R: Threads + Wait + Sync, F: Files, O: Sink, E: Sink, G: Gate>(
     ensures usage_only { result ≡ ExitStatus.Usage → command_of (map string_bytes words.now) ≡ None }
     ensures usage { command_of (map string_bytes words.now) ≡ None → IsOrNoMemory result ExitStatus.Usage }
 
-    // A read or a write fault comes only where a fetch of a file of the line, or a write, failed.
+    // A read or a write fault comes only where one fetch of a file of the line, or one write, failed.
     ensures read_fault { result ≡ ExitStatus.ReadFault → FileFailed (command_of (map string_bytes words.now))
         (outside (F.seen files.old) (F.seen files.new) (O.seen out.old) (O.seen out.new)) }
     ensures write_fault { result ≡ ExitStatus.WriteFault → WriteFailed
@@ -92,8 +92,8 @@ pub fn lwcrun<R: Threads + Wait + Sync, F: Files, O: Sink, E: Sink, G: Gate>(
         → result ≢ ExitStatus.WriteFault → NothingFailed
         (outside (F.seen files.old) (F.seen files.new) (O.seen out.old) (O.seen out.new)) }
 
-    // No file is fetched to which the plan does not come, each is read at rising offsets, and none further than
-    // one byte past its limit.
+    // No file is fetched to which the plan does not come. Each is read onward, no further than one byte past its
+    // limit, and to its end before the next one. Nothing is fetched after a fetch that failed.
     ensures fetches { FetchesPlan (command_of (map string_bytes words.now))
         (F.seen files.old) (F.seen files.new) }
 

@@ -1,10 +1,10 @@
-ghost use Rattle.std.specs.Prelude.{◌≡◌, ◌≤◌, ◌<◌, All, IfOk, length};
+ghost use Rattle.std.specs.Prelude.{◌≡◌, ◌≤◌, ◌<◌, All, IfOk, OnOk, length};
 ghost use Rattle.guest_asm.specs.declared.assembly.TheConstants.{MOST_SOURCE_BYTES};
 ghost use Rattle.guest_image.specs.Limits.{IsImage};
 ghost use Rattle.lwc_base.specs.declared.limits.TheConstants.{MOST_IMAGE_BYTES, MOST_SCHEDULE_BYTES, MOST_STEPS};
 ghost use Rattle.lwcrun_core.specs.Images.{image_of, schedule_of, source_of};
 ghost use Rattle.lwcrun_core.specs.Parts.{ReadsBy};
-ghost use Rattle.lwcrun_core.specs.Reading.{Fetched, ReadsOnward};
+ghost use Rattle.lwcrun_core.specs.Reading.{Fetched, ReadsOnward, ReadsToTheEnd};
 ghost use Rattle.lwcrun_core.specs.Views.{found};
 
 use crate::ending::{Ending, Rejection};
@@ -28,6 +28,8 @@ pub fn image_in<'a, F: Files>(
     ensures same { (F.seen files.new).contents ≡ (F.seen files.old).contents }
     ensures fetches { Fetched (ReadsOnward name.now MOST_IMAGE_BYTES)
         (F.seen files.old).fetches (F.seen files.new).fetches }
+    ensures whole { OnOk result (Fetched (ReadsToTheEnd name.now MOST_IMAGE_BYTES)
+        (F.seen files.old).fetches (F.seen files.new).fetches) }
 {
     let bytes = match read_whole(alloc, files, name, MOST_IMAGE_BYTES) {
         Ok(bytes) => bytes,
@@ -62,6 +64,8 @@ pub fn source_in<'a, F: Files>(
     ensures same { (F.seen files.new).contents ≡ (F.seen files.old).contents }
     ensures fetches { Fetched (ReadsOnward name.now MOST_SOURCE_BYTES)
         (F.seen files.old).fetches (F.seen files.new).fetches }
+    ensures whole { OnOk result (Fetched (ReadsToTheEnd name.now MOST_SOURCE_BYTES)
+        (F.seen files.old).fetches (F.seen files.new).fetches) }
 {
     let bytes = match read_whole(alloc, files, name, MOST_SOURCE_BYTES) {
         Ok(bytes) => bytes,
@@ -98,6 +102,8 @@ pub fn schedule_in<'a, F: Files>(
     ensures same { (F.seen files.new).contents ≡ (F.seen files.old).contents }
     ensures fetches { Fetched (ReadsOnward name.now MOST_SCHEDULE_BYTES)
         (F.seen files.old).fetches (F.seen files.new).fetches }
+    ensures whole { OnOk result (Fetched (ReadsToTheEnd name.now MOST_SCHEDULE_BYTES)
+        (F.seen files.old).fetches (F.seen files.new).fetches) }
 {
     let bytes = match read_whole(alloc, files, name, MOST_SCHEDULE_BYTES) {
         Ok(bytes) => bytes,

@@ -1,6 +1,6 @@
-ghost use Rattle.std.specs.Prelude.{◌≡◌, ◌≢◌, ◌<◌, ◌≤◌, ◌^◌, ◌+◌, ◌++◌, ◌∷◌, [], ℕ, List, All, length, IfOk, IfErr, OnOk, vec_len};
+ghost use Rattle.std.specs.Prelude.{◌≡◌, ◌≢◌, ◌<◌, ◌≤◌, ◌^◌, ◌+◌, ◌++◌, ◌∷◌, [], ℕ, List, Option, Some, All, length, IfOk, IfErr, OnOk, vec_len};
 ghost use Rattle.lwc_io.specs.Outside.{CountsOneFault, MayBeContents};
-ghost use Rattle.lwcrun_core.specs.Reading.{Fetched, MayBeginWith, MayExceed, ReadsOnward};
+ghost use Rattle.lwcrun_core.specs.Reading.{Fetched, MayBeginWith, MayExceed, ReadsOnward, ReadsToTheEnd};
 
 use lwc_io::Files;
 use std::alloc::Global;
@@ -44,6 +44,8 @@ pub fn read_whole<F: Files>(
         → (F.seen files.new).faults ≡ (F.seen files.old).faults }
     ensures fetches { Fetched (ReadsOnward name.now limit)
         (F.seen files.old).fetches (F.seen files.new).fetches }
+    ensures whole { OnOk result (Fetched (ReadsToTheEnd name.now limit)
+        (F.seen files.old).fetches (F.seen files.new).fetches) }
 {
     let mut bytes = Vec::new(alloc);
     let mut buffer = match buffer_of(alloc, CHUNK) {
@@ -110,12 +112,12 @@ fn read_piece<F: Files>(
     ensures same { (F.seen files.new).contents ≡ (F.seen files.old).contents }
     ensures no_fault { result ≢ Err FetchError.Failed
         → (F.seen files.new).faults ≡ (F.seen files.old).faults }
-    ensures logged { (given : ℕ) × ((F.seen files.new).fetches ≡ (F.seen files.old).fetches ++ record {
+    ensures logged { (given : Option ℕ) × ((F.seen files.new).fetches ≡ (F.seen files.old).fetches ++ record {
       name = name.now;
       at = vec_len bytes.old;
       most = most;
       given = given;
-    } ∷ []) × IfOk result (λ count. given ≡ count) }
+    } ∷ []) × IfOk result (λ count. given ≡ Some count) }
 {
     let piece = &mut buffer[..most];
     let Ok(count) = files.fetch(name, bytes.len() as u64, piece) else {

@@ -1,5 +1,5 @@
-use Rattle.std.proofs.Common.{◌≡◌, ◌≤◌, ◌+◌, ◌<◌, length, vec_len, arith, refl}
-use Rattle.lwcrun_core.proofs.Fetches.{fetched_next, fetched_so_far, more_read, nothing_read, passes_limit}
+use Rattle.std.proofs.Common.{◌≡◌, ◌≤◌, ◌+◌, ◌<◌, ◌∙◌, ap, Some, length, vec_len, arith, refl}
+use Rattle.lwcrun_core.proofs.Fetches.{fetched_next, fetched_so_far, fetched_to_the_end, more_read, nothing_read, passes_limit}
 use Rattle.lwcrun_core.proofs.reading.read_whole.Goals as goal
 
 pub loop-bytes-init : goal.loop-bytes-init
@@ -12,9 +12,9 @@ loop-bytes-preserved g c =
     let short : length c.read_piece.new.bytes.items ≤ c.args.limit + 1 =
     omega (arith, c.in-Ok-read_piece.ensures.longer, c.in-Ok-read_piece.ensures.count) in
     let logged = c.in-Ok-read_piece.ensures.logged in
-    let grows : length c.read_piece.new.bytes.items ≡ length c.loop-bytes.bytes.items + logged.0 = omega (arith, c.in-Ok-read_piece.ensures.longer, logged.2) in
-    let gave : 0 < logged.0 = omega (arith, logged.2) in
-    more_read _ _ _ _ _ _ _ _ _ logged.0 c.loop-bytes.invariant is_at logged.1 c.next_count-most.ensures.some fits _ _ c.in-Ok-read_piece.ensures.front short grows gave c.read_piece.ensures.same (c.in-Ok-read_piece.ensures.no_fault (λ is. absurd cc)) refl
+    let grows : length c.read_piece.new.bytes.items ≡ length c.loop-bytes.bytes.items + c.in-Ok-read_piece.count = omega (arith, c.in-Ok-read_piece.ensures.longer) in
+    let any : 0 < c.in-Ok-read_piece.count = omega arith in
+    more_read _ _ _ _ _ _ _ _ _ logged.0 c.loop-bytes.invariant is_at logged.1 c.next_count-most.ensures.some fits _ _ c.in-Ok-read_piece.ensures.front short _ logged.2 grows any c.read_piece.ensures.same (c.in-Ok-read_piece.ensures.no_fault (λ is. absurd cc)) refl
 
 pub returns-in-Err-read_piece-clause-fetches : goal.returns-in-Err-read_piece-clause-fetches
 returns-in-Err-read_piece-clause-fetches g c =
@@ -27,6 +27,14 @@ returns-then-count-eq0-clause-fetches g c =
     let is_at : vec_len c.loop-bytes.bytes ≡ length c.loop-bytes.bytes.items = omega arith in
     let fits : vec_len c.loop-bytes.bytes + c.next_count-most.result ≤ c.args.limit + 1 = omega arith in
     fetched_next _ _ (g.F.Files.seen c.read_piece.new.files) _ _ _ _ _ _ c.read_piece.ensures.logged.0 c.loop-bytes.invariant is_at c.read_piece.ensures.logged.1 c.next_count-most.ensures.some fits
+
+pub returns-then-count-eq0-clause-whole : goal.returns-then-count-eq0-clause-whole
+returns-then-count-eq0-clause-whole g c =
+    let is_at : vec_len c.loop-bytes.bytes ≡ length c.loop-bytes.bytes.items = omega arith in
+    let fits : vec_len c.loop-bytes.bytes + c.next_count-most.result ≤ c.args.limit + 1 = omega arith in
+    let logged = c.in-Ok-read_piece.ensures.logged in
+    let end : c.in-Ok-read_piece.count ≡ 0 = omega arith in
+    fetched_to_the_end _ _ (g.F.Files.seen c.read_piece.new.files) _ _ _ _ _ _ logged.0 c.loop-bytes.invariant is_at logged.1 c.next_count-most.ensures.some fits (logged.2 ∙ ap Some end)
 
 pub returns-clause-too_long : goal.returns-clause-too_long
 returns-clause-too_long g c _ =

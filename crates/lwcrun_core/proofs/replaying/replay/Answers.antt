@@ -11,7 +11,7 @@ returns-in-Ok-clause-ended g c =
 pub returns-in-Ok-clause-fetches : goal.returns-in-Ok-clause-fetches
 unfolding replay_plan
 returns-in-Ok-clause-fetches g c =
-    fetches_on IsText _ _ _ _ _ _ _ _ c.in-Ok.ensures.reads c.image_in.ensures.same c.image_in.ensures.fetches c.replay_image.ensures.fetches
+    fetches_on IsText _ _ _ _ _ _ _ _ c.in-Ok.ensures.reads c.image_in.ensures.same c.in-Ok.ensures.whole c.replay_image.ensures.fetches
 
 pub returns-in-Err-clause-ended : goal.returns-in-Err-clause-ended
 unfolding replay_plan

@@ -12,7 +12,7 @@ returns-in-Ok-clause-ended g c =
 pub returns-in-Ok-clause-fetches : goal.returns-in-Ok-clause-fetches
 unfolding after_size
 returns-in-Ok-clause-fetches g c =
-    fetches_on IsText _ _ _ _ _ _ _ _ (rw c.len.ensures at c.in-Ok.ensures.reads) c.schedule_in.ensures.same c.schedule_in.ensures.fetches (nothing_fetched _ refl)
+    fetches_on IsText _ _ _ _ _ _ _ _ (rw c.len.ensures at c.in-Ok.ensures.reads) c.schedule_in.ensures.same c.in-Ok.ensures.whole (nothing_fetched _ refl)
 
 pub returns-in-Err-clause-ended : goal.returns-in-Err-clause-ended
 unfolding after_size
