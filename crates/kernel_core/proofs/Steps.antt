@@ -167,14 +167,18 @@ module _ (facts : RunFacts) (m : Machine) (most : ℕ) (h : History) (steady : I
     unfolding view_of
     viewed = ap (λ (k : Machine). view_of k t) (sym steady.machine) ∙ ap (option_map (λ (y : Thread). record { status = y.status; context = y.context; regs = y.regs })) found
 
-    pub rested : thread_outcome guest_calls t m.environment m.text x x.status ≡ None → IsRest t x h
+    -- and its turn
+    pub last_turn : turn h t ≡ Some (turn_of x)
     unfolding turn
+    last_turn = ap (λ (k : Machine). option_map turn_of (slice_get k.threads t)) (sym steady.machine) ∙ ap (option_map turn_of) found
+
+    pub rested : thread_outcome guest_calls t m.environment m.text x x.status ≡ None → IsRest t x h
     rested none =
         let ended : is_ended (machine_of h) t ≡ true = ended_as ∙ had_ended t m.environment m.text x x.status none in
         record {
           ended = ended;
           kept = stepped_by h t true ended;
-          turn = ap (λ (k : Machine). option_map turn_of (slice_get k.threads t)) (sym steady.machine) ∙ ap (option_map turn_of) found;
+          turn = last_turn;
         }
 
     module _ (outcome : Outcome) (made : thread_outcome guest_calls t m.environment m.text x x.status ≡ Some outcome) where

@@ -44,5 +44,6 @@ pub mod Refused
 pub mod Runs
 pub mod Start
 pub mod Kernel
+pub mod Histories
 pub mod Ready
 pub mod Steady

@@ -244,6 +244,22 @@ impl<W: World> Kernel<W> {
         runs_stay_ready();
         work_left(self.threads.as_slice())
     }
+
+    /// What the last step of thread `t` left of it, or how it is at the start.
+    pub fn turn(&self, t: u32) -> Turn
+        requires { t < thread_count self.now.inputs }
+        ensures { spec.turn self.now t ≡ Some result }
+    {
+        runs_stay_ready();
+        self.threads[t as usize].turn()
+    }
+
+    /// A law of each kernel: a kernel can be opened with its inputs.
+    pub fn was_opened(&self)
+        ensures { CanOpen self.now.inputs }
+    {
+        let _room = self.room;
+    }
 }
 
 /// Drops the contexts that no thread reaches, and then the groups that no cell names. There are none if the step

@@ -1,13 +1,16 @@
-ghost use Rattle.std.specs.Prelude.{◌≡◌, ◌++◌, ◌∷◌, [], if◌then◌else◌, ℕ, List, Some};
+ghost use Rattle.std.specs.Prelude.{◌≡◌, ◌<◌, ◌*◌, ◌++◌, ◌∷◌, [], false, true, if◌then◌else◌, length, ℕ, List, Some};
 ghost use Rattle.guest_isa.specs.declared.instr.Instr.{Instr};
-ghost use Rattle.kernel_core.specs.Kernel.{CanOpen};
-ghost use Rattle.kernel_core.specs.Machine.{Environment, Machine, is_ended};
+ghost use Rattle.kernel_core.specs.Histories.{IsComplete, IsLegal, steps_by, turn_after};
+ghost use Rattle.kernel_core.specs.Kernel.{CanOpen, History, machine_of, turn};
+ghost use Rattle.kernel_core.specs.Machine.{Environment, Machine, has_ended, is_ended, work};
 ghost use Rattle.kernel_core.specs.Ready.{RunFacts};
 ghost use Rattle.kernel_core.specs.Refused.{ComesToRefusal, after_refusal, refusal_of};
 ghost use Rattle.kernel_core.specs.Runs.{kept, peak, run};
-ghost use Rattle.kernel_core.specs.Start.{Inputs, start};
+ghost use Rattle.kernel_core.specs.Start.{Inputs, start, thread_count};
 ghost use Rattle.kernel_core.specs.Step.{guest_calls, refused, step, unchanged};
+ghost use Rattle.kernel_core.specs.declared.settings.Job.TheVariants as jobs;
 ghost use Rattle.kernel_core.specs.declared.thread.Thread.{Thread};
+ghost use Rattle.kernel_core.specs.declared.thread.Turn.{Turn};
 ghost use Rattle.lwc_base.specs.Sound.{IsSound};
 ghost use Rattle.lwc_base.specs.declared.refusal.Refusal.{Refusal};
 
@@ -86,4 +89,49 @@ pub(crate) fn runs_stay_ready()
     a_plain_call_does_one_thing();
     a_plain_call_keeps_the_world_well();
     a_syscall_keeps_the_world_well();
+}
+
+/// The steps of other threads leave a thread's turn as it is.
+#[tactic(auto, using(crate::proofs::Others::turn_stays))]
+pub fn others_leave_a_turn()
+    ensures { (inputs : Inputs) (seen rest : List ℕ) (t : ℕ) → steps_by t rest ≡ 0 →
+        turn_after inputs (seen ++ rest) t ≡ turn_after inputs seen t }
+{}
+
+/// A thread's turn says whether the thread has ended.
+#[tactic(auto, using(crate::proofs::Others::ended_by_turn))]
+pub fn turns_say_who_has_ended()
+    ensures { (h : History) (t : ℕ) (last : Turn) → turn h t ≡ Some last →
+        is_ended (machine_of h) t ≡ has_ended last.status }
+{}
+
+/// A legal history stays legal with one more step of a thread that has not ended.
+#[tactic(auto, using(crate::proofs::Others::legal_push))]
+pub fn a_step_of_a_thread_that_goes_on_is_legal()
+    ensures { (m : Machine) (steps : List ℕ) (t : ℕ) → IsLegal m steps →
+        is_ended (run m steps) t ≡ false → IsLegal m (steps ++ t ∷ []) }
+{}
+
+/// At the start of a run each thread has the budget of the settings.
+#[tactic(auto, using(crate::proofs::Others::work_at_start))]
+pub fn each_thread_has_its_budget()
+    ensures { (inputs : Inputs) → inputs.settings.job ≡ jobs.Run →
+        work (start inputs) ≡ length inputs.image.entries * inputs.settings.budget }
+{}
+
+/// While a thread has not ended, steps are left.
+pub fn a_thread_that_goes_on_has_steps_left()
+    ensures { (inputs : Inputs) (steps : List ℕ) (t : ℕ) → CanOpen inputs →
+        is_ended (run (start inputs) steps) t ≡ false → 0 < work (run (start inputs) steps) }
+{
+    runs_stay_ready();
+}
+
+/// A legal history after which each thread of the kernel has ended is complete.
+pub fn a_history_that_ends_each_thread_is_complete()
+    ensures { (inputs : Inputs) (steps : List ℕ) → CanOpen inputs → IsLegal (start inputs) steps →
+        ((t : ℕ) → t < thread_count inputs → is_ended (run (start inputs) steps) t ≡ true) →
+        IsComplete (start inputs) steps }
+{
+    runs_stay_ready();
 }

@@ -37,6 +37,16 @@ impl Turn {
     {
         *self
     }
+
+    /// Whether the thread has ended.
+    pub fn has_ended(&self) -> bool
+        ensures { result ≡ machine.has_ended self.now.status }
+    {
+        match self.status {
+            ThreadStatus::Idle | ThreadStatus::Running => false,
+            ThreadStatus::Done { .. } | ThreadStatus::Faulted { .. } => true,
+        }
+    }
 }
 
 impl Thread {
