@@ -63,10 +63,10 @@ module _ {S N : Type 0} (name_of : S → N) (past_of : S → List ℕ) where
           let both : Spent ≡ Serving out.ticket = sym gone.2 ∙ (ap (λ (x : View N). x.stage) (one_at s.views _ out.seat gone.0 out.view is gone.1 out.sits) ∙ out.serves) in cc)
 
 -- each pass knows the past of the state at the end, and has noted no more turns
-module _ {S N : Type 0} (name_of : S → N) (past_of : S → List ℕ) (name : N) (ps : List (Held N)) (first : Held N) (rest : List (Held N)) (seat : Seat (Option S) (View N)) (state : S) where
+module _ {S N P : Type 0} (name_of : S → N) (past_of : S → List ℕ) (held : P → Held N) (name : N) (ps : List P) (first : P) (rest : List P) (seat : Seat (Option S) (View N)) (state : S) where
   abbrev pub Knowing : Held N → Type 0
   Knowing p = Knows (past_of state) p.number p.seen × (p.noted ≤ length (past_of state))
 
-  pub all_knowing : held_of seat ≡ first → All (λ p. Contains seat.me.0.joined (joined_of p)) rest → Settles name_of past_of name seat.me.0 state → IsPermutation ps (first ∷ rest) → All Knowing ps
-  all_knowing is kept end parts = All-permutation Knowing (first ∷ rest) ps (IsPermutation-sym ps (first ∷ rest) parts) (All-cons Knowing first rest (subst Knowing is (end.knows, end.noted))
-      (λ k d below. at_contained (λ (j : Joined). Knows (past_of state) j.number j.seen × (j.noted ≤ length (past_of state))) seat.me.0.joined (joined_of (get_or rest k d)) end.joined (kept k d below)))
+  pub all_knowing : held_of seat ≡ held first → All (λ p. Contains seat.me.0.joined (joined_of (held p))) rest → Settles name_of past_of name seat.me.0 state → IsPermutation ps (first ∷ rest) → All (λ p. Knowing (held p)) ps
+  all_knowing is kept end parts = All-permutation (λ p. Knowing (held p)) (first ∷ rest) ps (IsPermutation-sym ps (first ∷ rest) parts) (All-cons (λ p. Knowing (held p)) first rest (subst Knowing is (end.knows, end.noted))
+      (λ k d below. at_contained (λ (j : Joined). Knows (past_of state) j.number j.seen × (j.noted ≤ length (past_of state))) seat.me.0.joined (joined_of (held (get_or rest k d))) end.joined (kept k d below)))

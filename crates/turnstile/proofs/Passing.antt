@@ -14,7 +14,7 @@ use native.Mathlib.Decide.{ℕ_discrete}
 use Rattle.std.specs.List.Sorted.{IsPermutation}
 use Rattle.std.proofs.lemmas.List.Sorted.{All-permutation, Contains-permutation}
 use Rattle.turnstile.specs.declared.views.Joined.{Joined}
-use Rattle.turnstile.specs.Passes.{Lock, Held, IsPassOf, AreAllOf, joined_of, IsNewPass, fresh_pass}
+use Rattle.turnstile.specs.Passes.{Lock, Held, IsPassOf, AreAllOf, HoldAllOf, joined_of, IsNewPass, fresh_pass}
 
 -- what a list contains, a longer one contains
 pub contains_behind : {A : Type 0} (xs ys : List A) (x : A) → Contains ys x → Contains (xs ++ ys) x
@@ -27,8 +27,8 @@ map_contains f (x ∷ xs) zero d below = (0, omega arith, refl)
 map_contains f (x ∷ xs) (suc k) d below = let has = map_contains f xs k d (omega arith) in (suc has.0, omega (arith, has.1), has.2)
 
 -- each pass of the list is kept behind those that were
-pub All-kept : {N : Type 0} (js : List Joined) (ps : List (Held N)) → All (λ p. Contains (js ++ map joined_of ps) (joined_of p)) ps
-All-kept js ps k d below = contains_behind js (map joined_of ps) _ (map_contains joined_of ps k d below)
+pub All-kept : {P : Type 0} (f : P → Joined) (js : List Joined) (ps : List P) → All (λ p. Contains (js ++ map f ps) (f p)) ps
+All-kept f js ps k d below = contains_behind js (map f ps) _ (map_contains f ps k d below)
 
 -- a list mapped to itself
 pub map-self : {A : Type 0} (xs : List A) → map (λ x. x) xs ≡ xs
@@ -79,30 +79,30 @@ contains_split x y xs (zero, below, is) = inl is
 contains_split x y xs (suc k, below, is) = inr (k, omega arith, is)
 
 -- all the passes are the first and the others
-module _ {N : Type 0} (t : Lock N) (ps : List (Held N)) (first : Held N) (rest : List (Held N)) (whole : AreAllOf t ps) (parts : IsPermutation ps (first ∷ rest)) where
+module _ {N P : Type 0} (held : P → Held N) (t : Lock N) (ps : List P) (first : P) (rest : List P) (whole : HoldAllOf held t ps) (parts : IsPermutation ps (first ∷ rest)) where
   -- each is the turnstile's
-  ours : All (IsPassOf t) (first ∷ rest)
-  ours = All-permutation (IsPassOf t) ps (first ∷ rest) parts whole.ours
+  ours : All (λ p. IsPassOf t (held p)) (first ∷ rest)
+  ours = All-permutation (λ p. IsPassOf t (held p)) ps (first ∷ rest) parts whole.ours
 
-  pub first_ours : IsPassOf t first
+  pub first_ours : IsPassOf t (held first)
   first_ours = ours 0 first (omega arith)
 
-  pub rest_ours : All (IsPassOf t) rest
+  pub rest_ours : All (λ p. IsPassOf t (held p)) rest
   rest_ours k d below = ours (suc k) d (omega arith)
 
   -- each number but the first's is among the others
-  pub among_rest : first.number ≡ 0 → (n : ℕ) → 0 < n → n < t.seats → (p : Held N) × Contains rest p × (p.number ≡ n)
+  pub among_rest : (held first).number ≡ 0 → (n : ℕ) → 0 < n → n < t.seats → (p : P) × Contains rest p × ((held p).number ≡ n)
   among_rest zeroth n above below =
-      let at = map_contained (λ (p : Held N). p.number) ps n (whole.every n below) in
+      let at = map_contained (λ (p : P). (held p).number) ps n (whole.every n below) in
       let split = contains_split at.0 first rest (Contains-permutation ps (first ∷ rest) at.0 parts at.1) in
-      ⊎_elim (λ (is : first ≡ at.0). let same : first.number ≡ at.0.number = ap (λ (p : Held N). p.number) is in absurd (omega (arith, at.2))) (λ (has : Contains rest at.0). (at.0, has, at.2)) split
+      ⊎_elim (λ (is : first ≡ at.0). let same : (held first).number ≡ (held at.0).number = ap (λ (p : P). (held p).number) is in absurd (omega (arith, at.2))) (λ (has : Contains rest at.0). (at.0, has, at.2)) split
 
   -- each number but the first's is kept, where all the others are
-  pub kept_numbers : (js : List Joined) → All (λ p. Contains js (joined_of p)) rest → first.number ≡ 0 → (made : ℕ) → made ≡ t.seats → (n : ℕ) → 0 < n → n < made → Contains (map (λ (j : Joined). j.number) js) n
+  pub kept_numbers : (js : List Joined) → All (λ p. Contains js (joined_of (held p))) rest → (held first).number ≡ 0 → (made : ℕ) → made ≡ t.seats → (n : ℕ) → 0 < n → n < made → Contains (map (λ (j : Joined). j.number) js) n
   kept_numbers js kept zeroth made all n above below =
       let at = among_rest zeroth n above (omega arith) in
-      let joined = at_contained (λ (p : Held N). Contains js (joined_of p)) rest at.0 kept at.1 in
-      subst (λ (k : ℕ). Contains (map (λ (j : Joined). j.number) js) k) at.2 (contains_map (λ (j : Joined). j.number) js (joined_of at.0) joined)
+      let joined = at_contained (λ (p : P). Contains js (joined_of (held p))) rest at.0 kept at.1 in
+      subst (λ (k : ℕ). Contains (map (λ (j : Joined). j.number) js) k) at.2 (contains_map (λ (j : Joined). j.number) js (joined_of (held at.0)) joined)
 
 module _ {N : Type 0} (t : Lock N) (ps : List (Held N)) where
   -- the passes that `new` gave are all

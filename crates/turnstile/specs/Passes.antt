@@ -35,10 +35,15 @@ module _ {N : Type 0} where
   abbrev pub IsDueFor : {S : Type 0} → (S → N) → (S → List ℕ) → Lock N → Held N → S → Type 0
   IsDueFor name_of past_of t p state = (name_of state ≡ t.name) × Knows (past_of state) p.number p.seen
 
+  module _ {P : Type 0} where
+    -- the passes that are held are all those that the turnstile's `new` gave, in any order
+    pub record HoldAllOf (held : P → Held N) (t : Lock N) (holders : List P) : Type 0 where
+      pub ours : All (λ p. IsPassOf t (held p)) holders
+      pub every : (number : ℕ) → number < t.seats → Contains (map (λ p. (held p).number) holders) number
+
   -- the passes are all those that the turnstile's `new` gave, in any order
-  pub record AreAllOf (t : Lock N) (passes : List (Held N)) : Type 0 where
-    pub ours : All (IsPassOf t) passes
-    pub every : (number : ℕ) → number < t.seats → Contains (map (λ p. p.number) passes) number
+  abbrev pub AreAllOf : Lock N → List (Held N) → Type 0
+  AreAllOf t passes = HoldAllOf (λ p. p) t passes
 
   -- what is kept of a pass that is joined
   abbrev pub joined_of : Held N → Joined

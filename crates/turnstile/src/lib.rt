@@ -29,5 +29,5 @@ mod waiting;
 
 pub use lock::Turnstile;
 pub use lwc_base::OutOfMemory;
-pub use passes::{Pass, Passes};
+pub use passes::{HoldsPass, Pass, Passes};
 pub use states::Turned;

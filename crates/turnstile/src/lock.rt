@@ -6,7 +6,7 @@ ghost use Rattle.turnstile.specs.Past.{times, Knows};
 ghost use Rattle.turnstile.specs.Passes.{IsPassOf, IsNewPass, IsDueFor};
 
 use crate::moves::{act, end_turn, look, open_table, settle, take_turn};
-use crate::passes::{Pass, Passes, deal_passes, join_all, take_first};
+use crate::passes::{HoldsPass, Pass, Passes, deal_passes, join_all, take_first};
 use crate::queue::LockTable;
 use crate::states::Turned;
 use crate::waiting::WaitWords;
@@ -38,7 +38,7 @@ impl<S: Turned> Model for Turnstile<S> {
 }
 
 impl<S: Turned> Turnstile<S> {
-    ghost use Rattle.turnstile.specs.Passes.{Held, IsNewPass, AreAllOf};
+    ghost use Rattle.turnstile.specs.Passes.{AreAllOf, Held, HoldAllOf, IsNewPass};
 
     /// A turnstile round a state with an empty past, and its passes, from 1 to 16. Pass i has the number i,
     /// has seen the empty past, and has noted 0 turns.
@@ -113,15 +113,16 @@ impl<S: Turned> Turnstile<S> {
         look(&self.table.shared, &mut pass.seat)
     }
 
-    /// Ends the turnstile, and gives its state back. The passes are all those that `new` gave, in any order.
+    /// Ends the turnstile, and gives its state back. What is handed in holds all the passes that `new` gave, in
+    /// any order; passes hold themselves. It takes no memory.
     ///
     /// The past of the state begins with what each pass had seen, has no further turn of that pass, and has
     /// at least as many turns as the pass had noted.
-    pub fn close(self, mut passes: Passes<S>) -> S
-        requires { AreAllOf self passes.items }
+    pub fn close<P: HoldsPass<S>>(self, mut passes: Vec<P>) -> S
+        requires { HoldAllOf P.held self passes.items }
         ensures name { S.name result ≡ self.name }
-        ensures seen { All (λ p. Knows (S.past result) p.number p.seen) passes.items }
-        ensures noted { All (λ p. p.noted ≤ length (S.past result)) passes.items }
+        ensures seen { All (λ p. Knows (S.past result) (P.held p).number (P.held p).seen) passes.items }
+        ensures noted { All (λ p. (P.held p).noted ≤ length (S.past result)) passes.items }
     {
         let Turnstile {
             seats: _,

@@ -34,6 +34,34 @@ impl<S: Turned> Model for Pass<S> {
     ghost invariant = { λ p. IsAtRest p.number p.seat };
 }
 
+/// What holds a pass of a turnstile, and gives it up when the turnstile ends.
+pub trait HoldsPass<S: Turned>: Drop {
+    ghost use Rattle.turnstile.specs.Passes.{Held};
+
+    // The pass, as contracts see it.
+    ghost held: { Self → Held S.Name };
+
+    /// The pass.
+    fn pass(&self) -> &Pass<S>
+        ensures { result.now ≡ held self.now };
+
+    /// The pass alone.
+    fn into_pass(self) -> Pass<S>
+        ensures { result ≡ held self };
+}
+
+impl<S: Turned> HoldsPass<S> for Pass<S> {
+    ghost held = { λ p. p };
+
+    fn pass(&self) -> &Pass<S> {
+        self
+    }
+
+    fn into_pass(self) -> Pass<S> {
+        self
+    }
+}
+
 impl<S: Turned> Pass<S> {
     ghost use Rattle.turnstile.specs.Passes.{held_of, IsAtRest};
 
@@ -85,16 +113,21 @@ pub(crate) fn deal_passes<S: Turned>(
     Ok(passes)
 }
 
-fn place_of_first<S: Turned>(passes: &[Pass<S>]) -> Option<usize>
-    ensures { result ≡ position (λ p. p.number == 0) passes.now }
+/// The place of the pass with number 0.
+fn place_of_first<S: Turned, P: HoldsPass<S>>(passes: &[P]) -> Option<usize>
+    ensures { result ≡ position (λ p. (P.held p).number == 0) passes.now }
 {
-    passes.iter().position(|pass| pass.number() == 0)
+    passes.iter().position(
+        |holder| -> bool
+            ensures { result ≡ ((P.held holder.now).number == 0) }
+        { holder.pass().number() == 0 },
+    )
 }
 
 /// Takes the pass with number 0 out.
-pub(crate) fn take_first<S: Turned>(passes: &mut Passes<S>) -> Pass<S>
-    requires { Contains (map (λ p. p.number) passes.old.items) 0 }
-    ensures first { result.number ≡ 0 }
+pub(crate) fn take_first<S: Turned, P: HoldsPass<S>>(passes: &mut Vec<P>) -> P
+    requires { Contains (map (λ p. (P.held p).number) passes.old.items) 0 }
+    ensures first { (P.held result).number ≡ 0 }
     ensures others { IsPermutation passes.old.items (result ∷ passes.new.items) }
 {
     let place = place_of_first(passes.as_slice());
@@ -102,21 +135,21 @@ pub(crate) fn take_first<S: Turned>(passes: &mut Passes<S>) -> Pass<S>
 }
 
 /// Joins the seats of all other passes to that of the first.
-pub(crate) fn join_all<S: Turned>(
+pub(crate) fn join_all<S: Turned, P: HoldsPass<S>>(
     shared: &LockShared<S>,
-    first: Pass<S>,
-    others: Passes<S>,
+    first: P,
+    others: Vec<P>,
 ) -> LockSeat<S>
-    requires shared { (first.table ≡ shared.now.table_id) × (shared.now.table_id.words ≡ 2) × (shared.now.table_id.slots ≡ 1) }
-    requires first { first.number ≡ 0 }
-    requires others { All (λ p. p.table ≡ shared.now.table_id) others.items }
-    ensures seat { held_of result ≡ first }
+    requires shared { ((P.held first).table ≡ shared.now.table_id) × (shared.now.table_id.words ≡ 2) × (shared.now.table_id.slots ≡ 1) }
+    requires first { (P.held first).number ≡ 0 }
+    requires others { All (λ p. (P.held p).table ≡ shared.now.table_id) others.items }
+    ensures seat { held_of result ≡ P.held first }
     ensures rest { IsAtRest 0 result }
-    ensures joined { All (λ p. Contains result.me.0.joined (joined_of p)) others.items }
+    ensures joined { All (λ p. Contains result.me.0.joined (joined_of (P.held p))) others.items }
 {
-    let mut seat = first.into_seat();
+    let mut seat = first.into_pass().into_seat();
     for other in others {
-        join_seat(shared, &mut seat, other.into_seat());
+        join_seat(shared, &mut seat, other.into_pass().into_seat());
     }
     seat
 }
