@@ -1,0 +1,4 @@
+pub mod Due
+pub mod Handing
+pub mod Stepping
+pub mod Completed

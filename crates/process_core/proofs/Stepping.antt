@@ -1,0 +1,39 @@
+-- A step of a thread that has not ended.
+use Rattle.std.proofs.Common.{◌≡◌, ◌+◌, ◌-◌, ◌<◌, ◌≤◌, ℕ, false, cond, [], ◌∷◌, ◌++◌, length, sym, ap, subst, ◌∙◌, arith, length-append}
+use Rattle.kernel_core.specs.Histories.{IsLegal}
+use Rattle.kernel_core.specs.Kernel.{CanOpen, History, machine_of, stepped}
+use Rattle.kernel_core.specs.Machine.{is_ended, work}
+use Rattle.kernel_core.specs.Start.{start}
+use Rattle.lwc_base.specs.declared.limits.TheConstants.{MOST_STEPS}
+use Rattle.process_core.specs.Facts.{HistoryFacts}
+
+-- there is room for a step of a thread that has not ended
+pub some_room : HistoryFacts → (h : History) (t : ℕ) → CanOpen h.inputs → is_ended (machine_of h) t ≡ false → work (machine_of h) ≤ h.room → 0 < h.room
+unfolding machine_of
+some_room facts h t can going room = omega (arith, facts.left h.inputs h.steps t can going)
+
+abbrev longer : History → ℕ → History
+longer h t = record h { steps = h.steps ++ t ∷ []; room = h.room - 1 }
+
+module _ (h next : History) (t : ℕ) (going : is_ended (machine_of h) t ≡ false) (is : next ≡ stepped h t) where
+  is_longer : next ≡ longer h t
+  unfolding stepped
+  is_longer = is ∙ ap (λ b. cond b h (longer h t)) going
+
+  pub stepped_inputs : next.inputs ≡ h.inputs
+  stepped_inputs = ap (λ (k : History). k.inputs) is_longer
+
+  pub stepped_steps : next.steps ≡ h.steps ++ t ∷ []
+  stepped_steps = ap (λ (k : History). k.steps) is_longer
+
+  -- a legal history stays legal
+  pub stays_legal : HistoryFacts → IsLegal (start h.inputs) h.steps → IsLegal (start next.inputs) next.steps
+  unfolding machine_of
+  stays_legal facts legal =
+      subst (λ (k : History). IsLegal (start k.inputs) k.steps) (sym is_longer) (facts.longer (start h.inputs) h.steps t legal going)
+
+  pub stays_few : 0 < h.room → length h.steps + h.room ≤ MOST_STEPS → length next.steps + next.room ≤ MOST_STEPS
+  stays_few some few =
+      let steps : length next.steps ≡ length h.steps + 1 = ap length stepped_steps ∙ length-append h.steps (t ∷ []) in
+      let room : next.room ≡ h.room - 1 = ap (λ (k : History). k.room) is_longer in
+      omega arith

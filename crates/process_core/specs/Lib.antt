@@ -1,0 +1,11 @@
+pub use mathlib.Core.List
+pub use Rattle.kernel_core.specs.Histories
+pub use Rattle.kernel_core.specs.Kernel
+pub use Rattle.kernel_core.specs.Machine
+pub use Rattle.kernel_core.specs.Runs
+pub use Rattle.kernel_core.specs.Start
+pub use Rattle.guest_machine.specs.Advances
+pub use Rattle.turnstile.specs.Past
+pub use Rattle.turnstile.specs.Passes
+pub mod Running
+pub mod Facts

@@ -1,0 +1,35 @@
+-- What contracts see of a process and of its passes.
+use Rattle.std.specs.Prelude.{◌≡◌, ◌<◌, ◌≤◌, ℕ, List, All, Contains, Some, length, map}
+use Rattle.kernel_core.specs.Histories.{IsLegal, turn_after}
+use Rattle.kernel_core.specs.Start.{Inputs, start, thread_count}
+use Rattle.kernel_core.specs.declared.thread.Turn.{Turn}
+use Rattle.lwc_base.specs.declared.limits.TheConstants.{MOST_STEPS}
+use Rattle.turnstile.specs.Passes as gate
+use Rattle.turnstile.specs.Passes.{Held, Lock}
+
+-- a pass of a process: the pass of its lock, and the last turn of its thread
+pub record Carried : Type 0 where
+  pub held : Held Inputs
+  pub last : Turn
+
+-- the history is legal, is not longer than a kernel's, and leaves this turn of the thread
+pub record Leaves (inputs : Inputs) (t : ℕ) (seen : List ℕ) (turn : Turn) : Type 0 where
+  pub legal : IsLegal (start inputs) seen
+  pub few : length seen ≤ MOST_STEPS
+  pub turn_is : turn_after inputs seen t ≡ Some turn
+
+-- the process's `open` gave the pass: its number is that of a thread, and its last turn is what the history that it has seen leaves of that thread
+pub record IsPassOf (process : Lock Inputs) (p : Carried) : Type 0 where
+  pub ours : gate.IsPassOf process p.held
+  pub within : p.held.number < thread_count process.name
+  pub leaves : Leaves process.name p.held.number p.held.seen p.last
+
+-- the pass of this thread, as `open` gives it
+pub record IsNewPass (process : Lock Inputs) (t : ℕ) (p : Carried) : Type 0 where
+  pub new : gate.IsNewPass process t p.held
+  pub ours : IsPassOf process p
+
+-- the passes are all those that the process's `open` gave, in any order
+pub record AreAllOf (process : Lock Inputs) (passes : List Carried) : Type 0 where
+  pub ours : All (IsPassOf process) passes
+  pub every : (t : ℕ) → t < thread_count process.name → Contains (map (λ p. p.held.number) passes) t

@@ -1,0 +1,92 @@
+//! The kernel as the lock guards it.
+ghost use Rattle.std.specs.Prelude.{◌≡◌, ◌≤◌, ◌+◌, ◌<◌, ◌++◌, ◌∷◌, [], false, true, IfSome, Some, length};
+ghost use Rattle.guest_machine.specs.Advances.{advanced};
+ghost use Rattle.kernel_core.specs.Histories.{IsLegal};
+ghost use Rattle.kernel_core.specs.Kernel.{machine_of, stepped, turn};
+ghost use Rattle.kernel_core.specs.Machine.{is_ended, work};
+ghost use Rattle.kernel_core.specs.Start.{start, thread_count};
+ghost use Rattle.lwc_base.specs.declared.limits.TheConstants.{MOST_STEPS};
+
+use crate::facts::histories_are_known;
+use guest_machine::Advance;
+use kernel_core::{Inputs, Kernel, Turn};
+use lwc_base::OutOfMemory;
+use turnstile::Turned;
+use world_face::World;
+
+/// A kernel over a roomy world, whose steps are a legal history, with room for all the steps that are left.
+#[derive(Drop)]
+pub(crate) struct Guarded<W: World> {
+    pub(crate) kernel: Kernel<W>,
+    pub(crate) ghost legal: { IsLegal (start kernel.inputs) kernel.steps },
+    pub(crate) ghost room: { work (machine_of kernel) ≤ kernel.room },
+    pub(crate) ghost few: { length kernel.steps + kernel.room ≤ MOST_STEPS },
+    pub(crate) ghost roomy: { W.roomy ≡ true },
+}
+
+impl<W: World> Turned for Guarded<W> {
+    type Name = Inputs;
+
+    ghost name = { λ g. g.kernel.inputs };
+
+    ghost past = { λ g. g.kernel.steps };
+
+    ghost use Rattle.std.proofs.Common.{arith};
+
+    ghost short = { λ g. omega (arith, g.few) };
+}
+
+/// A step of a thread that has not ended, with room for it.
+fn step_kernel<W: World>(kernel: &mut Kernel<W>, t: u32, proposal: Option<&Advance>) -> Turn
+    requires roomy { W.roomy ≡ true }
+    requires within { t < thread_count kernel.old.inputs }
+    requires going { is_ended (machine_of kernel.old) t ≡ false }
+    requires room { work (machine_of kernel.old) ≤ kernel.old.room }
+    requires proposal { IfSome proposal (λ a. a.now ≡ advanced kernel.old.inputs.image.text a.now.before) }
+    ensures step { kernel.new ≡ stepped kernel.old t }
+    ensures turn { turn kernel.new t ≡ Some result }
+    ensures some { 0 < kernel.old.room }
+    ensures room { kernel.new.room + 1 ≡ kernel.old.room }
+    ensures work { work (machine_of kernel.new) < work (machine_of kernel.old) }
+{
+    kernel.was_opened();
+    histories_are_known();
+    match kernel.step(t, proposal) {
+        Ok(turn) => turn,
+        Err(OutOfMemory) => unreachable!(),
+    }
+}
+
+/// A kernel that was just opened, as the lock guards it.
+pub(crate) fn guard<W: World>(kernel: Kernel<W>) -> Guarded<W>
+    requires roomy { W.roomy ≡ true }
+    requires fresh { kernel.steps ≡ [] }
+    requires room { work (machine_of kernel) ≤ kernel.room }
+    ensures { result.kernel ≡ kernel }
+{
+    let _steps = kernel.schedule();
+    Guarded { kernel }
+}
+
+impl<W: World> Guarded<W> {
+    /// A step of a thread that has not ended.
+    pub(crate) fn make_step(&mut self, t: u32, proposal: Option<Advance>) -> Turn
+        requires within { t < thread_count self.old.kernel.inputs }
+        requires going { is_ended (machine_of self.old.kernel) t ≡ false }
+        requires proposal { IfSome proposal (λ a. a ≡ advanced self.old.kernel.inputs.image.text a.before) }
+        ensures inputs { self.new.kernel.inputs ≡ self.old.kernel.inputs }
+        ensures steps { self.new.kernel.steps ≡ self.old.kernel.steps ++ t ∷ [] }
+        ensures turn { turn self.new.kernel t ≡ Some result }
+    {
+        histories_are_known();
+        step_kernel(&mut self.kernel, t, proposal.as_ref())
+    }
+
+    /// The kernel.
+    pub(crate) fn into_kernel(self) -> Kernel<W>
+        ensures kernel { result ≡ self.kernel }
+    {
+        let Guarded { kernel } = self;
+        kernel
+    }
+}

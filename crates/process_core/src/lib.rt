@@ -1,0 +1,17 @@
+//! A kernel under one lock, each of whose threads is carried by a pass.
+//!
+//! `Process::open` puts a kernel over a roomy world under a ticket lock, and gives a pass for each thread.
+//! Whoever has a pass makes the steps of its thread by `turn`, one after another, from any thread of the
+//! host. All steps of all passes are in one legal history, and the pass has what its holder knows of it: the
+//! history up to its last step, and what that step left of the thread. Whoever has all the passes takes the
+//! kernel back by `close`.
+#![tactic(auto)]
+
+mod facts;
+mod guarded;
+mod opening;
+mod passes;
+mod process;
+
+pub use passes::{ProcessPass, ProcessPasses};
+pub use process::Process;

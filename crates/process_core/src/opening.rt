@@ -1,0 +1,58 @@
+//! The passes that a process begins with.
+ghost use Rattle.std.specs.Prelude.{◌≡◌, ◌<◌, ◌≤◌, ℕ, [], length, IfOk, Some, slice_get, vec_capacity};
+ghost use Rattle.kernel_core.specs.Histories.{turn_after};
+ghost use Rattle.kernel_core.specs.Kernel as kernels;
+ghost use Rattle.kernel_core.specs.Start.{Inputs, thread_count};
+ghost use Rattle.kernel_core.specs.declared.thread.Turn.{Turn};
+ghost use Rattle.process_core.specs.Running.{Carried, IsNewPass};
+ghost use Rattle.turnstile.specs.Passes as gates;
+ghost use Rattle.turnstile.specs.Passes.{Held};
+
+use crate::guarded::Guarded;
+use crate::passes::{ProcessPass, ProcessPasses};
+use kernel_core::{Kernel, Turn};
+use lwc_base::OutOfMemory;
+use std::alloc::Global;
+use turnstile::{Passes, Turnstile};
+use world_face::World;
+
+/// How each thread of a kernel is. The only error is out of memory.
+pub(crate) fn first_turns<W: World>(
+    alloc: Global,
+    kernel: &Kernel<W>,
+) -> Result<Vec<Turn>, OutOfMemory>
+    ensures count { IfOk result (λ turns. length turns.items ≡ thread_count kernel.now.inputs) }
+    ensures turns { IfOk result (λ turns. (t : ℕ) (last : Turn) →
+        slice_get turns.items t ≡ Some last → kernels.turn kernel.now t ≡ Some last) }
+{
+    let mut turns = Vec::new(alloc);
+    'threads: for t in 0..kernel.thread_count() {
+        turns.push(kernel.turn(t))?;
+    }
+    Ok(turns)
+}
+
+/// Gives each pass of the lock to a pass of the process.
+pub(crate) fn hand_out<W: World>(
+    gate: &Turnstile<Guarded<W>>,
+    mut held: Passes<Guarded<W>>,
+    turns: &Vec<Turn>,
+    mut passes: ProcessPasses<W>,
+) -> ProcessPasses<W>
+    requires empty { passes.items ≡ [] }
+    requires room { length held.items ≤ vec_capacity passes }
+    requires count { length held.items ≡ length turns.now.items }
+    requires new { (i : ℕ) (p : Held Inputs) → slice_get held.items i ≡ Some p → gates.IsNewPass gate.now i p }
+    requires threads { length turns.now.items ≡ thread_count gate.now.name }
+    requires turns { (t : ℕ) (last : Turn) →
+        slice_get turns.now.items t ≡ Some last → turn_after gate.now.name [] t ≡ Some last }
+    ensures count { length result.items ≡ length held.items }
+    ensures new { (i : ℕ) (p : Carried) → slice_get result.items i ≡ Some p → IsNewPass gate.now i p }
+{
+    'held: while !held.is_empty() {
+        let pass = held.remove(0);
+        let last = turns[passes.len()].same();
+        passes.push_reserved(ProcessPass { pass, last });
+    }
+    passes
+}

@@ -1,0 +1,57 @@
+//! The passes of a process.
+ghost use Rattle.std.specs.Prelude.{◌≡◌};
+
+use crate::guarded::Guarded;
+use kernel_core::Turn;
+use std::marker::Model;
+use turnstile::{HoldsPass, Pass};
+use world_face::World;
+
+/// The right to make the steps of one thread. It may go from one worker to another.
+///
+/// Contracts see it as `Carried`: the pass of the lock, and the last turn of the thread.
+#[derive(Drop)]
+pub struct ProcessPass<W: World> {
+    pub(crate) pass: Pass<Guarded<W>>,
+    pub(crate) last: Turn,
+}
+
+/// The passes of a process, at `open` in the order of their threads.
+pub type ProcessPasses<W> = Vec<ProcessPass<W>>;
+
+impl<W: World> Model for ProcessPass<W> {
+    ghost use Rattle.process_core.specs.Running.{Carried};
+
+    ghost Value = { Carried };
+
+    ghost view = { λ p. record { held = p.pass; last = p.last } };
+}
+
+impl<W: World> HoldsPass<Guarded<W>> for ProcessPass<W> {
+    ghost held = { λ p. p.held };
+
+    fn pass(&self) -> &Pass<Guarded<W>> {
+        &self.pass
+    }
+
+    fn into_pass(self) -> Pass<Guarded<W>> {
+        let ProcessPass { pass, last: _ } = self;
+        pass
+    }
+}
+
+impl<W: World> ProcessPass<W> {
+    /// The thread whose steps it makes.
+    pub fn thread(&self) -> u32
+        ensures { result ≡ self.now.held.number }
+    {
+        self.pass.number()
+    }
+
+    /// What the last turn left of the thread; before the first one, how the thread is at the start.
+    pub fn last(&self) -> &Turn
+        ensures { result.now ≡ self.now.last }
+    {
+        &self.last
+    }
+}

@@ -1,0 +1,195 @@
+//! A process, as its callers see it.
+ghost use Rattle.std.specs.Prelude.{◌≡◌, ◌<◌, ◌≤◌, ℕ, [], ◌∷◌, ◌++◌, false, true, length, All, IfOk, IfSome, Some, slice_get};
+ghost use Rattle.guest_machine.specs.Advances.{advanced};
+ghost use Rattle.kernel_core.specs.Histories.{GoesOn, IsComplete, IsLegal, turn_after};
+ghost use Rattle.kernel_core.specs.Kernel as kernels;
+ghost use Rattle.kernel_core.specs.Kernel.{machine_of};
+ghost use Rattle.kernel_core.specs.Machine.{has_ended, is_ended, work};
+ghost use Rattle.kernel_core.specs.Start.{start, thread_count};
+ghost use Rattle.process_core.specs.Running.{AreAllOf, Carried, IsNewPass, IsPassOf, Leaves};
+ghost use Rattle.turnstile.specs.Passes as gates;
+ghost use Rattle.turnstile.specs.Past.{Knows};
+
+use crate::facts::histories_are_known;
+use crate::guarded::{Guarded, guard};
+use crate::opening::{first_turns, hand_out};
+use crate::passes::{ProcessPass, ProcessPasses};
+use guest_isa::Text;
+use guest_machine::Advance;
+use kernel_core::{Kernel, Turn};
+use lwc_base::OutOfMemory;
+use std::alloc::Global;
+use std::marker::Model;
+use std::sync::Wait;
+use turnstile::{Pass, Turnstile};
+use world_face::World;
+
+/// A kernel under a lock. Threads share it by `&`, each with a pass of its own.
+///
+/// Contracts see it as its lock, whose name is what the kernel was opened with.
+#[derive(Drop)]
+pub struct Process<W: World> {
+    gate: Turnstile<Guarded<W>>,
+    text: Text,
+}
+
+impl<W: World> Model for Process<W> {
+    ghost use Rattle.std.specs.Prelude.{◌≡◌};
+    ghost use Rattle.kernel_core.specs.Start.{Inputs, thread_count};
+    ghost use Rattle.turnstile.specs.Passes.{Lock};
+
+    ghost Value = { Lock Inputs };
+
+    ghost view = { λ p. p.gate };
+
+    ghost invariant = { λ p. (p.text ≡ p.gate.name.image.text) × (p.gate.seats ≡ thread_count p.gate.name) };
+}
+
+/// One step of the pass's thread, which its last turn had not ended.
+fn take_turn<R: Wait, W: World>(
+    gate: &Turnstile<Guarded<W>>,
+    rt: &R,
+    pass: &mut Pass<Guarded<W>>,
+    last: &Turn,
+    proposal: Option<Advance>,
+) -> Turn
+    requires ours { gates.IsPassOf gate.now pass.old }
+    requires within { pass.old.number < thread_count gate.now.name }
+    requires knows { Leaves gate.now.name pass.old.number pass.old.seen last.now }
+    requires going { has_ended last.now.status ≡ false }
+    requires proposal { IfSome proposal (λ a. a ≡ advanced gate.now.name.image.text a.before) }
+    ensures ours { gates.IsPassOf gate.now pass.new }
+    ensures number { pass.new.number ≡ pass.old.number }
+    ensures leaves { Leaves gate.now.name pass.new.number pass.new.seen result }
+    ensures goes_on { GoesOn pass.old.number pass.old.seen pass.new.seen }
+    ensures later { pass.old.noted < length pass.new.seen }
+    ensures noted { pass.old.noted ≤ pass.new.noted }
+{
+    histories_are_known();
+    let t = pass.number();
+    gate.with_turn(
+        rt,
+        pass,
+        |guarded: &mut Guarded<W>| -> Turn
+            requires { (t < thread_count guarded.now.kernel.inputs)
+                × (is_ended (machine_of guarded.now.kernel) t ≡ false)
+                × IfSome proposal (λ a. a ≡ advanced guarded.now.kernel.inputs.image.text a.before) }
+            ensures { (guarded.exit.now.kernel.inputs ≡ guarded.entry.now.kernel.inputs)
+                × (guarded.exit.now.kernel.steps ≡ guarded.entry.now.kernel.steps ++ t ∷ [])
+                × (kernels.turn guarded.exit.now.kernel t ≡ Some result) }
+        { guarded.make_step(t, proposal) },
+    )
+}
+
+impl<W: World> Process<W> {
+    /// A kernel under a lock, and a pass for each of its threads, in the order of their numbers. The kernel
+    /// has kept no step, and has room for all the steps that its threads may make. This is the only call that
+    /// takes memory.
+    ///
+    /// # Errors
+    ///
+    /// The only error is out of memory; the kernel is then given up.
+    pub fn open(
+        alloc: Global,
+        kernel: Kernel<W>,
+    ) -> Result<(Process<W>, ProcessPasses<W>), OutOfMemory>
+        requires roomy { W.roomy ≡ true }
+        requires fresh { kernel.steps ≡ [] }
+        requires room { work (machine_of kernel) ≤ kernel.room }
+        ensures inputs { IfOk result (λ p. p.0.name ≡ kernel.inputs) }
+        ensures count { IfOk result (λ p. length p.1.items ≡ thread_count kernel.inputs) }
+        ensures passes { IfOk result (λ p. (i : ℕ) (q : Carried) →
+            slice_get p.1.items i ≡ Some q → IsNewPass p.0 i q) }
+        ensures all { IfOk result (λ p. AreAllOf p.0 p.1.items) }
+    {
+        let text = kernel.text().copy(alloc)?;
+        let turns = first_turns(alloc, &kernel)?;
+        let seats = kernel.thread_count();
+        let passes = Vec::with_capacity(alloc, seats as usize)?;
+        let (gate, held) = Turnstile::new(alloc, guard(kernel), seats)?;
+        let passes = hand_out(&gate, held, &turns, passes);
+        Ok((Process { gate, text }, passes))
+    }
+
+    /// The instructions that its threads run. It waits for nobody.
+    pub fn text(&self) -> &Text
+        ensures { result.now ≡ self.now.name.image.text }
+    {
+        &self.text
+    }
+
+    /// One step of the pass's thread, or none where its last turn had ended the thread: then that turn is
+    /// answered again. It may wait, and takes no memory. A proposal is the advance of some registers over the
+    /// text; it is used if it begins with the thread's registers, and the answer is the same without it.
+    ///
+    /// The answer is what the history that the pass has then seen leaves of the thread. That history is legal,
+    /// and goes on from the one that the pass had seen by steps of others and one of this thread.
+    pub fn turn<R: Wait>(
+        &self,
+        rt: &R,
+        pass: &mut ProcessPass<W>,
+        proposal: Option<&Advance>,
+    ) -> Turn
+        requires ours { IsPassOf self.now pass.old }
+        requires proposal { IfSome proposal (λ a. a.now ≡ advanced self.now.name.image.text a.now.before) }
+        ensures ours { IsPassOf self.now pass.new }
+        ensures number { pass.new.held.number ≡ pass.old.held.number }
+        ensures legal { IsLegal (start self.now.name) pass.new.held.seen }
+        ensures turn { turn_after self.now.name pass.new.held.seen pass.new.held.number ≡ Some result }
+        ensures last { pass.new.last ≡ result }
+        ensures rests { has_ended pass.old.last.status ≡ true → pass.new ≡ pass.old }
+        ensures goes_on { has_ended pass.old.last.status ≡ false →
+            GoesOn pass.old.held.number pass.old.held.seen pass.new.held.seen }
+        ensures later { has_ended pass.old.last.status ≡ false →
+            pass.old.held.noted < length pass.new.held.seen }
+        ensures noted { pass.old.held.noted ≤ pass.new.held.noted }
+    {
+        if pass.last.has_ended() {
+            return pass.last.same();
+        }
+        let turn = take_turn(
+            &self.gate,
+            rt,
+            &mut pass.pass,
+            &pass.last,
+            proposal.copied(),
+        );
+        pass.last = turn.same();
+        turn
+    }
+
+    /// How many steps were kept. The pass notes the answer, which is below neither the number of steps that
+    /// it has seen nor what it had noted. It waits for nobody.
+    pub fn steps_seen(&self, pass: &mut ProcessPass<W>) -> u64
+        requires ours { IsPassOf self.now pass.old }
+        ensures seen { length pass.old.held.seen ≤ result }
+        ensures noted { pass.old.held.noted ≤ result }
+        ensures pass { pass.new ≡ record pass.old { held = record pass.old.held { noted = result } } }
+        ensures ours { IsPassOf self.now pass.new }
+    {
+        self.gate.served(&mut pass.pass)
+    }
+
+    /// Ends the process, and gives its kernel back. The passes are all those that `open` gave, in any order.
+    /// It takes no memory.
+    ///
+    /// The kernel's steps are a legal history, which begins with what each pass had seen, has no further step
+    /// of that pass's thread, and has at least as many steps as the pass had noted. Where the last turn of
+    /// each pass ended its thread, the history is complete.
+    pub fn close(self, passes: ProcessPasses<W>) -> Kernel<W>
+        requires { AreAllOf self passes.items }
+        ensures inputs { result.inputs ≡ self.name }
+        ensures legal { IsLegal (start self.name) result.steps }
+        ensures seen { All (λ p. Knows result.steps p.held.number p.held.seen) passes.items }
+        ensures noted { All (λ p. p.held.noted ≤ length result.steps) passes.items }
+        ensures turns { All (λ p. kernels.turn result p.held.number ≡ Some p.last) passes.items }
+        ensures complete { All (λ p. has_ended p.last.status ≡ true) passes.items →
+            IsComplete (start self.name) result.steps }
+    {
+        histories_are_known();
+        let Process { gate, text: _ } = self;
+        let kernel = gate.close(passes).into_kernel();
+        kernel.was_opened();
+        kernel
+    }
+}
