@@ -1,0 +1,74 @@
+ghost use Rattle.std.specs.Prelude.{◌≡◌, ◌≤◌, ◌<◌, ◌+◌, ◌^◌, true, All, length, map};
+ghost use Rattle.kernel_core.specs.Machine.{has_ended};
+ghost use Rattle.lwc_base.specs.declared.limits.TheConstants.{MOST_STEPS};
+ghost use Rattle.process_core.specs.Running.{IsPassOf};
+ghost use Rattle.thread_carrier.specs.Carriers.{HasTurned};
+
+use guest_machine::{advance, advance_is_determined};
+use lwc_base::MOST_THREADS;
+use lwc_io::Gate;
+use process_core::{Process, ProcessPass};
+use std::sync::Wait;
+use std::thread;
+use std::thread::Threads;
+use world_face::World;
+
+/// A thread that is carried: its pass, and the number of turns that were made with it.
+#[derive(Drop)]
+pub struct Carrier<W: World> {
+    pub pass: ProcessPass<W>,
+    pub turns: u64,
+}
+
+/// Carries a thread to its end. Each turn has as its proposal the advance of the thread's registers, which is
+/// computed outside the lock, and comes to the gate before. It may wait, and takes no memory.
+pub fn carry<R: Wait, W: World, G: Gate>(
+    rt: &R,
+    process: &Process<W>,
+    carrier: &mut Carrier<W>,
+    gate: &G,
+)
+    requires leave { G.leave gate.now }
+    requires ours { IsPassOf process.now carrier.old.pass }
+    requires turns { carrier.old.turns < 2 ^ 63 }
+    ensures ours { IsPassOf process.now carrier.new.pass }
+    ensures number { carrier.new.pass.held.number ≡ carrier.old.pass.held.number }
+    ensures ended { has_ended carrier.new.pass.last.status ≡ true }
+    ensures counted { HasTurned carrier.old.pass carrier.old.turns carrier.new.pass carrier.new.turns }
+    ensures few { carrier.new.turns ≤ carrier.old.turns + MOST_STEPS }
+{
+    advance_is_determined();
+    'turns: while !carrier.pass.last().has_ended() {
+        let proposal = advance(process.text(), &carrier.pass.last().regs);
+        gate.before(rt, carrier.pass.thread(), carrier.turns);
+        process.turn(rt, &mut carrier.pass, Some(&proposal));
+        carrier.turns += 1;
+    }
+}
+
+/// Carries all threads to their ends, each in a thread of the host's own where one can be made. It may wait.
+pub fn carry_all<R: Threads + Wait + Sync, W: World, G: Gate>(
+    rt: &R,
+    process: &Process<W>,
+    carriers: &mut [Carrier<W>],
+    gate: &G,
+)
+    requires leave { G.leave gate.now }
+    requires ours { All (λ c. IsPassOf process.now c.pass) carriers.old }
+    requires turns { All (λ c. c.turns < 2 ^ 63) carriers.old }
+    ensures ours { All (λ c. IsPassOf process.now c.pass) carriers.new }
+    ensures ended { All (λ c. has_ended c.pass.last.status ≡ true) carriers.new }
+    ensures numbers { map (λ c. c.pass.held.number) carriers.new ≡ map (λ c. c.pass.held.number) carriers.old }
+{
+    thread::for_each_mut(
+        rt,
+        carriers,
+        MOST_THREADS as usize,
+        &|_, carrier: &mut Carrier<W>|
+            requires { G.leave gate.now × IsPassOf process.now carrier.now.pass × (carrier.now.turns < 2 ^ 63) }
+            ensures { IsPassOf process.entry.now carrier.exit.now.pass
+                × (has_ended carrier.exit.now.pass.last.status ≡ true)
+                × (carrier.exit.now.pass.held.number ≡ carrier.entry.now.pass.held.number) }
+        { carry(rt, process, carrier, gate) },
+    );
+}

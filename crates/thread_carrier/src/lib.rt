@@ -1,0 +1,6 @@
+//! Workers of the host that carry the threads of a process to their ends.
+#![tactic(auto)]
+
+mod carrier;
+
+pub use carrier::{Carrier, carry, carry_all};
