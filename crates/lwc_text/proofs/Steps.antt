@@ -1,16 +1,17 @@
 -- Reading steps byte by byte.
-use Rattle.std.proofs.Common.{◌≡◌, ℕ, zero, suc, get_or, ◌+◌, ◌≤◌, ◌<◌, Bool, true, false, ◌||◌, IsTrue, List, [], ◌∷◌, ◌++◌, length, take, drop, All, Option, Some, None, Ok, Err, refl, sym, ap, subst, ◌∙◌, arith, append_assoc, append-nil, length-append, eqb}
+use Rattle.std.proofs.Common.{◌≡◌, ℕ, zero, suc, get_or, ◌+◌, ◌≤◌, ◌<◌, true, ◌||◌, IsTrue, List, [], ◌∷◌, ◌++◌, length, take, drop, All, Option, Some, None, Ok, refl, sym, ap, subst, ◌∙◌, arith, append_assoc, append-nil, length-append}
 use Rattle.std.proofs.lemmas.Bool.Decides.{nat_tests}
 use Rattle.std.proofs.lemmas.List.{take_more, take-append-drop}
 use Rattle.std.proofs.lemmas.List.Elements.{All-nil, All-cons, All-head, All-tail, All-from_get_or, All-get_or}
 use Rattle.std.proofs.Math.Seq.{take-length}
 use Rattle.std.specs.List.{cons_option, filter_map, range_with_len}
 use Rattle.std.specs.Option.{option_map}
-use Rattle.byte_reading.specs.Outcomes.{Refusal, Fails, IsFound, unless_refused}
+use Rattle.byte_reading.specs.Outcomes.{Fails, IsFound, unless_refused}
 use Rattle.byte_reading.specs.declared.error.ReadError.{ReadError}
 use Rattle.byte_reading.specs.declared.error.ReadError.TheVariants as errors
 use Rattle.lwc_text.specs.declared.fault.InputRule.{InputRule}
 use Rattle.lwc_base.specs.declared.limits.TheConstants.{MOST_SCHEDULE_BYTES, MOST_STEPS, MOST_THREADS}
+use Rattle.lwc_text.proofs.Refusals.{clear_next, first_refused, none_refused, nothing_refused, read_by, unless_none}
 use Rattle.lwc_text.specs.Schedules.{IsSchedule, digit_number, is_blank, names_thread, numbers, refusal_at, refusal_of, refusals, rule_broken, schedule_at}
 
 -- a byte that a schedule may have
@@ -62,30 +63,6 @@ numbers-append (b ∷ xs) ys =
 numbers-next : (bytes : List ℕ) (at : ℕ) → at < length bytes → numbers (take (at + 1) bytes) ≡ numbers (take at bytes) ++ numbers (get_or bytes at 0 ∷ [])
 numbers-next bytes at within = ap numbers (take_more bytes at 0 within) ∙ numbers-append (take at bytes) (get_or bytes at 0 ∷ [])
 
--- where nothing is refused from a number on, there is no refusal
-none_refused : (refusal : ℕ → Option (Refusal InputRule)) (a n : ℕ) → ((i : ℕ) → a ≤ i → i < a + n → refusal i ≡ None) → filter_map refusal (range_with_len a n) ≡ []
-none_refused refusal a zero none = refl
-none_refused refusal a (suc n) none =
-    ap (λ o. cons_option o (filter_map refusal (range_with_len (a + 1) n))) (none a (omega arith) (omega arith))
-    ∙ none_refused refusal (a + 1) n (λ i low high. none i (omega arith) (omega arith))
-
-first_by : (b : Bool) (refusal : ℕ → Option (Refusal InputRule)) (steps : List ℕ) (a n at : ℕ) (r : Refusal InputRule) → eqb a at ≡ b → a ≤ at → ((i : ℕ) → a ≤ i → i < at → refusal i ≡ None) → refusal at ≡ Some r →
-    (a + 1 ≤ at → unless_refused steps (filter_map refusal (range_with_len (a + 1) n)) ≡ Err r) → unless_refused steps (filter_map refusal (range_with_len a (suc n))) ≡ Err r
-first_by true refusal steps a n at r is low none here later =
-    let same : a ≡ at = grind (arith, nat_tests) in
-    ap (λ o. unless_refused steps (cons_option o (filter_map refusal (range_with_len (a + 1) n)))) (ap refusal same ∙ here)
-first_by false refusal steps a n at r is low none here later =
-    let less : a < at = grind (arith, nat_tests) in
-    ap (λ o. unless_refused steps (cons_option o (filter_map refusal (range_with_len (a + 1) n)))) (none a (omega arith) less) ∙ later (omega arith)
-
--- where nothing is refused before a number, the refusal there is the first
-first_refused : (refusal : ℕ → Option (Refusal InputRule)) (steps : List ℕ) (a n at : ℕ) (r : Refusal InputRule) → a ≤ at → at < a + n → ((i : ℕ) → a ≤ i → i < at → refusal i ≡ None) →
-    refusal at ≡ Some r → unless_refused steps (filter_map refusal (range_with_len a n)) ≡ Err r
-first_refused refusal steps a zero at r low high none here = absurd (omega arith)
-first_refused refusal steps a (suc n) at r low high none here =
-    first_by (eqb a at) refusal steps a n at r refl low none here
-    (λ less. first_refused refusal steps (a + 1) n at r less (omega arith) (λ i above below. none i (omega arith) below) here)
-
 -- the steps so far are the digits of the bytes so far, at most MOST_STEPS, and none of these bytes is refused
 pub record IsSoFar (threads : ℕ) (bytes : List ℕ) (at : ℕ) (steps : List ℕ) : Type 0 where
   pub named : steps ≡ numbers (take at bytes)
@@ -97,10 +74,6 @@ refusal_here : (threads : ℕ) (bytes : List ℕ) (at before : ℕ) → before �
 unfolding refusal_at
 refusal_here threads bytes at before is = ap (λ n. option_map (refusal_of at) (rule_broken threads n (get_or bytes at 0))) is
 
-clear_by : (threads : ℕ) (bytes : List ℕ) (at i : ℕ) (b : Bool) → eqb i at ≡ b → i < at + 1 → refusal_at threads bytes at ≡ None → (i < at → refusal_at threads bytes i ≡ None) → refusal_at threads bytes i ≡ None
-clear_by threads bytes at i true is below here before = let same : i ≡ at = grind (arith, nat_tests) in ap (refusal_at threads bytes) same ∙ here
-clear_by threads bytes at i false is below here before = before (grind (arith, nat_tests))
-
 -- a loop continues after a byte
 pub continues : (threads at : ℕ) (before after bytes : List ℕ) → at < length bytes → rule_broken threads (length before) (get_or bytes at 0) ≡ None →
     after ≡ before ++ numbers (get_or bytes at 0 ∷ []) → length after ≤ MOST_STEPS → IsSoFar threads bytes at before → IsSoFar threads bytes (at + 1) after
@@ -110,7 +83,7 @@ continues threads at before after bytes within unbroken added few so_far =
     record {
       named = added ∙ ap (λ l. l ++ numbers (get_or bytes at 0 ∷ [])) so_far.named ∙ sym (numbers-next bytes at within);
       few = few;
-      clear = λ i below. clear_by threads bytes at i (eqb i at) refl below here (so_far.clear i);
+      clear = clear_next (refusal_at threads bytes) at so_far.clear here;
     }
 
 -- a loop ends at a byte
@@ -121,9 +94,6 @@ ends errors.OutOfMemory threads at before bytes within found so_far = tt
 ends (errors.Refused rule offset) threads at before bytes within found so_far =
     first_refused (refusal_at threads bytes) (numbers bytes) 0 (length bytes) at (record { rule = rule; at = offset }) (omega arith) (omega arith)
     (λ i low below. so_far.clear i below) (sym (refusal_here threads bytes at (length before) (ap length so_far.named)) ∙ found)
-
-unless_none : (steps : List ℕ) (found : List (Refusal InputRule)) → found ≡ [] → unless_refused steps found ≡ Ok steps
-unless_none steps found none = ap (unless_refused steps) none
 
 -- a loop is done after the last byte
 pub is_done : (threads at : ℕ) (before bytes : List ℕ) → length bytes ≡ at → IsSoFar threads bytes at before → unless_refused (numbers bytes) (refusals threads bytes) ≡ Ok before
@@ -157,29 +127,9 @@ are_there threads [] each = All-nil (λ t. t < threads)
 are_there threads (b ∷ bytes) each =
     numbers_hold (λ t. t < threads) b bytes (λ t e. digit_is_there threads b t (All-head (Fits threads) b bytes each) e) (are_there threads bytes (All-tail (Fits threads) b bytes each))
 
--- what it means that bytes were read
-read_by : (steps numbers_of : List ℕ) (found : List (Refusal InputRule)) → unless_refused numbers_of found ≡ Ok steps → (found ≡ []) × (numbers_of ≡ steps)
-read_by steps numbers_of [] is = (refl, cc)
-read_by steps numbers_of (r ∷ found) is = absurd (cc)
-
 pub digits_are_read : (threads : ℕ) (bytes steps : List ℕ) → unless_refused (numbers bytes) (refusals threads bytes) ≡ Ok steps → All (λ t. t < MOST_THREADS) steps
 digits_are_read threads bytes steps h =
     subst (λ (xs : List ℕ). All (λ t. t < MOST_THREADS) xs) (read_by steps (numbers bytes) (refusals threads bytes) h).1 (digits_are_below bytes)
-
-none_here : (here : Option (Refusal InputRule)) (rest : List (Refusal InputRule)) → cons_option here rest ≡ [] → (here ≡ None) × (rest ≡ [])
-none_here None rest none = (refl, none)
-none_here (Some r) rest none = absurd (cc)
-
-nothing_by : (refusal : ℕ → Option (Refusal InputRule)) (a i : ℕ) (b : Bool) → eqb a i ≡ b → a ≤ i → refusal a ≡ None → (a + 1 ≤ i → refusal i ≡ None) → refusal i ≡ None
-nothing_by refusal a i true is low here later = let same : i ≡ a = grind (arith, nat_tests) in ap refusal same ∙ here
-nothing_by refusal a i false is low here later = later (grind (arith, nat_tests))
-
--- where there is no refusal, no byte is refused
-nothing_refused : (refusal : ℕ → Option (Refusal InputRule)) (a n : ℕ) → filter_map refusal (range_with_len a n) ≡ [] → (i : ℕ) → a ≤ i → i < a + n → refusal i ≡ None
-nothing_refused refusal a zero none i low high = absurd (omega arith)
-nothing_refused refusal a (suc n) none i low high =
-    let both = none_here (refusal a) (filter_map refusal (range_with_len (a + 1) n)) none in
-    nothing_by refusal a i (eqb a i) refl low both.0 (λ less. nothing_refused refusal (a + 1) n both.1 i less (omega arith))
 
 unbroken : (at : ℕ) (rule : Option InputRule) → option_map (refusal_of at) rule ≡ None → rule ≡ None
 unbroken at None none = refl

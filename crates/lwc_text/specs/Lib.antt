@@ -11,5 +11,6 @@ pub use Rattle.lwc_base.specs.World
 pub mod Facts
 pub mod Rules
 pub mod Schedules
+pub mod Requests
 pub mod Lines
 pub mod Report

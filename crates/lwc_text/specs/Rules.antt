@@ -1,10 +1,14 @@
 -- The names of the rules.
 use Rattle.std.specs.Prelude.{ℕ, List, codes}
 use Rattle.lwc_text.specs.declared.fault.InputRule.{InputRule}
-use Rattle.lwc_text.specs.declared.fault.InputRule.TheVariants.{TooLong, BadThread, TooManySteps}
+use Rattle.lwc_text.specs.declared.fault.InputRule.TheVariants.{TooLong, BadThread, TooManySteps, TooManyRequests, BadHex, RequestTooLong, OddLength}
 
 -- the bytes of a rule's name
 abbrev pub rule_name : InputRule → List ℕ
 rule_name TooLong = codes "TooLong"
 rule_name BadThread = codes "BadThread"
 rule_name TooManySteps = codes "TooManySteps"
+rule_name TooManyRequests = codes "TooManyRequests"
+rule_name BadHex = codes "BadHex"
+rule_name RequestTooLong = codes "RequestTooLong"
+rule_name OddLength = codes "OddLength"

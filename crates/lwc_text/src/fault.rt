@@ -14,6 +14,14 @@ pub enum InputRule {
     BadThread,
     /// There are more than `MOST_STEPS` steps.
     TooManySteps,
+    /// There are more than `MOST_REQUESTS` requests.
+    TooManyRequests,
+    /// A byte of a request is no hexadecimal digit.
+    BadHex,
+    /// A request has more than `MOST_REQUEST_BYTES` bytes.
+    RequestTooLong,
+    /// A request has an odd number of digits.
+    OddLength,
 }
 
 impl InputRule {
@@ -25,6 +33,10 @@ impl InputRule {
             InputRule::TooLong => "TooLong",
             InputRule::BadThread => "BadThread",
             InputRule::TooManySteps => "TooManySteps",
+            InputRule::TooManyRequests => "TooManyRequests",
+            InputRule::BadHex => "BadHex",
+            InputRule::RequestTooLong => "RequestTooLong",
+            InputRule::OddLength => "OddLength",
         }
     }
 }

@@ -1,0 +1,239 @@
+//! Requests: the bytes of each, one a line.
+
+ghost use Rattle.std.specs.Prelude.{◌≡◌, ◌<◌, ◌≤◌, ◌+◌, ◌^◌, ◌∷◌, ◌==◌, ℕ, List, length, IfErr, IfOk, IfSome, OnOk, None, Some, Ok};
+ghost use Rattle.std.specs.List.{after_first, position_or_len};
+ghost use Rattle.std.specs.Str.Lines.{lines, strip_carriage_return};
+ghost use Rattle.byte_reading.specs.Outcomes.{Answers, Fails, IsFound, unless_refused};
+ghost use Rattle.byte_reading.specs.declared.error.ReadError.TheVariants.{OutOfMemory};
+ghost use Rattle.hex.specs.Hex as digits;
+ghost use Rattle.lwc_text.specs.Requests as spec;
+
+use crate::fault::{InputFault, InputRule};
+use byte_reading::ReadError;
+use hex::FromHexError;
+use lwc_base::{MOST_REQUEST_BYTES, MOST_REQUESTS, Requests, Sequence};
+use std::alloc::Global;
+
+/// The most bytes of a request file.
+pub const MOST_REQUEST_FILE_BYTES: usize = 8390656;
+
+/// Reads requests, one a line: hexadecimal digits in either case, two for each byte (`IsRequestFile`). A line
+/// feed ends a line, and a carriage return directly before it is skipped; a last line without a line feed
+/// counts if it has a byte.
+///
+/// # Errors
+///
+/// Out of memory, or the first refusal (`requests_at`): `TooLong` at `MOST_REQUEST_FILE_BYTES` if there are
+/// more bytes; else, in the first line that breaks a rule, `TooManyRequests` at its first byte if it comes
+/// after `MOST_REQUESTS` others, `BadHex` at a byte that is no digit, `RequestTooLong` at the digit after
+/// `2 * MOST_REQUEST_BYTES` others, or `OddLength` at the end of an odd number of digits.
+#[tactic(auto, using(crate::proofs::RequestLines::request_reading))]
+pub fn read_requests(alloc: Global, bytes: &[u8]) -> Result<Requests, InputFault>
+    ensures exact { Answers (λ requests. requests) result (spec.requests_at bytes.now) }
+    ensures found { IfOk result (λ requests. spec.IsRequestFile bytes.now requests) }
+    ensures only { (requests : List (List ℕ)) → spec.IsRequestFile bytes.now requests
+        → IfErr result (λ e. e ≡ OutOfMemory) }
+{
+    read_limited(alloc, bytes)
+}
+
+/// Reads requests that may be too long.
+#[tactic(auto, unfolding(crate::specs::Requests::requests_at))]
+fn read_limited(alloc: Global, bytes: &[u8]) -> Result<Requests, InputFault>
+    ensures { Answers (λ requests. requests) result (spec.requests_at bytes.now) }
+{
+    if bytes.len() > MOST_REQUEST_FILE_BYTES {
+        return Err(ReadError::Refused {
+            rule: InputRule::TooLong,
+            at: MOST_REQUEST_FILE_BYTES as u64,
+        });
+    }
+    Ok(Sequence::of(read_lines(alloc, bytes)?))
+}
+
+/// Reads the requests of all lines.
+fn read_lines(alloc: Global, bytes: &[u8]) -> Result<Vec<Sequence<u8>>, InputFault>
+    ensures read { IfOk result (λ requests. unless_refused (spec.requests_in bytes.now)
+        (spec.line_refusals bytes.now) ≡ Ok requests.items) }
+    ensures refused { IfErr result (λ e. Fails e
+        (unless_refused (spec.requests_in bytes.now) (spec.line_refusals bytes.now))) }
+{
+    let mut requests = Vec::new(alloc);
+    let mut rest = bytes;
+    while !rest.is_empty() {
+        let start = (bytes.len() - rest.len()) as u64;
+        let (line, after) = next_line(rest);
+        let request = read_line(alloc, requests.len(), start, line)?;
+        requests.push(request)?;
+        rest = after;
+    }
+    Ok(requests)
+}
+
+/// Reads the line at an offset, after this number of others.
+#[tactic(auto, using(crate::proofs::RequestLines::kept_line_is_digits), unfolding(crate::specs::Requests::line_refusal))]
+fn read_line(
+    alloc: Global,
+    before: usize,
+    start: u64,
+    line: &[u8],
+) -> Result<Sequence<u8>, InputFault>
+    requires { start + length line.now < 2 ^ 63 }
+    ensures read { IfOk result (λ request. spec.request_of line.now ≡ Some request) }
+    ensures kept { OnOk result (spec.line_refusal before start line.now ≡ None) }
+    ensures refused { IfErr result (λ e. IsFound e (spec.line_refusal before start line.now)) }
+{
+    if before >= MOST_REQUESTS as usize {
+        return Err(ReadError::Refused {
+            rule: InputRule::TooManyRequests,
+            at: start,
+        });
+    }
+    if let Some((rule, place)) = rule_in(line) {
+        return Err(ReadError::Refused {
+            rule,
+            at: start + place,
+        });
+    }
+    match hex::decode(alloc, line) {
+        Ok(request) => Ok(Sequence::of(request)),
+        Err(FromHexError::OutOfMemory) => Err(ReadError::OutOfMemory),
+        Err(_) => unreachable!(),
+    }
+}
+
+/// The rule that a line breaks first, and the place in the line.
+fn rule_in(line: &[u8]) -> Option<(InputRule, u64)>
+    ensures rule { result ≡ spec.rule_in line.now }
+    ensures within { IfSome result (λ broken. broken.1 ≤ length line.now) }
+{
+    let end = digits_end(line);
+    if end > 2 * MOST_REQUEST_BYTES {
+        return Some((InputRule::RequestTooLong, 2 * MOST_REQUEST_BYTES as u64));
+    }
+    if end < line.len() {
+        return Some((InputRule::BadHex, end as u64));
+    }
+    if line.len() % 2 == 1 {
+        return Some((InputRule::OddLength, line.len() as u64));
+    }
+    None
+}
+
+/// The place of the first byte that is no digit, or the length.
+fn digits_end(line: &[u8]) -> usize
+    ensures place { result ≡ spec.digits_end line.now }
+    ensures within { result ≤ length line.now }
+{
+    line.iter()
+        .position(|b| !is_hex_digit(*b))
+        .unwrap_or(line.len())
+}
+
+/// Whether a byte is a hexadecimal digit, in either case.
+fn is_hex_digit(byte: u8) -> bool
+    ensures { result ≡ digits.is_hex_digit byte }
+{
+    matches!(byte, b'0'..=b'9' | b'a'..=b'f' | b'A'..=b'F')
+}
+
+/// The first line, without its end, and what follows it.
+fn next_line(bytes: &[u8]) -> (&[u8], &[u8])
+    requires { 0 < length bytes.now }
+    ensures lines { lines bytes.now ≡ result.0.now ∷ lines result.1.now }
+    ensures rest { result.1.now ≡ after_first (λ b. b == 0x0a) bytes.now }
+    ensures within { length result.0.now ≤ length bytes.now }
+    ensures fewer { length result.1.now < length bytes.now }
+{
+    let end = line_end(bytes);
+    if end < bytes.len() {
+        (without_return(&bytes[..end]), &bytes[end + 1..])
+    } else {
+        (bytes, &[])
+    }
+}
+
+/// The place of the first line feed, or the length.
+fn line_end(bytes: &[u8]) -> usize
+    ensures place { result ≡ position_or_len (λ b. b == 0x0a) bytes.now }
+    ensures within { result ≤ length bytes.now }
+{
+    bytes
+        .iter()
+        .position(|b| *b == b'\n')
+        .unwrap_or(bytes.len())
+}
+
+/// A line without the carriage return at its end.
+fn without_return(line: &[u8]) -> &[u8]
+    ensures stripped { result.now ≡ strip_carriage_return line.now }
+    ensures within { length result.now ≤ length line.now }
+{
+    let count = line.len();
+    if count > 0 && line[count - 1] == b'\r' {
+        &line[..count - 1]
+    } else {
+        line
+    }
+}
+
+#[cfg(test)]
+mod tests {
+    use super::*;
+    use std::test::Fail;
+
+    #[test]
+    fn lines_are_requests(rt: HostRuntime) -> Result<(), Fail> {
+        for (text, count, last) in [
+            ("", 0, 0),
+            ("00\n00\n01\n00\n", 4, 1),
+            ("00\r\n\n0aFf", 3, 2),
+            ("\n\n", 2, 0),
+        ] {
+            let requests = read_requests(rt.alloc(), text.as_bytes())?;
+            assert_eq!(rt; requests.len(), count, "in {text:?}");
+            if count > 0 {
+                assert_eq!(rt; requests.get(count - 1).len(), last, "in {text:?}");
+            }
+        }
+        let mixed = read_requests(rt.alloc(), b"0aFf")?;
+        assert_eq!(rt; mixed.get(0).as_slice(), [0x0a, 0xff].as_slice());
+        Ok(())
+    }
+
+    #[test]
+    fn other_lines_are_refused(rt: HostRuntime) {
+        for (text, rule, at) in [
+            ("0\n", InputRule::OddLength, 1),
+            ("0\r\n", InputRule::OddLength, 1),
+            ("00\n0", InputRule::OddLength, 4),
+            ("0g", InputRule::BadHex, 1),
+            ("00\r", InputRule::BadHex, 2),
+            ("00\r\r\n", InputRule::BadHex, 2),
+        ] {
+            let fault = read_requests(rt.alloc(), text.as_bytes()).err();
+            assert_eq!(rt;
+                fault,
+                Some(InputFault::Refused { rule, at }),
+                "in {text:?}"
+            );
+        }
+    }
+
+    #[test]
+    fn limits_are_kept(rt: HostRuntime) -> Result<(), Fail> {
+        for (byte, count, rule, at) in [
+            (b'0', 8192, None, 0),
+            (b'0', 8193, Some(InputRule::RequestTooLong), 8192),
+            (b'\n', 1024, None, 0),
+            (b'\n', 1025, Some(InputRule::TooManyRequests), 1024),
+            (b'0', 8_390_657, Some(InputRule::TooLong), 8_390_656),
+        ] {
+            let bytes = Vec::from_elem(rt.alloc(), byte, count)?;
+            let fault = read_requests(rt.alloc(), bytes.as_slice()).err();
+            let want = rule.map(|rule| InputFault::Refused { rule, at });
+            assert_eq!(rt; fault, want, "{count} of {byte}");
+        }
+        Ok(())
+    }
+}
