@@ -1,0 +1,36 @@
+ghost use Rattle.std.specs.Prelude.{◌≡◌, ◌<◌, ◌≤◌, ◌+◌, IfOk, IsOk, OnErr, OnOk, true};
+ghost use Rattle.lwc_base.specs.Ranges.{ranges_of};
+ghost use Rattle.lwc_base.specs.Sound.{HasItsGroups};
+ghost use Rattle.lwc_base.specs.declared.limits.TheConstants.{MOST_RANGES};
+ghost use Rattle.snapshot_host.specs.Begin as spec;
+ghost use Rattle.snapshot_host.specs.Begin.{IsNewJob};
+ghost use Rattle.world_face.specs.Calls.{HasPlace, IsLive};
+
+use crate::laws::a_request_begins_as_a_copy;
+use lwc_base::laws::changes_leave_the_rest;
+use lwc_base::{Descriptor, Name, OutOfMemory, Spec};
+use world_face::World;
+
+/// Makes the context that request `r` is served in: a whole copy of the home, but for slots 0 and 1, which
+/// have the request and its reply (`begin`). Answers its name. The only error is out of memory, and then
+/// nothing has changed.
+pub fn begin<W: World>(world: &mut W, home: Name, r: u16) -> Result<Name, OutOfMemory>
+    requires live { IsLive (W.seen world.old) home }
+    requires groups { HasItsGroups (W.seen world.old) }
+    requires few { ranges_of (W.seen world.old) home ≤ MOST_RANGES }
+    requires known { r + 1 < (W.seen world.old).size.jobs }
+    requires new_job { IsNewJob (W.seen world.old) (r + 1) }
+    requires place { HasPlace (W.seen world.old) }
+    ensures name { IfOk result (λ c. c ≡ spec.request_context r) }
+    ensures begun { OnOk result (W.seen world.new ≡ spec.begin (W.seen world.old) home r) }
+    ensures err { OnErr result (W.seen world.new ≡ W.seen world.old) }
+    ensures ample { W.roomy ≡ true → IsOk result }
+{
+    a_request_begins_as_a_copy();
+    changes_leave_the_rest();
+    let entry = world.entry(home);
+    let name = world.clone_context(home, &Spec::empty(), u32::from(r) + 1, &entry)?;
+    world.set_slot(name, 1, Descriptor::Reply { r });
+    world.set_slot(name, 0, Descriptor::Request { r, at: 0 });
+    Ok(name)
+}

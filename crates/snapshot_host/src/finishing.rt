@@ -1,0 +1,100 @@
+ghost use Rattle.std.specs.Prelude.{◌≡◌, ◌<◌, ◌≤◌, length};
+ghost use Rattle.lwc_base.specs.Channels.{bytes_in};
+ghost use Rattle.lwc_base.specs.declared.limits.TheConstants.{MOST_REPLY_BYTES};
+
+use arrayvec::ArrayVec;
+use lwc_base::{Channels, ThreadStatus};
+use std::marker::Model;
+
+/// The bytes of a finished reply, at most `MOST_REPLY_BYTES`, seen as their list.
+#[derive(Debug, Drop)]
+pub struct ReplyBytes {
+    bytes: ArrayVec<u8, 4096>,
+}
+
+impl Model for ReplyBytes {
+    ghost use Rattle.std.specs.Prelude.{◌≤◌, ℕ, List, length};
+    ghost use Rattle.lwc_base.specs.declared.limits.TheConstants.{MOST_REPLY_BYTES};
+
+    ghost Value = { List ℕ };
+
+    ghost view = { λ reply. reply.bytes.items };
+
+    ghost invariant = { λ reply. length reply.bytes.items ≤ MOST_REPLY_BYTES };
+}
+
+impl ReplyBytes {
+    /// The same bytes. It takes no memory.
+    fn of(bytes: &[u8]) -> ReplyBytes
+        requires { length bytes.now ≤ MOST_REPLY_BYTES }
+        ensures { result ≡ bytes.now }
+    {
+        let mut copy = ArrayVec::new();
+        'bytes: for byte in bytes {
+            copy.push(*byte);
+        }
+        ReplyBytes { bytes: copy }
+    }
+
+    /// The bytes, in order.
+    pub fn as_slice(&self) -> &[u8]
+        ensures bytes { result.now ≡ self.now }
+        ensures few { length self.now ≤ MOST_REPLY_BYTES }
+    {
+        self.bytes.as_slice()
+    }
+}
+
+/// What is recorded of a request that is finished: how its thread ended, and the bytes of its reply.
+#[derive(Debug, Drop)]
+pub struct Finished {
+    pub request: u16,
+    pub status: ThreadStatus,
+    pub bytes: ReplyBytes,
+}
+
+impl Finished {
+    /// The same record. It takes no memory.
+    pub fn same(&self) -> Finished
+        ensures { result ≡ self.now }
+    {
+        Finished {
+            request: self.request,
+            status: self.status,
+            bytes: ReplyBytes::of(self.bytes.as_slice()),
+        }
+    }
+}
+
+/// What is recorded of request `r`, whose thread has ended with a status: the bytes are those written so far.
+/// It takes no memory.
+pub fn finish(io: &Channels, r: u16, status: ThreadStatus) -> Finished
+    requires { r < length io.now.requests }
+    ensures { result ≡ record { request = r; status = status; bytes = bytes_in io.now.replies r } }
+{
+    Finished {
+        request: r,
+        status,
+        bytes: ReplyBytes::of(io.reply(r)),
+    }
+}
+
+#[cfg(test)]
+mod tests {
+    use super::*;
+    use lwc_base::Sequence;
+    use std::test::Fail;
+
+    #[test]
+    fn the_bytes_so_far_are_recorded(rt: HostRuntime) -> Result<(), Fail> {
+        let requests = Sequence::of(vec![in rt.alloc(); Sequence::of(vec![in rt.alloc(); 9u8]?)]?);
+        let mut io = Channels::open(rt.alloc(), Sequence::of(Vec::new(rt.alloc())), requests)?;
+        io.append_reply(0, [4, 5].as_slice());
+        let finished = finish(&io, 0, ThreadStatus::Done { code: 3 });
+        let same = finished.same();
+        assert_eq!(rt; same.request, 0);
+        assert_eq!(rt; same.status, ThreadStatus::Done { code: 3 });
+        assert_eq!(rt; same.bytes.as_slice(), [4, 5].as_slice());
+        Ok(())
+    }
+}
