@@ -1,5 +1,5 @@
 -- The lines of a report, each as its bytes.
-use Rattle.std.specs.Prelude.{ℕ, ◌==◌, false, if◌then◌else◌, List, ◌++◌, length, codes, decimal}
+use Rattle.std.specs.Prelude.{ℕ, ◌==◌, false, if◌then◌else◌, List, ◌++◌, length, Option, None, Some, codes, decimal}
 use Rattle.std.specs.Fmt.{digits}
 use Rattle.std.specs.List.{flat_map}
 use Rattle.hex.specs.Hex.{encode_lower}
@@ -9,6 +9,7 @@ use Rattle.lwc_base.specs.declared.fault.ThreadStatus.TheVariants.{Idle, Running
 use Rattle.lwc_base.specs.declared.name.Name.{Name}
 use Rattle.lwc_base.specs.declared.size.Summary.{Summary}
 use Rattle.lwc_base.specs.Faults.{fault_number}
+use Rattle.snapshot_host.specs.declared.finishing.Finished.{Finished}
 
 -- bytes as lower-case hexadecimal, two digits each; a dash where there are none
 unfoldable pub bytes_text : List ℕ → List ℕ
@@ -53,6 +54,15 @@ context_line name summary =
 -- the number of groups
 unfoldable pub groups_line : ℕ → List ℕ
 groups_line groups = codes "groups " ++ decimal groups ++ codes "\n"
+
+-- what a report says of a reply: how its request ended and its bytes, or that it is not there
+unfoldable pub reply_text : Option Finished → List ℕ
+reply_text None = codes "none"
+reply_text (Some finished) = status_text finished.status ++ codes " " ++ bytes_text finished.bytes
+
+-- the reply of a request
+unfoldable pub reply_line : ℕ → Option Finished → List ℕ
+reply_line r finished = codes "reply " ++ decimal r ++ codes " " ++ reply_text finished ++ codes "\n"
 
 -- what was written to the console
 abbrev pub console_line : List ℕ → List ℕ

@@ -3,10 +3,12 @@
 
 ghost use Rattle.std.specs.Prelude.{◌≡◌, ◌++◌, IfOk, OnOk, OnErr, string_bytes, codes, decimal};
 ghost use Rattle.std.specs.List.{flat_map};
-ghost use Rattle.lwc_text.specs.Lines.{bytes_text, context_line, groups_line, name_text, regs_line, status_text, steps_text, tail_lines, thread_line, thread_lines};
+ghost use Rattle.std.specs.Option.{option_map};
+ghost use Rattle.lwc_text.specs.Lines.{bytes_text, context_line, groups_line, name_text, regs_line, reply_line, reply_text, status_text, steps_text, tail_lines, thread_line, thread_lines};
 
 use kernel_core::ThreadView;
 use lwc_base::{Name, OutOfMemory, Summary, ThreadStatus};
+use snapshot_host::Finished;
 use std::alloc::Global;
 
 /// Appends the two lines of a thread (`thread_lines`). The only error is out of memory.
@@ -34,6 +36,19 @@ pub fn groups_line(out: &mut Vec<u8>, groups: u32) -> Result<(), OutOfMemory>
     ensures err { OnErr result (out.new.items ≡ out.old.items) }
 {
     let line = format!(in *out.allocator(); "groups {groups}\n")?;
+    append(out, line.as_str())
+}
+
+/// Appends the line of a request's reply (`reply_line`). The only error is out of memory.
+#[tactic(auto, unfolding(crate::specs::Lines::reply_line))]
+pub fn reply_line(out: &mut Vec<u8>, r: u16, finished: Option<&Finished>) -> Result<(), OutOfMemory>
+    ensures ok { OnOk result (out.new.items
+        ≡ out.old.items ++ reply_line r (option_map (λ x. x.now) finished.entry)) }
+    ensures err { OnErr result (out.new.items ≡ out.old.items) }
+{
+    let alloc = *out.allocator();
+    let reply = reply_text(alloc, finished)?;
+    let line = format!(in alloc; "reply {r} {reply}\n")?;
     append(out, line.as_str())
 }
 
@@ -117,6 +132,21 @@ fn status_text(alloc: Global, status: ThreadStatus) -> Result<String, OutOfMemor
     }
 }
 
+/// What a report says of a reply.
+#[tactic(auto, unfolding(crate::specs::Lines::reply_text))]
+fn reply_text(alloc: Global, finished: Option<&Finished>) -> Result<String, OutOfMemory>
+    ensures { IfOk result (λ text. string_bytes text ≡ reply_text (option_map (λ x. x.now) finished.entry)) }
+{
+    match finished {
+        None => Ok(String::from_str(alloc, "none")?),
+        Some(finished) => {
+            let status = status_text(alloc, finished.status)?;
+            let bytes = bytes_text(alloc, finished.bytes.as_slice())?;
+            Ok(format!(in alloc; "{status} {bytes}")?)
+        }
+    }
+}
+
 /// The line of a context.
 #[tactic(auto, unfolding(crate::specs::Lines::context_line))]
 fn context_text(alloc: Global, name: Name, summary: &Summary) -> Result<String, OutOfMemory>
@@ -174,7 +204,8 @@ fn append(out: &mut Vec<u8>, text: &str) -> Result<(), OutOfMemory>
 #[cfg(test)]
 mod tests {
     use super::*;
-    use lwc_base::{Fault, Regs};
+    use lwc_base::{Channels, Fault, Regs, Sequence};
+    use snapshot_host::finish;
     use std::test::Fail;
 
     #[test]
@@ -202,6 +233,30 @@ mod tests {
             )?;
             assert_eq!(rt; out.as_slice(), want.as_bytes(), "{words}");
         }
+        Ok(())
+    }
+
+    #[test]
+    fn a_reply_is_its_status_and_bytes(rt: HostRuntime) -> Result<(), Fail> {
+        let requests = Sequence::of(vec![in rt.alloc(); Sequence::of(vec![in rt.alloc(); 9u8]?)]?);
+        let mut io = Channels::open(rt.alloc(), Sequence::of(Vec::new(rt.alloc())), requests)?;
+        let mut out = Vec::new(rt.alloc());
+        reply_line(&mut out, 0, None)?;
+        let fault = Fault::BadLoad;
+        reply_line(
+            &mut out,
+            0,
+            Some(&finish(&io, 0, ThreadStatus::Faulted { fault })),
+        )?;
+        io.append_reply(0, [1, 0xfe].as_slice());
+        let code = 0;
+        reply_line(
+            &mut out,
+            0,
+            Some(&finish(&io, 0, ThreadStatus::Done { code })),
+        )?;
+        let want = b"reply 0 none\nreply 0 fault 2 -\nreply 0 done 0 01fe\n";
+        assert_eq!(rt; out.as_slice(), want.as_slice());
         Ok(())
     }
 
