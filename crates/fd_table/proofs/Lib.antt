@@ -1,0 +1,5 @@
+pub mod NamedLemmas
+pub mod ChangeLemmas
+pub mod ObjectLemmas
+pub mod PoolLemmas
+pub mod SlotLemmas

@@ -1,0 +1,44 @@
+use Rattle.std.proofs.Common.{◌≡◌, ◌<◌, ◌-◌, length, get_or, arith, ap, ◌∙◌, sym, subst, ℕ}
+use Rattle.fd_table.specs.declared.table.Table.{Table}
+use Rattle.fd_table.specs.Seen.{slots}
+use Rattle.fd_table.specs.Slots.{Slot}
+use Rattle.fd_table.specs.Pools.{count_of, slot_at}
+use Rattle.fd_table.specs.Tables.{table_at, entry_slot}
+use Rattle.fd_table.proofs.SlotLemmas.{length-rows, row-at, slots-at, entry-empty, entry-some}
+use Rattle.fd_table.proofs.ChangeLemmas.{table-read, entry-held}
+use Rattle.fd_table.proofs.slots.Slots.filling.Goals as goal
+
+pub index-requires : goal.index-requires
+unfolding slots
+index-requires c =
+    omega (arith, c.requires.place, length-rows c.args.self.now.objects.pool c.args.self.now.tables.items, c.args.self.now.tables.ok)
+
+pub filling-requires : goal.filling-requires
+unfolding slots
+filling-requires c =
+    let pool = c.args.self.now.objects.pool in
+    let tables = c.args.self.now.tables.items in
+    let inside : c.args.i < length tables = omega (arith, c.requires.place, length-rows pool tables) in
+    let read = table-read tables c.args.i _ inside c.index.ensures in
+    let same = ap (λ (t : Table). get_or t.entries c.args.n 0) read in
+    subst (λ (t : Table). 0 < count_of pool (get_or t.entries c.args.n 0 - 1)) (sym read) (entry-held pool tables c.args.i c.args.n c.args.self.now.kept inside (omega (arith, same)))
+
+pub returns-in-0-clause-none : goal.returns-in-0-clause-none
+unfolding slots
+returns-in-0-clause-none c =
+    let pool = c.args.self.now.objects.pool in
+    let tables = c.args.self.now.tables.items in
+    let inside : c.args.i < length tables = omega (arith, c.requires.place, length-rows pool tables) in
+    let same = ap (λ (t : Table). get_or t.entries c.args.n 0) (table-read tables c.args.i _ inside c.index.ensures) in
+    ap (λ (row : ℕ → Slot). row c.args.n) (row-at pool tables c.args.i inside) ∙ slots-at pool (table_at tables c.args.i).entries c.args.n
+    ∙ entry-empty pool (get_or (table_at tables c.args.i).entries c.args.n 0) (omega (arith, same))
+
+pub returns-in_default-clause-some : goal.returns-in_default-clause-some
+unfolding slots
+returns-in_default-clause-some c =
+    let pool = c.args.self.now.objects.pool in
+    let tables = c.args.self.now.tables.items in
+    let inside : c.args.i < length tables = omega (arith, c.requires.place, length-rows pool tables) in
+    let same = ap (λ (t : Table). get_or t.entries c.args.n 0) (table-read tables c.args.i _ inside c.index.ensures) in
+    ap (λ (row : ℕ → Slot). row c.args.n) (row-at pool tables c.args.i inside) ∙ slots-at pool (table_at tables c.args.i).entries c.args.n
+    ∙ ap (entry_slot pool) (sym same) ∙ entry-some pool _ (omega arith) ∙ sym c.filling.ensures

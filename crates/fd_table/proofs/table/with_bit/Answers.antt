@@ -1,0 +1,18 @@
+use Rattle.std.proofs.Common.{w64, ⊎_elim, inl, inr, refl, sym}
+use Rattle.std.proofs.lemmas.Bool.{cases_eq, eq-eqb, ne_eqb}
+use Rattle.std.proofs.lemmas.Nat.Bits.{bit_at_set_same, bit_at_set_other, bit_at_clear_same, bit_at_clear_other}
+use Rattle.fd_table.proofs.table.with_bit.Goals as goal
+
+pub returns-then-on : goal.returns-then-on
+returns-then-on c = λ m lt.
+    elim (cases_eq m c.args.n) [
+      | inl is ↦ rw (is, bit_at_set_same w64 c.args.word c.args.n c.requires, eq-eqb c.args.n c.args.n refl) (sym c.if-on.true)
+      | inr off ↦ rw (bit_at_set_other w64 c.args.word c.args.n c.requires m off, ne_eqb m c.args.n off) refl
+    ]
+
+pub returns-else-on : goal.returns-else-on
+returns-else-on c = λ m lt.
+    elim (cases_eq m c.args.n) [
+      | inl is ↦ rw (is, bit_at_clear_same w64 c.args.word c.args.n c.requires, eq-eqb c.args.n c.args.n refl) (sym c.if-on.false)
+      | inr off ↦ rw (bit_at_clear_other w64 c.args.word c.args.n c.requires m lt off, ne_eqb m c.args.n off) refl
+    ]

@@ -1,0 +1,7 @@
+pub mod Fillings
+pub mod Kept
+pub mod Objects
+pub mod Pools
+pub mod Seen
+pub mod Slots
+pub mod Tables

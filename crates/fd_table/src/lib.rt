@@ -1,0 +1,14 @@
+//! The slots of contexts and groups, by place. What a filled slot has is a counted object in one store, and a
+//! copy of a place shares the objects of what it copies.
+#![tactic(auto)]
+
+pub mod filling;
+pub mod objects;
+pub mod pool;
+pub mod slots;
+pub mod table;
+
+pub use slots::{MOST_PLACES, Slots};
+
+#[cfg(test)]
+mod tests;

@@ -1,0 +1,180 @@
+ghost use Rattle.std.specs.Prelude.{◌≡◌, ℕ, IfOk, length, replicate};
+ghost use Rattle.fd_table.specs.Kept.{IsKept};
+ghost use Rattle.fd_table.specs.Tables.{no_table};
+
+use crate::filling::Filling;
+use crate::objects::Objects;
+use crate::table::Table;
+use lwc_base::{Cell, Descriptor, OutOfMemory};
+use std::alloc::Global;
+use std::mem::replace;
+
+/// How many places there can be.
+pub const MOST_PLACES: u32 = 65536;
+
+/// The slots of a fixed number of places, contexts and groups alike. After `open` no call takes memory.
+///
+/// A slot's cell comes with its target: the place of the context or group that it names. Once a step has cut
+/// a link to a context, `is_named` tells whether another is left. A context that no slot names and in which
+/// no thread is can be dropped at once.
+#[derive(Drop)]
+pub struct Slots {
+    pub(crate) objects: Objects,
+    pub(crate) tables: Vec<Table>,
+    ghost kept: { IsKept objects.pool tables.items },
+    ghost places: { length objects.named.items ≡ length tables.items },
+}
+
+/// This number of empty tables. The only error is out of memory.
+fn empty_tables(alloc: Global, places: u32) -> Result<Vec<Table>, OutOfMemory>
+    ensures { IfOk result (λ tables. tables.items ≡ replicate places no_table) }
+{
+    let mut tables = Vec::with_capacity(alloc, places as usize)?;
+    'tables: for _ in 0..places {
+        tables.push_reserved(Table::empty());
+    }
+    Ok(tables)
+}
+
+impl Slots {
+    ghost use Rattle.std.specs.Prelude.{◌≢◌, ◌<◌, ◌≤◌, ◌↔◌, true, Some, None, IfNone, IfSome, IsTrue, slice_set};
+    ghost use Rattle.lwc_base.specs.declared.descriptor.TheConstants.{SLOTS};
+    ghost use Rattle.lwc_base.specs.Capabilities.{has_bit};
+    ghost use Rattle.lwc_base.specs.declared.cell.Cell.TheVariants.{Own};
+    ghost use Rattle.lwc_base.specs.declared.descriptor.Descriptor.TheVariants.{Empty};
+    ghost use Rattle.fd_table.specs.declared.slots.TheConstants.{MOST_PLACES};
+    ghost use Rattle.fd_table.specs.Seen.{slots};
+    ghost use Rattle.fd_table.specs.Slots.{empty_slot, is_common, is_filled, no_slots, put_slot, row_of};
+    ghost use Rattle.fd_table.specs.Fillings.{slot_of};
+
+    /// This number of places whose slots are all empty. The only error is out of memory.
+    pub fn open(alloc: Global, places: u32) -> Result<Slots, OutOfMemory>
+        requires { places ≤ MOST_PLACES }
+        ensures { IfOk result (λ opened. slots opened ≡ replicate places no_slots) }
+    {
+        let objects = Objects::open(alloc, 64 * places, places)?;
+        let tables = empty_tables(alloc, places)?;
+        Ok(Slots { objects, tables })
+    }
+
+    /// What a slot has, where it is filled.
+    fn filling(&self, i: usize, n: u8) -> Option<Filling>
+        requires place { i < length (slots self.now) }
+        requires slot { n < SLOTS }
+        ensures none { IfNone result (row_of (slots self.now) i n ≡ empty_slot) }
+        ensures some { IfSome result (λ filling. row_of (slots self.now) i n ≡ slot_of filling) }
+    {
+        match self.tables[i].entries[n as usize] {
+            0 => None,
+            entry => Some(self.objects.pool.filling(entry - 1)),
+        }
+    }
+
+    /// The cell of a slot.
+    pub fn cell(&self, i: usize, n: u8) -> Cell<Descriptor>
+        requires place { i < length (slots self.now) }
+        requires slot { n < SLOTS }
+        ensures { result ≡ (row_of (slots self.now) i n).cell }
+    {
+        match self.filling(i, n) {
+            Some(filling) => filling.cell(),
+            None => Cell::Own(Descriptor::Empty),
+        }
+    }
+
+    /// The place that the cell of a slot names, if it names one.
+    pub fn target(&self, i: usize, n: u8) -> Option<u16>
+        requires place { i < length (slots self.now) }
+        requires slot { n < SLOTS }
+        ensures { result ≡ (row_of (slots self.now) i n).target }
+    {
+        self.filling(i, n)?.target()
+    }
+
+    /// The slots of a place that are not empty slots of its own: slot n is bit n.
+    pub fn filled(&self, i: usize) -> u64
+        requires { i < length (slots self.now) }
+        ensures { (n : ℕ) → n < SLOTS → has_bit result n ≡ is_filled (row_of (slots self.now) i n).cell }
+    {
+        self.tables[i].filled
+    }
+
+    /// The slots of a place whose values are groups': slot n is bit n.
+    pub fn common(&self, i: usize) -> u64
+        requires { i < length (slots self.now) }
+        ensures { (n : ℕ) → n < SLOTS → has_bit result n ≡ is_common (row_of (slots self.now) i n).cell }
+    {
+        self.tables[i].common
+    }
+
+    /// Whether a slot of any place names a place.
+    pub fn is_named(&self, place: u16) -> bool
+        requires { place < length (slots self.now) }
+        ensures { IsTrue result ↔ ((i : ℕ) × (n : ℕ) × ((row_of (slots self.now) i n).target ≡ Some place)) }
+    {
+        self.objects.is_named(place)
+    }
+
+    /// Puts another cell into a slot, with the place that it names.
+    pub fn put(&mut self, i: usize, n: u8, cell: Cell<Descriptor>, target: Option<u16>)
+        requires place { i < length (slots self.old) }
+        requires slot { n < SLOTS }
+        requires target { IfSome target (λ place. place < length (slots self.old)) }
+        requires named { cell ≡ Own Empty → target ≡ None }
+        ensures { slots self.new ≡ slice_set (slots self.old) i
+            (put_slot (row_of (slots self.old) i) n (record { cell = cell; target = target })) }
+    {
+        self.empty_slot(i, n);
+        let filling = Filling::new(cell, target);
+        if filling.is_filled() {
+            self.fill_slot(i, n, filling);
+        }
+    }
+
+    /// Empties a slot, and gives its object back.
+    fn empty_slot(&mut self, i: usize, n: u8)
+        requires place { i < length (slots self.old) }
+        requires slot { n < SLOTS }
+        ensures { slots self.new ≡ slice_set (slots self.old) i (put_slot (row_of (slots self.old) i) n empty_slot) }
+    {
+        let entry = self.tables[i].entries[n as usize];
+        self.objects.drop_entry(entry);
+        self.tables[i].set(n, 0, false);
+    }
+
+    /// Fills an empty slot with a new object.
+    fn fill_slot(&mut self, i: usize, n: u8, filling: Filling)
+        requires place { i < length (slots self.old) }
+        requires slot { n < SLOTS }
+        requires empty { row_of (slots self.old) i n ≡ empty_slot }
+        requires filled { is_filled (slot_of filling).cell ≡ true }
+        requires target { IfSome (slot_of filling).target (λ place. place < length (slots self.old)) }
+        ensures { slots self.new ≡ slice_set (slots self.old) i
+            (put_slot (row_of (slots self.old) i) n (slot_of filling)) }
+    {
+        let o = self.objects.take(filling);
+        self.tables[i].set(n, o + 1, filling.is_common());
+    }
+
+    /// Makes the slots of a place, all of which are empty, those of another.
+    pub fn clone_place(&mut self, to: usize, from: usize)
+        requires to { to < length (slots self.old) }
+        requires from { from < length (slots self.old) }
+        requires apart { from ≢ to }
+        requires empty { row_of (slots self.old) to ≡ no_slots }
+        ensures { slots self.new ≡ slice_set (slots self.old) to (row_of (slots self.old) from) }
+    {
+        let table = self.tables[from];
+        self.objects.hold_all(table.used());
+        self.tables[to] = table;
+    }
+
+    /// Makes all slots of a place empty, and gives back what no other place shares.
+    pub fn clear_place(&mut self, i: usize)
+        requires { i < length (slots self.old) }
+        ensures { slots self.new ≡ slice_set (slots self.old) i no_slots }
+    {
+        let table = replace(&mut self.tables[i], Table::empty());
+        self.objects.drop_all(table.used());
+    }
+}

@@ -1,0 +1,61 @@
+ghost use Rattle.std.specs.Prelude.{◌≡◌, ℕ, ◌<◌, ◌≤◌, ◌==◌, if◌then◌else◌, length, nat_lt, replicate, slice_index, slice_set};
+ghost use Rattle.lwc_base.specs.Capabilities.{has_bit};
+ghost use Rattle.lwc_base.specs.declared.descriptor.TheConstants.{SLOTS};
+ghost use Rattle.fd_table.specs.Tables.{times};
+
+use lwc_base::SLOTS;
+
+/// The slots of a place: for each one more than the number of its object, or 0 where it is empty. Bit n of
+/// `filled` says that slot n has an object, and bit n of `common` that this is a group's cell.
+#[derive(Clone, Copy, Drop)]
+pub(crate) struct Table {
+    pub(crate) filled: u64,
+    pub(crate) common: u64,
+    pub(crate) entries: [u32; SLOTS as usize],
+}
+
+/// A word with bit n on or off.
+fn with_bit(word: u64, n: u8, on: bool) -> u64
+    requires { n < 64 }
+    ensures { (m : ℕ) → m < 64 → has_bit result m ≡ (if m == n then on else has_bit word m) }
+{
+    let bit = 1u64 << n;
+    if on { word | bit } else { word & !bit }
+}
+
+impl Table {
+    /// The table whose slots are all empty.
+    pub(crate) fn empty() -> Table
+        ensures { result ≡ record { filled = 0; common = 0; entries = replicate 64 0 } }
+    {
+        Table {
+            filled: 0,
+            common: 0,
+            entries: [0; SLOTS as usize],
+        }
+    }
+
+    /// Puts another entry into slot n, common or not.
+    pub(crate) fn set(&mut self, n: u8, entry: u32, common: bool)
+        requires { n < SLOTS }
+        ensures entries { self.new.entries ≡ slice_set self.old.entries n entry }
+        ensures filled { (m : ℕ) → m < SLOTS →
+            has_bit self.new.filled m ≡ (if m == n then nat_lt 0 entry else has_bit self.old.filled m) }
+        ensures common { (m : ℕ) → m < SLOTS →
+            has_bit self.new.common m ≡ (if m == n then common else has_bit self.old.common m) }
+    {
+        self.entries[n as usize] = entry;
+        self.filled = with_bit(self.filled, n, entry > 0);
+        self.common = with_bit(self.common, n, common);
+    }
+
+    /// The entries up to the last slot that is filled.
+    pub(crate) fn used(&self) -> &[u32]
+        requires { (n : ℕ) → n < SLOTS → has_bit self.now.filled n ≡ nat_lt 0 (slice_index self.now.entries n) }
+        ensures same { (o : ℕ) → times o result.now ≡ times o self.now.entries }
+        ensures few { length result.now ≤ SLOTS }
+    {
+        let filled = self.filled;
+        &self.entries[..64 - filled.leading_zeros() as usize]
+    }
+}
