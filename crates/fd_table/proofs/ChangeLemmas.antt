@@ -139,3 +139,26 @@ pub clear-rows : (pool pool' : List Held) (tables : List Table) (i : ℕ) (used 
 clear-rows pool pool' tables i used less =
     rows-set pool pool' tables i no_table (λ j _ _. slots-all pool pool' (table_at tables j).entries less.same)
     ∙ ap (set (rows pool tables) i) (slots-none pool' no_table.entries no-entries)
+
+-- ---- a slot is shared
+
+entry-same : (pool pool' : List Held) (e : ℕ) → ((o : ℕ) → slot_at pool' o ≡ slot_at pool o) → entry_slot pool' e ≡ entry_slot pool e
+entry-same pool pool' e same = ap (λ s. cond (eqb e 0) empty_slot s) (same (e - 1))
+
+pub share-counts : (pool pool' : List Held) (was e : ℕ) → was ≡ 0 → HoldsMore pool pool' (e ∷ []) → (o : ℕ) → count_of pool' o + one_if (eqb was (o + 1)) ≡ count_of pool o + one_if (eqb e (o + 1))
+share-counts pool pool' was e none more o =
+    let old = one-no was (o + 1) (λ is. absurd (omega (arith, is, none))) in
+    omega (arith, more.counts o, times-one o e, old)
+
+-- a shared entry stands for what it stood for
+pub share-entry : (pool pool' : List Held) (tables : List Table) (from n : ℕ) → from < length tables → ((o : ℕ) → slot_at pool' o ≡ slot_at pool o) → entry_slot pool' (get_or (table_at tables from).entries n 0) ≡ row_of (rows pool tables) from n
+share-entry pool pool' tables from n lt same =
+    entry-same pool pool' (get_or (table_at tables from).entries n 0) same ∙ sym (slots-at pool (table_at tables from).entries n) ∙ ap (λ (row : ℕ → Slot). row n) (sym (row-at pool tables from lt))
+
+pub share-filled : (pool : List Held) (tables : List Table) (from n : ℕ) → IsKept pool tables → from < length tables → is_filled (row_of (rows pool tables) from n).cell ≡ ltb 0 (get_or (table_at tables from).entries n 0)
+share-filled pool tables from n kept lt =
+    ap (λ (row : ℕ → Slot). is_filled (row n).cell) (row-at pool tables from lt) ∙ (kept.each from lt).real n
+
+pub share-common : (pool : List Held) (tables : List Table) (from n : ℕ) → IsKept pool tables → from < length tables → n < 64 → has_bit (table_at tables from).common n ≡ is_common (row_of (rows pool tables) from n).cell
+share-common pool tables from n kept lt n_in =
+    (kept.each from lt).common n n_in ∙ ap (λ (row : ℕ → Slot). is_common (row n).cell) (sym (row-at pool tables from lt))

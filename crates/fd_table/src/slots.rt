@@ -156,6 +156,34 @@ impl Slots {
         self.tables[i].set(n, o + 1, filling.is_common());
     }
 
+    /// Makes a slot of a place what the same slot of another place is.
+    pub fn copy_slot(&mut self, to: usize, from: usize, n: u8)
+        requires to { to < length (slots self.old) }
+        requires from { from < length (slots self.old) }
+        requires apart { from ≢ to }
+        requires slot { n < SLOTS }
+        ensures { slots self.new ≡ slice_set (slots self.old) to
+            (put_slot (row_of (slots self.old) to) n (row_of (slots self.old) from n)) }
+    {
+        self.empty_slot(to, n);
+        self.share_slot(to, from, n);
+    }
+
+    /// Gives an empty slot of a place the object of the same slot of another place, if it has one.
+    fn share_slot(&mut self, to: usize, from: usize, n: u8)
+        requires to { to < length (slots self.old) }
+        requires from { from < length (slots self.old) }
+        requires slot { n < SLOTS }
+        requires empty { row_of (slots self.old) to n ≡ empty_slot }
+        ensures { slots self.new ≡ slice_set (slots self.old) to
+            (put_slot (row_of (slots self.old) to) n (row_of (slots self.old) from n)) }
+    {
+        let entry = self.tables[from].entries[n as usize];
+        let common = self.tables[from].is_common(n);
+        self.objects.hold_all(&[entry]);
+        self.tables[to].set(n, entry, common);
+    }
+
     /// Makes the slots of a place, all of which are empty, those of another.
     pub fn clone_place(&mut self, to: usize, from: usize)
         requires to { to < length (slots self.old) }

@@ -49,6 +49,14 @@ impl Table {
         self.common = with_bit(self.common, n, common);
     }
 
+    /// Whether slot n is common.
+    pub(crate) fn is_common(&self, n: u8) -> bool
+        requires { n < SLOTS }
+        ensures { result ≡ has_bit self.now.common n }
+    {
+        self.common >> n & 1 == 1
+    }
+
     /// The entries up to the last slot that is filled.
     pub(crate) fn used(&self) -> &[u32]
         requires { (n : ℕ) → n < SLOTS → has_bit self.now.filled n ≡ nat_lt 0 (slice_index self.now.entries n) }

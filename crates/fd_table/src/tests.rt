@@ -2,21 +2,19 @@ use super::*;
 use lwc_base::{Cap, Cell, Descriptor, Name};
 use std::test::Fail;
 
-/// A descriptor of the context of this name, with no right.
-fn context(k: u32) -> Descriptor {
-    let name = Name { job: 0, k };
-    let cap = Cap {
-        pages: [0; 16],
-        slots: 0,
-        cred: false,
-    };
-    Descriptor::Ctx { name, cap }
-}
+/// The capability of no key.
+const NO_KEYS: Cap = Cap {
+    pages: [0; 16],
+    slots: 0,
+    cred: false,
+};
 
 #[test]
 fn places_share_cells_until_they_drop_them(rt: HostRuntime) -> Result<(), Fail> {
     let mut slots = Slots::open(rt.alloc(), 3)?;
-    slots.put(0, 5, Cell::Own(context(7)), Some(2));
+    let name = Name { job: 0, k: 7 };
+    let link = Descriptor::Ctx { name, cap: NO_KEYS };
+    slots.put(0, 5, Cell::Own(link), Some(2));
     slots.put(0, 63, Cell::Common(Name { job: 1, k: 1 }), Some(1));
     assert_eq!(rt; slots.filled(0), 0x8000_0000_0000_0020);
     assert_eq!(rt; slots.common(0), 0x8000_0000_0000_0000);
@@ -26,8 +24,11 @@ fn places_share_cells_until_they_drop_them(rt: HostRuntime) -> Result<(), Fail> 
     assert!(rt; matches!(slots.cell(1, 5), Cell::Own(Descriptor::Ctx { .. })));
     assert_eq!(rt; (slots.target(1, 5), slots.target(0, 5)), (Some(2), None));
     assert!(rt; slots.is_named(2));
+    slots.copy_slot(2, 1, 5);
     slots.clear_place(1);
     assert!(rt; matches!(slots.cell(1, 63), Cell::Own(Descriptor::Empty)));
+    assert_eq!(rt; (slots.is_named(1), slots.is_named(2)), (true, true));
+    slots.copy_slot(2, 1, 5);
     assert_eq!(rt; (slots.is_named(1), slots.is_named(2)), (true, false));
     assert_eq!(rt; (slots.filled(1), slots.common(1)), (0, 0));
     Ok(())
