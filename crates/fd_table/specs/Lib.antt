@@ -1,3 +1,4 @@
+pub mod Bits
 pub mod Fillings
 pub mod Kept
 pub mod Objects

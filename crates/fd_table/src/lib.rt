@@ -2,12 +2,14 @@
 //! copy of a place shares the objects of what it copies.
 #![tactic(auto)]
 
+pub mod bits;
 pub mod filling;
 pub mod objects;
 pub mod pool;
 pub mod slots;
 pub mod table;
 
+pub use bits::lowest_bit;
 pub use slots::{MOST_PLACES, Slots};
 
 #[cfg(test)]

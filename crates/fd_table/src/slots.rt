@@ -37,7 +37,8 @@ fn empty_tables(alloc: Global, places: u32) -> Result<Vec<Table>, OutOfMemory>
 }
 
 impl Slots {
-    ghost use Rattle.std.specs.Prelude.{◌≢◌, ◌<◌, ◌≤◌, ◌↔◌, true, Some, None, IfNone, IfSome, IsTrue, slice_set};
+    ghost use Rattle.std.specs.Prelude.{◌≢◌, ◌<◌, ◌≤◌, ◌↔◌, true, Some, None, IfNone, IfSome, IsTrue, count_by, slice_set};
+    ghost use Rattle.std.specs.List.{range_with_len};
     ghost use Rattle.lwc_base.specs.declared.descriptor.TheConstants.{SLOTS};
     ghost use Rattle.lwc_base.specs.Capabilities.{has_bit};
     ghost use Rattle.lwc_base.specs.declared.cell.Cell.TheVariants.{Own};
@@ -105,6 +106,14 @@ impl Slots {
         ensures { (n : ℕ) → n < SLOTS → has_bit result n ≡ is_common (row_of (slots self.now) i n).cell }
     {
         self.tables[i].common
+    }
+
+    /// How many slots of a place are not empty slots of its own.
+    pub fn count_filled(&self, i: usize) -> u32
+        requires { i < length (slots self.now) }
+        ensures { result ≡ count_by (λ n. is_filled (row_of (slots self.now) i n).cell) (range_with_len 0 SLOTS) }
+    {
+        self.filled(i).count_ones()
     }
 
     /// Whether a slot of any place names a place.

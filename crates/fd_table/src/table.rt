@@ -3,6 +3,7 @@ ghost use Rattle.lwc_base.specs.Capabilities.{has_bit};
 ghost use Rattle.lwc_base.specs.declared.descriptor.TheConstants.{SLOTS};
 ghost use Rattle.fd_table.specs.Tables.{times};
 
+use crate::bits::with_bit;
 use lwc_base::SLOTS;
 
 /// The slots of a place: for each one more than the number of its object, or 0 where it is empty. Bit n of
@@ -12,15 +13,6 @@ pub(crate) struct Table {
     pub(crate) filled: u64,
     pub(crate) common: u64,
     pub(crate) entries: [u32; SLOTS as usize],
-}
-
-/// A word with bit n on or off.
-fn with_bit(word: u64, n: u8, on: bool) -> u64
-    requires { n < 64 }
-    ensures { (m : ℕ) → m < 64 → has_bit result m ≡ (if m == n then on else has_bit word m) }
-{
-    let bit = 1u64 << n;
-    if on { word | bit } else { word & !bit }
 }
 
 impl Table {
