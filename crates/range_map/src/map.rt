@@ -41,6 +41,17 @@ impl RangeMap {
         }
     }
 
+    /// The same kinds once more.
+    pub fn copy(&self) -> RangeMap
+        ensures { result ≡ self.now }
+    {
+        let mut segments = ArrayVec::new();
+        for segment in self.segments.as_slice() {
+            segments.push(*segment);
+        }
+        RangeMap { segments }
+    }
+
     /// The kind of a page; `None` where it is absent, as are all past the last one.
     pub fn kind_at(&self, p: u16) -> Option<SegmentKind>
         ensures kind { result ≡ spec.kind_at self.now p }
@@ -83,6 +94,7 @@ impl RangeMap {
     pub fn replace(&mut self, changes: &[Change]) -> Result<(), TooManyRanges>
         ensures ok { OnOk result ((p : ℕ) → p < MOST_PAGES
             → spec.kind_at self.new p ≡ spec.kind_after changes.now self.old p) }
+        ensures past { OnOk result ((p : ℕ) → MOST_PAGES ≤ p → spec.kind_at self.new p ≡ None) }
         ensures err { OnErr result (self.new ≡ self.old) }
         ensures refused { is_err result
             ≡ nat_lt MOST_RANGES (ranges MOST_PAGES (spec.kind_after changes.now self.old)) }

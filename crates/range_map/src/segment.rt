@@ -17,7 +17,7 @@ pub struct Segment {
 }
 
 /// The kind that the pages from `from` up to and without `to` are to have; with `None` they become absent.
-#[derive(Clone, Copy, Debug, PartialEq, Eq)]
+#[derive(Clone, Copy, Debug, Default, PartialEq, Eq)]
 pub struct Change {
     pub from: u16,
     pub to: u16,
