@@ -1,0 +1,4 @@
+pub mod Places
+pub mod OwnTags
+pub mod Changed
+pub mod Written

@@ -1,0 +1,17 @@
+-- What the pages of places are seen as.
+use Rattle.std.specs.Prelude.{ℕ, List}
+use Rattle.cow_space.specs.Seen as rows
+use Rattle.page_cells.specs.declared.cells.PageCells.{PageCells}
+use Rattle.page_cells.specs.Cells.{Place, all_cells}
+
+-- the cells of each place
+unfoldable pub cells : PageCells → List Place
+cells w = all_cells w.kinds.items (rows.maps w.rows)
+
+-- how many frames there are
+unfoldable pub frames_of : PageCells → ℕ
+frames_of w = rows.frames_of w.rows
+
+-- how many tree nodes are free
+unfoldable pub free_nodes : PageCells → ℕ
+free_nodes w = rows.free_nodes w.rows

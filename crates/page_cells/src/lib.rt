@@ -1,0 +1,11 @@
+//! The pages of contexts and of groups alike, by place: the cell of each page, over one store of pages that
+//! are shared until they are written. A page that is present and was never written takes no frame and no node.
+#![tactic(auto)]
+
+pub mod cells;
+pub mod laws;
+pub mod stretches;
+pub mod writes;
+
+pub use cells::{MOST_PLACES, PageCells};
+pub use stretches::{MOST_STRETCHES, Source, Stretch, changes_of};

@@ -1,0 +1,135 @@
+ghost use Rattle.std.specs.Prelude.{◌≡◌, ◌≢◌, ◌<◌, ◌≤◌, ◌+◌, ◌*◌, ℕ, All, length, map, slice_set};
+ghost use Rattle.lwc_base.specs.declared.limits.TheConstants.{MOST_PAGES, MOST_RANGES};
+ghost use Rattle.range_map.specs.Kinds.{ranges};
+ghost use Rattle.cow_space.specs.Seen as rows_seen;
+ghost use Rattle.page_cells.specs.declared.stretches.TheConstants.{MOST_STRETCHES};
+ghost use Rattle.page_cells.specs.Cells.{no_pages, place_of};
+ghost use Rattle.page_cells.specs.Changes.{IsStretch, change_of, changed_place, kinds_after, sourced_kind};
+ghost use Rattle.page_cells.specs.Rows.{IsRowStretch, changed_row};
+ghost use Rattle.page_cells.specs.Seen.{cells, frames_of, free_nodes};
+
+use crate::cells::PageCells;
+use arrayvec::ArrayVec;
+use cow_space::Rows;
+use lwc_base::{Name, Range};
+use pool_base::Steps;
+use range_map::{Change, RangeMap, SegmentKind};
+use std::sync::ledger::Ledger;
+
+/// The most stretches of one change: one for each edge of the 64 ranges and the 32 items that cut them.
+pub const MOST_STRETCHES: usize = 193;
+
+/// What the pages of a stretch get.
+#[derive(Clone, Copy, Debug, PartialEq, Eq)]
+pub enum Source {
+    /// They become absent.
+    Absent,
+    /// They become pages of zeros of the place's own.
+    Zeros,
+    /// They are common of the group of this name.
+    Common(Name),
+    /// They become the place's own copies of what another place has there.
+    CopyOf(usize),
+}
+
+impl Source {
+    /// The kind that the pages get.
+    pub fn kind(self) -> Option<SegmentKind>
+        ensures { result ≡ sourced_kind self }
+    {
+        match self {
+            Source::Absent => None,
+            Source::Zeros | Source::CopyOf(_) => Some(SegmentKind::Own),
+            Source::Common(g) => Some(SegmentKind::Common(g)),
+        }
+    }
+}
+
+/// The pages of a range, and what they get.
+#[derive(Clone, Copy, Debug, PartialEq, Eq)]
+pub struct Stretch {
+    pub range: Range,
+    pub source: Source,
+}
+
+/// The changes of kinds that stretches make.
+pub fn changes_of(stretches: &[Stretch]) -> ArrayVec<Change, 193>
+    requires { length stretches.now ≤ MOST_STRETCHES }
+    ensures { result.items ≡ map change_of stretches.now }
+{
+    let mut changes = ArrayVec::new();
+    for stretch in stretches {
+        changes.push(Change {
+            from: stretch.range.from,
+            to: stretch.range.to,
+            kind: stretch.source.kind(),
+        });
+    }
+    changes
+}
+
+/// Puts what stretches copy into a row, and clears the other pages that they have, the last stretch first.
+fn fill_row<L: Ledger>(rows: &mut Rows, i: usize, stretches: &[Stretch], steps: &mut Steps<L>)
+    requires row { i < length (rows_seen.maps rows.old) }
+    requires stretches { All (IsRowStretch (length (rows_seen.maps rows.old)) i) stretches.now }
+    ensures maps { rows_seen.maps rows.new
+        ≡ slice_set (rows_seen.maps rows.old) i (changed_row (rows_seen.maps rows.old) i stretches.now) }
+    ensures frames { rows_seen.frames_of rows.new ≡ rows_seen.frames_of rows.old }
+    ensures nodes { rows_seen.free_nodes rows.old ≤ rows_seen.free_nodes rows.new + 3 * length stretches.now }
+    ensures cost { steps.new ≤ steps.old + 98 * length stretches.now }
+{
+    'stretches: for k in (0..stretches.len()).rev() {
+        let stretch = stretches[k];
+        match stretch.source {
+            Source::CopyOf(j) => rows.share_between(i, j, stretch.range, steps),
+            _ => rows.clear(i, stretch.range, steps),
+        }
+    }
+}
+
+impl PageCells {
+    /// Gives the pages of each stretch of a place what its source says, and leaves all other pages. Of two
+    /// stretches that have a page, the first counts. No frame is taken.
+    pub fn change<L: Ledger>(&mut self, i: usize, stretches: &[Stretch], steps: &mut Steps<L>)
+        requires place { i < length (cells self.old) }
+        requires few { length stretches.now ≤ MOST_STRETCHES }
+        requires stretches { All (IsStretch (cells self.old) i) stretches.now }
+        requires ranges { ranges MOST_PAGES (kinds_after (map change_of stretches.now) (place_of (cells self.old) i))
+            ≤ MOST_RANGES }
+        ensures cells { cells self.new
+            ≡ slice_set (cells self.old) i (changed_place (cells self.old) i stretches.now) }
+        ensures frames { frames_of self.new ≡ frames_of self.old }
+        ensures nodes { free_nodes self.old ≤ free_nodes self.new + 3 * length stretches.now }
+        ensures cost { steps.new ≤ steps.old + 98 * length stretches.now }
+    {
+        let changes = changes_of(stretches);
+        self.kinds[i].replace(changes.as_slice()).unwrap();
+        fill_row(&mut self.rows, i, stretches, steps);
+    }
+
+    /// Makes all pages of a place those of another, by one hold of the root of their tree. No frame is taken.
+    pub fn clone_place<L: Ledger>(&mut self, to: usize, from: usize, steps: &mut Steps<L>)
+        requires to { to < length (cells self.old) }
+        requires from { from < length (cells self.old) }
+        requires apart { from ≢ to }
+        ensures cells { cells self.new ≡ slice_set (cells self.old) to (place_of (cells self.old) from) }
+        ensures frames { frames_of self.new ≡ frames_of self.old }
+        ensures nodes { free_nodes self.old ≤ free_nodes self.new }
+        ensures cost { steps.new ≤ steps.old + 34 }
+    {
+        self.kinds[to] = self.kinds[from].copy();
+        self.rows.clone_row(to, from, steps);
+    }
+
+    /// Takes all pages from a place, and gives back all that no other place holds.
+    pub fn clear_place<L: Ledger>(&mut self, i: usize, steps: &mut Steps<L>)
+        requires place { i < length (cells self.old) }
+        ensures cells { cells self.new ≡ slice_set (cells self.old) i no_pages }
+        ensures frames { frames_of self.new ≡ frames_of self.old }
+        ensures nodes { free_nodes self.old ≤ free_nodes self.new }
+        ensures cost { steps.new ≤ steps.old + 33 }
+    {
+        self.kinds[i] = RangeMap::empty();
+        self.rows.drop_row(i, steps);
+    }
+}
