@@ -19,7 +19,7 @@ use Rattle.cow_space.proofs.TagLemmas.{HasTag, tags-tell}
 use Rattle.cow_space.proofs.UsedLemmas.{contains-tags}
 
 -- where the same tags are at pages of rows, the same number of frames is used
-same-used : IsTotalOrder tag_cmp → fm.IsAntisymmetric tag_cmp → (maps maps' : List (ℕ → Option PageValue)) → ((tag : Tag) → HasTag maps' tag → HasTag maps tag) → ((tag : Tag) → HasTag maps tag → HasTag maps' tag) → used maps' ≡ used maps
+pub same-used : IsTotalOrder tag_cmp → fm.IsAntisymmetric tag_cmp → (maps maps' : List (ℕ → Option PageValue)) → ((tag : Tag) → HasTag maps' tag → HasTag maps tag) → ((tag : Tag) → HasTag maps tag → HasTag maps' tag) → used maps' ≡ used maps
 unfolding used
 same-used total_order one_tag maps maps' there back =
     ap set.len (set.same_set total_order one_tag (set.from_list {R = tag_cmp} (tags maps')) (set.from_list (tags maps))

@@ -5,3 +5,4 @@ pub mod TagLemmas
 pub mod Trees
 pub mod UsedLemmas
 pub mod WriteLemmas
+pub mod TakenLemmas

@@ -108,7 +108,7 @@ module _ (total_order : IsTotalOrder tag_cmp) (one_tag : fm.IsAntisymmetric tag_
       length-own : (frame : Frame) → length (own_stamp frame) ≡ cond (ltb 0 frame.count) 1 0
       length-own frame = length-if (ltb 0 frame.count) frame.stamp
 
-  different-cons : (t : Tag) (ts : List Tag) → has_tag t ts ≡ false → set.len (set.from_list {R = tag_cmp} (t ∷ ts)) ≡ set.len (set.from_list {R = tag_cmp} ts) + 1
+  pub different-cons : (t : Tag) (ts : List Tag) → has_tag t ts ≡ false → set.len (set.from_list {R = tag_cmp} (t ∷ ts)) ≡ set.len (set.from_list {R = tag_cmp} ts) + 1
   different-cons t ts new =
       set.len-insert total_order (set.from_list {R = tag_cmp} ts) t
       ∙ ap (λ b. cond b (set.len (set.from_list {R = tag_cmp} ts)) (set.len (set.from_list {R = tag_cmp} ts) + 1)) (contains-tags t ts ∙ new)

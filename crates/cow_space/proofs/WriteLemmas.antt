@@ -91,7 +91,7 @@ module _ (old new : List Node) (frames frames' : List Frame) (trees : List ℕ) 
 
 -- what is written
 
-stored-parting : (tag : Tag) (v : PageValue) (bytes : List ℕ) → stored_value true tag v bytes ≡ value.Data tag bytes
+pub stored-parting : (tag : Tag) (v : PageValue) (bytes : List ℕ) → stored_value true tag v bytes ≡ value.Data tag bytes
 stored-parting tag value.Zero bytes = refl
 stored-parting tag (value.Data own old) bytes = refl
 
