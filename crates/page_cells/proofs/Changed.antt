@@ -20,7 +20,7 @@ use Rattle.page_cells.specs.Kept.{IsKept, may_have}
 use Rattle.page_cells.specs.Rows.{IsApart, IsRowStretch, changed_row, sourced_value, value_by}
 use Rattle.page_cells.proofs.Places.{at-place, kinds-place, own-kind}
 
-cond-of : {X Y : Type 0} (f : X → Y) (b : Bool) (x y : X) → f (cond b x y) ≡ cond b (f x) (f y)
+pub cond-of : {X Y : Type 0} (f : X → Y) (b : Bool) (x y : X) → f (cond b x y) ≡ cond b (f x) (f y)
 cond-of f true x y = refl
 cond-of f false x y = refl
 

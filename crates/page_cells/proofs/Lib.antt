@@ -2,3 +2,4 @@ pub mod Places
 pub mod OwnTags
 pub mod Changed
 pub mod Written
+pub mod Taken

@@ -1,10 +1,32 @@
 -- Laws of the pages of places.
-use Rattle.std.specs.Prelude.{◌≡◌, ℕ, All, List, map}
+use Rattle.std.specs.Prelude.{◌≡◌, ◌≢◌, ℕ, ◌+◌, ◌<◌, All, List, Some, length, map}
+use Rattle.lwc_base.specs.declared.cell.Cell.TheVariants as cell
+use Rattle.lwc_base.specs.declared.limits.TheConstants.{MOST_PAGES}
+use Rattle.lwc_base.specs.declared.name.Tag.{Tag}
+use Rattle.lwc_base.specs.declared.page.PageValue.TheVariants.{Data}
+use Rattle.lwc_base.specs.Store.{Piece}
 use Rattle.page_cells.specs.declared.stretches.Stretch.{Stretch}
-use Rattle.page_cells.specs.Cells.{Place, kinds_of, place_of}
+use Rattle.page_cells.specs.Cells.{IsOwnPage, Place, kinds_of, place_of}
 use Rattle.page_cells.specs.Changes.{IsStretch, change_of, changed_place, kinds_after}
+use Rattle.page_cells.specs.Tags.{IsNewTag, is_parting, taken_by, used}
+use Rattle.page_cells.specs.Writes.{write_page}
 
 -- the kinds of a place after stretches are those after the changes that they make
 pub record ChangeLaws : Type 0 where
   pub kinds : (cells : List Place) (i : ℕ) (stretches : List Stretch) → All (IsStretch cells i) stretches →
       kinds_of (changed_place cells i stretches) ≡ kinds_after (map change_of stretches) (place_of cells i)
+
+-- a write takes a frame where the page parts, and else none; it leaves the kinds of pages, and the tags that are new;
+-- another page of the place, under another tag, parts as before
+pub record WriteLaws : Type 0 where
+  pub taken : (cells : List Place) (i p : ℕ) (piece : Piece) (tag : Tag) → i < length cells → p < MOST_PAGES → IsNewTag cells tag →
+      used (write_page cells i p piece tag) ≡ used cells + taken_by cells i p
+  pub others : (cells : List Place) (i p q : ℕ) (piece : Piece) (tag : Tag) → i < length cells → p < MOST_PAGES → q < MOST_PAGES → q ≢ p → IsNewTag cells tag →
+      ((t : Tag) (a b : List ℕ) → place_of cells i p ≡ cell.Own (Some (Data t a)) → place_of cells i q ≢ cell.Own (Some (Data t b))) →
+      is_parting (write_page cells i p piece tag) i q ≡ is_parting cells i q
+  pub kinds : (cells : List Place) (i p j : ℕ) (piece : Piece) (tag : Tag) → i < length cells → IsOwnPage (place_of cells i p) →
+      kinds_of (place_of (write_page cells i p piece tag) j) ≡ kinds_of (place_of cells j)
+  pub same : (cells : List Place) (i p q : ℕ) (piece : Piece) (tag : Tag) → i < length cells → q ≢ p →
+      place_of (write_page cells i p piece tag) i q ≡ place_of cells i q
+  pub new : (cells : List Place) (i p : ℕ) (piece : Piece) (tag next : Tag) → i < length cells → IsNewTag cells next → next ≢ tag →
+      IsOwnPage (place_of cells i p) → IsNewTag (write_page cells i p piece tag) next

@@ -1,0 +1,13 @@
+use Rattle.page_cells.proofs.Taken.{new-still, page-same, parting-same, taken-places, written-kinds}
+use Rattle.page_cells.proofs.laws.writes_take_few_frames_of_places.Goals as goal
+
+pub returns : goal.returns
+returns c =
+    let laws = c.writes_take_few_frames.ensures in
+    record {
+      taken = taken-places laws;
+      others = parting-same laws;
+      kinds = written-kinds;
+      same = page-same;
+      new = new-still;
+    }
