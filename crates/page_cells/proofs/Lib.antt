@@ -3,3 +3,5 @@ pub mod OwnTags
 pub mod Changed
 pub mod Written
 pub mod Taken
+pub mod WorldTags
+pub mod Zeroed

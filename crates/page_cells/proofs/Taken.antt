@@ -1,5 +1,5 @@
 -- Places of which a page is written: the frames that they use, and the pages that part.
-use Rattle.std.proofs.Common.{◌≡◌, ◌≢◌, ℕ, ◌+◌, ◌<◌, ◌⊎◌, inl, inr, ⊎_elim, Bool, true, false, cond, eqb, List, length, get_or, set, map, refl, sym, ◌∙◌, ap, arith, subst, get_or-set_other, Option, None, Some, unwrap_or}
+use Rattle.std.proofs.Common.{◌≡◌, ◌≢◌, ℕ, ◌+◌, ◌<◌, ◌⊎◌, inl, inr, ⊎_elim, Bool, true, false, cond, eqb, List, length, set, map, refl, sym, ◌∙◌, ap, arith, get_or-set_other, Option, None, Some, unwrap_or}
 use Rattle.std.proofs.lemmas.Bool.{cases_eq, cases_lt, cond-true, cond-false, eq-eqb, ne_eqb}
 use Rattle.std.proofs.lemmas.List.{get_or-map, get_or-set_same, get_or_past, length-map, map-set}
 use Rattle.lwc_base.specs.declared.cell.Cell.{Cell}
@@ -133,7 +133,7 @@ new-still cells i p piece tag next inside new off own = λ k q bytes is.
     ⊎_elim
     (λ page.
     let now : cell.Own (Some (written_value cells i p piece tag)) ≡ cell.Own (Some (Data next bytes)) =
-        sym (at-page cells i p piece tag inside) ∙ (λ x. place_of (write_page cells i p piece tag) (sym here x) (sym page x)) ∙ is in
+    sym (at-page cells i p piece tag inside) ∙ (λ x. place_of (write_page cells i p piece tag) (sym here x) (sym page x)) ∙ is in
     ⊎_elim (λ same. off (sym same)) (λ was. new i p was.0 was.1)
     (value-tags (is_parting cells i p) tag next (place_of cells i p) (bytes_after piece p (bytes_of (page_value cells i p))) bytes own (value-of (written_value cells i p piece tag) (Data next bytes) now)))
     (λ away. new i q bytes (sym (at-other cells i p piece tag inside q away) ∙ ap (λ j. place_of (write_page cells i p piece tag) j q) (sym here) ∙ is))

@@ -5,4 +5,5 @@ pub mod Laws
 pub mod Rows
 pub mod Seen
 pub mod Tags
+pub mod Worlds
 pub mod Writes
