@@ -9,3 +9,6 @@ pub mod writes;
 
 pub use cells::{MOST_PLACES, PageCells};
 pub use stretches::{MOST_STRETCHES, Source, Stretch, changes_of};
+
+#[cfg(test)]
+mod tests;

@@ -1,0 +1,120 @@
+ghost use Rattle.std.specs.Prelude.{◌≡◌, ℕ, ◌<◌, ◌≤◌, All, IfOk, length, slice_set};
+ghost use Rattle.page_cells.specs.declared.stretches.TheConstants.{MOST_STRETCHES};
+ghost use Rattle.page_cells.specs.Changes.{IsStretch, changed_place};
+ghost use Rattle.page_cells.specs.Seen.{cells};
+
+use super::*;
+use lwc_base::{MOST_RANGES, Name, Range, Tag};
+use pool_base::Steps;
+use range_map::SegmentKind;
+use std::alloc::Global;
+use std::marker::Brand;
+use std::process::Abort;
+use std::sync::ledger::{Blank, Ledger};
+use std::test::Fail;
+
+/// A stretch of pages from one up to and without another.
+fn stretch(from: u16, to: u16, source: Source) -> Stretch
+    ensures { result ≡ record { range = record { from = from; to = to }; source = source } }
+{
+    Stretch {
+        range: Range { from, to },
+        source,
+    }
+}
+
+/// Changes a place, whose ranges stay few.
+fn change<L: Ledger>(
+    rt: &impl Abort,
+    places: &mut PageCells,
+    i: usize,
+    stretches: &[Stretch],
+    steps: &mut Steps<L>,
+)
+    requires place { i < length (cells places.old) }
+    requires few { length stretches.now ≤ MOST_STRETCHES }
+    requires stretches { All (IsStretch (cells places.old) i) stretches.now }
+    ensures { cells places.new ≡ slice_set (cells places.old) i (changed_place (cells places.old) i stretches.now) }
+{
+    let changes = changes_of(stretches);
+    let count = places.count_after(i, changes.as_slice());
+    assert!(rt; count <= MOST_RANGES);
+    places.change(i, stretches, steps);
+}
+
+/// Three places, of which the first has pages 2 to 7, and bytes at page 5.
+fn written<L: Ledger>(
+    rt: &impl Abort,
+    alloc: Global,
+    steps: &mut Steps<L>,
+) -> Result<PageCells, Fail> {
+    let mut places = PageCells::open(alloc, 4, 3)?;
+    assert_eq!(rt; (places.len(), places.frames(), places.used()), (3, 4, 0));
+    change(rt, &mut places, 0, &[stretch(2, 8, Source::Zeros)], steps);
+    assert_eq!(rt; places.len(), 3);
+    let Some(SegmentKind::Own) = places.kind(0, 5) else {
+        return Err("page 5 is the place's own")?;
+    };
+    assert!(rt; places.is_parting(0, 5));
+    let tag = Tag { job: 1, k: 0 };
+    let parted = places.write(0, 5, 5 * 4096 + 4094, &[7, 8, 9], tag, steps);
+    assert_eq!(rt; parted, Ok(true));
+    Ok(places)
+}
+
+/// Copies and drops the pages of a place, and makes one of them common.
+fn try_places<L: Ledger>(rt: &impl Abort, alloc: Global, blank: Blank) -> Result<(), Fail>
+    requires name { blank.name ≡ L.name }
+    requires parts { blank.parts ≡ L.parts }
+    requires some { 0 < blank.parts }
+{
+    let mut steps = Steps::<L>::new(blank);
+    let mut places = written(rt, alloc, &mut steps)?;
+    let group = Name { job: 1, k: 2 };
+    assert_eq!(rt; places.len(), 3);
+    places.clone_place(1, 0, &mut steps);
+    assert_eq!(rt; places.len(), 3);
+    assert_eq!(rt; (places.count(1), places.used()), (1, 1));
+    change(
+        rt,
+        &mut places,
+        0,
+        &[
+            stretch(4, 6, Source::Common(group)),
+            stretch(0, 8, Source::Absent),
+        ],
+        &mut steps,
+    );
+    assert_eq!(rt; places.len(), 3);
+    assert_eq!(rt;
+        [places.kind(0, 3), places.kind(0, 5)],
+        [None, Some(SegmentKind::Common(group))]
+    );
+    assert!(rt; places.bytes(0, 5).is_none());
+    let Some(SegmentKind::Own) = places.kind(1, 5) else {
+        return Err("page 5 is the place's own")?;
+    };
+    change(
+        rt,
+        &mut places,
+        2,
+        &[stretch(5, 6, Source::CopyOf(1))],
+        &mut steps,
+    );
+    assert_eq!(rt; places.len(), 3);
+    places.clear_place(1, &mut steps);
+    assert_eq!(rt; places.len(), 3);
+    assert_eq!(rt;
+        (places.count(1), places.count(2), places.used()),
+        (0, 1, 1)
+    );
+    let bytes = places.bytes(2, 5).ok_or("the page has bytes")?;
+    assert_eq!(rt; bytes.len(), 4096);
+    assert_eq!(rt; (bytes[4093], bytes[4094], bytes[4095]), (0, 7, 8));
+    Ok(())
+}
+
+#[test]
+fn places_share_pages_until_they_drop_them(rt: HostRuntime) -> Result<(), Fail> {
+    try_places::<Brand>(&rt, rt.alloc(), Blank::new(1))
+}
