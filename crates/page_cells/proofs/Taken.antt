@@ -145,3 +145,11 @@ new-still cells i p piece tag next inside new off own = λ k q bytes is.
   where
     value-of : (a b : PageValue) → cell.Own (Some a) ≡ cell.Own (Some b) → a ≡ b
     value-of a b is = cc
+
+-- a place without pages that becomes another one
+pub cloned-used : rows_laws.CopyLaws → (cells : List Place) (to from : ℕ) → to < length cells → from < length cells → place_of cells to ≡ no_pages → used (set cells to (place_of cells from)) ≡ used cells
+unfolding used
+cloned-used laws cells to from to_in from_in none =
+    ap tags_of_rows.used (map-set own_values cells to (place_of cells from) ∙ ap (set (map own_values cells) to) (sym (own-any cells from)))
+    ∙ laws.cloned (map own_values cells) to from (omega (arith, to_in, length-own cells)) (omega (arith, from_in, length-own cells))
+    (own-any cells to ∙ ap (λ (place : Place). own_values place) none)

@@ -1,4 +1,4 @@
--- Places as the tests begin with them: of one some pages are zeros, and there is no other page.
+-- Places as the tests begin with them: pages of one are zeros, and there is no other page.
 use Rattle.std.proofs.Common.{◌≡◌, ℕ, zero, suc, ◌<◌, ⊎_elim, Bool, true, false, cond, List, [], ◌∷◌, length, set, replicate, sym, ◌∙◌, ap, arith, get_or-set_other, None, Some}
 use Rattle.std.specs.Prelude.{All}
 use Rattle.std.proofs.lemmas.Bool.{cases_eq, cases_lt}

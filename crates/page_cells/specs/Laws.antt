@@ -1,12 +1,12 @@
 -- Laws of the pages of places.
-use Rattle.std.specs.Prelude.{◌≡◌, ◌≢◌, ℕ, ◌+◌, ◌<◌, All, List, Some, length, map}
+use Rattle.std.specs.Prelude.{◌≡◌, ◌≢◌, ℕ, ◌+◌, ◌<◌, All, List, Some, length, map, slice_set}
 use Rattle.lwc_base.specs.declared.cell.Cell.TheVariants as cell
 use Rattle.lwc_base.specs.declared.limits.TheConstants.{MOST_PAGES}
 use Rattle.lwc_base.specs.declared.name.Tag.{Tag}
 use Rattle.lwc_base.specs.declared.page.PageValue.TheVariants.{Data}
 use Rattle.lwc_base.specs.Store.{Piece}
 use Rattle.page_cells.specs.declared.stretches.Stretch.{Stretch}
-use Rattle.page_cells.specs.Cells.{IsOwnPage, Place, kinds_of, place_of}
+use Rattle.page_cells.specs.Cells.{IsOwnPage, Place, kinds_of, no_pages, place_of}
 use Rattle.page_cells.specs.Changes.{IsStretch, change_of, changed_place, kinds_after}
 use Rattle.page_cells.specs.Tags.{IsNewTag, is_parting, taken_by, used}
 use Rattle.page_cells.specs.Writes.{write_page}
@@ -16,8 +16,13 @@ pub record ChangeLaws : Type 0 where
   pub kinds : (cells : List Place) (i : ℕ) (stretches : List Stretch) → All (IsStretch cells i) stretches →
       kinds_of (changed_place cells i stretches) ≡ kinds_after (map change_of stretches) (place_of cells i)
 
--- a write takes a frame where the page parts, and else none; it leaves the kinds of pages, and the tags that are new;
--- another page of the place, under another tag, parts as before
+-- the places use as many frames as before, once one without pages has those of another
+pub record CloneLaws : Type 0 where
+  pub cloned : (cells : List Place) (to from : ℕ) → to < length cells → from < length cells → place_of cells to ≡ no_pages →
+      used (slice_set cells to (place_of cells from)) ≡ used cells
+
+-- a write takes a frame if the page parts, and none otherwise; it leaves the kinds of pages, and any other new tag
+-- stays new; another page of the place, under another tag, parts as before
 pub record WriteLaws : Type 0 where
   pub taken : (cells : List Place) (i p : ℕ) (piece : Piece) (tag : Tag) → i < length cells → p < MOST_PAGES → IsNewTag cells tag →
       used (write_page cells i p piece tag) ≡ used cells + taken_by cells i p

@@ -1,4 +1,4 @@
--- The tags of a world whose contexts and groups stand at places.
+-- The tags of a world whose contexts and groups have places.
 use Rattle.std.specs.Prelude.{◌≡◌, ◌≢◌, ℕ, ◌<◌, ◌≤◌, All, List, [], None, Some, length}
 use Rattle.std.specs.List.{AllPairs, Contains, flat_map}
 use Rattle.lwc_base.specs.declared.cell.Cell.TheVariants as cell
@@ -26,8 +26,8 @@ pub record HoldAllTags (cells : List Place) (numbers : List ℕ) : Type 0 where
   pub apart : AllPairs ◌≢◌ numbers
   pub rest : (i : ℕ) → (Contains numbers i → ⊥) → tags_of_place (place_of cells i) ≡ []
 
--- a context, or a group, has the tags of the place where its cells are; where all tags of a world are at
--- different places, it uses as many frames as the places, and the same pages part
+-- a context, or a group, has the tags of the place with its cells; a world whose tags are those of different places
+-- uses as many frames as the places do, and the same pages part
 pub record WorldLaws : Type 0 where
   pub context : (pages : ℕ) (x : Context) (place : Place) → pages ≤ MOST_PAGES →
       ((p : ℕ) → p < pages → place p ≡ x.cell (Page p)) → ((p : ℕ) → pages ≤ p → place p ≡ cell.Own None) →

@@ -1,5 +1,5 @@
 //! The pages of contexts and of groups alike, by place: the cell of each page, over one store of pages that
-//! are shared until they are written. A page that is present and was never written takes no frame and no node.
+//! are shared until they are written. A present page that was never written takes no frame and no node.
 #![tactic(auto)]
 
 pub mod cells;

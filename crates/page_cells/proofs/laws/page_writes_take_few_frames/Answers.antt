@@ -1,5 +1,5 @@
 use Rattle.page_cells.proofs.Taken.{new-still, page-same, parting-same, taken-places, written-kinds}
-use Rattle.page_cells.proofs.laws.writes_take_few_frames_of_places.Goals as goal
+use Rattle.page_cells.proofs.laws.page_writes_take_few_frames.Goals as goal
 
 pub returns : goal.returns
 returns c =
