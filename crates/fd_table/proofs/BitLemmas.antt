@@ -1,5 +1,5 @@
 -- The bits of a word from one on, and how many it has.
-use Rattle.std.proofs.Common.{◌≡◌, ℕ, zero, suc, ◌+◌, ◌-◌, ◌*◌, ◌/◌, ◌%◌, ◌^◌, ◌<◌, ◌≤◌, ⊎_elim, Bool, true, false, cond, eqb, List, refl, sym, ◌∙◌, ap, arith, w64}
+use Rattle.std.proofs.Common.{◌≡◌, ℕ, zero, suc, ◌+◌, ◌-◌, ◌/◌, ◌%◌, ◌^◌, ◌<◌, ◌≤◌, ⊎_elim, Bool, false, eqb, refl, sym, ◌∙◌, ap, arith, w64}
 use lib.Count.{ones, ones_step}
 use Rattle.std.specs.List.{count_by, range_with_len}
 use Rattle.std.specs.Int.{bit_at, trailing_zeros}

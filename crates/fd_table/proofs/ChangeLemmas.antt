@@ -1,16 +1,16 @@
 -- What a call makes of the tables and their rows: an entry is another, a table is copied, a table is emptied.
-use Rattle.std.proofs.Common.{◌≡◌, ◌≢◌, ℕ, ◌+◌, ◌-◌, ◌<◌, ◌≤◌, ⊎_elim, Bool, true, false, cond, eqb, ltb, List, [], ◌∷◌, length, get_or, set, map, replicate, refl, sym, ◌∙◌, ap, subst, arith, length-set, Option, None, Some}
-use Rattle.std.proofs.lemmas.List.{get_or_read, get_or_past, length-replicate, get_or-replicate}
-use Rattle.std.proofs.lemmas.Bool.{cases_eq, cases_lt}
+use Rattle.std.proofs.Common.{◌≡◌, ℕ, ◌+◌, ◌-◌, ◌<◌, ◌≤◌, ⊎_elim, Bool, cond, eqb, ltb, List, [], ◌∷◌, length, get_or, set, sym, ◌∙◌, ap, arith}
+use Rattle.std.proofs.lemmas.List.{get_or_read}
+use Rattle.std.proofs.lemmas.Bool.{cases_eq}
 use Rattle.lwc_base.specs.Capabilities.{has_bit}
 use Rattle.fd_table.specs.declared.table.Table.{Table}
 use Rattle.fd_table.specs.Slots.{Slot, empty_slot, no_slots, row_of, put_slot, is_filled, is_common}
-use Rattle.fd_table.specs.Pools.{Held, no_held, held_at, count_of, slot_at}
+use Rattle.fd_table.specs.Pools.{Held, count_of, slot_at}
 use Rattle.fd_table.specs.Objects.{HoldsMore, HoldsLess, Takes}
-use Rattle.fd_table.specs.Tables.{times, naming, entry_slot, slots_of, rows, no_table, table_at, IsTable}
+use Rattle.fd_table.specs.Tables.{times, entry_slot, slots_of, rows, no_table, table_at, IsTable}
 use Rattle.fd_table.specs.Kept.{IsKept}
-use Rattle.fd_table.proofs.ObjectLemmas.{one_if, one-yes, one-no, held-in, times-one, times-set}
-use Rattle.fd_table.proofs.SlotLemmas.{entry-empty, entry-some, slots-at, slots-same, slots-set, slots-none, no-entries, times-zeros, row-at, rows-set, naming-some, naming-at, table-same, table-empty, table-set, kept-set, zero-no}
+use Rattle.fd_table.proofs.ObjectLemmas.{one_if, one-yes, one-no, times-one, times-set}
+use Rattle.fd_table.proofs.SlotLemmas.{entry-some, slots-at, slots-same, slots-set, slots-none, no-entries, times-zeros, row-at, rows-set, naming-some, naming-at, table-same, table-empty, table-set, kept-set, zero-no}
 
 -- the table that was read
 pub table-read : (tables : List Table) (i : ℕ) (table : Table) → i < length tables → table ≡ get_or tables i table → table ≡ table_at tables i

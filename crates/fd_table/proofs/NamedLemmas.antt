@@ -1,5 +1,5 @@
 -- A place is named by a held object exactly where a slot names it.
-use Rattle.std.proofs.Common.{◌≡◌, ℕ, zero, suc, ◌+◌, ◌-◌, ◌<◌, ◌≤◌, ⊎_elim, Bool, true, false, ◌&&◌, cond, eqb, ltb, List, [], ◌∷◌, length, get_or, refl, sym, ◌∙◌, ap, arith, Option, None, Some}
+use Rattle.std.proofs.Common.{◌≡◌, ℕ, suc, ◌+◌, ◌-◌, ◌<◌, ⊎_elim, Bool, true, false, ◌&&◌, eqb, ltb, List, [], ◌∷◌, length, get_or, refl, sym, ◌∙◌, ap, arith, Option, None, Some}
 use Rattle.std.specs.List.{sum_by, count_by}
 use Rattle.std.proofs.lemmas.List.{get_or_past}
 use Rattle.std.proofs.lemmas.List.Sums.{sum_by-cons, get_or-le-sum_by}
@@ -8,7 +8,7 @@ use Rattle.fd_table.specs.declared.table.Table.{Table}
 use Rattle.fd_table.specs.Slots.{Slot, no_slots, row_of}
 use Rattle.fd_table.specs.Pools.{Held, no_held, held_at, count_of, slot_at}
 use Rattle.fd_table.specs.Objects.{is_target, is_naming}
-use Rattle.fd_table.specs.Tables.{times, naming, slots_of, rows, no_table, table_at}
+use Rattle.fd_table.specs.Tables.{times, naming, rows, no_table, table_at}
 use Rattle.fd_table.specs.Kept.{IsKept}
 use Rattle.fd_table.proofs.ObjectLemmas.{one_if, counts-held, held-in, none-some}
 use Rattle.fd_table.proofs.SlotLemmas.{entry-empty, entry-some, slots-at, length-rows, row-at}

@@ -1,7 +1,7 @@
 -- What holding and giving back objects does to their counts, to their slots, and to the numbers of those that name a place.
 use Rattle.std.proofs.Common.{◌≡◌, ◌≢◌, ℕ, ◌+◌, ◌-◌, ◌<◌, ◌≤◌, ◌&&◌, ⊎_elim, Bool, true, false, cond, eqb, ltb, List, [], ◌∷◌, length, get_or, set, take, refl, sym, ◌∙◌, ap, subst, arith, add-zero, length-set, get_or-set_same, get_or-set_other, Option, None, Some, IfSome}
-use Rattle.std.specs.List.{sum_by, count_by}
-use Rattle.std.proofs.lemmas.List.{set-get_or, get_or_past}
+use Rattle.std.specs.List.{count_by}
+use Rattle.std.proofs.lemmas.List.{get_or_past}
 use Rattle.std.proofs.lemmas.List.Sums.{sum_by-set, sum_by-cons, sum_by_more, sum_by-take-le, sum_by_more_le, get_or-le-sum_by, count_by-le-length}
 use Rattle.std.proofs.lemmas.Bool.{cases_eq, cases_lt, eq-eqb, ne_eqb}
 use Rattle.std.proofs.lemmas.Bool.Decides.{nat_tests}

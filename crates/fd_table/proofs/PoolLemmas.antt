@@ -5,7 +5,7 @@ use Rattle.std.proofs.lemmas.Bool.{cases_lt}
 use Rattle.pool_base.specs.Counts.{Places, free_count}
 use Rattle.pool_base.specs.Padded.{padded}
 use Rattle.pool_base.specs.Paired.{paired}
-use Rattle.pool_base.proofs.PaddedLemmas.{length-padded, get_or-padded, get_or-padding, padded-set}
+use Rattle.pool_base.proofs.PaddedLemmas.{length-padded, get_or-padded}
 use Rattle.pool_base.proofs.PairedLemmas.{length-paired, get_or-paired, paired-set, sum_by-paired}
 use Rattle.fd_table.specs.declared.filling.Filling.{Filling}
 use Rattle.fd_table.specs.Pools.{Held, no_held, held_at, count_of, recount, free_of, seen_held, seen_pool, no_filling, IsWhole}

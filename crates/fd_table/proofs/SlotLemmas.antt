@@ -1,20 +1,19 @@
 -- The tables of places over a pool: what their entries stand for, what a change of one table does, and that an object is free.
-use Rattle.std.proofs.Common.{◌≡◌, ◌≢◌, ℕ, zero, suc, ◌+◌, ◌-◌, ◌*◌, ◌^◌, ◌<◌, ◌≤◌, ⊎_elim, Bool, true, false, cond, eqb, ltb, List, [], ◌∷◌, length, get_or, set, map, take, replicate, refl, sym, ◌∙◌, ap, subst, arith, add-zero, length-set, get_or-set_same, get_or-set_other, Option, None, Some}
+use Rattle.std.proofs.Common.{◌≡◌, ◌≢◌, ℕ, zero, suc, ◌+◌, ◌-◌, ◌*◌, ◌<◌, ◌≤◌, ⊎_elim, Bool, true, false, cond, eqb, ltb, List, [], ◌∷◌, length, get_or, set, map, take, replicate, refl, sym, ◌∙◌, ap, subst, arith, length-set, get_or-set_same, get_or-set_other}
 use Rattle.std.specs.List.{sum_by, count_by}
 use Rattle.std.proofs.lemmas.List.{map-set, get_or-map, length-map, length-replicate, get_or-replicate, get_or_past}
 use Rattle.std.proofs.lemmas.List.Sums.{sum_by-cons, sum_by-set, sum_by-le-sum_by, get_or-le-sum_by, count_by-le-length}
 use Rattle.std.proofs.lemmas.Bool.{cases_eq, cases_lt, eq-eqb, ne_eqb, false≢true}
 use Rattle.std.proofs.lemmas.Bool.Decides.{nat_tests}
 use Rattle.std.proofs.lemmas.Nat.Bits.{bit_at-zero}
-use Rattle.pool_base.proofs.Totals.{total, total-le, total-same, total-zero, total-add, total-list, total-once}
+use Rattle.pool_base.proofs.Totals.{total, total-same, total-zero, total-add, total-list, total-once}
 use Rattle.lwc_base.specs.Capabilities.{has_bit}
 use Rattle.fd_table.specs.declared.table.Table.{Table}
 use Rattle.fd_table.specs.Slots.{Slot, empty_slot, no_slots, row_of, put_slot, is_filled, is_common}
-use Rattle.fd_table.specs.Pools.{Held, no_held, held_at, count_of, slot_at, free_of}
-use Rattle.fd_table.specs.Objects.{HoldsMore, HoldsLess, Takes}
+use Rattle.fd_table.specs.Pools.{Held, no_held, count_of, slot_at, free_of}
 use Rattle.fd_table.specs.Tables.{times, naming, entry_slot, slots_of, rows, no_table, table_at, IsTable}
 use Rattle.fd_table.specs.Kept.{IsKept}
-use Rattle.fd_table.proofs.ObjectLemmas.{one_if, one-yes, one-no, held-in, times-none, times-some, times-set}
+use Rattle.fd_table.proofs.ObjectLemmas.{one_if, one-yes, one-no, times-some}
 
 -- ---- lists in which one element changes
 

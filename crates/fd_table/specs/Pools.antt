@@ -1,5 +1,5 @@
 -- A pool of counted slots as the list of them.
-use Rattle.std.specs.Prelude.{◌≡◌, ℕ, ◌==◌, ◌≤◌, List, Option, None, count_by, length, slice_index, slice_index_or, slice_set}
+use Rattle.std.specs.Prelude.{◌≡◌, ℕ, ◌==◌, ◌≤◌, List, None, count_by, length, slice_index, slice_index_or, slice_set}
 use Rattle.lwc_base.specs.declared.descriptor.Descriptor.TheVariants.{Empty}
 use Rattle.pool_base.specs.Counts.{Places}
 use Rattle.pool_base.specs.Padded.{padded}

@@ -7,7 +7,6 @@ use crate::objects::Objects;
 use crate::table::Table;
 use lwc_base::{Cell, Descriptor, OutOfMemory};
 use std::alloc::Global;
-use std::mem::replace;
 
 /// How many places there can be.
 pub const MOST_PLACES: u32 = 65536;
@@ -201,8 +200,8 @@ impl Slots {
         requires empty { row_of (slots self.old) to ≡ no_slots }
         ensures { slots self.new ≡ slice_set (slots self.old) to (row_of (slots self.old) from) }
     {
+        self.objects.hold_all(self.tables[from].used());
         let table = self.tables[from];
-        self.objects.hold_all(table.used());
         self.tables[to] = table;
     }
 
@@ -211,7 +210,7 @@ impl Slots {
         requires { i < length (slots self.old) }
         ensures { slots self.new ≡ slice_set (slots self.old) i no_slots }
     {
-        let table = replace(&mut self.tables[i], Table::empty());
-        self.objects.drop_all(table.used());
+        self.objects.drop_all(self.tables[i].used());
+        self.tables[i] = Table::empty();
     }
 }

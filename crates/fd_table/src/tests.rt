@@ -19,8 +19,20 @@ fn places_share_cells_until_they_drop_them(rt: HostRuntime) -> Result<(), Fail> 
     assert_eq!(rt; slots.filled(0), 0x8000_0000_0000_0020);
     assert_eq!(rt; slots.common(0), 0x8000_0000_0000_0000);
     assert_eq!(rt; slots.count_filled(0), 2);
-    assert_eq!(rt; (lowest_bit(slots.filled(0), 0), lowest_bit(slots.filled(0), 6)), (Some(5), Some(63)));
-    assert_eq!(rt; (lowest_bit(!slots.filled(0), 5), lowest_bit(slots.common(0), 64)), (Some(6), None));
+    assert_eq!(rt;
+        (
+            lowest_bit(slots.filled(0), 0),
+            lowest_bit(slots.filled(0), 6)
+        ),
+        (Some(5), Some(63))
+    );
+    assert_eq!(rt;
+        (
+            lowest_bit(!slots.filled(0), 5),
+            lowest_bit(slots.common(0), 64)
+        ),
+        (Some(6), None)
+    );
     slots.clone_place(1, 0);
     slots.put(0, 5, Cell::Own(Descriptor::Console), None);
     assert!(rt; matches!(slots.cell(0, 5), Cell::Own(Descriptor::Console)));

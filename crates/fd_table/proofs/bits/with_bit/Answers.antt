@@ -1,4 +1,4 @@
-use Rattle.std.proofs.Common.{w64, ⊎_elim, inl, inr, refl, sym}
+use Rattle.std.proofs.Common.{w64, inl, inr, refl, sym}
 use Rattle.std.proofs.lemmas.Bool.{cases_eq, eq-eqb, ne_eqb}
 use Rattle.std.proofs.lemmas.Nat.Bits.{bit_at_set_same, bit_at_set_other, bit_at_clear_same, bit_at_clear_other}
 use Rattle.fd_table.proofs.bits.with_bit.Goals as goal

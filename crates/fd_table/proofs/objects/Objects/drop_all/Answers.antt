@@ -1,5 +1,4 @@
-use Rattle.std.proofs.Common.{refl, arith, ◌∙◌}
-use Rattle.std.proofs.lemmas.List.{get_or_read}
+use Rattle.std.proofs.Common.{refl, ◌∙◌}
 use Rattle.fd_table.proofs.ObjectLemmas.{less-none, less-next, less-more}
 use Rattle.fd_table.proofs.objects.Objects.drop_all.Goals as goal
 

@@ -1,6 +1,5 @@
-use Rattle.std.proofs.Common.{◌≡◌, ◌<◌, ℕ, arith, ap, ◌∙◌, sym, subst, Option, Some, None, refl, get_or, IfSome}
-use Rattle.fd_table.specs.Pools.{held_at}
-use Rattle.fd_table.specs.Objects.{IsCounted, last_target, counted_less}
+use Rattle.std.proofs.Common.{◌≡◌, ◌<◌, ℕ, ap, ◌∙◌, sym, subst, Option, Some, None, refl, get_or, IfSome}
+use Rattle.fd_table.specs.Objects.{IsCounted, counted_less}
 use Rattle.fd_table.proofs.ObjectLemmas.{counted-drop, last-counted}
 use Rattle.fd_table.proofs.objects.Objects.drop_hold.Goals as goal
 

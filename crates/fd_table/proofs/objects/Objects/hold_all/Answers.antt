@@ -1,6 +1,5 @@
-use Rattle.std.proofs.Common.{◌≡◌, ◌+◌, ◌-◌, ◌<◌, ◌≤◌, get_or, length, take, refl, arith, ap, ◌∙◌, subst, sym}
+use Rattle.std.proofs.Common.{◌+◌, ◌-◌, ◌<◌, get_or, length, take, refl, arith, ap, ◌∙◌, subst, sym}
 use Rattle.fd_table.specs.Pools.{count_of}
-use Rattle.fd_table.specs.Tables.{times}
 use Rattle.fd_table.specs.Objects.{HoldsMore}
 use Rattle.fd_table.proofs.ObjectLemmas.{more-none, more-skip, more-hold, times-some, times-next, held-in}
 use Rattle.fd_table.proofs.objects.Objects.hold_all.Goals as goal

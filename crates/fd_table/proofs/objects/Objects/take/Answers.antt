@@ -1,8 +1,8 @@
-use Rattle.std.proofs.Common.{◌≡◌, ◌<◌, ℕ, arith, ap, ◌∙◌, sym, subst, length, set, Some}
+use Rattle.std.proofs.Common.{◌≡◌, ◌<◌, ap, ◌∙◌, sym, subst, length, set}
 use Rattle.fd_table.specs.Fillings.{slot_of}
 use Rattle.fd_table.specs.Pools.{count_of}
 use Rattle.fd_table.specs.Objects.{IsCounted, counted_more}
-use Rattle.fd_table.proofs.ObjectLemmas.{counted-take, takes-set, some-of}
+use Rattle.fd_table.proofs.ObjectLemmas.{counted-take, some-of}
 use Rattle.fd_table.proofs.objects.Objects.take.Goals as goal
 
 pub invariant_of-self : goal.invariant_of-self

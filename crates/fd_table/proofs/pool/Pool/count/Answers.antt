@@ -1,5 +1,5 @@
 use Rattle.std.proofs.Common.{arith, ◌∙◌}
-use Rattle.fd_table.proofs.PoolLemmas.{seen_length, seen_count, seen_inside}
+use Rattle.fd_table.proofs.PoolLemmas.{seen_count, seen_inside}
 use Rattle.fd_table.proofs.pool.Pool.count.Goals as goal
 
 pub count-requires : goal.count-requires

@@ -1,7 +1,7 @@
-use Rattle.std.proofs.Common.{◌≡◌, ◌<◌, ◌≤◌, length, set, arith, ap, ◌∙◌, sym, subst, length-set, ℕ}
+use Rattle.std.proofs.Common.{◌<◌, length, set, arith, ap, ◌∙◌, sym, subst, length-set}
 use Rattle.fd_table.specs.declared.table.Table.{Table}
 use Rattle.fd_table.specs.Seen.{slots}
-use Rattle.fd_table.specs.Tables.{times, rows, table_at, IsTable}
+use Rattle.fd_table.specs.Tables.{times, rows, IsTable}
 use Rattle.fd_table.specs.Kept.{IsKept}
 use Rattle.fd_table.proofs.SlotLemmas.{length-rows, count-few}
 use Rattle.fd_table.proofs.ChangeLemmas.{table-read, clone-kept, clone-rows, clone-held}
@@ -10,6 +10,11 @@ use Rattle.fd_table.proofs.slots.Slots.clone_place.Goals as goal
 pub index-requires : goal.index-requires
 unfolding slots
 index-requires c =
+    omega (arith, c.requires.from, length-rows c.args.self.now.objects.pool c.args.self.now.tables.items, c.args.self.now.tables.ok)
+
+pub index-table-requires : goal.index-table-requires
+unfolding slots
+index-table-requires c =
     omega (arith, c.requires.from, length-rows c.args.self.now.objects.pool c.args.self.now.tables.items, c.args.self.now.tables.ok)
 
 pub index_mut-requires : goal.index_mut-requires
@@ -44,11 +49,12 @@ invariant_of-self c =
     let to_in : c.args.to < length tables = omega (arith, c.requires.to, length-rows pool tables) in
     let from_in : c.args.from < length tables = omega (arith, c.requires.from, length-rows pool tables) in
     let read = table-read tables c.args.from _ from_in c.index.ensures in
+    let again = table-read tables c.args.from _ from_in c.index-table.ensures in
     record {
-      kept = subst (λ t. IsKept c.hold_all.new.self.pool (set tables c.args.to t)) (sym read)
+      kept = subst (λ t. IsKept c.hold_all.new.self.pool (set tables c.args.to t)) (sym again)
           (clone-kept pool _ tables c.args.to c.args.from c.used.result.now c.args.self.now.kept to_in from_in c.requires.empty c.hold_all.ensures.pool
           (λ o. c.used.ensures.same o ∙ ap (λ (t : Table). times o t.entries) read));
-      places = c.hold_all.ensures.places ∙ c.args.self.now.places ∙ sym (length-set tables c.args.to c.index.result.now);
+      places = c.hold_all.ensures.places ∙ c.args.self.now.places ∙ sym (length-set tables c.args.to c.index-table.result.now);
     }
 
 pub returns : goal.returns
@@ -58,5 +64,6 @@ returns c =
     let tables = c.args.self.now.tables.items in
     let from_in : c.args.from < length tables = omega (arith, c.requires.from, length-rows pool tables) in
     let read = table-read tables c.args.from _ from_in c.index.ensures in
-    ap (λ t. rows c.hold_all.new.self.pool (set tables c.args.to t)) read
+    let again = table-read tables c.args.from _ from_in c.index-table.ensures in
+    ap (λ t. rows c.hold_all.new.self.pool (set tables c.args.to t)) again
     ∙ clone-rows pool c.hold_all.new.self.pool tables c.args.to c.args.from c.used.result.now from_in c.hold_all.ensures.pool

@@ -1,4 +1,4 @@
-use Rattle.std.proofs.Common.{◌≡◌, ◌<◌, length, set, ap, ◌∙◌, ℕ, get_or-set_other}
+use Rattle.std.proofs.Common.{set, ap, ◌∙◌, ℕ, get_or-set_other}
 use Rattle.fd_table.specs.Seen.{slots}
 use Rattle.fd_table.specs.Slots.{Slot, no_slots, empty_slot, row_of, put_slot}
 use Rattle.fd_table.proofs.SlotLemmas.{put-twice}

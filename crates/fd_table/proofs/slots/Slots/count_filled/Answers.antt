@@ -1,4 +1,4 @@
-use Rattle.std.proofs.Common.{arith, ◌∙◌}
+use Rattle.std.proofs.Common.{arith}
 use Rattle.fd_table.proofs.BitLemmas.{ones-count}
 use Rattle.fd_table.proofs.slots.Slots.count_filled.Goals as goal
 

@@ -1,11 +1,10 @@
-use Rattle.std.proofs.Common.{◌≡◌, ◌<◌, ◌≤◌, ◌∷◌, [], length, get_or, set, false, refl, arith, ap, ◌∙◌, sym, subst, length-set, cond, eqb, ltb, ℕ}
+use Rattle.std.proofs.Common.{◌<◌, ◌≤◌, ◌∷◌, [], length, get_or, set, false, refl, arith, ap, ◌∙◌, sym, subst, length-set, cond, eqb, ltb}
 use Rattle.lwc_base.specs.Capabilities.{has_bit}
 use Rattle.fd_table.specs.declared.table.Table.{Table}
 use Rattle.fd_table.specs.Seen.{slots}
 use Rattle.fd_table.specs.Pools.{count_of}
 use Rattle.fd_table.specs.Objects.{HoldsLess}
-use Rattle.fd_table.specs.Tables.{times, rows, table_at}
-use Rattle.fd_table.specs.Kept.{IsKept}
+use Rattle.fd_table.specs.Tables.{times, table_at}
 use Rattle.fd_table.proofs.SlotLemmas.{length-rows}
 use Rattle.fd_table.proofs.ChangeLemmas.{table-read, slots-all, set-kept, set-rows, empty-counts, empty-may}
 use Rattle.fd_table.proofs.slots.Slots.empty_slot.Goals as goal

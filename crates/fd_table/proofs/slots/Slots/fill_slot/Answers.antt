@@ -1,4 +1,4 @@
-use Rattle.std.proofs.Common.{◌≡◌, ◌<◌, ◌≤◌, ◌+◌, length, get_or, set, true, refl, arith, ap, ◌∙◌, sym, subst, length-set, cond, eqb, ltb, ℕ, IfSome}
+use Rattle.std.proofs.Common.{◌<◌, ◌+◌, length, get_or, set, arith, ap, ◌∙◌, sym, subst, length-set, cond, eqb, ltb, IfSome}
 use Rattle.std.proofs.lemmas.Bool.{lt-ltb}
 use Rattle.lwc_base.specs.Capabilities.{has_bit}
 use Rattle.fd_table.specs.declared.table.Table.{Table}

@@ -1,8 +1,8 @@
-use Rattle.std.proofs.Common.{◌≡◌, ◌<◌, ◌-◌, length, get_or, arith, ap, ◌∙◌, sym, subst, ℕ}
+use Rattle.std.proofs.Common.{◌<◌, ◌-◌, length, get_or, arith, ap, ◌∙◌, sym, subst, ℕ}
 use Rattle.fd_table.specs.declared.table.Table.{Table}
 use Rattle.fd_table.specs.Seen.{slots}
 use Rattle.fd_table.specs.Slots.{Slot}
-use Rattle.fd_table.specs.Pools.{count_of, slot_at}
+use Rattle.fd_table.specs.Pools.{count_of}
 use Rattle.fd_table.specs.Tables.{table_at, entry_slot}
 use Rattle.fd_table.proofs.SlotLemmas.{length-rows, row-at, slots-at, entry-empty, entry-some}
 use Rattle.fd_table.proofs.ChangeLemmas.{table-read, entry-held}

@@ -1,4 +1,4 @@
-use Rattle.std.proofs.Common.{◌≡◌, arith, ap, ◌∙◌, sym}
+use Rattle.std.proofs.Common.{arith, ◌∙◌, sym}
 use Rattle.fd_table.specs.Seen.{slots}
 use Rattle.fd_table.proofs.SlotLemmas.{length-rows}
 use Rattle.fd_table.proofs.NamedLemmas.{named-some, some-named}

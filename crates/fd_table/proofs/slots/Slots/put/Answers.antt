@@ -1,4 +1,4 @@
-use Rattle.std.proofs.Common.{◌≡◌, ◌<◌, length, set, arith, ap, ◌∙◌, sym, ℕ}
+use Rattle.std.proofs.Common.{set, ap, ◌∙◌}
 use Rattle.fd_table.specs.Seen.{slots}
 use Rattle.fd_table.specs.Fillings.{slot_of}
 use Rattle.fd_table.specs.Slots.{row_of, put_slot}

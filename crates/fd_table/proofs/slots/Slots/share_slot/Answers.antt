@@ -1,4 +1,4 @@
-use Rattle.std.proofs.Common.{◌≡◌, ◌<◌, ◌≤◌, ◌∷◌, [], length, get_or, set, arith, ap, ◌∙◌, sym, subst, length-set, cond, eqb, ltb, ℕ}
+use Rattle.std.proofs.Common.{◌<◌, ◌∷◌, [], length, get_or, set, arith, ap, ◌∙◌, sym, subst, length-set, cond, eqb, ltb}
 use Rattle.lwc_base.specs.Capabilities.{has_bit}
 use Rattle.fd_table.specs.declared.table.Table.{Table}
 use Rattle.fd_table.specs.Seen.{slots}

@@ -1,4 +1,4 @@
-use Rattle.std.proofs.Common.{◌≡◌, ◌-◌, ◌≤◌, ◌<◌, arith, ap, ◌∙◌, sym, get_or, eqb, ⊎_elim, length}
+use Rattle.std.proofs.Common.{◌-◌, arith, ap, ◌∙◌, sym, get_or, eqb, ⊎_elim}
 use lib.Count.{count_leading_zeros}
 use Rattle.std.proofs.lemmas.Nat.{leading_length}
 use Rattle.std.proofs.lemmas.Nat.Bits.{bit_at_above}
