@@ -1,3 +1,4 @@
+pub mod ValueLemmas
 pub mod BitLemmas
 pub mod NamedLemmas
 pub mod ChangeLemmas

@@ -6,3 +6,4 @@ pub mod Pools
 pub mod Seen
 pub mod Slots
 pub mod Tables
+pub mod Values

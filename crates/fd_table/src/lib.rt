@@ -8,6 +8,7 @@ pub mod objects;
 pub mod pool;
 pub mod slots;
 pub mod table;
+pub mod values;
 
 pub use bits::lowest_bit;
 pub use slots::{MOST_PLACES, Slots};

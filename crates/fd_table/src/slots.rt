@@ -86,7 +86,8 @@ impl Slots {
     pub fn target(&self, i: usize, n: u8) -> Option<u16>
         requires place { i < length (slots self.now) }
         requires slot { n < SLOTS }
-        ensures { result ≡ (row_of (slots self.now) i n).target }
+        ensures value { result ≡ (row_of (slots self.now) i n).target }
+        ensures inside { IfSome result (λ place. place < length (slots self.now)) }
     {
         self.filling(i, n)?.target()
     }

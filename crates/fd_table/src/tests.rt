@@ -40,6 +40,17 @@ fn places_share_cells_until_they_drop_them(rt: HostRuntime) -> Result<(), Fail> 
     assert_eq!(rt; (slots.target(1, 5), slots.target(0, 5)), (Some(2), None));
     assert!(rt; slots.is_named(2));
     slots.copy_slot(2, 1, 5);
+    slots.put(1, 0, Cell::Own(Descriptor::Console), None);
+    slots.put(1, 1, Cell::Common(Name { job: 1, k: 1 }), Some(2));
+    assert_eq!(rt;
+        (slots.lowest_empty(1), slots.value(1, 1)),
+        (Some(1), Descriptor::Empty)
+    );
+    slots.put(2, 1, Cell::Own(Descriptor::Console), None);
+    assert_eq!(rt;
+        (slots.lowest_empty(1), slots.value(1, 1)),
+        (Some(2), Descriptor::Console)
+    );
     slots.clear_place(1);
     assert!(rt; matches!(slots.cell(1, 63), Cell::Own(Descriptor::Empty)));
     assert_eq!(rt; (slots.is_named(1), slots.is_named(2)), (true, true));
