@@ -147,13 +147,8 @@ impl<W: World> Process<W> {
         if pass.last.has_ended() {
             return pass.last.same();
         }
-        let turn = take_turn(
-            &self.gate,
-            rt,
-            &mut pass.pass,
-            &pass.last,
-            proposal.copied(),
-        );
+        let offer = proposal.copied();
+        let turn = take_turn(&self.gate, rt, &mut pass.pass, &pass.last, offer);
         pass.last = turn.same();
         turn
     }
