@@ -1,0 +1,3 @@
+pub mod Added
+pub mod Images
+pub mod Lines

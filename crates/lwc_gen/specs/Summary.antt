@@ -1,0 +1,43 @@
+-- The summary of the replies of a generated server.
+use Rattle.std.specs.Prelude.{ℕ, ◌^◌, ◌%◌, ◌==◌, ◌++◌, Bool, false, if◌then◌else◌, nat_lt, codes, count_by, decimal, drop, length, take, List, Option, Some, None}
+use Rattle.std.specs.Int.{from_le_bytes, w64}
+use Rattle.std.specs.List.{sum_by}
+use Rattle.lwc_base.specs.declared.fault.ThreadStatus.{ThreadStatus}
+use Rattle.lwc_base.specs.declared.fault.ThreadStatus.TheVariants.{Idle, Running, Done, Faulted}
+use Rattle.lwc_gen.specs.declared.totals.Totals.{Totals}
+
+-- a reply: the status that its request ended with, if it has ended, and its bytes
+pub record Reply : Type 0 where
+  pub status : Option ThreadStatus
+  pub bytes : List ℕ
+
+-- whether a request has ended with code 0
+abbrev pub is_done : Option ThreadStatus → Bool
+is_done (Some (Done code)) = code == 0
+is_done (Some (Faulted fault)) = false
+is_done (Some Idle) = false
+is_done (Some Running) = false
+is_done None = false
+
+-- what a reply adds by its first word, and by its second: nothing if it has fewer than 16 bytes
+abbrev pub first_word : List ℕ → ℕ
+first_word bytes = if nat_lt (length bytes) 16 then 0 else from_le_bytes w64 (take 8 bytes)
+
+abbrev pub second_word : List ℕ → ℕ
+second_word bytes = if nat_lt (length bytes) 16 then 0 else from_le_bytes w64 (take 8 (drop 8 bytes))
+
+-- what replies add up to
+unfoldable pub totals_of : List Reply → Totals
+totals_of replies = record {
+  requests = length replies;
+  done = count_by (λ r. is_done r.status) replies;
+  sum = sum_by (λ r. first_word r.bytes) replies % 2 ^ 64;
+  count = sum_by (λ r. second_word r.bytes) replies % 2 ^ 64;
+}
+
+-- the line of the summary
+unfoldable pub summary_line : ℕ → Totals → List ℕ
+summary_line number totals =
+    codes "gen " ++ decimal number ++ codes " requests " ++ decimal totals.requests
+    ++ codes " done " ++ decimal totals.done ++ codes " sum " ++ decimal totals.sum
+    ++ codes " count " ++ decimal totals.count ++ codes "\n"
