@@ -132,14 +132,14 @@ module _ (o : OrderFacts) where
     found_slot slots p q (Some e) is named before = found_held slots p q e is (same_Some e.0 q named) before
 
     -- what the map has under a name is in the slot that the index tells
-    pub get-map_of : (slots : List (Option (Name × X))) (index : Places) (q : Name) → IsIndexed slots index → (p : Option ℕ) → fm.get index.map q ≡ p →
+    pub get-map_of : {most : ℕ} (slots : List (Option (Name × X))) (index : Places) (q : Name) → IsIndexed most slots index → (p : Option ℕ) → fm.get index.map q ≡ p →
         fm.get (map_of slots) q ≡ in_slot slots p
     get-map_of slots index q is None at = fm.get-from_entries o.names (held slots) q ∙ none_held slots q (λ j has. not_some at (is.known q j has))
     get-map_of slots index q is (Some p) at =
         fm.get-from_entries o.names (held slots) q
         ∙ found_slot slots p q (get_or slots p None) refl (is.there q p at) (λ j below has. omega (arith, same_Some j p (sym (is.known q j has) ∙ at)))
 
-    module _ (slots : List (Option (Name × X))) (index : Places) (is : IsIndexed slots index) (n : Name) (p : ℕ) where
+    module _ {most : ℕ} (slots : List (Option (Name × X))) (index : Places) (is : IsIndexed most slots index) (n : Name) (p : ℕ) where
       -- the map after a change of the one slot that may have a name
       changed_map : (x : Option (Name × X)) → p < length slots → ((j : ℕ) → j ≢ p → name_in (get_or slots j None) ≡ Some n → ⊥) →
           ((m : Name) → name_in (get_or slots p None) ≡ Some m → m ≡ n) → ((m : Name) → name_in x ≡ Some m → m ≡ n) → (q : Name) →
@@ -152,7 +152,7 @@ module _ (o : OrderFacts) where
       changed_index : (x : Option (Name × X)) (map : fm.FinMap name_cmp ℕ) → p < length slots → ((j : ℕ) → j ≢ p → name_in (get_or slots j None) ≡ Some n → ⊥) →
           ((m : Name) → name_in (get_or slots p None) ≡ Some m → m ≡ n) → ((m : Name) → name_in x ≡ Some m → m ≡ n) →
           ((q : Name) → fm.get map q ≡ cond (eq_by_cmp name_cmp q n) (option_map (λ e. p) x) (fm.get index.map q)) → fm.len map ≡ count_by is_some (set slots p x) →
-          IsIndexed (set slots p x) (record { map = map; room = index.room })
+          IsIndexed most (set slots p x) (record { map = map; room = index.room })
       changed_index x map within others here new gets counts = record {
         few = omega (arith, length-set slots p x, is.few);
         room = omega (arith, length-set slots p x, is.room);
@@ -198,7 +198,7 @@ module _ (o : OrderFacts) where
         insert-map_of = fm.same_map o.names o.one_name _ _ (λ q.
             changed_map (Some (n, x)) within new_others free_here (λ m named. sym (same_Some n m named)) q ∙ sym (fm.get-insert o.names (map_of slots) n x q))
 
-        pub insert-indexed : IsIndexed (set slots p (Some (n, x))) (record { map = fm.insert index.map n p; room = index.room })
+        pub insert-indexed : IsIndexed most (set slots p (Some (n, x))) (record { map = fm.insert index.map n p; room = index.room })
         insert-indexed = changed_index (Some (n, x)) (fm.insert index.map n p) within new_others free_here (λ m named. sym (same_Some n m named)) (λ q. fm.get-insert o.names index.map n p q)
             (let more = fm.len-insert o.names index.map n p ∙ ap (λ (b : Bool). cond b (fm.len index.map) (fm.len index.map + 1)) (ap is_some new) in
             omega (arith, more, is.counted, count-set slots p (Some (n, x)) within, ap weight free))
@@ -218,7 +218,7 @@ module _ (o : OrderFacts) where
         update-map_of x = fm.same_map o.names o.one_name _ _ (λ q.
             changed_map (Some (n, x)) (is.within n p at) old_others named_here (λ m named. sym (same_Some n m named)) q ∙ sym (fm.get-insert o.names (map_of slots) n x q))
 
-        pub update-indexed : (x : X) → IsIndexed (set slots p (Some (n, x))) index
+        pub update-indexed : (x : X) → IsIndexed most (set slots p (Some (n, x))) index
         update-indexed x = changed_index (Some (n, x)) index.map (is.within n p at) old_others named_here (λ m named. sym (same_Some n m named)) (λ q. same_place q (cases_tie q n))
             (omega (arith, is.counted, count-set slots p (Some (n, x)) (is.within n p at), taken_here))
           where
@@ -231,7 +231,7 @@ module _ (o : OrderFacts) where
         remove-map_of = fm.same_map o.names o.one_name _ _ (λ q.
             changed_map None (is.within n p at) old_others named_here (λ m named. absurd (not_some refl named)) q ∙ sym (fm.get-remove o.names (map_of slots) n q))
 
-        pub remove-indexed : IsIndexed (set slots p None) (record { map = fm.remove index.map n; room = index.room })
+        pub remove-indexed : IsIndexed most (set slots p None) (record { map = fm.remove index.map n; room = index.room })
         remove-indexed = changed_index None (fm.remove index.map n) (is.within n p at) old_others named_here (λ m named. absurd (not_some refl named)) (λ q. fm.get-remove o.names index.map n q)
             (let fewer = fm.len-remove o.names index.map n ∙ ap (λ (b : Bool). cond b (fm.len index.map - 1) (fm.len index.map)) (ap is_some at) in
             omega (arith, fewer, is.counted, count-set slots p None (is.within n p at), taken_here))

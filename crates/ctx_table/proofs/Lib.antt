@@ -1,4 +1,5 @@
 pub mod Alike
 pub mod Held
+pub mod NameSlots
 pub mod Rows
 pub mod Taken

@@ -29,7 +29,7 @@ first_free-free (Some n ∷ names) within =
     let next : first_free (Some n ∷ names) ≡ suc (first_free names) = omega arith in
     ap (λ (k : ℕ). get_or (Some n ∷ names) k None) next ∙ first_free-free names (omega arith)
 
-nothing_there : {A : Type 0} (x : Option A) → is_some x ≡ false → x ≡ None
+pub nothing_there : {A : Type 0} (x : Option A) → is_some x ≡ false → x ≡ None
 nothing_there None none = refl
 nothing_there (Some y) none = absurd (both_ways true none refl)
 
@@ -50,7 +50,7 @@ module _ {X : Type 0} where
   pub free-within : (slots : List (Option (Name × X))) (names : List (Option Name)) → map name_in slots ≡ names → first_free names < length names → first_free names < length slots
   free-within slots names are within = omega (arith, within, ap (λ (l : List (Option Name)). length l) are, length-map slots name_in)
 
-  module _ (o : OrderFacts) (slots : List (Option (Name × X))) (index : Places) (is : IsIndexed slots index) where
+  module _ {most : ℕ} (o : OrderFacts) (slots : List (Option (Name × X))) (index : Places) (is : IsIndexed most slots index) where
     some_in : (p : ℕ) (n : Name) (x : Option (Name × X)) → get_or slots p None ≡ x → name_in x ≡ Some n → is_some (option_map (λ e. e.1) (get_or slots p None)) ≡ true
     some_in p n None at named = absurd (not_some refl named)
     some_in p n (Some e) at named = ap (λ (x : Option (Name × X)). is_some (option_map (λ e. e.1) x)) at
@@ -66,12 +66,25 @@ module _ {X : Type 0} where
     pub new_name : (n : Name) → fm.contains_key (map_of slots) n ≡ false → fm.get index.map n ≡ None
     new_name n new = nothing_there _ (sym (live n) ∙ new)
 
+    -- the index has few names
+    pub few_names : (test : Name → Bool) → count_by test (fm.keys index.map) ≤ most
+    few_names test =
+        omega (
+          arith,
+          count_by-le-length test (fm.keys index.map),
+          length-map (fm.entries index.map) (λ e. e.0),
+          fm.len-entries index.map,
+          is.counted,
+          count_by-le-length is_some slots,
+          is.few,
+        )
+
     -- there is room in the index as long as a place is free
     pub has_room : (p : ℕ) (n : Name) (x : X) → p < length slots → get_or slots p None ≡ None → fm.len index.map < index.room
     has_room p n x within free =
         omega (arith, count-set o slots p (Some (n, x)) within, ap weight free, count_by-le-length is_some (set slots p (Some (n, x))), length-set slots p (Some (n, x)), is.counted, is.room)
 
-  some_free : (slots : List (Option (Name × X))) → count_by is_some slots < length slots → first_free (map name_in slots) < length slots
+  pub some_free : (slots : List (Option (Name × X))) → count_by is_some slots < length slots → first_free (map name_in slots) < length slots
   some_free [] few = absurd (omega arith)
   some_free (None ∷ slots) few = omega arith
   some_free (Some e ∷ slots) few = let rest = some_free slots (omega (arith, few, sum_by-cons (weight {X = X}) (Some e) slots)) in omega arith
@@ -80,11 +93,11 @@ module _ {X : Type 0} where
   pub names-set : (slots : List (Option (Name × X))) (p : ℕ) (x : Option (Name × X)) → map name_in (set slots p x) ≡ set (map name_in slots) p (name_in x)
   names-set slots p x = map-set name_in slots p x
 
-found_pos : (b : Bool) (n i : ℕ) → cond b (Some n) None ≡ Some i → n ≡ i
+pub found_pos : (b : Bool) (n i : ℕ) → cond b (Some n) None ≡ Some i → n ≡ i
 found_pos true n i is = same_Some n i is
 found_pos false n i is = absurd (not_some refl is)
 
-none_pos : (b : Bool) (n : ℕ) → cond b (Some n) None ≡ None → b ≡ false
+pub none_pos : (b : Bool) (n : ℕ) → cond b (Some n) None ≡ None → b ≡ false
 none_pos true n none = absurd (not_some none refl)
 none_pos false n none = refl
 
@@ -156,7 +169,7 @@ module _ {C : Type 0} (places : List (Place C)) (table : Contexts C) (stands : c
   pub name-read : (p : ℕ) (x : Place C) (n : Name) → x ≡ get_or places p x → p < length places → get_or table.places p None ≡ Some n → name_in (slot_of x) ≡ Some n
   name-read p x n is within has = ap name_in (sym (slot-read p x x is within refl)) ∙ sym (place_name p) ∙ has
 
-  module _ (o : OrderFacts) (index : Places) (is : IsIndexed (map slot_of places) index) where
+  module _ {most : ℕ} (o : OrderFacts) (index : Places) (is : IsIndexed most (map slot_of places) index) where
     -- the index has the place of a name
     pub index_at : (n : Name) (p : ℕ) → get_or table.places p None ≡ Some n → fm.get index.map n ≡ Some p
     index_at n p has = is.known n p (sym (place_name p) ∙ has)
@@ -189,18 +202,6 @@ module _ {C : Type 0} (places : List (Place C)) (table : Contexts C) (stands : c
         let spare = some_free (map slot_of places) (omega (arith, room, len_kept, ap (λ (l : List (Option Name)). length l) names_are, length-map (map slot_of places) name_in)) in
         omega (arith, spare, ap first_free names_are, ap (λ (l : List (Option Name)). length l) names_are, length-map (map slot_of places) name_in)
 
-    pub few_names : (test : Name → Bool) → count_by test (fm.keys index.map) ≤ MOST_CONTEXTS
-    few_names test =
-        omega (
-          arith,
-          count_by-le-length test (fm.keys index.map),
-          length-map (fm.entries index.map) (λ e. e.0),
-          fm.len-entries index.map,
-          is.counted,
-          count_by-le-length is_some (map slot_of places),
-          is.few,
-        )
-
     -- what the map has under a name is in its slot
     pub kept_at : (n : Name) (p : ℕ) (e : Name × Kept C) → get_or table.places p None ≡ Some n → get_or (map slot_of places) p None ≡ Some e → fm.get table.kept n ≡ Some e.1
     kept_at n p e has slot =
@@ -208,7 +209,7 @@ module _ {C : Type 0} (places : List (Place C)) (table : Contexts C) (stands : c
         ∙ ap (option_map (λ e. e.1)) slot
 
   -- the place of a name is the only one that has it
-  pub place_exactly : (index : Places) → IsIndexed (map slot_of places) index → (n : Name) (o : Option ℕ) → fm.get index.map n ≡ o →
+  pub place_exactly : {most : ℕ} (index : Places) → IsIndexed most (map slot_of places) index → (n : Name) (o : Option ℕ) → fm.get index.map n ≡ o →
       IfSome o (λ place. (p : ℕ) → (get_or table.places p None ≡ Some n) ↔ (p ≡ place))
   place_exactly index is n None at = tt
   place_exactly index is n (Some r) at = λ p. (
@@ -223,12 +224,12 @@ module _ {C : Type 0} (places : List (Place C)) (table : Contexts C) (stands : c
       ∙ ap (λ (l : List (Option Name)). set l p (name_in (slot_of x))) names_are
 
 -- places that are all free
-none_at : (X : Type 0) (n p : ℕ) → get_or {A = Option (Name × X)} (replicate n None) p None ≡ None
+pub none_at : (X : Type 0) (n p : ℕ) → get_or {A = Option (Name × X)} (replicate n None) p None ≡ None
 none_at X zero p = refl
 none_at X (suc n) zero = refl
 none_at X (suc n) (suc p) = none_at X n p
 
-none_count : (X : Type 0) (n : ℕ) → count_by {X = Option (Name × X)} is_some (replicate n None) ≡ 0
+pub none_count : (X : Type 0) (n : ℕ) → count_by {X = Option (Name × X)} is_some (replicate n None) ≡ 0
 none_count X zero = refl
 none_count X (suc n) = omega (arith, sum_by-cons (weight {X = X}) None (replicate n None), none_count X n)
 
@@ -248,7 +249,7 @@ module _ {C : Type 0} (places : List (Place C)) (n m : ℕ) (free : places ≡ r
   all_none : map slot_of places ≡ replicate m None
   all_none = ap (λ (l : List (Place C)). map slot_of l) free ∙ free_slots n ∙ ap (λ (k : ℕ). replicate k None) counted
 
-  pub empty-indexed : (index : Places) → index ≡ record { map = fm.empty; room = m } → m ≤ MOST_CONTEXTS → IsIndexed (map slot_of places) index
+  pub empty-indexed : (index : Places) → index ≡ record { map = fm.empty; room = m } → m ≤ MOST_CONTEXTS → IsIndexed MOST_CONTEXTS (map slot_of places) index
   empty-indexed index empty few = rw (all_none, empty) (record {
     few = omega (arith, length-replicate {A = Option (Name × Kept C)} m None, few);
     room = sym (length-replicate {A = Option (Name × Kept C)} m None);
@@ -266,7 +267,7 @@ module _ {C : Type 0} (places : List (Place C)) (n m : ℕ) (free : places ≡ r
 
 -- another value for a name, at its place
 module _ (o : OrderFacts) {C : Type 0} (places : List (Place C)) (table : Contexts C) (stands : contexts_of places ≡ table) (index : Places)
-    (is : IsIndexed (map slot_of places) index) (n : Name) (p : ℕ) (x : Place C) (read : x ≡ get_or places p x) (within : p < length table.places)
+    {most : ℕ} (is : IsIndexed most (map slot_of places) index) (n : Name) (p : ℕ) (x : Place C) (read : x ≡ get_or places p x) (within : p < length table.places)
     (has : get_or table.places p None ≡ Some n) (kept : Kept C) (slot : slot_of x ≡ Some (n, kept)) where
   pub kept_read : fm.get table.kept n ≡ Some kept
   kept_read = kept_at places table stands o index is n p (n, kept) has (slot-read places table stands p x x read (is_place places table stands p within) refl ∙ slot)
@@ -274,7 +275,7 @@ module _ (o : OrderFacts) {C : Type 0} (places : List (Place C)) (table : Contex
   slots_set : (w : C) → map slot_of (set places p (with_value x w)) ≡ set (map slot_of places) p (Some (n, record kept { value = w }))
   slots_set w = map-set slot_of places p (with_value x w) ∙ ap (λ (s : Option (Name × Kept C)). set (map slot_of places) p s) (slot-with_value x n kept w slot)
 
-  pub value-indexed : (w : C) → IsIndexed (map slot_of (set places p (with_value x w))) index
+  pub value-indexed : (w : C) → IsIndexed most (map slot_of (set places p (with_value x w))) index
   value-indexed w = rw (slots_set w) (update-indexed o (map slot_of places) index is n p (index_at places table stands o index is n p has) (record kept { value = w }))
 
   pub value-set : (w : C) → contexts_of (set places p (with_value x w)) ≡ with_value_at table n (fm.get table.kept n) w

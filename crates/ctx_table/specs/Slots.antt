@@ -2,7 +2,6 @@
 use Rattle.std.specs.Prelude.{◌≡◌, ℕ, ◌<◌, ◌≤◌, Bool, true, false, List, [], ◌∷◌, Option, None, Some, count_by, is_some, length, map, slice_index_or}
 use Rattle.std.specs.FinMap as fm
 use Rattle.std.specs.Option.{option_map}
-use Rattle.lwc_base.specs.declared.limits.TheConstants.{MOST_CONTEXTS}
 use Rattle.lwc_base.specs.declared.name.Name.{Name}
 use Rattle.lwc_base.specs.Names.{name_cmp}
 use Rattle.ctx_table.specs.Contexts.{Contexts, Kept}
@@ -25,9 +24,9 @@ module _ {X : Type 0} where
   abbrev pub name_in : Option (Name × X) → Option Name
   name_in = option_map (λ entry. entry.0)
 
-  -- the index has the place of each name that is in a slot, and no other
-  pub record IsIndexed (slots : List (Option (Name × X))) (index : Places) : Type 0 where
-    pub few : length slots ≤ MOST_CONTEXTS
+  -- the index has the place of each name that is in one of at most this number of slots, and no other
+  pub record IsIndexed (most : ℕ) (slots : List (Option (Name × X))) (index : Places) : Type 0 where
+    pub few : length slots ≤ most
     pub room : index.room ≡ length slots
     pub counted : fm.len index.map ≡ count_by is_some slots
     pub within : (name : Name) (p : ℕ) → fm.get index.map name ≡ Some p → p < length slots
@@ -52,3 +51,7 @@ contexts_of places = record {
 abbrev pub is_free : {C : Type 0} → Place C → Bool
 is_free Free = true
 is_free (Held name value entry saved) = false
+
+-- the slot of a name that has nothing else
+abbrev pub name_slot : Option Name → Option (Name × Unit {0})
+name_slot = option_map (λ name. (name, tt))

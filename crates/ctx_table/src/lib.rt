@@ -2,9 +2,11 @@
 #![tactic(auto)]
 
 mod index;
+pub mod names;
 mod place;
 pub mod table;
 #[cfg(test)]
 mod tests;
 
+pub use names::Names;
 pub use table::CtxTable;

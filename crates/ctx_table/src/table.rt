@@ -31,10 +31,11 @@ impl<C> Model for CtxTable<C> {
     ghost coded = { contexts_code C.code };
 
     ghost use Rattle.ctx_table.specs.Slots.{IsIndexed, contexts_of, slot_of};
+    ghost use Rattle.lwc_base.specs.declared.limits.TheConstants.{MOST_CONTEXTS};
 
     ghost view = { λ table. contexts_of table.places.items };
 
-    ghost invariant = { λ table. IsIndexed (map slot_of table.places.items) table.index };
+    ghost invariant = { λ table. IsIndexed MOST_CONTEXTS (map slot_of table.places.items) table.index };
 }
 
 impl<C: Drop> CtxTable<C> {

@@ -1,3 +1,4 @@
+use crate::names::Names;
 use crate::table::CtxTable;
 use lwc_base::{Name, Regs};
 use std::test::Fail;
@@ -41,5 +42,25 @@ fn a_context_keeps_what_it_was_given(rt: HostRuntime) -> Result<(), Fail> {
     assert!(rt; table.place(NEXT).is_some());
     assert_eq!(rt; *table.value(NEXT), 'b');
     assert!(rt; table.entry(NEXT) == Regs::fresh(5));
+    Ok(())
+}
+
+#[test]
+fn a_name_that_was_taken_out_frees_its_place(rt: HostRuntime) -> Result<(), Fail> {
+    let mut names = Names::open(rt.alloc(), 1)?;
+    assert!(rt; names.has_room());
+    assert!(rt; !names.place(NEXT).is_some());
+    assert_eq!(rt; names.insert(NEXT), 0);
+    assert!(rt; !names.has_room());
+    assert!(rt; names.place(NEXT) == Some(0));
+    assert!(rt; names.at(0) == Some(NEXT));
+    assert_eq!(rt;
+        (names.len(), names.count_of(0), names.count_of(7)),
+        (1, 0, 1)
+    );
+    assert!(rt; names.nth(0) == Some(NEXT));
+    assert!(rt; names.place(NEXT).is_some());
+    assert_eq!(rt; names.remove(NEXT), 0);
+    assert!(rt; names.at(0) == None);
     Ok(())
 }

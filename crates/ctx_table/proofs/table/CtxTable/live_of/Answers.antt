@@ -7,7 +7,7 @@ use Rattle.ctx_table.proofs.table.CtxTable.live_of.Goals as goal
 
 pub overflow_cast-result : goal.overflow_cast-result
 overflow_cast-result g c =
-    omega (arith, c.count_of.ensures, few_names _ _ c.self.view_is c.names_are_ordered.ensures _ c.self.invariant (λ name. name.job == c.args.job))
+    omega (arith, c.count_of.ensures, few_names c.names_are_ordered.ensures _ _ c.self.invariant (λ name. name.job == c.args.job))
 
 pub returns : goal.returns
 returns g c =
