@@ -21,7 +21,7 @@ pub fn clones_take_no_frame()
 
 /// A write takes one frame if the page parts, and none otherwise. It leaves the kind of each page, and any
 /// other new tag stays new. Another page of the place parts as before, if the two have no tag in common. So if
-/// the frames suffice for both pages of a piece over a border, neither write is refused.
+/// the frames suffice for two pages of one place, neither write is refused.
 pub fn page_writes_take_few_frames()
     ensures { WriteLaws }
 {
