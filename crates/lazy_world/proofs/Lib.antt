@@ -1,0 +1,11 @@
+mod AddLemmas
+mod BegunLemmas
+mod CountLemmas
+mod KeyLemmas
+mod MapLemmas
+mod MappedLemmas
+mod OpenLemmas
+mod PlaceLemmas
+mod SaveLemmas
+mod SoundLemmas
+mod WorldLemmas

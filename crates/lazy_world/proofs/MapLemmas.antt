@@ -1,0 +1,169 @@
+-- Pages of a place that become zeros or absent.
+use Rattle.std.proofs.Common.{◌≡◌, ℕ, ◌<◌, ◌≤◌, List, [], ◌∷◌, arith, length, refl, sym, ap, subst, ◌∙◌, Bool, true, false, cond, Option, Some, None, set}
+use Rattle.std.specs.Prelude.{◌&&◌, All, nat_le, nat_lt}
+use Rattle.std.specs.FinMap as fm
+use Rattle.std.proofs.lemmas.Bool.Decides.{nat_tests}
+use Rattle.std.proofs.lemmas.List.Elements.{All-cons, All-nil}
+use Rattle.lwc_base.specs.declared.cell.Cell.{Cell}
+use Rattle.lwc_base.specs.declared.cell.Cell.TheVariants.{Own, Common}
+use Rattle.lwc_base.specs.declared.key.Key.{Key}
+use Rattle.lwc_base.specs.declared.key.Key.TheVariants.{Page, Slot, Cred}
+use Rattle.lwc_base.specs.declared.name.Name.{Name}
+use Rattle.lwc_base.specs.declared.page.PageValue.{PageValue}
+use Rattle.lwc_base.specs.declared.page.PageValue.TheVariants.{Data}
+use Rattle.lwc_base.specs.declared.limits.TheConstants.{MOST_PAGES}
+use Rattle.lwc_base.specs.Fresh.{IsFresh}
+use Rattle.lwc_base.specs.Mapping.{map_pages, mapped_or_not, unmap_pages, with_zeros, without_pages}
+use Rattle.lwc_base.specs.Ranges as base
+use Rattle.lwc_base.specs.Ranges.{ranges_of}
+use Rattle.lwc_base.specs.World.{Context, Counters, change_context}
+use Rattle.range_map.specs.Kinds.{is_between, kind_by, kind_of, ranges}
+use Rattle.range_map.specs.declared.segment.SegmentKind.{SegmentKind}
+use Rattle.page_cells.specs.declared.stretches.Stretch.{Stretch}
+use Rattle.page_cells.specs.Cells.{Place, place_of}
+use Rattle.page_cells.specs.Changes.{IsStretch, cell_by, change_of, changed_place, kinds_after}
+use Rattle.ctx_table.specs.NameTables.{ArePlaced}
+use Rattle.fd_table.specs.Slots as slots
+use Rattle.lazy_world.specs.Cells.{Row, is_nothing, kinds_of, on_place, page_cell, put_row, rows_of, set_pages, source_of}
+use Rattle.lazy_world.specs.Facts.{Facts}
+use Rattle.lazy_world.specs.Sound.{HasOldTags, IsSound, IsWithin}
+use Rattle.lazy_world.specs.States.{Parts, context_at, world_of}
+use Rattle.lazy_world.proofs.PlaceLemmas.{choose, pages-put}
+use Rattle.lazy_world.proofs.SoundLemmas.{sound-row}
+use Rattle.lazy_world.proofs.WorldLemmas.{change_context-row, context-found}
+
+-- the stretch of a range
+abbrev pub stretch_of : ℕ → ℕ → Bool → Stretch
+stretch_of from to present = record { range = record { from = from; to = to }; source = source_of present }
+
+module _ (cells : List Place) (i from to : ℕ) where
+  pub is_stretch : (present : Bool) → from ≤ to → to ≤ MOST_PAGES → All (IsStretch cells i) (stretch_of from to present ∷ [])
+  is_stretch true order inside = All-cons (IsStretch cells i) (stretch_of from to true) [] (record { order = order; inside = inside; given = tt }) (All-nil (IsStretch cells i))
+  is_stretch false order inside = All-cons (IsStretch cells i) (stretch_of from to false) [] (record { order = order; inside = inside; given = tt }) (All-nil (IsStretch cells i))
+
+  pub place-set : (present : Bool) (p : ℕ) → changed_place cells i (stretch_of from to present ∷ []) p ≡ cond (nat_le from p && nat_lt p to) (page_cell present) (place_of cells i p)
+  unfolding changed_place
+  place-set present p = at (is_between from to p) present
+    where
+      at : (b present : Bool) → cell_by cells p (place_of cells i p) (cond b (Some (stretch_of from to present)) None) ≡ cond b (page_cell present) (place_of cells i p)
+      at true true = refl
+      at true false = refl
+      at false present = refl
+
+  pub kinds-set : (present : Bool) (p : ℕ) → kinds_after (change_of (stretch_of from to present) ∷ []) (place_of cells i) p
+      ≡ kind_of (cond (nat_le from p && nat_lt p to) (page_cell present) (place_of cells i p))
+  unfolding kinds_after
+  kinds-set present p = at (is_between from to p) present
+    where
+      at : (b present : Bool) → kind_by (kind_of (place_of cells i p)) (cond b (Some (change_of (stretch_of from to present))) None) ≡ kind_of (cond b (page_cell present) (place_of cells i p))
+      at true true = refl
+      at true false = refl
+      at false present = refl
+
+module _ (cells : List Place) (table : List (ℕ → slots.Slot)) (uids : List (Cell ℕ)) (i from to : ℕ) (present : Bool) where
+  abbrev old : ℕ → Row
+  old = rows_of cells table uids
+
+  -- the kinds of the place afterwards
+  pub kinds-row : kinds_after (change_of (stretch_of from to present) ∷ []) (place_of cells i) ≡ kinds_of (set_pages from to present (old i))
+  unfolding rows_of
+  kinds-row = λ e p. kinds-set cells i from to present p e
+
+  -- and its row
+  pub row-set : i < length cells → rows_of (set cells i (changed_place cells i (stretch_of from to present ∷ []))) table uids ≡ put_row old i (set_pages from to present (old i))
+  unfolding rows_of
+  row-set inside = pages-put cells table uids i (changed_place cells i (stretch_of from to present ∷ [])) (set_pages from to present (old i)) inside each
+    where
+      each : (k : Key) → set_pages from to present (old i) k ≡ on_place (changed_place cells i (stretch_of from to present ∷ [])) (old i) k
+      each (Page p) = sym (place-set cells i from to present p)
+      each (Slot n) = refl
+      each Cred = refl
+
+-- a row once its pages are set
+module _ (from to : ℕ) (present : Bool) where
+  chosen_past : (b : Bool) (p : ℕ) (cell : Cell (Option PageValue)) → b ≡ false → is_nothing (Page p) cell ≡ true → is_nothing (Page p) (cond b (page_cell present) cell) ≡ true
+  chosen_past true p cell e is = cc
+  chosen_past false p cell e is = is
+
+  pub within-set : (pages : ℕ) (row : Row) → to ≤ pages → IsWithin pages row → IsWithin pages (set_pages from to present row)
+  within-set pages row below within (Page p) past =
+      let outside : (nat_le from p && nat_lt p to) ≡ false = grind (arith, nat_tests) in chosen_past (nat_le from p && nat_lt p to) p (row (Page p)) outside (within (Page p) past)
+  within-set pages row below within (Slot n) past = within (Slot n) past
+  within-set pages row below within Cred past = within Cred past
+
+  pub tags-set : (next : ℕ → Counters) (row : Row) → HasOldTags next row → HasOldTags next (set_pages from to present row)
+  tags-set next row old p tag bytes is = at (nat_le from p && nat_lt p to) present is
+    where
+      at : (b present : Bool) → cond b (page_cell present) (row (Page p)) ≡ Own (Some (Data tag bytes)) → tag.k < (next tag.job).tags
+      at true true is = absurd (let none = is in cc)
+      at true false is = absurd (let none = is in cc)
+      at false present is = old p tag bytes is
+
+no_kind : (p : ℕ) (cell : Cell (Option PageValue)) → is_nothing (Page p) cell ≡ true → kind_of cell ≡ None
+no_kind p (Own None) is = refl
+no_kind p (Own (Some value)) is = cc
+no_kind p (Common g) is = cc
+
+few_pages : (t : Parts) → t.size.pages ≤ MOST_PAGES → (world_of t).size.pages ≤ MOST_PAGES
+unfolding world_of
+few_pages t few = few
+
+past_of : (t : Parts) (p : ℕ) → (world_of t).size.pages ≤ p → t.size.pages ≤ p
+unfolding world_of
+past_of t p past = past
+
+module _ (s : Parts) (sound : IsSound s) (facts : Facts) (placed : ArePlaced s.contexts) (c : Name) (i : ℕ) (found : fm.get s.contexts.map c ≡ Some i)
+    (from to : ℕ) (present : Bool) (below : to ≤ s.size.pages) where
+  abbrev later : Parts
+  later = record s { rows = put_row s.rows i (set_pages from to present (s.rows i)) }
+
+  inside : i < s.size.contexts
+  inside = let low = placed.within c i found in omega (arith, low, sound.sizes.contexts)
+
+  change : Bool → Context → Context
+  change true = with_zeros from to
+  change false = without_pages from to
+
+  as_change : (present : Bool) → change_context (world_of s) c (change present) ≡ mapped_or_not (world_of s) c from to present
+  unfolding map_pages unmap_pages change
+  as_change true = refl
+  as_change false = refl
+
+  change_is : (present : Bool) (x : Context) → record x { cell = set_pages from to present x.cell } ≡ change present x
+  unfolding change
+  change_is true x = refl
+  change_is false x = refl
+
+  pub mapped-world : world_of later ≡ mapped_or_not (world_of s) c from to present
+  mapped-world =
+      change_context-row s facts.orders placed c i found (set_pages from to present (s.rows i)) (change present) inside (change_is present (context_at s i))
+      ∙ as_change present
+
+  fresh : (present : Bool) → IsFresh (mapped_or_not (world_of s) c from to present)
+  fresh true = facts.fresh.mapped (world_of s) c from to sound.fresh
+  fresh false = facts.fresh.unmapped (world_of s) c from to sound.fresh
+
+  pub sound-mapped : IsSound later
+  sound-mapped =
+      sound-row s sound i (set_pages from to present (s.rows i)) (within-set from to present s.size.pages (s.rows i) below (sound.past i))
+      (λ j same. absurd (omega (arith, same, inside)))
+      (λ low none. absurd (let both = sym ((placed.at c i).0 found) ∙ none in cc))
+      (λ j same none. absurd (omega (arith, same, inside)))
+      (tags-set from to present (world_of s).next (s.rows i) (sound.tags i))
+      (subst IsFresh (sym mapped-world) (fresh present))
+
+  -- the ranges of the context afterwards
+  module _ (law : (pages : ℕ) (x : Context) (kinds : ℕ → Option SegmentKind) → pages ≤ MOST_PAGES → ((p : ℕ) → p < pages → kind_of (x.cell (Page p)) ≡ kinds p) →
+      ((p : ℕ) → pages ≤ p → p < MOST_PAGES → kinds p ≡ None) → base.ranges pages x ≡ ranges MOST_PAGES kinds) where
+    pub ranges-mapped : ranges_of (mapped_or_not (world_of s) c from to present) c ≡ ranges MOST_PAGES (kinds_of (set_pages from to present (s.rows i)))
+    unfolding ranges_of
+    ranges-mapped =
+        ap (λ w. ranges_of w c) (sym mapped-world)
+        ∙ ap (base.ranges (world_of later).size.pages) (context-found later c i found)
+        ∙ law (world_of later).size.pages (context_at later i) (kinds_of (set_pages from to present (s.rows i))) (few_pages later sound.sizes.size.pages.1)
+        (λ p low. ap (λ (row : Row). kind_of (row (Page p))) (choose i i (set_pages from to present (s.rows i)) (s.rows i) refl))
+        (λ p past low. no_kind p (set_pages from to present (s.rows i) (Page p)) (within-set from to present s.size.pages (s.rows i) below (sound.past i) (Page p) (past_of later p past)))
+
+pub below_pages : (s : Parts) (to : ℕ) → to ≤ (world_of s).size.pages → to ≤ s.size.pages
+unfolding world_of
+below_pages s to below = below

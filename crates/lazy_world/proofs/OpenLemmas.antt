@@ -1,0 +1,64 @@
+-- The world as it is opened.
+use Rattle.std.proofs.Common.{◌≡◌, ℕ, List, length, refl, sym, subst, None, replicate}
+use Rattle.std.specs.FinMap as fm
+use Rattle.std.proofs.lemmas.List.{length-replicate}
+use Rattle.lwc_base.specs.declared.key.Key.TheVariants.{Page, Slot, Cred}
+use Rattle.lwc_base.specs.declared.size.WorldSize.{WorldSize}
+use Rattle.lwc_base.specs.Fresh.{IsFresh}
+use Rattle.lwc_base.specs.World.{empty_world}
+use Rattle.world_face.specs.Calls.{IsSize}
+use Rattle.lazy_world.specs.declared.registers.Registers.{Registers}
+use Rattle.lazy_world.specs.Cells.{no_row}
+use Rattle.lazy_world.specs.Facts.{Facts}
+use Rattle.ctx_table.specs.NameTables.{NameTable}
+use Rattle.lazy_world.specs.Sound.{IsEmpty, IsSound}
+use Rattle.lazy_world.specs.States.{Parts, context_at, counters_of, group_at, nothing_counted, world_of}
+use Rattle.lazy_world.proofs.AddLemmas.{no_tags}
+use Rattle.lazy_world.proofs.MappedLemmas.{mapped-empty}
+use Rattle.lazy_world.proofs.PlaceLemmas.{at_default}
+
+nothing_there : IsEmpty no_row
+nothing_there (Page p) = refl
+nothing_there (Slot n) = refl
+nothing_there Cred = refl
+
+-- no name, and this number of places
+abbrev pub no_names : ℕ → NameTable
+no_names places = record { map = fm.empty; places = replicate places None }
+
+module _ (facts : Facts) (size : WorldSize) (is_size : IsSize size) (registers : List Registers) (many : length registers ≡ size.contexts) where
+  abbrev pub opened : Parts
+  opened = record {
+    size = size;
+    rows = λ i. no_row;
+    registers = registers;
+    contexts = no_names size.contexts;
+    groups = no_names size.groups;
+    counts = replicate size.jobs nothing_counted;
+  }
+
+  pub world-opened : world_of opened ≡ empty_world size
+  unfolding world_of empty_world
+  world-opened = λ e. record {
+    contexts = mapped-empty (context_at opened) e;
+    groups = mapped-empty (group_at opened) e;
+    next = λ job. counters_of (at_default size.jobs job nothing_counted e);
+    size = size;
+  }
+
+  pub sound-opened : IsSound opened
+  sound-opened = record {
+    sizes = record {
+      size = is_size;
+      registers = many;
+      contexts = length-replicate size.contexts None;
+      groups = length-replicate size.groups None;
+      counts = length-replicate size.jobs nothing_counted;
+    };
+    past = λ i k past. nothing_there k;
+    own = λ j k. refl;
+    free = λ i low none. nothing_there;
+    free_groups = λ j none. nothing_there;
+    tags = λ i. no_tags (world_of opened).next no_row nothing_there;
+    fresh = subst IsFresh (sym world-opened) (facts.fresh.empty size);
+  }

@@ -1,0 +1,31 @@
+use Rattle.std.proofs.Common.{arith, length, length-set, ◌∙◌, ap, sym, subst, None, ℕ, List, ◌≡◌, ◌<◌}
+use Rattle.fd_table.specs.Slots.{Slot, row_of}
+use Rattle.fd_table.specs.Seen as slots_seen
+use Rattle.page_cells.specs.Seen as pages_seen
+use Rattle.lazy_world.specs.Cells.{rows_of}
+use Rattle.lazy_world.specs.Seen.{count, rows}
+use Rattle.lazy_world.proofs.PlaceLemmas.{slot-put, targets-put}
+use Rattle.lazy_world.proofs.places.Places.put_slot.Goals as goal
+
+pub put-requires-clause-place : goal.put-requires-clause-place
+unfolding count
+put-requires-clause-place c = omega (arith, c.args.self.now.kept.slot_count, c.requires.place)
+
+pub invariant_of-self : goal.invariant_of-self
+unfolding count
+invariant_of-self c =
+    let inside : c.args.i < length (slots_seen.slots c.args.self.now.slots) = omega (arith, c.args.self.now.kept.slot_count, c.requires.place) in
+    record {
+      kept = record {
+        slot_count = ap length c.put.ensures ∙ length-set (slots_seen.slots c.args.self.now.slots) c.args.i _ ∙ c.args.self.now.kept.slot_count;
+        uid_count = c.args.self.now.kept.uid_count;
+        targets = subst (λ (table : List (ℕ → Slot)). (i n : ℕ) → (row_of table i n).target ≡ None) (sym c.put.ensures)
+            (targets-put (slots_seen.slots c.args.self.now.slots) c.args.i c.args.n c.args.cell inside c.args.self.now.kept.targets);
+      };
+    }
+
+pub returns-clause-rows : goal.returns-clause-rows
+unfolding rows count
+returns-clause-rows c =
+    ap (λ table. rows_of (pages_seen.cells c.args.self.now.pages) table c.args.self.now.uids.items) c.put.ensures
+    ∙ slot-put _ _ _ c.args.i c.args.n (record { cell = c.args.cell; target = None }) (omega (arith, c.args.self.now.kept.slot_count, c.requires.place))

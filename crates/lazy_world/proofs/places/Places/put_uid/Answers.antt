@@ -1,0 +1,21 @@
+use Rattle.std.proofs.Common.{arith, length-set, ◌∙◌}
+use Rattle.lazy_world.specs.Seen.{count, rows}
+use Rattle.lazy_world.proofs.PlaceLemmas.{uid-put}
+use Rattle.lazy_world.proofs.places.Places.put_uid.Goals as goal
+
+pub index_mut-requires : goal.index_mut-requires
+unfolding count
+index_mut-requires c = omega (arith, c.args.self.now.kept.uid_count, c.requires, c.args.self.now.uids.ok)
+
+pub invariant_of-self : goal.invariant_of-self
+invariant_of-self c = record {
+  kept = record {
+    slot_count = c.args.self.now.kept.slot_count;
+    uid_count = length-set c.args.self.now.uids.items c.args.i c.args.cell ∙ c.args.self.now.kept.uid_count;
+    targets = c.args.self.now.kept.targets;
+  };
+}
+
+pub returns-clause-rows : goal.returns-clause-rows
+unfolding rows count
+returns-clause-rows c = uid-put _ _ _ c.args.i c.args.cell (omega (arith, c.args.self.now.kept.uid_count, c.requires))

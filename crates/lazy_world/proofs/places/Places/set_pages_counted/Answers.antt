@@ -1,0 +1,51 @@
+use Rattle.std.proofs.Common.{◌≤◌, ◌∙◌, [], ◌∷◌, ap, length, length-set, set, subst, sym, ℕ, Option}
+use Rattle.std.specs.Prelude.{All}
+use Rattle.lwc_base.specs.declared.limits.TheConstants.{MOST_PAGES, MOST_RANGES}
+use Rattle.range_map.specs.declared.segment.SegmentKind.{SegmentKind}
+use Rattle.range_map.specs.Kinds.{ranges}
+use Rattle.fd_table.specs.Seen as slots_seen
+use Rattle.page_cells.specs.Cells.{place_of}
+use Rattle.page_cells.specs.Changes.{IsStretch, change_of, changed_place, kinds_after}
+use Rattle.page_cells.specs.Seen as pages_seen
+use Rattle.page_cells.specs.declared.stretches.Source.{Source}
+use Rattle.lazy_world.specs.Cells.{rows_of}
+use Rattle.lazy_world.specs.Seen.{count, rows}
+use Rattle.lazy_world.proofs.MapLemmas.{is_stretch, kinds-row, row-set}
+use Rattle.lazy_world.proofs.places.Places.set_pages_counted.Goals as goal
+
+pub change-requires-clause-place : goal.change-requires-clause-place
+unfolding count
+change-requires-clause-place g c = c.requires.place
+
+pub change-requires-clause-stretches : goal.change-requires-clause-stretches
+change-requires-clause-stretches g c =
+    subst (λ (src : Source). All (IsStretch (pages_seen.cells c.args.self.now.pages) c.args.i) (record { range = c.args.range; source = src } ∷ [])) (sym c.source_of-source.ensures)
+    (is_stretch (pages_seen.cells c.args.self.now.pages) c.args.i c.args.range.from c.args.range.to c.args.present c.requires.order c.requires.inside)
+
+pub change-requires-clause-ranges : goal.change-requires-clause-ranges
+unfolding rows
+change-requires-clause-ranges g c =
+    let w = c.args.self.now in
+    subst (λ (src : Source). ranges MOST_PAGES (kinds_after (change_of (record { range = c.args.range; source = src }) ∷ []) (place_of (pages_seen.cells w.pages) c.args.i)) ≤ MOST_RANGES)
+    (sym c.source_of-source.ensures)
+    (subst (λ (kinds : ℕ → Option SegmentKind). ranges MOST_PAGES kinds ≤ MOST_RANGES)
+    (sym (kinds-row (pages_seen.cells w.pages) (slots_seen.slots w.slots) w.uids.items c.args.i c.args.range.from c.args.range.to c.args.present)) c.requires.few)
+
+pub invariant_of-self : goal.invariant_of-self
+invariant_of-self g c =
+    let w = c.args.self.now in
+    let same = ap length c.change.ensures.cells ∙ length-set (pages_seen.cells w.pages) c.args.i _ in
+    record { kept = record { slot_count = w.kept.slot_count ∙ sym same; uid_count = w.kept.uid_count ∙ sym same; targets = w.kept.targets } }
+
+pub returns-clause-rows : goal.returns-clause-rows
+unfolding rows count
+returns-clause-rows g c =
+    let w = c.args.self.now in
+    ap (λ cells. rows_of cells (slots_seen.slots w.slots) w.uids.items)
+    (c.change.ensures.cells
+    ∙ ap (λ (src : Source). set (pages_seen.cells w.pages) c.args.i (changed_place (pages_seen.cells w.pages) c.args.i (record { range = c.args.range; source = src } ∷ []))) c.source_of-source.ensures)
+    ∙ row-set (pages_seen.cells w.pages) (slots_seen.slots w.slots) w.uids.items c.args.i c.args.range.from c.args.range.to c.args.present c.requires.place
+
+pub returns-clause-count : goal.returns-clause-count
+unfolding count
+returns-clause-count g c = ap length c.change.ensures.cells ∙ length-set (pages_seen.cells c.args.self.now.pages) c.args.i _

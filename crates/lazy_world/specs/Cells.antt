@@ -1,0 +1,68 @@
+-- The cells at places, each of a context or a group.
+use Rattle.std.specs.Prelude.{ℕ, ◌==◌, if◌then◌else◌, Bool, true, false, not, List, Option, None, Some, slice_index_or}
+use Rattle.lwc_base.specs.declared.cell.Cell.{Cell}
+use Rattle.lwc_base.specs.declared.cell.Cell.TheVariants.{Own, Common}
+use Rattle.lwc_base.specs.declared.key.Key.{Key}
+use Rattle.lwc_base.specs.declared.key.Key.TheVariants.{Page, Slot, Cred}
+use Rattle.lwc_base.specs.declared.key.TheConstants.{NOBODY}
+use Rattle.lwc_base.specs.declared.page.PageValue.{PageValue}
+use Rattle.lwc_base.specs.declared.page.PageValue.TheVariants.{Zero}
+use Rattle.lwc_base.specs.Keys.{ValueOf, nothing}
+use Rattle.lwc_base.specs.Mapping.{on_pages}
+use Rattle.lwc_base.specs.Ranges.{is_page}
+use Rattle.range_map.specs.Kinds.{kind_of}
+use Rattle.range_map.specs.declared.segment.SegmentKind.{SegmentKind}
+use Rattle.fd_table.specs.Slots as slots
+use Rattle.page_cells.specs.declared.stretches.Source.{Source}
+use Rattle.page_cells.specs.declared.stretches.Source.TheVariants.{Absent, Zeros}
+use Rattle.page_cells.specs.Cells.{Place, place_of}
+
+-- a cell under each key
+abbrev pub Row : Type 0
+Row = (k : Key) → Cell (ValueOf k)
+
+-- nothing under each key
+abbrev pub no_row : Row
+no_row k = Own (nothing k)
+
+-- rows of places, with another one at a place
+abbrev pub put_row : (ℕ → Row) → ℕ → Row → ℕ → Row
+put_row rows i row j = if j == i then row else rows j
+
+-- the rows of places that have these pages, slots and credentials
+unfoldable pub rows_of : List Place → List (ℕ → slots.Slot) → List (Cell ℕ) → ℕ → Row
+rows_of pages table uids i (Page p) = place_of pages i p
+rows_of pages table uids i (Slot n) = (slots.row_of table i n).cell
+rows_of pages table uids i Cred = slice_index_or uids i (Own NOBODY)
+
+-- the cell of a page of zeros, or of an absent page
+abbrev pub page_cell : Bool → Cell (Option PageValue)
+page_cell present = Own (if present then Some Zero else None)
+
+-- a row with pages of zeros in a range, or without pages there
+abbrev pub set_pages : ℕ → ℕ → Bool → Row → Row
+set_pages from to present row = on_pages from to (page_cell present) row
+
+-- the kinds of the pages of a row
+abbrev pub kinds_of : Row → ℕ → Option SegmentKind
+kinds_of row p = kind_of (row (Page p))
+
+-- a row with all pages of a place
+abbrev pub on_place : Place → Row → Row
+on_place place row (Page p) = place p
+on_place place row k = row k
+
+-- whether a cell is the place's own
+abbrev pub is_own : {T : Type 0} → Cell T → Bool
+is_own (Own value) = true
+is_own (Common g) = false
+
+-- whether a cell is the place's own with nothing in it; a credential always passes
+abbrev pub is_nothing : (k : Key) → Cell (ValueOf k) → Bool
+is_nothing (Page p) cell = not (is_page cell)
+is_nothing (Slot n) cell = not (slots.is_filled cell)
+is_nothing Cred cell = true
+
+-- what pages of a range get
+abbrev pub source_of : Bool → Source
+source_of present = if present then Zeros else Absent

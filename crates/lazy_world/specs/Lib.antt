@@ -1,0 +1,9 @@
+pub mod Cells
+pub mod Facts
+pub mod KeyValues
+pub mod Kept
+pub mod Mapped
+pub mod Seen
+pub mod Sound
+pub mod States
+pub mod Worlds

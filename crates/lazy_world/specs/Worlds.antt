@@ -1,0 +1,20 @@
+-- The world that shared pages stand for.
+use Rattle.lwc_base.specs.World.{World}
+use Rattle.lazy_world.specs.declared.world.LazyWorld.{LazyWorld}
+use Rattle.lazy_world.specs.Seen.{rows}
+use Rattle.lazy_world.specs.States.{Parts, world_of}
+
+-- its parts
+unfoldable pub parts : LazyWorld → Parts
+parts w = record {
+  size = w.size;
+  rows = rows w.places;
+  registers = w.registers.items;
+  contexts = w.contexts;
+  groups = w.groups;
+  counts = w.counts.items;
+}
+
+-- the world of them
+unfoldable pub seen : LazyWorld → World
+seen w = world_of (parts w)

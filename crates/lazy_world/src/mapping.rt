@@ -1,0 +1,131 @@
+ghost use Rattle.std.specs.Prelude.{◌≡◌, ◌<◌, ◌≤◌, [], ◌∷◌};
+ghost use Rattle.lwc_base.specs.declared.limits.TheConstants.{MOST_PAGES, MOST_RANGES};
+ghost use Rattle.range_map.specs.Kinds.{ranges};
+ghost use Rattle.lazy_world.specs.Cells.{kinds_of, put_row, set_pages, source_of};
+ghost use Rattle.lazy_world.specs.Seen.{count, rows};
+
+use crate::facts::facts;
+use crate::places::Places;
+use crate::world::LazyWorld;
+use lwc_base::{Name, Range};
+use page_cells::{Source, Stretch, changes_of};
+use pool_base::Steps;
+use range_map::ranges_are_those_of_the_context;
+use std::marker::Brand;
+use std::sync::ledger::{Blank, Ledger};
+
+/// What pages get that become zeros or absent.
+fn source_of(present: bool) -> Source
+    ensures { result ≡ source_of present }
+{
+    if present {
+        Source::Zeros
+    } else {
+        Source::Absent
+    }
+}
+
+impl Places {
+    /// Makes each page of a range a page of zeros of the place's own, or absent, on a counter of its own.
+    fn set_pages_counted<L: Ledger>(&mut self, i: usize, range: Range, present: bool, blank: Blank)
+        requires place { i < count self.old }
+        requires order { range.from ≤ range.to }
+        requires inside { range.to ≤ MOST_PAGES }
+        requires few { ranges MOST_PAGES (kinds_of (set_pages range.from range.to present (rows self.old i)))
+            ≤ MOST_RANGES }
+        requires name { blank.name ≡ L.name }
+        requires parts { blank.parts ≡ L.parts }
+        requires some { 0 < blank.parts }
+        ensures rows { rows self.new
+            ≡ put_row (rows self.old) i (set_pages range.from range.to present (rows self.old i)) }
+        ensures count { count self.new ≡ count self.old }
+    {
+        let mut steps = Steps::<L>::new(blank);
+        let source = source_of(present);
+        self.pages
+            .change(i, &[Stretch { range, source }], &mut steps);
+    }
+
+    /// Makes each page of a range a page of zeros of the place's own, or absent.
+    pub fn set_pages(&mut self, i: usize, range: Range, present: bool)
+        requires place { i < count self.old }
+        requires order { range.from ≤ range.to }
+        requires inside { range.to ≤ MOST_PAGES }
+        requires few { ranges MOST_PAGES (kinds_of (set_pages range.from range.to present (rows self.old i)))
+            ≤ MOST_RANGES }
+        ensures rows { rows self.new
+            ≡ put_row (rows self.old) i (set_pages range.from range.to present (rows self.old i)) }
+        ensures count { count self.new ≡ count self.old }
+    {
+        self.set_pages_counted::<Brand>(i, range, present, Blank::new(1));
+    }
+
+    /// The number of ranges of a place once each page of a range were zeros, or absent.
+    pub fn count_after(&self, i: usize, range: Range, present: bool) -> u32
+        requires place { i < count self.now }
+        requires order { range.from ≤ range.to }
+        requires inside { range.to ≤ MOST_PAGES }
+        ensures { result ≡ ranges MOST_PAGES (kinds_of (set_pages range.from range.to present (rows self.now i))) }
+    {
+        let source = source_of(present);
+        let changes = changes_of(&[Stretch { range, source }]);
+        self.pages.count_after(i, changes.as_slice())
+    }
+}
+
+impl LazyWorld {
+    ghost use Rattle.lwc_base.specs.Mapping.{map_pages, mapped_or_not, unmap_pages};
+    ghost use Rattle.lwc_base.specs.Ranges.{ranges_of};
+    ghost use Rattle.world_face.specs.Calls.{IsLive};
+    ghost use Rattle.lazy_world.specs.Worlds.{seen};
+
+    /// Makes each page of the range a page of zeros of the context's own, or absent, whatever it was.
+    fn set_pages(&mut self, c: Name, range: Range, present: bool)
+        requires live { IsLive (seen self.old) c }
+        requires some { range.from < range.to }
+        requires within { range.to ≤ (seen self.old).size.pages }
+        requires few { ranges_of (mapped_or_not (seen self.old) c range.from range.to present) c ≤ MOST_RANGES }
+        ensures { seen self.new ≡ mapped_or_not (seen self.old) c range.from range.to present }
+    {
+        facts();
+        self.contexts.are_placed();
+        ranges_are_those_of_the_context();
+        let i = self.place(c);
+        self.places.set_pages(i, range, present);
+    }
+
+    /// Makes each page of the range a page of zeros of the context's own, whatever it was.
+    pub fn map(&mut self, c: Name, range: Range)
+        requires live { IsLive (seen self.old) c }
+        requires some { range.from < range.to }
+        requires within { range.to ≤ (seen self.old).size.pages }
+        requires few { ranges_of (map_pages (seen self.old) c range.from range.to) c ≤ MOST_RANGES }
+        ensures mapped { seen self.new ≡ map_pages (seen self.old) c range.from range.to }
+    {
+        self.set_pages(c, range, true);
+    }
+
+    /// Makes each page of the range absent, whatever it was.
+    pub fn unmap(&mut self, c: Name, range: Range)
+        requires live { IsLive (seen self.old) c }
+        requires some { range.from < range.to }
+        requires within { range.to ≤ (seen self.old).size.pages }
+        requires few { ranges_of (unmap_pages (seen self.old) c range.from range.to) c ≤ MOST_RANGES }
+        ensures unmapped { seen self.new ≡ unmap_pages (seen self.old) c range.from range.to }
+    {
+        self.set_pages(c, range, false);
+    }
+
+    /// The number of ranges that the context would have after `map` if `present` is true, and else after `unmap`.
+    pub fn ranges_after_map(&self, c: Name, range: Range, present: bool) -> u32
+        requires live { IsLive (seen self.now) c }
+        requires some { range.from < range.to }
+        requires within { range.to ≤ (seen self.now).size.pages }
+        ensures value { result ≡ ranges_of (mapped_or_not (seen self.now) c range.from range.to present) c }
+    {
+        facts();
+        self.contexts.are_placed();
+        ranges_are_those_of_the_context();
+        self.places.count_after(self.place(c), range, present)
+    }
+}

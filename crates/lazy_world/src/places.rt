@@ -1,0 +1,156 @@
+ghost use Rattle.std.specs.Prelude.{◌≡◌, IfOk, replicate};
+ghost use Rattle.lwc_base.specs.declared.cell.Cell.TheVariants.{Own};
+ghost use Rattle.lwc_base.specs.declared.key.TheConstants.{NOBODY};
+ghost use Rattle.fd_table.specs.Seen as slots_seen;
+ghost use Rattle.page_cells.specs.Seen as pages_seen;
+ghost use Rattle.lazy_world.specs.Kept.{IsKept};
+
+use crate::key_value::KeyValue;
+use fd_table::Slots;
+use lwc_base::{Cell, Descriptor, NOBODY, Name, OutOfMemory};
+use page_cells::PageCells;
+use range_map::SegmentKind;
+use std::alloc::Global;
+
+/// The cells of a fixed number of places: of each the pages, the slots and the credential.
+#[derive(Drop)]
+pub struct Places {
+    pub(crate) pages: PageCells,
+    pub(crate) slots: Slots,
+    pub(crate) uids: Vec<Cell<u32>>,
+    ghost kept: { IsKept (pages_seen.cells pages) (slots_seen.slots slots) uids.items },
+}
+
+/// The credential of nobody at each of this number of places. The only error is out of memory.
+fn no_uids(alloc: Global, places: u32) -> Result<Vec<Cell<u32>>, OutOfMemory>
+    ensures { IfOk result (λ uids. uids.items ≡ replicate places (Own NOBODY)) }
+{
+    let mut uids = Vec::with_capacity(alloc, places as usize)?;
+    'places: for _ in 0..places {
+        uids.push_reserved(Cell::Own(NOBODY));
+    }
+    Ok(uids)
+}
+
+impl Places {
+    ghost use Rattle.std.specs.Prelude.{◌<◌, ◌≤◌, ℕ};
+    ghost use Rattle.std.specs.Option.{option_copied};
+    ghost use Rattle.lwc_base.specs.declared.descriptor.TheConstants.{SLOTS};
+    ghost use Rattle.lwc_base.specs.declared.key.Key.TheVariants.{Page, Slot, Cred};
+    ghost use Rattle.lwc_base.specs.declared.limits.TheConstants.{MOST_PAGES};
+    ghost use Rattle.lwc_base.specs.Frames.{own_value};
+    ghost use Rattle.lwc_base.specs.Keys.{with_key};
+    ghost use Rattle.lwc_base.specs.declared.cell.Cell.{Cell};
+    ghost use Rattle.cow_space.specs.Maps.{data_of};
+    ghost use Rattle.range_map.specs.Kinds.{kind_of};
+    ghost use Rattle.lazy_world.specs.Cells.{no_row, put_row};
+    ghost use Rattle.page_cells.specs.declared.cells.TheConstants.{MOST_PLACES};
+    ghost use Rattle.lazy_world.specs.KeyValues.{HasSlot, group_in, key_in, value_in};
+    ghost use Rattle.lazy_world.specs.Seen.{count, rows};
+
+    /// This number of places with nothing in them, over this number of frames. The only error is out of memory.
+    #[tactic(auto, unfolding(crate::specs::Seen::rows, crate::specs::Seen::count, crate::specs::Cells::rows_of))]
+    pub fn open(alloc: Global, frames: u32, places: u32) -> Result<Places, OutOfMemory>
+        requires frames { frames ≤ 65536 }
+        requires places { places ≤ MOST_PLACES }
+        ensures rows { IfOk result (λ opened. rows opened ≡ λ i. no_row) }
+        ensures count { IfOk result (λ opened. count opened ≡ places) }
+    {
+        Ok(Places {
+            pages: PageCells::open(alloc, frames, places)?,
+            slots: Slots::open(alloc, places)?,
+            uids: no_uids(alloc, places)?,
+        })
+    }
+
+    /// The kind of a page of a place; `None` where it is absent.
+    #[tactic(auto, unfolding(crate::specs::Seen::rows, crate::specs::Seen::count, crate::specs::Cells::rows_of))]
+    pub fn kind(&self, i: usize, p: u16) -> Option<SegmentKind>
+        requires { i < count self.now }
+        ensures { result ≡ kind_of (rows self.now i (Page p)) }
+    {
+        self.pages.kind(i, p)
+    }
+
+    /// The bytes of a page that is the place's own. A page that is absent, common or zeros has none.
+    #[tactic(auto, unfolding(crate::specs::Seen::rows, crate::specs::Seen::count, crate::specs::Cells::rows_of))]
+    pub fn bytes(&self, i: usize, p: u16) -> Option<&[u8]>
+        requires place { i < count self.now }
+        requires page { p < MOST_PAGES }
+        ensures { option_copied result ≡ data_of (own_value (rows self.now i (Page p))) }
+    {
+        self.pages.bytes(i, p)
+    }
+
+    /// The cell of a slot of a place.
+    #[tactic(auto, unfolding(crate::specs::Seen::rows, crate::specs::Seen::count, crate::specs::Cells::rows_of))]
+    pub fn slot(&self, i: usize, n: u8) -> Cell<Descriptor>
+        requires place { i < count self.now }
+        requires slot { n < SLOTS }
+        ensures { result ≡ rows self.now i (Slot n) }
+    {
+        self.slots.cell(i, n)
+    }
+
+    /// The cell of the credential of a place.
+    #[tactic(auto, unfolding(crate::specs::Seen::rows, crate::specs::Seen::count, crate::specs::Cells::rows_of))]
+    pub fn uid(&self, i: usize) -> &Cell<u32>
+        requires { i < count self.now }
+        ensures { result.now ≡ rows self.now i Cred }
+    {
+        &self.uids[i]
+    }
+
+    /// Puts another cell into a slot of a place.
+    #[tactic(auto, unfolding(crate::specs::Seen::rows, crate::specs::Seen::count, crate::specs::Cells::rows_of))]
+    pub fn put_slot(&mut self, i: usize, n: u8, cell: Cell<Descriptor>)
+        requires place { i < count self.old }
+        requires slot { n < SLOTS }
+        ensures rows { rows self.new ≡ put_row (rows self.old) i (with_key Cell (Slot n) cell (rows self.old i)) }
+        ensures count { count self.new ≡ count self.old }
+    {
+        self.slots.put(i, n, cell, None);
+    }
+
+    /// Puts another cell of the credential at a place.
+    #[tactic(auto, unfolding(crate::specs::Seen::rows, crate::specs::Seen::count, crate::specs::Cells::rows_of))]
+    pub fn put_uid(&mut self, i: usize, cell: Cell<u32>)
+        requires { i < count self.old }
+        ensures rows { rows self.new ≡ put_row (rows self.old) i (with_key Cell Cred cell (rows self.old i)) }
+        ensures count { count self.new ≡ count self.old }
+    {
+        self.uids[i] = cell;
+    }
+
+    /// Puts a value of a place's own under a key.
+    pub fn put(&mut self, i: usize, value: KeyValue)
+        requires place { i < count self.old }
+        requires slot { HasSlot value }
+        ensures rows { rows self.new
+            ≡ put_row (rows self.old) i (with_key Cell (key_in value) (Own (value_in value)) (rows self.old i)) }
+        ensures count { count self.new ≡ count self.old }
+    {
+        match value {
+            KeyValue::Slot(n, descriptor) => self.put_slot(i, n, Cell::Own(descriptor)),
+            KeyValue::Cred(uid) => self.put_uid(i, Cell::Own(uid)),
+        }
+    }
+
+    /// The group that the cell of a place under a key names, if it names one.
+    pub fn group(&self, i: usize, value: KeyValue) -> Option<Name>
+        requires place { i < count self.now }
+        requires slot { HasSlot value }
+        ensures { result ≡ group_in (rows self.now i (key_in value)) }
+    {
+        match value {
+            KeyValue::Slot(n, _) => match self.slot(i, n) {
+                Cell::Own(_) => None,
+                Cell::Common(g) => Some(g),
+            },
+            KeyValue::Cred(_) => match self.uid(i) {
+                Cell::Own(_) => None,
+                Cell::Common(g) => Some(*g),
+            },
+        }
+    }
+}

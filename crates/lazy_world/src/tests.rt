@@ -1,0 +1,86 @@
+ghost use Rattle.std.specs.Prelude.{◌≡◌, IfOk};
+ghost use Rattle.lazy_world.specs.Worlds.{seen};
+ghost use Rattle.world_face.specs.Calls.{IsLive};
+
+use crate::LazyWorld;
+use crate::facts::facts;
+use lwc_base::{Descriptor, MOST_RANGES, Name, OutOfMemory, Range, Regs, Summary, WorldSize};
+use std::alloc::Global;
+use std::test::Fail;
+
+/// A world of four pages with one context.
+fn begun(alloc: Global) -> Result<(LazyWorld, Name), OutOfMemory>
+    ensures live { IfOk result (λ r. IsLive (seen r.0) r.1) }
+    ensures size { IfOk result (λ r.
+        (seen r.0).size ≡ record { frames = 2; contexts = 2; groups = 1; jobs = 2; pages = 4 }) }
+{
+    facts();
+    let size = WorldSize {
+        frames: 2,
+        contexts: 2,
+        groups: 1,
+        jobs: 2,
+        pages: 4,
+    };
+    let mut world = LazyWorld::open(alloc, &size)?;
+    let c = world.first(7, &Regs::fresh(3));
+    Ok((world, c))
+}
+
+#[test]
+fn a_context_shows_what_it_has(rt: HostRuntime) -> Result<(), Fail> {
+    let (world, c) = begun(rt.alloc())?;
+    assert_eq!(rt;
+        (world.nth_context(0), world.nth_context(1)),
+        (Some(c), None)
+    );
+    assert_eq!(rt;
+        (world.live_of(0), world.live_of(1), world.groups_of(0)),
+        (1, 0, 0)
+    );
+    assert_eq!(rt;
+        (world.context_count(), world.group_count(), world.pages()),
+        (1, 0, 4)
+    );
+    assert_eq!(rt; (world.entry(c).pc, world.uid(c)), (3, 7));
+    assert_eq!(rt; world.saved(c, 15), None);
+    assert_eq!(rt; world.slot(c, 63), Descriptor::Empty);
+    let summary = Summary {
+        pages: 0,
+        slots: 0,
+        uid: 7,
+    };
+    assert_eq!(rt; world.summary(c), summary);
+    Ok(())
+}
+
+#[test]
+fn what_is_put_is_there(rt: HostRuntime) -> Result<(), Fail> {
+    facts();
+    let (mut world, c) = begun(rt.alloc())?;
+    world.set_slot(c, 0, Descriptor::Console);
+    assert_eq!(rt; world.lowest_empty(c), Some(1));
+    world.set_uid(c, 9);
+    assert_eq!(rt; world.uid(c), 9);
+    world.save(c, 15, &Regs::fresh(6));
+    assert_eq!(rt; world.saved(c, 15), Some(Regs::fresh(6)));
+    Ok(())
+}
+
+#[test]
+fn pages_are_mapped_and_unmapped(rt: HostRuntime) -> Result<(), Fail> {
+    facts();
+    let (mut world, c) = begun(rt.alloc())?;
+    assert!(rt; world.ranges_after_map(c, Range { from: 0, to: 3 }, true) <= MOST_RANGES);
+    world.map(c, Range { from: 0, to: 3 });
+    assert_eq!(rt;
+        world.ranges_after_map(c, Range { from: 1, to: 2 }, false),
+        2
+    );
+    world.unmap(c, Range { from: 1, to: 2 });
+    assert_eq!(rt;
+        world.ranges_after_map(c, Range { from: 3, to: 4 }, true),
+        2
+    );
+    Ok(())
+}

@@ -1,0 +1,114 @@
+ghost use Rattle.std.specs.Prelude.{◌≡◌, ◌<◌, ◌^◌};
+ghost use Rattle.lwc_base.specs.declared.descriptor.TheConstants.{SLOTS};
+ghost use Rattle.lwc_base.specs.declared.limits.TheConstants.{MOST_THREADS};
+
+use crate::counts::Counts;
+use crate::facts::facts;
+use crate::key_value::KeyValue;
+use crate::registers::Registers;
+use crate::world::LazyWorld;
+use lwc_base::{Descriptor, Name, Regs};
+
+impl LazyWorld {
+    ghost use Rattle.lwc_base.specs.Cells.{put_at, put_slot, put_uid, with_value};
+    ghost use Rattle.lwc_base.specs.Saved.{save};
+    ghost use Rattle.lwc_base.specs.World.{add_context, change_group, new_context, next_context};
+    ghost use Rattle.world_face.specs.Calls.{HasPlace, IsLive};
+    ghost use Rattle.lazy_world.specs.KeyValues.{HasSlot, key_in, value_in};
+    ghost use Rattle.lazy_world.specs.Worlds.{seen};
+
+    /// Puts a value under a key of a group.
+    fn put_common(&mut self, g: Name, value: KeyValue)
+        requires { HasSlot value }
+        ensures { seen self.new ≡ change_group (seen self.old) g (with_value (key_in value) (value_in value)) }
+    {
+        facts();
+        self.contexts.are_placed();
+        self.groups.are_placed();
+        match self.groups.place(g) {
+            Some(j) => self.places.put(self.size.contexts as usize + j, value),
+            None => {}
+        }
+    }
+
+    /// Puts a value under a key of a context, where the old one is.
+    fn put(&mut self, c: Name, value: KeyValue)
+        requires live { IsLive (seen self.old) c }
+        requires slot { HasSlot value }
+        ensures { seen self.new ≡ put_at (seen self.old) c (key_in value) (value_in value) }
+    {
+        facts();
+        self.contexts.are_placed();
+        let i = self.place(c);
+        match self.places.group(i, value) {
+            None => self.places.put(i, value),
+            Some(g) => self.put_common(g, value),
+        }
+    }
+
+    /// Puts another descriptor into a slot of the context.
+    pub fn set_slot(&mut self, c: Name, n: u8, value: Descriptor)
+        requires live { IsLive (seen self.old) c }
+        requires within { n < SLOTS }
+        ensures put { seen self.new ≡ put_slot (seen self.old) c n value }
+    {
+        self.put(c, KeyValue::Slot(n, value));
+    }
+
+    /// Changes the credential of the context.
+    pub fn set_uid(&mut self, c: Name, uid: u32)
+        requires { IsLive (seen self.old) c }
+        ensures { seen self.new ≡ put_uid (seen self.old) c uid }
+    {
+        self.put(c, KeyValue::Cred(uid));
+    }
+
+    /// Keeps registers for a thread in the context, in place of those that it kept for it.
+    pub fn save(&mut self, c: Name, t: u32, regs: &Regs)
+        requires live { IsLive (seen self.old) c }
+        requires thread { t < MOST_THREADS }
+        ensures saved { seen self.new ≡ save (seen self.old) c t regs.now }
+    {
+        facts();
+        self.contexts.are_placed();
+        let i = self.place(c);
+        self.registers[i].saved[t as usize] = Some(*regs);
+    }
+
+    /// A job makes its next context, which has nothing but a credential, and answers its name.
+    pub(crate) fn add_context(&mut self, job: u32, uid: u32, entry: &Regs) -> Name
+        requires known { job < (seen self.old).size.jobs }
+        requires few { ((seen self.old).next job).contexts < 2 ^ 31 }
+        requires place { HasPlace (seen self.old) }
+        ensures name { result ≡ next_context (seen self.old) job }
+        ensures world { seen self.new ≡ add_context (seen self.old) job (new_context uid entry.now) }
+    {
+        facts();
+        self.contexts.are_placed();
+        let counts = self.counts[job as usize];
+        let name = Name {
+            job,
+            k: counts.contexts,
+        };
+        let i = self.contexts.insert(name);
+        self.places.put(i, KeyValue::Cred(uid));
+        self.registers[i] = Registers::new(entry);
+        self.counts[job as usize] = Counts {
+            contexts: counts.contexts + 1,
+            ..counts
+        };
+        name
+    }
+
+    /// Makes a new context of job 0 with no page, empty slots, this uid, and these registers to begin with.
+    /// Answers its name.
+    pub fn first(&mut self, uid: u32, entry: &Regs) -> Name
+        requires known { 0 < (seen self.old).size.jobs }
+        requires few { ((seen self.old).next 0).contexts < 2 ^ 31 }
+        requires place { HasPlace (seen self.old) }
+        ensures name { result ≡ next_context (seen self.old) 0 }
+        ensures made { seen self.new ≡ add_context (seen self.old) 0 (new_context uid entry.now) }
+    {
+        self.add_context(0, uid, entry)
+    }
+}
