@@ -75,10 +75,11 @@ Takes text before after =
     ((after.taken ≡ appended before.taken text) × (after.faults ≡ before.faults))
     ⊎ (IsPartTaken before.taken after.taken text × CountsOneFault before.faults after.faults)
 
--- an end was answered by its exit status and its message
+-- an end was answered by its exit status and its message; where there is none, nothing was done to the error output
 pub record IsAnswered (e : End Rejection) (status : ExitStatus) (err err_after : SinkView) : Type 0 where
   pub by : status ≡ status_of e
   pub message : Takes (message_of e) err err_after
+  pub quiet : e ≡ ends.Done → err_after ≡ err
 
 -- the end that is answered: the end itself, or out of memory where there was none for its message
 abbrev pub MayBeAnsweredAs : End Rejection → End Rejection → Type 0

@@ -19,7 +19,7 @@ pub enum FetchError {
 }
 
 /// Reads a file of at most `limit` bytes whole; of a longer one, at most one byte past the limit. Each fetch
-/// asks for a byte or more behind those that were given, so there are at most `limit + 2` of them. After one
+/// asks for a byte or more behind those that were given, so there are at most `limit + 1` of them. After one
 /// that fails, or that is at the end of the file, there is no other.
 ///
 /// # Errors
