@@ -7,6 +7,7 @@ pub mod Fresh
 pub mod Holders
 pub mod InRange
 pub mod ItemModes
+pub mod Jobs
 pub mod Keys
 pub mod Life
 pub mod Lookups

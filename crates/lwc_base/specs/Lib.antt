@@ -7,6 +7,7 @@ pub mod Faults
 pub mod Frames
 pub mod Fresh
 pub mod Holders
+pub mod Jobs
 pub mod Keys
 pub mod Life
 pub mod Mapping

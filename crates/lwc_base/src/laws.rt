@@ -5,6 +5,7 @@ pub mod capabilities;
 pub mod channels;
 pub mod cloning;
 pub mod facts;
+pub mod jobs;
 pub mod life;
 pub mod modes;
 pub mod overlaying;
@@ -30,6 +31,7 @@ pub use cloning::{
 pub use facts::{
     changes_leave_the_rest, live_names_are_counted, names_are_ordered, names_stay_old,
 };
+pub use jobs::{names_keep_to_their_jobs, only_jobs_with_a_root_are_reached};
 pub use life::{
     a_reaped_world_keeps_what_is_reached, changes_that_cut_no_link_leave_nothing_to_drop,
     contexts_keep_the_contexts_that_they_name, reached_contexts_are_those_with_a_chain,

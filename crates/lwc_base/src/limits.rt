@@ -69,3 +69,9 @@ pub const MOST_IMAGE_BYTES: usize = 8388608;
 
 /// The most bytes of a schedule.
 pub const MOST_SCHEDULE_BYTES: usize = 16777216;
+
+/// The most bytes of a source.
+pub const MOST_SOURCE_BYTES: usize = 16777216;
+
+/// The most bytes of a file of requests.
+pub const MOST_REQUEST_FILE_BYTES: usize = 8390656;
