@@ -15,7 +15,7 @@ use Rattle.guest_asm.specs.declared.error.SourceRule.TheVariants as rules
 use Rattle.guest_asm.specs.declared.parts.PageDraft.{PageDraft}
 use Rattle.guest_asm.specs.declared.parts.FileDraft.{FileDraft}
 use Rattle.guest_asm.specs.declared.parts.SlotDraft.{SlotDraft}
-use Rattle.guest_asm.specs.declared.assembly.TheConstants.{MOST_SOURCE_BYTES}
+use Rattle.lwc_base.specs.declared.limits.TheConstants.{MOST_SOURCE_BYTES}
 use Rattle.guest_asm.specs.Lexis.{lines}
 use Rattle.guest_asm.specs.Statements.{Immediate, Value, Label, Coded}
 use Rattle.guest_asm.specs.Sources.{Source, Use, nothing, with_lines}

@@ -12,11 +12,8 @@ use crate::error::{SourceError, SourceRule};
 use crate::source::Source;
 use byte_reading::ReadError;
 use guest_image::{Image, ImageRule, read_image};
-use lwc_base::MOST_IMAGE_BYTES;
+use lwc_base::{MOST_IMAGE_BYTES, MOST_SOURCE_BYTES};
 use std::alloc::Global;
-
-/// The most bytes of a source.
-pub const MOST_SOURCE_BYTES: usize = 16_777_216;
 
 /// The image that a source makes (`assembled`), which is within the limits of images.
 ///

@@ -12,7 +12,7 @@ mod source;
 mod statement;
 mod words;
 
-pub use assembly::{MOST_SOURCE_BYTES, assemble};
+pub use assembly::assemble;
 pub use error::{SourceError, SourceRule};
 pub use mnemonics::{fields_of, mnemonic};
 pub use operand::Field;

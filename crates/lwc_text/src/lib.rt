@@ -12,5 +12,5 @@ pub use fault::{InputFault, InputRule};
 pub use laws::{request_files_are_read_as_spelled, schedules_are_read_as_named};
 pub use lines::{context_line, groups_line, reply_line, tail_lines, thread_lines};
 pub use reporting::report;
-pub use requests::{MOST_REQUEST_FILE_BYTES, read_requests};
+pub use requests::read_requests;
 pub use schedule::{Schedule, read_schedule};

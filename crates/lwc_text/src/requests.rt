@@ -11,11 +11,8 @@ ghost use Rattle.lwc_text.specs.Requests as spec;
 use crate::fault::{InputFault, InputRule};
 use byte_reading::ReadError;
 use hex::FromHexError;
-use lwc_base::{MOST_REQUEST_BYTES, MOST_REQUESTS, Requests, Sequence};
+use lwc_base::{MOST_REQUEST_BYTES, MOST_REQUEST_FILE_BYTES, MOST_REQUESTS, Requests, Sequence};
 use std::alloc::Global;
-
-/// The most bytes of a request file.
-pub const MOST_REQUEST_FILE_BYTES: usize = 8390656;
 
 /// Reads requests, one a line: hexadecimal digits in either case, two for each byte (`IsRequestFile`). A line
 /// feed ends a line, and a carriage return directly before it is skipped; a last line without a line feed

@@ -5,11 +5,10 @@ use Rattle.byte_reading.specs.Outcomes.{Refusal, Fails}
 use Rattle.byte_reading.specs.declared.error.ReadError.{ReadError}
 use Rattle.byte_reading.specs.declared.error.ReadError.TheVariants as errors
 use Rattle.guest_asm.specs.Drafts.{assembled, draft_at}
-use Rattle.guest_asm.specs.declared.assembly.TheConstants.{MOST_SOURCE_BYTES}
+use Rattle.lwc_base.specs.declared.limits.TheConstants.{MOST_IMAGE_BYTES, MOST_SCHEDULE_BYTES, MOST_SOURCE_BYTES}
 use Rattle.guest_asm.specs.declared.error.SourceRule.TheVariants as sources
 use Rattle.guest_image.specs.Reading.{image_at}
 use Rattle.guest_image.specs.declared.fault.ImageRule.TheVariants.{TooLong}
-use Rattle.lwc_base.specs.declared.limits.TheConstants.{MOST_IMAGE_BYTES, MOST_SCHEDULE_BYTES}
 use Rattle.lwcrun_core.specs.declared.ending.Rejection.{Rejection}
 use Rattle.lwcrun_core.specs.declared.ending.Rejection.TheVariants as rejections
 use Rattle.lwc_text.specs.Schedules.{schedule_at}

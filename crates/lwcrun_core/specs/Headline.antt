@@ -1,13 +1,12 @@
 -- What a call does: its work, its plan, and the text that it writes.
 use Rattle.std.specs.Prelude.{◌≡◌, ℕ, if◌then◌else◌, List, [], length, nat_lt}
 use Rattle.guest_dis.specs.Listing.{listing}
-use Rattle.guest_asm.specs.declared.assembly.TheConstants.{MOST_SOURCE_BYTES}
+use Rattle.lwc_base.specs.declared.limits.TheConstants.{MOST_IMAGE_BYTES, MOST_SCHEDULE_BYTES, MOST_SOURCE_BYTES}
 use Rattle.guest_image.specs.Spelling.{spelling}
 use Rattle.guest_image.specs.declared.image.Image.{Image}
 use Rattle.kernel_core.specs.declared.settings.Settings.{Settings}
 use Rattle.kernel_core.specs.Runs.{kept}
 use Rattle.kernel_core.specs.Start.{Inputs, start}
-use Rattle.lwc_base.specs.declared.limits.TheConstants.{MOST_IMAGE_BYTES, MOST_SCHEDULE_BYTES}
 use Rattle.lwc_text.specs.Report.{report_after}
 use Rattle.lwcrun_core.specs.declared.ending.Rejection.{Rejection}
 use Rattle.lwcrun_core.specs.declared.ending.Rejection.TheVariants as rejections

@@ -1,7 +1,6 @@
 ghost use Rattle.std.specs.Prelude.{◌≡◌, ◌≤◌, ◌<◌, All, IfOk, OnOk, length};
-ghost use Rattle.guest_asm.specs.declared.assembly.TheConstants.{MOST_SOURCE_BYTES};
+ghost use Rattle.lwc_base.specs.declared.limits.TheConstants.{MOST_IMAGE_BYTES, MOST_SCHEDULE_BYTES, MOST_SOURCE_BYTES, MOST_STEPS};
 ghost use Rattle.guest_image.specs.Limits.{IsImage};
-ghost use Rattle.lwc_base.specs.declared.limits.TheConstants.{MOST_IMAGE_BYTES, MOST_SCHEDULE_BYTES, MOST_STEPS};
 ghost use Rattle.lwcrun_core.specs.Images.{image_of, schedule_of, source_of};
 ghost use Rattle.lwcrun_core.specs.Parts.{ReadsBy};
 ghost use Rattle.lwcrun_core.specs.Reading.{Fetched, ReadsOnward, ReadsToTheEnd};
@@ -9,9 +8,9 @@ ghost use Rattle.lwcrun_core.specs.Views.{found};
 
 use crate::ending::{Ending, Rejection};
 use crate::reading::{FetchError, read_whole};
-use guest_asm::{MOST_SOURCE_BYTES, SourceError, SourceRule, assemble};
+use guest_asm::{SourceError, SourceRule, assemble};
 use guest_image::{Image, ImageFault, ImageRule, read_image};
-use lwc_base::{MOST_IMAGE_BYTES, MOST_SCHEDULE_BYTES};
+use lwc_base::{MOST_IMAGE_BYTES, MOST_SCHEDULE_BYTES, MOST_SOURCE_BYTES};
 use lwc_io::Files;
 use lwc_text::{InputFault, InputRule, Schedule, read_schedule};
 use std::alloc::Global;

@@ -1,10 +1,9 @@
 ghost use Rattle.std.specs.Prelude.{◌≡◌, ◌^◌};
-ghost use Rattle.guest_asm.specs.declared.assembly.TheConstants.{MOST_SOURCE_BYTES};
+ghost use Rattle.lwc_base.specs.declared.limits.TheConstants.{MOST_BUDGET, MOST_BYTES_OF_CALL, MOST_CONSOLE_BYTES, MOST_CONTEXTS, MOST_CONTEXTS_OF_JOB, MOST_FILES, MOST_FILE_BYTES, MOST_FRAMES, MOST_GROUPS, MOST_GROUPS_OF_JOB, MOST_IMAGE_BYTES, MOST_IMAGE_SLOTS, MOST_INSTRUCTIONS, MOST_ITEMS, MOST_JOBS, MOST_PAGES, MOST_RANGES, MOST_REPLY_BYTES, MOST_REQUESTS, MOST_REQUEST_BYTES, MOST_REQUEST_FILE_BYTES, MOST_ROOTS, MOST_SCHEDULE_BYTES, MOST_SOURCE_BYTES, MOST_STEPS, MOST_THREADS};
 ghost use Rattle.guest_image.specs.declared.image.TheConstants.{FIRST_SLOT};
 ghost use Rattle.kernel_core.specs.declared.calling.TheConstants.{LW_CREATE, LW_OVERLAY, LW_RESTRICT, LW_SWITCH, LW_SYSCALL};
 ghost use Rattle.lwc_base.specs.declared.descriptor.TheConstants.{SLOTS};
 ghost use Rattle.lwc_base.specs.declared.key.TheConstants.{NOBODY};
-ghost use Rattle.lwc_base.specs.declared.limits.TheConstants.{MOST_BUDGET, MOST_BYTES_OF_CALL, MOST_CONSOLE_BYTES, MOST_CONTEXTS, MOST_CONTEXTS_OF_JOB, MOST_FILES, MOST_FILE_BYTES, MOST_FRAMES, MOST_GROUPS, MOST_GROUPS_OF_JOB, MOST_IMAGE_BYTES, MOST_IMAGE_SLOTS, MOST_INSTRUCTIONS, MOST_ITEMS, MOST_JOBS, MOST_PAGES, MOST_RANGES, MOST_REPLY_BYTES, MOST_REQUESTS, MOST_REQUEST_BYTES, MOST_ROOTS, MOST_SCHEDULE_BYTES, MOST_STEPS, MOST_THREADS};
 ghost use Rattle.lwc_base.specs.declared.page.TheConstants.{PAGE_BYTES};
 
 /// A law: the numbers behind the names that definitions use for limits. A change of one of these constants
@@ -36,6 +35,7 @@ pub fn limits_are_as_documented()
     ensures bytes_of_call { MOST_BYTES_OF_CALL ≡ 4096 }
     ensures console_bytes { MOST_CONSOLE_BYTES ≡ 65536 }
     ensures reply_bytes { MOST_REPLY_BYTES ≡ 4096 }
+    ensures request_file_bytes { MOST_REQUEST_FILE_BYTES ≡ 8390656 }
     ensures requests { MOST_REQUESTS ≡ 1024 }
     ensures request_bytes { MOST_REQUEST_BYTES ≡ 4096 }
     ensures schedule_bytes { MOST_SCHEDULE_BYTES ≡ 2 ^ 24 }
