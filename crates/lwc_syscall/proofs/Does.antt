@@ -50,7 +50,7 @@ stored-cases w m job at bytes = grind arith
 -- what is so of the slots of the three contexts
 pub record Ready (w : World) (io : Channels) (three : Three) : Type 0 where
   pub live : is_live w three.slots ≡ true
-  pub known : (n : ℕ) → n < SLOTS → IsKnown w io (slot_at w three.slots n)
+  pub known : (n : ℕ) → n < SLOTS → IsKnown w io three.slots (slot_at w three.slots n)
   pub lowest : (n : ℕ) → lowest_empty w three.slots ≡ Some n → n < SLOTS
 
 -- what a call does by its outcome
@@ -59,7 +59,7 @@ Does w io three job outcome = IsPlainChange w io three job outcome.world outcome
 
 module _ (w : World) (io : Channels) (three : Three) (job : ℕ) (ready : Ready w io three) where
   -- what is found under a number is known
-  found-known : (n : ℕ) → IsKnown w io (descriptor_for w three.slots n)
+  found-known : (n : ℕ) → IsKnown w io three.slots (descriptor_for w three.slots n)
   unfolding descriptor_for
   found-known n = let known = ready.known n in grind (arith, nat_tests)
 
@@ -71,10 +71,10 @@ module _ (w : World) (io : Channels) (three : Three) (job : ℕ) (ready : Ready 
   closing-does : (n : ℕ) → Does w io three job (closing w io three.slots n)
   closing-does n =
       ended-cases (Does w io three job) w io (close_refusals w three.slots n) (answering 0 (put_slot w three.slots n Empty) io) (λ _. Nothing)
-      (λ passed. SlotPut n Empty (found-slot n (grind arith)) (record { in_range = tt; named = λ d is. grind arith }))
+      (λ passed. SlotPut n Empty (found-slot n (grind arith)) (record { in_range = tt; named = λ d is. grind arith; own = λ keeps. tt }))
 
   placed-does : (value : Descriptor) (rows : List (Bool × Refusal)) → (first_refusal rows ≡ None → is_none (lowest_empty w three.slots) ≡ false) →
-      (first_refusal rows ≡ None → IsKnown w io value) → Does w io three job (ended w io rows (placed w io three.slots value))
+      (first_refusal rows ≡ None → IsKnown w io three.slots value) → Does w io three job (ended w io rows (placed w io three.slots value))
   placed-does value rows some known =
       ended-cases (Does w io three job) w io rows (placed w io three.slots value) (λ _. Nothing)
       (λ passed. SlotPut (unwrap_or (lowest_empty w three.slots) 0) value (let lowest = ready.lowest in let there = some passed in grind arith) (known passed))
@@ -83,8 +83,8 @@ module _ (w : World) (io : Channels) (three : Three) (job : ℕ) (ready : Ready 
   copying-does n = placed-does (descriptor_for w three.slots n) (copy_refusals w three.slots n) (λ passed. grind arith) (λ passed. found-known n)
 
   -- a file that is there is in range at its beginning
-  file-known : (file : ℕ) → file < length io.files → IsKnown w io (File file 0)
-  file-known file there = record { in_range = record { there = simp length-map there; within = omega arith }; named = λ d is. grind arith }
+  file-known : (file : ℕ) → file < length io.files → IsKnown w io three.slots (File file 0)
+  file-known file there = record { in_range = record { there = simp length-map there; within = omega arith }; named = λ d is. grind arith; own = λ keeps. tt }
 
   opening-does : (file : ℕ) → Does w io three job (opening w io three file)
   opening-does file = placed-does (File file 0) (open_refusals w io three file) (λ passed. grind arith) (λ passed. file-known file (grind (arith, nat_tests)))
@@ -107,18 +107,20 @@ module _ (w : World) (io : Channels) (three : Three) (job : ℕ) (ready : Ready 
       (λ passed. Written value (unwrap_or bytes []))
 
   -- a descriptor that has been read on, at most as far as bytes are left, is known
-  on-known : (value : Descriptor) (count : ℕ) → count ≤ length (unwrap_or (left io value) []) → IsKnown w io value → IsKnown w io (read_on count value)
+  on-known : (value : Descriptor) (count : ℕ) → count ≤ length (unwrap_or (left io value) []) → IsKnown w io three.slots value → IsKnown w io three.slots (read_on count value)
   on-known (File file at) count few known =
       let range = known.in_range in
       record {
         in_range = record { there = range.there; within = let within = range.within in omega (arith, length-drop at (bytes_in (contents io.files) file)) };
         named = λ d is. grind arith;
+        own = λ keeps. tt;
       }
   on-known (Request r at) count few known =
       let range = known.in_range in
       record {
         in_range = record { there = range.there; within = let within = range.within in omega (arith, length-drop at (bytes_in io.requests r)) };
         named = λ d is. grind arith;
+        own = λ keeps. tt;
       }
   on-known Empty count few known = known
   on-known Console count few known = known
@@ -127,7 +129,7 @@ module _ (w : World) (io : Channels) (three : Three) (job : ℕ) (ready : Ready 
 
   -- what a read does once its bytes are stored
   done-does : (stored : Stored) (piece : Piece) (n : ℕ) (value : Descriptor) → is_absent stored ≡ false → is_full stored ≡ false →
-      (stored ≡ stores.Done w) ⊎ ((stored ≡ stores.Absent) ⊎ (stored ≡ store w three.memory job piece)) → length piece.bytes ≤ MOST_BYTES_OF_CALL → n < SLOTS → IsKnown w io value →
+      (stored ≡ stores.Done w) ⊎ ((stored ≡ stores.Absent) ⊎ (stored ≡ store w three.memory job piece)) → length piece.bytes ≤ MOST_BYTES_OF_CALL → n < SLOTS → IsKnown w io three.slots value →
       IsPlainChange w io three job (put_slot (world_after w stored) three.slots n value) io
   done-does stores.Absent piece n value there room by short within known = absurd (grind arith)
   done-does stores.Full piece n value there room by short within known = absurd (grind arith)

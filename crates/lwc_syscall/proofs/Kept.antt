@@ -20,7 +20,7 @@ use Rattle.lwc_base.specs.declared.key.Key.TheVariants.{Slot, Cred}
 use Rattle.lwc_base.specs.declared.limits.TheConstants.{MOST_BYTES_OF_CALL}
 use Rattle.lwc_base.specs.declared.name.Name.{Name}
 use Rattle.lwc_base.specs.declared.page.TheConstants.{PAGE_BYTES}
-use Rattle.lwc_syscall.specs.Changes.{IsKnown, IsPlainChange, IsWell, KeepsNumbers, Mapped, Nothing, Read, SlotPut, UidPut, Written}
+use Rattle.lwc_syscall.specs.Changes.{IsPlainChange, IsWell, KeepsNumbers, Mapped, Nothing, Read, SlotPut, UidPut, Written}
 use Rattle.lwc_syscall.specs.Plain.{written}
 use Rattle.lwc_syscall.specs.declared.calls.Three.{Three}
 
@@ -44,7 +44,7 @@ pub record KeepFacts : Type 0 where
   pub files_store : (io : Channels) (w : World) (c : Name) (job : ℕ) (piece : Piece) → HasItsFiles io w → HasItsFiles io (after_store w c job piece)
 
 -- a store that is done leaves what stores do
-store-done : (w v : World) (c : Name) (job : ℕ) (piece : Piece) → store w c job piece ≡ Done v → v ≡ after_store w c job piece
+pub store-done : (w v : World) (c : Name) (job : ℕ) (piece : Piece) → store w c job piece ≡ Done v → v ≡ after_store w c job piece
 unfolding store
 store-done w v c job piece is = grind arith
 
@@ -61,11 +61,11 @@ few_parting w c piece few =
     omega (arith, count_by-le-length (λ p. is_parting w (page_value_at w c p)) (touched piece.at (length piece.bytes)), two_touched piece.at (length piece.bytes) few)
 
 module _ (facts : KeepFacts) where
-  well-slot : (w : World) (io : Channels) (c : Name) (n : ℕ) (value : Descriptor) → IsKnown w io value → IsWell w io → IsWell (put_slot w c n value) io
-  well-slot w io c n value known well = record {
+  well-slot : (w : World) (io : Channels) (c : Name) (n : ℕ) (value : Descriptor) → IsInRange io value → ((d : Name) → is_of d value ≡ true → is_live w d ≡ true) → IsWell w io → IsWell (put_slot w c n value) io
+  well-slot w io c n value range named well = record {
     sound = facts.sound_slot w c n value well.sound;
-    named = facts.named_slot w c n value known.named well.named;
-    files = facts.files_slot io w c n value known.in_range well.files;
+    named = facts.named_slot w c n value named well.named;
+    files = facts.files_slot io w c n value range well.files;
   }
 
   well-store : (w v : World) (io : Channels) (c : Name) (job : ℕ) (piece : Piece) → is_live w c ≡ true → store w c job piece ≡ Done v → IsWell w io → IsWell v io
@@ -80,9 +80,8 @@ module _ (facts : KeepFacts) where
   takes-store : (w v : World) (c : Name) (job : ℕ) (piece : Piece) → store w c job piece ≡ Done v → TakesTags w job (parting_count w c piece) v
   takes-store w v c job piece is = subst (TakesTags w job (parting_count w c piece)) (sym (store-done w v c job piece is)) (facts.changes.stored w c job piece)
 
-  known-store : (w v : World) (io : Channels) (c : Name) (job : ℕ) (piece : Piece) (value : Descriptor) → store w c job piece ≡ Done v → IsKnown w io value → IsKnown v io value
-  known-store w v io c job piece value is known =
-      let takes = takes-store w v c job piece is in record { in_range = known.in_range; named = λ d of. takes.live d ∙ known.named d of }
+  named-store : (w v : World) (c : Name) (job : ℕ) (piece : Piece) (d : Name) → store w c job piece ≡ Done v → is_live w d ≡ true → is_live v d ≡ true
+  named-store w v c job piece d is live = let takes = takes-store w v c job piece is in takes.live d ∙ live
 
   well-mapped : (w : World) (io : Channels) (c : Name) (from to : ℕ) (present : Bool) → to ≤ w.size.pages → IsWell w io → IsWell (mapped_or_not w c from to present) io
   well-mapped w io c from to true few well =
@@ -100,7 +99,7 @@ module _ (facts : KeepFacts) where
 
   pub well-change : (w : World) (io : Channels) (three : Three) (job : ℕ) (v : World) (after : Channels) → IsPlainChange w io three job v after → is_live w three.memory ≡ true → IsWell w io → IsWell v after
   well-change w io three job v after Nothing live well = well
-  well-change w io three job v after (SlotPut n value within known) live well = well-slot w io three.slots n value known well
+  well-change w io three job v after (SlotPut n value within known) live well = well-slot w io three.slots n value known.in_range known.named well
   well-change w io three job v after (UidPut uid) live well = record {
     sound = facts.sound_uid w three.cred uid well.sound;
     named = facts.named_uid w three.cred uid well.named;
@@ -108,7 +107,7 @@ module _ (facts : KeepFacts) where
   }
   well-change w io three job v after (Mapped from to present few) live well = well-mapped w io three.memory from to present few well
   well-change w io three job v after (Read u piece n value short is within known) live well =
-      well-slot u io three.slots n value (known-store w u io three.memory job piece value is known) (well-store w u io three.memory job piece live is well)
+      well-slot u io three.slots n value known.in_range (λ d of. named-store w u three.memory job piece d is (known.named d of)) (well-store w u io three.memory job piece live is well)
   well-change w io three job v after (Written value bytes) live well = well-written w io value bytes well
 
   -- names that are kept keep numbers

@@ -1,6 +1,7 @@
 pub mod Covered
 pub mod Does
 pub mod Filled
+pub mod Jobs
 pub mod Kept
 pub mod Refused
 pub mod Syscalls

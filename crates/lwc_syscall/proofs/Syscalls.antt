@@ -5,6 +5,7 @@ use Rattle.std.specs.Prelude.{if◌then◌else◌, slice_index}
 use Rattle.access_cap.specs.Kinds.{is_chosen}
 use Rattle.guest_call.specs.Guest.{descriptor_for, link_of, slot_refusals}
 use Rattle.lwc_base.specs.Channels.{Channels, HasItsFiles}
+use Rattle.lwc_base.specs.Jobs.{NamesKeepToJobs}
 use Rattle.lwc_base.specs.Life.{HasItsContexts, links}
 use Rattle.lwc_base.specs.Refusals.{first_refusal}
 use Rattle.lwc_base.specs.Sound.{IsSound}
@@ -76,6 +77,10 @@ module _ (facts : OverFacts) (w : World) (io : Channels) (c : Name) (job : ℕ) 
   inputs-over =
       over-cases (λ o. (o.io.files ≡ io.files) × (o.io.requests ≡ io.requests)) (λ o _ same. (ap (λ (x : Channels). x.files) same, ap (λ (x : Channels). x.requests) same))
       (λ is. facts.inputs w io (three_of w c regs) job _ _ (inner-does is))
+
+  pub jobs-over : ((v : World) (after : Channels) → IsPlainChange w io (three_of w c regs) job v after → NamesKeepToJobs w → NamesKeepToJobs v) → NamesKeepToJobs w →
+      NamesKeepToJobs (lw_syscall w io c job regs).world
+  jobs-over change keeps = over-cases (λ o. NamesKeepToJobs o.world) (λ o same _. subst NamesKeepToJobs (sym same) keeps) (λ is. change _ _ (inner-does is) keeps)
 
   pub well-over : IsSound w → IsWell (lw_syscall w io c job regs).world (lw_syscall w io c job regs).io
   well-over sound =

@@ -7,6 +7,7 @@ use Rattle.guest_call.specs.Guest.{descriptor_for}
 use Rattle.lwc_base.specs.Cells.{put_slot, put_uid, slot_at, value_at}
 use Rattle.lwc_base.specs.Channels.{Channels, HasItsFiles, IsInRange}
 use Rattle.lwc_base.specs.Clones.{AreApart}
+use Rattle.lwc_base.specs.Jobs.{IsOwnName, NamesKeepToJobs}
 use Rattle.lwc_base.specs.Life.{HasItsContexts, is_of}
 use Rattle.lwc_base.specs.Mapping.{mapped_or_not}
 use Rattle.lwc_base.specs.Memory.{touched}
@@ -25,21 +26,23 @@ use Rattle.lwc_syscall.specs.declared.calls.Three.{Three}
 use Rattle.lwc_syscall.specs.Plain.{Outcome, moved, written}
 use Rattle.lwc_syscall.specs.declared.answer.CallAnswer.TheVariants.{Refused}
 
--- a descriptor that may be in a slot: it is in range, and each context that it is of is live
-pub record IsKnown (w : World) (io : Channels) (value : Descriptor) : Type 0 where
+-- a descriptor that may be in a slot of a context: it is in range, each context that it is of is live, and it is of the
+-- context's own job where names keep to their jobs
+pub record IsKnown (w : World) (io : Channels) (c : Name) (value : Descriptor) : Type 0 where
   pub in_range : IsInRange io value
   pub named : (d : Name) → is_of d value ≡ true → is_live w d ≡ true
+  pub own : NamesKeepToJobs w → IsOwnName c.job value
 
 -- what a plain call may do over three contexts: nothing, a put, a mapping, a store and a put, or a write
 pub data IsPlainChange (w : World) (io : Channels) (three : Three) (job : ℕ) : World → Channels → Type 0 where
   Nothing : IsPlainChange w io three job w io
-  SlotPut : (n : ℕ) (value : Descriptor) → n < SLOTS → IsKnown w io value →
+  SlotPut : (n : ℕ) (value : Descriptor) → n < SLOTS → IsKnown w io three.slots value →
       IsPlainChange w io three job (put_slot w three.slots n value) io
   UidPut : (uid : ℕ) → IsPlainChange w io three job (put_uid w three.cred uid) io
   Mapped : (from to : ℕ) (present : Bool) → to ≤ w.size.pages →
       IsPlainChange w io three job (mapped_or_not w three.memory from to present) io
   Read : (v : World) (piece : Piece) (n : ℕ) (value : Descriptor) → length piece.bytes ≤ MOST_BYTES_OF_CALL →
-      store w three.memory job piece ≡ Done v → n < SLOTS → IsKnown w io value →
+      store w three.memory job piece ≡ Done v → n < SLOTS → IsKnown w io three.slots value →
       IsPlainChange w io three job (put_slot v three.slots n value) io
   Written : (value : Descriptor) (bytes : List ℕ) → IsPlainChange w io three job w (written io value bytes)
 

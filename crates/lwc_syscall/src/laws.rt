@@ -3,6 +3,7 @@
 ghost use Rattle.std.specs.Prelude.{◌≡◌, ◌⊎◌, ℕ, List, None, true};
 ghost use Rattle.lwc_base.specs.Capabilities.{has_key};
 ghost use Rattle.lwc_base.specs.Channels.{Channels, HasItsFiles};
+ghost use Rattle.lwc_base.specs.Jobs.{NamesKeepToJobs};
 ghost use Rattle.lwc_base.specs.Life.{HasItsContexts};
 ghost use Rattle.lwc_base.specs.Modes.{IsKey};
 ghost use Rattle.lwc_base.specs.Refusals.{first_refusal};
@@ -18,12 +19,13 @@ ghost use Rattle.lwc_syscall.specs.declared.calls.Three.{Three};
 use guest_call::laws::{a_descriptor_in_a_slot_is_a_link, a_put_leaves_the_rest};
 use lwc_base::laws::{
     a_put_changes_one_key, changes_leave_the_rest, contexts_keep_the_contexts_that_they_name,
-    descriptors_stay_in_range, names_are_ordered, sound_worlds_stay_sound,
-    the_lowest_empty_slot_is_empty, what_is_apart_stays_apart,
+    descriptors_stay_in_range, names_are_ordered, names_keep_to_their_jobs,
+    sound_worlds_stay_sound, the_lowest_empty_slot_is_empty, what_is_apart_stays_apart,
 };
 
 /// A plain call does at most one thing: a put under a slot or of the credential, a mapping, a store and then
-/// a put, or a write. A descriptor that it puts is in range, and of a live context if it is of one.
+/// a put, or a write. A descriptor that it puts is in range, and of a live context if it is of one; of the job's own,
+/// where names keep to their jobs.
 pub fn a_plain_call_does_one_thing()
     ensures { (w : World) (io : Channels) (three : Three) (job call : ℕ) (args : List ℕ) → HasItsContexts w →
         HasItsFiles io w → is_live w three.slots ≡ true → IsPlainChange w io three job
@@ -31,6 +33,7 @@ pub fn a_plain_call_does_one_thing()
 {
     contexts_keep_the_contexts_that_they_name();
     descriptors_stay_in_range();
+    names_keep_to_their_jobs();
     the_lowest_empty_slot_is_empty();
 }
 
@@ -95,6 +98,20 @@ pub fn a_syscall_keeps_the_world_well()
     a_descriptor_in_a_slot_is_a_link();
     a_plain_call_does_one_thing();
     a_plain_call_keeps_the_world_well();
+}
+
+/// What a job's contexts and groups name is of that job after a plain call, and after a call over the contexts that a
+/// mask chooses, if it was so before.
+pub fn calls_keep_names_to_their_jobs()
+    ensures plain { (w : World) (io : Channels) (three : Three) (job : ℕ) (v : World) (after : Channels) →
+        IsPlainChange w io three job v after → NamesKeepToJobs w → NamesKeepToJobs v }
+    ensures syscall { (w : World) (io : Channels) (c : Name) (job : ℕ) (regs : Regs) → is_live w c ≡ true →
+        IsWell w io → NamesKeepToJobs w → NamesKeepToJobs (lw_syscall w io c job regs).world }
+{
+    a_descriptor_in_a_slot_is_a_link();
+    a_plain_call_does_one_thing();
+    a_plain_call_keeps_the_world_well();
+    names_keep_to_their_jobs();
 }
 
 /// A call that is refused changes nothing.

@@ -8,6 +8,7 @@ returns c = λ w io three job call args named files live.
       known = λ n within. record {
         in_range = c.descriptors_stay_in_range.ensures.read io w three.slots n live files;
         named = λ d is. c.contexts_keep_the_contexts_that_they_name.ensures.named w three.slots d n named live within is;
+        own = c.names_keep_to_their_jobs.ensures.read w three.slots n live;
       };
       lowest = c.the_lowest_empty_slot_is_empty.ensures.within w three.slots;
     }) call args
