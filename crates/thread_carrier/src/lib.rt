@@ -2,5 +2,7 @@
 #![tactic(auto)]
 
 mod carrier;
+mod running;
 
 pub use carrier::{Carrier, carry, carry_all};
+pub use running::run_threads;

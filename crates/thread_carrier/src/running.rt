@@ -1,0 +1,74 @@
+ghost use Rattle.std.specs.Prelude.{◌≡◌, ◌<◌, ◌≤◌, ◌^◌, [], All, IfOk, length, map, true, vec_capacity};
+ghost use Rattle.kernel_core.specs.Histories.{IsComplete};
+ghost use Rattle.kernel_core.specs.Kernel.{machine_of};
+ghost use Rattle.kernel_core.specs.Machine.{work};
+ghost use Rattle.kernel_core.specs.Start.{start};
+
+use crate::carrier::{Carrier, carry_all};
+use kernel_core::Kernel;
+use lwc_base::OutOfMemory;
+use lwc_io::Gate;
+use process_core::{Process, ProcessPasses};
+use std::alloc::Global;
+use std::sync::Wait;
+use std::thread::Threads;
+use world_face::World;
+
+/// Runs all threads of a kernel that was just opened, each by a worker of its own to its end, and gives the kernel back.
+/// The steps that it has kept then are a legal history after which every thread has ended. It may wait, and comes to the
+/// gate before each turn. All memory is taken before the first step.
+///
+/// # Errors
+///
+/// The only error is out of memory; the kernel is then given up, and no step was made.
+pub fn run_threads<R: Threads + Wait + Sync, W: World, G: Gate>(
+    rt: &R,
+    alloc: Global,
+    kernel: Kernel<W>,
+    gate: &G,
+) -> Result<Kernel<W>, OutOfMemory>
+    requires roomy { W.roomy ≡ true }
+    requires leave { G.leave gate.now }
+    requires fresh { kernel.steps ≡ [] }
+    requires room { work (machine_of kernel) ≤ kernel.room }
+    ensures inputs { IfOk result (λ after. after.inputs ≡ kernel.inputs) }
+    ensures complete { IfOk result (λ after. IsComplete (start kernel.inputs) after.steps) }
+{
+    let (process, passes) = Process::open(alloc, kernel)?;
+    let taken = Vec::with_capacity(alloc, passes.len())?;
+    let mut carriers = carriers_of(alloc, passes)?;
+    carry_all(rt, &process, carriers.as_mut_slice(), gate);
+    Ok(process.close(passes_of(carriers, taken)))
+}
+
+/// A carrier for each pass, which has made no turn. The only error is out of memory.
+fn carriers_of<W: World>(
+    alloc: Global,
+    mut passes: ProcessPasses<W>,
+) -> Result<Vec<Carrier<W>>, OutOfMemory>
+    ensures passes { IfOk result (λ carriers. map (λ c. c.pass) carriers.items ≡ passes.items) }
+    ensures turns { IfOk result (λ carriers. All (λ c. c.turns < 2 ^ 63) carriers.items) }
+{
+    let mut carriers = Vec::with_capacity(alloc, passes.len())?;
+    'passes: while !passes.is_empty() {
+        let pass = passes.remove(0);
+        carriers.push_reserved(Carrier { pass, turns: 0 });
+    }
+    Ok(carriers)
+}
+
+/// The passes of carriers, in their order.
+fn passes_of<W: World>(
+    mut carriers: Vec<Carrier<W>>,
+    mut taken: ProcessPasses<W>,
+) -> ProcessPasses<W>
+    requires empty { taken.items ≡ [] }
+    requires room { length carriers.items ≤ vec_capacity taken }
+    ensures { result.items ≡ map (λ c. c.pass) carriers.items }
+{
+    'carriers: while !carriers.is_empty() {
+        let Carrier { pass, turns: _ } = carriers.remove(0);
+        taken.push_reserved(pass);
+    }
+    taken
+}
