@@ -21,12 +21,12 @@ use Rattle.lwc_base.specs.declared.descriptor.Descriptor.TheVariants.{Console, E
 use Rattle.lwc_base.specs.declared.key.Key.TheVariants.{Slot}
 use Rattle.lwc_base.specs.declared.name.Name.{Name}
 
-none_of : (test : ℕ → Bool) (ns : List ℕ) → ((n : ℕ) → test n ≡ false) → list_any test ns ≡ false
+pub none_of : (test : ℕ → Bool) (ns : List ℕ) → ((n : ℕ) → test n ≡ false) → list_any test ns ≡ false
 none_of test [] fails = refl
 none_of test (n ∷ ns) fails = let here = fails n in let rest = none_of test ns fails in grind arith
 
 -- a slot at the start is of no context
-not_of : (d : Name) (image : Image) (n : ℕ) → is_of d (cond (ltb n 64) (first_slot image.slots n) Empty) ≡ false
+pub not_of : (d : Name) (image : Image) (n : ℕ) → is_of d (cond (ltb n 64) (first_slot image.slots n) Empty) ≡ false
 unfolding first_slot
 not_of d image n = by_number (ltb n 64)
   where
@@ -52,11 +52,11 @@ module _ (facts : WorldFacts) (frames tags : ℕ) where
       by_name true same live = same_name facts.orders c first_name same
       by_name false other live = absurd (false≢true live)
 
-  pub reaped_first : (x : Context) (budget : ℕ) (entries : List ℕ) → 1 ≤ length entries → IsReaped (world_with frames tags x) (roots (first_threads budget entries))
+  pub reaped_first : (x : Context) (budget : ℕ) (entries : List ℕ) → 1 ≤ length entries → IsReaped (world_with frames tags x) (roots (first_threads budget entries) None)
   unfolding world_with first_threads
   reaped_first x budget [] some = absurd (omega arith)
   reaped_first x budget (e ∷ es) some = record {
-    contexts = λ c live. Root c (ap (λ n. is_among (roots (first_threads budget (e ∷ es))) n) (only_first x c live));
+    contexts = λ c live. Root c (ap (λ n. is_among (roots (first_threads budget (e ∷ es)) None) n) (only_first x c live));
     groups = λ g live. absurd (false≢true (sym (ap is_some (fm.get-empty name_cmp g)) ∙ live));
   }
 

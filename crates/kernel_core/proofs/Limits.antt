@@ -13,6 +13,7 @@ use Rattle.lwc_base.specs.Names.{name_cmp}
 use Rattle.lwc_base.specs.World.{World, groups_of, live_of}
 use Rattle.lwc_base.specs.declared.name.Name.{Name}
 use Rattle.lwc_create.specs.Create.{HasPlaces}
+use Rattle.world_face.specs.Calls.{HasPlace}
 
 abbrev num : Bool → ℕ
 num b = cond b 1 0
@@ -68,24 +69,29 @@ fewer_in_all f most job (j ∷ jobs) (suc k) within is each fewer =
 pub length_of_keys : {X : Type 0} (m : fm.FinMap name_cmp X) → fm.len m ≡ length (fm.keys m)
 length_of_keys m = fm.len-entries m ∙ sym (length-map (fm.entries m) (λ e. e.0))
 
+-- within the limits there is a place for one more context
+pub has_place : (name_itself : (c : Name) → eq_by_cmp name_cmp c c ≡ true) (frames : ℕ) (w : World) (jobs : List ℕ) → w.size ≡ world_size frames → IsWithinLimits w jobs → length jobs ≤ 16 → HasPlace w
+unfolding live_of
+has_place itself frames w jobs size limits few =
+    let names = few_names itself (fm.keys w.contexts) (0 ∷ jobs) (λ q live. limits.contexts q (fm.contains_key-keys w.contexts q ∙ live)) in
+    omega (
+      arith,
+      length_of_keys w.contexts,
+      names,
+      sum_by-cons (borne (fm.keys w.contexts)) 0 jobs,
+      limits.homes,
+      few_in_all (borne (fm.keys w.contexts)) 32 jobs limits.few_contexts,
+      ap (λ s. s.contexts) size,
+    )
+
 -- there are places for a job's next context and group
 pub has_places : (name_itself : (c : Name) → eq_by_cmp name_cmp c c ≡ true) (frames job : ℕ) (w : World) (jobs : List ℕ) → w.size ≡ world_size frames →
     IsWithinLimits w jobs → length jobs ≤ 16 → Contains jobs job → HasPlaces w job
-unfolding live_of groups_of
+unfolding groups_of
 has_places itself frames job w jobs size limits few there = record {
-  context = λ fewer.
-      let names = few_names itself (fm.keys w.contexts) (0 ∷ jobs) (λ q live. limits.contexts q (fm.contains_key-keys w.contexts q ∙ live)) in
-      omega (
-        arith,
-        length_of_keys w.contexts,
-        names,
-        sum_by-cons (borne (fm.keys w.contexts)) 0 jobs,
-        limits.homes,
-        few_in_all (borne (fm.keys w.contexts)) 32 jobs limits.few_contexts,
-        ap (λ s. s.contexts) size,
-      );
+  context = λ fewer. has_place itself frames w jobs size limits few;
   group = λ fewer.
-      let names = few_names itself (fm.keys w.groups) jobs (λ q live. limits.groups q (fm.contains_key-keys w.groups q ∙ live)) in
+      let names = few_names itself (fm.keys w.groups) jobs (λ q live. (limits.groups q (fm.contains_key-keys w.groups q ∙ live)).0) in
       omega (
         arith,
         length_of_keys w.groups,
@@ -94,3 +100,10 @@ has_places itself frames job w jobs size limits few there = record {
         ap (λ s. s.groups) size,
       );
 }
+
+-- of a job that none of them bears there are none
+pub none_borne : (name_itself : (c : Name) → eq_by_cmp name_cmp c c ≡ true) (job : ℕ) (names : List Name) → ((q : Name) → list_any (eq_by_cmp name_cmp q) names ≡ true → eqb q.job job ≡ false) → borne names job ≡ 0
+none_borne itself job [] each = refl
+none_borne itself job (c ∷ names) each =
+    let here : eqb c.job job ≡ false = each c (ap (λ b. b || list_any (eq_by_cmp name_cmp c) names) (itself c)) in
+    omega (arith, counted_first job c names, ap num here, none_borne itself job names (λ q there. each q (either (eq_by_cmp name_cmp q c) _ there)))

@@ -6,14 +6,13 @@ use Rattle.std.proofs.lemmas.Bool.Decides.{nat_tests}
 use Rattle.guest_isa.specs.declared.instr.Instr.{Instr}
 use Rattle.guest_isa.specs.declared.op.Op.{Op}
 use Rattle.guest_isa.specs.declared.op.Op.TheVariants.{Ldb, Ldw, Stb, Stw, Sys, Halt}
-use Rattle.guest_machine.specs.Advances.{advanced}
 use Rattle.guest_machine.specs.declared.progress.Advance.{Advance}
 use Rattle.guest_machine.specs.declared.progress.Next.{Next}
 use Rattle.guest_machine.specs.declared.progress.Next.TheVariants.{Shared, Pause, BadPc}
 use Rattle.kernel_core.proofs.Worlds.{Grows, WorldFacts, grows_created, grows_more, grows_not, grows_numbers, grows_overlay, grows_slot, grows_store, grows_switched, well_created, well_slot, well_store, well_switched}
-use Rattle.kernel_core.specs.Machine.{Environment, steps_left}
-use Rattle.kernel_core.specs.Ready.{IsReadyThread, IsRunnable, IsWithinLimits, WhileRunning}
-use Rattle.kernel_core.specs.Step.{Outcome, advance_outcome, args_of, beside, call_outcome, create_outcome, faulted, guest_calls, is_aligned, loaded, next_outcome, overlay_outcome, plain_outcome, plainly, refused, restrict_outcome, shared_outcome, status_with, store_outcome, stored_outcome, switch_outcome, switched, syscall_outcome, thread_outcome, three_times, unchanged, with_regs, with_result, with_status, with_world, word_outcome}
+use Rattle.kernel_core.specs.Machine.{Environment, has_ended, steps_left}
+use Rattle.kernel_core.specs.Ready.{IsReadyThread, IsRunnable, IsWithinLimits, KeepsContexts, WhileRunning}
+use Rattle.kernel_core.specs.Step.{Outcome, advance_outcome, args_of, beside, call_outcome, create_outcome, faulted, guest_calls, is_aligned, loaded, next_outcome, overlay_outcome, plain_outcome, plainly, refused, restrict_outcome, shared_outcome, status_with, store_outcome, stored_outcome, switch_outcome, switched, syscall_outcome, three_times, unchanged, with_regs, with_result, with_status, with_world, word_outcome}
 use Rattle.kernel_core.specs.declared.calling.TheConstants.{LW_CREATE, LW_OVERLAY, LW_RESTRICT, LW_SWITCH, LW_SYSCALL}
 use Rattle.kernel_core.specs.declared.thread.Thread.{Thread}
 use Rattle.lwc_base.specs.Life.{is_of}
@@ -62,13 +61,13 @@ record Ends (job : ℕ) (e : Environment) (outcome : Outcome) : Type 0 where
 -- the thread keeps its job, and may make no more steps; the rest is so where the world was well, and the thread's context was live
 record Acts (e : Environment) (x : Thread) (outcome : Outcome) : Type 0 where
   job : outcome.thread.job ≡ x.job
-  left : (n : ℕ) → steps_left n outcome.thread.status ≤ steps_left n x.status
+  left : (more n : ℕ) → steps_left more n outcome.thread.status ≤ steps_left more n x.status
   ends : IsWell e.world e.channels → is_live e.world x.context ≡ true → Ends x.job e outcome
 
-same_world : (job : ℕ) (e : Environment) → IsWell e.world e.channels → Changes job e e
+pub same_world : (job : ℕ) (e : Environment) → IsWell e.world e.channels → Changes job e e
 same_world job e well = record { grows = grows_not job 2 e.world; well = well; inputs = (refl, refl) }
 
-acts_unchanged : (e : Environment) (x y : Thread) → y.context ≡ x.context → y.job ≡ x.job → ((n : ℕ) → steps_left n y.status ≤ steps_left n x.status) → Acts e x (unchanged e y)
+acts_unchanged : (e : Environment) (x y : Thread) → y.context ≡ x.context → y.job ≡ x.job → ((more n : ℕ) → steps_left more n y.status ≤ steps_left more n x.status) → Acts e x (unchanged e y)
 acts_unchanged e x y context job left = record {
   job = job;
   left = left;
@@ -76,10 +75,10 @@ acts_unchanged e x y context job left = record {
 }
 
 acts_regs : (e : Environment) (x : Thread) (regs : Regs) → Acts e x (unchanged e (with_regs x regs))
-acts_regs e x regs = acts_unchanged e x (with_regs x regs) refl refl (λ n. omega arith)
+acts_regs e x regs = acts_unchanged e x (with_regs x regs) refl refl (λ more n. omega arith)
 
 acts_faulted : (e : Environment) (x : Thread) (f : Fault) → Acts e x (unchanged e (faulted x f))
-acts_faulted e x f = acts_unchanged e x (faulted x f) refl refl (λ n. omega arith)
+acts_faulted e x f = acts_unchanged e x (faulted x f) refl refl (λ more n. omega arith)
 
 acts_loaded : (e : Environment) (x : Thread) (d : ℕ) (found : Option ℕ) → Acts e x (unchanged e (loaded x d found))
 acts_loaded e x d None = acts_faulted e x fault.BadLoad
@@ -96,7 +95,7 @@ module _ (facts : WorldFacts) where
   acts_stored e x Full changes = acts_faulted e x fault.NoFrame
   acts_stored e x (Done v) changes = record {
     job = refl;
-    left = λ n. omega arith;
+    left = λ more n. omega arith;
     ends = λ well live. let done = changes v refl well live in record { changes = done; live = done.grows.live x.context live };
   }
 
@@ -123,7 +122,7 @@ module _ (facts : WorldFacts) where
   acts_ended e x slot (Some r) is = acts_regs e x (with_result x.regs 0 _)
   acts_ended e x slot None is = record {
     job = refl;
-    left = λ n. omega arith;
+    left = λ more n. omega arith;
     ends = λ well live.
         let items = items_of e.world x.context x.regs in
         let spec = facts.creates.spec e.world x.context x.job x.regs is in
@@ -151,7 +150,7 @@ module _ (facts : WorldFacts) where
       subst (λ (u : World). Acts e x (unchanged (with_world e u) (refused x r))) (sym (stays r refl)) (acts_regs e x (with_result x.regs 0 _))
   acts_answered e x (answers.Done regs) v stays changes = record {
     job = refl;
-    left = λ n. omega arith;
+    left = λ more n. omega arith;
     ends = λ well live. let done = changes regs refl well live in record { changes = done; live = done.grows.live x.context live };
   }
 
@@ -217,7 +216,7 @@ module _ (facts : WorldFacts) where
       subst (λ (u : World). Acts e x (unchanged (with_world e u) (refused x r))) (sym same) (acts_regs e x (with_result x.regs 0 _))
   acts_moved t e x (moved.To d regs) v is = record {
     job = refl;
-    left = λ n. omega arith;
+    left = λ more n. omega arith;
     ends = λ well live.
         let went : IsSwitch e.world v x.context d t x.regs regs = facts.switches e.world v x.context d t x.regs regs well.named live is in
         let grows = grows_switched facts x.job e.world x.context d t _ went.slot _ in
@@ -248,17 +247,17 @@ module _ (facts : WorldFacts) where
   acts_plainly : (e f : Environment) (x : Thread) (answer : CallAnswer) → (IsWell e.world e.channels → is_live e.world x.context ≡ true → Changes x.job e f) → Acts e x (unchanged f (plainly x answer))
   acts_plainly e f x (Value value) changes = record {
     job = refl;
-    left = λ n. omega arith;
+    left = λ more n. omega arith;
     ends = λ well live. let done = changes well live in record { changes = done; live = done.grows.live x.context live };
   }
   acts_plainly e f x (Exit code) changes = record {
     job = refl;
-    left = λ n. omega arith;
+    left = λ more n. omega arith;
     ends = λ well live. let done = changes well live in record { changes = done; live = done.grows.live x.context live };
   }
   acts_plainly e f x (call_answers.Refused r) changes = record {
     job = refl;
-    left = λ n. omega arith;
+    left = λ more n. omega arith;
     ends = λ well live. let done = changes well live in record { changes = done; live = done.grows.live x.context live };
   }
 
@@ -295,7 +294,7 @@ module _ (facts : WorldFacts) where
   acts_shared t e x i Stb = acts_store e x _ (omega arith)
   acts_shared t e x i Stw = acts_word e x _ _
   acts_shared t e x i Sys = acts_call t i.imm e x
-  acts_shared t e x i Halt = acts_unchanged e x (with_status x (status.Done 0)) refl refl (λ n. omega arith)
+  acts_shared t e x i Halt = acts_unchanged e x (with_status x (status.Done 0)) refl refl (λ more n. omega arith)
   acts_shared t e x i _ = acts_regs e x x.regs
 
   acts_next : (t : ℕ) (e : Environment) (x : Thread) (next : Next) → Acts e x (next_outcome guest_calls t e x next)
@@ -317,24 +316,37 @@ still_ready job most w v grows x ready = record { live = grows.live x.context re
     still_runs (status.Done code) runs = tt
     still_runs (status.Faulted f) runs = tt
 
--- what a step leaves: what threads have in common has changed as it may, the thread is ready for the same job, and it may make fewer steps
+-- what a step of a running thread leaves: what threads have in common has changed as it may, the thread is ready for the same job, and it may make fewer steps
 pub record IsStep (e : Environment) (x : Thread) (outcome : Outcome) : Type 0 where
   pub changes : Changes x.job e outcome.environment
   pub limits : (jobs : List ℕ) → Contains jobs x.job → IsWithinLimits e.world jobs → IsWithinLimits outcome.environment.world jobs
   pub ready : IsReadyThread outcome.environment.world outcome.thread
   pub job : outcome.thread.job ≡ x.job
-  pub fewer : steps_left outcome.thread.budget outcome.thread.status < steps_left x.budget x.status
+  pub fewer : (more : ℕ) → steps_left more outcome.thread.budget outcome.thread.status < x.budget + more
+  pub going : has_ended outcome.thread.status ≡ false → outcome.thread.status ≡ status.Running
+  pub some : 1 ≤ outcome.thread.job
 
 -- a thread of a status that steps have left may make no more steps
-left_by : (left : ℕ) (s : ThreadStatus) → steps_left left s ≤ left → (steps_left left (status_with left s) ≤ left)
-left_by left status.Running few = by_test (eqb left 0)
+left_by : (more left : ℕ) (s : ThreadStatus) → steps_left more left s ≤ left + more → (steps_left more left (status_with left s) ≤ left + more)
+left_by more left status.Running few = by_test (eqb left 0)
   where
-    by_test : (b : Bool) → steps_left left (cond b (status.Faulted fault.Budget) status.Running) ≤ left
+    by_test : (b : Bool) → steps_left more left (cond b (status.Faulted fault.Budget) status.Running) ≤ left + more
     by_test true = omega arith
     by_test false = omega arith
-left_by left status.Idle few = few
-left_by left (status.Done code) few = omega arith
-left_by left (status.Faulted f) few = omega arith
+left_by more left status.Idle few = few
+left_by more left (status.Done code) few = omega arith
+left_by more left (status.Faulted f) few = omega arith
+
+-- a thread that goes on is running
+going_by : (left : ℕ) (s : ThreadStatus) → steps_left 0 0 s ≤ 0 → has_ended (status_with left s) ≡ false → status_with left s ≡ status.Running
+going_by left status.Running few going = by_test (eqb left 0) going
+  where
+    by_test : (b : Bool) → has_ended (cond b (status.Faulted fault.Budget) status.Running) ≡ false → cond b (status.Faulted fault.Budget) status.Running ≡ status.Running
+    by_test true going = cc
+    by_test false going = refl
+going_by left status.Idle few going = absurd (omega (arith, few))
+going_by left (status.Done code) few going = cc
+going_by left (status.Faulted f) few going = cc
 
 -- with the steps that are left, a thread is runnable while it runs
 runs_by : (v : World) (x : Thread) (left : ℕ) (s : ThreadStatus) → 1 ≤ x.job → x.job < v.size.jobs →
@@ -349,7 +361,17 @@ runs_by v x left (status.Done code) some known = tt
 runs_by v x left (status.Faulted f) some known = tt
 
 module _ (facts : WorldFacts) where
-  step_running : (t : ℕ) (e : Environment) (x : Thread) (advance : Advance) → IsWell e.world e.channels → x.status ≡ status.Running → IsReadyThread e.world x →
+  -- an act keeps contexts
+  pub keeps_contexts : (t : ℕ) (e : Environment) (x : Thread) (advance : Advance) → IsWell e.world e.channels → is_live e.world x.context ≡ true →
+      KeepsContexts e x (advance_outcome guest_calls t e x advance)
+  unfolding advance_outcome
+  keeps_contexts t e x advance well live =
+      let acts = acts_next facts t e (with_regs x advance.after) advance.next in
+      let changes = (acts.ends well live).changes in
+      record { job = acts.job; live = changes.grows.live; requests = changes.inputs.1 }
+
+  -- what a step of a running thread leaves
+  pub step_running : (t : ℕ) (e : Environment) (x : Thread) (advance : Advance) → IsWell e.world e.channels → x.status ≡ status.Running → IsReadyThread e.world x →
       IsStep e x (advance_outcome guest_calls t e x advance)
   unfolding advance_outcome
   step_running t e x advance well running ready =
@@ -358,9 +380,8 @@ module _ (facts : WorldFacts) where
       let ends = acts.ends well ready.live in
       let changes = ends.changes in
       let runs : IsRunnable e.world x = subst (λ (s : ThreadStatus). WhileRunning s (IsRunnable e.world x)) running ready.runs in
-      let had : steps_left x.budget x.status ≡ x.budget = ap (steps_left x.budget) running in
-      let few : steps_left (x.budget - 1) outcome.thread.status ≤ x.budget - 1 =
-      subst (λ (s : ThreadStatus). steps_left (x.budget - 1) outcome.thread.status ≤ steps_left (x.budget - 1) s) running (acts.left (x.budget - 1)) in
+      let few : (more left : ℕ) → steps_left more left outcome.thread.status ≤ left + more =
+      λ more left. subst (λ (s : ThreadStatus). steps_left more left outcome.thread.status ≤ steps_left more left s) running (acts.left more left) in
       record {
         changes = changes;
         limits = λ jobs there limits. changes.grows.limits jobs there runs.some_job limits;
@@ -371,29 +392,7 @@ module _ (facts : WorldFacts) where
               (omega (arith, acts.job, runs.some_job)) (omega (arith, acts.job, runs.known_job, ap (λ s. s.jobs) changes.grows.size));
         };
         job = acts.job;
-        fewer = omega (arith, left_by (x.budget - 1) outcome.thread.status few, had, runs.some_step);
+        fewer = λ more. omega (arith, left_by more (x.budget - 1) outcome.thread.status (few more (x.budget - 1)), runs.some_step);
+        going = going_by (x.budget - 1) outcome.thread.status (few 0 0);
+        some = omega (arith, acts.job, runs.some_job);
       }
-
-  step_idle : (e : Environment) (x : Thread) → IsWell e.world e.channels → x.status ≡ status.Idle → IsReadyThread e.world x → IsStep e x (unchanged e (with_status x (status.Done 0)))
-  step_idle e x well idle ready = record {
-    changes = same_world x.job e well;
-    limits = λ jobs there limits. limits;
-    ready = record { live = ready.live; budget = ready.budget; runs = tt };
-    job = refl;
-    fewer = subst (λ (s : ThreadStatus). 0 < steps_left x.budget s) (sym idle) (omega arith);
-  }
-
-  step_by_status : (t : ℕ) (e : Environment) (text : List Instr) (x : Thread) (s : ThreadStatus) (outcome : Outcome) → IsWell e.world e.channels → x.status ≡ s → IsReadyThread e.world x →
-      thread_outcome guest_calls t e text x s ≡ Some outcome → IsStep e x outcome
-  step_by_status t e text x status.Running outcome well is ready made =
-      let same : advance_outcome guest_calls t e x (advanced text x.regs) ≡ outcome = cc in
-      subst (IsStep e x) same (step_running t e x (advanced text x.regs) well is ready)
-  step_by_status t e text x status.Idle outcome well is ready made =
-      let same : unchanged e (with_status x (status.Done 0)) ≡ outcome = cc in subst (IsStep e x) same (step_idle e x well is ready)
-  step_by_status t e text x (status.Done code) outcome well is ready made = cc
-  step_by_status t e text x (status.Faulted f) outcome well is ready made = cc
-
-  -- a step that was made
-  pub step_made : (t : ℕ) (e : Environment) (text : List Instr) (x : Thread) (outcome : Outcome) → IsWell e.world e.channels → IsReadyThread e.world x →
-      thread_outcome guest_calls t e text x x.status ≡ Some outcome → IsStep e x outcome
-  step_made t e text x outcome well ready made = step_by_status t e text x x.status outcome well refl ready made

@@ -1,13 +1,16 @@
 -- The contexts of threads as roots: what a step that cuts no link leaves reached, and what a reaped world keeps.
 use Rattle.std.proofs.Common.{◌≡◌, ◌≢◌, ◌⊎◌, inl, inr, ℕ, zero, suc, ◌+◌, ◌<◌, ◌≤◌, refl, sym, ap, subst, ◌∙◌, Bool, true, false, ◌||◌, Option, Some, None, List, [], ◌∷◌, ◌++◌, length, take, get_or, arith}
 use Rattle.std.specs.Ordering.{eq_by_cmp}
-use Rattle.std.specs.Prelude.{All, is_none, slice_get, slice_set, unwrap_or}
-use Rattle.std.proofs.lemmas.List.{length-map, length-take-le, map-append, take_all, take_more}
+use Rattle.std.specs.Prelude.{All, is_none, map, slice_get, slice_set, unwrap_or}
+use Rattle.std.specs.List.{range_with_len}
+use Rattle.std.proofs.lemmas.List.FromFn.{length-map-range_with_len}
+use Rattle.std.proofs.lemmas.List.{append_assoc, length-map, length-take-le, map-append, take_all, take_more}
 use Rattle.std.proofs.lemmas.List.Elements.{All-cons, All-map, All-nil, All-weaker}
 use Rattle.kernel_core.proofs.Worlds.{WorldFacts, done_after, name_itself, same_name}
 use Rattle.kernel_core.specs.Changes.{Keeps, LeavesNothing, change_by}
 use Rattle.kernel_core.specs.Ready.{IsWithinLimits}
-use Rattle.kernel_core.specs.Step.{answered, roots, with_regs}
+use Rattle.kernel_core.specs.Machine.{Serve, home_of, homes, homes_of}
+use Rattle.kernel_core.specs.Step.{answered, contexts_of, roots, with_regs}
 use Rattle.kernel_core.specs.declared.acting.Change.{Change}
 use Rattle.kernel_core.specs.declared.acting.Change.TheVariants as changes
 use Rattle.kernel_core.specs.declared.thread.Thread.{Thread}
@@ -37,33 +40,80 @@ use Rattle.lwc_base.specs.declared.regs.Regs.{Regs}
 use Rattle.lwc_create.specs.Create as create
 use Rattle.lwc_overlay.specs.RestrictCall.{IsRestriction}
 
+get-front : {T : Type 0} (xs ys : List T) (t : ℕ) (x : T) → slice_get xs t ≡ Some x → slice_get (xs ++ ys) t ≡ Some x
+get-front [] ys t x found = cc
+get-front (z ∷ xs) ys zero x found = found
+get-front (z ∷ xs) ys (suc t) x found = get-front xs ys t x found
+
+set-front : {T : Type 0} (xs ys : List T) (t : ℕ) (x y : T) → slice_get xs t ≡ Some x → slice_set (xs ++ ys) t y ≡ slice_set xs t y ++ ys
+set-front [] ys t x y found = cc
+set-front (z ∷ xs) ys zero x y found = refl
+set-front (z ∷ xs) ys (suc t) x y found = ap (λ l. z ∷ l) (set-front xs ys t x y found)
+
 -- the contexts of threads, where one of them is another one
-roots-set : (threads : List Thread) (t : ℕ) (y : Thread) → roots (slice_set threads t y) ≡ slice_set (roots threads) t y.context
-roots-set [] t y = refl
-roots-set (x ∷ xs) zero y = refl
-roots-set (x ∷ xs) (suc t) y = ap (λ l. x.context ∷ l) (roots-set xs t y)
+contexts-set : (threads : List Thread) (t : ℕ) (y : Thread) → contexts_of (slice_set threads t y) ≡ slice_set (contexts_of threads) t y.context
+contexts-set [] t y = refl
+contexts-set (x ∷ xs) zero y = refl
+contexts-set (x ∷ xs) (suc t) y = ap (λ l. x.context ∷ l) (contexts-set xs t y)
 
 -- the contexts of the first threads
-pub roots_more : (threads : List Thread) (i : ℕ) (x : Thread) (names more : List Name) → i < length threads → names ≡ roots (take i threads) → more ≡ names ++ (get_or threads i x).context ∷ [] →
-    more ≡ roots (take (i + 1) threads)
+pub roots_more : (threads : List Thread) (i : ℕ) (x : Thread) (names more : List Name) → i < length threads → names ≡ contexts_of (take i threads) → more ≡ names ++ (get_or threads i x).context ∷ [] →
+    more ≡ contexts_of (take (i + 1) threads)
 roots_more threads i x names more within so_far pushed =
     pushed ∙ ap (λ (l : List Name). l ++ (get_or threads i x).context ∷ []) so_far
-    ∙ sym (ap roots (take_more threads i x within) ∙ map-append (λ (y : Thread). y.context) (take i threads) (get_or threads i x ∷ []))
+    ∙ sym (ap contexts_of (take_more threads i x within) ∙ map-append (λ (y : Thread). y.context) (take i threads) (get_or threads i x ∷ []))
 
-pub length-roots : (threads : List Thread) (i : ℕ) → i < length threads → length (roots (take i threads)) < length threads
+pub length-roots : (threads : List Thread) (i : ℕ) → i < length threads → length (contexts_of (take i threads)) < length threads
 length-roots threads i within = omega (arith, length-map (take i threads) (λ (y : Thread). y.context), length-take-le i threads (omega arith), within)
 
-pub roots_all : (threads : List Thread) (i : ℕ) → length threads ≤ i → roots (take i threads) ≡ roots threads
-roots_all threads i all = ap roots (take_all i threads all)
+pub roots_all : (threads : List Thread) (i : ℕ) → length threads ≤ i → contexts_of (take i threads) ≡ contexts_of threads
+roots_all threads i all = ap contexts_of (take_all i threads all)
+
+-- the homes of one worker more
+pub homes-more : (from count : ℕ) → map home_of (range_with_len from (count + 1)) ≡ map home_of (range_with_len from count) ++ home_of (from + count) ∷ []
+homes-more from zero = let same : from + 0 ≡ from = omega arith in ap (λ n. home_of n ∷ []) (sym same)
+homes-more from (suc count) =
+    let same : from + 1 + count ≡ from + suc count = omega arith in
+    let longer : suc count + 1 ≡ suc (count + 1) = omega arith in
+    ap (λ n. map home_of (range_with_len from n)) longer ∙ ap (λ l. home_of from ∷ l) (homes-more (from + 1) count ∙ ap (λ n. map home_of (range_with_len (from + 1) count) ++ home_of n ∷ []) same)
+
+pub home_more : (threads : List Thread) (t : ℕ) (names more : List Name) → names ≡ contexts_of threads ++ homes_of t → more ≡ names ++ home_of t ∷ [] → more ≡ contexts_of threads ++ homes_of (t + 1)
+home_more threads t names more so_far pushed =
+    let same : 0 + t ≡ t = omega arith in
+    pushed ∙ ap (λ (l : List Name). l ++ home_of t ∷ []) so_far ∙ append_assoc (contexts_of threads) (homes_of t) (home_of t ∷ [])
+    ∙ ap (λ (l : List Name). contexts_of threads ++ l) (sym (homes-more 0 t ∙ ap (λ n. homes_of t ++ home_of n ∷ []) same))
+
+pub length-homes : (t : ℕ) → length (homes_of t) ≡ t
+length-homes t = length-map-range_with_len home_of 0 t
+
+pub length-contexts : (threads : List Thread) → length (contexts_of threads) ≡ length threads
+length-contexts threads = length-map threads (λ (y : Thread). y.context)
+
+append-none : (names : List Name) → names ++ [] ≡ names
+append-none [] = refl
+append-none (c ∷ cs) = ap (λ l. c ∷ l) (append-none cs)
+
+pub no_home_yet : (threads : List Thread) (i t : ℕ) (names : List Name) → names ≡ contexts_of (take i threads) → length threads ≤ i → t ≡ 0 → names ≡ contexts_of threads ++ homes_of t
+no_home_yet threads i t names so_far all none =
+    so_far ∙ roots_all threads i all ∙ sym (append-none (contexts_of threads)) ∙ ap (λ n. contexts_of threads ++ homes_of n) (sym none)
 
 -- the contexts of threads are live where each one's is
-pub live_roots : (w : World) (threads : List Thread) → All (λ (x : Thread). is_live w x.context ≡ true) threads → All (λ c. is_live w c ≡ true) (roots threads)
+pub live_roots : (w : World) (threads : List Thread) → All (λ (x : Thread). is_live w x.context ≡ true) threads → All (λ c. is_live w c ≡ true) (contexts_of threads)
 live_roots w threads live = All-map (λ c. is_live w c ≡ true) (λ (x : Thread). x.context) threads live
 
-root_of : (threads : List Thread) (t : ℕ) (x : Thread) → slice_get threads t ≡ Some x → slice_get (roots threads) t ≡ Some x.context
-root_of [] t x found = cc
-root_of (y ∷ ys) zero x found = let same : y ≡ x = cc in ap (λ (z : Thread). Some z.context) same
-root_of (y ∷ ys) (suc t) x found = root_of ys t x found
+context_of : (threads : List Thread) (t : ℕ) (x : Thread) → slice_get threads t ≡ Some x → slice_get (contexts_of threads) t ≡ Some x.context
+context_of [] t x found = cc
+context_of (y ∷ ys) zero x found = let same : y ≡ x = cc in ap (λ (z : Thread). Some z.context) same
+context_of (y ∷ ys) (suc t) x found = context_of ys t x found
+
+module _ (threads : List Thread) (serve : Option Serve) (t : ℕ) (x : Thread) (found : slice_get threads t ≡ Some x) where
+  root_of : slice_get (roots threads serve) t ≡ Some x.context
+  root_of = get-front (contexts_of threads) (homes serve) t x.context (context_of threads t x found)
+
+  roots-set : (y : Thread) → roots (slice_set threads t y) serve ≡ slice_set (roots threads serve) t y.context
+  roots-set y =
+      ap (λ (l : List Name). l ++ homes serve) (contexts-set threads t y)
+      ∙ sym (set-front (contexts_of threads) (homes serve) t x.context y.context (context_of threads t x found))
 
 -- a list in which an element is put in its own place
 set-same : (names : List Name) (t : ℕ) (c : Name) → slice_get names t ≡ Some c → slice_set names t c ≡ names
@@ -132,14 +182,14 @@ ended_keeps w v x y answer accepted change done refused changed ended =
     by_answer (answers.Refused r) done refused = (refused r refl, refl)
 
 -- a step that may cut no link leaves nothing to drop
-pub uncut : (change : Change) (w v : World) (threads : List Thread) (t : ℕ) (x y : Thread) → Keeps change w x v y → change ≢ changes.Links → slice_get threads t ≡ Some x →
-    IsReaped w (roots threads) → IsReaped v (roots (slice_set threads t y))
-uncut changes.Thread w v threads t x y keeps other found reaped =
-    subst (IsReaped v) (sym (roots-set threads t y ∙ ap (slice_set (roots threads) t) keeps.1 ∙ set-same (roots threads) t x.context (root_of threads t x found)))
-    (subst (λ (u : World). IsReaped u (roots threads)) (sym keeps.0) reaped)
-uncut changes.World w v threads t x y keeps other found reaped =
-    subst (IsReaped v) (sym (roots-set threads t y)) (keeps (roots threads) t (root_of threads t x found) reaped)
-uncut changes.Links w v threads t x y keeps other found reaped = absurd (other refl)
+pub uncut : (change : Change) (w v : World) (threads : List Thread) (serve : Option Serve) (t : ℕ) (x y : Thread) → Keeps change w x v y → change ≢ changes.Links → slice_get threads t ≡ Some x →
+    IsReaped w (roots threads serve) → IsReaped v (roots (slice_set threads t y) serve)
+uncut changes.Thread w v threads serve t x y keeps other found reaped =
+    subst (IsReaped v) (sym (roots-set threads serve t x found y ∙ ap (slice_set (roots threads serve) t) keeps.1 ∙ set-same (roots threads serve) t x.context (root_of threads serve t x found)))
+    (subst (λ (u : World). IsReaped u (roots threads serve)) (sym keeps.0) reaped)
+uncut changes.World w v threads serve t x y keeps other found reaped =
+    subst (IsReaped v) (sym (roots-set threads serve t x found y)) (keeps (roots threads serve) t (root_of threads serve t x found) reaped)
+uncut changes.Links w v threads serve t x y keeps other found reaped = absurd (other refl)
 
 either : (a b : Bool) → b ≡ true → (a || b) ≡ true
 either true b is = refl
@@ -153,12 +203,29 @@ module _ (orders : OrderFacts) where
   first_is : (c : Name) (names : List Name) → is_among (c ∷ names) c ≡ true
   first_is c names = ap (λ b. b || is_among names c) (name_itself orders c)
 
+  pub among_front : (xs ys : List Name) (c : Name) → is_among xs c ≡ true → is_among (xs ++ ys) c ≡ true
+  among_front [] ys c among = cc
+  among_front (d ∷ xs) ys c among =
+      elim (or_rest (eq_by_cmp name_cmp c d) (is_among xs c) among) [
+        | inl here ↦ ap (λ b. b || is_among (xs ++ ys) c) here
+        | inr later ↦ either _ _ (among_front xs ys c later)
+      ]
+
+  pub among_back : (xs ys : List Name) (c : Name) → is_among ys c ≡ true → is_among (xs ++ ys) c ≡ true
+  among_back [] ys c among = among
+  among_back (d ∷ xs) ys c among = either _ _ (among_back xs ys c among)
+
+  each_context : (threads : List Thread) → All (λ (x : Thread). is_among (contexts_of threads) x.context ≡ true) threads
+  each_context [] = All-nil _
+  each_context (x ∷ xs) =
+      All-cons (λ (y : Thread). is_among (contexts_of (x ∷ xs)) y.context ≡ true) x xs (first_is x.context (contexts_of xs))
+      (All-weaker (λ (y : Thread). is_among (contexts_of xs) y.context ≡ true) (λ (y : Thread). is_among (contexts_of (x ∷ xs)) y.context ≡ true) (λ y is. either _ _ is) xs (each_context xs))
+
   -- each thread's context is a root
-  pub each_root : (threads : List Thread) → All (λ (x : Thread). is_among (roots threads) x.context ≡ true) threads
-  each_root [] = All-nil _
-  each_root (x ∷ xs) =
-      All-cons (λ (y : Thread). is_among (roots (x ∷ xs)) y.context ≡ true) x xs (first_is x.context (roots xs))
-      (All-weaker (λ (y : Thread). is_among (roots xs) y.context ≡ true) (λ (y : Thread). is_among (roots (x ∷ xs)) y.context ≡ true) (λ y is. either _ _ is) xs (each_root xs))
+  pub each_root : (threads : List Thread) (serve : Option Serve) → All (λ (x : Thread). is_among (roots threads serve) x.context ≡ true) threads
+  each_root threads serve =
+      All-weaker (λ (x : Thread). is_among (contexts_of threads) x.context ≡ true) (λ (x : Thread). is_among (roots threads serve) x.context ≡ true)
+      (λ x among. among_front (contexts_of threads) (homes serve) x.context among) threads (each_context threads)
 
   -- a root that is put in the place of another one, and what the other roots were
   pub put_root : (names : List Name) (t : ℕ) (c d : Name) → slice_get names t ≡ Some c → is_among (slice_set names t d) d ≡ true

@@ -1,19 +1,23 @@
 -- A call that is refused changes nothing but its thread.
-use Rattle.std.proofs.Common.{◌≡◌, ℕ, ◌-◌, refl, ap, ◌∙◌, Bool, true, false, cond, eqb, Option, Some, None, List}
+use Rattle.std.proofs.Common.{◌≡◌, ◌⊎◌, inl, inr, ℕ, ◌-◌, ◌<◌, refl, ap, ◌∙◌, Bool, true, false, cond, eqb, Option, Some, None, List, arith}
 use Rattle.std.specs.Prelude.{slice_set}
+use Rattle.std.proofs.lemmas.Bool.Decides.{nat_tests}
 use Rattle.guest_isa.specs.declared.instr.Instr.{Instr}
 use Rattle.guest_isa.specs.declared.op.Op.{Op}
 use Rattle.guest_machine.specs.declared.progress.Next.{Next}
 use Rattle.kernel_core.proofs.Reaping.{uncut}
-use Rattle.kernel_core.specs.Machine.{Environment, Machine}
-use Rattle.kernel_core.specs.Refused.{ComesToRefusal, advanced_thread, refusal_at_end, refusal_in, refusal_of, refusal_to_move}
-use Rattle.kernel_core.specs.Step.{Outcome, advance_outcome, after_outcome, after_thread, args_of, beside, call_outcome, counted, create_outcome, guest_calls, next_outcome, overlay_outcome, plain_outcome, plainly, refused, restrict_outcome, roots, shared_outcome, step, step_by, switch_outcome, switched, syscall_outcome, thread_outcome, three_times, unchanged, with_steps, with_world}
+use Rattle.kernel_core.specs.Machine.{Environment, Machine, Serve, has_ended}
+use Rattle.kernel_core.specs.Refused.{ComesToRefusal, IsNotLast, advanced_thread, after_refusal, refusal_at_end, refusal_in, refusal_of, refusal_to_move, thread_refused}
+use Rattle.kernel_core.specs.Step.{AfterStep, Outcome, advance_outcome, after_outcome, after_thread, args_of, beside, call_outcome, counted, create_outcome, finish, guest_calls, next_outcome, only, overlay_outcome, plain_outcome, plainly, refused, restrict_outcome, roots, settled, shared_outcome, status_with, step, step_by, switch_outcome, switched, syscall_outcome, thread_outcome, three_times, unchanged, with_steps, with_world}
 use Rattle.kernel_core.specs.declared.acting.Change.TheVariants as changes
 use Rattle.kernel_core.specs.declared.calling.TheConstants.{LW_CREATE, LW_OVERLAY, LW_RESTRICT, LW_SWITCH, LW_SYSCALL}
 use Rattle.kernel_core.specs.declared.thread.Thread.{Thread}
 use Rattle.lwc_base.specs.Channels.{Channels}
 use Rattle.lwc_base.specs.Life.{IsReaped, reap}
 use Rattle.lwc_base.specs.World.{World}
+use Rattle.lwc_base.specs.declared.fault.Fault.TheVariants.{Budget}
+use Rattle.lwc_base.specs.declared.fault.ThreadStatus.{ThreadStatus}
+use Rattle.lwc_base.specs.declared.fault.ThreadStatus.TheVariants.{Faulted, Running}
 use Rattle.lwc_base.specs.declared.name.Name.{Name}
 use Rattle.lwc_base.specs.declared.refusal.Refusal.{Refusal}
 use Rattle.lwc_create.specs.Create as create
@@ -96,26 +100,37 @@ module _ (e : Environment) (x : Thread) (r : Refusal) where
       (facts.plain e.world e.channels (three_times x.context) x.job number (args_of x.regs))))))) is
 
 module _ (m : Machine) (t : ℕ) (x : Thread) (i : Instr) (r : Refusal) (comes : ComesToRefusal m t x i r) where
-  -- the thread afterwards
-  after_refusal : Thread
-  after_refusal = with_steps (x.budget - 1) (refused (advanced_thread m x) r)
-
-  made : IdleFacts → thread_outcome guest_calls t m.environment m.text x x.status ≡ Some (unchanged m.environment after_refusal)
-  unfolding advance_outcome next_outcome shared_outcome after_refusal
+  made : IdleFacts → thread_outcome guest_calls t m.environment m.serve m.text x x.status ≡ Some (settled t m.serve (unchanged m.environment (thread_refused m x r)))
+  unfolding advance_outcome next_outcome shared_outcome
   made facts =
-      ap (thread_outcome guest_calls t m.environment m.text x) comes.running
-      ∙ ap (λ (next : Next). Some (counted (x.budget - 1) (next_outcome guest_calls t m.environment (advanced_thread m x) next))) comes.next
-      ∙ ap (λ (op : Op). Some (counted (x.budget - 1) (shared_outcome guest_calls t m.environment (advanced_thread m x) i op))) comes.call
-      ∙ ap (λ (outcome : Outcome). Some (counted (x.budget - 1) outcome)) (call_refused m.environment (advanced_thread m x) r facts i.imm t comes.refused)
+      ap (thread_outcome guest_calls t m.environment m.serve m.text x) comes.running
+      ∙ ap (λ (next : Next). Some (settled t m.serve (counted (x.budget - 1) (next_outcome guest_calls t m.environment (advanced_thread m x) next)))) comes.next
+      ∙ ap (λ (op : Op). Some (settled t m.serve (counted (x.budget - 1) (shared_outcome guest_calls t m.environment (advanced_thread m x) i op)))) comes.call
+      ∙ ap (λ (outcome : Outcome). Some (settled t m.serve (counted (x.budget - 1) outcome))) (call_refused m.environment (advanced_thread m x) r facts i.imm t comes.refused)
 
-  -- a step that comes to it changes its thread alone, where nothing was left to drop
-  pub step_refused : IdleFacts → ((w : World) (names : List Name) → IsReaped w names → reap w names ≡ w) → IsReaped m.environment.world (roots m.threads) →
-      step m t ≡ record m { threads = slice_set m.threads t (with_steps (x.budget - 1) (refused (advanced_thread m x) r)) }
-  unfolding step_by after_refusal
-  step_refused facts same reaped =
-      let threads : List Thread = slice_set m.threads t after_refusal in
+  -- a step that comes to it changes its thread, and what the end of a budget changes
+  pub step_refused : IdleFacts → step m t ≡ after_outcome m t (Some (settled t m.serve (unchanged m.environment (thread_refused m x r))))
+  unfolding step_by
+  step_refused facts = ap (after_thread guest_calls m t) comes.found ∙ ap (after_outcome m t) (made facts)
+
+  goes_on : 1 < x.budget → has_ended (thread_refused m x r).status ≡ false
+  goes_on more =
+      let some : eqb (x.budget - 1) 0 ≡ false = grind (arith, nat_tests) in
+      ap (λ (s : ThreadStatus). has_ended (status_with (x.budget - 1) s)) comes.running ∙ ap (λ b. has_ended (cond b (Faulted Budget) Running)) some
+
+  not_settled : (serve : Option Serve) → (serve ≡ None) ⊎ (1 < x.budget) → settled t serve (unchanged m.environment (thread_refused m x r)) ≡ only serve (unchanged m.environment (thread_refused m x r))
+  not_settled None last = refl
+  not_settled (Some s) (inl none) = cc
+  not_settled (Some s) (inr more) =
+      ap (λ b. cond b (finish t s (unchanged m.environment (thread_refused m x r))) (only (Some s) (unchanged m.environment (thread_refused m x r)))) (goes_on more)
+
+  -- it changes its thread alone, where nothing was left to drop
+  pub refused_alone : IdleFacts → ((w : World) (names : List Name) → IsReaped w names → reap w names ≡ w) → IsReaped m.environment.world (roots m.threads m.serve) → IsNotLast m x →
+      step m t ≡ after_refusal m t x r
+  refused_alone facts same reaped last =
+      let threads : List Thread = slice_set m.threads t (thread_refused m x r) in
       let w = m.environment.world in
-      ap (after_thread guest_calls m t) comes.found
-      ∙ ap (after_outcome m t) (made facts)
+      step_refused facts
+      ∙ ap (λ (after : AfterStep). after_outcome m t (Some after)) (not_settled m.serve last)
       ∙ ap (λ (u : World). record m { threads = threads; environment = with_world m.environment u })
-      (same w (roots threads) (uncut changes.Thread w w m.threads t x after_refusal (refl, refl) (λ is. cc) comes.found reaped))
+      (same w (roots threads m.serve) (uncut changes.Thread w w m.threads m.serve t x (thread_refused m x r) (refl, refl) (λ is. cc) comes.found reaped))

@@ -32,7 +32,7 @@ pub kept_twice : (m : Machine) (ts : List ℕ) → kept m (kept m ts) ≡ kept m
 kept_twice m [] = refl
 kept_twice m (t ∷ ts) = keep_by m t ts (is_ended m t) refl (kept_twice m ts) (kept_twice (step m t) ts)
 
-rests_by : (m : Machine) (t : ℕ) (x : Thread) (status : ThreadStatus) → has_ended status ≡ true → after_outcome m t (thread_outcome guest_calls t m.environment m.text x status) ≡ m
+rests_by : (m : Machine) (t : ℕ) (x : Thread) (status : ThreadStatus) → has_ended status ≡ true → after_outcome m t (thread_outcome guest_calls t m.environment m.serve m.text x status) ≡ m
 rests_by m t x Idle ended = cc
 rests_by m t x Running ended = cc
 rests_by m t x (Done code) ended = refl

@@ -21,8 +21,11 @@ use Rattle.kernel_core.proofs.FirstWorld.{get-first, page_piece}
 use Rattle.kernel_core.proofs.Limits.{length_of_keys}
 use Rattle.kernel_core.proofs.Worlds.{WorldFacts, files_store, same_name}
 use Rattle.kernel_core.specs.Kernel.{CanOpen}
+use Rattle.kernel_core.specs.Machine.{Machine}
+use Rattle.kernel_core.specs.declared.settings.Job.{Job}
+use Rattle.kernel_core.specs.declared.settings.Job.TheVariants.{Run}
 use Rattle.kernel_core.specs.Ready.{IsCounted, IsReady, IsReadyThread, IsWithinLimits, jobs_of, most_counted}
-use Rattle.kernel_core.specs.Start.{Inputs, counted, first_context, first_entry, first_name, first_slot, first_thread, first_threads, start, start_world, thread_count, threads_for, world_size, world_so_far, world_with}
+use Rattle.kernel_core.specs.Start.{Inputs, counted, first_context, first_entry, first_name, first_slot, first_thread, first_threads, serve_at, start_world, thread_count, threads_at, world_for, threads_for, world_size, world_so_far, world_with}
 use Rattle.lwc_base.specs.Cells.{put_slot}
 use Rattle.lwc_base.specs.Channels.{HasItsFiles, IsInRange, opened}
 use Rattle.lwc_base.specs.Mapping.{map_pages}
@@ -60,7 +63,7 @@ ready_from w budget n (e ∷ entries) live some few known =
     (record { live = live; budget = few; runs = record { some_job = omega arith; known_job = omega arith; some_step = some } })
     (ready_from w budget (n + 1) entries live some few (omega arith))
 
-counted_by : (b : Bool) (tags : ℕ) → tags ≤ 1024 → IsCounted (most_counted 0) (cond b (counted 1 tags) (counted 0 0))
+pub counted_by : (b : Bool) (tags : ℕ) → tags ≤ 1024 → IsCounted (most_counted 0) (cond b (counted 1 tags) (counted 0 0))
 counted_by true tags few = record { contexts = omega arith; groups = omega arith; tags = omega arith }
 counted_by false tags few = record { contexts = omega arith; groups = omega arith; tags = omega arith }
 
@@ -110,6 +113,18 @@ first_in_range files requests slots there n = by_number (ltb n 2)
 
 abbrev nobody : fm.FinMap name_cmp Context
 nobody = fm.empty
+
+-- the machine of a start, by the job
+abbrev pub machine_at : Inputs → Job → Machine
+machine_at inputs job = record {
+  threads = threads_at inputs.image inputs.settings.budget job;
+  environment = record {
+    world = world_for inputs.image inputs.settings.frames job;
+    channels = opened inputs.image.files inputs.requests;
+  };
+  text = inputs.image.text;
+  serve = serve_at job inputs.settings.budget (length inputs.requests);
+}
 
 module _ (facts : WorldFacts) where
   -- the world of one context is within the limits
@@ -166,7 +181,7 @@ module _ (facts : WorldFacts) where
       so_at_start : P (start_world image frames)
       so_at_start = subst P (all_put image frames) (so_after_slots 64)
 
-    sound_start : IsSound (start_world image frames)
+    pub sound_start : IsSound (start_world image frames)
     sound_start =
         so_at_start IsSound
         (record {
@@ -177,7 +192,7 @@ module _ (facts : WorldFacts) where
         })
 
     -- each file that a slot names is there
-    files_start : (requests : List (List ℕ)) → HasItsFiles (opened image.files requests) (start_world image frames)
+    pub files_start : (requests : List (List ℕ)) → HasItsFiles (opened image.files requests) (start_world image frames)
     files_start requests =
         let io = opened image.files requests in
         so_at_start (HasItsFiles io)
@@ -188,15 +203,18 @@ module _ (facts : WorldFacts) where
           slot = λ w n. facts.files.slot io w first_name n (first_slot image.slots n) (first_in_range image.files requests image.slots is.slots.files n);
         })
 
-  -- the machine of a start is ready
-  pub ready_start : (inputs : Inputs) → CanOpen inputs → IsReady inputs 0 (start inputs)
-  unfolding start start_world first_threads world_with thread_count
-  ready_start inputs can =
+  -- the machine of a run's start is ready
+  pub ready_run_start : (inputs : Inputs) → CanOpen inputs → inputs.settings.job ≡ Run → inputs.requests ≡ [] → IsReady inputs 0 (machine_at inputs Run)
+  unfolding start_world first_threads world_with thread_count
+  ready_run_start inputs can job none =
       let image = inputs.image in
       let frames = inputs.settings.frames in
       let entries = image.entries in
       let count : length (first_threads inputs.settings.budget entries) ≡ length entries = length-first_threads inputs.settings.budget entries in
       record {
+        image = can.image;
+        few_requests = omega (arith, ap (λ (l : List (List ℕ)). length l) none);
+        serve = tt;
         size = refl;
         sound = sound_start image can.image frames can.fits;
         named = named_first facts image frames (length image.pages) image.pages;
@@ -209,7 +227,7 @@ module _ (facts : WorldFacts) where
         threads = ready_from (start_world image frames) inputs.settings.budget 0 entries
             (first_world facts.orders image can.image frames (length image.pages) 64 _ (sym (all_put image frames)) can.image.page_count).live
             can.settings.budget.0 can.settings.budget.1 (omega (arith, can.image.thread_count));
-        count = count ∙ sym (ap (threads_for image) can.job);
+        count = count ∙ sym (ap (threads_for image) job);
         some = omega (arith, count, can.image.some_thread);
         few = omega (arith, count, can.image.thread_count);
         text = refl;

@@ -1,29 +1,31 @@
 -- A kernel stays steady over a step, and what the step makes of its history.
-use Rattle.std.proofs.Common.{◌≡◌, ◌≢◌, ℕ, ◌+◌, ◌-◌, ◌^◌, ◌≤◌, ◌<◌, refl, sym, ap, subst, ◌∙◌, Bool, true, false, cond, Option, Some, None, List, [], ◌∷◌, ◌++◌, length, arith, length-append, get_or}
-use Rattle.std.specs.Prelude.{All, max, slice_get, slice_set}
+use Rattle.std.proofs.Common.{◌≡◌, ◌≢◌, ℕ, suc, ◌+◌, ◌-◌, ◌^◌, ◌≤◌, ◌<◌, refl, sym, ap, subst, ◌∙◌, Bool, true, false, cond, eqb, ltb, Option, Some, None, List, [], ◌∷◌, ◌++◌, length, arith, length-append, get_or}
+use Rattle.std.specs.Prelude.{All, IfSome, max, slice_get, slice_set}
 use Rattle.std.specs.List.{sum_by}
 use Rattle.std.specs.Option.{option_map, option_map_or}
-use Rattle.std.proofs.lemmas.Option.{slice_get_within, get_or_from_slice_get, slice_get-get_or}
-use Rattle.std.proofs.lemmas.List.Sums.{sum_by-le, sum_by-set}
-use Rattle.std.proofs.lemmas.List.{length-set}
-use Rattle.std.proofs.lemmas.List.Elements.{All-weaker}
-use Rattle.std.proofs.lemmas.Grind.{get_or-set_at}
-use Rattle.std.proofs.Math.ListN.{set}
+use Rattle.std.proofs.lemmas.Bool.Decides.{nat_tests}
+use Rattle.std.proofs.lemmas.Option.{get_or_from_slice_get, slice_get-get_or}
+use Rattle.std.proofs.lemmas.List.Sums.{sum_by-le}
+use Rattle.std.proofs.lemmas.List.Elements.{All-cons, All-get_or, All-nil, All-weaker}
 use Rattle.guest_image.specs.declared.image.Image.{Image}
 use Rattle.guest_isa.specs.declared.instr.Instr.{Instr}
+use Rattle.guest_machine.specs.Advances.{advanced}
+use Rattle.kernel_core.proofs.Finished.{ended_none, finished-push}
+use Rattle.kernel_core.proofs.Others.{found_set}
 use Rattle.kernel_core.proofs.ReadyRuns.{ready_thread, while_running}
 use Rattle.kernel_core.proofs.Reaping.{uncut}
 use Rattle.kernel_core.proofs.Runs.{run-push, peak-push, used_last}
-use Rattle.kernel_core.specs.Changes.{Keeps, KeepsAll, made}
+use Rattle.kernel_core.specs.Changes.{Keeps, KeepsAll, after_effect, made}
 use Rattle.kernel_core.specs.Kernel.{CanOpen, History, machine_of, stepped, turn, view_of}
-use Rattle.kernel_core.specs.Machine.{Environment, Machine, has_ended, is_ended, steps_left, work}
-use Rattle.kernel_core.specs.Ready.{CanAct, IsReady, IsReadyThread, IsRunnable, RunFacts, WhileRunning}
-use Rattle.kernel_core.specs.Runs.{frames_of, peak}
-use Rattle.kernel_core.specs.Start.{Inputs, first_threads, start, start_world, thread_count}
+use Rattle.kernel_core.specs.Machine.{Environment, Machine, Serve, has_ended, homes, homes_of, in_serve, is_ended, reply_of, steps_after, steps_for_requests, steps_left, work}
+use Rattle.kernel_core.specs.Ready.{CanAct, HasItsJob, IsReady, IsReadyServe, IsReadyThread, IsRunnable, IsWorker, RunFacts, WhileRunning}
+use Rattle.kernel_core.specs.Runs.{frames_of, last_finished, peak}
+use Rattle.kernel_core.specs.Start.{Inputs, serve_at, start, thread_count, threads_at, world_for}
 use Rattle.kernel_core.specs.Steady.{IsSteady, history, machine}
-use Rattle.kernel_core.specs.Step.{Outcome, after_outcome, after_thread, guest_calls, beside, roots, step, step_by, thread_outcome, unchanged, with_world}
+use Rattle.kernel_core.specs.Step.{AfterStep, Outcome, advance_outcome, after_outcome, after_thread, begin_next, beside, contexts_of, finish, finished_in, finished_of, finishes, guest_calls, only, roots, step, step_by, thread_outcome, unchanged, with_status, with_world}
 use Rattle.kernel_core.specs.declared.acting.Change.{Change}
 use Rattle.kernel_core.specs.declared.acting.Change.TheVariants as changes
+use Rattle.kernel_core.specs.declared.acting.Effect.{Effect}
 use Rattle.kernel_core.specs.declared.settings.Settings.{Settings}
 use Rattle.kernel_core.specs.declared.thread.Thread.{Thread}
 use Rattle.kernel_core.specs.declared.thread.Turn.{Turn}
@@ -35,53 +37,61 @@ use Rattle.lwc_base.specs.World.{World, is_live}
 use Rattle.lwc_base.specs.declared.fault.ThreadStatus.{ThreadStatus}
 use Rattle.lwc_base.specs.declared.fault.ThreadStatus.TheVariants.{Idle, Running, Done, Faulted}
 use Rattle.lwc_base.specs.declared.limits.TheConstants.{MOST_BUDGET, MOST_STEPS}
+use Rattle.lwc_base.specs.declared.name.Name.{Name}
+use Rattle.snapshot_host.specs.declared.finishing.Finished.{Finished}
 
 -- a history with one more step
 abbrev pub longer : History → ℕ → History
 longer h t = record h { steps = h.steps ++ t ∷ []; room = h.room - 1 }
 
 -- a thread that has made a step had not ended
-not_ended : (t : ℕ) (e : Environment) (text : List Instr) (x : Thread) (status : ThreadStatus) (outcome : Outcome) → thread_outcome guest_calls t e text x status ≡ Some outcome → has_ended status ≡ false
-not_ended t e text x Idle outcome made = refl
-not_ended t e text x Running outcome made = refl
-not_ended t e text x (Done code) outcome made = cc
-not_ended t e text x (Faulted f) outcome made = cc
+not_ended : (t : ℕ) (e : Environment) (serve : Option Serve) (text : List Instr) (x : Thread) (status : ThreadStatus) (after : AfterStep) → thread_outcome guest_calls t e serve text x status ≡ Some after → has_ended status ≡ false
+not_ended t e serve text x Idle after made = refl
+not_ended t e serve text x Running after made = refl
+not_ended t e serve text x (Done code) after made = cc
+not_ended t e serve text x (Faulted f) after made = cc
 
 -- a thread that has made none had ended
-had_ended : (t : ℕ) (e : Environment) (text : List Instr) (x : Thread) (status : ThreadStatus) → thread_outcome guest_calls t e text x status ≡ None → has_ended status ≡ true
-had_ended t e text x Idle none = cc
-had_ended t e text x Running none = cc
-had_ended t e text x (Done code) none = refl
-had_ended t e text x (Faulted f) none = refl
+had_ended : (t : ℕ) (e : Environment) (serve : Option Serve) (text : List Instr) (x : Thread) (status : ThreadStatus) → thread_outcome guest_calls t e serve text x status ≡ None → has_ended status ≡ true
+had_ended t e serve text x Idle none = cc
+had_ended t e serve text x Running none = cc
+had_ended t e serve text x (Done code) none = refl
+had_ended t e serve text x (Faulted f) none = refl
 
 stepped_by : (h : History) (t : ℕ) (b : Bool) → is_ended (machine_of h) t ≡ b → stepped h t ≡ cond b h (longer h t)
 unfolding stepped
 stepped_by h t b is = ap (λ c. cond c h (longer h t)) is
 
-abbrev pub turn_of : Thread → Turn
-turn_of x = record { regs = x.regs; status = x.status }
+abbrev pub turn_of : Thread → Option Finished → Turn
+turn_of x finished = record { regs = x.regs; status = x.status; finished = finished }
 
--- the thread of a number after it was set
-found_after : (threads : List Thread) (t : ℕ) (x after : Thread) → slice_get threads t ≡ Some x → slice_get (slice_set threads t after) t ≡ Some after
-found_after threads t x after found =
-    let within : t < length threads = slice_get_within threads t x found in
-    let still : t < length (set threads t after) = rw length-set within in
-    slice_get-get_or (set threads t after) t after still ∙ ap Some (get_or-set_at threads t t after after refl within)
+few_left : (more budget : ℕ) (status : ThreadStatus) → budget ≤ MOST_BUDGET → steps_left more budget status ≤ MOST_BUDGET + more + 1
+few_left more budget Running few = omega (arith, few)
+few_left more budget Idle few = omega arith
+few_left more budget (Done code) few = omega arith
+few_left more budget (Faulted f) few = omega arith
 
-work_after : (threads : List Thread) (t : ℕ) (x after : Thread) → slice_get threads t ≡ Some x → steps_left after.budget after.status < steps_left x.budget x.status →
-    sum_by (λ y. steps_left y.budget y.status) (slice_set threads t after) < sum_by (λ y. steps_left y.budget y.status) threads
-work_after threads t x after found less =
-    let within : t < length threads = slice_get_within threads t x found in
-    let left = λ (y : Thread). steps_left y.budget y.status in
-    let had : left (get_or threads t x) ≡ left x = ap left (get_or_from_slice_get threads t x x found) in
-    let moved : sum_by left (set threads t after) + left (get_or threads t x) ≡ sum_by left threads + left after = sum_by-set left threads t after x within in
-    omega (arith, had, moved, less)
+-- a world that was reaped by the contexts of threads and the homes of so many workers
+pub reaped_as : (v w : World) (ts threads : List Thread) (workers : ℕ) (serve : Option Serve) → v ≡ reap w (contexts_of ts ++ homes_of workers) → ts ≡ threads → homes_of workers ≡ homes serve → v ≡ reap w (roots threads serve)
+reaped_as v w ts threads workers serve is same homes_are =
+    is ∙ ap (λ (l : List Thread). reap w (contexts_of l ++ homes_of workers)) same ∙ ap (λ (l : List Name). reap w (contexts_of threads ++ l)) homes_are
 
-few_left : (budget : ℕ) (status : ThreadStatus) → budget ≤ MOST_BUDGET → steps_left budget status ≤ MOST_BUDGET
-few_left budget Running few = few
-few_left budget Idle few = omega arith
-few_left budget (Done code) few = omega arith
-few_left budget (Faulted f) few = omega arith
+pub reaped_back : (v : World) (ts threads : List Thread) (workers : ℕ) (serve : Option Serve) → ts ≡ threads → homes_of workers ≡ homes serve → IsReaped v (roots threads serve) → IsReaped v (contexts_of ts ++ homes_of workers)
+reaped_back v ts threads workers serve same homes_are reaped =
+    subst (λ (l : List Thread). IsReaped v (contexts_of l ++ homes_of workers)) (sym same) (subst (λ (l : List Name). IsReaped v (contexts_of threads ++ l)) (sym homes_are) reaped)
+
+-- a fact of all roots is one of the contexts of threads, and of the homes
+pub contexts_part : (P : Name → Type 0) (threads : List Thread) (names : List Name) → All P (contexts_of threads ++ names) → All (λ (x : Thread). P x.context) threads
+contexts_part P [] names all = All-nil _
+contexts_part P (x ∷ xs) names all =
+    All-cons (λ (y : Thread). P y.context) x xs (all 0 x.context (omega arith)) (contexts_part P xs names (λ k d within. all (suc k) d (omega (arith, within))))
+
+pub homes_part : (P : Name → Type 0) (threads : List Thread) (names : List Name) → All P (contexts_of threads ++ names) → All P names
+homes_part P [] names all = all
+homes_part P (x ∷ xs) names all = homes_part P xs names (λ k d within. all (suc k) d (omega (arith, within)))
+
+same_number : (t : ℕ) → eqb t t ≡ true
+same_number t = grind (arith, nat_tests)
 
 -- the history under another name
 pub as_seen : (m : Machine) (most : ℕ) (h value : History) → h ≡ value → IsSteady m most h → IsSteady m most value
@@ -93,13 +103,14 @@ steady_as m most now h after peak_is is steady =
     subst (λ (n : ℕ). IsSteady m n after) (sym peak_is) (subst (IsSteady m most) (sym is) steady)
 
 -- a kernel whose parts are those of a start
-pub steady_start : (inputs : Inputs) (steps : List ℕ) (room : ℕ) (threads : List Thread) (w : World) (io : Channels) (text : List Instr) (most : ℕ) → CanOpen inputs →
-    room ≤ MOST_STEPS → steps ≡ [] → threads ≡ first_threads inputs.settings.budget inputs.image.entries → w ≡ start_world inputs.image inputs.settings.frames →
-    io ≡ channels.opened inputs.image.files inputs.requests → text ≡ inputs.image.text → most ≡ used w → IsSteady (machine w io threads text) most (record { inputs = inputs; steps = steps; room = room })
+pub steady_start : (inputs : Inputs) (steps : List ℕ) (room : ℕ) (threads : List Thread) (w : World) (io : Channels) (text : List Instr) (serve : Option Serve) (most : ℕ) → CanOpen inputs →
+    room ≤ MOST_STEPS → steps ≡ [] → threads ≡ threads_at inputs.image inputs.settings.budget inputs.settings.job → w ≡ world_for inputs.image inputs.settings.frames inputs.settings.job →
+    io ≡ channels.opened inputs.image.files inputs.requests → text ≡ inputs.image.text → serve ≡ serve_at inputs.settings.job inputs.settings.budget (length inputs.requests) → most ≡ used w →
+    IsSteady (machine w io threads text serve) most (record { inputs = inputs; steps = steps; room = room })
 unfolding machine_of start
-steady_start inputs steps room threads w io text most can short none threads_are world_is io_is text_is used_is =
-    let begun : machine w io threads text ≡ start inputs = λ i. machine (world_is i) (io_is i) (threads_are i) (text_is i) in
-    subst (λ (l : List ℕ). IsSteady (machine w io threads text) most (record { inputs = inputs; steps = l; room = room })) (sym none)
+steady_start inputs steps room threads w io text serve most can short none threads_are world_is io_is text_is serve_is used_is =
+    let begun : machine w io threads text serve ≡ start inputs = λ i. machine (world_is i) (io_is i) (threads_are i) (text_is i) (serve_is i) in
+    subst (λ (l : List ℕ). IsSteady (machine w io threads text serve) most (record { inputs = inputs; steps = l; room = room })) (sym none)
     (record { inputs = can; machine = begun; peak = used_is ∙ ap used world_is; room = omega (arith, short) })
 
 -- the history of a kernel's parts after one more step
@@ -109,20 +120,42 @@ one_longer image requests settings steps after room t value is appended =
     ap (λ (l : List ℕ). history image requests settings l (room - 1)) appended ∙ ap (λ h. longer h t) is
 
 -- what a step makes of a kernel
-pub record IsMade (m : Machine) (most t : ℕ) (outcome : Outcome) (h : History) : Type 0 where
+pub record IsMade (m : Machine) (most t : ℕ) (after : AfterStep) (h : History) : Type 0 where
   pub going : is_ended (machine_of h) t ≡ false
   pub kept : stepped h t ≡ longer h t
-  pub live : All (λ (y : Thread). is_live outcome.environment.world y.context ≡ true) (slice_set m.threads t outcome.thread)
-  pub steady : 0 < h.room → (u : World) → u ≡ reap outcome.environment.world (roots (slice_set m.threads t outcome.thread)) →
-      IsSteady (record m { threads = slice_set m.threads t outcome.thread; environment = with_world outcome.environment u }) (max most (used u)) (longer h t)
-  pub turn : turn (longer h t) t ≡ Some (turn_of outcome.thread)
+  pub live : All (λ c. is_live after.environment.world c ≡ true) (roots (slice_set m.threads t after.thread) after.serve)
+  pub steady : 0 < h.room → (u : World) → u ≡ reap after.environment.world (roots (slice_set m.threads t after.thread) after.serve) →
+      IsSteady (record m { threads = slice_set m.threads t after.thread; environment = with_world after.environment u; serve = after.serve }) (max most (used u)) (longer h t)
+  pub turn : turn (longer h t) t ≡ Some (turn_of after.thread after.finished)
   pub less : work (machine_of (longer h t)) < work (machine_of h)
 
 -- what a step by a thread that has ended makes of a kernel
 pub record IsRest (t : ℕ) (x : Thread) (h : History) : Type 0 where
   pub ended : is_ended (machine_of h) t ≡ true
   pub kept : stepped h t ≡ h
-  pub turn : turn h t ≡ Some (turn_of x)
+  pub turn : turn h t ≡ Some (turn_of x None)
+
+-- no step changes the number of workers
+homes_after : (t : ℕ) (e : Environment) (serve : Option Serve) (text : List Instr) (x : Thread) (status : ThreadStatus) (after : AfterStep) → thread_outcome guest_calls t e serve text x status ≡ Some after → homes after.serve ≡ homes serve
+homes_after t e None text x Running after made = let is : only None (advance_outcome guest_calls t e x (advanced text x.regs)) ≡ after = cc in ap (λ (a : AfterStep). homes a.serve) (sym is)
+homes_after t e None text x Idle after made = let is : only None (unchanged e (with_status x (Done 0))) ≡ after = cc in ap (λ (a : AfterStep). homes a.serve) (sym is)
+homes_after t e (Some s) text x Running after made =
+    let outcome = advance_outcome guest_calls t e x (advanced text x.regs) in
+    let is : cond (has_ended outcome.thread.status) (finish t s outcome) (only (Some s) outcome) ≡ after = cc in
+    ap (λ (a : AfterStep). homes a.serve) (sym is) ∙ settled_homes outcome (has_ended outcome.thread.status)
+  where
+    settled_homes : (outcome : Outcome) (b : Bool) → homes (cond b (finish t s outcome) (only (Some s) outcome)).serve ≡ homes (Some s)
+    settled_homes outcome true = refl
+    settled_homes outcome false = refl
+homes_after t e (Some s) text x Idle after made =
+    let is : cond (ltb s.next (length e.channels.requests)) (begin_next t s e) (only (Some s) (unchanged e (with_status x (Done 0)))) ≡ after = cc in
+    ap (λ (a : AfterStep). homes a.serve) (sym is) ∙ woken_homes (ltb s.next (length e.channels.requests))
+  where
+    woken_homes : (b : Bool) → homes (cond b (begin_next t s e) (only (Some s) (unchanged e (with_status x (Done 0))))).serve ≡ homes (Some s)
+    woken_homes true = refl
+    woken_homes false = refl
+homes_after t e serve text x (Done code) after made = cc
+homes_after t e serve text x (Faulted f) after made = cc
 
 module _ (facts : RunFacts) (m : Machine) (most : ℕ) (h : History) (steady : IsSteady m most h) where
   pub is_ready : IsReady h.inputs (length h.steps) m
@@ -134,16 +167,57 @@ module _ (facts : RunFacts) (m : Machine) (most : ℕ) (h : History) (steady : I
   within t few = omega (arith, few, is_ready.count)
 
   -- the steps that are left fit a number of 32 bits
-  pub work_fits : (threads : List Thread) → threads ≡ m.threads → sum_by (λ x. steps_left x.budget x.status) threads < 2 ^ 32
-  work_fits threads same =
-      let left = λ (x : Thread). steps_left x.budget x.status in
-      let each = All-weaker (IsReadyThread m.environment.world) (λ x. left x ≤ MOST_BUDGET) (λ x is. few_left x.budget x.status is.budget) m.threads is_ready.threads in
-      omega (arith, sum_by-le left MOST_BUDGET m.threads each, is_ready.few, ap (sum_by left) same)
+  pub threads_fit : (more : ℕ) (threads : List Thread) → more ≤ 1 → threads ≡ m.threads → sum_by (λ x. steps_left more x.budget x.status) threads ≤ 1600032
+  threads_fit more threads few same =
+      let left = λ (x : Thread). steps_left more x.budget x.status in
+      let each = All-weaker (IsReadyThread m.environment.world) (λ x. left x ≤ 100002) (λ x is. let one = few_left more x.budget x.status is.budget in omega (arith, one, few)) m.threads is_ready.threads in
+      omega (arith, sum_by-le left 100002 m.threads each, is_ready.few, ap (sum_by left) same)
 
-  -- and are the machine's work
-  pub work_is : (threads : List Thread) → threads ≡ m.threads → sum_by (λ x. steps_left x.budget x.status) threads ≡ work (machine_of h)
+  pub budgets_fit : (threads : List Thread) → threads ≡ m.threads → All (λ x. x.budget ≤ MOST_BUDGET) threads
+  budgets_fit threads same =
+      subst (All (λ (x : Thread). x.budget ≤ MOST_BUDGET)) (sym same) (All-weaker (IsReadyThread m.environment.world) (λ x. x.budget ≤ MOST_BUDGET) (λ x is. is.budget) m.threads is_ready.threads)
+
+  -- each thread makes one step more at most after its budget
+  pub work_fits : (threads : List Thread) → threads ≡ m.threads → sum_by (λ x. steps_left (steps_after m.serve) x.budget x.status) threads ≤ 1600032
+  work_fits threads same = threads_fit (steps_after m.serve) threads (at_most_one m.serve) same
+    where
+      at_most_one : (serve : Option Serve) → steps_after serve ≤ 1
+      at_most_one None = omega arith
+      at_most_one (Some s) = omega arith
+
+  pub serve_fits : (requests : ℕ) → requests ≡ length m.environment.channels.requests → IfSome m.serve (λ s. (s.next ≤ requests) × (s.budget ≤ MOST_BUDGET))
+  serve_fits requests same = by_serve m.serve is_ready.serve
+    where
+      by_serve : (serve : Option Serve) → IfSome serve (IsReadyServe h.inputs m) → IfSome serve (λ s. (s.next ≤ requests) × (s.budget ≤ MOST_BUDGET))
+      by_serve None is = tt
+      by_serve (Some s) is = (omega (arith, is.next, same, ap (λ (l : List (List ℕ)). length l) is_ready.given_requests), is.budget.1)
+
+  pub requests_fit : (requests : ℕ) → requests ≡ length m.environment.channels.requests → requests ≤ 1024
+  requests_fit requests same = omega (arith, same, ap (λ (l : List (List ℕ)). length l) is_ready.given_requests, is_ready.few_requests)
+
+  pub work_seen : (threads : List Thread) (requests : ℕ) → threads ≡ m.threads → requests ≡ length m.environment.channels.requests →
+      sum_by (λ x. steps_left (steps_after m.serve) x.budget x.status) threads + steps_for_requests m.serve requests ≡ work (machine_of h)
   unfolding work
-  work_is threads same = ap (sum_by (λ (x : Thread). steps_left x.budget x.status)) same ∙ ap work steady.machine
+  work_seen threads requests same count =
+      ap (λ (l : List Thread). sum_by (λ (x : Thread). steps_left (steps_after m.serve) x.budget x.status) l + steps_for_requests m.serve requests) same
+      ∙ ap (λ (n : ℕ). sum_by (λ (x : Thread). steps_left (steps_after m.serve) x.budget x.status) m.threads + steps_for_requests m.serve n) count
+      ∙ ap work steady.machine
+
+  -- each request has a place for its record
+  pub replies_fit : (r : ℕ) → r < length h.inputs.requests → IfSome m.serve (λ s. r < length s.replies)
+  replies_fit r few = by_serve m.serve is_ready.serve
+    where
+      by_serve : (serve : Option Serve) → IfSome serve (IsReadyServe h.inputs m) → IfSome serve (λ s. r < length s.replies)
+      by_serve None is = tt
+      by_serve (Some s) is = omega (arith, is.replies, few)
+
+  pub reply_seen : (r : ℕ) → in_serve m.serve r ≡ reply_of (machine_of h) r
+  unfolding reply_of
+  reply_seen r = ap (λ (k : Machine). in_serve k.serve r) steady.machine
+
+  -- the machine's work
+  pub work_is : work m ≡ work (machine_of h)
+  work_is = ap work steady.machine
 
   module _ (t : ℕ) (x : Thread) (few : t < thread_count h.inputs) (index : x ≡ get_or m.threads t x) where
     pub found : slice_get m.threads t ≡ Some x
@@ -158,6 +232,16 @@ module _ (facts : RunFacts) (m : Machine) (most : ℕ) (h : History) (steady : I
         while_running (IsRunnable m.environment.world x) (0 < x.budget) x.status (λ runs. omega (arith, runs.some_step))
         (ready_thread h.inputs (length h.steps) t m x is_ready found).runs
 
+    -- in a serve it is the worker of this number
+    pub serves : IfSome m.serve (λ s. (t < s.workers) × HasItsJob s x.status x.job)
+    serves = by_serve m.serve is_ready.serve
+      where
+        by_serve : (serve : Option Serve) → IfSome serve (IsReadyServe h.inputs m) → IfSome serve (λ s. (t < s.workers) × HasItsJob s x.status x.job)
+        by_serve None is = tt
+        by_serve (Some s) is =
+            let here : IsWorker s x = subst (λ (y : Thread). IsWorker s y) (get_or_from_slice_get m.threads t x x found) (All-get_or (IsWorker s) m.threads t x (within t few) is.threads) in
+            (omega (arith, within t few, is.count), here.job)
+
     ended_as : is_ended (machine_of h) t ≡ has_ended x.status
     unfolding is_ended
     ended_as = ap (λ (k : Machine). is_ended k t) (sym steady.machine) ∙ ap (λ o. option_map_or (λ (y : Thread). has_ended y.status) o true) found
@@ -168,22 +252,34 @@ module _ (facts : RunFacts) (m : Machine) (most : ℕ) (h : History) (steady : I
     viewed = ap (λ (k : Machine). view_of k t) (sym steady.machine) ∙ ap (option_map (λ (y : Thread). record { status = y.status; context = y.context; regs = y.regs })) found
 
     -- and its turn
-    pub last_turn : turn h t ≡ Some (turn_of x)
+    pub last_turn : (finished : Option Finished) → last_finished (start h.inputs) h.steps t None ≡ finished → turn h t ≡ Some (turn_of x finished)
     unfolding turn
-    last_turn = ap (λ (k : Machine). option_map turn_of (slice_get k.threads t)) (sym steady.machine) ∙ ap (option_map turn_of) found
+    last_turn finished is =
+        ap (λ (f : Option Finished). option_map (λ y. turn_of y f) (slice_get (machine_of h).threads t)) is
+        ∙ ap (λ (k : Machine). option_map (λ y. turn_of y finished) (slice_get k.threads t)) (sym steady.machine) ∙ ap (option_map (λ y. turn_of y finished)) found
 
-    pub rested : thread_outcome guest_calls t m.environment m.text x x.status ≡ None → IsRest t x h
+    pub rested : thread_outcome guest_calls t m.environment m.serve m.text x x.status ≡ None → IsRest t x h
+    unfolding machine_of
     rested none =
-        let ended : is_ended (machine_of h) t ≡ true = ended_as ∙ had_ended t m.environment m.text x x.status none in
+        let ended : is_ended (machine_of h) t ≡ true = ended_as ∙ had_ended t m.environment m.serve m.text x x.status none in
         record {
           ended = ended;
           kept = stepped_by h t true ended;
-          turn = last_turn;
+          turn = last_turn None (ended_none (start h.inputs) h.steps t None (λ was. refl) ended);
         }
 
-    module _ (outcome : Outcome) (made : thread_outcome guest_calls t m.environment m.text x x.status ≡ Some outcome) where
+    module _ (made_after : AfterStep) (made : thread_outcome guest_calls t m.environment m.serve m.text x x.status ≡ Some made_after) where
       after : Machine
-      after = after_outcome m t (Some outcome)
+      after = after_outcome m t (Some made_after)
+
+      finished_here : last_finished (start h.inputs) (h.steps ++ t ∷ []) t None ≡ made_after.finished
+      unfolding machine_of finishes
+      finished_here =
+          finished-push (start h.inputs) h.steps t t None
+          ∙ ap (λ b. cond b (finishes (machine_of h) t) (last_finished (start h.inputs) h.steps t None)) (same_number t)
+          ∙ ap (λ (k : Machine). finishes k t) (sym steady.machine)
+          ∙ ap (finished_of m t) found
+          ∙ ap finished_in made
 
       -- the machine that the kernel comes to
       machine_after : after ≡ machine_of (longer h t)
@@ -204,22 +300,23 @@ module _ (facts : RunFacts) (m : Machine) (most : ℕ) (h : History) (steady : I
           ∙ ap (λ (k : Machine). max (peak (start h.inputs) h.steps) (frames_of k)) (machine_after ∙ run-push (start h.inputs) h.steps t)
           ∙ sym (peak-push (start h.inputs) h.steps t)
 
-      pub made_step : IsMade m most t outcome h
-      unfolding turn work after
+      pub made_step : IsMade m most t made_after h
+      unfolding turn after
       made_step =
-          let going : is_ended (machine_of h) t ≡ false = ended_as ∙ not_ended t m.environment m.text x x.status outcome made in
-          let fewer = facts.fewer h.inputs (length h.steps) t m x outcome is_ready found made in
+          let going : is_ended (machine_of h) t ≡ false = ended_as ∙ not_ended t m.environment m.serve m.text x x.status made_after made in
+          let fewer = facts.fewer h.inputs (length h.steps) t m x made_after is_ready found made in
           record {
             going = going;
             kept = stepped_by h t false going;
-            live = facts.live h.inputs (length h.steps) t m x outcome is_ready found made;
+            live = facts.live h.inputs (length h.steps) t m x made_after is_ready found made;
             steady = λ some u reaped.
-                subst (λ (u : World). IsSteady (record m { threads = slice_set m.threads t outcome.thread; environment = with_world outcome.environment u }) (max most (used u)) (longer h t)) (sym reaped)
+                subst (λ (u : World). IsSteady (record m { threads = slice_set m.threads t made_after.thread; environment = with_world made_after.environment u; serve = made_after.serve }) (max most (used u)) (longer h t)) (sym reaped)
                 (record { inputs = steady.inputs; machine = machine_after; peak = peak_after; room = one_less some });
-            turn = ap (λ (k : Machine). option_map turn_of (slice_get k.threads t)) (sym machine_after)
-                ∙ ap (option_map turn_of) (found_after m.threads t x outcome.thread found);
+            turn = ap (λ (f : Option Finished). option_map (λ y. turn_of y f) (slice_get (machine_of (longer h t)).threads t)) finished_here
+                ∙ ap (λ (k : Machine). option_map (λ y. turn_of y made_after.finished) (slice_get k.threads t)) (sym machine_after)
+                ∙ ap (option_map (λ y. turn_of y made_after.finished)) (found_set m.threads t x made_after.thread found);
             less = subst (λ (k : Machine). work k < work (machine_of h)) machine_after
-                (subst (λ (k : Machine). work after < work k) steady.machine (work_after m.threads t x outcome.thread found fewer));
+                (subst (λ (k : Machine). work after < work k) steady.machine fewer);
           }
 
   -- what was used last is not above the peak
@@ -229,28 +326,36 @@ module _ (facts : RunFacts) (m : Machine) (most : ℕ) (h : History) (steady : I
       let last : frames_of (machine_of h) ≤ peak (start h.inputs) h.steps = used_last (start h.inputs) h.steps in
       omega (arith, last, steady.peak, ap frames_of steady.machine)
 
-  module _ (t : ℕ) (x y : Thread) (v : World) (after : Channels) (change : Option Change) (few : t < thread_count h.inputs) (index : x ≡ get_or m.threads t x)
-      (outcome : thread_outcome guest_calls t m.environment m.text x x.status ≡ made change (beside v after) y) where
-    -- a step of the code
-    pub made_here : (c : Change) → change ≡ Some c → IsMade m most t (unchanged (beside v after) y) h
-    made_here c is = made_step t x few index (unchanged (beside v after) y) (outcome ∙ ap (λ k. made k (beside v after) y) is)
+  module _ (t : ℕ) (x y : Thread) (v : World) (after : Channels) (serve : Option Serve) (effect : Option Effect) (few : t < thread_count h.inputs) (index : x ≡ get_or m.threads t x)
+      (outcome : thread_outcome guest_calls t m.environment m.serve m.text x x.status ≡ made effect (beside v after) serve y) where
+    made_as : (f : Effect) → effect ≡ Some f → thread_outcome guest_calls t m.environment m.serve m.text x x.status ≡ Some (after_effect f (beside v after) serve y)
+    made_as f is = outcome ∙ ap (λ k. made k (beside v after) serve y) is
 
-    module _ (keeps : KeepsAll change m.environment.world m.environment.channels x v after y) where
+    -- a step of the code
+    pub made_here : (f : Effect) → effect ≡ Some f → IsMade m most t (after_effect f (beside v after) serve y) h
+    made_here f is = made_step t x few index (after_effect f (beside v after) serve y) (made_as f is)
+
+    -- which leaves the homes
+    pub homes_here : (f : Effect) → effect ≡ Some f → homes serve ≡ homes m.serve
+    homes_here f is = homes_after t m.environment m.serve m.text x x.status (after_effect f (beside v after) serve y) (made_as f is)
+
+    module _ (keeps : KeepsAll effect m.environment.world m.environment.channels m.serve x v after serve y) where
       -- or of a thread that has ended
-      pub rested_here : change ≡ None → IsRest t y h
+      pub rested_here : effect ≡ None → IsRest t y h
       rested_here is =
-          let stays : y ≡ x = (subst (λ (k : Option Change). KeepsAll k m.environment.world m.environment.channels x v after y) is keeps).1.1 in
-          subst (λ (z : Thread). IsRest t z h) (sym stays) (rested t x few index (outcome ∙ ap (λ k. made k (beside v after) y) is))
+          let stays : y ≡ x = (subst (λ (k : Option Effect). KeepsAll k m.environment.world m.environment.channels m.serve x v after serve y) is keeps).1.1.1 in
+          subst (λ (z : Thread). IsRest t z h) (sym stays) (rested t x few index (outcome ∙ ap (λ k. made k (beside v after) serve y) is))
 
       -- a step that may cut no link leaves nothing to drop
-      pub nothing_left : (c : Change) → change ≡ Some c → c ≢ changes.Links → IsReaped v (roots (slice_set m.threads t y))
-      nothing_left c is other =
-          uncut c m.environment.world v m.threads t x y (subst (λ (k : Option Change). KeepsAll k m.environment.world m.environment.channels x v after y) is keeps) other (found t x few index) is_ready.reaped
+      pub nothing_left : (f : Effect) → effect ≡ Some f → f.change ≢ changes.Links → IsReaped v (roots (slice_set m.threads t y) serve)
+      nothing_left f is other =
+          subst (λ (l : List Name). IsReaped v (contexts_of (slice_set m.threads t y) ++ l)) (sym (homes_here f is))
+          (uncut f.change m.environment.world v m.threads m.serve t x y (subst (λ (k : Option Effect). KeepsAll k m.environment.world m.environment.channels m.serve x v after serve y) is keeps) other (found t x few index) is_ready.reaped)
 
       -- a change of the thread alone does not raise the peak
-      pub used_kept : (c : Change) (u : World) → change ≡ Some c → u ≡ reap v (roots (slice_set m.threads t y)) → c ≡ changes.Thread → used u ≤ most
-      used_kept c u is reaped thread =
-          let some : change ≡ Some changes.Thread = is ∙ ap Some thread in
-          let kept : Keeps changes.Thread m.environment.world x v y = subst (λ (k : Option Change). KeepsAll k m.environment.world m.environment.channels x v after y) some keeps in
-          let left = nothing_left changes.Thread some (λ same. cc) in
-          omega (arith, ap used (reaped ∙ facts.same v (roots (slice_set m.threads t y)) left ∙ kept.0), used_below)
+      pub used_kept : (f : Effect) (u : World) → effect ≡ Some f → u ≡ reap v (roots (slice_set m.threads t y) serve) → f.change ≡ changes.Thread → used u ≤ most
+      used_kept f u is reaped thread =
+          let kept : Keeps f.change m.environment.world x v y = subst (λ (k : Option Effect). KeepsAll k m.environment.world m.environment.channels m.serve x v after serve y) is keeps in
+          let alone : Keeps changes.Thread m.environment.world x v y = subst (λ (c : Change). Keeps c m.environment.world x v y) thread kept in
+          let left = nothing_left f is (λ same. let both : changes.Thread ≡ changes.Links = sym thread ∙ same in cc) in
+          omega (arith, ap used (reaped ∙ facts.same v (roots (slice_set m.threads t y) serve) left ∙ alone.0), used_below)

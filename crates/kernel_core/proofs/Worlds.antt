@@ -10,44 +10,48 @@ use Rattle.std.proofs.lemmas.Cmp.{tied_itself}
 use Rattle.std.proofs.lemmas.List.Sums.{count_by-le-length}
 use Rattle.std.proofs.lemmas.List.FromFn.{length-range_with_len}
 use Rattle.kernel_core.specs.Ready.{IsWithinLimits}
-use Rattle.lwc_base.specs.Cells.{put_slot, slot_at}
+use Rattle.lwc_base.specs.Cells.{put_slot, put_uid, slot_at}
 use Rattle.lwc_base.specs.Channels.{Channels, HasItsFiles, IsInRange}
 use Rattle.lwc_base.specs.Facts.{AddsContext, ChangeFacts, CountFacts, KeepsNames, OrderFacts, SharesValues, TakesTags}
 use Rattle.lwc_base.specs.Frames.{is_parting}
 use Rattle.lwc_base.specs.Fresh.{IsFresh}
-use Rattle.lwc_base.specs.Holders.{IsGroup}
-use Rattle.lwc_base.specs.Life.{HasItsContexts, IsReaped, Reaches, is_of, reap}
-use Rattle.lwc_base.specs.Mapping.{map_pages}
+use Rattle.lwc_base.specs.Holders.{InContext, IsGroup}
+use Rattle.lwc_base.specs.Life.{HasItsContexts, IsReaped, Reaches, is_among, is_of, is_reached, reap}
+use Rattle.lwc_base.specs.Jobs.{IsOwnName, NamesKeepToJobs, own_names}
+use Rattle.lwc_base.specs.Mapping.{map_pages, unmap_pages}
 use Rattle.lwc_base.specs.Memory.{touched}
 use Rattle.lwc_base.specs.Modes.{IsSpec}
 use Rattle.lwc_base.specs.Names.{name_cmp}
 use Rattle.lwc_base.specs.Overlay.{overlay}
 use Rattle.lwc_base.specs.Saved.{save}
 use Rattle.lwc_base.specs.Refusals.{first_refusal}
-use Rattle.lwc_base.specs.Sharing.{clone_context, needs_group, share}
-use Rattle.lwc_base.specs.Sound.{IsSound}
+use Rattle.lwc_base.specs.Ranges.{ranges_of}
+use Rattle.lwc_base.specs.Sharing.{clone_context, needs_group, ranges_after_clone, share}
+use Rattle.lwc_base.specs.Sound.{HasItsGroups, IsSound}
 use Rattle.lwc_base.specs.Store.{Absent, Done, Full, Piece, after_store, page_value_at, parting_count, store}
-use Rattle.lwc_base.specs.World.{World, Context, Counters, add_context, empty_world, groups_of, is_live, live_of, new_context, next_context, next_group}
+use Rattle.lwc_base.specs.World.{World, Context, Counters, add_context, context, empty_world, groups_of, is_live, live_of, new_context, next_context, next_group}
 use Rattle.lwc_base.specs.declared.answer.Answer.TheVariants as answers
 use Rattle.lwc_base.specs.declared.answer.Moved.TheVariants.{To}
 use Rattle.lwc_base.specs.declared.descriptor.Cap.{Cap}
 use Rattle.lwc_base.specs.declared.descriptor.Descriptor.{Descriptor}
-use Rattle.lwc_base.specs.declared.descriptor.Descriptor.TheVariants.{Ctx}
+use Rattle.lwc_base.specs.declared.descriptor.Descriptor.TheVariants.{Ctx, Reply, Request}
 use Rattle.lwc_base.specs.declared.descriptor.TheConstants.{SLOTS}
 use Rattle.lwc_base.specs.declared.item.Item.{Item}
 use Rattle.lwc_base.specs.declared.limits.TheConstants.{MOST_CONTEXTS_OF_JOB, MOST_GROUPS_OF_JOB}
 use Rattle.lwc_base.specs.declared.name.Name.{Name}
 use Rattle.lwc_base.specs.declared.regs.Regs.{Regs}
 use Rattle.lwc_base.specs.declared.size.WorldSize.{WorldSize}
-use Rattle.lwc_create.specs.Create.{items_of, refusals}
+use Rattle.lwc_create.specs.Create.{create, items_of, refusals}
 use Rattle.lwc_overlay.specs.OverlayCall.{IsTaken}
 use Rattle.lwc_overlay.specs.OverlayCall as overlaying
 use Rattle.lwc_overlay.specs.RestrictCall.{IsRestriction, restrict}
 use Rattle.lwc_switch.specs.Switch.{IsSwitch, switch}
 use Rattle.lwc_syscall.specs.Changes.{IsPlainChange, IsWell, KeepsNumbers}
 use Rattle.lwc_syscall.specs.Plain.{plain}
+use Rattle.lwc_syscall.specs.Syscall as syscalls
 use Rattle.lwc_syscall.specs.Syscall.{lw_syscall}
 use Rattle.lwc_syscall.specs.declared.calls.Three.{Three}
+use Rattle.snapshot_host.specs.Begin.{begin}
 
 -- the changes that keep a world sound
 pub record SoundFacts : Type 0 where
@@ -104,6 +108,51 @@ pub record LifeFacts : Type 0 where
   pub was_group : (w : World) (roots : List Name) (g : Name) → IsGroup (reap w roots) g → IsGroup w g
   pub rest : (w : World) (roots : List Name) → ((reap w roots).size ≡ w.size) × ((reap w roots).next ≡ w.next)
   pub reaped : (w : World) (roots : List Name) → IsReaped (reap w roots) roots
+  pub context : (w : World) (roots : List Name) (c : Name) → is_live (reap w roots) c ≡ true → context (reap w roots) c ≡ context w c
+  pub reached : (w : World) (roots : List Name) (c : Name) → is_live (reap w roots) c ≡ true → Reaches w roots c
+  pub found : (w : World) (roots : List Name) (c : Name) → Reaches w roots c → is_live w c ≡ true → is_reached w roots c ≡ true
+  pub chain : (w : World) (roots : List Name) (c : Name) → is_reached w roots c ≡ true → Reaches w roots c
+
+-- what each change of a world keeps of names, and what is known where they keep to their jobs
+pub record NameFacts : Type 0 where
+  pub add : (w : World) (job : ℕ) (x : Context) → InContext own_names job x → NamesKeepToJobs w → NamesKeepToJobs (add_context w job x)
+  pub slot : (w : World) (c : Name) (n : ℕ) (value : Descriptor) → IsOwnName c.job value → NamesKeepToJobs w → NamesKeepToJobs (put_slot w c n value)
+  pub uid : (w : World) (c : Name) (uid : ℕ) → NamesKeepToJobs w → NamesKeepToJobs (put_uid w c uid)
+  pub map : (w : World) (c : Name) (from to : ℕ) → NamesKeepToJobs w → NamesKeepToJobs (map_pages w c from to)
+  pub unmap : (w : World) (c : Name) (from to : ℕ) → NamesKeepToJobs w → NamesKeepToJobs (unmap_pages w c from to)
+  pub store : (w : World) (c : Name) (job : ℕ) (piece : Piece) → NamesKeepToJobs w → NamesKeepToJobs (after_store w c job piece)
+  pub clone : (w : World) (c : Name) (items : List Item) (entry : Regs) → is_live w c ≡ true → NamesKeepToJobs w → NamesKeepToJobs (clone_context w c c.job items entry)
+  pub save : (w : World) (c : Name) (t : ℕ) (regs : Regs) → NamesKeepToJobs w → NamesKeepToJobs (save w c t regs)
+  pub overlay : (w : World) (c d : Name) (items : List Item) → is_live w d ≡ true → d.job ≡ c.job → NamesKeepToJobs w → NamesKeepToJobs (overlay w c d c.job items)
+  pub reap : (w : World) (roots : List Name) → NamesKeepToJobs w → NamesKeepToJobs (reap w roots)
+  pub read : (w : World) (c : Name) (n : ℕ) → is_live w c ≡ true → NamesKeepToJobs w → IsOwnName c.job (slot_at w c n)
+  pub reached : (w : World) (roots : List Name) (c : Name) → NamesKeepToJobs w → Reaches w roots c → (root : Name) × (is_among roots root ≡ true) × (root.job ≡ c.job)
+  pub allowed : (w : World) (c : Name) (regs : Regs) → HasItsContexts w → is_live w c ≡ true → first_refusal (syscalls.refusals w c regs) ≡ None → syscalls.IsAllowed w c regs
+
+-- what an act for a job leaves: names keep to their jobs, and contexts and counters of other jobs are as before
+pub record StaysInJob (job : ℕ) (w v : World) : Type 0 where
+  pub kept : NamesKeepToJobs v
+  pub contexts : (d : Name) → d.job ≢ job → context v d ≡ context w d
+  pub next : (j : ℕ) → j ≢ job → v.next j ≡ w.next j
+
+-- what acts leave of the names and contexts of other jobs
+pub record JobFacts : Type 0 where
+  pub stored : (w v : World) (io : Channels) (c : Name) (job : ℕ) (piece : Piece) → NamesKeepToJobs w → IsWell w io → is_live w c ≡ true → c.job ≡ job → store w c job piece ≡ Done v → StaysInJob job w v
+  pub created : (w : World) (io : Channels) (c : Name) (job : ℕ) (regs : Regs) → NamesKeepToJobs w → IsWell w io → is_live w c ≡ true → c.job ≡ job → StaysInJob job w (create w c job regs).1
+  pub switched : (w : World) (io : Channels) (c : Name) (t : ℕ) (regs : Regs) → NamesKeepToJobs w → IsWell w io → is_live w c ≡ true → StaysInJob c.job w (switch w c t regs).1
+  pub moved : (w : World) (io : Channels) (c d : Name) (t : ℕ) (regs arrived : Regs) → NamesKeepToJobs w → IsWell w io → is_live w c ≡ true → (switch w c t regs).0 ≡ To d arrived → d.job ≡ c.job
+  pub restricted : (w : World) (io : Channels) (c : Name) (regs : Regs) → NamesKeepToJobs w → IsWell w io → is_live w c ≡ true → StaysInJob c.job w (restrict w c regs).1
+  pub overlaid : (w : World) (io : Channels) (c : Name) (job : ℕ) (regs : Regs) → NamesKeepToJobs w → IsWell w io → is_live w c ≡ true → c.job ≡ job → StaysInJob job w (overlaying.overlay w c job regs).1
+  pub plain : (w : World) (io : Channels) (c : Name) (job call : ℕ) (args : List ℕ) → NamesKeepToJobs w → IsWell w io → is_live w c ≡ true → c.job ≡ job → StaysInJob job w (plain w io (record { memory = c; slots = c; cred = c }) job call args).world
+  pub syscalled : (w : World) (io : Channels) (c : Name) (job : ℕ) (regs : Regs) → NamesKeepToJobs w → IsWell w io → is_live w c ≡ true → c.job ≡ job → StaysInJob job w (lw_syscall w io c job regs).world
+  pub begun : (w : World) (home : Name) (r : ℕ) → NamesKeepToJobs w → ((n : ℕ) (d : Name) → is_of d (slot_at w home n) ≡ false) → StaysInJob (r + 1) w (begin w home r)
+
+-- what is known of how a request begins
+pub record BeginFacts : Type 0 where
+  pub begun : (w : World) (home : Name) (r : ℕ) → begin w home r ≡ put_slot (put_slot (clone_context w home (r + 1) [] (context w home).entry) (next_context w (r + 1)) 1 (Reply r)) (next_context w (r + 1)) 0 (Request r 0)
+  pub same : (w : World) (home : Name) (job : ℕ) → share w home job [] ≡ w
+  pub no_group : (w : World) (home : Name) → needs_group w home [] ≡ false
+  pub ranges : (w : World) (home : Name) (job : ℕ) → HasItsGroups w → is_live w home ≡ true → ((ranges_after_clone w home job []).0 ≡ ranges_of w home) × ((ranges_after_clone w home job []).1 ≤ ranges_of w home)
 
 -- what is known of a call that makes a context and that no refusal stops
 pub record CreateFacts : Type 0 where
@@ -121,6 +170,8 @@ pub record WorldFacts : Type 0 where
   pub files : FileFacts
   pub life : LifeFacts
   pub calls : CallFacts
+  pub names : NameFacts
+  pub begins : BeginFacts
   pub switches : (w v : World) (c d : Name) (t : ℕ) (regs arrived : Regs) → HasItsContexts w → is_live w c ≡ true → switch w c t regs ≡ (To d arrived, v) → IsSwitch w v c d t regs arrived
   pub creates : CreateFacts
   pub restricts : (w v : World) (c : Name) (regs after : Regs) → restrict w c regs ≡ (answers.Done after, v) → IsRestriction w v c regs
@@ -170,17 +221,17 @@ then_grows job m n u v w first second = record {
 }
 
 -- a world stays within its limits where each new name bears the job, and there are few names
-limits_kept : (w v : World) (jobs : List ℕ) (job : ℕ) → Contains jobs job →
+limits_kept : (w v : World) (jobs : List ℕ) (job : ℕ) → Contains jobs job → 1 ≤ job →
     ((c : Name) → is_live v c ≡ true → (is_live w c ≡ true) ⊎ (c.job ≡ job)) → ((g : Name) → IsGroup v g → IsGroup w g ⊎ (g.job ≡ job)) →
     live_of v 0 ≡ live_of w 0 → ((j : ℕ) → live_of v j ≤ 32) → ((j : ℕ) → groups_of v j ≤ 64) → IsWithinLimits w jobs → IsWithinLimits v jobs
-limits_kept w v jobs job there contexts groups homes few_contexts few_groups limits = record {
+limits_kept w v jobs job there some contexts groups homes few_contexts few_groups limits = record {
   contexts = λ c live. elim (contexts c live) [
     | inl old ↦ limits.contexts c old
     | inr new ↦ subst (Contains (0 ∷ jobs)) (sym new) (suc there.0, omega (arith, there.1), there.2)
   ];
   groups = λ g live. elim (groups g live) [
     | inl old ↦ limits.groups g old
-    | inr new ↦ subst (Contains jobs) (sym new) there
+    | inr new ↦ (subst (Contains jobs) (sym new) there, omega (arith, new, some))
   ];
   homes = omega (arith, homes, limits.homes);
   few_contexts = few_contexts;
@@ -269,7 +320,7 @@ module _ (facts : WorldFacts) where
     size = size;
     counts = counts;
     limits = λ jobs there some limits.
-        limits_kept w v jobs job there (λ c is. inl (sym (live c) ∙ is)) (λ g is. inl (sym (groups g) ∙ is)) (live_as_before w v live 0)
+        limits_kept w v jobs job there some (λ c is. inl (sym (live c) ∙ is)) (λ g is. inl (sym (groups g) ∙ is)) (live_as_before w v live 0)
         (λ j. omega (arith, live_as_before w v live j, limits.few_contexts j)) (λ j. omega (arith, groups_as_before w v groups j, limits.few_groups j)) limits;
   }
 
@@ -329,7 +380,7 @@ module _ (facts : WorldFacts) where
     limits = λ jobs there some limits.
         let groups : (g : Name) → fm.contains_key v.groups g ≡ fm.contains_key w.groups g = λ g. ap (λ m. fm.contains_key m g) adds.groups in
         let count : (j : ℕ) → live_of v j ≡ cond (eqb j job) (live_of w j + 1) (live_of w j) = λ j. (facts.counts.context_added w v job j x fresh adds).0 in
-        limits_kept w v jobs job there
+        limits_kept w v jobs job there some
         (λ c live. elim (same_or_not c (next_context w job)) [
           | inl same ↦ inr (ap (λ (n : Name). n.job) same)
           | inr other ↦ inl (sym (adds.still_live c other) ∙ live)
@@ -368,7 +419,7 @@ module _ (facts : WorldFacts) where
       size = shares.size;
       counts = λ j. subst (λ (next : ℕ → Counters). RisesBy 1 (w.next j) (next j)) (sym (shares.next needs)) (rises_group (eqb j job) (w.next j));
       limits = λ jobs there some limits.
-          limits_kept w (share w c job items) jobs job there (λ d live. inl (sym (shares.live d) ∙ live))
+          limits_kept w (share w c job items) jobs job there some (λ d live. inl (sym (shares.live d) ∙ live))
           (λ g is. elim (same_or_not g (next_group w job)) [
             | inl same ↦ inr (ap (λ (n : Name). n.job) same)
             | inr other ↦ inl (sym (shares.still_live g other) ∙ is)

@@ -1,10 +1,11 @@
 -- How functions of the code say which outcome they have made.
 use Rattle.std.specs.Prelude.{◌≡◌, ℕ, if◌then◌else◌, List, Option, None, Some, slice_get, slice_set}
 use Rattle.std.specs.Option.{option_map}
-use Rattle.kernel_core.specs.Machine.{Environment}
-use Rattle.kernel_core.specs.Step.{Outcome, beside, unchanged}
+use Rattle.kernel_core.specs.Machine.{Environment, Serve}
+use Rattle.kernel_core.specs.Step.{AfterStep, Outcome, beside, unchanged}
 use Rattle.kernel_core.specs.declared.acting.Change.{Change}
 use Rattle.kernel_core.specs.declared.acting.Change.TheVariants as change
+use Rattle.kernel_core.specs.declared.acting.Effect.{Effect}
 use Rattle.kernel_core.specs.declared.thread.Thread.{Thread}
 use Rattle.lwc_base.specs.Channels.{Channels}
 use Rattle.lwc_base.specs.Life.{IsReaped}
@@ -54,11 +55,17 @@ change_by_end (Value value) accepted = accepted
 change_by_end (Exit code) accepted = accepted
 change_by_end (answers.Refused refusal) accepted = change.Thread
 
--- the outcome of a step, if one was made
-abbrev pub made : Option Change → Environment → Thread → Option Outcome
-made change e x = option_map (λ c. unchanged e x) change
+-- what a step leaves, by its effect
+abbrev pub after_effect : Effect → Environment → Option Serve → Thread → AfterStep
+after_effect effect e serve x =
+    record { thread = x; environment = e; serve = serve; finished = effect.finished }
 
--- by what a step has changed, if one was made; else the world, the channels and the thread are as they were
-abbrev pub KeepsAll : Option Change → World → Channels → Thread → World → Channels → Thread → Type 0
-KeepsAll None w io x v after y = (v ≡ w) × ((after ≡ io) × (y ≡ x))
-KeepsAll (Some change) w io x v after y = Keeps change w x v y
+-- what a step leaves, if one was made
+abbrev pub made : Option Effect → Environment → Option Serve → Thread → Option AfterStep
+made effect e serve x = option_map (λ f. after_effect f e serve x) effect
+
+-- by what a step has changed, if one was made; else everything is as it was
+abbrev pub KeepsAll :
+    Option Effect → World → Channels → Option Serve → Thread → World → Channels → Option Serve → Thread → Type 0
+KeepsAll None w io serve x v after now y = (v ≡ w) × ((after ≡ io) × ((now ≡ serve) × (y ≡ x)))
+KeepsAll (Some effect) w io serve x v after now y = Keeps effect.change w x v y

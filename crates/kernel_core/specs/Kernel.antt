@@ -1,22 +1,33 @@
 -- What contracts see of a kernel.
-use Rattle.std.specs.Prelude.{◌≡◌, ℕ, ◌-◌, ◌++◌, ◌∷◌, ◌≤◌, [], if◌then◌else◌, List, Option, length, slice_get}
+use Rattle.std.specs.Prelude.{◌≡◌, ℕ, ◌-◌, ◌++◌, ◌∷◌, ◌≤◌, [], All, if◌then◌else◌, List, None, Option, length, slice_get}
 use Rattle.std.specs.Option.{option_map}
 use Rattle.guest_image.specs.Limits.{IsImage}
 use Rattle.kernel_core.specs.Machine.{Machine, is_ended}
-use Rattle.kernel_core.specs.Runs.{run}
+use Rattle.kernel_core.specs.Runs.{last_finished, run}
 use Rattle.kernel_core.specs.Settings.{IsSettings}
 use Rattle.kernel_core.specs.Start.{Inputs, start}
-use Rattle.kernel_core.specs.declared.settings.Job.TheVariants.{Run}
+use Rattle.kernel_core.specs.declared.settings.Job.{Job}
+use Rattle.kernel_core.specs.declared.settings.Job.TheVariants.{Run, Serve}
 use Rattle.kernel_core.specs.declared.thread.ThreadView.{ThreadView}
 use Rattle.kernel_core.specs.declared.thread.Turn.{Turn}
+use Rattle.lwc_base.specs.declared.limits.TheConstants.{MOST_REQUESTS, MOST_REQUEST_BYTES}
 
--- what a kernel can be opened with: an image that fits the frames, the settings of a run, and no requests
+-- requests within their limits
+pub record AreRequests (requests : List (List ℕ)) : Type 0 where
+  pub few : length requests ≤ MOST_REQUESTS
+  pub short : All (λ request. length request ≤ MOST_REQUEST_BYTES) requests
+
+-- the requests that a job may have: a run has none
+abbrev pub MayHave : Job → List (List ℕ) → Type 0
+MayHave Run requests = requests ≡ []
+MayHave (Serve workers) requests = AreRequests requests
+
+-- what a kernel can be opened with: an image that fits the frames, settings, and requests of their job
 pub record CanOpen (inputs : Inputs) : Type 0 where
   pub image : IsImage inputs.image
   pub settings : IsSettings inputs.settings
   pub fits : length inputs.image.pages ≤ inputs.settings.frames
-  pub job : inputs.settings.job ≡ Run
-  pub requests : inputs.requests ≡ []
+  pub requests : MayHave inputs.settings.job inputs.requests
 
 -- a kernel: what it was opened with, the steps that it has kept, and how many more it has room for
 pub record History : Type 0 where
@@ -37,9 +48,14 @@ unfoldable pub stepped : History → ℕ → History
 stepped h t =
     if is_ended (machine_of h) t then h else record h { steps = h.steps ++ t ∷ []; room = h.room - 1 }
 
--- what the last step of a thread left of it: its registers and its status
+-- what the last step of a thread left: its registers, its status, and the request that this step finished, if it did
 unfoldable pub turn : History → ℕ → Option Turn
-turn h t = option_map (λ x. record { regs = x.regs; status = x.status }) (slice_get (machine_of h).threads t)
+turn h t =
+    option_map (λ x. record {
+      regs = x.regs;
+      status = x.status;
+      finished = last_finished (start h.inputs) h.steps t None;
+    }) (slice_get (machine_of h).threads t)
 
 -- what can be seen of a thread
 unfoldable pub view_of : Machine → ℕ → Option ThreadView

@@ -6,6 +6,7 @@ pub use Rattle.lwc_base.specs.Frames
 pub use Rattle.lwc_base.specs.Facts
 pub use Rattle.lwc_base.specs.Fresh
 pub use Rattle.lwc_base.specs.Holders
+pub use Rattle.lwc_base.specs.Jobs
 pub use Rattle.lwc_base.specs.Keys
 pub use Rattle.lwc_base.specs.Life
 pub use Rattle.lwc_base.specs.Mapping
@@ -30,6 +31,7 @@ pub use Rattle.guest_isa.specs.Opcodes
 pub use Rattle.guest_machine.specs.Advances
 pub use Rattle.guest_image.specs.Limits
 pub use Rattle.res_spec.specs.Items
+pub use Rattle.snapshot_host.specs.Begin
 pub use Rattle.lwc_create.specs.Create
 pub use Rattle.lwc_overlay.specs.OverlayCall
 pub use Rattle.lwc_overlay.specs.RestrictCall

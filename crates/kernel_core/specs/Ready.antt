@@ -1,23 +1,35 @@
 -- What threads need of the world that they act in, and what each machine of a run keeps true of both.
-use Rattle.std.specs.Prelude.{◌≡◌, ℕ, ◌+◌, ◌*◌, ◌≤◌, ◌<◌, true, List, ◌∷◌, Some, length, map, slice_get, slice_set, All}
+use Rattle.std.specs.Prelude.{◌≡◌, ℕ, ◌+◌, ◌*◌, ◌≤◌, ◌<◌, false, true, List, [], ◌∷◌, Some, length, map, slice_get, slice_set, All, IfSome, Option}
 use Rattle.std.specs.List.{Contains}
+use Rattle.guest_image.specs.Limits.{IsImage}
 use Rattle.kernel_core.specs.Kernel.{CanOpen}
-use Rattle.kernel_core.specs.Machine.{Machine, steps_left}
+use Rattle.kernel_core.specs.Machine.{Environment, Machine, Serve, home_of, homes, homes_of, work}
+use Rattle.lwc_base.specs.Jobs.{NamesKeepToJobs}
 use Rattle.kernel_core.specs.Runs.{run}
-use Rattle.kernel_core.specs.Start.{Inputs, start, thread_count, world_size}
-use Rattle.kernel_core.specs.Step.{Outcome, guest_calls, roots, thread_outcome}
+use Rattle.guest_image.specs.declared.image.Image.{Image}
+use Rattle.kernel_core.specs.Start.{Inputs, first_entry, first_name, home_context, homes_so_far, serve_world, start, start_world, thread_count, world_size}
+use Rattle.kernel_core.specs.Step.{AfterStep, Outcome, advance_outcome, after_outcome, guest_calls, roots, thread_outcome}
 use Rattle.kernel_core.specs.declared.thread.Thread.{Thread}
 use Rattle.lwc_base.specs.declared.fault.ThreadStatus.{ThreadStatus}
 use Rattle.lwc_base.specs.declared.fault.ThreadStatus.TheVariants.{Idle, Running, Done, Faulted}
-use Rattle.lwc_base.specs.declared.limits.TheConstants.{MOST_BUDGET, MOST_CONTEXTS_OF_JOB, MOST_GROUPS_OF_JOB, MOST_PAGES, MOST_STEPS, MOST_THREADS}
+use Rattle.lwc_base.specs.declared.limits.TheConstants.{MOST_BUDGET, MOST_CONTEXTS_OF_JOB, MOST_GROUPS_OF_JOB, MOST_PAGES, MOST_RANGES, MOST_REQUESTS, MOST_STEPS, MOST_THREADS}
 use Rattle.lwc_base.specs.declared.name.Name.{Name}
-use Rattle.lwc_base.specs.Channels.{HasItsFiles}
+use Rattle.guest_machine.specs.declared.progress.Advance.{Advance}
+use Rattle.lwc_base.specs.Channels.{Channels, HasItsFiles}
 use Rattle.lwc_base.specs.Holders.{IsGroup}
 use Rattle.lwc_base.specs.Life.{HasItsContexts, IsReaped, reap}
-use Rattle.lwc_base.specs.Sound.{IsSound}
-use Rattle.lwc_base.specs.World.{World, Counters, groups_of, is_live, live_of}
+use Rattle.lwc_base.specs.Ranges.{ranges_of}
+use Rattle.lwc_base.specs.Sound.{HasItsGroups, IsSound}
+use Rattle.lwc_base.specs.Cells.{put_slot}
+use Rattle.lwc_base.specs.Registers.{fresh_registers}
+use Rattle.lwc_base.specs.Sharing.{clone_context, needs_group, ranges_after_clone}
+use Rattle.lwc_base.specs.declared.descriptor.Descriptor.TheVariants.{Empty}
+use Rattle.lwc_base.specs.declared.regs.Regs.{Regs}
+use Rattle.lwc_base.specs.World.{World, Counters, context, groups_of, is_live, live_of, next_context}
 use Rattle.lwc_create.specs.Create.{HasPlaces}
-use Rattle.world_face.specs.Calls.{IsLive, MayName}
+use Rattle.lwc_syscall.specs.Changes.{IsWell}
+use Rattle.snapshot_host.specs.Begin.{IsNewJob}
+use Rattle.world_face.specs.Calls.{AreFew, HasPlace, IsLive, MayName}
 
 -- a thread may act in a world: the world is sound and has the contexts that its slots name, the thread's context
 -- is live, and its job may name and place what it makes
@@ -47,14 +59,26 @@ pub record IsReadyThread (w : World) (x : Thread) : Type 0 where
   pub budget : x.budget ≤ MOST_BUDGET
   pub runs : WhileRunning x.status (IsRunnable w x)
 
+-- the homes of a serve can be copied for its next request, and each request has a place for its reply
+pub record CanServe (w : World) (io : Channels) (s : Serve) : Type 0 where
+  pub workers : s.workers ≤ MOST_THREADS
+  pub homes : (t : ℕ) → t < s.workers → IsLive w (home_of t) × (ranges_of w (home_of t) ≤ MOST_RANGES)
+  pub groups : HasItsGroups w
+  pub place : HasPlace w
+  pub known : length io.requests < w.size.jobs
+  pub next : s.next ≤ length io.requests
+  pub new_jobs : (r : ℕ) → s.next ≤ r → IsNewJob w (r + 1)
+  pub replies : length s.replies ≡ length io.requests
+  pub budget : s.budget ≤ MOST_BUDGET
+
 -- the jobs of threads
 abbrev pub jobs_of : List Thread → List ℕ
 jobs_of threads = map (λ x. x.job) threads
 
--- live contexts bear job 0 or a thread's job, live groups a thread's job, and no job has too many
+-- live contexts bear job 0 or a thread's job, live groups a thread's job that is not 0, and no job has too many
 pub record IsWithinLimits (w : World) (jobs : List ℕ) : Type 0 where
   pub contexts : (c : Name) → is_live w c ≡ true → Contains (0 ∷ jobs) c.job
-  pub groups : (g : Name) → IsGroup w g → Contains jobs g.job
+  pub groups : (g : Name) → IsGroup w g → Contains jobs g.job × (1 ≤ g.job)
   pub homes : live_of w 0 ≤ MOST_THREADS
   pub few_contexts : (job : ℕ) → live_of w job ≤ MOST_CONTEXTS_OF_JOB
   pub few_groups : (job : ℕ) → groups_of w job ≤ MOST_GROUPS_OF_JOB
@@ -69,15 +93,43 @@ pub record IsCounted (most : ℕ) (n : Counters) : Type 0 where
 abbrev pub most_counted : ℕ → ℕ
 most_counted steps = MOST_PAGES + 1 + MOST_THREADS + 2 * steps
 
+-- the job of a worker: while it runs that of a request that has been begun, and else 0
+abbrev pub HasItsJob : Serve → ThreadStatus → ℕ → Type 0
+HasItsJob s Running job = (1 ≤ job) × (job ≤ s.next)
+HasItsJob s Idle job = job ≡ 0
+HasItsJob s (Done code) job = job ≡ 0
+HasItsJob s (Faulted fault) job = job ≡ 0
+
+-- a worker stands in a context of its job
+pub record IsWorker (s : Serve) (x : Thread) : Type 0 where
+  pub here : x.context.job ≡ x.job
+  pub job : HasItsJob s x.status x.job
+
+-- a serve is as its next requests need it: its homes are as at the start, names keep to their jobs, and jobs that are
+-- not begun have counted nothing
+pub record IsReadyServe (inputs : Inputs) (m : Machine) (s : Serve) : Type 0 where
+  pub workers : s.workers ≤ MOST_THREADS
+  pub count : length m.threads ≡ s.workers
+  pub budget : (1 ≤ s.budget) × (s.budget ≤ MOST_BUDGET)
+  pub next : s.next ≤ length inputs.requests
+  pub replies : length s.replies ≡ length inputs.requests
+  pub live : (t : ℕ) → t < s.workers → IsLive m.environment.world (home_of t)
+  pub homes : (t : ℕ) → t < s.workers → context m.environment.world (home_of t) ≡ home_context inputs.image
+  pub names : NamesKeepToJobs m.environment.world
+  pub new_jobs : (r : ℕ) → s.next ≤ r → IsNewJob m.environment.world (r + 1)
+  pub threads : All (IsWorker s) m.threads
+
 -- the threads and the world of a machine are as the calls of a world need them, after this number of steps
 pub record IsReady (inputs : Inputs) (steps : ℕ) (m : Machine) : Type 0 where
+  pub image : IsImage inputs.image
   pub size : m.environment.world.size ≡ world_size inputs.settings.frames
   pub sound : IsSound m.environment.world
   pub named : HasItsContexts m.environment.world
   pub files : HasItsFiles m.environment.channels m.environment.world
   pub given_files : m.environment.channels.files ≡ inputs.image.files
   pub given_requests : m.environment.channels.requests ≡ inputs.requests
-  pub reaped : IsReaped m.environment.world (roots m.threads)
+  pub few_requests : length inputs.requests ≤ MOST_REQUESTS
+  pub reaped : IsReaped m.environment.world (roots m.threads m.serve)
   pub limits : IsWithinLimits m.environment.world (jobs_of m.threads)
   pub counted : (job : ℕ) → IsCounted (most_counted steps) (m.environment.world.next job)
   pub threads : All (IsReadyThread m.environment.world) m.threads
@@ -85,21 +137,58 @@ pub record IsReady (inputs : Inputs) (steps : ℕ) (m : Machine) : Type 0 where
   pub some : 1 ≤ length m.threads
   pub few : length m.threads ≤ MOST_THREADS
   pub text : m.text ≡ inputs.image.text
+  pub serve : IfSome m.serve (IsReadyServe inputs m)
 
--- the machines of runs are ready, and stay as they are when they are reaped; in a ready one running threads can act,
--- and a step leaves each thread in a live context, and fewer steps
+-- what an act of a thread keeps: the thread's job, each live context, and the requests
+pub record KeepsContexts (e : Environment) (x : Thread) (outcome : Outcome) : Type 0 where
+  pub job : outcome.thread.job ≡ x.job
+  pub live : (c : Name) → is_live e.world c ≡ true → is_live outcome.environment.world c ≡ true
+  pub requests : outcome.environment.channels.requests ≡ e.channels.requests
+
+-- one more home may be made from the first context of a world: the next one, which lives then
+pub record CanPutHome (w : World) (home : Name) : Type 0 where
+  pub live : IsLive w first_name
+  pub may : MayName w 0
+  pub place : HasPlace w
+  pub group : needs_group w first_name [] ≡ false
+  pub few : AreFew (ranges_after_clone w first_name 0 [])
+  pub next : next_context w 0 ≡ home
+  pub copied : (entry : Regs) → IsLive (clone_context w first_name 0 [] entry) home
+  pub emptied : (entry : Regs) → IsLive (put_slot (clone_context w first_name 0 [] entry) home 1 Empty) home
+
+-- how the homes of a serve are made: each from the first context, which is dropped then
+pub record HomeFacts : Type 0 where
+  pub first : (image : Image) (frames : ℕ) → homes_so_far image frames 0 ≡ start_world image frames
+  pub can : (image : Image) (frames t : ℕ) → IsImage image → t < MOST_THREADS →
+      CanPutHome (homes_so_far image frames t) (home_of t)
+  pub made : (image : Image) (frames t : ℕ) →
+      put_slot (put_slot (clone_context (homes_so_far image frames t) first_name 0 []
+      (fresh_registers (first_entry image))) (home_of t) 1 Empty) (home_of t) 0 Empty
+      ≡ homes_so_far image frames (t + 1)
+  pub live : (image : Image) (frames workers : ℕ) →
+      All (IsLive (homes_so_far image frames workers)) (homes_of workers)
+  pub left : (image : Image) (frames workers : ℕ) →
+      reap (homes_so_far image frames workers) (homes_of workers) ≡ serve_world image frames workers
+
+-- the machines of runs are ready, and stay as they are when they are reaped; in a ready one running threads can act
+-- and requests can be begun, and a step leaves each thread and each home in a live context, and fewer steps
 pub record RunFacts : Type 0 where
   pub ready : (inputs : Inputs) (steps : List ℕ) → CanOpen inputs →
       IsReady inputs (length steps) (run (start inputs) steps)
   pub act : (inputs : Inputs) (steps t : ℕ) (m : Machine) (x : Thread) →
       IsReady inputs steps m → steps ≤ MOST_STEPS → slice_get m.threads t ≡ Some x →
       WhileRunning x.status (CanAct m.environment.world x)
-  pub fewer : (inputs : Inputs) (steps t : ℕ) (m : Machine) (x : Thread) (outcome : Outcome) →
+  pub serve : (inputs : Inputs) (steps : ℕ) (m : Machine) → IsReady inputs steps m →
+      IfSome m.serve (CanServe m.environment.world m.environment.channels)
+  pub fewer : (inputs : Inputs) (steps t : ℕ) (m : Machine) (x : Thread) (after : AfterStep) →
       IsReady inputs steps m → slice_get m.threads t ≡ Some x →
-      thread_outcome guest_calls t m.environment m.text x x.status ≡ Some outcome →
-      steps_left outcome.thread.budget outcome.thread.status < steps_left x.budget x.status
-  pub live : (inputs : Inputs) (steps t : ℕ) (m : Machine) (x : Thread) (outcome : Outcome) →
+      thread_outcome guest_calls t m.environment m.serve m.text x x.status ≡ Some after →
+      work (after_outcome m t (Some after)) < work m
+  pub live : (inputs : Inputs) (steps t : ℕ) (m : Machine) (x : Thread) (after : AfterStep) →
       IsReady inputs steps m → slice_get m.threads t ≡ Some x →
-      thread_outcome guest_calls t m.environment m.text x x.status ≡ Some outcome →
-      All (λ y. IsLive outcome.environment.world y.context) (slice_set m.threads t outcome.thread)
+      thread_outcome guest_calls t m.environment m.serve m.text x x.status ≡ Some after →
+      All (IsLive after.environment.world) (roots (slice_set m.threads t after.thread) after.serve)
+  pub keeps : (t : ℕ) (e : Environment) (x : Thread) (advance : Advance) → IsWell e.world e.channels →
+      is_live e.world x.context ≡ true → KeepsContexts e x (advance_outcome guest_calls t e x advance)
   pub same : (w : World) (names : List Name) → IsReaped w names → reap w names ≡ w
+  pub homes : HomeFacts

@@ -1,5 +1,5 @@
 -- Calls of guests that are refused.
-use Rattle.std.specs.Prelude.{◌≡◌, ℕ, ◌-◌, ◌==◌, if◌then◌else◌, Option, None, Some, slice_get, slice_set}
+use Rattle.std.specs.Prelude.{◌≡◌, ◌⊎◌, ◌<◌, ℕ, ◌-◌, ◌==◌, if◌then◌else◌, Option, None, Some, slice_get, slice_set}
 use Rattle.guest_isa.specs.declared.instr.Instr.{Instr}
 use Rattle.guest_isa.specs.declared.op.Op.TheVariants.{Sys}
 use Rattle.guest_machine.specs.Advances.{advanced}
@@ -63,9 +63,15 @@ pub record ComesToRefusal (m : Machine) (t : ℕ) (x : Thread) (i : Instr) (refu
   pub call : i.op ≡ Sys
   pub refused : refusal_of i.imm t m.environment (advanced_thread m x) ≡ Some refusal
 
--- a machine once this call is refused: after its private instructions its thread has another r0, pc and budget,
--- and ends if that is used up; nothing else has changed
+-- the thread once this call is refused: after its private instructions it has another r0, pc and budget, and ends if
+-- that is used up
+abbrev pub thread_refused : Machine → Thread → Refusal → Thread
+thread_refused m x refusal = with_steps (x.budget - 1) (refused (advanced_thread m x) refusal)
+
+-- the step is not the last one of the budget of a request
+abbrev pub IsNotLast : Machine → Thread → Type 0
+IsNotLast m x = (m.serve ≡ None) ⊎ (1 < x.budget)
+
+-- a machine once this call is refused: its thread has changed, and nothing else
 abbrev pub after_refusal : Machine → ℕ → Thread → Refusal → Machine
-after_refusal m t x refusal =
-    let after = with_steps (x.budget - 1) (refused (advanced_thread m x) refusal) in
-    record m { threads = slice_set m.threads t after }
+after_refusal m t x refusal = record m { threads = slice_set m.threads t (thread_refused m x refusal) }

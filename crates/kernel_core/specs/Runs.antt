@@ -1,8 +1,9 @@
 -- Runs of the machine over a list of steps, each the number of the thread that makes it.
-use Rattle.std.specs.Prelude.{ℕ, if◌then◌else◌, List, [], ◌∷◌, max}
+use Rattle.std.specs.Prelude.{ℕ, ◌==◌, if◌then◌else◌, List, [], ◌∷◌, Option, max}
 use Rattle.kernel_core.specs.Machine.{Machine, is_ended}
-use Rattle.kernel_core.specs.Step.{step}
+use Rattle.kernel_core.specs.Step.{finishes, step}
 use Rattle.lwc_base.specs.Frames.{used}
+use Rattle.snapshot_host.specs.declared.finishing.Finished.{Finished}
 
 -- the machine after the steps, one after another
 abbrev pub run : Machine → List ℕ → Machine
@@ -22,3 +23,8 @@ frames_of m = used m.environment.world
 abbrev pub peak : Machine → List ℕ → ℕ
 peak m [] = frames_of m
 peak m (t ∷ ts) = max (frames_of m) (peak (step m t) ts)
+
+-- what the last of these steps that a thread makes finishes; what was last finished before them if it makes none
+abbrev pub last_finished : Machine → List ℕ → ℕ → Option Finished → Option Finished
+last_finished m [] t before = before
+last_finished m (s ∷ ss) t before = last_finished (step m s) ss t (if s == t then finishes m t else before)

@@ -1,12 +1,14 @@
--- The machine that a run of an image starts from.
-use Rattle.std.specs.Prelude.{ℕ, ◌+◌, ◌==◌, if◌then◌else◌, List, Option, None, length, map, nat_lt, slice_index, take}
+-- The machine that a run or a serve of an image starts from.
+use Rattle.std.specs.Prelude.{ℕ, zero, suc, ◌+◌, ◌==◌, if◌then◌else◌, List, Option, None, Some, length, map, replicate, nat_lt, slice_index, take}
 use Rattle.std.specs.FinMap as fm
 use Rattle.std.specs.List.{enumerate_from, find}
 use Rattle.std.specs.Option.{option_map, option_map_or}
 use Rattle.guest_image.specs.declared.image.Image.{Image}
 use Rattle.guest_image.specs.declared.image.PageImage.{PageImage}
 use Rattle.guest_image.specs.declared.image.SlotImage.{SlotImage}
-use Rattle.kernel_core.specs.Machine.{Machine}
+use Rattle.kernel_core.specs.Machine as machine
+use Rattle.kernel_core.specs.Machine.{Machine, home_of, homes_of}
+use Rattle.kernel_core.specs.Step.{waiting}
 use Rattle.kernel_core.specs.declared.settings.Job.{Job}
 use Rattle.kernel_core.specs.declared.settings.Job.TheVariants.{Run, Serve}
 use Rattle.kernel_core.specs.declared.settings.Settings.{Settings}
@@ -26,6 +28,7 @@ use Rattle.lwc_base.specs.declared.page.PageValue.TheVariants.{Data}
 use Rattle.lwc_base.specs.declared.size.WorldSize.{WorldSize}
 use Rattle.lwc_base.specs.Channels.{opened}
 use Rattle.lwc_base.specs.Keys.{ValueOf}
+use Rattle.lwc_base.specs.Names.{name_cmp}
 use Rattle.lwc_base.specs.Registers.{fresh_registers}
 use Rattle.lwc_base.specs.World.{World, Context, Counters}
 
@@ -90,7 +93,7 @@ first_thread budget t entry = record {
   budget = budget;
 }
 
--- the threads of a start, one for each entry
+-- the threads of a run's start, one for each entry
 unfoldable pub first_threads : ℕ → List ℕ → List Thread
 first_threads budget entries = map (λ e. first_thread budget e.0 e.1) (enumerate_from 0 entries)
 
@@ -117,19 +120,78 @@ world_with frames tags x = record {
   size = world_size frames;
 }
 
--- the world of a start: its one context, in which each page has a tag of its own
+-- the world of a run's start: its one context, in which each page has a tag of its own
 unfoldable pub start_world : Image → ℕ → World
 start_world image frames = world_with frames (length image.pages) (first_context image image.pages SLOTS)
+
+-- what is under each key of a home: what is under the first context's, but slots 0 and 1 are empty
+abbrev pub home_value : Image → (k : Key) → ValueOf k
+home_value image (Slot n) = if nat_lt n 2 then Empty else first_value image image.pages SLOTS (Slot n)
+home_value image k = first_value image image.pages SLOTS k
+
+-- the context in which a worker waits
+unfoldable pub home_context : Image → Context
+home_context image = record {
+  cell = λ k. Own (home_value image k);
+  entry = fresh_registers (first_entry image);
+  saved = λ t. None;
+}
+
+-- contexts, and beside them the homes of so many workers
+abbrev pub with_homes : fm.FinMap name_cmp Context → Context → ℕ → fm.FinMap name_cmp Context
+with_homes contexts home zero = contexts
+with_homes contexts home (suc t) = fm.insert (with_homes contexts home t) (home_of t) home
+
+-- the world of these contexts, where job 0 has named the first context and so many homes, and taken a tag for each page
+unfoldable pub world_of : Image → ℕ → ℕ → fm.FinMap name_cmp Context → World
+world_of image frames workers contexts = record {
+  contexts = contexts;
+  groups = fm.empty;
+  next = λ job. if job == 0 then counted (workers + 1) (length image.pages) else counted 0 0;
+  size = world_size frames;
+}
+
+-- the world of a serve's start as it is built: the first context, and so many homes
+abbrev pub homes_so_far : Image → ℕ → ℕ → World
+homes_so_far image frames workers =
+    world_of image frames workers
+    (with_homes (fm.insert fm.empty first_name (first_context image image.pages SLOTS)) (home_context image) workers)
+
+-- the world of a serve's start: the homes of its workers
+abbrev pub serve_world : Image → ℕ → ℕ → World
+serve_world image frames workers =
+    world_of image frames workers (with_homes fm.empty (home_context image) workers)
+
+-- the world of a start, by the job
+abbrev pub world_for : Image → ℕ → Job → World
+world_for image frames Run = start_world image frames
+world_for image frames (Serve workers) = serve_world image frames workers
+
+-- the workers of a start, each idle in its home
+unfoldable pub first_workers : ℕ → ℕ → List Thread
+first_workers entry workers = map (λ home. waiting home (fresh_registers entry)) (homes_of workers)
+
+-- the threads of a start, by the job
+abbrev pub threads_at : Image → ℕ → Job → List Thread
+threads_at image budget Run = first_threads budget image.entries
+threads_at image budget (Serve workers) = first_workers (first_entry image) workers
+
+-- the serve of a start, if it is one: no request is begun
+abbrev pub serve_at : Job → ℕ → ℕ → Option machine.Serve
+serve_at Run budget requests = None
+serve_at (Serve workers) budget requests =
+    Some (record { workers = workers; budget = budget; next = 0; replies = replicate requests None })
 
 -- the machine of a start: the text and the files are the image's, and nothing has been written
 unfoldable pub start : Inputs → Machine
 start inputs = record {
-  threads = first_threads inputs.settings.budget inputs.image.entries;
+  threads = threads_at inputs.image inputs.settings.budget inputs.settings.job;
   environment = record {
-    world = start_world inputs.image inputs.settings.frames;
+    world = world_for inputs.image inputs.settings.frames inputs.settings.job;
     channels = opened inputs.image.files inputs.requests;
   };
   text = inputs.image.text;
+  serve = serve_at inputs.settings.job inputs.settings.budget (length inputs.requests);
 }
 
 -- the world of a start as it is built: with this number of pages stored, and the slots below a number filled

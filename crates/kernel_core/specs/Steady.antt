@@ -1,9 +1,9 @@
 -- What each kernel keeps true of itself.
-use Rattle.std.specs.Prelude.{◌≡◌, ℕ, ◌+◌, ◌≤◌, List, length}
+use Rattle.std.specs.Prelude.{◌≡◌, ℕ, ◌+◌, ◌≤◌, List, Option, length}
 use Rattle.guest_image.specs.declared.image.Image.{Image}
 use Rattle.guest_isa.specs.declared.instr.Instr.{Instr}
 use Rattle.kernel_core.specs.Kernel.{CanOpen, History, machine_of}
-use Rattle.kernel_core.specs.Machine.{Machine}
+use Rattle.kernel_core.specs.Machine.{Machine, Serve}
 use Rattle.kernel_core.specs.Runs.{peak}
 use Rattle.kernel_core.specs.Start.{start}
 use Rattle.kernel_core.specs.declared.settings.Settings.{Settings}
@@ -22,11 +22,12 @@ history image requests settings steps room = record {
 }
 
 -- the machine of a kernel's parts
-abbrev pub machine : World → Channels → List Thread → List Instr → Machine
-machine world channels threads text = record {
+abbrev pub machine : World → Channels → List Thread → List Instr → Option Serve → Machine
+machine world channels threads text serve = record {
   threads = threads;
   environment = beside world channels;
   text = text;
+  serve = serve;
 }
 
 -- a kernel's parts are the machine that it has come to, and its peak is that of its steps

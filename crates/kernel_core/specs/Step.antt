@@ -1,5 +1,5 @@
 -- One step of a thread.
-use Rattle.std.specs.Prelude.{ℕ, ◌+◌, ◌-◌, ◌*◌, ◌%◌, ◌^◌, ◌==◌, if◌then◌else◌, Bool, List, [], ◌∷◌, length, map, Option, None, Some, nat_le, slice_get, slice_index, slice_set}
+use Rattle.std.specs.Prelude.{ℕ, ◌+◌, ◌-◌, ◌*◌, ◌%◌, ◌^◌, ◌==◌, ◌++◌, if◌then◌else◌, Bool, List, [], ◌∷◌, length, map, Option, None, Some, nat_le, nat_lt, slice_get, slice_index, slice_set}
 use Rattle.std.specs.Int.{w64, from_le_bytes, to_le_bytes}
 use Rattle.std.specs.Option.{option_map}
 use Rattle.guest_isa.specs.Instructions.{sx}
@@ -10,7 +10,7 @@ use Rattle.guest_machine.specs.Advances.{advanced}
 use Rattle.guest_machine.specs.declared.progress.Advance.{Advance}
 use Rattle.guest_machine.specs.declared.progress.Next.{Next}
 use Rattle.guest_machine.specs.declared.progress.Next.TheVariants as next
-use Rattle.kernel_core.specs.Machine.{Environment, Machine}
+use Rattle.kernel_core.specs.Machine.{Environment, Machine, Serve, has_ended, home_of, homes}
 use Rattle.kernel_core.specs.declared.thread.Thread.{Thread}
 use Rattle.kernel_core.specs.declared.calling.TheConstants.{LW_CREATE, LW_OVERLAY, LW_RESTRICT, LW_SWITCH, LW_SYSCALL}
 use Rattle.lwc_base.specs.declared.answer.Answer.{Answer}
@@ -25,13 +25,13 @@ use Rattle.lwc_base.specs.declared.name.Name.{Name}
 use Rattle.lwc_base.specs.declared.page.TheConstants.{PAGE_BYTES}
 use Rattle.lwc_base.specs.declared.refusal.Refusal.{Refusal}
 use Rattle.lwc_base.specs.declared.regs.Regs.{Regs}
-use Rattle.lwc_base.specs.Channels.{Channels}
+use Rattle.lwc_base.specs.Channels.{Channels, bytes_in}
 use Rattle.lwc_base.specs.Faults.{refusal_number}
 use Rattle.lwc_base.specs.Life as life
 use Rattle.lwc_base.specs.Memory.{bytes_for}
 use Rattle.lwc_base.specs.Store.{Piece, Stored, store}
 use Rattle.lwc_base.specs.Store as stores
-use Rattle.lwc_base.specs.World.{World}
+use Rattle.lwc_base.specs.World.{World, context}
 use Rattle.lwc_create.specs.Create.{create}
 use Rattle.lwc_overlay.specs.OverlayCall.{overlay}
 use Rattle.lwc_overlay.specs.RestrictCall.{restrict}
@@ -42,6 +42,8 @@ use Rattle.lwc_syscall.specs.Syscall.{lw_syscall}
 use Rattle.lwc_syscall.specs.declared.answer.CallAnswer.{CallAnswer}
 use Rattle.lwc_syscall.specs.declared.answer.CallAnswer.TheVariants as ends
 use Rattle.lwc_syscall.specs.declared.calls.Three.{Three}
+use Rattle.snapshot_host.specs.Begin.{begin, request_context}
+use Rattle.snapshot_host.specs.declared.finishing.Finished.{Finished}
 
 -- what a step of a thread leaves: the thread, and what it has in common with the others
 pub record Outcome : Type 0 where
@@ -236,32 +238,104 @@ unfoldable pub advance_outcome : Calls → ℕ → Environment → Thread → Ad
 advance_outcome calls t e x advance =
     counted (x.budget - 1) (next_outcome calls t e (with_regs x advance.after) advance.next)
 
--- the outcome of a step, by the thread's status; an idle thread ends, as no request is left
-abbrev pub thread_outcome : Calls → ℕ → Environment → List Instr → Thread → ThreadStatus → Option Outcome
-thread_outcome calls t e text x Running = Some (advance_outcome calls t e x (advanced text x.regs))
-thread_outcome calls t e text x Idle = Some (unchanged e (with_status x (Done 0)))
-thread_outcome calls t e text x (Done code) = None
-thread_outcome calls t e text x (Faulted f) = None
+-- what a step leaves: the thread, what it has in common with the others, the serve, and what is finished, if a request is
+pub record AfterStep : Type 0 where
+  pub thread : Thread
+  pub environment : Environment
+  pub serve : Option Serve
+  pub finished : Option Finished
+
+-- a step that neither begins nor finishes a request leaves its outcome
+abbrev pub only : Option Serve → Outcome → AfterStep
+only serve outcome =
+    record { thread = outcome.thread; environment = outcome.environment; serve = serve; finished = None }
+
+-- a worker that waits in its home, with these registers
+abbrev pub waiting : Name → Regs → Thread
+waiting home regs = record { status = Idle; context = home; regs = regs; job = 0; budget = 0 }
+
+-- what is recorded of a request whose thread has ended: how, and the bytes that were written by then
+abbrev pub finished_by : Thread → Channels → Finished
+finished_by x io = record { request = x.job - 1; status = x.status; bytes = bytes_in io.replies (x.job - 1) }
+
+-- the serve with one more record
+abbrev pub with_reply : Serve → Finished → Serve
+with_reply s finished = record s { replies = slice_set s.replies finished.request (Some finished) }
+
+-- a request is finished: it is recorded, and the worker of a number waits at home again
+abbrev pub finish : ℕ → Serve → Outcome → AfterStep
+finish t s outcome =
+    let finished = finished_by outcome.thread outcome.environment.channels in record {
+      thread = waiting (home_of t) (context outcome.environment.world (home_of t)).entry;
+      environment = outcome.environment;
+      serve = Some (with_reply s finished);
+      finished = Some finished;
+    }
+
+-- the end of a step of a running thread: in a serve its request is finished once the thread has ended
+abbrev pub settled : ℕ → Option Serve → Outcome → AfterStep
+settled t None outcome = only None outcome
+settled t (Some s) outcome = if has_ended outcome.thread.status then finish t s outcome else only (Some s) outcome
+
+-- a worker that begins a request, with the registers of its home
+abbrev pub serving : ℕ → ℕ → Regs → Thread
+serving r budget regs =
+    record { status = Running; context = request_context r; regs = regs; job = r + 1; budget = budget }
+
+-- the worker of a number begins the next request, in a copy of its home
+abbrev pub begin_next : ℕ → Serve → Environment → AfterStep
+begin_next t s e = record {
+  thread = serving s.next s.budget (context e.world (home_of t)).entry;
+  environment = with_world e (begin e.world (home_of t) s.next);
+  serve = Some (record s { next = s.next + 1 });
+  finished = None;
+}
+
+-- a step of an idle thread: it begins the next request, or ends if none is left
+abbrev pub woken : ℕ → Option Serve → Environment → Thread → AfterStep
+woken t None e x = only None (unchanged e (with_status x (Done 0)))
+woken t (Some s) e x =
+    if nat_lt s.next (length e.channels.requests) then begin_next t s e
+    else only (Some s) (unchanged e (with_status x (Done 0)))
+
+-- what a step leaves, by the thread's status
+abbrev pub thread_outcome : Calls → ℕ → Environment → Option Serve → List Instr → Thread → ThreadStatus → Option AfterStep
+thread_outcome calls t e serve text x Running =
+    Some (settled t serve (advance_outcome calls t e x (advanced text x.regs)))
+thread_outcome calls t e serve text x Idle = Some (woken t serve e x)
+thread_outcome calls t e serve text x (Done code) = None
+thread_outcome calls t e serve text x (Faulted f) = None
 
 -- the contexts that threads are in, those of ended threads among them
-abbrev pub roots : List Thread → List Name
-roots threads = map (λ x. x.context) threads
+abbrev pub contexts_of : List Thread → List Name
+contexts_of threads = map (λ x. x.context) threads
 
--- the machine without the contexts that no thread reaches, and then without the groups that no cell names
+-- the contexts that nothing else needs to name: those that threads are in, and the homes
+abbrev pub roots : List Thread → Option Serve → List Name
+roots threads serve = contexts_of threads ++ homes serve
+
+-- the machine without the contexts that are not reached from these, and then without the groups that no cell names
 abbrev pub reap : Machine → Machine
 reap m =
-    record m { environment = with_world m.environment (life.reap m.environment.world (roots m.threads)) }
+    record m {
+      environment = with_world m.environment (life.reap m.environment.world (roots m.threads m.serve));
+    }
 
 -- the machine after a step of the thread of a number, if it made one
-abbrev pub after_outcome : Machine → ℕ → Option Outcome → Machine
+abbrev pub after_outcome : Machine → ℕ → Option AfterStep → Machine
 after_outcome m t None = m
-after_outcome m t (Some outcome) =
-    reap (record m { threads = slice_set m.threads t outcome.thread; environment = outcome.environment })
+after_outcome m t (Some after) =
+    reap (record m {
+      threads = slice_set m.threads t after.thread;
+      environment = after.environment;
+      serve = after.serve;
+    })
 
 -- the machine after a step of the thread that was found, if one was
 abbrev pub after_thread : Calls → Machine → ℕ → Option Thread → Machine
 after_thread calls m t None = m
-after_thread calls m t (Some x) = after_outcome m t (thread_outcome calls t m.environment m.text x x.status)
+after_thread calls m t (Some x) =
+    after_outcome m t (thread_outcome calls t m.environment m.serve m.text x x.status)
 
 -- the machine after one step of a thread, with these calls; a step of an ended thread changes nothing
 unfoldable pub step_by : Calls → Machine → ℕ → Machine
@@ -270,3 +344,18 @@ step_by calls m t = after_thread calls m t (slice_get m.threads t)
 -- the machine after one step of the thread of a number
 abbrev pub step : Machine → ℕ → Machine
 step m t = step_by guest_calls m t
+
+-- what a step has finished, if one was made
+abbrev pub finished_in : Option AfterStep → Option Finished
+finished_in None = None
+finished_in (Some after) = after.finished
+
+-- what a step of the thread that was found finishes
+abbrev pub finished_of : Machine → ℕ → Option Thread → Option Finished
+finished_of m t None = None
+finished_of m t (Some x) =
+    finished_in (thread_outcome guest_calls t m.environment m.serve m.text x x.status)
+
+-- what the next step of the thread of a number finishes
+unfoldable pub finishes : Machine → ℕ → Option Finished
+finishes m t = finished_of m t (slice_get m.threads t)

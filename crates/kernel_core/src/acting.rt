@@ -1,18 +1,25 @@
-ghost use Rattle.std.specs.Prelude.{◌≡◌, ◌<◌, IfOk, IfSome, IsOk, OnErr, OnOk, true};
+ghost use Rattle.std.specs.Prelude.{◌≡◌, ◌<◌, ◌≤◌, IfOk, IfSome, IsOk, None, OnErr, OnOk, length, true};
 ghost use Rattle.guest_isa.specs.Instructions.{IsInstruction, IsText};
 ghost use Rattle.guest_machine.specs.Advances.{IfShared, advanced};
-ghost use Rattle.kernel_core.specs.Changes.{Keeps, KeepsAll, MakesAll, made};
-ghost use Rattle.kernel_core.specs.Ready.{CanAct, WhileRunning};
+ghost use Rattle.kernel_core.specs.Changes.{Keeps, KeepsAll, MakesAll, after_effect, made};
+ghost use Rattle.kernel_core.specs.Machine.{home_of};
+ghost use Rattle.kernel_core.specs.Ready.{CanAct, CanServe, HasItsJob, WhileRunning};
 ghost use Rattle.kernel_core.specs.Step as spec;
 ghost use Rattle.lwc_base.specs.Channels.{HasItsFiles};
+ghost use Rattle.kernel_core.specs.declared.thread.Thread.{Thread};
+ghost use Rattle.lwc_base.specs.World.{World};
 ghost use Rattle.lwc_base.specs.declared.limits.TheConstants.{MOST_THREADS};
+ghost use Rattle.world_face.specs.Calls.{IsLive};
 
 use crate::calling::call;
+use crate::laws::runs_stay_ready;
 use crate::memory::{address_of, byte_at, store_byte, store_word, word_at};
-use crate::thread::Thread;
+use crate::serve::{Serve, home_of};
+use crate::thread::{Thread, has_ended};
 use guest_isa::{Instr, Op, Text, fields_are_in_range};
 use guest_machine::{Advance, Next, advances_come_to_instructions, run_on};
 use lwc_base::{Channels, Fault, OutOfMemory, Regs, ThreadStatus};
+use snapshot_host::{Finished, begin, finish};
 use world_face::World;
 
 /// What a step has changed.
@@ -26,39 +33,143 @@ pub enum Change {
     Links,
 }
 
+/// What a step has changed, and the request that it has finished, if it has.
+#[derive(Debug, Drop)]
+pub struct Effect {
+    pub change: Change,
+    pub finished: Option<Finished>,
+}
+
+impl Effect {
+    /// The effect of a step that finishes no request.
+    fn of(change: Change) -> Effect
+        ensures { result ≡ record { change = change; finished = None } }
+    {
+        Effect {
+            change,
+            finished: None,
+        }
+    }
+}
+
 /// Makes a step of thread `t` in place. Answers what has changed; `None` if the thread had ended. The only
-/// error is out of memory: then the world and the channels are as before, and the thread may have changed.
+/// error is out of memory: then the world, the channels and the serve are as before, and the thread may have
+/// changed.
 pub(crate) fn step_thread<W: World>(
     world: &mut W,
     io: &mut Channels,
+    serve: &mut Option<Serve>,
     text: &Text,
     t: u32,
     thread: &mut Thread,
     proposal: Option<&Advance>,
-) -> Result<Option<Change>, OutOfMemory>
+) -> Result<Option<Effect>, OutOfMemory>
     requires number { t < MOST_THREADS }
     requires ready { WhileRunning thread.old.status (CanAct (W.seen world.old) thread.old) }
     requires files { HasItsFiles io.old (W.seen world.old) }
     requires steps { WhileRunning thread.old.status (0 < thread.old.budget) }
+    requires serve { IfSome serve.old (CanServe (W.seen world.old) io.old) }
+    requires worker { IfSome serve.old (λ s. (t < s.workers) × HasItsJob s thread.old.status thread.old.job) }
     requires proposal { IfSome proposal (λ a. a.now ≡ advanced text.now a.now.before) }
     requires text { IsText text.now }
-    ensures outcome { IfOk result (λ change.
-        spec.thread_outcome spec.guest_calls t (spec.beside (W.seen world.old) io.old) text.now
+    ensures outcome { IfOk result (λ effect.
+        spec.thread_outcome spec.guest_calls t (spec.beside (W.seen world.old) io.old) serve.old text.now
         thread.old thread.old.status
-        ≡ made change (spec.beside (W.seen world.new) io.new) thread.new) }
-    ensures kept { IfOk result (λ change.
-        KeepsAll change (W.seen world.old) io.old thread.old (W.seen world.new) io.new thread.new) }
+        ≡ made effect (spec.beside (W.seen world.new) io.new) serve.new thread.new) }
+    ensures kept { IfOk result (λ effect. KeepsAll effect
+        (W.seen world.old) io.old serve.old thread.old (W.seen world.new) io.new serve.new thread.new) }
     ensures err { OnErr result (W.seen world.new ≡ W.seen world.old) }
     ensures err_io { OnErr result (io.new ≡ io.old) }
+    ensures err_serve { OnErr result (serve.new ≡ serve.old) }
     ensures ample { W.roomy ≡ true → IsOk result }
 {
     match thread.status {
-        ThreadStatus::Running => Ok(Some(run_thread(world, io, text, t, thread, proposal)?)),
-        ThreadStatus::Idle => {
-            thread.finish(0);
-            Ok(Some(Change::Thread))
+        ThreadStatus::Running => {
+            runs_stay_ready();
+            let change = run_thread(world, io, text, t, thread, proposal)?;
+            Ok(Some(settle(world, io, serve, t, thread, change)))
         }
+        ThreadStatus::Idle => Ok(Some(wake(world, io, serve, t, thread)?)),
         ThreadStatus::Done { .. } | ThreadStatus::Faulted { .. } => Ok(None),
+    }
+}
+
+/// Ends a step of running thread `t`: in a serve its request is finished once the thread has ended, and the worker
+/// waits at home again.
+fn settle<W: World>(
+    world: &W,
+    io: &Channels,
+    serve: &mut Option<Serve>,
+    t: u32,
+    thread: &mut Thread,
+    change: Change,
+) -> Effect
+    requires number { t < MOST_THREADS }
+    requires home { IfSome serve.old (λ s. IsLive (W.seen world.now) (home_of t)) }
+    requires begun { IfSome serve.old (λ s. (1 ≤ thread.old.job) × (thread.old.job ≤ s.next)) }
+    requires known { IfSome serve.old (λ s. s.next ≤ length io.now.requests) }
+    requires replies { IfSome serve.old (λ s. length s.replies ≡ length io.now.requests) }
+    ensures after { spec.settled t serve.old (spec.unchanged (spec.beside (W.seen world.now) io.now) thread.old)
+        ≡ after_effect result (spec.beside (W.seen world.now) io.now) serve.new thread.new }
+    ensures kept { (w : World) (x : Thread) → Keeps change w x (W.seen world.now) thread.old →
+        Keeps result.change w x (W.seen world.now) thread.new }
+{
+    match serve {
+        Some(serve) if has_ended(thread.status) => {
+            let _requests = io.requests();
+            let finished = finish(io, (thread.job - 1) as u16, thread.status);
+            serve.record_reply(finished.same());
+            let home = home_of(t);
+            *thread = Thread::waiting(home, world.entry(home));
+            Effect {
+                change: Change::Links,
+                finished: Some(finished),
+            }
+        }
+        _ => Effect::of(change),
+    }
+}
+
+/// Makes a step of idle thread `t`: it begins the next request in a copy of its home, or ends if none is left.
+/// The only error is out of memory, and then nothing has changed.
+fn wake<W: World>(
+    world: &mut W,
+    io: &Channels,
+    serve: &mut Option<Serve>,
+    t: u32,
+    thread: &mut Thread,
+) -> Result<Effect, OutOfMemory>
+    requires number { t < MOST_THREADS }
+    requires serve { IfSome serve.old (λ s. (t < s.workers) × CanServe (W.seen world.old) io.now s) }
+    ensures after { IfOk result (λ effect.
+        spec.woken t serve.old (spec.beside (W.seen world.old) io.now) thread.old
+        ≡ after_effect effect (spec.beside (W.seen world.new) io.now) serve.new thread.new) }
+    ensures kept { IfOk result (λ effect.
+        Keeps effect.change (W.seen world.old) thread.old (W.seen world.new) thread.new) }
+    ensures err { OnErr result (W.seen world.new ≡ W.seen world.old) }
+    ensures err_serve { OnErr result (serve.new ≡ serve.old) }
+    ensures ample { W.roomy ≡ true → IsOk result }
+{
+    match serve {
+        Some(serve) if usize::from(serve.next) < io.requests().len() => {
+            let r = serve.next;
+            let home = home_of(t);
+            let regs = world.entry(home);
+            let context = begin(world, home, r)?;
+            *thread = Thread {
+                status: ThreadStatus::Running,
+                context,
+                regs,
+                job: u32::from(r) + 1,
+                budget: serve.budget,
+            };
+            serve.next = r + 1;
+            Ok(Effect::of(Change::Links))
+        }
+        _ => {
+            thread.finish(0);
+            Ok(Effect::of(Change::Thread))
+        }
     }
 }
 

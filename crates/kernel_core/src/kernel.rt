@@ -1,33 +1,35 @@
-ghost use Rattle.std.specs.Prelude.{◌≡◌, ◌≢◌, ◌<◌, All, ◌≤◌, ◌+◌, ◌^◌, ◌++◌, ◌∷◌, [], false, max, true, IfErr, IfOk, IfSome, IsOk, OnErr, OnOk, Some, length, vec_capacity, vec_len};
+ghost use Rattle.std.specs.Prelude.{◌≡◌, ◌≢◌, ◌<◌, All, ◌≤◌, ◌+◌, ◌*◌, ◌-◌, ◌^◌, ◌++◌, ◌∷◌, [], false, max, true, IfErr, IfOk, IfSome, IsOk, OnErr, OnOk, Some, length, vec_capacity, vec_len};
 ghost use Rattle.guest_image.specs.Limits.{IsImage};
 ghost use Rattle.guest_machine.specs.Advances.{advanced};
 ghost use Rattle.kernel_core.specs.Kernel as spec;
-ghost use Rattle.kernel_core.specs.Kernel.{CanOpen, machine_of};
-ghost use Rattle.kernel_core.specs.Machine.{is_ended, steps_left, work};
+ghost use Rattle.kernel_core.specs.Kernel.{CanOpen, MayHave, machine_of};
+ghost use Rattle.kernel_core.specs.Machine.{homes_of, is_ended, reply_of, steps_after, steps_for_requests, steps_left, work};
 ghost use Rattle.kernel_core.specs.Runs as runs;
 ghost use Rattle.kernel_core.specs.Settings.{IsSettings};
 ghost use Rattle.kernel_core.specs.Start.{start, thread_count};
 ghost use Rattle.kernel_core.specs.declared.acting.Change.TheVariants as changes;
-ghost use Rattle.kernel_core.specs.declared.settings.Job.TheVariants as jobs;
-ghost use Rattle.kernel_core.specs.Step.{roots};
+ghost use Rattle.kernel_core.specs.Step.{contexts_of};
 ghost use Rattle.lwc_base.specs.Frames.{used};
 ghost use Rattle.lwc_base.specs.Life as life;
 ghost use Rattle.lwc_base.specs.Life.{IsReaped};
-ghost use Rattle.lwc_base.specs.declared.limits.TheConstants.{MOST_STEPS, MOST_THREADS};
+ghost use Rattle.lwc_base.specs.declared.limits.TheConstants.{MOST_BUDGET, MOST_REQUESTS, MOST_STEPS, MOST_THREADS};
 ghost use Rattle.std.specs.List.{sum_by};
+ghost use Rattle.std.specs.Option.{option_map};
 ghost use Rattle.world_face.specs.Calls.{IsLive};
 
 use crate::acting::{Change, step_thread};
 use crate::laws::runs_stay_ready;
-use crate::settings::{OpenFault, Settings};
-use crate::starting::{first_threads, open_channels, start_world};
+use crate::serve::{Serve, home_of, recorded, worker_count};
+use crate::settings::{Job, OpenFault, Settings};
+use crate::starting::{first_serve, open_channels, threads_at, world_for};
 use crate::thread::{Thread, ThreadView, Turn};
 use arrayvec::ArrayVec;
 use guest_image::Image;
 use guest_isa::Text;
 use guest_machine::Advance;
 use lwc_base::laws::a_reaped_world_keeps_what_is_reached;
-use lwc_base::{Channels, Name, OutOfMemory, Requests};
+use lwc_base::{Channels, Name, OutOfMemory, Requests, ThreadStatus};
+use snapshot_host::Finished;
 use std::alloc::Global;
 use std::marker::Model;
 use std::snapshot::Snapshot;
@@ -45,6 +47,7 @@ pub struct Kernel<W: World> {
     world: W,
     channels: Channels,
     threads: Vec<Thread>,
+    serve: Option<Serve>,
     schedule: Vec<u8>,
     room: u32,
     peak: u32,
@@ -61,14 +64,13 @@ impl<W: World> Model for Kernel<W> {
     ghost view = { λ k. history k.image.value k.requests.value k.settings k.schedule.items k.room };
 
     ghost invariant = { λ k. (vec_len k.schedule + k.room ≤ vec_capacity k.schedule)
-        × IsSteady (machine (W.seen k.world) k.channels k.threads.items k.text) k.peak
+        × IsSteady (machine (W.seen k.world) k.channels k.threads.items k.text k.serve) k.peak
         (history k.image.value k.requests.value k.settings k.schedule.items k.room) };
 }
 
 impl<W: World> Kernel<W> {
     /// A kernel at the start of an image, with room for this number of steps. The memory for the steps is
-    /// taken here, and so no step is refused for lack of room. Serving is not built yet: the job is a run, and
-    /// there are no requests.
+    /// taken here, and so no step is refused for lack of room. A run has no requests.
     ///
     /// # Errors
     ///
@@ -83,8 +85,7 @@ impl<W: World> Kernel<W> {
     ) -> Result<Kernel<W>, OpenFault>
         requires image { IsImage image.now }
         requires settings { IsSettings settings.now }
-        requires job { settings.now.job ≡ jobs.Run }
-        requires requests { requests ≡ [] }
+        requires requests { MayHave settings.now.job requests }
         requires steps { steps ≤ MOST_STEPS }
         ensures opened { IfOk result (λ k. k ≡ spec.opened
             (record { image = image.now; requests = requests; settings = settings.now }) steps) }
@@ -120,11 +121,12 @@ impl<W: World> Kernel<W> {
         ensures { IfOk result (λ k. k ≡ spec.opened
             (record { image = image.now; requests = requests; settings = settings.now }) steps) }
     {
-        let world: W = start_world(alloc, image, settings.frames)?;
+        let world: W = world_for(alloc, image, settings.frames, settings.job)?;
+        let serve = first_serve(alloc, settings, requests.len())?;
         let asked = Snapshot::of(&requests);
         let channels = open_channels(alloc, image, requests)?;
         let text = image.text.copy(alloc)?;
-        let threads = first_threads(alloc, settings.budget, image.entries.as_slice())?;
+        let threads = threads_at(alloc, image, settings.budget, settings.job)?;
         let schedule = Vec::with_capacity(alloc, steps as usize)?;
         let peak = world.used();
         Ok(Kernel {
@@ -135,6 +137,7 @@ impl<W: World> Kernel<W> {
             world,
             channels,
             threads,
+            serve,
             schedule,
             room: steps,
             peak,
@@ -161,15 +164,23 @@ impl<W: World> Kernel<W> {
         let mut thread = self.threads[t as usize];
         let world = &mut self.world;
         let io = &mut self.channels;
-        let Some(change) = step_thread(world, io, &self.text, t, &mut thread, proposal)? else {
-            return Ok(thread.turn());
+        let serve = &mut self.serve;
+        let Some(effect) = step_thread(world, io, serve, &self.text, t, &mut thread, proposal)?
+        else {
+            return Ok(thread.turn(None));
         };
         self.threads[t as usize] = thread;
-        drop_unreached(&mut self.world, self.threads.as_slice(), change);
-        self.peak = peak_after(self.peak, &self.world, change);
+        let workers = worker_count(&self.serve);
+        drop_unreached(
+            &mut self.world,
+            self.threads.as_slice(),
+            workers,
+            effect.change,
+        );
+        self.peak = peak_after(self.peak, &self.world, effect.change);
         append(&mut self.schedule, t as u8);
         self.room -= 1;
-        Ok(thread.turn())
+        Ok(thread.turn(effect.finished))
     }
 
     /// The number of steps that the kernel has room for.
@@ -236,22 +247,62 @@ impl<W: World> Kernel<W> {
         self.threads[t as usize].view()
     }
 
-    /// The number of steps that the threads may still make: the budgets of those that run, and 1 for each
-    /// idle one.
+    /// The number of steps that the threads may still make (`work`): in a run the budgets of those that run. In
+    /// a serve, for each request that is not begun the budget and 1, for each idle worker 1, and for each
+    /// other one what is left of its budget and 1.
     pub fn work(&self) -> u32
         ensures { result ≡ work (machine_of self.now) }
     {
         runs_stay_ready();
-        work_left(self.threads.as_slice())
+        let requests = self.channels.requests().len();
+        work_of(self.threads.as_slice(), &self.serve, requests)
     }
 
-    /// What the last step of thread `t` left of it, or how it is at the start.
-    pub fn turn(&self, t: u32) -> Turn
-        requires { t < thread_count self.now.inputs }
+    /// How thread `t` is at the start, before any step.
+    pub fn first_turn(&self, t: u32) -> Turn
+        requires within { t < thread_count self.now.inputs }
+        requires fresh { self.now.steps ≡ [] }
         ensures { spec.turn self.now t ≡ Some result }
     {
         runs_stay_ready();
-        self.threads[t as usize].turn()
+        self.threads[t as usize].turn(None)
+    }
+
+    /// The number of requests.
+    pub fn request_count(&self) -> u32
+        ensures count { result ≡ length self.now.inputs.requests }
+        ensures requests { result ≡ length (machine_of self.now).environment.channels.requests }
+        ensures few { result ≤ MOST_REQUESTS }
+    {
+        runs_stay_ready();
+        self.channels.requests().len() as u32
+    }
+
+    /// What is recorded of request `r`; `None` if it is not finished, or if nothing is served.
+    pub fn reply(&self, r: u16) -> Option<&Finished>
+        requires { r < length self.now.inputs.requests }
+        ensures { option_map (λ x. x.now) result ≡ reply_of (machine_of self.now) r }
+    {
+        runs_stay_ready();
+        recorded(&self.serve, r)
+    }
+
+    /// How request `r` ended; `None` if it is not finished.
+    pub fn reply_status(&self, r: u16) -> Option<ThreadStatus>
+        requires { r < length self.now.inputs.requests }
+        ensures { result ≡ option_map (λ x. x.status) (reply_of (machine_of self.now) r) }
+    {
+        match self.reply(r) {
+            Some(finished) => Some(finished.status),
+            None => None,
+        }
+    }
+
+    /// What calls of guests read and write beside the world.
+    pub fn channels(&self) -> &Channels
+        ensures { result.now ≡ (machine_of self.now).environment.channels }
+    {
+        &self.channels
     }
 
     /// A law of each kernel: a kernel can be opened with its inputs.
@@ -262,19 +313,26 @@ impl<W: World> Kernel<W> {
     }
 }
 
-/// Drops the contexts that no thread reaches, and then the groups that no cell names. There are none if the step
-/// has cut no link, and then nothing is done.
-fn drop_unreached<W: World>(world: &mut W, threads: &[Thread], change: Change)
+/// Drops the contexts that are reached neither from a thread's context nor from the homes of so many workers, and
+/// then the groups that no cell names. There are none if the step has cut no link, and then nothing is done.
+fn drop_unreached<W: World>(world: &mut W, threads: &[Thread], workers: u32, change: Change)
     requires few { length threads.now ≤ MOST_THREADS }
+    requires few_homes { workers ≤ MOST_THREADS }
     requires live { All (λ x. IsLive (W.seen world.old) x.context) threads.now }
-    requires uncut { change ≢ changes.Links → IsReaped (W.seen world.old) (roots threads.now) }
-    ensures { W.seen world.new ≡ life.reap (W.seen world.old) (roots threads.now) }
+    requires homes { All (λ home. IsLive (W.seen world.old) home) (homes_of workers) }
+    requires uncut { change ≢ changes.Links →
+        IsReaped (W.seen world.old) (contexts_of threads.now ++ homes_of workers) }
+    ensures { W.seen world.new
+        ≡ life.reap (W.seen world.old) (contexts_of threads.now ++ homes_of workers) }
 {
     a_reaped_world_keeps_what_is_reached();
     if change == Change::Links {
         let mut contexts: ArrayVec<Name, 32> = ArrayVec::new();
         'threads: for i in 0..threads.len() {
             contexts.push(threads[i].context);
+        }
+        'homes: for t in 0..workers {
+            contexts.push(home_of(t));
         }
         world.reap(contexts.as_slice());
     }
@@ -301,10 +359,40 @@ fn append(schedule: &mut Vec<u8>, t: u8)
     let _ = schedule.push(t);
 }
 
-/// The number of steps that the threads may still make.
-fn work_left(threads: &[Thread]) -> u32
-    requires { sum_by (λ x. steps_left x.budget x.status) threads.now < 2 ^ 32 }
-    ensures { result ≡ sum_by (λ x. steps_left x.budget x.status) threads.now }
+/// The number of steps that the threads may still make, those for so many requests among them.
+fn work_of(threads: &[Thread], serve: &Option<Serve>, requests: usize) -> u32
+    requires few { All (λ x. x.budget ≤ MOST_BUDGET) threads.now }
+    requires fits { sum_by (λ x. steps_left (steps_after serve.now) x.budget x.status) threads.now ≤ 1600032 }
+    requires serve { IfSome serve.now (λ s. (s.next ≤ requests) × (s.budget ≤ MOST_BUDGET)) }
+    requires requests { requests ≤ MOST_REQUESTS }
+    ensures { result ≡ sum_by (λ x. steps_left (steps_after serve.now) x.budget x.status) threads.now
+        + steps_for_requests serve.now requests }
 {
-    threads.iter().map(|thread| thread.steps_left()).sum()
+    match serve {
+        None => work_left(threads, 0),
+        Some(serve) => work_left(threads, 1) + work_for_requests(serve, requests as u32),
+    }
+}
+
+/// The number of steps for the requests, of which there are so many, that are not begun.
+#[tactic(auto, using(crate::proofs::HomeMade::few_steps))]
+fn work_for_requests(serve: &Serve, requests: u32) -> u32
+    requires next { serve.now.next ≤ requests }
+    requires requests { requests ≤ MOST_REQUESTS }
+    requires budget { serve.now.budget ≤ MOST_BUDGET }
+    ensures steps { result ≡ (requests - serve.now.next) * (serve.now.budget + 1) }
+    ensures few { result ≤ 102401024 }
+{
+    (requests - u32::from(serve.next)) * (serve.budget + 1)
+}
+
+/// The number of steps that the threads may still make, where each that runs makes this number more after those of
+/// its budget.
+fn work_left(threads: &[Thread], more: u32) -> u32
+    requires more { more ≤ 1 }
+    requires few { All (λ x. x.budget ≤ MOST_BUDGET) threads.now }
+    requires fits { sum_by (λ x. steps_left more x.budget x.status) threads.now < 2 ^ 32 }
+    ensures { result ≡ sum_by (λ x. steps_left more x.budget x.status) threads.now }
+{
+    threads.iter().map(|thread| thread.steps_left(more)).sum()
 }

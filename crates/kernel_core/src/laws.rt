@@ -4,10 +4,10 @@ ghost use Rattle.kernel_core.specs.Histories.{IsComplete, IsLegal, steps_by, tur
 ghost use Rattle.kernel_core.specs.Kernel.{CanOpen, History, machine_of, turn};
 ghost use Rattle.kernel_core.specs.Machine.{Environment, Machine, has_ended, is_ended, work};
 ghost use Rattle.kernel_core.specs.Ready.{RunFacts};
-ghost use Rattle.kernel_core.specs.Refused.{ComesToRefusal, after_refusal, refusal_of};
+ghost use Rattle.kernel_core.specs.Refused.{ComesToRefusal, IsNotLast, after_refusal, refusal_of, thread_refused};
 ghost use Rattle.kernel_core.specs.Runs.{kept, peak, run};
 ghost use Rattle.kernel_core.specs.Start.{Inputs, start, thread_count};
-ghost use Rattle.kernel_core.specs.Step.{guest_calls, refused, step, unchanged};
+ghost use Rattle.kernel_core.specs.Step.{after_outcome, guest_calls, refused, settled, step, unchanged};
 ghost use Rattle.kernel_core.specs.declared.settings.Job.TheVariants as jobs;
 ghost use Rattle.kernel_core.specs.declared.thread.Thread.{Thread};
 ghost use Rattle.kernel_core.specs.declared.thread.Turn.{Turn};
@@ -17,7 +17,8 @@ ghost use Rattle.lwc_base.specs.declared.refusal.Refusal.{Refusal};
 use lwc_base::laws::{
     a_reaped_world_keeps_what_is_reached, changes_leave_the_rest,
     contexts_keep_the_contexts_that_they_name, descriptors_stay_in_range, live_names_are_counted,
-    names_are_ordered, sound_worlds_stay_sound,
+    names_are_ordered, names_keep_to_their_jobs, only_jobs_with_a_root_are_reached,
+    reached_contexts_are_those_with_a_chain, sound_worlds_stay_sound,
 };
 use lwc_create::laws::an_accepted_call_is_within_limits;
 use lwc_overlay::laws::{
@@ -26,8 +27,9 @@ use lwc_overlay::laws::{
 use lwc_switch::laws::an_accepted_switch_goes_to_a_linked_context;
 use lwc_syscall::laws::{
     a_plain_call_does_one_thing, a_plain_call_keeps_the_world_well, a_refused_call_changes_nothing,
-    a_syscall_keeps_the_world_well,
+    a_syscall_keeps_the_world_well, an_allowed_syscall_takes_what_is_covered,
 };
+use snapshot_host::laws::a_request_begins_as_a_copy;
 
 /// Of kept steps all are kept.
 #[tactic(auto, using(crate::proofs::Runs::kept_twice))]
@@ -58,12 +60,19 @@ pub fn worlds_of_runs_are_sound()
     runs_stay_ready();
 }
 
-/// A call that is refused, whatever its number, changes its thread alone, and of it r0, pc and the budget.
+/// A call that is refused, whatever its number, changes its thread alone, and of it r0, pc and the budget. In a
+/// serve the last step of the budget besides finishes the request.
 pub fn a_refused_call_changes_its_thread_alone()
     ensures call { (number t : ℕ) (e : Environment) (x : Thread) (refusal : Refusal) →
         refusal_of number t e x ≡ Some refusal → guest_calls number t e x ≡ unchanged e (refused x refusal) }
     ensures step { (inputs : Inputs) (steps : List ℕ) (t : ℕ) (x : Thread) (i : Instr) (refusal : Refusal) →
         CanOpen inputs → ComesToRefusal (run (start inputs) steps) t x i refusal →
+        step (run (start inputs) steps) t ≡ after_outcome (run (start inputs) steps) t
+        (Some (settled t (run (start inputs) steps).serve (unchanged (run (start inputs) steps).environment
+        (thread_refused (run (start inputs) steps) x refusal)))) }
+    ensures alone { (inputs : Inputs) (steps : List ℕ) (t : ℕ) (x : Thread) (i : Instr) (refusal : Refusal) →
+        CanOpen inputs → ComesToRefusal (run (start inputs) steps) t x i refusal →
+        IsNotLast (run (start inputs) steps) x →
         step (run (start inputs) steps) t ≡ after_refusal (run (start inputs) steps) t x refusal }
 {
     runs_stay_ready();
@@ -89,6 +98,11 @@ pub(crate) fn runs_stay_ready()
     a_plain_call_does_one_thing();
     a_plain_call_keeps_the_world_well();
     a_syscall_keeps_the_world_well();
+    a_request_begins_as_a_copy();
+    names_keep_to_their_jobs();
+    only_jobs_with_a_root_are_reached();
+    reached_contexts_are_those_with_a_chain();
+    an_allowed_syscall_takes_what_is_covered();
 }
 
 /// The steps of other threads leave a thread's turn as it is.

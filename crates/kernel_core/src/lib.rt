@@ -8,6 +8,7 @@ pub mod inputs;
 pub mod kernel;
 pub mod laws;
 mod memory;
+pub mod serve;
 pub mod settings;
 mod starting;
 pub mod thread;

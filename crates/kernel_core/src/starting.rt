@@ -2,16 +2,23 @@ ghost use Rattle.std.specs.Prelude.{[], ◌≡◌, ◌≢◌, ◌==◌, ◌<◌,
 ghost use Rattle.std.specs.List.{find};
 ghost use Rattle.guest_image.specs.Limits.{IsImage};
 ghost use Rattle.kernel_core.specs.Start as spec;
+ghost use Rattle.kernel_core.specs.Kernel.{AreRequests};
+ghost use Rattle.kernel_core.specs.Settings.{IsJob};
 ghost use Rattle.lwc_base.specs.Channels.{opened};
 ghost use Rattle.lwc_base.specs.declared.descriptor.TheConstants.{SLOTS};
 ghost use Rattle.lwc_base.specs.declared.limits.TheConstants.{MOST_FRAMES, MOST_THREADS};
 
+use crate::laws::runs_stay_ready;
+use crate::serve::{Serve, home_of};
+use crate::settings::{Job, Settings};
 use crate::thread::Thread;
+use arrayvec::ArrayVec;
 use guest_image::{Image, SlotImage};
 use lwc_base::laws::names_are_ordered;
 use lwc_base::{
     Channels, Descriptor, FileImage, MOST_CONTEXTS, MOST_GROUPS, MOST_JOBS, MOST_PAGES, Name,
-    OutOfMemory, PAGE_BYTES, Range, Regs, Requests, SLOTS, Sequence, StoreFault, ThreadStatus,
+    OutOfMemory, PAGE_BYTES, Range, Regs, Requests, SLOTS, Sequence, Spec, StoreFault,
+    ThreadStatus,
 };
 use std::alloc::Global;
 use world_face::{World, WorldSize};
@@ -22,12 +29,54 @@ const FIRST: Name = Name { job: 0, k: 0 };
 /// The number of slots, from 0 on, that have the console.
 const CONSOLES: u8 = 2;
 
-/// The threads of a start. The only error is out of memory.
-pub(crate) fn first_threads(
+/// The threads of a start, by the job. The only error is out of memory.
+pub(crate) fn threads_at(
     alloc: Global,
+    image: &Image,
     budget: u32,
-    entries: &[u32],
+    job: Job,
 ) -> Result<Vec<Thread>, OutOfMemory>
+    requires image { IsImage image.now }
+    requires job { IsJob job }
+    ensures { IfOk result (λ threads. threads.items ≡ spec.threads_at image.now budget job) }
+{
+    match job {
+        Job::Run => first_threads(alloc, budget, image.entries.as_slice()),
+        Job::Serve { workers } => first_workers(alloc, image.entries.as_slice()[0], workers),
+    }
+}
+
+/// The workers of a start, each idle in its home. The only error is out of memory.
+fn first_workers(alloc: Global, entry: u32, workers: u32) -> Result<Vec<Thread>, OutOfMemory>
+    requires { workers ≤ MOST_THREADS }
+    ensures { IfOk result (λ threads. threads.items ≡ spec.first_workers entry workers) }
+{
+    let regs = Regs::fresh(u64::from(entry));
+    let mut threads = Vec::new(alloc);
+    'workers: for t in 0..workers {
+        threads.push(Thread::waiting(home_of(t), regs))?;
+    }
+    Ok(threads)
+}
+
+/// The serve of a start, if it is one: no request is begun. The only error is out of memory.
+pub(crate) fn first_serve(
+    alloc: Global,
+    settings: &Settings,
+    requests: usize,
+) -> Result<Option<Serve>, OutOfMemory>
+    requires { IsJob settings.now.job }
+    ensures { IfOk result (λ serve. serve
+        ≡ spec.serve_at settings.now.job settings.now.budget requests) }
+{
+    match settings.job {
+        Job::Run => Ok(None),
+        Job::Serve { workers } => Ok(Some(Serve::open(alloc, workers, settings.budget, requests)?)),
+    }
+}
+
+/// The threads of a run's start. The only error is out of memory.
+fn first_threads(alloc: Global, budget: u32, entries: &[u32]) -> Result<Vec<Thread>, OutOfMemory>
     requires { length entries.now ≤ MOST_THREADS }
     ensures { IfOk result (λ threads. threads.items ≡ spec.first_threads budget entries.now) }
 {
@@ -60,7 +109,7 @@ pub(crate) fn open_channels(
     requests: Requests,
 ) -> Result<Channels, OutOfMemory>
     requires image { IsImage image.now }
-    requires none { requests ≡ [] }
+    requires requests { AreRequests requests }
     ensures { IfOk result (λ io. io ≡ opened image.now.files requests) }
 {
     Channels::open(alloc, copy_files(alloc, image.files.as_slice())?, requests)
@@ -88,12 +137,83 @@ fn copy_file(alloc: Global, file: &FileImage) -> Result<FileImage, OutOfMemory>
     })
 }
 
-/// The world of a start. The only error is out of memory.
-pub(crate) fn start_world<W: World>(
+/// The world of a start, by the job. The only error is out of memory.
+pub(crate) fn world_for<W: World>(
     alloc: Global,
     image: &Image,
     frames: u32,
+    job: Job,
 ) -> Result<W, OutOfMemory>
+    requires image { IsImage image.now }
+    requires some { 1 ≤ frames }
+    requires few { frames ≤ MOST_FRAMES }
+    requires fits { length image.now.pages ≤ frames }
+    requires job { IsJob job }
+    ensures { IfOk result (λ w. W.seen w ≡ spec.world_for image.now frames job) }
+{
+    match job {
+        Job::Run => start_world(alloc, image, frames),
+        Job::Serve { workers } => serve_world(alloc, image, frames, workers),
+    }
+}
+
+/// The world of a serve's start. The only error is out of memory.
+fn serve_world<W: World>(
+    alloc: Global,
+    image: &Image,
+    frames: u32,
+    workers: u32,
+) -> Result<W, OutOfMemory>
+    requires image { IsImage image.now }
+    requires some { 1 ≤ frames }
+    requires few { frames ≤ MOST_FRAMES }
+    requires fits { length image.now.pages ≤ frames }
+    requires workers { workers ≤ MOST_THREADS }
+    ensures { IfOk result (λ w. W.seen w ≡ spec.serve_world image.now frames workers) }
+{
+    let mut world: W = start_world(alloc, image, frames)?;
+    put_homes(&mut world, image, workers)?;
+    Ok(world)
+}
+
+/// Makes the homes of a serve from the first context, and drops that. The only error is out of memory.
+fn put_homes<W: World>(world: &mut W, image: &Image, workers: u32) -> Result<(), OutOfMemory>
+    requires image { IsImage image.now }
+    requires few { workers ≤ MOST_THREADS }
+    requires before { W.seen world.old ≡ spec.start_world image.now (W.seen world.old).size.frames }
+    ensures { OnOk result (W.seen world.new
+        ≡ spec.serve_world image.now (W.seen world.old).size.frames workers) }
+{
+    runs_stay_ready();
+    'workers: for t in 0..workers {
+        put_home(world, image, t)?;
+    }
+    let mut homes: ArrayVec<Name, 16> = ArrayVec::new();
+    'homes: for t in 0..workers {
+        homes.push(home_of(t));
+    }
+    world.reap(homes.as_slice());
+    Ok(())
+}
+
+/// Makes one more home from the first context. The only error is out of memory.
+fn put_home<W: World>(world: &mut W, image: &Image, t: u32) -> Result<(), OutOfMemory>
+    requires image { IsImage image.now }
+    requires few { t < MOST_THREADS }
+    requires before { W.seen world.old ≡ spec.homes_so_far image.now (W.seen world.old).size.frames t }
+    ensures { OnOk result (W.seen world.new
+        ≡ spec.homes_so_far image.now (W.seen world.old).size.frames (t + 1)) }
+{
+    runs_stay_ready();
+    let entry = Regs::fresh(u64::from(image.entries.as_slice()[0]));
+    let home = world.clone_context(FIRST, &Spec::empty(), 0, &entry)?;
+    world.set_slot(home, 1, Descriptor::Empty);
+    world.set_slot(home, 0, Descriptor::Empty);
+    Ok(())
+}
+
+/// The world of a run's start. The only error is out of memory.
+fn start_world<W: World>(alloc: Global, image: &Image, frames: u32) -> Result<W, OutOfMemory>
     requires image { IsImage image.now }
     requires some { 1 ≤ frames }
     requires few { frames ≤ MOST_FRAMES }

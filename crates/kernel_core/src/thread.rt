@@ -1,8 +1,9 @@
-ghost use Rattle.std.specs.Prelude.{◌≡◌, ◌<◌, ◌≤◌};
+ghost use Rattle.std.specs.Prelude.{◌≡◌, ◌<◌, ◌≤◌, ◌+◌, ◌^◌};
 ghost use Rattle.kernel_core.specs.Machine as machine;
 ghost use Rattle.kernel_core.specs.Step as spec;
 
 use lwc_base::{Fault, Name, Refusal, Regs, ThreadStatus};
+use snapshot_host::Finished;
 
 /// A thread: its status, the context that it is in, its registers, the job that it acts for, and the number
 /// of steps that it may still make.
@@ -15,11 +16,12 @@ pub struct Thread {
     pub budget: u32,
 }
 
-/// What a step left of its thread: the registers and the status.
-#[derive(Clone, Copy, Debug, PartialEq, Eq)]
+/// What a step left of its thread: the registers and the status, and the request that it finished, if it did.
+#[derive(Debug, Drop)]
 pub struct Turn {
     pub regs: Regs,
     pub status: ThreadStatus,
+    pub finished: Option<Finished>,
 }
 
 /// What can be seen of a thread: its status, its context and its registers.
@@ -30,33 +32,63 @@ pub struct ThreadView {
     pub regs: Regs,
 }
 
+/// Whether a thread of this status has ended.
+pub(crate) fn has_ended(status: ThreadStatus) -> bool
+    ensures { result ≡ machine.has_ended status }
+{
+    match status {
+        ThreadStatus::Idle | ThreadStatus::Running => false,
+        ThreadStatus::Done { .. } | ThreadStatus::Faulted { .. } => true,
+    }
+}
+
 impl Turn {
-    /// The same turn.
+    /// The same turn. It takes no memory.
     pub fn same(&self) -> Turn
         ensures { result ≡ self.now }
     {
-        *self
+        let finished = match &self.finished {
+            Some(finished) => Some(finished.same()),
+            None => None,
+        };
+        Turn {
+            regs: self.regs,
+            status: self.status,
+            finished,
+        }
     }
 
     /// Whether the thread has ended.
     pub fn has_ended(&self) -> bool
         ensures { result ≡ machine.has_ended self.now.status }
     {
-        match self.status {
-            ThreadStatus::Idle | ThreadStatus::Running => false,
-            ThreadStatus::Done { .. } | ThreadStatus::Faulted { .. } => true,
-        }
+        has_ended(self.status)
     }
 }
 
 impl Thread {
-    /// The registers and the status.
-    pub(crate) fn turn(&self) -> Turn
-        ensures { result ≡ record { regs = self.now.regs; status = self.now.status } }
+    /// A worker that waits in its home, with these registers.
+    pub(crate) fn waiting(home: Name, regs: Regs) -> Thread
+        ensures { result ≡ spec.waiting home regs }
+    {
+        Thread {
+            status: ThreadStatus::Idle,
+            context: home,
+            regs,
+            job: 0,
+            budget: 0,
+        }
+    }
+
+    /// The registers and the status, and the request that a step of it has finished.
+    pub(crate) fn turn(&self, finished: Option<Finished>) -> Turn
+        ensures { result
+            ≡ record { regs = self.now.regs; status = self.now.status; finished = finished } }
     {
         Turn {
             regs: self.regs,
             status: self.status,
+            finished,
         }
     }
 
@@ -72,12 +104,14 @@ impl Thread {
         }
     }
 
-    /// The number of steps that the thread may still make.
-    pub(crate) fn steps_left(&self) -> u32
-        ensures { result ≡ machine.steps_left self.now.budget self.now.status }
+    /// The number of steps that the thread may still make, where a worker makes this number more after those of
+    /// its request.
+    pub(crate) fn steps_left(&self, more: u32) -> u32
+        requires { self.now.budget + more < 2 ^ 32 }
+        ensures { result ≡ machine.steps_left more self.now.budget self.now.status }
     {
         match self.status {
-            ThreadStatus::Running => self.budget,
+            ThreadStatus::Running => self.budget + more,
             ThreadStatus::Idle => 1,
             ThreadStatus::Done { .. } | ThreadStatus::Faulted { .. } => 0,
         }

@@ -10,14 +10,15 @@ use Rattle.std.proofs.lemmas.List.Concat.{flat_map-append}
 use Rattle.std.proofs.lemmas.Map.Views.{list_any-from_Contains}
 use Rattle.std.proofs.lemmas.Option.{slice_get_cases, slice_get_within, get_or_from_slice_get}
 use Rattle.kernel_core.specs.Kernel.{view_of}
-use Rattle.kernel_core.specs.Machine.{Machine}
+use Rattle.kernel_core.specs.Machine.{Machine, reply_of}
+use Rattle.snapshot_host.specs.declared.finishing.Finished.{Finished}
 use Rattle.kernel_core.specs.declared.thread.ThreadView.{ThreadView}
 use Rattle.lwc_base.specs.Facts.{OrderFacts}
 use Rattle.lwc_base.specs.Summaries.{summary_of}
 use Rattle.lwc_base.specs.World.{World}
 use Rattle.lwc_base.specs.declared.name.Name.{Name}
 use Rattle.lwc_base.specs.declared.size.Summary.{Summary}
-use Rattle.lwc_text.specs.Lines.{context_line, thread_lines}
+use Rattle.lwc_text.specs.Lines.{context_line, reply_line, thread_lines}
 use Rattle.lwc_text.specs.Report.{thread_at}
 
 -- a name among those of live contexts is live
@@ -45,6 +46,16 @@ more_threads m t view now after seen so_far added =
     ∙ ap (λ l. flat_map (thread_at m) (range_with_len 0 t) ++ l) (sym text)
     ∙ sym (last_piece (thread_at m) (range_with_len 0 t) t)
     ∙ ap (flat_map (thread_at m)) (sym next)
+
+-- the line of one reply more
+pub more_replies : (m : Machine) (r : ℕ) (finished : Option Finished) (before now after : List ℕ) → finished ≡ reply_of m r → now ≡ before ++ flat_map (λ q. reply_line q (reply_of m q)) (range_with_len 0 r)
+    → after ≡ now ++ reply_line r finished → after ≡ before ++ flat_map (λ q. reply_line q (reply_of m q)) (range_with_len 0 (r + 1))
+more_replies m r finished before now after is so_far added =
+    let line = λ (q : ℕ). reply_line q (reply_of m q) in
+    let next : range_with_len 0 (r + 1) ≡ range_with_len 0 r ++ r ∷ [] = rw add-one (count_on 0 r ∙ ap (λ k. range_with_len 0 r ++ k ∷ []) (omega arith)) in
+    added ∙ ap (λ l. l ++ reply_line r finished) so_far ∙ ap (λ f. (before ++ flat_map line (range_with_len 0 r)) ++ reply_line r f) is
+    ∙ append_assoc before (flat_map line (range_with_len 0 r)) (line r)
+    ∙ ap (λ l. before ++ l) (sym (last_piece line (range_with_len 0 r) r) ∙ ap (flat_map line) (sym next))
 
 abbrev context_at : World → Name → List ℕ
 context_at w c = context_line c (summary_of w c)

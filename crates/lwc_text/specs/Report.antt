@@ -1,15 +1,15 @@
--- The report of a run.
+-- The report of a run or a serve.
 use Rattle.std.specs.Prelude.{ℕ, List, [], ◌++◌, length}
 use Rattle.std.specs.FinMap as fm
 use Rattle.std.specs.List.{flat_map, range_with_len}
 use Rattle.std.specs.Option.{option_map_or}
 use Rattle.kernel_core.specs.Kernel.{view_of}
-use Rattle.kernel_core.specs.Machine.{Machine}
+use Rattle.kernel_core.specs.Machine.{Machine, reply_of}
 use Rattle.kernel_core.specs.Runs.{frames_of, peak, run}
 use Rattle.kernel_core.specs.Start.{Inputs, start}
 use Rattle.lwc_base.specs.Summaries.{summary_of}
 use Rattle.lwc_base.specs.World.{World}
-use Rattle.lwc_text.specs.Lines.{context_line, groups_line, tail_lines, thread_lines}
+use Rattle.lwc_text.specs.Lines.{context_line, groups_line, reply_line, tail_lines, thread_lines}
 
 -- the lines of the thread of a number, if there is one
 abbrev pub thread_at : Machine → ℕ → List ℕ
@@ -23,11 +23,16 @@ threads_text m = flat_map (thread_at m) (range_with_len 0 (length m.threads))
 unfoldable pub contexts_text : World → List ℕ
 contexts_text w = flat_map (λ c. context_line c (summary_of w c)) (fm.keys w.contexts)
 
+-- the lines of the replies to all requests, in order
+unfoldable pub replies_text : Machine → List ℕ
+replies_text m =
+    flat_map (λ r. reply_line r (reply_of m r)) (range_with_len 0 (length m.environment.channels.requests))
+
 -- the report of a machine, with the most frames that were in use and the steps that led to it
 unfoldable pub report_of : Machine → ℕ → List ℕ → List ℕ
 report_of m most steps =
     threads_text m ++ contexts_text m.environment.world ++ groups_line (fm.len m.environment.world.groups)
-    ++ tail_lines m.environment.channels.console (frames_of m) most steps
+    ++ replies_text m ++ tail_lines m.environment.channels.console (frames_of m) most steps
 
 -- the report of the run of these steps from the start
 abbrev pub report_after : Inputs → List ℕ → List ℕ

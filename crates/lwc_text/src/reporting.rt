@@ -2,17 +2,17 @@
 
 ghost use Rattle.std.specs.Prelude.{◌≡◌, ◌++◌, [], IfOk, OnOk};
 ghost use Rattle.kernel_core.specs.Kernel.{machine_of};
-ghost use Rattle.lwc_text.specs.Report.{contexts_text, report_after, threads_text};
+ghost use Rattle.lwc_text.specs.Report.{contexts_text, replies_text, report_after, threads_text};
 
-use crate::lines::{context_line, groups_line, tail_lines, thread_lines};
+use crate::lines::{context_line, groups_line, reply_line, tail_lines, thread_lines};
 use kernel_core::Kernel;
 use lwc_base::OutOfMemory;
 use lwc_base::laws::names_are_ordered;
 use std::alloc::Global;
 use world_face::World;
 
-/// The report of a run: its threads with their registers, its contexts, the number of live groups, what was
-/// written to the console, the frames in use and the most that were, and the steps that were kept. The only
+/// The report of a run: its threads with their registers, its contexts, the number of live groups, the replies
+/// to its requests, what was written to the console, the frames in use and the most that were, and the steps that were kept. The only
 /// error is out of memory.
 #[tactic(auto, unfolding(crate::specs::Report::report_of, kernel_core::specs::Kernel::machine_of))]
 pub fn report<W: World>(alloc: Global, k: &Kernel<W>) -> Result<Vec<u8>, OutOfMemory>
@@ -22,7 +22,14 @@ pub fn report<W: World>(alloc: Global, k: &Kernel<W>) -> Result<Vec<u8>, OutOfMe
     let mut text = threads_text(alloc, k)?;
     context_lines(&mut text, world)?;
     groups_line(&mut text, world.group_count())?;
-    tail_lines(&mut text, k.console(), world.used(), k.peak(), k.schedule())?;
+    reply_lines(&mut text, k)?;
+    tail_lines(
+        &mut text,
+        k.channels().console(),
+        world.used(),
+        k.peak(),
+        k.schedule(),
+    )?;
     Ok(text)
 }
 
@@ -49,6 +56,17 @@ fn context_lines<W: World>(out: &mut Vec<u8>, world: &W) -> Result<(), OutOfMemo
             unreachable!();
         };
         context_line(out, name, &world.summary(name))?;
+    }
+    Ok(())
+}
+
+/// Appends the lines of the replies to all requests.
+#[tactic(auto, using(crate::proofs::Machines::more_replies), unfolding(crate::specs::Report::replies_text))]
+fn reply_lines<W: World>(out: &mut Vec<u8>, k: &Kernel<W>) -> Result<(), OutOfMemory>
+    ensures { OnOk result (out.new.items ≡ out.old.items ++ replies_text (machine_of k.now)) }
+{
+    'requests: for r in 0..k.request_count() as u16 {
+        reply_line(out, r, k.reply(r))?;
     }
     Ok(())
 }

@@ -20,6 +20,8 @@ mod outside;
 #[cfg(test)]
 mod replays;
 #[cfg(test)]
+mod serving;
+#[cfg(test)]
 mod stepping;
 #[cfg(test)]
 mod switching;

@@ -21,13 +21,14 @@ pub(crate) fn first_turns<W: World>(
     alloc: Global,
     kernel: &Kernel<W>,
 ) -> Result<Vec<Turn>, OutOfMemory>
+    requires fresh { kernel.now.steps ≡ [] }
     ensures count { IfOk result (λ turns. length turns.items ≡ thread_count kernel.now.inputs) }
     ensures turns { IfOk result (λ turns. (t : ℕ) (last : Turn) →
         slice_get turns.items t ≡ Some last → kernels.turn kernel.now t ≡ Some last) }
 {
     let mut turns = Vec::new(alloc);
     'threads: for t in 0..kernel.thread_count() {
-        turns.push(kernel.turn(t))?;
+        turns.push(kernel.first_turn(t))?;
     }
     Ok(turns)
 }

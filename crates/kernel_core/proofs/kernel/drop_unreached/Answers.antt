@@ -1,30 +1,34 @@
-use Rattle.std.proofs.Common.{◌∙◌, List, length, ap, arith, subst, sym}
+use Rattle.std.proofs.Common.{◌≡◌, ◌∙◌, ◌++◌, ◌∷◌, [], List, ap, arith, length, length-append, subst, sym, ℕ}
 use Rattle.std.specs.Prelude.{All}
-use Rattle.kernel_core.proofs.Reaping.{length-roots, live_roots, roots_all, roots_more}
-use Rattle.lwc_base.specs.Life.{reap}
+use Rattle.std.proofs.lemmas.List.Elements.{All-append}
+use Rattle.kernel_core.proofs.Reaping.{home_more, length-contexts, length-homes, live_roots}
+use Rattle.kernel_core.specs.Machine.{homes_of}
+use Rattle.kernel_core.specs.Step.{contexts_of}
 use Rattle.lwc_base.specs.declared.name.Name.{Name}
 use Rattle.world_face.specs.Calls.{IsLive}
 use Rattle.kernel_core.proofs.kernel.drop_unreached.Goals as goal
 
-pub threads-init : goal.threads-init
-threads-init g c = c.new-contexts.ensures
-
-pub push-requires : goal.push-requires
-push-requires g c = (
+pub push-requires-in-homes : goal.push-requires-in-homes
+push-requires-in-homes g c = (
   omega arith,
-  omega (arith, length-roots c.args.threads.now c.threads.i c.threads-test.true, ap (λ (l : List Name). length l) c.threads.invariant, c.requires.few),
+  omega (
+    arith,
+    ap (λ (l : List Name). length l) c.homes.invariant,
+    length-append (contexts_of c.args.threads.now) (homes_of c.homes.t),
+    length-contexts c.args.threads.now,
+    length-homes c.homes.t,
+    c.homes-test.true,
+    c.requires.few,
+    c.requires.few_homes,
+  ),
 )
 
-pub threads-preserved : goal.threads-preserved
-threads-preserved g c =
-    roots_more c.args.threads.now c.threads.i _ _ _ c.threads-test.true c.threads.invariant c.push.ensures.items
+pub homes-preserved : goal.homes-preserved
+homes-preserved g c =
+    home_more c.args.threads.now c.homes.t _ _ c.homes.invariant (c.push-in-homes.ensures.items ∙ ap (λ (h : Name). c.homes.contexts.items ++ h ∷ []) c.home_of.ensures)
 
 pub reap-requires-clause-live : goal.reap-requires-clause-live
 reap-requires-clause-live g c =
-    subst (All (IsLive (g.W.World.seen c.args.world.now))) (sym (c.as_slice.ensures.value ∙ c.threads.invariant ∙ roots_all c.args.threads.now c.threads.i c.threads-test.false))
-    (live_roots (g.W.World.seen c.args.world.now) c.args.threads.now c.requires.live)
-
-pub returns-after-threads : goal.returns-after-threads
-returns-after-threads g c =
-    c.reap.ensures.reaped
-    ∙ ap (reap (g.W.World.seen c.args.world.now)) (c.as_slice.ensures.value ∙ c.threads.invariant ∙ roots_all c.args.threads.now c.threads.i c.threads-test.false)
+    let all : c.homes.t ≡ c.args.workers = omega (arith, c.homes-test.false, c.homes.auto.t-end) in
+    subst (All (IsLive (g.W.World.seen c.args.world.now))) (sym (c.as_slice.ensures.value ∙ c.homes.invariant ∙ ap (λ (n : ℕ). contexts_of c.args.threads.now ++ homes_of n) all))
+    (All-append (IsLive (g.W.World.seen c.args.world.now)) (contexts_of c.args.threads.now) (homes_of c.args.workers) (live_roots (g.W.World.seen c.args.world.now) c.args.threads.now c.requires.live) c.requires.homes)

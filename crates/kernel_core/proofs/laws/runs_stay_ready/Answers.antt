@@ -1,6 +1,7 @@
 use Rattle.std.proofs.Common.{◌+◌, arith, length}
-use Rattle.kernel_core.proofs.ReadyRuns.{fewer_steps, live_after, ready_later, ready_run, running_acts}
-use Rattle.kernel_core.proofs.Started.{ready_start}
+use Rattle.kernel_core.proofs.Outcomes.{keeps_contexts}
+use Rattle.kernel_core.proofs.ReadyRuns.{can_serve, fewer_steps, live_after, ready_later, ready_run, running_acts}
+use Rattle.kernel_core.proofs.HomeStart.{home_facts, ready_start}
 use Rattle.kernel_core.proofs.Worlds.{WorldFacts}
 use Rattle.kernel_core.specs.Runs.{run}
 use Rattle.kernel_core.specs.Start.{start}
@@ -59,6 +60,31 @@ returns c =
         was_group = c.a_reaped_world_keeps_what_is_reached.ensures.was_group;
         rest = c.a_reaped_world_keeps_what_is_reached.ensures.rest;
         reaped = c.a_reaped_world_keeps_what_is_reached.ensures.reaped;
+        context = c.a_reaped_world_keeps_what_is_reached.ensures.context;
+        reached = c.a_reaped_world_keeps_what_is_reached.ensures.reached;
+        found = c.reached_contexts_are_those_with_a_chain.ensures.reached;
+        chain = c.reached_contexts_are_those_with_a_chain.ensures.chain;
+      };
+      names = record {
+        add = c.names_keep_to_their_jobs.ensures.add;
+        slot = c.names_keep_to_their_jobs.ensures.slot;
+        uid = c.names_keep_to_their_jobs.ensures.uid;
+        map = c.names_keep_to_their_jobs.ensures.map;
+        unmap = c.names_keep_to_their_jobs.ensures.unmap;
+        store = c.names_keep_to_their_jobs.ensures.store;
+        clone = c.names_keep_to_their_jobs.ensures.clone;
+        save = c.names_keep_to_their_jobs.ensures.save;
+        overlay = c.names_keep_to_their_jobs.ensures.overlay;
+        reap = c.names_keep_to_their_jobs.ensures.reap;
+        read = c.names_keep_to_their_jobs.ensures.read;
+        reached = c.only_jobs_with_a_root_are_reached.ensures;
+        allowed = c.an_allowed_syscall_takes_what_is_covered.ensures;
+      };
+      begins = record {
+        begun = c.a_request_begins_as_a_copy.ensures.begun;
+        same = c.a_request_begins_as_a_copy.ensures.same;
+        no_group = c.a_request_begins_as_a_copy.ensures.no_group;
+        ranges = c.a_request_begins_as_a_copy.ensures.ranges;
       };
       switches = c.an_accepted_switch_goes_to_a_linked_context.ensures;
       creates = record {
@@ -74,7 +100,10 @@ returns c =
           ready_later inputs (0 + length steps) (length steps) (run (start inputs) steps) (omega arith)
           (ready_run facts inputs 0 steps (start inputs) (ready_start facts inputs can));
       act = running_acts facts;
-      fewer = fewer_steps facts;
-      live = live_after facts;
+      serve = can_serve facts;
+      fewer = λ inputs steps t m x after ready found made. fewer_steps facts inputs steps t m x ready found after made;
+      live = λ inputs steps t m x after ready found made. live_after facts inputs steps t m x ready found after made;
+      keeps = keeps_contexts facts;
       same = c.a_reaped_world_keeps_what_is_reached.ensures.same;
+      homes = home_facts facts;
     }

@@ -1,0 +1,115 @@
+//! What a kernel keeps of a serve, and how its workers wait, begin and finish requests.
+ghost use Rattle.std.specs.Prelude.{◌≡◌, ◌<◌, ◌≤◌, ◌+◌, ◌-◌, ◌*◌, ℕ, None, IfOk, IfSome, Some, length, replicate, slice_index_or, slice_set};
+ghost use Rattle.std.specs.Option.{option_map};
+ghost use Rattle.kernel_core.specs.Machine as machine;
+ghost use Rattle.kernel_core.specs.Step as spec;
+ghost use Rattle.lwc_base.specs.declared.limits.TheConstants.{MOST_REQUESTS, MOST_THREADS};
+
+use lwc_base::{Name, OutOfMemory};
+use snapshot_host::Finished;
+use std::alloc::Global;
+use std::marker::Model;
+
+/// A serve: the number of workers, the steps that each request may take, the number of the next request, and
+/// what is recorded of each request that is finished.
+#[derive(Drop)]
+pub struct Serve {
+    pub(crate) workers: u32,
+    pub(crate) budget: u32,
+    pub(crate) next: u16,
+    replies: Vec<Option<Finished>>,
+}
+
+impl Model for Serve {
+    ghost use Rattle.kernel_core.specs.Machine as machine;
+
+    ghost Value = { machine.Serve };
+
+    ghost view = { λ s. record {
+      workers = s.workers;
+      budget = s.budget;
+      next = s.next;
+      replies = s.replies.items;
+    } };
+
+    ghost use Rattle.std.specs.Prelude.{◌≤◌};
+    ghost use Rattle.lwc_base.specs.declared.limits.TheConstants.{MOST_THREADS};
+
+    ghost invariant = { λ s. s.workers ≤ MOST_THREADS };
+}
+
+impl Serve {
+    /// A serve of which no request is begun. The only error is out of memory.
+    pub(crate) fn open(
+        alloc: Global,
+        workers: u32,
+        budget: u32,
+        requests: usize,
+    ) -> Result<Serve, OutOfMemory>
+        requires { workers ≤ MOST_THREADS }
+        ensures { IfOk result (λ s. s ≡ record {
+          workers = workers;
+          budget = budget;
+          next = 0;
+          replies = replicate requests None;
+        }) }
+    {
+        let mut replies = Vec::with_capacity(alloc, requests)?;
+        for _ in 0..requests {
+            replies.push(None)?;
+        }
+        Ok(Serve {
+            workers,
+            budget,
+            next: 0,
+            replies,
+        })
+    }
+
+    /// Records how a request was finished. It takes no memory.
+    pub(crate) fn record_reply(&mut self, finished: Finished)
+        requires { finished.request < length self.old.replies }
+        ensures { self.new ≡ spec.with_reply self.old finished }
+    {
+        let r = usize::from(finished.request);
+        self.replies[r] = Some(finished);
+    }
+
+    /// What is recorded of a request; `None` if it is not finished.
+    pub(crate) fn reply(&self, r: u16) -> Option<&Finished>
+        requires { r < length self.now.replies }
+        ensures { option_map (λ x. x.now) result ≡ slice_index_or self.now.replies r None }
+    {
+        self.replies[usize::from(r)].as_ref()
+    }
+}
+
+/// The context in which the worker of a number waits.
+pub(crate) fn home_of(t: u32) -> Name
+    requires { t < MOST_THREADS }
+    ensures { result ≡ machine.home_of t }
+{
+    Name { job: 0, k: t + 1 }
+}
+
+/// The number of workers of a serve; a run has none.
+pub(crate) fn worker_count(serve: &Option<Serve>) -> u32
+    ensures homes { machine.homes_of result ≡ machine.homes serve.now }
+    ensures few { result ≤ MOST_THREADS }
+{
+    match serve {
+        Some(serve) => serve.workers,
+        None => 0,
+    }
+}
+
+/// What is recorded of a request; `None` if it is not finished, or if nothing is served.
+pub(crate) fn recorded(serve: &Option<Serve>, r: u16) -> Option<&Finished>
+    requires { IfSome serve.now (λ s. r < length s.replies) }
+    ensures { option_map (λ x. x.now) result ≡ machine.in_serve serve.now r }
+{
+    match serve {
+        Some(serve) => serve.reply(r),
+        None => None,
+    }
+}
