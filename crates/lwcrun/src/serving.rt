@@ -129,7 +129,12 @@ fn served(alloc: Global, serve: &Serve) -> Result<Vec<u8>, Fail> {
 fn each_request_is_served_in_a_fresh_copy(rt: HostRuntime) -> Result<(), Fail> {
     for serve in [ONE_AFTER_ANOTHER, BY_TURNS, TOO_FEW_FRAMES] {
         let text = served(rt.alloc(), &serve)?;
-        assert_eq!(rt; text.as_slice(), serve.report.as_bytes(), "{}", serve.report);
+        assert_eq!(rt;
+            text.as_slice(),
+            serve.report.as_bytes(),
+            "{}",
+            serve.report
+        );
     }
     Ok(())
 }
