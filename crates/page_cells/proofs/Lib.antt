@@ -4,4 +4,5 @@ pub mod Changed
 pub mod Written
 pub mod Taken
 pub mod WorldTags
+pub mod Elsewhere
 pub mod Zeroed

@@ -21,7 +21,7 @@ use Rattle.page_cells.specs.Tags.{IsNewTag, is_parting, own_values, taken_by, us
 use Rattle.page_cells.specs.Writes.{page_value, write_page, written_value}
 use Rattle.page_cells.proofs.Changed.{cond-of}
 
-own-cell : (c : Cell (Option PageValue)) (v : PageValue) → own_value c ≡ Some v → c ≡ cell.Own (Some v)
+pub own-cell : (c : Cell (Option PageValue)) (v : PageValue) → own_value c ≡ Some v → c ≡ cell.Own (Some v)
 own-cell (cell.Own o) v is = ap (λ x. cell.Own x) is
 own-cell (cell.Common g) v is = absurd cc
 
@@ -75,8 +75,14 @@ module _ (cells : List Place) (i p : ℕ) (piece : Piece) (tag : Tag) (inside : 
       row-is : (k q : ℕ) (v : PageValue) → row_of (map own_values cells) k q ≡ Some v → own_value (place_of cells k q) ≡ Some v
       row-is k q v is = ap (λ (row : ℕ → Option PageValue). row q) (sym (own-any cells k)) ∙ is
 
-pub page-same : (cells : List Place) (i p q : ℕ) (piece : Piece) (tag : Tag) → i < length cells → q ≢ p → place_of (write_page cells i p piece tag) i q ≡ place_of cells i q
-page-same cells i p q piece tag inside off = at-other cells i p piece tag inside q off
+-- another page, of this place or of another one, is as it was
+pub page-same : (cells : List Place) (i p j q : ℕ) (piece : Piece) (tag : Tag) → i < length cells → (j ≡ i → q ≢ p) → place_of (write_page cells i p piece tag) j q ≡ place_of cells j q
+page-same cells i p j q piece tag inside off =
+    ⊎_elim
+    (λ here. ap (λ k. place_of (write_page cells i p piece tag) k q) here ∙ at-other cells i p piece tag inside q (off here) ∙ ap (λ k. place_of cells k q) (sym here))
+    (λ away.
+    ap (λ (place : Place). place q) (get_or-set_other cells i j (put_page (place_of cells i) p (cell.Own (Some (written_value cells i p piece tag)))) no_pages away))
+    (cases_eq j i)
 
 pub taken-places : rows_laws.WriteLaws → (cells : List Place) (i p : ℕ) (piece : Piece) (tag : Tag) → i < length cells → p < 1024 → IsNewTag cells tag → used (write_page cells i p piece tag) ≡ used cells + taken_by cells i p
 unfolding used is_parting
@@ -84,19 +90,6 @@ taken-places laws cells i p piece tag inside below new =
     ap tags_of_rows.used (own-rows cells i p piece tag inside)
     ∙ laws.taken (map own_values cells) i p piece tag (omega (arith, inside, length-own cells)) below (own-new cells i p piece tag inside new)
     ∙ ap (λ (row : ℕ → Option PageValue). tags_of_rows.used (map own_values cells) + cond (tags_of_rows.is_parting (map own_values cells) (row p)) 1 0) (own-row cells i p piece tag inside)
-
-pub parting-same : rows_laws.WriteLaws → (cells : List Place) (i p q : ℕ) (piece : Piece) (tag : Tag) → i < length cells → p < 1024 → q < 1024 → q ≢ p → IsNewTag cells tag →
-    ((t : Tag) (a b : List ℕ) → place_of cells i p ≡ cell.Own (Some (Data t a)) → place_of cells i q ≢ cell.Own (Some (Data t b))) → is_parting (write_page cells i p piece tag) i q ≡ is_parting cells i q
-unfolding is_parting
-parting-same laws cells i p q piece tag inside p_in q_in off new apart =
-    let row = own-row cells i p piece tag inside in
-    (λ x. tags_of_rows.is_parting (own-rows cells i p piece tag inside x) (own_value (at-other cells i p piece tag inside q off x)))
-    ∙ ap (λ (r : ℕ → Option PageValue). tags_of_rows.is_parting (rows.write_page (map own_values cells) i p piece tag) (r q)) (sym row)
-    ∙ laws.others (map own_values cells) i p q piece tag (omega (arith, inside, length-own cells)) p_in q_in off (own-new cells i p piece tag inside new)
-    (λ t a b here there. apart t a b
-    (own-cell (place_of cells i p) (Data t a) (ap (λ (r : ℕ → Option PageValue). r p) (sym row) ∙ here))
-    (own-cell (place_of cells i q) (Data t b) (ap (λ (r : ℕ → Option PageValue). r q) (sym row) ∙ there)))
-    ∙ ap (λ (r : ℕ → Option PageValue). tags_of_rows.is_parting (map own_values cells) (r q)) row
 
 pub written-kinds : (cells : List Place) (i p j : ℕ) (piece : Piece) (tag : Tag) → i < length cells → IsOwnPage (place_of cells i p) → kinds_of (place_of (write_page cells i p piece tag) j) ≡ kinds_of (place_of cells j)
 written-kinds cells i p j piece tag inside own = λ x q. at q x
@@ -118,13 +111,13 @@ written-kinds cells i p j piece tag inside own = λ x q. at q x
         (cases_eq j i)
 
 -- a written value has the new tag, or the page's own
-value-tags : (b : Bool) (tag t : Tag) (c : Cell (Option PageValue)) (bytes bs : List ℕ) → IsOwnPage c → stored_value b tag (unwrap_or (own_value c) Zero) bytes ≡ Data t bs → (tag ≡ t) ⊎ ((a : List ℕ) × (c ≡ cell.Own (Some (Data t a))))
-value-tags b tag t (cell.Own None) bytes bs own is = absurd cc
-value-tags b tag t (cell.Own (Some Zero)) bytes bs own is = inl cc
-value-tags true tag t (cell.Own (Some (Data s old))) bytes bs own is = inl cc
-value-tags false tag t (cell.Own (Some (Data s old))) bytes bs own is =
+pub value-tags : (b : Bool) (tag t : Tag) (c : Cell (Option PageValue)) (bytes bs : List ℕ) → stored_value b tag (unwrap_or (own_value c) Zero) bytes ≡ Data t bs → (tag ≡ t) ⊎ ((a : List ℕ) × (c ≡ cell.Own (Some (Data t a))))
+value-tags b tag t (cell.Own None) bytes bs is = inl cc
+value-tags b tag t (cell.Own (Some Zero)) bytes bs is = inl cc
+value-tags true tag t (cell.Own (Some (Data s old))) bytes bs is = inl cc
+value-tags false tag t (cell.Own (Some (Data s old))) bytes bs is =
     let same : s ≡ t = cc in inr (old, ap (λ u. cell.Own (Some (Data u old))) same)
-value-tags b tag t (cell.Common g) bytes bs own is = absurd cc
+value-tags b tag t (cell.Common g) bytes bs is = inl cc
 
 pub new-still : (cells : List Place) (i p : ℕ) (piece : Piece) (tag next : Tag) → i < length cells → IsNewTag cells next → next ≢ tag → IsOwnPage (place_of cells i p) → IsNewTag (write_page cells i p piece tag) next
 new-still cells i p piece tag next inside new off own = λ k q bytes is.
@@ -135,7 +128,7 @@ new-still cells i p piece tag next inside new off own = λ k q bytes is.
     let now : cell.Own (Some (written_value cells i p piece tag)) ≡ cell.Own (Some (Data next bytes)) =
     sym (at-page cells i p piece tag inside) ∙ (λ x. place_of (write_page cells i p piece tag) (sym here x) (sym page x)) ∙ is in
     ⊎_elim (λ same. off (sym same)) (λ was. new i p was.0 was.1)
-    (value-tags (is_parting cells i p) tag next (place_of cells i p) (bytes_after piece p (bytes_of (page_value cells i p))) bytes own (value-of (written_value cells i p piece tag) (Data next bytes) now)))
+    (value-tags (is_parting cells i p) tag next (place_of cells i p) (bytes_after piece p (bytes_of (page_value cells i p))) bytes (value-of (written_value cells i p piece tag) (Data next bytes) now)))
     (λ away. new i q bytes (sym (at-other cells i p piece tag inside q away) ∙ ap (λ j. place_of (write_page cells i p piece tag) j q) (sym here) ∙ is))
     (cases_eq q p))
     (λ away.

@@ -93,7 +93,7 @@ sum-places (i ∷ numbers) xs inside apart rest =
     let whole = sum_by-set (λ (x : ℕ). x) xs i 0 0 here in
     omega (arith, sum_by-cons (λ j. get_or xs j 0) i numbers, tail, same, whole)
 
-times-flat_map : {X : Type 0} (tag : Tag) (f : X → List Tag) (xs : List X) → times tag (flat_map f xs) ≡ sum_by (λ x. times tag (f x)) xs
+pub times-flat_map : {X : Type 0} (tag : Tag) (f : X → List Tag) (xs : List X) → times tag (flat_map f xs) ≡ sum_by (λ x. times tag (f x)) xs
 unfolding times
 times-flat_map tag f [] = refl
 times-flat_map tag f (x ∷ xs) =
@@ -105,7 +105,7 @@ sum-map f [] = refl
 sum-map f (x ∷ xs) =
     let tail = sum-map f xs in omega (arith, tail, sum_by-cons f x xs, sum_by-cons (λ (y : ℕ). y) (f x) (map f xs))
 
-flat-map-map : {X Y A : Type 0} (g : Y → List A) (f : X → Y) (xs : List X) → flat_map g (map f xs) ≡ flat_map (λ x. g (f x)) xs
+pub flat-map-map : {X Y A : Type 0} (g : Y → List A) (f : X → Y) (xs : List X) → flat_map g (map f xs) ≡ flat_map (λ x. g (f x)) xs
 flat-map-map g f [] = refl
 flat-map-map g f (x ∷ xs) = ap (λ ts. g (f x) ++ ts) (flat-map-map g f xs)
 

@@ -22,16 +22,16 @@ pub record CloneLaws : Type 0 where
       used (slice_set cells to (place_of cells from)) ≡ used cells
 
 -- a write takes a frame if the page parts, and none otherwise; it leaves the kinds of pages, and any other new tag
--- stays new; another page of the place, under another tag, parts as before
+-- stays new; another page of any place is as before, and parts as before if it is under another tag
 pub record WriteLaws : Type 0 where
   pub taken : (cells : List Place) (i p : ℕ) (piece : Piece) (tag : Tag) → i < length cells → p < MOST_PAGES → IsNewTag cells tag →
       used (write_page cells i p piece tag) ≡ used cells + taken_by cells i p
-  pub others : (cells : List Place) (i p q : ℕ) (piece : Piece) (tag : Tag) → i < length cells → p < MOST_PAGES → q < MOST_PAGES → q ≢ p → IsNewTag cells tag →
-      ((t : Tag) (a b : List ℕ) → place_of cells i p ≡ cell.Own (Some (Data t a)) → place_of cells i q ≢ cell.Own (Some (Data t b))) →
-      is_parting (write_page cells i p piece tag) i q ≡ is_parting cells i q
+  pub others : (cells : List Place) (i p j q : ℕ) (piece : Piece) (tag : Tag) → i < length cells → (j ≡ i → q ≢ p) → IsNewTag cells tag →
+      ((t : Tag) (a b : List ℕ) → place_of cells i p ≡ cell.Own (Some (Data t a)) → place_of cells j q ≢ cell.Own (Some (Data t b))) →
+      is_parting (write_page cells i p piece tag) j q ≡ is_parting cells j q
   pub kinds : (cells : List Place) (i p j : ℕ) (piece : Piece) (tag : Tag) → i < length cells → IsOwnPage (place_of cells i p) →
       kinds_of (place_of (write_page cells i p piece tag) j) ≡ kinds_of (place_of cells j)
-  pub same : (cells : List Place) (i p q : ℕ) (piece : Piece) (tag : Tag) → i < length cells → q ≢ p →
-      place_of (write_page cells i p piece tag) i q ≡ place_of cells i q
+  pub same : (cells : List Place) (i p j q : ℕ) (piece : Piece) (tag : Tag) → i < length cells → (j ≡ i → q ≢ p) →
+      place_of (write_page cells i p piece tag) j q ≡ place_of cells j q
   pub new : (cells : List Place) (i p : ℕ) (piece : Piece) (tag next : Tag) → i < length cells → IsNewTag cells next → next ≢ tag →
       IsOwnPage (place_of cells i p) → IsNewTag (write_page cells i p piece tag) next

@@ -70,6 +70,18 @@ impl PageCells {
         self.kinds[i].kind_at(p)
     }
 
+    /// A later page, or the end of all pages, up to which the pages of a place have the kind of this one.
+    pub fn next_edge(&self, i: usize, p: u16) -> u16
+        requires place { i < length (cells self.now) }
+        requires page { p < MOST_PAGES }
+        ensures past { p < result }
+        ensures within { result ≤ MOST_PAGES }
+        ensures alike { (q : ℕ) → p ≤ q → q < result
+            → kinds_of (place_of (cells self.now) i) q ≡ kinds_of (place_of (cells self.now) i) p }
+    {
+        self.kinds[i].next_edge(p)
+    }
+
     /// The number of ranges of a place.
     pub fn count(&self, i: usize) -> u32
         requires { i < length (cells self.now) }

@@ -20,11 +20,12 @@ pub fn clones_take_no_frame()
 }
 
 /// A write takes one frame if the page parts, and none otherwise. It leaves the kind of each page, and any
-/// other new tag stays new. Another page of the place parts as before, if the two have no tag in common. So if
-/// the frames suffice for two pages of one place, neither write is refused.
+/// other new tag stays new. Another page, of this place or another one, is as before, and parts as before if
+/// the two have no tag in common. So if the frames suffice for two such pages, neither write is refused.
 pub fn page_writes_take_few_frames()
     ensures { WriteLaws }
 {
+    names_are_ordered();
     writes_take_few_frames();
 }
 

@@ -16,8 +16,8 @@ use pool_base::Steps;
 use range_map::{Change, RangeMap, SegmentKind};
 use std::sync::ledger::Ledger;
 
-/// The most stretches of one change: one for each edge of the 64 ranges and the 32 items that cut them.
-pub const MOST_STRETCHES: usize = 193;
+/// The most stretches of one change: one for each page.
+pub const MOST_STRETCHES: usize = 1024;
 
 /// What the pages of a stretch get.
 #[derive(Clone, Copy, Debug, PartialEq, Eq)]
@@ -52,8 +52,18 @@ pub struct Stretch {
     pub source: Source,
 }
 
+impl Default for Stretch {
+    /// No page.
+    fn default() -> Stretch {
+        Stretch {
+            range: Range { from: 0, to: 0 },
+            source: Source::Absent,
+        }
+    }
+}
+
 /// The changes of kinds that stretches make.
-pub fn changes_of(stretches: &[Stretch]) -> ArrayVec<Change, 193>
+pub fn changes_of(stretches: &[Stretch]) -> ArrayVec<Change, MOST_STRETCHES>
     requires { length stretches.now ≤ MOST_STRETCHES }
     ensures { result.items ≡ map change_of stretches.now }
 {

@@ -60,6 +60,16 @@ impl RangeMap {
         stretches::kind_at(self.segments.as_slice(), p)
     }
 
+    /// A later page, or the end of all pages, up to which the pages have the kind of this one.
+    pub fn next_edge(&self, p: u16) -> u16
+        requires { p < MOST_PAGES }
+        ensures past { p < result }
+        ensures within { result ≤ MOST_PAGES }
+        ensures alike { (q : ℕ) → p ≤ q → q < result → spec.kind_at self.now q ≡ spec.kind_at self.now p }
+    {
+        stretches::next_edge(self.segments.as_slice(), &[], p)
+    }
+
     /// The number of ranges, which is at most 64.
     pub fn count(&self) -> u32
         ensures ranges { result ≡ ranges MOST_PAGES (spec.kind_at self.now) }

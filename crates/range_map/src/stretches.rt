@@ -59,7 +59,7 @@ pub(crate) fn run_end(segments: &[Segment], changes: &[Change], p: u16) -> u16
 }
 
 /// Where the first segment or change after a page begins or ends, or the end of all pages.
-fn next_edge(segments: &[Segment], changes: &[Change], p: u16) -> u16
+pub(crate) fn next_edge(segments: &[Segment], changes: &[Change], p: u16) -> u16
     requires { p < MOST_PAGES }
     ensures past { p < result }
     ensures within { result ≤ MOST_PAGES }
