@@ -11,7 +11,9 @@ use Rattle.lwc_base.specs.declared.descriptor.Descriptor.TheVariants.{Empty, Con
 use Rattle.lwc_base.specs.declared.key.Key.{Key}
 use Rattle.lwc_base.specs.declared.key.Key.TheVariants.{Page, Slot, Cred}
 use Rattle.lwc_base.specs.declared.name.Name.{Name}
+use Rattle.lwc_base.specs.declared.name.Tag.{Tag}
 use Rattle.lwc_base.specs.declared.page.PageValue.{PageValue}
+use Rattle.lwc_base.specs.declared.page.PageValue.TheVariants.{Data}
 use Rattle.lwc_base.specs.declared.regs.Regs.{Regs}
 use Rattle.lwc_base.specs.Fresh.{IsFresh}
 use Rattle.lwc_base.specs.Keys.{with_key}
@@ -28,10 +30,10 @@ use Rattle.lazy_world.specs.Sound.{HasOldTags, IsAllOwn, IsEmpty, IsSound, IsWit
 use Rattle.lazy_world.specs.States.{Parts, context_at, context_of, counters_of, group_at, group_of, no_registers, nothing_counted, registers_at, world_of}
 use Rattle.lazy_world.proofs.MappedLemmas.{mapped-insert, mapped-same}
 use Rattle.lazy_world.proofs.PlaceLemmas.{at_default, choose, pass, set_at}
-use Rattle.lazy_world.proofs.SoundLemmas.{each_row}
+use Rattle.lazy_world.proofs.SoundLemmas.{each_row, homes-row}
 
 -- a cell with nothing in it
-no_page : (cell : Cell (Option PageValue)) (p : ℕ) → is_nothing (Page p) cell ≡ true → cell ≡ Own None
+pub no_page : (cell : Cell (Option PageValue)) (p : ℕ) → is_nothing (Page p) cell ≡ true → cell ≡ Own None
 no_page (Own None) p is = refl
 no_page (Own (Some value)) p is = cc
 no_page (Common g) p is = cc
@@ -44,7 +46,7 @@ no_descriptor (Request r at) e = cc
 no_descriptor (Reply r) e = cc
 no_descriptor (Ctx name cap) e = cc
 
-no_slot : (cell : Cell Descriptor) (n : ℕ) → is_nothing (Slot n) cell ≡ true → cell ≡ Own Empty
+pub no_slot : (cell : Cell Descriptor) (n : ℕ) → is_nothing (Slot n) cell ≡ true → cell ≡ Own Empty
 no_slot (Own d) n is = ap Own (no_descriptor d (twice (is_empty d) is))
   where
     twice : (b : Bool) → not (not b) ≡ true → b ≡ true
@@ -67,14 +69,17 @@ still_empty row uid empty (Slot n) = empty (Slot n)
 still_empty row uid empty Cred = refl
 
 -- nothing has no tag
+pub no_tag : (row : Row) → IsEmpty row → (p : ℕ) (tag : Tag) (bytes : List ℕ) → row (Page p) ≡ Own (Some (Data tag bytes)) → ⊥
+no_tag row empty p tag bytes is = let none = sym is ∙ no_page (row (Page p)) p (empty (Page p)) in cc
+
 pub no_tags : (next : ℕ → Counters) (row : Row) → IsEmpty row → HasOldTags next row
-no_tags next row empty p tag bytes is = absurd (let none = sym is ∙ no_page (row (Page p)) p (empty (Page p)) in cc)
+no_tags next row empty p tag bytes is = absurd (no_tag row empty p tag bytes is)
 
 counters_choice : (b : Bool) (m n : Counts) → counters_of (cond b m n) ≡ cond b (counters_of m) (counters_of n)
 counters_choice true m n = refl
 counters_choice false m n = refl
 
-some_name : (name : Name) (o : Option Name) → o ≡ Some name → o ≡ None → ⊥
+pub some_name : (name : Name) (o : Option Name) → o ≡ Some name → o ≡ None → ⊥
 some_name name o is none = let both = sym is ∙ none in cc
 
 module _ (s : Parts) (sound : IsSound s) (facts : Facts) where
@@ -177,6 +182,7 @@ module _ (s : Parts) (sound : IsSound s) (facts : Facts) where
               (λ same. no_tags (world_of later).next row (still_empty (s.rows p) uid empty))
               (λ other q tag bytes is. subst (λ m. tag.k < m) (sym (next tag.job)) (sound.tags j q tag bytes is));
           fresh = subst IsFresh (sym added-context) (facts.fresh.context_added now job (new_context uid entry) (λ k. tt) sound.fresh);
+          homes = homes-row s.rows p row sound.homes (λ q tag bytes is. absurd (no_tag row (still_empty (s.rows p) uid empty) q tag bytes is));
         }
 
 -- the first place that is free is free

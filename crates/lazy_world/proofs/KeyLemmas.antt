@@ -20,7 +20,7 @@ use Rattle.lazy_world.specs.Facts.{Facts}
 use Rattle.lazy_world.specs.KeyValues.{HasSlot, group_in, key_in, value_in}
 use Rattle.lazy_world.specs.Sound.{HasOldTags, IsAllOwn, IsSound, IsWithin}
 use Rattle.lazy_world.specs.States.{Parts, group_of, held, world_of}
-use Rattle.lazy_world.proofs.SoundLemmas.{sound-row}
+use Rattle.lazy_world.proofs.SoundLemmas.{homes-row, sound-row}
 use Rattle.lazy_world.proofs.WorldLemmas.{change_context-row, change_group-row, context-found}
 
 -- the row with the value
@@ -49,6 +49,11 @@ own-put (Slot n d) row own key.Cred = own key.Cred
 own-put (Cred uid) row own (key.Page p) = own (key.Page p)
 own-put (Cred uid) row own (key.Slot m) = own (key.Slot m)
 own-put (Cred uid) row own key.Cred = refl
+
+-- pages are as they were
+page-put : (v : KeyValue) (row : Row) (p : ℕ) → put_value v row (key.Page p) ≡ row (key.Page p)
+page-put (Slot n d) row p = refl
+page-put (Cred uid) row p = refl
 
 pub tags-put : (v : KeyValue) (next : ℕ → Counters) (row : Row) → HasOldTags next row → HasOldTags next (put_value v row)
 tags-put (Slot n d) next row old = old
@@ -105,6 +110,7 @@ module _ (s : Parts) (sound : IsSound s) (facts : Facts) where
         (λ j same none. absurd (omega (arith, same, inside)))
         (tags-put v now.next (s.rows i) (sound.tags i))
         (subst IsFresh (sym put-own) (facts.fresh.put now c (key_in v) (value_in v) sound.fresh))
+        (homes-row s.rows i (put_value v (s.rows i)) sound.homes (λ p tag bytes is. record { place = i; bytes = bytes; is = sym (page-put v (s.rows i) p) ∙ is }))
 
   -- a group's value changes
   module _ (placed : ArePlaced s.contexts) (placed_groups : ArePlaced s.groups) (g : Name) (j : ℕ) (found : fm.get s.groups.map g ≡ Some j) (v : KeyValue) (has : HasSlot v) where
@@ -125,3 +131,5 @@ module _ (s : Parts) (sound : IsSound s) (facts : Facts) where
         (λ q same none. absurd (let q_is : q ≡ j = omega (arith, same) in let both = sym ((placed_groups.at g j).0 found) ∙ ap (λ r. get_or s.groups.places r None) (sym q_is) ∙ none in cc))
         (tags-put v now.next (s.rows (s.size.contexts + j)) (sound.tags (s.size.contexts + j)))
         (subst IsFresh (sym put-group) (facts.fresh.group_changed now g (with_value (key_in v) (value_in v)) sound.fresh))
+        (homes-row s.rows (s.size.contexts + j) (put_value v (s.rows (s.size.contexts + j))) sound.homes
+        (λ p tag bytes is. record { place = s.size.contexts + j; bytes = bytes; is = sym (page-put v (s.rows (s.size.contexts + j)) p) ∙ is }))

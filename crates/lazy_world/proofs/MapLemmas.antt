@@ -9,6 +9,7 @@ use Rattle.lwc_base.specs.declared.cell.Cell.TheVariants.{Own, Common}
 use Rattle.lwc_base.specs.declared.key.Key.{Key}
 use Rattle.lwc_base.specs.declared.key.Key.TheVariants.{Page, Slot, Cred}
 use Rattle.lwc_base.specs.declared.name.Name.{Name}
+use Rattle.lwc_base.specs.declared.name.Tag.{Tag}
 use Rattle.lwc_base.specs.declared.page.PageValue.{PageValue}
 use Rattle.lwc_base.specs.declared.page.PageValue.TheVariants.{Data}
 use Rattle.lwc_base.specs.declared.limits.TheConstants.{MOST_PAGES}
@@ -29,7 +30,7 @@ use Rattle.lazy_world.specs.Facts.{Facts}
 use Rattle.lazy_world.specs.Sound.{HasOldTags, IsSound, IsWithin}
 use Rattle.lazy_world.specs.States.{Parts, context_at, world_of}
 use Rattle.lazy_world.proofs.PlaceLemmas.{choose, pages-put}
-use Rattle.lazy_world.proofs.SoundLemmas.{sound-row}
+use Rattle.lazy_world.proofs.SoundLemmas.{homes-row, sound-row}
 use Rattle.lazy_world.proofs.WorldLemmas.{change_context-row, context-found}
 
 -- the stretch of a range
@@ -91,24 +92,28 @@ module _ (from to : ℕ) (present : Bool) where
   within-set pages row below within (Slot n) past = within (Slot n) past
   within-set pages row below within Cred past = within Cred past
 
-  pub tags-set : (next : ℕ → Counters) (row : Row) → HasOldTags next row → HasOldTags next (set_pages from to present row)
-  tags-set next row old p tag bytes is = at (nat_le from p && nat_lt p to) present is
+  -- a page with bytes was there before
+  pub page-set : (row : Row) (p : ℕ) (tag : Tag) (bytes : List ℕ) → set_pages from to present row (Page p) ≡ Own (Some (Data tag bytes)) → row (Page p) ≡ Own (Some (Data tag bytes))
+  page-set row p tag bytes is = at (nat_le from p && nat_lt p to) present is
     where
-      at : (b present : Bool) → cond b (page_cell present) (row (Page p)) ≡ Own (Some (Data tag bytes)) → tag.k < (next tag.job).tags
+      at : (b present : Bool) → cond b (page_cell present) (row (Page p)) ≡ Own (Some (Data tag bytes)) → row (Page p) ≡ Own (Some (Data tag bytes))
       at true true is = absurd (let none = is in cc)
       at true false is = absurd (let none = is in cc)
-      at false present is = old p tag bytes is
+      at false present is = is
 
-no_kind : (p : ℕ) (cell : Cell (Option PageValue)) → is_nothing (Page p) cell ≡ true → kind_of cell ≡ None
+  pub tags-set : (next : ℕ → Counters) (row : Row) → HasOldTags next row → HasOldTags next (set_pages from to present row)
+  tags-set next row old p tag bytes is = old p tag bytes (page-set row p tag bytes is)
+
+pub no_kind : (p : ℕ) (cell : Cell (Option PageValue)) → is_nothing (Page p) cell ≡ true → kind_of cell ≡ None
 no_kind p (Own None) is = refl
 no_kind p (Own (Some value)) is = cc
 no_kind p (Common g) is = cc
 
-few_pages : (t : Parts) → t.size.pages ≤ MOST_PAGES → (world_of t).size.pages ≤ MOST_PAGES
+pub few_pages : (t : Parts) → t.size.pages ≤ MOST_PAGES → (world_of t).size.pages ≤ MOST_PAGES
 unfolding world_of
 few_pages t few = few
 
-past_of : (t : Parts) (p : ℕ) → (world_of t).size.pages ≤ p → t.size.pages ≤ p
+pub past_of : (t : Parts) (p : ℕ) → (world_of t).size.pages ≤ p → t.size.pages ≤ p
 unfolding world_of
 past_of t p past = past
 
@@ -151,6 +156,7 @@ module _ (s : Parts) (sound : IsSound s) (facts : Facts) (placed : ArePlaced s.c
       (λ j same none. absurd (omega (arith, same, inside)))
       (tags-set from to present (world_of s).next (s.rows i) (sound.tags i))
       (subst IsFresh (sym mapped-world) (fresh present))
+      (homes-row s.rows i (set_pages from to present (s.rows i)) sound.homes (λ p tag bytes is. record { place = i; bytes = bytes; is = page-set from to present (s.rows i) p tag bytes is }))
 
   -- the ranges of the context afterwards
   module _ (law : (pages : ℕ) (x : Context) (kinds : ℕ → Option SegmentKind) → pages ≤ MOST_PAGES → ((p : ℕ) → p < pages → kind_of (x.cell (Page p)) ≡ kinds p) →

@@ -26,7 +26,7 @@ kept_some : {A B : Type 0} (f : A → B) (b : Bool) (o : Option A) → option_ma
 kept_some f true o = refl
 kept_some f false o = refl
 
-equal_of : (r : Ordering) → is_eq r ≡ true → r ≡ Equal
+pub equal_of : (r : Ordering) → is_eq r ≡ true → r ≡ Equal
 equal_of Less e = cc
 equal_of Equal e = refl
 equal_of Greater e = cc

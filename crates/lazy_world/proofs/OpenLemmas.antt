@@ -13,11 +13,11 @@ use Rattle.lazy_world.specs.Facts.{Facts}
 use Rattle.ctx_table.specs.NameTables.{NameTable}
 use Rattle.lazy_world.specs.Sound.{IsEmpty, IsSound}
 use Rattle.lazy_world.specs.States.{Parts, context_at, counters_of, group_at, nothing_counted, world_of}
-use Rattle.lazy_world.proofs.AddLemmas.{no_tags}
+use Rattle.lazy_world.proofs.AddLemmas.{no_tag, no_tags}
 use Rattle.lazy_world.proofs.MappedLemmas.{mapped-empty}
 use Rattle.lazy_world.proofs.PlaceLemmas.{at_default}
 
-nothing_there : IsEmpty no_row
+pub nothing_there : IsEmpty no_row
 nothing_there (Page p) = refl
 nothing_there (Slot n) = refl
 nothing_there Cred = refl
@@ -61,4 +61,5 @@ module _ (facts : Facts) (size : WorldSize) (is_size : IsSize size) (registers :
     free_groups = λ j none. nothing_there;
     tags = λ i. no_tags (world_of opened).next no_row nothing_there;
     fresh = subst IsFresh (sym world-opened) (facts.fresh.empty size);
+    homes = λ i j p q tag a b at_p at_q. absurd (no_tag no_row nothing_there p tag a at_p);
   }

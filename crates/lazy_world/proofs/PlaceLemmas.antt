@@ -1,5 +1,5 @@
 -- Rows of places of which one changes.
-use Rattle.std.proofs.Common.{◌≡◌, ℕ, zero, suc, ◌+◌, ◌<◌, List, [], ◌∷◌, ◌++◌, length, set, get_or, replicate, refl, sym, ◌∙◌, ap, arith, cond, eqb, Bool, true, false, ⊎_elim, get_or-set_other, None}
+use Rattle.std.proofs.Common.{◌≡◌, ℕ, zero, suc, ◌+◌, ◌<◌, List, [], ◌∷◌, ◌++◌, length, set, get_or, replicate, refl, sym, ◌∙◌, ap, arith, cond, eqb, Bool, true, false, ⊎_elim, get_or-set_other, Option, None}
 use Rattle.std.proofs.lemmas.Bool.{cases_eq}
 use Rattle.std.proofs.lemmas.Bool.Decides.{nat_tests}
 use Rattle.std.proofs.lemmas.List.{get_or-set_same}
@@ -8,9 +8,11 @@ use Rattle.lwc_base.specs.declared.cell.Cell.TheVariants.{Own}
 use Rattle.lwc_base.specs.declared.descriptor.Descriptor.{Descriptor}
 use Rattle.lwc_base.specs.declared.key.Key.TheVariants.{Page, Slot, Cred}
 use Rattle.lwc_base.specs.declared.key.TheConstants.{NOBODY}
+use Rattle.lwc_base.specs.declared.page.PageValue.{PageValue}
 use Rattle.lwc_base.specs.Keys.{with_key}
 use Rattle.fd_table.specs.Slots as slots
-use Rattle.page_cells.specs.Cells.{Place, no_pages}
+use Rattle.cow_space.specs.Maps.{put_page}
+use Rattle.page_cells.specs.Cells.{Place, no_pages, place_of}
 use Rattle.lazy_world.specs.Cells.{Row, no_row, on_place, put_row, rows_of}
 
 pub replicate_push : {A : Type 0} (n : ℕ) (x : A) → replicate n x ++ x ∷ [] ≡ replicate (n + 1) x
@@ -121,6 +123,16 @@ module _ (pages : List Place) (table : List (ℕ → slots.Slot)) (uids : List (
       others j other (Page p) = ap (λ (pl : Place). pl p) (get_or-set_other pages i j place no_pages other)
       others j other (Slot m) = refl
       others j other Cred = refl
+
+  -- one page of a place changes
+  pub page-put : (p : ℕ) (cell : Cell (Option PageValue)) → i < length pages → rows_of (set pages i (put_page (place_of pages i) p cell)) table uids ≡ put_row old i (with_key Cell (Page p) cell (old i))
+  unfolding rows_of
+  page-put p cell inside = pages-put (put_page (place_of pages i) p cell) (with_key Cell (Page p) cell (old i)) inside each
+    where
+      each : (k : _) → with_key Cell (Page p) cell (old i) k ≡ on_place (put_page (place_of pages i) p cell) (old i) k
+      each (Page q) = refl
+      each (Slot m) = refl
+      each Cred = refl
 
 -- no slot keeps the place that it names, once one is put
 pub targets-put : (table : List (ℕ → slots.Slot)) (i n : ℕ) (cell : Cell Descriptor) → i < length table →

@@ -27,7 +27,7 @@ row_there : (rows : ℕ → Row) (i j : ℕ) (row : Row) → (j ≡ i → ⊥) �
 row_there rows i j row other = pass i j row (rows j) other
 
 -- two names of one place are one
-one_name : (table : NameTable) → ArePlaced table → (c d : Name) (p q : ℕ) → fm.get table.map c ≡ Some p → fm.get table.map d ≡ Some q → q ≡ p → d ≡ c
+pub one_name : (table : NameTable) → ArePlaced table → (c d : Name) (p q : ℕ) → fm.get table.map c ≡ Some p → fm.get table.map d ≡ Some q → q ≡ p → d ≡ c
 one_name table placed c d p q at_p at_q same =
     same_Some d c (sym ((placed.at d q).0 at_q) ∙ ap (λ r. get_or table.places r None) same ∙ (placed.at c p).0 at_p)
 

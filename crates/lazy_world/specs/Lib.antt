@@ -1,9 +1,15 @@
 pub mod Cells
 pub mod Facts
-pub mod KeyValues
+pub mod Followed
 pub mod Kept
+pub mod KeyValues
 pub mod Mapped
+pub mod Memory
+pub mod Plans
+pub mod Reaping
 pub mod Seen
 pub mod Sound
+pub mod Sources
 pub mod States
+pub mod Stores
 pub mod Worlds

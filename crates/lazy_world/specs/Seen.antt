@@ -1,6 +1,7 @@
 -- What places are seen as.
-use Rattle.std.specs.Prelude.{ℕ, length}
+use Rattle.std.specs.Prelude.{ℕ, List, length}
 use Rattle.fd_table.specs.Seen as slots_seen
+use Rattle.page_cells.specs.Cells.{Place}
 use Rattle.page_cells.specs.Seen as pages_seen
 use Rattle.lazy_world.specs.declared.places.Places.{Places}
 use Rattle.lazy_world.specs.Cells.{Row, rows_of}
@@ -8,6 +9,14 @@ use Rattle.lazy_world.specs.Cells.{Row, rows_of}
 -- the cells at each place
 unfoldable pub rows : Places → ℕ → Row
 rows w = rows_of (pages_seen.cells w.pages) (slots_seen.slots w.slots) w.uids.items
+
+-- the cells of the pages of each place
+unfoldable pub pages : Places → List Place
+pages w = pages_seen.cells w.pages
+
+-- how many frames there are
+unfoldable pub frame_count : Places → ℕ
+frame_count w = pages_seen.frames_of w.pages
 
 -- how many places there are
 unfoldable pub count : Places → ℕ

@@ -40,7 +40,12 @@ IsAllOwn row = (k : Key) → is_own (row k) ≡ true
 abbrev pub HasOldTags : (ℕ → Counters) → Row → Type 0
 HasOldTags next row = (p : ℕ) (tag : Tag) (bytes : List ℕ) → row (Page p) ≡ Own (Some (Data tag bytes)) → tag.k < (next tag.job).tags
 
--- sizes are within the limits, free places are empty, groups' cells are their own, and all names and tags are old
+-- each tag of rows stands under one page number
+abbrev pub HasOneHome : (ℕ → Row) → Type 0
+HasOneHome rows = (i j p q : ℕ) (tag : Tag) (a b : List ℕ) → rows i (Page p) ≡ Own (Some (Data tag a)) → rows j (Page q) ≡ Own (Some (Data tag b)) → p ≡ q
+
+-- sizes are within the limits, free places are empty, groups' cells are their own, all names and tags are old, and
+-- each tag stands under one page number
 pub record IsSound (s : Parts) : Type 0 where
   pub sizes : HasSize s
   pub past : (i : ℕ) → IsWithin s.size.pages (s.rows i)
@@ -49,6 +54,7 @@ pub record IsSound (s : Parts) : Type 0 where
   pub free_groups : (j : ℕ) → slice_index_or s.groups.places j None ≡ None → IsEmpty (s.rows (s.size.contexts + j))
   pub tags : (i : ℕ) → HasOldTags (world_of s).next (s.rows i)
   pub fresh : IsFresh (world_of s)
+  pub homes : HasOneHome s.rows
 
 -- a cell keeps to the groups that have been named in at most one way
 pub named_cell-prop : (next : ℕ → Counters) (job : ℕ) (k : Key) (cell : Cell (ValueOf k)) → IsProp (InCell (named_groups next) job k cell)

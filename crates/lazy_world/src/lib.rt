@@ -2,13 +2,24 @@
 //! of descriptors. After `open` no call takes memory.
 #![tactic(auto)]
 
+pub mod cloning;
 pub mod counts;
+pub mod dropping;
 pub mod facts;
 pub mod key_value;
 pub mod mapping;
+pub mod marking;
+pub mod memory;
+pub mod pieces;
 pub mod places;
+pub mod plan;
+pub mod ranges;
 pub mod reads;
+pub mod reaping;
 pub mod registers;
+pub mod sharing;
+pub mod store;
+pub mod touched;
 pub mod world;
 pub mod writes;
 

@@ -2,7 +2,7 @@ ghost use Rattle.std.specs.Prelude.{◌≡◌, ◌<◌, ◌≤◌, [], ◌∷◌
 ghost use Rattle.lwc_base.specs.declared.limits.TheConstants.{MOST_PAGES, MOST_RANGES};
 ghost use Rattle.range_map.specs.Kinds.{ranges};
 ghost use Rattle.lazy_world.specs.Cells.{kinds_of, put_row, set_pages, source_of};
-ghost use Rattle.lazy_world.specs.Seen.{count, rows};
+ghost use Rattle.lazy_world.specs.Seen.{count, frame_count, rows};
 
 use crate::facts::facts;
 use crate::places::Places;
@@ -39,6 +39,7 @@ impl Places {
         ensures rows { rows self.new
             ≡ put_row (rows self.old) i (set_pages range.from range.to present (rows self.old i)) }
         ensures count { count self.new ≡ count self.old }
+        ensures frames { frame_count self.new ≡ frame_count self.old }
     {
         let mut steps = Steps::<L>::new(blank);
         let source = source_of(present);
@@ -56,6 +57,7 @@ impl Places {
         ensures rows { rows self.new
             ≡ put_row (rows self.old) i (set_pages range.from range.to present (rows self.old i)) }
         ensures count { count self.new ≡ count self.old }
+        ensures frames { frame_count self.new ≡ frame_count self.old }
     {
         self.set_pages_counted::<Brand>(i, range, present, Blank::new(1));
     }

@@ -46,15 +46,16 @@ impl Places {
     ghost use Rattle.lazy_world.specs.Cells.{no_row, put_row};
     ghost use Rattle.page_cells.specs.declared.cells.TheConstants.{MOST_PLACES};
     ghost use Rattle.lazy_world.specs.KeyValues.{HasSlot, group_in, key_in, value_in};
-    ghost use Rattle.lazy_world.specs.Seen.{count, rows};
+    ghost use Rattle.lazy_world.specs.Seen.{count, frame_count, rows};
 
     /// This number of places with nothing in them, over this number of frames. The only error is out of memory.
-    #[tactic(auto, unfolding(crate::specs::Seen::rows, crate::specs::Seen::count, crate::specs::Cells::rows_of))]
+    #[tactic(auto, unfolding(crate::specs::Seen::rows, crate::specs::Seen::count, crate::specs::Seen::frame_count, crate::specs::Cells::rows_of))]
     pub fn open(alloc: Global, frames: u32, places: u32) -> Result<Places, OutOfMemory>
         requires frames { frames ≤ 65536 }
         requires places { places ≤ MOST_PLACES }
         ensures rows { IfOk result (λ opened. rows opened ≡ λ i. no_row) }
         ensures count { IfOk result (λ opened. count opened ≡ places) }
+        ensures frames { IfOk result (λ opened. frame_count opened ≡ frames) }
     {
         Ok(Places {
             pages: PageCells::open(alloc, frames, places)?,
@@ -102,22 +103,24 @@ impl Places {
     }
 
     /// Puts another cell into a slot of a place.
-    #[tactic(auto, unfolding(crate::specs::Seen::rows, crate::specs::Seen::count, crate::specs::Cells::rows_of))]
+    #[tactic(auto, unfolding(crate::specs::Seen::rows, crate::specs::Seen::count, crate::specs::Seen::frame_count, crate::specs::Cells::rows_of))]
     pub fn put_slot(&mut self, i: usize, n: u8, cell: Cell<Descriptor>)
         requires place { i < count self.old }
         requires slot { n < SLOTS }
         ensures rows { rows self.new ≡ put_row (rows self.old) i (with_key Cell (Slot n) cell (rows self.old i)) }
         ensures count { count self.new ≡ count self.old }
+        ensures frames { frame_count self.new ≡ frame_count self.old }
     {
         self.slots.put(i, n, cell, None);
     }
 
     /// Puts another cell of the credential at a place.
-    #[tactic(auto, unfolding(crate::specs::Seen::rows, crate::specs::Seen::count, crate::specs::Cells::rows_of))]
+    #[tactic(auto, unfolding(crate::specs::Seen::rows, crate::specs::Seen::count, crate::specs::Seen::frame_count, crate::specs::Cells::rows_of))]
     pub fn put_uid(&mut self, i: usize, cell: Cell<u32>)
         requires { i < count self.old }
         ensures rows { rows self.new ≡ put_row (rows self.old) i (with_key Cell Cred cell (rows self.old i)) }
         ensures count { count self.new ≡ count self.old }
+        ensures frames { frame_count self.new ≡ frame_count self.old }
     {
         self.uids[i] = cell;
     }
@@ -129,6 +132,7 @@ impl Places {
         ensures rows { rows self.new
             ≡ put_row (rows self.old) i (with_key Cell (key_in value) (Own (value_in value)) (rows self.old i)) }
         ensures count { count self.new ≡ count self.old }
+        ensures frames { frame_count self.new ≡ frame_count self.old }
     {
         match value {
             KeyValue::Slot(n, descriptor) => self.put_slot(i, n, Cell::Own(descriptor)),

@@ -46,6 +46,7 @@ impl LazyWorld {
     pub(crate) fn group_place(&self, g: Name) -> Option<usize>
         ensures found { IfSome result (λ i. group (seen self.now) g ≡ group_of (rows self.now.places i)) }
         ensures inside { IfSome result (λ i. i < count self.now.places) }
+        ensures behind { IfSome result (λ i. (parts self.now).size.contexts ≤ i) }
         ensures missed { IfNone result (group (seen self.now) g ≡ new_group) }
     {
         match self.groups.place(g) {
@@ -69,7 +70,7 @@ impl LazyWorld {
     }
 
     /// The descriptor in a slot of the context at a place.
-    fn slot_at(&self, i: usize, n: u8) -> Descriptor
+    pub(crate) fn slot_at(&self, i: usize, n: u8) -> Descriptor
         requires place { i < count self.now.places }
         requires slot { n < SLOTS }
         ensures { result ≡ value_of (seen self.now) (Slot n) (rows self.now.places i (Slot n)) }

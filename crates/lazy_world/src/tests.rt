@@ -1,16 +1,24 @@
 ghost use Rattle.std.specs.Prelude.{◌≡◌, IfOk};
 ghost use Rattle.lazy_world.specs.Worlds.{seen};
-ghost use Rattle.world_face.specs.Calls.{IsLive};
+ghost use Rattle.world_face.specs.Calls.{IsLive, MayName};
 
 use crate::LazyWorld;
 use crate::facts::facts;
-use lwc_base::{Descriptor, MOST_RANGES, Name, OutOfMemory, Range, Regs, Summary, WorldSize};
+use lwc_base::{Cap, Descriptor, MOST_RANGES, Name, OutOfMemory, Range, Regs, Summary, WorldSize};
 use std::alloc::Global;
 use std::test::Fail;
+
+/// A capability of nothing.
+const NO_KEY: Cap = Cap {
+    pages: [0; 16],
+    slots: 0,
+    cred: false,
+};
 
 /// A world of four pages with one context.
 fn begun(alloc: Global) -> Result<(LazyWorld, Name), OutOfMemory>
     ensures live { IfOk result (λ r. IsLive (seen r.0) r.1) }
+    ensures may { IfOk result (λ r. MayName (seen r.0) 0) }
     ensures size { IfOk result (λ r.
         (seen r.0).size ≡ record { frames = 2; contexts = 2; groups = 1; jobs = 2; pages = 4 }) }
 {
@@ -82,5 +90,35 @@ fn pages_are_mapped_and_unmapped(rt: HostRuntime) -> Result<(), Fail> {
         world.ranges_after_map(c, Range { from: 3, to: 4 }, true),
         2
     );
+    Ok(())
+}
+
+#[test]
+fn what_nothing_reaches_is_dropped(rt: HostRuntime) -> Result<(), Fail> {
+    facts();
+    let (mut world, c) = begun(rt.alloc())?;
+    let itself = Descriptor::Ctx {
+        name: c,
+        cap: NO_KEY,
+    };
+    world.set_slot(c, 0, itself);
+    world.reap(&[c]);
+    assert_eq!(rt; world.context_count(), 1);
+    world.reap(&[]);
+    assert_eq!(rt; world.context_count(), 0);
+    Ok(())
+}
+
+#[test]
+fn a_piece_is_stored_over_two_pages(rt: HostRuntime) -> Result<(), Fail> {
+    facts();
+    let (mut world, c) = begun(rt.alloc())?;
+    assert!(rt; world.ranges_after_map(c, Range { from: 0, to: 3 }, true) <= MOST_RANGES);
+    world.map(c, Range { from: 0, to: 3 });
+    let mut out = [9, 9, 9];
+    assert!(rt; world.bytes(c, 4095, &mut out));
+    assert_eq!(rt; (out, world.used()), ([0, 0, 0], 0));
+    let stored = world.store(c, 4095, &[7, 8], 0);
+    assert_eq!(rt; (stored, world.used()), (Ok(()), 2));
     Ok(())
 }

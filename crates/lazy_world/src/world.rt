@@ -1,6 +1,6 @@
 ghost use Rattle.std.specs.Prelude.{◌≡◌, ◌+◌, IfOk, length, replicate};
 ghost use Rattle.std.proofs.Props.{props};
-ghost use Rattle.lazy_world.specs.Seen.{count, rows};
+ghost use Rattle.lazy_world.specs.Seen.{count, frame_count, rows};
 ghost use Rattle.lazy_world.specs.Sound.{IsSound, named_cell-prop};
 ghost use Rattle.lazy_world.specs.States.{no_registers, nothing_counted};
 
@@ -24,6 +24,7 @@ pub struct LazyWorld {
     pub(crate) groups: Names,
     pub(crate) counts: Vec<Counts>,
     ghost count: { count places ≡ size.contexts + size.groups },
+    ghost frames: { frame_count places ≡ size.frames },
     ghost sound: { IsSound (record {
       size = size;
       rows = rows places;

@@ -9,7 +9,7 @@ use Rattle.page_cells.specs.Changes.{IsStretch, change_of, changed_place, kinds_
 use Rattle.page_cells.specs.Seen as pages_seen
 use Rattle.page_cells.specs.declared.stretches.Source.{Source}
 use Rattle.lazy_world.specs.Cells.{rows_of}
-use Rattle.lazy_world.specs.Seen.{count, rows}
+use Rattle.lazy_world.specs.Seen.{count, frame_count, rows}
 use Rattle.lazy_world.proofs.MapLemmas.{is_stretch, kinds-row, row-set}
 use Rattle.lazy_world.proofs.places.Places.set_pages_counted.Goals as goal
 
@@ -49,3 +49,7 @@ returns-clause-rows g c =
 pub returns-clause-count : goal.returns-clause-count
 unfolding count
 returns-clause-count g c = ap length c.change.ensures.cells ∙ length-set (pages_seen.cells c.args.self.now.pages) c.args.i _
+
+pub returns-clause-frames : goal.returns-clause-frames
+unfolding frame_count
+returns-clause-frames g c = c.change.ensures.frames

@@ -54,6 +54,7 @@ invariant_of-self c =
     let name : record { job = c.args.job; k = n.contexts } ≡ next_context (world_of s) c.args.job = ap (λ (m : Counts). record { job = c.args.job; k = m.contexts }) is_n in
     record {
       count = c.put.ensures.count ∙ c.args.self.now.count;
+      frames = c.put.ensures.frames ∙ c.args.self.now.frames;
       sound = subst IsSound
           (sym (λ e. record {
             size = s.size;

@@ -10,6 +10,7 @@ invariant_of-result c =
     let size = c.args.world_size.now in
     record {
       count = c.in_ok-open.ensures.count;
+      frames = c.in_ok-open.ensures.frames;
       sound = subst IsSound
           (sym (λ e. record {
             size = size;

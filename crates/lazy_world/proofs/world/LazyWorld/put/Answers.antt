@@ -16,6 +16,7 @@ invariant_of-self c =
     let s = parts c.args.self.now in
     record {
       count = c.put.ensures.count ∙ c.args.self.now.count;
+      frames = c.put.ensures.frames ∙ c.args.self.now.frames;
       sound = subst (λ rows. IsSound (record s { rows = rows })) (sym c.put.ensures.rows)
           (sound-own s c.args.self.now.sound c.facts.ensures c.are_placed.ensures.placed c.args.c c.place-i.result c.place-i.ensures.found c.args.value c.requires.slot (sym c.group.ensures ∙ c.in-None.is));
     }

@@ -15,6 +15,7 @@ invariant_of-self c =
     let s = parts c.args.self.now in
     record {
       count = c.put.ensures.count ∙ c.args.self.now.count;
+      frames = c.put.ensures.frames ∙ c.args.self.now.frames;
       sound = subst (λ rows. IsSound (record s { rows = rows })) (sym c.put.ensures.rows)
           (sound-group s c.args.self.now.sound c.facts.ensures c.are_placed.ensures.placed c.are_placed-2.ensures.placed c.args.g c.in-Some.j (sym c.place.ensures.place ∙ c.in-Some.is) c.args.value c.requires);
     }

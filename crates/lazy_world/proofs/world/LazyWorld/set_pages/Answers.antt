@@ -27,6 +27,7 @@ invariant_of-self c =
     let s = parts c.args.self.now in
     record {
       count = c.set_pages.ensures.count ∙ c.args.self.now.count;
+      frames = c.set_pages.ensures.frames ∙ c.args.self.now.frames;
       sound = subst (λ rows. IsSound (record s { rows = rows })) (sym c.set_pages.ensures.rows)
           (sound-mapped s c.args.self.now.sound c.facts.ensures c.are_placed.ensures.placed c.args.c c.place-i.result c.place-i.ensures.found c.args.range.from c.args.range.to c.args.present
           (below_pages s c.args.range.to c.requires.within));

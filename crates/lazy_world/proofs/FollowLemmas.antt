@@ -1,0 +1,93 @@
+-- A context whose cells become another row.
+use Rattle.std.proofs.Common.{◌≡◌, ℕ, ◌<◌, ◌≤◌, List, arith, refl, sym, ap, subst, ◌∙◌, Option, Some, None}
+use Rattle.std.specs.Prelude.{unwrap_or}
+use Rattle.std.specs.FinMap as fm
+use Rattle.lwc_base.specs.declared.cell.Cell.TheVariants as cells
+use Rattle.lwc_base.specs.declared.key.Key.TheVariants.{Page}
+use Rattle.lwc_base.specs.declared.limits.TheConstants.{MOST_PAGES}
+use Rattle.lwc_base.specs.declared.name.Name.{Name}
+use Rattle.lwc_base.specs.declared.name.Tag.{Tag}
+use Rattle.lwc_base.specs.declared.page.PageValue.TheVariants.{Data}
+use Rattle.lwc_base.specs.Fresh.{IsFresh}
+use Rattle.lwc_base.specs.Registers.{fresh_registers}
+use Rattle.lwc_base.specs.Ranges as base
+use Rattle.lwc_base.specs.Ranges.{ranges_of}
+use Rattle.lwc_base.specs.World.{World, Context, Counters, change_context, changed_context, context, new_context}
+use Rattle.range_map.specs.Kinds.{kind_of, ranges}
+use Rattle.range_map.specs.declared.segment.SegmentKind.{SegmentKind}
+use Rattle.page_cells.specs.declared.stretches.Source.{Source}
+use Rattle.page_cells.specs.declared.stretches.Source.TheVariants as sources
+use Rattle.ctx_table.specs.NameTables.{ArePlaced}
+use Rattle.lazy_world.specs.Cells.{Row, kinds_of, put_row}
+use Rattle.lazy_world.specs.Facts.{Facts}
+use Rattle.lazy_world.specs.Plans.{given_or}
+use Rattle.lazy_world.specs.Sound.{HasOldTags, HasOneHome, IsSound, IsWithin}
+use Rattle.lazy_world.specs.Sources.{source_at, sourced_row}
+use Rattle.lazy_world.specs.States.{Parts, context_at, context_of, registers_at, world_of}
+use Rattle.lazy_world.specs.declared.pieces.Sources.{Sources}
+use Rattle.lazy_world.proofs.MapLemmas.{few_pages, no_kind, past_of}
+use Rattle.lazy_world.proofs.PlaceLemmas.{choose}
+use Rattle.lazy_world.proofs.SoundLemmas.{IsTagged, homes-row, sound-row}
+use Rattle.lazy_world.proofs.WorldLemmas.{change_context-row, context-found}
+
+-- all tags of what sources give are old
+pub sourced-tags : (next : ℕ → Counters) (rows : ℕ → Row) (i : ℕ) (s : Sources) → ((j : ℕ) → HasOldTags next (rows j)) → HasOldTags next (sourced_row rows i s)
+sourced-tags next rows i s old p tag bytes is = at (source_at s.pages.items p) is
+  where
+    at : (o : Option Source) → given_or rows (Page p) (rows i (Page p)) o ≡ cells.Own (Some (Data tag bytes)) → tag.k < (next tag.job).tags
+    at None e = old i p tag bytes e
+    at (Some sources.Absent) e = absurd (let none = e in cc)
+    at (Some sources.Zeros) e = absurd (let none = e in cc)
+    at (Some (sources.Common g)) e = absurd (let none = e in cc)
+    at (Some (sources.CopyOf j)) e = old j p tag bytes e
+
+-- a row that sources give leaves each tag its one page number
+pub sourced-homes : (rows : ℕ → Row) (i : ℕ) (s : Sources) → HasOneHome rows → HasOneHome (put_row rows i (sourced_row rows i s))
+sourced-homes rows i s homes = homes-row rows i (sourced_row rows i s) homes (λ p tag bytes is. at p tag bytes (source_at s.pages.items p) is)
+  where
+    at : (p : ℕ) (tag : Tag) (bytes : List ℕ) (o : Option Source) → given_or rows (Page p) (rows i (Page p)) o ≡ cells.Own (Some (Data tag bytes)) → IsTagged rows p tag
+    at p tag bytes None e = record { place = i; bytes = bytes; is = e }
+    at p tag bytes (Some sources.Absent) e = absurd (let none = e in cc)
+    at p tag bytes (Some sources.Zeros) e = absurd (let none = e in cc)
+    at p tag bytes (Some (sources.Common g)) e = absurd (let none = e in cc)
+    at p tag bytes (Some (sources.CopyOf j)) e = record { place = j; bytes = bytes; is = e }
+
+-- two changes of a context that agree on it are one
+pub change-agree : (w : World) (c : Name) (f g : Context → Context) → f (context w c) ≡ g (context w c) → change_context w c f ≡ change_context w c g
+unfolding change_context context
+change-agree w c f g same = at (fm.get w.contexts c) same
+  where
+    at : (o : Option Context) → f (unwrap_or o (new_context 0 (fresh_registers 0))) ≡ g (unwrap_or o (new_context 0 (fresh_registers 0))) → changed_context w c f o ≡ changed_context w c g o
+    at None e = refl
+    at (Some x) e = ap (λ y. record w { contexts = fm.insert w.contexts c y }) e
+
+module _ (s : Parts) (sound : IsSound s) (facts : Facts) (placed : ArePlaced s.contexts) (c : Name) (i : ℕ) (found : fm.get s.contexts.map c ≡ Some i)
+    (row : Row) (change : Context → Context) (is : context_of row (registers_at s.registers i) ≡ change (context_at s i)) where
+  abbrev later : Parts
+  later = record s { rows = put_row s.rows i row }
+
+  inside : i < s.size.contexts
+  inside = let low = placed.within c i found in omega (arith, low, sound.sizes.contexts)
+
+  pub row-world : world_of later ≡ change_context (world_of s) c change
+  row-world = change_context-row s facts.orders placed c i found row change inside is
+
+  pub row-sound : IsWithin s.size.pages row → HasOldTags (world_of s).next row → IsFresh (change_context (world_of s) c change) → HasOneHome later.rows → IsSound later
+  row-sound within tags fresh homes =
+      sound-row s sound i row within
+      (λ j same. absurd (omega (arith, same, inside)))
+      (λ low none. absurd (let both = sym ((placed.at c i).0 found) ∙ none in cc))
+      (λ j same none. absurd (omega (arith, same, inside)))
+      tags (subst IsFresh (sym row-world) fresh) homes
+
+  -- the ranges of the context afterwards
+  module _ (law : (pages : ℕ) (x : Context) (kinds : ℕ → Option SegmentKind) → pages ≤ MOST_PAGES → ((p : ℕ) → p < pages → kind_of (x.cell (Page p)) ≡ kinds p) →
+      ((p : ℕ) → pages ≤ p → p < MOST_PAGES → kinds p ≡ None) → base.ranges pages x ≡ ranges MOST_PAGES kinds) where
+    pub row-ranges : IsWithin s.size.pages row → ranges_of (change_context (world_of s) c change) c ≡ ranges MOST_PAGES (kinds_of row)
+    unfolding ranges_of
+    row-ranges within =
+        ap (λ w. ranges_of w c) (sym row-world)
+        ∙ ap (base.ranges (world_of later).size.pages) (context-found later c i found)
+        ∙ law (world_of later).size.pages (context_at later i) (kinds_of row) (few_pages later sound.sizes.size.pages.1)
+        (λ p low. ap (λ (r : Row). kind_of (r (Page p))) (choose i i row (s.rows i) refl))
+        (λ p past low. no_kind p (row (Page p)) (within (Page p) (past_of later p past)))

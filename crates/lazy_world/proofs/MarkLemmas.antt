@@ -1,0 +1,59 @@
+-- Marks at the places of groups that cells name.
+use Rattle.std.proofs.Common.{◌≡◌, ℕ, zero, suc, ◌+◌, arith, List, [], refl, sym, ap, ◌∙◌, Bool, true, false, Option, replicate, add-zero}
+use Rattle.std.specs.Prelude.{◌||◌}
+use Rattle.std.specs.List.{list_any, range_with_len}
+use Rattle.lwc_base.specs.declared.cell.Cell.{Cell}
+use Rattle.lwc_base.specs.declared.cell.Cell.TheVariants.{Own, Common}
+use Rattle.lwc_base.specs.declared.name.Name.{Name}
+use Rattle.lwc_base.specs.Life.{is_in}
+use Rattle.reach.specs.Reach.{is_marked}
+use Rattle.lazy_world.specs.KeyValues.{group_in}
+use Rattle.lazy_world.specs.Reaping.{AddsMarks, is_name}
+use Rattle.lazy_world.proofs.PlaceLemmas.{at_default}
+
+or_false : (b : Bool) → b ≡ (b || false)
+or_false true = refl
+or_false false = refl
+
+or_assoc : (a b c : Bool) → ((a || b) || c) ≡ (a || (b || c))
+or_assoc true b c = refl
+or_assoc false b c = refl
+
+-- the group of a cell
+pub name_of_cell : {C : Type 0} (cell : Cell C) (g : Name) → is_name (group_in cell) g ≡ is_in g cell
+name_of_cell (Own value) g = refl
+name_of_cell (Common h) g = refl
+
+any_next : (test : ℕ → Bool) (a n : ℕ) → (list_any test (range_with_len a n) || test (a + n)) ≡ list_any test (range_with_len a (n + 1))
+any_next test a zero = ap test (add-zero a) ∙ or_false (test a)
+any_next test a (suc n) =
+    let more : suc (n + 1) ≡ suc n + 1 = omega arith in
+    or_assoc (test a) (list_any test (range_with_len (a + 1) n)) (test (a + suc n))
+    ∙ ap (λ k. test a || (list_any test (range_with_len (a + 1) n) || test k)) (omega arith)
+    ∙ ap (λ b. test a || b) (any_next test (a + 1) n)
+    ∙ ap (λ m. list_any test (range_with_len a m)) more
+
+-- one number more is gone over
+pub any_more : (test : ℕ → Bool) (n : ℕ) → (list_any test (range_with_len 0 n) || test n) ≡ list_any test (range_with_len 0 (n + 1))
+any_more test n = ap (λ k. list_any test (range_with_len 0 n) || test k) (omega arith) ∙ any_next test 0 n
+
+module _ (places : List (Option Name)) where
+  -- no mark is set at first
+  pub adds-first : (n : ℕ) → AddsMarks places (λ g. false) [] (replicate n false)
+  adds-first n = record { at = λ j g is. at_default n j false }
+
+  -- nothing is marked
+  pub adds-none : (test : Name → Bool) (marks : List Bool) → ((g : Name) → test g ≡ false) → AddsMarks places test marks marks
+  adds-none test marks is = record { at = λ j g there. or_false (is_marked marks j) ∙ ap (λ b. is_marked marks j || b) (sym (is g)) }
+
+  -- the test may be said otherwise
+  pub adds-same : (s t : Name → Bool) (a b : List Bool) → AddsMarks places s a b → ((g : Name) → s g ≡ t g) → AddsMarks places t a b
+  adds-same s t a b adds is = record { at = λ j g there. adds.at j g there ∙ ap (λ m. is_marked a j || m) (is g) }
+
+  -- marks are added one after another
+  pub adds-more : (s t u : Name → Bool) (a b c : List Bool) → AddsMarks places s a b → AddsMarks places t b c → ((g : Name) → (s g || t g) ≡ u g) → AddsMarks places u a c
+  adds-more s t u a b c first next is = record {
+    at = λ j g there.
+        next.at j g there ∙ ap (λ m. m || t g) (first.at j g there) ∙ or_assoc (is_marked a j) (s g) (t g)
+        ∙ ap (λ m. is_marked a j || m) (is g);
+  }

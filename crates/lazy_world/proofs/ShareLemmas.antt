@@ -1,0 +1,138 @@
+-- A context's values that have moved into a new group.
+use Rattle.std.proofs.Common.{◌≡◌, ℕ, zero, suc, ◌+◌, ◌≤◌, List, [], ◌∷◌, arith, refl, sym, ap, ◌∙◌, Bool, true, false, cond, Option, Some, None}
+use Rattle.std.specs.Prelude.{◌&&◌, not, count_by, is_some}
+use Rattle.std.specs.Ordering.{eq_by_cmp, is_eq}
+use Rattle.std.specs.Cmp.{eq_by_cmp_equiv}
+use Rattle.std.specs.List.{fold, range_with_len}
+use Rattle.std.specs.FinMap as fm
+use Rattle.lwc_base.specs.declared.item.Item.{Item}
+use Rattle.lwc_base.specs.declared.name.Name.{Name}
+use Rattle.lwc_base.specs.Facts.{OrderFacts}
+use Rattle.lwc_base.specs.Modes.{mode_or_copy}
+use Rattle.lwc_base.specs.Names.{name_cmp}
+use Rattle.lwc_base.specs.Sharing.{moved_values, needs_group, share, with_shared}
+use Rattle.lwc_base.specs.World.{World, Context, Group, add_group, change_context, change_counters, change_group, changed_context, changed_group, context, new_group, next_group}
+use Rattle.range_map.specs.Kinds.{are_alike, begins_range, ranges}
+use Rattle.range_map.specs.declared.segment.SegmentKind.{SegmentKind}
+use Rattle.range_map.specs.declared.segment.SegmentKind.TheVariants.{Own, Common}
+use Rattle.lazy_world.specs.Facts.{Facts}
+use Rattle.lazy_world.specs.Followed.{followed, with_planned}
+use Rattle.lazy_world.specs.declared.plan.Plan.TheVariants.{Mark}
+use Rattle.lazy_world.proofs.FollowLemmas.{change-agree}
+use Rattle.lazy_world.proofs.MappedLemmas.{equal_of}
+
+set_twice : {X : Type 0} (b : Bool) (x y : X) (o : Option X) → cond b (Some y) (cond b (Some x) o) ≡ cond b (Some y) o
+set_twice true x y o = refl
+set_twice false x y o = refl
+
+-- what is put under a name again
+pub insert-twice : {X : Type 0} (orders : OrderFacts) (m : fm.FinMap name_cmp X) (c : Name) (x y : X) → fm.insert (fm.insert m c x) c y ≡ fm.insert m c y
+insert-twice orders m c x y =
+    fm.same_map orders.names orders.one_name _ _
+    (λ q. fm.get-insert orders.names (fm.insert m c x) c y q
+    ∙ ap (cond (eq_by_cmp name_cmp q c) (Some y)) (fm.get-insert orders.names m c x q)
+    ∙ set_twice (eq_by_cmp name_cmp q c) x y (fm.get m q)
+    ∙ sym (fm.get-insert orders.names m c y q))
+
+pub get-same : {X : Type 0} (orders : OrderFacts) (m : fm.FinMap name_cmp X) (c : Name) (x : X) → fm.get (fm.insert m c x) c ≡ Some x
+get-same orders m c x = fm.get-insert orders.names m c x c ∙ ap (λ b. cond b (Some x) (fm.get m c)) ((eq_by_cmp_equiv orders.names).refl c)
+
+module _ (facts : Facts) (w : World) (c : Name) (job : ℕ) (items : List Item) where
+  abbrev g : Name
+  g = next_group w job
+
+  abbrev added : World
+  added = add_group w job new_group
+
+  abbrev filled : World
+  filled = change_group added g (λ x. moved_values items (context added c))
+
+  same_context : context added c ≡ context w c
+  same_context = facts.changes.same_contexts w added c (facts.changes.group_added w job new_group).contexts
+
+  filled-is : filled ≡ add_group w job (moved_values items (context w c))
+  unfolding add_group change_group change_counters
+  filled-is =
+      ap (changed_group added g (λ x. moved_values items (context added c))) (get-same facts.orders w.groups g new_group)
+      ∙ ap (λ m. record added { groups = m }) (insert-twice facts.orders w.groups g new_group (moved_values items (context added c)))
+      ∙ ap (λ x. add_group w job (moved_values items x)) same_context
+
+  -- a context changes as well before a group is added as after
+  commuted : (x : Group) (change : Context → Context) → change_context (add_group w job x) c change ≡ add_group (change_context w c change) job x
+  unfolding change_context add_group change_counters
+  commuted x change = at (fm.get w.contexts c)
+    where
+      at : (o : Option Context) → changed_context (add_group w job x) c change o ≡ add_group (changed_context w c change o) job x
+      at None = refl
+      at (Some y) = refl
+
+  marked : (v : World) → change_context v c (with_planned v (Mark g) items (context v c).cell) ≡ change_context v c (with_shared g items)
+  unfolding with_shared mode_or_copy
+  marked v = change-agree v c (with_planned v (Mark g) items (context v c).cell) (with_shared g items) refl
+
+  pub shared-world : needs_group w c items ≡ true → followed filled (Mark g) items c c ≡ share w c job items
+  unfolding share
+  shared-world needs =
+      marked filled
+      ∙ ap (λ v. change_context v c (with_shared g items)) filled-is
+      ∙ commuted (moved_values items (context w c)) (with_shared g items)
+      ∙ sym (ap (λ b. cond b (add_group (change_context w c (with_shared g items)) job (moved_values items (context w c))) w) needs)
+
+  pub followed-is : needs_group w c items ≡ true → (h : Name) (w1 w2 : World) → h ≡ g → w1 ≡ added → w2 ≡ change_group w1 h (λ x. moved_values items (context w1 c)) →
+      followed w2 (Mark h) items c c ≡ share w c job items
+  followed-is needs h w1 w2 named first second =
+      ap (λ v. followed v (Mark h) items c c) (second ∙ (λ e. change_group (first e) (named e) (λ x. moved_values items (context (first e) c))))
+      ∙ ap (λ n. followed filled (Mark n) items c c) named
+      ∙ shared-world needs
+
+  pub added-context : (w1 : World) → w1 ≡ added → context w1 c ≡ context w c
+  added-context w1 is = ap (λ v. context v c) is ∙ same_context
+
+-- fewer pages pass a stronger test
+count_le : (a b : Bool) → (a ≡ true → b ≡ true) → cond a 1 0 ≤ cond b 1 0
+count_le true true le = omega arith
+count_le true false le = absurd (let e = le refl in cc)
+count_le false b le = omega arith
+
+fold_mono : {X : Type 0} (f h : X → Bool) (xs : List X) (a b : ℕ) → a ≤ b → ((x : X) → f x ≡ true → h x ≡ true) →
+    fold (λ n x. n + cond (f x) 1 0) a xs ≤ fold (λ n x. n + cond (h x) 1 0) b xs
+fold_mono f h [] a b below le = below
+fold_mono f h (x ∷ xs) a b below le =
+    fold_mono f h xs (a + cond (f x) 1 0) (b + cond (h x) 1 0) (omega (arith, below, count_le (f x) (h x) (le x))) le
+
+count_mono : {X : Type 0} (f h : X → Bool) (xs : List X) → ((x : X) → f x ≡ true → h x ≡ true) → count_by f xs ≤ count_by h xs
+count_mono f h xs le = fold_mono f h xs 0 0 (omega arith) le
+
+module _ (orders : OrderFacts) (moved : ℕ → Bool) (group kinds : ℕ → Option SegmentKind) (g : Name)
+    (is_group : (p : ℕ) → group p ≡ cond (moved p) (Some Own) None) (here : (p : ℕ) → moved p ≡ true → kinds p ≡ Some (Common g))
+    (away : (p : ℕ) → moved p ≡ false → kinds p ≡ Some (Common g) → ⊥) where
+  apart : (kind : Option SegmentKind) → (kind ≡ Some (Common g) → ⊥) → are_alike kind (Some (Common g)) ≡ false
+  apart None other = refl
+  apart (Some Own) other = refl
+  apart (Some (Common h)) other = at (is_eq (name_cmp h g)) refl
+    where
+      at : (b : Bool) → is_eq (name_cmp h g) ≡ b → is_eq (name_cmp h g) ≡ false
+      at true is = absurd (other (ap (λ n. Some (Common n)) (orders.one_name h g (equal_of (name_cmp h g) is))))
+      at false is = is
+
+  begins_too : (p : ℕ) → begins_range group p ≡ true → begins_range kinds p ≡ true
+  unfolding begins_range
+  begins_too zero is = at (moved 0) refl
+    where
+      at : (b : Bool) → moved 0 ≡ b → (is_some (kinds 0) && not false) ≡ true
+      at true on = ap (λ k. is_some k && not false) (here 0 on)
+      at false off = absurd (let none = sym (ap (λ k. is_some k && not false) (is_group 0 ∙ ap (λ b. cond b (Some Own) None) off)) ∙ is in cc)
+  begins_too (suc p) is = at (moved (suc p)) (moved p) refl refl
+    where
+      group_at : (q : ℕ) (b : Bool) → moved q ≡ b → group q ≡ cond b (Some Own) None
+      group_at q b on = is_group q ∙ ap (λ b. cond b (Some Own) None) on
+
+      at : (b a : Bool) → moved (suc p) ≡ b → moved p ≡ a → (is_some (kinds (suc p)) && not (are_alike (kinds p) (kinds (suc p)))) ≡ true
+      at true false on off =
+          ap (λ k. is_some k && not (are_alike (kinds p) k)) (here (suc p) on) ∙ ap not (apart (kinds p) (away p off))
+      at true true on on_too = absurd (let alike = sym (λ e. is_some (group_at (suc p) true on e) && not (are_alike (group_at p true on_too e) (group_at (suc p) true on e))) ∙ is in cc)
+      at false a off any = absurd (let none = sym (ap (λ k. is_some k && not (are_alike (group p) k)) (group_at (suc p) false off)) ∙ is in cc)
+
+  pub fewer-ranges : (pages : ℕ) → ranges pages group ≤ ranges pages kinds
+  unfolding ranges
+  fewer-ranges pages = count_mono (begins_range group) (begins_range kinds) (range_with_len 0 pages) begins_too

@@ -1,0 +1,191 @@
+-- A place that gets what sources give.
+use Rattle.std.proofs.Common.{◌≡◌, ℕ, ◌+◌, ◌<◌, ◌≤◌, ⊎_elim, Bool, true, false, cond, eqb, List, length, arith, refl, sym, ap, subst, ◌∙◌, Option, Some, None, map, set, get_or-set_other}
+use Rattle.std.specs.Prelude.{All, nat_lt}
+use Rattle.std.specs.Option.{option_map}
+use Rattle.std.proofs.lemmas.Bool.{cases_eq}
+use Rattle.std.proofs.lemmas.Bool.Decides.{nat_tests}
+use Rattle.std.proofs.lemmas.List.{get_or-set_same}
+use Rattle.lwc_base.specs.declared.cell.Cell.{Cell}
+use Rattle.lwc_base.specs.declared.key.Key.{Key}
+use Rattle.lwc_base.specs.declared.key.Key.TheVariants.{Page, Slot, Cred}
+use Rattle.lwc_base.specs.Keys.{ValueOf, with_key}
+use Rattle.fd_table.specs.Slots as slots
+use Rattle.page_cells.specs.Cells.{Place, place_of}
+use Rattle.page_cells.specs.Changes.{CanGive, IsStretch, cell_by, change_of, changed_place, kinds_after, sourced_cell, stretch_at}
+use Rattle.page_cells.specs.Laws.{ChangeLaws}
+use Rattle.range_map.specs.Kinds.{kind_of}
+use Rattle.page_cells.specs.declared.stretches.Source.{Source}
+use Rattle.page_cells.specs.declared.stretches.Source.TheVariants as sources
+use Rattle.page_cells.specs.declared.stretches.Stretch.{Stretch}
+use Rattle.lazy_world.specs.Cells.{Row, kinds_of, on_place, put_row, rows_of}
+use Rattle.lazy_world.specs.Plans.{CanGet, given, given_or, kind_in}
+use Rattle.lazy_world.specs.Sources.{IsGiven, slot_source, with_pages, with_slots}
+use Rattle.lazy_world.proofs.PlaceLemmas.{choose, pages-put, pass, same_rows}
+
+module _ (cells : List Place) (table : List (ℕ → slots.Slot)) (uids : List (Cell ℕ)) (i : ℕ) (stretches : List Stretch) where
+  abbrev old : ℕ → Row
+  old = rows_of cells table uids
+
+  -- a stretch that can be given is one that pages take
+  given-stretch : (s : Stretch) → IsGiven (length cells) old i s → IsStretch cells i s
+  unfolding rows_of
+  given-stretch s can = record { order = omega (arith, can.some); inside = can.inside; given = at s.source can.can }
+    where
+      at : (source : Source) → ((p : ℕ) → s.range.from ≤ p → p < s.range.to → CanGet (length cells) old i (Page p) (Some source)) → CanGive cells i s.range.from s.range.to source
+      at sources.Absent can_get = tt
+      at sources.Zeros can_get = tt
+      at (sources.Common g) can_get = tt
+      at (sources.CopyOf j) can_get =
+          let first = can_get s.range.from (omega arith) can.some j refl in
+          record { source = first.inside; apart = first.apart; own = λ p low high. (can_get p low high j refl).own }
+
+  pub given-stretches : All (IsGiven (length cells) old i) stretches → All (IsStretch cells i) stretches
+  given-stretches all k d inside = given-stretch _ (all k d inside)
+
+  pub pages-given : (p : ℕ) → changed_place cells i stretches p ≡ with_pages old stretches (old i) (Page p)
+  unfolding changed_place rows_of
+  pages-given p = at (stretch_at stretches p)
+    where
+      sourced : (source : Source) → sourced_cell cells source p ≡ given old (Page p) source
+      sourced sources.Absent = refl
+      sourced sources.Zeros = refl
+      sourced (sources.Common g) = refl
+      sourced (sources.CopyOf j) = refl
+
+      at : (o : Option Stretch) → cell_by cells p (place_of cells i p) o ≡ given_or old (Page p) (old i (Page p)) (option_map (λ (s : Stretch). s.source) o)
+      at None = refl
+      at (Some s) = sourced s.source
+
+  pub row-given : i < length cells → rows_of (set cells i (changed_place cells i stretches)) table uids ≡ put_row old i (with_pages old stretches (old i))
+  unfolding rows_of
+  row-given inside = pages-put cells table uids i (changed_place cells i stretches) (with_pages old stretches (old i)) inside each
+    where
+      each : (k : Key) → with_pages old stretches (old i) k ≡ on_place (changed_place cells i stretches) (old i) k
+      each (Page p) = sym (pages-given p)
+      each (Slot n) = refl
+      each Cred = refl
+
+  pub kinds-after : All (IsGiven (length cells) old i) stretches → ChangeLaws → kinds_of (with_pages old stretches (old i)) ≡ kinds_after (map change_of stretches) (place_of cells i)
+  kinds-after all laws = sym (λ e p. kind_of (pages-given p e)) ∙ laws.kinds cells i stretches (given-stretches all)
+
+-- a slot that is copied keeps no place that it names
+pub targets-copied : (table : List (ℕ → slots.Slot)) (i j n : ℕ) → i < length table → ((q m : ℕ) → (slots.row_of table q m).target ≡ None) →
+    (q m : ℕ) → (slots.row_of (set table i (slots.put_slot (slots.row_of table i) n (slots.row_of table j n))) q m).target ≡ None
+targets-copied table i j n inside none q m =
+    ⊎_elim
+    (λ same. ap (λ r. (slots.row_of (set table i (slots.put_slot (slots.row_of table i) n (slots.row_of table j n))) r m).target) same
+    ∙ ap (λ (row : ℕ → slots.Slot). (row m).target) (get_or-set_same table i _ slots.no_slots inside) ∙ at (eqb m n))
+    (λ other. ap (λ (row : ℕ → slots.Slot). (row m).target) (get_or-set_other table i q _ slots.no_slots other) ∙ none q m)
+    (cases_eq q i)
+  where
+    at : (b : Bool) → (cond b (slots.row_of table j n) (slots.row_of table i m)).target ≡ None
+    at true = none j n
+    at false = none i m
+
+key_same : (k q : Key) (row : Row) → with_key Cell k (row k) row q ≡ row q
+key_same (Page p) (Page q) row = ⊎_elim (λ same. choose p q (row (Page p)) (row (Page q)) same ∙ ap (λ n. row (Page n)) (sym same)) (λ other. pass p q (row (Page p)) (row (Page q)) other) (cases_eq q p)
+key_same (Slot n) (Slot m) row = ⊎_elim (λ same. choose n m (row (Slot n)) (row (Slot m)) same ∙ ap (λ n. row (Slot n)) (sym same)) (λ other. pass n m (row (Slot n)) (row (Slot m)) other) (cases_eq m n)
+key_same Cred Cred row = refl
+key_same (Page p) (Slot n) row = refl
+key_same (Page p) Cred row = refl
+key_same (Slot n) (Page p) row = refl
+key_same (Slot n) Cred row = refl
+key_same Cred (Page p) row = refl
+key_same Cred (Slot n) row = refl
+
+-- rows with a row that is there are the same
+pub kept-rows : (rows : ℕ → Row) (i : ℕ) (row : Row) → ((k : Key) → rows i k ≡ row k) → rows ≡ put_row rows i row
+kept-rows rows i row same = same_rows rows rows i row same (λ j other k. refl)
+
+pub kept-key : (rows : ℕ → Row) (i : ℕ) (k : Key) → rows ≡ put_row rows i (with_key Cell k (rows i k) (rows i))
+kept-key rows i k = kept-rows rows i (with_key Cell k (rows i k) (rows i)) (λ q. sym (key_same k q (rows i)))
+
+module _ (count : ℕ) (rows : ℕ → Row) (i : ℕ) where
+  pub at_row : (row : Row) (k : Key) → put_row rows i row i k ≡ row k
+  at_row row k = ap (λ (r : Row). r k) (choose i i row (rows i) refl)
+
+  pub off_row : (row : Row) (j : ℕ) (k : Key) → (j ≡ i → ⊥) → put_row rows i row j k ≡ rows j k
+  off_row row j k other = ap (λ (r : Row). r k) (pass i j row (rows j) other)
+
+  -- what another place gives does not depend on the row
+  pub given-still : (row : Row) (k : Key) (old : Cell (ValueOf k)) (source : Option Source) → CanGet count rows i k source → given_or (put_row rows i row) k old source ≡ given_or rows k old source
+  given-still row k old None can = refl
+  given-still row k old (Some sources.Absent) can = refl
+  given-still row k old (Some sources.Zeros) can = refl
+  given-still row k old (Some (sources.Common g)) can = refl
+  given-still row k old (Some (sources.CopyOf j)) can = off_row row j k (can j refl).apart
+
+  pub can-still : (row : Row) (k : Key) (source : Option Source) → CanGet count rows i k source → CanGet count (put_row rows i row) i k source
+  can-still row k source can j is =
+      let copied = can j is in
+      record { inside = copied.inside; apart = copied.apart; own = ap (kind_in k) (off_row row j k copied.apart) ∙ copied.own }
+
+  module _ (slots : List (Option Source)) (can : (n : ℕ) → n < 64 → CanGet count rows i (Slot n) (slot_source slots n)) where
+    pub slots-none : rows ≡ put_row rows i (with_slots 0 rows slots (rows i))
+    slots-none = kept-rows rows i (with_slots 0 rows slots (rows i)) at
+      where
+        at : (k : Key) → rows i k ≡ with_slots 0 rows slots (rows i) k
+        at (Page p) = refl
+        at (Slot n) = let off : nat_lt n 0 ≡ false = grind (arith, nat_tests) in sym (ap (λ b. cond b (given_or rows (Slot n) (rows i (Slot n)) (slot_source slots n)) (rows i (Slot n))) off)
+        at Cred = refl
+
+    -- one more slot
+    module _ (n : ℕ) (low : n < 64) where
+      abbrev before : Row
+      before = with_slots n rows slots (rows i)
+
+      here_before : before (Slot n) ≡ rows i (Slot n)
+      here_before = let off : nat_lt n n ≡ false = grind (arith, nat_tests) in ap (λ b. cond b (given_or rows (Slot n) (rows i (Slot n)) (slot_source slots n)) (rows i (Slot n))) off
+
+      abbrev put : (ℕ → Row) → ℕ → Row
+      put rs = put_row rs i (with_key Cell (Slot n) (given_or rs (Slot n) (rs i (Slot n)) (slot_source slots n)) (rs i))
+
+      slot_put : given_or (put_row rows i before) (Slot n) (put_row rows i before i (Slot n)) (slot_source slots n) ≡ given_or rows (Slot n) (rows i (Slot n)) (slot_source slots n)
+      slot_put =
+          ap (λ old. given_or (put_row rows i before) (Slot n) old (slot_source slots n)) (at_row before (Slot n) ∙ here_before)
+          ∙ given-still before (Slot n) (rows i (Slot n)) (slot_source slots n) (can n low)
+
+      slot_after : (m : ℕ) → with_key Cell (Slot n) (given_or rows (Slot n) (rows i (Slot n)) (slot_source slots n)) before (Slot m) ≡ with_slots (n + 1) rows slots (rows i) (Slot m)
+      slot_after m =
+          ⊎_elim
+          (λ same. let on : nat_lt m (n + 1) ≡ true = grind (arith, nat_tests) in
+          choose n m (given_or rows (Slot n) (rows i (Slot n)) (slot_source slots n)) (before (Slot m)) same
+          ∙ ap (λ q. given_or rows (Slot q) (rows i (Slot q)) (slot_source slots q)) (sym same)
+          ∙ sym (ap (λ b. cond b (given_or rows (Slot m) (rows i (Slot m)) (slot_source slots m)) (rows i (Slot m))) on))
+          (λ other. let both : nat_lt m n ≡ nat_lt m (n + 1) = grind (arith, nat_tests) in
+          pass n m (given_or rows (Slot n) (rows i (Slot n)) (slot_source slots n)) (before (Slot m)) other
+          ∙ ap (λ b. cond b (given_or rows (Slot m) (rows i (Slot m)) (slot_source slots m)) (rows i (Slot m))) both)
+          (cases_eq m n)
+
+      slot-step : put (put_row rows i before) ≡ put_row rows i (with_slots (n + 1) rows slots (rows i))
+      slot-step = same_rows rows (put (put_row rows i before)) i (with_slots (n + 1) rows slots (rows i)) here others
+        where
+          start : (k : Key) → put (put_row rows i before) i k
+              ≡ with_key Cell (Slot n) (given_or (put_row rows i before) (Slot n) (put_row rows i before i (Slot n)) (slot_source slots n)) (put_row rows i before i) k
+          start k = ap (λ (r : Row). r k) (choose i i (with_key Cell (Slot n) (given_or (put_row rows i before) (Slot n) (put_row rows i before i (Slot n)) (slot_source slots n)) (put_row rows i before i)) (put_row rows i before i) refl)
+
+          same_before : put_row rows i before i ≡ before
+          same_before = choose i i before (rows i) refl
+
+          swap : (k : Key) → with_key Cell (Slot n) (given_or (put_row rows i before) (Slot n) (put_row rows i before i (Slot n)) (slot_source slots n)) (put_row rows i before i) k
+              ≡ with_key Cell (Slot n) (given_or rows (Slot n) (rows i (Slot n)) (slot_source slots n)) before k
+          swap k = λ e. with_key Cell (Slot n) (slot_put e) (same_before e) k
+
+          rest : (k : Key) → with_key Cell (Slot n) (given_or rows (Slot n) (rows i (Slot n)) (slot_source slots n)) before k ≡ with_slots (n + 1) rows slots (rows i) k
+          rest (Page p) = refl
+          rest (Slot m) = slot_after m
+          rest Cred = refl
+
+          here : (k : Key) → put (put_row rows i before) i k ≡ with_slots (n + 1) rows slots (rows i) k
+          here k = start k ∙ swap k ∙ rest k
+
+          others : (j : ℕ) → (j ≡ i → ⊥) → (k : Key) → put (put_row rows i before) j k ≡ rows j k
+          others j other k =
+              ap (λ (r : Row). r k) (pass i j (with_key Cell (Slot n) (given_or (put_row rows i before) (Slot n) (put_row rows i before i (Slot n)) (slot_source slots n)) (put_row rows i before i)) (put_row rows i before j) other)
+              ∙ off_row before j k other
+
+      pub slot-taken : (rs : ℕ → Row) → rs ≡ put_row rows i before → put rs ≡ put_row rows i (with_slots (n + 1) rows slots (rows i))
+      slot-taken rs is = ap put is ∙ slot-step
+
+      pub slot-can : (rs : ℕ → Row) → rs ≡ put_row rows i before → CanGet count rs i (Slot n) (slot_source slots n)
+      slot-can rs is = subst (λ (r : ℕ → Row). CanGet count r i (Slot n) (slot_source slots n)) (sym is) (can-still before (Slot n) (slot_source slots n) (can n low))

@@ -1,0 +1,104 @@
+-- A test of the values of a map, by the places of names.
+use Rattle.std.proofs.Common.{◌≡◌, inl, inr, ℕ, arith, List, [], ◌∷◌, refl, sym, ap, T, ◌∙◌, Bool, true, false, cond, Option, Some, None, get_or, map}
+use Rattle.std.specs.Prelude.{◌&&◌, ◌||◌, unwrap_or}
+use Rattle.std.specs.List.{list_any, range_with_len}
+use Rattle.std.specs.Option.{option_map}
+use Rattle.std.specs.Ordering.{eq_by_cmp, is_eq, is_lt}
+use Rattle.std.specs.declared.cmp.Ordering.{Ordering}
+use Rattle.std.specs.declared.cmp.Ordering.TheVariants.{Less, Equal, Greater}
+use Rattle.std.specs.Cmp.{eq_by_cmp_equiv}
+use Rattle.std.specs.FinMap as fm
+use Rattle.std.specs.FinMap.Entries.{below_all, find}
+use Rattle.std.proofs.lemmas.Bool.{false≢true}
+use Rattle.lwc_base.specs.declared.name.Name.{Name}
+use Rattle.lwc_base.specs.Facts.{OrderFacts}
+use Rattle.lwc_base.specs.Life.{names_group}
+use Rattle.lwc_base.specs.Names.{name_cmp}
+use Rattle.lwc_base.specs.World.{Context}
+use Rattle.ctx_table.specs.NameTables.{ArePlaced}
+use Rattle.lazy_world.specs.Reaping.{names_at, names_from}
+use Rattle.lazy_world.specs.Sound.{IsSound}
+use Rattle.lazy_world.specs.States.{Parts, context_at, world_of}
+use Rattle.lazy_world.proofs.ReachLemmas.{any_here, any_where, same_bool}
+use Rattle.lazy_world.proofs.SmallLemmas.{equal_of, or_either, or_first, or_second}
+use Rattle.lazy_world.proofs.WorldLemmas.{get-context}
+
+head_of : (a b : Bool) → T (a && b) → T a
+head_of true b h = tt
+head_of false b h = h
+
+tail_of : (a b : Bool) → T (a && b) → T b
+tail_of true b h = h
+tail_of false b h = absurd h
+
+not_tied : (r : Ordering) → T (is_lt r) → is_eq r ≡ false
+not_tied Less h = refl
+not_tied Equal h = absurd h
+not_tied Greater h = refl
+
+any_entry : {X : Type 0} (test : X → Bool) (es : List (Name × X)) (q : Name) (x : X) → find name_cmp q es ≡ Some x → test x ≡ true → list_any test (map (λ (e : Name × X). e.1) es) ≡ true
+any_entry test [] q x there passes = cc
+any_entry {X} test (e ∷ es) q x there passes =
+    elim (eq_by_cmp name_cmp q e.0) as (λ c. cond c (Some e.1) (find name_cmp q es) ≡ Some x → (test e.1 || list_any test (map (λ (f : Name × X). f.1) es)) ≡ true) [
+      | true ↦ λ is. or_first _ _ (ap (λ o. test (unwrap_or o x)) is ∙ passes)
+      | false ↦ λ is. or_second _ _ (any_entry test es q x is passes)
+    ] there
+
+-- a test passes at a value that a name has
+any_value : {X : Type 0} (test : X → Bool) (m : fm.FinMap name_cmp X) (q : Name) (x : X) → fm.get m q ≡ Some x → test x ≡ true → list_any test (fm.values m) ≡ true
+any_value test m q x there passes = any_entry test (fm.entries m) q x (sym (fm.get-entries m q) ∙ there) passes
+
+module _ (orders : OrderFacts) {X : Type 0} where
+  none_below : (x : Name) (es : List (Name × X)) → T (below_all name_cmp x es) → find name_cmp x es ≡ None
+  none_below x [] h = refl
+  none_below x (e ∷ es) h = ap (λ b. cond b (Some e.1) (find name_cmp x es)) (not_tied (name_cmp x e.0) (head_of _ _ h)) ∙ none_below x es (tail_of _ _ h)
+
+  later_entry : (q : Name) (x : X) (e : Name × X) (es : List (Name × X)) (b : Bool) → eq_by_cmp name_cmp q e.0 ≡ b → T (below_all name_cmp e.0 es) → find name_cmp q es ≡ Some x →
+      cond b (Some e.1) (find name_cmp q es) ≡ Some x
+  later_entry q x e es false other below is = is
+  later_entry q x e es true same below is =
+      let none : find name_cmp q es ≡ None = ap (λ n. find name_cmp n es) (orders.one_name q e.0 (equal_of (name_cmp q e.0) same)) ∙ none_below e.0 es below in
+      let both = sym none ∙ is in cc
+
+  some_entry : (test : X → Bool) (es : List (Name × X)) → T (fm.is_sorted name_cmp es) → list_any test (map (λ (e : Name × X). e.1) es) ≡ true →
+      (q : Name) × (x : X) × (find name_cmp q es ≡ Some x) × (test x ≡ true)
+  some_entry test [] sorted e = absurd (false≢true e)
+  some_entry test (e ∷ es) sorted passes =
+      elim (or_either (test e.1) (list_any test (map (λ (f : Name × X). f.1) es)) passes) [
+        | inl here ↦ (e.0, e.1, ap (λ b. cond b (Some e.1) (find name_cmp e.0 es)) ((eq_by_cmp_equiv orders.names).refl e.0), here)
+        | inr later ↦
+            let found = some_entry test es (tail_of _ _ sorted) later in
+            (found.0, found.1, later_entry found.0 found.1 e es (eq_by_cmp name_cmp found.0 e.0) refl (head_of _ _ sorted) found.2, found.3)
+      ]
+
+  -- a test that passes at some value passes at that of a name
+  some_value : (test : X → Bool) (m : fm.FinMap name_cmp X) → list_any test (fm.values m) ≡ true → (q : Name) × (x : X) × (fm.get m q ≡ Some x) × (test x ≡ true)
+  some_value test m passes =
+      let found = some_entry test (fm.entries m) (fm.entries_sorted m) passes in
+      (found.0, found.1, fm.get-entries m found.0 ∙ found.2, found.3)
+
+module _ (s : Parts) (sound : IsSound s) (orders : OrderFacts) (placed : ArePlaced s.contexts) (g : Name) where
+  abbrev test : Context → Bool
+  test x = names_group s.size.pages g x
+
+  value_at : (i : ℕ) (o : Option Name) → get_or s.contexts.places i None ≡ o → names_from s g i o ≡ true → list_any test (fm.values (world_of s).contexts) ≡ true
+  value_at i None is passes = absurd (false≢true passes)
+  value_at i (Some c) is passes =
+      any_value test (world_of s).contexts c (context_at s i) (get-context s c ∙ ap (option_map (context_at s)) ((placed.at c i).1 is)) passes
+
+  place_from : (c : Name) (x : Context) (o : Option ℕ) → fm.get s.contexts.map c ≡ o → option_map (context_at s) o ≡ Some x → test x ≡ true →
+      list_any (names_at s g) (range_with_len 0 s.size.contexts) ≡ true
+  place_from c x None found is passes = cc
+  place_from c x (Some i) found is passes =
+      let within = placed.within c i found in
+      any_here (names_at s g) 0 s.size.contexts i (omega (arith, within, sound.sizes.contexts))
+      (ap (names_at s g) (omega arith) ∙ ap (names_from s g i) ((placed.at c i).0 found) ∙ ap (λ o. test (unwrap_or o x)) is ∙ passes)
+
+  -- a cell of a context names a group exactly where one of a context at a place does
+  pub named-values : list_any (names_at s g) (range_with_len 0 s.size.contexts) ≡ list_any test (fm.values (world_of s).contexts)
+  named-values =
+      same_bool _ _
+      (λ at. let found = any_where (names_at s g) 0 s.size.contexts at in value_at found.0 (get_or s.contexts.places found.0 None) refl (ap (names_at s g) (omega arith) ∙ found.2))
+      (λ at.
+      let found = some_value orders test (world_of s).contexts at in
+      place_from found.0 found.1 (fm.get s.contexts.map found.0) refl (sym (get-context s found.0) ∙ found.2) found.3)

@@ -1,0 +1,44 @@
+use Rattle.std.proofs.Common.{refl, arith, length, length-set, ◌∙◌, ap, sym, subst, None, ℕ, List, ◌≡◌, ◌<◌}
+use Rattle.fd_table.specs.Slots.{Slot, row_of}
+use Rattle.fd_table.specs.Seen as slots_seen
+use Rattle.page_cells.specs.Seen as pages_seen
+use Rattle.lazy_world.specs.Cells.{rows_of}
+use Rattle.lazy_world.specs.Seen.{count, frame_count, rows}
+use Rattle.lazy_world.proofs.PlaceLemmas.{slot-put}
+use Rattle.lazy_world.proofs.TakeLemmas.{targets-copied}
+use Rattle.lazy_world.proofs.places.Places.copy_slot.Goals as goal
+
+pub copy_slot-requires-clause-to : goal.copy_slot-requires-clause-to
+unfolding count
+copy_slot-requires-clause-to c = omega (arith, c.args.self.now.kept.slot_count, c.requires.place)
+
+pub copy_slot-requires-clause-from : goal.copy_slot-requires-clause-from
+unfolding count
+copy_slot-requires-clause-from c = omega (arith, c.args.self.now.kept.slot_count, c.requires.source)
+
+pub invariant_of-self : goal.invariant_of-self
+unfolding count
+invariant_of-self c =
+    let inside : c.args.i < length (slots_seen.slots c.args.self.now.slots) = omega (arith, c.args.self.now.kept.slot_count, c.requires.place) in
+    record {
+      kept = record {
+        slot_count = ap length c.copy_slot.ensures ∙ length-set (slots_seen.slots c.args.self.now.slots) c.args.i _ ∙ c.args.self.now.kept.slot_count;
+        uid_count = c.args.self.now.kept.uid_count;
+        targets = subst (λ (table : List (ℕ → Slot)). (i n : ℕ) → (row_of table i n).target ≡ None) (sym c.copy_slot.ensures)
+            (targets-copied (slots_seen.slots c.args.self.now.slots) c.args.i c.args.j c.args.n inside c.args.self.now.kept.targets);
+      };
+    }
+
+pub returns-clause-rows : goal.returns-clause-rows
+unfolding rows count rows_of slots_seen.slots
+returns-clause-rows c =
+    ap (λ table. rows_of (pages_seen.cells c.args.self.now.pages) table c.args.self.now.uids.items) c.copy_slot.ensures
+    ∙ slot-put _ _ _ c.args.i c.args.n (row_of (slots_seen.slots c.args.self.now.slots) c.args.j c.args.n) (omega (arith, c.args.self.now.kept.slot_count, c.requires.place))
+
+pub returns-clause-count : goal.returns-clause-count
+unfolding count
+returns-clause-count c = refl
+
+pub returns-clause-frames : goal.returns-clause-frames
+unfolding frame_count
+returns-clause-frames c = refl

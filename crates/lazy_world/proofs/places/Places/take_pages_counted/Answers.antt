@@ -1,0 +1,48 @@
+use Rattle.std.proofs.Common.{◌≤◌, ◌∙◌, ap, length, length-set, subst, sym, ℕ, Option}
+use Rattle.lwc_base.specs.declared.limits.TheConstants.{MOST_PAGES, MOST_RANGES}
+use Rattle.range_map.specs.declared.segment.SegmentKind.{SegmentKind}
+use Rattle.range_map.specs.Kinds.{ranges}
+use Rattle.fd_table.specs.Seen as slots_seen
+use Rattle.page_cells.specs.Seen as pages_seen
+use Rattle.lazy_world.specs.Cells.{rows_of}
+use Rattle.lazy_world.specs.Seen.{count, frame_count, rows}
+use Rattle.lazy_world.proofs.TakeLemmas.{given-stretches, kinds-after, row-given}
+use Rattle.lazy_world.proofs.places.Places.take_pages_counted.Goals as goal
+
+pub change-requires-clause-place : goal.change-requires-clause-place
+unfolding count
+change-requires-clause-place g c = c.requires.place
+
+pub change-requires-clause-stretches : goal.change-requires-clause-stretches
+unfolding rows count
+change-requires-clause-stretches g c =
+    let w = c.args.self.now in
+    given-stretches (pages_seen.cells w.pages) (slots_seen.slots w.slots) w.uids.items c.args.i c.args.stretches.now c.requires.given
+
+pub change-requires-clause-ranges : goal.change-requires-clause-ranges
+unfolding rows count
+change-requires-clause-ranges g c =
+    let w = c.args.self.now in
+    subst (λ (kinds : ℕ → Option SegmentKind). ranges MOST_PAGES kinds ≤ MOST_RANGES)
+    (kinds-after (pages_seen.cells w.pages) (slots_seen.slots w.slots) w.uids.items c.args.i c.args.stretches.now c.requires.given c.stretches_change_kinds.ensures) c.requires.ranges
+
+pub invariant_of-self : goal.invariant_of-self
+invariant_of-self g c =
+    let w = c.args.self.now in
+    let same = ap length c.change.ensures.cells ∙ length-set (pages_seen.cells w.pages) c.args.i _ in
+    record { kept = record { slot_count = w.kept.slot_count ∙ sym same; uid_count = w.kept.uid_count ∙ sym same; targets = w.kept.targets } }
+
+pub returns-clause-rows : goal.returns-clause-rows
+unfolding rows count
+returns-clause-rows g c =
+    let w = c.args.self.now in
+    ap (λ cells. rows_of cells (slots_seen.slots w.slots) w.uids.items) c.change.ensures.cells
+    ∙ row-given (pages_seen.cells w.pages) (slots_seen.slots w.slots) w.uids.items c.args.i c.args.stretches.now c.requires.place
+
+pub returns-clause-count : goal.returns-clause-count
+unfolding count
+returns-clause-count g c = ap length c.change.ensures.cells ∙ length-set (pages_seen.cells c.args.self.now.pages) c.args.i _
+
+pub returns-clause-frames : goal.returns-clause-frames
+unfolding frame_count
+returns-clause-frames g c = c.change.ensures.frames

@@ -1,0 +1,18 @@
+use Rattle.std.proofs.Common.{ap, sym, ◌∙◌}
+use Rattle.std.specs.Prelude.{Some}
+use Rattle.lwc_base.specs.declared.cell.Cell.{Cell}
+use Rattle.lwc_base.specs.declared.key.Key.TheVariants.{Cred}
+use Rattle.lwc_base.specs.Keys.{with_key}
+use Rattle.lazy_world.specs.Cells.{put_row}
+use Rattle.lazy_world.specs.Plans.{given_or}
+use Rattle.lazy_world.specs.Seen.{rows}
+use Rattle.lazy_world.proofs.TakeLemmas.{kept-key}
+use Rattle.lazy_world.proofs.places.Places.take_uid.Goals as goal
+
+pub given_uid-uid-requires : goal.given_uid-uid-requires
+given_uid-uid-requires c j is = (c.requires.given j (c.in-Some.is ∙ ap Some is)).inside
+
+pub returns-in_default-clause-rows : goal.returns-in_default-clause-rows
+returns-in_default-clause-rows c =
+    let old = rows c.args.self.now in
+    kept-key old c.args.i Cred ∙ ap (λ s. put_row old c.args.i (with_key Cell Cred (given_or old Cred (old c.args.i Cred) s) (old c.args.i))) (sym c.in_default.is)

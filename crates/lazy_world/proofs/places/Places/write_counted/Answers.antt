@@ -1,0 +1,14 @@
+use Rattle.std.proofs.Common.{◌∙◌, ap}
+use Rattle.fd_table.specs.Seen as slots_seen
+use Rattle.page_cells.specs.Seen as pages_seen
+use Rattle.lazy_world.specs.Cells.{rows_of}
+use Rattle.lazy_world.specs.Seen.{count, pages, rows}
+use Rattle.lazy_world.proofs.PlaceLemmas.{page-put}
+use Rattle.lazy_world.proofs.places.Places.write_counted.Goals as goal
+
+pub returns-clause-rows : goal.returns-clause-rows
+unfolding rows pages count
+returns-clause-rows g c =
+    let w = c.args.self.now in
+    ap (λ cells. rows_of cells (slots_seen.slots w.slots) w.uids.items) c.in-Ok.ensures.written
+    ∙ page-put (pages_seen.cells w.pages) (slots_seen.slots w.slots) w.uids.items c.args.i c.args.p _ c.requires.place

@@ -1,0 +1,135 @@
+ghost use Rattle.std.specs.Prelude.{◌≡◌, ◌<◌, ◌≤◌, length, true};
+ghost use Rattle.std.specs.FinMap as fm;
+ghost use Rattle.world_face.specs.Calls.{IsLive};
+ghost use Rattle.lazy_world.specs.Cells.{no_row, put_row};
+ghost use Rattle.lazy_world.specs.Reaping.{keeps, left_by, passes};
+ghost use Rattle.lazy_world.specs.Seen.{count, frame_count, rows};
+ghost use Rattle.lazy_world.specs.Worlds.{parts, seen};
+
+use crate::facts::facts;
+use crate::places::Places;
+use crate::world::LazyWorld;
+use lwc_base::{Cell, NOBODY, Name};
+use pool_base::Steps;
+use std::marker::Brand;
+use std::sync::ledger::{Blank, Ledger};
+
+impl Places {
+    /// Takes all that a place has, on a counter of its own, and gives back what no other place shares.
+    fn clear_counted<L: Ledger>(&mut self, i: usize, blank: Blank)
+        requires place { i < count self.old }
+        requires name { blank.name ≡ L.name }
+        requires parts { blank.parts ≡ L.parts }
+        requires some { 0 < blank.parts }
+        ensures rows { rows self.new ≡ put_row (rows self.old) i no_row }
+        ensures count { count self.new ≡ count self.old }
+        ensures frames { frame_count self.new ≡ frame_count self.old }
+    {
+        let mut steps = Steps::<L>::new(blank);
+        self.pages.clear_place(i, &mut steps);
+        self.slots.clear_place(i);
+        self.uids[i] = Cell::Own(NOBODY);
+    }
+
+    /// Takes all that a place has, and gives back what no other place shares.
+    pub fn clear(&mut self, i: usize)
+        requires place { i < count self.old }
+        ensures rows { rows self.new ≡ put_row (rows self.old) i no_row }
+        ensures count { count self.new ≡ count self.old }
+        ensures frames { frame_count self.new ≡ frame_count self.old }
+    {
+        self.clear_counted::<Brand>(i, Blank::new(1));
+    }
+}
+
+impl LazyWorld {
+    /// Drops each context at a place without a mark.
+    pub(crate) fn keep_contexts(&mut self, marks: &[bool])
+        requires { (parts self.old).size.contexts ≤ length marks.now }
+        ensures { seen self.new ≡ record (seen self.old) {
+          contexts = left_by self.old.contexts.map (keeps marks.now self.old.size.contexts) (seen self.old).contexts;
+        } }
+    {
+        facts();
+        for i in 0..self.size.contexts as usize {
+            self.keep_context(i, marks[i]);
+        }
+    }
+
+    /// Drops the context at a place, if there is one and it does not stay.
+    fn keep_context(&mut self, i: usize, stays: bool)
+        ensures map { self.new.contexts.map
+            ≡ left_by self.old.contexts.map (passes stays i) self.old.contexts.map }
+        ensures world { seen self.new ≡ record (seen self.old) {
+          contexts = left_by self.old.contexts.map (passes stays i) (seen self.old).contexts;
+        } }
+    {
+        facts();
+        self.contexts.are_placed();
+        if stays {
+            return;
+        }
+        if let Some(c) = self.contexts.at(i) {
+            self.drop_context(c);
+        }
+    }
+
+    /// Drops a context, with all that it has.
+    fn drop_context(&mut self, c: Name)
+        requires { IsLive (seen self.old) c }
+        ensures map { self.new.contexts.map ≡ fm.remove self.old.contexts.map c }
+        ensures world { seen self.new ≡ record (seen self.old) {
+          contexts = fm.remove (seen self.old).contexts c;
+        } }
+    {
+        facts();
+        self.contexts.are_placed();
+        let i = self.contexts.remove(c);
+        self.places.clear(i);
+    }
+
+    /// Drops each group at a place without a mark.
+    pub(crate) fn keep_groups(&mut self, marks: &[bool])
+        requires { (parts self.old).size.groups ≤ length marks.now }
+        ensures { seen self.new ≡ record (seen self.old) {
+          groups = left_by self.old.groups.map (keeps marks.now self.old.size.groups) (seen self.old).groups;
+        } }
+    {
+        facts();
+        for j in 0..self.size.groups as usize {
+            self.keep_group(j, marks[j]);
+        }
+    }
+
+    /// Drops the group at a place, if there is one and it does not stay.
+    fn keep_group(&mut self, j: usize, stays: bool)
+        ensures map { self.new.groups.map ≡ left_by self.old.groups.map (passes stays j) self.old.groups.map }
+        ensures world { seen self.new ≡ record (seen self.old) {
+          groups = left_by self.old.groups.map (passes stays j) (seen self.old).groups;
+        } }
+    {
+        facts();
+        self.groups.are_placed();
+        if stays {
+            return;
+        }
+        if let Some(g) = self.groups.at(j) {
+            self.drop_group(g);
+        }
+    }
+
+    /// Drops a group, with all values that it has.
+    fn drop_group(&mut self, g: Name)
+        requires { fm.contains_key (seen self.old).groups g ≡ true }
+        ensures map { self.new.groups.map ≡ fm.remove self.old.groups.map g }
+        ensures world { seen self.new ≡ record (seen self.old) {
+          groups = fm.remove (seen self.old).groups g;
+        } }
+    {
+        facts();
+        self.contexts.are_placed();
+        self.groups.are_placed();
+        let j = self.groups.remove(g);
+        self.places.clear(self.size.contexts as usize + j);
+    }
+}

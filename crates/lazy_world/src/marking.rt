@@ -1,0 +1,147 @@
+ghost use Rattle.std.specs.Prelude.{◌≡◌, ◌<◌, [], ℕ, Some, slice_get, true};
+ghost use Rattle.std.specs.FinMap as fm;
+ghost use Rattle.std.specs.List.{list_any, range_with_len};
+ghost use Rattle.lwc_base.specs.declared.descriptor.TheConstants.{SLOTS};
+ghost use Rattle.lwc_base.specs.declared.key.Key.TheVariants.{Page, Slot, Cred};
+ghost use Rattle.lwc_base.specs.declared.name.Name.{Name};
+ghost use Rattle.lwc_base.specs.Life.{is_in};
+ghost use Rattle.reach.specs.Reach.{is_marked};
+ghost use Rattle.lazy_world.specs.KeyValues.{group_in};
+ghost use Rattle.lazy_world.specs.Reaping.{AddsMarks, is_name, names_at};
+ghost use Rattle.lazy_world.specs.Seen.{count, rows};
+ghost use Rattle.lazy_world.specs.Worlds.{parts};
+
+use crate::facts::facts;
+use crate::places::Places;
+use crate::world::LazyWorld;
+use lwc_base::{Cell, Name, SLOTS};
+use range_map::SegmentKind;
+
+impl Places {
+    /// The group that a page of a place is common of, if it is.
+    fn page_group(&self, i: usize, p: u16) -> Option<Name>
+        requires { i < count self.now }
+        ensures { result ≡ group_in (rows self.now i (Page p)) }
+    {
+        match self.kind(i, p) {
+            Some(SegmentKind::Common(g)) => Some(g),
+            Some(SegmentKind::Own) | None => None,
+        }
+    }
+
+    /// The group that a slot of a place is common of, if it is.
+    fn slot_group(&self, i: usize, n: u8) -> Option<Name>
+        requires place { i < count self.now }
+        requires slot { n < SLOTS }
+        ensures { result ≡ group_in (rows self.now i (Slot n)) }
+    {
+        match self.slot(i, n) {
+            Cell::Own(_) => None,
+            Cell::Common(g) => Some(g),
+        }
+    }
+
+    /// The group that the credential of a place is common of, if it is.
+    fn uid_group(&self, i: usize) -> Option<Name>
+        requires { i < count self.now }
+        ensures { result ≡ group_in (rows self.now i Cred) }
+    {
+        match self.uid(i) {
+            Cell::Own(_) => None,
+            Cell::Common(g) => Some(*g),
+        }
+    }
+}
+
+impl LazyWorld {
+    /// Marks for the places of the groups that cells name.
+    pub(crate) fn named_groups(&self) -> [bool; 1024]
+        ensures { AddsMarks self.now.groups.places
+            (λ g. list_any (names_at (parts self.now) g) (range_with_len 0 self.now.size.contexts)) [] result }
+    {
+        let mut marks = [false; 1024];
+        for i in 0..self.size.contexts as usize {
+            self.mark_named(i, &mut marks);
+        }
+        marks
+    }
+
+    /// Marks the groups that the cells of the context at a place name, if there is one.
+    fn mark_named(&self, i: usize, marks: &mut [bool; 1024])
+        requires { i < (parts self.now).size.contexts }
+        ensures { AddsMarks self.now.groups.places (λ g. names_at (parts self.now) g i) marks.old marks.new }
+    {
+        self.groups.are_placed();
+        if self.contexts.at(i).is_none() || self.are_marked(marks) {
+            return;
+        }
+        self.mark_pages(i, marks);
+        self.mark_slots(i, marks);
+        self.mark_group(self.places.uid_group(i), marks);
+    }
+
+    /// Whether each live group is marked, so that no cell can mark one more.
+    fn are_marked(&self, marks: &[bool; 1024]) -> bool
+        ensures { result ≡ true → (g : Name) (j : ℕ) → fm.get self.now.groups.map g ≡ Some j →
+            is_marked marks.now j ≡ true }
+    {
+        facts();
+        for k in 0..self.groups.len() {
+            if !self.is_marked(k, marks) {
+                return false;
+            }
+        }
+        true
+    }
+
+    /// Whether the k-th live group in the order of names is marked, if there is one.
+    fn is_marked(&self, k: u32, marks: &[bool; 1024]) -> bool
+        ensures { (g : Name) (j : ℕ) → slice_get (fm.keys self.now.groups.map) k ≡ Some g →
+            fm.get self.now.groups.map g ≡ Some j → result ≡ is_marked marks.now j }
+    {
+        let Some(g) = self.groups.nth(k) else {
+            return true;
+        };
+        match self.groups.place(g) {
+            Some(j) => marks[j],
+            None => true,
+        }
+    }
+
+    /// Marks the groups that pages of a place are common of.
+    fn mark_pages(&self, i: usize, marks: &mut [bool; 1024])
+        requires { i < count self.now.places }
+        ensures { AddsMarks self.now.groups.places
+            (λ g. list_any (λ p. is_in g (rows self.now.places i (Page p))) (range_with_len 0 self.now.size.pages))
+            marks.old marks.new }
+    {
+        for p in 0..self.pages() as u16 {
+            self.mark_group(self.places.page_group(i, p), marks);
+        }
+    }
+
+    /// Marks the groups that slots of a place are common of.
+    fn mark_slots(&self, i: usize, marks: &mut [bool; 1024])
+        requires { i < count self.now.places }
+        ensures { AddsMarks self.now.groups.places
+            (λ g. list_any (λ n. is_in g (rows self.now.places i (Slot n))) (range_with_len 0 SLOTS))
+            marks.old marks.new }
+    {
+        for n in 0..SLOTS {
+            self.mark_group(self.places.slot_group(i, n), marks);
+        }
+    }
+
+    /// Marks a group, if one is given and it is live.
+    fn mark_group(&self, group: Option<Name>, marks: &mut [bool; 1024])
+        ensures { AddsMarks self.now.groups.places (is_name group) marks.old marks.new }
+    {
+        facts();
+        self.groups.are_placed();
+        if let Some(g) = group {
+            if let Some(j) = self.groups.place(g) {
+                marks[j] = true;
+            }
+        }
+    }
+}

@@ -1,0 +1,99 @@
+ghost use Rattle.std.specs.Prelude.{◌≡◌, ◌+◌, ◌-◌, ◌*◌, ◌<◌, ◌≤◌, IfNone, IfSome, is_some, length, map};
+ghost use Rattle.std.specs.Option.{option_copied};
+ghost use Rattle.lwc_base.specs.declared.limits.TheConstants.{MOST_PAGES};
+ghost use Rattle.lwc_base.specs.declared.page.TheConstants.{PAGE_BYTES};
+ghost use Rattle.cow_space.specs.Maps.{data_of};
+ghost use Rattle.lazy_world.specs.Memory.{byte_in, holder, page_in};
+ghost use Rattle.lazy_world.specs.Seen.{count, rows};
+
+use crate::touched::{Touched, touched_pages};
+use crate::world::LazyWorld;
+use lwc_base::{Name, PAGE_BYTES};
+use range_map::SegmentKind;
+
+impl LazyWorld {
+    ghost use Rattle.std.specs.List.{list_all, range_with_len};
+    ghost use Rattle.lwc_base.specs.Memory.{load};
+    ghost use Rattle.world_face.specs.Calls.{IsLive};
+    ghost use Rattle.lazy_world.specs.Worlds.{parts, seen};
+
+    /// The place that has what is under a page of the context at a place: that place itself, or the place of
+    /// the group that the page is common of. `None` if the page is absent, or that group is not live.
+    pub(crate) fn holder(&self, i: usize, p: u16) -> Option<usize>
+        requires { i < count self.now.places }
+        ensures place { result ≡ holder (parts self.now) i p }
+        ensures inside { IfSome result (λ j. j < count self.now.places) }
+    {
+        match self.places.kind(i, p) {
+            None => None,
+            Some(SegmentKind::Own) => Some(i),
+            Some(SegmentKind::Common(g)) => match self.groups.place(g) {
+                Some(j) => Some(self.size.contexts as usize + j),
+                None => None,
+            },
+        }
+    }
+
+    /// The bytes of a page of the context at a place. A page that is absent or zeros has none.
+    fn page_bytes(&self, i: usize, p: u16) -> Option<&[u8]>
+        requires place { i < count self.now.places }
+        requires page { p < MOST_PAGES }
+        ensures { option_copied result ≡ data_of (page_in (seen self.now) (rows self.now.places i) p) }
+    {
+        match self.holder(i, p) {
+            Some(j) => self.places.bytes(j, p),
+            None => None,
+        }
+    }
+
+    /// The byte at an address of the context at a place; 0 where a page is absent.
+    fn byte(&self, i: usize, at: usize) -> u8
+        requires place { i < count self.now.places }
+        requires within { at < MOST_PAGES * PAGE_BYTES }
+        ensures { result ≡ byte_in (seen self.now) (rows self.now.places i) at }
+    {
+        match self.page_bytes(i, (at / PAGE_BYTES) as u16) {
+            Some(bytes) => bytes.get(at % PAGE_BYTES).copied().unwrap_or(0),
+            None => 0,
+        }
+    }
+
+    /// Copies the bytes of the context at a place from an address on.
+    fn copy_to(&self, i: usize, at: usize, out: &mut [u8])
+        requires place { i < count self.now.places }
+        requires within { at + length out.old ≤ MOST_PAGES * PAGE_BYTES }
+        ensures { out.new ≡ map (byte_in (seen self.now) (rows self.now.places i))
+            (range_with_len at (length out.old)) }
+    {
+        for (k, byte) in out.iter_mut().enumerate() {
+            *byte = self.byte(i, at + k);
+        }
+    }
+
+    /// Whether all of some pages of the context at a place are present.
+    pub(crate) fn are_present(&self, i: usize, pages: Touched) -> bool
+        requires { i < count self.now.places }
+        ensures { result ≡ list_all (λ p. is_some (page_in (seen self.now) (rows self.now.places i) p))
+            (range_with_len pages.first (pages.end - pages.first)) }
+    {
+        (pages.first..pages.end).all(|p| self.is_present(i, p))
+    }
+
+    /// Reads `out.len()` bytes of the context's memory from the address `at` on into `out`. Answers
+    /// `false`, with `out` unchanged, if a page of them is absent.
+    pub fn bytes(&self, c: Name, at: u32, out: &mut [u8]) -> bool
+        requires live { IsLive (seen self.now) c }
+        requires within { at + length out.old ≤ (seen self.now).size.pages * PAGE_BYTES }
+        ensures present { result ≡ is_some (load (seen self.now) c at (length out.old)) }
+        ensures found { IfSome (load (seen self.now) c at (length out.old)) (λ bytes. out.new ≡ bytes) }
+        ensures absent { IfNone (load (seen self.now) c at (length out.old)) (out.new ≡ out.old) }
+    {
+        let i = self.place(c);
+        let pages = touched_pages(at as usize, out.len());
+        if !self.are_present(i, pages) {
+            return false;
+        }
+        self.copy_to(i, at as usize, out);
+        true
+    }
+}

@@ -1,0 +1,265 @@
+ghost use Rattle.std.specs.Prelude.{◌≡◌, ◌<◌, ◌≤◌, ℕ, All, None};
+ghost use Rattle.lwc_base.specs.declared.descriptor.TheConstants.{SLOTS};
+ghost use Rattle.lwc_base.specs.declared.key.Key.TheVariants.{Page, Slot, Cred};
+ghost use Rattle.lwc_base.specs.declared.limits.TheConstants.{MOST_PAGES};
+ghost use Rattle.lwc_base.specs.Modes.{IsSpec, mode, names};
+ghost use Rattle.lazy_world.specs.Plans.{common_in};
+
+use crate::pieces::Sources;
+use crate::plan::{Found, Plan};
+use crate::world::LazyWorld;
+use arrayvec::ArrayVec;
+use lwc_base::{Cell, Item, Key, Kind, MOST_PAGES, Name, Range, SLOTS, Spec};
+use page_cells::{MOST_STRETCHES, Source, Stretch};
+use range_map::SegmentKind;
+use res_spec::mode_of;
+
+/// The lesser of an edge and another number, if that lies past the page.
+fn sooner(p: u16, edge: u16, other: u32) -> u16
+    requires { p < edge }
+    ensures past { p < result }
+    ensures within { result ≤ edge }
+    ensures other { p < other → result ≤ other }
+{
+    if u32::from(p) < other && other < u32::from(edge) {
+        other as u16
+    } else {
+        edge
+    }
+}
+
+/// Where an item of pages first begins or ends past a page, if that is before the edge.
+fn item_edge(item: &Item, p: u16, edge: u16) -> u16
+    requires { p < edge }
+    ensures past { p < result }
+    ensures within { result ≤ edge }
+    ensures alike { (q : ℕ) → p ≤ q → q < result → names item.now (Page q) ≡ names item.now (Page p) }
+{
+    match item.kind {
+        Kind::Page => sooner(p, sooner(p, edge, item.from), item.to),
+        _ => edge,
+    }
+}
+
+/// A later page, at most the edge, up to which the pages have the mode of this one.
+pub(crate) fn mode_edge(spec: &Spec, p: u16, edge: u16) -> u16
+    requires { p < edge }
+    ensures past { p < result }
+    ensures within { result ≤ edge }
+    ensures alike { (q : ℕ) → p ≤ q → q < result → mode spec.now (Page q) ≡ mode spec.now (Page p) }
+{
+    let mut next = edge;
+    for item in spec.items() {
+        next = item_edge(item, p, next);
+    }
+    next
+}
+
+/// The group of what is common.
+fn common(kind: Option<SegmentKind>) -> Option<Name>
+    ensures { result ≡ common_in kind }
+{
+    match kind {
+        Some(SegmentKind::Common(g)) => Some(g),
+        _ => None,
+    }
+}
+
+impl LazyWorld {
+    ghost use Rattle.lwc_base.specs.World.{group};
+    ghost use Rattle.lazy_world.specs.Plans.{CanGet, Gives, IsFor, IsFound, IsHolder, given_or, planned_row};
+    ghost use Rattle.lazy_world.specs.Seen.{count, rows};
+    ghost use Rattle.lazy_world.specs.Sources.{AreGiven, IsGiven, slot_source, source_at, sourced_row};
+    ghost use Rattle.lazy_world.specs.Worlds.{parts, seen};
+
+    /// The place of a group, if a page is present there, and a later page, at most the edge, up to which this
+    /// holds of each page.
+    fn page_holder(&self, g: Name, p: u16, edge: u16) -> (Option<usize>, u16)
+        requires page { p < MOST_PAGES }
+        requires edge { p < edge }
+        ensures past { p < result.1 }
+        ensures within { result.1 ≤ edge }
+        ensures holder { (q : ℕ) → p ≤ q → q < result.1 → IsHolder (seen self.now)
+            (parts self.now).size.contexts (count self.now.places) (rows self.now.places) (Page q) g result.0 }
+    {
+        let Some(j) = self.group_place(g) else {
+            return (None, edge);
+        };
+        let edge = edge.min(self.places.next_edge(j, p));
+        match self.places.kind(j, p) {
+            Some(SegmentKind::Own) => (Some(j), edge),
+            _ => (None, edge),
+        }
+    }
+
+    /// What is found at a page of a place, and a later page up to which the same is found.
+    pub(crate) fn found_page(&self, i: usize, p: u16) -> (Found, u16)
+        requires place { i < count self.now.places }
+        requires page { p < MOST_PAGES }
+        ensures past { p < result.1 }
+        ensures within { result.1 ≤ MOST_PAGES }
+        ensures found { (q : ℕ) → p ≤ q → q < result.1 → IsFound (seen self.now)
+            (parts self.now).size.contexts (count self.now.places) (rows self.now.places) (Page q)
+            (rows self.now.places i (Page q)) result.0 }
+    {
+        let kind = self.places.kind(i, p);
+        let edge = self.places.next_edge(i, p);
+        match common(kind) {
+            Some(g) => {
+                let (holder, edge) = self.page_holder(g, p, edge);
+                (Found { kind, holder }, edge)
+            }
+            None => (Found { kind, holder: None }, edge),
+        }
+    }
+
+    /// The source of a page by a plan, and a later page up to which the pages have this source.
+    fn page_source(
+        &self,
+        plan: Plan,
+        spec: &Spec,
+        from: usize,
+        to: usize,
+        p: u16,
+    ) -> (Option<Source>, u16)
+        requires from { from < count self.now.places }
+        requires plan { IsFor (parts self.now).size.contexts from to plan }
+        requires page { p < MOST_PAGES }
+        ensures past { p < result.1 }
+        ensures within { result.1 ≤ MOST_PAGES }
+        ensures gives { (q : ℕ) → p ≤ q → q < result.1
+            → given_or (rows self.now.places) (Page q) (rows self.now.places to (Page q)) result.0
+            ≡ planned_row (seen self.now) plan spec.now (rows self.now.places from) (rows self.now.places to) (Page q) }
+        ensures can { (q : ℕ) → p ≤ q → q < result.1
+            → CanGet (count self.now.places) (rows self.now.places) to (Page q) result.0 }
+    {
+        let (found, edge) = self.found_page(from, p);
+        let edge = mode_edge(spec, p, edge);
+        (
+            plan.source(mode_of(spec, Key::Page(p)), found, from, to),
+            edge,
+        )
+    }
+
+    /// The stretches that give a place its pages by a plan.
+    fn page_sources(
+        &self,
+        plan: Plan,
+        spec: &Spec,
+        from: usize,
+        to: usize,
+    ) -> ArrayVec<Stretch, MOST_STRETCHES>
+        requires from { from < count self.now.places }
+        requires plan { IsFor (parts self.now).size.contexts from to plan }
+        ensures gives { (q : ℕ) → q < MOST_PAGES
+            → given_or (rows self.now.places) (Page q) (rows self.now.places to (Page q)) (source_at result.items q)
+            ≡ planned_row (seen self.now) plan spec.now (rows self.now.places from) (rows self.now.places to) (Page q) }
+        ensures past { (q : ℕ) → MOST_PAGES ≤ q → source_at result.items q ≡ None }
+        ensures given { All (IsGiven (count self.now.places) (rows self.now.places) to) result.items }
+    {
+        let mut stretches = ArrayVec::new();
+        let mut p = 0u16;
+        'pages: while u32::from(p) < MOST_PAGES {
+            let (source, end) = self.page_source(plan, spec, from, to, p);
+            if let Some(source) = source {
+                stretches.push(Stretch {
+                    range: Range { from: p, to: end },
+                    source,
+                });
+            }
+            p = end;
+        }
+        stretches
+    }
+
+    /// What is found in a slot of a place.
+    pub(crate) fn found_slot(&self, i: usize, n: u8) -> Found
+        requires place { i < count self.now.places }
+        requires slot { n < SLOTS }
+        ensures { IsFound (seen self.now) (parts self.now).size.contexts (count self.now.places)
+            (rows self.now.places) (Slot n) (rows self.now.places i (Slot n)) result }
+    {
+        match self.places.slot(i, n) {
+            Cell::Own(_) => Found {
+                kind: Some(SegmentKind::Own),
+                holder: None,
+            },
+            Cell::Common(g) => Found {
+                kind: Some(SegmentKind::Common(g)),
+                holder: self.group_place(g),
+            },
+        }
+    }
+
+    /// What is found under the credential of a place.
+    pub(crate) fn found_uid(&self, i: usize) -> Found
+        requires { i < count self.now.places }
+        ensures { IsFound (seen self.now) (parts self.now).size.contexts (count self.now.places)
+            (rows self.now.places) Cred (rows self.now.places i Cred) result }
+    {
+        match self.places.uid(i) {
+            Cell::Own(_) => Found {
+                kind: Some(SegmentKind::Own),
+                holder: None,
+            },
+            Cell::Common(g) => Found {
+                kind: Some(SegmentKind::Common(*g)),
+                holder: self.group_place(*g),
+            },
+        }
+    }
+
+    /// The source of a slot by a plan.
+    fn slot_source(&self, plan: Plan, spec: &Spec, from: usize, to: usize, n: u8) -> Option<Source>
+        requires from { from < count self.now.places }
+        requires plan { IsFor (parts self.now).size.contexts from to plan }
+        requires slot { n < SLOTS }
+        ensures { Gives (count self.now.places) (rows self.now.places) to (Slot n) (planned_row (seen self.now) plan
+            spec.now (rows self.now.places from) (rows self.now.places to) (Slot n)) result }
+    {
+        let found = self.found_slot(from, n);
+        plan.source(mode_of(spec, Key::Slot(n)), found, from, to)
+    }
+
+    /// The source of each slot by a plan.
+    fn slot_sources(&self, plan: Plan, spec: &Spec, from: usize, to: usize) -> [Option<Source>; 64]
+        requires from { from < count self.now.places }
+        requires plan { IsFor (parts self.now).size.contexts from to plan }
+        ensures { (n : ℕ) → n < SLOTS → Gives (count self.now.places) (rows self.now.places) to (Slot n)
+            (planned_row (seen self.now) plan spec.now (rows self.now.places from) (rows self.now.places to) (Slot n))
+            (slot_source result n) }
+    {
+        let mut sources = [None; 64];
+        for n in 0..SLOTS {
+            sources[n as usize] = self.slot_source(plan, spec, from, to, n);
+        }
+        sources
+    }
+
+    /// The source of the credential by a plan.
+    fn uid_source(&self, plan: Plan, spec: &Spec, from: usize, to: usize) -> Option<Source>
+        requires from { from < count self.now.places }
+        requires plan { IsFor (parts self.now).size.contexts from to plan }
+        ensures { Gives (count self.now.places) (rows self.now.places) to Cred (planned_row (seen self.now) plan
+            spec.now (rows self.now.places from) (rows self.now.places to) Cred) result }
+    {
+        let found = self.found_uid(from);
+        plan.source(mode_of(spec, Key::Cred), found, from, to)
+    }
+
+    /// Where the place `to` gets its cells by a plan from what the place `from` has.
+    pub(crate) fn sources(&self, plan: Plan, spec: &Spec, from: usize, to: usize) -> Sources
+        requires from { from < count self.now.places }
+        requires plan { IsFor (parts self.now).size.contexts from to plan }
+        requires within { IsSpec (seen self.now).size.pages spec.now }
+        ensures row { sourced_row (rows self.now.places) to result
+            ≡ planned_row (seen self.now) plan spec.now (rows self.now.places from) (rows self.now.places to) }
+        ensures given { AreGiven (count self.now.places) (rows self.now.places) to result }
+    {
+        Sources {
+            pages: self.page_sources(plan, spec, from, to),
+            slots: self.slot_sources(plan, spec, from, to),
+            uid: self.uid_source(plan, spec, from, to),
+        }
+    }
+}

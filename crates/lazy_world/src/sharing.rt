@@ -1,0 +1,177 @@
+ghost use Rattle.std.specs.Prelude.{◌≡◌, ◌<◌, ◌≤◌, ◌^◌, ℕ, false, true};
+ghost use Rattle.lwc_base.specs.declared.descriptor.TheConstants.{SLOTS};
+ghost use Rattle.lwc_base.specs.declared.key.Key.TheVariants.{Page, Slot, Cred};
+ghost use Rattle.lwc_base.specs.declared.limits.TheConstants.{MOST_PAGES, MOST_RANGES};
+ghost use Rattle.lwc_base.specs.Modes.{IsSpec};
+ghost use Rattle.lazy_world.specs.Plans.{moves};
+
+use crate::counts::Counts;
+use crate::facts::facts;
+use crate::plan::Plan;
+use crate::ranges::mode_edge;
+use crate::world::LazyWorld;
+use lwc_base::laws::a_group_is_needed_where_a_value_moves;
+use lwc_base::{Cell, Key, MOST_PAGES, NOBODY, Name, SLOTS, Spec};
+use range_map::ranges_are_those_of_the_context;
+use res_spec::mode_of;
+
+impl LazyWorld {
+    ghost use Rattle.lwc_base.specs.Sharing.{moved_values, needs_group, share};
+    ghost use Rattle.lwc_base.specs.World.{add_group, change_group, context, new_group, next_group};
+    ghost use Rattle.range_map.specs.Kinds.{ranges};
+    ghost use Rattle.lwc_base.specs.Fresh.{IsFresh};
+    ghost use Rattle.lwc_base.specs.Ranges.{ranges_of};
+    ghost use Rattle.world_face.specs.Calls.{HasGroupPlace, IsLive, MayName};
+    ghost use Rattle.lazy_world.specs.Cells.{kinds_of, no_row};
+    ghost use Rattle.lazy_world.specs.Plans.{planned_row};
+    ghost use Rattle.lazy_world.specs.declared.plan.Plan.TheVariants.{Move};
+    ghost use Rattle.lazy_world.specs.Followed.{IsOfContexts, followed};
+    ghost use Rattle.lazy_world.specs.Seen.{count, rows};
+    ghost use Rattle.lazy_world.specs.Worlds.{parts, seen};
+
+    /// Whether a page of a place moves.
+    fn moves_page(&self, i: usize, spec: &Spec) -> bool
+        requires { i < count self.now.places }
+        ensures some { result ≡ true → (p : ℕ) × (moves spec.now (Page p) (rows self.now.places i) ≡ true) }
+        ensures none { result ≡ false → (p : ℕ) → p < MOST_PAGES
+            → moves spec.now (Page p) (rows self.now.places i) ≡ false }
+    {
+        let mut p = 0u16;
+        'pages: while u32::from(p) < MOST_PAGES {
+            let (found, edge) = self.found_page(i, p);
+            if found.moves(mode_of(spec, Key::Page(p))) {
+                return true;
+            }
+            p = mode_edge(spec, p, edge);
+        }
+        false
+    }
+
+    /// Whether a slot of a place moves.
+    fn moves_slot(&self, i: usize, spec: &Spec) -> bool
+        requires { i < count self.now.places }
+        ensures some { result ≡ true → (n : ℕ) × (n < SLOTS)
+            × (moves spec.now (Slot n) (rows self.now.places i) ≡ true) }
+        ensures none { result ≡ false → (n : ℕ) → n < SLOTS
+            → moves spec.now (Slot n) (rows self.now.places i) ≡ false }
+    {
+        for n in 0..SLOTS {
+            if self.found_slot(i, n).moves(mode_of(spec, Key::Slot(n))) {
+                return true;
+            }
+        }
+        false
+    }
+
+    /// Whether the credential of a place moves.
+    fn moves_uid(&self, i: usize, spec: &Spec) -> bool
+        requires { i < count self.now.places }
+        ensures { result ≡ moves spec.now Cred (rows self.now.places i) }
+    {
+        self.found_uid(i).moves(mode_of(spec, Key::Cred))
+    }
+
+    /// Whether `clone_context` and `overlay` make a group: an item of mode share names a key that is present and
+    /// the context's own.
+    pub fn needs_group(&self, c: Name, spec: &Spec) -> bool
+        requires live { IsLive (seen self.now) c }
+        requires within { IsSpec (seen self.now).size.pages spec.now }
+        ensures value { result ≡ needs_group (seen self.now) c spec.now }
+    {
+        a_group_is_needed_where_a_value_moves();
+        let i = self.place(c);
+        if self.moves_page(i, spec) {
+            return true;
+        }
+        if self.moves_slot(i, spec) {
+            return true;
+        }
+        self.moves_uid(i, spec)
+    }
+
+    /// A context gets the cells that a plan gives it of another one, which may be the same.
+    pub(crate) fn follow(&mut self, plan: Plan, spec: &Spec, d: Name, c: Name)
+        requires from { IsLive (seen self.old) d }
+        requires to { IsLive (seen self.old) c }
+        requires plan { IsOfContexts plan d c }
+        requires within { IsSpec (seen self.old).size.pages spec.now }
+        requires fresh { IsFresh (followed (seen self.old) plan spec.now d c) }
+        requires few { ranges_of (followed (seen self.old) plan spec.now d c) c ≤ MOST_RANGES }
+        ensures { seen self.new ≡ followed (seen self.old) plan spec.now d c }
+    {
+        facts();
+        self.contexts.are_placed();
+        ranges_are_those_of_the_context();
+        let from = self.place(d);
+        let to = self.place(c);
+        let sources = self.sources(plan, spec, from, to);
+        self.places.take(to, &sources);
+    }
+
+    /// A job makes its next group, which has nothing in it, and answers its name.
+    fn add_group(&mut self, job: u32) -> Name
+        requires known { job < (seen self.old).size.jobs }
+        requires few { ((seen self.old).next job).groups < 2 ^ 31 }
+        requires place { HasGroupPlace (seen self.old) }
+        ensures name { result ≡ next_group (seen self.old) job }
+        ensures world { seen self.new ≡ add_group (seen self.old) job new_group }
+    {
+        facts();
+        self.contexts.are_placed();
+        self.groups.are_placed();
+        let counts = self.counts[job as usize];
+        let name = Name {
+            job,
+            k: counts.groups,
+        };
+        let j = self.groups.insert(name);
+        self.places
+            .put_uid(self.size.contexts as usize + j, Cell::Own(NOBODY));
+        self.counts[job as usize] = Counts {
+            groups: counts.groups + 1,
+            ..counts
+        };
+        name
+    }
+
+    /// A group gets the values of a context that items move, and nothing else.
+    fn fill_group(&mut self, g: Name, c: Name, spec: &Spec)
+        requires live { IsLive (seen self.old) c }
+        requires within { IsSpec (seen self.old).size.pages spec.now }
+        requires few { ranges MOST_PAGES (kinds_of (planned_row (seen self.old) Move spec.now
+            (context (seen self.old) c).cell no_row)) ≤ MOST_RANGES }
+        ensures { seen self.new ≡ change_group (seen self.old) g
+            (λ x. moved_values spec.now (context (seen self.old) c)) }
+    {
+        facts();
+        self.contexts.are_placed();
+        self.groups.are_placed();
+        let from = self.place(c);
+        match self.groups.place(g) {
+            Some(j) => {
+                let to = self.size.contexts as usize + j;
+                let sources = self.sources(Plan::Move, spec, from, to);
+                self.places.take(to, &sources);
+            }
+            None => {}
+        }
+    }
+
+    /// Moves a context's own values under share into a new group of the job, if there are any.
+    pub(crate) fn share(&mut self, c: Name, spec: &Spec, job: u32)
+        requires live { IsLive (seen self.old) c }
+        requires within { IsSpec (seen self.old).size.pages spec.now }
+        requires may { MayName (seen self.old) job }
+        requires group { needs_group (seen self.old) c spec.now ≡ true → HasGroupPlace (seen self.old) }
+        requires few { ranges_of (share (seen self.old) c job spec.now) c ≤ MOST_RANGES }
+        ensures { seen self.new ≡ share (seen self.old) c job spec.now }
+    {
+        facts();
+        ranges_are_those_of_the_context();
+        if self.needs_group(c, spec) {
+            let g = self.add_group(job);
+            self.fill_group(g, c, spec);
+            self.follow(Plan::Mark(g), spec, c, c);
+        }
+    }
+}

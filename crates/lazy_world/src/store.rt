@@ -1,0 +1,248 @@
+ghost use Rattle.std.specs.Prelude.{◌≡◌, ◌≢◌, ◌↔◌, ◌*◌, ◌+◌, ◌-◌, ◌<◌, ◌≤◌, ◌^◌, ℕ, [], ◌∷◌, Err, OnErr, OnOk, Some, count_by, is_some, length, true, unwrap_or};
+ghost use Rattle.lwc_base.specs.declared.cell.Cell.{Cell};
+ghost use Rattle.lwc_base.specs.declared.cell.Cell.TheVariants.{Own};
+ghost use Rattle.lwc_base.specs.declared.key.Key.TheVariants.{Page};
+ghost use Rattle.lwc_base.specs.declared.page.PageValue.TheVariants.{Zero};
+ghost use Rattle.lwc_base.specs.declared.page.TheConstants.{PAGE_BYTES};
+ghost use Rattle.lwc_base.specs.Keys.{with_key};
+ghost use Rattle.page_cells.specs.Cells.{IsOwnPage, place_of};
+ghost use Rattle.page_cells.specs.Tags as places;
+ghost use Rattle.page_cells.specs.Writes.{write_page, written_value};
+ghost use Rattle.lazy_world.specs.Cells.{put_row};
+ghost use Rattle.lazy_world.specs.Seen.{count, frame_count, pages, rows};
+
+use crate::counts::Counts;
+use crate::facts::facts;
+use crate::places::Places;
+use crate::touched::{Touched, touched_pages};
+use crate::world::LazyWorld;
+use lwc_base::laws::a_put_changes_one_key;
+use lwc_base::{Name, StoreFault, Tag};
+use page_cells::laws::{page_writes_take_few_frames, places_have_the_tags_of_their_world};
+use pool_base::Steps;
+use range_map::SegmentKind;
+use std::marker::Brand;
+use std::sync::ledger::{Blank, Ledger};
+
+impl Places {
+    /// How many frames are in use: one for each different tag.
+    #[tactic(auto, unfolding(crate::specs::Seen::pages, crate::specs::Seen::frame_count))]
+    pub fn used(&self) -> u32
+        ensures used { result ≡ places.used (pages self.now) }
+        ensures within { result ≤ frame_count self.now }
+    {
+        self.pages.used()
+    }
+
+    /// Whether a page of a place parts when it is written: it has no bytes of its own, or its tag is at
+    /// another page too.
+    #[tactic(auto, unfolding(crate::specs::Seen::pages, crate::specs::Seen::count))]
+    pub fn is_parting(&self, i: usize, p: u16) -> bool
+        requires { i < count self.now }
+        ensures { result ≡ places.is_parting (pages self.now) i p }
+    {
+        match self.pages.kind(i, p) {
+            None => true,
+            Some(SegmentKind::Common(_)) => true,
+            Some(SegmentKind::Own) => self.pages.is_parting(i, p),
+        }
+    }
+
+    /// Writes what a piece has of a page that is the place's own, on a counter of its own, and tells whether
+    /// the page parted.
+    #[tactic(auto, unfolding(crate::specs::Seen::pages, crate::specs::Seen::count, crate::specs::Seen::frame_count))]
+    fn write_counted<L: Ledger>(
+        &mut self,
+        i: usize,
+        p: u16,
+        at: u32,
+        piece: &[u8],
+        tag: Tag,
+        blank: Blank,
+    ) -> bool
+        requires place { i < count self.old }
+        requires own { IsOwnPage (place_of (pages self.old) i p) }
+        requires new { places.IsNewTag (pages self.old) tag }
+        requires enough { places.used (pages self.old) + places.taken_by (pages self.old) i p
+            ≤ frame_count self.old }
+        requires name { blank.name ≡ L.name }
+        requires parts { blank.parts ≡ L.parts }
+        requires some { 0 < blank.parts }
+        ensures pages { pages self.new
+            ≡ write_page (pages self.old) i p (record { at = at; bytes = piece.now }) tag }
+        ensures rows { rows self.new ≡ put_row (rows self.old) i (with_key Cell (Page p)
+            (Own (Some (written_value (pages self.old) i p (record { at = at; bytes = piece.now }) tag)))
+            (rows self.old i)) }
+        ensures parted { result ≡ places.is_parting (pages self.old) i p }
+        ensures count { count self.new ≡ count self.old }
+        ensures frames { frame_count self.new ≡ frame_count self.old }
+    {
+        let mut steps = Steps::<L>::new(blank);
+        match self.pages.write(i, p, at, piece, tag, &mut steps) {
+            Ok(parted) => parted,
+            Err(_) => unreachable!(),
+        }
+    }
+
+    /// Writes what a piece has of a page that is the place's own, under a new tag if the page parts, and
+    /// tells whether it did.
+    pub fn write(&mut self, i: usize, p: u16, at: u32, piece: &[u8], tag: Tag) -> bool
+        requires place { i < count self.old }
+        requires own { IsOwnPage (place_of (pages self.old) i p) }
+        requires new { places.IsNewTag (pages self.old) tag }
+        requires enough { places.used (pages self.old) + places.taken_by (pages self.old) i p
+            ≤ frame_count self.old }
+        ensures pages { pages self.new
+            ≡ write_page (pages self.old) i p (record { at = at; bytes = piece.now }) tag }
+        ensures rows { rows self.new ≡ put_row (rows self.old) i (with_key Cell (Page p)
+            (Own (Some (written_value (pages self.old) i p (record { at = at; bytes = piece.now }) tag)))
+            (rows self.old i)) }
+        ensures parted { result ≡ places.is_parting (pages self.old) i p }
+        ensures count { count self.new ≡ count self.old }
+        ensures frames { frame_count self.new ≡ frame_count self.old }
+    {
+        self.write_counted::<Brand>(i, p, at, piece, tag, Blank::new(1))
+    }
+}
+
+impl LazyWorld {
+    ghost use Rattle.std.specs.List.{list_all, range_with_len};
+    ghost use Rattle.lwc_base.specs.Cells.{page_at};
+    ghost use Rattle.lwc_base.specs.Frames.{is_parting, used};
+    ghost use Rattle.lwc_base.specs.Store.{store};
+    ghost use Rattle.lwc_base.specs.Store as stores;
+    ghost use Rattle.world_face.specs.Calls.{IsLive, MayName};
+    ghost use Rattle.lazy_world.specs.Memory.{page_in};
+    ghost use Rattle.lazy_world.specs.Stores.{parts_at, store_pages, taken_at};
+    ghost use Rattle.lazy_world.specs.Worlds.{seen};
+
+    /// The number of frames in use.
+    pub fn used(&self) -> u32
+        ensures used { result ≡ used (seen self.now) }
+        ensures within { result ≤ (seen self.now).size.frames }
+    {
+        facts();
+        places_have_the_tags_of_their_world();
+        self.contexts.are_placed();
+        self.groups.are_placed();
+        self.places.used()
+    }
+
+    /// Whether a page of the context at a place parts when it is stored to. An absent page reads as zeros,
+    /// which part.
+    fn is_parting(&self, i: usize, p: u16) -> bool
+        requires { i < count self.now.places }
+        ensures { result ≡ is_parting (seen self.now)
+            (unwrap_or (page_in (seen self.now) (rows self.now.places i) p) Zero) }
+    {
+        facts();
+        places_have_the_tags_of_their_world();
+        self.contexts.are_placed();
+        self.groups.are_placed();
+        match self.holder(i, p) {
+            Some(j) => self.places.is_parting(j, p),
+            None => true,
+        }
+    }
+
+    /// The number of pages that a store to some pages of the context at a place parts.
+    #[tactic(auto, using(crate::proofs::CountLemmas::count_of_range))]
+    fn parting_count(&self, i: usize, pages: Touched) -> usize
+        requires { i < count self.now.places }
+        ensures parting { result ≡ count_by (λ p. is_parting (seen self.now)
+            (unwrap_or (page_in (seen self.now) (rows self.now.places i) p) Zero))
+            (range_with_len pages.first (pages.end - pages.first)) }
+        ensures few { result ≤ pages.end - pages.first }
+    {
+        (pages.first..pages.end)
+            .filter(|p| self.is_parting(i, *p))
+            .count()
+    }
+
+    /// Writes what a piece has of a present page of the context, under the job's next tag if the page parts.
+    fn write_page(&mut self, c: Name, p: u16, at: u32, piece: &[u8], job: u32)
+        requires live { IsLive (seen self.old) c }
+        requires there { is_some (page_at (seen self.old) c p) ≡ true }
+        requires known { job < (seen self.old).size.jobs }
+        requires few { ((seen self.old).next job).tags < 2 ^ 32 - 1 }
+        requires enough { used (seen self.old) + taken_at (seen self.old) c p ≤ (seen self.old).size.frames }
+        ensures stored { seen self.new
+            ≡ store_pages (seen self.old) c job (record { at = at; bytes = piece.now }) (p ∷ []) }
+        ensures used { used (seen self.new) ≡ used (seen self.old) + taken_at (seen self.old) c p }
+        ensures others { (q : ℕ) → q ≢ p → parts_at (seen self.new) c q ≡ parts_at (seen self.old) c q }
+    {
+        facts();
+        page_writes_take_few_frames();
+        places_have_the_tags_of_their_world();
+        a_put_changes_one_key();
+        self.contexts.are_placed();
+        self.groups.are_placed();
+        let i = self.place(c);
+        let Some(j) = self.holder(i, p) else {
+            unreachable!()
+        };
+        let counts = self.counts[job as usize];
+        let tag = Tag {
+            job,
+            k: counts.tags,
+        };
+        let parted = self.places.write(j, p, at, piece, tag);
+        self.counts[job as usize] = Counts {
+            tags: counts.tags + u32::from(parted),
+            ..counts
+        };
+    }
+
+    /// Writes a piece to present pages of the context, under the job's next tags.
+    fn write_pages(&mut self, c: Name, pages: Touched, at: u32, piece: &[u8], job: u32)
+        requires live { IsLive (seen self.old) c }
+        requires order { pages.first ≤ pages.end }
+        requires there { list_all (λ p. is_some (page_at (seen self.old) c p))
+            (range_with_len pages.first (pages.end - pages.first)) ≡ true }
+        requires known { job < (seen self.old).size.jobs }
+        requires few { ((seen self.old).next job).tags < 2 ^ 31 }
+        requires enough { used (seen self.old)
+            + count_by (parts_at (seen self.old) c) (range_with_len pages.first (pages.end - pages.first))
+            ≤ (seen self.old).size.frames }
+        ensures { seen self.new ≡ store_pages (seen self.old) c job (record { at = at; bytes = piece.now })
+            (range_with_len pages.first (pages.end - pages.first)) }
+    {
+        facts();
+        a_put_changes_one_key();
+        for p in pages.first..pages.end {
+            self.write_page(c, p, at, piece, job);
+        }
+    }
+
+    /// Stores bytes in the context's memory from the address `at` on, for a job.
+    ///
+    /// # Errors
+    ///
+    /// `BadAddress` if a touched page is absent; else `NoFrame` if the frames in use and the pages that
+    /// part are more than the frames. Never `OutOfMemory`.
+    pub fn store(&mut self, c: Name, at: u32, piece: &[u8], job: u32) -> Result<(), StoreFault>
+        requires live { IsLive (seen self.old) c }
+        requires within { at + length piece.now ≤ (seen self.old).size.pages * PAGE_BYTES }
+        requires short { length piece.now ≤ PAGE_BYTES }
+        requires may { MayName (seen self.old) job }
+        ensures done { OnOk result (store (seen self.old) c job (record { at = at; bytes = piece.now }) ≡
+            stores.Done (seen self.new)) }
+        ensures bad_address { (result ≡ Err StoreFault.BadAddress) ↔
+            (store (seen self.old) c job (record { at = at; bytes = piece.now }) ≡ stores.Absent) }
+        ensures no_frame { (result ≡ Err StoreFault.NoFrame) ↔
+            (store (seen self.old) c job (record { at = at; bytes = piece.now }) ≡ stores.Full) }
+        ensures err { OnErr result (seen self.new ≡ seen self.old) }
+        ensures ample { result ≢ Err StoreFault.OutOfMemory }
+    {
+        let i = self.place(c);
+        let pages = touched_pages(at as usize, piece.len());
+        if !self.are_present(i, pages) {
+            return Err(StoreFault::BadAddress);
+        }
+        if (self.size.frames as usize) < self.used() as usize + self.parting_count(i, pages) {
+            return Err(StoreFault::NoFrame);
+        }
+        self.write_pages(c, pages, at, piece, job);
+        Ok(())
+    }
+}
