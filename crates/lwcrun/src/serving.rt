@@ -1,5 +1,7 @@
 //! Serves under a schedule, whole, over a world by whole copies.
 
+ghost use Rattle.std.specs.Prelude.{◌≤◌};
+
 use guest_asm::assemble;
 use kernel_core::{Job, Kernel, Settings};
 use lwc_text::{read_requests, report};
@@ -105,7 +107,10 @@ schedule 01010101010100
 };
 
 /// The report of a serve.
-fn served(alloc: Global, serve: &Serve) -> Result<Vec<u8>, Fail> {
+fn served(alloc: Global, serve: &Serve) -> Result<Vec<u8>, Fail>
+    requires frames { (1 ≤ serve.now.frames) × (serve.now.frames ≤ 65536) }
+    requires workers { (1 ≤ serve.now.workers) × (serve.now.workers ≤ 16) }
+{
     let image = assemble(alloc, COUNTER_HANDLER.as_bytes())?;
     let requests = read_requests(alloc, serve.requests.as_bytes())?;
     let settings = Settings {
@@ -117,7 +122,7 @@ fn served(alloc: Global, serve: &Serve) -> Result<Vec<u8>, Fail> {
     };
     let mut kernel = Kernel::<WholeWorld>::open(alloc, &image, requests, 100, &settings)?;
     for digit in serve.schedule.as_bytes() {
-        let t = u32::from(*digit) - 48;
+        let t = u32::from(digit.wrapping_sub(b'0'));
         if t < kernel.thread_count() && 0 < kernel.room() {
             let _turn = kernel.step(t, None)?;
         }
@@ -128,6 +133,8 @@ fn served(alloc: Global, serve: &Serve) -> Result<Vec<u8>, Fail> {
 #[test]
 fn each_request_is_served_in_a_fresh_copy(rt: HostRuntime) -> Result<(), Fail> {
     for serve in [ONE_AFTER_ANOTHER, BY_TURNS, TOO_FEW_FRAMES] {
+        assert!(rt; 1 <= serve.frames && serve.frames <= 65536);
+        assert!(rt; 1 <= serve.workers && serve.workers <= 16);
         let text = served(rt.alloc(), &serve)?;
         assert_eq!(rt;
             text.as_slice(),
