@@ -47,8 +47,8 @@ module _ (facts : Facts) (w : World) (c : Name) (job : ℕ) (items : List Item) 
       at true is = ap (λ b. is_moved (m k) k (cond b (cells.Common (next_group w job)) cell)) is ∙ common_stays (m k) k (next_group w job)
       at false is = ap (λ b. is_moved (m k) k (cond b (cells.Common (next_group w job)) cell)) is ∙ is
 
-  none_moves : needs_group w c items ≡ false → (k : Key) → is_moved (m k) k ((context w c).cell k) ≡ false
-  none_moves idle k =
+  pub none-moves : needs_group w c items ≡ false → (k : Key) → is_moved (m k) k ((context w c).cell k) ≡ false
+  none-moves idle k =
       ⊎_elim
       (λ inside. at (is_moved (m k) k ((context w c).cell k)) refl inside)
       (λ past. ap (λ o. is_moved (unwrap_or o Copy) k ((context w c).cell k)) (mode-past w.size.pages items k spec past))
@@ -67,7 +67,7 @@ module _ (facts : Facts) (w : World) (c : Name) (job : ℕ) (items : List Item) 
       at true needs =
           ap (λ (x : Context). is_moved (m k) k (x.cell k)) ((facts.changes.shared w c job items).named needs live)
           ∙ shared_stays k ((context w c).cell k)
-      at false idle = ap (λ v. is_moved (m k) k ((context v c).cell k)) ((facts.changes.shared w c job items).none idle) ∙ none_moves idle k
+      at false idle = ap (λ v. is_moved (m k) k ((context v c).cell k)) ((facts.changes.shared w c job items).none idle) ∙ none-moves idle k
 
   -- so that what is taken is what a clone gets
   module _ (v : World) (g : Name) (groups : v.groups ≡ s.groups) where

@@ -1,14 +1,16 @@
 -- A context whose cells become another row.
-use Rattle.std.proofs.Common.{◌≡◌, ℕ, ◌<◌, ◌≤◌, List, arith, refl, sym, ap, subst, ◌∙◌, Option, Some, None}
+use Rattle.std.proofs.Common.{◌≡◌, ℕ, ◌<◌, ◌≤◌, arith, refl, sym, ap, subst, ◌∙◌, List, Option, Some, None}
 use Rattle.std.specs.Prelude.{unwrap_or}
 use Rattle.std.specs.FinMap as fm
 use Rattle.lwc_base.specs.declared.cell.Cell.TheVariants as cells
+use Rattle.lwc_base.specs.declared.item.Item.{Item}
 use Rattle.lwc_base.specs.declared.key.Key.TheVariants.{Page}
 use Rattle.lwc_base.specs.declared.limits.TheConstants.{MOST_PAGES}
 use Rattle.lwc_base.specs.declared.name.Name.{Name}
 use Rattle.lwc_base.specs.declared.name.Tag.{Tag}
 use Rattle.lwc_base.specs.declared.page.PageValue.TheVariants.{Data}
 use Rattle.lwc_base.specs.Fresh.{IsFresh}
+use Rattle.lwc_base.specs.Names.{name_cmp}
 use Rattle.lwc_base.specs.Registers.{fresh_registers}
 use Rattle.lwc_base.specs.Ranges as base
 use Rattle.lwc_base.specs.Ranges.{ranges_of}
@@ -20,11 +22,14 @@ use Rattle.page_cells.specs.declared.stretches.Source.TheVariants as sources
 use Rattle.ctx_table.specs.NameTables.{ArePlaced}
 use Rattle.lazy_world.specs.Cells.{Row, kinds_of, put_row}
 use Rattle.lazy_world.specs.Facts.{Facts}
-use Rattle.lazy_world.specs.Plans.{given_or}
+use Rattle.lazy_world.specs.Followed.{IsOfContexts, with_planned}
+use Rattle.lazy_world.specs.Plans.{IsFor, given_or}
 use Rattle.lazy_world.specs.Sound.{HasOldTags, HasOneHome, IsSound, IsWithin}
 use Rattle.lazy_world.specs.Sources.{source_at, sourced_row}
 use Rattle.lazy_world.specs.States.{Parts, context_at, context_of, registers_at, world_of}
 use Rattle.lazy_world.specs.declared.pieces.Sources.{Sources}
+use Rattle.lazy_world.specs.declared.plan.Plan.{Plan}
+use Rattle.lazy_world.specs.declared.plan.Plan.TheVariants.{Mark, Move, Clone, Overlay}
 use Rattle.lazy_world.proofs.MapLemmas.{few_pages, no_kind, past_of}
 use Rattle.lazy_world.proofs.PlaceLemmas.{choose}
 use Rattle.lazy_world.proofs.SoundLemmas.{IsTagged, homes-row, sound-row}
@@ -51,6 +56,21 @@ sourced-homes rows i s homes = homes-row rows i (sourced_row rows i s) homes (λ
     at p tag bytes (Some sources.Zeros) e = absurd (let none = e in cc)
     at p tag bytes (Some (sources.Common g)) e = absurd (let none = e in cc)
     at p tag bytes (Some (sources.CopyOf j)) e = record { place = j; bytes = bytes; is = e }
+
+-- two names that are one have one place
+pub same-place : (m : fm.FinMap name_cmp ℕ) (d c : Name) (from to : ℕ) → d ≡ c → fm.get m d ≡ Some from → fm.get m c ≡ Some to → from ≡ to
+same-place m d c from to same at_from at_to = let both : Some from ≡ Some to = sym at_from ∙ ap (fm.get m) same ∙ at_to in cc
+
+-- a plan for contexts is one for their places
+pub plan-for : (plan : Plan) (contexts : ℕ) (d c : Name) (from to : ℕ) → IsOfContexts plan d c → (d ≡ c → from ≡ to) → to < contexts → IsFor contexts from to plan
+plan-for (Mark g) contexts d c from to is same low = same is
+plan-for Move contexts d c from to is same low = absurd is
+plan-for (Clone g) contexts d c from to is same low = low
+plan-for (Overlay g) contexts d c from to is same low = low
+
+-- a context that gets cells of a context that is known
+pub followed-from : (w : World) (plan : Plan) (items : List Item) (d : Name) (x old : Context) → context w d ≡ x → with_planned w plan items x.cell old ≡ with_planned w plan items (context w d).cell old
+followed-from w plan items d x old is = ap (λ (z : Context). with_planned w plan items z.cell old) (sym is)
 
 -- two changes of a context that agree on it are one
 pub change-agree : (w : World) (c : Name) (f g : Context → Context) → f (context w c) ≡ g (context w c) → change_context w c f ≡ change_context w c g

@@ -1,4 +1,5 @@
 mod AddLemmas
+mod AfterLemmas
 mod BegunLemmas
 mod ClearLemmas
 mod CloneLemmas
@@ -10,6 +11,7 @@ mod FoundLemmas
 mod GatherLemmas
 mod GroupLemmas
 mod HolderLemmas
+mod ItselfLemmas
 mod KeyLemmas
 mod LeftLemmas
 mod MapLemmas
@@ -21,10 +23,12 @@ mod MoveLemmas
 mod MovedLemmas
 mod NeedLemmas
 mod OpenLemmas
+mod OverlayLemmas
 mod PastLemmas
 mod PlaceLemmas
 mod PlanLemmas
 mod ReachLemmas
+mod RenameLemmas
 mod SaveLemmas
 mod ShareLemmas
 mod SmallLemmas

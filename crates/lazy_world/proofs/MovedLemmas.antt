@@ -31,17 +31,17 @@ use Rattle.lazy_world.proofs.PastLemmas.{planned-within}
 use Rattle.lazy_world.proofs.ShareLemmas.{fewer-ranges}
 use Rattle.lazy_world.proofs.WorldLemmas.{context-found, live-there}
 
-moved_kind : (m : Mode) (p : ℕ) (cell : Cell (Option PageValue)) → kind_of (cells.Own (moved_value m (Page p) cell)) ≡ cond (is_moved m (Page p) cell) (Some Own) None
-moved_kind Copy p cell = refl
-moved_kind Unmap p cell = refl
-moved_kind Share p (cells.Own None) = refl
-moved_kind Share p (cells.Own (Some v)) = refl
-moved_kind Share p (cells.Common g) = refl
+pub moved-kind : (m : Mode) (p : ℕ) (cell : Cell (Option PageValue)) → kind_of (cells.Own (moved_value m (Page p) cell)) ≡ cond (is_moved m (Page p) cell) (Some Own) None
+moved-kind Copy p cell = refl
+moved-kind Unmap p cell = refl
+moved-kind Share p (cells.Own None) = refl
+moved-kind Share p (cells.Own (Some v)) = refl
+moved-kind Share p (cells.Common g) = refl
 
-common_cell : (cell : Cell (Option PageValue)) (g : Name) → kind_of cell ≡ Some (Common g) → cell ≡ cells.Common g
-common_cell (cells.Own None) g is = absurd (let e = is in cc)
-common_cell (cells.Own (Some v)) g is = absurd (let e = is in cc)
-common_cell (cells.Common h) g is = let same : h ≡ g = cc in ap cells.Common same
+pub common-cell : (cell : Cell (Option PageValue)) (g : Name) → kind_of cell ≡ Some (Common g) → cell ≡ cells.Common g
+common-cell (cells.Own None) g is = absurd (let e = is in cc)
+common-cell (cells.Own (Some v)) g is = absurd (let e = is in cc)
+common-cell (cells.Common h) g is = let same : h ≡ g = cc in ap cells.Common same
 
 -- a live context has nothing past the pages of the world
 pub live-past : (s : Parts) (sound : IsSound s) (c : Name) → is_live (world_of s) c ≡ true → IsWithin s.size.pages (context (world_of s) c).cell
@@ -76,13 +76,13 @@ module _ (facts : Facts) (w : World) (fresh : IsFresh w) (c : Name) (job : ℕ) 
   away : (p : ℕ) → moves items (Page p) row ≡ false → kinds p ≡ Some (Common g) → ⊥
   away p off is =
       let kept : kind_of (row (Page p)) ≡ Some (Common g) = sym (ap (λ b. kind_of (cond b (cells.Common g) (row (Page p)))) off) ∙ is in
-      let named = facts.fresh.named w c (Page p) g fresh (common_cell (row (Page p)) g kept) in
+      let named = facts.fresh.named w c (Page p) g fresh (common-cell (row (Page p)) g kept) in
       absurd (omega (arith, named))
 
   pub moved-few : ranges_of (share w c job items) c ≤ MOST_RANGES → (w1 : World) → context w1 c ≡ context w c →
       ranges MOST_PAGES (kinds_of (planned_row w1 Move items (context w1 c).cell no_row)) ≤ MOST_RANGES
   moved-few below w1 same =
       let fewer = fewer-ranges facts.orders (λ p. moves items (Page p) row) (kinds_of (planned_row w1 Move items row no_row)) kinds g
-      (λ p. moved_kind (unwrap_or (mode items (Page p)) Copy) p (row (Page p)))
+      (λ p. moved-kind (unwrap_or (mode items (Page p)) Copy) p (row (Page p)))
       (λ p on. ap (λ b. kind_of (cond b (cells.Common g) (row (Page p)))) on) away MOST_PAGES in
       subst (λ (x : Context). ranges MOST_PAGES (kinds_of (planned_row w1 Move items x.cell no_row)) ≤ MOST_RANGES) (sym same) (omega (arith, fewer, below, shared-ranges))

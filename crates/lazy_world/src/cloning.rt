@@ -17,7 +17,7 @@ impl LazyWorld {
     /// into one new group, and both contexts have them in common from then on; what was common already
     /// stays so. Values of mode copy and values that no item names are copied, and those of mode unmap are
     /// left out. The new context begins with these registers and has no saved ones. Answers its name.
-    pub fn clone_context(&mut self, c: Name, spec: &Spec, job: u32, entry: &Regs) -> Name
+    pub(crate) fn clone_context(&mut self, c: Name, spec: &Spec, job: u32, entry: &Regs) -> Name
         requires live { IsLive (seen self.old) c }
         requires within { IsSpec (seen self.old).size.pages spec.now }
         requires may { MayName (seen self.old) job }

@@ -97,7 +97,7 @@ impl LazyWorld {
     }
 
     /// Makes each page of the range a page of zeros of the context's own, whatever it was.
-    pub fn map(&mut self, c: Name, range: Range)
+    pub(crate) fn map(&mut self, c: Name, range: Range)
         requires live { IsLive (seen self.old) c }
         requires some { range.from < range.to }
         requires within { range.to ≤ (seen self.old).size.pages }
@@ -108,7 +108,7 @@ impl LazyWorld {
     }
 
     /// Makes each page of the range absent, whatever it was.
-    pub fn unmap(&mut self, c: Name, range: Range)
+    pub(crate) fn unmap(&mut self, c: Name, range: Range)
         requires live { IsLive (seen self.old) c }
         requires some { range.from < range.to }
         requires within { range.to ≤ (seen self.old).size.pages }
@@ -119,7 +119,7 @@ impl LazyWorld {
     }
 
     /// The number of ranges that the context would have after `map` if `present` is true, and else after `unmap`.
-    pub fn ranges_after_map(&self, c: Name, range: Range, present: bool) -> u32
+    pub(crate) fn ranges_after_map(&self, c: Name, range: Range, present: bool) -> u32
         requires live { IsLive (seen self.now) c }
         requires some { range.from < range.to }
         requires within { range.to ≤ (seen self.now).size.pages }

@@ -81,7 +81,7 @@ impl LazyWorld {
 
     /// Reads `out.len()` bytes of the context's memory from the address `at` on into `out`. Answers
     /// `false`, with `out` unchanged, if a page of them is absent.
-    pub fn bytes(&self, c: Name, at: u32, out: &mut [u8]) -> bool
+    pub(crate) fn bytes(&self, c: Name, at: u32, out: &mut [u8]) -> bool
         requires live { IsLive (seen self.now) c }
         requires within { at + length out.old ≤ (seen self.now).size.pages * PAGE_BYTES }
         ensures present { result ≡ is_some (load (seen self.now) c at (length out.old)) }

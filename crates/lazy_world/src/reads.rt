@@ -21,7 +21,7 @@ impl LazyWorld {
 
     /// The number of pages of each context.
     #[tactic(auto, unfolding(crate::specs::Worlds::seen, crate::specs::Worlds::parts, crate::specs::States::world_of))]
-    pub fn pages(&self) -> u32
+    pub(crate) fn pages(&self) -> u32
         ensures pages { result ≡ (seen self.now).size.pages }
         ensures few { (seen self.now).size.pages ≤ MOST_PAGES }
     {
@@ -82,7 +82,7 @@ impl LazyWorld {
     }
 
     /// The descriptor in a slot of the context.
-    pub fn slot(&self, c: Name, n: u8) -> Descriptor
+    pub(crate) fn slot(&self, c: Name, n: u8) -> Descriptor
         requires live { IsLive (seen self.now) c }
         requires within { n < SLOTS }
         ensures value { result ≡ slot_at (seen self.now) c n }
@@ -109,7 +109,7 @@ impl LazyWorld {
     }
 
     /// The lowest empty slot of the context; `None` if no slot is empty.
-    pub fn lowest_empty(&self, c: Name) -> Option<u8>
+    pub(crate) fn lowest_empty(&self, c: Name) -> Option<u8>
         requires { IsLive (seen self.now) c }
         ensures { result ≡ lowest_empty (seen self.now) c }
     {
@@ -130,7 +130,7 @@ impl LazyWorld {
     }
 
     /// The credential of the context.
-    pub fn uid(&self, c: Name) -> u32
+    pub(crate) fn uid(&self, c: Name) -> u32
         requires { IsLive (seen self.now) c }
         ensures { result ≡ uid_at (seen self.now) c }
     {
@@ -189,7 +189,7 @@ impl LazyWorld {
     }
 
     /// The numbers of pages and slots in use of the context, and its uid, as a report prints them.
-    pub fn summary(&self, c: Name) -> Summary
+    pub(crate) fn summary(&self, c: Name) -> Summary
         requires { IsLive (seen self.now) c }
         ensures { result ≡ summary_of (seen self.now) c }
     {
@@ -202,7 +202,7 @@ impl LazyWorld {
     }
 
     /// The registers that the context begins with.
-    pub fn entry(&self, c: Name) -> Regs
+    pub(crate) fn entry(&self, c: Name) -> Regs
         requires { IsLive (seen self.now) c }
         ensures { result ≡ (context (seen self.now) c).entry }
     {
@@ -210,7 +210,7 @@ impl LazyWorld {
     }
 
     /// The registers that the context keeps for a thread; `None` if it keeps none for it.
-    pub fn saved(&self, c: Name, t: u32) -> Option<Regs>
+    pub(crate) fn saved(&self, c: Name, t: u32) -> Option<Regs>
         requires live { IsLive (seen self.now) c }
         requires thread { t < MOST_THREADS }
         ensures value { result ≡ (context (seen self.now) c).saved t }
@@ -219,35 +219,35 @@ impl LazyWorld {
     }
 
     /// The number of live contexts of the job.
-    pub fn live_of(&self, job: u32) -> u32
+    pub(crate) fn live_of(&self, job: u32) -> u32
         ensures { result ≡ live_of (seen self.now) job }
     {
         self.contexts.count_of(job)
     }
 
     /// The number of live groups of the job.
-    pub fn groups_of(&self, job: u32) -> u32
+    pub(crate) fn groups_of(&self, job: u32) -> u32
         ensures { result ≡ groups_of (seen self.now) job }
     {
         self.groups.count_of(job)
     }
 
     /// The name of the i-th live context in the order of names; `None` if at most i contexts are live.
-    pub fn nth_context(&self, i: u32) -> Option<Name>
+    pub(crate) fn nth_context(&self, i: u32) -> Option<Name>
         ensures { result ≡ slice_get (fm.keys (seen self.now).contexts) i }
     {
         self.contexts.nth(i)
     }
 
     /// The number of live contexts.
-    pub fn context_count(&self) -> u32
+    pub(crate) fn context_count(&self) -> u32
         ensures { result ≡ fm.len (seen self.now).contexts }
     {
         self.contexts.len()
     }
 
     /// The number of live groups.
-    pub fn group_count(&self) -> u32
+    pub(crate) fn group_count(&self) -> u32
         ensures { result ≡ fm.len (seen self.now).groups }
     {
         self.groups.len()

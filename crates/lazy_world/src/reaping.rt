@@ -54,7 +54,7 @@ impl LazyWorld {
     ghost use Rattle.lazy_world.specs.Reaping.{place_in};
 
     /// Drops the contexts that are not reached from the roots, and then the groups that no cell names.
-    pub fn reap(&mut self, roots: &[Name])
+    pub(crate) fn reap(&mut self, roots: &[Name])
         requires few { length roots.now ≤ MOST_ROOTS }
         requires live { All (λ root. IsLive (seen self.old) root) roots.now }
         ensures reaped { seen self.new ≡ reap (seen self.old) roots.now }

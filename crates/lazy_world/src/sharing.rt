@@ -73,7 +73,7 @@ impl LazyWorld {
 
     /// Whether `clone_context` and `overlay` make a group: an item of mode share names a key that is present and
     /// the context's own.
-    pub fn needs_group(&self, c: Name, spec: &Spec) -> bool
+    pub(crate) fn needs_group(&self, c: Name, spec: &Spec) -> bool
         requires live { IsLive (seen self.now) c }
         requires within { IsSpec (seen self.now).size.pages spec.now }
         ensures value { result ≡ needs_group (seen self.now) c spec.now }
@@ -109,7 +109,7 @@ impl LazyWorld {
     }
 
     /// A job makes its next group, which has nothing in it, and answers its name.
-    fn add_group(&mut self, job: u32) -> Name
+    pub(crate) fn add_group(&mut self, job: u32) -> Name
         requires known { job < (seen self.old).size.jobs }
         requires few { ((seen self.old).next job).groups < 2 ^ 31 }
         requires place { HasGroupPlace (seen self.old) }
@@ -135,7 +135,7 @@ impl LazyWorld {
     }
 
     /// A group gets the values of a context that items move, and nothing else.
-    fn fill_group(&mut self, g: Name, c: Name, spec: &Spec)
+    pub(crate) fn fill_group(&mut self, g: Name, c: Name, spec: &Spec)
         requires live { IsLive (seen self.old) c }
         requires within { IsSpec (seen self.old).size.pages spec.now }
         requires few { ranges MOST_PAGES (kinds_of (planned_row (seen self.old) Move spec.now

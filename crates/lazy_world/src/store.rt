@@ -117,7 +117,7 @@ impl LazyWorld {
     ghost use Rattle.lazy_world.specs.Worlds.{seen};
 
     /// The number of frames in use.
-    pub fn used(&self) -> u32
+    pub(crate) fn used(&self) -> u32
         ensures used { result ≡ used (seen self.now) }
         ensures within { result ≤ (seen self.now).size.frames }
     {
@@ -220,7 +220,13 @@ impl LazyWorld {
     ///
     /// `BadAddress` if a touched page is absent; else `NoFrame` if the frames in use and the pages that
     /// part are more than the frames. Never `OutOfMemory`.
-    pub fn store(&mut self, c: Name, at: u32, piece: &[u8], job: u32) -> Result<(), StoreFault>
+    pub(crate) fn store(
+        &mut self,
+        c: Name,
+        at: u32,
+        piece: &[u8],
+        job: u32,
+    ) -> Result<(), StoreFault>
         requires live { IsLive (seen self.old) c }
         requires within { at + length piece.now ≤ (seen self.old).size.pages * PAGE_BYTES }
         requires short { length piece.now ≤ PAGE_BYTES }

@@ -60,7 +60,7 @@ impl LazyWorld {
     ghost use Rattle.lazy_world.specs.Worlds.{seen};
 
     /// A world of this size in which nothing is live. The only error is out of memory.
-    pub fn open(alloc: Global, world_size: &WorldSize) -> Result<LazyWorld, OutOfMemory>
+    pub(crate) fn open(alloc: Global, world_size: &WorldSize) -> Result<LazyWorld, OutOfMemory>
         requires { IsSize world_size.now }
         ensures { IfOk result (λ w. seen w ≡ empty_world world_size.now) }
     {

@@ -47,7 +47,7 @@ impl LazyWorld {
     }
 
     /// Puts another descriptor into a slot of the context.
-    pub fn set_slot(&mut self, c: Name, n: u8, value: Descriptor)
+    pub(crate) fn set_slot(&mut self, c: Name, n: u8, value: Descriptor)
         requires live { IsLive (seen self.old) c }
         requires within { n < SLOTS }
         ensures put { seen self.new ≡ put_slot (seen self.old) c n value }
@@ -56,7 +56,7 @@ impl LazyWorld {
     }
 
     /// Changes the credential of the context.
-    pub fn set_uid(&mut self, c: Name, uid: u32)
+    pub(crate) fn set_uid(&mut self, c: Name, uid: u32)
         requires { IsLive (seen self.old) c }
         ensures { seen self.new ≡ put_uid (seen self.old) c uid }
     {
@@ -64,7 +64,7 @@ impl LazyWorld {
     }
 
     /// Keeps registers for a thread in the context, in place of those that it kept for it.
-    pub fn save(&mut self, c: Name, t: u32, regs: &Regs)
+    pub(crate) fn save(&mut self, c: Name, t: u32, regs: &Regs)
         requires live { IsLive (seen self.old) c }
         requires thread { t < MOST_THREADS }
         ensures saved { seen self.new ≡ save (seen self.old) c t regs.now }
@@ -102,7 +102,7 @@ impl LazyWorld {
 
     /// Makes a new context of job 0 with no page, empty slots, this uid, and these registers to begin with.
     /// Answers its name.
-    pub fn first(&mut self, uid: u32, entry: &Regs) -> Name
+    pub(crate) fn first(&mut self, uid: u32, entry: &Regs) -> Name
         requires known { 0 < (seen self.old).size.jobs }
         requires few { ((seen self.old).next 0).contexts < 2 ^ 31 }
         requires place { HasPlace (seen self.old) }

@@ -1,39 +1,20 @@
-use Rattle.std.proofs.Common.{◌≡◌, ◌<◌, ◌≤◌, ◌∙◌, ap, sym, subst, ℕ, Some}
-use Rattle.std.specs.FinMap as fm
+use Rattle.std.proofs.Common.{◌≤◌, ◌∙◌, ap, sym, subst}
 use Rattle.lwc_base.specs.declared.limits.TheConstants.{MOST_PAGES, MOST_RANGES}
-use Rattle.lwc_base.specs.declared.name.Name.{Name}
-use Rattle.lwc_base.specs.Names.{name_cmp}
-use Rattle.lwc_base.specs.World.{World, Context, context}
 use Rattle.range_map.specs.Kinds.{ranges}
 use Rattle.lazy_world.specs.Cells.{Row, kinds_of, put_row}
-use Rattle.lazy_world.specs.Followed.{IsOfContexts, with_planned}
-use Rattle.lazy_world.specs.Plans.{IsFor, planned_row}
+use Rattle.lazy_world.specs.Plans.{planned_row}
 use Rattle.lazy_world.specs.Seen.{rows}
 use Rattle.lazy_world.specs.Sound.{HasOldTags, HasOneHome, IsSound}
 use Rattle.lazy_world.specs.States.{context_at, world_of}
 use Rattle.lazy_world.specs.Worlds.{parts, seen}
-use Rattle.lazy_world.specs.declared.plan.Plan.{Plan}
-use Rattle.lazy_world.specs.declared.plan.Plan.TheVariants.{Mark, Move, Clone, Overlay}
-use Rattle.lazy_world.proofs.FollowLemmas.{row-ranges, row-sound, row-world, sourced-homes, sourced-tags}
+use Rattle.lazy_world.proofs.FollowLemmas.{followed-from, plan-for, row-ranges, row-sound, row-world, same-place, sourced-homes, sourced-tags}
 use Rattle.lazy_world.proofs.PastLemmas.{planned-within}
 use Rattle.lazy_world.proofs.world.LazyWorld.follow.Goals as goal
 
-same_place : (m : fm.FinMap name_cmp ℕ) (d c : Name) (from to : ℕ) → d ≡ c → fm.get m d ≡ Some from → fm.get m c ≡ Some to → from ≡ to
-same_place m d c from to same at_from at_to = let both : Some from ≡ Some to = sym at_from ∙ ap (fm.get m) same ∙ at_to in cc
-
-plan_for : (plan : Plan) (contexts : ℕ) (d c : Name) (from to : ℕ) → IsOfContexts plan d c → (d ≡ c → from ≡ to) → to < contexts → IsFor contexts from to plan
-plan_for (Mark g) contexts d c from to is same low = same is
-plan_for Move contexts d c from to is same low = absurd is
-plan_for (Clone g) contexts d c from to is same low = low
-plan_for (Overlay g) contexts d c from to is same low = low
-
 pub sources-sources-requires-clause-plan : goal.sources-sources-requires-clause-plan
 sources-sources-requires-clause-plan c =
-    plan_for c.args.plan (parts c.args.self.now).size.contexts c.args.d c.args.c c.place-from.result c.place-to.result c.requires.plan
-    (λ same. same_place (parts c.args.self.now).contexts.map c.args.d c.args.c c.place-from.result c.place-to.result same c.place-from.ensures.found c.place-to.ensures.found) c.place-to.ensures.low
-
-planned : (w : World) (plan : Plan) (items : _) (d : Name) (x y : Context) (old : Context) → context w d ≡ x → with_planned w plan items x.cell old ≡ with_planned w plan items (context w d).cell old
-planned w plan items d x y old is = ap (λ (z : Context). with_planned w plan items z.cell old) (sym is)
+    plan-for c.args.plan (parts c.args.self.now).size.contexts c.args.d c.args.c c.place-from.result c.place-to.result c.requires.plan
+    (λ same. same-place (parts c.args.self.now).contexts.map c.args.d c.args.c c.place-from.result c.place-to.result same c.place-from.ensures.found c.place-to.ensures.found) c.place-to.ensures.low
 
 pub take-requires-clause-few : goal.take-requires-clause-few
 unfolding seen parts world_of
@@ -44,7 +25,7 @@ take-requires-clause-few c =
     subst (λ (row : Row). ranges MOST_PAGES (kinds_of row) ≤ MOST_RANGES) (sym c.sources-sources.ensures.row)
     (subst (λ n. n ≤ MOST_RANGES)
     (row-ranges s w.sound c.facts.ensures c.are_placed.ensures.placed c.args.c c.place-to.result c.place-to.ensures.found row _
-    (planned (seen w) c.args.plan c.args.spec.now c.args.d (context_at s c.place-from.result) (context_at s c.place-from.result) (context_at s c.place-to.result) c.place-from.ensures.context)
+    (followed-from (seen w) c.args.plan c.args.spec.now c.args.d (context_at s c.place-from.result) (context_at s c.place-to.result) c.place-from.ensures.context)
     c.ranges_are_those_of_the_context.ensures
     (planned-within (seen w) s.size.pages c.args.spec.now c.requires.within c.args.plan (rows w.places c.place-from.result) (rows w.places c.place-to.result) (w.sound.past c.place-from.result) (w.sound.past c.place-to.result)))
     c.requires.few)
@@ -60,7 +41,7 @@ invariant_of-self c =
       frames = c.take.ensures.frames ∙ w.frames;
       sound = subst (λ rows. IsSound (record s { rows = rows })) (sym (c.take.ensures.rows ∙ ap (put_row (rows w.places) c.place-to.result) c.sources-sources.ensures.row))
           (row-sound s w.sound c.facts.ensures c.are_placed.ensures.placed c.args.c c.place-to.result c.place-to.ensures.found row _
-          (planned (seen w) c.args.plan c.args.spec.now c.args.d (context_at s c.place-from.result) (context_at s c.place-from.result) (context_at s c.place-to.result) c.place-from.ensures.context)
+          (followed-from (seen w) c.args.plan c.args.spec.now c.args.d (context_at s c.place-from.result) (context_at s c.place-to.result) c.place-from.ensures.context)
           (planned-within (seen w) s.size.pages c.args.spec.now c.requires.within c.args.plan (rows w.places c.place-from.result) (rows w.places c.place-to.result) (w.sound.past c.place-from.result) (w.sound.past c.place-to.result))
           (subst (HasOldTags (seen w).next) c.sources-sources.ensures.row (sourced-tags (seen w).next (rows w.places) c.place-to.result c.sources-sources.result w.sound.tags))
           c.requires.fresh
@@ -75,4 +56,4 @@ returns c =
     let row = planned_row (seen w) c.args.plan c.args.spec.now (rows w.places c.place-from.result) (rows w.places c.place-to.result) in
     ap (λ rows. world_of (record s { rows = rows })) (c.take.ensures.rows ∙ ap (put_row (rows w.places) c.place-to.result) c.sources-sources.ensures.row)
     ∙ row-world s w.sound c.facts.ensures c.are_placed.ensures.placed c.args.c c.place-to.result c.place-to.ensures.found row _
-    (planned (seen w) c.args.plan c.args.spec.now c.args.d (context_at s c.place-from.result) (context_at s c.place-from.result) (context_at s c.place-to.result) c.place-from.ensures.context)
+    (followed-from (seen w) c.args.plan c.args.spec.now c.args.d (context_at s c.place-from.result) (context_at s c.place-to.result) c.place-from.ensures.context)

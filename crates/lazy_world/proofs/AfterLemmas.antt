@@ -1,0 +1,170 @@
+-- What contexts have after a clone or an overlay, by plans for the world before it.
+use Rattle.std.proofs.Common.{◌≡◌, ℕ, arith, refl, sym, ap, ◌∙◌, Bool, true, false, cond, List, Option, Some, None}
+use Rattle.std.specs.Prelude.{unwrap_or}
+use Rattle.lwc_base.specs.declared.cell.Cell.{Cell}
+use Rattle.lwc_base.specs.declared.cell.Cell.TheVariants as cells
+use Rattle.lwc_base.specs.declared.item.Item.{Item}
+use Rattle.lwc_base.specs.declared.item.Mode.{Mode}
+use Rattle.lwc_base.specs.declared.item.Mode.TheVariants.{Copy, Share, Unmap}
+use Rattle.lwc_base.specs.declared.key.Key.{Key}
+use Rattle.lwc_base.specs.declared.key.Key.TheVariants.{Page}
+use Rattle.lwc_base.specs.declared.name.Name.{Name}
+use Rattle.lwc_base.specs.Cells.{value_at, value_of}
+use Rattle.lwc_base.specs.Fresh.{IsFresh}
+use Rattle.lwc_base.specs.Keys.{ValueOf, is_there}
+use Rattle.lwc_base.specs.Modes.{IsKey, IsSpec, mode, mode_or_copy}
+use Rattle.lwc_base.specs.Overlay.{overlaid_cell, overlay, ranges_after_overlay}
+use Rattle.lwc_base.specs.Ranges.{ranges, ranges_of}
+use Rattle.lwc_base.specs.Sharing.{cloned_cell, cloned_context, needs_group, ranges_after_clone, share, shared_cell, with_shared}
+use Rattle.lwc_base.specs.World.{World, Context, context, group, is_live, next_group}
+use Rattle.lazy_world.specs.Facts.{Facts}
+use Rattle.lazy_world.specs.Followed.{followed, with_planned}
+use Rattle.lazy_world.specs.Plans.{planned_cell, taken_cell}
+use Rattle.lazy_world.specs.declared.plan.Plan.{Plan}
+use Rattle.lazy_world.specs.declared.plan.Plan.TheVariants.{Mark, Clone, Overlay}
+use Rattle.lazy_world.proofs.CloneLemmas.{none-moves}
+use Rattle.lazy_world.proofs.RenameLemmas.{is_new, planned-away, planned-new, planned-old, ranges-cells, renamed-ranges, with_name}
+
+module _ (facts : Facts) (w : World) (fresh : IsFresh w) (items : List Item) (spec : IsSpec w.size.pages items)
+    (law : (w : World) (c : Name) (items : List Item) (k : Key) (value : ValueOf k) → IsKey w.size.pages k → mode_or_copy items k ≡ Share →
+    (context w c).cell k ≡ cells.Own value → is_there k value ≡ true → needs_group w c items ≡ true) where
+  -- no cell has the next name of a job
+  pub no-name : (job : ℕ) (c : Name) (k : Key) → (context w c).cell k ≡ cells.Common (next_group w job) → ⊥
+  no-name job c k is = let named = facts.fresh.named w c k (next_group w job) fresh is in absurd (omega (arith, named))
+
+  module _ (plan : Plan) (d c : Name) where
+    abbrev by_name : Name → Context
+    by_name g = with_planned w (with_name plan g) items (context w d).cell (context w c)
+
+    renamed : (i j : ℕ) → ranges w.size.pages (by_name (next_group w i)) ≡ ranges w.size.pages (by_name (next_group w j))
+    renamed i j =
+        renamed-ranges facts.orders (by_name (next_group w i)) (by_name (next_group w j)) (next_group w i) (next_group w j)
+        (λ p. is_new plan (mode items (Page p)) (Page p) ((context w d).cell (Page p)))
+        (λ p is. planned-new w (Page p) ((context w d).cell (Page p)) ((context w c).cell (Page p)) (next_group w i) plan (mode items (Page p)) is)
+        (λ p is. planned-new w (Page p) ((context w d).cell (Page p)) ((context w c).cell (Page p)) (next_group w j) plan (mode items (Page p)) is)
+        (λ p is. planned-old w (Page p) ((context w d).cell (Page p)) ((context w c).cell (Page p)) (next_group w i) plan (mode items (Page p)) (next_group w j) is)
+        (λ p is. planned-away w (Page p) ((context w d).cell (Page p)) ((context w c).cell (Page p)) (next_group w i) (no-name i d (Page p)) (no-name i c (Page p)) plan (mode items (Page p)) is)
+        (λ p is. planned-away w (Page p) ((context w d).cell (Page p)) ((context w c).cell (Page p)) (next_group w j) (no-name j d (Page p)) (no-name j c (Page p)) plan (mode items (Page p)) is)
+        w.size.pages
+
+    -- the ranges of a context that has followed a plan, whichever name is new
+    pub followed-ranges : is_live w c ≡ true → (i j : ℕ) → ranges_of (followed w (with_name plan (next_group w i)) items d c) c ≡ ranges w.size.pages (by_name (next_group w j))
+    unfolding ranges_of
+    followed-ranges live i j =
+        let changed = facts.changes.context_changed w c (with_planned w (with_name plan (next_group w i)) items (context w d).cell) in
+        ap (λ n. ranges n.pages (context (followed w (with_name plan (next_group w i)) items d c) c)) changed.names.size
+        ∙ ap (ranges w.size.pages) (changed.changed live)
+        ∙ renamed i j
+
+  module _ (d : Name) (live : is_live w d ≡ true) (job : ℕ) where
+    abbrev g : Name
+    g = next_group w job
+
+    abbrev s : World
+    s = share w d job items
+
+    abbrev m : Key → Mode
+    m k = unwrap_or (mode items k) Copy
+
+    abbrev row : (k : Key) → Cell (ValueOf k)
+    row = (context w d).cell
+
+    -- a cell of the context whose values move, afterwards
+    pub shared-cell : (k : Key) → (context s d).cell k ≡ shared_cell g (m k) k (row k)
+    unfolding with_shared mode_or_copy
+    shared-cell k = at (needs_group w d items) refl
+      where
+        at : (b : Bool) → needs_group w d items ≡ b → (context s d).cell k ≡ shared_cell g (m k) k (row k)
+        at true needs = ap (λ (x : Context). x.cell k) ((facts.changes.shared w d job items).named needs live)
+        at false idle =
+            ap (λ v. (context v d).cell k) ((facts.changes.shared w d job items).none idle)
+            ∙ sym (ap (λ b. cond b (cells.Common g) (row k)) (none-moves facts w d job items spec live law idle k))
+
+    by_mode : (k : Key) (n : Mode) → m k ≡ n → (context s d).cell k ≡ shared_cell g n k (row k)
+    by_mode k n is = shared-cell k ∙ ap (λ n. shared_cell g n k (row k)) is
+
+    -- in a world with the same groups but for the new one, a plan gives what a clone or an overlay does
+    module _ (u : World) (groups : (h : Name) → (h ≡ g → ⊥) → group u h ≡ group s h) where
+      same_value : (k : Key) (cell : Cell (ValueOf k)) → row k ≡ cell → value_of u k cell ≡ value_of s k cell
+      same_value k (cells.Own v) is = refl
+      same_value k (cells.Common h) is = ap (λ x. x.value k) (groups h (λ same. no-name job d k (is ∙ ap cells.Common same)))
+
+      pub taken-shared : (k : Key) (n : Mode) → m k ≡ n → taken_cell u g n k (row k) ≡ cloned_cell s d k n
+      unfolding value_at
+      taken-shared k Copy is = ap cells.Own (same_value k (row k) refl ∙ ap (value_of s k) (sym (by_mode k Copy is)))
+      taken-shared k Share is = sym (by_mode k Share is)
+      taken-shared k Unmap is = refl
+
+      pub overlaid-shared : (k : Key) (old : Cell (ValueOf k)) (o : Option Mode) → mode items k ≡ o → planned_cell u (Overlay g) o k (row k) old ≡ overlaid_cell s d k o old
+      overlaid-shared k old None is = refl
+      overlaid-shared k old (Some n) is = taken-shared k n (ap (λ o. unwrap_or o Copy) is)
+
+    same_groups : (h : Name) → (h ≡ g → ⊥) → group w h ≡ group s h
+    same_groups h other = sym ((facts.changes.shared w d job items).groups h other)
+
+    pub mark-ranges : ranges_of (followed w (Mark (next_group w 0)) items d d) d ≡ ranges_of s d
+    unfolding ranges_of
+    mark-ranges =
+        followed-ranges (Mark g) d d live 0 job
+        ∙ ranges-cells w.size.pages (by_name (Mark g) d d g) (context s d) (λ k. sym (shared-cell k))
+        ∙ ap (λ n. ranges n.pages (context s d)) (sym (facts.changes.shared w d job items).size)
+
+    pub clone-ranges : ranges_of (followed w (Clone (next_group w 0)) items d d) d ≡ (ranges_after_clone w d job items).1
+    unfolding ranges_after_clone cloned_context mode_or_copy
+    clone-ranges =
+        followed-ranges (Clone g) d d live 0 job
+        ∙ ranges-cells w.size.pages (by_name (Clone g) d d g) (cloned_context s d items (context s d).entry) (λ k. taken-shared w same_groups k (m k) refl)
+        ∙ ap (λ n. ranges n.pages (cloned_context s d items (context s d).entry)) (sym (facts.changes.shared w d job items).size)
+
+    pub after-clone : (a b : ℕ) → a ≡ ranges_of (followed w (Mark (next_group w 0)) items d d) d → b ≡ ranges_of (followed w (Clone (next_group w 0)) items d d) d →
+        ◌≡◌ {A = ℕ × ℕ} (a, b) (ranges_after_clone w d job items)
+    unfolding ranges_after_clone
+    after-clone a b left made = λ e. ((left ∙ mark-ranges) e, (made ∙ clone-ranges) e)
+
+    kept_same : (k : Key) → mode items k ≡ None → row k ≡ (context s d).cell k
+    kept_same k none = sym (by_mode k Copy (ap (λ o. unwrap_or o Copy) none))
+
+    module _ (c : Name) (live_c : is_live w c ≡ true) (kept : (k : Key) → mode items k ≡ None → (context w c).cell k ≡ (context s c).cell k) where
+      abbrev v : World
+      v = overlay w c d job items
+
+      stays : (k : Key) (o : Option Mode) → mode items k ≡ o → overlaid_cell s d k o ((context w c).cell k) ≡ overlaid_cell s d k o ((context s c).cell k)
+      stays k None is = kept k is
+      stays k (Some n) is = refl
+
+      overlaid : (k : Key) → planned_cell w (Overlay g) (mode items k) k (row k) ((context w c).cell k) ≡ (context v c).cell k
+      overlaid k =
+          overlaid-shared w same_groups k ((context w c).cell k) (mode items k) refl
+          ∙ stays k (mode items k) refl
+          ∙ sym (ap (λ (x : Context). x.cell k) ((facts.changes.overlaid w c d job items).changed ((facts.changes.shared w d job items).live c ∙ live_c)))
+
+      pub overlay-ranges : (i : ℕ) → ranges_of (followed w (Overlay (next_group w i)) items d c) c ≡ (ranges_after_overlay w c d job items).1
+      unfolding ranges_after_overlay ranges_of
+      overlay-ranges i =
+          followed-ranges (Overlay g) d c live_c i job
+          ∙ ranges-cells w.size.pages (by_name (Overlay g) d c g) (context v c) overlaid
+          ∙ ap (λ n. ranges n.pages (context v c)) (sym ((facts.changes.overlaid w c d job items).names.size ∙ (facts.changes.shared w d job items).size))
+
+    -- an overlay leaves another context as it is after sharing
+    pub left-ranges : (c : Name) → (d ≡ c → ⊥) → (ranges_after_overlay w c d job items).0 ≡ ranges_of s d
+    unfolding ranges_after_overlay ranges_of
+    left-ranges c other =
+        let overlaid = facts.changes.overlaid w c d job items in
+        ap (λ n. ranges n.pages (context (overlay w c d job items) d)) overlaid.names.size ∙ ap (ranges s.size.pages) (overlaid.others d other)
+
+    kept-apart : (c : Name) → (c ≡ d → ⊥) → (k : Key) → mode items k ≡ None → (context w c).cell k ≡ (context s c).cell k
+    kept-apart c other k none = ap (λ (x : Context). x.cell k) (sym ((facts.changes.shared w d job items).others c other))
+
+    pub after-apart : (c : Name) → is_live w c ≡ true → (c ≡ d → ⊥) → (a b : ℕ) → a ≡ ranges_of (followed w (Mark (next_group w 0)) items d d) d →
+        b ≡ ranges_of (followed w (Overlay (next_group w 0)) items d c) c → ◌≡◌ {A = ℕ × ℕ} (a, b) (ranges_after_overlay w c d job items)
+    after-apart c live_c other a b left taken =
+        λ e. ((left ∙ mark-ranges ∙ sym (left-ranges c (λ same. other (sym same)))) e, (taken ∙ overlay-ranges c live_c (kept-apart c other) 0) e)
+
+    pub self-ranges : (i : ℕ) → ranges_of (followed w (Overlay (next_group w i)) items d d) d ≡ (ranges_after_overlay w d d job items).1
+    self-ranges i = overlay-ranges d live kept_same i
+
+    pub after-self : (c : Name) → c ≡ d → (a : ℕ) → a ≡ ranges_of (followed w (Overlay (next_group w 0)) items d c) c → ◌≡◌ {A = ℕ × ℕ} (a, a) (ranges_after_overlay w c d job items)
+    unfolding ranges_after_overlay
+    after-self c same a taken =
+        let value = taken ∙ (λ e. ranges_of (followed w (Overlay (next_group w 0)) items d (same e)) (same e)) ∙ self-ranges 0 in
+        (λ e. (value e, value e)) ∙ ap (λ n. ranges_after_overlay w n d job items) (sym same)

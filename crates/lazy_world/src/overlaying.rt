@@ -1,0 +1,77 @@
+ghost use Rattle.std.specs.Prelude.{◌≡◌, ◌≢◌, true};
+ghost use Rattle.lwc_base.specs.Modes.{IsSpec};
+ghost use Rattle.lwc_base.specs.Overlay.{overlay, ranges_after_overlay};
+ghost use Rattle.lwc_base.specs.Sharing.{needs_group};
+ghost use Rattle.world_face.specs.Calls.{AreFew, HasGroupPlace, IsLive, MayName};
+
+use crate::facts::facts;
+use crate::plan::Plan;
+use crate::world::LazyWorld;
+use lwc_base::laws::a_group_is_needed_where_a_value_moves;
+use lwc_base::{Name, Spec};
+use range_map::ranges_are_those_of_the_context;
+
+impl LazyWorld {
+    ghost use Rattle.lazy_world.specs.Worlds.{seen};
+
+    /// Takes over what the items name from another context.
+    fn overlay_other(&mut self, to: Name, from: Name, spec: &Spec, job: u32)
+        requires apart { to ≢ from }
+        requires to { IsLive (seen self.old) to }
+        requires from { IsLive (seen self.old) from }
+        requires within { IsSpec (seen self.old).size.pages spec.now }
+        requires may { MayName (seen self.old) job }
+        requires group { needs_group (seen self.old) from spec.now ≡ true → HasGroupPlace (seen self.old) }
+        requires few { AreFew (ranges_after_overlay (seen self.old) to from job spec.now) }
+        ensures { seen self.new ≡ overlay (seen self.old) to from job spec.now }
+    {
+        facts();
+        a_group_is_needed_where_a_value_moves();
+        self.share(from, spec, job);
+        // Nothing is left that moves, so that no value becomes common by this name.
+        self.follow(Plan::Overlay(to), spec, from, to);
+    }
+
+    /// Takes over what the items name from the context itself. Its values move at once with the change of the
+    /// others, since a context that has only shared may have too many ranges.
+    fn overlay_itself(&mut self, c: Name, spec: &Spec, job: u32)
+        requires live { IsLive (seen self.old) c }
+        requires within { IsSpec (seen self.old).size.pages spec.now }
+        requires may { MayName (seen self.old) job }
+        requires group { needs_group (seen self.old) c spec.now ≡ true → HasGroupPlace (seen self.old) }
+        requires few { AreFew (ranges_after_overlay (seen self.old) c c job spec.now) }
+        ensures { seen self.new ≡ overlay (seen self.old) c c job spec.now }
+    {
+        facts();
+        a_group_is_needed_where_a_value_moves();
+        ranges_are_those_of_the_context();
+        if self.needs_group(c, spec) {
+            let g = self.add_group(job);
+            self.fill_group(g, c, spec);
+            self.follow(Plan::Overlay(g), spec, c, c);
+        } else {
+            // Nothing moves, so that no value becomes common by this name.
+            self.follow(Plan::Overlay(c), spec, c, c);
+        }
+    }
+
+    /// Takes over what the items name from the context `from` into the context `to`, for a job; both may be the
+    /// same. First the values of mode share that are `from`'s own move into one new group. Then `to` gets a copy
+    /// of each value of mode copy, has each value of mode share in common with `from`, and nothing under a key of
+    /// mode unmap. An absent page of `from` becomes absent in `to`.
+    pub(crate) fn overlay(&mut self, to: Name, from: Name, spec: &Spec, job: u32)
+        requires to { IsLive (seen self.old) to }
+        requires from { IsLive (seen self.old) from }
+        requires within { IsSpec (seen self.old).size.pages spec.now }
+        requires may { MayName (seen self.old) job }
+        requires group { needs_group (seen self.old) from spec.now ≡ true → HasGroupPlace (seen self.old) }
+        requires few { AreFew (ranges_after_overlay (seen self.old) to from job spec.now) }
+        ensures overlaid { seen self.new ≡ overlay (seen self.old) to from job spec.now }
+    {
+        if to == from {
+            self.overlay_itself(from, spec, job);
+        } else {
+            self.overlay_other(to, from, spec, job);
+        }
+    }
+}
