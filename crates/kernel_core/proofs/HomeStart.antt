@@ -115,7 +115,7 @@ none_either : (A : Type 0) (b : Bool) (x : Option A) → x ≡ None → cond b x
 none_either A true x none = none
 none_either A false x none = refl
 
--- whether a name is that of one of so many homes
+-- whether a name is that of one of this number of homes
 abbrev is_home : ℕ → Name → Bool
 is_home zero q = false
 is_home (suc t) q = eq_by_cmp name_cmp q (home_of t) || is_home t q

@@ -1,5 +1,5 @@
 -- What steps leave of other threads, and histories that end.
-use Rattle.std.proofs.Common.{◌≡◌, ◌≢◌, ◌⊎◌, ◌+◌, ◌*◌, ◌<◌, ◌≤◌, ◌==◌, ℕ, map, zero, suc, inl, inr, refl, ap, ◌∙◌, Bool, true, false, cond, List, [], ◌∷◌, ◌++◌, length, ltb, Option, Some, None, arith, get_or}
+use Rattle.std.proofs.Common.{◌≡◌, ◌≢◌, ◌⊎◌, ◌+◌, ◌-◌, ◌*◌, ◌<◌, ◌≤◌, ◌==◌, ℕ, map, zero, suc, inl, inr, refl, ap, ◌∙◌, Bool, true, false, cond, List, [], ◌∷◌, ◌++◌, length, ltb, Option, Some, None, arith, get_or}
 use Rattle.std.specs.Prelude.{slice_get, slice_set}
 use Rattle.std.specs.List.{enumerate_from, sum_by}
 use Rattle.std.specs.Option.{option_map, option_map_or}
@@ -8,20 +8,24 @@ use Rattle.std.proofs.Math.Nat.{suc-mul}
 use Rattle.std.proofs.lemmas.List.Sums.{get_or-le-sum_by, sum_by-append}
 use Rattle.std.proofs.lemmas.Option.{slice_get_past, slice_get_within, get_or_from_slice_get}
 use Rattle.kernel_core.proofs.ReadyRuns.{ready_thread}
+use Rattle.kernel_core.proofs.Reaping.{length-homes}
 use Rattle.kernel_core.proofs.Runs.{kept_next}
 use Rattle.kernel_core.specs.Histories.{IsComplete, IsLegal, steps_by, turn_after}
 use Rattle.kernel_core.specs.Kernel.{CanOpen, History, machine_of, turn}
-use Rattle.kernel_core.specs.Machine.{Machine, has_ended, is_ended, steps_after, steps_for_requests, steps_left, work}
+use Rattle.kernel_core.specs.Machine.{Machine, has_ended, homes_of, is_ended, steps_after, steps_for_requests, steps_left, work}
 use Rattle.kernel_core.specs.Ready.{IsRunnable, RunFacts, WhileRunning}
 use Rattle.kernel_core.specs.Runs.{kept, last_finished, run}
-use Rattle.kernel_core.specs.Start.{Inputs, first_thread, first_threads, serve_at, start, thread_count, threads_at}
-use Rattle.kernel_core.specs.Step.{AfterStep, after_outcome, after_thread, finishes, guest_calls, step, step_by, thread_outcome}
+use Rattle.kernel_core.specs.Start.{Inputs, first_entry, first_thread, first_threads, first_workers, serve_at, start, thread_count, threads_at}
+use Rattle.kernel_core.specs.Step.{AfterStep, after_outcome, after_thread, finishes, guest_calls, step, step_by, thread_outcome, waiting}
 use Rattle.kernel_core.specs.declared.settings.Job.{Job}
 use Rattle.kernel_core.specs.declared.settings.Job.TheVariants as jobs
 use Rattle.kernel_core.specs.declared.thread.Thread.{Thread}
 use Rattle.kernel_core.specs.declared.thread.Turn.{Turn}
 use Rattle.lwc_base.specs.declared.fault.ThreadStatus.{ThreadStatus}
 use Rattle.lwc_base.specs.declared.fault.ThreadStatus.TheVariants.{Idle, Running, Done, Faulted}
+use Rattle.lwc_base.specs.declared.name.Name.{Name}
+use Rattle.lwc_base.specs.declared.regs.Regs.{Regs}
+use Rattle.lwc_base.specs.Registers.{fresh_registers}
 use Rattle.lwc_base.specs.World.{World}
 use Rattle.snapshot_host.specs.declared.finishing.Finished.{Finished}
 
@@ -144,6 +148,37 @@ work_at_start inputs run = ap work_by run ∙ work_in_run
 
     work_in_run : work_by jobs.Run ≡ length inputs.image.entries * inputs.settings.budget
     work_in_run = omega (arith, work_of_threads inputs.settings.budget inputs.image.entries)
+
+work_of_idle : (regs : Regs) (homes : List Name) →
+    sum_by (λ x. steps_left 1 x.budget x.status) (map (λ home. waiting home regs) homes) ≡ length homes
+work_of_idle regs [] = omega arith
+work_of_idle regs (home ∷ homes) =
+    let rest = work_of_idle regs homes in
+    let first = waiting home regs in
+    let parts = sum_by-append (λ (x : Thread). steps_left 1 x.budget x.status) (first ∷ []) (map (λ home. waiting home regs) homes) in
+    let one : sum_by (λ (x : Thread). steps_left 1 x.budget x.status) (first ∷ []) ≡ 1 = omega arith in
+    omega (arith, parts, rest, one)
+
+work_of_workers : (entry workers : ℕ) → sum_by (λ x. steps_left 1 x.budget x.status) (first_workers entry workers) ≡ workers
+unfolding first_workers
+work_of_workers entry workers = work_of_idle (fresh_registers entry) (homes_of workers) ∙ length-homes workers
+
+-- at the start of a serve there is the budget and one step more for each request, and one step for each worker
+pub work_at_serve : (inputs : Inputs) (workers : ℕ) → inputs.settings.job ≡ jobs.Serve workers → work (start inputs) ≡ length inputs.requests * (inputs.settings.budget + 1) + workers
+unfolding work start
+work_at_serve inputs workers serve = ap work_by serve ∙ work_in_serve
+  where
+    work_by : Job → ℕ
+    work_by job =
+        sum_by (λ (x : Thread). steps_left (steps_after (serve_at job inputs.settings.budget (length inputs.requests))) x.budget x.status) (threads_at inputs.image inputs.settings.budget job)
+        + steps_for_requests (serve_at job inputs.settings.budget (length inputs.requests)) (length inputs.requests)
+
+    work_in_serve : work_by (jobs.Serve workers) ≡ length inputs.requests * (inputs.settings.budget + 1) + workers
+    work_in_serve =
+        let n = length inputs.requests in
+        let none : n - 0 ≡ n = omega arith in
+        let asked : (n - 0) * (inputs.settings.budget + 1) ≡ n * (inputs.settings.budget + 1) = ap (λ k. k * (inputs.settings.budget + 1)) none in
+        omega (arith, work_of_workers (first_entry inputs.image) workers, asked)
 
 left_while_going : (w : World) (more budget : ℕ) (x : Thread) (status : ThreadStatus) → has_ended status ≡ false → WhileRunning status (IsRunnable w x) → x.budget ≡ budget → 0 < steps_left more budget status
 left_while_going w more budget x Idle going runs is = omega arith

@@ -71,7 +71,7 @@ few_left more budget Idle few = omega arith
 few_left more budget (Done code) few = omega arith
 few_left more budget (Faulted f) few = omega arith
 
--- a world that was reaped by the contexts of threads and the homes of so many workers
+-- a world that was reaped by the contexts of threads and the homes of this number of workers
 pub reaped_as : (v w : World) (ts threads : List Thread) (workers : ℕ) (serve : Option Serve) → v ≡ reap w (contexts_of ts ++ homes_of workers) → ts ≡ threads → homes_of workers ≡ homes serve → v ≡ reap w (roots threads serve)
 reaped_as v w ts threads workers serve is same homes_are =
     is ∙ ap (λ (l : List Thread). reap w (contexts_of l ++ homes_of workers)) same ∙ ap (λ (l : List Name). reap w (contexts_of threads ++ l)) homes_are

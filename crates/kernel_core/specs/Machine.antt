@@ -35,7 +35,7 @@ pub record Machine : Type 0 where
 abbrev pub home_of : ℕ → Name
 home_of t = record { job = 0; k = t + 1 }
 
--- the homes of so many workers
+-- the homes of this number of workers
 abbrev pub homes_of : ℕ → List Name
 homes_of workers = map home_of (range_with_len 0 workers)
 

@@ -137,12 +137,13 @@ home_context image = record {
   saved = λ t. None;
 }
 
--- contexts, and beside them the homes of so many workers
+-- contexts, and beside them the homes of this number of workers
 abbrev pub with_homes : fm.FinMap name_cmp Context → Context → ℕ → fm.FinMap name_cmp Context
 with_homes contexts home zero = contexts
 with_homes contexts home (suc t) = fm.insert (with_homes contexts home t) (home_of t) home
 
--- the world of these contexts, where job 0 has named the first context and so many homes, and taken a tag for each page
+-- the world of these contexts, where job 0 has named the first context and this number of homes, and taken a tag for
+-- each page
 unfoldable pub world_of : Image → ℕ → ℕ → fm.FinMap name_cmp Context → World
 world_of image frames workers contexts = record {
   contexts = contexts;
@@ -151,7 +152,7 @@ world_of image frames workers contexts = record {
   size = world_size frames;
 }
 
--- the world of a serve's start as it is built: the first context, and so many homes
+-- the world of a serve's start as it is built: the first context, and this number of homes
 abbrev pub homes_so_far : Image → ℕ → ℕ → World
 homes_so_far image frames workers =
     world_of image frames workers

@@ -278,7 +278,7 @@ impl<W: World> Kernel<W> {
         self.channels.requests().len() as u32
     }
 
-    /// What is recorded of request `r`; `None` if it is not finished, or if nothing is served.
+    /// What is recorded of request `r`; `None` if it is not finished.
     pub fn reply(&self, r: u16) -> Option<&Finished>
         requires { r < length self.now.inputs.requests }
         ensures { option_map (λ x. x.now) result ≡ reply_of (machine_of self.now) r }
@@ -313,8 +313,8 @@ impl<W: World> Kernel<W> {
     }
 }
 
-/// Drops the contexts that are reached neither from a thread's context nor from the homes of so many workers, and
-/// then the groups that no cell names. There are none if the step has cut no link, and then nothing is done.
+/// Drops the contexts that are reached neither from a thread's context nor from the homes of this number of workers,
+/// and then the groups that no cell names. There are none if the step has cut no link, and then no work is done.
 fn drop_unreached<W: World>(world: &mut W, threads: &[Thread], workers: u32, change: Change)
     requires few { length threads.now ≤ MOST_THREADS }
     requires few_homes { workers ≤ MOST_THREADS }
@@ -359,7 +359,7 @@ fn append(schedule: &mut Vec<u8>, t: u8)
     let _ = schedule.push(t);
 }
 
-/// The number of steps that the threads may still make, those for so many requests among them.
+/// The number of steps that the threads may still make, those for this number of requests among them.
 fn work_of(threads: &[Thread], serve: &Option<Serve>, requests: usize) -> u32
     requires few { All (λ x. x.budget ≤ MOST_BUDGET) threads.now }
     requires fits { sum_by (λ x. steps_left (steps_after serve.now) x.budget x.status) threads.now ≤ 1600032 }
@@ -374,7 +374,7 @@ fn work_of(threads: &[Thread], serve: &Option<Serve>, requests: usize) -> u32
     }
 }
 
-/// The number of steps for the requests, of which there are so many, that are not begun.
+/// The number of steps for those of this number of requests that are not begun.
 #[tactic(auto, using(crate::proofs::HomeMade::few_steps))]
 fn work_for_requests(serve: &Serve, requests: u32) -> u32
     requires next { serve.now.next ≤ requests }

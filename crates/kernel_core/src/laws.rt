@@ -1,4 +1,4 @@
-ghost use Rattle.std.specs.Prelude.{◌≡◌, ◌<◌, ◌*◌, ◌++◌, ◌∷◌, [], false, true, if◌then◌else◌, length, ℕ, List, Some};
+ghost use Rattle.std.specs.Prelude.{◌≡◌, ◌<◌, ◌+◌, ◌*◌, ◌++◌, ◌∷◌, [], false, true, if◌then◌else◌, length, ℕ, List, Some};
 ghost use Rattle.guest_isa.specs.declared.instr.Instr.{Instr};
 ghost use Rattle.kernel_core.specs.Histories.{IsComplete, IsLegal, steps_by, turn_after};
 ghost use Rattle.kernel_core.specs.Kernel.{CanOpen, History, machine_of, turn};
@@ -131,6 +131,13 @@ pub fn a_step_of_a_thread_that_goes_on_is_legal()
 pub fn each_thread_has_its_budget()
     ensures { (inputs : Inputs) → inputs.settings.job ≡ jobs.Run →
         work (start inputs) ≡ length inputs.image.entries * inputs.settings.budget }
+{}
+
+/// At the start of a serve there is the budget and one step more for each request, and one step for each worker.
+#[tactic(auto, using(crate::proofs::Others::work_at_serve))]
+pub fn each_request_has_its_budget()
+    ensures { (inputs : Inputs) (workers : ℕ) → inputs.settings.job ≡ jobs.Serve workers →
+        work (start inputs) ≡ length inputs.requests * (inputs.settings.budget + 1) + workers }
 {}
 
 /// While a thread has not ended, steps are left.

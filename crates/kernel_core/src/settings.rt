@@ -10,7 +10,7 @@ pub enum Job {
 pub struct Settings {
     /// The number of frames.
     pub frames: u32,
-    /// The number of steps that a thread may make.
+    /// The number of steps that a thread may make; in a serve, for each request.
     pub budget: u32,
     /// What the kernel does.
     pub job: Job,

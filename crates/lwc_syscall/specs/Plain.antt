@@ -99,7 +99,7 @@ offset_of (File file at) = at
 offset_of (Request r at) = at
 offset_of _ = 0
 
--- the bytes that a read moves: as many as are asked for, if so many are left
+-- the bytes that a read moves: as many as are asked for, if that many are left
 abbrev pub moved : Channels → Descriptor → ℕ → List ℕ
 moved io value count = take count (unwrap_or (left io value) [])
 
@@ -151,7 +151,7 @@ is_written Console = true
 is_written (Reply r) = true
 is_written _ = false
 
--- whether the console or the reply that a descriptor writes would pass its limit by so many bytes more
+-- whether the console or the reply that a descriptor writes would pass its limit by this number of bytes more
 abbrev pub passes_limit : Channels → Descriptor → ℕ → Bool
 passes_limit io Console count = nat_lt MOST_CONSOLE_BYTES (length io.console + count)
 passes_limit io (Reply r) count = nat_lt MOST_REPLY_BYTES (length (bytes_in io.replies r) + count)
