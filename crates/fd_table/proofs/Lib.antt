@@ -1,4 +1,3 @@
-pub mod ValueLemmas
 pub mod BitLemmas
 pub mod NamedLemmas
 pub mod ChangeLemmas

@@ -6,4 +6,3 @@ pub mod Pools
 pub mod Seen
 pub mod Slots
 pub mod Tables
-pub mod Values

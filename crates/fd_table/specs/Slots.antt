@@ -1,12 +1,13 @@
 -- What slots have, by place and by slot.
-use Rattle.std.specs.Prelude.{ℕ, ◌==◌, if◌then◌else◌, Bool, true, false, not, List, Option, None, slice_index_or}
+use Rattle.std.specs.Prelude.{ℕ, ◌==◌, if◌then◌else◌, Bool, true, false, not, List, Option, None, Some, slice_index_or}
 use Rattle.lwc_base.specs.declared.cell.Cell.{Cell}
 use Rattle.lwc_base.specs.declared.cell.Cell.TheVariants.{Own, Common}
 use Rattle.lwc_base.specs.declared.descriptor.Descriptor.{Descriptor}
-use Rattle.lwc_base.specs.declared.descriptor.Descriptor.TheVariants.{Empty}
+use Rattle.lwc_base.specs.declared.descriptor.Descriptor.TheVariants.{Ctx, Empty}
+use Rattle.lwc_base.specs.declared.name.Name.{Name}
 use Rattle.lwc_base.specs.Summaries.{is_empty}
 
--- what a slot has: its cell, and the place of the context or group that the cell names
+-- what a slot has: its cell, and a number for what the cell names
 pub record Slot : Type 0 where
   pub cell : Cell Descriptor
   pub target : Option ℕ
@@ -31,6 +32,16 @@ put_slot row n slot m = if m == n then slot else row m
 abbrev pub is_filled : Cell Descriptor → Bool
 is_filled (Own value) = not (is_empty value)
 is_filled (Common g) = true
+
+-- the context that a descriptor is of, if it is one of a context
+abbrev pub context_of : Descriptor → Option Name
+context_of (Ctx name cap) = Some name
+context_of _ = None
+
+-- the context that a place's own cell has a descriptor of, if it has one
+abbrev pub context_in : Cell Descriptor → Option Name
+context_in (Own value) = context_of value
+context_in (Common g) = None
 
 -- whether the value of a cell is a group's
 abbrev pub is_common : Cell Descriptor → Bool

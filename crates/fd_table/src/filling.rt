@@ -1,5 +1,5 @@
 ghost use Rattle.std.specs.Prelude.{◌≡◌};
-ghost use Rattle.fd_table.specs.Slots.{is_common, is_filled};
+ghost use Rattle.fd_table.specs.Slots.{context_in, is_common, is_filled};
 ghost use Rattle.fd_table.specs.Fillings.{slot_of};
 
 use lwc_base::{Cell, Descriptor, Name};
@@ -38,6 +38,16 @@ impl Filling {
         match self.group {
             Some(group) => Cell::Common(group),
             None => Cell::Own(self.descriptor),
+        }
+    }
+
+    /// The context that a slot with this filling has a descriptor of, if it is the place's own.
+    pub(crate) fn context(&self) -> Option<Name>
+        ensures { result ≡ context_in (slot_of self.now).cell }
+    {
+        match (self.group, &self.descriptor) {
+            (None, Descriptor::Ctx { name, .. }) => Some(*name),
+            _ => None,
         }
     }
 

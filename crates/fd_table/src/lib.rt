@@ -8,10 +8,9 @@ pub mod objects;
 pub mod pool;
 pub mod slots;
 pub mod table;
-pub mod values;
 
 pub use bits::lowest_bit;
-pub use slots::{MOST_PLACES, Slots};
+pub use slots::{MOST_PLACES, NUMBERS, Slots};
 
 #[cfg(test)]
 mod tests;

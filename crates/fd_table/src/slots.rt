@@ -1,27 +1,30 @@
 ghost use Rattle.std.specs.Prelude.{◌≡◌, ℕ, IfOk, length, replicate};
+ghost use Rattle.fd_table.specs.declared.slots.TheConstants.{NUMBERS};
 ghost use Rattle.fd_table.specs.Kept.{IsKept};
 ghost use Rattle.fd_table.specs.Tables.{no_table};
 
 use crate::filling::Filling;
 use crate::objects::Objects;
 use crate::table::Table;
-use lwc_base::{Cell, Descriptor, OutOfMemory};
+use lwc_base::{Cell, Descriptor, Name, OutOfMemory};
 use std::alloc::Global;
 
 /// How many places there can be.
 pub const MOST_PLACES: u32 = 65536;
 
+/// How many numbers there are that slots can name.
+pub const NUMBERS: u32 = 65536;
+
 /// The slots of a fixed number of places, contexts and groups alike. After `open` no call takes memory.
 ///
-/// A slot's cell comes with its target: the place of the context or group that it names. Once a step has cut
-/// a link to a context, `is_named` tells whether another is left. A context that no slot names and in which
-/// no thread is can be dropped at once.
+/// A slot's cell comes with its target: a number for what the cell names. `is_named` tells whether any slot
+/// has a number, without a search.
 #[derive(Drop)]
 pub struct Slots {
     pub(crate) objects: Objects,
     pub(crate) tables: Vec<Table>,
     ghost kept: { IsKept objects.pool tables.items },
-    ghost places: { length objects.named.items ≡ length tables.items },
+    ghost numbers: { length objects.named.items ≡ NUMBERS },
 }
 
 /// This number of empty tables. The only error is out of memory.
@@ -44,7 +47,7 @@ impl Slots {
     ghost use Rattle.lwc_base.specs.declared.descriptor.Descriptor.TheVariants.{Empty};
     ghost use Rattle.fd_table.specs.declared.slots.TheConstants.{MOST_PLACES};
     ghost use Rattle.fd_table.specs.Seen.{slots};
-    ghost use Rattle.fd_table.specs.Slots.{empty_slot, is_common, is_filled, no_slots, put_slot, row_of};
+    ghost use Rattle.fd_table.specs.Slots.{context_in, empty_slot, is_common, is_filled, no_slots, put_slot, row_of};
     ghost use Rattle.fd_table.specs.Fillings.{slot_of};
 
     /// This number of places whose slots are all empty. The only error is out of memory.
@@ -52,7 +55,7 @@ impl Slots {
         requires { places ≤ MOST_PLACES }
         ensures { IfOk result (λ opened. slots opened ≡ replicate places no_slots) }
     {
-        let objects = Objects::open(alloc, 64 * places, places)?;
+        let objects = Objects::open(alloc, 64 * places, NUMBERS)?;
         let tables = empty_tables(alloc, places)?;
         Ok(Slots { objects, tables })
     }
@@ -82,14 +85,26 @@ impl Slots {
         }
     }
 
-    /// The place that the cell of a slot names, if it names one.
-    pub fn target(&self, i: usize, n: u8) -> Option<u16>
+    /// The context that a slot of a place's own has a descriptor of, if it has one.
+    pub fn context(&self, i: usize, n: u8) -> Option<Name>
         requires place { i < length (slots self.now) }
         requires slot { n < SLOTS }
-        ensures value { result ≡ (row_of (slots self.now) i n).target }
-        ensures inside { IfSome result (λ place. place < length (slots self.now)) }
+        ensures { result ≡ context_in (row_of (slots self.now) i n).cell }
     {
-        self.filling(i, n)?.target()
+        match self.filling(i, n) {
+            Some(filling) => filling.context(),
+            None => None,
+        }
+    }
+
+    /// Whether a slot of two places is one object, or has none in both. Slots that are not may be the same, too.
+    pub fn is_shared(&self, i: usize, j: usize, n: u8) -> bool
+        requires place { i < length (slots self.now) }
+        requires other { j < length (slots self.now) }
+        requires slot { n < SLOTS }
+        ensures { result ≡ true → row_of (slots self.now) i n ≡ row_of (slots self.now) j n }
+    {
+        self.tables[i].entries[n as usize] == self.tables[j].entries[n as usize]
     }
 
     /// The slots of a place that are not empty slots of its own: slot n is bit n.
@@ -116,19 +131,19 @@ impl Slots {
         self.filled(i).count_ones()
     }
 
-    /// Whether a slot of any place names a place.
-    pub fn is_named(&self, place: u16) -> bool
-        requires { place < length (slots self.now) }
-        ensures { IsTrue result ↔ ((i : ℕ) × (n : ℕ) × ((row_of (slots self.now) i n).target ≡ Some place)) }
+    /// Whether a slot of any place names a number.
+    pub fn is_named(&self, number: u16) -> bool
+        requires { number < NUMBERS }
+        ensures { IsTrue result ↔ ((i : ℕ) × (n : ℕ) × ((row_of (slots self.now) i n).target ≡ Some number)) }
     {
-        self.objects.is_named(place)
+        self.objects.is_named(number)
     }
 
-    /// Puts another cell into a slot, with the place that it names.
+    /// Puts another cell into a slot, with the number that it names.
     pub fn put(&mut self, i: usize, n: u8, cell: Cell<Descriptor>, target: Option<u16>)
         requires place { i < length (slots self.old) }
         requires slot { n < SLOTS }
-        requires target { IfSome target (λ place. place < length (slots self.old)) }
+        requires target { IfSome target (λ number. number < NUMBERS) }
         requires named { cell ≡ Own Empty → target ≡ None }
         ensures { slots self.new ≡ slice_set (slots self.old) i
             (put_slot (row_of (slots self.old) i) n (record { cell = cell; target = target })) }
@@ -157,7 +172,7 @@ impl Slots {
         requires slot { n < SLOTS }
         requires empty { row_of (slots self.old) i n ≡ empty_slot }
         requires filled { is_filled (slot_of filling).cell ≡ true }
-        requires target { IfSome (slot_of filling).target (λ place. place < length (slots self.old)) }
+        requires target { IfSome (slot_of filling).target (λ number. number < NUMBERS) }
         ensures { slots self.new ≡ slice_set (slots self.old) i
             (put_slot (row_of (slots self.old) i) n (slot_of filling)) }
     {

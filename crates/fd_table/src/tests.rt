@@ -37,20 +37,14 @@ fn places_share_cells_until_they_drop_them(rt: HostRuntime) -> Result<(), Fail> 
     slots.put(0, 5, Cell::Own(Descriptor::Console), None);
     assert!(rt; matches!(slots.cell(0, 5), Cell::Own(Descriptor::Console)));
     assert!(rt; matches!(slots.cell(1, 5), Cell::Own(Descriptor::Ctx { .. })));
-    assert_eq!(rt; (slots.target(1, 5), slots.target(0, 5)), (Some(2), None));
+    assert_eq!(rt;
+        (slots.context(1, 5), slots.context(0, 5)),
+        (Some(name), None)
+    );
     assert!(rt; slots.is_named(2));
     slots.copy_slot(2, 1, 5);
-    slots.put(1, 0, Cell::Own(Descriptor::Console), None);
     slots.put(1, 1, Cell::Common(Name { job: 1, k: 1 }), Some(2));
-    assert_eq!(rt;
-        (slots.lowest_empty(1), slots.value(1, 1)),
-        (Some(1), Descriptor::Empty)
-    );
-    slots.put(2, 1, Cell::Own(Descriptor::Console), None);
-    assert_eq!(rt;
-        (slots.lowest_empty(1), slots.value(1, 1)),
-        (Some(2), Descriptor::Console)
-    );
+    assert_eq!(rt; slots.context(1, 1), None);
     slots.clear_place(1);
     assert!(rt; matches!(slots.cell(1, 63), Cell::Own(Descriptor::Empty)));
     assert_eq!(rt; (slots.is_named(1), slots.is_named(2)), (true, true));

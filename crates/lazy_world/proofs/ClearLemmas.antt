@@ -1,14 +1,15 @@
 -- A place from which all is taken.
-use Rattle.std.proofs.Common.{◌≡◌, ⊎_elim, ℕ, ◌<◌, List, length, set, ap, ◌∙◌, get_or-set_other, None}
-use Rattle.std.proofs.lemmas.Bool.{cases_eq}
+use Rattle.std.proofs.Common.{◌≡◌, ℕ, ◌<◌, List, length, set, ap, ◌∙◌, get_or-set_other}
 use Rattle.std.proofs.lemmas.List.{get_or-set_same}
 use Rattle.lwc_base.specs.declared.cell.Cell.{Cell}
 use Rattle.lwc_base.specs.declared.cell.Cell.TheVariants.{Own}
+use Rattle.lwc_base.specs.declared.descriptor.Descriptor.TheVariants.{Empty}
 use Rattle.lwc_base.specs.declared.key.Key.TheVariants.{Page, Slot, Cred}
 use Rattle.lwc_base.specs.declared.key.TheConstants.{NOBODY}
 use Rattle.fd_table.specs.Slots as slots
-use Rattle.page_cells.specs.Cells.{Place, no_pages}
-use Rattle.lazy_world.specs.Cells.{no_row, put_row, rows_of}
+use Rattle.page_cells.specs.Cells.{Place, no_pages, place_of}
+use Rattle.lazy_world.specs.Cells.{Row, no_row, put_row, rows_of}
+use Rattle.lazy_world.specs.Kept.{IsNumbered, target_of}
 use Rattle.lazy_world.proofs.PlaceLemmas.{same_rows}
 
 module _ (pages : List Place) (table : List (ℕ → slots.Slot)) (uids : List (Cell ℕ)) (i : ℕ) where
@@ -28,10 +29,29 @@ module _ (pages : List Place) (table : List (ℕ → slots.Slot)) (uids : List (
       others j other (Slot n) = ap (λ (row : ℕ → slots.Slot). (row n).cell) (get_or-set_other table i j slots.no_slots slots.no_slots other)
       others j other Cred = get_or-set_other uids i j (Own NOBODY) (Own NOBODY) other
 
-  -- no slot keeps the place that it names
-  pub targets-cleared : i < length table → ((j m : ℕ) → (slots.row_of table j m).target ≡ None) → (j m : ℕ) → (slots.row_of (set table i slots.no_slots) j m).target ≡ None
-  targets-cleared inside none j m =
-      ⊎_elim
-      (λ same. ap (λ q. (slots.row_of (set table i slots.no_slots) q m).target) same ∙ ap (λ (row : ℕ → slots.Slot). (row m).target) (get_or-set_same table i slots.no_slots slots.no_slots inside))
-      (λ other. ap (λ (row : ℕ → slots.Slot). (row m).target) (get_or-set_other table i j slots.no_slots slots.no_slots other) ∙ none j m)
-      (cases_eq j i)
+  -- the place has all that another one has, and all others are as they were
+  pub rows-copied : (from : ℕ) → i < length pages → i < length table → i < length uids →
+      rows_of (set pages i (place_of pages from)) (set table i (slots.row_of table from)) (set uids i (rows_of pages table uids from Cred))
+      ≡ put_row (rows_of pages table uids) i (rows_of pages table uids from)
+  unfolding rows_of
+  rows-copied from in_pages in_table in_uids = same_rows (rows_of pages table uids) _ i (rows_of pages table uids from) here others
+    where
+      new : ℕ → Row
+      new = rows_of (set pages i (place_of pages from)) (set table i (slots.row_of table from)) (set uids i (rows_of pages table uids from Cred))
+
+      here : (k : _) → new i k ≡ rows_of pages table uids from k
+      here (Page p) = ap (λ (place : Place). place p) (get_or-set_same pages i (place_of pages from) no_pages in_pages)
+      here (Slot n) = ap (λ (row : ℕ → slots.Slot). (row n).cell) (get_or-set_same table i (slots.row_of table from) slots.no_slots in_table)
+      here Cred = get_or-set_same uids i (rows_of pages table uids from Cred) (Own NOBODY) in_uids
+
+      others : (j : ℕ) → (j ≡ i → ⊥) → (k : _) → new j k ≡ rows_of pages table uids j k
+      others j other (Page p) = ap (λ (place : Place). place p) (get_or-set_other pages i j (place_of pages from) no_pages other)
+      others j other (Slot n) = ap (λ (row : ℕ → slots.Slot). (row n).cell) (get_or-set_other table i j (slots.row_of table from) slots.no_slots other)
+      others j other Cred = get_or-set_other uids i j (rows_of pages table uids from Cred) (Own NOBODY) other
+
+-- a place without slots has none that are numbered
+pub no-slots : (table : List (ℕ → slots.Slot)) (i : ℕ) → ((m : ℕ) → IsNumbered (slots.row_of table i m)) → ((m : ℕ) → (slots.row_of table i m).cell ≡ Own Empty) → slots.row_of table i ≡ slots.no_slots
+no-slots table i numbered empty = λ e m. at (slots.row_of table i m) (numbered m) (empty m) e
+  where
+    at : (slot : slots.Slot) → IsNumbered slot → slot.cell ≡ Own Empty → slot ≡ slots.empty_slot
+    at slot number is = λ e. record { cell = is e; target = (number ∙ ap target_of is) e }

@@ -57,6 +57,10 @@ sourced-homes rows i s homes = homes-row rows i (sourced_row rows i s) homes (λ
     at p tag bytes (Some (sources.Common g)) e = absurd (let none = e in cc)
     at p tag bytes (Some (sources.CopyOf j)) e = record { place = j; bytes = bytes; is = e }
 
+-- so does a copy of another row
+pub copied-homes : (rows : ℕ → Row) (i j : ℕ) → HasOneHome rows → HasOneHome (put_row rows i (rows j))
+copied-homes rows i j homes = homes-row rows i (rows j) homes (λ p tag bytes is. record { place = j; bytes = bytes; is = is })
+
 -- two names that are one have one place
 pub same-place : (m : fm.FinMap name_cmp ℕ) (d c : Name) (from to : ℕ) → d ≡ c → fm.get m d ≡ Some from → fm.get m c ≡ Some to → from ≡ to
 same-place m d c from to same at_from at_to = let both : Some from ≡ Some to = sym at_from ∙ ap (fm.get m) same ∙ at_to in cc

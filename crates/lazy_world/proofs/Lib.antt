@@ -1,8 +1,10 @@
 mod AddLemmas
 mod AfterLemmas
+mod AnchorLemmas
 mod BegunLemmas
 mod ClearLemmas
 mod CloneLemmas
+mod CopyLemmas
 mod CountLemmas
 mod DropLemmas
 mod EdgeLemmas
@@ -14,6 +16,7 @@ mod HolderLemmas
 mod ItselfLemmas
 mod KeyLemmas
 mod LeftLemmas
+mod LooseLemmas
 mod MapLemmas
 mod MappedLemmas
 mod MarkLemmas

@@ -1,11 +1,10 @@
 -- Rows of places of which one changes.
-use Rattle.std.proofs.Common.{◌≡◌, ℕ, zero, suc, ◌+◌, ◌<◌, List, [], ◌∷◌, ◌++◌, length, set, get_or, replicate, refl, sym, ◌∙◌, ap, arith, cond, eqb, Bool, true, false, ⊎_elim, get_or-set_other, Option, None}
+use Rattle.std.proofs.Common.{◌≡◌, ℕ, zero, suc, ◌+◌, ◌<◌, List, [], ◌∷◌, ◌++◌, length, set, get_or, replicate, refl, sym, subst, ◌∙◌, ap, arith, cond, eqb, Bool, true, false, ⊎_elim, get_or-set_other, Option}
 use Rattle.std.proofs.lemmas.Bool.{cases_eq}
 use Rattle.std.proofs.lemmas.Bool.Decides.{nat_tests}
 use Rattle.std.proofs.lemmas.List.{get_or-set_same}
 use Rattle.lwc_base.specs.declared.cell.Cell.{Cell}
 use Rattle.lwc_base.specs.declared.cell.Cell.TheVariants.{Own}
-use Rattle.lwc_base.specs.declared.descriptor.Descriptor.{Descriptor}
 use Rattle.lwc_base.specs.declared.key.Key.TheVariants.{Page, Slot, Cred}
 use Rattle.lwc_base.specs.declared.key.TheConstants.{NOBODY}
 use Rattle.lwc_base.specs.declared.page.PageValue.{PageValue}
@@ -14,6 +13,7 @@ use Rattle.fd_table.specs.Slots as slots
 use Rattle.cow_space.specs.Maps.{put_page}
 use Rattle.page_cells.specs.Cells.{Place, no_pages, place_of}
 use Rattle.lazy_world.specs.Cells.{Row, no_row, on_place, put_row, rows_of}
+use Rattle.lazy_world.specs.Kept.{IsNumbered}
 
 pub replicate_push : {A : Type 0} (n : ℕ) (x : A) → replicate n x ++ x ∷ [] ≡ replicate (n + 1) x
 replicate_push zero x = refl
@@ -134,18 +134,23 @@ module _ (pages : List Place) (table : List (ℕ → slots.Slot)) (uids : List (
       each (Slot m) = refl
       each Cred = refl
 
--- no slot keeps the place that it names, once one is put
-pub targets-put : (table : List (ℕ → slots.Slot)) (i n : ℕ) (cell : Cell Descriptor) → i < length table →
-    ((j m : ℕ) → (slots.row_of table j m).target ≡ None) →
-    (j m : ℕ) → (slots.row_of (set table i (slots.put_slot (slots.row_of table i) n (record { cell = cell; target = None }))) j m).target ≡ None
-targets-put table i n cell inside none j m =
+-- each slot keeps the number of the context that it names, once the slots of a place are others that do
+pub numbered-set : (table : List (ℕ → slots.Slot)) (i : ℕ) (row : ℕ → slots.Slot) → i < length table → ((m : ℕ) → IsNumbered (row m)) →
+    ((j m : ℕ) → IsNumbered (slots.row_of table j m)) → (j m : ℕ) → IsNumbered (slots.row_of (set table i row) j m)
+numbered-set table i row inside here old j m =
     ⊎_elim
-    (λ same. ap (λ q. (slots.row_of (set table i (slots.put_slot (slots.row_of table i) n (record { cell = cell; target = None }))) q m).target) same
-    ∙ ap (λ (row : ℕ → slots.Slot). (row m).target) (get_or-set_same table i _ slots.no_slots inside)
-    ∙ by_choice (λ (s : slots.Slot). s.target) (eqb m n) (record { cell = cell; target = None }) (slots.row_of table i m)
-    ∙ ap (cond (eqb m n) None) (none i m) ∙ same_choice (eqb m n) None)
-    (λ other. ap (λ (row : ℕ → slots.Slot). (row m).target) (get_or-set_other table i j _ slots.no_slots other) ∙ none j m)
+    (λ same. subst (λ q. IsNumbered (slots.row_of (set table i row) q m)) (sym same)
+    (subst (λ (r : ℕ → slots.Slot). IsNumbered (r m)) (sym (get_or-set_same table i row slots.no_slots inside)) (here m)))
+    (λ other. subst (λ (r : ℕ → slots.Slot). IsNumbered (r m)) (sym (get_or-set_other table i j row slots.no_slots other)) (old j m))
     (cases_eq j i)
 
-pub targets-none : (count i n : ℕ) → (slots.row_of (replicate count slots.no_slots) i n).target ≡ None
-targets-none count i n = ap (λ (row : ℕ → slots.Slot). (row n).target) (at_default count i slots.no_slots)
+-- so do the slots of a place with another one that does
+pub numbered-put : (row : ℕ → slots.Slot) (n : ℕ) (slot : slots.Slot) → IsNumbered slot → ((m : ℕ) → IsNumbered (row m)) → (m : ℕ) → IsNumbered (slots.put_slot row n slot m)
+numbered-put row n slot here old m = at (eqb m n)
+  where
+    at : (b : Bool) → IsNumbered (cond b slot (row m))
+    at true = here
+    at false = old m
+
+pub numbered-none : (count i n : ℕ) → IsNumbered (slots.row_of (replicate count slots.no_slots) i n)
+numbered-none count i n = subst (λ (row : ℕ → slots.Slot). IsNumbered (row n)) (sym (at_default count i slots.no_slots)) refl

@@ -21,7 +21,7 @@ use Rattle.lwc_base.specs.World.{World, is_live}
 use Rattle.ctx_table.specs.NameTables.{ArePlaced}
 use Rattle.reach.specs.Reach as reach
 use Rattle.reach.specs.Reach.{is_marked}
-use Rattle.lazy_world.specs.declared.world.LazyWorld.{LazyWorld}
+use Rattle.lazy_world.specs.declared.world.PlacedWorld.{PlacedWorld}
 use Rattle.lazy_world.specs.Reaping.{link_from, link_of, place_in}
 use Rattle.lazy_world.specs.Worlds.{parts, seen}
 use Rattle.lazy_world.proofs.SmallLemmas.{equal_of, or_either, or_first, or_second, same_some}
@@ -57,7 +57,7 @@ gathered_either None ys y there = inr there
 gathered_either (Some z) ys y (zero, within, is) = inl (ap Some is)
 gathered_either (Some z) ys y (suc k, within, is) = inr (k, omega (arith, within), is)
 
-module _ (orders : OrderFacts) (w : LazyWorld) (placed : ArePlaced w.contexts) where
+module _ (orders : OrderFacts) (w : PlacedWorld) (placed : ArePlaced w.contexts) where
   abbrev places_by_name : fm.FinMap name_cmp ℕ
   places_by_name = w.contexts.map
 

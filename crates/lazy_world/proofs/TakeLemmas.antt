@@ -1,10 +1,9 @@
 -- A place that gets what sources give.
-use Rattle.std.proofs.Common.{◌≡◌, ℕ, ◌+◌, ◌<◌, ◌≤◌, ⊎_elim, Bool, true, false, cond, eqb, List, length, arith, refl, sym, ap, subst, ◌∙◌, Option, Some, None, map, set, get_or-set_other}
+use Rattle.std.proofs.Common.{◌≡◌, ℕ, ◌+◌, ◌<◌, ◌≤◌, ⊎_elim, true, false, cond, List, length, arith, refl, sym, ap, subst, ◌∙◌, Option, Some, None, map, set}
 use Rattle.std.specs.Prelude.{All, nat_lt}
 use Rattle.std.specs.Option.{option_map}
 use Rattle.std.proofs.lemmas.Bool.{cases_eq}
 use Rattle.std.proofs.lemmas.Bool.Decides.{nat_tests}
-use Rattle.std.proofs.lemmas.List.{get_or-set_same}
 use Rattle.lwc_base.specs.declared.cell.Cell.{Cell}
 use Rattle.lwc_base.specs.declared.key.Key.{Key}
 use Rattle.lwc_base.specs.declared.key.Key.TheVariants.{Page, Slot, Cred}
@@ -67,20 +66,6 @@ module _ (cells : List Place) (table : List (ℕ → slots.Slot)) (uids : List (
 
   pub kinds-after : All (IsGiven (length cells) old i) stretches → ChangeLaws → kinds_of (with_pages old stretches (old i)) ≡ kinds_after (map change_of stretches) (place_of cells i)
   kinds-after all laws = sym (λ e p. kind_of (pages-given p e)) ∙ laws.kinds cells i stretches (given-stretches all)
-
--- a slot that is copied keeps no place that it names
-pub targets-copied : (table : List (ℕ → slots.Slot)) (i j n : ℕ) → i < length table → ((q m : ℕ) → (slots.row_of table q m).target ≡ None) →
-    (q m : ℕ) → (slots.row_of (set table i (slots.put_slot (slots.row_of table i) n (slots.row_of table j n))) q m).target ≡ None
-targets-copied table i j n inside none q m =
-    ⊎_elim
-    (λ same. ap (λ r. (slots.row_of (set table i (slots.put_slot (slots.row_of table i) n (slots.row_of table j n))) r m).target) same
-    ∙ ap (λ (row : ℕ → slots.Slot). (row m).target) (get_or-set_same table i _ slots.no_slots inside) ∙ at (eqb m n))
-    (λ other. ap (λ (row : ℕ → slots.Slot). (row m).target) (get_or-set_other table i q _ slots.no_slots other) ∙ none q m)
-    (cases_eq q i)
-  where
-    at : (b : Bool) → (cond b (slots.row_of table j n) (slots.row_of table i m)).target ≡ None
-    at true = none j n
-    at false = none i m
 
 key_same : (k q : Key) (row : Row) → with_key Cell k (row k) row q ≡ row q
 key_same (Page p) (Page q) row = ⊎_elim (λ same. choose p q (row (Page p)) (row (Page q)) same ∙ ap (λ n. row (Page n)) (sym same)) (λ other. pass p q (row (Page p)) (row (Page q)) other) (cases_eq q p)

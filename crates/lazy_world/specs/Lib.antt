@@ -1,8 +1,10 @@
+pub mod Anchors
 pub mod Cells
 pub mod Facts
 pub mod Followed
 pub mod Kept
 pub mod KeyValues
+pub mod Lazy
 pub mod Mapped
 pub mod Memory
 pub mod Plans

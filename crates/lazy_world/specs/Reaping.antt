@@ -2,29 +2,33 @@
 use Rattle.std.specs.Prelude.{◌≡◌, ℕ, ◌==◌, ◌||◌, Bool, true, false, not, List, Option, None, Some, nat_le, slice_index_or}
 use Rattle.std.specs.Ordering.{is_eq}
 use Rattle.std.specs.FinMap as fm
+use Rattle.fd_table.specs.Slots.{context_of}
 use Rattle.lwc_base.specs.declared.descriptor.Descriptor.{Descriptor}
-use Rattle.lwc_base.specs.declared.descriptor.Descriptor.TheVariants.{Ctx}
 use Rattle.lwc_base.specs.declared.name.Name.{Name}
 use Rattle.lwc_base.specs.Cells.{slot_at}
 use Rattle.lwc_base.specs.Life.{names_group}
 use Rattle.lwc_base.specs.Names.{name_cmp}
 use Rattle.reach.specs.Reach.{is_marked}
-use Rattle.lazy_world.specs.declared.world.LazyWorld.{LazyWorld}
+use Rattle.lazy_world.specs.declared.world.PlacedWorld.{PlacedWorld}
 use Rattle.lazy_world.specs.States.{Parts, context_at}
 use Rattle.lazy_world.specs.Worlds.{seen}
 
+-- the place of a context, if one is given and has one
+abbrev pub place_by : fm.FinMap name_cmp ℕ → Option Name → Option ℕ
+place_by places None = None
+place_by places (Some c) = fm.get places c
+
 -- the place of the context that a descriptor is of, if it has one
 abbrev pub place_in : fm.FinMap name_cmp ℕ → Descriptor → Option ℕ
-place_in places (Ctx name cap) = fm.get places name
-place_in places _ = None
+place_in places value = place_by places (context_of value)
 
 -- the place that a slot of a context links to, if there is a context
-abbrev pub link_from : LazyWorld → ℕ → Option Name → Option ℕ
+abbrev pub link_from : PlacedWorld → ℕ → Option Name → Option ℕ
 link_from w n None = None
 link_from w n (Some c) = place_in w.contexts.map (slot_at (seen w) c n)
 
 -- the place that a slot of the context at a place links to
-unfoldable pub link_of : LazyWorld → ℕ → ℕ → Option ℕ
+unfoldable pub link_of : PlacedWorld → ℕ → ℕ → Option ℕ
 link_of w place n = link_from w n (slice_index_or w.contexts.places place None)
 
 -- the marks of groups whose names pass a test are set, and no other mark of a group has changed

@@ -1,11 +1,11 @@
 -- The world that shared pages stand for.
 use Rattle.lwc_base.specs.World.{World}
-use Rattle.lazy_world.specs.declared.world.LazyWorld.{LazyWorld}
+use Rattle.lazy_world.specs.declared.world.PlacedWorld.{PlacedWorld}
 use Rattle.lazy_world.specs.Seen.{rows}
 use Rattle.lazy_world.specs.States.{Parts, world_of}
 
 -- its parts
-unfoldable pub parts : LazyWorld → Parts
+unfoldable pub parts : PlacedWorld → Parts
 parts w = record {
   size = w.size;
   rows = rows w.places;
@@ -16,5 +16,5 @@ parts w = record {
 }
 
 -- the world of them
-unfoldable pub seen : LazyWorld → World
+unfoldable pub seen : PlacedWorld → World
 seen w = world_of (parts w)

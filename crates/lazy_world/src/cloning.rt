@@ -6,11 +6,11 @@ ghost use Rattle.world_face.specs.Calls.{AreFew, HasGroupPlace, HasPlace, IsLive
 
 use crate::facts::facts;
 use crate::plan::Plan;
-use crate::world::LazyWorld;
+use crate::world::PlacedWorld;
 use lwc_base::laws::a_group_is_needed_where_a_value_moves;
 use lwc_base::{NOBODY, Name, Regs, Spec};
 
-impl LazyWorld {
+impl PlacedWorld {
     ghost use Rattle.lazy_world.specs.Worlds.{seen};
 
     /// Makes a new context of a job from another one. Values of mode share that are the other's own move

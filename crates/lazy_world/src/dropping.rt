@@ -8,7 +8,7 @@ ghost use Rattle.lazy_world.specs.Worlds.{parts, seen};
 
 use crate::facts::facts;
 use crate::places::Places;
-use crate::world::LazyWorld;
+use crate::world::PlacedWorld;
 use lwc_base::{Cell, NOBODY, Name};
 use pool_base::Steps;
 use std::marker::Brand;
@@ -42,7 +42,7 @@ impl Places {
     }
 }
 
-impl LazyWorld {
+impl PlacedWorld {
     /// Drops each context at a place without a mark.
     pub(crate) fn keep_contexts(&mut self, marks: &[bool])
         requires { (parts self.old).size.contexts ≤ length marks.now }
@@ -75,7 +75,7 @@ impl LazyWorld {
     }
 
     /// Drops a context, with all that it has.
-    fn drop_context(&mut self, c: Name)
+    pub(crate) fn drop_context(&mut self, c: Name)
         requires { IsLive (seen self.old) c }
         ensures map { self.new.contexts.map ≡ fm.remove self.old.contexts.map c }
         ensures world { seen self.new ≡ record (seen self.old) {

@@ -1,76 +1,108 @@
-use crate::world::LazyWorld;
+use crate::facts::facts;
+use crate::lazy::{LazyWorld, anchors_of};
+use crate::world::PlacedWorld;
+use arrayvec::ArrayVec;
+use lwc_base::laws::{
+    a_group_is_needed_where_a_value_moves, a_put_changes_one_key,
+    a_reaped_world_keeps_what_is_reached, reached_contexts_are_those_with_a_chain,
+    what_is_apart_is_not_seen, what_is_stored_reads_back,
+};
 use lwc_base::{Descriptor, Name, OutOfMemory, Range, Regs, Spec, StoreFault, Summary, WorldSize};
 use std::alloc::Global;
 use world_face::World;
 
 impl World for LazyWorld {
     ghost use Rattle.std.specs.Prelude.{true};
-    ghost use Rattle.lazy_world.specs.Worlds as spec;
+    ghost use Rattle.lazy_world.specs.Lazy as spec;
 
-    ghost seen = { spec.seen };
+    ghost seen = { spec.seen_lazy };
 
     ghost roomy = { true };
 
     fn open(alloc: Global, world_size: &WorldSize) -> Result<LazyWorld, OutOfMemory> {
-        LazyWorld::open(alloc, world_size)
+        Ok(LazyWorld {
+            world: PlacedWorld::open(alloc, world_size)?,
+            anchors: ArrayVec::new(),
+            known: false,
+        })
     }
 
     fn pages(&self) -> u32 {
-        self.pages()
+        self.world.pages()
     }
 
     fn first(&mut self, uid: u32, entry: &Regs) -> Result<Name, OutOfMemory> {
-        Ok(self.first(uid, entry))
+        self.known = false;
+        Ok(self.world.first(uid, entry))
     }
 
     fn map(&mut self, c: Name, range: Range) -> Result<(), OutOfMemory> {
-        self.map(c, range);
+        facts();
+        reached_contexts_are_those_with_a_chain();
+        self.world.map(c, range);
         Ok(())
     }
 
     fn unmap(&mut self, c: Name, range: Range) -> Result<(), OutOfMemory> {
-        self.unmap(c, range);
+        facts();
+        reached_contexts_are_those_with_a_chain();
+        self.world.unmap(c, range);
         Ok(())
     }
 
     fn bytes(&self, c: Name, at: u32, out: &mut [u8]) -> bool {
-        self.bytes(c, at, out)
+        self.world.bytes(c, at, out)
     }
 
     fn store(&mut self, c: Name, at: u32, piece: &[u8], job: u32) -> Result<(), StoreFault> {
-        self.store(c, at, piece, job)
+        facts();
+        reached_contexts_are_those_with_a_chain();
+        what_is_stored_reads_back();
+        self.world.store(c, at, piece, job)
     }
 
     fn slot(&self, c: Name, n: u8) -> Descriptor {
-        self.slot(c, n)
+        self.world.slot(c, n)
     }
 
     fn set_slot(&mut self, c: Name, n: u8, value: Descriptor) {
-        self.set_slot(c, n, value);
+        facts();
+        reached_contexts_are_those_with_a_chain();
+        a_put_changes_one_key();
+        what_is_apart_is_not_seen();
+        // What the old descriptor is of may have lost its only link.
+        let cut = self.world.link(c, n);
+        self.add_anchor(cut);
+        self.world.set_slot(c, n, value);
     }
 
     fn lowest_empty(&self, c: Name) -> Option<u8> {
-        self.lowest_empty(c)
+        self.world.lowest_empty(c)
     }
 
     fn uid(&self, c: Name) -> u32 {
-        self.uid(c)
+        self.world.uid(c)
     }
 
     fn set_uid(&mut self, c: Name, uid: u32) {
-        self.set_uid(c, uid);
+        facts();
+        reached_contexts_are_those_with_a_chain();
+        a_put_changes_one_key();
+        self.world.set_uid(c, uid);
     }
 
     fn entry(&self, c: Name) -> Regs {
-        self.entry(c)
+        self.world.entry(c)
     }
 
     fn saved(&self, c: Name, t: u32) -> Option<Regs> {
-        self.saved(c, t)
+        self.world.saved(c, t)
     }
 
     fn save(&mut self, c: Name, t: u32, regs: &Regs) {
-        self.save(c, t, regs);
+        facts();
+        reached_contexts_are_those_with_a_chain();
+        self.world.save(c, t, regs);
     }
 
     fn clone_context(
@@ -80,59 +112,75 @@ impl World for LazyWorld {
         job: u32,
         entry: &Regs,
     ) -> Result<Name, OutOfMemory> {
-        Ok(self.clone_context(c, spec, job, entry))
+        facts();
+        reached_contexts_are_those_with_a_chain();
+        a_group_is_needed_where_a_value_moves();
+        if !spec.items().is_empty() {
+            self.known = false;
+            return Ok(self.world.clone_context(c, spec, job, entry));
+        }
+        let next = self.world.next_name(job);
+        self.add_anchor(Some(next));
+        Ok(self.world.clone_context(c, spec, job, entry))
     }
 
     fn overlay(&mut self, to: Name, from: Name, spec: &Spec, job: u32) -> Result<(), OutOfMemory> {
-        self.overlay(to, from, spec, job);
+        self.known = false;
+        self.world.overlay(to, from, spec, job);
         Ok(())
     }
 
     fn reap(&mut self, roots: &[Name]) {
-        self.reap(roots);
+        facts();
+        reached_contexts_are_those_with_a_chain();
+        a_reaped_world_keeps_what_is_reached();
+        self.world
+            .reap_from(self.known, self.anchors.as_slice(), roots);
+        self.anchors = anchors_of(roots);
+        self.known = true;
     }
 
     fn needs_group(&self, c: Name, spec: &Spec) -> bool {
-        self.needs_group(c, spec)
+        self.world.needs_group(c, spec)
     }
 
     fn ranges_after_clone(&self, c: Name, spec: &Spec) -> (u32, u32) {
-        self.ranges_after_clone(c, spec)
+        self.world.ranges_after_clone(c, spec)
     }
 
     fn ranges_after_overlay(&self, to: Name, from: Name, spec: &Spec) -> (u32, u32) {
-        self.ranges_after_overlay(to, from, spec)
+        self.world.ranges_after_overlay(to, from, spec)
     }
 
     fn ranges_after_map(&self, c: Name, range: Range, present: bool) -> u32 {
-        self.ranges_after_map(c, range, present)
+        self.world.ranges_after_map(c, range, present)
     }
 
     fn live_of(&self, job: u32) -> u32 {
-        self.live_of(job)
+        self.world.live_of(job)
     }
 
     fn groups_of(&self, job: u32) -> u32 {
-        self.groups_of(job)
+        self.world.groups_of(job)
     }
 
     fn nth_context(&self, i: u32) -> Option<Name> {
-        self.nth_context(i)
+        self.world.nth_context(i)
     }
 
     fn summary(&self, c: Name) -> Summary {
-        self.summary(c)
+        self.world.summary(c)
     }
 
     fn context_count(&self) -> u32 {
-        self.context_count()
+        self.world.context_count()
     }
 
     fn group_count(&self) -> u32 {
-        self.group_count()
+        self.world.group_count()
     }
 
     fn used(&self) -> u32 {
-        self.used()
+        self.world.used()
     }
 }

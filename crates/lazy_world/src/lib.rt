@@ -3,11 +3,14 @@
 #![tactic(auto)]
 
 pub mod cloning;
+pub mod copying;
 pub mod counts;
 pub mod dropping;
 pub mod face;
 pub mod facts;
 pub mod key_value;
+pub mod lazy;
+pub mod loosening;
 pub mod mapping;
 pub mod marking;
 pub mod memory;
@@ -26,7 +29,7 @@ pub mod touched;
 pub mod world;
 pub mod writes;
 
-pub use world::LazyWorld;
+pub use lazy::LazyWorld;
 
 #[cfg(test)]
 mod tests;

@@ -6,7 +6,7 @@ ghost use Rattle.lazy_world.specs.Seen.{count, frame_count, rows};
 
 use crate::facts::facts;
 use crate::places::Places;
-use crate::world::LazyWorld;
+use crate::world::PlacedWorld;
 use lwc_base::{Name, Range};
 use page_cells::{Source, Stretch, changes_of};
 use pool_base::Steps;
@@ -75,7 +75,7 @@ impl Places {
     }
 }
 
-impl LazyWorld {
+impl PlacedWorld {
     ghost use Rattle.lwc_base.specs.Mapping.{map_pages, mapped_or_not, unmap_pages};
     ghost use Rattle.lwc_base.specs.Ranges.{ranges_of};
     ghost use Rattle.world_face.specs.Calls.{IsLive};

@@ -13,7 +13,7 @@ ghost use Rattle.lazy_world.specs.Worlds.{parts};
 
 use crate::facts::facts;
 use crate::places::Places;
-use crate::world::LazyWorld;
+use crate::world::PlacedWorld;
 use lwc_base::{Cell, Name, SLOTS};
 use range_map::SegmentKind;
 
@@ -53,7 +53,7 @@ impl Places {
     }
 }
 
-impl LazyWorld {
+impl PlacedWorld {
     /// Marks for the places of the groups that cells name.
     pub(crate) fn named_groups(&self) -> [bool; 1024]
         ensures { AddsMarks self.now.groups.places

@@ -7,11 +7,11 @@ ghost use Rattle.lazy_world.specs.Memory.{byte_in, holder, page_in};
 ghost use Rattle.lazy_world.specs.Seen.{count, rows};
 
 use crate::touched::{Touched, touched_pages};
-use crate::world::LazyWorld;
+use crate::world::PlacedWorld;
 use lwc_base::{Name, PAGE_BYTES};
 use range_map::SegmentKind;
 
-impl LazyWorld {
+impl PlacedWorld {
     ghost use Rattle.std.specs.List.{list_all, range_with_len};
     ghost use Rattle.lwc_base.specs.Memory.{load};
     ghost use Rattle.world_face.specs.Calls.{IsLive};

@@ -6,12 +6,12 @@ ghost use Rattle.world_face.specs.Calls.{AreFew, HasGroupPlace, IsLive, MayName}
 
 use crate::facts::facts;
 use crate::plan::Plan;
-use crate::world::LazyWorld;
+use crate::world::PlacedWorld;
 use lwc_base::laws::a_group_is_needed_where_a_value_moves;
 use lwc_base::{Name, Spec};
 use range_map::ranges_are_those_of_the_context;
 
-impl LazyWorld {
+impl PlacedWorld {
     ghost use Rattle.lazy_world.specs.Worlds.{seen};
 
     /// Takes over what the items name from another context.

@@ -143,7 +143,7 @@ impl Places {
     }
 
     /// The credential that a source gives.
-    fn given_uid(&self, source: Source) -> Cell<u32>
+    pub(crate) fn given_uid(&self, source: Source) -> Cell<u32>
         requires { (j : ℕ) → source ≡ CopyOf j → j < count self.now }
         ensures { result ≡ given (rows self.now) Cred source }
     {

@@ -1,12 +1,13 @@
-ghost use Rattle.std.specs.Prelude.{◌≡◌, IfOk, replicate};
+ghost use Rattle.std.specs.Prelude.{◌≡◌, ◌<◌, IfOk, replicate};
 ghost use Rattle.lwc_base.specs.declared.cell.Cell.TheVariants.{Own};
 ghost use Rattle.lwc_base.specs.declared.key.TheConstants.{NOBODY};
 ghost use Rattle.fd_table.specs.Seen as slots_seen;
 ghost use Rattle.page_cells.specs.Seen as pages_seen;
-ghost use Rattle.lazy_world.specs.Kept.{IsKept};
+ghost use Rattle.fd_table.specs.declared.slots.TheConstants.{NUMBERS};
+ghost use Rattle.lazy_world.specs.Kept.{IsKept, number_of};
 
 use crate::key_value::KeyValue;
-use fd_table::Slots;
+use fd_table::{NUMBERS, Slots};
 use lwc_base::{Cell, Descriptor, NOBODY, Name, OutOfMemory};
 use page_cells::PageCells;
 use range_map::SegmentKind;
@@ -32,8 +33,17 @@ fn no_uids(alloc: Global, places: u32) -> Result<Vec<Cell<u32>>, OutOfMemory>
     Ok(uids)
 }
 
+/// The number of a name. Other names may have it too.
+#[tactic(auto, unfolding(crate::specs::Kept::number_of))]
+fn number_of(name: Name) -> u16
+    ensures number { result ≡ number_of name }
+    ensures within { result < NUMBERS }
+{
+    ((u64::from(name.job) * 4096 + u64::from(name.k)) % u64::from(NUMBERS)) as u16
+}
+
 impl Places {
-    ghost use Rattle.std.specs.Prelude.{◌<◌, ◌≤◌, ℕ};
+    ghost use Rattle.std.specs.Prelude.{◌≤◌, ◌≢◌, ℕ, IfSome, Some, false, true};
     ghost use Rattle.std.specs.Option.{option_copied};
     ghost use Rattle.lwc_base.specs.declared.descriptor.TheConstants.{SLOTS};
     ghost use Rattle.lwc_base.specs.declared.key.Key.TheVariants.{Page, Slot, Cred};
@@ -43,7 +53,11 @@ impl Places {
     ghost use Rattle.lwc_base.specs.declared.cell.Cell.{Cell};
     ghost use Rattle.cow_space.specs.Maps.{data_of};
     ghost use Rattle.range_map.specs.Kinds.{kind_of};
+    ghost use Rattle.lwc_base.specs.Capabilities.{has_bit};
+    ghost use Rattle.fd_table.specs.declared.slots.TheConstants.{NUMBERS};
+    ghost use Rattle.fd_table.specs.Slots.{context_in, is_common, is_filled};
     ghost use Rattle.lazy_world.specs.Cells.{no_row, put_row};
+    ghost use Rattle.lazy_world.specs.Kept.{target_of};
     ghost use Rattle.page_cells.specs.declared.cells.TheConstants.{MOST_PLACES};
     ghost use Rattle.lazy_world.specs.KeyValues.{HasSlot, group_in, key_in, value_in};
     ghost use Rattle.lazy_world.specs.Seen.{count, frame_count, rows};
@@ -102,6 +116,82 @@ impl Places {
         &self.uids[i]
     }
 
+    /// The number of the context that a cell has a descriptor of, if it has one.
+    fn target_of(cell: &Cell<Descriptor>) -> Option<u16>
+        ensures target { result ≡ target_of cell.now }
+        ensures within { IfSome result (λ number. number < NUMBERS) }
+    {
+        match cell {
+            Cell::Own(Descriptor::Ctx { name, .. }) => Some(number_of(*name)),
+            _ => None,
+        }
+    }
+
+    /// The context that a slot of a place's own has a descriptor of, if it has one.
+    #[tactic(auto, unfolding(crate::specs::Seen::rows, crate::specs::Seen::count, crate::specs::Cells::rows_of))]
+    pub fn context(&self, i: usize, n: u8) -> Option<Name>
+        requires place { i < count self.now }
+        requires slot { n < SLOTS }
+        ensures { result ≡ context_in (rows self.now i (Slot n)) }
+    {
+        self.slots.context(i, n)
+    }
+
+    /// The slots of a place that are common: slot n is bit n.
+    #[tactic(auto, unfolding(crate::specs::Seen::rows, crate::specs::Seen::count, crate::specs::Cells::rows_of))]
+    pub fn common(&self, i: usize) -> u64
+        requires { i < count self.now }
+        ensures { (n : ℕ) → n < SLOTS → has_bit result n ≡ is_common (rows self.now i (Slot n)) }
+    {
+        self.slots.common(i)
+    }
+
+    /// Whether a slot of a place is common.
+    pub fn is_common(&self, i: usize, n: u8) -> bool
+        requires place { i < count self.now }
+        requires slot { n < SLOTS }
+        ensures { result ≡ is_common (rows self.now i (Slot n)) }
+    {
+        self.common(i) >> n & 1 == 1
+    }
+
+    /// The slots of a place that are more than empty ones of its own: slot n is bit n.
+    #[tactic(auto, unfolding(crate::specs::Seen::rows, crate::specs::Seen::count, crate::specs::Cells::rows_of))]
+    pub fn filled(&self, i: usize) -> u64
+        requires { i < count self.now }
+        ensures { (n : ℕ) → n < SLOTS → has_bit result n ≡ is_filled (rows self.now i (Slot n)) }
+    {
+        self.slots.filled(i)
+    }
+
+    /// Whether two places share a slot. Slots that are not shared may be the same, too.
+    #[tactic(auto, unfolding(crate::specs::Seen::rows, crate::specs::Seen::count, crate::specs::Cells::rows_of))]
+    pub fn is_shared(&self, i: usize, j: usize, n: u8) -> bool
+        requires place { i < count self.now }
+        requires other { j < count self.now }
+        requires slot { n < SLOTS }
+        ensures { result ≡ true → rows self.now i (Slot n) ≡ rows self.now j (Slot n) }
+    {
+        self.slots.is_shared(i, j, n)
+    }
+
+    /// Whether a slot of a place is more than an empty slot of its own.
+    pub fn is_filled(&self, i: usize, n: u8) -> bool
+        requires place { i < count self.now }
+        requires slot { n < SLOTS }
+        ensures { result ≡ is_filled (rows self.now i (Slot n)) }
+    {
+        self.filled(i) >> n & 1 == 1
+    }
+
+    /// Whether a slot of any place may have a descriptor of a context.
+    #[tactic(auto, unfolding(crate::specs::Seen::rows, crate::specs::Seen::count, crate::specs::Cells::rows_of))]
+    pub fn may_name(&self, c: Name) -> bool
+        ensures { result ≡ false → (i n : ℕ) → context_in (rows self.now i (Slot n)) ≢ Some c }
+    {
+        self.slots.is_named(number_of(c))
+    }
+
     /// Puts another cell into a slot of a place.
     #[tactic(auto, unfolding(crate::specs::Seen::rows, crate::specs::Seen::count, crate::specs::Seen::frame_count, crate::specs::Cells::rows_of))]
     pub fn put_slot(&mut self, i: usize, n: u8, cell: Cell<Descriptor>)
@@ -111,7 +201,8 @@ impl Places {
         ensures count { count self.new ≡ count self.old }
         ensures frames { frame_count self.new ≡ frame_count self.old }
     {
-        self.slots.put(i, n, cell, None);
+        let target = Places::target_of(&cell);
+        self.slots.put(i, n, cell, target);
     }
 
     /// Puts another cell of the credential at a place.

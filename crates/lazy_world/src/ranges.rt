@@ -7,7 +7,7 @@ ghost use Rattle.lazy_world.specs.Plans.{common_in};
 
 use crate::pieces::Sources;
 use crate::plan::{Found, Plan};
-use crate::world::LazyWorld;
+use crate::world::PlacedWorld;
 use arrayvec::ArrayVec;
 use lwc_base::{Cell, Item, Key, Kind, MOST_PAGES, Name, Range, SLOTS, Spec};
 use page_cells::{MOST_STRETCHES, Source, Stretch};
@@ -65,7 +65,7 @@ fn common(kind: Option<SegmentKind>) -> Option<Name>
     }
 }
 
-impl LazyWorld {
+impl PlacedWorld {
     ghost use Rattle.lwc_base.specs.World.{group};
     ghost use Rattle.lazy_world.specs.Plans.{CanGet, Gives, IsFor, IsFound, IsHolder, given_or, planned_row};
     ghost use Rattle.lazy_world.specs.Seen.{count, rows};

@@ -10,7 +10,7 @@ ghost use Rattle.lazy_world.specs.Seen.{count, rows};
 use crate::facts::facts;
 use crate::places::Places;
 use crate::plan::Plan;
-use crate::world::LazyWorld;
+use crate::world::PlacedWorld;
 use lwc_base::laws::a_group_is_needed_where_a_value_moves;
 use lwc_base::{Name, Spec};
 use page_cells::laws::stretches_change_kinds;
@@ -18,6 +18,15 @@ use page_cells::{Stretch, changes_of};
 use range_map::ranges_are_those_of_the_context;
 
 impl Places {
+    /// The number of ranges of a place.
+    #[tactic(auto, unfolding(crate::specs::Seen::rows, crate::specs::Seen::count, crate::specs::Cells::rows_of))]
+    fn range_count(&self, i: usize) -> u32
+        requires { i < count self.now }
+        ensures { result ≡ ranges MOST_PAGES (kinds_of (rows self.now i)) }
+    {
+        self.pages.count(i)
+    }
+
     /// The number of ranges of a place once the pages of each stretch were what their source says.
     fn count_with(&self, i: usize, stretches: &[Stretch]) -> u32
         requires place { i < count self.now }
@@ -31,14 +40,15 @@ impl Places {
     }
 }
 
-impl LazyWorld {
+impl PlacedWorld {
     ghost use Rattle.lwc_base.specs.Overlay.{ranges_after_overlay};
     ghost use Rattle.lwc_base.specs.Ranges.{ranges_of};
     ghost use Rattle.lwc_base.specs.Sharing.{ranges_after_clone};
     ghost use Rattle.lwc_base.specs.World.{next_group};
     ghost use Rattle.world_face.specs.Calls.{IsLive};
     ghost use Rattle.lazy_world.specs.Followed.{IsOfContexts, followed};
-    ghost use Rattle.lazy_world.specs.Worlds.{seen};
+    ghost use Rattle.lazy_world.specs.Plans.{IsFor, planned_row};
+    ghost use Rattle.lazy_world.specs.Worlds.{parts, seen};
 
     /// The name of the next group of job 0, which no cell has.
     fn unnamed(&self) -> Name
@@ -48,6 +58,21 @@ impl LazyWorld {
             job: 0,
             k: self.counts[0].groups,
         }
+    }
+
+    /// The number of ranges of the place `to` once it got the cells that a plan gives it of the place `from`.
+    // The sources are a large value, which each caller would clear if this were a part of it.
+    #[inline(never)]
+    fn count_sources(&self, plan: Plan, spec: &Spec, from: usize, to: usize) -> u32
+        requires from { from < count self.now.places }
+        requires to { to < count self.now.places }
+        requires plan { IsFor (parts self.now).size.contexts from to plan }
+        requires within { IsSpec (seen self.now).size.pages spec.now }
+        ensures { result ≡ ranges MOST_PAGES (kinds_of (planned_row (seen self.now) plan spec.now
+            (rows self.now.places from) (rows self.now.places to))) }
+    {
+        let sources = self.sources(plan, spec, from, to);
+        self.places.count_with(to, sources.pages.as_slice())
     }
 
     /// The number of ranges of a context once it got the cells that a plan gives it of another one.
@@ -63,8 +88,11 @@ impl LazyWorld {
         ranges_are_those_of_the_context();
         let from = self.place(d);
         let to = self.place(c);
-        let sources = self.sources(plan, spec, from, to);
-        self.places.count_with(to, sources.pages.as_slice())
+        if self.gives_same(plan, spec, from) {
+            self.places.range_count(from)
+        } else {
+            self.count_sources(plan, spec, from, to)
+        }
     }
 
     /// The numbers of ranges that the context and the new one would have after `clone_context`, in this

@@ -4,11 +4,11 @@ ghost use Rattle.lwc_base.specs.declared.descriptor.TheConstants.{SLOTS};
 ghost use Rattle.lwc_base.specs.declared.key.Key.TheVariants.{Page, Slot, Cred};
 ghost use Rattle.lwc_base.specs.declared.limits.TheConstants.{MOST_PAGES, MOST_THREADS};
 
-use crate::world::LazyWorld;
+use crate::world::PlacedWorld;
 use lwc_base::{Cell, Descriptor, NOBODY, Name, Regs, SLOTS, Summary};
 use range_map::SegmentKind;
 
-impl LazyWorld {
+impl PlacedWorld {
     ghost use Rattle.std.specs.List.{find, range_with_len};
     ghost use Rattle.lwc_base.specs.Cells.{slot_at, uid_at, value_of};
     ghost use Rattle.lwc_base.specs.Slots.{lowest_empty};
@@ -96,6 +96,12 @@ impl LazyWorld {
         requires slot { n < SLOTS }
         ensures { result ≡ is_empty (value_of (seen self.now) (Slot n) (rows self.now.places i (Slot n))) }
     {
+        if !self.places.is_filled(i, n) {
+            return true;
+        }
+        if !self.places.is_common(i, n) {
+            return false;
+        }
         matches!(self.slot_at(i, n), Descriptor::Empty)
     }
 

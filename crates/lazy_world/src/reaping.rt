@@ -7,33 +7,14 @@ ghost use Rattle.world_face.specs.Calls.{IsLive};
 ghost use Rattle.lazy_world.specs.Worlds.{seen};
 
 use crate::facts::facts;
-use crate::places::Places;
-use crate::world::LazyWorld;
+use crate::world::PlacedWorld;
 use arrayvec::ArrayVec;
+use lwc_base::Name;
 use lwc_base::laws::reached_contexts_are_those_with_a_chain;
-use lwc_base::{Descriptor, Name};
 use reach::{Links, Marks, mark};
 
-impl Places {
-    ghost use Rattle.std.specs.Prelude.{◌<◌};
-    ghost use Rattle.lwc_base.specs.declared.descriptor.TheConstants.{SLOTS};
-    ghost use Rattle.lwc_base.specs.declared.key.Key.TheVariants.{Slot};
-    ghost use Rattle.fd_table.specs.Slots.{is_filled};
-    ghost use Rattle.lazy_world.specs.Seen.{count, rows};
-
-    /// Whether a slot of a place is more than an empty slot of its own.
-    #[tactic(auto, unfolding(crate::specs::Seen::rows, crate::specs::Seen::count, crate::specs::Cells::rows_of))]
-    fn is_filled(&self, i: usize, n: u8) -> bool
-        requires place { i < count self.now }
-        requires slot { n < SLOTS }
-        ensures { result ≡ is_filled (rows self.now i (Slot n)) }
-    {
-        self.slots.filled(i) >> n & 1 == 1
-    }
-}
-
 /// The places are those of contexts.
-impl Links for LazyWorld {
+impl Links for PlacedWorld {
     ghost use Rattle.lazy_world.specs.Reaping as spec;
 
     ghost link_of = { spec.link_of };
@@ -44,14 +25,14 @@ impl Links for LazyWorld {
         if !self.places.is_filled(place, slot) {
             return None;
         }
-        self.place_of(self.slot_at(place, slot))
+        self.place_of(self.linked(place, slot))
     }
 }
 
-impl LazyWorld {
+impl PlacedWorld {
     ghost use Rattle.std.specs.Prelude.{◌<◌, IfSome};
     ghost use Rattle.lwc_base.specs.declared.limits.TheConstants.{MOST_CONTEXTS};
-    ghost use Rattle.lazy_world.specs.Reaping.{place_in};
+    ghost use Rattle.lazy_world.specs.Reaping.{place_by};
 
     /// Drops the contexts that are not reached from the roots, and then the groups that no cell names.
     pub(crate) fn reap(&mut self, roots: &[Name])
@@ -64,7 +45,8 @@ impl LazyWorld {
     }
 
     /// Drops the contexts that are not reached from the roots.
-    fn drop_contexts(&mut self, roots: &[Name])
+    #[inline(never)]
+    pub(crate) fn drop_contexts(&mut self, roots: &[Name])
         requires { length roots.now ≤ MOST_ROOTS }
         ensures { seen self.new ≡ record (seen self.old) {
           contexts = fm.retain_keys (seen self.old).contexts (is_reached (seen self.old) roots.now);
@@ -80,7 +62,8 @@ impl LazyWorld {
     }
 
     /// Drops the groups that no cell names.
-    fn drop_groups(&mut self)
+    #[inline(never)]
+    pub(crate) fn drop_groups(&mut self)
         ensures { seen self.new ≡ record (seen self.old) {
           groups = fm.retain_keys (seen self.old).groups
               (λ g. list_any (names_group (seen self.old).size.pages g) (fm.values (seen self.old).contexts));
@@ -96,14 +79,14 @@ impl LazyWorld {
         self.keep_groups(&marks);
     }
 
-    /// The place of the context that a descriptor is of, if it is live.
-    fn place_of(&self, value: Descriptor) -> Option<usize>
-        ensures place { result ≡ place_in self.now.contexts.map value }
+    /// The place of a context, if one is given and it is live.
+    fn place_of(&self, c: Option<Name>) -> Option<usize>
+        ensures place { result ≡ place_by self.now.contexts.map c }
         ensures within { IfSome result (λ place. place < MOST_CONTEXTS) }
     {
-        match value {
-            Descriptor::Ctx { name, .. } => self.contexts.place(name),
-            _ => None,
+        match c {
+            Some(name) => self.contexts.place(name),
+            None => None,
         }
     }
 

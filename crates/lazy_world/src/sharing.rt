@@ -9,13 +9,13 @@ use crate::counts::Counts;
 use crate::facts::facts;
 use crate::plan::Plan;
 use crate::ranges::mode_edge;
-use crate::world::LazyWorld;
+use crate::world::PlacedWorld;
 use lwc_base::laws::a_group_is_needed_where_a_value_moves;
 use lwc_base::{Cell, Key, MOST_PAGES, NOBODY, Name, SLOTS, Spec};
 use range_map::ranges_are_those_of_the_context;
 use res_spec::mode_of;
 
-impl LazyWorld {
+impl PlacedWorld {
     ghost use Rattle.lwc_base.specs.Sharing.{moved_values, needs_group, share};
     ghost use Rattle.lwc_base.specs.World.{add_group, change_group, context, new_group, next_group};
     ghost use Rattle.range_map.specs.Kinds.{ranges};
@@ -79,6 +79,9 @@ impl LazyWorld {
         ensures value { result ≡ needs_group (seen self.now) c spec.now }
     {
         a_group_is_needed_where_a_value_moves();
+        if spec.items().is_empty() {
+            return false;
+        }
         let i = self.place(c);
         if self.moves_page(i, spec) {
             return true;
@@ -87,6 +90,27 @@ impl LazyWorld {
             return true;
         }
         self.moves_uid(i, spec)
+    }
+
+    /// A context gets the cells that a plan gives it of another one, which may be the same, key by key.
+    // The sources are a large value, which each caller would clear if this were a part of it.
+    #[inline(never)]
+    fn follow_sources(&mut self, plan: Plan, spec: &Spec, d: Name, c: Name)
+        requires from { IsLive (seen self.old) d }
+        requires to { IsLive (seen self.old) c }
+        requires plan { IsOfContexts plan d c }
+        requires within { IsSpec (seen self.old).size.pages spec.now }
+        requires fresh { IsFresh (followed (seen self.old) plan spec.now d c) }
+        requires few { ranges_of (followed (seen self.old) plan spec.now d c) c ≤ MOST_RANGES }
+        ensures { seen self.new ≡ followed (seen self.old) plan spec.now d c }
+    {
+        facts();
+        self.contexts.are_placed();
+        ranges_are_those_of_the_context();
+        let from = self.place(d);
+        let to = self.place(c);
+        let sources = self.sources(plan, spec, from, to);
+        self.places.take(to, &sources);
     }
 
     /// A context gets the cells that a plan gives it of another one, which may be the same.
@@ -104,8 +128,11 @@ impl LazyWorld {
         ranges_are_those_of_the_context();
         let from = self.place(d);
         let to = self.place(c);
-        let sources = self.sources(plan, spec, from, to);
-        self.places.take(to, &sources);
+        if self.can_copy(plan, spec, from, to) {
+            self.places.copy_place(to, from);
+        } else {
+            self.follow_sources(plan, spec, d, c);
+        }
     }
 
     /// A job makes its next group, which has nothing in it, and answers its name.

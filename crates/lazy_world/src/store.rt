@@ -15,7 +15,7 @@ use crate::counts::Counts;
 use crate::facts::facts;
 use crate::places::Places;
 use crate::touched::{Touched, touched_pages};
-use crate::world::LazyWorld;
+use crate::world::PlacedWorld;
 use lwc_base::laws::a_put_changes_one_key;
 use lwc_base::{Name, StoreFault, Tag};
 use page_cells::laws::{page_writes_take_few_frames, places_have_the_tags_of_their_world};
@@ -105,7 +105,7 @@ impl Places {
     }
 }
 
-impl LazyWorld {
+impl PlacedWorld {
     ghost use Rattle.std.specs.List.{list_all, range_with_len};
     ghost use Rattle.lwc_base.specs.Cells.{page_at};
     ghost use Rattle.lwc_base.specs.Frames.{is_parting, used};

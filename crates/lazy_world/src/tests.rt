@@ -1,12 +1,16 @@
 ghost use Rattle.std.specs.Prelude.{◌≡◌, IfOk};
+ghost use Rattle.lazy_world.specs.Lazy.{seen_lazy};
 ghost use Rattle.lazy_world.specs.Worlds.{seen};
 ghost use Rattle.world_face.specs.Calls.{IsLive, MayName};
 
 use crate::LazyWorld;
 use crate::facts::facts;
+use crate::world::PlacedWorld;
+use arrayvec::ArrayVec;
 use lwc_base::{Cap, Descriptor, MOST_RANGES, Name, OutOfMemory, Range, Regs, Summary, WorldSize};
 use std::alloc::Global;
 use std::test::Fail;
+use world_face::World;
 
 /// A capability of nothing.
 const NO_KEY: Cap = Cap {
@@ -16,7 +20,7 @@ const NO_KEY: Cap = Cap {
 };
 
 /// A world of four pages with one context.
-fn begun(alloc: Global) -> Result<(LazyWorld, Name), OutOfMemory>
+fn begun(alloc: Global) -> Result<(PlacedWorld, Name), OutOfMemory>
     ensures live { IfOk result (λ r. IsLive (seen r.0) r.1) }
     ensures may { IfOk result (λ r. MayName (seen r.0) 0) }
     ensures size { IfOk result (λ r.
@@ -30,7 +34,7 @@ fn begun(alloc: Global) -> Result<(LazyWorld, Name), OutOfMemory>
         jobs: 2,
         pages: 4,
     };
-    let mut world = LazyWorld::open(alloc, &size)?;
+    let mut world = PlacedWorld::open(alloc, &size)?;
     let c = world.first(7, &Regs::fresh(3));
     Ok((world, c))
 }
@@ -93,19 +97,42 @@ fn pages_are_mapped_and_unmapped(rt: HostRuntime) -> Result<(), Fail> {
     Ok(())
 }
 
+/// A world over one at places, with no anchor.
+fn lazily(world: PlacedWorld) -> LazyWorld
+    ensures { seen_lazy result ≡ seen world }
+{
+    LazyWorld {
+        world,
+        anchors: ArrayVec::new(),
+        known: false,
+    }
+}
+
 #[test]
 fn what_nothing_reaches_is_dropped(rt: HostRuntime) -> Result<(), Fail> {
     facts();
-    let (mut world, c) = begun(rt.alloc())?;
+    let (world, c) = begun(rt.alloc())?;
+    let mut world = lazily(world);
     let itself = Descriptor::Ctx {
         name: c,
         cap: NO_KEY,
     };
     world.set_slot(c, 0, itself);
     world.reap(&[c]);
-    assert_eq!(rt; world.context_count(), 1);
+    assert_eq!(rt; world.world.context_count(), 1);
     world.reap(&[]);
-    assert_eq!(rt; world.context_count(), 0);
+    assert_eq!(rt; world.world.context_count(), 0);
+    Ok(())
+}
+
+#[test]
+fn what_no_slot_names_is_dropped(rt: HostRuntime) -> Result<(), Fail> {
+    let (world, c) = begun(rt.alloc())?;
+    let mut world = lazily(world);
+    world.reap(&[c]);
+    assert_eq!(rt; (world.world.context_count(), world.known), (1, true));
+    world.reap(&[]);
+    assert_eq!(rt; world.world.context_count(), 0);
     Ok(())
 }
 

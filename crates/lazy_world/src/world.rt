@@ -16,7 +16,7 @@ use std::alloc::Global;
 /// cells and registers at place i, and the group at place j of `groups` has its values at the place j behind
 /// the last context's. After `open` no call takes memory. It stands for `seen`.
 #[derive(Drop)]
-pub struct LazyWorld {
+pub struct PlacedWorld {
     pub(crate) size: WorldSize,
     pub(crate) places: Places,
     pub(crate) registers: Vec<Registers>,
@@ -54,19 +54,19 @@ fn nothing_counted(alloc: Global, jobs: u32) -> Result<Vec<Counts>, OutOfMemory>
     Ok(vec![in alloc; nothing; jobs as usize]?)
 }
 
-impl LazyWorld {
+impl PlacedWorld {
     ghost use Rattle.lwc_base.specs.World.{empty_world};
     ghost use Rattle.world_face.specs.Calls.{IsSize};
     ghost use Rattle.lazy_world.specs.Worlds.{seen};
 
     /// A world of this size in which nothing is live. The only error is out of memory.
-    pub(crate) fn open(alloc: Global, world_size: &WorldSize) -> Result<LazyWorld, OutOfMemory>
+    pub(crate) fn open(alloc: Global, world_size: &WorldSize) -> Result<PlacedWorld, OutOfMemory>
         requires { IsSize world_size.now }
         ensures { IfOk result (λ w. seen w ≡ empty_world world_size.now) }
     {
         facts();
         let size = *world_size;
-        Ok(LazyWorld {
+        Ok(PlacedWorld {
             size,
             places: Places::open(alloc, size.frames, size.contexts + size.groups)?,
             registers: no_registers(alloc, size.contexts)?,

@@ -6,10 +6,10 @@ use crate::counts::Counts;
 use crate::facts::facts;
 use crate::key_value::KeyValue;
 use crate::registers::Registers;
-use crate::world::LazyWorld;
+use crate::world::PlacedWorld;
 use lwc_base::{Descriptor, Name, Regs};
 
-impl LazyWorld {
+impl PlacedWorld {
     ghost use Rattle.lwc_base.specs.Cells.{put_at, put_slot, put_uid, with_value};
     ghost use Rattle.lwc_base.specs.Saved.{save};
     ghost use Rattle.lwc_base.specs.World.{add_context, change_group, new_context, next_context};
@@ -73,6 +73,17 @@ impl LazyWorld {
         self.contexts.are_placed();
         let i = self.place(c);
         self.registers[i].saved[t as usize] = Some(*regs);
+    }
+
+    /// The name of a job's next context.
+    pub(crate) fn next_name(&self, job: u32) -> Name
+        requires { job < (seen self.now).size.jobs }
+        ensures { result ≡ next_context (seen self.now) job }
+    {
+        Name {
+            job,
+            k: self.counts[job as usize].contexts,
+        }
     }
 
     /// A job makes its next context, which has nothing but a credential, and answers its name.

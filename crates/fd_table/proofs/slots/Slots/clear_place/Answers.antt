@@ -1,4 +1,4 @@
-use Rattle.std.proofs.Common.{◌<◌, length, set, arith, ap, ◌∙◌, sym, subst, length-set}
+use Rattle.std.proofs.Common.{◌<◌, length, set, arith, ap, ◌∙◌, sym, subst}
 use Rattle.fd_table.specs.declared.table.Table.{Table}
 use Rattle.fd_table.specs.Seen.{slots}
 use Rattle.fd_table.specs.Tables.{times, rows, IsTable}
@@ -45,7 +45,7 @@ invariant_of-self c =
       kept = subst (λ t. IsKept c.drop_all.new.self.pool (set tables c.args.i t)) (sym c.empty.ensures)
           (clear-kept pool _ tables c.args.i c.used.result.now c.args.self.now.kept inside c.drop_all.ensures.pool
           (λ o. c.used.ensures.same o ∙ ap (λ (t : Table). times o t.entries) read));
-      places = c.drop_all.ensures.places ∙ c.args.self.now.places ∙ sym (length-set tables c.args.i c.empty.result);
+      numbers = c.drop_all.ensures.places ∙ c.args.self.now.numbers;
     }
 
 pub returns : goal.returns

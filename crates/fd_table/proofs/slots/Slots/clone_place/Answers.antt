@@ -1,4 +1,4 @@
-use Rattle.std.proofs.Common.{◌<◌, length, set, arith, ap, ◌∙◌, sym, subst, length-set}
+use Rattle.std.proofs.Common.{◌<◌, length, set, arith, ap, ◌∙◌, sym, subst}
 use Rattle.fd_table.specs.declared.table.Table.{Table}
 use Rattle.fd_table.specs.Seen.{slots}
 use Rattle.fd_table.specs.Tables.{times, rows, IsTable}
@@ -54,7 +54,7 @@ invariant_of-self c =
       kept = subst (λ t. IsKept c.hold_all.new.self.pool (set tables c.args.to t)) (sym again)
           (clone-kept pool _ tables c.args.to c.args.from c.used.result.now c.args.self.now.kept to_in from_in c.requires.empty c.hold_all.ensures.pool
           (λ o. c.used.ensures.same o ∙ ap (λ (t : Table). times o t.entries) read));
-      places = c.hold_all.ensures.places ∙ c.args.self.now.places ∙ sym (length-set tables c.args.to c.index-table.result.now);
+      numbers = c.hold_all.ensures.places ∙ c.args.self.now.numbers;
     }
 
 pub returns : goal.returns

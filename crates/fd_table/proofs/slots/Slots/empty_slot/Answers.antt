@@ -1,4 +1,4 @@
-use Rattle.std.proofs.Common.{◌<◌, ◌≤◌, ◌∷◌, [], length, get_or, set, false, refl, arith, ap, ◌∙◌, sym, subst, length-set, cond, eqb, ltb}
+use Rattle.std.proofs.Common.{◌<◌, ◌≤◌, ◌∷◌, [], length, get_or, set, false, refl, arith, ap, ◌∙◌, sym, subst, cond, eqb, ltb}
 use Rattle.lwc_base.specs.Capabilities.{has_bit}
 use Rattle.fd_table.specs.declared.table.Table.{Table}
 use Rattle.fd_table.specs.Seen.{slots}
@@ -48,7 +48,7 @@ invariant_of-self c =
           (λ m lt. c.set.ensures.filled m lt ∙ ap (λ (t : Table). cond (eqb m n) (ltb 0 0) (has_bit t.filled m)) again)
           (λ m lt. c.set.ensures.common m lt ∙ ap (λ (t : Table). cond (eqb m n) false (has_bit t.common m)) again)
           refl refl;
-      places = c.drop_entry.ensures.places ∙ c.args.self.now.places ∙ sym (length-set tables i c.set.new.self);
+      numbers = c.drop_entry.ensures.places ∙ c.args.self.now.numbers;
     }
 
 pub returns : goal.returns

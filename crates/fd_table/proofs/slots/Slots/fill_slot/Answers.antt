@@ -1,4 +1,4 @@
-use Rattle.std.proofs.Common.{◌<◌, ◌+◌, length, get_or, set, arith, ap, ◌∙◌, sym, subst, length-set, cond, eqb, ltb, IfSome}
+use Rattle.std.proofs.Common.{◌<◌, ◌+◌, length, get_or, set, arith, ap, ◌∙◌, sym, subst, cond, eqb, ltb, IfSome}
 use Rattle.std.proofs.lemmas.Bool.{lt-ltb}
 use Rattle.lwc_base.specs.Capabilities.{has_bit}
 use Rattle.fd_table.specs.declared.table.Table.{Table}
@@ -19,10 +19,8 @@ take-o-requires-clause-free c =
     free-some pool tables c.args.i c.args.n c.args.self.now.kept inside c.requires.slot (empty-zero pool tables c.args.i c.args.n c.args.self.now.kept inside c.requires.empty)
 
 pub take-o-requires-clause-target : goal.take-o-requires-clause-target
-unfolding slots
 take-o-requires-clause-target c =
-    let places = length-rows c.args.self.now.objects.pool c.args.self.now.tables.items ∙ sym c.args.self.now.places in
-    subst (λ k. IfSome c.args.filling.target (λ place. place < k)) places c.requires.target
+    subst (λ k. IfSome c.args.filling.target (λ number. number < k)) (sym c.args.self.now.numbers) c.requires.target
 
 pub index_mut-requires : goal.index_mut-requires
 unfolding slots
@@ -53,7 +51,7 @@ invariant_of-self c =
           (λ m lt. c.set.ensures.common m lt ∙ ap (λ (t : Table). cond (eqb m n) c.is_common.result (has_bit t.common m)) again)
           (ap (λ (s : Slot). is_filled s.cell) is ∙ c.requires.filled ∙ sym (lt-ltb 0 (o + 1) (omega arith)))
           (c.is_common.ensures ∙ sym (ap (λ (s : Slot). is_common s.cell) is));
-      places = c.take-o.ensures.places ∙ c.args.self.now.places ∙ sym (length-set tables i c.set.new.self);
+      numbers = c.take-o.ensures.places ∙ c.args.self.now.numbers;
     }
 
 pub returns : goal.returns

@@ -1,4 +1,4 @@
-use Rattle.std.proofs.Common.{◌<◌, ◌∷◌, [], length, get_or, set, arith, ap, ◌∙◌, sym, subst, length-set, cond, eqb, ltb}
+use Rattle.std.proofs.Common.{◌<◌, ◌∷◌, [], length, get_or, set, arith, ap, ◌∙◌, sym, subst, cond, eqb, ltb}
 use Rattle.lwc_base.specs.Capabilities.{has_bit}
 use Rattle.fd_table.specs.declared.table.Table.{Table}
 use Rattle.fd_table.specs.Seen.{slots}
@@ -64,7 +64,7 @@ invariant_of-self c =
           (λ m lt. c.set.ensures.common m lt ∙ ap (λ (t : Table). cond (eqb m n) c.is_common-common.result (has_bit t.common m)) again)
           (ap (λ (s : Slot). is_filled s.cell) is ∙ share-filled pool tables c.args.from n kept from_in)
           (common_is ∙ share-common pool tables c.args.from n kept from_in c.requires.slot ∙ sym (ap (λ (s : Slot). is_common s.cell) is));
-      places = c.hold_all.ensures.places ∙ c.args.self.now.places ∙ sym (length-set tables to c.set.new.self);
+      numbers = c.hold_all.ensures.places ∙ c.args.self.now.numbers;
     }
 
 pub returns : goal.returns

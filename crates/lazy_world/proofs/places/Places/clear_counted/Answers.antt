@@ -1,11 +1,14 @@
-use Rattle.std.proofs.Common.{◌∙◌, ap, arith, length, length-set, set}
+use Rattle.std.proofs.Common.{◌∙◌, ap, arith, length, length-set, refl, set, subst, sym, List, ℕ}
 use Rattle.lwc_base.specs.declared.cell.Cell.TheVariants.{Own}
 use Rattle.lwc_base.specs.declared.key.TheConstants.{NOBODY}
 use Rattle.fd_table.specs.Seen as slots_seen
+use Rattle.fd_table.specs.Slots.{Slot, row_of}
 use Rattle.page_cells.specs.Seen as pages_seen
 use Rattle.lazy_world.specs.Cells.{rows_of}
+use Rattle.lazy_world.specs.Kept.{IsNumbered}
 use Rattle.lazy_world.specs.Seen.{count, frame_count, rows}
 use Rattle.lazy_world.proofs.ClearLemmas.{rows-cleared}
+use Rattle.lazy_world.proofs.PlaceLemmas.{numbered-set}
 use Rattle.lazy_world.proofs.places.Places.clear_counted.Goals as goal
 
 pub clear_place-requires : goal.clear_place-requires
@@ -35,3 +38,17 @@ returns-clause-count g c = ap length c.clear_place.ensures.cells ∙ length-set 
 pub returns-clause-frames : goal.returns-clause-frames
 unfolding frame_count
 returns-clause-frames g c = c.clear_place.ensures.frames
+
+pub invariant_of-self : goal.invariant_of-self
+unfolding count
+invariant_of-self g c =
+    let w = c.args.self.now in
+    let same = ap length c.clear_place.ensures.cells ∙ length-set (pages_seen.cells w.pages) c.args.i _ in
+    record {
+      kept = record {
+        slot_count = ap length c.clear_place-2.ensures ∙ length-set (slots_seen.slots w.slots) c.args.i _ ∙ w.kept.slot_count ∙ sym same;
+        uid_count = length-set w.uids.items c.args.i _ ∙ w.kept.uid_count ∙ sym same;
+        targets = subst (λ (table : List (ℕ → Slot)). (i n : ℕ) → IsNumbered (row_of table i n)) (sym c.clear_place-2.ensures)
+            (numbered-set (slots_seen.slots w.slots) c.args.i _ (omega (arith, w.kept.slot_count, c.requires.place)) (λ _. refl) w.kept.targets);
+      };
+    }

@@ -1,11 +1,11 @@
-use Rattle.std.proofs.Common.{refl, arith, length, length-set, ◌∙◌, ap, sym, subst, None, ℕ, List, ◌≡◌, ◌<◌}
+use Rattle.std.proofs.Common.{refl, arith, length, length-set, ◌∙◌, ap, sym, subst, ℕ, List, ◌<◌}
 use Rattle.fd_table.specs.Slots.{Slot, row_of}
 use Rattle.fd_table.specs.Seen as slots_seen
 use Rattle.page_cells.specs.Seen as pages_seen
 use Rattle.lazy_world.specs.Cells.{rows_of}
+use Rattle.lazy_world.specs.Kept.{IsNumbered}
 use Rattle.lazy_world.specs.Seen.{count, frame_count, rows}
-use Rattle.lazy_world.proofs.PlaceLemmas.{slot-put}
-use Rattle.lazy_world.proofs.TakeLemmas.{targets-copied}
+use Rattle.lazy_world.proofs.PlaceLemmas.{numbered-put, numbered-set, slot-put}
 use Rattle.lazy_world.proofs.places.Places.copy_slot.Goals as goal
 
 pub copy_slot-requires-clause-to : goal.copy_slot-requires-clause-to
@@ -24,8 +24,9 @@ invariant_of-self c =
       kept = record {
         slot_count = ap length c.copy_slot.ensures ∙ length-set (slots_seen.slots c.args.self.now.slots) c.args.i _ ∙ c.args.self.now.kept.slot_count;
         uid_count = c.args.self.now.kept.uid_count;
-        targets = subst (λ (table : List (ℕ → Slot)). (i n : ℕ) → (row_of table i n).target ≡ None) (sym c.copy_slot.ensures)
-            (targets-copied (slots_seen.slots c.args.self.now.slots) c.args.i c.args.j c.args.n inside c.args.self.now.kept.targets);
+        targets = subst (λ (table : List (ℕ → Slot)). (i n : ℕ) → IsNumbered (row_of table i n)) (sym c.copy_slot.ensures)
+            (numbered-set (slots_seen.slots c.args.self.now.slots) c.args.i _ inside
+            (numbered-put (row_of (slots_seen.slots c.args.self.now.slots) c.args.i) c.args.n _ (c.args.self.now.kept.targets c.args.j c.args.n) (c.args.self.now.kept.targets c.args.i)) c.args.self.now.kept.targets);
       };
     }
 

@@ -1,12 +1,13 @@
-use Rattle.std.proofs.Common.{length, ◌∙◌, ap, sym, subst, None, ℕ, List, ◌≡◌}
+use Rattle.std.proofs.Common.{length, ◌∙◌, ap, sym, subst, ℕ, List}
 use Rattle.std.proofs.lemmas.List.{length-replicate}
 use Rattle.fd_table.specs.Slots.{Slot, no_slots, row_of}
 use Rattle.page_cells.specs.Cells.{no_pages}
 use Rattle.lwc_base.specs.declared.cell.Cell.TheVariants.{Own}
 use Rattle.lwc_base.specs.declared.key.TheConstants.{NOBODY}
 use Rattle.lazy_world.specs.Cells.{rows_of}
+use Rattle.lazy_world.specs.Kept.{IsNumbered}
 use Rattle.lazy_world.specs.Seen.{count, rows}
-use Rattle.lazy_world.proofs.PlaceLemmas.{rows-none, targets-none}
+use Rattle.lazy_world.proofs.PlaceLemmas.{rows-none, numbered-none}
 use Rattle.lazy_world.proofs.places.Places.open.Goals as goal
 
 pub invariant_of-result : goal.invariant_of-result
@@ -14,7 +15,7 @@ invariant_of-result c = record {
   kept = record {
     slot_count = ap length c.in_ok-open-2.ensures ∙ length-replicate c.args.places no_slots ∙ sym (ap length c.in_ok-open.ensures.cells ∙ length-replicate c.args.places no_pages);
     uid_count = ap length c.in_ok-no_uids.ensures ∙ length-replicate c.args.places (Own NOBODY) ∙ sym (ap length c.in_ok-open.ensures.cells ∙ length-replicate c.args.places no_pages);
-    targets = subst (λ (table : List (ℕ → Slot)). (i n : ℕ) → (row_of table i n).target ≡ None) (sym c.in_ok-open-2.ensures) (targets-none c.args.places);
+    targets = subst (λ (table : List (ℕ → Slot)). (i n : ℕ) → IsNumbered (row_of table i n)) (sym c.in_ok-open-2.ensures) (numbered-none c.args.places);
   };
 }
 

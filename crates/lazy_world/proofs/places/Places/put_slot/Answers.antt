@@ -1,10 +1,11 @@
-use Rattle.std.proofs.Common.{arith, length, length-set, ◌∙◌, ap, sym, subst, None, ℕ, List, ◌≡◌, ◌<◌}
+use Rattle.std.proofs.Common.{arith, length, length-set, ◌∙◌, ap, sym, subst, ℕ, List, ◌<◌}
 use Rattle.fd_table.specs.Slots.{Slot, row_of}
 use Rattle.fd_table.specs.Seen as slots_seen
 use Rattle.page_cells.specs.Seen as pages_seen
 use Rattle.lazy_world.specs.Cells.{rows_of}
+use Rattle.lazy_world.specs.Kept.{IsNumbered, target_of}
 use Rattle.lazy_world.specs.Seen.{count, rows}
-use Rattle.lazy_world.proofs.PlaceLemmas.{slot-put, targets-put}
+use Rattle.lazy_world.proofs.PlaceLemmas.{slot-put, numbered-put, numbered-set}
 use Rattle.lazy_world.proofs.places.Places.put_slot.Goals as goal
 
 pub put-requires-clause-place : goal.put-requires-clause-place
@@ -19,8 +20,9 @@ invariant_of-self c =
       kept = record {
         slot_count = ap length c.put.ensures ∙ length-set (slots_seen.slots c.args.self.now.slots) c.args.i _ ∙ c.args.self.now.kept.slot_count;
         uid_count = c.args.self.now.kept.uid_count;
-        targets = subst (λ (table : List (ℕ → Slot)). (i n : ℕ) → (row_of table i n).target ≡ None) (sym c.put.ensures)
-            (targets-put (slots_seen.slots c.args.self.now.slots) c.args.i c.args.n c.args.cell inside c.args.self.now.kept.targets);
+        targets = subst (λ (table : List (ℕ → Slot)). (i n : ℕ) → IsNumbered (row_of table i n)) (sym c.put.ensures)
+            (numbered-set (slots_seen.slots c.args.self.now.slots) c.args.i _ inside
+            (numbered-put (row_of (slots_seen.slots c.args.self.now.slots) c.args.i) c.args.n _ c.target_of-target.ensures.target (c.args.self.now.kept.targets c.args.i)) c.args.self.now.kept.targets);
       };
     }
 
@@ -28,4 +30,7 @@ pub returns-clause-rows : goal.returns-clause-rows
 unfolding rows count
 returns-clause-rows c =
     ap (λ table. rows_of (pages_seen.cells c.args.self.now.pages) table c.args.self.now.uids.items) c.put.ensures
-    ∙ slot-put _ _ _ c.args.i c.args.n (record { cell = c.args.cell; target = None }) (omega (arith, c.args.self.now.kept.slot_count, c.requires.place))
+    ∙ slot-put _ _ _ c.args.i c.args.n (record { cell = c.args.cell; target = c.target_of-target.result }) (omega (arith, c.args.self.now.kept.slot_count, c.requires.place))
+
+pub put-requires-clause-named : goal.put-requires-clause-named
+put-requires-clause-named c empty = c.target_of-target.ensures.target ∙ ap target_of empty

@@ -1,0 +1,80 @@
+-- Rows whose cells are all a place's own, and that a plan gives as they are.
+use Rattle.std.proofs.Common.{◌≡◌, ℕ, ◌<◌, ◌≤◌, ⊎_elim, refl, sym, ap, ◌∙◌, true, false, eqb, arith, length, not, [], Bool, List}
+use Rattle.std.proofs.lemmas.Bool.{cases_lt}
+use Rattle.std.proofs.lemmas.List.{nil_from_length}
+use Rattle.std.proofs.lemmas.Nat.Bits.{bit_at-zero}
+use Rattle.lwc_base.specs.declared.cell.Cell.{Cell}
+use Rattle.lwc_base.specs.declared.cell.Cell.TheVariants as cells
+use Rattle.fd_table.specs.Slots as slots
+use Rattle.lwc_base.specs.declared.descriptor.Descriptor.{Descriptor}
+use Rattle.lwc_base.specs.declared.item.Item.{Item}
+use Rattle.lwc_base.specs.declared.item.Mode.TheVariants.{Share}
+use Rattle.lwc_base.specs.declared.key.Key.{Key}
+use Rattle.lwc_base.specs.declared.key.Key.TheVariants.{Page, Slot, Cred}
+use Rattle.lwc_base.specs.declared.limits.TheConstants.{MOST_PAGES}
+use Rattle.lwc_base.specs.declared.name.Name.{Name}
+use Rattle.lwc_base.specs.Capabilities.{has_bit}
+use Rattle.lwc_base.specs.Cells.{value_of}
+use Rattle.lwc_base.specs.Keys.{ValueOf}
+use Rattle.lwc_base.specs.Modes.{IsKey, mode, mode_or_copy}
+use Rattle.lwc_base.specs.Summaries.{is_empty}
+use Rattle.lwc_base.specs.Sharing.{has_own, needs_group}
+use Rattle.lwc_base.specs.World.{World, context}
+use Rattle.lazy_world.specs.Cells.{Row, is_nothing, is_own}
+use Rattle.lazy_world.specs.Plans.{planned_row}
+use Rattle.lazy_world.specs.Sound.{IsAllOwn, IsWithin}
+use Rattle.lazy_world.specs.declared.plan.Plan.TheVariants.{Mark, Clone}
+
+pub no-bit : (word n : ℕ) → eqb word 0 ≡ true → has_bit word n ≡ false
+no-bit word n is = let none : word ≡ 0 = grind arith in ap (λ w. has_bit w n) none ∙ ap (λ b. eqb b 1) (bit_at-zero n)
+
+own-nothing : (k : Key) (cell : Cell (ValueOf k)) → is_nothing k cell ≡ true → (k ≡ Cred → is_own cell ≡ true) → is_own cell ≡ true
+own-nothing k (cells.Own value) none cred = refl
+own-nothing (Page p) (cells.Common g) none cred = cc
+own-nothing (Slot n) (cells.Common g) none cred = cc
+own-nothing Cred (cells.Common g) none cred = cred refl
+
+-- a row is all own that is so as far as there are pages and slots, and has nothing past them
+pub all-own : (pages : ℕ) (row : Row) → pages ≤ MOST_PAGES → IsWithin pages row → ((n : ℕ) → n < 64 → is_own (row (Slot n)) ≡ true) → is_own (row Cred) ≡ true →
+    ((p : ℕ) → p < MOST_PAGES → is_own (row (Page p)) ≡ true) → IsAllOwn row
+all-own pages row few past slots uid own (Page p) =
+    ⊎_elim (λ low. own p low) (λ high. own-nothing (Page p) (row (Page p)) (past (Page p) (omega (arith, few, high))) (λ is. cc)) (cases_lt p MOST_PAGES)
+all-own pages row few past slots uid own (Slot n) =
+    ⊎_elim (λ low. slots n low) (λ high. own-nothing (Slot n) (row (Slot n)) (past (Slot n) high) (λ is. cc)) (cases_lt n 64)
+all-own pages row few past slots uid own Cred = uid
+
+own-same : (w : World) (k : Key) (cell : Cell (ValueOf k)) → is_own cell ≡ true → cells.Own (value_of w k cell) ≡ cell
+own-same w k (cells.Own value) own = refl
+own-same w k (cells.Common g) own = cc
+
+-- without items a context is marked as it is
+pub marked-same : (w : World) (g : Name) (row old : Row) → planned_row w (Mark g) [] row old ≡ row
+unfolding mode
+marked-same w g row old = λ e k. row k
+
+-- and a copy of what is all own is the same
+pub cloned-same : (w : World) (g : Name) (row old : Row) → IsAllOwn row → planned_row w (Clone g) [] row old ≡ row
+unfolding mode
+cloned-same w g row old own = λ e k. own-same w k (row k) (own k) e
+
+-- an empty slice of what is seen as a list
+pub no-items : (found items : List Item) (b : Bool) → found ≡ items → b ≡ eqb (length found) 0 → b ≡ true → items ≡ []
+no-items found items b is test yes_ = sym is ∙ nil_from_length found (let none : eqb (length found) 0 ≡ true = sym test ∙ yes_ in grind arith)
+
+copied : (k : Key) → mode_or_copy [] k ≡ Share → ⊥
+unfolding mode_or_copy mode
+copied k is = cc
+
+-- without items no value moves
+pub none-needed : (w : World) (c : Name) → ((w : World) (c : Name) (items : List Item) → ((k : Key) → IsKey w.size.pages k → mode_or_copy items k ≡ Share →
+    has_own k ((context w c).cell k) ≡ false) → needs_group w c items ≡ false) → needs_group w c [] ≡ false
+none-needed w c law = law w c [] (λ k inside shares. absurd (copied k shares))
+
+-- a filled slot of a place's own is not empty
+pub own-filled : (w : World) (n : ℕ) (cell : Cell Descriptor) → slots.is_common cell ≡ false → slots.is_filled cell ≡ true → false ≡ is_empty (value_of w (Slot n) cell)
+own-filled w n (cells.Own value) own filled = at (is_empty value) filled
+  where
+    at : (b : Bool) → not b ≡ true → false ≡ b
+    at true is = cc
+    at false is = refl
+own-filled w n (cells.Common g) own filled = cc

@@ -1,8 +1,0 @@
-use Rattle.std.proofs.Common.{◌≡◌, ℕ, ◌+◌, ◌<◌, get_or}
-use Rattle.lazy_world.specs.Memory.{byte_in}
-use Rattle.lazy_world.specs.Seen.{rows}
-use Rattle.lazy_world.specs.Worlds.{seen}
-use Rattle.lazy_world.proofs.world.LazyWorld.copy_to.Given as goal
-
-abbrev pub invariant-loop-k : goal.invariant-loop-k
-invariant-loop-k l = (j : ℕ) → j < l.k → get_or l.out j 0 ≡ byte_in (seen l.self) (rows l.self.places l.i) (l.at + j)

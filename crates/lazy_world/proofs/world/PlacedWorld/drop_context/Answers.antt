@@ -1,0 +1,31 @@
+use Rattle.std.proofs.Common.{◌∙◌, ap, subst, sym}
+use Rattle.lazy_world.specs.Sound.{IsSound}
+use Rattle.lazy_world.specs.States.{world_of}
+use Rattle.lazy_world.specs.Worlds.{parts, seen}
+use Rattle.lazy_world.proofs.DropLemmas.{dropped-context, sound-context}
+use Rattle.lazy_world.proofs.WorldLemmas.{live-there}
+use Rattle.lazy_world.proofs.world.PlacedWorld.drop_context.Goals as goal
+
+pub remove-i-requires : goal.remove-i-requires
+unfolding seen parts
+remove-i-requires c = sym (live-there (parts c.args.self.now) c.args.c) ∙ c.requires
+
+pub invariant_of-self : goal.invariant_of-self
+unfolding parts
+invariant_of-self c =
+    let s = parts c.args.self.now in
+    record {
+      count = c.clear.ensures.count ∙ c.args.self.now.count;
+      frames = c.clear.ensures.frames ∙ c.args.self.now.frames;
+      sound = subst (λ rows. IsSound (record s { rows = rows; contexts = c.remove-i.new.self })) (sym c.clear.ensures.rows)
+          (sound-context s c.args.self.now.sound c.facts.ensures c.are_placed.ensures.placed c.args.c c.remove-i.result c.remove-i.ensures.place
+          c.remove-i.new.self c.remove-i.ensures.map c.remove-i.ensures.places);
+    }
+
+pub returns-clause-world : goal.returns-clause-world
+unfolding seen parts
+returns-clause-world c =
+    let s = parts c.args.self.now in
+    ap (λ rows. world_of (record s { rows = rows; contexts = c.remove-i.new.self })) c.clear.ensures.rows
+    ∙ dropped-context s c.args.self.now.sound c.facts.ensures c.are_placed.ensures.placed c.args.c c.remove-i.result c.remove-i.ensures.place
+    c.remove-i.new.self c.remove-i.ensures.map c.remove-i.ensures.places

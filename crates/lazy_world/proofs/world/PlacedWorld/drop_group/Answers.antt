@@ -1,0 +1,31 @@
+use Rattle.std.proofs.Common.{◌∙◌, ap, subst, sym}
+use Rattle.lazy_world.specs.Sound.{IsSound}
+use Rattle.lazy_world.specs.States.{world_of}
+use Rattle.lazy_world.specs.Worlds.{parts, seen}
+use Rattle.lazy_world.proofs.DropLemmas.{dropped-group, sound-group}
+use Rattle.lazy_world.proofs.WorldLemmas.{group-there}
+use Rattle.lazy_world.proofs.world.PlacedWorld.drop_group.Goals as goal
+
+pub remove-j-requires : goal.remove-j-requires
+unfolding seen parts
+remove-j-requires c = sym (group-there (parts c.args.self.now) c.args.g) ∙ c.requires
+
+pub invariant_of-self : goal.invariant_of-self
+unfolding parts
+invariant_of-self c =
+    let s = parts c.args.self.now in
+    record {
+      count = c.clear.ensures.count ∙ c.args.self.now.count;
+      frames = c.clear.ensures.frames ∙ c.args.self.now.frames;
+      sound = subst (λ rows. IsSound (record s { rows = rows; groups = c.remove-j.new.self })) (sym c.clear.ensures.rows)
+          (sound-group s c.args.self.now.sound c.facts.ensures c.are_placed.ensures.placed c.are_placed-2.ensures.placed c.args.g c.remove-j.result c.remove-j.ensures.place
+          c.remove-j.new.self c.remove-j.ensures.map c.remove-j.ensures.places);
+    }
+
+pub returns-clause-world : goal.returns-clause-world
+unfolding seen parts
+returns-clause-world c =
+    let s = parts c.args.self.now in
+    ap (λ rows. world_of (record s { rows = rows; groups = c.remove-j.new.self })) c.clear.ensures.rows
+    ∙ dropped-group s c.args.self.now.sound c.facts.ensures c.are_placed.ensures.placed c.are_placed-2.ensures.placed c.args.g c.remove-j.result c.remove-j.ensures.place
+    c.remove-j.new.self c.remove-j.ensures.map c.remove-j.ensures.places

@@ -1,0 +1,59 @@
+use Rattle.std.proofs.Common.{◌+◌, ◌≤◌, ◌∙◌, ap, arith, sym, subst}
+use Rattle.lwc_base.specs.declared.limits.TheConstants.{MOST_PAGES, MOST_RANGES}
+use Rattle.lwc_base.specs.World.{Context}
+use Rattle.range_map.specs.Kinds.{ranges}
+use Rattle.lazy_world.specs.Cells.{Row, kinds_of, no_row, put_row}
+use Rattle.lazy_world.specs.Plans.{planned_row}
+use Rattle.lazy_world.specs.Seen.{rows}
+use Rattle.lazy_world.specs.Sound.{HasOldTags, HasOneHome, IsSound}
+use Rattle.lazy_world.specs.States.{world_of}
+use Rattle.lazy_world.specs.Worlds.{parts, seen}
+use Rattle.lazy_world.specs.declared.plan.Plan.TheVariants.{Move}
+use Rattle.lazy_world.proofs.FollowLemmas.{sourced-homes, sourced-tags}
+use Rattle.lazy_world.proofs.GroupLemmas.{filled-sound, filled-world}
+use Rattle.lazy_world.proofs.PastLemmas.{planned-within}
+use Rattle.lazy_world.proofs.WorldLemmas.{change_group-missed}
+use Rattle.lazy_world.proofs.world.PlacedWorld.fill_group.Goals as goal
+
+pub sources-sources-requires-clause-plan : goal.sources-sources-requires-clause-plan
+unfolding parts
+sources-sources-requires-clause-plan c = λ same. absurd (let low = c.place-from.ensures.low in omega (arith, low, same))
+
+pub take-requires-clause-place : goal.take-requires-clause-place
+take-requires-clause-place c = omega (arith, c.in-Some.ensures.within, c.args.self.now.sound.sizes.groups, c.args.self.now.count)
+
+pub take-requires-clause-few : goal.take-requires-clause-few
+unfolding seen parts
+take-requires-clause-few c =
+    let w = c.args.self.now in
+    subst (λ (row : Row). ranges MOST_PAGES (kinds_of row) ≤ MOST_RANGES) (sym c.sources-sources.ensures.row)
+    (subst (λ (x : Context). ranges MOST_PAGES (kinds_of (planned_row (seen w) Move c.args.spec.now x.cell no_row)) ≤ MOST_RANGES) c.place-from.ensures.context c.requires.few)
+
+pub invariant_of-self : goal.invariant_of-self
+unfolding seen parts world_of
+invariant_of-self c =
+    let w = c.args.self.now in
+    let s = parts w in
+    let to = w.size.contexts + c.in-Some.j in
+    record {
+      count = c.take.ensures.count ∙ w.count;
+      frames = c.take.ensures.frames ∙ w.frames;
+      sound = subst (λ rows. IsSound (record s { rows = rows })) (sym (c.take.ensures.rows ∙ ap (put_row (rows w.places) to) c.sources-sources.ensures.row))
+          (filled-sound s w.sound c.facts.ensures c.are_placed.ensures.placed c.are_placed-2.ensures.placed c.args.g c.in-Some.j (sym c.place.ensures.place ∙ c.in-Some.is) c.args.spec.now c.args.c c.place-from.result c.place-from.ensures.context
+          (planned-within (seen w) s.size.pages c.args.spec.now c.requires.within Move (rows w.places c.place-from.result) (rows w.places to) (w.sound.past c.place-from.result) (w.sound.past to))
+          (subst (HasOldTags (seen w).next) c.sources-sources.ensures.row (sourced-tags (seen w).next (rows w.places) to c.sources-sources.result w.sound.tags))
+          (subst (λ row. HasOneHome (put_row (rows w.places) to row)) c.sources-sources.ensures.row (sourced-homes (rows w.places) to c.sources-sources.result w.sound.homes)));
+    }
+
+pub returns-in-Some : goal.returns-in-Some
+unfolding seen parts
+returns-in-Some c =
+    let w = c.args.self.now in
+    let s = parts w in
+    let to = w.size.contexts + c.in-Some.j in
+    ap (λ rows. world_of (record s { rows = rows })) (c.take.ensures.rows ∙ ap (put_row (rows w.places) to) c.sources-sources.ensures.row)
+    ∙ filled-world s w.sound c.facts.ensures c.are_placed.ensures.placed c.are_placed-2.ensures.placed c.args.g c.in-Some.j (sym c.place.ensures.place ∙ c.in-Some.is) c.args.spec.now c.args.c c.place-from.result c.place-from.ensures.context
+
+pub returns-in-None : goal.returns-in-None
+unfolding seen parts
+returns-in-None c = change_group-missed (parts c.args.self.now) c.args.g _ (sym c.place.ensures.place ∙ c.in-None.is)

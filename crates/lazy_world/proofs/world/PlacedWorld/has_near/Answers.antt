@@ -1,0 +1,17 @@
+use Rattle.std.proofs.Common.{◌∙◌, ap, subst, sym}
+use Rattle.std.specs.Prelude.{IfSome}
+use Rattle.fd_table.specs.Slots.{context_of}
+use Rattle.lwc_base.specs.declared.key.Key.TheVariants.{Slot}
+use Rattle.lwc_base.specs.Cells.{value_of}
+use Rattle.lazy_world.specs.Anchors.{HasRoot}
+use Rattle.lazy_world.specs.Worlds.{parts, seen}
+use Rattle.lazy_world.proofs.LooseLemmas.{next-place}
+use Rattle.lazy_world.proofs.world.PlacedWorld.has_near.Goals as goal
+
+pub returns-then-is_shared : goal.returns-then-is_shared
+unfolding seen parts
+returns-then-is_shared c _ d is =
+    let w = c.args.self.now in
+    let root = subst (λ o. IfSome o (HasRoot (parts w) c.args.roots.now)) c.in-Some.is c.requires.first in
+    next-place c.names_are_ordered.ensures (parts w) c.args.roots.now c.in-Some.j c.args.n d root c.requires.slot
+    (ap (λ cell. context_of (value_of (seen w) (Slot c.args.n) cell)) (sym (c.is_shared.ensures c.if-is_shared.true)) ∙ is)

@@ -1,0 +1,10 @@
+use Rattle.std.proofs.Common.{◌≡◌}
+use Rattle.lazy_world.specs.Reaping.{keeps, left_by}
+use Rattle.lazy_world.specs.Worlds.{seen}
+use Rattle.lazy_world.proofs.world.PlacedWorld.keep_groups.Given as goal
+
+abbrev pub invariant-loop-j : goal.invariant-loop-j
+invariant-loop-j l = record {
+  map : l.self.groups.map ≡ left_by l.initial.self.groups.map (keeps l.marks l.j) l.initial.self.groups.map;
+  world : seen l.self ≡ record (seen l.initial.self) { groups = left_by l.initial.self.groups.map (keeps l.marks l.j) (seen l.initial.self).groups };
+}

@@ -1,0 +1,32 @@
+use Rattle.std.proofs.Common.{◌<◌, arith, length, rules}
+use Rattle.std.proofs.lemmas.List.{get_or_read}
+use Rattle.lazy_world.specs.States.{no_registers}
+use Rattle.lazy_world.specs.Worlds.{parts, seen}
+use Rattle.lazy_world.proofs.SaveLemmas.{saved-world, sound-saved}
+use Rattle.lazy_world.proofs.world.PlacedWorld.save.Goals as goal
+
+pub index_mut-requires : goal.index_mut-requires
+unfolding parts
+index_mut-requires c = omega (arith, c.place-i.ensures.low, c.args.self.now.sound.sizes.registers, c.args.self.now.registers.ok)
+
+pub invariant_of-self : goal.invariant_of-self
+unfolding parts
+invariant_of-self c =
+    let s = parts c.args.self.now in
+    let inside : c.place-i.result < length c.args.self.now.registers.items = omega (arith, c.place-i.ensures.low, c.args.self.now.sound.sizes.registers) in
+    record {
+      count = c.args.self.now.count;
+      frames = c.args.self.now.frames;
+      sound = sound-saved s c.args.self.now.sound c.facts.ensures c.are_placed.ensures.placed c.args.c c.place-i.result c.place-i.ensures.found _
+          (get_or_read s.registers c.place-i.result _ inside c.index_mut.ensures.value no_registers) c.args.t c.args.regs.now (search rules);
+    }
+
+pub returns : goal.returns
+unfolding seen parts
+returns c =
+    let s = parts c.args.self.now in
+    let inside : c.place-i.result < length c.args.self.now.registers.items = omega (arith, c.place-i.ensures.low, c.args.self.now.sound.sizes.registers) in
+    record {
+      saved = saved-world s c.args.self.now.sound c.facts.ensures c.are_placed.ensures.placed c.args.c c.place-i.result c.place-i.ensures.found _
+          (get_or_read s.registers c.place-i.result _ inside c.index_mut.ensures.value no_registers) c.args.t c.args.regs.now (search rules);
+    }

@@ -1,0 +1,21 @@
+use Rattle.std.proofs.Common.{◌<◌, ◌∙◌, ap, sym, arith, length, None}
+use Rattle.std.specs.Prelude.{slice_index_or}
+use Rattle.std.proofs.lemmas.List.{get_or_read}
+use Rattle.lwc_base.specs.World.{Context}
+use Rattle.lazy_world.specs.declared.registers.Registers.{Registers}
+use Rattle.lazy_world.specs.States.{no_registers}
+use Rattle.lazy_world.specs.Worlds.{parts}
+use Rattle.lazy_world.proofs.world.PlacedWorld.saved.Goals as goal
+
+pub index-requires : goal.index-requires
+unfolding parts
+index-requires c = omega (arith, c.place.ensures.low, c.args.self.now.sound.sizes.registers, c.args.self.now.registers.ok)
+
+pub returns : goal.returns
+unfolding parts
+returns c =
+    let inside : c.place.result < length c.args.self.now.registers.items = omega (arith, c.place.ensures.low, c.args.self.now.sound.sizes.registers) in
+    record {
+      value = ap (λ (r : Registers). slice_index_or r.saved c.args.t None) (get_or_read c.args.self.now.registers.items c.place.result _ inside c.index.ensures no_registers)
+          ∙ ap (λ (x : Context). x.saved c.args.t) (sym c.place.ensures.context);
+    }

@@ -1,0 +1,71 @@
+use Rattle.std.proofs.Common.{◌≡◌, ◌-◌, ◌≤◌, ◌∙◌, ap, arith, refl, sym}
+use Rattle.std.specs.List.{range_with_len}
+use Rattle.lwc_base.specs.declared.limits.TheConstants.{MOST_PAGES}
+use Rattle.lwc_base.specs.Store.{Absent, Done, Full, store}
+use Rattle.lazy_world.specs.declared.world.PlacedWorld.{PlacedWorld}
+use Rattle.lazy_world.specs.States.{context_at, world_of}
+use Rattle.lazy_world.specs.Worlds.{parts, seen}
+use Rattle.lazy_world.proofs.MemoryLemmas.{present-touched}
+use Rattle.lazy_world.proofs.StoreLemmas.{all-in, parting-in, store-absent, store-done, store-full}
+use Rattle.lazy_world.proofs.world.PlacedWorld.store.Goals as goal
+
+few : (w : PlacedWorld) → (seen w).size.pages ≤ MOST_PAGES
+unfolding seen parts world_of
+few w = w.sound.sizes.size.pages.1
+
+frames-are : (w : PlacedWorld) → (seen w).size.frames ≡ w.size.frames
+unfolding seen parts world_of
+frames-are w = refl
+
+pub touched_pages-pages-requires : goal.touched_pages-pages-requires
+touched_pages-pages-requires c = omega (arith, few c.args.self.now, c.requires.within)
+
+is_absent : (c : goal.Then-not-are_present) → store (seen c.args.self.now) c.args.c c.args.job (record { at = c.args.at; bytes = c.args.piece.now }) ≡ Absent
+unfolding parts
+is_absent c =
+    store-absent _ _ _ _ (present-touched _ _ _ _ _ _ _ c.place-i.ensures.context c.touched_pages-pages.ensures.pages c.are_present.ensures ∙ c.if-not-are_present.true)
+
+pub returns-then-not-are_present-clause-bad_address : goal.returns-then-not-are_present-clause-bad_address
+returns-then-not-are_present-clause-bad_address c = (λ _. is_absent c, λ _. refl)
+
+pub returns-then-not-are_present-clause-no_frame : goal.returns-then-not-are_present-clause-no_frame
+returns-then-not-are_present-clause-no_frame c = (λ same. cc, λ full. let absent = is_absent c in cc)
+
+is_full : (c : goal.Then-self-used) → store (seen c.args.self.now) c.args.c c.args.job (record { at = c.args.at; bytes = c.args.piece.now }) ≡ Full
+unfolding parts
+is_full c =
+    let w = seen c.args.self.now in
+    let there = present-touched _ _ _ _ _ _ _ c.place-i.ensures.context c.touched_pages-pages.ensures.pages c.are_present.ensures ∙ c.if-not-are_present.false in
+    let many = c.parting_count.ensures.parting ∙ parting-in w c.args.c (context_at (parts c.args.self.now) c.place-i.result) (range_with_len c.touched_pages-pages.result.first (c.touched_pages-pages.result.end - c.touched_pages-pages.result.first)) c.place-i.ensures.context in
+    store-full w c.args.c c.args.job (record { at = c.args.at; bytes = c.args.piece.now }) there (range_with_len c.touched_pages-pages.result.first (c.touched_pages-pages.result.end - c.touched_pages-pages.result.first)) c.touched_pages-pages.ensures.pages (omega (arith, many, frames-are c.args.self.now, c.used.ensures.used, c.if-self-used.true))
+
+pub returns-then-self-used-clause-bad_address : goal.returns-then-self-used-clause-bad_address
+returns-then-self-used-clause-bad_address c = (λ same. cc, λ absent. let full = is_full c in cc)
+
+pub returns-then-self-used-clause-no_frame : goal.returns-then-self-used-clause-no_frame
+returns-then-self-used-clause-no_frame c = (λ _. is_full c, λ _. refl)
+
+pub write_pages-requires-clause-there : goal.write_pages-requires-clause-there
+unfolding parts
+write_pages-requires-clause-there c = all-in (seen c.args.self.now) c.args.c (context_at (parts c.args.self.now) c.place-i.result) (range_with_len c.touched_pages-pages.result.first (c.touched_pages-pages.result.end - c.touched_pages-pages.result.first)) c.place-i.ensures.context c.are_present.result c.are_present.ensures ∙ c.if-not-are_present.false
+
+pub write_pages-requires-clause-enough : goal.write_pages-requires-clause-enough
+unfolding parts
+write_pages-requires-clause-enough c =
+    let many = c.parting_count.ensures.parting ∙ parting-in (seen c.args.self.now) c.args.c (context_at (parts c.args.self.now) c.place-i.result) (range_with_len c.touched_pages-pages.result.first (c.touched_pages-pages.result.end - c.touched_pages-pages.result.first)) c.place-i.ensures.context in
+    omega (arith, many, frames-are c.args.self.now, c.used.ensures.used, c.if-self-used.false)
+
+pub returns-clause-done : goal.returns-clause-done
+unfolding parts
+returns-clause-done c =
+    let w = seen c.args.self.now in
+    let there = present-touched _ _ _ _ _ _ _ c.place-i.ensures.context c.touched_pages-pages.ensures.pages c.are_present.ensures ∙ c.if-not-are_present.false in
+    let many = c.parting_count.ensures.parting ∙ parting-in w c.args.c (context_at (parts c.args.self.now) c.place-i.result) (range_with_len c.touched_pages-pages.result.first (c.touched_pages-pages.result.end - c.touched_pages-pages.result.first)) c.place-i.ensures.context in
+    store-done w c.args.c c.args.job (record { at = c.args.at; bytes = c.args.piece.now }) there (range_with_len c.touched_pages-pages.result.first (c.touched_pages-pages.result.end - c.touched_pages-pages.result.first)) c.touched_pages-pages.ensures.pages (omega (arith, many, frames-are c.args.self.now, c.used.ensures.used, c.if-self-used.false))
+    ∙ ap Done (sym c.write_pages.ensures)
+
+pub returns-clause-bad_address : goal.returns-clause-bad_address
+returns-clause-bad_address c = (λ same. cc, λ absent. let done = returns-clause-done c in cc)
+
+pub returns-clause-no_frame : goal.returns-clause-no_frame
+returns-clause-no_frame c = (λ same. cc, λ full. let done = returns-clause-done c in cc)

@@ -1,0 +1,20 @@
+use Rattle.std.proofs.Common.{◌≡◌, ◌+◌, ◌-◌, ◌≤◌, true}
+use Rattle.std.specs.Prelude.{count_by, is_some}
+use Rattle.std.specs.List.{list_all, range_with_len}
+use Rattle.lwc_base.specs.Cells.{page_at}
+use Rattle.lwc_base.specs.Frames.{used}
+use Rattle.world_face.specs.Calls.{IsLive}
+use Rattle.lazy_world.specs.Stores.{parts_at, store_pages}
+use Rattle.lazy_world.specs.Worlds.{seen}
+use Rattle.lazy_world.proofs.world.PlacedWorld.write_pages.Given as goal
+
+abbrev pub invariant-loop-p : goal.invariant-loop-p
+invariant-loop-p l = record {
+  live : IsLive (seen l.self) l.c;
+  there : list_all (λ q. is_some (page_at (seen l.self) l.c q)) (range_with_len l.p (l.fn.pages.end - l.p)) ≡ true;
+  size : (seen l.self).size ≡ (seen l.fn.self).size;
+  tags : ((seen l.self).next l.job).tags + l.fn.pages.first ≤ ((seen l.fn.self).next l.job).tags + l.p;
+  enough : used (seen l.self) + count_by (parts_at (seen l.self) l.c) (range_with_len l.p (l.fn.pages.end - l.p)) ≤ (seen l.self).size.frames;
+  stored : store_pages (seen l.self) l.c l.job (record { at = l.at; bytes = l.piece }) (range_with_len l.p (l.fn.pages.end - l.p))
+      ≡ store_pages (seen l.fn.self) l.c l.job (record { at = l.at; bytes = l.piece }) (range_with_len l.fn.pages.first (l.fn.pages.end - l.fn.pages.first));
+}

@@ -1,0 +1,8 @@
+-- The world that a world with anchors stands for.
+use Rattle.lwc_base.specs.World.{World}
+use Rattle.lazy_world.specs.declared.lazy.LazyWorld.{LazyWorld}
+use Rattle.lazy_world.specs.Worlds.{seen}
+
+-- the world at places
+abbrev pub seen_lazy : LazyWorld → World
+seen_lazy w = seen w.world

@@ -1,0 +1,134 @@
+ghost use Rattle.std.specs.Prelude.{◌≡◌, ◌≢◌, ◌<◌, ◌≤◌, ℕ, false, true};
+ghost use Rattle.lwc_base.specs.declared.cell.Cell.TheVariants.{Own};
+ghost use Rattle.lwc_base.specs.declared.descriptor.Descriptor.TheVariants.{Empty};
+ghost use Rattle.lwc_base.specs.declared.descriptor.TheConstants.{SLOTS};
+ghost use Rattle.lwc_base.specs.declared.key.Key.TheVariants.{Page, Slot, Cred};
+ghost use Rattle.lwc_base.specs.declared.limits.TheConstants.{MOST_PAGES};
+ghost use Rattle.lazy_world.specs.Cells.{Row, is_own, put_row};
+ghost use Rattle.lazy_world.specs.Plans.{planned_row};
+ghost use Rattle.lazy_world.specs.Seen.{count, frame_count, rows};
+
+use crate::places::Places;
+use crate::plan::Plan;
+use crate::world::PlacedWorld;
+use lwc_base::{Cell, MOST_PAGES, Spec};
+use page_cells::Source;
+use pool_base::Steps;
+use range_map::SegmentKind;
+use std::marker::Brand;
+use std::sync::ledger::{Blank, Ledger};
+
+impl Places {
+    /// Gives a place without slots all that another one has, by holds alone, on a counter of its own.
+    fn copy_place_counted<L: Ledger>(&mut self, to: usize, from: usize, blank: Blank)
+        requires to { to < count self.old }
+        requires from { from < count self.old }
+        requires apart { from ≢ to }
+        requires empty { (n : ℕ) → rows self.old to (Slot n) ≡ Own Empty }
+        requires name { blank.name ≡ L.name }
+        requires parts { blank.parts ≡ L.parts }
+        requires some { 0 < blank.parts }
+        ensures rows { rows self.new ≡ put_row (rows self.old) to (rows self.old from) }
+        ensures count { count self.new ≡ count self.old }
+        ensures frames { frame_count self.new ≡ frame_count self.old }
+    {
+        let mut steps = Steps::<L>::new(blank);
+        let uid = self.given_uid(Source::CopyOf(from));
+        self.pages.clone_place(to, from, &mut steps);
+        self.slots.clone_place(to, from);
+        self.uids[to] = uid;
+    }
+
+    /// Gives a place without slots all that another one has, by holds alone.
+    pub fn copy_place(&mut self, to: usize, from: usize)
+        requires to { to < count self.old }
+        requires from { from < count self.old }
+        requires apart { from ≢ to }
+        requires empty { (n : ℕ) → rows self.old to (Slot n) ≡ Own Empty }
+        ensures rows { rows self.new ≡ put_row (rows self.old) to (rows self.old from) }
+        ensures count { count self.new ≡ count self.old }
+        ensures frames { frame_count self.new ≡ frame_count self.old }
+    {
+        self.copy_place_counted::<Brand>(to, from, Blank::new(1));
+    }
+
+    /// Whether no slot of a place is filled.
+    fn has_no_slot(&self, i: usize) -> bool
+        requires { i < count self.now }
+        ensures { result ≡ true → (n : ℕ) → n < SLOTS → rows self.now i (Slot n) ≡ Own Empty }
+    {
+        self.filled(i) == 0
+    }
+
+    /// Whether no slot of a place is common.
+    fn has_own_slots(&self, i: usize) -> bool
+        requires { i < count self.now }
+        ensures { result ≡ true → (n : ℕ) → n < SLOTS → is_own (rows self.now i (Slot n)) ≡ true }
+    {
+        self.common(i) == 0
+    }
+
+    /// Whether no page of a place is common.
+    fn has_own_pages(&self, i: usize) -> bool
+        requires { i < count self.now }
+        ensures { result ≡ true → (p : ℕ) → p < MOST_PAGES → is_own (rows self.now i (Page p)) ≡ true }
+    {
+        let mut p = 0u16;
+        'pages: while u32::from(p) < MOST_PAGES {
+            if let Some(SegmentKind::Common(_)) = self.kind(i, p) {
+                return false;
+            }
+            p = self.next_edge(i, p);
+        }
+        true
+    }
+
+    /// Whether the credential of a place is its own.
+    fn has_own_uid(&self, i: usize) -> bool
+        requires { i < count self.now }
+        ensures { result ≡ true → is_own (rows self.now i Cred) ≡ true }
+    {
+        matches!(self.uid(i), Cell::Own(_))
+    }
+
+    /// Whether each cell of a place is its own.
+    fn is_all_own(&self, i: usize) -> bool
+        requires { i < count self.now }
+        ensures slots { result ≡ true → (n : ℕ) → n < SLOTS → is_own (rows self.now i (Slot n)) ≡ true }
+        ensures uid { result ≡ true → is_own (rows self.now i Cred) ≡ true }
+        ensures pages { result ≡ true → (p : ℕ) → p < MOST_PAGES → is_own (rows self.now i (Page p)) ≡ true }
+    {
+        self.has_own_slots(i) && self.has_own_uid(i) && self.has_own_pages(i)
+    }
+}
+
+impl PlacedWorld {
+    ghost use Rattle.lazy_world.specs.Worlds.{seen};
+
+    /// Whether a plan gives all that a place has, as it is there: no item names a key, and what is copied is the
+    /// place's own.
+    pub(crate) fn gives_same(&self, plan: Plan, spec: &Spec, from: usize) -> bool
+        requires { from < count self.now.places }
+        ensures { result ≡ true → (old : Row) →
+            planned_row (seen self.now) plan spec.now (rows self.now.places from) old ≡ rows self.now.places from }
+    {
+        spec.items().is_empty()
+            && match plan {
+                Plan::Mark(_) => true,
+                Plan::Clone(_) => self.places.is_all_own(from),
+                Plan::Move | Plan::Overlay(_) => false,
+            }
+    }
+
+    /// Whether what a plan gives the place `to` can be copied whole.
+    pub(crate) fn can_copy(&self, plan: Plan, spec: &Spec, from: usize, to: usize) -> bool
+        requires from { from < count self.now.places }
+        requires to { to < count self.now.places }
+        ensures apart { result ≡ true → from ≢ to }
+        ensures empty { result ≡ true → (n : ℕ) → rows self.now.places to (Slot n) ≡ Own Empty }
+        ensures row { result ≡ true → (old : Row) →
+            planned_row (seen self.now) plan spec.now (rows self.now.places from) old ≡ rows self.now.places from }
+    {
+        from != to && self.places.has_no_slot(to) && self.gives_same(plan, spec, from)
+    }
+}

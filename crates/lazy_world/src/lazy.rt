@@ -1,0 +1,56 @@
+ghost use Rattle.std.specs.Prelude.{◌≡◌, ◌≤◌, length, true};
+ghost use Rattle.lwc_base.specs.declared.limits.TheConstants.{MOST_ROOTS};
+ghost use Rattle.lazy_world.specs.Anchors.{AreReached};
+ghost use Rattle.lazy_world.specs.Worlds as placed;
+
+use crate::facts::facts;
+use crate::world::PlacedWorld;
+use arrayvec::ArrayVec;
+use lwc_base::Name;
+use lwc_base::laws::reached_contexts_are_those_with_a_chain;
+
+/// The most anchors of a world.
+pub const MOST_ANCHORS: usize = 64;
+
+/// A world by shared pages that knows what its contexts are reached from, so that a reap mostly takes no search:
+/// each live context is reached from the anchors, where they are known.
+#[derive(Drop)]
+pub struct LazyWorld {
+    pub(crate) world: PlacedWorld,
+    pub(crate) anchors: ArrayVec<Name, MOST_ANCHORS>,
+    pub(crate) known: bool,
+    ghost reached: { known ≡ true → AreReached (placed.seen world) anchors.items },
+}
+
+impl LazyWorld {
+    ghost use Rattle.lazy_world.specs.Anchors.{with_anchor};
+
+    /// Has one more anchor, if one is given; they are not known any more if there is no room.
+    pub(crate) fn add_anchor(&mut self, c: Option<Name>)
+        ensures world { self.new.world ≡ self.old.world }
+        ensures kept { self.new.known ≡ true → self.old.known ≡ true }
+        ensures anchors { self.new.known ≡ true → self.new.anchors.items ≡ with_anchor self.old.anchors.items c }
+    {
+        facts();
+        reached_contexts_are_those_with_a_chain();
+        if let Some(c) = c {
+            if self.anchors.len() < MOST_ANCHORS {
+                self.anchors.push(c);
+            } else {
+                self.known = false;
+            }
+        }
+    }
+}
+
+/// Roots as anchors.
+pub(crate) fn anchors_of(roots: &[Name]) -> ArrayVec<Name, MOST_ANCHORS>
+    requires { length roots.now ≤ MOST_ROOTS }
+    ensures { result.items ≡ roots.now }
+{
+    let mut anchors = ArrayVec::new();
+    for root in roots {
+        anchors.push(*root);
+    }
+    anchors
+}

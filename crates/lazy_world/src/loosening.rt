@@ -1,0 +1,256 @@
+ghost use Rattle.std.specs.Prelude.{◌≡◌, ◌<◌, ◌≤◌, ℕ, length, All, IfSome, Some, true, false};
+ghost use Rattle.std.specs.FinMap as fm;
+ghost use Rattle.fd_table.specs.Slots.{context_of};
+ghost use Rattle.lwc_base.specs.declared.descriptor.TheConstants.{SLOTS};
+ghost use Rattle.lwc_base.specs.declared.limits.TheConstants.{MOST_ROOTS};
+ghost use Rattle.lwc_base.specs.declared.key.Key.TheVariants.{Slot};
+ghost use Rattle.lwc_base.specs.declared.name.Name.{Name};
+ghost use Rattle.lwc_base.specs.Cells.{slot_at, value_of};
+ghost use Rattle.lwc_base.specs.Life.{Reaches, is_among, is_reached, links, reap};
+ghost use Rattle.lwc_base.specs.World.{is_live};
+ghost use Rattle.world_face.specs.Calls.{IsLive};
+ghost use Rattle.lazy_world.specs.Anchors.{AreReached, HasLoose, HasRoot, IsLoose};
+ghost use Rattle.lazy_world.specs.Seen.{count, rows};
+ghost use Rattle.lazy_world.specs.Worlds.{parts, seen};
+
+use crate::facts::facts;
+use crate::world::PlacedWorld;
+use fd_table::lowest_bit;
+use lwc_base::laws::{names_are_ordered, reached_contexts_are_those_with_a_chain};
+use lwc_base::{Descriptor, Name};
+
+/// Whether a name is among some.
+fn is_among(names: &[Name], c: Name) -> bool
+    ensures { result ≡ is_among names.now c }
+{
+    names_are_ordered();
+    names.contains(&c)
+}
+
+impl PlacedWorld {
+    /// The context that a slot of the context at a place has a descriptor of, if it has one.
+    pub(crate) fn linked(&self, i: usize, n: u8) -> Option<Name>
+        requires place { i < count self.now.places }
+        requires slot { n < SLOTS }
+        ensures { result ≡ context_of (value_of (seen self.now) (Slot n) (rows self.now.places i (Slot n))) }
+    {
+        if !self.places.is_common(i, n) {
+            return self.places.context(i, n);
+        }
+        match self.slot_at(i, n) {
+            Descriptor::Ctx { name, .. } => Some(name),
+            _ => None,
+        }
+    }
+
+    /// The context that a slot of a context has a descriptor of, if it has one.
+    pub(crate) fn link(&self, c: Name, n: u8) -> Option<Name>
+        requires live { IsLive (seen self.now) c }
+        requires slot { n < SLOTS }
+        ensures { result ≡ context_of (slot_at (seen self.now) c n) }
+    {
+        self.linked(self.place(c), n)
+    }
+
+    /// Whether a slot of the context at a place has a descriptor of a context.
+    fn links_at(&self, i: usize, c: Name) -> bool
+        requires { i < count self.now.places }
+        ensures { result ≡ true → (n : ℕ) × (n < SLOTS)
+            × (context_of (value_of (seen self.now) (Slot n) (rows self.now.places i (Slot n))) ≡ Some c) }
+    {
+        let filled = self.places.filled(i);
+        let mut from = 0;
+        'slots: while let Some(n) = lowest_bit(filled, from) {
+            if self.linked(i, n) == Some(c) {
+                return true;
+            }
+            from = n + 1;
+        }
+        false
+    }
+
+    /// Whether a context links to another one.
+    fn links_to(&self, d: Name, c: Name) -> bool
+        requires { IsLive (seen self.now) d }
+        ensures { result ≡ true → links (seen self.now) d c ≡ true }
+    {
+        names_are_ordered();
+        self.links_at(self.place(d), c)
+    }
+
+    /// Whether one of the roots links to a context.
+    fn is_next(&self, roots: &[Name], c: Name) -> bool
+        requires { All (λ root. IsLive (seen self.now) root) roots.now }
+        ensures { result ≡ true → Reaches (seen self.now) roots.now c }
+    {
+        names_are_ordered();
+        for i in 0..roots.len() {
+            if self.links_to(roots[i], c) {
+                return true;
+            }
+        }
+        false
+    }
+
+    /// Whether a context is a root or one of them links to it.
+    fn is_near(&self, roots: &[Name], c: Name) -> bool
+        requires { All (λ root. IsLive (seen self.now) root) roots.now }
+        ensures { result ≡ true → Reaches (seen self.now) roots.now c }
+    {
+        if is_among(roots, c) {
+            return true;
+        }
+        self.is_next(roots, c)
+    }
+
+    /// The place of the first root, if there is one.
+    fn first_place(&self, roots: &[Name]) -> Option<usize>
+        requires { All (λ root. IsLive (seen self.now) root) roots.now }
+        ensures root { IfSome result (HasRoot (parts self.now) roots.now) }
+        ensures inside { IfSome result (λ j. j < count self.now.places) }
+    {
+        names_are_ordered();
+        if roots.is_empty() {
+            return None;
+        }
+        Some(self.place(roots[0]))
+    }
+
+    /// Whether what a slot of the context at a place links to is near the roots, if it links to a context. It
+    /// looks first whether the slot is one that a root shares.
+    fn has_near(&self, roots: &[Name], first: Option<usize>, i: usize, n: u8) -> bool
+        requires live { All (λ root. IsLive (seen self.now) root) roots.now }
+        requires first { IfSome first (HasRoot (parts self.now) roots.now) }
+        requires first_inside { IfSome first (λ j. j < count self.now.places) }
+        requires place { i < count self.now.places }
+        requires slot { n < SLOTS }
+        ensures { result ≡ true → (c : Name)
+            → context_of (value_of (seen self.now) (Slot n) (rows self.now.places i (Slot n))) ≡ Some c
+            → Reaches (seen self.now) roots.now c }
+    {
+        names_are_ordered();
+        if let Some(j) = first {
+            if self.places.is_shared(i, j, n) {
+                return true;
+            }
+        }
+        match self.linked(i, n) {
+            Some(c) => self.is_near(roots, c),
+            None => true,
+        }
+    }
+
+    /// Whether each context that the context at a place links to is near the roots.
+    fn has_all_near(&self, roots: &[Name], i: usize) -> bool
+        requires live { All (λ root. IsLive (seen self.now) root) roots.now }
+        requires place { i < count self.now.places }
+        ensures { result ≡ true → (n : ℕ) (c : Name) → n < SLOTS
+            → context_of (value_of (seen self.now) (Slot n) (rows self.now.places i (Slot n))) ≡ Some c
+            → Reaches (seen self.now) roots.now c }
+    {
+        let first = self.first_place(roots);
+        let filled = self.places.filled(i);
+        let mut from = 0;
+        'slots: while let Some(n) = lowest_bit(filled, from) {
+            if !self.has_near(roots, first, i, n) {
+                return false;
+            }
+            from = n + 1;
+        }
+        true
+    }
+
+    /// Whether a live context is loose, as far as that is seen without a search.
+    fn is_loose(&self, roots: &[Name], c: Name) -> bool
+        requires live { IsLive (seen self.now) c }
+        requires roots { All (λ root. IsLive (seen self.now) root) roots.now }
+        ensures { result ≡ true → IsLoose (seen self.now) roots.now c }
+    {
+        names_are_ordered();
+        if self.places.may_name(c) || is_among(roots, c) {
+            return false;
+        }
+        self.has_all_near(roots, self.place(c))
+    }
+
+    /// Whether a context is live.
+    fn is_live(&self, c: Name) -> bool
+        ensures { result ≡ is_live (seen self.now) c }
+    {
+        self.contexts.place(c).is_some()
+    }
+
+    /// Whether a context is not live, or near the roots.
+    fn is_settled(&self, roots: &[Name], c: Name) -> bool
+        requires { All (λ root. IsLive (seen self.now) root) roots.now }
+        ensures { result ≡ true → is_live (seen self.now) c ≡ true → Reaches (seen self.now) roots.now c }
+    {
+        if !self.is_live(c) {
+            return true;
+        }
+        if is_among(roots, c) {
+            return true;
+        }
+        self.places.may_name(c) && self.is_next(roots, c)
+    }
+
+    /// The one of some names that is loose, if one is; `None` where that takes a search.
+    fn loose_of(&self, names: &[Name], roots: &[Name]) -> Option<Option<Name>>
+        requires { All (λ root. IsLive (seen self.now) root) roots.now }
+        ensures { IfSome result (λ loose. HasLoose (seen self.now) names.now roots.now loose) }
+    {
+        let mut loose = None;
+        for k in 0..names.len() {
+            let c = names[k];
+            if loose == Some(c) || self.is_settled(roots, c) {
+                continue;
+            }
+            if loose.is_some() || !self.is_live(c) || !self.is_loose(roots, c) {
+                return None;
+            }
+            loose = Some(c);
+        }
+        Some(loose)
+    }
+
+    /// Drops the contexts that are not reached from the roots, where each live one is reached from the anchors.
+    /// Answers `false`, with nothing changed, where that takes a search.
+    pub(crate) fn drop_loose(&mut self, anchors: &[Name], roots: &[Name]) -> bool
+        requires anchors { AreReached (seen self.old) anchors.now }
+        requires roots { All (λ root. IsLive (seen self.old) root) roots.now }
+        ensures done { result ≡ true → seen self.new ≡ record (seen self.old) {
+          contexts = fm.retain_keys (seen self.old).contexts (is_reached (seen self.old) roots.now);
+        } }
+        ensures same { result ≡ false → seen self.new ≡ seen self.old }
+    {
+        facts();
+        reached_contexts_are_those_with_a_chain();
+        match self.loose_of(anchors, roots) {
+            Some(Some(c)) => {
+                self.drop_context(c);
+                true
+            }
+            Some(None) => true,
+            None => false,
+        }
+    }
+
+    /// Drops the contexts that are not reached from the roots, and then the groups that no cell names. Where each
+    /// live context is known to be reached from the anchors, it takes no search if that is enough.
+    pub(crate) fn reap_from(&mut self, known: bool, anchors: &[Name], roots: &[Name])
+        requires anchors { known ≡ true → AreReached (seen self.old) anchors.now }
+        requires few { length roots.now ≤ MOST_ROOTS }
+        requires live { All (λ root. IsLive (seen self.old) root) roots.now }
+        ensures { seen self.new ≡ reap (seen self.old) roots.now }
+    {
+        if !known {
+            self.reap(roots);
+            return;
+        }
+        if self.drop_loose(anchors, roots) {
+            self.drop_groups();
+            return;
+        }
+        self.reap(roots);
+    }
+}
