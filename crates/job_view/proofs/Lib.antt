@@ -1,0 +1,12 @@
+pub mod Alike
+pub mod Counting
+pub mod Entries
+pub mod Keeping
+pub mod Reading
+pub mod Reaping
+pub mod Tables
+pub mod Tags
+pub mod Together
+pub mod Using
+pub mod Views
+pub mod Worlds

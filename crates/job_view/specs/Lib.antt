@@ -1,0 +1,4 @@
+pub mod ByJob
+pub mod Facts
+pub mod JobFrames
+pub mod Views
