@@ -1,7 +1,7 @@
 -- The names of the rules.
 use Rattle.std.specs.Prelude.{ℕ, List, codes}
 use Rattle.lwc_text.specs.declared.fault.InputRule.{InputRule}
-use Rattle.lwc_text.specs.declared.fault.InputRule.TheVariants.{TooLong, BadThread, TooManySteps, TooManyRequests, BadHex, RequestTooLong, OddLength}
+use Rattle.lwc_text.specs.declared.fault.InputRule.TheVariants.{TooLong, BadThread, TooManySteps, TooManyRequests, BadHex, RequestTooLong, OddLength, TooMuchWork}
 
 -- the bytes of a rule's name
 abbrev pub rule_name : InputRule → List ℕ
@@ -12,3 +12,4 @@ rule_name TooManyRequests = codes "TooManyRequests"
 rule_name BadHex = codes "BadHex"
 rule_name RequestTooLong = codes "RequestTooLong"
 rule_name OddLength = codes "OddLength"
+rule_name TooMuchWork = codes "TooMuchWork"

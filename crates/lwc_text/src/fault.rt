@@ -22,6 +22,8 @@ pub enum InputRule {
     RequestTooLong,
     /// A request has an odd number of digits.
     OddLength,
+    /// The requests of a serve may take more than `MOST_STEPS` steps.
+    TooMuchWork,
 }
 
 impl InputRule {
@@ -37,6 +39,7 @@ impl InputRule {
             InputRule::BadHex => "BadHex",
             InputRule::RequestTooLong => "RequestTooLong",
             InputRule::OddLength => "OddLength",
+            InputRule::TooMuchWork => "TooMuchWork",
         }
     }
 }
