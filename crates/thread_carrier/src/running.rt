@@ -1,8 +1,7 @@
-ghost use Rattle.std.specs.Prelude.{◌≡◌, ◌<◌, ◌≤◌, ◌^◌, [], All, IfOk, length, map, true, vec_capacity};
+ghost use Rattle.std.specs.Prelude.{◌≡◌, ◌<◌, ◌≤◌, ◌^◌, [], All, IfOk, length, map, vec_capacity};
 ghost use Rattle.kernel_core.specs.Histories.{IsComplete};
-ghost use Rattle.kernel_core.specs.Kernel.{machine_of};
-ghost use Rattle.kernel_core.specs.Machine.{work};
 ghost use Rattle.kernel_core.specs.Start.{start};
+ghost use Rattle.process_core.specs.Running.{AreAllOf};
 
 use crate::carrier::{Carrier, carry_all};
 use kernel_core::Kernel;
@@ -14,27 +13,27 @@ use std::sync::Wait;
 use std::thread::Threads;
 use world_face::World;
 
-/// Runs all threads of a kernel that was just opened, each by a worker of its own to its end, and gives the kernel back.
-/// The steps that it has kept then are a legal history after which every thread has ended. It may wait, and comes to the
-/// gate before each turn. All memory is taken before the first step.
+/// Runs all threads of a process to their ends, and gives its kernel back. The steps that the kernel has kept then are a
+/// legal history after which every thread has ended. It may wait.
+///
+/// Each thread is carried by a worker of its own where one can be started, and comes to the gate before each turn. All
+/// memory is taken before the first step. No clause says these three: tests show the first.
 ///
 /// # Errors
 ///
-/// The only error is out of memory; the kernel is then given up, and no step was made.
+/// The only error is out of memory; the process is then given up.
 pub fn run_threads<R: Threads + Wait + Sync, W: World, G: Gate>(
     rt: &R,
     alloc: Global,
-    kernel: Kernel<W>,
+    process: Process<W>,
+    passes: ProcessPasses<W>,
     gate: &G,
 ) -> Result<Kernel<W>, OutOfMemory>
-    requires roomy { W.roomy ≡ true }
     requires leave { G.leave gate.now }
-    requires fresh { kernel.steps ≡ [] }
-    requires room { work (machine_of kernel) ≤ kernel.room }
-    ensures inputs { IfOk result (λ after. after.inputs ≡ kernel.inputs) }
-    ensures complete { IfOk result (λ after. IsComplete (start kernel.inputs) after.steps) }
+    requires all { AreAllOf process passes.items }
+    ensures inputs { IfOk result (λ after. after.inputs ≡ process.name) }
+    ensures complete { IfOk result (λ after. IsComplete (start process.name) after.steps) }
 {
-    let (process, passes) = Process::open(alloc, kernel)?;
     let taken = Vec::with_capacity(alloc, passes.len())?;
     let mut carriers = carriers_of(alloc, passes)?;
     carry_all(rt, &process, carriers.as_mut_slice(), gate);

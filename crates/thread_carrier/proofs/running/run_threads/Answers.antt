@@ -9,19 +9,19 @@ use Rattle.thread_carrier.proofs.running.run_threads.Goals as goal
 
 pub carry_all-requires-clause-ours : goal.carry_all-requires-clause-ours
 carry_all-requires-clause-ours g c κs within =
-    let process = c.in_ok-process.process in
-    let ours : All (IsPassOf process) (map (λ x. x.pass) c.in_ok-carriers.carriers.items) = subst (All (IsPassOf process)) (sym c.in_ok-carriers.ensures.passes) c.in_ok-process.ensures.all.ours in
+    let process = c.args.process in
+    let ours : All (IsPassOf process) (map (λ x. x.pass) c.in_ok-carriers.carriers.items) = subst (All (IsPassOf process)) (sym c.in_ok-carriers.ensures.passes) c.requires.all.ours in
     subst (λ l. All (λ x. IsPassOf process x.pass) l) (sym c.as_mut_slice.ensures.value) (all_made (IsPassOf process) (λ x. x.pass) c.in_ok-carriers.carriers.items ours)
 
 pub close-requires-after_bounds : goal.close-requires-after_bounds
 close-requires-after_bounds g c κs within =
-    let process = c.in_ok-process.process in
+    let process = c.args.process in
     let before = c.in_ok-carriers.carriers.items in
     let after = c.carry_all.new.carriers in
     let numbers : map (λ x. x.pass.held.number) after ≡ map (λ x. x.pass.held.number) before = c.carry_all.ensures.numbers ∙ ap (map (λ x. x.pass.held.number)) c.as_mut_slice.ensures.value in
     let back = written_back (λ x. x.pass.held.number) c.in_ok-carriers.carriers.len after before (omega (arith, c.in_ok-carriers.carriers.ok.0)) numbers in
     subst (AreAllOf process) (sym (c.passes_of.ensures ∙ ap (map (λ x. x.pass)) back))
-    (still_all (λ x. x.pass) process c.in_ok-process.passes.items before after c.in_ok-process.ensures.all c.in_ok-carriers.ensures.passes c.carry_all.ensures.ours numbers)
+    (still_all (λ x. x.pass) process c.args.passes.items before after c.requires.all c.in_ok-carriers.ensures.passes c.carry_all.ensures.ours numbers)
 
 pub returns-clause-complete : goal.returns-clause-complete
 returns-clause-complete g c =
@@ -29,6 +29,5 @@ returns-clause-complete g c =
     let after = c.carry_all.new.carriers in
     let numbers : map (λ x. x.pass.held.number) after ≡ map (λ x. x.pass.held.number) before = c.carry_all.ensures.numbers ∙ ap (map (λ x. x.pass.held.number)) c.as_mut_slice.ensures.value in
     let back = written_back (λ x. x.pass.held.number) c.in_ok-carriers.carriers.len after before (omega (arith, c.in_ok-carriers.carriers.ok.0)) numbers in
-    subst (λ inputs. IsComplete (start inputs) c.close.result.steps) c.in_ok-process.ensures.inputs
     (c.close.ensures.complete (subst (All (λ p. has_ended p.last.status ≡ true)) (sym (c.passes_of.ensures ∙ ap (map (λ x. x.pass)) back))
     (All-map (λ p. has_ended p.last.status ≡ true) (λ x. x.pass) after c.carry_all.ensures.ended)))
