@@ -1,3 +1,5 @@
 pub mod Added
+pub mod Gathered
 pub mod Images
 pub mod Lines
+pub mod Served

@@ -4,9 +4,10 @@ use Rattle.std.specs.Int.{to_le_bytes, w64}
 use Rattle.std.specs.List.{range_with_len}
 use Rattle.guest_image.specs.declared.image.Image.{Image}
 use Rattle.guest_image.specs.declared.image.PageImage.{PageImage}
+use Rattle.kernel_core.specs.Start.{Inputs}
 use Rattle.lwc_base.specs.Pages.{zero_bytes}
 use Rattle.lwc_base.specs.declared.page.TheConstants.{PAGE_BYTES}
-use Rattle.lwc_gen.specs.declared.generating.TheConstants.{PAGES, REQUESTS_FOR_EACH}
+use Rattle.lwc_gen.specs.declared.generating.TheConstants.{PAGES, REQUESTS_FOR_EACH, SETTINGS}
 use Rattle.lwc_gen.specs.declared.handler.TheConstants.{HANDLER}
 
 -- the page of a number: its first word is the number, and the rest is 0
@@ -27,3 +28,7 @@ server = record {
 -- the requests: request r is the word 1000 * number + r
 abbrev pub requests_of : ℕ → List (List ℕ)
 requests_of number = map (λ r. to_le_bytes w64 (1000 * number + r)) (range_with_len 0 (REQUESTS_FOR_EACH * number))
+
+-- what a kernel is opened with to serve them
+abbrev pub generated : ℕ → Inputs
+generated number = record { image = server; requests = requests_of number; settings = SETTINGS }

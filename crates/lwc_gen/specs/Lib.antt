@@ -1,5 +1,9 @@
 pub use Rattle.guest_image.specs.Limits
 pub use Rattle.guest_isa.specs.Instructions
+pub use Rattle.kernel_core.specs.Kernel
+pub use Rattle.kernel_core.specs.Machine
+pub use Rattle.kernel_core.specs.Runs
+pub use Rattle.kernel_core.specs.Start
 pub use Rattle.lwc_base.specs.Pages
 pub mod Generated
 pub mod Summary

@@ -1,10 +1,14 @@
 -- The summary of the replies of a generated server.
-use Rattle.std.specs.Prelude.{ℕ, ◌^◌, ◌%◌, ◌==◌, ◌++◌, Bool, false, if◌then◌else◌, nat_lt, codes, count_by, decimal, drop, length, take, List, Option, Some, None}
+use Rattle.std.specs.Prelude.{ℕ, ◌^◌, ◌%◌, ◌==◌, ◌++◌, Bool, false, if◌then◌else◌, nat_lt, codes, count_by, decimal, drop, length, map, take, List, [], Option, Some, None}
 use Rattle.std.specs.Int.{from_le_bytes, w64}
-use Rattle.std.specs.List.{sum_by}
+use Rattle.std.specs.List.{range_with_len, sum_by}
+use Rattle.kernel_core.specs.Machine.{Machine, reply_of}
+use Rattle.kernel_core.specs.Runs.{run}
+use Rattle.kernel_core.specs.Start.{Inputs, start}
 use Rattle.lwc_base.specs.declared.fault.ThreadStatus.{ThreadStatus}
 use Rattle.lwc_base.specs.declared.fault.ThreadStatus.TheVariants.{Idle, Running, Done, Faulted}
 use Rattle.lwc_gen.specs.declared.totals.Totals.{Totals}
+use Rattle.snapshot_host.specs.declared.finishing.Finished.{Finished}
 
 -- a reply: the status that its request ended with, if it has ended, and its bytes
 pub record Reply : Type 0 where
@@ -41,3 +45,21 @@ summary_line number totals =
     codes "gen " ++ decimal number ++ codes " requests " ++ decimal totals.requests
     ++ codes " done " ++ decimal totals.done ++ codes " sum " ++ decimal totals.sum
     ++ codes " count " ++ decimal totals.count ++ codes "\n"
+
+-- the reply that is recorded of a request: it has no status and no bytes if the request is not finished
+abbrev pub recorded_reply : Option Finished → Reply
+recorded_reply None = record { status = None; bytes = [] }
+recorded_reply (Some finished) = record { status = Some finished.status; bytes = finished.bytes }
+
+-- the replies of a machine, one for each request, in order
+unfoldable pub replies_of : Machine → List Reply
+replies_of m =
+    map (λ r. recorded_reply (reply_of m r)) (range_with_len 0 (length m.environment.channels.requests))
+
+-- the summary of a machine
+abbrev pub summary_of : ℕ → Machine → List ℕ
+summary_of number m = summary_line number (totals_of (replies_of m))
+
+-- the summary of the run of these steps from the start
+abbrev pub summary_after : Inputs → ℕ → List ℕ → List ℕ
+summary_after inputs number steps = summary_of number (run (start inputs) steps)

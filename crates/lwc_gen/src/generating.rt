@@ -8,6 +8,7 @@ ghost use Rattle.lwc_gen.specs.Generated as spec;
 use crate::handler::HANDLER;
 use guest_image::{Image, PageImage};
 use guest_isa::Text;
+use kernel_core::{Job, Settings};
 use lwc_base::{OutOfMemory, PAGE_BYTES, PageBytes, Requests, Sequence};
 use std::alloc::Global;
 
@@ -16,6 +17,13 @@ pub const PAGES: u16 = 300;
 
 /// The number of requests for each 1 of the number that they are made from.
 pub const REQUESTS_FOR_EACH: u64 = 10;
+
+/// How a kernel serves generated requests.
+pub const SETTINGS: Settings = Settings {
+    frames: 324,
+    budget: 10000,
+    job: Job::Serve { workers: 8 },
+};
 
 /// A server and its requests, made from a number from 1 to 100. The only error is out of memory.
 pub fn generate(alloc: Global, number: u32) -> Result<(Image, Requests), OutOfMemory>

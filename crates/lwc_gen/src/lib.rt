@@ -3,10 +3,14 @@
 
 mod generating;
 mod handler;
+mod laws;
+mod summing;
 #[cfg(test)]
 mod tests;
 mod totals;
 
-pub use generating::generate;
+pub use generating::{SETTINGS, generate};
 pub use handler::HANDLER;
+pub use laws::a_generated_server_can_be_served;
+pub use summing::summary;
 pub use totals::Totals;
