@@ -1,8 +1,7 @@
 //! Guests that use files, the console, pages and credentials, alone and on behalf of others, run whole.
 
-use crate::replays::{Replay, assembled, check_replays};
-use crate::tests::{REPLAY, SURE, call};
-use lwcrun_core::ExitStatus;
+use crate::replays::{Replay, assembled, check_replays, replayed};
+use crate::tests::REPLAY;
 use std::test::Fail;
 
 /// Maps page 0, loads from it and stores to it.
@@ -615,11 +614,10 @@ fn guests_make_plain_calls(rt: HostRuntime) -> Result<(), Fail> {
 #[test]
 fn the_console_takes_65536_bytes(rt: HostRuntime) -> Result<(), Fail> {
     let guest = assembled(rt.alloc(), FULL_CONSOLE)?;
-    let left = call(&rt, &guest, &[b'0'; 23], &REPLAY, SURE)?;
+    let text = replayed(&rt, &guest, &[b'0'; 23], b"", &REPLAY)?;
     let report = "thread 0 done 0 ctx 0.0 pc 25\n\
         regs 0 0 0 8192 4096 0 0 0 0 16 16 0 0 18446744073709551597 18446744073709551611 18446744073709551596 18446744073709551596\n\
         context 0.0 pages 1 slots 2 uid 0\ngroups 0\nconsole ";
-    assert_eq!(rt; left.status, ExitStatus::Ok);
-    assert!(rt; left.out.bytes().starts_with(report.as_bytes()));
+    assert!(rt; text.as_slice().starts_with(report.as_bytes()));
     Ok(())
 }

@@ -1,7 +1,7 @@
 //! Guests that make contexts, run whole.
 
-use crate::replays::{Replay, assembled, check_replays};
-use crate::tests::{REPLAY, SURE, call};
+use crate::replays::{Replay, assembled, check_replays, replayed};
+use crate::tests::REPLAY;
 use std::test::Fail;
 
 /// Makes a context, and then stores to the page that it has a copy of.
@@ -181,8 +181,8 @@ fn a_job_has_at_most_32_contexts(rt: HostRuntime) -> Result<(), Fail> {
     report.push_str(
         "groups 0\nconsole -\nused 0\npeak 0\nsteps 33\nschedule 000000000000000000000000000000000\n",
     )?;
-    let left = call(&rt, &guest, &[b'0'; 33], &REPLAY, SURE)?;
-    assert_eq!(rt; left.out.bytes(), report.as_bytes());
+    let text = replayed(&rt, &guest, &[b'0'; 33], b"", &REPLAY)?;
+    assert_eq!(rt; text.as_slice(), report.as_bytes());
     Ok(())
 }
 
@@ -209,8 +209,8 @@ fn a_context_has_at_most_64_ranges(rt: HostRuntime) -> Result<(), Fail> {
     for (count, report) in cases {
         let source = format!(in alloc; ".entry 0\nLI r1, 0\nLI r2, {count}\n{MANY_RANGES}")?;
         let guest = assembled(alloc, &source)?;
-        let left = call(&rt, &guest, &[b'0'; 67], &REPLAY, SURE)?;
-        assert!(rt; left.out.bytes().starts_with(report.as_bytes()), "{count}");
+        let text = replayed(&rt, &guest, &[b'0'; 67], b"", &REPLAY)?;
+        assert!(rt; text.as_slice().starts_with(report.as_bytes()), "{count}");
     }
     Ok(())
 }

@@ -56,6 +56,28 @@ fn lines_are_accepted_with_their_options_anywhere(rt: HostRuntime) -> Result<(),
             "lwcrun: image refused: BadMagic at 0\n",
         ),
         ("dis -", "ReadFault", "lwcrun: cannot read -\n"),
+        (
+            "replay guest schedule requests --workers 16",
+            "ReadFault",
+            "lwcrun: cannot read requests\n",
+        ),
+        ("run guest --budget 3 --frames 2", "Ok", ""),
+        (
+            "run guest --frames 1",
+            "ImageTooLarge",
+            "lwcrun: image has 2 pages, frames are 1\n",
+        ),
+        ("run none", "ReadFault", "lwcrun: cannot read none\n"),
+        (
+            "serve guest schedule",
+            "InputRefused",
+            "lwcrun: input refused: OddLength at 3\n",
+        ),
+        (
+            "serve guest requests",
+            "ReadFault",
+            "lwcrun: cannot read requests\n",
+        ),
     ];
     for (line, status, said) in cases {
         let left = call_line(&rt, &guest, line)?;
@@ -77,8 +99,8 @@ fn other_lines_are_answered_by_the_usage(rt: HostRuntime) -> Result<(), Fail> {
         "",
         "replay",
         "replay guest",
-        "replay guest schedule requests",
         "replay guest schedule requests more",
+        "replay guest schedule requests --workers 17",
         "replay guest schedule --workers 2",
         "replay guest schedule --frames 0",
         "replay guest schedule --frames 65537",
@@ -108,13 +130,15 @@ fn other_lines_are_answered_by_the_usage(rt: HostRuntime) -> Result<(), Fail> {
         "dis guest schedule",
         "dis guest --frames 2",
         "run",
-        "run guest",
         "run guest schedule",
         "run guest --workers 2",
-        "serve guest schedule",
+        "serve guest",
         "serve guest schedule --frames 65537",
+        "serve guest schedule --workers 0",
+        "gen",
         "gen 0",
-        "gen 40",
+        "gen 101",
+        "gen 40 --workers 8",
     ];
     for line in cases {
         let left = call_line(&rt, &guest, line)?;

@@ -1,7 +1,8 @@
 //! `lwcrun`: runs a guest image under a schedule, and prints what it did.
 #![tactic(auto)]
 
-use lwc_io::{OpenGate, RealFiles, RealSink, Sink};
+use crate::progress::{ClearingSink, Progress};
+use lwc_io::{RealFiles, RealSink, Sink};
 use lwcrun_core::{ExitStatus, lwcrun};
 use std::alloc::Global;
 use std::env;
@@ -18,7 +19,12 @@ mod lines;
 #[cfg(test)]
 mod outside;
 #[cfg(test)]
+mod passes;
+mod progress;
+#[cfg(test)]
 mod replays;
+#[cfg(test)]
+mod running;
 #[cfg(test)]
 mod serving;
 #[cfg(test)]
@@ -42,8 +48,9 @@ fn words_or_none(alloc: Global, words: io::Result<Vec<String>>) -> io::Result<Ve
 }
 
 fn main(rt: HostRuntime) -> ExitCode {
-    let mut out = RealSink::new(rt.stdout());
-    let mut err = RealSink::new(rt.stderr());
+    let progress = Progress::new(rt);
+    let mut out = ClearingSink::new(&progress, RealSink::new(rt.stdout()));
+    let mut err = ClearingSink::new(&progress, RealSink::new(rt.stderr()));
     let mut files = RealFiles::new(rt);
     let status = match words_or_none(rt.alloc(), words(&rt)) {
         Ok(words) => lwcrun(
@@ -53,7 +60,7 @@ fn main(rt: HostRuntime) -> ExitCode {
             &mut files,
             &mut out,
             &mut err,
-            &OpenGate,
+            &progress,
         ),
         Err(_) => {
             let _ = err.write(b"lwcrun: no memory\n");

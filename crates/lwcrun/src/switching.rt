@@ -1,8 +1,7 @@
 //! Guests that switch between contexts, restrict capabilities and take over from other contexts, run whole.
 
-use crate::replays::{Replay, assembled, check_replays};
-use crate::tests::{REPLAY, SURE, call};
-use lwcrun_core::ExitStatus;
+use crate::replays::{Replay, assembled, check_replays, replayed};
+use crate::tests::REPLAY;
 use std::test::Fail;
 
 /// Makes a context, stores to the page, and switches to the new context, where it is still zeros.
@@ -323,24 +322,23 @@ fn a_switch_needs_an_empty_slot_at_its_target(rt: HostRuntime) -> Result<(), Fai
         source.push_str(&format!(in rt.alloc(); ".slot {slot} 0\n")?)?;
     }
     let guest = assembled(rt.alloc(), &source)?;
-    let left = call(&rt, &guest, b"0000", &REPLAY, SURE)?;
+    let text = replayed(&rt, &guest, b"0000", b"", &REPLAY)?;
     let report = "thread 0 done 0 ctx 1.0 pc 8\n\
         regs 0 18446744073709551603 63 0 0 0 0 0 0 63 0 0 0 0 0 0 0\n\
         context 0.0 pages 0 slots 64 uid 0\ncontext 1.0 pages 0 slots 64 uid 0\ngroups 0\n\
         console -\nused 0\npeak 0\nsteps 4\nschedule 0000\n";
-    assert_eq!(rt; left.out.bytes(), report.as_bytes());
+    assert_eq!(rt; text.as_slice(), report.as_bytes());
     Ok(())
 }
 
 #[test]
 fn too_many_groups_is_answered_before_too_many_ranges(rt: HostRuntime) -> Result<(), Fail> {
     let guest = assembled(rt.alloc(), GROUPS_AND_RANGES)?;
-    let left = call(&rt, &guest, &[b'0'; 196], &REPLAY, SURE)?;
+    let text = replayed(&rt, &guest, &[b'0'; 196], b"", &REPLAY)?;
     let report = "thread 0 done 0 ctx 0.0 pc 28\n\
         regs 0 18446744073709551599 2 48 1 0 558345748609 8589934594 63 63 1 0 0 0 0 0 0\n\
         context 0.0 pages 65 slots 3 uid 0\ncontext 1.0 pages 65 slots 2 uid 0\ngroups 64\n\
         console -\nused 2\npeak 2\nsteps 196\n";
-    assert_eq!(rt; left.status, ExitStatus::Ok);
-    assert!(rt; left.out.bytes().starts_with(report.as_bytes()));
+    assert!(rt; text.as_slice().starts_with(report.as_bytes()));
     Ok(())
 }

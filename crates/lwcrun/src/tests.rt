@@ -1,7 +1,8 @@
 //! Guests that are run whole, through the call behind the program, over files and sinks in memory.
 
+use crate::replays::replayed;
 use crate::words_or_none;
-use lwc_io::{MemoryFiles, MemorySink, NamedFile, OpenGate};
+use lwc_io::{Gate, MemoryFiles, MemorySink, NamedFile, OpenGate};
 use lwcrun_core::{ExitStatus, lwcrun};
 use std::alloc::{AllocError, Global};
 use std::io::{Error, ErrorKind};
@@ -18,7 +19,7 @@ pub const STORE_LOAD: [u64; 4] = [
 ];
 
 /// `LI r5, 7` / `STW r5, r4, 0` / `HALT`, and for the second thread `LDW r6, r4, 0` / `HALT`.
-const TWO_THREADS: [u64; 5] = [
+pub const TWO_THREADS: [u64; 5] = [
     0x0105_0000_0700_0000,
     0x2300_0405_0000_0000,
     0x2500_0000_0000_0000,
@@ -136,15 +137,26 @@ pub fn call<R: AllocGlobal + Threads + Wait + Sync>(
     words: &[&str],
     outside: Outside,
 ) -> Result<Left, AllocError> {
+    let files = [("guest", guest), ("schedule", schedule)];
+    call_over(rt, &files, words, outside, &OpenGate)
+}
+
+/// Calls the program on the words after its name, over files by their names, and with a gate.
+pub fn call_over<R: AllocGlobal + Threads + Wait + Sync, G: Gate>(
+    rt: &R,
+    files: &[(&str, &[u8])],
+    words: &[&str],
+    outside: Outside,
+    gate: &G,
+) -> Result<Left, AllocError>
+    requires { G.leave gate.now }
+{
     let alloc = rt.alloc();
-    let mut line = Vec::new(alloc);
-    line.push(String::from_str(alloc, "lwcrun")?)?;
-    for word in words {
-        line.push(String::from_str(alloc, word)?)?;
-    }
+    let line = line_of(alloc, words)?;
     let mut named = Vec::new(alloc);
-    named.push(NamedFile::new(alloc, "guest", guest)?)?;
-    named.push(NamedFile::new(alloc, "schedule", schedule)?)?;
+    for (name, bytes) in files {
+        named.push(NamedFile::new(alloc, name, bytes)?)?;
+    }
     let mut files = MemoryFiles::new(alloc, named, vec![in alloc; outside.fetch]?)?;
     let mut out = MemorySink::new(alloc, outside.most, vec![in alloc; outside.write]?);
     let mut err = MemorySink::new(alloc, 1 << 20, Vec::new(alloc));
@@ -155,9 +167,19 @@ pub fn call<R: AllocGlobal + Threads + Wait + Sync>(
         &mut files,
         &mut out,
         &mut err,
-        &OpenGate,
+        gate,
     );
     Ok(Left { status, out, err })
+}
+
+/// The words of a line, the program's name first.
+pub fn line_of(alloc: Global, words: &[&str]) -> Result<Vec<String>, AllocError> {
+    let mut line = Vec::new(alloc);
+    line.push(String::from_str(alloc, "lwcrun")?)?;
+    for word in words {
+        line.push(String::from_str(alloc, word)?)?;
+    }
+    Ok(line)
 }
 
 /// The words of a replay of the two files.
@@ -235,10 +257,8 @@ fn guests_run_as_their_schedules_say(rt: HostRuntime) -> Result<(), Fail> {
         ),
     ];
     for (guest, schedule, report) in cases {
-        let left = call(&rt, guest, schedule.as_bytes(), &REPLAY, SURE)?;
-        assert_eq!(rt; left.status, ExitStatus::Ok, "{report}");
-        assert_eq!(rt; left.out.bytes(), report.as_bytes(), "{report}");
-        assert_eq!(rt; left.err.bytes().len(), 0);
+        let text = replayed(&rt, guest, schedule.as_bytes(), b"", &REPLAY)?;
+        assert_eq!(rt; text.as_slice(), report.as_bytes(), "{report}");
     }
     Ok(())
 }
@@ -252,30 +272,19 @@ pub const USAGE: &str =
 fn lines_set_frames_and_budget(rt: HostRuntime) -> Result<(), Fail> {
     let alloc = rt.alloc();
     let endless = image(alloc, &ENDLESS, &[], &[0])?;
-    let left = call(
-        &rt,
-        &endless,
-        b"0000",
-        &["replay", "guest", "schedule", "--budget", "3"],
-        SURE,
-    )?;
+    let words = ["replay", "guest", "schedule", "--budget", "3"];
+    let text = replayed(&rt, &endless, b"0000", b"", &words)?;
     assert_eq!(rt;
-        left.out.bytes(),
+        text.as_slice(),
         b"thread 0 fault 5 ctx 0.0 pc 0\nregs 0 0 0 0 0 0 0 0 0 0 0 0 0 0 0 0 0\n\
         context 0.0 pages 0 slots 2 uid 0\ngroups 0\nconsole -\nused 0\npeak 0\nsteps 3\nschedule 000\n"
             .as_slice()
     );
     let two_pages = image(alloc, &STORE_LOAD, &[ZEROS, (1, &[])], &[0])?;
-    let left = call(
-        &rt,
-        &two_pages,
-        b"000",
-        &["replay", "guest", "schedule", "--frames", "2"],
-        SURE,
-    )?;
-    assert_eq!(rt; left.status, ExitStatus::Ok);
+    let words = ["replay", "guest", "schedule", "--frames", "2"];
+    let text = replayed(&rt, &two_pages, b"000", b"", &words)?;
     assert_eq!(rt;
-        left.out.bytes(),
+        text.as_slice(),
         b"thread 0 done 0 ctx 0.0 pc 3\nregs 0 0 7 7 0 0 0 0 0 0 0 0 0 0 0 0 0\n\
         context 0.0 pages 2 slots 2 uid 0\ngroups 0\nconsole -\nused 2\npeak 2\nsteps 3\nschedule 000\n"
             .as_slice()

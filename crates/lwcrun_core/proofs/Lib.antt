@@ -1,11 +1,11 @@
+pub mod Accepted
 pub mod Answered
 pub mod Clauses
 pub mod Decimals
 pub mod TakenWords
 pub mod Fetches
-pub mod Frames
 pub mod Follows
+pub mod Readers
 pub mod Outputs
 pub mod Promises
-pub mod Refusals
 pub mod Replays

@@ -4,13 +4,10 @@ use Rattle.std.proofs.lemmas.List.{take_more}
 use Rattle.kernel_core.specs.Kernel.{History, machine_of, stepped}
 use Rattle.kernel_core.specs.Machine.{Machine, is_ended}
 use Rattle.kernel_core.specs.Runs.{run, kept}
-use Rattle.kernel_core.specs.Start.{Inputs, start, thread_count, threads_for}
+use Rattle.kernel_core.specs.Start.{Inputs, start}
 use Rattle.kernel_core.specs.Step.{step}
 use Rattle.lwc_text.specs.Report.{report_after}
-use Rattle.guest_image.specs.declared.image.Image.{Image}
-use Rattle.kernel_core.specs.declared.settings.Job.TheVariants.{Run}
-use Rattle.kernel_core.specs.declared.settings.Settings.{Settings}
-use Rattle.lwcrun_core.specs.Headline.{run_inputs, text_of}
+use Rattle.lwcrun_core.specs.Headline.{text_of}
 
 skips : (m : Machine) (s : ℕ) (xs : List ℕ) → is_ended m s ≡ true → kept m (s ∷ xs) ≡ kept m xs
 skips m s xs e = ap (λ b. cond b (kept m xs) (s ∷ kept (step m s) xs)) e
@@ -81,8 +78,3 @@ pub text_is : (h : History) (inputs : Inputs) (schedule text : List ℕ) → h.i
 unfolding text_of
 text_is h inputs schedule text given made is =
     is ∙ ap (λ (x : Inputs). report_after x h.steps) given ∙ ap (λ steps. report_after inputs steps) made
-
--- a run has one thread for each entry of its image
-pub threads_of_run : (image : Image) (settings : Settings) → settings.job ≡ Run → thread_count (run_inputs image settings) ≡ length image.entries
-unfolding thread_count
-threads_of_run image settings is = ap (threads_for image) is

@@ -1,5 +1,5 @@
 -- What a call of the program promises.
-use Rattle.std.specs.Prelude.{◌≡◌, ◌⊎◌, ◌≤◌, ℕ, List, Option, None, Some, Result, Ok, Err, All, length}
+use Rattle.std.specs.Prelude.{◌≡◌, ◌⊎◌, ◌≤◌, ℕ, List, [], Option, None, Some, Result, Ok, Err, All, length}
 use Rattle.guest_asm.specs.Drafts.{assembled}
 use Rattle.guest_dis.specs.Listing.{listing}
 use Rattle.guest_image.specs.Limits.{IsImage}
@@ -7,17 +7,27 @@ use Rattle.guest_image.specs.Spelling.{spelling}
 use Rattle.guest_image.specs.declared.image.Image.{Image}
 use Rattle.kernel_core.specs.declared.settings.Settings.{Settings}
 use Rattle.lwc_io.specs.Outside.{FilesView, SinkView, appended}
+use Rattle.kernel_core.specs.Histories.{IsComplete}
+use Rattle.kernel_core.specs.Runs.{kept}
+use Rattle.kernel_core.specs.Start.{Inputs, start, threads_for}
+use Rattle.lwc_base.specs.declared.limits.TheConstants.{MOST_STEPS}
+use Rattle.request_isolation.specs.Needs.{HasFrames}
+use Rattle.lwc_gen.specs.Generated.{generated}
+use Rattle.lwc_gen.specs.Summary.{summary_after}
+use Rattle.lwc_text.specs.Requests.{IsRequestFile}
 use Rattle.lwc_text.specs.Schedules.{IsSchedule}
 use Rattle.lwcrun_core.specs.declared.ending.Rejection.{Rejection}
 use Rattle.lwcrun_core.specs.declared.status.ExitStatus.{ExitStatus}
 use Rattle.lwcrun_core.specs.declared.status.ExitStatus.TheVariants as statuses
 use Rattle.lwcrun_core.specs.Ends.{End, Outside, Ended, FetchFailed, IsUnwritten, WriteFailed}
 use Rattle.lwcrun_core.specs.Ends as ends
-use Rattle.lwcrun_core.specs.Headline.{IsText, Work, plan_of, run_inputs, text_of}
+use Rattle.lwcrun_core.specs.Headline.{IsText, Work, inputs_of, plan_of, text_of}
+use Rattle.lwcrun_core.specs.Images.{serve_steps}
 use Rattle.lwcrun_core.specs.Lines.{Command}
 use Rattle.lwcrun_core.specs.Lines as commands
 use Rattle.lwcrun_core.specs.Plans.{AreFetchesOf, FileContents, outcome}
 use Rattle.lwcrun_core.specs.Reading.{Fetched}
+use Rattle.lwcrun_core.specs.Serving.{EachHasReply, RepliesAreAlone, summary_alone}
 use Rattle.lwcrun_core.specs.Statuses.{IsAnswered, status_of_rejection}
 
 -- what holds at each end of a call: what holds at that end of the command's plan; a line that is not accepted
@@ -31,11 +41,19 @@ abbrev pub Answers : Outside → Option Command → ExitStatus → SinkView → 
 Answers o asked status err err_after =
     (e : End Rejection) × CallEnded o asked e × IsAnswered e status err err_after
 
+-- this is the name of the file, where there is one
+abbrev pub IsNameIn : Option (List ℕ) → List ℕ → Type 0
+IsNameIn None q = ⊥
+IsNameIn (Some name) q = q ≡ name
+
 -- the files that a command names
 abbrev pub Names : Command → List ℕ → Type 0
-Names (commands.Replay image schedule settings) q = (q ≡ image) ⊎ (q ≡ schedule)
+Names (commands.Replay image schedule requests settings) q = (q ≡ image) ⊎ ((q ≡ schedule) ⊎ IsNameIn requests q)
+Names (commands.Run image settings) q = q ≡ image
+Names (commands.Serve image requests settings) q = (q ≡ image) ⊎ (q ≡ requests)
 Names (commands.Asm source) q = q ≡ source
 Names (commands.Dis image) q = q ≡ image
+Names (commands.Gen number) q = ⊥
 
 -- a call fetched what its command's plan comes to, and nothing where the line is not accepted
 abbrev pub FetchesPlan : Option Command → FilesView → FilesView → Type 0
@@ -83,29 +101,82 @@ status_by (Err rejection) = status_of_rejection rejection
 abbrev pub IsOrNoMemory : ExitStatus → ExitStatus → Type 0
 IsOrNoMemory result status = (result ≡ status) ⊎ (result ≡ statuses.NoMemory)
 
--- the contents of two files are an image that fits the frames and a schedule of its threads
-pub record AreAccepted
-    (settings : Settings) (image_bytes schedule_bytes : List ℕ) (x : Image) (steps : List ℕ) : Type 0 where
+-- the bytes are an image, whose pages fit the frames
+pub record IsFitting (settings : Settings) (bytes : List ℕ) (x : Image) : Type 0 where
   pub image : IsImage x
-  pub spelled : image_bytes ≡ spelling x
+  pub spelled : bytes ≡ spelling x
   pub fits : length x.pages ≤ settings.frames
-  pub schedule : IsSchedule (length x.entries) schedule_bytes steps
+
+-- the requests of a replay: those in the file of this name; a run has none
+abbrev pub AreRequestsIn : Option (List ℕ) → (List ℕ → List ℕ) → List (List ℕ) → Type 0
+AreRequestsIn None bytes asked = asked ≡ []
+AreRequestsIn (Some name) bytes asked = IsRequestFile (bytes name) asked
+
+-- a replay's files are accepted: an image, a schedule of its threads, and requests
+pub record IsReplay
+    (bytes : List ℕ → List ℕ) (image schedule : List ℕ) (requests : Option (List ℕ)) (settings : Settings)
+    (x : Image) (steps : List ℕ) (asked : List (List ℕ)) : Type 0 where
+  pub guest : IsFitting settings (bytes image) x
+  pub scheduled : IsSchedule (threads_for x settings.job) (bytes schedule) steps
+  pub requested : AreRequestsIn requests bytes asked
+
+-- a serve's files are accepted: an image, and requests that take no more steps than there may be
+pub record IsServe
+    (bytes : List ℕ → List ℕ) (image requests : List ℕ) (settings : Settings)
+    (x : Image) (asked : List (List ℕ)) : Type 0 where
+  pub guest : IsFitting settings (bytes image) x
+  pub requested : IsRequestFile (bytes requests) asked
+  pub few : serve_steps settings (length asked) ≤ MOST_STEPS
+
+-- some complete history of these inputs was made, and its text was written
+abbrev pub WroteHistory : Outside → Inputs → Type 0
+WroteHistory o inputs =
+    (steps : List ℕ) × IsComplete (start inputs) steps
+    × (o.out_after.taken ≡ appended o.out.taken (text_of inputs steps))
+
+-- some complete history of this serve was made, in which each request has a reply, and the one that it gets by itself
+-- where there are frames for that, and its text was written
+abbrev pub WroteServe : Outside → Inputs → Type 0
+WroteServe o inputs =
+    (steps : List ℕ) × IsComplete (start inputs) steps × EachHasReply inputs steps × RepliesAreAlone inputs steps
+    × (o.out_after.taken ≡ appended o.out.taken (text_of inputs steps))
+
+-- some complete history of the generated serve was made, and its summary was written, which is that of the replies that
+-- the requests get by themselves where there are frames for that
+abbrev pub WroteSummary : Outside → ℕ → Type 0
+WroteSummary o number =
+    (steps : List ℕ) × IsComplete (start (generated number)) steps
+    × (HasFrames (generated number) → summary_after (generated number) number steps ≡ summary_alone number)
+    × (o.out_after.taken ≡ appended o.out.taken (summary_after (generated number) number steps))
 
 -- the headline of a command over the contents of its files: they are accepted, and what was written is the
--- report of the steps that the run of the image keeps of the schedule, the bytes of the source's image, or the source
--- of the image
+-- report of the steps that are kept of the schedule, or of the steps that running threads made; the bytes of the
+-- source's image, or the source of the image; the summary of the steps of a generated serve
 abbrev pub Headline : Outside → Command → (List ℕ → List ℕ) → Type 0
-Headline o (commands.Replay image schedule settings) bytes =
-    (x : Image) × (steps : List ℕ) × AreAccepted settings (bytes image) (bytes schedule) x steps
-    × (o.out_after.taken ≡ appended o.out.taken (text_of (run_inputs x settings) steps))
+Headline o (commands.Replay image schedule requests settings) bytes =
+    (x : Image) × (steps : List ℕ) × (asked : List (List ℕ))
+    × IsReplay bytes image schedule requests settings x steps asked
+    × RepliesAreAlone (inputs_of x asked settings) (kept (start (inputs_of x asked settings)) steps)
+    × (o.out_after.taken ≡ appended o.out.taken (text_of (inputs_of x asked settings) steps))
+Headline o (commands.Run image settings) bytes =
+    (x : Image) × IsFitting settings (bytes image) x × WroteHistory o (inputs_of x [] settings)
+Headline o (commands.Serve image requests settings) bytes =
+    (x : Image) × (asked : List (List ℕ)) × IsServe bytes image requests settings x asked
+    × WroteServe o (inputs_of x asked settings)
 Headline o (commands.Asm source) bytes =
     (x : Image) × (assembled (bytes source) ≡ Ok x) × (o.out_after.taken ≡ appended o.out.taken (spelling x))
 Headline o (commands.Dis image) bytes =
     (x : Image) × IsImage x × (bytes image ≡ spelling x) × (o.out_after.taken ≡ appended o.out.taken (listing x))
+Headline o (commands.Gen number) bytes = WroteSummary o number
 
 -- the contents of the command's files are accepted
 abbrev pub IsRunnable : Command → (List ℕ → List ℕ) → Type 0
-IsRunnable (commands.Replay image schedule settings) bytes =
-    (x : Image) × (steps : List ℕ) × AreAccepted settings (bytes image) (bytes schedule) x steps
+IsRunnable (commands.Replay image schedule requests settings) bytes =
+    (x : Image) × (steps : List ℕ) × (asked : List (List ℕ))
+    × IsReplay bytes image schedule requests settings x steps asked
+IsRunnable (commands.Run image settings) bytes = (x : Image) × IsFitting settings (bytes image) x
+IsRunnable (commands.Serve image requests settings) bytes =
+    (x : Image) × (asked : List (List ℕ)) × IsServe bytes image requests settings x asked
 IsRunnable (commands.Asm source) bytes = (x : Image) × (assembled (bytes source) ≡ Ok x)
 IsRunnable (commands.Dis image) bytes = (x : Image) × IsImage x × (bytes image ≡ spelling x)
+IsRunnable (commands.Gen number) bytes = Unit {0}

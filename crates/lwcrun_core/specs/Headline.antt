@@ -1,71 +1,105 @@
 -- What a call does: its work, its plan, and the text that it writes.
-use Rattle.std.specs.Prelude.{◌≡◌, ℕ, if◌then◌else◌, List, [], length, nat_lt}
+use Rattle.std.specs.Prelude.{◌≡◌, ℕ, List, [], Option, None, Some, Result}
 use Rattle.guest_dis.specs.Listing.{listing}
-use Rattle.lwc_base.specs.declared.limits.TheConstants.{MOST_IMAGE_BYTES, MOST_SCHEDULE_BYTES, MOST_SOURCE_BYTES}
+use Rattle.lwc_base.specs.declared.limits.TheConstants.{MOST_IMAGE_BYTES, MOST_REQUEST_FILE_BYTES, MOST_SCHEDULE_BYTES, MOST_SOURCE_BYTES}
 use Rattle.guest_image.specs.Spelling.{spelling}
 use Rattle.guest_image.specs.declared.image.Image.{Image}
 use Rattle.kernel_core.specs.declared.settings.Settings.{Settings}
+use Rattle.kernel_core.specs.Histories.{IsComplete}
 use Rattle.kernel_core.specs.Runs.{kept}
-use Rattle.kernel_core.specs.Start.{Inputs, start}
+use Rattle.kernel_core.specs.Start.{Inputs, start, threads_for}
+use Rattle.lwc_gen.specs.Generated.{generated}
+use Rattle.lwc_gen.specs.Summary.{summary_after}
 use Rattle.lwc_text.specs.Report.{report_after}
 use Rattle.lwcrun_core.specs.declared.ending.Rejection.{Rejection}
-use Rattle.lwcrun_core.specs.declared.ending.Rejection.TheVariants as rejections
-use Rattle.lwcrun_core.specs.Images.{image_of, schedule_of, source_of}
+use Rattle.lwcrun_core.specs.Images.{bounded_requests_of, fitting_image_of, image_of, requests_of, schedule_of, source_of}
 use Rattle.lwcrun_core.specs.Lines.{Command}
 use Rattle.lwcrun_core.specs.Lines as commands
-use Rattle.lwcrun_core.specs.Plans.{Plan, Read, Refuse, Write, accepted}
+use Rattle.lwcrun_core.specs.Plans.{Plan, Read, Write, accepted}
 
--- what is done when all inputs are accepted: the run of a schedule, the bytes of an image, or its source
+-- what is done when all inputs are accepted: the steps of a schedule; all steps of threads that go on by themselves; the
+-- bytes of an image, or its source; all steps of a generated serve
 pub data Work : Type 0 where
   Replaying : Inputs → List ℕ → Work
+  Running : Inputs → Work
   Assembling : Image → Work
   Disassembling : Image → Work
+  Generating : ℕ → Work
 
--- the text of a schedule's run: the report of the steps that are kept
+-- the text of a schedule: the report of the steps that are kept
 unfoldable pub text_of : Inputs → List ℕ → List ℕ
 text_of inputs schedule = report_after inputs (kept (start inputs) schedule)
 
--- the texts that a work may have
+-- the texts that a work may have; threads that go on by themselves may make any complete history
 abbrev pub IsText : Work → List ℕ → Type 0
 IsText (Replaying inputs schedule) text = text ≡ text_of inputs schedule
+IsText (Running inputs) text =
+    (steps : List ℕ) × IsComplete (start inputs) steps × (text ≡ text_of inputs steps)
 IsText (Assembling image) text = text ≡ spelling image
 IsText (Disassembling image) text = text ≡ listing image
+IsText (Generating number) text =
+    (steps : List ℕ) × IsComplete (start (generated number)) steps
+    × (text ≡ summary_after (generated number) number steps)
 
--- the inputs of an image's run
-abbrev pub run_inputs : Image → Settings → Inputs
-run_inputs image settings = record { image = image; requests = []; settings = settings }
+-- what a kernel is opened with
+abbrev pub inputs_of : Image → List (List ℕ) → Settings → Inputs
+inputs_of image requests settings = record { image = image; requests = requests; settings = settings }
 
--- what follows an image whose pages fit the frames: the schedule is read
-unfoldable pub after_size : List ℕ → Settings → Image → Plan Rejection Work
-after_size schedule settings image =
-    Read schedule MOST_SCHEDULE_BYTES (λ bytes.
-    accepted (schedule_of (length image.entries) bytes) (λ steps.
-    Write (Replaying (run_inputs image settings) steps)))
+-- a file is read by a grammar, and what it is says what follows
+abbrev pub read_by : {A : Type 0} → (List ℕ → Result A Rejection) → ℕ → List ℕ → (A → Plan Rejection Work) → Plan Rejection Work
+read_by grammar limit name next = Read name limit (λ bytes. accepted (grammar bytes) next)
 
--- what follows an image: its number of pages is compared with the frames
-unfoldable pub after_image : List ℕ → Settings → Image → Plan Rejection Work
-after_image schedule settings image =
-    if nat_lt settings.frames (length image.pages)
-    then Refuse (rejections.TooLarge (length image.pages) settings.frames)
-    else after_size schedule settings image
+-- what follows the schedule of a replay: a serve reads its requests
+unfoldable pub after_schedule : Option (List ℕ) → Settings → Image → List ℕ → Plan Rejection Work
+after_schedule None settings image steps = Write (Replaying (inputs_of image [] settings) steps)
+after_schedule (Some requests) settings image steps =
+    read_by requests_of MOST_REQUEST_FILE_BYTES requests (λ asked.
+    Write (Replaying (inputs_of image asked settings) steps))
 
--- the run of an image under a schedule: the image is read and compared with the frames, then the schedule
-unfoldable pub replay_plan : List ℕ → List ℕ → Settings → Plan Rejection Work
-replay_plan image schedule settings =
-    Read image MOST_IMAGE_BYTES (λ bytes. accepted (image_of bytes) (after_image schedule settings))
+-- what follows the image of a replay: the schedule of its threads is read
+unfoldable pub after_image : List ℕ → Option (List ℕ) → Settings → Image → Plan Rejection Work
+after_image schedule requests settings image =
+    read_by (schedule_of (threads_for image settings.job)) MOST_SCHEDULE_BYTES schedule
+    (after_schedule requests settings image)
 
--- the image of a source: the source is read and assembled
+-- a replay: the image is read, then the schedule, and then the requests of a serve
+unfoldable pub replay_plan : List ℕ → List ℕ → Option (List ℕ) → Settings → Plan Rejection Work
+replay_plan image schedule requests settings =
+    read_by (fitting_image_of settings.frames) MOST_IMAGE_BYTES image (after_image schedule requests settings)
+
+-- a run: the image is read
+unfoldable pub run_plan : List ℕ → Settings → Plan Rejection Work
+run_plan image settings =
+    read_by (fitting_image_of settings.frames) MOST_IMAGE_BYTES image (λ x. Write (Running (inputs_of x [] settings)))
+
+-- what follows the image of a serve: the requests are read
+unfoldable pub after_server : List ℕ → Settings → Image → Plan Rejection Work
+after_server requests settings image =
+    read_by (bounded_requests_of settings) MOST_REQUEST_FILE_BYTES requests (λ asked.
+    Write (Running (inputs_of image asked settings)))
+
+-- a serve: the image is read, and then the requests
+unfoldable pub serve_plan : List ℕ → List ℕ → Settings → Plan Rejection Work
+serve_plan image requests settings =
+    read_by (fitting_image_of settings.frames) MOST_IMAGE_BYTES image (after_server requests settings)
+
+-- the image of a source
 unfoldable pub asm_plan : List ℕ → Plan Rejection Work
-asm_plan source =
-    Read source MOST_SOURCE_BYTES (λ bytes. accepted (source_of bytes) (λ image. Write (Assembling image)))
+asm_plan source = read_by source_of MOST_SOURCE_BYTES source (λ image. Write (Assembling image))
 
--- the source of an image: the image is read
+-- the source of an image
 unfoldable pub dis_plan : List ℕ → Plan Rejection Work
-dis_plan image =
-    Read image MOST_IMAGE_BYTES (λ bytes. accepted (image_of bytes) (λ x. Write (Disassembling x)))
+dis_plan image = read_by image_of MOST_IMAGE_BYTES image (λ x. Write (Disassembling x))
 
--- the plan of what a line asks for
+-- a generated serve: no file is read
+unfoldable pub gen_plan : ℕ → Plan Rejection Work
+gen_plan number = Write (Generating number)
+
+-- what a command does
 abbrev pub plan_of : Command → Plan Rejection Work
-plan_of (commands.Replay image schedule settings) = replay_plan image schedule settings
+plan_of (commands.Replay image schedule requests settings) = replay_plan image schedule requests settings
+plan_of (commands.Run image settings) = run_plan image settings
+plan_of (commands.Serve image requests settings) = serve_plan image requests settings
 plan_of (commands.Asm source) = asm_plan source
 plan_of (commands.Dis image) = dis_plan image
+plan_of (commands.Gen number) = gen_plan number

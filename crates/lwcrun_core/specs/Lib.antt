@@ -9,6 +9,7 @@ pub mod Numbers
 pub mod Parts
 pub mod Plans
 pub mod Reading
+pub mod Serving
 pub mod Statuses
 pub mod Views
 pub mod Writing

@@ -1,5 +1,7 @@
 -- How contracts see the code's endings, and the outside.
-use Rattle.std.specs.Prelude.{Result, Ok, Err}
+use Rattle.std.specs.Prelude.{ℕ, Result, Ok, Err}
+use Rattle.byte_reading.specs.declared.error.ReadError.{ReadError}
+use Rattle.byte_reading.specs.declared.error.ReadError.TheVariants as errors
 use Rattle.lwc_io.specs.Outside.{FilesView, SinkView}
 use Rattle.lwcrun_core.specs.declared.ending.Ending.{Ending}
 use Rattle.lwcrun_core.specs.declared.ending.Ending.TheVariants as endings
@@ -16,6 +18,11 @@ end_of endings.Usage = ends.Usage
 end_of (endings.Unread name) = ends.Unread name.now
 end_of endings.Unwritten = ends.Unwritten
 end_of (endings.Refused rejection) = ends.Refused rejection
+
+-- the end of a call by an error of a reader, whose refusals are rejected by this
+abbrev pub error_end : {R : Type 0} → (R → ℕ → Rejection) → ReadError R → End Rejection
+error_end reject errors.OutOfMemory = ends.NoMemory
+error_end reject (errors.Refused rule at) = ends.Refused (reject rule at)
 
 -- what a part of a call found, seen by view
 abbrev pub found : {X A : Type 0} → (X → A) → Result X Ending → Found A Rejection

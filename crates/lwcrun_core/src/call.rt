@@ -4,7 +4,7 @@ ghost use Rattle.lwcrun_core.specs.Calls.{Answers, AreContents, FetchesNamed, Fe
 ghost use Rattle.lwcrun_core.specs.Ends as ends;
 ghost use Rattle.lwcrun_core.specs.Ends.{Ended, IsUnwritten, NothingFailed, WriteFailed};
 ghost use Rattle.lwcrun_core.specs.Headline.{IsText, plan_of};
-ghost use Rattle.lwcrun_core.specs.Lines.{Command, IsWithinLimits, asked_by, command_of};
+ghost use Rattle.lwcrun_core.specs.Lines.{Command, IsWithinLimits, RunsThreads, asked_by, command_of};
 ghost use Rattle.lwcrun_core.specs.Plans.{AreFetchesOf, outcome};
 ghost use Rattle.lwcrun_core.specs.Reading.{Fetched};
 ghost use Rattle.lwcrun_core.specs.Statuses.{status_of_rejection};
@@ -14,11 +14,16 @@ use crate::ending::Ending;
 use crate::line::{Line, LineFault, read_line};
 use crate::messages::write_message;
 use crate::replaying::replay;
+use crate::running::{run, serve, serve_generated};
 use crate::sources::{asm, dis};
 use crate::status::ExitStatus;
 use guest_image::images_are_read_as_spelled;
+use lwc_gen::a_generated_server_can_be_served;
 use lwc_io::{Files, Gate, Sink};
-use lwc_text::schedules_are_read_as_named;
+use lwc_text::{request_files_are_read_as_spelled, schedules_are_read_as_named};
+use request_isolation::laws::{
+    a_finished_serve_has_each_reply, each_reply_is_that_of_its_request_alone,
+};
 use std::alloc::Global;
 use std::sync::Wait;
 use std::thread::Threads;
@@ -26,27 +31,31 @@ use std::thread::Threads;
 /// What the program does: it reads the line, the program's name first, reads the files that the line names
 /// in their order, tests each before the next, runs or makes what is asked for, and writes it to `out`. If
 /// it does not come to that, it writes why in one line to `err`; a fault of `err` changes nothing. The
-/// result is the exit status. Nobody waits at the gate: no line that is accepted yet has leave to come there. That it starts
-/// no thread is tested: it is carried out in a function that has no handle of the runtime.
+/// result is the exit status. Threads are started, and come to the gate, for `run`, `serve` and `gen` alone: the other
+/// modes are carried out in functions that have no handle of the runtime.
 ///
 /// `outcome` is the whole table: how the call ended, what holds then, and the message on `err`. The other
 /// clauses follow from it, each a promise by itself. `NoMemory` may always come, and then nothing was
 /// written.
 pub fn lwcrun<R: Threads + Wait + Sync, F: Files, O: Sink, E: Sink, G: Gate>(
-    _rt: &R,
+    rt: &R,
     alloc: Global,
     words: &[String],
     files: &mut F,
     out: &mut O,
     err: &mut E,
-    _gate: &G,
+    gate: &G,
 ) -> ExitStatus
+    requires leave { (command : Command) → command_of (map string_bytes words.now) ≡ Some command
+        → RunsThreads command → G.leave gate.now }
+
     // How the call ended, what holds then, and its message.
     ensures outcome { Answers
         (outside (F.seen files.old) (F.seen files.new) (O.seen out.old) (O.seen out.new))
         (command_of (map string_bytes words.now)) result (E.seen err.old) (E.seen err.new) }
 
-    // What was written at status 0: the report of the steps that the run keeps of the schedule.
+    // What was written at status 0, over known files: the report of the steps that are kept of the schedule, or that the
+    // threads made; an image or a source; the summary of a generated serve.
     ensures headline { (command : Command) (bytes : List ℕ → List ℕ) → result ≡ ExitStatus.Ok
         → command_of (map string_bytes words.now) ≡ Some command
         → AreContents (F.seen files.old).contents command bytes
@@ -103,17 +112,25 @@ pub fn lwcrun<R: Threads + Wait + Sync, F: Files, O: Sink, E: Sink, G: Gate>(
 {
     images_are_read_as_spelled();
     schedules_are_read_as_named();
-    answer(alloc, words, files, out, err)
+    request_files_are_read_as_spelled();
+    a_generated_server_can_be_served();
+    a_finished_serve_has_each_reply();
+    each_reply_is_that_of_its_request_alone();
+    answer(rt, alloc, words, files, out, err, gate)
 }
 
 /// Reads the line, does what it asks for, and writes the message of how that ended.
-pub(crate) fn answer<F: Files, O: Sink, E: Sink>(
+fn answer<R: Threads + Wait + Sync, F: Files, O: Sink, E: Sink, G: Gate>(
+    rt: &R,
     alloc: Global,
     words: &[String],
     files: &mut F,
     out: &mut O,
     err: &mut E,
+    gate: &G,
 ) -> ExitStatus
+    requires leave { (command : Command) → command_of (map string_bytes words.now) ≡ Some command
+        → RunsThreads command → G.leave gate.now }
     ensures answers { Answers
         (outside (F.seen files.old) (F.seen files.new) (O.seen out.old) (O.seen out.new))
         (command_of (map string_bytes words.now)) result (E.seen err.old) (E.seen err.new) }
@@ -124,7 +141,7 @@ pub(crate) fn answer<F: Files, O: Sink, E: Sink>(
         Ok(line) => line,
         Err(fault) => return write_message(alloc, err, &fault_ending(fault)),
     };
-    let ending = carry_out(alloc, &line, files, out);
+    let ending = carry_out(rt, alloc, &line, files, out, gate);
     write_message(alloc, err, &ending)
 }
 
@@ -139,13 +156,16 @@ fn fault_ending<'a>(fault: LineFault) -> Ending<'a>
 }
 
 /// Does what a line asks for.
-fn carry_out<'a, F: Files, O: Sink>(
+fn carry_out<'a, R: Threads + Wait + Sync, F: Files, O: Sink, G: Gate>(
+    rt: &R,
     alloc: Global,
     line: &'a Line,
     files: &mut F,
     out: &mut O,
+    gate: &G,
 ) -> Ending<'a>
-    requires { IsWithinLimits line.now }
+    requires limits { IsWithinLimits (asked_by line.now) }
+    requires leave { RunsThreads (asked_by line.now) → G.leave gate.now }
     ensures ended { Ended IsText
         (outside (F.seen files.old) (F.seen files.new) (O.seen out.old) (O.seen out.new))
         (plan_of (asked_by line.now)) (end_of result) }
@@ -156,16 +176,31 @@ fn carry_out<'a, F: Files, O: Sink>(
         Line::Replay {
             image,
             schedule,
+            requests: None,
+            settings,
+        } => replay(alloc, files, out, image, schedule, None, settings),
+        Line::Replay {
+            image,
+            schedule,
+            requests: Some(requests),
             settings,
         } => replay(
             alloc,
             files,
             out,
-            image.as_str(),
-            schedule.as_str(),
+            image,
+            schedule,
+            Some(requests.as_str()),
             settings,
         ),
+        Line::Run { image, settings } => run(rt, alloc, files, out, gate, image, settings),
+        Line::Serve {
+            image,
+            requests,
+            settings,
+        } => serve(rt, alloc, files, out, gate, image, requests, settings),
         Line::Asm { source } => asm(alloc, files, out, source.as_str()),
         Line::Dis { image } => dis(alloc, files, out, image.as_str()),
+        Line::Gen { number } => serve_generated(rt, alloc, out, gate, *number),
     }
 }

@@ -1,5 +1,5 @@
-//! The call behind the program: it reads a line and the files that the line names, runs what they ask for,
-//! and writes the report.
+//! The call behind the program: it reads a line and the files that the line names, runs or serves what they ask
+//! for, and writes the report.
 #![tactic(auto)]
 
 mod arguments;
@@ -12,6 +12,7 @@ mod messages;
 mod numbers;
 mod reading;
 mod replaying;
+mod running;
 mod sources;
 mod status;
 #[cfg(test)]
@@ -21,4 +22,5 @@ mod writing;
 pub use call::lwcrun;
 pub use limits::limits_are_as_documented;
 pub use line::{Line, LineFault, read_line};
+pub use running::open_process;
 pub use status::ExitStatus;

@@ -1,23 +1,36 @@
 ghost use Rattle.std.specs.Prelude.{◌≡◌, ◌≢◌, ◌≤◌, ◌↔◌, None, Some, map, IfErr, IfOk, IfSome, string_bytes};
 ghost use Rattle.std.specs.Option.{option_map};
-ghost use Rattle.lwc_base.specs.declared.limits.TheConstants.{MOST_BUDGET, MOST_FRAMES};
+ghost use Rattle.kernel_core.specs.Settings.{IsJob, IsSettings};
+ghost use Rattle.lwc_base.specs.declared.limits.TheConstants.{MOST_BUDGET, MOST_FRAMES, MOST_THREADS};
 ghost use Rattle.lwcrun_core.specs.Arguments.{arguments_in};
 ghost use Rattle.lwcrun_core.specs.Lines as spec;
-ghost use Rattle.lwcrun_core.specs.Lines.{AreRunSettings, IsWithinLimits, asked_by, command_of};
+ghost use Rattle.lwcrun_core.specs.Lines.{AreServeSettings, IsWithinLimits, asked_by, command_of};
 
 use crate::arguments::{Arguments, parse_words};
 use crate::numbers::number_within;
 use kernel_core::{Job, Settings};
-use lwc_base::{MOST_BUDGET, MOST_FRAMES};
+use lwc_base::{MOST_BUDGET, MOST_FRAMES, MOST_THREADS};
 use std::alloc::Global;
 
 /// What a line asks for.
 #[derive(Debug, Drop)]
 pub enum Line {
-    /// The run of an image under a schedule, each a file by its name.
+    /// An image under a schedule, and a serve where there are requests, each a file by its name.
     Replay {
         image: String,
         schedule: String,
+        requests: Option<String>,
+        settings: Settings,
+    },
+    /// The run of an image, a file by its name.
+    Run {
+        image: String,
+        settings: Settings,
+    },
+    /// The serve of requests by an image, each a file by its name.
+    Serve {
+        image: String,
+        requests: String,
         settings: Settings,
     },
     /// The image of a source, a file by its name.
@@ -27,6 +40,10 @@ pub enum Line {
     /// The source of an image, a file by its name.
     Dis {
         image: String,
+    },
+    /// The serve that is generated from a number, 1 to 100.
+    Gen {
+        number: u32,
     },
 }
 
@@ -44,6 +61,9 @@ const DEFAULT_FRAMES: u32 = 4096;
 /// The budget of a line that asks for none.
 const DEFAULT_BUDGET: u32 = 10000;
 
+/// The number of workers of a line that asks for none.
+const DEFAULT_WORKERS: u32 = 4;
+
 /// What the words ask for, the program's name first.
 ///
 /// # Errors
@@ -52,7 +72,7 @@ const DEFAULT_BUDGET: u32 = 10000;
 #[tactic(auto, unfolding(crate::specs::Lines::command_of))]
 pub fn read_line(alloc: Global, words: &[String]) -> Result<Line, LineFault>
     ensures accepted { IfOk result (λ line. command_of (map string_bytes words.now) ≡ Some (asked_by line)) }
-    ensures limits { IfOk result IsWithinLimits }
+    ensures limits { IfOk result (λ line. IsWithinLimits (asked_by line)) }
     ensures usage { (result ≡ Err LineFault.Usage)
         ↔ ((result ≢ Err LineFault.OutOfMemory) × (command_of (map string_bytes words.now) ≡ None)) }
 {
@@ -67,40 +87,133 @@ pub fn read_line(alloc: Global, words: &[String]) -> Result<Line, LineFault>
 fn line_in(alloc: Global, mode: &str, arguments: &Arguments<'_>) -> Result<Line, LineFault>
     ensures accepted { IfOk result (λ line.
         spec.asked_in mode.now (arguments_in arguments.now) ≡ Some (asked_by line)) }
-    ensures limits { IfOk result IsWithinLimits }
+    ensures limits { IfOk result (λ line. IsWithinLimits (asked_by line)) }
     ensures usage { result ≡ Err LineFault.Usage
         → spec.asked_in mode.now (arguments_in arguments.now) ≡ None }
 {
     match mode {
         "replay" => replay_line(alloc, arguments),
+        "run" => run_line(alloc, arguments),
+        "serve" => serve_line(alloc, arguments),
         "asm" => Ok(Line::Asm {
             source: name_of(alloc, only_word(arguments))?,
         }),
         "dis" => Ok(Line::Dis {
             image: name_of(alloc, only_word(arguments))?,
         }),
+        "gen" => gen_line(arguments),
         _ => Err(LineFault::Usage),
     }
 }
 
-/// The line of a replay: an image and a schedule, with frames and a budget.
+/// The line of a replay: an image and a schedule, and requests for a serve.
 fn replay_line(alloc: Global, arguments: &Arguments<'_>) -> Result<Line, LineFault>
-    ensures accepted { IfOk result (λ line.
-        spec.replay_of (arguments_in arguments.now) ≡ Some (asked_by line)) }
-    ensures limits { IfOk result IsWithinLimits }
-    ensures usage { result ≡ Err LineFault.Usage → spec.replay_of (arguments_in arguments.now) ≡ None }
+    ensures accepted { IfOk result (λ line. spec.replay_with (arguments_in arguments.now)
+        (arguments_in arguments.now).third ≡ Some (asked_by line)) }
+    ensures limits { IfOk result (λ line. IsWithinLimits (asked_by line)) }
+    ensures usage { result ≡ Err LineFault.Usage → spec.replay_with (arguments_in arguments.now)
+        (arguments_in arguments.now).third ≡ None }
 {
-    if arguments.third.is_some() || arguments.workers.is_some() {
+    match arguments.third {
+        Some(requests) => replay_of_serve(alloc, arguments, requests),
+        None => replay_of_run(alloc, arguments),
+    }
+}
+
+/// The line of a run's replay, with frames and a budget.
+fn replay_of_run(alloc: Global, arguments: &Arguments<'_>) -> Result<Line, LineFault>
+    ensures accepted { IfOk result (λ line.
+        spec.replay_with (arguments_in arguments.now) None ≡ Some (asked_by line)) }
+    ensures limits { IfOk result (λ line. IsWithinLimits (asked_by line)) }
+    ensures usage { result ≡ Err LineFault.Usage → spec.replay_with (arguments_in arguments.now) None ≡ None }
+{
+    if arguments.workers.is_some() {
         return Err(LineFault::Usage);
     }
-    let Some(settings) = settings_of(arguments) else {
+    let Some(settings) = settings_of(arguments, Job::Run) else {
         return Err(LineFault::Usage);
     };
     Ok(Line::Replay {
         image: name_of(alloc, arguments.first)?,
         schedule: name_of(alloc, arguments.second)?,
+        requests: None,
         settings,
     })
+}
+
+/// The line of a serve's replay, with frames, a budget and workers.
+fn replay_of_serve(
+    alloc: Global,
+    arguments: &Arguments<'_>,
+    requests: &str,
+) -> Result<Line, LineFault>
+    ensures accepted { IfOk result (λ line.
+        spec.replay_with (arguments_in arguments.now) (Some requests.now) ≡ Some (asked_by line)) }
+    ensures limits { IfOk result (λ line. IsWithinLimits (asked_by line)) }
+    ensures usage { result ≡ Err LineFault.Usage →
+        spec.replay_with (arguments_in arguments.now) (Some requests.now) ≡ None }
+{
+    let Some(settings) = serve_settings_of(arguments) else {
+        return Err(LineFault::Usage);
+    };
+    Ok(Line::Replay {
+        image: name_of(alloc, arguments.first)?,
+        schedule: name_of(alloc, arguments.second)?,
+        requests: Some(name_of(alloc, Some(requests))?),
+        settings,
+    })
+}
+
+/// The line of a run: an image, with frames and a budget.
+fn run_line(alloc: Global, arguments: &Arguments<'_>) -> Result<Line, LineFault>
+    ensures accepted { IfOk result (λ line. spec.run_of (arguments_in arguments.now) ≡ Some (asked_by line)) }
+    ensures limits { IfOk result (λ line. IsWithinLimits (asked_by line)) }
+    ensures usage { result ≡ Err LineFault.Usage → spec.run_of (arguments_in arguments.now) ≡ None }
+{
+    if arguments.second.is_some() || arguments.third.is_some() || arguments.workers.is_some() {
+        return Err(LineFault::Usage);
+    }
+    let Some(settings) = settings_of(arguments, Job::Run) else {
+        return Err(LineFault::Usage);
+    };
+    Ok(Line::Run {
+        image: name_of(alloc, arguments.first)?,
+        settings,
+    })
+}
+
+/// The line of a serve: an image and requests, with frames, a budget and workers.
+fn serve_line(alloc: Global, arguments: &Arguments<'_>) -> Result<Line, LineFault>
+    ensures accepted { IfOk result (λ line. spec.serve_of (arguments_in arguments.now) ≡ Some (asked_by line)) }
+    ensures limits { IfOk result (λ line. IsWithinLimits (asked_by line)) }
+    ensures usage { result ≡ Err LineFault.Usage → spec.serve_of (arguments_in arguments.now) ≡ None }
+{
+    if arguments.third.is_some() {
+        return Err(LineFault::Usage);
+    }
+    let Some(settings) = serve_settings_of(arguments) else {
+        return Err(LineFault::Usage);
+    };
+    Ok(Line::Serve {
+        image: name_of(alloc, arguments.first)?,
+        requests: name_of(alloc, arguments.second)?,
+        settings,
+    })
+}
+
+/// The line of a generated serve: a number, without options.
+fn gen_line(arguments: &Arguments<'_>) -> Result<Line, LineFault>
+    ensures accepted { IfOk result (λ line. spec.gen_of (arguments_in arguments.now) ≡ Some (asked_by line)) }
+    ensures limits { IfOk result (λ line. IsWithinLimits (asked_by line)) }
+    ensures usage { result ≡ Err LineFault.Usage → spec.gen_of (arguments_in arguments.now) ≡ None }
+{
+    let Some(word) = only_word(arguments) else {
+        return Err(LineFault::Usage);
+    };
+    match number_within(1, 100, word) {
+        Some(number) => Ok(Line::Gen { number }),
+        None => Err(LineFault::Usage),
+    }
 }
 
 /// The name of a file, if it is given.
@@ -132,15 +245,25 @@ fn only_word<'a>(arguments: &Arguments<'a>) -> Option<&'a str>
     }
 }
 
-/// The settings of a line, if neither number is refused.
-fn settings_of(arguments: &Arguments<'_>) -> Option<Settings>
-    ensures value { result ≡ spec.settings_of (arguments_in arguments.now) }
-    ensures limits { IfSome result AreRunSettings }
+/// The settings of a serve, if no number is refused.
+fn serve_settings_of(arguments: &Arguments<'_>) -> Option<Settings>
+    ensures value { result ≡ spec.serve_settings_of (arguments_in arguments.now) }
+    ensures limits { IfSome result AreServeSettings }
+{
+    let workers = number_or(DEFAULT_WORKERS, MOST_THREADS, arguments.workers)?;
+    settings_of(arguments, Job::Serve { workers })
+}
+
+/// The settings of a line for a job, if neither number is refused.
+fn settings_of(arguments: &Arguments<'_>, job: Job) -> Option<Settings>
+    requires { IsJob job }
+    ensures value { result ≡ spec.settings_of job (arguments_in arguments.now) }
+    ensures limits { IfSome result (λ settings. IsSettings settings × (settings.job ≡ job)) }
 {
     Some(Settings {
         frames: number_or(DEFAULT_FRAMES, MOST_FRAMES, arguments.frames)?,
         budget: number_or(DEFAULT_BUDGET, MOST_BUDGET, arguments.budget)?,
-        job: Job::Run,
+        job,
     })
 }
 

@@ -16,7 +16,7 @@ pub enum ExitStatus {
     WriteFault,
     /// The image is not in its grammar or limits.
     ImageRefused,
-    /// The schedule is not in its grammar or limits.
+    /// The schedule, or the requests, are not in their grammar or limits.
     InputRefused,
     /// The image has more pages than there are frames.
     ImageTooLarge,

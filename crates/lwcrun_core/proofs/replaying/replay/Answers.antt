@@ -6,12 +6,12 @@ use Rattle.lwcrun_core.proofs.replaying.replay.Goals as goal
 pub returns-in-Ok-clause-ended : goal.returns-in-Ok-clause-ended
 unfolding replay_plan
 returns-in-Ok-clause-ended g c =
-    reads_on IsText _ _ _ _ _ _ _ _ _ _ _ c.in-Ok.ensures.reads c.image_in.ensures.same c.replay_image.ensures.ended
+    reads_on IsText _ _ _ _ _ _ _ _ _ _ _ c.in-Ok.ensures.reads c.fitting_image_in.ensures.same c.replay_image.ensures.ended
 
 pub returns-in-Ok-clause-fetches : goal.returns-in-Ok-clause-fetches
 unfolding replay_plan
 returns-in-Ok-clause-fetches g c =
-    fetches_on IsText _ _ _ _ _ _ _ _ c.in-Ok.ensures.reads c.image_in.ensures.same c.in-Ok.ensures.whole c.replay_image.ensures.fetches
+    fetches_on IsText _ _ _ _ _ _ _ _ c.in-Ok.ensures.reads c.fitting_image_in.ensures.same c.in-Ok.ensures.whole c.replay_image.ensures.fetches
 
 pub returns-in-Err-clause-ended : goal.returns-in-Err-clause-ended
 unfolding replay_plan
@@ -19,4 +19,4 @@ returns-in-Err-clause-ended g c = stops_reading IsText _ _ _ _ _ _ c.in-Err.ensu
 
 pub returns-in-Err-clause-fetches : goal.returns-in-Err-clause-fetches
 unfolding replay_plan
-returns-in-Err-clause-fetches g c = fetches_stop _ _ _ _ _ _ c.image_in.ensures.fetches
+returns-in-Err-clause-fetches g c = fetches_stop _ _ _ _ _ _ c.fitting_image_in.ensures.fetches

@@ -1,21 +1,22 @@
-use Rattle.std.proofs.Common.{◌≤◌, ◌<◌, length, refl, arith}
-use Rattle.lwcrun_core.proofs.Frames.{fits_fetches, fits_frames, too_large, too_large_fetches}
+use Rattle.std.proofs.Common.{All, ◌<◌, ℕ, refl, subst}
+use Rattle.lwcrun_core.specs.Headline.{IsText, after_image}
+use Rattle.lwcrun_core.proofs.Follows.{fetches_on, fetches_stop, reads_on, stops_reading}
 use Rattle.lwcrun_core.proofs.replaying.replay_image.Goals as goal
 
-pub returns-then-settings-pages-clause-ended : goal.returns-then-settings-pages-clause-ended
-returns-then-settings-pages-clause-ended g c = too_large _ _ _ _ _ c.len-pages.ensures c.if-settings-pages.true refl refl
+pub returns-in-Ok-clause-ended : goal.returns-in-Ok-clause-ended
+unfolding after_image
+returns-in-Ok-clause-ended g c =
+    reads_on IsText _ _ _ _ _ _ _ _ _ _ _ (rw c.thread_count.ensures at c.in-Ok.ensures.reads) c.schedule_in.ensures.same c.replay_schedule.ensures.ended
 
-pub returns-then-settings-pages-clause-fetches : goal.returns-then-settings-pages-clause-fetches
-returns-then-settings-pages-clause-fetches g c =
-    let over : c.args.settings.now.frames < length c.args.image.now.pages = omega arith in
-    too_large_fetches _ _ _ _ _ over
+pub returns-in-Ok-clause-fetches : goal.returns-in-Ok-clause-fetches
+unfolding after_image
+returns-in-Ok-clause-fetches g c =
+    fetches_on IsText _ _ _ _ _ _ _ _ (rw c.thread_count.ensures at c.in-Ok.ensures.reads) c.schedule_in.ensures.same c.in-Ok.ensures.whole c.replay_schedule.ensures.fetches
 
-pub returns-clause-ended : goal.returns-clause-ended
-returns-clause-ended g c =
-    let fits : length c.args.image.now.pages ≤ c.args.settings.now.frames = omega arith in
-    fits_frames _ _ _ _ _ fits c.replay_schedule.ensures.ended
+pub returns-in-Err-clause-ended : goal.returns-in-Err-clause-ended
+unfolding after_image
+returns-in-Err-clause-ended g c = stops_reading IsText _ _ _ _ _ _ (rw c.thread_count.ensures at c.in-Err.ensures.reads) refl
 
-pub returns-clause-fetches : goal.returns-clause-fetches
-returns-clause-fetches g c =
-    let fits : length c.args.image.now.pages ≤ c.args.settings.now.frames = omega arith in
-    fits_fetches _ _ _ _ _ _ fits c.replay_schedule.ensures.fetches
+pub returns-in-Err-clause-fetches : goal.returns-in-Err-clause-fetches
+unfolding after_image
+returns-in-Err-clause-fetches g c = fetches_stop _ _ _ _ _ _ c.schedule_in.ensures.fetches

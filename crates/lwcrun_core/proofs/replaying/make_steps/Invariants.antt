@@ -1,5 +1,5 @@
 use Rattle.lwcrun_core.proofs.Replays.{HasRun}
-use Rattle.lwcrun_core.proofs.replaying.run_steps.Given as goal
+use Rattle.lwcrun_core.proofs.replaying.make_steps.Given as goal
 
 -- the steps up to i have been made
 abbrev pub invariant-loop-i : goal.invariant-loop-i

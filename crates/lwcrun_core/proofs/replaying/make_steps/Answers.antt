@@ -1,7 +1,7 @@
 use Rattle.std.proofs.Common.{◌≡◌, ◌<◌, length, get_or, sym, ◌∙◌, arith}
 use Rattle.std.proofs.lemmas.Option.{get_or_from_slice_get}
 use Rattle.lwcrun_core.proofs.Replays.{runs_on}
-use Rattle.lwcrun_core.proofs.replaying.run_steps.Goals as goal
+use Rattle.lwcrun_core.proofs.replaying.make_steps.Goals as goal
 
 pub loop-i-preserved : goal.loop-i-preserved
 loop-i-preserved g c =

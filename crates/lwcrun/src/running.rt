@@ -1,0 +1,265 @@
+//! The modes that start threads: runs, serves, and a serve that is generated.
+
+use crate::replays::{assembled, replayed};
+use crate::serving::{COUNTER_HANDLER, FOUR_REQUESTS, FOUR_SERVED};
+use crate::tests::{Left, SURE, TWO_THREADS, ZEROS, call_over, image};
+use lwc_io::{Gate, OpenGate};
+use lwcrun_core::ExitStatus;
+use std::alloc::AllocError;
+use std::hint::spin_loop;
+use std::sync::Wait;
+use std::sync::atomic::{AtomicBool, Ordering};
+use std::test::Fail;
+use std::thread::Threads;
+
+/// How often a thread that is held looks.
+const LOOKS: u32 = 1_000_000_000;
+
+/// A gate that holds the first turn of one thread until it has seen another come for its second.
+#[derive(Drop)]
+struct HoldingGate {
+    held: u32,
+    awaited: u32,
+    came: AtomicBool,
+    ran_out: AtomicBool,
+}
+
+impl HoldingGate {
+    /// A gate to which nobody has come.
+    fn new(held: u32, awaited: u32) -> HoldingGate {
+        HoldingGate {
+            held,
+            awaited,
+            came: AtomicBool::new(false),
+            ran_out: AtomicBool::new(false),
+        }
+    }
+
+    /// Whether the thread that is held looked until its looks ran out.
+    fn has_run_out(&self) -> bool {
+        self.ran_out.load(Ordering::SeqCst)
+    }
+
+    /// Looks until the other thread has come, or the looks run out.
+    fn look(&self) {
+        for _look in 0..LOOKS {
+            if self.came.load(Ordering::SeqCst) {
+                return;
+            }
+            spin_loop();
+        }
+        self.ran_out.store(true, Ordering::SeqCst);
+    }
+}
+
+impl Gate for HoldingGate {
+    ghost leave = { λ _. Unit {0} };
+
+    /// Notes the second turn of the awaited thread, and holds the first turn of the other.
+    fn before<R: Wait>(&self, _rt: &R, thread: u32, turn: u64) {
+        if thread == self.awaited && turn == 1 {
+            self.came.store(true, Ordering::SeqCst);
+        }
+        if thread == self.held && turn == 0 {
+            self.look();
+        }
+    }
+}
+
+/// Calls the program on the words of a line, which blanks part, over the files `guest` and `requests`.
+fn call_line<R: AllocGlobal + Threads + Wait + Sync, G: Gate>(
+    rt: &R,
+    guest: &[u8],
+    requests: &str,
+    line: &str,
+    gate: &G,
+) -> Result<Left, AllocError>
+    requires { G.leave gate.now }
+{
+    let words: Vec<&str> = line.split(' ').collect(rt.alloc())?;
+    let files = [("guest", guest), ("requests", requests.as_bytes())];
+    call_over(rt, &files, words.as_slice(), SURE, gate)
+}
+
+/// The last word of a text, with the blank before it, which a schedule may have.
+fn last_word(text: &[u8]) -> &[u8] {
+    match text.iter().rposition(|byte| *byte == b' ') {
+        Some(at) => text.get(at..).unwrap_or(&[]),
+        None => &[],
+    }
+}
+
+#[test]
+fn a_worker_serves_the_requests_in_order(rt: HostRuntime) -> Result<(), Fail> {
+    let guest = assembled(rt.alloc(), COUNTER_HANDLER)?;
+    let line = "serve guest requests --workers 1";
+    let left = call_line(&rt, &guest, FOUR_REQUESTS, line, &OpenGate)?;
+    assert_eq!(rt; left.status, ExitStatus::Ok);
+    assert_eq!(rt; left.out.bytes(), FOUR_SERVED.as_bytes());
+    Ok(())
+}
+
+/// One request by itself, with as many frames as 32 steps may want: this is the machine of the definition `alone`, and the
+/// reply is its value.
+const SERVED_ALONE: &str = "thread 0 done 0 ctx 0.1 pc 0
+regs 0 0 0 0 0 0 0 0 0 0 0 0 0 0 0 0 0
+context 0.1 pages 1 slots 0 uid 0
+groups 0
+reply 0 done 0 01
+console -
+used 1
+peak 2
+steps 8
+schedule 00000000
+";
+
+#[test]
+fn a_request_is_served_alone(rt: HostRuntime) -> Result<(), Fail> {
+    let guest = assembled(rt.alloc(), COUNTER_HANDLER)?;
+    let line = "serve guest requests --workers 1 --budget 31 --frames 65536";
+    let left = call_line(&rt, &guest, "00\n", line, &OpenGate)?;
+    assert_eq!(rt; left.status, ExitStatus::Ok);
+    assert_eq!(rt; left.out.bytes(), SERVED_ALONE.as_bytes());
+    Ok(())
+}
+
+#[test]
+fn workers_end_where_there_is_no_request(rt: HostRuntime) -> Result<(), Fail> {
+    let alloc = rt.alloc();
+    let guest = assembled(alloc, COUNTER_HANDLER)?;
+    let mut report = String::new(alloc);
+    for t in 0..16u32 {
+        let home = t + 1;
+        report.push_str(&format!(in alloc; "thread {t} done 0 ctx 0.{home} pc 0\n")?)?;
+        report.push_str(&format!(in alloc; "regs {t} 0 0 0 0 0 0 0 0 0 0 0 0 0 0 0 0\n")?)?;
+    }
+    for home in 1..17u32 {
+        report.push_str(&format!(in alloc; "context 0.{home} pages 1 slots 0 uid 0\n")?)?;
+    }
+    report.push_str("groups 0\nconsole -\nused 1\npeak 1\nsteps 16\nschedule")?;
+    let line = "serve guest requests --workers 16";
+    let left = call_line(&rt, &guest, "", line, &OpenGate)?;
+    let Some(digits) = left.out.bytes().strip_prefix(report.as_bytes()) else {
+        return Err(Fail::new("another report"));
+    };
+    assert_eq!(rt; digits.len(), 18);
+    for digit in b"0123456789abcdef" {
+        assert!(rt; digits.contains(digit), "no digit {digit}");
+    }
+    Ok(())
+}
+
+#[test]
+fn replays_of_printed_schedules_give_the_same_texts(rt: HostRuntime) -> Result<(), Fail> {
+    let alloc = rt.alloc();
+    let two_threads = image(alloc, &TWO_THREADS, &[ZEROS], &[0, 3])?;
+    let left = call_line(&rt, &two_threads, "", "run guest", &OpenGate)?;
+    let words = ["replay", "guest", "schedule"];
+    let schedule = last_word(left.out.bytes());
+    let text = replayed(&rt, &two_threads, schedule, b"", &words)?;
+    assert_eq!(rt; left.out.bytes(), text.as_slice());
+
+    let guest = assembled(alloc, COUNTER_HANDLER)?;
+    let line = "serve guest requests --workers 4";
+    let left = call_line(&rt, &guest, FOUR_REQUESTS, line, &OpenGate)?;
+    let words = ["replay", "guest", "schedule", "requests", "--workers", "4"];
+    let schedule = last_word(left.out.bytes());
+    let text = replayed(&rt, &guest, schedule, FOUR_REQUESTS.as_bytes(), &words)?;
+    assert_eq!(rt; left.out.bytes(), text.as_slice());
+    Ok(())
+}
+
+#[test]
+fn threads_of_a_run_go_on_side_by_side(rt: HostRuntime) -> Result<(), Fail> {
+    let guest = image(rt.alloc(), &TWO_THREADS, &[ZEROS], &[0, 3])?;
+    let first = "thread 0 done 0 ctx 0.0 pc 2\nregs 0 0 0 0 0 0 7 0 0 0 0 0 0 0 0 0 0\n\
+        thread 1 done 0 ctx 0.0 pc 4\nregs 1 0 0 0 0 0 0 0 0 0 0 0 0 0 0 0 0\n\
+        context 0.0 pages 1 slots 2 uid 0\ngroups 0\nconsole -\nused 1\npeak 1\nsteps 4\nschedule 1";
+    let second = "thread 0 done 0 ctx 0.0 pc 2\nregs 0 0 0 0 0 0 7 0 0 0 0 0 0 0 0 0 0\n\
+        thread 1 done 0 ctx 0.0 pc 4\nregs 1 0 0 0 0 0 0 7 0 0 0 0 0 0 0 0 0\n\
+        context 0.0 pages 1 slots 2 uid 0\ngroups 0\nconsole -\nused 1\npeak 1\nsteps 4\nschedule 0";
+    for (held, awaited, report) in [(0, 1, first), (1, 0, second)] {
+        let gate = HoldingGate::new(held, awaited);
+        let left = call_line(&rt, &guest, "", "run guest", &gate)?;
+        assert!(rt; !gate.has_run_out(), "thread {held} is held");
+        assert!(rt;
+            left.out.bytes().starts_with(report.as_bytes()),
+            "thread {held} is held"
+        );
+    }
+    Ok(())
+}
+
+#[test]
+fn workers_serve_side_by_side(rt: HostRuntime) -> Result<(), Fail> {
+    let guest = assembled(rt.alloc(), COUNTER_HANDLER)?;
+    let replies = "thread 0 done 0 ctx 0.1 pc 0\nregs 0 0 0 0 0 0 0 0 0 0 0 0 0 0 0 0 0\n\
+        thread 1 done 0 ctx 0.2 pc 0\nregs 1 0 0 0 0 0 0 0 0 0 0 0 0 0 0 0 0\n\
+        context 0.1 pages 1 slots 0 uid 0\ncontext 0.2 pages 1 slots 0 uid 0\ngroups 0\n\
+        reply 0 done 0 01\nreply 1 done 0 01\nconsole -\nused 1\npeak ";
+    // One digit, the peak, is left out: it is 2 or 3.
+    let ends = [
+        (0, 1, "\nsteps 16\nschedule 1"),
+        (1, 0, "\nsteps 16\nschedule 0"),
+    ];
+    for (held, awaited, end) in ends {
+        let gate = HoldingGate::new(held, awaited);
+        let line = "serve guest requests --workers 2";
+        let left = call_line(&rt, &guest, "00\n00\n", line, &gate)?;
+        assert!(rt; !gate.has_run_out(), "thread {held} is held");
+        let Some(rest) = left.out.bytes().strip_prefix(replies.as_bytes()) else {
+            return Err(Fail::new("other replies"));
+        };
+        let rest = rest.get(1..).unwrap_or(&[]);
+        assert!(rt; rest.starts_with(end.as_bytes()), "thread {held} is held");
+    }
+    Ok(())
+}
+
+#[test]
+fn request_files_are_refused_before_a_thread_starts(rt: HostRuntime) -> Result<(), Fail> {
+    let alloc = rt.alloc();
+    let guest = assembled(alloc, COUNTER_HANDLER)?;
+    let mut lines = String::new(alloc);
+    for _line in 0..1024 {
+        lines.push_str("\n")?;
+    }
+    let cases = [
+        (
+            "0\n",
+            "serve guest requests",
+            "lwcrun: input refused: OddLength at 1\n",
+        ),
+        (
+            "0g",
+            "serve guest requests",
+            "lwcrun: input refused: BadHex at 1\n",
+        ),
+        (
+            lines.as_str(),
+            "serve guest requests --budget 100000",
+            "lwcrun: input refused: TooMuchWork at 1024\n",
+        ),
+    ];
+    for (requests, line, said) in cases {
+        // At this gate the first turn of thread 0 would wait until its looks run out.
+        let gate = HoldingGate::new(0, 0);
+        let left = call_line(&rt, &guest, requests, line, &gate)?;
+        assert_eq!(rt; left.status, ExitStatus::InputRefused, "{said}");
+        assert_eq!(rt; left.err.bytes(), said.as_bytes());
+        assert!(rt;
+            left.out.bytes().is_empty() && !gate.has_run_out(),
+            "{said}"
+        );
+    }
+    Ok(())
+}
+
+#[test]
+fn a_generated_serve_prints_its_summary(rt: HostRuntime) -> Result<(), Fail> {
+    let left = call_line(&rt, b"", "", "gen 40", &OpenGate)?;
+    assert_eq!(rt; left.status, ExitStatus::Ok);
+    let said = b"gen 40 requests 400 done 400 sum 16136940 count 400\n".as_slice();
+    assert_eq!(rt; left.out.bytes(), said);
+    Ok(())
+}
