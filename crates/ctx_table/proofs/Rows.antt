@@ -1,13 +1,14 @@
 -- Rows in the order of their names: where a name is, and where it would go.
-use Rattle.std.proofs.Common.{◌≡◌, ◌∙◌, ℕ, zero, suc, ◌<◌, ◌≤◌, inl, inr, Bool, true, false, cond, not, List, [], ◌∷◌, length, get_or, Option, Some, None, Result, Ok, Err, IfOk, IfErr, refl, sym, ap, subst, arith}
-use Rattle.std.specs.Prelude.{T, ◌&&◌, is_some, count_by, map}
+use Rattle.std.proofs.Common.{◌≡◌, ◌∙◌, ℕ, zero, suc, ◌<◌, ◌≤◌, inl, inr, Bool, true, false, cond, not, List, [], ◌∷◌, length, get_or, Option, Some, None, Result, Ok, Err, IfOk, IfErr, ◌+◌, refl, sym, ap, subst, arith, leb, ltb}
+use Rattle.std.specs.Prelude.{T, ◌&&◌, ◌==◌, is_some, count_by, map}
+use Rattle.std.proofs.lemmas.Bool.Decides.{leb_tells, nat_tests}
 use Rattle.std.proofs.lemmas.List.Sums.{sum_by-cons}
-use Rattle.std.specs.Cmp.{eq_by_cmp_equiv, tied_itself}
+use Rattle.std.specs.Cmp.{eq_by_cmp_equiv, nat_cmp_is, tied_itself}
 use Rattle.std.specs.FinMap as fm
 use Rattle.std.specs.FinMap.Entries.{below_all, by_order, is_sorted-put, is_sorted-where_key, find-where_key, where_key}
 use Rattle.std.specs.List.{insert, remove}
-use Rattle.std.specs.List.Sorted.{IsBinarySearchResult, IsNonDecreasingBy, IsSearchInRange}
-use Rattle.std.specs.Ordering.{eq_by_cmp, is_eq, is_lt, ordering_index, ordering_reverse}
+use Rattle.std.specs.List.Sorted.{IsBinarySearchResult, IsNonDecreasingBy, IsPartitionPoint, IsSearchInRange}
+use Rattle.std.specs.Ordering.{eq_by_cmp, is_eq, is_lt, nat_cmp, ordering_index, ordering_reverse, ordering_then}
 use Rattle.std.specs.declared.cmp.Ordering.{Ordering}
 use Rattle.std.specs.declared.cmp.Ordering.TheVariants.{Less, Equal, Greater}
 use Rattle.std.proofs.Math.Nat.{eq-or-lt_of_le}
@@ -186,6 +187,19 @@ module _ (o : OrderFacts) where
     pub removed-sorted : (k : Name) (i : ℕ) (d : Name × ℕ) → IsAt rows k i → T (fm.is_sorted name_cmp (remove rows i))
     removed-sorted k i d at = subst (λ (l : List (Name × ℕ)). T (fm.is_sorted name_cmp l)) (remove-at rows k i d sorted at.within (at.same d)) (without-sorted k)
 
+-- the jobs of rows rise
+lower_job : (a b : Name) → name_cmp a b ≡ Less → a.job ≤ b.job
+lower_job a b less = elim (leb_tells a.job b.job) as (λ _. a.job ≤ b.job) [
+  | inl no_higher ↦ no_higher.1
+  | inr higher ↦ let greater = ap (λ (r : Ordering). ordering_then r (nat_cmp a.k b.k)) (nat_cmp_is a.job b.job Greater higher.1) ∙ less in cc
+]
+
+pub jobs_rise : (o : OrderFacts) (rows : List (Name × ℕ)) → T (fm.is_sorted name_cmp rows) → IsNonDecreasingBy (λ row. row.0.job) rows
+jobs_rise o rows sorted i j d le within = elim (eq-or-lt_of_le le) as (λ _. (get_or rows i d).0.job ≤ (get_or rows j d).0.job) [
+  | inl same ↦ subst (λ (n : ℕ). (get_or rows i d).0.job ≤ (get_or rows n d).0.job) same (omega arith)
+  | inr less ↦ lower_job (get_or rows i d).0 (get_or rows j d).0 (rising o rows i j d sorted less within)
+]
+
 -- the rows of the map are those that it was made of
 module _ (rows : List (Name × ℕ)) (sorted : T (fm.is_sorted name_cmp rows)) (k : Name) (i : ℕ) where
   pub rows_at : IsAt (fm.entries (fm.from_sorted {R = name_cmp} rows)) k i → IsAt rows k i
@@ -206,3 +220,41 @@ count-names test [] = refl
 count-names test (e ∷ es) =
     let rest = count-names test es in
     grind (arith, sum_by-cons (λ row. cond (test row.0) 1 0) e es, sum_by-cons (λ name. cond (test name) 1 0) e.0 (map (λ row. row.0) es))
+
+-- as many rows pass a test as there are before the first that fails it
+counted_to : {X : Type 0} (p : X → Bool) (xs : List X) (i : ℕ) → i ≤ length xs → IsPartitionPoint (λ x. p x ≡ true) (λ x. p x ≡ false) xs i → count_by p xs ≡ i
+counted_to p [] i within parts = omega (arith, within)
+counted_to {X} p (x ∷ xs) zero within parts =
+    let rest = counted_to p xs 0 (omega arith) ((λ k d above below. absurd (omega (arith, below))), (λ k d above below. parts.1 (suc k) d (omega arith) (omega (arith, below)))) in
+    grind (arith, rest, sum_by-cons (λ (y : X). cond (p y) 1 0) x xs, parts.1 0 x (omega arith) (omega arith))
+counted_to {X} p (x ∷ xs) (suc i) within parts =
+    let rest = counted_to p xs i (omega (arith, within)) (
+      (λ k d above below. parts.0 (suc k) d (omega arith) (omega (arith, below))),
+      (λ k d above below. parts.1 (suc k) d (omega (arith, above)) (omega (arith, below))),
+    ) in
+    grind (arith, rest, sum_by-cons (λ (y : X). cond (p y) 1 0) x xs, parts.0 0 x (omega arith) (omega arith))
+
+-- the jobs at most one are those below it and that one
+at_most : (a b : ℕ) → cond (a == b) 1 0 + cond (ltb a b) 1 0 ≡ cond (leb a b) 1 0
+at_most a b = grind (arith, nat_tests)
+
+at_most_all : (job : ℕ) (rows : List (Name × ℕ)) →
+    count_by (λ row. row.0.job == job) rows + count_by (λ row. ltb row.0.job job) rows ≡ count_by (λ row. leb row.0.job job) rows
+at_most_all job [] = refl
+at_most_all job (e ∷ es) =
+    omega (
+      arith,
+      at_most_all job es,
+      at_most e.0.job job,
+      sum_by-cons (λ row. cond (row.0.job == job) 1 0) e es,
+      sum_by-cons (λ row. cond (ltb row.0.job job) 1 0) e es,
+      sum_by-cons (λ row. cond (leb row.0.job job) 1 0) e es,
+    )
+
+-- the rows of a job are those from the first that is not below it to the last that is not above it
+pub counted_between : (job : ℕ) (rows : List (Name × ℕ)) (from to : ℕ) → from ≤ length rows → to ≤ length rows →
+    IsPartitionPoint (λ row. ltb row.0.job job ≡ true) (λ row. ltb row.0.job job ≡ false) rows from →
+    IsPartitionPoint (λ row. leb row.0.job job ≡ true) (λ row. leb row.0.job job ≡ false) rows to →
+    count_by (λ row. row.0.job == job) rows + from ≡ to
+counted_between job rows from to first last below through =
+    omega (arith, at_most_all job rows, counted_to (λ row. ltb row.0.job job) rows from first below, counted_to (λ row. leb row.0.job job) rows to last through)

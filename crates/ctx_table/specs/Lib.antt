@@ -1,4 +1,5 @@
 pub mod Contexts
+pub mod Hints
 pub mod Lends
 pub mod NameTables
 pub mod Places

@@ -4,7 +4,8 @@ use Rattle.std.specs.FinMap as fm
 use Rattle.std.specs.Option.{option_map}
 use Rattle.lwc_base.specs.declared.name.Name.{Name}
 use Rattle.lwc_base.specs.Names.{name_cmp}
-use Rattle.ctx_table.specs.Contexts.{Contexts, Kept}
+use Rattle.lwc_base.specs.declared.limits.TheConstants.{MOST_GROUPS}
+use Rattle.ctx_table.specs.Contexts.{Contexts, Kept, first_free}
 use Rattle.ctx_table.specs.Places.{Places}
 use Rattle.ctx_table.specs.declared.place.Place.{Place}
 use Rattle.ctx_table.specs.declared.place.Place.TheVariants.{Free, Held}
@@ -55,3 +56,8 @@ is_free (Held name value entry saved) = false
 -- the slot of a name that has nothing else
 abbrev pub name_slot : Option Name → Option (Name × Unit {0})
 name_slot = option_map (λ name. (name, tt))
+
+-- names at places with their index, and a number of first places that are all taken
+pub record IsKept (names : List (Option Name)) (index : Places) (count : ℕ) : Type 0 where
+  pub indexed : IsIndexed MOST_GROUPS (map name_slot names) index
+  pub taken : count ≤ first_free names

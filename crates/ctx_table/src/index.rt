@@ -89,7 +89,10 @@ impl Index {
     pub(crate) fn count_of(&self, job: u32) -> usize
         ensures { result ≡ count_by (λ name. name.job == job) (fm.keys self.now.map) }
     {
-        self.rows.iter().filter(|row| row.0.job == job).count()
+        names_are_ordered();
+        let from = self.rows.partition_point(|row| row.0.job < job);
+        let to = self.rows.partition_point(|row| row.0.job <= job);
+        to - from
     }
 
     /// The name at a number in the order of names.

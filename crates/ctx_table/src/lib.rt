@@ -1,6 +1,7 @@
 //! A table of contexts by name, each at a place of its own.
 #![tactic(auto)]
 
+mod hints;
 mod index;
 pub mod names;
 mod place;

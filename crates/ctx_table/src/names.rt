@@ -5,6 +5,7 @@ ghost use Rattle.ctx_table.specs.Contexts.{first_free};
 ghost use Rattle.ctx_table.specs.NameTables.{ArePlaced};
 ghost use Rattle.lwc_base.specs.declared.limits.TheConstants.{MOST_GROUPS};
 
+use crate::hints::Hints;
 use crate::index::Index;
 use lwc_base::laws::names_are_ordered;
 use lwc_base::{Name, OutOfMemory};
@@ -16,13 +17,13 @@ use std::marker::Model;
 pub struct Names {
     index: Index,
     places: Vec<Option<Name>>,
+    hints: Hints,
+    taken: usize,
 }
 
 impl Model for Names {
-    ghost use Rattle.std.specs.Prelude.{map};
     ghost use Rattle.ctx_table.specs.NameTables.{NameTable, name_table_code};
-    ghost use Rattle.ctx_table.specs.Slots.{IsIndexed, name_slot};
-    ghost use Rattle.lwc_base.specs.declared.limits.TheConstants.{MOST_GROUPS};
+    ghost use Rattle.ctx_table.specs.Slots.{IsKept};
 
     ghost Value = { NameTable };
 
@@ -30,7 +31,7 @@ impl Model for Names {
 
     ghost view = { λ names. record { map = names.index.map; places = names.places.items } };
 
-    ghost invariant = { λ names. IsIndexed MOST_GROUPS (map name_slot names.places.items) names.index };
+    ghost invariant = { λ names. IsKept names.places.items names.index names.taken };
 }
 
 impl Names {
@@ -42,6 +43,8 @@ impl Names {
         Ok(Names {
             index: Index::with_room(alloc, places as usize)?,
             places: no_names(alloc, places)?,
+            hints: Hints::open(alloc)?,
+            taken: 0,
         })
     }
 
@@ -65,7 +68,9 @@ impl Names {
         names_are_ordered();
         let place = self.free_place();
         self.index.insert(name, place);
+        self.hints.put(name, place as u16);
         self.places[place] = Some(name);
+        self.taken = place + 1;
         place
     }
 
@@ -80,6 +85,7 @@ impl Names {
         let place = self.place_of(name);
         self.index.remove(name);
         self.places[place] = None;
+        self.taken = self.taken.min(place);
         place
     }
 
@@ -88,7 +94,12 @@ impl Names {
         ensures place { result ≡ fm.get self.now.map name }
         ensures within { IfSome result (λ place. place < length self.now.places) }
     {
-        self.index.get(name)
+        let hint = self.hints.place(name);
+        if self.at(hint) == Some(name) {
+            Some(hint)
+        } else {
+            self.index.get(name)
+        }
     }
 
     /// The name at a place, if there is one.
@@ -139,7 +150,7 @@ impl Names {
         ensures there { fm.get self.now.map name ≡ Some result }
         ensures within { result < length self.now.places }
     {
-        match self.index.get(name) {
+        match self.place(name) {
             Some(place) => place,
             None => unreachable!(),
         }
@@ -150,8 +161,8 @@ impl Names {
         requires { first_free self.now.places < length self.now.places }
         ensures { result ≡ first_free self.now.places }
     {
-        match first_without(&self.places) {
-            Some(place) => place,
+        match first_without(&self.places[self.taken..]) {
+            Some(further) => self.taken + further,
             None => unreachable!(),
         }
     }

@@ -1,0 +1,60 @@
+ghost use Rattle.std.specs.Prelude.{◌≡◌, ◌<◌, IfOk, replicate, slice_index_or, slice_set};
+ghost use Rattle.ctx_table.specs.Hints.{number_of};
+ghost use Rattle.ctx_table.specs.declared.hints.TheConstants.{HINTS};
+
+use lwc_base::{Name, OutOfMemory};
+use std::alloc::Global;
+use std::marker::Model;
+
+/// How many hints there are.
+pub(crate) const HINTS: u32 = 2048;
+
+/// A hint at the place of each name. Names of one number share a hint, so it may be wrong.
+#[derive(Drop)]
+pub(crate) struct Hints {
+    places: Vec<u16>,
+}
+
+impl Model for Hints {
+    ghost use Rattle.std.specs.Prelude.{◌≡◌, ℕ, List, length};
+    ghost use Rattle.ctx_table.specs.declared.hints.TheConstants.{HINTS};
+
+    ghost Value = { List ℕ };
+
+    ghost view = { λ hints. hints.places.items };
+
+    ghost invariant = { λ hints. length hints.places.items ≡ HINTS };
+}
+
+/// The number of a name. Other names may have it too.
+#[tactic(auto, unfolding(crate::specs::Hints::number_of))]
+fn number_of(name: Name) -> usize
+    ensures number { result ≡ number_of name }
+    ensures within { result < HINTS }
+{
+    ((u64::from(name.job) * 67 + u64::from(name.k)) % u64::from(HINTS)) as usize
+}
+
+impl Hints {
+    /// Hints at place 0 for all names. The only error is out of memory.
+    pub(crate) fn open(alloc: Global) -> Result<Hints, OutOfMemory>
+        ensures { IfOk result (λ hints. hints ≡ replicate HINTS 0) }
+    {
+        let places = vec![in alloc; 0u16; HINTS as usize]?;
+        Ok(Hints { places })
+    }
+
+    /// The hint at the place of a name.
+    pub(crate) fn place(&self, name: Name) -> usize
+        ensures { result ≡ slice_index_or self.now (number_of name) 0 }
+    {
+        usize::from(self.places[number_of(name)])
+    }
+
+    /// Makes a place the hint for a name.
+    pub(crate) fn put(&mut self, name: Name, place: u16)
+        ensures { self.new ≡ slice_set self.old (number_of name) place }
+    {
+        self.places[number_of(name)] = place;
+    }
+}
