@@ -1,7 +1,8 @@
 -- Rows in the order of their names: where a name is, and where it would go.
-use Rattle.std.proofs.Common.{◌≡◌, ◌∙◌, ℕ, zero, suc, ◌<◌, ◌≤◌, inl, inr, Bool, true, false, cond, not, List, [], ◌∷◌, length, get_or, Option, Some, None, Result, Ok, Err, IfOk, IfErr, ◌+◌, refl, sym, ap, subst, arith, leb, ltb}
-use Rattle.std.specs.Prelude.{T, ◌&&◌, ◌==◌, is_some, count_by, map}
+use Rattle.std.proofs.Common.{◌≡◌, ◌∙◌, ℕ, ◌-◌, zero, suc, ◌<◌, ◌≤◌, inl, inr, Bool, true, false, cond, not, List, [], ◌∷◌, length, get_or, Option, Some, None, Result, Ok, Err, IfOk, IfErr, ◌+◌, refl, sym, ap, subst, arith, leb, ltb}
+use Rattle.std.specs.Prelude.{T, ◌&&◌, ◌==◌, is_some, count_by, map, slice_get}
 use Rattle.std.proofs.lemmas.Bool.Decides.{leb_tells, nat_tests}
+use Rattle.std.proofs.lemmas.Option.{get_or_from_slice_get, slice_get_within}
 use Rattle.std.proofs.lemmas.List.Sums.{sum_by-cons}
 use Rattle.std.specs.Cmp.{eq_by_cmp_equiv, nat_cmp_is, tied_itself}
 use Rattle.std.specs.FinMap as fm
@@ -76,6 +77,29 @@ module _ (o : OrderFacts) where
   searched rows k (Err i) sorted within parted =
       let parts = parted (comparisons_rise rows k sorted) in
       record { found = tt; absent = record { within = within; lower = λ j d below. parts.0 j d (omega arith) below; higher = λ j d above inside. parts.1 j d above inside } }
+
+  -- a name above that of the last row goes behind it
+  pub past_last : (rows : List (Name × ℕ)) (k : Name) (last : Name × ℕ) → T (fm.is_sorted name_cmp rows) → slice_get rows (length rows - 1) ≡ Some last → name_cmp last.0 k ≡ Less →
+      IsGap rows k (length rows)
+  past_last rows k last sorted read less =
+      let within : length rows - 1 < length rows = slice_get_within rows (length rows - 1) last read in
+      record {
+        within = omega arith;
+        lower = λ j d below. elim (eq-or-lt_of_le {n = j} {m = length rows - 1} (omega (arith, below))) as (λ _. name_cmp (get_or rows j d).0 k ≡ Less) [
+          | inl same ↦ subst (λ (n : ℕ). name_cmp (get_or rows n d).0 k ≡ Less) (sym same)
+            (subst (λ (row : Name × ℕ). name_cmp row.0 k ≡ Less) (sym (get_or_from_slice_get rows (length rows - 1) last d read)) less)
+          | inr before ↦ o.names.trans (get_or rows j d).0 last.0 k
+            (subst (λ (row : Name × ℕ). name_cmp (get_or rows j d).0 row.0 ≡ Less) (get_or_from_slice_get rows (length rows - 1) last d read)
+            (rising rows j (length rows - 1) d sorted before within)) less
+        ];
+        higher = λ j d above inside. absurd (omega (arith, above, inside));
+      }
+
+  pub at_last : (rows : List (Name × ℕ)) (k : Name) (last : Name × ℕ) → slice_get rows (length rows - 1) ≡ Some last → name_cmp last.0 k ≡ Equal → IsAt rows k (length rows - 1)
+  at_last rows k last read equal = record {
+    within = slice_get_within rows (length rows - 1) last read;
+    same = λ d. ap (λ (row : Name × ℕ). row.0) (get_or_from_slice_get rows (length rows - 1) last d read) ∙ o.one_name last.0 k equal;
+  }
 
   -- the row of a name has its place
   pub find-at : (rows : List (Name × ℕ)) (k : Name) (i : ℕ) (d : Name × ℕ) → T (fm.is_sorted name_cmp rows) → i < length rows → (get_or rows i d).0 ≡ k →

@@ -6,6 +6,7 @@ ghost use Rattle.lwc_base.specs.Names.{name_cmp};
 use lwc_base::laws::names_are_ordered;
 use lwc_base::{Name, OutOfMemory};
 use std::alloc::Global;
+use std::cmp::Ordering;
 use std::marker::Model;
 
 /// The place of each name, in the order of names. It is seen as a map, and the number of names that there is
@@ -111,6 +112,13 @@ impl Index {
         ensures absent { IfErr result (IsGap (fm.entries self.now.map) name) }
     {
         names_are_ordered();
+        if let Some(last) = self.rows.last() {
+            match last.0.cmp(&name) {
+                Ordering::Less => return Err(self.rows.len()),
+                Ordering::Equal => return Ok(self.rows.len() - 1),
+                Ordering::Greater => {}
+            }
+        }
         self.rows.binary_search_by_key(&name, |row| row.0)
     }
 }
