@@ -1,6 +1,7 @@
 -- Rows in the order of their names: where a name is, and where it would go.
-use Rattle.std.proofs.Common.{◌≡◌, ◌∙◌, ℕ, ◌-◌, zero, suc, ◌<◌, ◌≤◌, inl, inr, Bool, true, false, cond, not, List, [], ◌∷◌, length, get_or, Option, Some, None, Result, Ok, Err, IfOk, IfErr, ◌+◌, refl, sym, ap, subst, arith, leb, ltb}
+use Rattle.std.proofs.Common.{◌≡◌, ◌∙◌, ℕ, ◌-◌, zero, suc, ◌<◌, ◌≤◌, inl, inr, Bool, true, false, cond, not, List, [], ◌∷◌, length, get_or, Option, Some, None, Result, Ok, Err, IfOk, IfErr, ◌+◌, refl, sym, ap, subst, arith, ltb}
 use Rattle.std.specs.Prelude.{T, ◌&&◌, ◌==◌, is_some, count_by, map, slice_get}
+use Rattle.std.proofs.lemmas.Bool.{le-ltb, lt-ltb}
 use Rattle.std.proofs.lemmas.Bool.Decides.{leb_tells, nat_tests}
 use Rattle.std.proofs.lemmas.Option.{get_or_from_slice_get, slice_get_within}
 use Rattle.std.proofs.lemmas.List.Sums.{sum_by-cons}
@@ -258,27 +259,51 @@ counted_to {X} p (x ∷ xs) (suc i) within parts =
     ) in
     grind (arith, rest, sum_by-cons (λ (y : X). cond (p y) 1 0) x xs, parts.0 0 x (omega arith) (omega arith))
 
--- the jobs at most one are those below it and that one
-at_most : (a b : ℕ) → cond (a == b) 1 0 + cond (ltb a b) 1 0 ≡ cond (leb a b) 1 0
-at_most a b = grind (arith, nat_tests)
+-- the names of a job are those below the next one that are not below it
+up_to : (a b : ℕ) → cond (a == b) 1 0 + cond (ltb a b) 1 0 ≡ cond (ltb a (b + 1)) 1 0
+up_to a b = grind (arith, nat_tests)
 
-at_most_all : (job : ℕ) (rows : List (Name × ℕ)) →
-    count_by (λ row. row.0.job == job) rows + count_by (λ row. ltb row.0.job job) rows ≡ count_by (λ row. leb row.0.job job) rows
-at_most_all job [] = refl
-at_most_all job (e ∷ es) =
+counted_between : (job : ℕ) (names : List Name) → count_by (λ name. name.job == job) names + count_by (λ name. ltb name.job job) names ≡ count_by (λ name. ltb name.job (job + 1)) names
+counted_between job [] = refl
+counted_between job (n ∷ ns) =
     omega (
       arith,
-      at_most_all job es,
-      at_most e.0.job job,
-      sum_by-cons (λ row. cond (row.0.job == job) 1 0) e es,
-      sum_by-cons (λ row. cond (ltb row.0.job job) 1 0) e es,
-      sum_by-cons (λ row. cond (leb row.0.job job) 1 0) e es,
+      counted_between job ns,
+      up_to n.job job,
+      sum_by-cons (λ name. cond (name.job == job) 1 0) n ns,
+      sum_by-cons (λ name. cond (ltb name.job job) 1 0) n ns,
+      sum_by-cons (λ name. cond (ltb name.job (job + 1)) 1 0) n ns,
     )
 
--- the rows of a job are those from the first that is not below it to the last that is not above it
-pub counted_between : (job : ℕ) (rows : List (Name × ℕ)) (from to : ℕ) → from ≤ length rows → to ≤ length rows →
-    IsPartitionPoint (λ row. ltb row.0.job job ≡ true) (λ row. ltb row.0.job job ≡ false) rows from →
-    IsPartitionPoint (λ row. leb row.0.job job ≡ true) (λ row. leb row.0.job job ≡ false) rows to →
-    count_by (λ row. row.0.job == job) rows + from ≡ to
-counted_between job rows from to first last below through =
-    omega (arith, at_most_all job rows, counted_to (λ row. ltb row.0.job job) rows from first below, counted_to (λ row. leb row.0.job job) rows to last through)
+pub counted_of : (names : List Name) (job low next a b : ℕ) → low ≡ job → next ≡ job + 1 → a ≡ count_by (λ name. ltb name.job next) names → b ≡ count_by (λ name. ltb name.job low) names →
+    count_by (λ name. name.job == job) names + b ≡ a
+counted_of names job low next a b same more above below =
+    omega (
+      arith,
+      counted_between job names,
+      above ∙ ap (λ (n : ℕ). count_by (λ name. ltb name.job n) names) more,
+      below ∙ ap (λ (n : ℕ). count_by (λ name. ltb name.job n) names) same,
+    )
+
+-- how many rows are of jobs below a number
+module _ (o : OrderFacts) (rows : List (Name × ℕ)) (sorted : T (fm.is_sorted name_cmp rows)) (job : ℕ) where
+  pub counted_below : (i : ℕ) → i ≤ length rows → IsPartitionPoint (λ row. ltb row.0.job job ≡ true) (λ row. ltb row.0.job job ≡ false) rows i →
+      i ≡ count_by (λ name. ltb name.job job) (map (λ row. row.0) rows)
+  counted_below i within parts = sym (counted_to (λ row. ltb row.0.job job) rows i within parts) ∙ count-names (λ name. ltb name.job job) rows
+
+  pub none_below : (first : Name × ℕ) → slice_get rows 0 ≡ Some first → job ≤ first.0.job → 0 ≡ count_by (λ name. ltb name.job job) (map (λ row. row.0) rows)
+  none_below first read low = counted_below 0 (omega arith) (
+    (λ k d above below. absurd (omega (arith, below))),
+    (λ k d above below. le-ltb _ _ (omega (arith, low, jobs_rise o rows sorted 0 k d (omega arith) below, ap (λ (row : Name × ℕ). row.0.job) (get_or_from_slice_get rows 0 first d read)))),
+  )
+
+  pub all_below : (last : Name × ℕ) → slice_get rows (length rows - 1) ≡ Some last → last.0.job < job → length rows ≡ count_by (λ name. ltb name.job job) (map (λ row. row.0) rows)
+  all_below last read high = counted_below (length rows) (omega arith) (
+    (λ k d above below. lt-ltb _ _ (omega (
+      arith,
+      high,
+      jobs_rise o rows sorted k (length rows - 1) d (omega (arith, below)) (slice_get_within rows (length rows - 1) last read),
+      ap (λ (row : Name × ℕ). row.0.job) (get_or_from_slice_get rows (length rows - 1) last d read),
+    ))),
+    (λ k d above below. absurd (omega (arith, above, below))),
+  )

@@ -1,4 +1,4 @@
-ghost use Rattle.std.specs.Prelude.{◌≡◌, ◌==◌, ◌<◌, Some, false, true, count_by, slice_get, IfErr, IfOk};
+ghost use Rattle.std.specs.Prelude.{◌≡◌, ◌==◌, ◌<◌, Some, false, true, count_by, nat_lt, slice_get, IfErr, IfOk};
 ghost use Rattle.std.specs.FinMap as fm;
 ghost use Rattle.ctx_table.specs.Places.{IsAt, IsGap};
 ghost use Rattle.lwc_base.specs.Names.{name_cmp};
@@ -90,10 +90,25 @@ impl Index {
     pub(crate) fn count_of(&self, job: u32) -> usize
         ensures { result ≡ count_by (λ name. name.job == job) (fm.keys self.now.map) }
     {
+        self.count_below(u64::from(job) + 1) - self.count_below(u64::from(job))
+    }
+
+    /// The number of names of jobs below a number.
+    fn count_below(&self, job: u64) -> usize
+        ensures { result ≡ count_by (λ name. nat_lt name.job job) (fm.keys self.now.map) }
+    {
         names_are_ordered();
-        let from = self.rows.partition_point(|row| row.0.job < job);
-        let to = self.rows.partition_point(|row| row.0.job <= job);
-        to - from
+        if let Some(first) = self.rows.first() {
+            if job <= u64::from(first.0.job) {
+                return 0;
+            }
+        }
+        if let Some(last) = self.rows.last() {
+            if u64::from(last.0.job) < job {
+                return self.rows.len();
+            }
+        }
+        self.rows.partition_point(|row| u64::from(row.0.job) < job)
     }
 
     /// The name at a number in the order of names.
