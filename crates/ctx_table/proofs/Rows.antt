@@ -88,10 +88,10 @@ module _ (o : OrderFacts) where
         within = omega arith;
         lower = λ j d below. elim (eq-or-lt_of_le {n = j} {m = length rows - 1} (omega (arith, below))) as (λ _. name_cmp (get_or rows j d).0 k ≡ Less) [
           | inl same ↦ subst (λ (n : ℕ). name_cmp (get_or rows n d).0 k ≡ Less) (sym same)
-            (subst (λ (row : Name × ℕ). name_cmp row.0 k ≡ Less) (sym (get_or_from_slice_get rows (length rows - 1) last d read)) less)
+              (subst (λ (row : Name × ℕ). name_cmp row.0 k ≡ Less) (sym (get_or_from_slice_get rows (length rows - 1) last d read)) less)
           | inr before ↦ o.names.trans (get_or rows j d).0 last.0 k
-            (subst (λ (row : Name × ℕ). name_cmp (get_or rows j d).0 row.0 ≡ Less) (get_or_from_slice_get rows (length rows - 1) last d read)
-            (rising rows j (length rows - 1) d sorted before within)) less
+              (subst (λ (row : Name × ℕ). name_cmp (get_or rows j d).0 row.0 ≡ Less) (get_or_from_slice_get rows (length rows - 1) last d read)
+              (rising rows j (length rows - 1) d sorted before within)) less
         ];
         higher = λ j d above inside. absurd (omega (arith, above, inside));
       }

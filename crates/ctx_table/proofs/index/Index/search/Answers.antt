@@ -21,4 +21,3 @@ pub returns-in-Equal-clause-found : goal.returns-in-Equal-clause-found
 returns-in-Equal-clause-found c =
     rw (← c.self.view_is, fm.entries-from_sorted name_cmp c.self.inside.rows.items c.self.invariant, c.len-in-Equal.ensures, ← c.deref.ensures.len, c.deref.ensures.value)
     (at_last c.names_are_ordered.ensures _ c.args.name c.in-Some.last.now (sym (rw c.deref.ensures.value at c.in-Some.ensures.value)) (sym c.cmp.ensures ∙ c.in-Equal.is))
-

@@ -38,8 +38,8 @@ invariant_of-self c =
     let room : first_free c.args.self.now.places < length c.args.self.now.places = rw (← c.self.view_is) (free_within _ _ c.self.invariant.indexed (rw (← c.self.view_is) at c.requires.room)) in
     record {
       indexed = rw (map-set, c.insert.ensures)
-      (insert-indexed c.names_are_ordered.ensures _ _ c.self.invariant.indexed c.args.name c.free_place-place.result
-      (nothing_there _ (rw (← c.self.view_is) at c.requires.new))
-      (slot_inside _ c.self.inside.index _ c.self.view_is _ c.free_place-place.ensures room) (slot_free _ c.self.inside.index _ c.self.view_is _ c.free_place-place.ensures room) tt);
+          (insert-indexed c.names_are_ordered.ensures _ _ c.self.invariant.indexed c.args.name c.free_place-place.result
+          (nothing_there _ (rw (← c.self.view_is) at c.requires.new))
+          (slot_inside _ c.self.inside.index _ c.self.view_is _ c.free_place-place.ensures room) (slot_free _ c.self.inside.index _ c.self.view_is _ c.free_place-place.ensures room) tt);
       taken = taken_to _ c.args.name _ (c.free_place-place.ensures ∙ ap (λ (t : NameTable). first_free t.places) (sym c.self.view_is)) (rw (← c.self.view_is) at room);
     }

@@ -8,6 +8,6 @@ pub invariant_of-self : goal.invariant_of-self
 invariant_of-self c =
     record {
       indexed = rw (map-set, c.remove.ensures)
-      (remove-indexed c.names_are_ordered.ensures _ _ c.self.invariant.indexed c.args.name c.place_of-place.result (rw (← c.self.view_is) at c.place_of-place.ensures.there));
+          (remove-indexed c.names_are_ordered.ensures _ _ c.self.invariant.indexed c.args.name c.place_of-place.result (rw (← c.self.view_is) at c.place_of-place.ensures.there));
       taken = rw c.min-self-inside.ensures (taken_less _ _ _ (omega (arith, c.self.invariant.taken)) (omega arith));
     }
