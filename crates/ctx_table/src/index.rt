@@ -93,7 +93,7 @@ impl Index {
         self.count_below(u64::from(job) + 1) - self.count_below(u64::from(job))
     }
 
-    /// The number of names of jobs below a number.
+    /// The number of names of jobs below a number. Mostly all names are of one job.
     fn count_below(&self, job: u64) -> usize
         ensures { result ≡ count_by (λ name. nat_lt name.job job) (fm.keys self.now.map) }
     {
@@ -121,7 +121,7 @@ impl Index {
         }
     }
 
-    /// Where the row of a name is, or where it would go.
+    /// Where the row of a name is, or where it would go. A new name is mostly the last one.
     fn search(&self, name: Name) -> Result<usize, usize>
         ensures found { IfOk result (IsAt (fm.entries self.now.map) name) }
         ensures absent { IfErr result (IsGap (fm.entries self.now.map) name) }

@@ -17,7 +17,9 @@ use std::marker::Model;
 pub struct Names {
     index: Index,
     places: Vec<Option<Name>>,
+    // Where `place` looks first.
     hints: Hints,
+    // No place before this one is free.
     taken: usize,
 }
 
