@@ -1,37 +1,31 @@
 -- What each step leaves, before and after what is not reached is dropped.
-use Rattle.std.proofs.Common.{◌≡◌, ◌≢◌, ◌⊎◌, inl, inr, ℕ, zero, suc, ◌+◌, ◌-◌, ◌*◌, ◌≤◌, ◌<◌, refl, sym, ap, subst, ◌∙◌, Bool, true, false, cond, eqb, ltb, ◌||◌, Option, Some, None, List, [], ◌∷◌, ◌++◌, length, get_or, arith}
-use Rattle.std.specs.List.{Contains, list_any, range_with_len}
+use Rattle.std.proofs.Common.{◌≡◌, ◌⊎◌, inl, inr, ℕ, zero, suc, ◌+◌, ◌-◌, ◌*◌, ◌≤◌, ◌<◌, refl, sym, ap, subst, ◌∙◌, Bool, true, false, ◌||◌, Option, Some, List, [], ◌∷◌, ◌++◌, length, get_or, arith}
+use Rattle.std.specs.List.{Contains, range_with_len}
 use Rattle.std.specs.Ordering.{eq_by_cmp}
-use Rattle.std.specs.Prelude.{All, IfSome, map, slice_get, slice_set}
-use Rattle.std.proofs.lemmas.Bool.Decides.{nat_tests}
+use Rattle.std.specs.Prelude.{All, map, slice_get, slice_set}
 use Rattle.std.proofs.Math.Nat.{suc-mul}
-use Rattle.std.proofs.lemmas.List.{length-map, length-set}
-use Rattle.std.proofs.lemmas.List.Elements.{All-get_or, All-nil, All-set, All-weaker}
-use Rattle.std.proofs.lemmas.Option.{slice_get_within, get_or_from_slice_get}
+use Rattle.std.proofs.lemmas.List.Elements.{All-set}
 use Rattle.kernel_core.proofs.Beginnings.{adds, counts, limits_begun, live, still_live, well_begun}
-use Rattle.kernel_core.proofs.JobActs.{IsLocal, local_step}
-use Rattle.kernel_core.proofs.Outcomes.{IsStep, same_world, step_running, still_ready}
-use Rattle.kernel_core.proofs.Reaping.{among_back, limits_reaped, root_kept}
-use Rattle.kernel_core.proofs.Worlds.{RisesBy, StaysInJob, WorldFacts, name_itself, same_name}
-use Rattle.kernel_core.specs.Machine.{Environment, Machine, Serve, has_ended, home_of, homes, homes_of, steps_after, steps_for_requests, steps_left}
+use Rattle.kernel_core.proofs.JobActs.{IsLocal}
+use Rattle.kernel_core.proofs.Outcomes.{IsStep, still_ready}
+use Rattle.kernel_core.proofs.Reaping.{limits_reaped}
+use Rattle.kernel_core.proofs.Worlds.{RisesBy, WorldFacts, name_itself, same_name}
+use Rattle.kernel_core.specs.Machine.{Machine, Serve, home_of, homes, homes_of, steps_after, steps_for_requests, steps_left}
 use Rattle.kernel_core.specs.Ready.{HasItsJob, IsReady, IsReadyServe, IsReadyThread, IsRunnable, IsWithinLimits, IsWorker, WhileRunning, jobs_of}
-use Rattle.kernel_core.specs.Start.{Inputs, home_context}
-use Rattle.kernel_core.specs.Step.{AfterStep, Outcome, advance_outcome, after_outcome, begin_next, contexts_of, finish, guest_calls, only, roots, settled, thread_outcome, unchanged, waiting, with_status, woken}
+use Rattle.kernel_core.specs.Start.{Inputs}
+use Rattle.kernel_core.specs.Step.{AfterStep, Outcome, begin_next, contexts_of, finish, only, roots, unchanged, waiting, with_status}
 use Rattle.kernel_core.specs.declared.thread.Thread.{Thread}
-use Rattle.guest_isa.specs.declared.instr.Instr.{Instr}
-use Rattle.guest_machine.specs.Advances.{advanced}
-use Rattle.lwc_base.specs.Cells.{slot_at}
 use Rattle.lwc_base.specs.Facts.{HasFewer}
-use Rattle.lwc_base.specs.Holders.{InCell, IsGroup}
+use Rattle.lwc_base.specs.Holders.{InCell}
 use Rattle.lwc_base.specs.Keys.{ValueOf}
 use Rattle.lwc_base.specs.Sound.{IsSound}
 use Rattle.lwc_base.specs.declared.cell.Cell.{Cell}
 use Rattle.lwc_base.specs.declared.cell.Cell.TheVariants.{Common}
 use Rattle.lwc_base.specs.declared.key.Key.{Key}
-use Rattle.lwc_base.specs.Life.{IsReaped, is_among, is_of, reap}
+use Rattle.lwc_base.specs.Life.{is_among, reap}
 use Rattle.lwc_base.specs.Names.{name_cmp}
 use Rattle.lwc_base.specs.Jobs.{NamesKeepToJobs, own_names}
-use Rattle.lwc_base.specs.World.{World, Counters, context, is_live}
+use Rattle.lwc_base.specs.World.{World, context, is_live}
 use Rattle.lwc_base.specs.declared.fault.ThreadStatus.{ThreadStatus}
 use Rattle.lwc_base.specs.declared.fault.ThreadStatus.TheVariants as status
 use Rattle.lwc_base.specs.declared.name.Name.{Name}

@@ -1,22 +1,19 @@
 -- A request begins: what its job's first context changes.
-use Rattle.std.proofs.Common.{◌≡◌, ◌≢◌, ◌⊎◌, inl, inr, ℕ, zero, suc, ◌+◌, ◌≤◌, ◌<◌, refl, sym, ap, subst, ◌∙◌, Bool, true, false, cond, eqb, Option, Some, None, List, [], ◌∷◌, length, get_or, arith}
+use Rattle.std.proofs.Common.{◌≡◌, inl, inr, ℕ, zero, suc, ◌+◌, ◌≤◌, ◌<◌, refl, sym, ap, subst, ◌∙◌, Bool, true, false, cond, eqb, List, [], ◌∷◌, length, arith}
 use Rattle.std.specs.FinMap as fm
 use Rattle.std.specs.List.{Contains}
-use Rattle.std.specs.Ordering.{eq_by_cmp}
-use Rattle.std.specs.Prelude.{slice_get, slice_set}
 use Rattle.std.proofs.lemmas.Bool.Decides.{nat_tests}
 use Rattle.std.proofs.lemmas.List.Elements.{All-nil}
 use Rattle.kernel_core.proofs.Limits.{none_borne}
 use Rattle.kernel_core.proofs.Worlds.{WorldFacts, RisesBy, name_itself, same_or_not, well_slot}
 use Rattle.kernel_core.specs.Ready.{IsWithinLimits}
 use Rattle.lwc_base.specs.Cells.{put_slot}
-use Rattle.lwc_base.specs.Channels.{Channels, IsInRange, IsWithin}
-use Rattle.lwc_base.specs.Facts.{AddsContext, with_context}
+use Rattle.lwc_base.specs.Channels.{Channels}
+use Rattle.lwc_base.specs.Facts.{AddsContext}
 use Rattle.lwc_base.specs.Fresh.{IsFresh}
-use Rattle.lwc_base.specs.Holders.{IsGroup}
 use Rattle.lwc_base.specs.Modes.{IsSpec}
 use Rattle.lwc_base.specs.Sharing.{clone_context}
-use Rattle.lwc_base.specs.World.{World, Counters, add_context, context, groups_of, is_live, live_of, next_context}
+use Rattle.lwc_base.specs.World.{World, Counters, context, is_live, live_of, next_context}
 use Rattle.lwc_base.specs.declared.descriptor.Descriptor.TheVariants.{Reply, Request}
 use Rattle.lwc_base.specs.declared.name.Name.{Name}
 use Rattle.lwc_syscall.specs.Changes.{IsWell}

@@ -1,5 +1,5 @@
 -- The worlds of a serve's start: homes are made from the first context, which is dropped then.
-use Rattle.std.proofs.Common.{◌≡◌, ◌⊎◌, inl, inr, ℕ, zero, suc, ◌+◌, ◌≤◌, ◌<◌, refl, sym, ap, subst, ◌∙◌, Bool, true, false, cond, eqb, ltb, Option, Some, None, List, [], ◌∷◌, ◌||◌, length, arith}
+use Rattle.std.proofs.Common.{◌≡◌, ◌⊎◌, inl, inr, ℕ, zero, suc, ◌+◌, ◌≤◌, ◌<◌, refl, sym, ap, subst, ◌∙◌, Bool, true, false, cond, eqb, ltb, Option, Some, None, List, [], ◌||◌, length, arith}
 use Rattle.std.specs.FinMap as fm
 use Rattle.std.specs.List.{list_any, range_with_len}
 use Rattle.std.specs.Ordering.{eq_by_cmp, is_eq}
@@ -16,7 +16,7 @@ use Rattle.kernel_core.proofs.Worlds.{WorldFacts, name_itself, same_name}
 use Rattle.kernel_core.proofs.Limits.{length_of_keys}
 use Rattle.kernel_core.proofs.Started.{files_start, machine_at, ready_run_start, sound_start}
 use Rattle.kernel_core.specs.Kernel.{AreRequests, CanOpen, MayHave}
-use Rattle.kernel_core.specs.Ready.{CanPutHome, HomeFacts, IsCounted, IsReady, IsReadyServe, IsReadyThread, IsWithinLimits, IsWorker, jobs_of, most_counted}
+use Rattle.kernel_core.specs.Ready.{CanPutHome, HomeFacts, IsCounted, IsReady, IsReadyThread, IsWithinLimits, IsWorker, jobs_of, most_counted}
 use Rattle.kernel_core.specs.Settings.{IsJob}
 use Rattle.kernel_core.specs.declared.settings.Job.{Job}
 use Rattle.kernel_core.specs.declared.settings.Job.TheVariants.{Run, Serve}
@@ -38,14 +38,14 @@ use Rattle.lwc_base.specs.Sound.{HasItsGroups, IsSound, live_groups}
 use Rattle.world_face.specs.Calls.{HasPlace, MayName}
 use Rattle.snapshot_host.specs.Begin.{IsNewJob}
 use Rattle.kernel_core.specs.Start.{Inputs, counted, first_context, first_entry, first_name, first_value, first_workers, home_context, home_value, homes_so_far, serve_world, start, start_world, thread_count, threads_for, with_homes, world_of, world_size, world_with}
-use Rattle.lwc_base.specs.Cells.{put_at, put_slot, slot_at, value_at, value_of, with_cell}
+use Rattle.lwc_base.specs.Cells.{put_slot, slot_at, value_at, value_of, with_cell}
 use Rattle.lwc_base.specs.Facts.{ChangeFacts, OrderFacts}
-use Rattle.lwc_base.specs.Keys.{ValueOf, with_key}
+use Rattle.lwc_base.specs.Keys.{with_key}
 use Rattle.lwc_base.specs.Life.{HasItsContexts, IsReaped, Link, Reaches, Root, is_among, is_of, is_reached, links, names_group, reap}
 use Rattle.lwc_base.specs.Modes.{IsSpec, mode, mode_or_copy}
 use Rattle.lwc_base.specs.Names.{name_cmp}
 use Rattle.lwc_base.specs.Sharing.{clone_context, cloned_context, share}
-use Rattle.lwc_base.specs.World.{World, Context, Counters, Group, add_context, change_context, change_counters, changed_context, context, groups_of, is_live, live_of, new_context, next_context}
+use Rattle.lwc_base.specs.World.{World, Context, Group, add_context, change_context, change_counters, changed_context, context, groups_of, is_live, live_of, new_context, next_context}
 use Rattle.lwc_base.specs.declared.cell.Cell.{Cell}
 use Rattle.lwc_base.specs.declared.cell.Cell.TheVariants.{Own}
 use Rattle.lwc_base.specs.declared.descriptor.Descriptor.{Descriptor}

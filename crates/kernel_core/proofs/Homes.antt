@@ -1,10 +1,9 @@
 -- A home is as it was at the start: it has few ranges, and its slots have no descriptor of a context.
-use Rattle.std.proofs.Common.{◌≡◌, ℕ, ◌≤◌, refl, sym, ap, subst, ◌∙◌, Bool, true, false, cond, eqb, ltb, Option, Some, None, List, length, arith}
+use Rattle.std.proofs.Common.{◌≡◌, ℕ, ◌≤◌, refl, sym, ap, subst, ◌∙◌, Bool, true, false, cond, eqb, ltb, Option, Some, None, arith}
 use Rattle.std.specs.List.{enumerate_from, find}
 use Rattle.std.specs.Option.{option_map, option_map_or}
 use Rattle.std.specs.Prelude.{is_some}
 use Rattle.guest_image.specs.Limits.{IsImage, page_numbers}
-use Rattle.guest_image.specs.Numbers as numbers
 use Rattle.guest_image.specs.declared.image.Image.{Image}
 use Rattle.guest_image.specs.declared.image.PageImage.{PageImage}
 use Rattle.guest_image.specs.declared.image.SlotImage.{SlotImage}
@@ -15,9 +14,8 @@ use Rattle.lwc_base.specs.Cells.{slot_at, value_at, value_of}
 use Rattle.lwc_base.specs.Life.{is_of}
 use Rattle.lwc_base.specs.Ranges.{ranges, ranges_of}
 use Rattle.lwc_base.specs.World.{World, Context, context}
-use Rattle.lwc_base.specs.declared.cell.Cell.TheVariants.{Own}
 use Rattle.lwc_base.specs.declared.descriptor.Descriptor.TheVariants.{Console, Empty, File}
-use Rattle.lwc_base.specs.declared.key.Key.TheVariants.{Page, Slot}
+use Rattle.lwc_base.specs.declared.key.Key.TheVariants.{Slot}
 use Rattle.lwc_base.specs.declared.name.Name.{Name}
 
 module _ (image : Image) (is : IsImage image) where

@@ -1,5 +1,5 @@
 -- An act of a thread in a context of its job stays in the job.
-use Rattle.std.proofs.Common.{◌≡◌, ℕ, ◌+◌, ◌*◌, refl, sym, ap, subst, ◌∙◌, Bool, true, false, cond, eqb, leb, Option, Some, None, length}
+use Rattle.std.proofs.Common.{◌≡◌, ℕ, ◌+◌, ◌*◌, refl, ap, subst, ◌∙◌, Bool, true, false, cond, eqb, leb, Option, Some, None, length}
 use Rattle.std.specs.Int.{w64, to_le_bytes}
 use Rattle.guest_isa.specs.declared.instr.Instr.{Instr}
 use Rattle.guest_isa.specs.declared.op.Op.{Op}
@@ -10,11 +10,11 @@ use Rattle.guest_machine.specs.declared.progress.Next.TheVariants.{Shared, Pause
 use Rattle.kernel_core.proofs.Worlds.{JobFacts, StaysInJob, WorldFacts}
 use Rattle.kernel_core.proofs.JobStays.{job_facts}
 use Rattle.kernel_core.specs.Machine.{Environment}
-use Rattle.kernel_core.specs.Step.{Outcome, advance_outcome, answered, args_of, beside, call_outcome, create_outcome, faulted, guest_calls, is_aligned, loaded, next_outcome, overlay_outcome, plain_outcome, plainly, refused, restrict_outcome, shared_outcome, store_outcome, stored_outcome, switch_outcome, switched, syscall_outcome, unchanged, with_regs, with_status, with_world, word_outcome}
+use Rattle.kernel_core.specs.Step.{Outcome, advance_outcome, args_of, beside, call_outcome, create_outcome, faulted, guest_calls, is_aligned, loaded, next_outcome, overlay_outcome, plain_outcome, plainly, restrict_outcome, shared_outcome, store_outcome, stored_outcome, switch_outcome, switched, syscall_outcome, unchanged, with_regs, with_status, with_world, word_outcome}
 use Rattle.kernel_core.specs.declared.calling.TheConstants.{LW_CREATE, LW_OVERLAY, LW_RESTRICT, LW_SWITCH, LW_SYSCALL}
 use Rattle.kernel_core.specs.declared.thread.Thread.{Thread}
 use Rattle.lwc_base.specs.Store.{Absent, Done, Full, Piece, Stored, store}
-use Rattle.lwc_base.specs.Jobs.{NamesKeepToJobs, own_names}
+use Rattle.lwc_base.specs.Jobs.{NamesKeepToJobs}
 use Rattle.lwc_base.specs.World.{World, is_live}
 use Rattle.lwc_base.specs.declared.answer.Answer.{Answer}
 use Rattle.lwc_base.specs.declared.answer.Answer.TheVariants as answers

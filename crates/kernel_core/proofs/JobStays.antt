@@ -1,26 +1,24 @@
 -- What an act for a job leaves: names keep to their jobs, and the contexts and counters of other jobs are as before.
-use Rattle.std.proofs.Common.{◌≡◌, ◌≢◌, ◌⊎◌, inl, inr, ℕ, ◌+◌, refl, sym, ap, subst, ◌∙◌, Bool, true, false, cond, eqb, ltb, ◌||◌, Option, Some, None, List, [], ◌∷◌, length, arith}
+use Rattle.std.proofs.Common.{◌≡◌, ◌≢◌, ℕ, ◌+◌, refl, sym, ap, subst, ◌∙◌, Bool, true, false, cond, eqb, ltb, ◌||◌, Option, Some, None, List, [], ◌∷◌, length, arith}
 use Rattle.std.specs.Ordering.{eq_by_cmp}
 use Rattle.std.proofs.lemmas.Bool.{false≢true}
 use Rattle.std.proofs.lemmas.Bool.Decides.{nat_tests}
 use Rattle.kernel_core.proofs.Worlds.{JobFacts, NameFacts, StaysInJob, WorldFacts, done_after, name_itself, same_name}
 use Rattle.guest_call.specs.Guest.{descriptor_for, link_of}
-use Rattle.lwc_base.specs.Cells.{put_at, put_in, put_slot, put_uid, slot_at, with_cell, with_value}
+use Rattle.lwc_base.specs.Cells.{put_at, put_in, put_slot, slot_at, with_cell, with_value}
 use Rattle.lwc_base.specs.Channels.{Channels}
 use Rattle.lwc_base.specs.Holders.{InContext}
 use Rattle.lwc_base.specs.Facts.{AddsContext, ChangesContext, SharesValues, TakesTags}
 use Rattle.lwc_base.specs.Jobs.{IsOwnName, NamesKeepToJobs, own_names}
 use Rattle.lwc_base.specs.Keys.{ValueOf, is_there}
 use Rattle.lwc_base.specs.Life.{Link, Root, is_among, is_of, links}
-use Rattle.lwc_base.specs.Mapping.{map_pages, mapped_or_not, unmap_pages}
+use Rattle.lwc_base.specs.Mapping.{mapped_or_not}
 use Rattle.lwc_base.specs.Memory.{touched}
 use Rattle.lwc_base.specs.Names.{name_cmp}
-use Rattle.lwc_base.specs.Overlay.{overlay}
 use Rattle.lwc_base.specs.Refusals.{first_refusal}
-use Rattle.lwc_base.specs.Saved.{save}
 use Rattle.lwc_base.specs.Sharing.{clone_context, needs_group, share}
 use Rattle.lwc_base.specs.Store.{Done, Piece, after_store, parting_count, plan, put_pages, store}
-use Rattle.lwc_base.specs.World.{World, Context, Counters, add_context, change_context, change_counters, context, is_live, next_context}
+use Rattle.lwc_base.specs.World.{World, Context, Counters, add_context, change_context, change_counters, context, is_live}
 use Rattle.lwc_base.specs.declared.answer.Answer.{Answer}
 use Rattle.lwc_base.specs.declared.answer.Answer.TheVariants as answers
 use Rattle.lwc_base.specs.declared.answer.Moved.{Moved}

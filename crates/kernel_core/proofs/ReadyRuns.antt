@@ -1,6 +1,6 @@
 -- A machine that is ready stays so over each step.
 use Rattle.std.proofs.Common.{◌≡◌, ℕ, zero, suc, ◌+◌, ◌^◌, ◌≤◌, ◌<◌, refl, sym, ap, subst, ◌∙◌, Bool, true, false, cond, ltb, Option, Some, None, List, [], ◌∷◌, length, get_or, arith}
-use Rattle.std.specs.List.{Contains, range_with_len, sum_by}
+use Rattle.std.specs.List.{range_with_len, sum_by}
 use Rattle.std.specs.Prelude.{All, IfSome, map, slice_get, slice_set}
 use Rattle.std.proofs.lemmas.Bool.Decides.{nat_tests}
 use Rattle.std.proofs.lemmas.List.{length-map, length-set}
@@ -19,13 +19,13 @@ use Rattle.kernel_core.proofs.Outcomes.{IsStep, step_running}
 use Rattle.kernel_core.proofs.Reaping.{among_back, each_root, live_roots, root_kept}
 use Rattle.kernel_core.proofs.Worlds.{RisesBy, StaysInJob, WorldFacts, name_itself}
 use Rattle.kernel_core.specs.Machine.{Machine, Serve, has_ended, home_of, homes, steps_after, steps_for_requests, steps_left, work}
-use Rattle.kernel_core.specs.Ready.{CanAct, CanServe, HasItsJob, IsCounted, IsReady, IsReadyServe, IsReadyThread, IsRunnable, IsWithinLimits, IsWorker, WhileRunning, jobs_of, most_counted}
+use Rattle.kernel_core.specs.Ready.{CanAct, CanServe, HasItsJob, IsCounted, IsReady, IsReadyServe, IsReadyThread, IsRunnable, IsWorker, WhileRunning, jobs_of, most_counted}
 use Rattle.kernel_core.specs.Runs.{run}
 use Rattle.kernel_core.specs.Start.{Inputs}
 use Rattle.kernel_core.specs.Step.{AfterStep, Outcome, advance_outcome, after_outcome, after_thread, begin_next, contexts_of, finish, finished_by, guest_calls, only, roots, step, step_by, thread_outcome, unchanged, with_reply, with_status}
 use Rattle.kernel_core.specs.declared.thread.Thread.{Thread}
 use Rattle.lwc_base.specs.Life.{is_among, reap}
-use Rattle.lwc_base.specs.Jobs.{NamesKeepToJobs, own_names}
+use Rattle.lwc_base.specs.Jobs.{NamesKeepToJobs}
 use Rattle.lwc_base.specs.World.{World, Counters, context, is_live}
 use Rattle.lwc_base.specs.declared.fault.ThreadStatus.{ThreadStatus}
 use Rattle.lwc_base.specs.declared.fault.ThreadStatus.TheVariants.{Idle, Running, Done, Faulted}

@@ -8,7 +8,7 @@ use Rattle.guest_machine.specs.declared.progress.Next.{Next}
 use Rattle.kernel_core.proofs.Reaping.{uncut}
 use Rattle.kernel_core.specs.Machine.{Environment, Machine, Serve, has_ended}
 use Rattle.kernel_core.specs.Refused.{ComesToRefusal, IsNotLast, advanced_thread, after_refusal, refusal_at_end, refusal_in, refusal_of, refusal_to_move, thread_refused}
-use Rattle.kernel_core.specs.Step.{AfterStep, Outcome, advance_outcome, after_outcome, after_thread, args_of, beside, call_outcome, counted, create_outcome, finish, guest_calls, next_outcome, only, overlay_outcome, plain_outcome, plainly, refused, restrict_outcome, roots, settled, shared_outcome, status_with, step, step_by, switch_outcome, switched, syscall_outcome, thread_outcome, three_times, unchanged, with_steps, with_world}
+use Rattle.kernel_core.specs.Step.{AfterStep, Outcome, advance_outcome, after_outcome, after_thread, args_of, beside, call_outcome, counted, create_outcome, finish, guest_calls, next_outcome, only, overlay_outcome, plain_outcome, plainly, refused, restrict_outcome, roots, settled, shared_outcome, status_with, step, step_by, switch_outcome, switched, syscall_outcome, thread_outcome, three_times, unchanged, with_world}
 use Rattle.kernel_core.specs.declared.acting.Change.TheVariants as changes
 use Rattle.kernel_core.specs.declared.calling.TheConstants.{LW_CREATE, LW_OVERLAY, LW_RESTRICT, LW_SWITCH, LW_SYSCALL}
 use Rattle.kernel_core.specs.declared.thread.Thread.{Thread}

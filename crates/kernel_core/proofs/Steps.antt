@@ -1,5 +1,5 @@
 -- A kernel stays steady over a step, and what the step makes of its history.
-use Rattle.std.proofs.Common.{◌≡◌, ◌≢◌, ℕ, suc, ◌+◌, ◌-◌, ◌^◌, ◌≤◌, ◌<◌, refl, sym, ap, subst, ◌∙◌, Bool, true, false, cond, eqb, ltb, Option, Some, None, List, [], ◌∷◌, ◌++◌, length, arith, length-append, get_or}
+use Rattle.std.proofs.Common.{◌≡◌, ◌≢◌, ℕ, suc, ◌+◌, ◌-◌, ◌≤◌, ◌<◌, refl, sym, ap, subst, ◌∙◌, Bool, true, false, cond, eqb, ltb, Option, Some, None, List, [], ◌∷◌, ◌++◌, length, arith, length-append, get_or}
 use Rattle.std.specs.Prelude.{All, IfSome, max, slice_get, slice_set}
 use Rattle.std.specs.List.{sum_by}
 use Rattle.std.specs.Option.{option_map, option_map_or}
@@ -16,8 +16,8 @@ use Rattle.kernel_core.proofs.ReadyRuns.{ready_thread, while_running}
 use Rattle.kernel_core.proofs.Reaping.{uncut}
 use Rattle.kernel_core.proofs.Runs.{run-push, peak-push, used_last}
 use Rattle.kernel_core.specs.Changes.{Keeps, KeepsAll, after_effect, made}
-use Rattle.kernel_core.specs.Kernel.{CanOpen, History, machine_of, stepped, turn, view_of}
-use Rattle.kernel_core.specs.Machine.{Environment, Machine, Serve, has_ended, homes, homes_of, in_serve, is_ended, reply_of, steps_after, steps_for_requests, steps_left, work}
+use Rattle.kernel_core.specs.Kernel.{CanOpen, History, machine_of, stepped, turn, turn_at, view_of}
+use Rattle.kernel_core.specs.Machine.{Environment, Machine, Serve, has_ended, homes, homes_of, in_serve, is_ended, recorded, reply_of, steps_after, steps_for_requests, steps_left, work}
 use Rattle.kernel_core.specs.Ready.{CanAct, HasItsJob, IsReady, IsReadyServe, IsReadyThread, IsRunnable, IsWorker, RunFacts, WhileRunning}
 use Rattle.kernel_core.specs.Runs.{frames_of, last_finished, peak}
 use Rattle.kernel_core.specs.Start.{Inputs, serve_at, start, thread_count, threads_at, world_for}
@@ -61,6 +61,15 @@ had_ended t e serve text x (Faulted f) none = refl
 stepped_by : (h : History) (t : ℕ) (b : Bool) → is_ended (machine_of h) t ≡ b → stepped h t ≡ cond b h (longer h t)
 unfolding stepped
 stepped_by h t b is = ap (λ c. cond c h (longer h t)) is
+
+inputs_of_either : (b : Bool) (h : History) (t : ℕ) → (cond b h (longer h t)).inputs ≡ h.inputs
+inputs_of_either true h t = refl
+inputs_of_either false h t = refl
+
+-- a step keeps the inputs
+pub stepped_inputs : (h : History) (t : ℕ) → (stepped h t).inputs ≡ h.inputs
+unfolding stepped
+stepped_inputs h t = inputs_of_either (is_ended (machine_of h) t) h t
 
 abbrev pub turn_of : Thread → Option Finished → Turn
 turn_of x finished = record { regs = x.regs; status = x.status; finished = finished }
@@ -127,6 +136,7 @@ pub record IsMade (m : Machine) (most t : ℕ) (after : AfterStep) (h : History)
   pub steady : 0 < h.room → (u : World) → u ≡ reap after.environment.world (roots (slice_set m.threads t after.thread) after.serve) →
       IsSteady (record m { threads = slice_set m.threads t after.thread; environment = with_world after.environment u; serve = after.serve }) (max most (used u)) (longer h t)
   pub turn : turn (longer h t) t ≡ Some (turn_of after.thread after.finished)
+  pub turn_in : (r : Option ℕ) → turn_at (machine_of (longer h t)) t r ≡ Some (turn_of after.thread (recorded after.serve r))
   pub less : work (machine_of (longer h t)) < work (machine_of h)
 
 -- what a step by a thread that has ended makes of a kernel
@@ -134,6 +144,7 @@ pub record IsRest (t : ℕ) (x : Thread) (h : History) : Type 0 where
   pub ended : is_ended (machine_of h) t ≡ true
   pub kept : stepped h t ≡ h
   pub turn : turn h t ≡ Some (turn_of x None)
+  pub turn_in : turn_at (machine_of h) t None ≡ Some (turn_of x None)
 
 -- no step changes the number of workers
 homes_after : (t : ℕ) (e : Environment) (serve : Option Serve) (text : List Instr) (x : Thread) (status : ThreadStatus) (after : AfterStep) → thread_outcome guest_calls t e serve text x status ≡ Some after → homes after.serve ≡ homes serve
@@ -203,17 +214,13 @@ module _ (facts : RunFacts) (m : Machine) (most : ℕ) (h : History) (steady : I
       ∙ ap (λ (n : ℕ). sum_by (λ (x : Thread). steps_left (steps_after m.serve) x.budget x.status) m.threads + steps_for_requests m.serve n) count
       ∙ ap work steady.machine
 
-  -- each request has a place for its record
-  pub replies_fit : (r : ℕ) → r < length h.inputs.requests → IfSome m.serve (λ s. r < length s.replies)
-  replies_fit r few = by_serve m.serve is_ready.serve
-    where
-      by_serve : (serve : Option Serve) → IfSome serve (IsReadyServe h.inputs m) → IfSome serve (λ s. r < length s.replies)
-      by_serve None is = tt
-      by_serve (Some s) is = omega (arith, is.replies, few)
-
   pub reply_seen : (r : ℕ) → in_serve m.serve r ≡ reply_of (machine_of h) r
   unfolding reply_of
   reply_seen r = ap (λ (k : Machine). in_serve k.serve r) steady.machine
+
+  -- and where a request is given
+  pub recorded_seen : (r : Option ℕ) → recorded m.serve r ≡ recorded (machine_of h).serve r
+  recorded_seen r = ap (λ (k : Machine). recorded k.serve r) steady.machine
 
   -- the machine's work
   pub work_is : work m ≡ work (machine_of h)
@@ -258,6 +265,16 @@ module _ (facts : RunFacts) (m : Machine) (most : ℕ) (h : History) (steady : I
         ap (λ (f : Option Finished). option_map (λ y. turn_of y f) (slice_get (machine_of h).threads t)) is
         ∙ ap (λ (k : Machine). option_map (λ y. turn_of y finished) (slice_get k.threads t)) (sym steady.machine) ∙ ap (option_map (λ y. turn_of y finished)) found
 
+    -- the same with what is recorded of a request
+    turn_here : (r : Option ℕ) → turn_at (machine_of h) t r ≡ Some (turn_of x (recorded (machine_of h).serve r))
+    unfolding turn_at
+    turn_here r =
+        ap (λ (k : Machine). option_map (λ y. turn_of y (recorded (machine_of h).serve r)) (slice_get k.threads t)) (sym steady.machine)
+        ∙ ap (option_map (λ y. turn_of y (recorded (machine_of h).serve r))) found
+
+    pub turn_noted : (r : Option ℕ) (finished : Option Finished) (now : Turn) → finished ≡ recorded (machine_of h).serve r → now ≡ turn_of x finished → turn_at (machine_of h) t r ≡ Some now
+    turn_noted r finished now same is = turn_here r ∙ sym (ap Some is ∙ ap (λ f. Some (turn_of x f)) same)
+
     pub rested : thread_outcome guest_calls t m.environment m.serve m.text x x.status ≡ None → IsRest t x h
     unfolding machine_of
     rested none =
@@ -266,6 +283,7 @@ module _ (facts : RunFacts) (m : Machine) (most : ℕ) (h : History) (steady : I
           ended = ended;
           kept = stepped_by h t true ended;
           turn = last_turn None (ended_none (start h.inputs) h.steps t None (λ was. refl) ended);
+          turn_in = turn_here None;
         }
 
     module _ (made_after : AfterStep) (made : thread_outcome guest_calls t m.environment m.serve m.text x x.status ≡ Some made_after) where
@@ -301,7 +319,7 @@ module _ (facts : RunFacts) (m : Machine) (most : ℕ) (h : History) (steady : I
           ∙ sym (peak-push (start h.inputs) h.steps t)
 
       pub made_step : IsMade m most t made_after h
-      unfolding turn after
+      unfolding turn turn_at after
       made_step =
           let going : is_ended (machine_of h) t ≡ false = ended_as ∙ not_ended t m.environment m.serve m.text x x.status made_after made in
           let fewer = facts.fewer h.inputs (length h.steps) t m x made_after is_ready found made in
@@ -315,6 +333,9 @@ module _ (facts : RunFacts) (m : Machine) (most : ℕ) (h : History) (steady : I
             turn = ap (λ (f : Option Finished). option_map (λ y. turn_of y f) (slice_get (machine_of (longer h t)).threads t)) finished_here
                 ∙ ap (λ (k : Machine). option_map (λ y. turn_of y made_after.finished) (slice_get k.threads t)) (sym machine_after)
                 ∙ ap (option_map (λ y. turn_of y made_after.finished)) (found_set m.threads t x made_after.thread found);
+            turn_in = λ r.
+                ap (λ (k : Machine). option_map (λ y. turn_of y (recorded k.serve r)) (slice_get k.threads t)) (sym machine_after)
+                ∙ ap (option_map (λ y. turn_of y (recorded made_after.serve r))) (found_set m.threads t x made_after.thread found);
             less = subst (λ (k : Machine). work k < work (machine_of h)) machine_after
                 (subst (λ (k : Machine). work after < work k) steady.machine fewer);
           }

@@ -1,7 +1,7 @@
 -- How functions of the code say which outcome they have made.
 use Rattle.std.specs.Prelude.{◌≡◌, ℕ, if◌then◌else◌, List, Option, None, Some, slice_get, slice_set}
 use Rattle.std.specs.Option.{option_map}
-use Rattle.kernel_core.specs.Machine.{Environment, Serve}
+use Rattle.kernel_core.specs.Machine.{Environment, Serve, recorded}
 use Rattle.kernel_core.specs.Step.{AfterStep, Outcome, beside, unchanged}
 use Rattle.kernel_core.specs.declared.acting.Change.{Change}
 use Rattle.kernel_core.specs.declared.acting.Change.TheVariants as change
@@ -58,7 +58,7 @@ change_by_end (answers.Refused refusal) accepted = change.Thread
 -- what a step leaves, by its effect
 abbrev pub after_effect : Effect → Environment → Option Serve → Thread → AfterStep
 after_effect effect e serve x =
-    record { thread = x; environment = e; serve = serve; finished = effect.finished }
+    record { thread = x; environment = e; serve = serve; finished = recorded serve effect.finished }
 
 -- what a step leaves, if one was made
 abbrev pub made : Option Effect → Environment → Option Serve → Thread → Option AfterStep

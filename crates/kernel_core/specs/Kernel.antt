@@ -2,7 +2,7 @@
 use Rattle.std.specs.Prelude.{◌≡◌, ℕ, ◌-◌, ◌++◌, ◌∷◌, ◌≤◌, [], All, if◌then◌else◌, List, None, Option, length, slice_get}
 use Rattle.std.specs.Option.{option_map}
 use Rattle.guest_image.specs.Limits.{IsImage}
-use Rattle.kernel_core.specs.Machine.{Machine, is_ended}
+use Rattle.kernel_core.specs.Machine.{Machine, is_ended, recorded}
 use Rattle.kernel_core.specs.Runs.{last_finished, run}
 use Rattle.kernel_core.specs.Settings.{IsSettings}
 use Rattle.kernel_core.specs.Start.{Inputs, start}
@@ -56,6 +56,12 @@ turn h t =
       status = x.status;
       finished = last_finished (start h.inputs) h.steps t None;
     }) (slice_get (machine_of h).threads t)
+
+-- the turn of a thread whose last step finished the request of this number, or none
+unfoldable pub turn_at : Machine → ℕ → Option ℕ → Option Turn
+turn_at m t r =
+    option_map (λ x. record { regs = x.regs; status = x.status; finished = recorded m.serve r })
+    (slice_get m.threads t)
 
 -- what can be seen of a thread
 unfoldable pub view_of : Machine → ℕ → Option ThreadView

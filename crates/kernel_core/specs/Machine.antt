@@ -84,6 +84,11 @@ abbrev pub in_serve : Option Serve → ℕ → Option Finished
 in_serve None r = None
 in_serve (Some s) r = slice_index_or s.replies r None
 
+-- what is recorded of a request of a serve, where one is given
+abbrev pub recorded : Option Serve → Option ℕ → Option Finished
+recorded serve None = None
+recorded serve (Some r) = in_serve serve r
+
 -- what is recorded of a request, if it is finished
 unfoldable pub reply_of : Machine → ℕ → Option Finished
 reply_of m r = in_serve m.serve r

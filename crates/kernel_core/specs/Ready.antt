@@ -1,9 +1,9 @@
 -- What threads need of the world that they act in, and what each machine of a run keeps true of both.
-use Rattle.std.specs.Prelude.{◌≡◌, ℕ, ◌+◌, ◌*◌, ◌≤◌, ◌<◌, false, true, List, [], ◌∷◌, Some, length, map, slice_get, slice_set, All, IfSome, Option}
+use Rattle.std.specs.Prelude.{◌≡◌, ℕ, ◌+◌, ◌*◌, ◌≤◌, ◌<◌, false, true, List, [], ◌∷◌, Some, length, map, slice_get, slice_set, All, IfSome}
 use Rattle.std.specs.List.{Contains}
 use Rattle.guest_image.specs.Limits.{IsImage}
 use Rattle.kernel_core.specs.Kernel.{CanOpen}
-use Rattle.kernel_core.specs.Machine.{Environment, Machine, Serve, home_of, homes, homes_of, work}
+use Rattle.kernel_core.specs.Machine.{Environment, Machine, Serve, home_of, homes_of, work}
 use Rattle.lwc_base.specs.Jobs.{NamesKeepToJobs}
 use Rattle.kernel_core.specs.Runs.{run}
 use Rattle.guest_image.specs.declared.image.Image.{Image}

@@ -19,7 +19,7 @@ use crate::thread::{Thread, has_ended};
 use guest_isa::{Instr, Op, Text, fields_are_in_range};
 use guest_machine::{Advance, Next, advances_come_to_instructions, run_on};
 use lwc_base::{Channels, Fault, OutOfMemory, Regs, ThreadStatus};
-use snapshot_host::{Finished, begin, finish};
+use snapshot_host::begin;
 use world_face::World;
 
 /// What a step has changed.
@@ -33,11 +33,11 @@ pub enum Change {
     Links,
 }
 
-/// What a step has changed, and the request that it has finished, if it has.
-#[derive(Debug, Drop)]
+/// What a step has changed, and the number of the request that it has finished, if it has.
+#[derive(Clone, Copy, Debug, PartialEq, Eq)]
 pub struct Effect {
     pub change: Change,
-    pub finished: Option<Finished>,
+    pub finished: Option<u16>,
 }
 
 impl Effect {
@@ -117,13 +117,13 @@ fn settle<W: World>(
     match serve {
         Some(serve) if has_ended(thread.status) => {
             let _requests = io.requests();
-            let finished = finish(io, (thread.job - 1) as u16, thread.status);
-            serve.record_reply(finished.same());
+            let r = (thread.job - 1) as u16;
+            serve.record_reply(io, r, thread.status);
             let home = home_of(t);
             *thread = Thread::waiting(home, world.entry(home));
             Effect {
                 change: Change::Links,
-                finished: Some(finished),
+                finished: Some(r),
             }
         }
         _ => Effect::of(change),

@@ -4,6 +4,7 @@ ghost use Rattle.guest_machine.specs.Advances.{advanced};
 ghost use Rattle.kernel_core.specs.Kernel as spec;
 ghost use Rattle.kernel_core.specs.Kernel.{CanOpen, MayHave, machine_of};
 ghost use Rattle.kernel_core.specs.Machine.{homes_of, is_ended, reply_of, steps_after, steps_for_requests, steps_left, work};
+ghost use Rattle.kernel_core.specs.Machine as machines;
 ghost use Rattle.kernel_core.specs.Runs as runs;
 ghost use Rattle.kernel_core.specs.Settings.{IsSettings};
 ghost use Rattle.kernel_core.specs.Start.{start, thread_count};
@@ -160,6 +161,29 @@ impl<W: World> Kernel<W> {
         ensures err { OnErr result (self.new ≡ self.old) }
         ensures ample { W.roomy ≡ true → IsOk result }
     {
+        let finished = self.make_step(t, proposal)?;
+        Ok(self.turn(t, finished))
+    }
+
+    /// The same step. It answers the number of the request that the step has finished, if it has, in place of
+    /// the turn, which `note_turn` tells.
+    pub fn make_step(
+        &mut self,
+        t: u32,
+        proposal: Option<&Advance>,
+    ) -> Result<Option<u16>, OutOfMemory>
+        requires within { t < thread_count self.old.inputs }
+        requires room { is_ended (machine_of self.old) t ≡ false → 0 < self.old.room }
+        requires proposal { IfSome proposal (λ a. a.now ≡ advanced self.old.inputs.image.text a.now.before) }
+        ensures step { OnOk result (self.new ≡ spec.stepped self.old t) }
+        ensures turn { IfOk result (λ r. spec.turn self.new t ≡ spec.turn_at (machine_of self.new) t r) }
+        ensures room { OnOk result (is_ended (machine_of self.old) t ≡ false →
+            self.new.room + 1 ≡ self.old.room) }
+        ensures work { OnOk result (is_ended (machine_of self.old) t ≡ false →
+            work (machine_of self.new) < work (machine_of self.old)) }
+        ensures err { OnErr result (self.new ≡ self.old) }
+        ensures ample { W.roomy ≡ true → IsOk result }
+    {
         runs_stay_ready();
         let mut thread = self.threads[t as usize];
         let world = &mut self.world;
@@ -167,7 +191,7 @@ impl<W: World> Kernel<W> {
         let serve = &mut self.serve;
         let Some(effect) = step_thread(world, io, serve, &self.text, t, &mut thread, proposal)?
         else {
-            return Ok(thread.turn(None));
+            return Ok(None);
         };
         self.threads[t as usize] = thread;
         let workers = worker_count(&self.serve);
@@ -180,7 +204,37 @@ impl<W: World> Kernel<W> {
         self.peak = peak_after(self.peak, &self.world, effect.change);
         append(&mut self.schedule, t as u8);
         self.room -= 1;
-        Ok(thread.turn(effect.finished))
+        Ok(effect.finished)
+    }
+
+    /// Notes in `last` what the last step of thread `t` left, which finished the request of this number, or
+    /// none. It takes no memory.
+    pub fn note_turn(&self, t: u32, finished: Option<u16>, last: &mut Turn)
+        requires { t < thread_count self.now.inputs }
+        ensures { spec.turn_at (machine_of self.now) t finished ≡ Some last.new }
+    {
+        runs_stay_ready();
+        last.note(&self.threads[t as usize], self.recorded(finished));
+    }
+
+    /// What the last step of thread `t` left, which finished the request of this number, or none.
+    fn turn(&self, t: u32, finished: Option<u16>) -> Turn
+        requires { t < thread_count self.now.inputs }
+        ensures { spec.turn_at (machine_of self.now) t finished ≡ Some result }
+    {
+        runs_stay_ready();
+        self.threads[t as usize].turn(self.recorded(finished))
+    }
+
+    /// What is recorded of the request of this number, where one is given.
+    fn recorded(&self, finished: Option<u16>) -> Option<&Finished>
+        ensures { option_map (λ x. x.now) result ≡ machines.recorded (machine_of self.now).serve finished }
+    {
+        runs_stay_ready();
+        match finished {
+            Some(r) => recorded(&self.serve, r),
+            None => None,
+        }
     }
 
     /// The number of steps that the kernel has room for.

@@ -3,10 +3,11 @@ ghost use Rattle.std.specs.Prelude.{◌≡◌, ◌<◌, ◌≤◌, ◌+◌, ◌-
 ghost use Rattle.std.specs.Option.{option_map};
 ghost use Rattle.kernel_core.specs.Machine as machine;
 ghost use Rattle.kernel_core.specs.Step as spec;
+ghost use Rattle.lwc_base.specs.Channels.{bytes_in};
 ghost use Rattle.lwc_base.specs.declared.limits.TheConstants.{MOST_REQUESTS, MOST_THREADS};
 
-use lwc_base::{Name, OutOfMemory};
-use snapshot_host::Finished;
+use lwc_base::{Channels, Name, OutOfMemory, ThreadStatus};
+use snapshot_host::{Finished, finish};
 use std::alloc::Global;
 use std::marker::Model;
 
@@ -66,21 +67,23 @@ impl Serve {
         })
     }
 
-    /// Records how a request was finished. It takes no memory.
-    pub(crate) fn record_reply(&mut self, finished: Finished)
-        requires { finished.request < length self.old.replies }
-        ensures { self.new ≡ spec.with_reply self.old finished }
+    /// Records the reply of request `r`, whose thread has ended with a status. It takes no memory.
+    // A reply has 4096 bytes: out of line, no other step has a place for one.
+    #[inline(never)]
+    pub(crate) fn record_reply(&mut self, io: &Channels, r: u16, status: ThreadStatus)
+        requires request { r < length io.now.requests }
+        requires place { r < length self.old.replies }
+        ensures { self.new ≡ spec.with_reply self.old
+            (record { request = r; status = status; bytes = bytes_in io.now.replies r }) }
     {
-        let r = usize::from(finished.request);
-        self.replies[r] = Some(finished);
+        self.replies[usize::from(r)] = Some(finish(io, r, status));
     }
 
     /// What is recorded of a request; `None` if it is not finished.
     pub(crate) fn reply(&self, r: u16) -> Option<&Finished>
-        requires { r < length self.now.replies }
         ensures { option_map (λ x. x.now) result ≡ slice_index_or self.now.replies r None }
     {
-        self.replies[usize::from(r)].as_ref()
+        self.replies.get(usize::from(r))?.as_ref()
     }
 }
 
@@ -105,11 +108,7 @@ pub(crate) fn worker_count(serve: &Option<Serve>) -> u32
 
 /// What is recorded of a request; `None` if it is not finished, or if nothing is served.
 pub(crate) fn recorded(serve: &Option<Serve>, r: u16) -> Option<&Finished>
-    requires { IfSome serve.now (λ s. r < length s.replies) }
     ensures { option_map (λ x. x.now) result ≡ machine.in_serve serve.now r }
 {
-    match serve {
-        Some(serve) => serve.reply(r),
-        None => None,
-    }
+    serve.as_ref()?.reply(r)
 }

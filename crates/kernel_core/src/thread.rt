@@ -1,4 +1,5 @@
 ghost use Rattle.std.specs.Prelude.{◌≡◌, ◌<◌, ◌≤◌, ◌+◌, ◌^◌};
+ghost use Rattle.std.specs.Option.{option_map};
 ghost use Rattle.kernel_core.specs.Machine as machine;
 ghost use Rattle.kernel_core.specs.Step as spec;
 
@@ -47,14 +48,28 @@ impl Turn {
     pub fn same(&self) -> Turn
         ensures { result ≡ self.now }
     {
-        let finished = match &self.finished {
-            Some(finished) => Some(finished.same()),
-            None => None,
-        };
         Turn {
             regs: self.regs,
             status: self.status,
-            finished,
+            finished: self.finished.as_ref().map(|finished| finished.same()),
+        }
+    }
+
+    /// Makes this the turn of a thread whose step finished a request, or none. It takes no memory.
+    pub(crate) fn note(&mut self, thread: &Thread, finished: Option<&Finished>)
+        ensures { self.new ≡ record {
+          regs = thread.now.regs;
+          status = thread.now.status;
+          finished = option_map (λ x. x.now) finished.entry;
+        } }
+    {
+        self.regs = thread.regs;
+        self.status = thread.status;
+        match finished {
+            Some(finished) => self.finished = Some(finished.same()),
+            // The 4096 bytes of a reply are not written where there are none.
+            None if self.finished.is_none() => {}
+            None => self.finished = None,
         }
     }
 
@@ -81,14 +96,17 @@ impl Thread {
     }
 
     /// The registers and the status, and the request that a step of it has finished.
-    pub(crate) fn turn(&self, finished: Option<Finished>) -> Turn
-        ensures { result
-            ≡ record { regs = self.now.regs; status = self.now.status; finished = finished } }
+    pub(crate) fn turn(&self, finished: Option<&Finished>) -> Turn
+        ensures { result ≡ record {
+          regs = self.now.regs;
+          status = self.now.status;
+          finished = option_map (λ x. x.now) finished.entry;
+        } }
     {
         Turn {
             regs: self.regs,
             status: self.status,
-            finished,
+            finished: finished.map(|finished| finished.same()),
         }
     }
 

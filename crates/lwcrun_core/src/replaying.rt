@@ -157,7 +157,7 @@ fn make_steps<W: World>(kernel: &mut Kernel<W>, schedule: &Schedule) -> Result<(
     ensures steps { OnOk result (kernel.new.steps ≡ kept (start kernel.old.inputs) schedule.now) }
 {
     for i in 0..schedule.len() {
-        kernel.step(u32::from(*schedule.get(i)), None)?;
+        kernel.make_step(u32::from(*schedule.get(i)), None)?;
     }
     Ok(())
 }

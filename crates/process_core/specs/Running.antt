@@ -1,8 +1,10 @@
 -- What contracts see of a process and of its passes.
-use Rattle.std.specs.Prelude.{◌≡◌, ◌<◌, ◌≤◌, ℕ, List, All, Contains, Some, length, map}
+use Rattle.std.specs.Prelude.{◌≡◌, ◌<◌, ◌≤◌, ℕ, List, All, Contains, None, Some, length, map}
 use Rattle.kernel_core.specs.Histories.{IsLegal, turn_after}
 use Rattle.kernel_core.specs.Start.{Inputs, start, thread_count}
 use Rattle.kernel_core.specs.declared.thread.Turn.{Turn}
+use Rattle.lwc_base.specs.Registers.{fresh_registers}
+use Rattle.lwc_base.specs.declared.fault.ThreadStatus.TheVariants.{Idle}
 use Rattle.lwc_base.specs.declared.limits.TheConstants.{MOST_STEPS}
 use Rattle.turnstile.specs.Passes as gate
 use Rattle.turnstile.specs.Passes.{Held, Lock}
@@ -11,6 +13,10 @@ use Rattle.turnstile.specs.Passes.{Held, Lock}
 pub record Carried : Type 0 where
   pub held : Held Inputs
   pub last : Turn
+
+-- a turn of a thread that has made no step and has no registers
+abbrev pub no_turn : Turn
+no_turn = record { regs = fresh_registers 0; status = Idle; finished = None }
 
 -- the history is legal, is not longer than a kernel's, and leaves this turn of the thread
 pub record Leaves (inputs : Inputs) (t : ℕ) (seen : List ℕ) (turn : Turn) : Type 0 where

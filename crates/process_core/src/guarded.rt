@@ -14,79 +14,91 @@ use lwc_base::OutOfMemory;
 use turnstile::Turned;
 use world_face::World;
 
-/// A kernel over a roomy world, whose steps are a legal history, with room for all the steps that are left.
+/// A kernel over a roomy world, whose steps are a legal history, with room for all the steps that are left. It is in
+/// a box, since the lock moves it twice in each turn.
 #[derive(Drop)]
 pub(crate) struct Guarded<W: World> {
-    pub(crate) kernel: Kernel<W>,
-    pub(crate) ghost legal: { IsLegal (start kernel.inputs) kernel.steps },
-    pub(crate) ghost room: { work (machine_of kernel) ≤ kernel.room },
-    pub(crate) ghost few: { length kernel.steps + kernel.room ≤ MOST_STEPS },
+    pub(crate) kernel: Box<Kernel<W>>,
+    pub(crate) ghost legal: { IsLegal (start kernel.value.inputs) kernel.value.steps },
+    pub(crate) ghost room: { work (machine_of kernel.value) ≤ kernel.value.room },
+    pub(crate) ghost few: { length kernel.value.steps + kernel.value.room ≤ MOST_STEPS },
     pub(crate) ghost roomy: { W.roomy ≡ true },
 }
 
 impl<W: World> Turned for Guarded<W> {
     type Name = Inputs;
 
-    ghost name = { λ g. g.kernel.inputs };
+    ghost name = { λ g. g.kernel.value.inputs };
 
-    ghost past = { λ g. g.kernel.steps };
+    ghost past = { λ g. g.kernel.value.steps };
 
     ghost use Rattle.std.proofs.Common.{arith};
 
     ghost short = { λ g. omega (arith, g.few) };
 }
 
-/// A step of a thread that has not ended, with room for it.
-fn step_kernel<W: World>(kernel: &mut Kernel<W>, t: u32, proposal: Option<&Advance>) -> Turn
+/// A step of a thread that has not ended, with room for it. Notes in `last` what it left.
+fn step_kernel<W: World>(
+    kernel: &mut Kernel<W>,
+    t: u32,
+    proposal: Option<&Advance>,
+    last: &mut Turn,
+)
     requires roomy { W.roomy ≡ true }
     requires within { t < thread_count kernel.old.inputs }
     requires going { is_ended (machine_of kernel.old) t ≡ false }
     requires room { work (machine_of kernel.old) ≤ kernel.old.room }
     requires proposal { IfSome proposal (λ a. a.now ≡ advanced kernel.old.inputs.image.text a.now.before) }
     ensures step { kernel.new ≡ stepped kernel.old t }
-    ensures turn { turn kernel.new t ≡ Some result }
+    ensures turn { turn kernel.new t ≡ Some last.new }
     ensures some { 0 < kernel.old.room }
     ensures room { kernel.new.room + 1 ≡ kernel.old.room }
     ensures work { work (machine_of kernel.new) < work (machine_of kernel.old) }
 {
     kernel.was_opened();
     histories_are_known();
-    match kernel.step(t, proposal) {
-        Ok(turn) => turn,
+    match kernel.make_step(t, proposal) {
+        Ok(finished) => kernel.note_turn(t, finished, last),
         Err(OutOfMemory) => unreachable!(),
     }
 }
 
 /// A kernel that was just opened, as the lock guards it.
-pub(crate) fn guard<W: World>(kernel: Kernel<W>) -> Guarded<W>
+pub(crate) fn guard<W: World>(kernel: Box<Kernel<W>>) -> Guarded<W>
     requires roomy { W.roomy ≡ true }
-    requires fresh { kernel.steps ≡ [] }
-    requires room { work (machine_of kernel) ≤ kernel.room }
-    ensures { result.kernel ≡ kernel }
+    requires fresh { kernel.value.steps ≡ [] }
+    requires room { work (machine_of kernel.value) ≤ kernel.value.room }
+    ensures { result.kernel.value ≡ kernel.value }
 {
     let _steps = kernel.schedule();
     Guarded { kernel }
 }
 
 impl<W: World> Guarded<W> {
-    /// A step of a thread that has not ended.
-    pub(crate) fn make_step(&mut self, t: u32, proposal: Option<Advance>) -> Turn
-        requires within { t < thread_count self.old.kernel.inputs }
-        requires going { is_ended (machine_of self.old.kernel) t ≡ false }
-        requires proposal { IfSome proposal (λ a. a ≡ advanced self.old.kernel.inputs.image.text a.before) }
-        ensures inputs { self.new.kernel.inputs ≡ self.old.kernel.inputs }
-        ensures steps { self.new.kernel.steps ≡ self.old.kernel.steps ++ t ∷ [] }
-        ensures turn { turn self.new.kernel t ≡ Some result }
+    /// A step of a thread that has not ended. What it left is noted in the box of its last turn.
+    pub(crate) fn make_step(
+        &mut self,
+        t: u32,
+        proposal: Option<Advance>,
+        mut last: Box<Turn>,
+    ) -> Box<Turn>
+        requires within { t < thread_count self.old.kernel.value.inputs }
+        requires going { is_ended (machine_of self.old.kernel.value) t ≡ false }
+        requires proposal { IfSome proposal (λ a. a ≡ advanced self.old.kernel.value.inputs.image.text a.before) }
+        ensures inputs { self.new.kernel.value.inputs ≡ self.old.kernel.value.inputs }
+        ensures steps { self.new.kernel.value.steps ≡ self.old.kernel.value.steps ++ t ∷ [] }
+        ensures turn { turn self.new.kernel.value t ≡ Some result.value }
     {
         histories_are_known();
-        step_kernel(&mut self.kernel, t, proposal.as_ref())
+        step_kernel(&mut self.kernel, t, proposal.as_ref(), &mut last);
+        last
     }
 
     /// The kernel.
     pub(crate) fn into_kernel(self) -> Kernel<W>
-        ensures kernel { result ≡ self.kernel }
+        ensures kernel { result ≡ self.kernel.value }
     {
         let Guarded { kernel } = self;
-        kernel
+        Box::into_inner(kernel)
     }
 }

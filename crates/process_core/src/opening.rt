@@ -33,13 +33,14 @@ pub(crate) fn first_turns<W: World>(
     Ok(turns)
 }
 
-/// Gives each pass of the lock to a pass of the process.
+/// Gives each pass of the lock to a pass of the process. The only error is out of memory.
 pub(crate) fn hand_out<W: World>(
     gate: &Turnstile<Guarded<W>>,
     mut held: Passes<Guarded<W>>,
+    alloc: Global,
     turns: &Vec<Turn>,
     mut passes: ProcessPasses<W>,
-) -> ProcessPasses<W>
+) -> Result<ProcessPasses<W>, OutOfMemory>
     requires empty { passes.items ≡ [] }
     requires room { length held.items ≤ vec_capacity passes }
     requires count { length held.items ≡ length turns.now.items }
@@ -47,13 +48,14 @@ pub(crate) fn hand_out<W: World>(
     requires threads { length turns.now.items ≡ thread_count gate.now.name }
     requires turns { (t : ℕ) (last : Turn) →
         slice_get turns.now.items t ≡ Some last → turn_after gate.now.name [] t ≡ Some last }
-    ensures count { length result.items ≡ length held.items }
-    ensures new { (i : ℕ) (p : Carried) → slice_get result.items i ≡ Some p → IsNewPass gate.now i p }
+    ensures count { IfOk result (λ given. length given.items ≡ length held.items) }
+    ensures new { IfOk result (λ given. (i : ℕ) (p : Carried) →
+        slice_get given.items i ≡ Some p → IsNewPass gate.now i p) }
 {
     'held: while !held.is_empty() {
         let pass = held.remove(0);
-        let last = turns[passes.len()].same();
-        passes.push_reserved(ProcessPass { pass, last });
+        let last = Box::new(alloc, turns[passes.len()].same())?;
+        passes.push_reserved(ProcessPass::new(pass, last));
     }
-    passes
+    Ok(passes)
 }

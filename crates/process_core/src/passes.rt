@@ -13,18 +13,23 @@ use world_face::World;
 #[derive(Drop)]
 pub struct ProcessPass<W: World> {
     pub(crate) pass: Pass<Guarded<W>>,
-    pub(crate) last: Turn,
+    // The box goes into each turn and comes back. It is away only while the turn is made.
+    pub(crate) last: Option<Box<Turn>>,
 }
 
 /// The passes of a process, at `open` in the order of their threads.
 pub type ProcessPasses<W> = Vec<ProcessPass<W>>;
 
 impl<W: World> Model for ProcessPass<W> {
-    ghost use Rattle.process_core.specs.Running.{Carried};
+    ghost use Rattle.std.specs.Prelude.{◌≡◌, is_some, true, unwrap_or};
+    ghost use Rattle.std.specs.Option.{option_map};
+    ghost use Rattle.process_core.specs.Running.{Carried, no_turn};
 
     ghost Value = { Carried };
 
-    ghost view = { λ p. record { held = p.pass; last = p.last } };
+    ghost view = { λ p. record { held = p.pass; last = unwrap_or (option_map (λ b. b.value) p.last) no_turn } };
+
+    ghost invariant = { λ p. is_some p.last ≡ true };
 }
 
 impl<W: World> HoldsPass<Guarded<W>> for ProcessPass<W> {
@@ -41,6 +46,16 @@ impl<W: World> HoldsPass<Guarded<W>> for ProcessPass<W> {
 }
 
 impl<W: World> ProcessPass<W> {
+    /// The pass of the lock with the last turn of its thread.
+    pub(crate) fn new(pass: Pass<Guarded<W>>, last: Box<Turn>) -> ProcessPass<W>
+        ensures { result ≡ record { held = pass; last = last.value } }
+    {
+        ProcessPass {
+            pass,
+            last: Some(last),
+        }
+    }
+
     /// The thread whose steps it makes.
     pub fn thread(&self) -> u32
         ensures { result ≡ self.now.held.number }
@@ -52,6 +67,9 @@ impl<W: World> ProcessPass<W> {
     pub fn last(&self) -> &Turn
         ensures { result.now ≡ self.now.last }
     {
-        &self.last
+        match &self.last {
+            Some(last) => last,
+            None => unreachable!(),
+        }
     }
 }

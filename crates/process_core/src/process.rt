@@ -45,22 +45,22 @@ impl<W: World> Model for Process<W> {
     ghost invariant = { λ p. (p.text ≡ p.gate.name.image.text) × (p.gate.seats ≡ thread_count p.gate.name) };
 }
 
-/// One step of the pass's thread, which its last turn had not ended.
+/// One step of the pass's thread, which its last turn had not ended. What it left is noted in the box of that turn.
 fn take_turn<R: Wait, W: World>(
     gate: &Turnstile<Guarded<W>>,
     rt: &R,
     pass: &mut Pass<Guarded<W>>,
-    last: &Turn,
+    last: Box<Turn>,
     proposal: Option<Advance>,
-) -> Turn
+) -> Box<Turn>
     requires ours { gates.IsPassOf gate.now pass.old }
     requires within { pass.old.number < thread_count gate.now.name }
-    requires knows { Leaves gate.now.name pass.old.number pass.old.seen last.now }
-    requires going { has_ended last.now.status ≡ false }
+    requires knows { Leaves gate.now.name pass.old.number pass.old.seen last.value }
+    requires going { has_ended last.value.status ≡ false }
     requires proposal { IfSome proposal (λ a. a ≡ advanced gate.now.name.image.text a.before) }
     ensures ours { gates.IsPassOf gate.now pass.new }
     ensures number { pass.new.number ≡ pass.old.number }
-    ensures leaves { Leaves gate.now.name pass.new.number pass.new.seen result }
+    ensures leaves { Leaves gate.now.name pass.new.number pass.new.seen result.value }
     ensures goes_on { GoesOn pass.old.number pass.old.seen pass.new.seen }
     ensures later { pass.old.noted < length pass.new.seen }
     ensures noted { pass.old.noted ≤ pass.new.noted }
@@ -70,14 +70,14 @@ fn take_turn<R: Wait, W: World>(
     gate.with_turn(
         rt,
         pass,
-        |guarded: &mut Guarded<W>| -> Turn
-            requires { (t < thread_count guarded.now.kernel.inputs)
-                × (is_ended (machine_of guarded.now.kernel) t ≡ false)
-                × IfSome proposal (λ a. a ≡ advanced guarded.now.kernel.inputs.image.text a.before) }
-            ensures { (guarded.exit.now.kernel.inputs ≡ guarded.entry.now.kernel.inputs)
-                × (guarded.exit.now.kernel.steps ≡ guarded.entry.now.kernel.steps ++ t ∷ [])
-                × (kernels.turn guarded.exit.now.kernel t ≡ Some result) }
-        { guarded.make_step(t, proposal) },
+        move |guarded: &mut Guarded<W>| -> Box<Turn>
+            requires { (t < thread_count guarded.now.kernel.value.inputs)
+                × (is_ended (machine_of guarded.now.kernel.value) t ≡ false)
+                × IfSome proposal (λ a. a ≡ advanced guarded.now.kernel.value.inputs.image.text a.before) }
+            ensures { (guarded.exit.now.kernel.value.inputs ≡ guarded.entry.now.kernel.value.inputs)
+                × (guarded.exit.now.kernel.value.steps ≡ guarded.entry.now.kernel.value.steps ++ t ∷ [])
+                × (kernels.turn guarded.exit.now.kernel.value t ≡ Some result.value) }
+        { guarded.make_step(t, proposal, last) },
     )
 }
 
@@ -106,8 +106,9 @@ impl<W: World> Process<W> {
         let turns = first_turns(alloc, &kernel)?;
         let seats = kernel.thread_count();
         let passes = Vec::with_capacity(alloc, seats as usize)?;
+        let kernel = Box::new(alloc, kernel)?;
         let (gate, held) = Turnstile::new(alloc, guard(kernel), seats)?;
-        let passes = hand_out(&gate, held, &turns, passes);
+        let passes = hand_out(&gate, held, alloc, &turns, passes)?;
         Ok((Process { gate, text }, passes))
     }
 
@@ -144,13 +145,32 @@ impl<W: World> Process<W> {
             pass.old.held.noted < length pass.new.held.seen }
         ensures noted { pass.old.held.noted ≤ pass.new.held.noted }
     {
-        if pass.last.has_ended() {
-            return pass.last.same();
+        self.make_turn(rt, pass, proposal);
+        pass.last().same()
+    }
+
+    /// Makes the same turn. It answers nothing, since the pass then has it as its last one.
+    pub fn make_turn<R: Wait>(&self, rt: &R, pass: &mut ProcessPass<W>, proposal: Option<&Advance>)
+        requires ours { IsPassOf self.now pass.old }
+        requires proposal { IfSome proposal (λ a. a.now ≡ advanced self.now.name.image.text a.now.before) }
+        ensures ours { IsPassOf self.now pass.new }
+        ensures number { pass.new.held.number ≡ pass.old.held.number }
+        ensures legal { IsLegal (start self.now.name) pass.new.held.seen }
+        ensures turn { turn_after self.now.name pass.new.held.seen pass.new.held.number ≡ Some pass.new.last }
+        ensures rests { has_ended pass.old.last.status ≡ true → pass.new ≡ pass.old }
+        ensures goes_on { has_ended pass.old.last.status ≡ false →
+            GoesOn pass.old.held.number pass.old.held.seen pass.new.held.seen }
+        ensures later { has_ended pass.old.last.status ≡ false →
+            pass.old.held.noted < length pass.new.held.seen }
+        ensures noted { pass.old.held.noted ≤ pass.new.held.noted }
+    {
+        if pass.last().has_ended() {
+            return;
         }
         let offer = proposal.copied();
-        let turn = take_turn(&self.gate, rt, &mut pass.pass, &pass.last, offer);
-        pass.last = turn.same();
-        turn
+        if let Some(last) = pass.last.take() {
+            pass.last = Some(take_turn(&self.gate, rt, &mut pass.pass, last, offer));
+        }
     }
 
     /// How many steps were kept. The pass notes the answer, which is below neither the number of steps that

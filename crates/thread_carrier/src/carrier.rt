@@ -41,7 +41,7 @@ pub fn carry<R: Wait, W: World, G: Gate>(
     'turns: while !carrier.pass.last().has_ended() {
         let proposal = advance(process.text(), &carrier.pass.last().regs);
         gate.before(rt, carrier.pass.thread(), carrier.turns);
-        process.turn(rt, &mut carrier.pass, Some(&proposal));
+        process.make_turn(rt, &mut carrier.pass, Some(&proposal));
         carrier.turns += 1;
     }
 }

@@ -1,5 +1,4 @@
-use Rattle.std.proofs.Common.{◌∙◌}
-use Rattle.kernel_core.proofs.HomeMade.{can_here, few_here, group_here, home_step, live_copy, live_emptied}
+use Rattle.kernel_core.proofs.HomeMade.{can_here, few_here, group_here, live_copy, live_emptied}
 use Rattle.kernel_core.proofs.starting.put_home.Goals as goal
 
 pub clone_context-requires-clause-live : goal.clone_context-requires-clause-live

@@ -21,10 +21,10 @@ with_turn-requires-sync-S g c κs within = let s = c.type_bounds.sync-W in searc
 
 pub with_turn-requires-clause-callable : goal.with_turn-requires-clause-callable
 with_turn-requires-clause-callable g c κs lives x due p is =
-    let e : p.now.kernel ≡ x.kernel = cc in
+    let e : p.now.kernel.value ≡ x.kernel.value = cc in
     let s = c.type_bounds.send-W in
     let y = c.type_bounds.sync-W in (
-      ready c.histories_are_known.ensures p.now.kernel c.args.gate.now.name c.args.pass.now.seen c.args.pass.now.number c.number-t.result c.args.last.now c.args.proposal
+      ready c.histories_are_known.ensures p.now.kernel.value c.args.gate.now.name c.args.pass.now.seen c.args.pass.now.number c.number-t.result c.args.last.value c.args.proposal
           (ap (λ (h : History). h.inputs) e ∙ due.0) (subst (λ (h : History). Knows h.steps c.args.pass.now.number c.args.pass.now.seen) (sym e) due.1)
           c.requires.knows c.requires.going c.requires.within c.requires.proposal c.number-t.ensures,
       (search (sendable, crosses) depth 80 fits 20000, search (sendable, crosses) depth 80 fits 20000),
@@ -33,30 +33,30 @@ with_turn-requires-clause-callable g c κs lives x due p is =
 pub with_turn-requires-clause-moves : goal.with_turn-requires-clause-moves
 with_turn-requires-clause-moves g c κs lives x y r due f =
     let number = c.number-t.ensures in
-    let e : x.kernel ≡ f.shown.now.kernel = cc in
-    let d : y.kernel ≡ f.left.now.kernel = cc in (
+    let e : x.kernel.value ≡ f.shown.now.kernel.value = cc in
+    let d : y.kernel.value ≡ f.left.now.kernel.value = cc in (
       ap (λ (h : History). h.inputs) d ∙ (f.met.0 ∙ sym (ap (λ (h : History). h.inputs) e)),
-      ap (λ (h : History). h.steps) d ∙ (f.met.1 ∙ (ap (λ (n : ℕ). f.shown.now.kernel.steps ++ n ∷ []) number ∙ ap (λ (h : History). h.steps ++ c.args.pass.now.number ∷ []) (sym e))),
+      ap (λ (h : History). h.steps) d ∙ (f.met.1 ∙ (ap (λ (n : ℕ). f.shown.now.kernel.value.steps ++ n ∷ []) number ∙ ap (λ (h : History). h.steps ++ c.args.pass.now.number ∷ []) (sym e))),
     )
 
 pub returns-clause-leaves : goal.returns-clause-leaves
 returns-clause-leaves g c =
     let call = c.with_turn.ensures.called in
     let f = call.3 in
-    let e : f.shown.now.kernel ≡ call.0.kernel = cc in
-    let d : call.1.kernel ≡ f.left.now.kernel = cc in
-    let after = after_turn c.args.gate.now.name c.args.pass.now.number c.number-t.result c.args.pass.now.seen c.with_turn.new.pass.seen f.shown.now.kernel f.left.now.kernel c.with_turn.result
+    let e : f.shown.now.kernel.value ≡ call.0.kernel.value = cc in
+    let d : call.1.kernel.value ≡ f.left.now.kernel.value = cc in
+    let after = after_turn c.args.gate.now.name c.args.pass.now.number c.number-t.result c.args.pass.now.seen c.with_turn.new.pass.seen f.shown.now.kernel.value f.left.now.kernel.value c.with_turn.result.value
     (ap (λ (h : History). h.inputs) e ∙ call.2.0) (subst (λ (h : History). Knows h.steps c.args.pass.now.number c.args.pass.now.seen) (sym e) call.2.1)
     f.met.0 f.met.1 f.met.2 c.number-t.ensures f.left.now.legal f.left.now.few (call.4 ∙ ap (λ (h : History). h.steps) d) in
-    subst (λ (n : ℕ). Leaves c.args.gate.now.name n c.with_turn.new.pass.seen c.with_turn.result) (sym c.with_turn.ensures.number) after.leaves
+    subst (λ (n : ℕ). Leaves c.args.gate.now.name n c.with_turn.new.pass.seen c.with_turn.result.value) (sym c.with_turn.ensures.number) after.leaves
 
 pub returns-clause-goes_on : goal.returns-clause-goes_on
 returns-clause-goes_on g c =
     let call = c.with_turn.ensures.called in
     let f = call.3 in
-    let e : f.shown.now.kernel ≡ call.0.kernel = cc in
-    let d : call.1.kernel ≡ f.left.now.kernel = cc in
-    let after = after_turn c.args.gate.now.name c.args.pass.now.number c.number-t.result c.args.pass.now.seen c.with_turn.new.pass.seen f.shown.now.kernel f.left.now.kernel c.with_turn.result
+    let e : f.shown.now.kernel.value ≡ call.0.kernel.value = cc in
+    let d : call.1.kernel.value ≡ f.left.now.kernel.value = cc in
+    let after = after_turn c.args.gate.now.name c.args.pass.now.number c.number-t.result c.args.pass.now.seen c.with_turn.new.pass.seen f.shown.now.kernel.value f.left.now.kernel.value c.with_turn.result.value
     (ap (λ (h : History). h.inputs) e ∙ call.2.0) (subst (λ (h : History). Knows h.steps c.args.pass.now.number c.args.pass.now.seen) (sym e) call.2.1)
     f.met.0 f.met.1 f.met.2 c.number-t.ensures f.left.now.legal f.left.now.few (call.4 ∙ ap (λ (h : History). h.steps) d) in
     after.went

@@ -1,4 +1,4 @@
-use Rattle.std.proofs.Common.{◌∙◌, List, None, Some, ap, arith, refl, sym, ℕ}
+use Rattle.std.proofs.Common.{◌∙◌, List, None, Some, ap, arith, sym, ℕ}
 use Rattle.kernel_core.proofs.Steps.{as_seen, last_turn, within}
 use Rattle.kernel_core.specs.Runs.{last_finished}
 use Rattle.kernel_core.specs.Start.{start}

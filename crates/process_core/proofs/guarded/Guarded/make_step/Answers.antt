@@ -1,21 +1,32 @@
-use Rattle.std.proofs.Common.{arith}
+use Rattle.std.proofs.Common.{◌≡◌, ◌<◌, ap, arith, subst}
+use Rattle.kernel_core.specs.Kernel.{History, machine_of, stepped}
+use Rattle.kernel_core.specs.Machine.{work}
 use Rattle.process_core.proofs.Stepping.{stepped_inputs, stepped_steps, stays_few, stays_legal}
 use Rattle.process_core.proofs.guarded.Guarded.make_step.Goals as goal
 
 pub returns-clause-inputs : goal.returns-clause-inputs
-returns-clause-inputs g c = stepped_inputs _ _ _ c.requires.going c.step_kernel.ensures.step
+returns-clause-inputs g c =
+    let next = c.step_kernel.new.kernel in
+    stepped_inputs _ _ _ c.requires.going (subst (λ (h : History). next ≡ stepped h c.args.t) c.deref_mut.ensures.value c.step_kernel.ensures.step)
 
 pub returns-clause-steps : goal.returns-clause-steps
-returns-clause-steps g c = stepped_steps _ _ _ c.requires.going c.step_kernel.ensures.step
+returns-clause-steps g c =
+    let next = c.step_kernel.new.kernel in
+    stepped_steps _ _ _ c.requires.going (subst (λ (h : History). next ≡ stepped h c.args.t) c.deref_mut.ensures.value c.step_kernel.ensures.step)
 
 pub invariant_of-self : goal.invariant_of-self
 invariant_of-self g c =
-    let h = c.args.self.now.kernel in
+    let h = c.args.self.now.kernel.value in
+    let next = c.step_kernel.new.kernel in
+    let same = c.deref_mut.ensures.value in
+    let room_same = ap (λ (k : History). k.room) same in
     let going = c.requires.going in
     let done = c.step_kernel.ensures in
+    let step = subst (λ (k : History). next ≡ stepped k c.args.t) same done.step in
+    let less = subst (λ (k : History). work (machine_of next) < work (machine_of k)) same done.work in
     record {
-      legal = stays_legal h _ _ going done.step c.histories_are_known.ensures c.args.self.now.legal;
-      room = omega (arith, done.room, done.work, c.args.self.now.room);
-      few = stays_few h _ _ going done.step done.some c.args.self.now.few;
+      legal = stays_legal h _ _ going step c.histories_are_known.ensures c.args.self.now.legal;
+      room = omega (arith, done.room, room_same, less, c.args.self.now.room);
+      few = stays_few h _ _ going step (subst (λ (k : History). 0 < k.room) same done.some) c.args.self.now.few;
       roomy = c.args.self.now.roomy;
     }
