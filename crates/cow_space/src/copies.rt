@@ -20,7 +20,7 @@ const ALL_PAGES: Range = Range {
 };
 
 impl Rows {
-    ghost use Rattle.std.specs.Prelude.{◌≡◌, ◌≢◌, ℕ, ◌+◌, ◌*◌, ◌<◌, ◌≤◌, All, length, slice_set};
+    ghost use Rattle.std.specs.Prelude.{◌≡◌, ◌≢◌, ℕ, ◌+◌, ◌*◌, ◌<◌, ◌≤◌, ◌⊎◌, All, length, slice_set};
     ghost use Rattle.page_tree.specs.declared.store.TheConstants.{PAGES};
     ghost use Rattle.cow_space.specs.Maps.{copy_pieces, no_pages, put_range, row_of, share_range};
     ghost use Rattle.cow_space.specs.Pieces.{IsPiece};
@@ -79,8 +79,13 @@ impl Rows {
         ensures maps { maps self.new
             ≡ slice_set (maps self.old) i (put_range (row_of (maps self.old) i) range.from range.to no_pages) }
         ensures frames { frames_of self.new ≡ frames_of self.old }
+        ensures own { (HasNoTree self.new i) ⊎ (HasOwnRoot self.new i) }
         ensures nodes { free_nodes self.old ≤ free_nodes self.new + 3 }
+        ensures nodes_own { HasOwnRoot self.old i → free_nodes self.old ≤ free_nodes self.new + 2 }
+        ensures given_up { HasNoTree self.new i → free_nodes self.old ≤ free_nodes self.new }
         ensures cost { steps.new ≤ steps.old + 98 }
+        ensures cost_own { HasOwnRoot self.old i → steps.new ≤ steps.old + 64 }
+        ensures cost_empty { HasNoTree self.old i → steps.new ≤ steps.old + 35 }
     {
         a_change_takes_few_nodes();
         trees_account_for_their_store();

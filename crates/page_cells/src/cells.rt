@@ -40,7 +40,7 @@ impl PageCells {
     ghost use Rattle.page_cells.specs.declared.cells.TheConstants.{MOST_PLACES};
     ghost use Rattle.page_cells.specs.Cells.{IsOwnPage, kinds_of, no_pages, place_of};
     ghost use Rattle.page_cells.specs.Changes.{kinds_after};
-    ghost use Rattle.page_cells.specs.Seen.{cells, frames_of};
+    ghost use Rattle.page_cells.specs.Seen.{cells, frames_of, HasNoTree};
     ghost use Rattle.page_cells.specs.Tags.{is_parting, own_values, used};
 
     /// This number of places without pages, over this number of frames. The only error is out of memory.
@@ -49,6 +49,7 @@ impl PageCells {
         requires few_places { places ≤ MOST_PLACES }
         ensures cells { IfOk result (λ opened. cells opened ≡ replicate places no_pages) }
         ensures frames { IfOk result (λ opened. frames_of opened ≡ frames) }
+        ensures empty { IfOk result (λ opened. (i : ℕ) → HasNoTree opened i) }
     {
         let rows = Rows::open(alloc, frames, places)?;
         let kinds = no_kinds(alloc, places)?;

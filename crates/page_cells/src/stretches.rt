@@ -6,7 +6,7 @@ ghost use Rattle.page_cells.specs.declared.stretches.TheConstants.{MOST_STRETCHE
 ghost use Rattle.page_cells.specs.Cells.{no_pages, place_of};
 ghost use Rattle.page_cells.specs.Changes.{IsStretch, change_of, changed_place, kinds_after, sourced_kind};
 ghost use Rattle.page_cells.specs.Rows.{IsRowStretch, changed_row};
-ghost use Rattle.page_cells.specs.Seen.{cells, frames_of, free_nodes};
+ghost use Rattle.page_cells.specs.Seen.{cells, frames_of, free_nodes, HasNoTree};
 
 use crate::cells::PageCells;
 use arrayvec::ArrayVec;
@@ -85,8 +85,9 @@ fn fill_row<L: Ledger>(rows: &mut Rows, i: usize, stretches: &[Stretch], steps: 
     ensures maps { rows_seen.maps rows.new
         ≡ slice_set (rows_seen.maps rows.old) i (changed_row (rows_seen.maps rows.old) i stretches.now) }
     ensures frames { rows_seen.frames_of rows.new ≡ rows_seen.frames_of rows.old }
-    ensures nodes { rows_seen.free_nodes rows.old ≤ rows_seen.free_nodes rows.new + 3 * length stretches.now }
-    ensures cost { steps.new ≤ steps.old + 98 * length stretches.now }
+    ensures nodes { rows_seen.free_nodes rows.old ≤ rows_seen.free_nodes rows.new + (1 + 2 * length stretches.now) }
+    ensures cost { steps.new ≤ steps.old + (34 + 64 * length stretches.now) }
+    ensures cost_empty { rows_seen.HasNoTree rows.old i → steps.new ≤ steps.old + 64 * length stretches.now }
 {
     'stretches: for k in (0..stretches.len()).rev() {
         let stretch = stretches[k];
@@ -109,8 +110,9 @@ impl PageCells {
         ensures cells { cells self.new
             ≡ slice_set (cells self.old) i (changed_place (cells self.old) i stretches.now) }
         ensures frames { frames_of self.new ≡ frames_of self.old }
-        ensures nodes { free_nodes self.old ≤ free_nodes self.new + 3 * length stretches.now }
-        ensures cost { steps.new ≤ steps.old + 98 * length stretches.now }
+        ensures nodes { free_nodes self.old ≤ free_nodes self.new + (1 + 2 * length stretches.now) }
+        ensures cost { steps.new ≤ steps.old + (34 + 64 * length stretches.now) }
+        ensures cost_empty { HasNoTree self.old i → steps.new ≤ steps.old + 64 * length stretches.now }
     {
         let changes = changes_of(stretches);
         self.kinds[i].replace(changes.as_slice()).unwrap();
@@ -126,6 +128,7 @@ impl PageCells {
         ensures frames { frames_of self.new ≡ frames_of self.old }
         ensures nodes { free_nodes self.old ≤ free_nodes self.new }
         ensures cost { steps.new ≤ steps.old + 34 }
+        ensures cost_empty { HasNoTree self.old to → steps.new ≤ steps.old + 1 }
     {
         self.kinds[to] = self.kinds[from].copy();
         self.rows.clone_row(to, from, steps);
@@ -137,7 +140,9 @@ impl PageCells {
         ensures cells { cells self.new ≡ slice_set (cells self.old) i no_pages }
         ensures frames { frames_of self.new ≡ frames_of self.old }
         ensures nodes { free_nodes self.old ≤ free_nodes self.new }
+        ensures empty { HasNoTree self.new i }
         ensures cost { steps.new ≤ steps.old + 33 }
+        ensures cost_empty { HasNoTree self.old i → steps.new ≡ steps.old }
     {
         self.kinds[i] = RangeMap::empty();
         self.rows.drop_row(i, steps);

@@ -382,11 +382,11 @@ pub range_short-le : (nodes : List Node) (tree from to : ℕ) → range_short no
 range_short-le nodes tree from to =
     omega (arith, root_short-le nodes tree, cuts-le nodes tree from to)
 
-pub clear_short-le : (nodes : List Node) (tree from to : ℕ) → clear_short nodes tree from to ≤ 3
+pub clear_short-le : (nodes : List Node) (tree from to : ℕ) → clear_short nodes tree from to ≤ root_short nodes tree + 2
 clear_short-le nodes tree from to =
     ⊎_elim
-    (λ here. ⊎_elim (λ all. omega (arith, clear_short-all nodes tree from to here all)) (λ off. omega (arith, clear_short-some nodes tree from to (λ _ is. off is), range_short-le nodes tree from to)) (cases_eq to 1024))
-    (λ off. omega (arith, clear_short-some nodes tree from to (λ is _. off is), range_short-le nodes tree from to))
+    (λ here. ⊎_elim (λ all. omega (arith, clear_short-all nodes tree from to here all)) (λ off. omega (arith, clear_short-some nodes tree from to (λ _ is. off is), cuts-le nodes tree from to)) (cases_eq to 1024))
+    (λ off. omega (arith, clear_short-some nodes tree from to (λ is _. off is), cuts-le nodes tree from to))
     (cases_eq from 0)
 
 -- a root that is not short is held once

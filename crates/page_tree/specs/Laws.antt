@@ -17,7 +17,7 @@ pub record TreeLaws : Type 0 where
   pub page_takes : (nodes : List Node) (tree p : ℕ) → page_short nodes tree p ≤ 2
   pub range_takes : (nodes : List Node) (tree from to : ℕ) → range_short nodes tree from to ≤ root_short nodes tree + 2
   pub root_takes : (nodes : List Node) (tree : ℕ) → root_short nodes tree ≤ 1
-  pub clear_takes : (nodes : List Node) (tree from to : ℕ) → clear_short nodes tree from to ≤ 3
+  pub clear_takes : (nodes : List Node) (tree from to : ℕ) → clear_short nodes tree from to ≤ root_short nodes tree + 2
 
 -- the laws of all trees of a store: each is a tree, they take at most 33 nodes each, the held frames are those at pages, and a page's frame is elsewhere too where the way to the page is shared or the frame is held more than once
 pub record TiedLaws : Type 0 where

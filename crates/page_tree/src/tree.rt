@@ -1,4 +1,4 @@
-ghost use Rattle.std.specs.Prelude.{◌≡◌, ◌≢◌, ℕ, ◌+◌, ◌/◌, ◌^◌, ◌<◌, ◌≤◌, ◌↔◌, true};
+ghost use Rattle.std.specs.Prelude.{◌≡◌, ◌≢◌, ℕ, ◌+◌, ◌/◌, ◌^◌, ◌<◌, ◌≤◌, ◌⊎◌, ◌↔◌, true};
 ghost use Rattle.frame_pool.specs.Frame.{frame_count};
 ghost use Rattle.node_pool.specs.declared.pool.TheConstants.{NODE_ENTRIES};
 ghost use Rattle.node_pool.specs.Nodes.{free_of};
@@ -211,6 +211,8 @@ impl PageTree {
         requires free { clear_short store.old.nodes self.old range.from range.to ≤ free_of store.old.nodes }
 
         ensures all { range.from ≡ 0 → range.to ≡ PAGES → self.new ≡ 0 }
+        ensures alone { (self.new ≡ 0) ⊎ (root_short store.new.nodes self.new ≡ 0) }
+        ensures given_up { self.new ≡ 0 → free_of store.old.nodes ≤ free_of store.new.nodes }
         ensures short_before { (q : ℕ) → q < range.from →
             page_short store.new.nodes self.new q ≤ page_short store.old.nodes self.old q }
         ensures short_after { (q : ℕ) → range.to ≤ q → q < PAGES →
@@ -231,6 +233,8 @@ impl PageTree {
         ensures free { free_of store.old.nodes
             ≤ free_of store.new.nodes + clear_short store.old.nodes self.old range.from range.to }
         ensures cost { steps.new ≤ steps.old + 98 }
+        ensures cost_own { root_short store.old.nodes self.old ≡ 0 → steps.new ≤ steps.old + 64 }
+        ensures cost_empty { self.old ≡ 0 → steps.new ≤ steps.old + 35 }
         ensures cost_all { range.from ≡ 0 → range.to ≡ PAGES → steps.new ≤ steps.old + 33 }
         ensures cost_none { range.from ≡ 0 → range.to ≡ PAGES → self.old ≡ 0 → steps.new ≡ steps.old }
     {

@@ -1,4 +1,5 @@
-use Rattle.std.proofs.Common.{◌≡◌, ◌+◌, ◌-◌, ◌<◌, length, get_or, drop, set, refl, ap, ◌∙◌, arith, subst}
+use Rattle.std.proofs.Common.{◌≡◌, ℕ, ◌+◌, ◌-◌, ◌*◌, ◌<◌, ◌≤◌, ◌⊎◌, inl, inr, ⊎_elim, min, length, get_or, drop, set, refl, ap, ◌∙◌, arith, subst}
+use Rattle.std.proofs.lemmas.Bool.{cases_eq}
 use Rattle.cow_space.specs.Seen.{maps}
 use Rattle.page_cells.specs.declared.stretches.Source.TheVariants.{Absent, CopyOf}
 use Rattle.page_cells.specs.declared.stretches.Stretch.{Stretch}
@@ -12,9 +13,43 @@ stretches-init g c =
       maps = row-begin (maps c.args.rows.now) c.args.i (length c.args.stretches.now) c.args.stretches.now (omega arith);
       within = omega arith;
       frames = refl;
+      begins = λ _ none. none;
+      own = λ some. absurd (omega (arith, some));
       nodes = omega arith;
       cost = omega arith;
+      cost_empty = λ _. omega arith;
     }
+
+-- a loop has not begun, or is under way
+end-or-before : (k n : ℕ) → k ≤ n → (k ≡ n) ⊎ (k < n)
+end-or-before k n le = ⊎_elim (λ is. inl is) (λ off. inr (omega (arith, le, off))) (cases_eq k n)
+
+-- the nodes that one more stretch takes: the root is among them for the first one, or where the one before left no tree
+few-nodes : (j k n old mid new : ℕ) (None Own : Type 0) → j ≤ n → j ≡ k + 1 → (j < n → (None × (old ≤ mid + 2 * (n - j))) ⊎ Own) →
+    old ≤ mid + (min 1 (n - j) + 2 * (n - j)) → mid ≤ new + 3 → (Own → mid ≤ new + 2) → old ≤ new + (min 1 (n - k) + 2 * (n - k))
+few-nodes j k n old mid new None Own le next own so_far takes takes_own =
+    ⊎_elim
+    (λ first. omega (arith, first, so_far, takes, next))
+    (λ later. ⊎_elim (λ none. omega (arith, later, none.1, takes, next)) (λ alone. omega (arith, later, so_far, takes_own alone, next)) (own later))
+    (end-or-before j n le)
+
+-- the node steps of one more stretch: the first one may copy the root
+few-steps : (j k n old mid new : ℕ) (None Own Fewer : Type 0) → j ≤ n → j ≡ k + 1 → (j < n → (None × Fewer) ⊎ Own) →
+    mid ≤ old + (34 * min 1 (n - j) + 64 * (n - j)) → new ≤ mid + 98 → (None → new ≤ mid + 35) → (Own → new ≤ mid + 64) → new ≤ old + (34 * min 1 (n - k) + 64 * (n - k))
+few-steps j k n old mid new None Own Fewer le next own so_far takes takes_none takes_own =
+    ⊎_elim
+    (λ first. omega (arith, first, so_far, takes, next))
+    (λ later. ⊎_elim (λ none. omega (arith, later, so_far, takes_none none.0, next)) (λ alone. omega (arith, later, so_far, takes_own alone, next)) (own later))
+    (end-or-before j n le)
+
+-- and those where the row had no tree
+few-steps_empty : (j k n old mid new : ℕ) (None Own Fewer : Type 0) → j ≤ n → j ≡ k + 1 → (j ≡ n → None) → (j < n → (None × Fewer) ⊎ Own) →
+    mid ≤ old + 64 * (n - j) → (None → new ≤ mid + 35) → (Own → new ≤ mid + 64) → new ≤ old + 64 * (n - k)
+few-steps_empty j k n old mid new None Own Fewer le next begins own so_far takes_none takes_own =
+    ⊎_elim
+    (λ first. omega (arith, first, so_far, takes_none (begins first), next))
+    (λ later. ⊎_elim (λ none. omega (arith, later, so_far, takes_none none.0, next)) (λ alone. omega (arith, later, so_far, takes_own alone, next)) (own later))
+    (end-or-before j n le)
 
 none : Stretch
 none = record { range = record { from = 0; to = 0 }; source = Absent }
@@ -36,8 +71,11 @@ stretches-preserved-in-CopyOf g c =
           c.in-CopyOf.j c.in-CopyOf.is source.1 mine.maps;
       within = omega (arith, more);
       frames = mine.frames ∙ inv.frames;
-      nodes = omega (arith, mine.nodes, inv.nodes, next, more);
-      cost = omega (arith, mine.cost, inv.cost, next, more);
+      begins = λ is. absurd (omega (arith, is, more));
+      own = λ _. inr mine.own;
+      nodes = few-nodes c.stretches.k k (length stretches) _ _ _ _ _ inv.within next inv.own inv.nodes mine.nodes mine.nodes_own;
+      cost = few-steps c.stretches.k k (length stretches) _ _ _ _ _ _ inv.within next inv.own inv.cost mine.cost mine.cost_empty mine.cost_own;
+      cost_empty = λ alone. few-steps_empty c.stretches.k k (length stretches) _ _ _ _ _ _ inv.within next (λ first. inv.begins first alone) inv.own (inv.cost_empty alone) mine.cost_empty mine.cost_own;
     }
 
 pub stretches-preserved : goal.stretches-preserved
@@ -55,6 +93,12 @@ stretches-preserved g c =
           (no-value (maps c.args.rows.now) (get_or stretches k none).source c.in_default.not-CopyOf) mine.maps;
       within = omega (arith, more);
       frames = mine.frames ∙ inv.frames;
-      nodes = omega (arith, mine.nodes, inv.nodes, next, more);
-      cost = omega (arith, mine.cost, inv.cost, next, more);
+      begins = λ is. absurd (omega (arith, is, more));
+      own = λ _. ⊎_elim
+          (λ none. inl (none, omega (arith, inv.nodes, mine.given_up none, next, more)))
+          (λ alone. inr alone)
+          mine.own;
+      nodes = few-nodes c.stretches.k k (length stretches) _ _ _ _ _ inv.within next inv.own inv.nodes mine.nodes mine.nodes_own;
+      cost = few-steps c.stretches.k k (length stretches) _ _ _ _ _ _ inv.within next inv.own inv.cost mine.cost mine.cost_empty mine.cost_own;
+      cost_empty = λ alone. few-steps_empty c.stretches.k k (length stretches) _ _ _ _ _ _ inv.within next (λ first. inv.begins first alone) inv.own (inv.cost_empty alone) mine.cost_empty mine.cost_own;
     }

@@ -1,5 +1,5 @@
-use Rattle.std.proofs.Common.{◌≡◌, ◌≤◌, ◌+◌, ◌*◌, ◌-◌, drop, length, set}
-use Rattle.cow_space.specs.Seen.{maps, frames_of, free_nodes}
+use Rattle.std.proofs.Common.{◌≡◌, ◌<◌, ◌≤◌, ◌+◌, ◌*◌, ◌-◌, ◌⊎◌, drop, length, min, set}
+use Rattle.cow_space.specs.Seen.{maps, frames_of, free_nodes, HasNoTree, HasOwnRoot}
 use Rattle.page_cells.specs.Rows.{changed_row}
 use Rattle.page_cells.proofs.stretches.fill_row.Given as goal
 
@@ -8,6 +8,9 @@ invariant-stretches g l = record {
   maps : maps l.rows ≡ set (maps l.fn.rows) l.fn.i (changed_row (maps l.fn.rows) l.fn.i (drop l.k l.stretches));
   within : l.k ≤ length l.stretches;
   frames : frames_of l.rows ≡ frames_of l.fn.rows;
-  nodes : free_nodes l.fn.rows ≤ free_nodes l.rows + 3 * (length l.stretches - l.k);
-  cost : l.steps ≤ l.fn.steps + 98 * (length l.stretches - l.k);
+  begins : l.k ≡ length l.stretches → HasNoTree l.fn.rows l.fn.i → HasNoTree l.rows l.fn.i;
+  own : l.k < length l.stretches → (HasNoTree l.rows l.fn.i × (free_nodes l.fn.rows ≤ free_nodes l.rows + 2 * (length l.stretches - l.k))) ⊎ HasOwnRoot l.rows l.fn.i;
+  nodes : free_nodes l.fn.rows ≤ free_nodes l.rows + (min 1 (length l.stretches - l.k) + 2 * (length l.stretches - l.k));
+  cost : l.steps ≤ l.fn.steps + (34 * min 1 (length l.stretches - l.k) + 64 * (length l.stretches - l.k));
+  cost_empty : HasNoTree l.fn.rows l.fn.i → l.steps ≤ l.fn.steps + 64 * (length l.stretches - l.k);
 }

@@ -1,7 +1,8 @@
-use Rattle.std.proofs.Common.{arith}
-use Rattle.std.proofs.lemmas.List.{get_or_read}
+use Rattle.std.proofs.Common.{ap, ◌∙◌, sym, inl, inr, ⊎_elim, arith}
+use Rattle.std.proofs.lemmas.List.{get_or_read, get_or-set_same}
 use Rattle.page_tree.specs.declared.cell.PageCell.TheVariants.{Absent}
-use Rattle.cow_space.specs.Seen.{maps, frames_of, free_nodes}
+use Rattle.page_tree.specs.Steps.{root_short}
+use Rattle.cow_space.specs.Seen.{maps, frames_of, free_nodes, HasNoTree, HasOwnRoot}
 use Rattle.cow_space.proofs.Trees.{rows-in, kept-tree, kept-free, kept-set, maps-range}
 use Rattle.cow_space.proofs.rows.Rows.clear.Goals as goal
 
@@ -21,7 +22,8 @@ pub clear_range-requires-clause-free : goal.clear_range-requires-clause-free
 clear_range-requires-clause-free g c =
     let free = kept-free c.trees_account_for_their_store.ensures _ _ _ c.args.self.now.kept in
     let takes = c.a_change_takes_few_nodes.ensures.clear_takes c.args.self.now.store.nodes c.index_mut.result.now c.args.range.from c.args.range.to in
-    omega (arith, free, takes)
+    let root = c.a_change_takes_few_nodes.ensures.root_takes c.args.self.now.store.nodes c.index_mut.result.now in
+    omega (arith, free, takes, root)
 
 pub invariant_of-self : goal.invariant_of-self
 unfolding maps
@@ -48,4 +50,44 @@ pub returns-clause-nodes : goal.returns-clause-nodes
 unfolding free_nodes
 returns-clause-nodes g c =
     let takes = c.a_change_takes_few_nodes.ensures.clear_takes c.args.self.now.store.nodes c.index_mut.result.now c.args.range.from c.args.range.to in
-    omega (arith, takes, c.clear_range.ensures.free)
+    let root = c.a_change_takes_few_nodes.ensures.root_takes c.args.self.now.store.nodes c.index_mut.result.now in
+    omega (arith, takes, root, c.clear_range.ensures.free)
+
+pub returns-clause-own : goal.returns-clause-own
+unfolding HasOwnRoot HasNoTree maps
+returns-clause-own g c =
+    let inside = rows-in _ _ c.args.self.now.trees.items c.args.i c.requires.row in
+    let here = get_or-set_same c.args.self.now.trees.items c.args.i c.clear_range.new.self 0 inside in
+    ⊎_elim
+    (λ none. inl (here ∙ none))
+    (λ own. inr (ap (root_short c.clear_range.new.store.nodes) here ∙ own))
+    c.clear_range.ensures.alone
+
+pub returns-clause-nodes_own : goal.returns-clause-nodes_own
+unfolding free_nodes HasOwnRoot maps
+returns-clause-nodes_own g c = λ own.
+    let inside = rows-in _ _ c.args.self.now.trees.items c.args.i c.requires.row in
+    let left_is = get_or_read c.args.self.now.trees.items c.args.i _ inside c.index_mut.ensures.value 0 in
+    let takes = c.a_change_takes_few_nodes.ensures.clear_takes c.args.self.now.store.nodes c.index_mut.result.now c.args.range.from c.args.range.to in
+    let root = ap (root_short c.args.self.now.store.nodes) left_is ∙ own in
+    omega (arith, takes, root, c.clear_range.ensures.free)
+
+pub returns-clause-given_up : goal.returns-clause-given_up
+unfolding free_nodes HasNoTree maps
+returns-clause-given_up g c = λ none.
+    let inside = rows-in _ _ c.args.self.now.trees.items c.args.i c.requires.row in
+    c.clear_range.ensures.given_up (sym (get_or-set_same c.args.self.now.trees.items c.args.i c.clear_range.new.self 0 inside) ∙ none)
+
+pub returns-clause-cost_own : goal.returns-clause-cost_own
+unfolding HasOwnRoot maps
+returns-clause-cost_own g c = λ own.
+    let inside = rows-in _ _ c.args.self.now.trees.items c.args.i c.requires.row in
+    let left_is = get_or_read c.args.self.now.trees.items c.args.i _ inside c.index_mut.ensures.value 0 in
+    c.clear_range.ensures.cost_own (ap (root_short c.args.self.now.store.nodes) left_is ∙ own)
+
+pub returns-clause-cost_empty : goal.returns-clause-cost_empty
+unfolding HasNoTree maps
+returns-clause-cost_empty g c = λ none.
+    let inside = rows-in _ _ c.args.self.now.trees.items c.args.i c.requires.row in
+    let left_is = get_or_read c.args.self.now.trees.items c.args.i _ inside c.index_mut.ensures.value 0 in
+    c.clear_range.ensures.cost_empty (left_is ∙ none)

@@ -7,7 +7,7 @@ use Rattle.page_cells.specs.Cells.{all_cells}
 use Rattle.page_cells.specs.Changes.{change_of}
 use Rattle.page_cells.specs.Kept.{IsKept}
 use Rattle.page_cells.specs.Rows.{changed_row}
-use Rattle.page_cells.specs.Seen.{cells, frames_of, free_nodes}
+use Rattle.page_cells.specs.Seen.{cells, frames_of, free_nodes, HasNoTree}
 use Rattle.page_cells.proofs.Changed.{cells-changed, fit-changed, row-stretches, segments-after}
 use Rattle.page_cells.proofs.Places.{inside-kinds, kept-set, length-cells, set-cells}
 use Rattle.page_cells.proofs.Written.{is-ok, of-ok}
@@ -76,3 +76,7 @@ returns-clause-frames g c = c.fill_row.ensures.frames
 pub returns-clause-nodes : goal.returns-clause-nodes
 unfolding free_nodes
 returns-clause-nodes g c = c.fill_row.ensures.nodes
+
+pub returns-clause-cost_empty : goal.returns-clause-cost_empty
+unfolding HasNoTree
+returns-clause-cost_empty g c = c.fill_row.ensures.cost_empty

@@ -2,7 +2,7 @@ use Rattle.std.proofs.Common.{[], set, ap, ◌∙◌, arith}
 use Rattle.cow_space.specs.Seen.{maps}
 use Rattle.cow_space.specs.Maps as rows
 use Rattle.page_cells.specs.Cells.{all_cells}
-use Rattle.page_cells.specs.Seen.{cells, frames_of, free_nodes}
+use Rattle.page_cells.specs.Seen.{cells, frames_of, free_nodes, HasNoTree}
 use Rattle.page_cells.proofs.Places.{inside-kinds, length-cells, none-cells, set-cells}
 use Rattle.page_cells.proofs.cells.PageCells.clear_place.Goals as goal
 
@@ -31,3 +31,11 @@ returns-clause-frames g c = c.drop_row.ensures.frames
 pub returns-clause-nodes : goal.returns-clause-nodes
 unfolding free_nodes
 returns-clause-nodes g c = c.drop_row.ensures.nodes
+
+pub returns-clause-cost_empty : goal.returns-clause-cost_empty
+unfolding HasNoTree
+returns-clause-cost_empty g c = c.drop_row.ensures.cost_empty
+
+pub returns-clause-empty : goal.returns-clause-empty
+unfolding HasNoTree
+returns-clause-empty g c = c.drop_row.ensures.empty

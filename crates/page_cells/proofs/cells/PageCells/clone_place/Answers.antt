@@ -3,7 +3,7 @@ use Rattle.std.proofs.lemmas.List.{get_or_read}
 use Rattle.cow_space.specs.Seen.{maps}
 use Rattle.cow_space.specs.Maps.{row_of}
 use Rattle.page_cells.specs.Cells.{all_cells, segments_of}
-use Rattle.page_cells.specs.Seen.{cells, frames_of, free_nodes}
+use Rattle.page_cells.specs.Seen.{cells, frames_of, free_nodes, HasNoTree}
 use Rattle.page_cells.proofs.Places.{at-place, inside-kinds, length-cells, set-cells}
 use Rattle.page_cells.proofs.cells.PageCells.clone_place.Goals as goal
 
@@ -43,3 +43,7 @@ returns-clause-frames g c = c.clone_row.ensures.frames
 pub returns-clause-nodes : goal.returns-clause-nodes
 unfolding free_nodes
 returns-clause-nodes g c = c.clone_row.ensures.nodes
+
+pub returns-clause-cost_empty : goal.returns-clause-cost_empty
+unfolding HasNoTree
+returns-clause-cost_empty g c = c.clone_row.ensures.cost_empty

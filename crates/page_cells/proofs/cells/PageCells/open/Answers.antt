@@ -2,7 +2,7 @@ use Rattle.std.proofs.Common.{[], replicate, sym, ◌∙◌, subst}
 use Rattle.cow_space.specs.Seen.{maps}
 use Rattle.page_cells.specs.Cells.{all_cells}
 use Rattle.page_cells.specs.Kept.{IsKept}
-use Rattle.page_cells.specs.Seen.{cells, frames_of}
+use Rattle.page_cells.specs.Seen.{cells, frames_of, HasNoTree}
 use Rattle.page_cells.proofs.Places.{none-all, none-kept}
 use Rattle.page_cells.proofs.cells.PageCells.open.Goals as goal
 
@@ -21,3 +21,7 @@ returns-clause-cells c =
 pub returns-clause-frames : goal.returns-clause-frames
 unfolding frames_of
 returns-clause-frames c = c.in_ok-rows.ensures.frames
+
+pub returns-clause-empty : goal.returns-clause-empty
+unfolding HasNoTree
+returns-clause-empty c = c.in_ok-rows.ensures.empty

@@ -1,7 +1,9 @@
-use Rattle.std.proofs.Common.{◌∙◌, inl, inr, arith}
+use Rattle.std.proofs.Common.{◌∙◌, inl, inr, sym, ap, arith}
 use Rattle.page_tree.proofs.PageLemmas.{page-none, pages-within, pages-before, pages-after, short-outside, short-cut, cut-not_all}
 use Rattle.page_tree.proofs.PageLemmas.{pages-other}
+use Rattle.page_tree.specs.Steps.{tree_of}
 use Rattle.page_tree.proofs.EntriesLemmas.{kept-entries}
+use Rattle.page_tree.proofs.ShortLemmas.{root_short-own}
 use Rattle.page_tree.proofs.tree.PageTree.clear_range.Goals as goal
 
 pub returns-in-Some-clause-within : goal.returns-in-Some-clause-within
@@ -50,3 +52,9 @@ returns-in-Some-clause-cut g c = λ q cut. absurd (cut-not_all c.args.range.from
 
 pub returns-in_default-clause-cut : goal.returns-in_default-clause-cut
 returns-in_default-clause-cut g c = λ q cut. absurd (cut-not_all c.args.range.from c.args.range.to q (omega arith) (omega arith) cut)
+
+pub returns-else-first-eq0-clause-alone : goal.returns-else-first-eq0-clause-alone
+returns-else-first-eq0-clause-alone g c = inr (root_short-own _ _ c.share_pages.ensures.shares.own)
+
+pub returns-in_default-clause-alone : goal.returns-in_default-clause-alone
+returns-in_default-clause-alone g c = inl (sym c.self.view_is ∙ ap tree_of c.in_default.is)
