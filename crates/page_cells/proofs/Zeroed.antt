@@ -43,3 +43,12 @@ zeros-new n cells after s tag begun changed some zeros = λ k q bytes is.
     by q true bytes is = let value : cell.Own (Some Zero) ≡ cell.Own (Some (Data tag bytes)) = ap (λ source. sourced_cell cells source q) (sym zeros) ∙ is in cc
     by q false bytes is =
         let value : no_pages q ≡ cell.Own (Some (Data tag bytes)) = sym (ap (λ (place : Place). place q) (ap (λ cs. place_of cs 0) begun ∙ none-place n 0)) ∙ is in cc
+
+-- a clone has no tag that no place has
+pub clone-new : (cells : List Place) (to from : ℕ) (tag : Tag) → to < length cells → IsNewTag cells tag → IsNewTag (set cells to (place_of cells from)) tag
+clone-new cells to from tag inside new = λ k q bytes is.
+    ⊎_elim
+    (λ here. new from q bytes
+    (sym (ap (λ (place : Place). place q) (ap (place_of (set cells to (place_of cells from))) here ∙ get_or-set_same cells to (place_of cells from) no_pages inside)) ∙ is))
+    (λ off. new k q bytes (sym (ap (λ (place : Place). place q) (get_or-set_other cells to k (place_of cells from) no_pages off)) ∙ is))
+    (cases_eq k to)

@@ -1,7 +1,9 @@
-ghost use Rattle.std.specs.Prelude.{◌≡◌, ℕ, ◌<◌, ◌≤◌, All, IfOk, length, slice_set};
+ghost use Rattle.std.specs.Prelude.{◌≡◌, ◌≢◌, ℕ, ◌+◌, ◌<◌, ◌≤◌, All, IfOk, length, slice_set};
 ghost use Rattle.page_cells.specs.declared.stretches.TheConstants.{MOST_STRETCHES};
+ghost use Rattle.page_cells.specs.Cells.{place_of};
 ghost use Rattle.page_cells.specs.Changes.{IsStretch, changed_place};
-ghost use Rattle.page_cells.specs.Seen.{cells};
+ghost use Rattle.page_cells.specs.Seen.{cells, free_nodes};
+ghost use Rattle.page_cells.specs.Tags.{IsNewTag};
 
 use super::*;
 use lwc_base::{MOST_RANGES, Name, Range, Tag};
@@ -114,7 +116,83 @@ fn try_places<L: Ledger>(rt: &impl Abort, alloc: Global, blank: Blank) -> Result
     Ok(())
 }
 
+/// Two places, of which the first has all pages, and has stored to each.
+fn stored_to<L: Ledger>(
+    rt: &impl Abort,
+    alloc: Global,
+    steps: &mut Steps<L>,
+) -> Result<PageCells, Fail>
+    ensures { IfOk result (λ places. (k : ℕ) → 1024 ≤ k → IsNewTag (cells places) (record { job = 1; k = k })) }
+{
+    let mut places = PageCells::open(alloc, 1025, 2)?;
+    assert_eq!(rt; places.len(), 2);
+    change(
+        rt,
+        &mut places,
+        0,
+        &[stretch(0, 1024, Source::Zeros)],
+        steps,
+    );
+    'pages: for p in 0..1024u16 {
+        let Some(SegmentKind::Own) = places.kind(0, p) else {
+            return Err("each page is the place's own")?;
+        };
+        let tag = Tag {
+            job: 1,
+            k: p as u32,
+        };
+        places.write(0, p, p as u32 * 4096 + 7, &[(p % 251) as u8], tag, steps)?;
+    }
+    Ok(places)
+}
+
+/// Clones a place: it takes few node steps and few nodes, however many pages the place has stored to.
+fn clone<L: Ledger>(places: &mut PageCells, to: usize, from: usize, steps: &mut Steps<L>)
+    requires to { to < length (cells places.old) }
+    requires from { from < length (cells places.old) }
+    requires apart { from ≢ to }
+    ensures cells { cells places.new ≡ slice_set (cells places.old) to (place_of (cells places.old) from) }
+    ensures nodes { free_nodes places.old ≤ free_nodes places.new + 3 }
+    ensures cost { steps.new ≤ steps.old + 64 }
+{
+    places.clone_place(to, from, steps);
+}
+
+/// Clones a place that has stored to all its pages, and stores to one page of the clone.
+fn try_clone<L: Ledger>(rt: &impl Abort, alloc: Global, blank: Blank) -> Result<(), Fail>
+    requires name { blank.name ≡ L.name }
+    requires parts { blank.parts ≡ L.parts }
+    requires some { 0 < blank.parts }
+{
+    let mut steps = Steps::<L>::new(blank);
+    let mut places = stored_to(rt, alloc, &mut steps)?;
+    assert_eq!(rt; places.len(), 2);
+    assert_eq!(rt; (places.count(0), places.used()), (1, 1024));
+    clone(&mut places, 1, 0, &mut steps);
+    assert_eq!(rt; places.len(), 2);
+    assert_eq!(rt; (places.count(1), places.used()), (1, 1024));
+    let Some(SegmentKind::Own) = places.kind(1, 500) else {
+        return Err("page 500 is the clone's own")?;
+    };
+    let tag = Tag { job: 1, k: 1024 };
+    let parted = places.write(1, 500, 500 * 4096 + 7, &[9], tag, &mut steps);
+    assert_eq!(rt; parted, Ok(true));
+    assert_eq!(rt; (places.len(), places.used()), (2, 1025));
+    let kept = places.bytes(0, 500).ok_or("page 500 has bytes")?;
+    let stored = places
+        .bytes(1, 500)
+        .ok_or("page 500 of the clone has bytes")?;
+    assert_eq!(rt; (kept.len(), stored.len()), (4096, 4096));
+    assert_eq!(rt; (kept[7], stored[7]), (249, 9));
+    Ok(())
+}
+
 #[test]
 fn places_share_pages_until_they_drop_them(rt: HostRuntime) -> Result<(), Fail> {
     try_places::<Brand>(&rt, rt.alloc(), Blank::new(1))
+}
+
+#[test]
+fn a_clone_shares_all_pages_until_it_stores_to_one(rt: HostRuntime) -> Result<(), Fail> {
+    try_clone::<Brand>(&rt, rt.alloc(), Blank::new(1))
 }
