@@ -5,12 +5,13 @@ use Rattle.pool_base.proofs.Totals.{total, total-same, total-zero, total-list, t
 use Rattle.frame_pool.specs.Frame.{Frame, frame_count}
 use Rattle.node_pool.specs.Nodes.{Node, no_node, node_at, count_of, level_of, entry_of}
 use Rattle.page_tree.specs.declared.cell.PageCell.TheVariants as cell
-use Rattle.page_tree.specs.Pages.{page, cell_at, entries_of, link_of}
+use Rattle.page_tree.specs.Pages.{page, cell_of, cell_at, entries_of, link_of}
 use Rattle.page_tree.specs.Short.{page_short}
 use Rattle.page_tree.specs.Sound.{IsSound, one_if, uses_in, uses, trees_at, is_root}
 use Rattle.page_tree.specs.Steps.{root_short, leaf_short, IsOwned}
 use Rattle.page_tree.specs.Tied.{IsTied, HasElsewhere, IsElsewhere, page_of}
-use Rattle.page_tree.proofs.KeepsLemmas.{trees-is, trees-root, link_of-tree}
+use Rattle.page_tree.proofs.TwoLevels.{entry-below, link_of-tree, two-levels}
+use Rattle.page_tree.proofs.KeepsLemmas.{trees-is, trees-root}
 use Rattle.page_tree.proofs.RootLemmas.{root_short-shared}
 use Rattle.page_tree.proofs.ShortLemmas.{root_short-own, leaf_short-alone, leaf_short-shared}
 use Rattle.page_tree.proofs.UsesLemmas.{one_if-yes, one_if-no, uses_in-yes, uses_in-no, uses-two, inside-level}
@@ -50,7 +51,7 @@ used-from nodes level e n j some =
 module _ (nodes : List Node) (frames : List Frame) (trees : List ℕ) (k p f : ℕ) (tied : IsTied nodes frames trees) (k_in : k < length trees) (p_in : p < 1024) (is : page_of nodes trees k p ≡ cell.Frame (record { n = f })) where
   lead-of : (a b : ℕ) → page_of nodes trees a b ≡ cell.Frame (record { n = f }) → Leads nodes (get_or trees a 0) (b / 32) (b % 32) (f + 2)
   unfolding page
-  lead-of a b at = leads-from nodes (get_or trees a 0) (b / 32) (b % 32) (f + 2) (entry-of_cell _ f at) (omega arith)
+  lead-of a b at = leads-from nodes (get_or trees a 0) (b / 32) (b % 32) (f + 2) (sym (entry-below nodes (get_or trees a 0) b) ∙ entry-of_cell _ f at) (omega arith)
 
   lead : Leads nodes (get_or trees k 0) (p / 32) (p % 32) (f + 2)
   lead = lead-of k p is
@@ -62,7 +63,7 @@ module _ (nodes : List Node) (frames : List Frame) (trees : List ℕ) (k p f : �
   root_level = trees-root nodes lead.root root_held
 
   leaf_level : level_of nodes lead.leaf ≡ 1
-  leaf_level = tied.sound.leaves lead.root (p / 32) lead.leaf root_level lead.link
+  leaf_level = (two-levels tied.sound).leaves lead.root (p / 32) lead.leaf root_level lead.link
 
   -- where the way is not shared, its root and its leaf are held once
   root_once : page_short nodes (get_or trees k 0) p ≡ 0 → count_of nodes lead.root ≡ 1
@@ -111,7 +112,7 @@ module _ (nodes : List Node) (frames : List Frame) (trees : List ℕ) (k p f : �
       let there = lead-of a b elsewhere.other.has in
       let there_root = root-there nodes frames trees tied a there.root elsewhere.other.inside there.is_tree in
       let there_level = trees-root nodes there.root there_root in
-      let there_leaf = tied.sound.leaves there.root (b / 32) there.leaf there_level there.link in
+      let there_leaf = (two-levels tied.sound).leaves there.root (b / 32) there.leaf there_level there.link in
       let first = used-yes nodes 1 (f + 2) lead.leaf (p % 32) leaf_level lead.entry in
       let second = used-yes nodes 1 (f + 2) there.leaf (b % 32) there_leaf there.entry in
       let apart : IsElsewhere lead.leaf (p % 32) there.leaf (b % 32) =
@@ -120,7 +121,7 @@ module _ (nodes : List Node) (frames : List Frame) (trees : List ℕ) (k p f : �
         leaf,
         (λ place.
             let entries : entry_of nodes lead.root (p / 32) ≡ entry_of nodes there.root (b / 32) = lead.link ∙ ap (λ n. n + 1) (sym leaf) ∙ sym there.link in
-            let row : p / 32 ≡ b / 32 = tied.sound.placed lead.root there.root (p / 32) (b / 32) root_level there_level entries (omega (arith, lead.link)) in
+            let row : p / 32 ≡ b / 32 = (two-levels tied.sound).placed lead.root there.root (p / 32) (b / 32) root_level there_level entries (omega (arith, lead.link)) in
             let page_same : b ≡ p = omega (arith, row, place) in
             ⊎_elim
             (λ root.
@@ -136,7 +137,7 @@ module _ (nodes : List Node) (frames : List Frame) (trees : List ℕ) (k p f : �
             (λ at. at.1 page_same)
             elsewhere.elsewhere)
             (λ root_off.
-            let counted = tied.sound.counted lead.leaf leaf_level in
+            let counted = (two-levels tied.sound).counted lead.leaf leaf_level in
             let two = uses-two 2 nodes lead.root there.root (p / 32) (b / 32) (lead.leaf + 1) (omega arith) root_level there_level lead.link (there.link ∙ ap (λ n. n + 1) leaf) (omega arith) (λ r. root_off (sym r)) in
             omega (arith, counted, two, leaf_once alone))
             (cases_eq there.root lead.root)),
@@ -169,7 +170,7 @@ module _ (nodes : List Node) (frames : List Frame) (trees : List ℕ) (k p f : �
   leaf-elsewhere : (other i : ℕ) → other ≢ lead.root → level_of nodes other ≡ 2 → entry_of nodes other i ≡ lead.leaf + 1 → HasElsewhere nodes trees k p f
   unfolding page
   leaf-elsewhere other i off level link =
-      let row : p / 32 ≡ i = tied.sound.placed lead.root other (p / 32) i root_level level (lead.link ∙ sym link) (omega (arith, lead.link)) in
+      let row : p / 32 ≡ i = (two-levels tied.sound).placed lead.root other (p / 32) i root_level level (lead.link ∙ sym link) (omega (arith, lead.link)) in
       let held = held-level nodes frames trees tied other i (lead.leaf + 1) link (omega arith) in
       let trees_is = trees-is nodes other level in
       let rooted = tied.rooted other in
@@ -178,14 +179,15 @@ module _ (nodes : List Node) (frames : List Frame) (trees : List ℕ) (k p f : �
       let same = tree-of_root other at.0 at.1.1 in
       tree-elsewhere at.0 at.1.0
       (λ a_is. off (let one = sym same ∙ ap (λ a. get_or trees a 0) a_is ∙ lead.is_tree in omega (arith, one)))
-      (cell_of-entry (cell_at nodes (get_or trees at.0 0) (p / 32) (p % 32)) f
+      (ap (λ e. cell_of e) (entry-below nodes (get_or trees at.0 0) p)
+      ∙ cell_of-entry (cell_at nodes (get_or trees at.0 0) (p / 32) (p % 32)) f
       (ap (λ t. cell_at nodes t (p / 32) (p % 32)) same ∙ leads-to nodes other lead.leaf (p / 32) (p % 32) (ap (λ x. entry_of nodes other x) row ∙ link) ∙ lead.entry))
 
   -- where the way to a page is shared its frame is elsewhere too
   shared-elsewhere : page_short nodes (get_or trees k 0) p ≢ 0 → HasElsewhere nodes trees k p f
   shared-elsewhere short =
       let trees_is = trees-is nodes lead.root root_level in
-      let leaf_held = tied.sound.held lead.root (p / 32) lead.leaf root_level lead.link in
+      let leaf_held = (two-levels tied.sound).held lead.root (p / 32) lead.leaf root_level lead.link in
       ⊎_elim
       (λ once.
       let own : IsOwned nodes lead.root = record { level = root_level; once = once } in
@@ -193,13 +195,13 @@ module _ (nodes : List Node) (frames : List Frame) (trees : List ℕ) (k p f : �
       ⊎_elim
       (λ leaf_one. absurd (short (let leaf_alone = ap (λ t. leaf_short nodes t (p / 32)) lead.is_tree ∙ leaf_short-alone nodes lead.root (p / 32) lead.leaf own lead.link leaf_one in omega (arith, root_alone, leaf_alone))))
       (λ more.
-      let counted = tied.sound.counted lead.leaf leaf_level in
+      let counted = (two-levels tied.sound).counted lead.leaf leaf_level in
       let sums = uses-total nodes frames 2 (lead.leaf + 1) tied.sound in
       let yes = used-yes nodes 2 (lead.leaf + 1) lead.root (p / 32) root_level lead.link in
       let off = total2-other (used_at nodes 2 (lead.leaf + 1)) (length nodes) 32 lead.root (p / 32) (inside-level nodes lead.root (omega (arith, root_level))) (omega (arith, p_in)) (omega (arith, yes)) (omega (arith, more, counted, sums, leaf_held)) in
       let at = used-from nodes 2 (lead.leaf + 1) off.c off.d off.some in
       leaf-elsewhere off.c off.d
-      (λ same. ⊎_elim (λ c_off. c_off same) (λ d_off. d_off.1 (sym (tied.sound.placed lead.root off.c (p / 32) off.d root_level at.0 (lead.link ∙ sym at.1) (omega (arith, lead.link))))) off.apart)
+      (λ same. ⊎_elim (λ c_off. c_off same) (λ d_off. d_off.1 (sym ((two-levels tied.sound).placed lead.root off.c (p / 32) off.d root_level at.0 (lead.link ∙ sym at.1) (omega (arith, lead.link))))) off.apart)
       at.0 at.1)
       (cases_eq (count_of nodes lead.leaf) 1))
       (λ more. root-elsewhere (omega (arith, more, root_held, trees_is)))

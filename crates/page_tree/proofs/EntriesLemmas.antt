@@ -8,8 +8,9 @@ use Rattle.node_pool.specs.Nodes.{Node, node_at, count_of, level_of, entry_of, e
 use Rattle.page_tree.specs.Pages.{entries_of, link_of}
 use Rattle.page_tree.specs.Sound.{uses_in, uses, one_if, trees_at, IsSound}
 use Rattle.page_tree.specs.Changes.{KeepsTrees, KeepsShared}
+use Rattle.page_tree.proofs.TwoLevels.{keeps-leaf, keeps-root, link_of-tree, two-levels}
 use Rattle.page_tree.proofs.UsesLemmas.{one_if-yes, one_if-no, one_if-le, uses_in-yes, uses_in-no, uses-enter, inside-count, inside-entries}
-use Rattle.page_tree.proofs.KeepsLemmas.{trees-is, link_of-tree}
+use Rattle.page_tree.proofs.KeepsLemmas.{trees-is}
 use Rattle.page_tree.proofs.RawLemmas.{at-here, at-there}
 use Rattle.page_tree.proofs.SoundLemmas.{level-cases}
 
@@ -57,7 +58,7 @@ module _ (old new : List Node) (frames : List Frame) (tree came : ℕ) (sound : 
       let step = uses-enter 2 old q i 0 (n + 1) inside level wide in
       let yes = one_if-yes (entry_of old q i) (n + 1) leads in
       let no = one_if-no 0 (n + 1) (λ is. absurd (omega (arith, is))) in
-      let at = uses-find 2 (enter old q i 0) (n + 1) (omega (arith, step, yes, no, sound.counted n leaf, more)) in
+      let at = uses-find 2 (enter old q i 0) (n + 1) (omega (arith, step, yes, no, (two-levels sound).counted n leaf, more)) in
       let node = entered (node_at old q) i 0 in
       let off : at.0 ≢ q = λ is.
       let here = ap (λ y. y.entries) (ap (λ x. node_at (enter old q i 0) x) is ∙ at-here old q node inside) in
@@ -66,7 +67,7 @@ module _ (old new : List Node) (frames : List Frame) (tree came : ℕ) (sound : 
       (λ same. let z = ap (λ x. get_or (set (entries_of old q) i 0) x 0) same ∙ get_or-set_same (entries_of old q) i 0 0 wide in absurd (omega (arith, z, entry)))
       (λ apart.
       let was : entry_of old q at.1 ≡ n + 1 = sym (get_or-set_other (entries_of old q) i at.1 0 0 apart) ∙ entry in
-      absurd (apart (sound.placed q q at.1 i level level (was ∙ sym leads) (omega (arith, was)))))
+      absurd (apart ((two-levels sound).placed q q at.1 i level level (was ∙ sym leads) (omega (arith, was)))))
       (cases_eq at.1 i) in
       let same = at-there old q at.0 node off in
       (at.0, at.1, off, sym (ap (λ y. y.level) same) ∙ at.2, sym (ap (λ y. get_or y.entries at.1 0) same) ∙ at.3)
@@ -75,7 +76,7 @@ module _ (old new : List Node) (frames : List Frame) (tree came : ℕ) (sound : 
   kept-entries = λ n held why.
       ⊎_elim
       (λ leaf.
-      let at = uses-find 2 old (n + 1) (omega (arith, sound.counted n leaf, held)) in
+      let at = uses-find 2 old (n + 1) (omega (arith, (two-levels sound).counted n leaf, held)) in
       let some = root-held at.0 at.1 n at.2 at.3 in
       ⊎_elim
       (λ mine.
@@ -84,15 +85,15 @@ module _ (old new : List Node) (frames : List Frame) (tree came : ℕ) (sound : 
       let other = other-root at.0 at.1 n at.2 at.3 leaf more in
       let there = root-held other.0 other.1 n other.3 other.4 in
       let none = one_if-no tree (other.0 + 1) (λ is. other.2 (omega (arith, is, mine))) in
-      keeps.leaf other.0 other.1 n (omega (arith, there, none)) other.4)
-      (λ away. absurd (away (inr (at.1, ap (λ x. link_of old x at.1) mine ∙ link_of-tree old at.0 at.1 ∙ at.3))))
+      keeps-leaf keeps other.0 other.1 n (omega (arith, there, none)) other.4)
+      (λ away. absurd (away (inr (at.1, inl (ap (λ x. link_of old x at.1) mine ∙ link_of-tree old at.0 at.1 ∙ at.3)))))
       why)
-      (λ off. let none = one_if-no tree (at.0 + 1) off in keeps.leaf at.0 at.1 n (omega (arith, some, none)) at.3)
+      (λ off. let none = one_if-no tree (at.0 + 1) off in keeps-leaf keeps at.0 at.1 n (omega (arith, some, none)) at.3)
       (cases_eq tree (at.0 + 1)))
       (λ root.
       let trees = trees-is old n root in
       ⊎_elim
-      (λ more. let one = one_if-le (eqb tree (n + 1)) in keeps.root n (omega (arith, trees, more, one)))
-      (λ away. let none = one_if-no tree (n + 1) (λ is. away (inl is)) in keeps.root n (omega (arith, trees, held, none)))
+      (λ more. let one = one_if-le (eqb tree (n + 1)) in keeps-root keeps n (omega (arith, trees, more, one)))
+      (λ away. let none = one_if-no tree (n + 1) (λ is. away (inl is)) in keeps-root keeps n (omega (arith, trees, held, none)))
       why)
       (level-cases (level_of old n) (sound.levels n held))

@@ -8,7 +8,8 @@ use Rattle.page_tree.specs.declared.cell.PageCell.TheVariants.{Absent, Zero}
 use Rattle.page_tree.specs.declared.cell.PageCell.TheVariants as cell
 use Rattle.page_tree.specs.Pages.{page, cell_of, cell_at, link_of, entries_of, entry_for}
 use Rattle.page_tree.specs.Sound.{one_if, uses_in, uses, trees_at, is_root, IsTree}
-use Rattle.page_tree.proofs.KeepsLemmas.{trees-is, trees-root, zero_or_more, link_of-tree, cell_at-none, cell_at-leaf}
+use Rattle.page_tree.proofs.TwoLevels.{entry-below, link_of-tree, two-levels}
+use Rattle.page_tree.proofs.KeepsLemmas.{trees-is, trees-root, zero_or_more, cell_at-none, cell_at-leaf}
 use Rattle.page_tree.proofs.UsesLemmas.{one_if-yes, one_if-no, one_if-le, uses_in-yes, uses_in-no, uses-some}
 use Rattle.page_tree.specs.Tied.{having, IsTied, HasFrame}
 use Rattle.pool_base.proofs.Totals.{total-list, total-some, none_or_some}
@@ -70,7 +71,7 @@ unfolding page
 page-has nodes i j f tree lt at =
     let first : (i * 32 + j) / 32 ≡ i = omega (arith, lt) in
     let second : (i * 32 + j) % 32 ≡ j = omega (arith, lt) in
-    cell_of-entry (cell_at nodes tree ((i * 32 + j) / 32) ((i * 32 + j) % 32)) f ((λ x. cell_at nodes tree (first x) (second x)) ∙ at)
+    ap (λ e. cell_of e) (entry-below nodes tree (i * 32 + j)) ∙ cell_of-entry (cell_at nodes tree ((i * 32 + j) / 32) ((i * 32 + j) % 32)) f ((λ x. cell_at nodes tree (first x) (second x)) ∙ at)
 
 module _ (nodes : List Node) (frames : List Frame) (trees : List ℕ) (tied : IsTied nodes frames trees) where
   -- a tree of the trees is empty or has a held root
@@ -84,10 +85,10 @@ module _ (nodes : List Node) (frames : List Frame) (trees : List ℕ) (tied : Is
   pub held-from_tree : (k p f : ℕ) → k < length trees → page nodes (get_or trees k 0) p ≡ cell.Frame (record { n = f }) → 0 < frame_count frames f
   unfolding page
   held-from_tree k p f lt is =
-      let leads = leads-from nodes (get_or trees k 0) (p / 32) (p % 32) (f + 2) (entry-of_cell _ f is) (omega arith) in
+      let leads = leads-from nodes (get_or trees k 0) (p / 32) (p % 32) (f + 2) (sym (entry-below nodes (get_or trees k 0) p) ∙ entry-of_cell _ f is) (omega arith) in
       let there = root-there k leads.root lt leads.is_tree in
       let level = trees-root nodes leads.root there in
-      let leaf = tied.sound.leaves leads.root (p / 32) leads.leaf level leads.link in
+      let leaf = (two-levels tied.sound).leaves leads.root (p / 32) leads.leaf level leads.link in
       let named = uses-some 1 nodes leads.leaf (p % 32) (f + 2) (omega arith) leaf leads.entry (omega arith) in
       let exact = tied.exact f in
       omega (arith, named, exact)
@@ -121,7 +122,7 @@ module _ (nodes : List Node) (frames : List Frame) (trees : List ℕ) (tied : Is
 
   above-leaf : (leaf : ℕ) → level_of nodes leaf ≡ 1 → 0 < count_of nodes leaf → Above leaf
   above-leaf leaf level held =
-      let counted = tied.sound.counted leaf level in
+      let counted = (two-levels tied.sound).counted leaf level in
       let at = entry-used 2 (leaf + 1) (omega (arith, counted, held)) in
       record { root = at.0; i = at.1.0; level = at.1.1.0; below = at.1.1.1.0; link = at.1.1.1.1 }
 
@@ -160,7 +161,7 @@ module _ (nodes : List Node) (frames : List Frame) (trees : List ℕ) (tied : Is
   pub holder-of_spot : (leaf j f : ℕ) (s : Spot leaf j) → entry_of nodes leaf j ≡ f + 2 → page nodes (get_or trees s.k 0) s.p ≡ cell.Frame (record { n = f })
   unfolding page
   holder-of_spot leaf j f s is =
-      cell_of-entry (cell_at nodes (get_or trees s.k 0) (s.p / 32) (s.p % 32)) f (cell_at-leaf nodes (get_or trees s.k 0) (s.p / 32) (s.p % 32) leaf s.link ∙ ap (λ m. entry_of nodes leaf m) s.place ∙ is)
+      ap (λ e. cell_of e) (entry-below nodes (get_or trees s.k 0) s.p) ∙ cell_of-entry (cell_at nodes (get_or trees s.k 0) (s.p / 32) (s.p % 32)) f (cell_at-leaf nodes (get_or trees s.k 0) (s.p / 32) (s.p % 32) leaf s.link ∙ ap (λ m. entry_of nodes leaf m) s.place ∙ is)
 
   pub holder-of_leaf : (leaf j f : ℕ) → level_of nodes leaf ≡ 1 → j < 32 → entry_of nodes leaf j ≡ f + 2 → HasFrame nodes trees f
   holder-of_leaf leaf j f level below is =

@@ -3,10 +3,11 @@ use Rattle.std.proofs.Common.{◌≡◌, ◌≢◌, ℕ, zero, suc, ◌+◌, ◌
 use Rattle.std.proofs.lemmas.Bool.{cases_eq, eq-eqb, ne_eqb, cond-true, cond-false}
 use Rattle.frame_pool.specs.Frame.{Frame, frame_count, frame_stamp, frame_bytes}
 use Rattle.node_pool.specs.Nodes.{Node, count_of, level_of, entry_of}
-use Rattle.page_tree.specs.Pages.{entries_of, link_of, cells_of, cell_at}
+use Rattle.page_tree.specs.Pages.{entries_of, link_of, cell_at}
 use Rattle.page_tree.specs.Sound.{uses, trees_at, is_root, IsSound}
 use Rattle.page_tree.specs.Changes.{KeepsTrees, KeepsFrames, Keeps}
 use Rattle.page_tree.proofs.UsesLemmas.{one_if-yes, one_if-no}
+use Rattle.page_tree.proofs.TwoLevels.{keeps-leaf, keeps-root, link_of-tree, reached-two, two-levels}
 use Rattle.page_tree.proofs.SoundLemmas.{IsRelink, CanRelink, IsRerooted, IsWrite, IsSound-relink, IsSound-reroot, IsSound-write, root-not_led_to, once-one}
 
 pub trees-is : (nodes : List Node) (n : ℕ) → level_of nodes n ≡ 2 → trees_at nodes n ≡ count_of nodes n
@@ -47,15 +48,16 @@ other-apart nodes n x once other is =
     omega (arith, here, same, trees, trees-le nodes n, once, other)
 
 pub KeepsTrees-refl : (nodes : List Node) (tree : ℕ) → KeepsTrees nodes nodes tree tree
-KeepsTrees-refl nodes tree = record { size = refl; roots = λ n. refl; root = λ n _. refl; leaf = λ n i m _ _. refl }
+KeepsTrees-refl nodes tree = record { size = refl; roots = λ n. refl; reached = λ t n _ _. refl }
 
 pub KeepsTrees-trans : (a b d : List Node) (l c e : ℕ) → KeepsTrees a b l c → KeepsTrees b d c e → KeepsTrees a d l e
 KeepsTrees-trans a b d l c e ab bd =
     record {
       size = bd.size ∙ ab.size;
       roots = λ n. omega (arith, ab.roots n, bd.roots n);
-      root = λ n other. bd.root n (omega (arith, ab.roots n, other)) ∙ ab.root n other;
-      leaf = λ n i m other is. bd.leaf n i m (omega (arith, ab.roots n, other)) (ap (λ es. get_or es i 0) (ab.root n other) ∙ is) ∙ ab.leaf n i m other is;
+      reached = reached-two a d l
+          (λ n other. keeps-root bd n (omega (arith, ab.roots n, other)) ∙ keeps-root ab n other)
+          (λ n i m other is. keeps-leaf bd n i m (omega (arith, ab.roots n, other)) (ap (λ es. get_or es i 0) (keeps-root ab n other) ∙ is) ∙ keeps-leaf ab n i m other is);
     }
 
 -- a new tree comes first, and then the old one goes
@@ -66,8 +68,9 @@ KeepsTrees-swap a b d l c ab bd =
     record {
       size = bd.size ∙ ab.size;
       roots = λ n. omega (arith, ab.roots n, bd.roots n, is_root-none n);
-      root = λ n other. bd.root n (two n other) ∙ ab.root n (one n other);
-      leaf = λ n i m other is. bd.leaf n i m (two n other) (ap (λ es. get_or es i 0) (ab.root n (one n other)) ∙ is) ∙ ab.leaf n i m (one n other) is;
+      reached = reached-two a d l
+          (λ n other. keeps-root bd n (two n other) ∙ keeps-root ab n (one n other))
+          (λ n i m other is. keeps-leaf bd n i m (two n other) (ap (λ es. get_or es i 0) (keeps-root ab n (one n other)) ∙ is) ∙ keeps-leaf ab n i m (one n other) is);
     }
 
 pub KeepsFrames-refl : (nodes : List Node) (frames : List Frame) → KeepsFrames nodes nodes frames frames
@@ -120,10 +123,11 @@ Keeps-relink old new frames n i v sound once change can =
             let new_none = trees-none new x (λ is. absurd (omega (arith, is, fresh.1))) in
             omega (arith, new_none, trees-le old x, fresh.2))
             (change.level x);
-        root = λ x other. change.there x (other-apart old n x (omega (arith, once)) other);
-        leaf = λ x k m other is.
-            let l = sound.leaves x k m (trees-root old x (omega (arith, other))) is in
-            change.there m (λ same. let r = ap (λ y. level_of old y) same in absurd (omega (arith, r, l, can.root)));
+        reached = reached-two old new (n + 1)
+            (λ x other. change.there x (other-apart old n x (omega (arith, once)) other))
+            (λ x k m other is.
+            let l = (two-levels sound).leaves x k m (trees-root old x (omega (arith, other))) is in
+            change.there m (λ same. let r = ap (λ y. level_of old y) same in absurd (omega (arith, r, l, can.root))));
       };
       frames_kept = KeepsFrames-nodes old new frames change.naming;
     }
@@ -136,13 +140,14 @@ Keeps-write old new frames frames' n i m j v sound root once leads alone change 
       trees = record {
         size = change.size;
         roots = λ x. omega (arith, trees-same old new x (change.level x) (change.counts x));
-        root = λ x other. change.there x (λ same. let l = ap (λ y. level_of old y) same in absurd (omega (arith, l, change.leaf, trees-root old x (omega (arith, other)))));
-        leaf = λ x k y other is.
+        reached = reached-two old new (n + 1)
+            (λ x other. change.there x (λ same. let l = ap (λ y. level_of old y) same in absurd (omega (arith, l, change.leaf, trees-root old x (omega (arith, other))))))
+            (λ x k y other is.
             change.there y (λ same.
             let lx = trees-root old x (omega (arith, other)) in
             let at : entry_of old x k ≡ m + 1 = omega (arith, is, same) in
             let one = once-one old frames sound m n x i k change.leaf alone root lx leads at in
-            absurd (other-apart old n x (omega (arith, once)) other one));
+            absurd (other-apart old n x (omega (arith, once)) other one)));
       };
       frames_kept = record {
         size = change.frames_size;
@@ -167,37 +172,24 @@ Keeps-reroot old new frames m left came sound change here not_left not_came =
             (λ is. omega (arith, ap (λ y. trees_at new y) is, ap (λ y. trees_at old y) is, ap (λ y. is_root left y) is, ap (λ y. is_root came y) is, here))
             (λ apart. ⊎_elim (λ kind. omega (arith, trees-same old new x kind (change.counts x apart), not_left x apart, not_came x apart)) (λ fresh. absurd (apart fresh.0)) (change.level x))
             (cases_eq x m);
-        root = λ x other. change.same x;
-        leaf = λ x k y other is. change.same y;
+        reached = λ t n _ _. change.same n;
       };
       frames_kept = KeepsFrames-nodes old new frames change.naming;
     }
 
 -- links and cells
 
-pub link_of-tree : (nodes : List Node) (n i : ℕ) → link_of nodes (n + 1) i ≡ entry_of nodes n i
-unfolding link_of
-link_of-tree nodes n i = cond-false (eqb (n + 1) 0) 0 (entry_of nodes (n + 1 - 1) i) (ne_eqb (n + 1) 0 (λ is. absurd (omega (arith, is)))) ∙ ap (λ x. entry_of nodes x i) (omega arith)
-
 pub link_of-none : (nodes : List Node) (i : ℕ) → link_of nodes 0 i ≡ 0
 unfolding link_of
 link_of-none nodes i = refl
 
-pub cells_of-link : (nodes : List Node) (m : ℕ) → cells_of nodes (m + 1) ≡ entries_of nodes m
-unfolding cells_of
-cells_of-link nodes m = cond-false (eqb (m + 1) 0) [] (entries_of nodes (m + 1 - 1)) (ne_eqb (m + 1) 0 (λ is. absurd (omega (arith, is)))) ∙ ap (λ x. entries_of nodes x) (omega arith)
-
-pub cells_of-none : (nodes : List Node) → cells_of nodes 0 ≡ []
-unfolding cells_of
-cells_of-none nodes = refl
-
 pub cell_at-none : (nodes : List Node) (tree i j : ℕ) → link_of nodes tree i ≡ 0 → cell_at nodes tree i j ≡ 0
 unfolding cell_at
-cell_at-none nodes tree i j none = ap (λ e. get_or (cells_of nodes e) j 0) none ∙ ap (λ es. get_or es j 0) (cells_of-none nodes)
+cell_at-none nodes tree i j none = ap (λ e. link_of nodes e j) none ∙ link_of-none nodes j
 
 pub cell_at-leaf : (nodes : List Node) (tree i j m : ℕ) → link_of nodes tree i ≡ m + 1 → cell_at nodes tree i j ≡ entry_of nodes m j
 unfolding cell_at
-cell_at-leaf nodes tree i j m is = ap (λ e. get_or (cells_of nodes e) j 0) is ∙ ap (λ es. get_or es j 0) (cells_of-link nodes m)
+cell_at-leaf nodes tree i j m is = ap (λ e. link_of nodes e j) is ∙ link_of-tree nodes m j
 
 -- a number is 0 or one more than another
 pub zero_or_more : (e : ℕ) → (e ≡ 0) ⊎ ((m : ℕ) × (e ≡ m + 1))
@@ -216,5 +208,5 @@ cell_at-same old new tree tree' i j link entries =
 pub other-cells : (old new : List Node) (left came t i j : ℕ) → KeepsTrees old new left came → is_root left t < trees_at old t → cell_at new (t + 1) i j ≡ cell_at old (t + 1) i j
 other-cells old new left came t i j keeps other =
     cell_at-same old new (t + 1) (t + 1) i j
-    (link_of-tree new t i ∙ ap (λ es. get_or es i 0) (keeps.root t other) ∙ sym (link_of-tree old t i))
-    (λ m is. ap (λ es. get_or es j 0) (keeps.leaf t i m other (sym (link_of-tree old t i) ∙ is)))
+    (link_of-tree new t i ∙ ap (λ es. get_or es i 0) (keeps-root keeps t other) ∙ sym (link_of-tree old t i))
+    (λ m is. ap (λ es. get_or es j 0) (keeps-leaf keeps t i m other (sym (link_of-tree old t i) ∙ is)))

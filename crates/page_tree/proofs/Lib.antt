@@ -13,4 +13,5 @@ pub mod ShareLemmas
 pub mod ShortLemmas
 pub mod SoundLemmas
 pub mod StepLemmas
+pub mod TwoLevels
 pub mod UsesLemmas

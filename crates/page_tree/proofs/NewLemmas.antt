@@ -9,6 +9,7 @@ use Rattle.node_pool.specs.Nodes.{Node, empty_node, no_node, node_at, count_of, 
 use Rattle.page_tree.specs.Sound.{IsSound, naming, one_if}
 use Rattle.page_tree.specs.Tied.{IsTied}
 use Rattle.page_tree.proofs.KeepsLemmas.{trees-none}
+use Rattle.page_tree.proofs.TwoLevels.{sound-two}
 use Rattle.page_tree.proofs.UsesLemmas.{uses-none}
 
 abbrev blank : List ℕ
@@ -54,7 +55,7 @@ module _ (n m : ℕ) (tag : Tag) where
 
   pub IsSound-new : n ≤ 65536 → m ≤ 65536 → IsSound nodes frames
   IsSound-new few few' =
-      record {
+      sound-two (record {
         few = omega (arith, few, length-replicate n (empty_node 0 0));
         few_frames = omega (arith, few', length-replicate m (zero_frame 0 tag));
         shape = λ k lt. ap (λ node. length node.entries) (get_or-replicate n k (empty_node 0 0) no_node (omega (arith, lt, length-replicate n (empty_node 0 0)))) ∙ length-replicate {A = ℕ} 32 0;
@@ -66,7 +67,7 @@ module _ (n m : ℕ) (tag : Tag) where
         placed = λ k y i j l _ _ _. absurd (omega (arith, l, no-level k));
         framed = λ f. omega (arith, no-naming f);
         near = λ f. omega (arith, no-holds f);
-      }
+      })
 
   pub IsTied-new : n ≤ 65536 → m ≤ 65536 → IsTied nodes frames []
   IsTied-new few few' =

@@ -6,9 +6,10 @@ use Rattle.std.proofs.lemmas.Bool.{cases_eq}
 use Rattle.frame_pool.specs.Frame.{Frame}
 use Rattle.node_pool.specs.Nodes.{Node, no_node, node_at, count_of, level_of, free_of}
 use Rattle.page_tree.specs.Pages.{entries_of}
-use Rattle.page_tree.specs.Sound.{IsSound, one_if, uses_in, uses, leading_to, trees_at, is_root}
+use Rattle.page_tree.specs.Sound.{IsSound, one_if, uses_in, uses, trees_at, is_root}
 use Rattle.page_tree.proofs.KeepsLemmas.{trees-is}
 use Rattle.page_tree.proofs.SoundLemmas.{level-cases}
+use Rattle.page_tree.proofs.TwoLevels.{led_to, two-levels}
 use Rattle.page_tree.proofs.UsesLemmas.{one_if-yes, uses_in-yes, uses_in-no, count_by-none}
 use Rattle.page_tree.specs.Tied.{having, IsTied}
 use Rattle.pool_base.proofs.Totals.{total, total-le, total-same, total-zero, total-one, total-add, total-times, total-swap, total-list, total-once, none_or_some}
@@ -56,23 +57,23 @@ leads-total nodes frames r n sound lt =
     omega (arith, none, z))
     (cases_eq (level_of nodes r) 2)
 
-leading-total : (nodes : List Node) (frames : List Frame) (n : ℕ) → IsSound nodes frames → total (λ k. leading_to nodes k) n ≤ 32 * total (λ r. trees_at nodes r) (length nodes)
+leading-total : (nodes : List Node) (frames : List Frame) (n : ℕ) → IsSound nodes frames → total (λ k. led_to nodes k) n ≤ 32 * total (λ r. trees_at nodes r) (length nodes)
 unfolding uses
 leading-total nodes frames n sound =
-    let lists = total-same (λ k. leading_to nodes k) (λ k. total (λ r. uses_in 2 (k + 1) (node_at nodes r)) (length nodes)) n (λ k _. total-list (uses_in 2 (k + 1)) nodes no_node) in
+    let lists = total-same (λ k. led_to nodes k) (λ k. total (λ r. uses_in 2 (k + 1) (node_at nodes r)) (length nodes)) n (λ k _. total-list (uses_in 2 (k + 1)) nodes no_node) in
     let swapped = total-swap (λ k r. uses_in 2 (k + 1) (node_at nodes r)) n (length nodes) in
     let each = total-le (λ r. total (λ k. uses_in 2 (k + 1) (node_at nodes r)) n) (λ r. 32 * trees_at nodes r) (length nodes) (λ r lt. leads-total nodes frames r n sound lt) in
     let times = total-times 32 (λ r. trees_at nodes r) (length nodes) in
     omega (arith, lists, swapped, each, times)
 
 -- a node is free, or a root, or a leaf that entries lead to
-node-kind : (nodes : List Node) (frames : List Frame) (k : ℕ) → IsSound nodes frames → 1 ≤ one_if (eqb (count_of nodes k) 0) + (trees_at nodes k + leading_to nodes k)
+node-kind : (nodes : List Node) (frames : List Frame) (k : ℕ) → IsSound nodes frames → 1 ≤ one_if (eqb (count_of nodes k) 0) + (trees_at nodes k + led_to nodes k)
 node-kind nodes frames k sound =
     ⊎_elim
     (λ free. let one = one_if-yes (count_of nodes k) 0 free in omega (arith, one))
     (λ held.
     ⊎_elim
-    (λ leaf. let counted = sound.counted k leaf in omega (arith, counted, held))
+    (λ leaf. let counted = (two-levels sound).counted k leaf in omega (arith, counted, held))
     (λ root. let trees = trees-is nodes k root in omega (arith, trees, held))
     (level-cases (level_of nodes k) (sound.levels k held)))
     (none_or_some (count_of nodes k))
@@ -81,9 +82,9 @@ node-kind nodes frames k sound =
 pub node_bound : (nodes : List Node) (frames : List Frame) (trees : List ℕ) → IsTied nodes frames trees → length nodes ≤ free_of nodes + 33 * length trees
 node_bound nodes frames trees tied =
     let all = total-one (length nodes) in
-    let kinds = total-le (λ k. 1) (λ k. one_if (eqb (count_of nodes k) 0) + (trees_at nodes k + leading_to nodes k)) (length nodes) (λ k _. node-kind nodes frames k tied.sound) in
-    let parts = total-add (λ k. one_if (eqb (count_of nodes k) 0)) (λ k. trees_at nodes k + leading_to nodes k) (length nodes) in
-    let more = total-add (λ k. trees_at nodes k) (λ k. leading_to nodes k) (length nodes) in
+    let kinds = total-le (λ k. 1) (λ k. one_if (eqb (count_of nodes k) 0) + (trees_at nodes k + led_to nodes k)) (length nodes) (λ k _. node-kind nodes frames k tied.sound) in
+    let parts = total-add (λ k. one_if (eqb (count_of nodes k) 0)) (λ k. trees_at nodes k + led_to nodes k) (length nodes) in
+    let more = total-add (λ k. trees_at nodes k) (λ k. led_to nodes k) (length nodes) in
     let free : free_of nodes ≡ total (λ k. one_if (eqb (count_of nodes k) 0)) (length nodes) = total-list (λ node. one_if (eqb node.count 0)) nodes no_node in
     let leading = leading-total nodes frames (length nodes) tied.sound in
     let rooted = total-same (λ k. trees_at nodes k) (λ k. having trees k) (length nodes) (λ k _. tied.rooted k) in

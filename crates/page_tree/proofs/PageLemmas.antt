@@ -10,6 +10,7 @@ use Rattle.page_tree.specs.Short.{page_short, part_short, range_short, clear_sho
 use Rattle.page_tree.specs.Sound.{IsSound, IsTree, trees_at, is_root}
 use Rattle.page_tree.specs.Changes.{KeepsTrees, Keeps}
 use Rattle.page_tree.specs.Steps.{IsOwned, IsApart, IsMet, IsBeyond, OwnsLeaf, OwnsRoot, OwnsPath, PutsLeaf, PutsLeaves, PutsPages, SharesPages, page_entry, leaf_short, root_short}
+use Rattle.page_tree.proofs.TwoLevels.{entry-below}
 use Rattle.page_tree.proofs.KeepsLemmas.{Keeps-refl, Keeps-trans, cell_at-none, link_of-none, other-cells, zero_or_more}
 use Rattle.page_tree.proofs.RootLemmas.{root_short-shared, leaf_short-le, le-cond}
 use Rattle.page_tree.proofs.ShortLemmas.{root_short-own, leaf_short-alone}
@@ -25,11 +26,11 @@ cell_of-entry_for (Framed frame) =
 
 pub page-from : (old new : List Node) (tree tree' p : ℕ) → page_entry new tree' p ≡ page_entry old tree p → page new tree' p ≡ page old tree p
 unfolding page
-page-from old new tree tree' p same = ap (λ e. cell_of e) same
+page-from old new tree tree' p same = ap (λ e. cell_of e) (entry-below new tree' p ∙ same ∙ sym (entry-below old tree p))
 
 pub page-is : (nodes : List Node) (tree p e : ℕ) → page_entry nodes tree p ≡ e → page nodes tree p ≡ cell_of e
 unfolding page
-page-is nodes tree p e same = ap (λ x. cell_of x) same
+page-is nodes tree p e same = ap (λ x. cell_of x) (entry-below nodes tree p ∙ same)
 
 pub page-none : (nodes : List Node) (p : ℕ) → page nodes 0 p ≡ Absent
 page-none nodes p = page-is nodes 0 p 0 (cell_at-none nodes 0 (p / 32) (p % 32) (link_of-none nodes (p / 32)))

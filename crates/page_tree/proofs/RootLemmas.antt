@@ -7,9 +7,10 @@ use Rattle.page_tree.specs.Pages.{link_of, cell_at}
 use Rattle.page_tree.specs.Sound.{trees_at, is_root, IsSound}
 use Rattle.page_tree.specs.Changes.{Keeps}
 use Rattle.page_tree.specs.Steps.{IsOwned, PutsLeaf, OwnsRoot, LinksAll, root_short, leaf_short}
+use Rattle.page_tree.proofs.TwoLevels.{link_of-tree}
 use Rattle.page_tree.proofs.UsesLemmas.{one_if-yes, one_if-no, inside-count}
 use Rattle.page_tree.proofs.SoundLemmas.{IsRerooted}
-use Rattle.page_tree.proofs.KeepsLemmas.{trees-is, trees-le, is_root-here, is_root-there, is_root-none, Keeps-reroot, Keeps-refl, Keeps-trans, Keeps-swap, other-cells, link_of-tree, link_of-none, cell_at-none}
+use Rattle.page_tree.proofs.KeepsLemmas.{trees-is, trees-le, is_root-here, is_root-there, is_root-none, Keeps-reroot, Keeps-refl, Keeps-trans, Keeps-swap, other-cells, link_of-none, cell_at-none}
 use Rattle.page_tree.proofs.RawLemmas.{at-here, free-entries, IsRerooted-made, free_of-set}
 
 pub root_short-none : (nodes : List Node) → root_short nodes 0 ≡ 1

@@ -7,7 +7,8 @@ use Rattle.page_tree.specs.Pages.{link_of, cell_at}
 use Rattle.page_tree.specs.Sound.{IsSound}
 use Rattle.page_tree.specs.Changes.{Keeps}
 use Rattle.page_tree.specs.Steps.{IsOwned, IsLeaf, IsPlaced, IsApart, IsRooted, PutsLeaf, PutsLeaves}
-use Rattle.page_tree.proofs.KeepsLemmas.{trees-root, other-cells, link_of-tree, link_of-none, cell_at-none, cell_at-leaf, zero_or_more, Keeps-refl, Keeps-trans}
+use Rattle.page_tree.proofs.TwoLevels.{link_of-tree, two-levels}
+use Rattle.page_tree.proofs.KeepsLemmas.{trees-root, other-cells, link_of-none, cell_at-none, cell_at-leaf, zero_or_more, Keeps-refl, Keeps-trans}
 use Rattle.page_tree.proofs.StepLemmas.{named-held}
 
 -- where a link of a tree leads somewhere, it is an entry of the tree's root
@@ -23,13 +24,13 @@ module _ (nodes : List Node) (frames : List Frame) (tree : ℕ) (sound : IsSound
   leaf-of-tree i m is =
       let at = link-entry nodes tree i m is in
       let root = trees-root nodes at.0 (rooted at.0 at.1.0) in
-      record { level = sound.leaves at.0 i m root at.1.1; held = sound.held at.0 i m root at.1.1 }
+      record { level = (two-levels sound).leaves at.0 i m root at.1.1; held = (two-levels sound).held at.0 i m root at.1.1 }
 
   pub placed-of-tree : (i m : ℕ) → link_of nodes tree i ≡ m + 1 → IsPlaced nodes m i
   placed-of-tree i m is = λ root j level leads.
       let at = link-entry nodes tree i m is in
       let mine = trees-root nodes at.0 (rooted at.0 at.1.0) in
-      sound.placed root at.0 j i level mine (leads ∙ sym at.1.1) (omega (arith, leads))
+      (two-levels sound).placed root at.0 j i level mine (leads ∙ sym at.1.1) (omega (arith, leads))
 
   pub cell-held : (i j f : ℕ) → cell_at nodes tree i j ≡ f + 2 → 0 < frame_count frames f
   cell-held i j f is =

@@ -4,7 +4,8 @@ use Rattle.std.proofs.lemmas.Bool.{cases_eq, eq-eqb, ne_eqb, cond-true, cond-fal
 use Rattle.node_pool.specs.Nodes.{Node, count_of, entry_of}
 use Rattle.page_tree.specs.Pages.{link_of}
 use Rattle.page_tree.specs.Steps.{IsOwned, root_short, leaf_short}
-use Rattle.page_tree.proofs.KeepsLemmas.{link_of-tree, zero_or_more}
+use Rattle.page_tree.proofs.TwoLevels.{link_of-tree}
+use Rattle.page_tree.proofs.KeepsLemmas.{zero_or_more}
 
 -- a root that one tree has alone is not short
 pub root_short-own : (nodes : List Node) (n : ℕ) → IsOwned nodes n → root_short nodes (n + 1) ≡ 0

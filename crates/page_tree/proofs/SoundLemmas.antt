@@ -4,7 +4,8 @@ use Rattle.std.proofs.lemmas.Bool.{cases_eq, cases_lt}
 use Rattle.frame_pool.specs.Frame.{Frame, frame_count}
 use Rattle.node_pool.specs.Nodes.{Node, count_of, level_of, entry_of}
 use Rattle.page_tree.specs.Pages.{entries_of}
-use Rattle.page_tree.specs.Sound.{uses, one_if, leading_to, IsSound}
+use Rattle.page_tree.specs.Sound.{uses, one_if, IsSound}
+use Rattle.page_tree.proofs.TwoLevels.{led_to, two-levels, sound-two}
 use Rattle.page_tree.proofs.UsesLemmas.{one_if-no, uses-none, uses-some, uses-two, uses-le, inside-count}
 
 -- entry i of root n is v now: what it led to is held once less, and what v leads to once more
@@ -29,22 +30,22 @@ pub record CanRelink (old new : List Node) (n i v : ℕ) : Type 0 where
 module _ (old : List Node) (frames : List Frame) (sound : IsSound old frames) where
   -- a node that nobody holds is led to by nothing
   pub free-unnamed : (x : ℕ) → count_of old x ≡ 0 → uses 2 old (x + 1) ≡ 0
-  free-unnamed x free = uses-none 2 old (x + 1) (λ n i l is. let h = sound.held n i x l is in absurd (omega (arith, h, free)))
+  free-unnamed x free = uses-none 2 old (x + 1) (λ n i l is. let h = (two-levels sound).held n i x l is in absurd (omega (arith, h, free)))
 
   -- a held root is led to by nothing
   pub root-not_led_to : (n q i : ℕ) → level_of old n ≡ 2 → level_of old q ≡ 2 → entry_of old q i ≢ n + 1
-  root-not_led_to n q i l lq is = let leaf = sound.leaves q i n lq is in absurd (omega (arith, leaf, l))
+  root-not_led_to n q i l lq is = let leaf = (two-levels sound).leaves q i n lq is in absurd (omega (arith, leaf, l))
 
   -- a leaf that is held once is led to by one root alone
   pub once-one : (m n q i j : ℕ) → level_of old m ≡ 1 → count_of old m ≡ 1 → level_of old n ≡ 2 → level_of old q ≡ 2 → entry_of old n i ≡ m + 1 → entry_of old q j ≡ m + 1 → q ≡ n
   once-one m n q i j lm once ln lq en eq =
-      ⊎_elim (λ same. same) (λ apart. let two = uses-two 2 old q n j i (m + 1) (omega arith) lq ln eq en (omega arith) apart in let c = sound.counted m lm in absurd (omega (arith, two, c, once))) (cases_eq q n)
+      ⊎_elim (λ same. same) (λ apart. let two = uses-two 2 old q n j i (m + 1) (omega arith) lq ln eq en (omega arith) apart in let c = (two-levels sound).counted m lm in absurd (omega (arith, two, c, once))) (cases_eq q n)
 
   -- an entry of a root leads to what is held at most as often as there are entries
   pub leaf-count-le : (m : ℕ) → level_of old m ≡ 1 → count_of old m ≤ 2097152
   leaf-count-le m l =
       let le = uses-le 2 old 32 (m + 1) (λ n lt. let s = sound.shape n lt in omega (arith, s)) in
-      omega (arith, le, sound.counted m l, sound.few)
+      omega (arith, le, (two-levels sound).counted m l, sound.few)
 
   module _ (new : List Node) (n i v : ℕ) (change : IsRelink old new n i v) (can : CanRelink old new n i v) where
     inside : n < length old
@@ -72,15 +73,15 @@ module _ (old : List Node) (frames : List Frame) (sound : IsSound old frames) wh
     leaves' q k m l is =
         ⊎_elim
         (λ put. can.leaf m (sym put.2 ∙ is))
-        (λ same. ⊎_elim (λ kind. kind ∙ sound.leaves q k m (root-was q l) (sym same ∙ is)) (λ fresh. fresh.1) (change.level m))
+        (λ same. ⊎_elim (λ kind. kind ∙ (two-levels sound).leaves q k m (root-was q l) (sym same ∙ is)) (λ fresh. fresh.1) (change.level m))
         (entry-cases q k)
 
-    counted' : (m : ℕ) → level_of new m ≡ 1 → count_of new m ≡ leading_to new m
+    counted' : (m : ℕ) → level_of new m ≡ 1 → count_of new m ≡ led_to new m
     counted' m l =
         let lead = change.leading (m + 1) (omega arith) in
         let count = change.counts m in
         ⊎_elim
-        (λ kind. omega (arith, lead, count, sound.counted m (sym kind ∙ l)))
+        (λ kind. omega (arith, lead, count, (two-levels sound).counted m (sym kind ∙ l)))
         (λ fresh. omega (arith, lead, count, free-unnamed m fresh.2, fresh.2))
         (change.level m)
 
@@ -97,7 +98,7 @@ module _ (old : List Node) (frames : List Frame) (sound : IsSound old frames) wh
 
     pub IsSound-relink : IsSound new frames
     IsSound-relink =
-        record {
+        sound-two (record {
           few = omega (arith, change.size, sound.few);
           few_frames = sound.few_frames;
           shape = λ x lt.
@@ -133,12 +134,12 @@ module _ (old : List Node) (frames : List Frame) (sound : IsSound old frames) wh
               (λ old'.
               ⊎_elim
               (λ put'. can.placed q k (root-was q lq) (sym old' ∙ same ∙ put'.2) (omega (arith, put'.2, same, pos)) ∙ sym put'.1)
-              (λ old''. sound.placed q r k j (root-was q lq) (root-was r lr) (sym old' ∙ same ∙ old'') (omega (arith, old', pos)))
+              (λ old''. (two-levels sound).placed q r k j (root-was q lq) (root-was r lr) (sym old' ∙ same ∙ old'') (omega (arith, old', pos)))
               (entry-cases r j))
               (entry-cases q k);
           framed = λ f. omega (arith, change.naming (f + 2) (omega arith), sound.framed f);
           near = λ f. omega (arith, change.naming (f + 2) (omega arith), sound.near f);
-        }
+        })
 
 -- a level is that of a leaf or that of a root
 pub level-cases : (l : ℕ) → (1 ≤ l) × (l ≤ 2) → (l ≡ 1) ⊎ (l ≡ 2)
@@ -169,7 +170,7 @@ module _ (old new : List Node) (frames : List Frame) (m : ℕ) (sound : IsSound 
 
   pub IsSound-reroot : IsSound new frames
   IsSound-reroot =
-      record {
+      sound-two (record {
         few = omega (arith, change.size, sound.few);
         few_frames = sound.few_frames;
         shape = λ x lt. ap (λ es. length es) (change.same x) ∙ sound.shape x (omega (arith, change.size, lt));
@@ -187,26 +188,26 @@ module _ (old new : List Node) (frames : List Frame) (m : ℕ) (sound : IsSound 
         held = λ q k y l is.
             let was = sym (entry-same q k) ∙ is in
             let lq = root_was' q k l (omega (arith, was)) in
-            let h = sound.held q k y lq was in
-            omega (arith, change.counts y (leaf_apart y (sound.leaves q k y lq was) h), h);
+            let h = (two-levels sound).held q k y lq was in
+            omega (arith, change.counts y (leaf_apart y ((two-levels sound).leaves q k y lq was) h), h);
         leaves = λ q k y l is.
             let was = sym (entry-same q k) ∙ is in
             let lq = root_was' q k l (omega (arith, was)) in
-            let h = sound.held q k y lq was in
-            ⊎_elim (λ kind. kind ∙ sound.leaves q k y lq was) (λ fresh. absurd (omega (arith, fresh.1, h))) (change.level y);
+            let h = (two-levels sound).held q k y lq was in
+            ⊎_elim (λ kind. kind ∙ (two-levels sound).leaves q k y lq was) (λ fresh. absurd (omega (arith, fresh.1, h))) (change.level y);
         counted = λ y l.
             let lead = change.leading (y + 1) (omega arith) in
             ⊎_elim
             (λ is. let r = ap (λ x. level_of new x) is in absurd (omega (arith, r, change.root, l)))
-            (λ apart. ⊎_elim (λ kind. omega (arith, lead, change.counts y apart, sound.counted y (sym kind ∙ l))) (λ fresh. absurd (apart fresh.0)) (change.level y))
+            (λ apart. ⊎_elim (λ kind. omega (arith, lead, change.counts y apart, (two-levels sound).counted y (sym kind ∙ l))) (λ fresh. absurd (apart fresh.0)) (change.level y))
             (cases_eq y m);
         placed = λ q r k j lq lr same pos.
             let eq = entry-same q k in
             let er = entry-same r j in
-            sound.placed q r k j (root_was' q k lq (omega (arith, eq, pos))) (root_was' r j lr (omega (arith, eq, er, same, pos))) (sym eq ∙ same ∙ er) (omega (arith, eq, pos));
+            (two-levels sound).placed q r k j (root_was' q k lq (omega (arith, eq, pos))) (root_was' r j lr (omega (arith, eq, er, same, pos))) (sym eq ∙ same ∙ er) (omega (arith, eq, pos));
         framed = λ f. omega (arith, change.naming (f + 2) (omega arith), sound.framed f);
         near = λ f. omega (arith, change.naming (f + 2) (omega arith), sound.near f);
-      }
+      })
 
 -- entry j of leaf m is v now, and frames are held to match
 pub record IsWrite (old new : List Node) (frames frames' : List Frame) (m j v : ℕ) : Type 0 where
@@ -231,7 +232,7 @@ module _ (old new : List Node) (frames frames' : List Frame) (m j v : ℕ) (soun
 
   pub IsSound-write : IsSound new frames'
   IsSound-write =
-      record {
+      sound-two (record {
         few = omega (arith, change.size, sound.few);
         few_frames = omega (arith, change.frames_size, sound.few_frames);
         shape = λ x lt.
@@ -249,13 +250,13 @@ module _ (old new : List Node) (frames frames' : List Frame) (m j v : ℕ) (soun
             let both = sound.levels x (omega (arith, change.counts x, held)) in
             let kind = change.level x in
             (omega (arith, kind, both.0), omega (arith, kind, both.1));
-        held = λ q k y l is. omega (arith, change.counts y, sound.held q k y (sym (change.level q) ∙ l) (sym (root_entry q k l) ∙ is));
-        leaves = λ q k y l is. change.level y ∙ sound.leaves q k y (sym (change.level q) ∙ l) (sym (root_entry q k l) ∙ is);
-        counted = λ y l. omega (arith, change.counts y, change.leading (y + 1) (omega arith), sound.counted y (sym (change.level y) ∙ l));
+        held = λ q k y l is. omega (arith, change.counts y, (two-levels sound).held q k y (sym (change.level q) ∙ l) (sym (root_entry q k l) ∙ is));
+        leaves = λ q k y l is. change.level y ∙ (two-levels sound).leaves q k y (sym (change.level q) ∙ l) (sym (root_entry q k l) ∙ is);
+        counted = λ y l. omega (arith, change.counts y, change.leading (y + 1) (omega arith), (two-levels sound).counted y (sym (change.level y) ∙ l));
         placed = λ q r k i lq lr same pos.
             let eq = root_entry q k lq in
             let er = root_entry r i lr in
-            sound.placed q r k i (sym (change.level q) ∙ lq) (sym (change.level r) ∙ lr) (sym eq ∙ same ∙ er) (omega (arith, eq, pos));
+            (two-levels sound).placed q r k i (sym (change.level q) ∙ lq) (sym (change.level r) ∙ lr) (sym eq ∙ same ∙ er) (omega (arith, eq, pos));
         framed = λ f. omega (arith, change.naming (f + 2) (omega arith), change.holds f, sound.framed f);
         near = λ f. omega (arith, change.naming (f + 2) (omega arith), change.holds f, sound.near f);
-      }
+      })

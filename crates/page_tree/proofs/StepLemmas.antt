@@ -8,9 +8,10 @@ use Rattle.page_tree.specs.Pages.{entries_of, link_of, cell_at}
 use Rattle.page_tree.specs.Sound.{one_if, IsSound}
 use Rattle.page_tree.specs.Changes.{Keeps}
 use Rattle.page_tree.specs.Steps.{IsOwned, IsLeaf, IsPlaced, OwnsLeaf, HoldsMore, HoldsLess, PutsLeaf, leaf_short}
+use Rattle.page_tree.proofs.TwoLevels.{link_of-tree, two-levels}
 use Rattle.page_tree.proofs.UsesLemmas.{one_if-yes, one_if-no, uses-enter, uses-enter_other, uses-some, uses-le, inside-count}
 use Rattle.page_tree.proofs.SoundLemmas.{IsRelink, CanRelink, IsWrite, root-not_led_to}
-use Rattle.page_tree.proofs.KeepsLemmas.{Keeps-relink, Keeps-write, Keeps-refl, Keeps-trans, link_of-tree, cell_at-none, cell_at-leaf, cell_at-same}
+use Rattle.page_tree.proofs.KeepsLemmas.{Keeps-relink, Keeps-write, Keeps-refl, Keeps-trans, cell_at-none, cell_at-leaf, cell_at-same}
 use Rattle.page_tree.proofs.ShortLemmas.{leaf_short-kept}
 use Rattle.page_tree.proofs.RawLemmas.{at-here, at-there, free-entries, IsRelink-made, CanRelink-made, free_of-set, free_of-enter}
 
@@ -42,7 +43,7 @@ module _ (old new : List Node) (frames : List Frame) (n i v : ℕ) (sound : IsSo
   there-relink k j apart =
       cell_at-same old new (n + 1) (n + 1) k j
       (link_of-tree new n k ∙ ap (λ es. get_or es k 0) change.here ∙ get_or-set_other (entries_of old n) i k v 0 apart ∙ sym (link_of-tree old n k))
-      (λ m is. ap (λ es. get_or es j 0) (change.there m (leaf-apart old n m own.level (sound.leaves n k m own.level (sym (link_of-tree old n k) ∙ is)))))
+      (λ m is. ap (λ es. get_or es j 0) (change.there m (leaf-apart old n m own.level ((two-levels sound).leaves n k m own.level (sym (link_of-tree old n k) ∙ is)))))
 
   entries-relink : (k : ℕ) → k ≢ i → entry_of new n k ≡ entry_of old n k
   entries-relink k apart = ap (λ es. get_or es k 0) change.here ∙ get_or-set_other (entries_of old n) i k v 0 apart
@@ -51,7 +52,7 @@ module _ (old new : List Node) (frames : List Frame) (n i v : ℕ) (sound : IsSo
   short-relink k apart =
       leaf_short-kept old new n k own own-relink (entries-relink k apart)
       (λ m leads.
-      let left = one_if-no (entry_of old n i) (m + 1) (λ is. absurd (apart (sound.placed n n k i own.level own.level (leads ∙ sym is) (omega (arith, leads))))) in
+      let left = one_if-no (entry_of old n i) (m + 1) (λ is. absurd (apart ((two-levels sound).placed n n k i own.level own.level (leads ∙ sym is) (omega (arith, leads))))) in
       let came = one_if-no v (m + 1) (λ is. absurd (apart (can.placed n k own.level (leads ∙ sym is) (omega (arith, is))))) in
       omega (arith, change.counts m, left, came))
 
@@ -114,10 +115,10 @@ module _ (old : List Node) (frames : List Frame) (n i m : ℕ) (sound : IsSound 
   cut = enter (recount old m (count_of old m - 1)) n i 0
 
   m-held : 0 < count_of old m
-  m-held = sound.held n i m own.level leads
+  m-held = (two-levels sound).held n i m own.level leads
 
   m-apart' : m ≢ n
-  m-apart' = leaf-apart old n m own.level (sound.leaves n i m own.level leads)
+  m-apart' = leaf-apart old n m own.level ((two-levels sound).leaves n i m own.level leads)
 
   here-cut : (count_of old m - 1) + one_if (eqb (entry_of old n i) (m + 1)) ≡ count_of old m + one_if (eqb 0 (m + 1))
   here-cut = let a = one_if-yes (entry_of old n i) (m + 1) leads in let b = no-link 0 m refl in let h = m-held in omega (arith, a, b, h)
@@ -175,7 +176,7 @@ module _ (old : List Node) (frames : List Frame) (n i k : ℕ) (sound : IsSound 
   can-grown =
       CanRelink-made old frames sound k (empty_node 1 1) n i (k + 1) inside k-apart (free-entries old frames k 1 1 sound inside free) (inr (refl, refl, free)) own.level (omega (arith, own.once)) place here-grown elsewhere-grown
       (λ x is. (omega (arith, is), refl))
-      (λ q j l is _. let h = sound.held q j k l is in absurd (omega (arith, h, free)))
+      (λ q j l is _. let h = (two-levels sound).held q j k l is in absurd (omega (arith, h, free)))
       (λ none. absurd (omega (arith, none)))
 
   pub PutsLeaf-grown : PutsLeaf old grown frames frames n i (λ j. 0) 1
@@ -235,7 +236,7 @@ module _ (old : List Node) (frames mid frames' : List Frame) (n i m j v : ℕ) (
   written = enter old m j v
 
   leaf-level : level_of old m ≡ 1
-  leaf-level = sound.leaves n i m own.level owns.leads
+  leaf-level = (two-levels sound).leaves n i m own.level owns.leads
 
   m-inside : m < length old
   m-inside = inside-count old m (omega (arith, owns.once))
@@ -302,7 +303,7 @@ module _ (old : List Node) (frames mid frames' : List Frame) (n i m j v : ℕ) (
             (change-written.there y (λ same.
             let at : entry_of old n k ≡ entry_of old n i = sym (link_of-tree old n k) ∙ is ∙ ap (λ z. z + 1) same ∙ sym owns.leads in
             let pos : 0 < entry_of old n k = omega (arith, at, owns.leads) in
-            absurd (apart (sound.placed n n k i own.level own.level at pos)))));
+            absurd (apart ((two-levels sound).placed n n k i own.level own.level at pos)))));
         entries = λ k _. ap (λ es. get_or es k 0) root-same;
         short = λ k _. leaf_short-kept old written n k own (record { level = change-written.level n ∙ own.level; once = change-written.counts n ∙ own.once }) (ap (λ es. get_or es k 0) root-same) (λ y _. change-written.counts y);
         free = let same = free_of-enter old m j v in omega (arith, same);

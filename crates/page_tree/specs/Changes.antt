@@ -1,24 +1,29 @@
 -- What a change of one tree leaves as it was.
-use Rattle.std.specs.Prelude.{◌≡◌, ℕ, ◌+◌, ◌<◌, ◌⊎◌, List, length}
+use Rattle.std.specs.Prelude.{◌≡◌, ℕ, zero, suc, ◌+◌, ◌<◌, ◌⊎◌, List, length}
 use Rattle.frame_pool.specs.Frame.{Frame, frame_count, frame_stamp, frame_bytes}
-use Rattle.node_pool.specs.Nodes.{Node, count_of, entry_of}
+use Rattle.node_pool.specs.Nodes.{Node, count_of}
+use Rattle.page_tree.specs.declared.store.TheConstants.{ROOT_LEVEL}
 use Rattle.page_tree.specs.Pages.{entries_of, link_of, page}
 use Rattle.page_tree.specs.Sound.{naming, trees_at, is_root, IsSound}
 
--- one tree left its root and came to another: the other trees keep their roots, and the entries of these and of their leaves
+-- a node is what a link leads to, or below it, this number of levels down with its own
+abbrev pub IsBelow : List Node → ℕ → ℕ → ℕ → Type 0
+IsBelow nodes zero link n = ⊥
+IsBelow nodes (suc levels) link n = (link ≡ n + 1) ⊎ ((i : ℕ) × IsBelow nodes levels (link_of nodes link i) n)
+
+-- a tree leads to a node: it is the tree's root, or below it
+abbrev pub IsReached : List Node → ℕ → ℕ → Type 0
+IsReached nodes tree n = IsBelow nodes ROOT_LEVEL tree n
+
+-- one tree left its root and came to another: the other trees keep their roots, and the entries of each node that they lead to
 pub record KeepsTrees (old new : List Node) (left came : ℕ) : Type 0 where
   pub size : length new ≡ length old
   pub roots : (n : ℕ) → trees_at new n + is_root left n ≡ trees_at old n + is_root came n
-  pub root : (n : ℕ) → is_root left n < trees_at old n → entries_of new n ≡ entries_of old n
-  pub leaf : (n i m : ℕ) → is_root left n < trees_at old n → entry_of old n i ≡ m + 1 → entries_of new m ≡ entries_of old m
+  pub reached : (t n : ℕ) → is_root left t < trees_at old t → IsReached old (t + 1) n → entries_of new n ≡ entries_of old n
 
--- the trees that keep their roots and leaves stand for the same maps
+-- the trees that keep their roots stand for the same maps
 abbrev pub KeepsMaps : List Node → List Node → ℕ → Type 0
 KeepsMaps old new left = (t p : ℕ) → is_root left t < trees_at old t → page new (t + 1) p ≡ page old (t + 1) p
-
--- a tree leads to a node: it is the tree's root, or a leaf of it
-abbrev pub IsReached : List Node → ℕ → ℕ → Type 0
-IsReached nodes tree n = (tree ≡ n + 1) ⊎ ((i : ℕ) × (link_of nodes tree i ≡ n + 1))
 
 -- each node that is held, and more than once or not reached from the tree, keeps its entries
 abbrev pub KeepsShared : List Node → List Node → ℕ → Type 0

@@ -1,18 +1,20 @@
 -- What the laws of trees say.
-use Rattle.std.specs.Prelude.{◌≡◌, ◌≢◌, ℕ, ◌+◌, ◌*◌, ◌<◌, ◌≤◌, ◌⊎◌, ◌↔◌, List, length, slice_index}
+use Rattle.std.specs.Prelude.{◌≡◌, ◌≢◌, ℕ, ◌+◌, ◌*◌, ◌^◌, ◌<◌, ◌≤◌, ◌⊎◌, ◌↔◌, List, length, slice_index}
 use Rattle.frame_pool.specs.Frame.{Frame, frame_count}
+use Rattle.node_pool.specs.declared.pool.TheConstants.{NODE_ENTRIES}
 use Rattle.node_pool.specs.Nodes.{Node, free_of}
 use Rattle.page_tree.specs.declared.cell.PageCell.TheVariants.{Absent}
 use Rattle.page_tree.specs.declared.cell.PageCell.TheVariants as cell
-use Rattle.page_tree.specs.declared.store.TheConstants.{PAGES}
+use Rattle.page_tree.specs.declared.store.TheConstants.{PAGES, ROOT_LEVEL}
 use Rattle.page_tree.specs.Pages.{page}
 use Rattle.page_tree.specs.Short.{page_short, range_short, clear_short}
 use Rattle.page_tree.specs.Sound.{IsTree}
 use Rattle.page_tree.specs.Steps.{root_short}
 use Rattle.page_tree.specs.Tied.{IsTied, HasElsewhere, HasFrame, page_of}
 
--- the laws of one tree: the empty one has no page, and a change of a page or a range takes few nodes
+-- the laws of one tree: it has a page for each way down, the empty one has none, and a change of a page or a range takes few nodes
 pub record TreeLaws : Type 0 where
+  pub pages : PAGES ≡ NODE_ENTRIES ^ ROOT_LEVEL
   pub empty : (nodes : List Node) (p : ℕ) → page nodes 0 p ≡ Absent
   pub page_takes : (nodes : List Node) (tree p : ℕ) → page_short nodes tree p ≤ 2
   pub range_takes : (nodes : List Node) (tree from to : ℕ) → range_short nodes tree from to ≤ root_short nodes tree + 2

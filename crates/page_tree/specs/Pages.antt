@@ -1,9 +1,10 @@
 -- A tree as a map from pages to cells.
-use Rattle.std.specs.Prelude.{ℕ, ◌+◌, ◌-◌, ◌*◌, ◌/◌, ◌%◌, ◌==◌, ◌&&◌, if◌then◌else◌, Bool, not, max, min, nat_le, nat_lt, List, [], slice_index}
+use Rattle.std.specs.Prelude.{ℕ, zero, suc, ◌+◌, ◌-◌, ◌*◌, ◌/◌, ◌%◌, ◌^◌, ◌==◌, ◌&&◌, if◌then◌else◌, Bool, not, max, min, nat_le, nat_lt, List}
 use Rattle.node_pool.specs.declared.pool.TheConstants.{NODE_ENTRIES}
 use Rattle.node_pool.specs.Nodes.{Node, node_at, entry_of}
 use Rattle.page_tree.specs.declared.cell.PageCell.{PageCell}
 use Rattle.page_tree.specs.declared.cell.PageCell.TheVariants.{Absent, Zero, Frame}
+use Rattle.page_tree.specs.declared.store.TheConstants.{ROOT_LEVEL}
 
 -- what an entry of a leaf says of its page: 0 is absent, 1 is zeros, and n + 2 is frame n
 abbrev pub cell_of : ℕ → PageCell
@@ -19,21 +20,22 @@ entry_for (Frame frame) = frame.n + 2
 abbrev pub entries_of : List Node → ℕ → List ℕ
 entries_of nodes n = (node_at nodes n).entries
 
--- where an entry of a root leads, and a tree: 0 is nothing, and n + 1 is node n
+-- an entry of what a link leads to, as a tree leads to its root: 0 is nothing, and n + 1 is node n
 unfoldable pub link_of : List Node → ℕ → ℕ → ℕ
-link_of nodes tree i = if tree == 0 then 0 else entry_of nodes (tree - 1) i
+link_of nodes link i = if link == 0 then 0 else entry_of nodes (link - 1) i
 
--- the entries of the leaf that a link leads to
-unfoldable pub cells_of : List Node → ℕ → List ℕ
-cells_of nodes link = if link == 0 then [] else entries_of nodes (link - 1)
-
--- one entry of one leaf of a tree
-unfoldable pub cell_at : List Node → ℕ → ℕ → ℕ → ℕ
-cell_at nodes tree i j = slice_index (cells_of nodes (link_of nodes tree i)) j
+-- the entry for a page on the way down from what a link leads to, which has this level
+unfoldable pub entry_below : List Node → ℕ → ℕ → ℕ → ℕ
+entry_below nodes zero link p = link
+entry_below nodes (suc level) link p = entry_below nodes level (link_of nodes link (p / NODE_ENTRIES ^ level)) (p % NODE_ENTRIES ^ level)
 
 -- what a tree has for a page
 unfoldable pub page : List Node → ℕ → ℕ → PageCell
-page nodes tree p = cell_of (cell_at nodes tree (p / NODE_ENTRIES) (p % NODE_ENTRIES))
+page nodes tree p = cell_of (entry_below nodes ROOT_LEVEL tree p)
+
+-- one entry of one leaf of a tree whose leaves are right below its root
+unfoldable pub cell_at : List Node → ℕ → ℕ → ℕ → ℕ
+cell_at nodes tree i j = link_of nodes (link_of nodes tree i) j
 
 -- whether a range of pages has pages of a leaf
 abbrev pub meets_leaf : ℕ → ℕ → ℕ → Bool

@@ -1,5 +1,5 @@
 -- When a store of nodes and frames is sound.
-use Rattle.std.specs.Prelude.{◌≡◌, ℕ, ◌+◌, ◌^◌, ◌<◌, ◌≤◌, ◌==◌, if◌then◌else◌, Bool, List, length, sum_by, count_by}
+use Rattle.std.specs.Prelude.{◌≡◌, ℕ, ◌+◌, ◌^◌, ◌<◌, ◌≤◌, ◌==◌, if◌then◌else◌, Bool, nat_lt, List, length, sum_by, count_by}
 use Rattle.frame_pool.specs.Frame.{Frame, frame_count}
 use Rattle.node_pool.specs.declared.pool.TheConstants.{NODE_ENTRIES}
 use Rattle.node_pool.specs.Nodes.{Node, count_of, level_of, entry_of}
@@ -18,25 +18,29 @@ uses_in level e node = if node.level == level then count_by (λ x. x == e) node.
 unfoldable pub uses : ℕ → List Node → ℕ → ℕ
 uses level nodes e = sum_by (uses_in level e) nodes
 
--- how many entries of roots lead to a node
-abbrev pub leading_to : List Node → ℕ → ℕ
-leading_to nodes n = uses ROOT_LEVEL nodes (n + 1)
+-- how many entries of a node are this one, where the node is above the leaves
+abbrev pub uses_above : ℕ → Node → ℕ
+uses_above e node = if nat_lt LEAF_LEVEL node.level then count_by (λ x. x == e) node.entries else 0
+
+-- how many entries of nodes above the leaves lead to a node
+unfoldable pub leading_to : List Node → ℕ → ℕ
+leading_to nodes n = sum_by (uses_above (n + 1)) nodes
 
 -- how many entries of leaves name a frame
 abbrev pub naming : List Node → ℕ → ℕ
 naming nodes f = uses LEAF_LEVEL nodes (f + 2)
 
--- every entry leads to what is held, each leaf is held as often as entries lead to it and has one place in all trees, and each frame is held as often as entries name it or up to 2^31 times more
+-- every entry leads to what is held and one level lower, each node below the roots is held as often as entries lead to it and has one place in all that lead to it, and each frame is held as often as entries name it or up to 2^31 times more
 pub record IsSound (nodes : List Node) (frames : List Frame) : Type 0 where
   pub few : length nodes ≤ 65536
   pub few_frames : length frames ≤ 65536
   pub shape : (n : ℕ) → n < length nodes → length (entries_of nodes n) ≡ NODE_ENTRIES
   pub clean : (n i : ℕ) → count_of nodes n ≡ 0 → entry_of nodes n i ≡ 0
   pub levels : (n : ℕ) → 0 < count_of nodes n → (LEAF_LEVEL ≤ level_of nodes n) × (level_of nodes n ≤ ROOT_LEVEL)
-  pub held : (n i m : ℕ) → level_of nodes n ≡ ROOT_LEVEL → entry_of nodes n i ≡ m + 1 → 0 < count_of nodes m
-  pub leaves : (n i m : ℕ) → level_of nodes n ≡ ROOT_LEVEL → entry_of nodes n i ≡ m + 1 → level_of nodes m ≡ LEAF_LEVEL
-  pub counted : (n : ℕ) → level_of nodes n ≡ LEAF_LEVEL → count_of nodes n ≡ leading_to nodes n
-  pub placed : (n m i j : ℕ) → level_of nodes n ≡ ROOT_LEVEL → level_of nodes m ≡ ROOT_LEVEL → entry_of nodes n i ≡ entry_of nodes m j → 0 < entry_of nodes n i → i ≡ j
+  pub held : (n i m : ℕ) → LEAF_LEVEL < level_of nodes n → entry_of nodes n i ≡ m + 1 → 0 < count_of nodes m
+  pub below : (n i m : ℕ) → LEAF_LEVEL < level_of nodes n → entry_of nodes n i ≡ m + 1 → level_of nodes m + 1 ≡ level_of nodes n
+  pub counted : (n : ℕ) → level_of nodes n < ROOT_LEVEL → count_of nodes n ≡ leading_to nodes n
+  pub placed : (n m i j : ℕ) → LEAF_LEVEL < level_of nodes n → LEAF_LEVEL < level_of nodes m → entry_of nodes n i ≡ entry_of nodes m j → 0 < entry_of nodes n i → i ≡ j
   pub framed : (f : ℕ) → naming nodes f ≤ frame_count frames f
   pub near : (f : ℕ) → frame_count frames f < naming nodes f + 2 ^ 31
 

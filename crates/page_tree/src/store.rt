@@ -15,14 +15,17 @@ use pool_base::Steps;
 use std::alloc::Global;
 use std::sync::ledger::Ledger;
 
-/// How many pages a tree has.
-pub const PAGES: usize = 1024;
-
 /// The level of a node whose entries are pages.
 pub const LEAF_LEVEL: u8 = 1;
 
 /// The level of a node that is the root of a tree: how many levels a tree has.
 pub const ROOT_LEVEL: u8 = 2;
+
+/// How many bits of a page's number choose an entry of a node.
+const ENTRY_BITS: u32 = 5;
+
+/// How many pages a tree has: one for each way down through its levels.
+pub const PAGES: usize = 1 << (ENTRY_BITS * ROOT_LEVEL as u32);
 
 /// The frames and nodes that trees stand in.
 #[derive(Drop)]

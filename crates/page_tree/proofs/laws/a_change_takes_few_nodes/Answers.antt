@@ -1,4 +1,4 @@
-use Rattle.std.proofs.Common.{arith}
+use Rattle.std.proofs.Common.{refl, arith}
 use Rattle.page_tree.proofs.CutLemmas.{cuts-le}
 use Rattle.page_tree.proofs.PageLemmas.{page-none, page_short-le, root_short-le, clear_short-le}
 use Rattle.page_tree.proofs.laws.a_change_takes_few_nodes.Goals as goal
@@ -6,6 +6,7 @@ use Rattle.page_tree.proofs.laws.a_change_takes_few_nodes.Goals as goal
 pub returns : goal.returns
 returns c =
     record {
+      pages = refl;
       empty = page-none;
       page_takes = page_short-le;
       range_takes = λ nodes tree from to. let cuts = cuts-le nodes tree from to in omega (arith, cuts);

@@ -1,6 +1,7 @@
 use Rattle.std.proofs.Common.{arith, refl}
+use Rattle.page_tree.proofs.TwoLevels.{link_of-tree}
 use Rattle.page_tree.proofs.UsesLemmas.{inside-count}
-use Rattle.page_tree.proofs.KeepsLemmas.{link_of-tree, link_of-none, trees-le}
+use Rattle.page_tree.proofs.KeepsLemmas.{link_of-none, trees-le}
 use Rattle.page_tree.proofs.store.Store.leaf_of.Goals as goal
 
 pub leaf_at-requires-clause-inside : goal.leaf_at-requires-clause-inside

@@ -1,5 +1,6 @@
 use Rattle.std.proofs.Common.{arith, sym, ◌∙◌}
-use Rattle.page_tree.proofs.KeepsLemmas.{link_of-tree, cell_at-leaf, cell_at-none}
+use Rattle.page_tree.proofs.TwoLevels.{link_of-tree}
+use Rattle.page_tree.proofs.KeepsLemmas.{cell_at-leaf, cell_at-none}
 use Rattle.page_tree.proofs.StepLemmas.{PutsLeaf-as, PutsLeaf-absent}
 use Rattle.page_tree.proofs.store.Store.link_one.Goals as goal
 

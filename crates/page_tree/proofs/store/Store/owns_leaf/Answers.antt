@@ -1,11 +1,12 @@
 use Rattle.std.proofs.Common.{arith}
+use Rattle.page_tree.proofs.TwoLevels.{two-levels}
 use Rattle.page_tree.proofs.ShortLemmas.{leaf_short-absent, leaf_short-tells}
 use Rattle.page_tree.proofs.UsesLemmas.{inside-count}
 use Rattle.page_tree.proofs.store.Store.owns_leaf.Goals as goal
 
 pub count-requires : goal.count-requires
 count-requires c =
-    inside-count _ _ (c.requires.sound.held _ _ _ c.requires.own.level c.in-Some.ensures.some)
+    inside-count _ _ ((two-levels c.requires.sound).held _ _ _ c.requires.own.level c.in-Some.ensures.some)
 
 pub returns-in-None : goal.returns-in-None
 returns-in-None c =

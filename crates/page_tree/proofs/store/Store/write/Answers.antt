@@ -1,4 +1,5 @@
 use Rattle.std.proofs.Common.{arith, ◌∙◌, sym}
+use Rattle.page_tree.proofs.TwoLevels.{two-levels}
 use Rattle.page_tree.proofs.StepLemmas.{frame-fits, entry-small, named-held, PutsLeaf-written, off-written}
 use Rattle.page_tree.proofs.store.Store.write.Goals as goal
 
@@ -10,7 +11,7 @@ entry_from-requires c = entry-small _ _ _ c.requires.sound c.requires.held
 
 pub drop_cell-requires : goal.drop_cell-requires
 drop_cell-requires c = λ f is.
-    let leaf = c.requires.sound.leaves _ _ _ c.requires.own.level c.requires.owns.leads in
+    let leaf = (two-levels c.requires.sound).leaves _ _ _ c.requires.own.level c.requires.owns.leads in
     let held = named-held _ _ c.args.leaf.n c.args.j f c.requires.sound leaf (sym c.entry.ensures ∙ sym c.cell_from-old.ensures.entry ∙ is) in
     omega (arith, held, c.hold_cell.ensures.counts f)
 

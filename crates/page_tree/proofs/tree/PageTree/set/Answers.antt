@@ -27,3 +27,6 @@ returns-clause-alone g c = short-path _ _ _ _ c.write.ensures.puts.own c.write.e
 pub returns-clause-short : goal.returns-clause-short
 returns-clause-short g c = λ q.
     rw (← c.self.view_is) (short-kept_put _ _ _ _ _ _ _ _ _ _ q _ c.own_path-path.ensures.owns c.write.ensures.puts c.write.ensures.owns)
+
+pub returns-clause-trees : goal.returns-clause-trees
+returns-clause-trees g c = rw (← c.self.view_is) ((Keeps-trans _ _ _ _ _ _ _ _ _ c.own_path-path.ensures.owns.keeps c.write.ensures.puts.keeps).trees)
