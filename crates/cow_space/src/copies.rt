@@ -42,6 +42,7 @@ impl Rows {
         requires inside { range.to ≤ PAGES }
         ensures maps { maps self.new ≡ share_range (maps self.old) to from range.from range.to }
         ensures frames { frames_of self.new ≡ frames_of self.old }
+        ensures others { (j : ℕ) → j ≢ to → HasNoTree self.old j → HasNoTree self.new j }
         ensures own { HasOwnRoot self.new to }
         ensures nodes { free_nodes self.old ≤ free_nodes self.new + 3 }
         ensures nodes_own { HasOwnRoot self.old to → free_nodes self.old ≤ free_nodes self.new + 2 }
@@ -62,6 +63,7 @@ impl Rows {
         requires pieces { All (IsPiece (length (maps self.old)) to) pieces.now }
         ensures maps { maps self.new ≡ copy_pieces (maps self.old) to pieces.now }
         ensures frames { frames_of self.new ≡ frames_of self.old }
+        ensures others { (j : ℕ) → j ≢ to → HasNoTree self.old j → HasNoTree self.new j }
         ensures nodes { free_nodes self.old ≤ free_nodes self.new + (1 + 2 * length pieces.now) }
         ensures cost { steps.new ≤ steps.old + (34 + 64 * length pieces.now) }
         ensures cost_empty { HasNoTree self.old to → steps.new ≤ steps.old + 64 * length pieces.now }
@@ -79,6 +81,7 @@ impl Rows {
         ensures maps { maps self.new
             ≡ slice_set (maps self.old) i (put_range (row_of (maps self.old) i) range.from range.to no_pages) }
         ensures frames { frames_of self.new ≡ frames_of self.old }
+        ensures others { (j : ℕ) → j ≢ i → HasNoTree self.old j → HasNoTree self.new j }
         ensures own { (HasNoTree self.new i) ⊎ (HasOwnRoot self.new i) }
         ensures nodes { free_nodes self.old ≤ free_nodes self.new + 3 }
         ensures nodes_own { HasOwnRoot self.old i → free_nodes self.old ≤ free_nodes self.new + 2 }
@@ -97,6 +100,7 @@ impl Rows {
         requires row { i < length (maps self.old) }
         ensures maps { maps self.new ≡ slice_set (maps self.old) i no_pages }
         ensures frames { frames_of self.new ≡ frames_of self.old }
+        ensures others { (j : ℕ) → j ≢ i → HasNoTree self.old j → HasNoTree self.new j }
         ensures nodes { free_nodes self.old ≤ free_nodes self.new }
         ensures empty { HasNoTree self.new i }
         ensures cost { steps.new ≤ steps.old + 33 }
@@ -115,6 +119,7 @@ impl Rows {
         requires apart { from ≢ to }
         ensures maps { maps self.new ≡ slice_set (maps self.old) to (row_of (maps self.old) from) }
         ensures frames { frames_of self.new ≡ frames_of self.old }
+        ensures others { (j : ℕ) → j ≢ to → HasNoTree self.old j → HasNoTree self.new j }
         ensures nodes { free_nodes self.old ≤ free_nodes self.new }
         ensures cost { steps.new ≤ steps.old + 34 }
         ensures cost_empty { HasNoTree self.old to → steps.new ≤ steps.old + 1 }

@@ -73,7 +73,7 @@ impl Rows {
     ghost use Rattle.page_tree.specs.declared.store.TheConstants.{PAGES};
     ghost use Rattle.cow_space.specs.Maps.{row_of};
     ghost use Rattle.cow_space.specs.Writes.{write_page};
-    ghost use Rattle.cow_space.specs.Seen.{frames_of, free_nodes, maps};
+    ghost use Rattle.cow_space.specs.Seen.{frames_of, free_nodes, maps, HasNoTree};
     ghost use Rattle.cow_space.specs.Tags.{IsNewTag, is_parting, taken_by, used};
 
     /// Writes what a piece at an address has of page p of a row, under a new tag if the page parts, and
@@ -101,6 +101,7 @@ impl Rows {
             ≡ write_page (maps self.old) i p (record { at = at; bytes = piece.now }) tag) }
         ensures parted { IfOk result (λ parted. parted ≡ is_parting (maps self.old) (row_of (maps self.old) i p)) }
         ensures frames { frames_of self.new ≡ frames_of self.old }
+        ensures others { (j : ℕ) → j ≢ i → HasNoTree self.old j → HasNoTree self.new j }
         ensures nodes { free_nodes self.old ≤ free_nodes self.new + 2 }
         ensures cost { steps.new ≤ steps.old + 36 }
     {
@@ -133,6 +134,7 @@ impl Rows {
         requires free { used (maps self.old) < frames_of self.old }
         ensures written { maps self.new ≡ write_page (maps self.old) i p (record { at = at; bytes = piece.now }) tag }
         ensures frames { frames_of self.new ≡ frames_of self.old }
+        ensures others { (j : ℕ) → j ≢ i → HasNoTree self.old j → HasNoTree self.new j }
         ensures nodes { free_nodes self.old ≤ free_nodes self.new + 2 }
         ensures cost { steps.new ≤ steps.old + 36 }
     {
@@ -153,6 +155,7 @@ impl Rows {
         ensures written { (tag : Tag) → maps self.new
             ≡ write_page (maps self.old) i p (record { at = at; bytes = piece.now }) tag }
         ensures frames { frames_of self.new ≡ frames_of self.old }
+        ensures others { (j : ℕ) → HasNoTree self.old j → HasNoTree self.new j }
         ensures nodes { free_nodes self.new ≡ free_nodes self.old }
         ensures within { used (maps self.old) ≤ frames_of self.old }
     {

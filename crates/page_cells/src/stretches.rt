@@ -85,6 +85,7 @@ fn fill_row<L: Ledger>(rows: &mut Rows, i: usize, stretches: &[Stretch], steps: 
     ensures maps { rows_seen.maps rows.new
         ≡ slice_set (rows_seen.maps rows.old) i (changed_row (rows_seen.maps rows.old) i stretches.now) }
     ensures frames { rows_seen.frames_of rows.new ≡ rows_seen.frames_of rows.old }
+    ensures others { (j : ℕ) → j ≢ i → rows_seen.HasNoTree rows.old j → rows_seen.HasNoTree rows.new j }
     ensures nodes { rows_seen.free_nodes rows.old ≤ rows_seen.free_nodes rows.new + (1 + 2 * length stretches.now) }
     ensures cost { steps.new ≤ steps.old + (34 + 64 * length stretches.now) }
     ensures cost_empty { rows_seen.HasNoTree rows.old i → steps.new ≤ steps.old + 64 * length stretches.now }
@@ -110,6 +111,7 @@ impl PageCells {
         ensures cells { cells self.new
             ≡ slice_set (cells self.old) i (changed_place (cells self.old) i stretches.now) }
         ensures frames { frames_of self.new ≡ frames_of self.old }
+        ensures others { (j : ℕ) → j ≢ i → HasNoTree self.old j → HasNoTree self.new j }
         ensures nodes { free_nodes self.old ≤ free_nodes self.new + (1 + 2 * length stretches.now) }
         ensures cost { steps.new ≤ steps.old + (34 + 64 * length stretches.now) }
         ensures cost_empty { HasNoTree self.old i → steps.new ≤ steps.old + 64 * length stretches.now }
@@ -126,6 +128,7 @@ impl PageCells {
         requires apart { from ≢ to }
         ensures cells { cells self.new ≡ slice_set (cells self.old) to (place_of (cells self.old) from) }
         ensures frames { frames_of self.new ≡ frames_of self.old }
+        ensures others { (j : ℕ) → j ≢ to → HasNoTree self.old j → HasNoTree self.new j }
         ensures nodes { free_nodes self.old ≤ free_nodes self.new }
         ensures cost { steps.new ≤ steps.old + 34 }
         ensures cost_empty { HasNoTree self.old to → steps.new ≤ steps.old + 1 }
@@ -139,6 +142,7 @@ impl PageCells {
         requires place { i < length (cells self.old) }
         ensures cells { cells self.new ≡ slice_set (cells self.old) i no_pages }
         ensures frames { frames_of self.new ≡ frames_of self.old }
+        ensures others { (j : ℕ) → j ≢ i → HasNoTree self.old j → HasNoTree self.new j }
         ensures nodes { free_nodes self.old ≤ free_nodes self.new }
         ensures empty { HasNoTree self.new i }
         ensures cost { steps.new ≤ steps.old + 33 }

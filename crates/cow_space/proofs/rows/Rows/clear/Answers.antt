@@ -1,4 +1,4 @@
-use Rattle.std.proofs.Common.{ap, ◌∙◌, sym, inl, inr, ⊎_elim, arith}
+use Rattle.std.proofs.Common.{ap, ◌∙◌, sym, inl, inr, ⊎_elim, arith, get_or-set_other}
 use Rattle.std.proofs.lemmas.List.{get_or_read, get_or-set_same}
 use Rattle.page_tree.specs.declared.cell.PageCell.TheVariants.{Absent}
 use Rattle.page_tree.specs.Steps.{root_short}
@@ -91,3 +91,7 @@ returns-clause-cost_empty g c = λ none.
     let inside = rows-in _ _ c.args.self.now.trees.items c.args.i c.requires.row in
     let left_is = get_or_read c.args.self.now.trees.items c.args.i _ inside c.index_mut.ensures.value 0 in
     c.clear_range.ensures.cost_empty (left_is ∙ none)
+
+pub returns-clause-others : goal.returns-clause-others
+unfolding HasNoTree
+returns-clause-others g c = λ j off none. get_or-set_other c.args.self.now.trees.items c.args.i j c.clear_range.new.self 0 off ∙ none

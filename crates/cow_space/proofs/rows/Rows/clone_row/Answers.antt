@@ -1,4 +1,4 @@
-use Rattle.std.proofs.Common.{length, sym, ap, ◌∙◌, arith, length-set}
+use Rattle.std.proofs.Common.{length, sym, ap, ◌∙◌, arith, length-set, get_or-set_other}
 use Rattle.std.proofs.lemmas.List.{get_or_read}
 use Rattle.cow_space.specs.Maps.{no_pages}
 use Rattle.cow_space.specs.Seen.{maps, frames_of, free_nodes, HasNoTree}
@@ -55,3 +55,8 @@ returns-clause-frames g c = c.held_too-tree.ensures.frames.size ∙ c.drop_row.e
 pub returns-clause-nodes : goal.returns-clause-nodes
 unfolding free_nodes
 returns-clause-nodes g c = omega (arith, c.drop_row.ensures.nodes, c.held_too-tree.ensures.free)
+
+pub returns-clause-others : goal.returns-clause-others
+unfolding HasNoTree
+returns-clause-others g c = λ j off none.
+    get_or-set_other c.drop_row.new.self.trees.items c.args.to j c.held_too-tree.result 0 off ∙ c.drop_row.ensures.others j off none

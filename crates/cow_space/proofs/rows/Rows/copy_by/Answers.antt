@@ -12,6 +12,7 @@ loop-piece-init g c =
       copied = refl;
       rows = refl;
       frames = refl;
+      others = λ j off none. none;
       own = λ some. absurd (omega (arith, some));
       empty = λ _ none. none;
       nodes = omega arith;
@@ -41,6 +42,7 @@ loop-piece-preserved g c =
           ∙ ap (copy_pieces (maps c.loop-piece.self) c.args.to) (sym (drop-one pieces k none lt)) ∙ inv.copied;
       rows = ap length mine.maps ∙ length-set (maps c.loop-piece.self) c.args.to _ ∙ inv.rows;
       frames = mine.frames ∙ inv.frames;
+      others = λ j off none. mine.others j off (inv.others j off none);
       own = λ _. mine.own;
       empty = λ is. absurd (omega (arith, is));
       nodes = ⊎_elim

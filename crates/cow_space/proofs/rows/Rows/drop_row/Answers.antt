@@ -1,4 +1,4 @@
-use Rattle.std.proofs.Common.{ap, ◌∙◌, arith}
+use Rattle.std.proofs.Common.{ap, ◌∙◌, arith, get_or-set_other}
 use Rattle.std.proofs.lemmas.List.{get_or_read, get_or-set_same}
 use Rattle.page_tree.specs.declared.cell.PageCell.TheVariants.{Absent}
 use Rattle.cow_space.specs.Cells.{cells}
@@ -58,3 +58,7 @@ unfolding HasNoTree maps
 returns-clause-cost_empty g c = λ none.
     let inside = rows-in _ _ c.args.self.now.trees.items c.args.i c.requires.row in
     c.clear_range.ensures.cost_none (omega arith) (omega arith) (get_or_read c.args.self.now.trees.items c.args.i _ inside c.index_mut.ensures.value 0 ∙ none)
+
+pub returns-clause-others : goal.returns-clause-others
+unfolding HasNoTree
+returns-clause-others g c = λ j off none. get_or-set_other c.args.self.now.trees.items c.args.i j c.clear_range.new.self 0 off ∙ none

@@ -1,7 +1,7 @@
-use Rattle.std.proofs.Common.{sym, ap, ◌∙◌, arith, Some}
+use Rattle.std.proofs.Common.{sym, ap, ◌∙◌, arith, Some, get_or-set_other}
 use Rattle.std.proofs.lemmas.List.{get_or_read}
 use Rattle.cow_space.specs.Cells.{cell_value}
-use Rattle.cow_space.specs.Seen.{maps, frames_of, free_nodes}
+use Rattle.cow_space.specs.Seen.{maps, frames_of, free_nodes, HasNoTree}
 use Rattle.cow_space.proofs.Trees.{rows-in, row-page, kept-tree, kept-free, entry-frame}
 use Rattle.cow_space.proofs.UsedLemmas.{free-used, used-is}
 use Rattle.cow_space.proofs.WriteLemmas.{sound-take, held-taken, part-kept, part-maps, part-size, written-parting}
@@ -89,3 +89,7 @@ unfolding maps frames_of
 fill-frame-requires-clause-free g c =
     let used = used-is c.names_are_ordered.ensures.tags c.names_are_ordered.ensures.one_tag c.trees_account_for_their_store.ensures _ _ _ c.args.self.now.kept in
     omega (arith, used, free-used c.args.self.now.store.frames, c.requires.free)
+
+pub returns-clause-others : goal.returns-clause-others
+unfolding HasNoTree
+returns-clause-others g c = λ j off none. get_or-set_other c.args.self.now.trees.items c.args.i j c.set.new.self 0 off ∙ none

@@ -1,4 +1,4 @@
-use Rattle.std.proofs.Common.{set, sym, ap, ◌∙◌, arith, subst}
+use Rattle.std.proofs.Common.{set, sym, ap, ◌∙◌, arith, subst, get_or-set_other}
 use Rattle.std.proofs.lemmas.List.{get_or_read, get_or-set_same}
 use Rattle.std.proofs.Math.ListN.{length-set}
 use Rattle.page_tree.specs.Steps.{root_short}
@@ -127,3 +127,9 @@ returns-clause-cost_empty g c = λ none.
     let to_in = rows-in _ _ c.args.self.now.trees.items c.args.to c.requires.to in
     let left_is = c.replace-tree.ensures.value ∙ get_or_read c.args.self.now.trees.items c.args.to _ to_in c.index_mut.ensures.value 0 in
     c.share_range.ensures.cost_empty (left_is ∙ none)
+
+pub returns-clause-others : goal.returns-clause-others
+unfolding HasNoTree
+returns-clause-others g c = λ j off none.
+    get_or-set_other (set c.args.self.now.trees.items c.args.to c.replace-tree.new.dest) c.args.to j c.share_range.new.self 0 off
+    ∙ get_or-set_other c.args.self.now.trees.items c.args.to j c.replace-tree.new.dest 0 off ∙ none

@@ -1,6 +1,6 @@
 use Rattle.std.proofs.Common.{refl, sym, ap, ◌∙◌, arith, Some}
 use Rattle.cow_space.specs.Cells.{cell_value}
-use Rattle.cow_space.specs.Seen.{maps, frames_of, free_nodes}
+use Rattle.cow_space.specs.Seen.{maps, frames_of, free_nodes, HasNoTree}
 use Rattle.cow_space.specs.Tags.{is_parting}
 use Rattle.cow_space.proofs.Trees.{rows-in, row-page, parting-none}
 use Rattle.cow_space.proofs.UsedLemmas.{free-used, used-is}
@@ -61,3 +61,7 @@ unfolding maps frames_of
 returns-in-Frame-clause-within c =
     let used = used-is c.names_are_ordered.ensures.tags c.names_are_ordered.ensures.one_tag c.trees_account_for_their_store.ensures _ _ _ c.args.self.now.kept in
     omega (arith, used, free-used c.args.self.now.store.frames)
+
+pub returns-in-Frame-clause-others : goal.returns-in-Frame-clause-others
+unfolding HasNoTree
+returns-in-Frame-clause-others c = λ j none. none

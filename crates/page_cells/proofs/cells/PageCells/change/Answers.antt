@@ -80,3 +80,7 @@ returns-clause-nodes g c = c.fill_row.ensures.nodes
 pub returns-clause-cost_empty : goal.returns-clause-cost_empty
 unfolding HasNoTree
 returns-clause-cost_empty g c = c.fill_row.ensures.cost_empty
+
+pub returns-clause-others : goal.returns-clause-others
+unfolding HasNoTree
+returns-clause-others g c = c.fill_row.ensures.others

@@ -39,3 +39,7 @@ returns-clause-cost_empty g c = c.drop_row.ensures.cost_empty
 pub returns-clause-empty : goal.returns-clause-empty
 unfolding HasNoTree
 returns-clause-empty g c = c.drop_row.ensures.empty
+
+pub returns-clause-others : goal.returns-clause-others
+unfolding HasNoTree
+returns-clause-others g c = c.drop_row.ensures.others

@@ -5,7 +5,7 @@ use Rattle.cow_space.specs.Maps.{row_of}
 use Rattle.cow_space.specs.Tags as tags_of_rows
 use Rattle.page_cells.specs.Cells.{all_cells}
 use Rattle.page_cells.specs.Kept.{IsKept}
-use Rattle.page_cells.specs.Seen.{cells, frames_of, free_nodes}
+use Rattle.page_cells.specs.Seen.{cells, frames_of, free_nodes, HasNoTree}
 use Rattle.page_cells.specs.Tags.{is_parting}
 use Rattle.page_cells.specs.Writes.{write_page}
 use Rattle.page_cells.proofs.OwnTags.{parting-rows}
@@ -87,3 +87,7 @@ returns-clause-frames g c = c.write.ensures.frames
 pub returns-clause-nodes : goal.returns-clause-nodes
 unfolding free_nodes
 returns-clause-nodes g c = c.write.ensures.nodes
+
+pub returns-clause-others : goal.returns-clause-others
+unfolding HasNoTree
+returns-clause-others g c = c.write.ensures.others
