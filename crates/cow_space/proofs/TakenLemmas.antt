@@ -1,5 +1,5 @@
 -- The tags of rows once a page is written: the frames that they use, and the pages that part.
-use Rattle.std.proofs.Common.{◌≡◌, ◌≢◌, ℕ, ◌+◌, ◌<◌, ◌⊎◌, inl, inr, ⊎_elim, Bool, true, false, cond, eqb, ltb, ◌||◌, List, [], ◌∷◌, length, get_or, set, refl, sym, ◌∙◌, ap, arith, subst, length-set, get_or-set_other, Option, None, Some}
+use Rattle.std.proofs.Common.{◌≡◌, ◌≢◌, ℕ, ◌+◌, ◌<◌, ◌⊎◌, inl, inr, ⊎_elim, true, false, cond, eqb, ltb, List, ◌∷◌, length, refl, sym, ◌∙◌, ap, arith, length-set, get_or-set_other, Option, None, Some}
 use Rattle.std.specs.Bool.{one_answer}
 use Rattle.std.specs.Cmp.{IsTotalOrder}
 use Rattle.std.specs.Ordering.{is_eq}

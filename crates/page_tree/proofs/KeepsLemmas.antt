@@ -1,9 +1,9 @@
 -- The other trees and the frames under each kind of small change, and under one change after another.
-use Rattle.std.proofs.Common.{◌≡◌, ◌≢◌, ℕ, zero, suc, ◌+◌, ◌-◌, ◌<◌, ◌≤◌, ◌⊎◌, inl, inr, ⊎_elim, eqb, List, [], get_or, refl, sym, ◌∙◌, ap, arith}
+use Rattle.std.proofs.Common.{◌≡◌, ◌≢◌, ℕ, zero, suc, ◌+◌, ◌<◌, ◌≤◌, ◌⊎◌, inl, inr, ⊎_elim, eqb, List, get_or, refl, sym, ◌∙◌, ap, arith}
 use Rattle.std.proofs.lemmas.Bool.{cases_eq, eq-eqb, ne_eqb, cond-true, cond-false}
 use Rattle.frame_pool.specs.Frame.{Frame, frame_count, frame_stamp, frame_bytes}
 use Rattle.node_pool.specs.Nodes.{Node, count_of, level_of, entry_of}
-use Rattle.page_tree.specs.Pages.{entries_of, link_of, cell_at}
+use Rattle.page_tree.specs.Pages.{link_of, cell_at}
 use Rattle.page_tree.specs.Sound.{uses, trees_at, is_root, IsSound}
 use Rattle.page_tree.specs.Changes.{KeepsTrees, KeepsFrames, Keeps}
 use Rattle.page_tree.proofs.UsesLemmas.{one_if-yes, one_if-no}

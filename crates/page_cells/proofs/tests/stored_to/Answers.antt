@@ -1,4 +1,4 @@
-use Rattle.std.proofs.Common.{ℕ, ap, arith, length, length-set, subst, sym, ◌∙◌, Some}
+use Rattle.std.proofs.Common.{ap, arith, length, length-set, subst, sym, ◌∙◌, Some}
 use Rattle.std.proofs.lemmas.List.{length-replicate}
 use Rattle.lwc_base.specs.declared.name.Tag.{Tag}
 use Rattle.page_cells.specs.declared.stretches.Stretch.{Stretch}

@@ -1,4 +1,4 @@
-use Rattle.std.proofs.Common.{◌≡◌, ℕ, [], subst, sym, ◌∙◌, arith, Option}
+use Rattle.std.proofs.Common.{◌≡◌, ℕ, [], subst, sym, arith, Option}
 use Rattle.std.proofs.lemmas.List.{get_or_read}
 use Rattle.cow_space.specs.Seen.{maps}
 use Rattle.range_map.specs.Kinds.{kind_at}
