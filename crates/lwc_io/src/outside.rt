@@ -58,7 +58,7 @@ pub trait Sink {
         ensures no_fault { OnOk result ((seen self.new).faults ≡ (seen self.old).faults) };
 }
 
-/// Where threads may be made to wait before their turns.
+/// Where threads may be made to wait before their turns, and where it is seen which requests they finish.
 pub trait Gate: Sync {
     /// The leave to come to the gate. A call that is not given it cannot wait there.
     ghost leave: { Self → Type 0 };
@@ -67,6 +67,11 @@ pub trait Gate: Sync {
     /// nothing, and may wait.
     fn before<R: Wait>(&self, rt: &R, thread: u32, turn: u64)
         requires leave { leave self.now };
+
+    /// Called after a turn that finished a request. It promises nothing, and may wait.
+    fn finished<R: Wait>(&self, _rt: &R, _thread: u32, _request: u16)
+        requires leave { leave self.now }
+    {}
 }
 
 /// A gate at which nobody waits.

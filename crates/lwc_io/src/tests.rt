@@ -98,6 +98,7 @@ fn a_sink_that_takes_nothing_fails(rt: HostRuntime) -> Result<(), Fail> {
     check_writes(&rt, &mut full, b"x", &[Err(Failed)]);
     check_writes(&rt, &mut SureSink, b"xyz", &[Ok(3)]);
     OpenGate.before(&rt, 0, 0);
+    OpenGate.finished(&rt, 0, 0);
     Ok(())
 }
 

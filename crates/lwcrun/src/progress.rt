@@ -15,14 +15,15 @@ const TURNS_A_LOOK: u64 = 256;
 /// The last tenth of a second in which no line is shown, counted from 0 on.
 const QUIET_TENTHS: u64 = 9;
 
-/// A gate at which nobody waits. Where standard error is a terminal it counts the turns of all threads, and once a second
-/// has passed it shows their number there, at most once in each tenth of a second.
+/// A gate at which nobody waits. Where standard error is a terminal it counts the turns of all threads and the requests that
+/// they finished, and once a second has passed it shows these numbers there, at most once in each tenth of a second.
 #[derive(Drop)]
 pub struct Progress {
     rt: HostRuntime,
     // When the program began, where standard error is a terminal and there is a clock.
     start: Option<Instant>,
     turns: AtomicU64,
+    requests: AtomicU64,
     // The tenth of a second, counted from the start, in which the line was shown last; at first `QUIET_TENTHS`.
     tenth: AtomicU64,
     is_shown: AtomicBool,
@@ -40,6 +41,7 @@ impl Progress {
             rt,
             start,
             turns: AtomicU64::new(0),
+            requests: AtomicU64::new(0),
             tenth: AtomicU64::new(QUIET_TENTHS),
             is_shown: AtomicBool::new(false),
         }
@@ -57,8 +59,17 @@ impl Progress {
         let turns = self.turns.fetch_add(1, Ordering::SeqCst);
         if turns % TURNS_A_LOOK == 0 && self.enter_tenth(start) {
             self.is_shown.store(true, Ordering::SeqCst);
-            let _ = eprint!(self.rt; "\r\x1b[Klwcrun: {turns} turns");
+            self.show(turns);
         }
+    }
+
+    /// Shows the number of turns, and that of the finished requests where there are any.
+    fn show(&self, turns: u64) {
+        let requests = self.requests.load(Ordering::SeqCst);
+        let _ = match requests {
+            0 => eprint!(self.rt; "\r\x1b[Klwcrun: {turns} turns"),
+            _ => eprint!(self.rt; "\r\x1b[Klwcrun: {turns} turns, {requests} requests"),
+        };
     }
 
     /// Notes which tenth of a second it is. Says whether the line may be shown in it, and nobody noted it before.
@@ -83,6 +94,13 @@ impl Gate for Progress {
     fn before<R: Wait>(&self, _rt: &R, _thread: u32, _turn: u64) {
         if let Some(start) = self.start {
             self.count_turn(start);
+        }
+    }
+
+    /// Returns at once.
+    fn finished<R: Wait>(&self, _rt: &R, _thread: u32, _request: u16) {
+        if self.start.is_some() {
+            self.requests.fetch_add(1, Ordering::SeqCst);
         }
     }
 }

@@ -8,7 +8,7 @@ use lwcrun_core::ExitStatus;
 use std::alloc::AllocError;
 use std::hint::spin_loop;
 use std::sync::Wait;
-use std::sync::atomic::{AtomicBool, Ordering};
+use std::sync::atomic::{AtomicBool, AtomicU64, Ordering};
 use std::test::Fail;
 use std::thread::Threads;
 
@@ -62,6 +62,40 @@ impl Gate for HoldingGate {
         }
         if thread == self.held && turn == 0 {
             self.look();
+        }
+    }
+}
+
+/// A gate at which nobody waits, which counts how often each of four requests was finished.
+#[derive(Drop)]
+struct CountingGate {
+    counts: [AtomicU64; 4],
+}
+
+impl CountingGate {
+    /// A gate that has seen no request.
+    fn new() -> CountingGate {
+        CountingGate {
+            counts: [
+                AtomicU64::new(0),
+                AtomicU64::new(0),
+                AtomicU64::new(0),
+                AtomicU64::new(0),
+            ],
+        }
+    }
+}
+
+impl Gate for CountingGate {
+    ghost leave = { λ _. Unit {0} };
+
+    /// Returns at once.
+    fn before<R: Wait>(&self, _rt: &R, _thread: u32, _turn: u64) {}
+
+    /// Counts the request, and returns.
+    fn finished<R: Wait>(&self, _rt: &R, _thread: u32, request: u16) {
+        if let Some(count) = self.counts.get(usize::from(request)) {
+            count.fetch_add(1, Ordering::SeqCst);
         }
     }
 }
@@ -212,6 +246,23 @@ fn workers_serve_side_by_side(rt: HostRuntime) -> Result<(), Fail> {
         };
         let rest = rest.get(1..).unwrap_or(&[]);
         assert!(rt; rest.starts_with(end.as_bytes()), "thread {held} is held");
+    }
+    Ok(())
+}
+
+#[test]
+fn a_gate_sees_each_request_finished_once(rt: HostRuntime) -> Result<(), Fail> {
+    let guest = assembled(rt.alloc(), COUNTER_HANDLER)?;
+    for line in [
+        "serve guest requests --workers 1",
+        "serve guest requests --workers 3",
+    ] {
+        let gate = CountingGate::new();
+        let left = call_line(&rt, &guest, FOUR_REQUESTS, line, &gate)?;
+        assert_eq!(rt; left.status, ExitStatus::Ok);
+        for count in &gate.counts {
+            assert_eq!(rt; count.load(Ordering::SeqCst), 1, "{line}");
+        }
     }
     Ok(())
 }

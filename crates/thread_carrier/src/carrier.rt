@@ -21,7 +21,8 @@ pub struct Carrier<W: World> {
 }
 
 /// Carries a thread to its end. Each turn has as its proposal the advance of the thread's registers, which is
-/// computed outside the lock, and comes to the gate before. It may wait, and takes no memory.
+/// computed outside the lock. It comes to the gate before each, and after each that finished a request. It may wait, and
+/// takes no memory.
 pub fn carry<R: Wait, W: World, G: Gate>(
     rt: &R,
     process: &Process<W>,
@@ -42,6 +43,9 @@ pub fn carry<R: Wait, W: World, G: Gate>(
         let proposal = advance(process.text(), &carrier.pass.last().regs);
         gate.before(rt, carrier.pass.thread(), carrier.turns);
         process.make_turn(rt, &mut carrier.pass, Some(&proposal));
+        if let Some(finished) = &carrier.pass.last().finished {
+            gate.finished(rt, carrier.pass.thread(), finished.request);
+        }
         carrier.turns += 1;
     }
 }
