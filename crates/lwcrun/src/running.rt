@@ -3,6 +3,8 @@
 use crate::replays::{assembled, replayed};
 use crate::serving::{COUNTER_HANDLER, FOUR_REQUESTS, FOUR_SERVED};
 use crate::tests::{Left, SURE, TWO_THREADS, ZEROS, call_over, image};
+use guest_asm::assemble;
+use lwc_gen::HANDLER;
 use lwc_io::{Gate, OpenGate};
 use lwcrun_core::ExitStatus;
 use std::alloc::AllocError;
@@ -303,6 +305,39 @@ fn request_files_are_refused_before_a_thread_starts(rt: HostRuntime) -> Result<(
             "{said}"
         );
     }
+    Ok(())
+}
+
+/// Reads the word x of its request into page 1, adds it to the first word of page p = 2 + (x mod 298), adds 1 to the first
+/// word of page 0, and replies with both words.
+const GENERATED: &str = ".entry 0
+LI r2, 4096
+LI r3, 8
+SYS 4
+LDW r4, r2, 0
+LI r5, 298
+REMU r5, r4, r5
+ADDI r5, r5, 2
+LI r6, 4096
+MUL r5, r5, r6
+LDW r7, r5, 0
+ADD r7, r7, r4
+STW r7, r5, 0
+LDW r8, r9, 0
+ADDI r8, r8, 1
+STW r8, r9, 0
+LI r1, 1
+MOV r2, r5
+SYS 5
+LI r2, 0
+SYS 5
+HALT
+";
+
+#[test]
+fn the_generated_handler_is_that_of_its_source(rt: HostRuntime) -> Result<(), Fail> {
+    let image = assemble(rt.alloc(), GENERATED.as_bytes())?;
+    assert_eq!(rt; image.text.into_vec().as_slice(), HANDLER.as_slice());
     Ok(())
 }
 
