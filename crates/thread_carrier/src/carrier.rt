@@ -43,10 +43,17 @@ pub fn carry<R: Wait, W: World, G: Gate>(
         let proposal = advance(process.text(), &carrier.pass.last().regs);
         gate.before(rt, carrier.pass.thread(), carrier.turns);
         process.make_turn(rt, &mut carrier.pass, Some(&proposal));
-        if let Some(finished) = &carrier.pass.last().finished {
-            gate.finished(rt, carrier.pass.thread(), finished.request);
-        }
+        tell_finished(rt, &carrier.pass, gate);
         carrier.turns += 1;
+    }
+}
+
+/// Tells the gate of the request that the last turn finished, if it did.
+fn tell_finished<R: Wait, W: World, G: Gate>(rt: &R, pass: &ProcessPass<W>, gate: &G)
+    requires leave { G.leave gate.now }
+{
+    if let Some(finished) = &pass.last().finished {
+        gate.finished(rt, pass.thread(), finished.request);
     }
 }
 
