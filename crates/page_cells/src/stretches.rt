@@ -86,7 +86,8 @@ fn fill_row<L: Ledger>(rows: &mut Rows, i: usize, stretches: &[Stretch], steps: 
         ≡ slice_set (rows_seen.maps rows.old) i (changed_row (rows_seen.maps rows.old) i stretches.now) }
     ensures frames { rows_seen.frames_of rows.new ≡ rows_seen.frames_of rows.old }
     ensures others { (j : ℕ) → j ≢ i → rows_seen.HasNoTree rows.old j → rows_seen.HasNoTree rows.new j }
-    ensures nodes { rows_seen.free_nodes rows.old ≤ rows_seen.free_nodes rows.new + (1 + 2 * length stretches.now) }
+    ensures nodes { rows_seen.free_nodes rows.old
+        ≤ rows_seen.free_nodes rows.new + (1 + 2 * length stretches.now) }
     ensures cost { steps.new ≤ steps.old + (34 + 64 * length stretches.now) }
     ensures cost_empty { rows_seen.HasNoTree rows.old i → steps.new ≤ steps.old + 64 * length stretches.now }
 {

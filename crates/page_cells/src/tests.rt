@@ -122,7 +122,8 @@ fn stored_to<L: Ledger>(
     alloc: Global,
     steps: &mut Steps<L>,
 ) -> Result<PageCells, Fail>
-    ensures { IfOk result (λ places. (k : ℕ) → 1024 ≤ k → IsNewTag (cells places) (record { job = 1; k = k })) }
+    ensures { IfOk result (λ places. (k : ℕ) → 1024 ≤ k
+        → IsNewTag (cells places) (record { job = 1; k = k })) }
 {
     let mut places = PageCells::open(alloc, 1025, 2)?;
     assert_eq!(rt; places.len(), 2);

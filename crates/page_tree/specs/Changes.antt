@@ -6,7 +6,7 @@ use Rattle.page_tree.specs.declared.store.TheConstants.{ROOT_LEVEL}
 use Rattle.page_tree.specs.Pages.{entries_of, link_of, page}
 use Rattle.page_tree.specs.Sound.{naming, trees_at, is_root, IsSound}
 
--- a node is what a link leads to, or below it, this number of levels down with its own
+-- a node is what a link leads to, or lies below that, within this number of levels
 abbrev pub IsBelow : List Node → ℕ → ℕ → ℕ → Type 0
 IsBelow nodes zero link n = ⊥
 IsBelow nodes (suc levels) link n = (link ≡ n + 1) ⊎ ((i : ℕ) × IsBelow nodes levels (link_of nodes link i) n)
