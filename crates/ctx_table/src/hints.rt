@@ -1,5 +1,5 @@
-ghost use Rattle.std.specs.Prelude.{◌≡◌, ◌<◌, IfOk, replicate, slice_index_or, slice_set};
-ghost use Rattle.ctx_table.specs.Hints.{number_of};
+ghost use Rattle.std.specs.Prelude.{◌≡◌, ◌<◌, if◌then◌else◌, IfOk, replicate, slice_index_or, slice_set};
+ghost use Rattle.ctx_table.specs.Hints.{number_of, shares_hint};
 ghost use Rattle.ctx_table.specs.declared.hints.TheConstants.{HINTS};
 
 use lwc_base::{Name, OutOfMemory};
@@ -51,10 +51,15 @@ impl Hints {
         usize::from(self.places[number_of(name)])
     }
 
-    /// Makes a place the hint for a name.
-    pub(crate) fn put(&mut self, name: Name, place: u16)
-        ensures { self.new ≡ slice_set self.old (number_of name) place }
+    /// Makes a place the hint for a name, unless it is that of a live name, which is at the place of the hint. So a
+    /// name that lives long keeps its hint, whatever comes and goes.
+    pub(crate) fn offer(&mut self, name: Name, place: u16, hinted: Option<Name>)
+        ensures { self.new
+            ≡ (if shares_hint hinted name then self.old else slice_set self.old (number_of name) place) }
     {
-        self.places[number_of(name)] = place;
+        match hinted {
+            Some(other) if number_of(other) == number_of(name) => {}
+            _ => self.places[number_of(name)] = place,
+        }
     }
 }

@@ -68,9 +68,10 @@ impl Names {
         ensures places { self.new.places ≡ slice_set self.old.places result (Some name) }
     {
         names_are_ordered();
+        let hinted = self.at(self.hints.place(name));
         let place = self.free_place();
         self.index.insert(name, place);
-        self.hints.put(name, place as u16);
+        self.hints.offer(name, place as u16, hinted);
         self.places[place] = Some(name);
         self.taken = place + 1;
         place
