@@ -6,21 +6,21 @@ use Rattle.guest_isa.specs.declared.instr.Instr.{Instr}
 use Rattle.guest_machine.specs.Advances.{advanced}
 use Rattle.thread_carrier.proofs.carrier.carry.Goals as goal
 
-pub turn-requires-clause-proposal : goal.turn-requires-clause-proposal
-turn-requires-clause-proposal g c κs within =
+pub make_turn-requires-clause-proposal : goal.make_turn-requires-clause-proposal
+make_turn-requires-clause-proposal g c κs within =
     let is = c.advance-proposal.ensures.is_advance in
     subst (λ (text : List Instr). c.advance-proposal.result ≡ advanced text c.advance-proposal.result.before) c.text.ensures (c.advance_is_determined.ensures.one _ c.advance-proposal.result is.0 is.1)
 
 pub turns-preserved : goal.turns-preserved
 turns-preserved g c =
     let going : has_ended c.turns.carrier.pass.last.status ≡ false = search rules in
-    let on = c.turn.ensures.goes_on going in
+    let on = c.make_turn.ensures.goes_on going in
     let first = c.args.carrier.now.pass.held.number in
-    let more : steps_by first c.turn.new.pass.held.seen ≡ steps_by first c.turns.carrier.pass.held.seen + 1 =
-    subst (λ (t : ℕ). steps_by t c.turn.new.pass.held.seen ≡ steps_by t c.turns.carrier.pass.held.seen + 1) c.turns.invariant.number (one_more _ _ _ on) in
+    let more : steps_by first c.make_turn.new.pass.held.seen ≡ steps_by first c.turns.carrier.pass.held.seen + 1 =
+    subst (λ (t : ℕ). steps_by t c.make_turn.new.pass.held.seen ≡ steps_by t c.turns.carrier.pass.held.seen + 1) c.turns.invariant.number (one_more _ _ _ on) in
     record {
-      ours = c.turn.ensures.ours;
-      number = c.turn.ensures.number ∙ c.turns.invariant.number;
+      ours = c.make_turn.ensures.ours;
+      number = c.make_turn.ensures.number ∙ c.turns.invariant.number;
       counted = omega (arith, more, c.turns.invariant.counted);
       turns = omega (arith, longer _ _ _ on, c.turns.invariant.turns);
     }
