@@ -52,13 +52,19 @@ impl PlacedWorld {
         self.linked(self.place(c), n)
     }
 
-    /// Whether a slot of the context at a place has a descriptor of a context.
+    /// Whether a slot of the context at a place has a descriptor of a context. It looks at the last filled slot
+    /// first, since that often has the newest one.
     fn links_at(&self, i: usize, c: Name) -> bool
         requires { i < count self.now.places }
         ensures { result ≡ true → (n : ℕ) × (n < SLOTS)
             × (context_of (value_of (seen self.now) (Slot n) (rows self.now.places i (Slot n))) ≡ Some c) }
     {
         let filled = self.places.filled(i);
+        if let Some(last) = 63_u8.checked_sub(filled.leading_zeros() as u8) {
+            if self.linked(i, last) == Some(c) {
+                return true;
+            }
+        }
         let mut from = 0;
         'slots: while let Some(n) = lowest_bit(filled, from) {
             if self.linked(i, n) == Some(c) {
