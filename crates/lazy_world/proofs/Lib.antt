@@ -8,6 +8,7 @@ mod CopyLemmas
 mod CountLemmas
 mod DropLemmas
 mod EdgeLemmas
+mod EmptyLemmas
 mod FollowLemmas
 mod FoundLemmas
 mod GatherLemmas

@@ -1,15 +1,17 @@
-ghost use Rattle.std.specs.Prelude.{◌≡◌, ◌<◌, ◌≤◌, ◌^◌, IfNone, IfSome, Some, count_by, is_some, not, slice_get};
+ghost use Rattle.std.specs.Prelude.{◌≡◌, ◌<◌, ◌≤◌, ◌^◌, ℕ, IfNone, IfSome, Some, count_by, false, is_some, not, slice_get};
 ghost use Rattle.std.specs.FinMap as fm;
 ghost use Rattle.lwc_base.specs.declared.descriptor.TheConstants.{SLOTS};
 ghost use Rattle.lwc_base.specs.declared.key.Key.TheVariants.{Page, Slot, Cred};
 ghost use Rattle.lwc_base.specs.declared.limits.TheConstants.{MOST_PAGES, MOST_THREADS};
 
 use crate::world::PlacedWorld;
+use fd_table::lowest_bit;
 use lwc_base::{Cell, Descriptor, NOBODY, Name, Regs, SLOTS, Summary};
 use range_map::SegmentKind;
 
 impl PlacedWorld {
     ghost use Rattle.std.specs.List.{find, range_with_len};
+    ghost use Rattle.lwc_base.specs.Capabilities.{has_bit};
     ghost use Rattle.lwc_base.specs.Cells.{slot_at, uid_at, value_of};
     ghost use Rattle.lwc_base.specs.Slots.{lowest_empty};
     ghost use Rattle.lwc_base.specs.Summaries.{is_empty, summary_of};
@@ -105,13 +107,31 @@ impl PlacedWorld {
         matches!(self.slot_at(i, n), Descriptor::Empty)
     }
 
+    /// The slots of the context at a place that may be empty, those that are not filled and those that are
+    /// common: slot n is bit n.
+    fn open_slots(&self, i: usize) -> u64
+        requires { i < count self.now.places }
+        ensures { (n : ℕ) → n < SLOTS → has_bit result n ≡ false →
+            is_empty (value_of (seen self.now) (Slot n) (rows self.now.places i (Slot n))) ≡ false }
+    {
+        !self.places.filled(i) | self.places.common(i)
+    }
+
     /// The lowest empty slot of the context at a place.
     fn lowest_empty_at(&self, i: usize) -> Option<u8>
         requires { i < count self.now.places }
         ensures { result ≡ find (λ n. is_empty (value_of (seen self.now) (Slot n) (rows self.now.places i (Slot n))))
             (range_with_len 0 SLOTS) }
     {
-        (0..SLOTS).find(|n| self.is_slot_empty(i, *n))
+        let open = self.open_slots(i);
+        let mut from = 0;
+        'slots: while let Some(n) = lowest_bit(open, from) {
+            if self.is_slot_empty(i, n) {
+                return Some(n);
+            }
+            from = n + 1;
+        }
+        None
     }
 
     /// The lowest empty slot of the context; `None` if no slot is empty.
