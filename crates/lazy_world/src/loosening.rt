@@ -180,7 +180,7 @@ impl PlacedWorld {
     }
 
     /// Whether a context is live.
-    fn is_live(&self, c: Name) -> bool
+    pub(crate) fn is_live(&self, c: Name) -> bool
         ensures { result ≡ is_live (seen self.now) c }
     {
         self.contexts.place(c).is_some()
