@@ -1,4 +1,4 @@
-; The handler of `gen N`, without its 300 pages: replies to the word x with x + p, where p = 2 + (x mod 298), and with 1.
+; The handler of `gen N`. With the 300 pages of `gen` it replies to the word x with x + p, where p = 2 + (x mod 298), and with 1.
 .entry 0
 LI r2, 4096
 LI r3, 8

@@ -15,7 +15,7 @@ use Rattle.kernel_core.proofs.Others.{found_set}
 use Rattle.kernel_core.proofs.ReadyRuns.{ready_thread, while_running}
 use Rattle.kernel_core.proofs.Reaping.{uncut}
 use Rattle.kernel_core.proofs.Runs.{run-push, peak-push, used_last}
-use Rattle.kernel_core.specs.Changes.{Keeps, KeepsAll, after_effect, made}
+use Rattle.kernel_core.specs.Changes.{IsNumbered, Keeps, KeepsAll, after_effect, made}
 use Rattle.kernel_core.specs.Kernel.{CanOpen, History, machine_of, stepped, turn, turn_at, view_of}
 use Rattle.kernel_core.specs.Machine.{Environment, Machine, Serve, has_ended, homes, homes_of, in_serve, is_ended, recorded, reply_of, steps_after, steps_for_requests, steps_left, work}
 use Rattle.kernel_core.specs.Ready.{CanAct, HasItsJob, IsReady, IsReadyServe, IsReadyThread, IsRunnable, IsWorker, RunFacts, WhileRunning}
@@ -102,6 +102,10 @@ homes_part P (x ∷ xs) names all = homes_part P xs names (λ k d within. all (s
 same_number : (t : ℕ) → eqb t t ≡ true
 same_number t = grind (arith, nat_tests)
 
+-- the effect that a step had has its number
+pub numbered_here : (effect : Option Effect) (serve : Option Serve) → IfSome effect (λ e. IsNumbered e serve) → (f : Effect) → effect ≡ Some f → IsNumbered f serve
+numbered_here effect serve numbered f is = subst (λ (o : Option Effect). IfSome o (λ e. IsNumbered e serve)) is numbered
+
 -- the history under another name
 pub as_seen : (m : Machine) (most : ℕ) (h value : History) → h ≡ value → IsSteady m most h → IsSteady m most value
 as_seen m most h value is steady = subst (IsSteady m most) is steady
@@ -136,6 +140,7 @@ pub record IsMade (m : Machine) (most t : ℕ) (after : AfterStep) (h : History)
   pub steady : 0 < h.room → (u : World) → u ≡ reap after.environment.world (roots (slice_set m.threads t after.thread) after.serve) →
       IsSteady (record m { threads = slice_set m.threads t after.thread; environment = with_world after.environment u; serve = after.serve }) (max most (used u)) (longer h t)
   pub turn : turn (longer h t) t ≡ Some (turn_of after.thread after.finished)
+  pub finished : last_finished (start h.inputs) (h.steps ++ t ∷ []) t None ≡ after.finished
   pub turn_in : (r : Option ℕ) → turn_at (machine_of (longer h t)) t r ≡ Some (turn_of after.thread (recorded after.serve r))
   pub less : work (machine_of (longer h t)) < work (machine_of h)
 
@@ -144,6 +149,7 @@ pub record IsRest (t : ℕ) (x : Thread) (h : History) : Type 0 where
   pub ended : is_ended (machine_of h) t ≡ true
   pub kept : stepped h t ≡ h
   pub turn : turn h t ≡ Some (turn_of x None)
+  pub finished : last_finished (start h.inputs) h.steps t None ≡ None
   pub turn_in : turn_at (machine_of h) t None ≡ Some (turn_of x None)
 
 -- no step changes the number of workers
@@ -283,6 +289,7 @@ module _ (facts : RunFacts) (m : Machine) (most : ℕ) (h : History) (steady : I
           ended = ended;
           kept = stepped_by h t true ended;
           turn = last_turn None (ended_none (start h.inputs) h.steps t None (λ was. refl) ended);
+          finished = ended_none (start h.inputs) h.steps t None (λ was. refl) ended;
           turn_in = turn_here None;
         }
 
@@ -333,6 +340,7 @@ module _ (facts : RunFacts) (m : Machine) (most : ℕ) (h : History) (steady : I
             turn = ap (λ (f : Option Finished). option_map (λ y. turn_of y f) (slice_get (machine_of (longer h t)).threads t)) finished_here
                 ∙ ap (λ (k : Machine). option_map (λ y. turn_of y made_after.finished) (slice_get k.threads t)) (sym machine_after)
                 ∙ ap (option_map (λ y. turn_of y made_after.finished)) (found_set m.threads t x made_after.thread found);
+            finished = finished_here;
             turn_in = λ r.
                 ap (λ (k : Machine). option_map (λ y. turn_of y (recorded k.serve r)) (slice_get k.threads t)) (sym machine_after)
                 ∙ ap (option_map (λ y. turn_of y (recorded made_after.serve r))) (found_set m.threads t x made_after.thread found);

@@ -60,6 +60,10 @@ abbrev pub after_effect : Effect → Environment → Option Serve → Thread →
 after_effect effect e serve x =
     record { thread = x; environment = e; serve = serve; finished = recorded serve effect.finished }
 
+-- an effect has the number of the request that it has finished, if any
+abbrev pub IsNumbered : Effect → Option Serve → Type 0
+IsNumbered effect serve = effect.finished ≡ option_map (λ f. f.request) (recorded serve effect.finished)
+
 -- what a step leaves, if one was made
 abbrev pub made : Option Effect → Environment → Option Serve → Thread → Option AfterStep
 made effect e serve x = option_map (λ f. after_effect f e serve x) effect

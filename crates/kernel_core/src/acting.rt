@@ -1,7 +1,7 @@
 ghost use Rattle.std.specs.Prelude.{◌≡◌, ◌<◌, ◌≤◌, IfOk, IfSome, IsOk, None, OnErr, OnOk, length, true};
 ghost use Rattle.guest_isa.specs.Instructions.{IsInstruction, IsText};
 ghost use Rattle.guest_machine.specs.Advances.{IfShared, advanced};
-ghost use Rattle.kernel_core.specs.Changes.{Keeps, KeepsAll, MakesAll, after_effect, made};
+ghost use Rattle.kernel_core.specs.Changes.{IsNumbered, Keeps, KeepsAll, MakesAll, after_effect, made};
 ghost use Rattle.kernel_core.specs.Machine.{home_of};
 ghost use Rattle.kernel_core.specs.Ready.{CanAct, CanServe, HasItsJob, WhileRunning};
 ghost use Rattle.kernel_core.specs.Step as spec;
@@ -76,6 +76,7 @@ pub(crate) fn step_thread<W: World>(
         spec.thread_outcome spec.guest_calls t (spec.beside (W.seen world.old) io.old) serve.old text.now
         thread.old thread.old.status
         ≡ made effect (spec.beside (W.seen world.new) io.new) serve.new thread.new) }
+    ensures number { IfOk result (λ effect. IfSome effect (λ e. IsNumbered e serve.new)) }
     ensures kept { IfOk result (λ effect. KeepsAll effect
         (W.seen world.old) io.old serve.old thread.old (W.seen world.new) io.new serve.new thread.new) }
     ensures err { OnErr result (W.seen world.new ≡ W.seen world.old) }
@@ -109,6 +110,7 @@ fn settle<W: World>(
     requires begun { IfSome serve.old (λ s. (1 ≤ thread.old.job) × (thread.old.job ≤ s.next)) }
     requires known { IfSome serve.old (λ s. s.next ≤ length io.now.requests) }
     requires replies { IfSome serve.old (λ s. length s.replies ≡ length io.now.requests) }
+    ensures number { IsNumbered result serve.new }
     ensures after { spec.settled t serve.old (spec.unchanged (spec.beside (W.seen world.now) io.now) thread.old)
         ≡ after_effect result (spec.beside (W.seen world.now) io.now) serve.new thread.new }
     ensures kept { (w : World) (x : Thread) → Keeps change w x (W.seen world.now) thread.old →
@@ -141,6 +143,7 @@ fn wake<W: World>(
 ) -> Result<Effect, OutOfMemory>
     requires number { t < MOST_THREADS }
     requires serve { IfSome serve.old (λ s. (t < s.workers) × CanServe (W.seen world.old) io.now s) }
+    ensures number { IfOk result (λ effect. IsNumbered effect serve.new) }
     ensures after { IfOk result (λ effect.
         spec.woken t serve.old (spec.beside (W.seen world.old) io.now) thread.old
         ≡ after_effect effect (spec.beside (W.seen world.new) io.now) serve.new thread.new) }

@@ -1,4 +1,4 @@
-ghost use Rattle.std.specs.Prelude.{◌≡◌, ◌≢◌, ◌<◌, All, ◌≤◌, ◌+◌, ◌*◌, ◌-◌, ◌^◌, ◌++◌, ◌∷◌, [], false, max, true, IfErr, IfOk, IfSome, IsOk, OnErr, OnOk, Some, length, vec_capacity, vec_len};
+ghost use Rattle.std.specs.Prelude.{◌≡◌, ◌≢◌, ◌<◌, All, ◌≤◌, ◌+◌, ◌*◌, ◌-◌, ◌^◌, ◌++◌, ◌∷◌, [], false, max, true, None, IfErr, IfOk, IfSome, IsOk, OnErr, OnOk, Some, length, vec_capacity, vec_len};
 ghost use Rattle.guest_image.specs.Limits.{IsImage};
 ghost use Rattle.guest_machine.specs.Advances.{advanced};
 ghost use Rattle.kernel_core.specs.Kernel as spec;
@@ -165,8 +165,8 @@ impl<W: World> Kernel<W> {
         Ok(self.turn(t, finished))
     }
 
-    /// The same step. It answers the number of the request that the step has finished, if it has, in place of
-    /// the turn, which `note_turn` tells.
+    /// The step of `step`, which answers the number of the request that it has finished, if it has, in place of
+    /// the turn. `note_turn` tells the turn by that number.
     pub fn make_step(
         &mut self,
         t: u32,
@@ -177,6 +177,8 @@ impl<W: World> Kernel<W> {
         requires proposal { IfSome proposal (λ a. a.now ≡ advanced self.old.inputs.image.text a.now.before) }
         ensures step { OnOk result (self.new ≡ spec.stepped self.old t) }
         ensures turn { IfOk result (λ r. spec.turn self.new t ≡ spec.turn_at (machine_of self.new) t r) }
+        ensures number { IfOk result (λ r. r ≡ option_map (λ f. f.request)
+            (runs.last_finished (start self.new.inputs) self.new.steps t None)) }
         ensures room { OnOk result (is_ended (machine_of self.old) t ≡ false →
             self.new.room + 1 ≡ self.old.room) }
         ensures work { OnOk result (is_ended (machine_of self.old) t ≡ false →

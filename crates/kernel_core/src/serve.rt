@@ -68,7 +68,7 @@ impl Serve {
     }
 
     /// Records the reply of request `r`, whose thread has ended with a status. It takes no memory.
-    // A reply has 4096 bytes: out of line, no other step has a place for one.
+    // Not inlined, so that other steps set no memory aside for a reply of 4096 bytes.
     #[inline(never)]
     pub(crate) fn record_reply(&mut self, io: &Channels, r: u16, status: ThreadStatus)
         requires request { r < length io.now.requests }

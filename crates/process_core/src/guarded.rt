@@ -14,8 +14,9 @@ use lwc_base::OutOfMemory;
 use turnstile::Turned;
 use world_face::World;
 
-/// A kernel over a roomy world, whose steps are a legal history, with room for all the steps that are left. It is in
-/// a box, since the lock moves it twice in each turn.
+/// A kernel over a roomy world, whose steps are a legal history, with room for all the steps that are left.
+///
+/// The kernel is in a box, since the lock moves it twice in each turn.
 #[derive(Drop)]
 pub(crate) struct Guarded<W: World> {
     pub(crate) kernel: Box<Kernel<W>>,

@@ -1,12 +1,16 @@
-use Rattle.std.proofs.Common.{◌≡◌, ◌<◌, ◌∙◌, All, IfSome, List, None, ap, arith, length, subst, sym}
+use Rattle.std.proofs.Common.{◌≡◌, ◌<◌, ◌∙◌, All, IfSome, List, None, Option, ap, arith, length, subst, sym}
+use Rattle.std.specs.Option.{option_map}
 use Rattle.std.proofs.lemmas.List.{length-set}
 use Rattle.guest_isa.specs.Instructions.{IsText}
 use Rattle.guest_isa.specs.declared.instr.Instr.{Instr}
 use Rattle.guest_machine.specs.Advances.{advanced}
-use Rattle.kernel_core.proofs.Steps.{acts, as_seen, contexts_part, has_steps, homes_part, is_ready, made_here, nothing_left, one_longer, reaped_as, reaped_back, rested_here, serves, steady_as, used_kept, within}
+use Rattle.kernel_core.proofs.Steps.{acts, as_seen, contexts_part, has_steps, homes_part, is_ready, made_here, nothing_left, numbered_here, one_longer, reaped_as, reaped_back, rested_here, serves, steady_as, used_kept, within}
 use Rattle.kernel_core.specs.Kernel.{History, machine_of, turn, turn_at}
 use Rattle.kernel_core.specs.Machine.{work}
+use Rattle.kernel_core.specs.Runs.{last_finished}
+use Rattle.kernel_core.specs.Start.{start}
 use Rattle.kernel_core.specs.declared.thread.Thread.{Thread}
+use Rattle.snapshot_host.specs.declared.finishing.Finished.{Finished}
 use Rattle.world_face.specs.Calls.{IsLive}
 use Rattle.kernel_core.proofs.kernel.Kernel.make_step.Goals as goal
 
@@ -47,6 +51,13 @@ returns-in_default-clause-turn g c =
     let rest = rested_here c.runs_stay_ready.ensures _ _ _ (as_seen _ _ _ _ c.self.view_is c.self.invariant.1) c.args.t _ _ _ _ _ _ c.requires.within c.index.ensures
     c.in_ok-effect.ensures.outcome c.in_ok-effect.ensures.kept c.in_default.is in
     subst (λ (h : History). turn h c.args.t ≡ turn_at (machine_of h) c.args.t None) (sym c.self.view_is) (rest.turn ∙ sym rest.turn_in)
+
+pub returns-in_default-clause-number : goal.returns-in_default-clause-number
+returns-in_default-clause-number g c =
+    let rest = rested_here c.runs_stay_ready.ensures _ _ _ (as_seen _ _ _ _ c.self.view_is c.self.invariant.1) c.args.t _ _ _ _ _ _ c.requires.within c.index.ensures
+    c.in_ok-effect.ensures.outcome c.in_ok-effect.ensures.kept c.in_default.is in
+    subst (λ (h : History). None ≡ option_map (λ f. f.request) (last_finished (start h.inputs) h.steps c.args.t None)) (sym c.self.view_is)
+    (ap (λ (o : Option Finished). option_map (λ f. f.request) o) (sym rest.finished))
 
 pub returns-in_default-clause-room : goal.returns-in_default-clause-room
 returns-in_default-clause-room g c going =
@@ -104,6 +115,15 @@ returns-clause-turn g c =
     c.in_ok-effect.ensures.outcome c.in-Some.effect c.in-Some.is in
     subst (λ (h : History). turn h c.args.t ≡ turn_at (machine_of h) c.args.t c.in-Some.effect.finished)
     (sym (one_longer _ _ _ _ _ _ _ _ c.self.view_is c.append.ensures.steps)) (made.turn ∙ sym (made.turn_in c.in-Some.effect.finished))
+
+pub returns-clause-number : goal.returns-clause-number
+returns-clause-number g c =
+    let made = made_here c.runs_stay_ready.ensures _ _ _ (as_seen _ _ _ _ c.self.view_is c.self.invariant.1) c.args.t _ _ _ _ _ _ c.requires.within c.index.ensures
+    c.in_ok-effect.ensures.outcome c.in-Some.effect c.in-Some.is in
+    let numbered = numbered_here _ _ c.in_ok-effect.ensures.number c.in-Some.effect c.in-Some.is in
+    subst (λ (h : History). c.in-Some.effect.finished ≡ option_map (λ f. f.request) (last_finished (start h.inputs) h.steps c.args.t None))
+    (sym (one_longer _ _ _ _ _ _ _ _ c.self.view_is c.append.ensures.steps))
+    (numbered ∙ ap (λ (o : Option Finished). option_map (λ f. f.request) o) (sym made.finished))
 
 pub returns-clause-work : goal.returns-clause-work
 returns-clause-work g c going =
