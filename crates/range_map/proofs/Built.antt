@@ -1,5 +1,5 @@
 -- Segments of the runs of pages below a page.
-use Rattle.std.proofs.Common.{◌≡◌, ℕ, zero, suc, get_or, ◌+◌, ◌-◌, ◌<◌, ◌≤◌, ◌++◌, true, false, List, [], ◌∷◌, ap, arith, leb, length, length-append, ltb, refl, sym, ◌∙◌, ⊎_elim, Option, None, Some}
+use Rattle.std.proofs.Common.{◌≡◌, ℕ, zero, suc, get_or, ◌+◌, ◌-◌, ◌<◌, ◌≤◌, ◌++◌, true, false, Bool, List, [], ◌∷◌, ap, arith, cond, leb, length, length-append, ltb, refl, sym, ◌∙◌, inl, inr, ◌⊎◌, ⊎_elim, Option, None, Some}
 use Rattle.std.specs.Prelude.{All, is_some}
 use Rattle.std.specs.List.{AllPairs, find}
 use Rattle.std.proofs.lemmas.List.Elements.{All-append}
@@ -8,7 +8,7 @@ use Rattle.std.specs.Option.{option_map, option_or}
 use Rattle.std.proofs.lemmas.Bool.{cases_lt, and_from, and_left, and_right, lt-ltb, le-ltb, le-leb, lt-leb}
 use Rattle.std.proofs.lemmas.List.Folds.{find-append}
 use Rattle.lwc_base.specs.declared.limits.TheConstants.{MOST_PAGES}
-use Rattle.range_map.specs.Kinds.{IsBefore, IsCanonical, begins_range, is_between, kind_at, ranges}
+use Rattle.range_map.specs.Kinds.{IsBefore, IsCanonical, IsSegment, begins_range, is_between, kind_at, ranges}
 use Rattle.range_map.specs.declared.segment.Segment.{Segment}
 use Rattle.range_map.specs.declared.segment.SegmentKind.{SegmentKind}
 use Rattle.range_map.proofs.Ranges.{absent_ranges, kinds_parted, one_more, ranges_same}
@@ -27,30 +27,45 @@ pub record HasRunsBelow (p : ℕ) (kinds : ℕ → Option SegmentKind) (segments
   pub done : (q : ℕ) → q < p → kind_at segments q ≡ kinds q
   pub rest : (q : ℕ) → p ≤ q → kind_at segments q ≡ None
 
+-- a further element that does not pass leaves what is found
+pub find_off : {X : Type 0} (test : X → Bool) (xs : List X) (x : X) → test x ≡ false → find test (xs ++ x ∷ []) ≡ find test xs
+find_off test xs x off = rw (find-append test xs (x ∷ []), off) (or_none (find test xs))
+  where
+    or_none : {X : Type 0} (o : Option X) → option_or o None ≡ o
+    or_none None = refl
+    or_none (Some y) = refl
+
+-- a further element that passes is found where no other is
+pub find_on : {X : Type 0} (test : X → Bool) (xs : List X) (x : X) → test x ≡ true → find test xs ≡ None → find test (xs ++ x ∷ []) ≡ Some x
+find_on test xs x on none = rw (find-append test xs (x ∷ []), on, none) refl
+
+-- no value comes of no value
+map_none : {X Y : Type 0} (f : X → Y) (o : Option X) → option_map f o ≡ None → o ≡ None
+map_none f None is = refl
+map_none f (Some x) is = absurd cc
+
 -- a further segment leaves the pages that it has not
 push_off : (segments : List Segment) (s : Segment) (q : ℕ) → is_between s.from s.to q ≡ false → kind_at (segments ++ s ∷ []) q ≡ kind_at segments q
 unfolding kind_at
-push_off segments s q off = rw (find-append (λ s. is_between s.from s.to q) segments (s ∷ []), off) (or_none (find (λ s. is_between s.from s.to q) segments))
-  where
-    or_none : (o : Option Segment) → option_map (λ s. s.kind) (option_or o None) ≡ option_map (λ s. s.kind) o
-    or_none None = refl
-    or_none (Some t) = refl
+push_off segments s q off = ap (option_map (λ (t : Segment). t.kind)) (find_off (λ t. is_between t.from t.to q) segments s off)
 
 -- a further segment gives its kind to absent pages
 push_on : (segments : List Segment) (s : Segment) (q : ℕ) → is_between s.from s.to q ≡ true → kind_at segments q ≡ None → kind_at (segments ++ s ∷ []) q ≡ Some s.kind
 unfolding kind_at
-push_on segments s q on none = rw (find-append (λ s. is_between s.from s.to q) segments (s ∷ []), on) (or_some (find (λ s. is_between s.from s.to q) segments) none)
-  where
-    or_some : (o : Option Segment) → option_map (λ s. s.kind) o ≡ None → option_map (λ s. s.kind) (option_or o (Some s)) ≡ Some s.kind
-    or_some None is = refl
-    or_some (Some t) is = absurd (grind arith)
+push_on segments s q on none =
+    ap (option_map (λ (t : Segment). t.kind)) (find_on (λ t. is_between t.from t.to q) segments s on (map_none (λ t. t.kind) (find (λ t. is_between t.from t.to q) segments) none))
 
 all_one : {X : Type 0} (P : X → Type 0) (x : X) → P x → All P (x ∷ [])
 all_one P x holds zero d inside = holds
 all_one P x holds (suc k) d inside = absurd (omega arith)
 
-between : (from to q : ℕ) → from ≤ q → q < to → is_between from to q ≡ true
+-- a page that is from one on and below another is between them, and no other one
+pub between : (from to q : ℕ) → from ≤ q → q < to → is_between from to q ≡ true
 between from to q low high = and_from (leb from q) (ltb q to) (le-leb from q low) (lt-ltb q to high)
+
+pub not_between : (from to q : ℕ) → (q < from) ⊎ (to ≤ q) → is_between from to q ≡ false
+not_between from to q off =
+    ⊎_elim (λ low. and_left (leb from q) (ltb q to) (lt-leb from q low)) (λ high. and_right (leb from q) (ltb q to) (le-ltb q to high)) off
 
 module _ (kinds : ℕ → Option SegmentKind) (p e : ℕ) (segments : List Segment) (past : p < e) (alike : (q : ℕ) → p ≤ q → q < e → kinds q ≡ kinds p)
     (begins : begins_range kinds p ≡ is_some (kinds p)) (built : HasRunsBelow p kinds segments) where
@@ -83,10 +98,10 @@ module _ (kinds : ℕ → Option SegmentKind) (p e : ℕ) (segments : List Segme
         });
     counted = length-append segments (s ∷ []) ∙ ap (λ n. n + 1) built.counted ∙ sym (one_more kinds p (e - p - 1) e (omega arith) alike begins ∙ rw some refl);
     done = λ q high. ⊎_elim
-        (λ low. push_off segments s q (and_left (leb s.from q) (ltb q s.to) (lt-leb s.from q (omega arith))) ∙ built.done q low)
+        (λ low. push_off segments s q (not_between s.from s.to q (inl (omega arith))) ∙ built.done q low)
         (λ low. push_on segments s q (between s.from s.to q (omega arith) (omega arith)) (built.rest q low) ∙ sym (alike q low high ∙ some))
         (cases_lt q p);
-    rest = λ q low. push_off segments s q (and_right (leb s.from q) (ltb q s.to) (le-ltb q s.to (omega arith))) ∙ built.rest q (omega arith);
+    rest = λ q low. push_off segments s q (not_between s.from s.to q (inr (omega arith))) ∙ built.rest q (omega arith);
   }
 
 -- segments of the runs of all pages are canonical
@@ -107,3 +122,34 @@ none_built kinds = record { each = λ k d inside. absurd (omega arith); apart = 
 pub none_canonical : IsCanonical []
 unfolding kind_at
 none_canonical = record { some = λ k d inside. absurd (omega arith); apart = λ i j d before inside. absurd (omega arith); within = λ p low. refl; counted = sym (absent_ranges (kind_at []) (λ p. refl)) }
+
+-- where nothing is found, no element passes
+find_none : {X : Type 0} (test : X → Bool) (xs : List X) (k : ℕ) (d : X) → k < length xs → find test xs ≡ None → test (get_or xs k d) ≡ false
+find_none test [] k d inside none = absurd (omega arith)
+find_none test (x ∷ xs) zero d inside none = first (test x) none
+  where
+    first : (b : Bool) → cond b (Some x) (find test xs) ≡ None → b ≡ false
+    first true is = absurd cc
+    first false is = refl
+find_none test (x ∷ xs) (suc k) d inside none = find_none test xs k d (omega arith) (rest (test x) none)
+  where
+    rest : (b : Bool) → cond b (Some x) (find test xs) ≡ None → find test xs ≡ None
+    rest true is = absurd cc
+    rest false is = is
+
+-- no page of canonical segments is past the last one
+pub segments_inside : (segments : List Segment) → IsCanonical segments → All IsSegment segments
+unfolding kind_at
+segments_inside segments canonical k d inside = record { some = some; inside = ⊎_elim (λ past. absurd (beyond past)) (λ within. within) (cases_lt MOST_PAGES s.to) }
+  where
+    s : Segment
+    s = get_or segments k d
+
+    some : s.from < s.to
+    some = canonical.some k d inside
+
+    beyond : MOST_PAGES < s.to → ⊥
+    beyond past =
+        let off = find_none (λ t. is_between t.from t.to (s.to - 1)) segments k d inside (map_none (λ t. t.kind) (find (λ t. is_between t.from t.to (s.to - 1)) segments) (canonical.within (s.to - 1) (omega arith))) in
+        let on = between s.from s.to (s.to - 1) (omega arith) (omega arith) in
+        cc

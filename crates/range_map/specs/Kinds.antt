@@ -55,6 +55,11 @@ begins_range kinds p = is_some (kinds p) && not (continues_range kinds p)
 unfoldable pub ranges : ℕ → (ℕ → Option SegmentKind) → ℕ
 ranges pages kinds = count_by (begins_range kinds) (range_with_len 0 pages)
 
+-- a segment has a page, and none past the last one
+pub record IsSegment (s : Segment) : Type 0 where
+  pub some : s.from < s.to
+  pub inside : s.to ≤ MOST_PAGES
+
 -- a segment ends before another begins, or where it begins if they are not alike
 pub record IsBefore (s t : Segment) : Type 0 where
   pub ordered : s.to ≤ t.from

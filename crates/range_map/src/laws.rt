@@ -15,3 +15,10 @@ pub fn ranges_are_those_of_the_context()
         → ((p : ℕ) → pages ≤ p → p < MOST_PAGES → kinds p ≡ None)
         → base.ranges pages x ≡ ranges MOST_PAGES kinds }
 {}
+
+/// Two functions that give the pages the same kinds have the same number of ranges.
+#[tactic(auto, using(crate::proofs::Ranges::ranges_same))]
+pub fn ranges_go_by_kinds()
+    ensures { (f g : ℕ → Option SegmentKind) (pages : ℕ) → ((p : ℕ) → p < pages → f p ≡ g p)
+        → ranges pages f ≡ ranges pages g }
+{}

@@ -8,6 +8,7 @@ pub(crate) mod stretches;
 #[cfg(test)]
 mod tests;
 
-pub use laws::ranges_are_those_of_the_context;
+pub use laws::{ranges_are_those_of_the_context, ranges_go_by_kinds};
 pub use map::{RangeMap, TooManyRanges};
 pub use segment::{Change, Segment, SegmentKind};
+pub use stretches::sooner_edge;

@@ -1,7 +1,7 @@
-ghost use Rattle.std.specs.Prelude.{◌≡◌, ◌<◌, ◌≤◌, ℕ, [], None, OnOk, OnErr, is_err, nat_lt};
+ghost use Rattle.std.specs.Prelude.{◌≡◌, ◌<◌, ◌≤◌, ℕ, [], All, None, OnOk, OnErr, is_err, length, nat_lt};
 ghost use Rattle.lwc_base.specs.declared.limits.TheConstants.{MOST_PAGES, MOST_RANGES};
 ghost use Rattle.range_map.specs.Kinds as spec;
-ghost use Rattle.range_map.specs.Kinds.{IsCanonical, ranges};
+ghost use Rattle.range_map.specs.Kinds.{IsCanonical, IsSegment, ranges};
 
 use crate::segment::{Change, Segment, SegmentKind};
 use crate::stretches;
@@ -50,6 +50,16 @@ impl RangeMap {
             segments.push(*segment);
         }
         RangeMap { segments }
+    }
+
+    /// The segments, one for each range, in rising order.
+    pub fn segments(&self) -> &[Segment]
+        ensures items { result.now ≡ self.now }
+        ensures canonical { IsCanonical self.now }
+        ensures few { length result.now ≤ MOST_RANGES }
+        ensures each { All IsSegment self.now }
+    {
+        self.segments.as_slice()
     }
 
     /// The kind of a page; `None` where it is absent, as are all past the last one.

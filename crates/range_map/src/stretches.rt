@@ -68,12 +68,23 @@ pub(crate) fn next_edge(segments: &[Segment], changes: &[Change], p: u16) -> u16
 {
     let mut edge = MOST_PAGES as u16;
     for segment in segments {
-        edge = sooner(p, sooner(p, edge, segment.from), segment.to);
+        edge = sooner_edge(segment.from, segment.to, p, edge);
     }
     for change in changes {
-        edge = sooner(p, sooner(p, edge, change.from), change.to);
+        edge = sooner_edge(change.from, change.to, p, edge);
     }
     edge
+}
+
+/// Where the pages from one up to and without another first begin or end past a page, if that is before the
+/// edge; else the edge.
+pub fn sooner_edge(from: u16, to: u16, p: u16, edge: u16) -> u16
+    requires { p < edge }
+    ensures past { p < result }
+    ensures within { result ≤ edge }
+    ensures alike { (q : ℕ) → p ≤ q → q < result → is_between from to q ≡ is_between from to p }
+{
+    sooner(p, sooner(p, edge, from), to)
 }
 
 /// The lesser of an edge and another number, if that lies past the page.

@@ -50,7 +50,10 @@ fn ranges_are_runs_of_pages_of_one_kind(rt: HostRuntime) -> Result<(), Fail> {
     for (changes, ranges, kinds) in rows {
         assert_eq!(rt; map.count_after(&changes), ranges);
         assert_eq!(rt; map.replace(&changes), Ok(()));
-        assert_eq!(rt; (map.count(), map.copy().count()), (ranges, ranges));
+        assert_eq!(rt;
+            (map.count(), map.copy().count(), map.segments().len()),
+            (ranges, ranges, ranges as usize)
+        );
         assert_eq!(rt; [map.kind_at(3), map.kind_at(4), map.kind_at(1023)], kinds);
     }
     Ok(())

@@ -6,13 +6,13 @@ use Rattle.range_map.proofs.stretches.next_edge.Goals as goal
 
 pub loop-segment-preserved : goal.loop-segment-preserved
 loop-segment-preserved c =
-    let begin = c.sooner.ensures in
-    let end = c.sooner-edge.ensures in
+    let next = c.sooner_edge-edge.ensures in
+    let inv = c.loop-segment.invariant in
     record {
-      past = end.past;
-      within = omega (arith, begin.within, end.within, c.loop-segment.invariant.within);
-      none = no_edge_more (λ s. s.from) (λ s. s.to) c.args.p c.loop-segment.edge c.sooner.result c.sooner-edge.result c.loop-segment.segment-index c.args.segments.now _
-          c.loop-segment-test.true begin.within end.within begin.other end.other c.loop-segment.invariant.none;
+      past = next.past;
+      within = omega (arith, next.within, inv.within);
+      none = no_edge_more (λ s. s.from) (λ s. s.to) c.args.p c.loop-segment.edge c.sooner_edge-edge.result c.loop-segment.segment-index c.args.segments.now _
+          c.loop-segment-test.true next.within next.alike inv.none;
     }
 
 pub loop-change-init : goal.loop-change-init
@@ -27,15 +27,14 @@ loop-change-init c =
 
 pub loop-change-preserved : goal.loop-change-preserved
 loop-change-preserved c =
-    let begin = c.sooner-in-loop-change.ensures in
-    let end = c.sooner-edge-in-loop-change.ensures in
+    let next = c.sooner_edge-edge-in-loop-change.ensures in
     let inv = c.loop-change.invariant in
     record {
-      past = end.past;
-      within = omega (arith, begin.within, end.within, inv.within);
-      none = no_edge_nearer (λ s. s.from) (λ s. s.to) c.args.p c.loop-change.edge c.sooner-edge-in-loop-change.result c.args.segments.now (omega (arith, begin.within, end.within)) inv.none;
-      clear = no_edge_more (λ s. s.from) (λ s. s.to) c.args.p c.loop-change.edge c.sooner-in-loop-change.result c.sooner-edge-in-loop-change.result c.loop-change.change-index c.args.changes.now _
-          c.loop-change-test.true begin.within end.within begin.other end.other inv.clear;
+      past = next.past;
+      within = omega (arith, next.within, inv.within);
+      none = no_edge_nearer (λ s. s.from) (λ s. s.to) c.args.p c.loop-change.edge c.sooner_edge-edge-in-loop-change.result c.args.segments.now next.within inv.none;
+      clear = no_edge_more (λ s. s.from) (λ s. s.to) c.args.p c.loop-change.edge c.sooner_edge-edge-in-loop-change.result c.loop-change.change-index c.args.changes.now _
+          c.loop-change-test.true next.within next.alike inv.clear;
     }
 
 pub returns-clause-alike : goal.returns-clause-alike
