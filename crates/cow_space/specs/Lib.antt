@@ -2,7 +2,6 @@ pub mod Cells
 pub mod Kept
 pub mod Laws
 pub mod Maps
-pub mod Pieces
 pub mod Seen
 pub mod Takes
 pub mod Tags

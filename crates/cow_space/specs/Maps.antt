@@ -1,8 +1,7 @@
 -- Maps from pages to values, one for each row.
-use Rattle.std.specs.Prelude.{ℕ, ◌==◌, ◌&&◌, if◌then◌else◌, List, [], ◌∷◌, Option, None, Some, nat_le, nat_lt, slice_index_or, slice_set}
+use Rattle.std.specs.Prelude.{ℕ, ◌==◌, ◌&&◌, if◌then◌else◌, List, Option, None, Some, nat_le, nat_lt, slice_index_or, slice_set}
 use Rattle.lwc_base.specs.declared.page.PageValue.{PageValue}
 use Rattle.lwc_base.specs.declared.page.PageValue.TheVariants.{Zero, Data}
-use Rattle.cow_space.specs.declared.copies.Piece.{Piece}
 
 -- the map without pages
 abbrev pub no_pages : ℕ → Option PageValue
@@ -29,8 +28,3 @@ put_range map from to other q = if nat_le from q && nat_lt q to then other q els
 -- rows of which one has a range of pages of another
 abbrev pub share_range : List (ℕ → Option PageValue) → ℕ → ℕ → ℕ → ℕ → List (ℕ → Option PageValue)
 share_range maps to from first end = slice_set maps to (put_range (row_of maps to) first end (row_of maps from))
-
--- rows of which one has pieces of others, put in one after another
-abbrev pub copy_pieces : List (ℕ → Option PageValue) → ℕ → List Piece → List (ℕ → Option PageValue)
-copy_pieces maps to [] = maps
-copy_pieces maps to (piece ∷ pieces) = copy_pieces (share_range maps to piece.source piece.range.from piece.range.to) to pieces

@@ -1,6 +1,7 @@
 -- What rows over a store are seen as.
 use Rattle.std.specs.Prelude.{◌≡◌, ℕ, List, Option, length, slice_index}
 use Rattle.lwc_base.specs.declared.page.PageValue.{PageValue}
+use Rattle.std.proofs.Math.Nat.{ℕ_set}
 use Rattle.node_pool.specs.Nodes.{free_of}
 use Rattle.page_tree.specs.Steps.{root_short}
 use Rattle.cow_space.specs.declared.rows.Rows.{Rows}
@@ -25,3 +26,8 @@ HasOwnRoot w i = root_short w.store.nodes (slice_index w.trees.items i) ≡ 0
 -- a row has no tree: it holds no node
 unfoldable pub HasNoTree : Rows → ℕ → Type 0
 HasNoTree w i = slice_index w.trees.items i ≡ 0
+
+-- in at most one way
+pub no_tree-prop : (w : Rows) (i : ℕ) → IsProp (HasNoTree w i)
+unfolding HasNoTree
+no_tree-prop w i = ℕ_set (slice_index w.trees.items i) 0

@@ -6,13 +6,6 @@ use pool_base::Steps;
 use std::mem::replace;
 use std::sync::ledger::Ledger;
 
-/// A range of pages of a row.
-#[derive(Clone, Copy, Debug, PartialEq, Eq)]
-pub struct Piece {
-    pub source: usize,
-    pub range: Range,
-}
-
 /// All pages of a row.
 const ALL_PAGES: Range = Range {
     from: 0,
@@ -20,10 +13,9 @@ const ALL_PAGES: Range = Range {
 };
 
 impl Rows {
-    ghost use Rattle.std.specs.Prelude.{◌≡◌, ◌≢◌, ℕ, ◌+◌, ◌*◌, ◌<◌, ◌≤◌, ◌⊎◌, All, length, slice_set};
+    ghost use Rattle.std.specs.Prelude.{◌≡◌, ◌≢◌, ℕ, ◌+◌, ◌<◌, ◌≤◌, ◌⊎◌, length, slice_set};
     ghost use Rattle.page_tree.specs.declared.store.TheConstants.{PAGES};
-    ghost use Rattle.cow_space.specs.Maps.{copy_pieces, no_pages, put_range, row_of, share_range};
-    ghost use Rattle.cow_space.specs.Pieces.{IsPiece};
+    ghost use Rattle.cow_space.specs.Maps.{no_pages, put_range, row_of, share_range};
     ghost use Rattle.cow_space.specs.Seen.{frames_of, free_nodes, maps, HasNoTree, HasOwnRoot};
 
     /// Makes the pages of a range of one row those of another. No frame is taken, and at most the root and
@@ -57,22 +49,6 @@ impl Rows {
         self.trees[to] = tree;
     }
 
-    /// Puts pieces of other rows into a row, one after another.
-    pub fn copy_by<L: Ledger>(&mut self, to: usize, pieces: &[Piece], steps: &mut Steps<L>)
-        requires to { to < length (maps self.old) }
-        requires pieces { All (IsPiece (length (maps self.old)) to) pieces.now }
-        ensures maps { maps self.new ≡ copy_pieces (maps self.old) to pieces.now }
-        ensures frames { frames_of self.new ≡ frames_of self.old }
-        ensures others { (j : ℕ) → j ≢ to → HasNoTree self.old j → HasNoTree self.new j }
-        ensures nodes { free_nodes self.old ≤ free_nodes self.new + (1 + 2 * length pieces.now) }
-        ensures cost { steps.new ≤ steps.old + (34 + 64 * length pieces.now) }
-        ensures cost_empty { HasNoTree self.old to → steps.new ≤ steps.old + 64 * length pieces.now }
-    {
-        for piece in pieces {
-            self.share_between(to, piece.source, piece.range, steps);
-        }
-    }
-
     /// Takes the pages of a range from a row.
     pub fn clear<L: Ledger>(&mut self, i: usize, range: Range, steps: &mut Steps<L>)
         requires row { i < length (maps self.old) }
@@ -83,6 +59,7 @@ impl Rows {
         ensures frames { frames_of self.new ≡ frames_of self.old }
         ensures others { (j : ℕ) → j ≢ i → HasNoTree self.old j → HasNoTree self.new j }
         ensures own { (HasNoTree self.new i) ⊎ (HasOwnRoot self.new i) }
+        ensures all { range.from ≡ 0 → range.to ≡ PAGES → HasNoTree self.new i }
         ensures nodes { free_nodes self.old ≤ free_nodes self.new + 3 }
         ensures nodes_own { HasOwnRoot self.old i → free_nodes self.old ≤ free_nodes self.new + 2 }
         ensures given_up { HasNoTree self.new i → free_nodes self.old ≤ free_nodes self.new }

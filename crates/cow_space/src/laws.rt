@@ -4,7 +4,7 @@ ghost use Rattle.cow_space.specs.Laws.{CopyLaws, WriteLaws};
 
 use lwc_base::laws::names_are_ordered;
 
-/// A copy into a row without pages takes no frame, and gives none back.
+/// A row without pages that gets pages of rows alone takes no frame, and gives none back.
 pub fn copies_take_no_frame()
     ensures { CopyLaws }
 {

@@ -7,7 +7,6 @@ pub mod laws;
 pub mod rows;
 pub mod writes;
 
-pub use copies::Piece;
 pub use rows::{MOST_ROWS, Rows};
 pub use writes::NoFrame;
 

@@ -1,9 +1,5 @@
-use Rattle.cow_space.proofs.CopyLemmas.{copied-used, cloned-used}
+use Rattle.cow_space.proofs.CopyLemmas.{copied-used}
 use Rattle.cow_space.proofs.laws.copies_take_no_frame.Goals as goal
 
 pub returns : goal.returns
-returns c =
-    record {
-      copied = copied-used c.names_are_ordered.ensures.tags c.names_are_ordered.ensures.one_tag;
-      cloned = cloned-used c.names_are_ordered.ensures.tags c.names_are_ordered.ensures.one_tag;
-    }
+returns c = record { copied = copied-used c.names_are_ordered.ensures.tags c.names_are_ordered.ensures.one_tag }

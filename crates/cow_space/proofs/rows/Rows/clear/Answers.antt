@@ -95,3 +95,9 @@ returns-clause-cost_empty g c = λ none.
 pub returns-clause-others : goal.returns-clause-others
 unfolding HasNoTree
 returns-clause-others g c = λ j off none. get_or-set_other c.args.self.now.trees.items c.args.i j c.clear_range.new.self 0 off ∙ none
+
+pub returns-clause-all : goal.returns-clause-all
+unfolding HasNoTree maps
+returns-clause-all g c = λ first end.
+    let inside = rows-in _ _ c.args.self.now.trees.items c.args.i c.requires.row in
+    get_or-set_same c.args.self.now.trees.items c.args.i c.clear_range.new.self 0 inside ∙ c.clear_range.ensures.all first end
