@@ -1,24 +1,25 @@
 -- A place once stretches of its pages have changed: its row, and its cells.
-use Rattle.std.proofs.Common.{◌≡◌, ◌≢◌, ℕ, zero, suc, ◌+◌, ◌<◌, ◌≤◌, ⊎_elim, Bool, true, false, cond, leb, ltb, List, [], ◌∷◌, length, get_or, set, map, drop, refl, sym, ◌∙◌, ap, arith, subst, get_or-set_other, Option, None, Some}
+use Rattle.std.proofs.Common.{◌≡◌, ◌≢◌, ℕ, zero, suc, ◌+◌, ◌<◌, ◌≤◌, ⊎_elim, Bool, true, false, cond, leb, ltb, List, [], ◌∷◌, length, get_or, set, drop, refl, sym, ◌∙◌, ap, arith, subst, get_or-set_other, Option, None, Some}
 use Rattle.std.specs.Prelude.{All}
 use Rattle.std.specs.List.{find}
 use Rattle.std.specs.Option.{MatchOption, option_map}
-use Rattle.std.proofs.lemmas.Bool.{cases_lt, and_parts, ltb-true, leb-true}
+use Rattle.std.proofs.lemmas.Bool.{cases_lt, and_parts, ltb-true}
 use Rattle.std.proofs.lemmas.List.{get_or-set_same, set-get_or}
 use Rattle.lwc_base.specs.declared.page.PageValue.{PageValue}
 use Rattle.range_map.specs.declared.segment.Change.{Change}
 use Rattle.range_map.specs.declared.segment.Segment.{Segment}
-use Rattle.range_map.specs.declared.segment.SegmentKind.TheVariants as kind
+use Rattle.range_map.specs.declared.segment.SegmentKind.{SegmentKind}
 use Rattle.range_map.specs.Kinds.{is_between, kind_after, kind_at, kind_by, kind_of}
 use Rattle.cow_space.specs.Maps.{no_pages, put_range, row_of, share_range}
 use Rattle.page_cells.specs.declared.stretches.Source.{Source}
 use Rattle.page_cells.specs.declared.stretches.Source.TheVariants.{Absent, Zeros, Common, CopyOf}
 use Rattle.page_cells.specs.declared.stretches.Stretch.{Stretch}
 use Rattle.page_cells.specs.Cells.{Place, all_cells, cell_of, kinds_of, place_cells, place_of, segments_of}
-use Rattle.page_cells.specs.Changes.{CanGive, IsStretch, cell_by, change_of, changed_place, kinds_after, sourced_cell, sourced_kind, stretch_at}
-use Rattle.page_cells.specs.Kept.{IsKept, may_have}
-use Rattle.page_cells.specs.Rows.{IsApart, IsRowStretch, changed_row, sourced_value, value_by}
-use Rattle.page_cells.proofs.Places.{at-place, kinds-place, own-kind}
+use Rattle.page_cells.specs.Cells.{no_pages as all_absent}
+use Rattle.page_cells.specs.Changes.{IsApart, IsStretch, cell_by, changed_place, sourced_cell, stretch_at}
+use Rattle.page_cells.specs.Kept.{HasNoPage, IsKept, may_have}
+use Rattle.page_cells.specs.Rows.{changed_row, sourced_value, value_by}
+use Rattle.page_cells.proofs.Places.{at-place, kind-cell, kinds-place, none-cells}
 
 pub cond-of : {X Y : Type 0} (f : X → Y) (b : Bool) (x y : X) → f (cond b x y) ≡ cond b (f x) (f y)
 cond-of f true x y = refl
@@ -99,7 +100,7 @@ no-value maps (Common g) none = refl
 no-value maps (CopyOf j) none = absurd (none j refl)
 
 -- what is found passes the test, and has what all have
-find-holds : {X : Type 0} (test : X → Bool) (P : X → Type 0) (xs : List X) → All P xs → MatchOption (find test xs) (Unit {0}) (λ x. P x × (test x ≡ true))
+pub find-holds : {X : Type 0} (test : X → Bool) (P : X → Type 0) (xs : List X) → All P xs → MatchOption (find test xs) (Unit {0}) (λ x. P x × (test x ≡ true))
 find-holds test P [] all = tt
 find-holds test P (x ∷ xs) all = by (test x) refl (find-holds test P xs (λ k d lt. all (suc k) d (omega (arith, lt))))
   where
@@ -107,107 +108,121 @@ find-holds test P (x ∷ xs) all = by (test x) refl (find-holds test P xs (λ k 
     by true passes later = (all 0 x (omega arith), passes)
     by false off later = later
 
--- the change of the first stretch that has a page is the first change that has it
-find-change : (stretches : List Stretch) (p : ℕ) → find (λ (c : Change). is_between c.from c.to p) (map change_of stretches) ≡ option_map change_of (stretch_at stretches p)
-find-change [] p = refl
-find-change (stretch ∷ stretches) p =
-    (λ x. cond (is_between stretch.range.from stretch.range.to p) (Some (change_of stretch)) (find-change stretches p x))
-    ∙ sym (cond-of (option_map change_of) (is_between stretch.range.from stretch.range.to p) (Some stretch) (stretch_at stretches p))
+-- where a stretch is found its source gives the kind, and elsewhere the kind stays
+pub kept-kind : (cells : List Place) (i q : ℕ) (stretches : List Stretch) → stretch_at stretches q ≡ None → kinds_of (changed_place cells i stretches) q ≡ kinds_of (place_of cells i) q
+unfolding changed_place
+kept-kind cells i q stretches none = ap (λ o. kind_of (cell_by cells q (place_of cells i q) o)) none
 
-module _ (maps : List (ℕ → Option PageValue)) (kinds : List (List Segment)) (i : ℕ) (stretches : List Stretch) (kept : IsKept maps kinds) (are : All (IsStretch (all_cells kinds maps) i) stretches) where
-  found : (p : ℕ) → MatchOption (stretch_at stretches p) (Unit {0}) (λ s. IsStretch (all_cells kinds maps) i s × (is_between s.range.from s.range.to p ≡ true))
-  found p = find-holds (λ (s : Stretch). is_between s.range.from s.range.to p) (IsStretch (all_cells kinds maps) i) stretches are
+pub given-kind : (cells : List Place) (i q : ℕ) (stretches : List Stretch) (source : Source) → option_map (λ s. s.source) (stretch_at stretches q) ≡ Some source →
+    kinds_of (changed_place cells i stretches) q ≡ kind_of (sourced_cell cells source q)
+unfolding changed_place
+given-kind cells i q stretches source is = by (stretch_at stretches q) is
+  where
+    by : (o : Option Stretch) → option_map (λ s. s.source) o ≡ Some source → kind_of (cell_by cells q (place_of cells i q) o) ≡ kind_of (sourced_cell cells source q)
+    by None is = absurd cc
+    by (Some s) is = let same : s.source ≡ source = cc in ap (λ t. kind_of (sourced_cell cells t q)) same
 
-  copy-own : (stretch : Stretch) (j p : ℕ) → CanGive (all_cells kinds maps) i stretch.range.from stretch.range.to (CopyOf j) → is_between stretch.range.from stretch.range.to p ≡ true → kind_of (place_of (all_cells kinds maps) j p) ≡ Some kind.Own
-  copy-own stretch j p gives has = gives.own p (leb-true _ _ ((and_parts _ _ has).0)) (ltb-true _ _ ((and_parts _ _ has).1))
+-- where no source is found, no stretch is
+pub no-source : (o : Option Stretch) → option_map (λ s. s.source) o ≡ None → o ≡ None
+no-source None is = refl
+no-source (Some s) is = absurd cc
 
-  source-cell : (stretch : Stretch) (source : Source) (p : ℕ) → CanGive (all_cells kinds maps) i stretch.range.from stretch.range.to source → is_between stretch.range.from stretch.range.to p ≡ true →
-      cell_of (sourced_kind source) (sourced_value maps source p) ≡ sourced_cell (all_cells kinds maps) source p
-  source-cell stretch Absent p gives has = refl
-  source-cell stretch Zeros p gives has = refl
-  source-cell stretch (Common g) p gives has = refl
-  source-cell stretch (CopyOf j) p gives has =
-      sym (ap (λ (place : Place). place p) (at-place kinds maps j kept.places)
-      ∙ ap (λ k. cell_of k (row_of maps j p)) (own-kind kinds maps j p kept.places (copy-own stretch j p gives has)))
+-- a source that was found is another place, or none
+pub source-inside : (count i q : ℕ) (stretches : List Stretch) (source : Source) → All (IsStretch count i) stretches → option_map (λ s. s.source) (stretch_at stretches q) ≡ Some source →
+    (j : ℕ) → source ≡ CopyOf j → j < count
+source-inside count i q stretches source are is j from =
+    by (stretch_at stretches q) (find-holds (λ (s : Stretch). is_between s.range.from s.range.to q) (IsStretch count i) stretches are) is
+  where
+    by : (o : Option Stretch) → MatchOption o (Unit {0}) (λ s. IsStretch count i s × (is_between s.range.from s.range.to q ≡ true)) → option_map (λ s. s.source) o ≡ Some source → j < count
+    by None holds is = absurd cc
+    by (Some s) holds is =
+        let same : s.source ≡ CopyOf j = cc in
+        (subst (IsApart count i) same holds.0.given).0
 
-  cell-by : (p : ℕ) (o : Option Stretch) → MatchOption o (Unit {0}) (λ s. IsStretch (all_cells kinds maps) i s × (is_between s.range.from s.range.to p ≡ true)) →
-      cell_of (kind_by (kind_at (segments_of kinds i) p) (option_map change_of o)) (value_by maps p (row_of maps i p) o) ≡ cell_by (all_cells kinds maps) p (place_of (all_cells kinds maps) i p) o
-  cell-by p None holds = sym (ap (λ (place : Place). place p) (at-place kinds maps i kept.places))
-  cell-by p (Some s) holds = source-cell s s.source p holds.0.given holds.1
+-- no stretches have no page, and no segments have none
+no-stretch : (stretches : List Stretch) (p : ℕ) → length stretches ≡ 0 → stretch_at stretches p ≡ None
+no-stretch [] p empty = refl
+no-stretch (s ∷ stretches) p empty = absurd (omega (arith, empty))
 
-  -- no stretch has a page past the last one
-  none-past : (p : ℕ) (o : Option Stretch) → 1024 ≤ p → MatchOption o (Unit {0}) (λ s. IsStretch (all_cells kinds maps) i s × (is_between s.range.from s.range.to p ≡ true)) → o ≡ None
-  none-past p None past holds = refl
-  none-past p (Some s) past holds = absurd (let below = ltb-true p s.range.to ((and_parts (leb s.range.from p) (ltb p s.range.to) holds.1).1) in let end = holds.0.inside in omega (arith, past, below, end))
+nothing : HasNoPage []
+unfolding kind_at
+nothing p = refl
 
-  -- the kinds of the segments after the changes are those of the place after them
-  pub segments-after : (changes : List Change) → kind_after changes (segments_of kinds i) ≡ kinds_after changes (place_of (all_cells kinds maps) i)
-  unfolding kind_after kinds_after
-  segments-after changes = λ x p. kind_by (sym (kinds-place kinds maps i kept.places) x p) (find (λ (c : Change). is_between c.from c.to p) changes)
+module _ (maps : List (ℕ → Option PageValue)) (kinds : List (List Segment)) (i : ℕ) (stretches : List Stretch) (kept : IsKept maps kinds) where
+  -- a cell is that of its kind
+  again : (j p : ℕ) → cell_of (kind_of (place_of (all_cells kinds maps) j p)) (row_of maps j p) ≡ place_of (all_cells kinds maps) j p
+  again j p =
+      let is = ap (λ (place : Place). place p) (at-place kinds maps j kept.places) in
+      ap (λ c. cell_of (kind_of c) (row_of maps j p)) is
+      ∙ ap (λ k. cell_of k (row_of maps j p)) (kind-cell (kind_at (segments_of kinds j) p) (row_of maps j p))
+      ∙ sym is
 
-  module _ (segments : List Segment) (now : (p : ℕ) → p < 1024 → kind_at segments p ≡ kind_after (map change_of stretches) (segments_of kinds i) p) (within : (p : ℕ) → 1024 ≤ p → kind_at segments p ≡ None) where
-    kind-all : (p : ℕ) → kind_at segments p ≡ kind_after (map change_of stretches) (segments_of kinds i) p
-    unfolding kind_after
+  source-cell : (source : Source) (p : ℕ) → cell_of (kind_of (sourced_cell (all_cells kinds maps) source p)) (sourced_value maps source p) ≡ sourced_cell (all_cells kinds maps) source p
+  source-cell Absent p = refl
+  source-cell Zeros p = refl
+  source-cell (Common g) p = refl
+  source-cell (CopyOf j) p = again j p
+
+  cell-by : (p : ℕ) (o : Option Stretch) →
+      cell_of (kind_of (cell_by (all_cells kinds maps) p (place_of (all_cells kinds maps) i p) o)) (value_by maps p (row_of maps i p) o) ≡ cell_by (all_cells kinds maps) p (place_of (all_cells kinds maps) i p) o
+  cell-by p None = again i p
+  cell-by p (Some s) = source-cell s.source p
+
+  fit-again : (j p : ℕ) → may_have (kind_of (place_of (all_cells kinds maps) j p)) (row_of maps j p) ≡ true
+  fit-again j p =
+      ap (λ (f : ℕ → Option SegmentKind). may_have (f p) (row_of maps j p)) (kinds-place kinds maps j kept.places) ∙ kept.fit j p
+
+  fit-source : (source : Source) (p : ℕ) → may_have (kind_of (sourced_cell (all_cells kinds maps) source p)) (sourced_value maps source p) ≡ true
+  fit-source Absent p = refl
+  fit-source Zeros p = refl
+  fit-source (Common g) p = refl
+  fit-source (CopyOf j) p = fit-again j p
+
+  fit-by : (p : ℕ) (o : Option Stretch) → may_have (kind_of (cell_by (all_cells kinds maps) p (place_of (all_cells kinds maps) i p) o)) (value_by maps p (row_of maps i p) o) ≡ true
+  fit-by p None = fit-again i p
+  fit-by p (Some s) = fit-source s.source p
+
+  -- the kinds after the changes are those of the place after the stretches
+  pub kinds-after : (changes : List Change) (segments : List Segment) →
+      ((p : ℕ) → p < 1024 → kind_by (kinds_of (place_of (all_cells kinds maps) i) p) (find (λ c. is_between c.from c.to p) changes) ≡ kinds_of (changed_place (all_cells kinds maps) i stretches) p) →
+      segments ≡ segments_of kinds i → (p : ℕ) → p < 1024 → kind_after changes segments p ≡ kinds_of (changed_place (all_cells kinds maps) i stretches) p
+  unfolding kind_after
+  kinds-after changes segments made is p low =
+      ap (λ s. kind_by (kind_at s p) (find (λ (c : Change). is_between c.from c.to p) changes)) is
+      ∙ ap (λ (f : ℕ → Option SegmentKind). kind_by (f p) (find (λ (c : Change). is_between c.from c.to p) changes)) (sym (kinds-place kinds maps i kept.places))
+      ∙ made p low
+
+  module _ (are : All (IsStretch (length maps) i) stretches) (segments : List Segment) (now : (p : ℕ) → p < 1024 → kind_at segments p ≡ kinds_of (changed_place (all_cells kinds maps) i stretches) p)
+      (within : (p : ℕ) → 1024 ≤ p → kind_at segments p ≡ None) where
+    -- no stretch has a page past the last one
+    none-past : (p : ℕ) (o : Option Stretch) → 1024 ≤ p → MatchOption o (Unit {0}) (λ s. IsStretch (length maps) i s × (is_between s.range.from s.range.to p ≡ true)) → o ≡ None
+    none-past p None past holds = refl
+    none-past p (Some s) past holds = absurd (let below = ltb-true p s.range.to ((and_parts (leb s.range.from p) (ltb p s.range.to) holds.1).1) in let end = holds.0.inside in omega (arith, past, below, end))
+
+    kind-all : (p : ℕ) → kind_at segments p ≡ kinds_of (changed_place (all_cells kinds maps) i stretches) p
     kind-all p =
         ⊎_elim
         (λ low. now p low)
         (λ past. within p past
-        ∙ sym (ap (kind_by (kind_at (segments_of kinds i) p)) (find-change stretches p ∙ ap (option_map change_of) (none-past p (stretch_at stretches p) past (found p))) ∙ kept.within i p past))
+        ∙ sym (kept-kind (all_cells kinds maps) i p stretches (none-past p (stretch_at stretches p) past (find-holds (λ (s : Stretch). is_between s.range.from s.range.to p) (IsStretch (length maps) i) stretches are))
+        ∙ ap (λ (f : ℕ → Option SegmentKind). f p) (kinds-place kinds maps i kept.places)
+        ∙ kept.within i p past))
         (cases_lt p 1024)
 
     pub cells-changed : place_cells segments (changed_row maps i stretches) ≡ changed_place (all_cells kinds maps) i stretches
-    unfolding kind_after changed_place changed_row
+    unfolding changed_place changed_row
     cells-changed = λ x p.
-        (ap (λ k. cell_of k (value_by maps p (row_of maps i p) (stretch_at stretches p))) (kind-all p ∙ ap (kind_by (kind_at (segments_of kinds i) p)) (find-change stretches p))
-        ∙ cell-by p (stretch_at stretches p) (found p)) x
-
-    fit-source : (stretch : Stretch) (source : Source) (p : ℕ) → CanGive (all_cells kinds maps) i stretch.range.from stretch.range.to source → is_between stretch.range.from stretch.range.to p ≡ true → may_have (sourced_kind source) (sourced_value maps source p) ≡ true
-    fit-source stretch Absent p gives has = refl
-    fit-source stretch Zeros p gives has = refl
-    fit-source stretch (Common g) p gives has = refl
-    fit-source stretch (CopyOf j) p gives has = refl
-
-    fit-by : (p : ℕ) (o : Option Stretch) → MatchOption o (Unit {0}) (λ s. IsStretch (all_cells kinds maps) i s × (is_between s.range.from s.range.to p ≡ true)) →
-        may_have (kind_by (kind_at (segments_of kinds i) p) (option_map change_of o)) (value_by maps p (row_of maps i p) o) ≡ true
-    fit-by p None holds = kept.fit i p
-    fit-by p (Some s) holds = fit-source s s.source p holds.0.given holds.1
+        (ap (λ k. cell_of k (value_by maps p (row_of maps i p) (stretch_at stretches p))) (kind-all p) ∙ cell-by p (stretch_at stretches p)) x
 
     pub fit-changed : (p : ℕ) → may_have (kind_at segments p) (changed_row maps i stretches p) ≡ true
-    unfolding kind_after changed_row
+    unfolding changed_place changed_row
     fit-changed p =
-        subst (λ k. may_have k (value_by maps p (row_of maps i p) (stretch_at stretches p)) ≡ true)
-        (sym (kind-all p ∙ ap (kind_by (kind_at (segments_of kinds i) p)) (find-change stretches p)))
-        (fit-by p (stretch_at stretches p) (found p))
+        ap (λ k. may_have k (value_by maps p (row_of maps i p) (stretch_at stretches p))) (kind-all p) ∙ fit-by p (stretch_at stretches p)
 
--- stretches of a place are stretches of its row
-row-source : (cells : List Place) (count i from to : ℕ) (source : Source) → length cells ≡ count → CanGive cells i from to source → IsApart count i source
-row-source cells count i from to Absent same gives = tt
-row-source cells count i from to Zeros same gives = tt
-row-source cells count i from to (Common g) same gives = tt
-row-source cells count i from to (CopyOf j) same gives = (omega (arith, gives.source, same), gives.apart)
+    -- where no page is left, the place has no pages
+    pub none-left : segments ≡ [] → changed_place (all_cells kinds maps) i stretches ≡ all_absent
+    none-left none = sym cells-changed ∙ ap (λ s. place_cells s (changed_row maps i stretches)) none ∙ none-cells (changed_row maps i stretches)
 
-pub row-stretches : (cells : List Place) (count i : ℕ) (stretches : List Stretch) → length cells ≡ count → All (IsStretch cells i) stretches → All (IsRowStretch count i) stretches
-row-stretches cells count i stretches same are = λ k d lt.
-    let one = are k d lt in
-    record { order = one.order; inside = one.inside; given = row-source cells count i _ _ _ same one.given }
-
--- the kinds of a place after stretches are those after their changes
-kind-source : (cells : List Place) (i from to p : ℕ) (source : Source) → CanGive cells i from to source → is_between from to p ≡ true → sourced_kind source ≡ kind_of (sourced_cell cells source p)
-kind-source cells i from to p Absent gives has = refl
-kind-source cells i from to p Zeros gives has = refl
-kind-source cells i from to p (Common g) gives has = refl
-kind-source cells i from to p (CopyOf j) gives has = sym (gives.own p (leb-true from p ((and_parts (leb from p) (ltb p to) has).0)) (ltb-true p to ((and_parts (leb from p) (ltb p to) has).1)))
-
-pub kinds-changed : (cells : List Place) (i : ℕ) (stretches : List Stretch) → All (IsStretch cells i) stretches → kinds_of (changed_place cells i stretches) ≡ kinds_after (map change_of stretches) (place_of cells i)
-unfolding changed_place kinds_after
-kinds-changed cells i stretches are = λ x p. at p x
-  where
-    by : (p : ℕ) (o : Option Stretch) → MatchOption o (Unit {0}) (λ s. IsStretch cells i s × (is_between s.range.from s.range.to p ≡ true)) →
-        kind_of (cell_by cells p (place_of cells i p) o) ≡ kind_by (kind_of (place_of cells i p)) (option_map change_of o)
-    by p None holds = refl
-    by p (Some s) holds = sym (kind-source cells i s.range.from s.range.to p s.source holds.0.given holds.1)
-
-    at : (p : ℕ) → kind_of (cell_by cells p (place_of cells i p) (stretch_at stretches p)) ≡ kind_by (kind_of (place_of cells i p)) (find (λ (c : Change). is_between c.from c.to p) (map change_of stretches))
-    at p =
-        by p (stretch_at stretches p) (find-holds (λ (s : Stretch). is_between s.range.from s.range.to p) (IsStretch cells i) stretches are)
-        ∙ ap (kind_by (kind_of (place_of cells i p))) (sym (find-change stretches p))
+    -- without stretches it had none before
+    pub none-before : segments ≡ [] → length stretches ≡ 0 → HasNoPage (segments_of kinds i)
+    none-before none empty p = sym (ap (λ (f : ℕ → Option SegmentKind). f p) (kinds-place kinds maps i kept.places)) ∙ sym (kept-kind (all_cells kinds maps) i p stretches (no-stretch stretches p empty)) ∙ sym (kind-all p) ∙ (ap (λ s. kind_at s p) none ∙ nothing p)

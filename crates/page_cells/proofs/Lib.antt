@@ -1,6 +1,7 @@
 pub mod Places
 pub mod OwnTags
 pub mod Changed
+pub mod KindChanges
 pub mod Written
 pub mod Taken
 pub mod WorldTags

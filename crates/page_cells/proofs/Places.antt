@@ -1,18 +1,20 @@
 -- The cells of places of which one changes, and what ties rows to kinds.
-use Rattle.std.proofs.Common.{◌≡◌, ℕ, zero, suc, ◌+◌, ◌<◌, ◌≤◌, ⊎_elim, true, List, [], ◌∷◌, ◌++◌, length, set, map, replicate, refl, sym, ◌∙◌, ap, arith, subst, length-set, get_or-set_other, Option, None, Some}
-use Rattle.std.specs.List.{range_with_len}
-use Rattle.std.proofs.lemmas.Bool.{cases_eq, cases_lt}
+use Rattle.std.proofs.Common.{◌≡◌, ◌≢◌, ℕ, zero, suc, ◌+◌, ◌<◌, ◌≤◌, ⊎_elim, true, false, cond, eqb, List, [], ◌∷◌, ◌++◌, length, set, map, replicate, refl, sym, ◌∙◌, ap, arith, subst, length-set, get_or-set_other, Option, None, Some}
+use Rattle.std.specs.List.{find, range_with_len}
+use Rattle.std.specs.Option.{option_map}
+use Rattle.std.proofs.lemmas.Bool.Decides.{nat_tests}
+use Rattle.std.proofs.lemmas.Bool.{cases_eq, cases_lt, eqb-true}
 use Rattle.std.proofs.lemmas.List.{ext_get_or, get_or-map, get_or-replicate, get_or-set_same, get_or_past, length-map, length-replicate}
 use Rattle.std.proofs.lemmas.List.FromFn.{get_or-range_with_len, length-range_with_len}
 use Rattle.lwc_base.specs.declared.page.PageValue.{PageValue}
 use Rattle.range_map.specs.declared.segment.Segment.{Segment}
 use Rattle.range_map.specs.declared.segment.SegmentKind.{SegmentKind}
 use Rattle.range_map.specs.declared.segment.SegmentKind.TheVariants.{Own, Common}
-use Rattle.range_map.specs.Kinds.{kind_at, kind_of}
+use Rattle.range_map.specs.Kinds.{IsCanonical, is_between, kind_at, kind_of}
 use Rattle.cow_space.specs.Maps as rows
 use Rattle.cow_space.specs.Maps.{row_of}
 use Rattle.page_cells.specs.Cells.{Place, all_cells, cell_of, kinds_of, no_pages, place_cells, place_of, segments_of}
-use Rattle.page_cells.specs.Kept.{may_have, IsKept}
+use Rattle.page_cells.specs.Kept.{HasNoPage, IsKept, may_have}
 
 pub length-cells : (kinds : List (List Segment)) (maps : List (ℕ → Option PageValue)) → length (all_cells kinds maps) ≡ length maps
 unfolding all_cells
@@ -58,6 +60,45 @@ own-below kinds maps i p kept own =
 -- the kinds of a place
 pub kinds-place : (kinds : List (List Segment)) (maps : List (ℕ → Option PageValue)) (i : ℕ) → length kinds ≡ length maps → kinds_of (place_of (all_cells kinds maps) i) ≡ kind_at (segments_of kinds i)
 kinds-place kinds maps i same = ap kinds_of (at-place kinds maps i same) ∙ (λ k p. kind-cell (kind_at (segments_of kinds i) p) (row_of maps i p) k)
+
+-- a place without pages has none by its segments
+pub none-present : (kinds : List (List Segment)) (maps : List (ℕ → Option PageValue)) (i : ℕ) → length kinds ≡ length maps → place_of (all_cells kinds maps) i ≡ no_pages → HasNoPage (segments_of kinds i)
+none-present kinds maps i same empty p =
+    ap (λ (f : ℕ → Option SegmentKind). f p) (sym (kinds-place kinds maps i same) ∙ ap kinds_of empty)
+
+-- where there is a segment, a page is present
+pub some-present : (segments : List Segment) → IsCanonical segments → 0 < length segments → HasNoPage segments → ⊥
+unfolding kind_at
+some-present [] canonical some none = omega (arith, some)
+some-present (s ∷ segments) canonical some none =
+    let low : is_between s.from s.to s.from ≡ true = (let pages = canonical.some 0 s (omega arith) in grind (arith, nat_tests, pages)) in
+    let here = ap (λ b. option_map (λ (t : Segment). t.kind) (cond b (Some s) (find (λ t. is_between t.from t.to s.from) segments))) low in
+    absurd (let both = sym here ∙ none s.from in cc)
+
+-- whether there are segments
+pub no-segments : (segments : List Segment) → eqb (length segments) 0 ≡ true → segments ≡ []
+no-segments [] is = refl
+no-segments (s ∷ segments) is = absurd (let zero = eqb-true (length (s ∷ segments)) 0 is in omega (arith, zero))
+
+pub some-segments : (segments : List Segment) → eqb (length segments) 0 ≡ false → 0 < length segments
+some-segments [] is = absurd cc
+some-segments (s ∷ segments) is = omega arith
+
+-- no value fits each kind
+pub may-none : (kind : Option SegmentKind) → may_have kind None ≡ true
+may-none None = refl
+may-none (Some Own) = refl
+may-none (Some (Common g)) = refl
+
+-- a place without pages has no tree still, once one place has other segments
+pub bare-set : (before after : ℕ → Type 0) (kinds : List (List Segment)) (i : ℕ) (segments : List Segment) → i < length kinds →
+    ((j : ℕ) → HasNoPage (segments_of kinds j) → before j) → ((j : ℕ) → j ≢ i → before j → after j) → (HasNoPage segments → after i) →
+    (j : ℕ) → HasNoPage (segments_of (set kinds i segments) j) → after j
+bare-set before after kinds i segments inside bare others here j none =
+    ⊎_elim
+    (λ same. subst after (sym same) (here (subst HasNoPage (ap (segments_of (set kinds i segments)) same ∙ get_or-set_same kinds i segments [] inside) none)))
+    (λ off. others j off (bare j (subst HasNoPage (get_or-set_other kinds i j segments [] off) none)))
+    (cases_eq j i)
 
 module _ (maps : List (ℕ → Option PageValue)) (kinds : List (List Segment)) (i : ℕ) (segments : List Segment) (row : ℕ → Option PageValue) (kept : IsKept maps kinds) (inside : i < length maps) where
   -- the cells once one place has other segments and another row

@@ -2,6 +2,8 @@
 use Rattle.std.proofs.Common.{◌≡◌, ◌≢◌, ℕ, ◌+◌, ◌<◌, ◌⊎◌, inl, inr, ⊎_elim, Bool, true, false, cond, eqb, List, length, set, map, refl, sym, ◌∙◌, ap, arith, get_or-set_other, Option, None, Some, unwrap_or}
 use Rattle.std.proofs.lemmas.Bool.{cases_eq, cases_lt, cond-true, cond-false, eq-eqb, ne_eqb}
 use Rattle.std.proofs.lemmas.List.{get_or-map, get_or-set_same, get_or_past, length-map, map-set}
+use Rattle.std.specs.Prelude.{All}
+use Rattle.std.specs.Option.{MatchOption}
 use Rattle.lwc_base.specs.declared.cell.Cell.{Cell}
 use Rattle.lwc_base.specs.declared.cell.Cell.TheVariants as cell
 use Rattle.lwc_base.specs.declared.name.Tag.{Tag}
@@ -10,16 +12,20 @@ use Rattle.lwc_base.specs.declared.page.PageValue.TheVariants.{Zero, Data}
 use Rattle.lwc_base.specs.Frames.{own_value}
 use Rattle.lwc_base.specs.Pages.{bytes_of}
 use Rattle.lwc_base.specs.Store.{Piece, bytes_after, stored_value}
-use Rattle.range_map.specs.Kinds.{kind_of}
+use Rattle.range_map.specs.Kinds.{is_between, kind_of}
 use Rattle.cow_space.specs.Laws as rows_laws
 use Rattle.cow_space.specs.Maps.{put_page, row_of}
 use Rattle.cow_space.specs.Maps as maps_of
 use Rattle.cow_space.specs.Tags as tags_of_rows
 use Rattle.cow_space.specs.Writes as rows
+use Rattle.page_cells.specs.declared.stretches.Source.{Source}
+use Rattle.page_cells.specs.declared.stretches.Source.TheVariants.{Absent, Zeros, Common, CopyOf}
+use Rattle.page_cells.specs.declared.stretches.Stretch.{Stretch}
+use Rattle.page_cells.specs.Changes.{IsApart, IsStretch, cell_by, changed_place, sourced_cell, stretch_at}
 use Rattle.page_cells.specs.Cells.{IsOwnPage, Place, kinds_of, no_pages, place_of}
 use Rattle.page_cells.specs.Tags.{IsNewTag, is_parting, own_values, taken_by, used}
 use Rattle.page_cells.specs.Writes.{page_value, write_page, written_value}
-use Rattle.page_cells.proofs.Changed.{cond-of}
+use Rattle.page_cells.proofs.Changed.{cond-of, find-holds}
 
 pub own-cell : (c : Cell (Option PageValue)) (v : PageValue) → own_value c ≡ Some v → c ≡ cell.Own (Some v)
 own-cell (cell.Own o) v is = ap (λ x. cell.Own x) is
@@ -139,10 +145,42 @@ new-still cells i p piece tag next inside new off own = λ k q bytes is.
     value-of : (a b : PageValue) → cell.Own (Some a) ≡ cell.Own (Some b) → a ≡ b
     value-of a b is = cc
 
--- a place without pages that becomes another one
+-- a place without pages that gets pages of places alone
+module _ (laws : rows_laws.CopyLaws) (cells : List Place) (to : ℕ) (inside : to < length cells) (none : place_of cells to ≡ no_pages) where
+  copied-used : (place : Place) → ((p : ℕ) (tag : Tag) (bytes : List ℕ) → own_value (place p) ≡ Some (Data tag bytes) → rows_laws.IsInRows (map own_values cells) p tag bytes) →
+      used (set cells to place) ≡ used cells
+  unfolding used
+  copied-used place there =
+      ap tags_of_rows.used (map-set own_values cells to place)
+      ∙ laws.copied (map own_values cells) to (own_values place) (omega (arith, inside, length-own cells)) (own-any cells to ∙ ap (λ (place : Place). own_values place) none) there
+
+  in-place : (k p : ℕ) (tag : Tag) (bytes : List ℕ) → k < length cells → own_value (place_of cells k p) ≡ Some (Data tag bytes) → rows_laws.IsInRows (map own_values cells) p tag bytes
+  in-place k p tag bytes low is = record { row = k; inside = omega (arith, low, length-own cells); is = ap (λ (row : ℕ → Option PageValue). row p) (own-any cells k) ∙ is }
+
+  pub cloned-used-at : (from : ℕ) → from < length cells → used (set cells to (place_of cells from)) ≡ used cells
+  cloned-used-at from low = copied-used (place_of cells from) (λ p tag bytes is. in-place from p tag bytes low is)
+
+  -- what a source gives with bytes is in another place
+  sourced : (source : Source) (p : ℕ) (tag : Tag) (bytes : List ℕ) → IsApart (length cells) to source → own_value (sourced_cell cells source p) ≡ Some (Data tag bytes) → rows_laws.IsInRows (map own_values cells) p tag bytes
+  sourced Absent p tag bytes apart is = absurd cc
+  sourced Zeros p tag bytes apart is = absurd cc
+  sourced (Common g) p tag bytes apart is = absurd cc
+  sourced (CopyOf j) p tag bytes apart is = in-place j p tag bytes apart.0 is
+
+  by-stretch : (o : Option Stretch) (p : ℕ) (tag : Tag) (bytes : List ℕ) → MatchOption o (Unit {0}) (λ s. IsStretch (length cells) to s × (is_between s.range.from s.range.to p ≡ true)) →
+      own_value (cell_by cells p (place_of cells to p) o) ≡ Some (Data tag bytes) → rows_laws.IsInRows (map own_values cells) p tag bytes
+  by-stretch None p tag bytes holds is = in-place to p tag bytes inside is
+  by-stretch (Some s) p tag bytes holds is = sourced s.source p tag bytes holds.0.given is
+
+  pub changed-used-at : (stretches : List Stretch) → All (IsStretch (length cells) to) stretches → used (set cells to (changed_place cells to stretches)) ≡ used cells
+  unfolding changed_place
+  changed-used-at stretches are =
+      copied-used (changed_place cells to stretches)
+      (λ p tag bytes is. by-stretch (stretch_at stretches p) p tag bytes (find-holds (λ (s : Stretch). is_between s.range.from s.range.to p) (IsStretch (length cells) to) stretches are) is)
+
 pub cloned-used : rows_laws.CopyLaws → (cells : List Place) (to from : ℕ) → to < length cells → from < length cells → place_of cells to ≡ no_pages → used (set cells to (place_of cells from)) ≡ used cells
-unfolding used
-cloned-used laws cells to from to_in from_in none =
-    ap tags_of_rows.used (map-set own_values cells to (place_of cells from) ∙ ap (set (map own_values cells) to) (sym (own-any cells from)))
-    ∙ laws.cloned (map own_values cells) to from (omega (arith, to_in, length-own cells)) (omega (arith, from_in, length-own cells))
-    (own-any cells to ∙ ap (λ (place : Place). own_values place) none)
+cloned-used laws cells to from inside low none = cloned-used-at laws cells to inside none from low
+
+pub changed-used : rows_laws.CopyLaws → (cells : List Place) (i : ℕ) (stretches : List Stretch) → i < length cells → place_of cells i ≡ no_pages → All (IsStretch (length cells) i) stretches →
+    used (set cells i (changed_place cells i stretches)) ≡ used cells
+changed-used laws cells i stretches inside none are = changed-used-at laws cells i inside none stretches are

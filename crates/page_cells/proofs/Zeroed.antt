@@ -1,6 +1,5 @@
 -- Places as the tests begin with them: pages of one are zeros, and there is no other page.
-use Rattle.std.proofs.Common.{◌≡◌, ℕ, zero, suc, ◌<◌, ⊎_elim, Bool, true, false, cond, List, [], ◌∷◌, length, set, replicate, sym, ◌∙◌, ap, arith, get_or-set_other, None, Some}
-use Rattle.std.specs.Prelude.{All}
+use Rattle.std.proofs.Common.{◌≡◌, ℕ, ◌<◌, ⊎_elim, Bool, true, false, cond, List, [], ◌∷◌, length, set, replicate, sym, ◌∙◌, ap, arith, get_or-set_other, None, Some}
 use Rattle.std.proofs.lemmas.Bool.{cases_eq, cases_lt}
 use Rattle.std.proofs.lemmas.List.{get_or-replicate, get_or-set_same, get_or_past, length-replicate}
 use Rattle.lwc_base.specs.declared.cell.Cell.TheVariants as cell
@@ -10,16 +9,8 @@ use Rattle.range_map.specs.Kinds.{is_between}
 use Rattle.page_cells.specs.declared.stretches.Source.TheVariants.{Zeros}
 use Rattle.page_cells.specs.declared.stretches.Stretch.{Stretch}
 use Rattle.page_cells.specs.Cells.{Place, no_pages, place_of}
-use Rattle.page_cells.specs.Changes.{IsStretch, cell_by, changed_place, sourced_cell}
+use Rattle.page_cells.specs.Changes.{cell_by, changed_place, sourced_cell}
 use Rattle.page_cells.specs.Tags.{IsNewTag}
-
-pub one-stretch : (cells : List Place) (i : ℕ) (s : Stretch) → IsStretch cells i s → All (IsStretch cells i) (s ∷ [])
-one-stretch cells i s is zero d lt = is
-one-stretch cells i s is (suc k) d lt = absurd (omega (arith, lt))
-
-pub two-stretches : (cells : List Place) (i : ℕ) (s t : Stretch) → IsStretch cells i s → IsStretch cells i t → All (IsStretch cells i) (s ∷ t ∷ [])
-two-stretches cells i s t is also zero d lt = is
-two-stretches cells i s t is also (suc k) d lt = one-stretch cells i t also k d (omega (arith, lt))
 
 none-place : (n k : ℕ) → place_of (replicate n no_pages) k ≡ no_pages
 none-place n k = ⊎_elim (λ lt. get_or-replicate n k no_pages no_pages lt) (λ past. get_or_past (replicate n no_pages) k no_pages (omega (arith, past, length-replicate n no_pages))) (cases_lt k n)

@@ -14,6 +14,10 @@ abbrev pub may_have : Option SegmentKind → Option PageValue → Bool
 may_have (Some Own) value = true
 may_have _ value = not (is_some value)
 
+-- no page is present by these segments
+abbrev pub HasNoPage : List Segment → Type 0
+HasNoPage segments = (p : ℕ) → kind_at segments p ≡ None
+
 -- each place has a row that fits the kinds of its pages, and no page past the last one
 pub record IsKept (maps : List (ℕ → Option PageValue)) (kinds : List (List Segment)) : Type 0 where
   pub places : length kinds ≡ length maps

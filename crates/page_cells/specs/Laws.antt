@@ -1,25 +1,22 @@
 -- Laws of the pages of places.
-use Rattle.std.specs.Prelude.{◌≡◌, ◌≢◌, ℕ, ◌+◌, ◌<◌, All, List, Some, length, map, slice_set}
+use Rattle.std.specs.Prelude.{◌≡◌, ◌≢◌, ℕ, ◌+◌, ◌<◌, All, List, Some, length, slice_set}
 use Rattle.lwc_base.specs.declared.cell.Cell.TheVariants as cell
 use Rattle.lwc_base.specs.declared.limits.TheConstants.{MOST_PAGES}
 use Rattle.lwc_base.specs.declared.name.Tag.{Tag}
 use Rattle.lwc_base.specs.declared.page.PageValue.TheVariants.{Data}
 use Rattle.lwc_base.specs.Store.{Piece}
 use Rattle.page_cells.specs.declared.stretches.Stretch.{Stretch}
+use Rattle.page_cells.specs.Changes.{IsStretch, changed_place}
 use Rattle.page_cells.specs.Cells.{IsOwnPage, Place, kinds_of, no_pages, place_of}
-use Rattle.page_cells.specs.Changes.{IsStretch, change_of, changed_place, kinds_after}
 use Rattle.page_cells.specs.Tags.{IsNewTag, is_parting, taken_by, used}
 use Rattle.page_cells.specs.Writes.{write_page}
 
--- the kinds of a place after stretches are those after the changes that they make
-pub record ChangeLaws : Type 0 where
-  pub kinds : (cells : List Place) (i : ℕ) (stretches : List Stretch) → All (IsStretch cells i) stretches →
-      kinds_of (changed_place cells i stretches) ≡ kinds_after (map change_of stretches) (place_of cells i)
-
--- the places use as many frames as before, once one without pages has those of another
-pub record CloneLaws : Type 0 where
+-- the places use as many frames as before, once one without pages has those of another one, or what stretches give it
+pub record CopyLaws : Type 0 where
   pub cloned : (cells : List Place) (to from : ℕ) → to < length cells → from < length cells → place_of cells to ≡ no_pages →
       used (slice_set cells to (place_of cells from)) ≡ used cells
+  pub changed : (cells : List Place) (i : ℕ) (stretches : List Stretch) → i < length cells → place_of cells i ≡ no_pages →
+      All (IsStretch (length cells) i) stretches → used (slice_set cells i (changed_place cells i stretches)) ≡ used cells
 
 -- a write takes a frame if the page parts, and none otherwise; it leaves the kinds of pages, and any other new tag
 -- stays new; another page of any place is as before, and parts as before if it is under another tag

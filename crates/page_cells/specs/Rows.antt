@@ -1,6 +1,5 @@
 -- The row of a place once stretches of its pages have changed.
-use Rattle.std.specs.Prelude.{◌≢◌, ◌<◌, ◌≤◌, ℕ, List, Option, None, Some}
-use Rattle.lwc_base.specs.declared.limits.TheConstants.{MOST_PAGES}
+use Rattle.std.specs.Prelude.{ℕ, List, Option, None, Some}
 use Rattle.lwc_base.specs.declared.page.PageValue.{PageValue}
 use Rattle.cow_space.specs.Maps.{row_of}
 use Rattle.page_cells.specs.declared.stretches.Source.{Source}
@@ -23,16 +22,3 @@ value_by maps p before (Some stretch) = sourced_value maps stretch.source p
 -- a row after stretches
 unfoldable pub changed_row : List (ℕ → Option PageValue) → ℕ → List Stretch → ℕ → Option PageValue
 changed_row maps i stretches p = value_by maps p (row_of maps i p) (stretch_at stretches p)
-
--- a source is another one of this number of rows, or no row
-abbrev pub IsApart : ℕ → ℕ → Source → Type 0
-IsApart count i Absent = Unit {0}
-IsApart count i Zeros = Unit {0}
-IsApart count i (Common g) = Unit {0}
-IsApart count i (CopyOf j) = (j < count) × (j ≢ i)
-
--- a stretch of the pages of one of this number of rows
-pub record IsRowStretch (count i : ℕ) (stretch : Stretch) : Type 0 where
-  pub order : stretch.range.from ≤ stretch.range.to
-  pub inside : stretch.range.to ≤ MOST_PAGES
-  pub given : IsApart count i stretch.source

@@ -15,7 +15,3 @@ frames_of w = rows.frames_of w.rows
 -- how many tree nodes are free
 unfoldable pub free_nodes : PageCells → ℕ
 free_nodes w = rows.free_nodes w.rows
-
--- a place has no tree: it holds no node
-unfoldable pub HasNoTree : PageCells → ℕ → Type 0
-HasNoTree w i = rows.HasNoTree w.rows i

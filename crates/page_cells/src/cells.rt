@@ -1,23 +1,27 @@
 ghost use Rattle.std.specs.Prelude.{◌≡◌, ℕ, [], IfOk, replicate};
 ghost use Rattle.cow_space.specs.Seen as rows_seen;
-ghost use Rattle.page_cells.specs.Kept.{IsKept};
+ghost use Rattle.std.proofs.Props.{props};
+ghost use Rattle.page_cells.specs.Cells.{segments_of};
+ghost use Rattle.page_cells.specs.Kept.{HasNoPage, IsKept};
+ghost use Rattle.cow_space.specs.Seen.{no_tree-prop};
 
 use cow_space::{MOST_ROWS, Rows};
 use lwc_base::OutOfMemory;
-use range_map::{Change, RangeMap, SegmentKind};
+use range_map::{RangeMap, Segment, SegmentKind};
 use std::alloc::Global;
 
 /// The most places that there can be.
 pub const MOST_PLACES: u32 = MOST_ROWS;
 
 /// The cells of the pages of a fixed number of places, each a context's or a group's. A page that is the
-/// place's own has its bytes in a row, if it was written; one without reads as zeros. After `open` no call
-/// takes memory.
+/// place's own has its bytes in a row, if it was written; one without reads as zeros. A place without pages
+/// holds no tree node. After `open` no call takes memory.
 #[derive(Drop)]
 pub struct PageCells {
     pub(crate) rows: Rows,
     pub(crate) kinds: Vec<RangeMap>,
     ghost kept: { IsKept (rows_seen.maps rows) kinds.items },
+    ghost bare: { (i : ℕ) → HasNoPage (segments_of kinds.items i) → rows_seen.HasNoTree rows i } by { Prim.hlevel (props, no_tree-prop) },
 }
 
 /// The kinds of this number of places without pages. The only error is out of memory.
@@ -32,15 +36,14 @@ fn no_kinds(alloc: Global, places: u32) -> Result<Vec<RangeMap>, OutOfMemory>
 }
 
 impl PageCells {
-    ghost use Rattle.std.specs.Prelude.{◌<◌, ◌≤◌, length, Some};
+    ghost use Rattle.std.specs.Prelude.{◌<◌, ◌≤◌, All, length, Some};
     ghost use Rattle.std.specs.Option.{option_copied};
     ghost use Rattle.lwc_base.specs.declared.limits.TheConstants.{MOST_PAGES, MOST_RANGES};
-    ghost use Rattle.range_map.specs.Kinds.{ranges};
+    ghost use Rattle.range_map.specs.Kinds.{IsSegment, kind_at, ranges};
     ghost use Rattle.cow_space.specs.Maps.{data_of};
     ghost use Rattle.page_cells.specs.declared.cells.TheConstants.{MOST_PLACES};
     ghost use Rattle.page_cells.specs.Cells.{IsOwnPage, kinds_of, no_pages, place_of};
-    ghost use Rattle.page_cells.specs.Changes.{kinds_after};
-    ghost use Rattle.page_cells.specs.Seen.{cells, frames_of, HasNoTree};
+    ghost use Rattle.page_cells.specs.Seen.{cells, frames_of};
     ghost use Rattle.page_cells.specs.Tags.{is_parting, own_values, used};
 
     /// This number of places without pages, over this number of frames. The only error is out of memory.
@@ -49,7 +52,6 @@ impl PageCells {
         requires few_places { places ≤ MOST_PLACES }
         ensures cells { IfOk result (λ opened. cells opened ≡ replicate places no_pages) }
         ensures frames { IfOk result (λ opened. frames_of opened ≡ frames) }
-        ensures empty { IfOk result (λ opened. (i : ℕ) → HasNoTree opened i) }
     {
         let rows = Rows::open(alloc, frames, places)?;
         let kinds = no_kinds(alloc, places)?;
@@ -92,13 +94,15 @@ impl PageCells {
         self.kinds[i].count()
     }
 
-    /// The number of ranges that a place would have after changes. Of two changes that have a page, the first
-    /// counts.
-    pub fn count_after(&self, i: usize, changes: &[Change]) -> u32
+    /// The segments of a place, one for each range.
+    pub fn segments(&self, i: usize) -> &[Segment]
         requires { i < length (cells self.now) }
-        ensures { result ≡ ranges MOST_PAGES (kinds_after changes.now (place_of (cells self.now) i)) }
+        ensures kinds { kind_at result.now ≡ kinds_of (place_of (cells self.now) i) }
+        ensures count { length result.now ≡ ranges MOST_PAGES (kinds_of (place_of (cells self.now) i)) }
+        ensures few { length result.now ≤ MOST_RANGES }
+        ensures each { All IsSegment result.now }
     {
-        self.kinds[i].count_after(changes)
+        self.kinds[i].segments()
     }
 
     /// The bytes of a page that is the place's own. A page that is absent, common or zeros has none.

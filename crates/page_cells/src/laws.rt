@@ -1,22 +1,16 @@
 //! Laws of the pages of places: functions with empty bodies, each with a contract that is the law.
 
-ghost use Rattle.page_cells.specs.Laws.{ChangeLaws, CloneLaws, WriteLaws};
+ghost use Rattle.page_cells.specs.Laws.{CopyLaws, WriteLaws};
 ghost use Rattle.page_cells.specs.Worlds.{WorldLaws};
 
-use cow_space::laws::{copies_take_no_frame, writes_take_few_frames};
+use cow_space::laws as rows;
 use lwc_base::laws::names_are_ordered;
 
-/// The kinds of a place after stretches are those after the changes that they make, so `count_after` of
-/// these changes counts its ranges.
-pub fn stretches_change_kinds()
-    ensures { ChangeLaws }
-{}
-
-/// A place without pages that becomes another one takes no frame, and gives none back.
-pub fn clones_take_no_frame()
-    ensures { CloneLaws }
+/// A place without pages that gets what other places have takes no frame, and gives none back.
+pub fn copies_take_no_frame()
+    ensures { CopyLaws }
 {
-    copies_take_no_frame();
+    rows::copies_take_no_frame();
 }
 
 /// A write takes one frame if the page parts, and none otherwise. It leaves the kind of each page, and any
@@ -26,7 +20,7 @@ pub fn page_writes_take_few_frames()
     ensures { WriteLaws }
 {
     names_are_ordered();
-    writes_take_few_frames();
+    rows::writes_take_few_frames();
 }
 
 /// A world uses as many frames as the places, and the same pages part, if each context and group has a place

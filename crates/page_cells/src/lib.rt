@@ -3,12 +3,13 @@
 #![tactic(auto)]
 
 pub mod cells;
+pub(crate) mod kinds;
 pub mod laws;
 pub mod stretches;
 pub mod writes;
 
 pub use cells::{MOST_PLACES, PageCells};
-pub use stretches::{MOST_STRETCHES, Source, Stretch, changes_of};
+pub use stretches::{MOST_STRETCHES, Source, Stretch};
 
 #[cfg(test)]
 mod tests;

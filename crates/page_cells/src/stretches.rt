@@ -1,19 +1,17 @@
-ghost use Rattle.std.specs.Prelude.{◌≡◌, ◌≢◌, ◌<◌, ◌≤◌, ◌+◌, ◌*◌, ℕ, All, length, map, slice_set};
+ghost use Rattle.std.specs.Prelude.{◌≡◌, ◌≢◌, ◌<◌, ◌≤◌, ◌+◌, ◌*◌, ℕ, All, length, min, slice_set};
 ghost use Rattle.lwc_base.specs.declared.limits.TheConstants.{MOST_PAGES, MOST_RANGES};
 ghost use Rattle.range_map.specs.Kinds.{ranges};
 ghost use Rattle.cow_space.specs.Seen as rows_seen;
-ghost use Rattle.page_cells.specs.declared.stretches.TheConstants.{MOST_STRETCHES};
-ghost use Rattle.page_cells.specs.Cells.{no_pages, place_of};
-ghost use Rattle.page_cells.specs.Changes.{IsStretch, change_of, changed_place, kinds_after, sourced_kind};
-ghost use Rattle.page_cells.specs.Rows.{IsRowStretch, changed_row};
-ghost use Rattle.page_cells.specs.Seen.{cells, frames_of, free_nodes, HasNoTree};
+ghost use Rattle.page_cells.specs.Cells.{kinds_of, no_pages, place_of};
+ghost use Rattle.page_cells.specs.Changes.{IsStretch, changed_place};
+ghost use Rattle.page_cells.specs.Rows.{changed_row};
+ghost use Rattle.page_cells.specs.Seen.{cells, frames_of, free_nodes};
 
 use crate::cells::PageCells;
-use arrayvec::ArrayVec;
 use cow_space::Rows;
 use lwc_base::{Name, Range};
 use pool_base::Steps;
-use range_map::{Change, RangeMap, SegmentKind};
+use range_map::{RangeMap, ranges_go_by_kinds};
 use std::sync::ledger::Ledger;
 
 /// The most stretches of one change: one for each page.
@@ -28,21 +26,9 @@ pub enum Source {
     Zeros,
     /// They are common of the group of this name.
     Common(Name),
-    /// They become the place's own copies of what another place has there.
+    /// They become what another place has there: copies of its own pages, common of the same groups, or
+    /// absent.
     CopyOf(usize),
-}
-
-impl Source {
-    /// The kind that the pages get.
-    pub fn kind(self) -> Option<SegmentKind>
-        ensures { result ≡ sourced_kind self }
-    {
-        match self {
-            Source::Absent => None,
-            Source::Zeros | Source::CopyOf(_) => Some(SegmentKind::Own),
-            Source::Common(g) => Some(SegmentKind::Common(g)),
-        }
-    }
 }
 
 /// The pages of a range, and what they get.
@@ -62,33 +48,17 @@ impl Default for Stretch {
     }
 }
 
-/// The changes of kinds that stretches make.
-pub fn changes_of(stretches: &[Stretch]) -> ArrayVec<Change, MOST_STRETCHES>
-    requires { length stretches.now ≤ MOST_STRETCHES }
-    ensures { result.items ≡ map change_of stretches.now }
-{
-    let mut changes = ArrayVec::new();
-    for stretch in stretches {
-        changes.push(Change {
-            from: stretch.range.from,
-            to: stretch.range.to,
-            kind: stretch.source.kind(),
-        });
-    }
-    changes
-}
-
 /// Puts what stretches copy into a row, and clears the other pages that they have, the last stretch first.
 fn fill_row<L: Ledger>(rows: &mut Rows, i: usize, stretches: &[Stretch], steps: &mut Steps<L>)
     requires row { i < length (rows_seen.maps rows.old) }
-    requires stretches { All (IsRowStretch (length (rows_seen.maps rows.old)) i) stretches.now }
+    requires stretches { All (IsStretch (length (rows_seen.maps rows.old)) i) stretches.now }
     ensures maps { rows_seen.maps rows.new
         ≡ slice_set (rows_seen.maps rows.old) i (changed_row (rows_seen.maps rows.old) i stretches.now) }
     ensures frames { rows_seen.frames_of rows.new ≡ rows_seen.frames_of rows.old }
     ensures others { (j : ℕ) → j ≢ i → rows_seen.HasNoTree rows.old j → rows_seen.HasNoTree rows.new j }
     ensures nodes { rows_seen.free_nodes rows.old
-        ≤ rows_seen.free_nodes rows.new + (1 + 2 * length stretches.now) }
-    ensures cost { steps.new ≤ steps.old + (34 + 64 * length stretches.now) }
+        ≤ rows_seen.free_nodes rows.new + (min 1 (length stretches.now) + 2 * length stretches.now) }
+    ensures cost { steps.new ≤ steps.old + (34 * min 1 (length stretches.now) + 64 * length stretches.now) }
     ensures cost_empty { rows_seen.HasNoTree rows.old i → steps.new ≤ steps.old + 64 * length stretches.now }
 {
     'stretches: for k in (0..stretches.len()).rev() {
@@ -101,25 +71,43 @@ fn fill_row<L: Ledger>(rows: &mut Rows, i: usize, stretches: &[Stretch], steps: 
 }
 
 impl PageCells {
+    /// The number of ranges that a place would have after stretches. Of two stretches that have a page, the
+    /// first counts.
+    pub fn count_after(&self, i: usize, stretches: &[Stretch]) -> u32
+        requires place { i < length (cells self.now) }
+        requires stretches { All (IsStretch (length (cells self.now)) i) stretches.now }
+        ensures { result ≡ ranges MOST_PAGES (kinds_of (changed_place (cells self.now) i stretches.now)) }
+    {
+        ranges_go_by_kinds();
+        let changes = self.kind_changes(i, stretches);
+        self.kinds[i].count_after(changes.as_slice())
+    }
+
     /// Gives the pages of each stretch of a place what its source says, and leaves all other pages. Of two
     /// stretches that have a page, the first counts. No frame is taken.
     pub fn change<L: Ledger>(&mut self, i: usize, stretches: &[Stretch], steps: &mut Steps<L>)
         requires place { i < length (cells self.old) }
-        requires few { length stretches.now ≤ MOST_STRETCHES }
-        requires stretches { All (IsStretch (cells self.old) i) stretches.now }
-        requires ranges { ranges MOST_PAGES (kinds_after (map change_of stretches.now) (place_of (cells self.old) i))
+        requires stretches { All (IsStretch (length (cells self.old)) i) stretches.now }
+        requires ranges { ranges MOST_PAGES (kinds_of (changed_place (cells self.old) i stretches.now))
             ≤ MOST_RANGES }
         ensures cells { cells self.new
             ≡ slice_set (cells self.old) i (changed_place (cells self.old) i stretches.now) }
         ensures frames { frames_of self.new ≡ frames_of self.old }
-        ensures others { (j : ℕ) → j ≢ i → HasNoTree self.old j → HasNoTree self.new j }
-        ensures nodes { free_nodes self.old ≤ free_nodes self.new + (1 + 2 * length stretches.now) }
-        ensures cost { steps.new ≤ steps.old + (34 + 64 * length stretches.now) }
-        ensures cost_empty { HasNoTree self.old i → steps.new ≤ steps.old + 64 * length stretches.now }
+        ensures nodes { free_nodes self.old
+            ≤ free_nodes self.new + (min 1 (length stretches.now) + 2 * length stretches.now) }
+        ensures cost { steps.new
+            ≤ steps.old + (34 * min 1 (length stretches.now) + 64 * length stretches.now) }
+        ensures cost_empty { place_of (cells self.old) i ≡ no_pages
+            → steps.new ≤ steps.old + 64 * length stretches.now }
     {
-        let changes = changes_of(stretches);
+        ranges_go_by_kinds();
+        let changes = self.kind_changes(i, stretches);
         self.kinds[i].replace(changes.as_slice()).unwrap();
-        fill_row(&mut self.rows, i, stretches, steps);
+        if self.kinds[i].segments().is_empty() {
+            self.rows.drop_row(i, steps);
+        } else {
+            fill_row(&mut self.rows, i, stretches, steps);
+        }
     }
 
     /// Makes all pages of a place those of another, by one hold of the root of their tree. No frame is taken.
@@ -129,13 +117,17 @@ impl PageCells {
         requires apart { from ≢ to }
         ensures cells { cells self.new ≡ slice_set (cells self.old) to (place_of (cells self.old) from) }
         ensures frames { frames_of self.new ≡ frames_of self.old }
-        ensures others { (j : ℕ) → j ≢ to → HasNoTree self.old j → HasNoTree self.new j }
         ensures nodes { free_nodes self.old ≤ free_nodes self.new }
         ensures cost { steps.new ≤ steps.old + 34 }
-        ensures cost_empty { HasNoTree self.old to → steps.new ≤ steps.old + 1 }
+        ensures cost_empty { place_of (cells self.old) to ≡ no_pages
+            → steps.new ≤ steps.old + min 1 (ranges MOST_PAGES (kinds_of (place_of (cells self.old) from))) }
     {
         self.kinds[to] = self.kinds[from].copy();
-        self.rows.clone_row(to, from, steps);
+        if self.kinds[to].segments().is_empty() {
+            self.rows.drop_row(to, steps);
+        } else {
+            self.rows.clone_row(to, from, steps);
+        }
     }
 
     /// Takes all pages from a place, and gives back all that no other place holds.
@@ -143,11 +135,9 @@ impl PageCells {
         requires place { i < length (cells self.old) }
         ensures cells { cells self.new ≡ slice_set (cells self.old) i no_pages }
         ensures frames { frames_of self.new ≡ frames_of self.old }
-        ensures others { (j : ℕ) → j ≢ i → HasNoTree self.old j → HasNoTree self.new j }
         ensures nodes { free_nodes self.old ≤ free_nodes self.new }
-        ensures empty { HasNoTree self.new i }
         ensures cost { steps.new ≤ steps.old + 33 }
-        ensures cost_empty { HasNoTree self.old i → steps.new ≡ steps.old }
+        ensures cost_empty { place_of (cells self.old) i ≡ no_pages → steps.new ≡ steps.old }
     {
         self.kinds[i] = RangeMap::empty();
         self.rows.drop_row(i, steps);

@@ -1,5 +1,4 @@
 ghost use Rattle.std.specs.Prelude.{◌≡◌, ◌≢◌, ℕ, ◌+◌, ◌<◌, ◌≤◌, All, IfOk, length, slice_set};
-ghost use Rattle.page_cells.specs.declared.stretches.TheConstants.{MOST_STRETCHES};
 ghost use Rattle.page_cells.specs.Cells.{place_of};
 ghost use Rattle.page_cells.specs.Changes.{IsStretch, changed_place};
 ghost use Rattle.page_cells.specs.Seen.{cells, free_nodes};
@@ -34,12 +33,10 @@ fn change<L: Ledger>(
     steps: &mut Steps<L>,
 )
     requires place { i < length (cells places.old) }
-    requires few { length stretches.now ≤ MOST_STRETCHES }
-    requires stretches { All (IsStretch (cells places.old) i) stretches.now }
+    requires stretches { All (IsStretch (length (cells places.old)) i) stretches.now }
     ensures { cells places.new ≡ slice_set (cells places.old) i (changed_place (cells places.old) i stretches.now) }
 {
-    let changes = changes_of(stretches);
-    let count = places.count_after(i, changes.as_slice());
+    let count = places.count_after(i, stretches);
     assert!(rt; count <= MOST_RANGES);
     places.change(i, stretches, steps);
 }
@@ -62,6 +59,34 @@ fn written<L: Ledger>(
     let parted = places.write(0, 5, 5 * 4096 + 4094, &[7, 8, 9], tag, steps);
     assert_eq!(rt; parted, Ok(true));
     Ok(places)
+}
+
+/// Copies pages of the second of three places to the third: one with bytes, a common one and two absent ones.
+fn copy<L: Ledger>(rt: &impl Abort, places: &mut PageCells, group: Name, steps: &mut Steps<L>)
+    requires { length (cells places.old) ≡ 3 }
+    ensures { length (cells places.new) ≡ 3 }
+{
+    let mixed = [
+        stretch(6, 7, Source::Common(group)),
+        stretch(7, 8, Source::Absent),
+    ];
+    change(rt, places, 1, &mixed, steps);
+    let copied = [
+        stretch(5, 9, Source::CopyOf(1)),
+        stretch(7, 10, Source::Zeros),
+    ];
+    change(rt, places, 2, &copied, steps);
+    let own = Some(SegmentKind::Own);
+    assert_eq!(rt;
+        [
+            places.kind(2, 5),
+            places.kind(2, 6),
+            places.kind(2, 7),
+            places.kind(2, 8)
+        ],
+        [own, Some(SegmentKind::Common(group)), None, None]
+    );
+    assert_eq!(rt; (places.kind(2, 9), places.segments(2).len()), (own, 3));
 }
 
 /// Copies and drops the pages of a place, and makes one of them common.
@@ -93,22 +118,12 @@ fn try_places<L: Ledger>(rt: &impl Abort, alloc: Global, blank: Blank) -> Result
         [None, Some(SegmentKind::Common(group))]
     );
     assert!(rt; places.bytes(0, 5).is_none());
-    let Some(SegmentKind::Own) = places.kind(1, 5) else {
-        return Err("page 5 is the place's own")?;
-    };
-    change(
-        rt,
-        &mut places,
-        2,
-        &[stretch(5, 6, Source::CopyOf(1))],
-        &mut steps,
-    );
-    assert_eq!(rt; places.len(), 3);
+    copy(rt, &mut places, group, &mut steps);
     places.clear_place(1, &mut steps);
     assert_eq!(rt; places.len(), 3);
     assert_eq!(rt;
         (places.count(1), places.count(2), places.used()),
-        (0, 1, 1)
+        (0, 3, 1)
     );
     let bytes = places.bytes(2, 5).ok_or("the page has bytes")?;
     assert_eq!(rt; bytes.len(), 4096);

@@ -5,9 +5,9 @@ use pool_base::Steps;
 use std::sync::ledger::Ledger;
 
 impl PageCells {
-    ghost use Rattle.std.specs.Prelude.{◌≡◌, ◌≢◌, ℕ, ◌↔◌, ◌+◌, ◌<◌, ◌≤◌, IfOk, IsErr, OnErr, length};
+    ghost use Rattle.std.specs.Prelude.{◌≡◌, ◌↔◌, ◌+◌, ◌<◌, ◌≤◌, IfOk, IsErr, OnErr, length};
     ghost use Rattle.page_cells.specs.Cells.{IsOwnPage, place_of};
-    ghost use Rattle.page_cells.specs.Seen.{cells, frames_of, free_nodes, HasNoTree};
+    ghost use Rattle.page_cells.specs.Seen.{cells, frames_of, free_nodes};
     ghost use Rattle.page_cells.specs.Tags.{IsNewTag, is_parting, taken_by, used};
     ghost use Rattle.page_cells.specs.Writes.{write_page};
 
@@ -36,7 +36,6 @@ impl PageCells {
             ≡ write_page (cells self.old) i p (record { at = at; bytes = piece.now }) tag) }
         ensures parted { IfOk result (λ parted. parted ≡ is_parting (cells self.old) i p) }
         ensures frames { frames_of self.new ≡ frames_of self.old }
-        ensures others { (j : ℕ) → j ≢ i → HasNoTree self.old j → HasNoTree self.new j }
         ensures nodes { free_nodes self.old ≤ free_nodes self.new + 2 }
         ensures cost { steps.new ≤ steps.old + 36 }
     {

@@ -3,7 +3,8 @@ use Rattle.std.proofs.lemmas.Bool.{cases_eq}
 use Rattle.cow_space.specs.Seen.{maps}
 use Rattle.page_cells.specs.declared.stretches.Source.TheVariants.{Absent, CopyOf}
 use Rattle.page_cells.specs.declared.stretches.Stretch.{Stretch}
-use Rattle.page_cells.specs.Rows.{IsApart, changed_row}
+use Rattle.page_cells.specs.Changes.{IsApart}
+use Rattle.page_cells.specs.Rows.{changed_row}
 use Rattle.page_cells.proofs.Changed.{no-value, row-begin, row-clear, row-copy}
 use Rattle.page_cells.proofs.stretches.fill_row.Goals as goal
 

@@ -1,9 +1,9 @@
 use Rattle.std.proofs.Common.{[], set, ap, ◌∙◌, arith}
-use Rattle.cow_space.specs.Seen.{maps}
+use Rattle.cow_space.specs.Seen.{HasNoTree, maps}
 use Rattle.cow_space.specs.Maps as rows
 use Rattle.page_cells.specs.Cells.{all_cells}
-use Rattle.page_cells.specs.Seen.{cells, frames_of, free_nodes, HasNoTree}
-use Rattle.page_cells.proofs.Places.{inside-kinds, length-cells, none-cells, set-cells}
+use Rattle.page_cells.specs.Seen.{cells, frames_of, free_nodes}
+use Rattle.page_cells.proofs.Places.{bare-set, inside-kinds, length-cells, none-cells, none-present, set-cells}
 use Rattle.page_cells.proofs.cells.PageCells.clear_place.Goals as goal
 
 pub index_mut-requires : goal.index_mut-requires
@@ -32,14 +32,14 @@ pub returns-clause-nodes : goal.returns-clause-nodes
 unfolding free_nodes
 returns-clause-nodes g c = c.drop_row.ensures.nodes
 
+pub invariant_of-self-clause-bare : goal.invariant_of-self-clause-bare
+unfolding cells
+invariant_of-self-clause-bare g c =
+    let w = c.args.self.now in
+    bare-set (HasNoTree w.rows) (HasNoTree c.drop_row.new.self) w.kinds.items c.args.i c.empty.result (inside-kinds w.kinds.items (maps w.rows) c.args.i w.kept.places c.requires.place)
+    w.bare c.drop_row.ensures.others (λ _. c.drop_row.ensures.empty)
+
 pub returns-clause-cost_empty : goal.returns-clause-cost_empty
-unfolding HasNoTree
-returns-clause-cost_empty g c = c.drop_row.ensures.cost_empty
-
-pub returns-clause-empty : goal.returns-clause-empty
-unfolding HasNoTree
-returns-clause-empty g c = c.drop_row.ensures.empty
-
-pub returns-clause-others : goal.returns-clause-others
-unfolding HasNoTree
-returns-clause-others g c = c.drop_row.ensures.others
+unfolding cells
+returns-clause-cost_empty g c empty =
+    let w = c.args.self.now in c.drop_row.ensures.cost_empty (w.bare c.args.i (none-present w.kinds.items (maps w.rows) c.args.i w.kept.places empty))

@@ -2,7 +2,7 @@ use Rattle.std.proofs.Common.{[], replicate, sym, ◌∙◌, subst}
 use Rattle.cow_space.specs.Seen.{maps}
 use Rattle.page_cells.specs.Cells.{all_cells}
 use Rattle.page_cells.specs.Kept.{IsKept}
-use Rattle.page_cells.specs.Seen.{cells, frames_of, HasNoTree}
+use Rattle.page_cells.specs.Seen.{cells, frames_of}
 use Rattle.page_cells.proofs.Places.{none-all, none-kept}
 use Rattle.page_cells.proofs.cells.PageCells.open.Goals as goal
 
@@ -11,6 +11,7 @@ invariant_of-result c =
     record {
       kept = subst (IsKept (maps c.in_ok-rows.rows)) (sym c.in_ok-kinds.ensures)
           (subst (λ ms. IsKept ms (replicate c.args.places [])) (sym c.in_ok-rows.ensures.maps) (none-kept c.args.places));
+      bare = λ i _. c.in_ok-rows.ensures.empty i;
     }
 
 pub returns-clause-cells : goal.returns-clause-cells
@@ -21,7 +22,3 @@ returns-clause-cells c =
 pub returns-clause-frames : goal.returns-clause-frames
 unfolding frames_of
 returns-clause-frames c = c.in_ok-rows.ensures.frames
-
-pub returns-clause-empty : goal.returns-clause-empty
-unfolding HasNoTree
-returns-clause-empty c = c.in_ok-rows.ensures.empty

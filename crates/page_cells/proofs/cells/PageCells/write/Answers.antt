@@ -1,11 +1,12 @@
-use Rattle.std.proofs.Common.{◌≡◌, ◌<◌, length, ⊎_elim, sym, ap, ◌∙◌, arith, subst}
+use Rattle.std.proofs.Common.{◌≡◌, ◌<◌, length, ⊎_elim, sym, ap, ◌∙◌, arith, subst, None}
 use Rattle.cow_space.specs.Seen.{maps}
 use Rattle.cow_space.specs.Writes as rows
 use Rattle.cow_space.specs.Maps.{row_of}
 use Rattle.cow_space.specs.Tags as tags_of_rows
-use Rattle.page_cells.specs.Cells.{all_cells}
-use Rattle.page_cells.specs.Kept.{IsKept}
-use Rattle.page_cells.specs.Seen.{cells, frames_of, free_nodes, HasNoTree}
+use Rattle.range_map.specs.Kinds.{kind_at}
+use Rattle.page_cells.specs.Cells.{all_cells, segments_of}
+use Rattle.page_cells.specs.Kept.{HasNoPage, IsKept}
+use Rattle.page_cells.specs.Seen.{cells, frames_of, free_nodes}
 use Rattle.page_cells.specs.Tags.{is_parting}
 use Rattle.page_cells.specs.Writes.{write_page}
 use Rattle.page_cells.proofs.OwnTags.{parting-rows}
@@ -40,6 +41,9 @@ invariant_of-self g c =
           (λ same. subst (λ ms. IsKept ms w.kinds.items) (sym same) w.kept)
           (λ written. kept-written (maps w.rows) w.kinds.items w.kept c.args.i c.args.p inside own (maps c.write.new.self) (record { at = c.args.at; bytes = c.args.piece.now }) c.args.tag written)
           (either-way c.write.result (maps c.write.new.self ≡ maps w.rows) (maps c.write.new.self ≡ rows.write_page (maps w.rows) c.args.i c.args.p (record { at = c.args.at; bytes = c.args.piece.now }) c.args.tag) c.write.ensures.full_same c.write.ensures.written);
+      bare = λ j none. c.write.ensures.others j
+          (λ same. let gone : kind_at (segments_of w.kinds.items c.args.i) c.args.p ≡ None = subst (λ k. HasNoPage (segments_of w.kinds.items k)) same none c.args.p in let no = sym own ∙ gone in cc)
+          (w.bare j none);
     }
 
 pub returns-clause-full : goal.returns-clause-full
@@ -87,7 +91,3 @@ returns-clause-frames g c = c.write.ensures.frames
 pub returns-clause-nodes : goal.returns-clause-nodes
 unfolding free_nodes
 returns-clause-nodes g c = c.write.ensures.nodes
-
-pub returns-clause-others : goal.returns-clause-others
-unfolding HasNoTree
-returns-clause-others g c = c.write.ensures.others
