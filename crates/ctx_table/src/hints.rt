@@ -9,7 +9,8 @@ use std::marker::Model;
 /// How many hints there are.
 pub(crate) const HINTS: u32 = 2048;
 
-/// A hint at the place of each name. Names of one number share a hint, so it may be wrong.
+/// For each number of a name, the place to look at first. Names of one number share a hint, so it may be
+/// wrong.
 #[derive(Drop)]
 pub(crate) struct Hints {
     places: Vec<u16>,
@@ -44,15 +45,15 @@ impl Hints {
         Ok(Hints { places })
     }
 
-    /// The hint at the place of a name.
+    /// The place to look at first for a name.
     pub(crate) fn place(&self, name: Name) -> usize
         ensures { result ≡ slice_index_or self.now (number_of name) 0 }
     {
         usize::from(self.places[number_of(name)])
     }
 
-    /// Makes a place the hint for a name, unless it is that of a live name, which is at the place of the hint. So a
-    /// name that lives long keeps its hint, whatever comes and goes.
+    /// Makes a place the hint for a name. `hinted` is the live name at the place that the hint gives now, if
+    /// there is one. If it shares the hint, the hint stays, so that a name that lives long keeps its hint.
     pub(crate) fn offer(&mut self, name: Name, place: u16, hinted: Option<Name>)
         ensures { self.new
             ≡ (if shares_hint hinted name then self.old else slice_set self.old (number_of name) place) }
