@@ -8,6 +8,7 @@ use Rattle.lwc_base.specs.declared.item.Item.{Item}
 use Rattle.lwc_base.specs.declared.item.Mode.{Mode}
 use Rattle.lwc_base.specs.declared.item.Mode.TheVariants.{Copy, Share, Unmap}
 use Rattle.lwc_base.specs.declared.key.Key.{Key}
+use Rattle.lwc_base.specs.declared.key.Key.TheVariants.{Page, Slot, Cred}
 use Rattle.lwc_base.specs.declared.limits.TheConstants.{MOST_RANGES}
 use Rattle.lwc_base.specs.declared.name.Name.{Name}
 use Rattle.lwc_base.specs.declared.regs.Regs.{Regs}
@@ -18,6 +19,7 @@ use Rattle.lwc_base.specs.Modes.{IsKey, IsSpec, kind_of, limit, mode, mode_or_co
 use Rattle.lwc_base.specs.Ranges.{begins_range, ranges, ranges_of}
 use Rattle.lwc_base.specs.Sharing.{clone_context, cloned_cell, cloned_context, is_moved, needs_group, ranges_after_clone, share, with_shared}
 use Rattle.lwc_base.specs.World.{World, Context, add_context, change_context, change_counters, changed_context, context, is_live, new_context, next_context, next_group}
+use Rattle.lazy_world.specs.Cells.{is_nothing}
 use Rattle.lazy_world.specs.Facts.{Facts}
 use Rattle.lazy_world.specs.Followed.{followed, with_planned}
 use Rattle.lazy_world.specs.Plans.{taken_cell}
@@ -25,6 +27,12 @@ use Rattle.lazy_world.specs.declared.plan.Plan.TheVariants.{Clone}
 use Rattle.lazy_world.proofs.NeedLemmas.{needs-key}
 use Rattle.lazy_world.proofs.PastLemmas.{mode-past}
 use Rattle.lazy_world.proofs.ShareLemmas.{get-same, insert-twice}
+
+-- a new context has nothing but a credential
+pub new-nothing : (uid : ℕ) (entry : Regs) (k : Key) → is_nothing k ((new_context uid entry).cell k) ≡ true
+new-nothing uid entry (Page p) = refl
+new-nothing uid entry (Slot n) = refl
+new-nothing uid entry Cred = refl
 
 common_stays : (m : Mode) (k : Key) (g : Name) → is_moved m k (cells.Common g) ≡ false
 common_stays Copy k g = refl
@@ -99,6 +107,10 @@ module _ (facts : Facts) (w : World) (c : Name) (job : ℕ) (items : List Item) 
 
     same_context : context added c ≡ context s c
     same_context = (facts.changes.context_added s job (new_context uid entry)).others c other_name
+
+    -- nor once the new context is there
+    pub still-settled : (v : World) → v ≡ added → (k : Key) → is_moved (m k) k ((context v c).cell k) ≡ false
+    still-settled v is k = ap (λ (u : World). is_moved (m k) k ((context u c).cell k)) is ∙ ap (λ (x : Context). is_moved (m k) k (x.cell k)) same_context ∙ settled k
 
     cloned_cells : (g : Name) (k : Key) → taken_cell added g (m k) k ((context added c).cell k) ≡ cloned_cell s c k (mode_or_copy items k)
     unfolding mode_or_copy

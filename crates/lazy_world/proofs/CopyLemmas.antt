@@ -1,8 +1,9 @@
 -- Rows whose cells are all a place's own, and that a plan gives as they are.
-use Rattle.std.proofs.Common.{◌≡◌, ℕ, ◌<◌, ◌≤◌, ⊎_elim, refl, sym, ap, ◌∙◌, true, false, eqb, arith, length, not, [], Bool, List}
+use Rattle.std.proofs.Common.{◌≡◌, ℕ, zero, suc, ◌^◌, ◌<◌, ◌≤◌, ⊎_elim, refl, sym, ap, ◌∙◌, true, false, eqb, arith, length, not, [], Bool, List}
 use Rattle.std.proofs.lemmas.Bool.{cases_lt}
 use Rattle.std.proofs.lemmas.List.{nil_from_length}
-use Rattle.std.proofs.lemmas.Nat.Bits.{bit_at-zero}
+use Rattle.std.specs.Int.{bit_at}
+use Rattle.std.proofs.lemmas.Nat.Bits.{bit_at-lt, bit_at-zero, same_from_bits_below}
 use Rattle.lwc_base.specs.declared.cell.Cell.{Cell}
 use Rattle.lwc_base.specs.declared.cell.Cell.TheVariants as cells
 use Rattle.fd_table.specs.Slots as slots
@@ -27,6 +28,22 @@ use Rattle.lazy_world.specs.declared.plan.Plan.TheVariants.{Mark, Clone}
 
 pub no-bit : (word n : ℕ) → eqb word 0 ≡ true → has_bit word n ≡ false
 no-bit word n is = let none : word ≡ 0 = grind arith in ap (λ w. has_bit w n) none ∙ ap (λ b. eqb b 1) (bit_at-zero n)
+
+-- a word without bits is 0
+pub no-bits : (word : ℕ) → word < 2 ^ 64 → ((n : ℕ) → n < 64 → has_bit word n ≡ false) → eqb word 0 ≡ true
+no-bits word fits none =
+    let zero : word ≡ 0 = same_from_bits_below 64 word 0 fits (omega arith) (λ n low. off n (bit_at word n) (bit_at-lt word n) (none n low) ∙ sym (bit_at-zero n)) in
+    ap (λ w. eqb w 0) zero
+  where
+    off : (n b : ℕ) → b < 2 → eqb b 1 ≡ false → b ≡ 0
+    off n zero low not_one = refl
+    off n (suc zero) low not_one = cc
+    off n (suc (suc b)) low not_one = absurd (omega (arith, low))
+
+-- a slot of a place's own is not common
+pub own-slot : (cell : Cell Descriptor) → is_own cell ≡ true → slots.is_common cell ≡ false
+own-slot (cells.Own value) own = refl
+own-slot (cells.Common g) own = cc
 
 own-nothing : (k : Key) (cell : Cell (ValueOf k)) → is_nothing k cell ≡ true → (k ≡ Cred → is_own cell ≡ true) → is_own cell ≡ true
 own-nothing k (cells.Own value) none cred = refl

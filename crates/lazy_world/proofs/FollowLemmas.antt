@@ -1,6 +1,6 @@
 -- A context whose cells become another row.
-use Rattle.std.proofs.Common.{◌≡◌, ℕ, ◌<◌, ◌≤◌, arith, refl, sym, ap, subst, ◌∙◌, List, Option, Some, None}
-use Rattle.std.specs.Prelude.{unwrap_or}
+use Rattle.std.proofs.Common.{◌≡◌, ◌≢◌, ℕ, ◌<◌, ◌≤◌, arith, refl, sym, ap, subst, ◌∙◌, List, Option, Some, None}
+use Rattle.std.specs.Prelude.{slice_index_or, unwrap_or}
 use Rattle.std.specs.FinMap as fm
 use Rattle.lwc_base.specs.declared.cell.Cell.TheVariants as cells
 use Rattle.lwc_base.specs.declared.item.Item.{Item}
@@ -19,7 +19,7 @@ use Rattle.range_map.specs.Kinds.{kind_of, ranges}
 use Rattle.range_map.specs.declared.segment.SegmentKind.{SegmentKind}
 use Rattle.page_cells.specs.declared.stretches.Source.{Source}
 use Rattle.page_cells.specs.declared.stretches.Source.TheVariants as sources
-use Rattle.ctx_table.specs.NameTables.{ArePlaced}
+use Rattle.ctx_table.specs.NameTables.{ArePlaced, NameTable}
 use Rattle.lazy_world.specs.Cells.{Row, kinds_of, put_row}
 use Rattle.lazy_world.specs.Facts.{Facts}
 use Rattle.lazy_world.specs.Followed.{IsOfContexts, with_planned}
@@ -115,3 +115,20 @@ module _ (s : Parts) (sound : IsSound s) (facts : Facts) (placed : ArePlaced s.c
         ∙ law (world_of later).size.pages (context_at later i) (kinds_of row) (few_pages later sound.sizes.size.pages.1)
         (λ p low. ap (λ (r : Row). kind_of (r (Page p))) (choose i i row (s.rows i) refl))
         (λ p past low. no_kind p (row (Page p)) (within (Page p) (past_of later p past)))
+
+-- two contexts have two places
+pub other-place : (table : NameTable) → ArePlaced table → (c d : Name) (i j : ℕ) → fm.get table.map c ≡ Some i → fm.get table.map d ≡ Some j → c ≢ d → i ≢ j
+other-place table placed c d i j at_c at_d other same =
+    let here = (placed.at c i).0 at_c in
+    let there = (placed.at d j).0 at_d in
+    other (let both : Some c ≡ Some d = sym here ∙ ap (λ n. slice_index_or table.places n None) same ∙ there in cc)
+
+-- the ranges of a context are those of its row
+pub ranges-here : (s : Parts) → IsSound s → (c : Name) (i : ℕ) → fm.get s.contexts.map c ≡ Some i →
+    ((pages : ℕ) (x : Context) (kinds : ℕ → Option SegmentKind) → pages ≤ MOST_PAGES → ((p : ℕ) → p < pages → kind_of (x.cell (Page p)) ≡ kinds p) →
+    ((p : ℕ) → pages ≤ p → p < MOST_PAGES → kinds p ≡ None) → base.ranges pages x ≡ ranges MOST_PAGES kinds) → ranges_of (world_of s) c ≡ ranges MOST_PAGES (kinds_of (s.rows i))
+unfolding ranges_of
+ranges-here s sound c i found law =
+    ap (base.ranges (world_of s).size.pages) (context-found s c i found)
+    ∙ law (world_of s).size.pages (context_at s i) (kinds_of (s.rows i)) (few_pages s sound.sizes.size.pages.1) (λ p low. refl)
+    (λ p past low. no_kind p (s.rows i (Page p)) (sound.past i (Page p) (past_of s p past)))

@@ -4,6 +4,7 @@ mod AnchorLemmas
 mod BegunLemmas
 mod ClearLemmas
 mod CloneLemmas
+mod CloneSources
 mod CopyLemmas
 mod CountLemmas
 mod DropLemmas

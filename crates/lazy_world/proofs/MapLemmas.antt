@@ -18,11 +18,12 @@ use Rattle.lwc_base.specs.Mapping.{map_pages, mapped_or_not, unmap_pages, with_z
 use Rattle.lwc_base.specs.Ranges as base
 use Rattle.lwc_base.specs.Ranges.{ranges_of}
 use Rattle.lwc_base.specs.World.{Context, Counters, change_context}
-use Rattle.range_map.specs.Kinds.{is_between, kind_by, kind_of, ranges}
+use Rattle.range_map.specs.Kinds.{is_between, kind_of, ranges}
 use Rattle.range_map.specs.declared.segment.SegmentKind.{SegmentKind}
 use Rattle.page_cells.specs.declared.stretches.Stretch.{Stretch}
 use Rattle.page_cells.specs.Cells.{Place, place_of}
-use Rattle.page_cells.specs.Changes.{IsStretch, cell_by, change_of, changed_place, kinds_after}
+use Rattle.page_cells.specs.Cells as page_specs
+use Rattle.page_cells.specs.Changes.{IsStretch, cell_by, changed_place}
 use Rattle.ctx_table.specs.NameTables.{ArePlaced}
 use Rattle.fd_table.specs.Slots as slots
 use Rattle.lazy_world.specs.Cells.{Row, is_nothing, kinds_of, on_place, page_cell, put_row, rows_of, set_pages, source_of}
@@ -37,11 +38,11 @@ use Rattle.lazy_world.proofs.WorldLemmas.{change_context-row, context-found}
 abbrev pub stretch_of : ℕ → ℕ → Bool → Stretch
 stretch_of from to present = record { range = record { from = from; to = to }; source = source_of present }
 
-module _ (cells : List Place) (i from to : ℕ) where
-  pub is_stretch : (present : Bool) → from ≤ to → to ≤ MOST_PAGES → All (IsStretch cells i) (stretch_of from to present ∷ [])
-  is_stretch true order inside = All-cons (IsStretch cells i) (stretch_of from to true) [] (record { order = order; inside = inside; given = tt }) (All-nil (IsStretch cells i))
-  is_stretch false order inside = All-cons (IsStretch cells i) (stretch_of from to false) [] (record { order = order; inside = inside; given = tt }) (All-nil (IsStretch cells i))
+pub is_stretch : (count i from to : ℕ) (present : Bool) → from ≤ to → to ≤ MOST_PAGES → All (IsStretch count i) (stretch_of from to present ∷ [])
+is_stretch count i from to true order inside = All-cons (IsStretch count i) (stretch_of from to true) [] (record { order = order; inside = inside; given = tt }) (All-nil (IsStretch count i))
+is_stretch count i from to false order inside = All-cons (IsStretch count i) (stretch_of from to false) [] (record { order = order; inside = inside; given = tt }) (All-nil (IsStretch count i))
 
+module _ (cells : List Place) (i from to : ℕ) where
   pub place-set : (present : Bool) (p : ℕ) → changed_place cells i (stretch_of from to present ∷ []) p ≡ cond (nat_le from p && nat_lt p to) (page_cell present) (place_of cells i p)
   unfolding changed_place
   place-set present p = at (is_between from to p) present
@@ -51,24 +52,14 @@ module _ (cells : List Place) (i from to : ℕ) where
       at true false = refl
       at false present = refl
 
-  pub kinds-set : (present : Bool) (p : ℕ) → kinds_after (change_of (stretch_of from to present) ∷ []) (place_of cells i) p
-      ≡ kind_of (cond (nat_le from p && nat_lt p to) (page_cell present) (place_of cells i p))
-  unfolding kinds_after
-  kinds-set present p = at (is_between from to p) present
-    where
-      at : (b present : Bool) → kind_by (kind_of (place_of cells i p)) (cond b (Some (change_of (stretch_of from to present))) None) ≡ kind_of (cond b (page_cell present) (place_of cells i p))
-      at true true = refl
-      at true false = refl
-      at false present = refl
-
 module _ (cells : List Place) (table : List (ℕ → slots.Slot)) (uids : List (Cell ℕ)) (i from to : ℕ) (present : Bool) where
   abbrev old : ℕ → Row
   old = rows_of cells table uids
 
   -- the kinds of the place afterwards
-  pub kinds-row : kinds_after (change_of (stretch_of from to present) ∷ []) (place_of cells i) ≡ kinds_of (set_pages from to present (old i))
+  pub kinds-row : page_specs.kinds_of (changed_place cells i (stretch_of from to present ∷ [])) ≡ kinds_of (set_pages from to present (old i))
   unfolding rows_of
-  kinds-row = λ e p. kinds-set cells i from to present p e
+  kinds-row = λ e p. kind_of (place-set cells i from to present p e)
 
   -- and its row
   pub row-set : i < length cells → rows_of (set cells i (changed_place cells i (stretch_of from to present ∷ []))) table uids ≡ put_row old i (set_pages from to present (old i))

@@ -22,10 +22,6 @@ mapped_none : {A B : Type 0} (f : A → B) (b : Bool) (o : Option A) → option_
 mapped_none f true o = refl
 mapped_none f false o = refl
 
-kept_some : {A B : Type 0} (f : A → B) (b : Bool) (o : Option A) → option_map f (cond b o None) ≡ cond b (option_map f o) None
-kept_some f true o = refl
-kept_some f false o = refl
-
 pub equal_of : (r : Ordering) → is_eq r ≡ true → r ≡ Equal
 equal_of Less e = cc
 equal_of Equal e = refl

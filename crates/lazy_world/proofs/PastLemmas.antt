@@ -38,7 +38,7 @@ past_kind pages kinds.Slot kinds.Cred from to n below past = refl
 past_kind pages kinds.Cred kinds.Page from to n below past = refl
 past_kind pages kinds.Cred kinds.Slot from to n below past = refl
 
-find_none : {X : Type 0} (f : X → Bool) (xs : List X) → All (λ x. f x ≡ false) xs → find f xs ≡ None
+pub find_none : {X : Type 0} (f : X → Bool) (xs : List X) → All (λ x. f x ≡ false) xs → find f xs ≡ None
 find_none f [] none = refl
 find_none f (x ∷ xs) none =
     ap (λ b. cond b (Some x) (find f xs)) (none 0 x (omega arith)) ∙ find_none f xs (λ k d inside. none (suc k) d (omega arith))

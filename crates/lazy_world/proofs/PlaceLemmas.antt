@@ -54,14 +54,6 @@ by_choice : {A B : Type 0} (f : A → B) (b : Bool) (x y : A) → f (cond b x y)
 by_choice f true x y = refl
 by_choice f false x y = refl
 
-same_choice : {A : Type 0} (b : Bool) (x : A) → cond b x x ≡ x
-same_choice true x = refl
-same_choice false x = refl
-
-row_choice : (b : Bool) (x y : Row) (k : _) → cond b x y k ≡ cond b (x k) (y k)
-row_choice true x y k = refl
-row_choice false x y k = refl
-
 -- rows are equal that are equal at the place and everywhere else
 pub same_rows : (old new : ℕ → Row) (i : ℕ) (row : Row) → ((k : _) → new i k ≡ row k) → ((j : ℕ) → (j ≡ i → ⊥) → (k : _) → new j k ≡ old j k) →
     new ≡ put_row old i row

@@ -1,5 +1,5 @@
 -- What a source gives is what the plan wants, and a source that copies has something to copy.
-use Rattle.std.proofs.Common.{◌≡◌, ◌≢◌, ℕ, ◌<◌, ◌⊎◌, inl, inr, ⊎_elim, arith, refl, sym, ap, ◌∙◌, Bool, true, false, cond, Option, Some, None}
+use Rattle.std.proofs.Common.{◌≡◌, ◌≢◌, ℕ, ◌<◌, ◌≤◌, ◌⊎◌, inl, inr, ⊎_elim, arith, refl, sym, ap, subst, ◌∙◌, Bool, true, false, cond, Option, Some, None}
 use Rattle.std.specs.Prelude.{unwrap_or}
 use Rattle.std.proofs.lemmas.Bool.{cases_eq}
 use Rattle.lwc_base.specs.declared.cell.Cell.{Cell}
@@ -16,8 +16,9 @@ use Rattle.range_map.specs.declared.segment.SegmentKind.{SegmentKind}
 use Rattle.range_map.specs.declared.segment.SegmentKind.TheVariants.{Own, Common}
 use Rattle.page_cells.specs.declared.stretches.Source.{Source}
 use Rattle.page_cells.specs.declared.stretches.Source.TheVariants as sources
+use Rattle.page_cells.specs.Changes.{IsApart}
 use Rattle.lazy_world.specs.Cells.{Row}
-use Rattle.lazy_world.specs.Plans.{CanGet, IsCopied, IsFor, IsFound, copied_source, given, given_or, kind_in, moved_source, other_source, planned_cell, share_source, shown_source, source_of, taken_cell, taken_source}
+use Rattle.lazy_world.specs.Plans.{CanGet, IsFor, IsFound, copied_source, given, given_or, kind_in, moved_source, other_source, planned_cell, share_source, shown_source, source_of, taken_cell, taken_source}
 use Rattle.lazy_world.specs.declared.plan.Found.{Found}
 use Rattle.lazy_world.specs.declared.plan.Plan.{Plan}
 use Rattle.lazy_world.specs.declared.plan.Plan.TheVariants.{Mark, Move, Clone, Overlay}
@@ -50,14 +51,6 @@ moved_same None k cell = refl
 moved_same (Some Copy) k cell = refl
 moved_same (Some Share) k cell = shared_own k cell
 moved_same (Some Unmap) k cell = refl
-
-moved_own : (m : Option Mode) (kind : Option SegmentKind) → moved_source m kind ≡ true → kind ≡ Some Own
-moved_own None kind e = cc
-moved_own (Some Copy) kind e = cc
-moved_own (Some Unmap) kind e = cc
-moved_own (Some Share) None e = cc
-moved_own (Some Share) (Some Own) e = refl
-moved_own (Some Share) (Some (Common g)) e = cc
 
 module _ (w : World) (contexts count : ℕ) (rows : ℕ → Row) (k : Key) (from to : ℕ) (found : Found) where
   abbrev got : Option Source → Cell (ValueOf k)
@@ -135,60 +128,47 @@ module _ (w : World) (contexts count : ℕ) (rows : ℕ → Row) (k : Key) (from
     plan-gives (Overlay g) None for = refl
     plan-gives (Overlay g) (Some m) for = taken-gives cell is seen g m
 
-  -- what is copied is there
-  module _ (inside : from < count) (seen : IsFound w contexts count rows k (rows from k) found) where
-    own-copied : found.kind ≡ Some Own → from ≢ to → (j : ℕ) → from ≡ j → IsCopied count rows to k j
-    own-copied own apart j same = record {
-      inside = omega (arith, inside, same);
-      apart = λ there. apart (same ∙ there);
-      own = ap (λ i. kind_in k (rows i k)) (sym same) ∙ sym seen.kind ∙ own;
-    }
+-- what is copied is another place
+module _ (contexts count from to : ℕ) (inside : from < count) where
+  held-apart : to < contexts → (holder : Option ℕ) → ((j : ℕ) → holder ≡ Some j → contexts ≤ j) → ((j : ℕ) → holder ≡ Some j → j < count) → IsApart count to (copied_source holder)
+  held-apart low None behind within = tt
+  held-apart low (Some place) behind within =
+      (within place refl, λ (there : place ≡ to). absurd (let past = behind place refl in omega (arith, past, there, low)))
 
-    held-copied : to < contexts → (holder : Option ℕ) → found.holder ≡ holder → (j : ℕ) → Some (copied_source holder) ≡ Some (sources.CopyOf j) → IsCopied count rows to k j
-    held-copied low None at j is = absurd (let e = is in cc)
-    held-copied low (Some place) at j is =
-        let same : place ≡ j = cc in
-        let held : found.holder ≡ Some j = at ∙ ap Some same in
-        record {
-          inside = seen.inside j held;
-          apart = λ (there : j ≡ to). absurd (let behind = seen.behind j held in omega (arith, behind, there, low));
-          own = seen.own j held;
-        }
+  other-apart : CanGet count to (other_source from to)
+  other-apart =
+      ⊎_elim
+      (λ same. subst (CanGet count to) (sym (choose to from None (Some (sources.CopyOf from)) same)) tt)
+      (λ other. subst (CanGet count to) (sym (pass to from None (Some (sources.CopyOf from)) other)) (inside, other))
+      (cases_eq from to)
 
-    other-copied : found.kind ≡ Some Own → CanGet count rows to k (other_source from to)
-    other-copied own j is =
-        ⊎_elim
-        (λ same. absurd (let none = sym (choose to from None (Some (sources.CopyOf from)) same) ∙ is in cc))
-        (λ other. own-copied own other j (let some = sym (pass to from None (Some (sources.CopyOf from)) other) ∙ is in cc))
-        (cases_eq from to)
+  shown-apart : (common : Source) (kind : Option SegmentKind) → IsApart count to common → CanGet count to (shown_source common kind from to)
+  shown-apart common None held = tt
+  shown-apart common (Some Own) held = other-apart
+  shown-apart common (Some (Common g)) held = held
 
-    shown-copied : (common : Source) (kind : Option SegmentKind) → found.kind ≡ kind → ((j : ℕ) → Some common ≡ Some (sources.CopyOf j) → IsCopied count rows to k j) →
-        CanGet count rows to k (shown_source common kind from to)
-    shown-copied common None at held j is = absurd (let e = is in cc)
-    shown-copied common (Some Own) at held j is = other-copied at j is
-    shown-copied common (Some (Common g)) at held j is = held j is
+  share-apart : (group : Name) (kind : Option SegmentKind) → IsApart count to (share_source group kind)
+  share-apart group None = tt
+  share-apart group (Some Own) = tt
+  share-apart group (Some (Common g)) = tt
 
-    share-copied : (group : Name) (kind : Option SegmentKind) → CanGet count rows to k (Some (share_source group kind))
-    share-copied group None j is = absurd (let e = is in cc)
-    share-copied group (Some Own) j is = absurd (let e = is in cc)
-    share-copied group (Some (Common g)) j is = absurd (let e = is in cc)
+  marked : (b : Bool) (g : Name) → CanGet count to (cond b (Some (sources.Common g)) None)
+  marked true g = tt
+  marked false g = tt
 
-    taken-copied : to < contexts → (g : Name) (m : Mode) → CanGet count rows to k (taken_source g m found from to)
-    taken-copied low g Copy = shown-copied (copied_source found.holder) found.kind refl (held-copied low found.holder refl)
-    taken-copied low g Share = share-copied g found.kind
-    taken-copied low g Unmap = λ j is. absurd (let e = is in cc)
+  moved : (b : Bool) → from ≢ to → IsApart count to (cond b (sources.CopyOf from) sources.Absent)
+  moved true apart = (inside, apart)
+  moved false apart = tt
 
-    marked : (b : Bool) (g : Name) → CanGet count rows to k (cond b (Some (sources.Common g)) None)
-    marked true g j is = absurd (let e = is in cc)
-    marked false g j is = absurd (let e = is in cc)
+  module _ (found : Found) (behind : (j : ℕ) → found.holder ≡ Some j → contexts ≤ j) (within : (j : ℕ) → found.holder ≡ Some j → j < count) where
+    taken-apart : to < contexts → (g : Name) (m : Mode) → CanGet count to (taken_source g m found from to)
+    taken-apart low g Copy = shown-apart (copied_source found.holder) found.kind (held-apart low found.holder behind within)
+    taken-apart low g Share = share-apart g found.kind
+    taken-apart low g Unmap = tt
 
-    moved : (b : Bool) → (b ≡ true → found.kind ≡ Some Own) → from ≢ to → CanGet count rows to k (Some (cond b (sources.CopyOf from) sources.Absent))
-    moved true own apart j is = own-copied (own refl) apart j (let e = is in cc)
-    moved false own apart j is = absurd (let e = is in cc)
-
-    pub plan-copies : (plan : Plan) (m : Option Mode) → IsFor contexts from to plan → CanGet count rows to k (source_of plan m found from to)
-    plan-copies (Mark g) m for = marked (moved_source m found.kind) g
-    plan-copies Move m for = moved (moved_source m found.kind) (moved_own m found.kind) for
-    plan-copies (Clone g) m for = taken-copied for g (unwrap_or m Copy)
-    plan-copies (Overlay g) None for = λ j is. absurd (let e = is in cc)
-    plan-copies (Overlay g) (Some m) for = taken-copied for g m
+    pub plan-can : (plan : Plan) (m : Option Mode) → IsFor contexts from to plan → CanGet count to (source_of plan m found from to)
+    plan-can (Mark g) m for = marked (moved_source m found.kind) g
+    plan-can Move m for = moved (moved_source m found.kind) for
+    plan-can (Clone g) m for = taken-apart for g (unwrap_or m Copy)
+    plan-can (Overlay g) None for = tt
+    plan-can (Overlay g) (Some m) for = taken-apart for g m

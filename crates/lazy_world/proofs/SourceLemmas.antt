@@ -12,9 +12,10 @@ use Rattle.lwc_base.specs.declared.limits.TheConstants.{MOST_PAGES}
 use Rattle.lwc_base.specs.declared.page.PageValue.{PageValue}
 use Rattle.range_map.specs.Kinds.{is_between}
 use Rattle.page_cells.specs.declared.stretches.Stretch.{Stretch}
+use Rattle.page_cells.specs.Changes.{IsApart, IsStretch}
 use Rattle.lazy_world.specs.Cells.{Row}
-use Rattle.lazy_world.specs.Plans.{CanGet, given_or}
-use Rattle.lazy_world.specs.Sources.{IsGiven, source_at}
+use Rattle.lazy_world.specs.Plans.{given_or}
+use Rattle.lazy_world.specs.Sources.{source_at}
 
 -- a further stretch leaves the pages that it has not
 push_off : (stretches : List Stretch) (s : Stretch) (q : ℕ) → is_between s.range.from s.range.to q ≡ false → source_at (stretches ++ s ∷ []) q ≡ source_at stretches q
@@ -43,7 +44,7 @@ between from to q low high = and_from (leb from q) (ltb q to) (le-leb from q low
 
 -- stretches give the pages below one the cells that are wanted, and no other page any
 pub record HasGiven (count : ℕ) (rows : ℕ → Row) (i : ℕ) (wanted : ℕ → Cell (Option PageValue)) (p : ℕ) (stretches : List Stretch) : Type 0 where
-  pub each : All (IsGiven count rows i) stretches
+  pub each : All (IsStretch count i) stretches
   pub few : length stretches ≤ p
   pub done : (q : ℕ) → q < p → given_or rows (Page q) (rows i (Page q)) (source_at stretches q) ≡ wanted q
   pub rest : (q : ℕ) → p ≤ q → source_at stretches q ≡ None
@@ -64,12 +65,12 @@ module _ (count : ℕ) (rows : ℕ → Row) (i : ℕ) (wanted : ℕ → Cell (Op
 
     -- pages that get something are a further stretch
     pub given_more : (s : Stretch) → s.range.from ≡ p → s.range.to ≡ e → e ≤ MOST_PAGES → ((q : ℕ) → p ≤ q → q < e → given_or rows (Page q) (rows i (Page q)) (Some s.source) ≡ wanted q) →
-        ((q : ℕ) → p ≤ q → q < e → CanGet count rows i (Page q) (Some s.source)) → HasGiven count rows i wanted e (stretches ++ s ∷ [])
+        IsApart count i s.source → HasGiven count rows i wanted e (stretches ++ s ∷ [])
     given_more s from to inside gives can = record {
-      each = All-append (IsGiven count rows i) stretches (s ∷ []) has.each (all_one (IsGiven count rows i) s (record {
-        some = omega (arith, from, to, past);
+      each = All-append (IsStretch count i) stretches (s ∷ []) has.each (all_one (IsStretch count i) s (record {
+        order = omega (arith, from, to, past);
         inside = omega (arith, to, inside);
-        can = λ q low high. can q (omega (arith, from)) (omega (arith, to));
+        given = can;
       }));
       few = omega (arith, length-append stretches (s ∷ []), has.few, past);
       done = λ q high. ⊎_elim

@@ -1,6 +1,6 @@
 -- A place that gets what sources give.
-use Rattle.std.proofs.Common.{◌≡◌, ℕ, ◌+◌, ◌<◌, ◌≤◌, ⊎_elim, true, false, cond, List, length, arith, refl, sym, ap, subst, ◌∙◌, Option, Some, None, map, set}
-use Rattle.std.specs.Prelude.{All, nat_lt}
+use Rattle.std.proofs.Common.{◌≡◌, ℕ, ◌+◌, ◌<◌, ⊎_elim, true, false, cond, List, length, arith, refl, sym, ap, ◌∙◌, Option, Some, None, set}
+use Rattle.std.specs.Prelude.{nat_lt}
 use Rattle.std.specs.Option.{option_map}
 use Rattle.std.proofs.lemmas.Bool.{cases_eq}
 use Rattle.std.proofs.lemmas.Bool.Decides.{nat_tests}
@@ -10,36 +10,20 @@ use Rattle.lwc_base.specs.declared.key.Key.TheVariants.{Page, Slot, Cred}
 use Rattle.lwc_base.specs.Keys.{ValueOf, with_key}
 use Rattle.fd_table.specs.Slots as slots
 use Rattle.page_cells.specs.Cells.{Place, place_of}
-use Rattle.page_cells.specs.Changes.{CanGive, IsStretch, cell_by, change_of, changed_place, kinds_after, sourced_cell, stretch_at}
-use Rattle.page_cells.specs.Laws.{ChangeLaws}
+use Rattle.page_cells.specs.Cells as page_specs
+use Rattle.page_cells.specs.Changes.{cell_by, changed_place, sourced_cell, stretch_at}
 use Rattle.range_map.specs.Kinds.{kind_of}
 use Rattle.page_cells.specs.declared.stretches.Source.{Source}
 use Rattle.page_cells.specs.declared.stretches.Source.TheVariants as sources
 use Rattle.page_cells.specs.declared.stretches.Stretch.{Stretch}
 use Rattle.lazy_world.specs.Cells.{Row, kinds_of, on_place, put_row, rows_of}
-use Rattle.lazy_world.specs.Plans.{CanGet, given, given_or, kind_in}
-use Rattle.lazy_world.specs.Sources.{IsGiven, slot_source, with_pages, with_slots}
+use Rattle.lazy_world.specs.Plans.{CanGet, given, given_or}
+use Rattle.lazy_world.specs.Sources.{slot_source, with_pages, with_slots}
 use Rattle.lazy_world.proofs.PlaceLemmas.{choose, pages-put, pass, same_rows}
 
 module _ (cells : List Place) (table : List (ℕ → slots.Slot)) (uids : List (Cell ℕ)) (i : ℕ) (stretches : List Stretch) where
   abbrev old : ℕ → Row
   old = rows_of cells table uids
-
-  -- a stretch that can be given is one that pages take
-  given-stretch : (s : Stretch) → IsGiven (length cells) old i s → IsStretch cells i s
-  unfolding rows_of
-  given-stretch s can = record { order = omega (arith, can.some); inside = can.inside; given = at s.source can.can }
-    where
-      at : (source : Source) → ((p : ℕ) → s.range.from ≤ p → p < s.range.to → CanGet (length cells) old i (Page p) (Some source)) → CanGive cells i s.range.from s.range.to source
-      at sources.Absent can_get = tt
-      at sources.Zeros can_get = tt
-      at (sources.Common g) can_get = tt
-      at (sources.CopyOf j) can_get =
-          let first = can_get s.range.from (omega arith) can.some j refl in
-          record { source = first.inside; apart = first.apart; own = λ p low high. (can_get p low high j refl).own }
-
-  pub given-stretches : All (IsGiven (length cells) old i) stretches → All (IsStretch cells i) stretches
-  given-stretches all k d inside = given-stretch _ (all k d inside)
 
   pub pages-given : (p : ℕ) → changed_place cells i stretches p ≡ with_pages old stretches (old i) (Page p)
   unfolding changed_place rows_of
@@ -64,8 +48,8 @@ module _ (cells : List Place) (table : List (ℕ → slots.Slot)) (uids : List (
       each (Slot n) = refl
       each Cred = refl
 
-  pub kinds-after : All (IsGiven (length cells) old i) stretches → ChangeLaws → kinds_of (with_pages old stretches (old i)) ≡ kinds_after (map change_of stretches) (place_of cells i)
-  kinds-after all laws = sym (λ e p. kind_of (pages-given p e)) ∙ laws.kinds cells i stretches (given-stretches all)
+  pub kinds-given : kinds_of (with_pages old stretches (old i)) ≡ page_specs.kinds_of (changed_place cells i stretches)
+  kinds-given = sym (λ e p. kind_of (pages-given p e))
 
 key_same : (k q : Key) (row : Row) → with_key Cell k (row k) row q ≡ row q
 key_same (Page p) (Page q) row = ⊎_elim (λ same. choose p q (row (Page p)) (row (Page q)) same ∙ ap (λ n. row (Page n)) (sym same)) (λ other. pass p q (row (Page p)) (row (Page q)) other) (cases_eq q p)
@@ -93,19 +77,14 @@ module _ (count : ℕ) (rows : ℕ → Row) (i : ℕ) where
   off_row row j k other = ap (λ (r : Row). r k) (pass i j row (rows j) other)
 
   -- what another place gives does not depend on the row
-  pub given-still : (row : Row) (k : Key) (old : Cell (ValueOf k)) (source : Option Source) → CanGet count rows i k source → given_or (put_row rows i row) k old source ≡ given_or rows k old source
+  pub given-still : (row : Row) (k : Key) (old : Cell (ValueOf k)) (source : Option Source) → CanGet count i source → given_or (put_row rows i row) k old source ≡ given_or rows k old source
   given-still row k old None can = refl
   given-still row k old (Some sources.Absent) can = refl
   given-still row k old (Some sources.Zeros) can = refl
   given-still row k old (Some (sources.Common g)) can = refl
-  given-still row k old (Some (sources.CopyOf j)) can = off_row row j k (can j refl).apart
+  given-still row k old (Some (sources.CopyOf j)) can = off_row row j k can.1
 
-  pub can-still : (row : Row) (k : Key) (source : Option Source) → CanGet count rows i k source → CanGet count (put_row rows i row) i k source
-  can-still row k source can j is =
-      let copied = can j is in
-      record { inside = copied.inside; apart = copied.apart; own = ap (kind_in k) (off_row row j k copied.apart) ∙ copied.own }
-
-  module _ (slots : List (Option Source)) (can : (n : ℕ) → n < 64 → CanGet count rows i (Slot n) (slot_source slots n)) where
+  module _ (slots : List (Option Source)) (can : (n : ℕ) → n < 64 → CanGet count i (slot_source slots n)) where
     pub slots-none : rows ≡ put_row rows i (with_slots 0 rows slots (rows i))
     slots-none = kept-rows rows i (with_slots 0 rows slots (rows i)) at
       where
@@ -171,6 +150,3 @@ module _ (count : ℕ) (rows : ℕ → Row) (i : ℕ) where
 
       pub slot-taken : (rs : ℕ → Row) → rs ≡ put_row rows i before → put rs ≡ put_row rows i (with_slots (n + 1) rows slots (rows i))
       slot-taken rs is = ap put is ∙ slot-step
-
-      pub slot-can : (rs : ℕ → Row) → rs ≡ put_row rows i before → CanGet count rs i (Slot n) (slot_source slots n)
-      slot-can rs is = subst (λ (r : ℕ → Row). CanGet count r i (Slot n) (slot_source slots n)) (sym is) (can-still before (Slot n) (slot_source slots n) (can n low))

@@ -1,5 +1,5 @@
 -- A place once it has got its pages, its slots and its credential.
-use Rattle.std.proofs.Common.{◌≡◌, ℕ, ⊎_elim, true, false, cond, length, arith, sym, ap, subst, ◌∙◌, Option}
+use Rattle.std.proofs.Common.{◌≡◌, ℕ, ⊎_elim, true, false, cond, length, arith, sym, ap, ◌∙◌}
 use Rattle.std.specs.Prelude.{nat_lt}
 use Rattle.std.proofs.lemmas.Bool.{cases_lt}
 use Rattle.std.proofs.lemmas.Bool.Decides.{nat_tests}
@@ -7,22 +7,15 @@ use Rattle.lwc_base.specs.declared.cell.Cell.{Cell}
 use Rattle.lwc_base.specs.declared.key.Key.{Key}
 use Rattle.lwc_base.specs.declared.key.Key.TheVariants.{Page, Slot, Cred}
 use Rattle.lwc_base.specs.Keys.{with_key}
-use Rattle.page_cells.specs.declared.stretches.Source.{Source}
 use Rattle.lazy_world.specs.Cells.{Row, put_row}
-use Rattle.lazy_world.specs.Plans.{CanGet, given_or}
+use Rattle.lazy_world.specs.Plans.{given_or}
 use Rattle.lazy_world.specs.Sources.{AreGiven, slot_source, sourced_row, with_pages, with_slots}
 use Rattle.lazy_world.specs.declared.pieces.Sources.{Sources}
 use Rattle.lazy_world.proofs.PastLemmas.{no_slot_source}
 use Rattle.lazy_world.proofs.PlaceLemmas.{same_rows}
-use Rattle.lazy_world.proofs.TakeLemmas.{at_row, can-still, given-still, off_row}
+use Rattle.lazy_world.proofs.TakeLemmas.{at_row, given-still, off_row}
 
--- a place can still get what it could before its row changed
-pub moved-can : (count now : ℕ) (rows rs : ℕ → Row) (i : ℕ) (row : Row) (k : Key) (source : Option Source) → now ≡ count → rs ≡ put_row rows i row →
-    CanGet count rows i k source → CanGet now rs i k source
-moved-can count now rows rs i row k source same is can =
-    subst (λ n. CanGet n rs i k source) (sym same) (subst (λ (r : ℕ → Row). CanGet count r i k source) (sym is) (can-still count rows i row k source can))
-
-module _ (count : ℕ) (rows : ℕ → Row) (i : ℕ) (s : Sources) (can : AreGiven count rows i s) (long : length s.slots ≡ 64) where
+module _ (count : ℕ) (rows : ℕ → Row) (i : ℕ) (s : Sources) (can : AreGiven count i s) (long : length s.slots ≡ 64) where
   abbrev paged : Row
   paged = with_pages rows s.pages.items (rows i)
 
@@ -60,7 +53,7 @@ module _ (count : ℕ) (rows : ℕ → Row) (i : ℕ) (s : Sources) (can : AreGi
   uid : named second Cred ≡ sourced_row rows i s Cred
   uid =
       ap (λ old. given_or second Cred old s.uid) (at_row count first i (slotted first) Cred ∙ at_row count rows i paged Cred)
-      ∙ given-still count first i (slotted first) Cred (rows i Cred) s.uid (can-still count rows i paged Cred s.uid can.uid)
+      ∙ given-still count first i (slotted first) Cred (rows i Cred) s.uid can.uid
       ∙ given-still count rows i paged Cred (rows i Cred) s.uid can.uid
 
   here : (k : Key) → put_uid second i k ≡ sourced_row rows i s k

@@ -1,5 +1,5 @@
 -- The cells at places, each of a context or a group.
-use Rattle.std.specs.Prelude.{ℕ, ◌==◌, if◌then◌else◌, Bool, true, false, not, List, Option, None, Some, slice_index_or}
+use Rattle.std.specs.Prelude.{◌≡◌, ℕ, ◌==◌, if◌then◌else◌, Bool, true, false, not, List, Option, None, Some, slice_index_or}
 use Rattle.lwc_base.specs.declared.cell.Cell.{Cell}
 use Rattle.lwc_base.specs.declared.cell.Cell.TheVariants.{Own, Common}
 use Rattle.lwc_base.specs.declared.key.Key.{Key}
@@ -51,6 +51,10 @@ kinds_of row p = kind_of (row (Page p))
 abbrev pub on_place : Place → Row → Row
 on_place place row (Page p) = place p
 on_place place row k = row k
+
+-- a row has no page
+abbrev pub HasNoPages : Row → Type 0
+HasNoPages row = (p : ℕ) → row (Page p) ≡ Own None
 
 -- whether a cell is the place's own
 abbrev pub is_own : {T : Type 0} → Cell T → Bool

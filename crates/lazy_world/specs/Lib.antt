@@ -1,5 +1,6 @@
 pub mod Anchors
 pub mod Cells
+pub mod Clones
 pub mod Facts
 pub mod Followed
 pub mod Kept

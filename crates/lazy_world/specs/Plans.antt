@@ -19,6 +19,7 @@ use Rattle.range_map.specs.declared.segment.SegmentKind.{SegmentKind}
 use Rattle.range_map.specs.declared.segment.SegmentKind.TheVariants.{Own, Common}
 use Rattle.page_cells.specs.declared.stretches.Source.{Source}
 use Rattle.page_cells.specs.declared.stretches.Source.TheVariants as sources
+use Rattle.page_cells.specs.Changes.{IsApart}
 use Rattle.lazy_world.specs.Cells.{Row}
 use Rattle.lazy_world.specs.declared.plan.Found.{Found}
 use Rattle.lazy_world.specs.declared.plan.Plan.{Plan}
@@ -34,11 +35,6 @@ abbrev pub kind_in : (k : Key) → Cell (ValueOf k) → Option SegmentKind
 kind_in (Page p) cell = kinds.kind_of cell
 kind_in (Slot n) cell = Some (owner cell)
 kind_in Cred cell = Some (owner cell)
-
--- the group of what is common
-abbrev pub common_in : Option SegmentKind → Option Name
-common_in (Some (Common g)) = Some g
-common_in _ = None
 
 -- the cell of a value by its mode: a copy, the same cell where what moves is common of a group, or nothing
 abbrev pub taken_cell : World → Name → Mode → (k : Key) → Cell (ValueOf k) → Cell (ValueOf k)
@@ -70,7 +66,7 @@ moves items k row = is_moved (unwrap_or (mode items k) Copy) k (row k)
 abbrev pub other_source : ℕ → ℕ → Option Source
 other_source from to = if from == to then None else Some (sources.CopyOf from)
 
--- a copy of what a group has, if it has something
+-- a copy of what a group's place has, if the group is live
 abbrev pub copied_source : Option ℕ → Source
 copied_source None = sources.Absent
 copied_source (Some place) = sources.CopyOf place
@@ -134,27 +130,15 @@ IsFor contexts from to plans.Move = from ≢ to
 IsFor contexts from to (plans.Clone g) = to < contexts
 IsFor contexts from to (plans.Overlay g) = to < contexts
 
--- a place has something of its own under a key that another place can get
-pub record IsCopied (count : ℕ) (rows : ℕ → Row) (to : ℕ) (k : Key) (j : ℕ) : Type 0 where
-  pub inside : j < count
-  pub apart : j ≢ to
-  pub own : kind_in k (rows j k) ≡ Some Own
-
--- a source can give a place something under a key
-abbrev pub CanGet : ℕ → (ℕ → Row) → ℕ → Key → Option Source → Type 0
-CanGet count rows to k source = (j : ℕ) → source ≡ Some (sources.CopyOf j) → IsCopied count rows to k j
+-- a place can get this: there is no source, or it is another one of this number of places, or no place
+abbrev pub CanGet : ℕ → ℕ → Option Source → Type 0
+CanGet count to None = Unit {0}
+CanGet count to (Some source) = IsApart count to source
 
 -- a source gives a place this cell under a key
 pub record Gives (count : ℕ) (rows : ℕ → Row) (to : ℕ) (k : Key) (wanted : Cell (ValueOf k)) (source : Option Source) : Type 0 where
   pub cell : given_or rows k (rows to k) source ≡ wanted
-  pub can : CanGet count rows to k source
-
--- a place has what a group has under a key, if something is there
-pub record IsHolder (w : World) (contexts count : ℕ) (rows : ℕ → Row) (k : Key) (g : Name) (holder : Option ℕ) : Type 0 where
-  pub value : given rows k (copied_source holder) ≡ cells.Own ((group w g).value k)
-  pub behind : (j : ℕ) → holder ≡ Some j → contexts ≤ j
-  pub inside : (j : ℕ) → holder ≡ Some j → j < count
-  pub own : (j : ℕ) → holder ≡ Some j → kind_in k (rows j k) ≡ Some Own
+  pub can : CanGet count to source
 
 -- what is found under a key is the cell there, and what its group has
 pub record IsFound (w : World) (contexts count : ℕ) (rows : ℕ → Row) (k : Key) (cell : Cell (ValueOf k)) (found : Found) : Type 0 where
@@ -162,4 +146,3 @@ pub record IsFound (w : World) (contexts count : ℕ) (rows : ℕ → Row) (k : 
   pub value : (g : Name) → cell ≡ cells.Common g → given rows k (copied_source found.holder) ≡ cells.Own ((group w g).value k)
   pub behind : (j : ℕ) → found.holder ≡ Some j → contexts ≤ j
   pub inside : (j : ℕ) → found.holder ≡ Some j → j < count
-  pub own : (j : ℕ) → found.holder ≡ Some j → kind_in k (rows j k) ≡ Some Own

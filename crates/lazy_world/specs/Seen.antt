@@ -1,8 +1,9 @@
 -- What places are seen as.
-use Rattle.std.specs.Prelude.{ℕ, List, length}
+use Rattle.std.specs.Prelude.{◌≡◌, ℕ, List, length}
 use Rattle.fd_table.specs.Seen as slots_seen
 use Rattle.page_cells.specs.Cells.{Place}
 use Rattle.page_cells.specs.Seen as pages_seen
+use Rattle.page_cells.specs.Tags.{used}
 use Rattle.lazy_world.specs.declared.places.Places.{Places}
 use Rattle.lazy_world.specs.Cells.{Row, rows_of}
 
@@ -21,3 +22,16 @@ frame_count w = pages_seen.frames_of w.pages
 -- how many places there are
 unfoldable pub count : Places → ℕ
 count w = length (pages_seen.cells w.pages)
+
+-- how many tree nodes are free
+unfoldable pub free_nodes : Places → ℕ
+free_nodes w = pages_seen.free_nodes w.pages
+
+-- how many frames are in use
+unfoldable pub used_frames : Places → ℕ
+used_frames w = used (pages_seen.cells w.pages)
+
+-- as many tree nodes are free as before, and as many frames in use
+pub record KeepsStore (old new : Places) : Type 0 where
+  pub nodes : free_nodes new ≡ free_nodes old
+  pub used : used_frames new ≡ used_frames old

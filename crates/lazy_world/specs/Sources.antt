@@ -1,12 +1,11 @@
 -- The row of a place that gets the cells that sources give.
-use Rattle.std.specs.Prelude.{if◌then◌else◌, nat_lt, ℕ, ◌<◌, ◌≤◌, List, Option, None, Some, slice_index_or, All}
+use Rattle.std.specs.Prelude.{if◌then◌else◌, nat_lt, ℕ, ◌<◌, List, Option, None, slice_index_or, All}
 use Rattle.std.specs.Option.{option_map}
 use Rattle.lwc_base.specs.declared.key.Key.TheVariants.{Page, Slot, Cred}
-use Rattle.lwc_base.specs.declared.limits.TheConstants.{MOST_PAGES}
 use Rattle.lwc_base.specs.declared.descriptor.TheConstants.{SLOTS}
 use Rattle.page_cells.specs.declared.stretches.Source.{Source}
 use Rattle.page_cells.specs.declared.stretches.Stretch.{Stretch}
-use Rattle.page_cells.specs.Changes.{stretch_at}
+use Rattle.page_cells.specs.Changes.{IsStretch, stretch_at}
 use Rattle.lazy_world.specs.declared.pieces.Sources.{Sources}
 use Rattle.lazy_world.specs.Cells.{Row}
 use Rattle.lazy_world.specs.Plans.{CanGet, given_or}
@@ -35,14 +34,8 @@ sourced_row rows i s (Page p) = given_or rows (Page p) (rows i (Page p)) (source
 sourced_row rows i s (Slot n) = given_or rows (Slot n) (rows i (Slot n)) (slot_source s.slots n)
 sourced_row rows i s Cred = given_or rows Cred (rows i Cred) s.uid
 
--- a stretch of pages that a place can get
-pub record IsGiven (count : ℕ) (rows : ℕ → Row) (i : ℕ) (stretch : Stretch) : Type 0 where
-  pub some : stretch.range.from < stretch.range.to
-  pub inside : stretch.range.to ≤ MOST_PAGES
-  pub can : (p : ℕ) → stretch.range.from ≤ p → p < stretch.range.to → CanGet count rows i (Page p) (Some stretch.source)
-
 -- sources can give a place what they name
-pub record AreGiven (count : ℕ) (rows : ℕ → Row) (i : ℕ) (s : Sources) : Type 0 where
-  pub pages : All (IsGiven count rows i) s.pages.items
-  pub slots : (n : ℕ) → n < SLOTS → CanGet count rows i (Slot n) (slot_source s.slots n)
-  pub uid : CanGet count rows i Cred s.uid
+pub record AreGiven (count i : ℕ) (s : Sources) : Type 0 where
+  pub pages : All (IsStretch count i) s.pages.items
+  pub slots : (n : ℕ) → n < SLOTS → CanGet count i (slot_source s.slots n)
+  pub uid : CanGet count i s.uid

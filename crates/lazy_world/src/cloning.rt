@@ -1,17 +1,242 @@
-ghost use Rattle.std.specs.Prelude.{◌≡◌, true};
-ghost use Rattle.lwc_base.specs.Modes.{IsSpec};
+ghost use Rattle.std.specs.Prelude.{◌≡◌, ◌≢◌, ◌<◌, ◌≤◌, ◌+◌, ◌*◌, ℕ, [], All, false, length, min, true};
+ghost use Rattle.std.specs.Prelude.{IfNone, IfSome, None, Some};
+ghost use Rattle.lwc_base.specs.declared.key.Key.{Key};
+ghost use Rattle.lwc_base.specs.declared.key.Key.TheVariants.{Page};
+ghost use Rattle.lwc_base.specs.declared.limits.TheConstants.{MOST_PAGES, MOST_RANGES};
+ghost use Rattle.lwc_base.specs.Modes.{IsItem, IsSpec, mode, names};
 ghost use Rattle.lwc_base.specs.Sharing.{clone_context, needs_group, ranges_after_clone};
 ghost use Rattle.lwc_base.specs.World.{next_context};
+ghost use Rattle.range_map.specs.Kinds.{is_between, ranges};
+ghost use Rattle.page_cells.specs.Changes.{IsStretch};
 ghost use Rattle.world_face.specs.Calls.{AreFew, HasGroupPlace, HasPlace, IsLive, MayName};
+ghost use Rattle.lazy_world.specs.Cells.{HasNoPages, kinds_of};
+ghost use Rattle.lazy_world.specs.Clones.{clone_source, item_source, kind_source};
+ghost use Rattle.lazy_world.specs.Plans.{moves, planned_row};
+ghost use Rattle.lazy_world.specs.Seen.{count, free_nodes, rows, used_frames};
+ghost use Rattle.lazy_world.specs.Sound.{IsAllOwn, IsEmpty};
+ghost use Rattle.lazy_world.specs.Sources.{AreGiven, source_at, sourced_row};
+ghost use Rattle.lazy_world.specs.declared.plan.Plan.TheVariants.{Clone};
 
 use crate::facts::facts;
+use crate::pieces::Sources;
 use crate::plan::Plan;
 use crate::world::PlacedWorld;
+use arrayvec::ArrayVec;
 use lwc_base::laws::a_group_is_needed_where_a_value_moves;
-use lwc_base::{NOBODY, Name, Regs, Spec};
+use lwc_base::{Item, Kind, Mode, NOBODY, Name, Range, Regs, Spec};
+use page_cells::{MOST_STRETCHES, Source, Stretch};
+use pool_base::Steps;
+use range_map::{SegmentKind, ranges_are_those_of_the_context};
+use std::marker::Brand;
+use std::sync::ledger::{Blank, Ledger};
+
+/// The stretch of the pages of an item in a clone of the place `from`: they are shared, or left out. Pages
+/// that are copied have theirs by segments.
+fn item_stretch(item: &Item, from: usize) -> Option<Stretch>
+    requires { IsItem MOST_PAGES item.now }
+    ensures none { IfNone result ((q : ℕ) → names item.now (Page q) ≡ true
+        → item_source from (Some item.now.mode) ≡ None) }
+    ensures pages { IfSome result (λ s. (q : ℕ)
+        → is_between s.range.from s.range.to q ≡ names item.now (Page q)) }
+    ensures some { IfSome result (λ s. s.range.from < s.range.to) }
+    ensures inside { IfSome result (λ s. s.range.to ≤ MOST_PAGES) }
+    ensures source { IfSome result (λ s. Some s.source ≡ item_source from (Some item.now.mode)) }
+{
+    let source = match (item.kind, item.mode) {
+        (Kind::Page, Mode::Share) => Source::CopyOf(from),
+        (Kind::Page, Mode::Unmap) => Source::Absent,
+        _ => return None,
+    };
+    let range = Range {
+        from: item.from as u16,
+        to: item.to as u16,
+    };
+    Some(Stretch { range, source })
+}
+
+/// The stretches of the pages of items in a clone of the place `from`.
+fn item_stretches(spec: &Spec, from: usize) -> ArrayVec<Stretch, MOST_STRETCHES>
+    ensures sources { (q : ℕ) → source_at result.items q ≡ item_source from (mode spec.now (Page q)) }
+    ensures few { length result.items ≤ length spec.now }
+    ensures given { (count to : ℕ) → from < count → from ≢ to → All (IsStretch count to) result.items }
+{
+    let mut stretches = ArrayVec::new();
+    for item in spec.items() {
+        let Some(stretch) = item_stretch(item, from) else {
+            continue;
+        };
+        stretches.push(stretch);
+    }
+    stretches
+}
 
 impl PlacedWorld {
-    ghost use Rattle.lazy_world.specs.Worlds.{seen};
+    ghost use Rattle.lwc_base.specs.Fresh.{IsFresh};
+    ghost use Rattle.lwc_base.specs.Ranges.{ranges_of};
+    ghost use Rattle.lwc_base.specs.World.{context};
+    ghost use Rattle.lazy_world.specs.Followed.{followed};
+    ghost use Rattle.lazy_world.specs.Worlds.{parts, seen};
+
+    /// Where copies of pages of a kind come from, if they are those of the place `from`.
+    fn kind_source(&self, kind: SegmentKind, from: usize) -> Source
+        ensures { result ≡ kind_source (parts self.now) from kind }
+    {
+        match kind {
+            SegmentKind::Own => Source::CopyOf(from),
+            SegmentKind::Common(g) => match self.group_place(g) {
+                Some(place) => Source::CopyOf(place),
+                None => Source::Absent,
+            },
+        }
+    }
+
+    /// The stretches that give a place without pages those of a clone of the place `from`: at most one for
+    /// each item, and one for each segment.
+    fn clone_stretches(&self, spec: &Spec, from: usize) -> ArrayVec<Stretch, MOST_STRETCHES>
+        requires from { from < count self.now.places }
+        requires within { IsSpec (seen self.now).size.pages spec.now }
+        ensures sources { (q : ℕ) → source_at result.items q ≡ clone_source (parts self.now) spec.now from q }
+        ensures few { length result.items
+            ≤ ranges MOST_PAGES (kinds_of (rows self.now.places from)) + length spec.now }
+        ensures given { (to : ℕ) → from ≢ to → to < (parts self.now).size.contexts
+            → All (IsStretch (count self.now.places) to) result.items }
+    {
+        self.groups.are_placed();
+        let mut stretches = item_stretches(spec, from);
+        for segment in self.places.segments(from) {
+            stretches.push(Stretch {
+                range: Range {
+                    from: segment.from,
+                    to: segment.to,
+                },
+                source: self.kind_source(segment.kind, from),
+            });
+        }
+        stretches
+    }
+
+    /// Where the place `to`, which has no pages, gets the cells of a clone of the place `from`, where nothing
+    /// is left that moves.
+    fn clone_sources(&self, made: Name, spec: &Spec, from: usize, to: usize) -> Sources
+        requires from { from < count self.now.places }
+        requires to { to < (parts self.now).size.contexts }
+        requires apart { from ≢ to }
+        requires within { IsSpec (seen self.now).size.pages spec.now }
+        requires settled { (k : Key) → moves spec.now k (rows self.now.places from) ≡ false }
+        requires empty { HasNoPages (rows self.now.places to) }
+        ensures row { sourced_row (rows self.now.places) to result
+            ≡ planned_row (seen self.now) (Clone made) spec.now (rows self.now.places from)
+            (rows self.now.places to) }
+        ensures given { AreGiven (count self.now.places) to result }
+        ensures few { length result.pages.items
+            ≤ ranges MOST_PAGES (kinds_of (rows self.now.places from)) + length spec.now }
+    {
+        let plan = Plan::Clone(made);
+        Sources {
+            pages: self.clone_stretches(spec, from),
+            slots: self.slot_sources(plan, spec, from, to),
+            uid: self.uid_source(plan, spec, from, to),
+        }
+    }
+
+    /// A context without pages gets the cells of a clone of another one, by stretches of pages.
+    // The sources are a large value, which each caller would clear if this were a part of it.
+    #[inline(never)]
+    fn clone_pieces<L: Ledger>(&mut self, spec: &Spec, c: Name, made: Name, steps: &mut Steps<L>)
+        requires from { IsLive (seen self.old) c }
+        requires to { IsLive (seen self.old) made }
+        requires apart { c ≢ made }
+        requires within { IsSpec (seen self.old).size.pages spec.now }
+        requires settled { (k : Key) → moves spec.now k (context (seen self.old) c).cell ≡ false }
+        requires empty { HasNoPages (context (seen self.old) made).cell }
+        requires fresh { IsFresh (followed (seen self.old) (Clone made) spec.now c made) }
+        requires few { ranges_of (followed (seen self.old) (Clone made) spec.now c made) made ≤ MOST_RANGES }
+        ensures world { seen self.new ≡ followed (seen self.old) (Clone made) spec.now c made }
+        ensures used { used_frames self.new.places ≡ used_frames self.old.places }
+        ensures nodes { free_nodes self.old.places
+            ≤ free_nodes self.new.places + (1 + 2 * (ranges_of (seen self.old) c + length spec.now)) }
+        ensures cost { steps.new ≤ steps.old + 64 * (ranges_of (seen self.old) c + length spec.now) }
+    {
+        facts();
+        self.contexts.are_placed();
+        ranges_are_those_of_the_context();
+        let from = self.place(c);
+        let to = self.place(made);
+        let sources = self.clone_sources(made, spec, from, to);
+        self.places.take(to, &sources, steps);
+    }
+
+    /// A context with nothing but a credential gets the cells of a clone of another one, once that one's
+    /// values of mode share have moved. For each range of the other one and for each item it takes at most 64
+    /// node steps and 2 free nodes, and one free node besides. Without items, a context whose cells are all
+    /// its own is copied by one hold of the root of its tree. No frame is taken.
+    pub(crate) fn clone_by<L: Ledger>(
+        &mut self,
+        spec: &Spec,
+        c: Name,
+        made: Name,
+        steps: &mut Steps<L>,
+    )
+        requires from { IsLive (seen self.old) c }
+        requires to { IsLive (seen self.old) made }
+        requires apart { c ≢ made }
+        requires within { IsSpec (seen self.old).size.pages spec.now }
+        requires settled { (k : Key) → moves spec.now k (context (seen self.old) c).cell ≡ false }
+        requires empty { IsEmpty (context (seen self.old) made).cell }
+        requires fresh { IsFresh (followed (seen self.old) (Clone made) spec.now c made) }
+        requires few { ranges_of (followed (seen self.old) (Clone made) spec.now c made) made ≤ MOST_RANGES }
+        ensures world { seen self.new ≡ followed (seen self.old) (Clone made) spec.now c made }
+        ensures used { used_frames self.new.places ≡ used_frames self.old.places }
+        ensures nodes { free_nodes self.old.places
+            ≤ free_nodes self.new.places + (1 + 2 * (ranges_of (seen self.old) c + length spec.now)) }
+        ensures cost { steps.new ≤ steps.old + 64 * (ranges_of (seen self.old) c + length spec.now) }
+        ensures whole_nodes { spec.now ≡ [] → IsAllOwn (context (seen self.old) c).cell
+            → free_nodes self.old.places ≤ free_nodes self.new.places }
+        ensures whole_cost { spec.now ≡ [] → IsAllOwn (context (seen self.old) c).cell
+            → steps.new ≤ steps.old + min 1 (ranges_of (seen self.old) c) }
+    {
+        facts();
+        self.contexts.are_placed();
+        ranges_are_those_of_the_context();
+        let from = self.place(c);
+        let to = self.place(made);
+        if self.can_copy(Plan::Clone(made), spec, from, to) {
+            self.places.copy_place(to, from, steps);
+        } else {
+            self.clone_pieces(spec, c, made, steps);
+        }
+    }
+
+    /// Makes a new context of a job from another one, on a counter of its own.
+    fn clone_counted<L: Ledger>(
+        &mut self,
+        c: Name,
+        spec: &Spec,
+        job: u32,
+        entry: &Regs,
+        blank: Blank,
+    ) -> Name
+        requires live { IsLive (seen self.old) c }
+        requires within { IsSpec (seen self.old).size.pages spec.now }
+        requires may { MayName (seen self.old) job }
+        requires place { HasPlace (seen self.old) }
+        requires group { needs_group (seen self.old) c spec.now ≡ true → HasGroupPlace (seen self.old) }
+        requires few { AreFew (ranges_after_clone (seen self.old) c job spec.now) }
+        requires name { blank.name ≡ L.name }
+        requires parts { blank.parts ≡ L.parts }
+        requires some { 0 < blank.parts }
+        ensures name { result ≡ next_context (seen self.old) job }
+        ensures cloned { seen self.new ≡ clone_context (seen self.old) c job spec.now entry.now }
+    {
+        facts();
+        a_group_is_needed_where_a_value_moves();
+        let mut steps = Steps::<L>::new(blank);
+        self.share(c, spec, job, &mut steps);
+        let made = self.add_context(job, NOBODY, entry);
+        // Nothing is left that moves, so that no value of the new context becomes common by this name.
+        self.clone_by(spec, c, made, &mut steps);
+        made
+    }
 
     /// Makes a new context of a job from another one. Values of mode share that are the other's own move
     /// into one new group, and both contexts have them in common from then on; what was common already
@@ -27,12 +252,6 @@ impl PlacedWorld {
         ensures name { result ≡ next_context (seen self.old) job }
         ensures cloned { seen self.new ≡ clone_context (seen self.old) c job spec.now entry.now }
     {
-        facts();
-        a_group_is_needed_where_a_value_moves();
-        self.share(c, spec, job);
-        let made = self.add_context(job, NOBODY, entry);
-        // Nothing is left that moves, so that no value of the new context becomes common by this name.
-        self.follow(Plan::Clone(made), spec, c, made);
-        made
+        self.clone_counted::<Brand>(c, spec, job, entry, Blank::new(1))
     }
 }

@@ -1,61 +1,55 @@
-ghost use Rattle.std.specs.Prelude.{◌≡◌, ◌≢◌, ◌<◌, ◌≤◌, ℕ, false, true};
+ghost use Rattle.std.specs.Prelude.{◌≡◌, ◌≢◌, ◌<◌, ◌≤◌, ◌+◌, ℕ, [], false, min, true};
 ghost use Rattle.lwc_base.specs.declared.cell.Cell.TheVariants.{Own};
 ghost use Rattle.lwc_base.specs.declared.descriptor.Descriptor.TheVariants.{Empty};
 ghost use Rattle.lwc_base.specs.declared.descriptor.TheConstants.{SLOTS};
 ghost use Rattle.lwc_base.specs.declared.key.Key.TheVariants.{Page, Slot, Cred};
 ghost use Rattle.lwc_base.specs.declared.limits.TheConstants.{MOST_PAGES};
-ghost use Rattle.lazy_world.specs.Cells.{Row, is_own, put_row};
+ghost use Rattle.range_map.specs.Kinds.{ranges};
+ghost use Rattle.lazy_world.specs.Cells.{HasNoPages, Row, is_own, kinds_of, put_row};
 ghost use Rattle.lazy_world.specs.Plans.{planned_row};
-ghost use Rattle.lazy_world.specs.Seen.{count, frame_count, rows};
+ghost use Rattle.lazy_world.specs.Sound.{IsAllOwn, IsEmpty};
+ghost use Rattle.lazy_world.specs.declared.plan.Plan.TheVariants.{Clone};
+ghost use Rattle.lwc_base.specs.declared.name.Name.{Name};
+ghost use Rattle.lazy_world.specs.Seen.{count, frame_count, free_nodes, rows, used_frames};
 
 use crate::places::Places;
 use crate::plan::Plan;
 use crate::world::PlacedWorld;
 use lwc_base::{Cell, MOST_PAGES, Spec};
 use page_cells::Source;
+use page_cells::laws::copies_take_no_frame;
 use pool_base::Steps;
 use range_map::SegmentKind;
-use std::marker::Brand;
-use std::sync::ledger::{Blank, Ledger};
+use std::sync::ledger::Ledger;
 
 impl Places {
-    /// Gives a place without slots all that another one has, by holds alone, on a counter of its own.
-    fn copy_place_counted<L: Ledger>(&mut self, to: usize, from: usize, blank: Blank)
+    /// Gives a place without slots all that another one has, by holds alone. Where it has no pages either,
+    /// that takes no frame and one node step, and none if the other one has no pages.
+    pub fn copy_place<L: Ledger>(&mut self, to: usize, from: usize, steps: &mut Steps<L>)
         requires to { to < count self.old }
         requires from { from < count self.old }
         requires apart { from ≢ to }
         requires empty { (n : ℕ) → rows self.old to (Slot n) ≡ Own Empty }
-        requires name { blank.name ≡ L.name }
-        requires parts { blank.parts ≡ L.parts }
-        requires some { 0 < blank.parts }
         ensures rows { rows self.new ≡ put_row (rows self.old) to (rows self.old from) }
         ensures count { count self.new ≡ count self.old }
         ensures frames { frame_count self.new ≡ frame_count self.old }
+        ensures nodes { free_nodes self.old ≤ free_nodes self.new }
+        ensures used { HasNoPages (rows self.old to) → used_frames self.new ≡ used_frames self.old }
+        ensures cost { HasNoPages (rows self.old to)
+            → steps.new ≤ steps.old + min 1 (ranges MOST_PAGES (kinds_of (rows self.old from))) }
     {
-        let mut steps = Steps::<L>::new(blank);
+        copies_take_no_frame();
         let uid = self.given_uid(Source::CopyOf(from));
-        self.pages.clone_place(to, from, &mut steps);
+        self.pages.clone_place(to, from, steps);
         self.slots.clone_place(to, from);
         self.uids[to] = uid;
-    }
-
-    /// Gives a place without slots all that another one has, by holds alone.
-    pub fn copy_place(&mut self, to: usize, from: usize)
-        requires to { to < count self.old }
-        requires from { from < count self.old }
-        requires apart { from ≢ to }
-        requires empty { (n : ℕ) → rows self.old to (Slot n) ≡ Own Empty }
-        ensures rows { rows self.new ≡ put_row (rows self.old) to (rows self.old from) }
-        ensures count { count self.new ≡ count self.old }
-        ensures frames { frame_count self.new ≡ frame_count self.old }
-    {
-        self.copy_place_counted::<Brand>(to, from, Blank::new(1));
     }
 
     /// Whether no slot of a place is filled.
     fn has_no_slot(&self, i: usize) -> bool
         requires { i < count self.now }
-        ensures { result ≡ true → (n : ℕ) → n < SLOTS → rows self.now i (Slot n) ≡ Own Empty }
+        ensures empty { result ≡ true → (n : ℕ) → n < SLOTS → rows self.now i (Slot n) ≡ Own Empty }
+        ensures all { ((n : ℕ) → n < SLOTS → rows self.now i (Slot n) ≡ Own Empty) → result ≡ true }
     {
         self.filled(i) == 0
     }
@@ -63,7 +57,8 @@ impl Places {
     /// Whether no slot of a place is common.
     fn has_own_slots(&self, i: usize) -> bool
         requires { i < count self.now }
-        ensures { result ≡ true → (n : ℕ) → n < SLOTS → is_own (rows self.now i (Slot n)) ≡ true }
+        ensures own { result ≡ true → (n : ℕ) → n < SLOTS → is_own (rows self.now i (Slot n)) ≡ true }
+        ensures all { ((n : ℕ) → n < SLOTS → is_own (rows self.now i (Slot n)) ≡ true) → result ≡ true }
     {
         self.common(i) == 0
     }
@@ -71,7 +66,8 @@ impl Places {
     /// Whether no page of a place is common.
     fn has_own_pages(&self, i: usize) -> bool
         requires { i < count self.now }
-        ensures { result ≡ true → (p : ℕ) → p < MOST_PAGES → is_own (rows self.now i (Page p)) ≡ true }
+        ensures own { result ≡ true → (p : ℕ) → p < MOST_PAGES → is_own (rows self.now i (Page p)) ≡ true }
+        ensures all { ((p : ℕ) → p < MOST_PAGES → is_own (rows self.now i (Page p)) ≡ true) → result ≡ true }
     {
         let mut p = 0u16;
         'pages: while u32::from(p) < MOST_PAGES {
@@ -86,7 +82,7 @@ impl Places {
     /// Whether the credential of a place is its own.
     fn has_own_uid(&self, i: usize) -> bool
         requires { i < count self.now }
-        ensures { result ≡ true → is_own (rows self.now i Cred) ≡ true }
+        ensures { result ≡ is_own (rows self.now i Cred) }
     {
         matches!(self.uid(i), Cell::Own(_))
     }
@@ -97,6 +93,7 @@ impl Places {
         ensures slots { result ≡ true → (n : ℕ) → n < SLOTS → is_own (rows self.now i (Slot n)) ≡ true }
         ensures uid { result ≡ true → is_own (rows self.now i Cred) ≡ true }
         ensures pages { result ≡ true → (p : ℕ) → p < MOST_PAGES → is_own (rows self.now i (Page p)) ≡ true }
+        ensures all { IsAllOwn (rows self.now i) → result ≡ true }
     {
         self.has_own_slots(i) && self.has_own_uid(i) && self.has_own_pages(i)
     }
@@ -109,8 +106,10 @@ impl PlacedWorld {
     /// place's own.
     pub(crate) fn gives_same(&self, plan: Plan, spec: &Spec, from: usize) -> bool
         requires { from < count self.now.places }
-        ensures { result ≡ true → (old : Row) →
+        ensures same { result ≡ true → (old : Row) →
             planned_row (seen self.now) plan spec.now (rows self.now.places from) old ≡ rows self.now.places from }
+        ensures all { (g : Name) → plan ≡ Clone g → spec.now ≡ [] → IsAllOwn (rows self.now.places from)
+            → result ≡ true }
     {
         spec.items().is_empty()
             && match plan {
@@ -128,6 +127,8 @@ impl PlacedWorld {
         ensures empty { result ≡ true → (n : ℕ) → rows self.now.places to (Slot n) ≡ Own Empty }
         ensures row { result ≡ true → (old : Row) →
             planned_row (seen self.now) plan spec.now (rows self.now.places from) old ≡ rows self.now.places from }
+        ensures all { (g : Name) → plan ≡ Clone g → spec.now ≡ [] → from ≢ to
+            → IsEmpty (rows self.now.places to) → IsAllOwn (rows self.now.places from) → result ≡ true }
     {
         from != to && self.places.has_no_slot(to) && self.gives_same(plan, spec, from)
     }

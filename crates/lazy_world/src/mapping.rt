@@ -8,7 +8,7 @@ use crate::facts::facts;
 use crate::places::Places;
 use crate::world::PlacedWorld;
 use lwc_base::{Name, Range};
-use page_cells::{Source, Stretch, changes_of};
+use page_cells::{Source, Stretch};
 use pool_base::Steps;
 use range_map::ranges_are_those_of_the_context;
 use std::marker::Brand;
@@ -70,8 +70,7 @@ impl Places {
         ensures { result ≡ ranges MOST_PAGES (kinds_of (set_pages range.from range.to present (rows self.now i))) }
     {
         let source = source_of(present);
-        let changes = changes_of(&[Stretch { range, source }]);
-        self.pages.count_after(i, changes.as_slice())
+        self.pages.count_after(i, &[Stretch { range, source }])
     }
 }
 

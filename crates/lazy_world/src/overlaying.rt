@@ -1,4 +1,4 @@
-ghost use Rattle.std.specs.Prelude.{◌≡◌, ◌≢◌, true};
+ghost use Rattle.std.specs.Prelude.{◌≡◌, ◌≢◌, ◌<◌, true};
 ghost use Rattle.lwc_base.specs.Modes.{IsSpec};
 ghost use Rattle.lwc_base.specs.Overlay.{overlay, ranges_after_overlay};
 ghost use Rattle.lwc_base.specs.Sharing.{needs_group};
@@ -9,13 +9,23 @@ use crate::plan::Plan;
 use crate::world::PlacedWorld;
 use lwc_base::laws::a_group_is_needed_where_a_value_moves;
 use lwc_base::{Name, Spec};
+use pool_base::Steps;
 use range_map::ranges_are_those_of_the_context;
+use std::marker::Brand;
+use std::sync::ledger::{Blank, Ledger};
 
 impl PlacedWorld {
     ghost use Rattle.lazy_world.specs.Worlds.{seen};
 
     /// Takes over what the items name from another context.
-    fn overlay_other(&mut self, to: Name, from: Name, spec: &Spec, job: u32)
+    fn overlay_other<L: Ledger>(
+        &mut self,
+        to: Name,
+        from: Name,
+        spec: &Spec,
+        job: u32,
+        steps: &mut Steps<L>,
+    )
         requires apart { to ≢ from }
         requires to { IsLive (seen self.old) to }
         requires from { IsLive (seen self.old) from }
@@ -27,14 +37,14 @@ impl PlacedWorld {
     {
         facts();
         a_group_is_needed_where_a_value_moves();
-        self.share(from, spec, job);
+        self.share(from, spec, job, steps);
         // Nothing is left that moves, so that no value becomes common by this name.
-        self.follow(Plan::Overlay(to), spec, from, to);
+        self.follow(Plan::Overlay(to), spec, from, to, steps);
     }
 
     /// Takes over what the items name from the context itself. Its values move at once with the change of the
     /// others, since a context that has only shared may have too many ranges.
-    fn overlay_itself(&mut self, c: Name, spec: &Spec, job: u32)
+    fn overlay_itself<L: Ledger>(&mut self, c: Name, spec: &Spec, job: u32, steps: &mut Steps<L>)
         requires live { IsLive (seen self.old) c }
         requires within { IsSpec (seen self.old).size.pages spec.now }
         requires may { MayName (seen self.old) job }
@@ -47,11 +57,39 @@ impl PlacedWorld {
         ranges_are_those_of_the_context();
         if self.needs_group(c, spec) {
             let g = self.add_group(job);
-            self.fill_group(g, c, spec);
-            self.follow(Plan::Overlay(g), spec, c, c);
+            self.fill_group(g, c, spec, steps);
+            self.follow(Plan::Overlay(g), spec, c, c, steps);
         } else {
             // Nothing moves, so that no value becomes common by this name.
-            self.follow(Plan::Overlay(c), spec, c, c);
+            self.follow(Plan::Overlay(c), spec, c, c, steps);
+        }
+    }
+
+    /// Takes over what the items name, on a counter of its own.
+    fn overlay_counted<L: Ledger>(
+        &mut self,
+        to: Name,
+        from: Name,
+        spec: &Spec,
+        job: u32,
+        blank: Blank,
+    )
+        requires to { IsLive (seen self.old) to }
+        requires from { IsLive (seen self.old) from }
+        requires within { IsSpec (seen self.old).size.pages spec.now }
+        requires may { MayName (seen self.old) job }
+        requires group { needs_group (seen self.old) from spec.now ≡ true → HasGroupPlace (seen self.old) }
+        requires few { AreFew (ranges_after_overlay (seen self.old) to from job spec.now) }
+        requires name { blank.name ≡ L.name }
+        requires parts { blank.parts ≡ L.parts }
+        requires some { 0 < blank.parts }
+        ensures { seen self.new ≡ overlay (seen self.old) to from job spec.now }
+    {
+        let mut steps = Steps::<L>::new(blank);
+        if to == from {
+            self.overlay_itself(from, spec, job, &mut steps);
+        } else {
+            self.overlay_other(to, from, spec, job, &mut steps);
         }
     }
 
@@ -68,10 +106,6 @@ impl PlacedWorld {
         requires few { AreFew (ranges_after_overlay (seen self.old) to from job spec.now) }
         ensures overlaid { seen self.new ≡ overlay (seen self.old) to from job spec.now }
     {
-        if to == from {
-            self.overlay_itself(from, spec, job);
-        } else {
-            self.overlay_other(to, from, spec, job);
-        }
+        self.overlay_counted::<Brand>(to, from, spec, job, Blank::new(1));
     }
 }

@@ -1,11 +1,11 @@
 use crate::places::Places;
 use arrayvec::ArrayVec;
 use lwc_base::{Cell, Descriptor, NOBODY, SLOTS};
-use page_cells::laws::stretches_change_kinds;
+use page_cells::laws::copies_take_no_frame;
 use page_cells::{MOST_STRETCHES, Source, Stretch};
 use pool_base::Steps;
-use std::marker::Brand;
-use std::sync::ledger::{Blank, Ledger};
+use range_map::Segment;
+use std::sync::ledger::Ledger;
 
 /// Where a place gets its cells: its pages by stretches, each of its slots, and its credential. Those without a
 /// source stay.
@@ -17,19 +17,19 @@ pub struct Sources {
 }
 
 impl Places {
-    ghost use Rattle.std.specs.Prelude.{◌≡◌, ◌≢◌, ◌<◌, ◌≤◌, ℕ, All, Some, length};
+    ghost use Rattle.std.specs.Prelude.{◌≡◌, ◌≢◌, ◌<◌, ◌≤◌, ◌+◌, ◌*◌, ℕ, All, Some, length};
     ghost use Rattle.lwc_base.specs.declared.cell.Cell.{Cell};
     ghost use Rattle.lwc_base.specs.declared.descriptor.TheConstants.{SLOTS};
     ghost use Rattle.lwc_base.specs.declared.key.Key.TheVariants.{Slot, Cred};
     ghost use Rattle.lwc_base.specs.declared.limits.TheConstants.{MOST_PAGES, MOST_RANGES};
     ghost use Rattle.lwc_base.specs.Keys.{with_key};
-    ghost use Rattle.range_map.specs.Kinds.{ranges};
+    ghost use Rattle.range_map.specs.Kinds.{IsSegment, kind_at, ranges};
+    ghost use Rattle.page_cells.specs.Changes.{IsStretch};
     ghost use Rattle.page_cells.specs.declared.stretches.Source.TheVariants.{CopyOf};
-    ghost use Rattle.page_cells.specs.declared.stretches.TheConstants.{MOST_STRETCHES};
-    ghost use Rattle.lazy_world.specs.Cells.{kinds_of, put_row};
+    ghost use Rattle.lazy_world.specs.Cells.{HasNoPages, kinds_of, put_row};
     ghost use Rattle.lazy_world.specs.Plans.{CanGet, given, given_or};
-    ghost use Rattle.lazy_world.specs.Sources.{AreGiven, IsGiven, slot_source, sourced_row, with_pages, with_slots};
-    ghost use Rattle.lazy_world.specs.Seen.{count, frame_count, rows};
+    ghost use Rattle.lazy_world.specs.Sources.{AreGiven, slot_source, sourced_row, with_pages, with_slots};
+    ghost use Rattle.lazy_world.specs.Seen.{KeepsStore, count, frame_count, free_nodes, rows, used_frames};
 
     /// A later page, or the end of all pages, up to which the pages of a place have the kind of this one.
     #[tactic(auto, unfolding(crate::specs::Seen::rows, crate::specs::Seen::count, crate::specs::Cells::rows_of))]
@@ -44,39 +44,34 @@ impl Places {
         self.pages.next_edge(i, p)
     }
 
-    /// Makes the pages of each stretch of a place what their source says, on a counter of its own.
-    fn take_pages_counted<L: Ledger>(&mut self, i: usize, stretches: &[Stretch], blank: Blank)
-        requires place { i < count self.old }
-        requires few { length stretches.now ≤ MOST_STRETCHES }
-        requires given { All (IsGiven (count self.old) (rows self.old) i) stretches.now }
-        requires ranges { ranges MOST_PAGES (kinds_of (with_pages (rows self.old) stretches.now (rows self.old i)))
-            ≤ MOST_RANGES }
-        requires name { blank.name ≡ L.name }
-        requires parts { blank.parts ≡ L.parts }
-        requires some { 0 < blank.parts }
-        ensures rows { rows self.new
-            ≡ put_row (rows self.old) i (with_pages (rows self.old) stretches.now (rows self.old i)) }
-        ensures count { count self.new ≡ count self.old }
-        ensures frames { frame_count self.new ≡ frame_count self.old }
+    /// The segments of a place, one for each range.
+    #[tactic(auto, unfolding(crate::specs::Seen::rows, crate::specs::Seen::count, crate::specs::Cells::rows_of))]
+    pub fn segments(&self, i: usize) -> &[Segment]
+        requires { i < count self.now }
+        ensures kinds { kind_at result.now ≡ kinds_of (rows self.now i) }
+        ensures count { length result.now ≡ ranges MOST_PAGES (kinds_of (rows self.now i)) }
+        ensures few { length result.now ≤ MOST_RANGES }
+        ensures each { All IsSegment result.now }
     {
-        stretches_change_kinds();
-        let mut steps = Steps::<L>::new(blank);
-        self.pages.change(i, stretches, &mut steps);
+        self.pages.segments(i)
     }
 
     /// Makes the pages of each stretch of a place what their source says.
-    fn take_pages(&mut self, i: usize, stretches: &[Stretch])
+    fn take_pages<L: Ledger>(&mut self, i: usize, stretches: &[Stretch], steps: &mut Steps<L>)
         requires place { i < count self.old }
-        requires few { length stretches.now ≤ MOST_STRETCHES }
-        requires given { All (IsGiven (count self.old) (rows self.old) i) stretches.now }
+        requires given { All (IsStretch (count self.old) i) stretches.now }
         requires ranges { ranges MOST_PAGES (kinds_of (with_pages (rows self.old) stretches.now (rows self.old i)))
             ≤ MOST_RANGES }
         ensures rows { rows self.new
             ≡ put_row (rows self.old) i (with_pages (rows self.old) stretches.now (rows self.old i)) }
         ensures count { count self.new ≡ count self.old }
         ensures frames { frame_count self.new ≡ frame_count self.old }
+        ensures nodes { free_nodes self.old ≤ free_nodes self.new + (1 + 2 * length stretches.now) }
+        ensures used { HasNoPages (rows self.old i) → used_frames self.new ≡ used_frames self.old }
+        ensures cost { HasNoPages (rows self.old i) → steps.new ≤ steps.old + 64 * length stretches.now }
     {
-        self.take_pages_counted::<Brand>(i, stretches, Blank::new(1));
+        copies_take_no_frame();
+        self.pages.change(i, stretches, steps);
     }
 
     /// Makes a slot of a place what the same slot of another place is.
@@ -89,6 +84,7 @@ impl Places {
             ≡ put_row (rows self.old) i (with_key Cell (Slot n) (rows self.old j (Slot n)) (rows self.old i)) }
         ensures count { count self.new ≡ count self.old }
         ensures frames { frame_count self.new ≡ frame_count self.old }
+        ensures store { KeepsStore self.old self.new }
     {
         self.slots.copy_slot(i, j, n);
     }
@@ -97,12 +93,13 @@ impl Places {
     fn fill_slot(&mut self, i: usize, n: u8, source: Source)
         requires place { i < count self.old }
         requires slot { n < SLOTS }
-        requires given { CanGet (count self.old) (rows self.old) i (Slot n) (Some source) }
+        requires given { CanGet (count self.old) i (Some source) }
         ensures rows { rows self.new
             ≡ put_row (rows self.old) i (with_key Cell (Slot n) (given (rows self.old) (Slot n) source)
             (rows self.old i)) }
         ensures count { count self.new ≡ count self.old }
         ensures frames { frame_count self.new ≡ frame_count self.old }
+        ensures store { KeepsStore self.old self.new }
     {
         match source {
             Source::Absent | Source::Zeros => self.put_slot(i, n, Cell::Own(Descriptor::Empty)),
@@ -115,12 +112,13 @@ impl Places {
     fn take_slot(&mut self, i: usize, n: u8, source: Option<Source>)
         requires place { i < count self.old }
         requires slot { n < SLOTS }
-        requires given { CanGet (count self.old) (rows self.old) i (Slot n) source }
+        requires given { CanGet (count self.old) i source }
         ensures rows { rows self.new ≡ put_row (rows self.old) i
             (with_key Cell (Slot n) (given_or (rows self.old) (Slot n) (rows self.old i (Slot n)) source)
             (rows self.old i)) }
         ensures count { count self.new ≡ count self.old }
         ensures frames { frame_count self.new ≡ frame_count self.old }
+        ensures store { KeepsStore self.old self.new }
     {
         if let Some(source) = source {
             self.fill_slot(i, n, source);
@@ -130,12 +128,12 @@ impl Places {
     /// Makes the slots of a place what their sources say.
     fn take_slots(&mut self, i: usize, sources: &[Option<Source>; 64])
         requires place { i < count self.old }
-        requires given { (n : ℕ) → n < SLOTS
-            → CanGet (count self.old) (rows self.old) i (Slot n) (slot_source sources.now n) }
+        requires given { (n : ℕ) → n < SLOTS → CanGet (count self.old) i (slot_source sources.now n) }
         ensures rows { rows self.new ≡ put_row (rows self.old) i
             (with_slots SLOTS (rows self.old) sources.now (rows self.old i)) }
         ensures count { count self.new ≡ count self.old }
         ensures frames { frame_count self.new ≡ frame_count self.old }
+        ensures store { KeepsStore self.old self.new }
     {
         for n in 0..SLOTS {
             self.take_slot(i, n, sources[n as usize]);
@@ -160,12 +158,13 @@ impl Places {
     /// Makes the credential of a place what its source says, if it has one.
     fn take_uid(&mut self, i: usize, source: Option<Source>)
         requires place { i < count self.old }
-        requires given { CanGet (count self.old) (rows self.old) i Cred source }
+        requires given { CanGet (count self.old) i source }
         ensures rows { rows self.new
             ≡ put_row (rows self.old) i
             (with_key Cell Cred (given_or (rows self.old) Cred (rows self.old i Cred) source) (rows self.old i)) }
         ensures count { count self.new ≡ count self.old }
         ensures frames { frame_count self.new ≡ frame_count self.old }
+        ensures store { KeepsStore self.old self.new }
     {
         if let Some(source) = source {
             let uid = self.given_uid(source);
@@ -173,16 +172,21 @@ impl Places {
         }
     }
 
-    /// Makes the cells of a place what their sources say.
-    pub fn take(&mut self, i: usize, sources: &Sources)
+    /// Makes the cells of a place what their sources say. A place without pages takes at most 64 node steps
+    /// for each stretch, and no frame.
+    pub fn take<L: Ledger>(&mut self, i: usize, sources: &Sources, steps: &mut Steps<L>)
         requires place { i < count self.old }
-        requires given { AreGiven (count self.old) (rows self.old) i sources.now }
+        requires given { AreGiven (count self.old) i sources.now }
         requires few { ranges MOST_PAGES (kinds_of (sourced_row (rows self.old) i sources.now)) ≤ MOST_RANGES }
         ensures rows { rows self.new ≡ put_row (rows self.old) i (sourced_row (rows self.old) i sources.now) }
         ensures count { count self.new ≡ count self.old }
         ensures frames { frame_count self.new ≡ frame_count self.old }
+        ensures nodes { free_nodes self.old ≤ free_nodes self.new + (1 + 2 * length sources.now.pages.items) }
+        ensures used { HasNoPages (rows self.old i) → used_frames self.new ≡ used_frames self.old }
+        ensures cost { HasNoPages (rows self.old i)
+            → steps.new ≤ steps.old + 64 * length sources.now.pages.items }
     {
-        self.take_pages(i, sources.pages.as_slice());
+        self.take_pages(i, sources.pages.as_slice(), steps);
         self.take_slots(i, &sources.slots);
         self.take_uid(i, sources.uid);
     }

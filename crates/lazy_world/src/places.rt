@@ -60,7 +60,7 @@ impl Places {
     ghost use Rattle.lazy_world.specs.Kept.{target_of};
     ghost use Rattle.page_cells.specs.declared.cells.TheConstants.{MOST_PLACES};
     ghost use Rattle.lazy_world.specs.KeyValues.{HasSlot, group_in, key_in, value_in};
-    ghost use Rattle.lazy_world.specs.Seen.{count, frame_count, rows};
+    ghost use Rattle.lazy_world.specs.Seen.{KeepsStore, count, frame_count, rows};
 
     /// This number of places with nothing in them, over this number of frames. The only error is out of memory.
     #[tactic(auto, unfolding(crate::specs::Seen::rows, crate::specs::Seen::count, crate::specs::Seen::frame_count, crate::specs::Cells::rows_of))]
@@ -200,6 +200,7 @@ impl Places {
         ensures rows { rows self.new ≡ put_row (rows self.old) i (with_key Cell (Slot n) cell (rows self.old i)) }
         ensures count { count self.new ≡ count self.old }
         ensures frames { frame_count self.new ≡ frame_count self.old }
+        ensures store { KeepsStore self.old self.new }
     {
         let target = Places::target_of(&cell);
         self.slots.put(i, n, cell, target);
@@ -212,6 +213,7 @@ impl Places {
         ensures rows { rows self.new ≡ put_row (rows self.old) i (with_key Cell Cred cell (rows self.old i)) }
         ensures count { count self.new ≡ count self.old }
         ensures frames { frame_count self.new ≡ frame_count self.old }
+        ensures store { KeepsStore self.old self.new }
     {
         self.uids[i] = cell;
     }

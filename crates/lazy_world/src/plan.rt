@@ -20,7 +20,7 @@ pub enum Plan {
     Overlay(Name),
 }
 
-/// Who has the value of a cell, and the place of the group that has it, if a value is there.
+/// Who has the value of a cell, and the place of the group that has it, if that group is live.
 #[derive(Clone, Copy, Debug, PartialEq, Eq)]
 pub struct Found {
     pub kind: Option<SegmentKind>,

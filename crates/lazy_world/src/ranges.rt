@@ -3,13 +3,16 @@ ghost use Rattle.lwc_base.specs.declared.descriptor.TheConstants.{SLOTS};
 ghost use Rattle.lwc_base.specs.declared.key.Key.TheVariants.{Page, Slot, Cred};
 ghost use Rattle.lwc_base.specs.declared.limits.TheConstants.{MOST_PAGES};
 ghost use Rattle.lwc_base.specs.Modes.{IsSpec, mode, names};
-ghost use Rattle.lazy_world.specs.Plans.{common_in};
+ghost use Rattle.lwc_base.specs.declared.cell.Cell.{Cell};
+ghost use Rattle.lwc_base.specs.declared.key.Key.{Key};
+ghost use Rattle.lwc_base.specs.Keys.{ValueOf};
+ghost use Rattle.lazy_world.specs.Plans.{kind_in, owner};
 
 use crate::pieces::Sources;
 use crate::plan::{Found, Plan};
 use crate::world::PlacedWorld;
 use arrayvec::ArrayVec;
-use lwc_base::{Cell, Item, Key, Kind, MOST_PAGES, Name, Range, SLOTS, Spec};
+use lwc_base::{Cell, Item, Key, Kind, MOST_PAGES, Range, SLOTS, Spec};
 use page_cells::{MOST_STRETCHES, Source, Stretch};
 use range_map::SegmentKind;
 use res_spec::mode_of;
@@ -55,41 +58,34 @@ pub(crate) fn mode_edge(spec: &Spec, p: u16, edge: u16) -> u16
     next
 }
 
-/// The group of what is common.
-fn common(kind: Option<SegmentKind>) -> Option<Name>
-    ensures { result ≡ common_in kind }
+/// Who has the value of a cell.
+fn owner<T>(cell: &Cell<T>) -> SegmentKind
+    ensures { result ≡ owner cell.now }
 {
-    match kind {
-        Some(SegmentKind::Common(g)) => Some(g),
-        _ => None,
+    match cell {
+        Cell::Own(_) => SegmentKind::Own,
+        Cell::Common(g) => SegmentKind::Common(*g),
     }
 }
 
 impl PlacedWorld {
-    ghost use Rattle.lwc_base.specs.World.{group};
-    ghost use Rattle.lazy_world.specs.Plans.{CanGet, Gives, IsFor, IsFound, IsHolder, given_or, planned_row};
+    ghost use Rattle.page_cells.specs.Changes.{IsStretch};
+    ghost use Rattle.lazy_world.specs.Plans.{CanGet, Gives, IsFor, IsFound, given_or, planned_row};
     ghost use Rattle.lazy_world.specs.Seen.{count, rows};
-    ghost use Rattle.lazy_world.specs.Sources.{AreGiven, IsGiven, slot_source, source_at, sourced_row};
+    ghost use Rattle.lazy_world.specs.Sources.{AreGiven, slot_source, source_at, sourced_row};
     ghost use Rattle.lazy_world.specs.Worlds.{parts, seen};
 
-    /// The place of a group, if a page is present there, and a later page, at most the edge, up to which this
-    /// holds of each page.
-    fn page_holder(&self, g: Name, p: u16, edge: u16) -> (Option<usize>, u16)
-        requires page { p < MOST_PAGES }
-        requires edge { p < edge }
-        ensures past { p < result.1 }
-        ensures within { result.1 ≤ edge }
-        ensures holder { (q : ℕ) → p ≤ q → q < result.1 → IsHolder (seen self.now)
-            (parts self.now).size.contexts (count self.now.places) (rows self.now.places) (Page q) g result.0 }
+    /// What is found under a key where the cell is of a kind.
+    fn found(&self, kind: Option<SegmentKind>) -> Found
+        ensures { (k : Key) (cell : Cell (ValueOf k)) → kind ≡ kind_in k cell → IsFound (seen self.now)
+            (parts self.now).size.contexts (count self.now.places) (rows self.now.places) k cell result }
     {
-        let Some(j) = self.group_place(g) else {
-            return (None, edge);
+        let holder = match kind {
+            None => None,
+            Some(SegmentKind::Own) => None,
+            Some(SegmentKind::Common(g)) => self.group_place(g),
         };
-        let edge = edge.min(self.places.next_edge(j, p));
-        match self.places.kind(j, p) {
-            Some(SegmentKind::Own) => (Some(j), edge),
-            _ => (None, edge),
-        }
+        Found { kind, holder }
     }
 
     /// What is found at a page of a place, and a later page up to which the same is found.
@@ -102,15 +98,8 @@ impl PlacedWorld {
             (parts self.now).size.contexts (count self.now.places) (rows self.now.places) (Page q)
             (rows self.now.places i (Page q)) result.0 }
     {
-        let kind = self.places.kind(i, p);
-        let edge = self.places.next_edge(i, p);
-        match common(kind) {
-            Some(g) => {
-                let (holder, edge) = self.page_holder(g, p, edge);
-                (Found { kind, holder }, edge)
-            }
-            None => (Found { kind, holder: None }, edge),
-        }
+        let found = self.found(self.places.kind(i, p));
+        (found, self.places.next_edge(i, p))
     }
 
     /// The source of a page by a plan, and a later page up to which the pages have this source.
@@ -130,8 +119,7 @@ impl PlacedWorld {
         ensures gives { (q : ℕ) → p ≤ q → q < result.1
             → given_or (rows self.now.places) (Page q) (rows self.now.places to (Page q)) result.0
             ≡ planned_row (seen self.now) plan spec.now (rows self.now.places from) (rows self.now.places to) (Page q) }
-        ensures can { (q : ℕ) → p ≤ q → q < result.1
-            → CanGet (count self.now.places) (rows self.now.places) to (Page q) result.0 }
+        ensures can { CanGet (count self.now.places) to result.0 }
     {
         let (found, edge) = self.found_page(from, p);
         let edge = mode_edge(spec, p, edge);
@@ -155,7 +143,7 @@ impl PlacedWorld {
             → given_or (rows self.now.places) (Page q) (rows self.now.places to (Page q)) (source_at result.items q)
             ≡ planned_row (seen self.now) plan spec.now (rows self.now.places from) (rows self.now.places to) (Page q) }
         ensures past { (q : ℕ) → MOST_PAGES ≤ q → source_at result.items q ≡ None }
-        ensures given { All (IsGiven (count self.now.places) (rows self.now.places) to) result.items }
+        ensures given { All (IsStretch (count self.now.places) to) result.items }
     {
         let mut stretches = ArrayVec::new();
         let mut p = 0u16;
@@ -179,16 +167,7 @@ impl PlacedWorld {
         ensures { IsFound (seen self.now) (parts self.now).size.contexts (count self.now.places)
             (rows self.now.places) (Slot n) (rows self.now.places i (Slot n)) result }
     {
-        match self.places.slot(i, n) {
-            Cell::Own(_) => Found {
-                kind: Some(SegmentKind::Own),
-                holder: None,
-            },
-            Cell::Common(g) => Found {
-                kind: Some(SegmentKind::Common(g)),
-                holder: self.group_place(g),
-            },
-        }
+        self.found(Some(owner(&self.places.slot(i, n))))
     }
 
     /// What is found under the credential of a place.
@@ -197,16 +176,7 @@ impl PlacedWorld {
         ensures { IsFound (seen self.now) (parts self.now).size.contexts (count self.now.places)
             (rows self.now.places) Cred (rows self.now.places i Cred) result }
     {
-        match self.places.uid(i) {
-            Cell::Own(_) => Found {
-                kind: Some(SegmentKind::Own),
-                holder: None,
-            },
-            Cell::Common(g) => Found {
-                kind: Some(SegmentKind::Common(*g)),
-                holder: self.group_place(*g),
-            },
-        }
+        self.found(Some(owner(self.places.uid(i))))
     }
 
     /// The source of a slot by a plan.
@@ -222,7 +192,13 @@ impl PlacedWorld {
     }
 
     /// The source of each slot by a plan.
-    fn slot_sources(&self, plan: Plan, spec: &Spec, from: usize, to: usize) -> [Option<Source>; 64]
+    pub(crate) fn slot_sources(
+        &self,
+        plan: Plan,
+        spec: &Spec,
+        from: usize,
+        to: usize,
+    ) -> [Option<Source>; 64]
         requires from { from < count self.now.places }
         requires plan { IsFor (parts self.now).size.contexts from to plan }
         ensures { (n : ℕ) → n < SLOTS → Gives (count self.now.places) (rows self.now.places) to (Slot n)
@@ -237,7 +213,13 @@ impl PlacedWorld {
     }
 
     /// The source of the credential by a plan.
-    fn uid_source(&self, plan: Plan, spec: &Spec, from: usize, to: usize) -> Option<Source>
+    pub(crate) fn uid_source(
+        &self,
+        plan: Plan,
+        spec: &Spec,
+        from: usize,
+        to: usize,
+    ) -> Option<Source>
         requires from { from < count self.now.places }
         requires plan { IsFor (parts self.now).size.contexts from to plan }
         ensures { Gives (count self.now.places) (rows self.now.places) to Cred (planned_row (seen self.now) plan
@@ -254,7 +236,7 @@ impl PlacedWorld {
         requires within { IsSpec (seen self.now).size.pages spec.now }
         ensures row { sourced_row (rows self.now.places) to result
             ≡ planned_row (seen self.now) plan spec.now (rows self.now.places from) (rows self.now.places to) }
-        ensures given { AreGiven (count self.now.places) (rows self.now.places) to result }
+        ensures given { AreGiven (count self.now.places) to result }
     {
         Sources {
             pages: self.page_sources(plan, spec, from, to),

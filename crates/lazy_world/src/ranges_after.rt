@@ -1,10 +1,10 @@
-ghost use Rattle.std.specs.Prelude.{◌≡◌, ◌<◌, ◌≤◌, ℕ, All, length};
+ghost use Rattle.std.specs.Prelude.{◌≡◌, ◌<◌, ◌≤◌, ℕ, All};
 ghost use Rattle.lwc_base.specs.declared.limits.TheConstants.{MOST_PAGES};
 ghost use Rattle.lwc_base.specs.Modes.{IsSpec};
 ghost use Rattle.range_map.specs.Kinds.{ranges};
-ghost use Rattle.page_cells.specs.declared.stretches.TheConstants.{MOST_STRETCHES};
+ghost use Rattle.page_cells.specs.Changes.{IsStretch};
 ghost use Rattle.lazy_world.specs.Cells.{kinds_of};
-ghost use Rattle.lazy_world.specs.Sources.{IsGiven, with_pages};
+ghost use Rattle.lazy_world.specs.Sources.{with_pages};
 ghost use Rattle.lazy_world.specs.Seen.{count, rows};
 
 use crate::facts::facts;
@@ -13,8 +13,7 @@ use crate::plan::Plan;
 use crate::world::PlacedWorld;
 use lwc_base::laws::a_group_is_needed_where_a_value_moves;
 use lwc_base::{Name, Spec};
-use page_cells::laws::stretches_change_kinds;
-use page_cells::{Stretch, changes_of};
+use page_cells::Stretch;
 use range_map::ranges_are_those_of_the_context;
 
 impl Places {
@@ -30,13 +29,10 @@ impl Places {
     /// The number of ranges of a place once the pages of each stretch were what their source says.
     fn count_with(&self, i: usize, stretches: &[Stretch]) -> u32
         requires place { i < count self.now }
-        requires few { length stretches.now ≤ MOST_STRETCHES }
-        requires given { All (IsGiven (count self.now) (rows self.now) i) stretches.now }
+        requires given { All (IsStretch (count self.now) i) stretches.now }
         ensures { result ≡ ranges MOST_PAGES (kinds_of (with_pages (rows self.now) stretches.now (rows self.now i))) }
     {
-        stretches_change_kinds();
-        let changes = changes_of(stretches);
-        self.pages.count_after(i, changes.as_slice())
+        self.pages.count_after(i, stretches)
     }
 }
 

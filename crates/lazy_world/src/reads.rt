@@ -17,6 +17,7 @@ impl PlacedWorld {
     ghost use Rattle.lwc_base.specs.Summaries.{is_empty, summary_of};
     ghost use Rattle.lwc_base.specs.World.{context, group, groups_of, live_of, new_group};
     ghost use Rattle.world_face.specs.Calls.{IsLive};
+    ghost use Rattle.lazy_world.specs.Clones.{place_of_group};
     ghost use Rattle.lazy_world.specs.Seen.{count, rows};
     ghost use Rattle.lazy_world.specs.States.{context_at, group_of};
     ghost use Rattle.lazy_world.specs.Worlds.{parts, seen};
@@ -50,6 +51,7 @@ impl PlacedWorld {
         ensures inside { IfSome result (λ i. i < count self.now.places) }
         ensures behind { IfSome result (λ i. (parts self.now).size.contexts ≤ i) }
         ensures missed { IfNone result (group (seen self.now) g ≡ new_group) }
+        ensures place { result ≡ place_of_group (parts self.now) g }
     {
         match self.groups.place(g) {
             Some(j) => Some(self.size.contexts as usize + j),

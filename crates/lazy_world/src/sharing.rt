@@ -12,8 +12,10 @@ use crate::ranges::mode_edge;
 use crate::world::PlacedWorld;
 use lwc_base::laws::a_group_is_needed_where_a_value_moves;
 use lwc_base::{Cell, Key, MOST_PAGES, NOBODY, Name, SLOTS, Spec};
+use pool_base::Steps;
 use range_map::ranges_are_those_of_the_context;
 use res_spec::mode_of;
+use std::sync::ledger::Ledger;
 
 impl PlacedWorld {
     ghost use Rattle.lwc_base.specs.Sharing.{moved_values, needs_group, share};
@@ -95,7 +97,14 @@ impl PlacedWorld {
     /// A context gets the cells that a plan gives it of another one, which may be the same, key by key.
     // The sources are a large value, which each caller would clear if this were a part of it.
     #[inline(never)]
-    fn follow_sources(&mut self, plan: Plan, spec: &Spec, d: Name, c: Name)
+    fn follow_sources<L: Ledger>(
+        &mut self,
+        plan: Plan,
+        spec: &Spec,
+        d: Name,
+        c: Name,
+        steps: &mut Steps<L>,
+    )
         requires from { IsLive (seen self.old) d }
         requires to { IsLive (seen self.old) c }
         requires plan { IsOfContexts plan d c }
@@ -110,11 +119,18 @@ impl PlacedWorld {
         let from = self.place(d);
         let to = self.place(c);
         let sources = self.sources(plan, spec, from, to);
-        self.places.take(to, &sources);
+        self.places.take(to, &sources, steps);
     }
 
     /// A context gets the cells that a plan gives it of another one, which may be the same.
-    pub(crate) fn follow(&mut self, plan: Plan, spec: &Spec, d: Name, c: Name)
+    pub(crate) fn follow<L: Ledger>(
+        &mut self,
+        plan: Plan,
+        spec: &Spec,
+        d: Name,
+        c: Name,
+        steps: &mut Steps<L>,
+    )
         requires from { IsLive (seen self.old) d }
         requires to { IsLive (seen self.old) c }
         requires plan { IsOfContexts plan d c }
@@ -129,9 +145,9 @@ impl PlacedWorld {
         let from = self.place(d);
         let to = self.place(c);
         if self.can_copy(plan, spec, from, to) {
-            self.places.copy_place(to, from);
+            self.places.copy_place(to, from, steps);
         } else {
-            self.follow_sources(plan, spec, d, c);
+            self.follow_sources(plan, spec, d, c, steps);
         }
     }
 
@@ -162,7 +178,13 @@ impl PlacedWorld {
     }
 
     /// A group gets the values of a context that items move, and nothing else.
-    pub(crate) fn fill_group(&mut self, g: Name, c: Name, spec: &Spec)
+    pub(crate) fn fill_group<L: Ledger>(
+        &mut self,
+        g: Name,
+        c: Name,
+        spec: &Spec,
+        steps: &mut Steps<L>,
+    )
         requires live { IsLive (seen self.old) c }
         requires within { IsSpec (seen self.old).size.pages spec.now }
         requires few { ranges MOST_PAGES (kinds_of (planned_row (seen self.old) Move spec.now
@@ -178,14 +200,14 @@ impl PlacedWorld {
             Some(j) => {
                 let to = self.size.contexts as usize + j;
                 let sources = self.sources(Plan::Move, spec, from, to);
-                self.places.take(to, &sources);
+                self.places.take(to, &sources, steps);
             }
             None => {}
         }
     }
 
     /// Moves a context's own values under share into a new group of the job, if there are any.
-    pub(crate) fn share(&mut self, c: Name, spec: &Spec, job: u32)
+    pub(crate) fn share<L: Ledger>(&mut self, c: Name, spec: &Spec, job: u32, steps: &mut Steps<L>)
         requires live { IsLive (seen self.old) c }
         requires within { IsSpec (seen self.old).size.pages spec.now }
         requires may { MayName (seen self.old) job }
@@ -197,8 +219,8 @@ impl PlacedWorld {
         ranges_are_those_of_the_context();
         if self.needs_group(c, spec) {
             let g = self.add_group(job);
-            self.fill_group(g, c, spec);
-            self.follow(Plan::Mark(g), spec, c, c);
+            self.fill_group(g, c, spec, steps);
+            self.follow(Plan::Mark(g), spec, c, c, steps);
         }
     }
 }

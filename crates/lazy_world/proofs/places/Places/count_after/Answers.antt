@@ -1,26 +1,30 @@
-use Rattle.std.proofs.Common.{◌∙◌, [], ◌∷◌, ap, List}
+use Rattle.std.proofs.Common.{◌∙◌, [], ◌∷◌, ap, length, subst, sym}
+use Rattle.std.specs.Prelude.{All}
 use Rattle.lwc_base.specs.declared.limits.TheConstants.{MOST_PAGES}
-use Rattle.range_map.specs.declared.segment.Change.{Change}
 use Rattle.range_map.specs.Kinds.{ranges}
 use Rattle.fd_table.specs.Seen as slots_seen
-use Rattle.page_cells.specs.Cells.{place_of}
-use Rattle.page_cells.specs.Changes.{change_of, kinds_after}
+use Rattle.page_cells.specs.Cells.{kinds_of}
+use Rattle.page_cells.specs.Changes.{IsStretch, changed_place}
 use Rattle.page_cells.specs.Seen as pages_seen
 use Rattle.page_cells.specs.declared.stretches.Source.{Source}
 use Rattle.lazy_world.specs.Seen.{count, rows}
-use Rattle.lazy_world.proofs.MapLemmas.{kinds-row}
+use Rattle.lazy_world.proofs.MapLemmas.{is_stretch, kinds-row}
 use Rattle.lazy_world.proofs.places.Places.count_after.Goals as goal
 
-pub count_after-requires : goal.count_after-requires
+pub count_after-requires-clause-place : goal.count_after-requires-clause-place
 unfolding count
-count_after-requires c = c.requires.place
+count_after-requires-clause-place c = c.requires.place
+
+pub count_after-requires-clause-stretches : goal.count_after-requires-clause-stretches
+count_after-requires-clause-stretches c =
+    let places = length (pages_seen.cells c.args.self.now.pages) in
+    subst (λ (src : Source). All (IsStretch places c.args.i) (record { range = c.args.range; source = src } ∷ [])) (sym c.source_of-source.ensures)
+    (is_stretch places c.args.i c.args.range.from c.args.range.to c.args.present c.requires.order c.requires.inside)
 
 pub returns : goal.returns
 unfolding rows
 returns c =
     let w = c.args.self.now in
     c.count_after.ensures
-    ∙ ap (λ (changes : List Change). ranges MOST_PAGES (kinds_after changes (place_of (pages_seen.cells w.pages) c.args.i)))
-    (c.as_slice.ensures.value ∙ c.changes_of-changes.ensures
-    ∙ ap (λ (src : Source). change_of (record { range = c.args.range; source = src }) ∷ []) c.source_of-source.ensures)
+    ∙ ap (λ (src : Source). ranges MOST_PAGES (kinds_of (changed_place (pages_seen.cells w.pages) c.args.i (record { range = c.args.range; source = src } ∷ [])))) c.source_of-source.ensures
     ∙ ap (ranges MOST_PAGES) (kinds-row (pages_seen.cells w.pages) (slots_seen.slots w.slots) w.uids.items c.args.i c.args.range.from c.args.range.to c.args.present)

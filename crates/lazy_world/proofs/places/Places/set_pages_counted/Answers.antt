@@ -4,8 +4,8 @@ use Rattle.lwc_base.specs.declared.limits.TheConstants.{MOST_PAGES, MOST_RANGES}
 use Rattle.range_map.specs.declared.segment.SegmentKind.{SegmentKind}
 use Rattle.range_map.specs.Kinds.{ranges}
 use Rattle.fd_table.specs.Seen as slots_seen
-use Rattle.page_cells.specs.Cells.{place_of}
-use Rattle.page_cells.specs.Changes.{IsStretch, change_of, changed_place, kinds_after}
+use Rattle.page_cells.specs.Cells.{kinds_of}
+use Rattle.page_cells.specs.Changes.{IsStretch, changed_place}
 use Rattle.page_cells.specs.Seen as pages_seen
 use Rattle.page_cells.specs.declared.stretches.Source.{Source}
 use Rattle.lazy_world.specs.Cells.{rows_of}
@@ -19,14 +19,14 @@ change-requires-clause-place g c = c.requires.place
 
 pub change-requires-clause-stretches : goal.change-requires-clause-stretches
 change-requires-clause-stretches g c =
-    subst (λ (src : Source). All (IsStretch (pages_seen.cells c.args.self.now.pages) c.args.i) (record { range = c.args.range; source = src } ∷ [])) (sym c.source_of-source.ensures)
-    (is_stretch (pages_seen.cells c.args.self.now.pages) c.args.i c.args.range.from c.args.range.to c.args.present c.requires.order c.requires.inside)
+    subst (λ (src : Source). All (IsStretch (length (pages_seen.cells c.args.self.now.pages)) c.args.i) (record { range = c.args.range; source = src } ∷ [])) (sym c.source_of-source.ensures)
+    (is_stretch (length (pages_seen.cells c.args.self.now.pages)) c.args.i c.args.range.from c.args.range.to c.args.present c.requires.order c.requires.inside)
 
 pub change-requires-clause-ranges : goal.change-requires-clause-ranges
 unfolding rows
 change-requires-clause-ranges g c =
     let w = c.args.self.now in
-    subst (λ (src : Source). ranges MOST_PAGES (kinds_after (change_of (record { range = c.args.range; source = src }) ∷ []) (place_of (pages_seen.cells w.pages) c.args.i)) ≤ MOST_RANGES)
+    subst (λ (src : Source). ranges MOST_PAGES (kinds_of (changed_place (pages_seen.cells w.pages) c.args.i (record { range = c.args.range; source = src } ∷ []))) ≤ MOST_RANGES)
     (sym c.source_of-source.ensures)
     (subst (λ (kinds : ℕ → Option SegmentKind). ranges MOST_PAGES kinds ≤ MOST_RANGES)
     (sym (kinds-row (pages_seen.cells w.pages) (slots_seen.slots w.slots) w.uids.items c.args.i c.args.range.from c.args.range.to c.args.present)) c.requires.few)

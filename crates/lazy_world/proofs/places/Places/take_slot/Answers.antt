@@ -9,7 +9,7 @@ use Rattle.lazy_world.proofs.TakeLemmas.{kept-key}
 use Rattle.lazy_world.proofs.places.Places.take_slot.Goals as goal
 
 pub fill_slot-requires-clause-given : goal.fill_slot-requires-clause-given
-fill_slot-requires-clause-given c = subst (CanGet (count c.args.self.now) (rows c.args.self.now) c.args.i (Slot c.args.n)) c.in-Some.is c.requires.given
+fill_slot-requires-clause-given c = subst (CanGet (count c.args.self.now) c.args.i) c.in-Some.is c.requires.given
 
 pub returns-in-Some-clause-rows : goal.returns-in-Some-clause-rows
 returns-in-Some-clause-rows c =

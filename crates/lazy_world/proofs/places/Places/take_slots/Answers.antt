@@ -1,19 +1,16 @@
 use Rattle.std.proofs.Common.{refl, sym, subst, ◌∙◌}
-use Rattle.lwc_base.specs.declared.key.Key.TheVariants.{Slot}
 use Rattle.lazy_world.specs.Plans.{CanGet}
 use Rattle.lazy_world.specs.Seen.{count, rows}
 use Rattle.lazy_world.specs.Sources.{slot_source}
-use Rattle.lazy_world.proofs.TakeLemmas.{slot-can, slot-taken, slots-none}
+use Rattle.lazy_world.proofs.TakeLemmas.{slot-taken, slots-none}
 use Rattle.lazy_world.proofs.places.Places.take_slots.Goals as goal
 
 pub loop-n-init : goal.loop-n-init
-loop-n-init c = record { rows = slots-none (count c.args.self.now) (rows c.args.self.now) c.args.i c.args.sources.now c.requires.given; count = refl; frames = refl }
+loop-n-init c = record { rows = slots-none (count c.args.self.now) (rows c.args.self.now) c.args.i c.args.sources.now c.requires.given; count = refl; frames = refl; store = record { nodes = refl; used = refl } }
 
 pub take_slot-requires-clause-given : goal.take_slot-requires-clause-given
 take_slot-requires-clause-given c =
-    let old = rows c.args.self.now in
-    subst (λ n. CanGet n (rows c.loop-n.self) c.args.i (Slot c.loop-n.n) (slot_source c.args.sources.now c.loop-n.n)) (sym c.loop-n.invariant.count)
-    (slot-can (count c.args.self.now) old c.args.i c.args.sources.now c.requires.given c.loop-n.n c.loop-n-test.true (rows c.loop-n.self) c.loop-n.invariant.rows)
+    subst (λ n. CanGet n c.args.i (slot_source c.args.sources.now c.loop-n.n)) (sym c.loop-n.invariant.count) (c.requires.given c.loop-n.n c.loop-n-test.true)
 
 pub loop-n-preserved : goal.loop-n-preserved
 loop-n-preserved c = record {
@@ -21,4 +18,8 @@ loop-n-preserved c = record {
       ∙ slot-taken (count c.args.self.now) (rows c.args.self.now) c.args.i c.args.sources.now c.requires.given c.loop-n.n c.loop-n-test.true (rows c.loop-n.self) c.loop-n.invariant.rows;
   count = c.take_slot.ensures.count ∙ c.loop-n.invariant.count;
   frames = c.take_slot.ensures.frames ∙ c.loop-n.invariant.frames;
+  store = record {
+    nodes = c.take_slot.ensures.store.nodes ∙ c.loop-n.invariant.store.nodes;
+    used = c.take_slot.ensures.store.used ∙ c.loop-n.invariant.store.used;
+  };
 }

@@ -1,16 +1,16 @@
-use Rattle.std.proofs.Common.{ap, sym, ◌∙◌}
+use Rattle.std.proofs.Common.{ap, subst, sym, ◌∙◌}
 use Rattle.std.specs.Prelude.{Some}
 use Rattle.lwc_base.specs.declared.cell.Cell.{Cell}
 use Rattle.lwc_base.specs.declared.key.Key.TheVariants.{Cred}
 use Rattle.lwc_base.specs.Keys.{with_key}
 use Rattle.lazy_world.specs.Cells.{put_row}
-use Rattle.lazy_world.specs.Plans.{given_or}
-use Rattle.lazy_world.specs.Seen.{rows}
+use Rattle.lazy_world.specs.Plans.{CanGet, given_or}
+use Rattle.lazy_world.specs.Seen.{count, rows}
 use Rattle.lazy_world.proofs.TakeLemmas.{kept-key}
 use Rattle.lazy_world.proofs.places.Places.take_uid.Goals as goal
 
 pub given_uid-uid-requires : goal.given_uid-uid-requires
-given_uid-uid-requires c j is = (c.requires.given j (c.in-Some.is ∙ ap Some is)).inside
+given_uid-uid-requires c j is = (subst (CanGet (count c.args.self.now) c.args.i) (c.in-Some.is ∙ ap Some is) c.requires.given).0
 
 pub returns-in_default-clause-rows : goal.returns-in_default-clause-rows
 returns-in_default-clause-rows c =

@@ -17,21 +17,21 @@ use Rattle.lazy_world.proofs.world.PlacedWorld.fill_group.Goals as goal
 
 pub sources-sources-requires-clause-plan : goal.sources-sources-requires-clause-plan
 unfolding parts
-sources-sources-requires-clause-plan c = λ same. absurd (let low = c.place-from.ensures.low in omega (arith, low, same))
+sources-sources-requires-clause-plan g c = λ same. absurd (let low = c.place-from.ensures.low in omega (arith, low, same))
 
 pub take-requires-clause-place : goal.take-requires-clause-place
-take-requires-clause-place c = omega (arith, c.in-Some.ensures.within, c.args.self.now.sound.sizes.groups, c.args.self.now.count)
+take-requires-clause-place g c = omega (arith, c.in-Some.ensures.within, c.args.self.now.sound.sizes.groups, c.args.self.now.count)
 
 pub take-requires-clause-few : goal.take-requires-clause-few
 unfolding seen parts
-take-requires-clause-few c =
+take-requires-clause-few g c =
     let w = c.args.self.now in
     subst (λ (row : Row). ranges MOST_PAGES (kinds_of row) ≤ MOST_RANGES) (sym c.sources-sources.ensures.row)
     (subst (λ (x : Context). ranges MOST_PAGES (kinds_of (planned_row (seen w) Move c.args.spec.now x.cell no_row)) ≤ MOST_RANGES) c.place-from.ensures.context c.requires.few)
 
 pub invariant_of-self : goal.invariant_of-self
 unfolding seen parts world_of
-invariant_of-self c =
+invariant_of-self g c =
     let w = c.args.self.now in
     let s = parts w in
     let to = w.size.contexts + c.in-Some.j in
@@ -47,7 +47,7 @@ invariant_of-self c =
 
 pub returns-in-Some : goal.returns-in-Some
 unfolding seen parts
-returns-in-Some c =
+returns-in-Some g c =
     let w = c.args.self.now in
     let s = parts w in
     let to = w.size.contexts + c.in-Some.j in
@@ -56,4 +56,4 @@ returns-in-Some c =
 
 pub returns-in-None : goal.returns-in-None
 unfolding seen parts
-returns-in-None c = change_group-missed (parts c.args.self.now) c.args.g _ (sym c.place.ensures.place ∙ c.in-None.is)
+returns-in-None g c = change_group-missed (parts c.args.self.now) c.args.g _ (sym c.place.ensures.place ∙ c.in-None.is)

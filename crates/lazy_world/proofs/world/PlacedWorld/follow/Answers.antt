@@ -11,7 +11,7 @@ use Rattle.lazy_world.proofs.world.PlacedWorld.follow.Goals as goal
 
 pub invariant_of-self : goal.invariant_of-self
 unfolding seen parts world_of
-invariant_of-self c =
+invariant_of-self g c =
     let w = c.args.self.now in
     let s = parts w in
     let row = planned_row (seen w) c.args.plan c.args.spec.now (rows w.places c.place-from.result) (rows w.places c.place-to.result) in
@@ -30,7 +30,7 @@ invariant_of-self c =
 
 pub returns-then-can_copy : goal.returns-then-can_copy
 unfolding seen parts world_of
-returns-then-can_copy c =
+returns-then-can_copy g c =
     let w = c.args.self.now in
     let s = parts w in
     let row = planned_row (seen w) c.args.plan c.args.spec.now (rows w.places c.place-from.result) (rows w.places c.place-to.result) in

@@ -12,13 +12,13 @@ use Rattle.lazy_world.proofs.PastLemmas.{planned-within}
 use Rattle.lazy_world.proofs.world.PlacedWorld.follow_sources.Goals as goal
 
 pub sources-sources-requires-clause-plan : goal.sources-sources-requires-clause-plan
-sources-sources-requires-clause-plan c =
+sources-sources-requires-clause-plan g c =
     plan-for c.args.plan (parts c.args.self.now).size.contexts c.args.d c.args.c c.place-from.result c.place-to.result c.requires.plan
     (λ same. same-place (parts c.args.self.now).contexts.map c.args.d c.args.c c.place-from.result c.place-to.result same c.place-from.ensures.found c.place-to.ensures.found) c.place-to.ensures.low
 
 pub take-requires-clause-few : goal.take-requires-clause-few
 unfolding seen parts world_of
-take-requires-clause-few c =
+take-requires-clause-few g c =
     let w = c.args.self.now in
     let s = parts w in
     let row = planned_row (seen w) c.args.plan c.args.spec.now (rows w.places c.place-from.result) (rows w.places c.place-to.result) in
@@ -32,7 +32,7 @@ take-requires-clause-few c =
 
 pub invariant_of-self : goal.invariant_of-self
 unfolding seen parts world_of
-invariant_of-self c =
+invariant_of-self g c =
     let w = c.args.self.now in
     let s = parts w in
     let row = planned_row (seen w) c.args.plan c.args.spec.now (rows w.places c.place-from.result) (rows w.places c.place-to.result) in
@@ -50,7 +50,7 @@ invariant_of-self c =
 
 pub returns : goal.returns
 unfolding seen parts world_of
-returns c =
+returns g c =
     let w = c.args.self.now in
     let s = parts w in
     let row = planned_row (seen w) c.args.plan c.args.spec.now (rows w.places c.place-from.result) (rows w.places c.place-to.result) in

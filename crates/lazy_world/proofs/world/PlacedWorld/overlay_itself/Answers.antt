@@ -13,7 +13,7 @@ use Rattle.lazy_world.proofs.world.PlacedWorld.overlay_itself.Goals as goal
 
 pub fill_group-requires-clause-few : goal.fill_group-requires-clause-few
 unfolding seen parts world_of
-fill_group-requires-clause-few c =
+fill_group-requires-clause-few g c =
     let w = c.args.self.now in
     itself-few c.facts.ensures (seen w) w.sound.fresh c.args.spec.now c.requires.within c.a_group_is_needed_where_a_value_moves.ensures.moves c.args.c c.requires.live c.args.job
     w.sound.sizes.size.pages.1 (live-past (parts w) w.sound c.args.c c.requires.live) c.ranges_are_those_of_the_context.ensures c.requires.few.1 (seen c.add_group-g.new.self)
@@ -21,7 +21,7 @@ fill_group-requires-clause-few c =
 
 pub follow-requires-clause-fresh : goal.follow-requires-clause-fresh
 unfolding seen parts
-follow-requires-clause-fresh c =
+follow-requires-clause-fresh g c =
     let w = c.args.self.now in
     subst IsFresh
     (sym (itself-is c.facts.ensures (seen w) w.sound.fresh c.args.spec.now c.requires.within c.a_group_is_needed_where_a_value_moves.ensures.moves c.args.c c.requires.live c.args.job
@@ -31,7 +31,7 @@ follow-requires-clause-fresh c =
 
 pub follow-requires-clause-few : goal.follow-requires-clause-few
 unfolding seen parts ranges_after_overlay
-follow-requires-clause-few c =
+follow-requires-clause-few g c =
     let w = c.args.self.now in
     subst (λ v. ranges_of v c.args.c ≤ MOST_RANGES)
     (sym (itself-is c.facts.ensures (seen w) w.sound.fresh c.args.spec.now c.requires.within c.a_group_is_needed_where_a_value_moves.ensures.moves c.args.c c.requires.live c.args.job
@@ -41,7 +41,7 @@ follow-requires-clause-few c =
 
 pub follow-requires-else-needs_group-clause-fresh : goal.follow-requires-else-needs_group-clause-fresh
 unfolding seen parts
-follow-requires-else-needs_group-clause-fresh c =
+follow-requires-else-needs_group-clause-fresh g c =
     let w = c.args.self.now in
     subst IsFresh
     (sym (overlaid-is c.facts.ensures (seen w) c.args.c c.args.c c.args.job c.args.spec.now c.requires.within c.requires.live c.a_group_is_needed_where_a_value_moves.ensures.moves
@@ -50,7 +50,7 @@ follow-requires-else-needs_group-clause-fresh c =
 
 pub follow-requires-else-needs_group-clause-few : goal.follow-requires-else-needs_group-clause-few
 unfolding ranges_after_overlay
-follow-requires-else-needs_group-clause-few c =
+follow-requires-else-needs_group-clause-few g c =
     let w = c.args.self.now in
     subst (λ v. ranges_of v c.args.c ≤ MOST_RANGES)
     (sym (overlaid-is c.facts.ensures (seen w) c.args.c c.args.c c.args.job c.args.spec.now c.requires.within c.requires.live c.a_group_is_needed_where_a_value_moves.ensures.moves
@@ -59,7 +59,7 @@ follow-requires-else-needs_group-clause-few c =
 
 pub returns-then-needs_group : goal.returns-then-needs_group
 unfolding seen parts
-returns-then-needs_group c =
+returns-then-needs_group g c =
     let w = c.args.self.now in
     c.follow.ensures
     ∙ itself-is c.facts.ensures (seen w) w.sound.fresh c.args.spec.now c.requires.within c.a_group_is_needed_where_a_value_moves.ensures.moves c.args.c c.requires.live c.args.job
@@ -67,7 +67,7 @@ returns-then-needs_group c =
     c.add_group-g.ensures.name c.add_group-g.ensures.world c.fill_group.ensures
 
 pub returns-else-needs_group : goal.returns-else-needs_group
-returns-else-needs_group c =
+returns-else-needs_group g c =
     let w = c.args.self.now in
     c.follow-else-needs_group.ensures
     ∙ overlaid-is c.facts.ensures (seen w) c.args.c c.args.c c.args.job c.args.spec.now c.requires.within c.requires.live c.a_group_is_needed_where_a_value_moves.ensures.moves

@@ -11,7 +11,7 @@ use Rattle.lazy_world.proofs.world.PlacedWorld.overlay_other.Goals as goal
 
 pub share-requires-clause-few : goal.share-requires-clause-few
 unfolding seen parts
-share-requires-clause-few c =
+share-requires-clause-few g c =
     let w = seen c.args.self.now in
     subst (λ n. n ≤ MOST_RANGES)
     (left-ranges c.facts.ensures w c.args.self.now.sound.fresh c.args.spec.now c.requires.within c.a_group_is_needed_where_a_value_moves.ensures.moves c.args.from c.requires.from c.args.job
@@ -19,18 +19,18 @@ share-requires-clause-few c =
     c.requires.few.0
 
 pub follow-requires-clause-from : goal.follow-requires-clause-from
-follow-requires-clause-from c =
+follow-requires-clause-from g c =
     let w = seen c.args.self.now in
     subst (λ v. is_live v c.args.from ≡ true) (sym c.share.ensures) ((c.facts.ensures.changes.shared w c.args.from c.args.job c.args.spec.now).live c.args.from ∙ c.requires.from)
 
 pub follow-requires-clause-to : goal.follow-requires-clause-to
-follow-requires-clause-to c =
+follow-requires-clause-to g c =
     let w = seen c.args.self.now in
     subst (λ v. is_live v c.args.to ≡ true) (sym c.share.ensures) ((c.facts.ensures.changes.shared w c.args.from c.args.job c.args.spec.now).live c.args.to ∙ c.requires.to)
 
 pub follow-requires-clause-fresh : goal.follow-requires-clause-fresh
 unfolding seen parts
-follow-requires-clause-fresh c =
+follow-requires-clause-fresh g c =
     let w = seen c.args.self.now in
     subst IsFresh
     (sym (overlaid-is c.facts.ensures w c.args.from c.args.to c.args.job c.args.spec.now c.requires.within c.requires.from c.a_group_is_needed_where_a_value_moves.ensures.moves
@@ -39,7 +39,7 @@ follow-requires-clause-fresh c =
 
 pub follow-requires-clause-few : goal.follow-requires-clause-few
 unfolding ranges_after_overlay
-follow-requires-clause-few c =
+follow-requires-clause-few g c =
     let w = seen c.args.self.now in
     subst (λ v. ranges_of v c.args.to ≤ MOST_RANGES)
     (sym (overlaid-is c.facts.ensures w c.args.from c.args.to c.args.job c.args.spec.now c.requires.within c.requires.from c.a_group_is_needed_where_a_value_moves.ensures.moves
@@ -47,7 +47,7 @@ follow-requires-clause-few c =
     c.requires.few.1
 
 pub returns : goal.returns
-returns c =
+returns g c =
     let w = seen c.args.self.now in
     c.follow.ensures
     ∙ overlaid-is c.facts.ensures w c.args.from c.args.to c.args.job c.args.spec.now c.requires.within c.requires.from c.a_group_is_needed_where_a_value_moves.ensures.moves

@@ -3,7 +3,7 @@ use Rattle.lwc_base.specs.declared.key.Key.TheVariants.{Page}
 use Rattle.lazy_world.specs.Plans.{CanGet, given_or, source_of}
 use Rattle.lazy_world.specs.Seen.{count, rows}
 use Rattle.lazy_world.specs.Worlds.{parts, seen}
-use Rattle.lazy_world.proofs.PlanLemmas.{plan-copies, plan-gives}
+use Rattle.lazy_world.proofs.PlanLemmas.{plan-can, plan-gives}
 use Rattle.lazy_world.proofs.world.PlacedWorld.page_source.Goals as goal
 
 pub returns-clause-gives : goal.returns-clause-gives
@@ -16,9 +16,8 @@ returns-clause-gives c q low high =
     (rows w.places c.args.from (Page q)) refl (c.found_page-edge.ensures.found q low (omega arith)) c.args.plan _ c.requires.plan
 
 pub returns-clause-can : goal.returns-clause-can
-returns-clause-can c q low high =
+returns-clause-can c =
     let w = c.args.self.now in
-    let within = c.mode_edge-edge.ensures.within in
-    subst (CanGet (count w.places) (rows w.places) c.args.to (Page q)) (sym c.source.ensures)
-    (plan-copies (seen w) (parts w).size.contexts (count w.places) (rows w.places) (Page q) c.args.from c.args.to c.found_page-edge.result.0
-    c.requires.from (c.found_page-edge.ensures.found q low (omega arith)) c.args.plan c.mode_of.result c.requires.plan)
+    let found = c.found_page-edge.ensures.found c.args.p (omega arith) c.found_page-edge.ensures.past in
+    subst (CanGet (count w.places) c.args.to) (sym c.source.ensures)
+    (plan-can (parts w).size.contexts (count w.places) c.args.from c.args.to c.requires.from c.found_page-edge.result.0 found.behind found.inside c.args.plan c.mode_of.result c.requires.plan)

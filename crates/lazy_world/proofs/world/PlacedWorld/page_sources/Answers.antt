@@ -17,7 +17,7 @@ pages-preserved-in-Some c =
           (λ q. planned_row (seen w) c.args.plan c.args.spec.now (rows w.places c.args.from) (rows w.places c.args.to) (Page q)) c.page_source-source.result.1) (sym c.push.ensures.items)
           (given_more (count w.places) (rows w.places) c.args.to _ c.pages.p c.page_source-source.result.1 c.pages.stretches.items got.past c.pages.invariant.has _ refl refl got.within
           (λ q low high. sym (ap (given_or (rows w.places) (Page q) (row (Page q))) c.in-Some.is) ∙ got.gives q low high)
-          (λ q low high. subst (CanGet (count w.places) (rows w.places) c.args.to (Page q)) c.in-Some.is (got.can q low high)));
+          (subst (CanGet (count w.places) c.args.to) c.in-Some.is got.can));
     }
 
 pub pages-preserved : goal.pages-preserved

@@ -10,7 +10,7 @@ use Rattle.lazy_world.proofs.world.PlacedWorld.share.Goals as goal
 
 pub fill_group-requires-clause-few : goal.fill_group-requires-clause-few
 unfolding seen parts world_of
-fill_group-requires-clause-few c =
+fill_group-requires-clause-few g c =
     let w = c.args.self.now in
     let needs = sym c.needs_group.ensures.value ∙ c.if-needs_group.true in
     moved-few c.facts.ensures (seen w) w.sound.fresh c.args.c c.args.job c.args.spec.now w.sound.sizes.size.pages.1 (live-past (parts w) w.sound c.args.c c.requires.live) c.requires.within c.requires.live
@@ -19,7 +19,7 @@ fill_group-requires-clause-few c =
 
 pub follow-requires-clause-fresh : goal.follow-requires-clause-fresh
 unfolding seen parts
-follow-requires-clause-fresh c =
+follow-requires-clause-fresh g c =
     let w = c.args.self.now in
     let needs = sym c.needs_group.ensures.value ∙ c.if-needs_group.true in
     subst IsFresh
@@ -28,7 +28,7 @@ follow-requires-clause-fresh c =
     (c.facts.ensures.fresh.shared (seen w) c.args.c c.args.job c.args.spec.now c.requires.live w.sound.fresh)
 
 pub follow-requires-clause-few : goal.follow-requires-clause-few
-follow-requires-clause-few c =
+follow-requires-clause-few g c =
     let w = c.args.self.now in
     let needs = sym c.needs_group.ensures.value ∙ c.if-needs_group.true in
     subst (λ v. ranges_of v c.args.c ≤ MOST_RANGES)
@@ -37,7 +37,7 @@ follow-requires-clause-few c =
     c.requires.few
 
 pub returns-then-needs_group : goal.returns-then-needs_group
-returns-then-needs_group c =
+returns-then-needs_group g c =
     let w = c.args.self.now in
     let needs = sym c.needs_group.ensures.value ∙ c.if-needs_group.true in
     c.follow.ensures
@@ -45,6 +45,6 @@ returns-then-needs_group c =
     c.add_group-g.ensures.name c.add_group-g.ensures.world c.fill_group.ensures
 
 pub returns-else-needs_group : goal.returns-else-needs_group
-returns-else-needs_group c =
+returns-else-needs_group g c =
     let w = c.args.self.now in
     sym ((c.facts.ensures.changes.shared (seen w) c.args.c c.args.job c.args.spec.now).none (sym c.needs_group.ensures.value ∙ c.if-needs_group.false))

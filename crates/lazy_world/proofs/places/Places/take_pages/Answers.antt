@@ -1,30 +1,29 @@
-use Rattle.std.proofs.Common.{◌≤◌, ◌∙◌, ap, length, length-set, subst, sym, ℕ, Option}
+use Rattle.std.proofs.Common.{arith, ◌≤◌, ◌∙◌, ap, length, length-set, subst, sym, ℕ, Option}
 use Rattle.lwc_base.specs.declared.limits.TheConstants.{MOST_PAGES, MOST_RANGES}
 use Rattle.range_map.specs.declared.segment.SegmentKind.{SegmentKind}
 use Rattle.range_map.specs.Kinds.{ranges}
 use Rattle.fd_table.specs.Seen as slots_seen
 use Rattle.page_cells.specs.Seen as pages_seen
+use Rattle.page_cells.specs.Tags.{used}
 use Rattle.lazy_world.specs.Cells.{rows_of}
-use Rattle.lazy_world.specs.Seen.{count, frame_count, rows}
-use Rattle.lazy_world.proofs.TakeLemmas.{given-stretches, kinds-after, row-given}
-use Rattle.lazy_world.proofs.places.Places.take_pages_counted.Goals as goal
+use Rattle.lazy_world.specs.Seen.{count, frame_count, free_nodes, rows, used_frames}
+use Rattle.lazy_world.proofs.TakeLemmas.{kinds-given, row-given}
+use Rattle.lazy_world.proofs.places.Places.take_pages.Goals as goal
 
 pub change-requires-clause-place : goal.change-requires-clause-place
 unfolding count
 change-requires-clause-place g c = c.requires.place
 
 pub change-requires-clause-stretches : goal.change-requires-clause-stretches
-unfolding rows count
-change-requires-clause-stretches g c =
-    let w = c.args.self.now in
-    given-stretches (pages_seen.cells w.pages) (slots_seen.slots w.slots) w.uids.items c.args.i c.args.stretches.now c.requires.given
+unfolding count
+change-requires-clause-stretches g c = c.requires.given
 
 pub change-requires-clause-ranges : goal.change-requires-clause-ranges
 unfolding rows count
 change-requires-clause-ranges g c =
     let w = c.args.self.now in
     subst (λ (kinds : ℕ → Option SegmentKind). ranges MOST_PAGES kinds ≤ MOST_RANGES)
-    (kinds-after (pages_seen.cells w.pages) (slots_seen.slots w.slots) w.uids.items c.args.i c.args.stretches.now c.requires.given c.stretches_change_kinds.ensures) c.requires.ranges
+    (kinds-given (pages_seen.cells w.pages) (slots_seen.slots w.slots) w.uids.items c.args.i c.args.stretches.now) c.requires.ranges
 
 pub invariant_of-self : goal.invariant_of-self
 invariant_of-self g c =
@@ -46,3 +45,18 @@ returns-clause-count g c = ap length c.change.ensures.cells ∙ length-set (page
 pub returns-clause-frames : goal.returns-clause-frames
 unfolding frame_count
 returns-clause-frames g c = c.change.ensures.frames
+
+pub returns-clause-nodes : goal.returns-clause-nodes
+unfolding free_nodes
+returns-clause-nodes g c = omega (arith, c.change.ensures.nodes)
+
+pub returns-clause-cost : goal.returns-clause-cost
+unfolding rows rows_of
+returns-clause-cost g c = λ empty. c.change.ensures.cost_empty (λ e p. empty p e)
+
+pub returns-clause-used : goal.returns-clause-used
+unfolding rows rows_of count used_frames
+returns-clause-used g c empty =
+    let w = c.args.self.now in
+    ap used c.change.ensures.cells
+    ∙ c.copies_take_no_frame.ensures.changed (pages_seen.cells w.pages) c.args.i c.args.stretches.now c.requires.place (λ e p. empty p e) c.requires.given

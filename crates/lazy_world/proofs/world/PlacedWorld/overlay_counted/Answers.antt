@@ -4,17 +4,17 @@ use Rattle.lwc_base.specs.Overlay.{overlay, ranges_after_overlay}
 use Rattle.world_face.specs.Calls.{AreFew}
 use Rattle.lazy_world.specs.Worlds.{seen}
 use Rattle.lazy_world.proofs.RenameLemmas.{names-differ}
-use Rattle.lazy_world.proofs.world.PlacedWorld.overlay.Goals as goal
+use Rattle.lazy_world.proofs.world.PlacedWorld.overlay_counted.Goals as goal
 
 pub overlay_itself-requires-clause-few : goal.overlay_itself-requires-clause-few
-overlay_itself-requires-clause-few c =
+overlay_itself-requires-clause-few g c =
     let same : c.args.to ≡ c.args.from = search rules in
     subst (λ (n : Name). AreFew (ranges_after_overlay (seen c.args.self.now) n c.args.from c.args.job c.args.spec.now)) same c.requires.few
 
 pub overlay_other-requires-clause-apart : goal.overlay_other-requires-clause-apart
-overlay_other-requires-clause-apart c = names-differ c.args.to c.args.from (sym c.eq.ensures ∙ c.if-eq.false)
+overlay_other-requires-clause-apart g c = names-differ c.args.to c.args.from (sym c.eq.ensures ∙ c.if-eq.false)
 
 pub returns-then-eq : goal.returns-then-eq
-returns-then-eq c =
+returns-then-eq g c =
     let same : c.args.to ≡ c.args.from = search rules in
-    record { overlaid = c.overlay_itself.ensures ∙ ap (λ (n : Name). overlay (seen c.args.self.now) n c.args.from c.args.job c.args.spec.now) (sym same) }
+    c.overlay_itself.ensures ∙ ap (λ (n : Name). overlay (seen c.args.self.now) n c.args.from c.args.job c.args.spec.now) (sym same)

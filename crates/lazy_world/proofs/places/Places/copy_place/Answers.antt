@@ -2,12 +2,13 @@ use Rattle.std.proofs.Common.{◌∙◌, ap, arith, length, length-set, set, sub
 use Rattle.fd_table.specs.Seen as slots_seen
 use Rattle.fd_table.specs.Slots.{Slot, row_of}
 use Rattle.page_cells.specs.Seen as pages_seen
+use Rattle.page_cells.specs.Tags.{used}
 use Rattle.lazy_world.specs.Cells.{rows_of}
 use Rattle.lazy_world.specs.Kept.{IsNumbered}
-use Rattle.lazy_world.specs.Seen.{count, frame_count, rows}
+use Rattle.lazy_world.specs.Seen.{count, frame_count, free_nodes, rows, used_frames}
 use Rattle.lazy_world.proofs.ClearLemmas.{no-slots, rows-copied}
 use Rattle.lazy_world.proofs.PlaceLemmas.{numbered-set}
-use Rattle.lazy_world.proofs.places.Places.copy_place_counted.Goals as goal
+use Rattle.lazy_world.proofs.places.Places.copy_place.Goals as goal
 
 pub clone_place-requires-clause-to : goal.clone_place-requires-clause-to
 unfolding count
@@ -63,3 +64,17 @@ returns-clause-count g c = ap length c.clone_place.ensures.cells ∙ length-set 
 pub returns-clause-frames : goal.returns-clause-frames
 unfolding frame_count
 returns-clause-frames g c = c.clone_place.ensures.frames
+
+pub returns-clause-nodes : goal.returns-clause-nodes
+unfolding free_nodes
+returns-clause-nodes g c = c.clone_place.ensures.nodes
+
+pub returns-clause-cost : goal.returns-clause-cost
+unfolding rows rows_of
+returns-clause-cost g c = λ empty. c.clone_place.ensures.cost_empty (λ e p. empty p e)
+
+pub returns-clause-used : goal.returns-clause-used
+unfolding rows rows_of count used_frames
+returns-clause-used g c empty =
+    ap used c.clone_place.ensures.cells
+    ∙ c.copies_take_no_frame.ensures.cloned (pages_seen.cells c.args.self.now.pages) c.args.to c.args.from c.requires.to c.requires.from (λ e p. empty p e)

@@ -1,0 +1,66 @@
+use Rattle.std.proofs.Common.{◌≡◌, get_or, ◌∙◌, ◌++◌, ◌∷◌, [], arith, ap, length, length-append, subst, sym, List}
+use Rattle.std.specs.Prelude.{All}
+use Rattle.std.specs.Option.{option_map, option_or}
+use Rattle.std.proofs.lemmas.List.{take_all}
+use Rattle.lwc_base.specs.declared.key.Key.TheVariants.{Page}
+use Rattle.lwc_base.specs.Modes.{mode}
+use Rattle.range_map.specs.Kinds.{kind_at}
+use Rattle.range_map.specs.declared.segment.Segment.{Segment}
+use Rattle.range_map.specs.declared.segment.SegmentKind.TheVariants.{Own}
+use Rattle.page_cells.specs.declared.stretches.Source.{Source}
+use Rattle.page_cells.specs.declared.stretches.Stretch.{Stretch}
+use Rattle.page_cells.specs.Changes.{IsStretch}
+use Rattle.lazy_world.specs.Clones.{item_source, kind_source}
+use Rattle.lazy_world.specs.Seen.{count}
+use Rattle.lazy_world.specs.Sources.{source_at}
+use Rattle.lazy_world.specs.Worlds.{parts}
+use Rattle.lazy_world.proofs.CloneSources.{or_none, segment_given, segment_pushed, stretch_of}
+use Rattle.lazy_world.proofs.world.PlacedWorld.clone_stretches.Goals as goal
+
+pub loop-segment-init : goal.loop-segment-init
+unfolding kind_at
+loop-segment-init c = record {
+  sources = λ q. c.item_stretches-stretches.ensures.sources q ∙ sym (or_none (item_source c.args.from (mode c.args.spec.now (Page q))));
+  few = omega (arith, c.item_stretches-stretches.ensures.few);
+  given = λ to apart low. c.item_stretches-stretches.ensures.given (count c.args.self.now.places) to c.requires.from apart;
+}
+
+pub push-requires : goal.push-requires
+push-requires c =
+    let segments = c.segments-segment-items.ensures.few in
+    (omega arith, omega (arith, c.loop-segment.invariant.few, c.loop-segment-test.true, segments, c.requires.within.few))
+
+pub loop-segment-preserved : goal.loop-segment-preserved
+unfolding parts
+loop-segment-preserved c =
+    let w = c.args.self.now in
+    let stretches = c.loop-segment.stretches.items in
+    let segments = c.segments-segment-items.result.now in
+    let i = c.loop-segment.segment-index in
+    let inside = c.loop-segment-test.true in
+    let segment = get_or segments i (record { from = 0; to = 0; kind = Own }) in
+    let is : c.push.new.self.items ≡ stretches ++ stretch_of (parts w) c.args.from segment ∷ [] =
+    c.push.ensures.items ∙ ap (λ (source : Source). stretches ++ record { range = record { from = segment.from; to = segment.to }; source = source } ∷ []) c.kind_source.ensures in
+    record {
+      sources = λ q. ap (λ (xs : List Stretch). source_at xs q) is
+          ∙ segment_pushed (parts w) c.args.from segments i _ inside q (item_source c.args.from (mode c.args.spec.now (Page q))) stretches (c.loop-segment.invariant.sources q);
+      few = omega (arith, ap length is, length-append stretches (stretch_of (parts w) c.args.from segment ∷ []), c.loop-segment.invariant.few);
+      given = λ to apart low. subst (All (IsStretch (count w.places) to)) (sym is)
+          (segment_given (parts w) c.args.from (count w.places) to c.are_placed.ensures.placed w.sound.sizes.groups w.count c.requires.from apart low stretches segment
+          (c.segments-segment-items.ensures.each i _ inside) (c.loop-segment.invariant.given to apart low));
+    }
+
+pub returns-clause-sources : goal.returns-clause-sources
+unfolding parts
+returns-clause-sources c q =
+    let w = c.args.self.now in
+    let all = take_all c.loop-segment.segment-index c.segments-segment-items.result.now c.loop-segment-test.false in
+    c.loop-segment.invariant.sources q
+    ∙ ap (λ o. option_or (item_source c.args.from (mode c.args.spec.now (Page q))) (option_map (kind_source (parts w) c.args.from) o))
+    (ap (λ (xs : List Segment). kind_at xs q) all ∙ (λ e. c.segments-segment-items.ensures.kinds e q))
+
+pub returns-clause-few : goal.returns-clause-few
+returns-clause-few c = omega (arith, c.loop-segment.invariant.few, c.loop-segment.auto.segment-index-end, c.segments-segment-items.ensures.count)
+
+pub returns-clause-given : goal.returns-clause-given
+returns-clause-given c = c.loop-segment.invariant.given

@@ -1,0 +1,20 @@
+use Rattle.std.proofs.Common.{◌≡◌, ◌≢◌, ◌+◌, ◌<◌, ◌≤◌, ℕ, length, take}
+use Rattle.std.specs.Prelude.{All}
+use Rattle.std.specs.Option.{option_map, option_or}
+use Rattle.lwc_base.specs.declared.key.Key.TheVariants.{Page}
+use Rattle.lwc_base.specs.Modes.{mode}
+use Rattle.range_map.specs.Kinds.{kind_at}
+use Rattle.page_cells.specs.Changes.{IsStretch}
+use Rattle.lazy_world.specs.Clones.{item_source, kind_source}
+use Rattle.lazy_world.specs.Seen.{count}
+use Rattle.lazy_world.specs.Sources.{source_at}
+use Rattle.lazy_world.specs.Worlds.{parts}
+use Rattle.lazy_world.proofs.world.PlacedWorld.clone_stretches.Given as goal
+
+abbrev pub invariant-loop-segment : goal.invariant-loop-segment
+invariant-loop-segment l = record {
+  sources : (q : ℕ) → source_at l.stretches.items q
+      ≡ option_or (item_source l.from (mode l.spec (Page q))) (option_map (kind_source (parts l.self) l.from) (kind_at (take l.segment-index l.segment-items) q));
+  few : length l.stretches.items ≤ length l.spec + l.segment-index;
+  given : (to : ℕ) → l.from ≢ to → to < (parts l.self).size.contexts → All (IsStretch (count l.self.places) to) l.stretches.items;
+}
