@@ -1,11 +1,11 @@
 -- Where the pages of a clone come from: by items first, and else by the segments of the context.
-use Rattle.std.proofs.Common.{◌≡◌, ◌≢◌, ℕ, ◌+◌, ◌<◌, ◌++◌, Bool, true, false, cond, List, [], ◌∷◌, arith, get_or, length, take, refl, sym, ap, ◌∙◌, Option, Some, None}
+use Rattle.std.proofs.Common.{◌≡◌, ◌≢◌, ℕ, ◌+◌, ◌<◌, ◌++◌, Bool, true, false, cond, List, [], ◌∷◌, arith, drop, get_or, length, take, refl, sym, ap, ◌∙◌, Option, Some, None}
 use Rattle.std.specs.Prelude.{◌&&◌, All, nat_le, nat_lt, unwrap_or}
 use Rattle.std.specs.FinMap as fm
 use Rattle.std.specs.List.{find}
 use Rattle.std.specs.Option.{option_map, option_or}
 use Rattle.std.proofs.lemmas.Bool.Decides.{nat_tests}
-use Rattle.std.proofs.lemmas.List.{get_or-take, get_or_default, length-take, take_more}
+use Rattle.std.proofs.lemmas.List.{get_or-take, get_or_default, length-take, take-append-drop, take_more}
 use Rattle.std.proofs.lemmas.List.Elements.{All-push}
 use Rattle.std.proofs.lemmas.List.Folds.{find-append}
 use Rattle.lwc_base.specs.declared.cell.Cell.{Cell}
@@ -20,7 +20,7 @@ use Rattle.lwc_base.specs.declared.key.Kind.TheVariants as kinds
 use Rattle.lwc_base.specs.declared.name.Name.{Name}
 use Rattle.lwc_base.specs.declared.page.PageValue.{PageValue}
 use Rattle.lwc_base.specs.Cells.{value_of}
-use Rattle.lwc_base.specs.Modes.{IsSpec, mode, names, overlaps, same_kind}
+use Rattle.lwc_base.specs.Modes.{IsSpec, mode, mode_or_copy, names, overlaps, same_kind}
 use Rattle.lwc_base.specs.Sharing.{is_moved}
 use Rattle.lwc_base.specs.World.{Group, group}
 use Rattle.range_map.specs.Kinds.{IsSegment, is_between, kind_at, kind_of}
@@ -31,7 +31,7 @@ use Rattle.page_cells.specs.declared.stretches.Source.{Source}
 use Rattle.page_cells.specs.declared.stretches.Stretch.{Stretch}
 use Rattle.page_cells.specs.Changes.{IsApart, IsStretch}
 use Rattle.ctx_table.specs.NameTables.{ArePlaced}
-use Rattle.lazy_world.specs.Clones.{item_source, kind_source, place_of_group}
+use Rattle.lazy_world.specs.Clones.{CopiesPages, item_source, kind_source, place_of_group}
 use Rattle.lazy_world.specs.Plans.{CanGet, copied_source, given, given_or, planned_cell}
 use Rattle.lazy_world.specs.Sound.{IsAllOwn}
 use Rattle.lazy_world.specs.Sources.{source_at}
@@ -54,6 +54,20 @@ source_append xs ys q =
 pub or_none : {X : Type 0} (o : Option X) → option_or o None ≡ o
 or_none None = refl
 or_none (Some x) = refl
+
+mode_append : (xs ys : List Item) (k : Key) → mode (xs ++ ys) k ≡ option_or (mode xs k) (mode ys k)
+unfolding mode
+mode_append xs ys k = ap (option_map (λ (x : Item). x.mode)) (find-append (λ x. names x k) xs ys) ∙ at (find (λ x. names x k) xs) (find (λ x. names x k) ys)
+  where
+    at : (a b : Option Item) → option_map (λ (x : Item). x.mode) (option_or a b) ≡ option_or (option_map (λ x. x.mode) a) (option_map (λ x. x.mode) b)
+    at None b = refl
+    at (Some x) b = refl
+
+-- an item that gives its pages no source copies them
+pub copies_only : (from : ℕ) (m : Mode) → item_source from (Some m) ≡ None → m ≡ Copy
+copies_only from Copy none = refl
+copies_only from Share none = cc
+copies_only from Unmap none = cc
 
 -- two items that name one page have a key in common
 both_name : (a b : Kind) (from to first end q : ℕ) → (same_kind a kinds.Page && nat_le from q && nat_lt q to) ≡ true → (same_kind b kinds.Page && nat_le first q && nat_lt q end) ≡ true →
@@ -107,6 +121,27 @@ module _ (items : List Item) (pages : ℕ) (spec : IsSpec pages items) (i : ℕ)
 
   mode_other : names item (Page q) ≡ false → mode (take (i + 1) items) (Page q) ≡ mode (take i items) (Page q)
   mode_other off = mode_more ∙ ap (λ b. option_or (mode (take i items) (Page q)) (cond b (Some item.mode) None)) off ∙ or_none (mode (take i items) (Page q))
+
+  -- the item that names a page gives it its mode
+  mode_here : names item (Page q) ≡ true → mode items (Page q) ≡ Some item.mode
+  mode_here here =
+      ap (λ xs. mode xs (Page q)) (sym (take-append-drop (i + 1) items))
+      ∙ mode_append (take (i + 1) items) (drop (i + 1) items) (Page q)
+      ∙ ap (λ o. option_or o (mode (drop (i + 1) items) (Page q))) (mode_named here)
+
+  -- an item that copies its pages leaves all copied that were
+  pub still_copied : (names item (Page q) ≡ true → item.mode ≡ Copy) → mode_or_copy (take i items) (Page q) ≡ Copy → mode_or_copy (take (i + 1) items) (Page q) ≡ Copy
+  unfolding mode_or_copy
+  still_copied copies so_far = at (names item (Page q)) refl
+    where
+      at : (b : Bool) → names item (Page q) ≡ b → unwrap_or (mode (take (i + 1) items) (Page q)) Copy ≡ Copy
+      at true here = ap (λ o. unwrap_or o Copy) (mode_named here) ∙ copies here
+      at false off = ap (λ o. unwrap_or o Copy) (mode_other off) ∙ so_far
+
+  -- where all pages are copied, the item copies what it names
+  pub copied_here : CopiesPages items → names item (Page q) ≡ true → item.mode ≡ Copy
+  unfolding mode_or_copy
+  copied_here copies here = sym (ap (λ o. unwrap_or o Copy) (mode_here here)) ∙ copies q
 
   module _ (from : ℕ) (stretches : List Stretch) (so_far : source_at stretches q ≡ item_source from (mode (take i items) (Page q))) where
     -- an item whose pages are copied has no stretch

@@ -1,19 +1,21 @@
 -- Rows whose cells are all a place's own, and that a plan gives as they are.
-use Rattle.std.proofs.Common.{◌≡◌, ℕ, zero, suc, ◌^◌, ◌<◌, ◌≤◌, ⊎_elim, refl, sym, ap, ◌∙◌, true, false, eqb, arith, length, not, [], Bool, List}
+use Rattle.std.proofs.Common.{◌≡◌, ℕ, ◌<◌, ◌≤◌, ⊎_elim, refl, sym, ap, ◌∙◌, true, false, eqb, arith, length, not, [], Bool, List, Option}
+use Rattle.std.specs.Prelude.{unwrap_or}
 use Rattle.std.proofs.lemmas.Bool.{cases_lt}
 use Rattle.std.proofs.lemmas.List.{nil_from_length}
-use Rattle.std.specs.Int.{bit_at}
-use Rattle.std.proofs.lemmas.Nat.Bits.{bit_at-lt, bit_at-zero, same_from_bits_below}
+use Rattle.std.proofs.lemmas.Nat.Bits.{bit_at-zero}
 use Rattle.lwc_base.specs.declared.cell.Cell.{Cell}
 use Rattle.lwc_base.specs.declared.cell.Cell.TheVariants as cells
 use Rattle.fd_table.specs.Slots as slots
 use Rattle.lwc_base.specs.declared.descriptor.Descriptor.{Descriptor}
 use Rattle.lwc_base.specs.declared.item.Item.{Item}
-use Rattle.lwc_base.specs.declared.item.Mode.TheVariants.{Share}
+use Rattle.lwc_base.specs.declared.item.Mode.{Mode}
+use Rattle.lwc_base.specs.declared.item.Mode.TheVariants.{Copy, Share}
 use Rattle.lwc_base.specs.declared.key.Key.{Key}
 use Rattle.lwc_base.specs.declared.key.Key.TheVariants.{Page, Slot, Cred}
 use Rattle.lwc_base.specs.declared.limits.TheConstants.{MOST_PAGES}
 use Rattle.lwc_base.specs.declared.name.Name.{Name}
+use Rattle.lwc_base.specs.declared.page.PageValue.{PageValue}
 use Rattle.lwc_base.specs.Capabilities.{has_bit}
 use Rattle.lwc_base.specs.Cells.{value_of}
 use Rattle.lwc_base.specs.Keys.{ValueOf}
@@ -21,29 +23,13 @@ use Rattle.lwc_base.specs.Modes.{IsKey, mode, mode_or_copy}
 use Rattle.lwc_base.specs.Summaries.{is_empty}
 use Rattle.lwc_base.specs.Sharing.{has_own, needs_group}
 use Rattle.lwc_base.specs.World.{World, context}
-use Rattle.lazy_world.specs.Cells.{Row, is_nothing, is_own}
-use Rattle.lazy_world.specs.Plans.{planned_row}
+use Rattle.lazy_world.specs.Cells.{HasOwnPages, Row, is_nothing, is_own}
+use Rattle.lazy_world.specs.Plans.{planned_cell, planned_row, taken_cell}
 use Rattle.lazy_world.specs.Sound.{IsAllOwn, IsWithin}
 use Rattle.lazy_world.specs.declared.plan.Plan.TheVariants.{Mark, Clone}
 
 pub no-bit : (word n : ℕ) → eqb word 0 ≡ true → has_bit word n ≡ false
 no-bit word n is = let none : word ≡ 0 = grind arith in ap (λ w. has_bit w n) none ∙ ap (λ b. eqb b 1) (bit_at-zero n)
-
--- a word without bits is 0
-pub no-bits : (word : ℕ) → word < 2 ^ 64 → ((n : ℕ) → n < 64 → has_bit word n ≡ false) → eqb word 0 ≡ true
-no-bits word fits none =
-    let zero : word ≡ 0 = same_from_bits_below 64 word 0 fits (omega arith) (λ n low. off n (bit_at word n) (bit_at-lt word n) (none n low) ∙ sym (bit_at-zero n)) in
-    ap (λ w. eqb w 0) zero
-  where
-    off : (n b : ℕ) → b < 2 → eqb b 1 ≡ false → b ≡ 0
-    off n zero low not_one = refl
-    off n (suc zero) low not_one = cc
-    off n (suc (suc b)) low not_one = absurd (omega (arith, low))
-
--- a slot of a place's own is not common
-pub own-slot : (cell : Cell Descriptor) → is_own cell ≡ true → slots.is_common cell ≡ false
-own-slot (cells.Own value) own = refl
-own-slot (cells.Common g) own = cc
 
 own-nothing : (k : Key) (cell : Cell (ValueOf k)) → is_nothing k cell ≡ true → (k ≡ Cred → is_own cell ≡ true) → is_own cell ≡ true
 own-nothing k (cells.Own value) none cred = refl
@@ -51,11 +37,15 @@ own-nothing (Page p) (cells.Common g) none cred = cc
 own-nothing (Slot n) (cells.Common g) none cred = cc
 own-nothing Cred (cells.Common g) none cred = cred refl
 
--- a row is all own that is so as far as there are pages and slots, and has nothing past them
+-- the pages of a row are its own that are so as far as there are pages, if it has nothing past them
+pub own-pages : (pages : ℕ) (row : Row) → pages ≤ MOST_PAGES → IsWithin pages row → ((p : ℕ) → p < MOST_PAGES → is_own (row (Page p)) ≡ true) → HasOwnPages row
+own-pages pages row few past own p =
+    ⊎_elim (λ low. own p low) (λ high. own-nothing (Page p) (row (Page p)) (past (Page p) (omega (arith, few, high))) (λ is. cc)) (cases_lt p MOST_PAGES)
+
+-- so is all of it, with slots and a credential of its own
 pub all-own : (pages : ℕ) (row : Row) → pages ≤ MOST_PAGES → IsWithin pages row → ((n : ℕ) → n < 64 → is_own (row (Slot n)) ≡ true) → is_own (row Cred) ≡ true →
     ((p : ℕ) → p < MOST_PAGES → is_own (row (Page p)) ≡ true) → IsAllOwn row
-all-own pages row few past slots uid own (Page p) =
-    ⊎_elim (λ low. own p low) (λ high. own-nothing (Page p) (row (Page p)) (past (Page p) (omega (arith, few, high))) (λ is. cc)) (cases_lt p MOST_PAGES)
+all-own pages row few past slots uid own (Page p) = own-pages pages row few past own p
 all-own pages row few past slots uid own (Slot n) =
     ⊎_elim (λ low. slots n low) (λ high. own-nothing (Slot n) (row (Slot n)) (past (Slot n) high) (λ is. cc)) (cases_lt n 64)
 all-own pages row few past slots uid own Cred = uid
@@ -73,6 +63,10 @@ marked-same w g row old = λ e k. row k
 pub cloned-same : (w : World) (g : Name) (row old : Row) → IsAllOwn row → planned_row w (Clone g) [] row old ≡ row
 unfolding mode
 cloned-same w g row old own = λ e k. own-same w k (row k) (own k) e
+
+-- a copy of a page that is the row's own is the same
+pub page-same : (w : World) (g : Name) (m : Option Mode) (q : ℕ) (cell old : Cell (Option PageValue)) → unwrap_or m Copy ≡ Copy → is_own cell ≡ true → planned_cell w (Clone g) m (Page q) cell old ≡ cell
+page-same w g m q cell old copies own = ap (λ n. taken_cell w g n (Page q) cell) copies ∙ own-same w (Page q) cell own
 
 -- an empty slice of what is seen as a list
 pub no-items : (found items : List Item) (b : Bool) → found ≡ items → b ≡ eqb (length found) 0 → b ≡ true → items ≡ []

@@ -25,7 +25,7 @@ use Rattle.lazy_world.specs.Facts.{Facts}
 use Rattle.lazy_world.specs.Followed.{IsOfContexts, with_planned}
 use Rattle.lazy_world.specs.Plans.{IsFor, given_or}
 use Rattle.lazy_world.specs.Sound.{HasOldTags, HasOneHome, IsSound, IsWithin}
-use Rattle.lazy_world.specs.Sources.{source_at, sourced_row}
+use Rattle.lazy_world.specs.Sources.{page_source, sourced_row}
 use Rattle.lazy_world.specs.States.{Parts, context_at, context_of, registers_at, world_of}
 use Rattle.lazy_world.specs.declared.pieces.Sources.{Sources}
 use Rattle.lazy_world.specs.declared.plan.Plan.{Plan}
@@ -37,7 +37,7 @@ use Rattle.lazy_world.proofs.WorldLemmas.{change_context-row, context-found}
 
 -- all tags of what sources give are old
 pub sourced-tags : (next : ℕ → Counters) (rows : ℕ → Row) (i : ℕ) (s : Sources) → ((j : ℕ) → HasOldTags next (rows j)) → HasOldTags next (sourced_row rows i s)
-sourced-tags next rows i s old p tag bytes is = at (source_at s.pages.items p) is
+sourced-tags next rows i s old p tag bytes is = at (page_source s.pages p) is
   where
     at : (o : Option Source) → given_or rows (Page p) (rows i (Page p)) o ≡ cells.Own (Some (Data tag bytes)) → tag.k < (next tag.job).tags
     at None e = old i p tag bytes e
@@ -48,7 +48,7 @@ sourced-tags next rows i s old p tag bytes is = at (source_at s.pages.items p) i
 
 -- a row that sources give leaves each tag its one page number
 pub sourced-homes : (rows : ℕ → Row) (i : ℕ) (s : Sources) → HasOneHome rows → HasOneHome (put_row rows i (sourced_row rows i s))
-sourced-homes rows i s homes = homes-row rows i (sourced_row rows i s) homes (λ p tag bytes is. at p tag bytes (source_at s.pages.items p) is)
+sourced-homes rows i s homes = homes-row rows i (sourced_row rows i s) homes (λ p tag bytes is. at p tag bytes (page_source s.pages p) is)
   where
     at : (p : ℕ) (tag : Tag) (bytes : List ℕ) (o : Option Source) → given_or rows (Page p) (rows i (Page p)) o ≡ cells.Own (Some (Data tag bytes)) → IsTagged rows p tag
     at p tag bytes None e = record { place = i; bytes = bytes; is = e }

@@ -42,12 +42,6 @@ byte-none None k none = refl
 byte-none (Some Zero) k none = sym (zeros_at k)
 byte-none (Some (Data tag bytes)) k none = absurd cc
 
--- a byte of a page with bytes is one of them
-pub byte-some : (o : Option PageValue) (k : ℕ) (bytes : List ℕ) → Some bytes ≡ data_of o → get_or bytes k 0 ≡ option_map_or (λ value. slice_index (bytes_of value) k) o 0
-byte-some None k bytes some = absurd cc
-byte-some (Some Zero) k bytes some = absurd cc
-byte-some (Some (Data tag own)) k bytes some = let same : bytes ≡ own = cc in ap (λ l. get_or l k 0) same
-
 -- pages and bytes of a context by its cells
 pub page-in : (w : World) (c : Name) (x : Context) (p : ℕ) → context w c ≡ x → page_in w x.cell p ≡ page_at w c p
 unfolding value_at

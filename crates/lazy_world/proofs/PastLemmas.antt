@@ -21,7 +21,7 @@ use Rattle.page_cells.specs.declared.stretches.Source.{Source}
 use Rattle.lazy_world.specs.Cells.{Row, is_nothing}
 use Rattle.lazy_world.specs.Plans.{Gives, given_or, planned_cell, planned_row}
 use Rattle.lazy_world.specs.Sound.{IsWithin}
-use Rattle.lazy_world.specs.Sources.{slot_source, source_at, sourced_row}
+use Rattle.lazy_world.specs.Sources.{page_source, slot_source, sourced_row}
 use Rattle.lazy_world.specs.declared.pieces.Sources.{Sources}
 use Rattle.lazy_world.specs.declared.plan.Plan.{Plan}
 use Rattle.lazy_world.specs.declared.plan.Plan.TheVariants.{Mark, Move, Clone, Overlay}
@@ -88,8 +88,8 @@ no_slot_source (s ∷ sources) (suc n) past = no_slot_source sources n (omega (a
 -- the row that sources give is the one that is planned
 pub sourced-planned : (w : World) (pages count : ℕ) (items : List Item) (plan : Plan) (rows : ℕ → Row) (from to : ℕ) (s : Sources) → pages ≤ MOST_PAGES → length s.slots ≡ 64 →
     IsSpec pages items → IsWithin pages (rows from) → IsWithin pages (rows to) →
-    ((q : ℕ) → q < MOST_PAGES → given_or rows (Page q) (rows to (Page q)) (source_at s.pages.items q) ≡ planned_row w plan items (rows from) (rows to) (Page q)) →
-    ((q : ℕ) → MOST_PAGES ≤ q → source_at s.pages.items q ≡ None) →
+    ((q : ℕ) → q < MOST_PAGES → given_or rows (Page q) (rows to (Page q)) (page_source s.pages q) ≡ planned_row w plan items (rows from) (rows to) (Page q)) →
+    ((q : ℕ) → MOST_PAGES ≤ q → given_or rows (Page q) (rows to (Page q)) (page_source s.pages q) ≡ rows to (Page q)) →
     ((n : ℕ) → n < 64 → Gives count rows to (Slot n) (planned_row w plan items (rows from) (rows to) (Slot n)) (slot_source s.slots n)) →
     Gives count rows to Cred (planned_row w plan items (rows from) (rows to) Cred) s.uid →
     sourced_row rows to s ≡ planned_row w plan items (rows from) (rows to)
@@ -99,8 +99,7 @@ sourced-planned w pages count items plan rows from to s few long spec within wit
     at (Page q) =
         ⊎_elim
         (λ low. gives q low)
-        (λ high. ap (given_or rows (Page q) (rows to (Page q))) (past q high)
-        ∙ sym (planned-past w pages items spec plan (rows from) (rows to) within within_to (Page q) (omega (arith, few, high))))
+        (λ high. past q high ∙ sym (planned-past w pages items spec plan (rows from) (rows to) within within_to (Page q) (omega (arith, few, high))))
         (cases_lt q MOST_PAGES)
     at (Slot n) =
         ⊎_elim

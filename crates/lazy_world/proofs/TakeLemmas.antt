@@ -18,16 +18,18 @@ use Rattle.page_cells.specs.declared.stretches.Source.TheVariants as sources
 use Rattle.page_cells.specs.declared.stretches.Stretch.{Stretch}
 use Rattle.lazy_world.specs.Cells.{Row, kinds_of, on_place, put_row, rows_of}
 use Rattle.lazy_world.specs.Plans.{CanGet, given, given_or}
-use Rattle.lazy_world.specs.Sources.{slot_source, with_pages, with_slots}
+use Rattle.lazy_world.specs.declared.pieces.PageSources.{PageSources}
+use Rattle.lazy_world.specs.Sources.{page_source, slot_source, source_at, with_pages, with_slots}
 use Rattle.lazy_world.proofs.PlaceLemmas.{choose, pages-put, pass, same_rows}
 
-module _ (cells : List Place) (table : List (ℕ → slots.Slot)) (uids : List (Cell ℕ)) (i : ℕ) (stretches : List Stretch) where
+module _ (cells : List Place) (table : List (ℕ → slots.Slot)) (uids : List (Cell ℕ)) (i : ℕ) where
   abbrev old : ℕ → Row
   old = rows_of cells table uids
 
-  pub pages-given : (p : ℕ) → changed_place cells i stretches p ≡ with_pages old stretches (old i) (Page p)
+  -- the pages of stretches
+  pub stretches-given : (stretches : List Stretch) (p : ℕ) → changed_place cells i stretches p ≡ given_or old (Page p) (old i (Page p)) (source_at stretches p)
   unfolding changed_place rows_of
-  pages-given p = at (stretch_at stretches p)
+  stretches-given stretches p = at (stretch_at stretches p)
     where
       sourced : (source : Source) → sourced_cell cells source p ≡ given old (Page p) source
       sourced sources.Absent = refl
@@ -39,17 +41,23 @@ module _ (cells : List Place) (table : List (ℕ → slots.Slot)) (uids : List (
       at None = refl
       at (Some s) = sourced s.source
 
-  pub row-given : i < length cells → rows_of (set cells i (changed_place cells i stretches)) table uids ≡ put_row old i (with_pages old stretches (old i))
+  -- all pages of another place
+  pub all-given : (j p : ℕ) → place_of cells j p ≡ old j (Page p)
   unfolding rows_of
-  row-given inside = pages-put cells table uids i (changed_place cells i stretches) (with_pages old stretches (old i)) inside each
-    where
-      each : (k : Key) → with_pages old stretches (old i) k ≡ on_place (changed_place cells i stretches) (old i) k
-      each (Page p) = sym (pages-given p)
-      each (Slot n) = refl
-      each Cred = refl
+  all-given j p = refl
 
-  pub kinds-given : kinds_of (with_pages old stretches (old i)) ≡ page_specs.kinds_of (changed_place cells i stretches)
-  kinds-given = sym (λ e p. kind_of (pages-given p e))
+  module _ (pages : PageSources) (place : Place) (is : (p : ℕ) → place p ≡ given_or old (Page p) (old i (Page p)) (page_source pages p)) where
+    pub row-given : i < length cells → rows_of (set cells i place) table uids ≡ put_row old i (with_pages old pages (old i))
+    unfolding rows_of
+    row-given inside = pages-put cells table uids i place (with_pages old pages (old i)) inside each
+      where
+        each : (k : Key) → with_pages old pages (old i) k ≡ on_place place (old i) k
+        each (Page p) = sym (is p)
+        each (Slot n) = refl
+        each Cred = refl
+
+    pub kinds-given : kinds_of (with_pages old pages (old i)) ≡ page_specs.kinds_of place
+    kinds-given = sym (λ e p. kind_of (is p e))
 
 key_same : (k q : Key) (row : Row) → with_key Cell k (row k) row q ≡ row q
 key_same (Page p) (Page q) row = ⊎_elim (λ same. choose p q (row (Page p)) (row (Page q)) same ∙ ap (λ n. row (Page n)) (sym same)) (λ other. pass p q (row (Page p)) (row (Page q)) other) (cases_eq q p)

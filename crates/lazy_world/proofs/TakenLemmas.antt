@@ -17,7 +17,7 @@ use Rattle.lazy_world.proofs.TakeLemmas.{at_row, given-still, off_row}
 
 module _ (count : ℕ) (rows : ℕ → Row) (i : ℕ) (s : Sources) (can : AreGiven count i s) (long : length s.slots ≡ 64) where
   abbrev paged : Row
-  paged = with_pages rows s.pages.items (rows i)
+  paged = with_pages rows s.pages (rows i)
 
   abbrev first : ℕ → Row
   first = put_row rows i paged

@@ -61,6 +61,10 @@ abbrev pub is_own : {T : Type 0} → Cell T → Bool
 is_own (Own value) = true
 is_own (Common g) = false
 
+-- each page of a row is the place's own
+abbrev pub HasOwnPages : Row → Type 0
+HasOwnPages row = (p : ℕ) → is_own (row (Page p)) ≡ true
+
 -- whether a cell is the place's own with nothing in it; a credential always passes
 abbrev pub is_nothing : (k : Key) → Cell (ValueOf k) → Bool
 is_nothing (Page p) cell = not (is_page cell)

@@ -1,19 +1,26 @@
--- Where the pages of a clone come from.
-use Rattle.std.specs.Prelude.{ℕ, ◌+◌, List, Option, None, Some}
+-- Where the pages of a clone come from, and what they cost.
+use Rattle.std.specs.Prelude.{◌≡◌, ◌≤◌, ℕ, ◌+◌, ◌*◌, List, Option, None, Some, length, min}
 use Rattle.std.specs.FinMap as fm
 use Rattle.std.specs.Option.{option_map, option_or}
 use Rattle.lwc_base.specs.declared.item.Item.{Item}
 use Rattle.lwc_base.specs.declared.item.Mode.{Mode}
-use Rattle.lwc_base.specs.declared.item.Mode.TheVariants.{Share, Unmap}
+use Rattle.lwc_base.specs.declared.item.Mode.TheVariants.{Copy, Share, Unmap}
 use Rattle.lwc_base.specs.declared.key.Key.TheVariants.{Page}
 use Rattle.lwc_base.specs.declared.name.Name.{Name}
-use Rattle.lwc_base.specs.Modes.{mode}
+use Rattle.lwc_base.specs.Modes.{mode, mode_or_copy}
+use Rattle.lwc_base.specs.declared.limits.TheConstants.{MOST_PAGES}
+use Rattle.range_map.specs.Kinds.{ranges}
 use Rattle.range_map.specs.declared.segment.SegmentKind.{SegmentKind}
 use Rattle.range_map.specs.declared.segment.SegmentKind.TheVariants.{Own, Common}
 use Rattle.page_cells.specs.declared.stretches.Source.{Source}
 use Rattle.page_cells.specs.declared.stretches.Source.TheVariants.{Absent, CopyOf}
-use Rattle.lazy_world.specs.Cells.{kinds_of}
+use Rattle.lazy_world.specs.declared.places.Places.{Places}
+use Rattle.lazy_world.specs.Cells.{HasOwnPages, Row, kinds_of}
 use Rattle.lazy_world.specs.Plans.{copied_source}
+use Rattle.lazy_world.specs.Seen.{free_nodes, used_frames}
+use Rattle.lazy_world.specs.Sources.{most_nodes, most_steps}
+use Rattle.lazy_world.specs.declared.pieces.PageSources.{PageSources}
+use Rattle.lazy_world.specs.declared.pieces.PageSources.TheVariants.{AllOf}
 use Rattle.lazy_world.specs.States.{Parts}
 
 -- the place of a group, if it is live
@@ -37,3 +44,24 @@ abbrev pub clone_source : Parts → List Item → ℕ → ℕ → Option Source
 clone_source s items from q =
     option_or (item_source from (mode items (Page q)))
     (option_map (kind_source s from) (kinds_of (s.rows from) q))
+
+-- items share no page and leave none out
+abbrev pub CopiesPages : List Item → Type 0
+CopiesPages items = (p : ℕ) → mode_or_copy items (Page p) ≡ Copy
+
+-- the pages of a clone of a place take at most 64 node steps and 2 free nodes for each range of the place and each
+-- item, and one free node besides; those that are all copied and all the place's own are taken whole
+pub record AreBounded (rows : ℕ → Row) (from : ℕ) (items : List Item) (pages : PageSources) : Type 0 where
+  pub nodes : most_nodes pages ≤ 1 + 2 * (ranges MOST_PAGES (kinds_of (rows from)) + length items)
+  pub steps : most_steps rows pages ≤ 64 * (ranges MOST_PAGES (kinds_of (rows from)) + length items)
+  pub whole : CopiesPages items → HasOwnPages (rows from) → pages ≡ AllOf from
+
+-- what it takes to give a context the pages of a row with this number of ranges by items: no frame, and at most 64
+-- node steps and 2 free nodes for each range and each item, and one free node besides; where all pages are copied and
+-- all are the row's own, at most one node step and no free node
+pub record CloneCost (old new : Places) (before after ranges : ℕ) (items : List Item) (row : Row) : Type 0 where
+  pub used : used_frames new ≡ used_frames old
+  pub nodes : free_nodes old ≤ free_nodes new + (1 + 2 * (ranges + length items))
+  pub steps : after ≤ before + 64 * (ranges + length items)
+  pub whole_nodes : CopiesPages items → HasOwnPages row → free_nodes old ≤ free_nodes new
+  pub whole_steps : CopiesPages items → HasOwnPages row → after ≤ before + min 1 ranges

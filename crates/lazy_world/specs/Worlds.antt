@@ -1,6 +1,11 @@
 -- The world that shared pages stand for.
+use Rattle.std.specs.Prelude.{ℕ, List}
+use Rattle.lwc_base.specs.declared.item.Item.{Item}
 use Rattle.lwc_base.specs.World.{World}
+use Rattle.lazy_world.specs.declared.plan.Plan.{Plan}
 use Rattle.lazy_world.specs.declared.world.PlacedWorld.{PlacedWorld}
+use Rattle.lazy_world.specs.Cells.{Row}
+use Rattle.lazy_world.specs.Plans.{planned_row}
 use Rattle.lazy_world.specs.Seen.{rows}
 use Rattle.lazy_world.specs.States.{Parts, world_of}
 
@@ -18,3 +23,7 @@ parts w = record {
 -- the world of them
 unfoldable pub seen : PlacedWorld → World
 seen w = world_of (parts w)
+
+-- the row that the place `to` gets by a plan of the place `from`
+abbrev pub planned : PlacedWorld → Plan → List Item → ℕ → ℕ → Row
+planned w plan items from to = planned_row (seen w) plan items (rows w.places from) (rows w.places to)

@@ -1,5 +1,6 @@
-ghost use Rattle.std.specs.Prelude.{◌≡◌, ◌≢◌, ◌<◌, ◌≤◌, ◌+◌, ◌*◌, ℕ, [], All, false, length, min, true};
+ghost use Rattle.std.specs.Prelude.{◌≡◌, ◌≢◌, ◌<◌, ◌≤◌, ◌+◌, ◌*◌, ℕ, All, false, length, true};
 ghost use Rattle.std.specs.Prelude.{IfNone, IfSome, None, Some};
+ghost use Rattle.lwc_base.specs.declared.cell.Cell.TheVariants.{Own};
 ghost use Rattle.lwc_base.specs.declared.key.Key.{Key};
 ghost use Rattle.lwc_base.specs.declared.key.Key.TheVariants.{Page};
 ghost use Rattle.lwc_base.specs.declared.limits.TheConstants.{MOST_PAGES, MOST_RANGES};
@@ -9,16 +10,17 @@ ghost use Rattle.lwc_base.specs.World.{next_context};
 ghost use Rattle.range_map.specs.Kinds.{is_between, ranges};
 ghost use Rattle.page_cells.specs.Changes.{IsStretch};
 ghost use Rattle.world_face.specs.Calls.{AreFew, HasGroupPlace, HasPlace, IsLive, MayName};
-ghost use Rattle.lazy_world.specs.Cells.{HasNoPages, kinds_of};
+ghost use Rattle.lazy_world.specs.Cells.{HasNoPages, Row, kinds_of};
+ghost use Rattle.lazy_world.specs.Clones.{AreBounded, CloneCost, CopiesPages};
 ghost use Rattle.lazy_world.specs.Clones.{clone_source, item_source, kind_source};
-ghost use Rattle.lazy_world.specs.Plans.{moves, planned_row};
-ghost use Rattle.lazy_world.specs.Seen.{count, free_nodes, rows, used_frames};
-ghost use Rattle.lazy_world.specs.Sound.{IsAllOwn, IsEmpty};
-ghost use Rattle.lazy_world.specs.Sources.{AreGiven, source_at, sourced_row};
+ghost use Rattle.lazy_world.specs.Plans.{given_or, moves, planned_row};
+ghost use Rattle.lazy_world.specs.Seen.{count, rows};
+ghost use Rattle.lazy_world.specs.Sound.{IsEmpty};
+ghost use Rattle.lazy_world.specs.Sources.{AreGiven, ArePagesGiven, page_source, source_at, sourced_row};
 ghost use Rattle.lazy_world.specs.declared.plan.Plan.TheVariants.{Clone};
 
 use crate::facts::facts;
-use crate::pieces::Sources;
+use crate::pieces::{PageSources, Sources};
 use crate::plan::Plan;
 use crate::world::PlacedWorld;
 use arrayvec::ArrayVec;
@@ -70,12 +72,25 @@ fn item_stretches(spec: &Spec, from: usize) -> ArrayVec<Stretch, MOST_STRETCHES>
     stretches
 }
 
+/// Whether a clone copies each page: items share no page and leave none out.
+fn copies_pages(spec: &Spec) -> bool
+    ensures copied { result ≡ true → CopiesPages spec.now }
+    ensures all { CopiesPages spec.now → result ≡ true }
+{
+    for item in spec.items() {
+        if let Some(_) = item_stretch(item, 0) {
+            return false;
+        }
+    }
+    true
+}
+
 impl PlacedWorld {
     ghost use Rattle.lwc_base.specs.Fresh.{IsFresh};
     ghost use Rattle.lwc_base.specs.Ranges.{ranges_of};
     ghost use Rattle.lwc_base.specs.World.{context};
     ghost use Rattle.lazy_world.specs.Followed.{followed};
-    ghost use Rattle.lazy_world.specs.Worlds.{parts, seen};
+    ghost use Rattle.lazy_world.specs.Worlds.{parts, planned, seen};
 
     /// Where copies of pages of a kind come from, if they are those of the place `from`.
     fn kind_source(&self, kind: SegmentKind, from: usize) -> Source
@@ -115,6 +130,25 @@ impl PlacedWorld {
         stretches
     }
 
+    /// Where a place without pages gets those of a clone of the place `from`, where no page is left that
+    /// moves. Pages that are all copied and all that place's own are taken whole.
+    fn clone_pages(&self, spec: &Spec, from: usize) -> PageSources
+        requires from { from < count self.now.places }
+        requires within { IsSpec (seen self.now).size.pages spec.now }
+        requires settled { (q : ℕ) → moves spec.now (Page q) (rows self.now.places from) ≡ false }
+        ensures gives { (made : Name) (old : Row) (q : ℕ)
+            → given_or (rows self.now.places) (Page q) (Own None) (page_source result q)
+            ≡ planned_row (seen self.now) (Clone made) spec.now (rows self.now.places from) old (Page q) }
+        ensures given { (to : ℕ) → from ≢ to → to < (parts self.now).size.contexts
+            → ArePagesGiven (count self.now.places) to result }
+        ensures bounded { AreBounded (rows self.now.places) from spec.now result }
+    {
+        if copies_pages(spec) && self.places.has_own_pages(from) {
+            return PageSources::AllOf(from);
+        }
+        PageSources::Stretches(self.clone_stretches(spec, from))
+    }
+
     /// Where the place `to`, which has no pages, gets the cells of a clone of the place `from`, where nothing
     /// is left that moves.
     fn clone_sources(&self, made: Name, spec: &Spec, from: usize, to: usize) -> Sources
@@ -125,21 +159,19 @@ impl PlacedWorld {
         requires settled { (k : Key) → moves spec.now k (rows self.now.places from) ≡ false }
         requires empty { HasNoPages (rows self.now.places to) }
         ensures row { sourced_row (rows self.now.places) to result
-            ≡ planned_row (seen self.now) (Clone made) spec.now (rows self.now.places from)
-            (rows self.now.places to) }
+            ≡ planned self.now (Clone made) spec.now from to }
         ensures given { AreGiven (count self.now.places) to result }
-        ensures few { length result.pages.items
-            ≤ ranges MOST_PAGES (kinds_of (rows self.now.places from)) + length spec.now }
+        ensures bounded { AreBounded (rows self.now.places) from spec.now result.pages }
     {
         let plan = Plan::Clone(made);
         Sources {
-            pages: self.clone_stretches(spec, from),
+            pages: self.clone_pages(spec, from),
             slots: self.slot_sources(plan, spec, from, to),
             uid: self.uid_source(plan, spec, from, to),
         }
     }
 
-    /// A context without pages gets the cells of a clone of another one, by stretches of pages.
+    /// A context without pages gets the cells of a clone of another one, from where its sources say.
     // The sources are a large value, which each caller would clear if this were a part of it.
     #[inline(never)]
     fn clone_pieces<L: Ledger>(&mut self, spec: &Spec, c: Name, made: Name, steps: &mut Steps<L>)
@@ -152,10 +184,8 @@ impl PlacedWorld {
         requires fresh { IsFresh (followed (seen self.old) (Clone made) spec.now c made) }
         requires few { ranges_of (followed (seen self.old) (Clone made) spec.now c made) made ≤ MOST_RANGES }
         ensures world { seen self.new ≡ followed (seen self.old) (Clone made) spec.now c made }
-        ensures used { used_frames self.new.places ≡ used_frames self.old.places }
-        ensures nodes { free_nodes self.old.places
-            ≤ free_nodes self.new.places + (1 + 2 * (ranges_of (seen self.old) c + length spec.now)) }
-        ensures cost { steps.new ≤ steps.old + 64 * (ranges_of (seen self.old) c + length spec.now) }
+        ensures cost { CloneCost self.old.places self.new.places steps.old steps.new
+            (ranges_of (seen self.old) c) spec.now (context (seen self.old) c).cell }
     {
         facts();
         self.contexts.are_placed();
@@ -168,8 +198,9 @@ impl PlacedWorld {
 
     /// A context with nothing but a credential gets the cells of a clone of another one, once that one's
     /// values of mode share have moved. For each range of the other one and for each item it takes at most 64
-    /// node steps and 2 free nodes, and one free node besides. Without items, a context whose cells are all
-    /// its own is copied by one hold of the root of its tree. No frame is taken.
+    /// node steps and 2 free nodes, and one free node besides. Pages that are all the other one's own, and of
+    /// which items share none and leave none out, are copied by one hold of the root of their tree. No frame
+    /// is taken.
     pub(crate) fn clone_by<L: Ledger>(
         &mut self,
         spec: &Spec,
@@ -186,14 +217,8 @@ impl PlacedWorld {
         requires fresh { IsFresh (followed (seen self.old) (Clone made) spec.now c made) }
         requires few { ranges_of (followed (seen self.old) (Clone made) spec.now c made) made ≤ MOST_RANGES }
         ensures world { seen self.new ≡ followed (seen self.old) (Clone made) spec.now c made }
-        ensures used { used_frames self.new.places ≡ used_frames self.old.places }
-        ensures nodes { free_nodes self.old.places
-            ≤ free_nodes self.new.places + (1 + 2 * (ranges_of (seen self.old) c + length spec.now)) }
-        ensures cost { steps.new ≤ steps.old + 64 * (ranges_of (seen self.old) c + length spec.now) }
-        ensures whole_nodes { spec.now ≡ [] → IsAllOwn (context (seen self.old) c).cell
-            → free_nodes self.old.places ≤ free_nodes self.new.places }
-        ensures whole_cost { spec.now ≡ [] → IsAllOwn (context (seen self.old) c).cell
-            → steps.new ≤ steps.old + min 1 (ranges_of (seen self.old) c) }
+        ensures cost { CloneCost self.old.places self.new.places steps.old steps.new
+            (ranges_of (seen self.old) c) spec.now (context (seen self.old) c).cell }
     {
         facts();
         self.contexts.are_placed();

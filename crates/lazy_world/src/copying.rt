@@ -1,15 +1,12 @@
-ghost use Rattle.std.specs.Prelude.{◌≡◌, ◌≢◌, ◌<◌, ◌≤◌, ◌+◌, ℕ, [], false, min, true};
+ghost use Rattle.std.specs.Prelude.{◌≡◌, ◌≢◌, ◌<◌, ◌≤◌, ◌+◌, ℕ, false, min, true};
 ghost use Rattle.lwc_base.specs.declared.cell.Cell.TheVariants.{Own};
 ghost use Rattle.lwc_base.specs.declared.descriptor.Descriptor.TheVariants.{Empty};
 ghost use Rattle.lwc_base.specs.declared.descriptor.TheConstants.{SLOTS};
 ghost use Rattle.lwc_base.specs.declared.key.Key.TheVariants.{Page, Slot, Cred};
 ghost use Rattle.lwc_base.specs.declared.limits.TheConstants.{MOST_PAGES};
 ghost use Rattle.range_map.specs.Kinds.{ranges};
-ghost use Rattle.lazy_world.specs.Cells.{HasNoPages, Row, is_own, kinds_of, put_row};
+ghost use Rattle.lazy_world.specs.Cells.{HasNoPages, HasOwnPages, Row, is_own, kinds_of, put_row};
 ghost use Rattle.lazy_world.specs.Plans.{planned_row};
-ghost use Rattle.lazy_world.specs.Sound.{IsAllOwn, IsEmpty};
-ghost use Rattle.lazy_world.specs.declared.plan.Plan.TheVariants.{Clone};
-ghost use Rattle.lwc_base.specs.declared.name.Name.{Name};
 ghost use Rattle.lazy_world.specs.Seen.{count, frame_count, free_nodes, rows, used_frames};
 
 use crate::places::Places;
@@ -48,8 +45,7 @@ impl Places {
     /// Whether no slot of a place is filled.
     fn has_no_slot(&self, i: usize) -> bool
         requires { i < count self.now }
-        ensures empty { result ≡ true → (n : ℕ) → n < SLOTS → rows self.now i (Slot n) ≡ Own Empty }
-        ensures all { ((n : ℕ) → n < SLOTS → rows self.now i (Slot n) ≡ Own Empty) → result ≡ true }
+        ensures { result ≡ true → (n : ℕ) → n < SLOTS → rows self.now i (Slot n) ≡ Own Empty }
     {
         self.filled(i) == 0
     }
@@ -57,17 +53,16 @@ impl Places {
     /// Whether no slot of a place is common.
     fn has_own_slots(&self, i: usize) -> bool
         requires { i < count self.now }
-        ensures own { result ≡ true → (n : ℕ) → n < SLOTS → is_own (rows self.now i (Slot n)) ≡ true }
-        ensures all { ((n : ℕ) → n < SLOTS → is_own (rows self.now i (Slot n)) ≡ true) → result ≡ true }
+        ensures { result ≡ true → (n : ℕ) → n < SLOTS → is_own (rows self.now i (Slot n)) ≡ true }
     {
         self.common(i) == 0
     }
 
     /// Whether no page of a place is common.
-    fn has_own_pages(&self, i: usize) -> bool
+    pub(crate) fn has_own_pages(&self, i: usize) -> bool
         requires { i < count self.now }
         ensures own { result ≡ true → (p : ℕ) → p < MOST_PAGES → is_own (rows self.now i (Page p)) ≡ true }
-        ensures all { ((p : ℕ) → p < MOST_PAGES → is_own (rows self.now i (Page p)) ≡ true) → result ≡ true }
+        ensures all { HasOwnPages (rows self.now i) → result ≡ true }
     {
         let mut p = 0u16;
         'pages: while u32::from(p) < MOST_PAGES {
@@ -93,7 +88,6 @@ impl Places {
         ensures slots { result ≡ true → (n : ℕ) → n < SLOTS → is_own (rows self.now i (Slot n)) ≡ true }
         ensures uid { result ≡ true → is_own (rows self.now i Cred) ≡ true }
         ensures pages { result ≡ true → (p : ℕ) → p < MOST_PAGES → is_own (rows self.now i (Page p)) ≡ true }
-        ensures all { IsAllOwn (rows self.now i) → result ≡ true }
     {
         self.has_own_slots(i) && self.has_own_uid(i) && self.has_own_pages(i)
     }
@@ -102,14 +96,13 @@ impl Places {
 impl PlacedWorld {
     ghost use Rattle.lazy_world.specs.Worlds.{seen};
 
-    /// Whether a plan gives all that a place has, as it is there: no item names a key, and what is copied is the
-    /// place's own.
+    /// Whether a plan gives all that a place has, as it is there: no item names a key, and what is copied
+    /// is the place's own.
     pub(crate) fn gives_same(&self, plan: Plan, spec: &Spec, from: usize) -> bool
         requires { from < count self.now.places }
-        ensures same { result ≡ true → (old : Row) →
-            planned_row (seen self.now) plan spec.now (rows self.now.places from) old ≡ rows self.now.places from }
-        ensures all { (g : Name) → plan ≡ Clone g → spec.now ≡ [] → IsAllOwn (rows self.now.places from)
-            → result ≡ true }
+        ensures { result ≡ true → (old : Row)
+            → planned_row (seen self.now) plan spec.now (rows self.now.places from) old
+            ≡ rows self.now.places from }
     {
         spec.items().is_empty()
             && match plan {
@@ -125,10 +118,9 @@ impl PlacedWorld {
         requires to { to < count self.now.places }
         ensures apart { result ≡ true → from ≢ to }
         ensures empty { result ≡ true → (n : ℕ) → rows self.now.places to (Slot n) ≡ Own Empty }
-        ensures row { result ≡ true → (old : Row) →
-            planned_row (seen self.now) plan spec.now (rows self.now.places from) old ≡ rows self.now.places from }
-        ensures all { (g : Name) → plan ≡ Clone g → spec.now ≡ [] → from ≢ to
-            → IsEmpty (rows self.now.places to) → IsAllOwn (rows self.now.places from) → result ≡ true }
+        ensures row { result ≡ true → (old : Row)
+            → planned_row (seen self.now) plan spec.now (rows self.now.places from) old
+            ≡ rows self.now.places from }
     {
         from != to && self.places.has_no_slot(to) && self.gives_same(plan, spec, from)
     }

@@ -47,7 +47,8 @@ impl PlacedWorld {
     pub(crate) fn keep_contexts(&mut self, marks: &[bool])
         requires { (parts self.old).size.contexts ≤ length marks.now }
         ensures { seen self.new ≡ record (seen self.old) {
-          contexts = left_by self.old.contexts.map (keeps marks.now self.old.size.contexts) (seen self.old).contexts;
+          contexts = left_by self.old.contexts.map (keeps marks.now self.old.size.contexts)
+              (seen self.old).contexts;
         } }
     {
         facts();

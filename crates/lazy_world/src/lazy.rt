@@ -12,8 +12,8 @@ use lwc_base::laws::reached_contexts_are_those_with_a_chain;
 /// The most anchors of a world.
 pub const MOST_ANCHORS: usize = 64;
 
-/// A world by shared pages that knows what its contexts are reached from, so that a reap mostly takes no search:
-/// each live context is reached from the anchors, where they are known.
+/// A world by shared pages that knows what its contexts are reached from, so that a reap mostly takes no
+/// search: each live context is reached from the anchors, where they are known.
 #[derive(Drop)]
 pub struct LazyWorld {
     pub(crate) world: PlacedWorld,
@@ -29,7 +29,8 @@ impl LazyWorld {
     pub(crate) fn add_anchor(&mut self, c: Option<Name>)
         ensures world { self.new.world ≡ self.old.world }
         ensures kept { self.new.known ≡ true → self.old.known ≡ true }
-        ensures anchors { self.new.known ≡ true → self.new.anchors.items ≡ with_anchor self.old.anchors.items c }
+        ensures anchors { self.new.known ≡ true
+            → self.new.anchors.items ≡ with_anchor self.old.anchors.items c }
     {
         facts();
         reached_contexts_are_those_with_a_chain();

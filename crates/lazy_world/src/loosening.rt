@@ -52,8 +52,8 @@ impl PlacedWorld {
         self.linked(self.place(c), n)
     }
 
-    /// Whether a slot of the context at a place has a descriptor of a context. It looks at the last filled slot
-    /// first, since that often has the newest one.
+    /// Whether a slot of the context at a place has a descriptor of a context. It looks at the last
+    /// filled slot first, since that often has the newest one.
     fn links_at(&self, i: usize, c: Name) -> bool
         requires { i < count self.now.places }
         ensures { result ≡ true → (n : ℕ) × (n < SLOTS)
@@ -219,8 +219,8 @@ impl PlacedWorld {
         Some(loose)
     }
 
-    /// Drops the contexts that are not reached from the roots, where each live one is reached from the anchors.
-    /// Answers `false`, with nothing changed, where that takes a search.
+    /// Drops the contexts that are not reached from the roots, where each live one is reached from the
+    /// anchors. Answers `false`, with nothing changed, where that takes a search.
     pub(crate) fn drop_loose(&mut self, anchors: &[Name], roots: &[Name]) -> bool
         requires anchors { AreReached (seen self.old) anchors.now }
         requires roots { All (λ root. IsLive (seen self.old) root) roots.now }
@@ -241,8 +241,9 @@ impl PlacedWorld {
         }
     }
 
-    /// Drops the contexts that are not reached from the roots, and then the groups that no cell names. Where each
-    /// live context is known to be reached from the anchors, it takes no search if that is enough.
+    /// Drops the contexts that are not reached from the roots, and then the groups that no cell names.
+    /// Where each live context is known to be reached from the anchors, it takes no search if that is
+    /// enough.
     pub(crate) fn reap_from(&mut self, known: bool, anchors: &[Name], roots: &[Name])
         requires anchors { known ≡ true → AreReached (seen self.old) anchors.now }
         requires few { length roots.now ≤ MOST_ROOTS }

@@ -67,7 +67,8 @@ impl Places {
         requires place { i < count self.now }
         requires order { range.from ≤ range.to }
         requires inside { range.to ≤ MOST_PAGES }
-        ensures { result ≡ ranges MOST_PAGES (kinds_of (set_pages range.from range.to present (rows self.now i))) }
+        ensures { result ≡ ranges MOST_PAGES
+            (kinds_of (set_pages range.from range.to present (rows self.now i))) }
     {
         let source = source_of(present);
         self.pages.count_after(i, &[Stretch { range, source }])
@@ -85,7 +86,8 @@ impl PlacedWorld {
         requires live { IsLive (seen self.old) c }
         requires some { range.from < range.to }
         requires within { range.to ≤ (seen self.old).size.pages }
-        requires few { ranges_of (mapped_or_not (seen self.old) c range.from range.to present) c ≤ MOST_RANGES }
+        requires few { ranges_of (mapped_or_not (seen self.old) c range.from range.to present) c
+            ≤ MOST_RANGES }
         ensures { seen self.new ≡ mapped_or_not (seen self.old) c range.from range.to present }
     {
         facts();
@@ -117,7 +119,8 @@ impl PlacedWorld {
         self.set_pages(c, range, false);
     }
 
-    /// The number of ranges that the context would have after `map` if `present` is true, and else after `unmap`.
+    /// The number of ranges that the context would have after `map` if `present` is true, and else after
+    /// `unmap`.
     pub(crate) fn ranges_after_map(&self, c: Name, range: Range, present: bool) -> u32
         requires live { IsLive (seen self.now) c }
         requires some { range.from < range.to }

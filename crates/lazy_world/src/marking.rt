@@ -57,7 +57,8 @@ impl PlacedWorld {
     /// Marks for the places of the groups that cells name.
     pub(crate) fn named_groups(&self) -> [bool; 1024]
         ensures { AddsMarks self.now.groups.places
-            (λ g. list_any (names_at (parts self.now) g) (range_with_len 0 self.now.size.contexts)) [] result }
+            (λ g. list_any (names_at (parts self.now) g) (range_with_len 0 self.now.size.contexts))
+            [] result }
     {
         let mut marks = [false; 1024];
         for i in 0..self.size.contexts as usize {
@@ -112,7 +113,8 @@ impl PlacedWorld {
     fn mark_pages(&self, i: usize, marks: &mut [bool; 1024])
         requires { i < count self.now.places }
         ensures { AddsMarks self.now.groups.places
-            (λ g. list_any (λ p. is_in g (rows self.now.places i (Page p))) (range_with_len 0 self.now.size.pages))
+            (λ g. list_any (λ p. is_in g (rows self.now.places i (Page p)))
+            (range_with_len 0 self.now.size.pages))
             marks.old marks.new }
     {
         for p in 0..self.pages() as u16 {

@@ -93,10 +93,10 @@ impl PlacedWorld {
         }
     }
 
-    /// Takes over what the items name from the context `from` into the context `to`, for a job; both may be the
-    /// same. First the values of mode share that are `from`'s own move into one new group. Then `to` gets a copy
-    /// of each value of mode copy, has each value of mode share in common with `from`, and nothing under a key of
-    /// mode unmap. An absent page of `from` becomes absent in `to`.
+    /// Takes over what the items name from the context `from` into the context `to`, for a job; both may
+    /// be the same. First the values of mode share that are `from`'s own move into one new group. Then
+    /// `to` gets a copy of each value of mode copy, has each value of mode share in common with `from`,
+    /// and nothing under a key of mode unmap. An absent page of `from` becomes absent in `to`.
     pub(crate) fn overlay(&mut self, to: Name, from: Name, spec: &Spec, job: u32)
         requires to { IsLive (seen self.old) to }
         requires from { IsLive (seen self.old) from }

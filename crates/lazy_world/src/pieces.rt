@@ -7,17 +7,24 @@ use pool_base::Steps;
 use range_map::Segment;
 use std::sync::ledger::Ledger;
 
-/// Where a place gets its cells: its pages by stretches, each of its slots, and its credential. Those without a
-/// source stay.
+/// Where a place gets its pages: all that another place has, or by stretches. Pages of no stretch stay.
+#[derive(Drop)]
+pub enum PageSources {
+    AllOf(usize),
+    Stretches(ArrayVec<Stretch, MOST_STRETCHES>),
+}
+
+/// Where a place gets its cells: its pages, each of its slots, and its credential. Those without a source
+/// stay.
 #[derive(Drop)]
 pub struct Sources {
-    pub(crate) pages: ArrayVec<Stretch, MOST_STRETCHES>,
+    pub(crate) pages: PageSources,
     pub(crate) slots: [Option<Source>; 64],
     pub(crate) uid: Option<Source>,
 }
 
 impl Places {
-    ghost use Rattle.std.specs.Prelude.{◌≡◌, ◌≢◌, ◌<◌, ◌≤◌, ◌+◌, ◌*◌, ℕ, All, Some, length};
+    ghost use Rattle.std.specs.Prelude.{◌≡◌, ◌≢◌, ◌<◌, ◌≤◌, ◌+◌, ◌*◌, ℕ, All, Some, length, min};
     ghost use Rattle.lwc_base.specs.declared.cell.Cell.{Cell};
     ghost use Rattle.lwc_base.specs.declared.descriptor.TheConstants.{SLOTS};
     ghost use Rattle.lwc_base.specs.declared.key.Key.TheVariants.{Slot, Cred};
@@ -28,7 +35,9 @@ impl Places {
     ghost use Rattle.page_cells.specs.declared.stretches.Source.TheVariants.{CopyOf};
     ghost use Rattle.lazy_world.specs.Cells.{HasNoPages, kinds_of, put_row};
     ghost use Rattle.lazy_world.specs.Plans.{CanGet, given, given_or};
-    ghost use Rattle.lazy_world.specs.Sources.{AreGiven, slot_source, sourced_row, with_pages, with_slots};
+    ghost use Rattle.lazy_world.specs.Sources.{AreGiven, ArePagesGiven, most_nodes, most_steps, slot_source};
+    ghost use Rattle.lazy_world.specs.Sources.{sourced_row, with_pages, with_slots};
+    ghost use Rattle.lazy_world.specs.declared.pieces.PageSources.TheVariants.{AllOf, Stretches};
     ghost use Rattle.lazy_world.specs.Seen.{KeepsStore, count, frame_count, free_nodes, rows, used_frames};
 
     /// A later page, or the end of all pages, up to which the pages of a place have the kind of this one.
@@ -56,22 +65,68 @@ impl Places {
         self.pages.segments(i)
     }
 
-    /// Makes the pages of each stretch of a place what their source says.
-    fn take_pages<L: Ledger>(&mut self, i: usize, stretches: &[Stretch], steps: &mut Steps<L>)
+    /// Gives a place all pages of another one, by a hold of the root of their tree.
+    fn copy_pages<L: Ledger>(&mut self, i: usize, j: usize, steps: &mut Steps<L>)
         requires place { i < count self.old }
-        requires given { All (IsStretch (count self.old) i) stretches.now }
-        requires ranges { ranges MOST_PAGES (kinds_of (with_pages (rows self.old) stretches.now (rows self.old i)))
-            ≤ MOST_RANGES }
+        requires source { j < count self.old }
+        requires apart { j ≢ i }
         ensures rows { rows self.new
-            ≡ put_row (rows self.old) i (with_pages (rows self.old) stretches.now (rows self.old i)) }
+            ≡ put_row (rows self.old) i (with_pages (rows self.old) (AllOf j) (rows self.old i)) }
         ensures count { count self.new ≡ count self.old }
         ensures frames { frame_count self.new ≡ frame_count self.old }
-        ensures nodes { free_nodes self.old ≤ free_nodes self.new + (1 + 2 * length stretches.now) }
+        ensures nodes { free_nodes self.old ≤ free_nodes self.new }
         ensures used { HasNoPages (rows self.old i) → used_frames self.new ≡ used_frames self.old }
-        ensures cost { HasNoPages (rows self.old i) → steps.new ≤ steps.old + 64 * length stretches.now }
+        ensures cost { HasNoPages (rows self.old i)
+            → steps.new ≤ steps.old + min 1 (ranges MOST_PAGES (kinds_of (rows self.old j))) }
     {
         copies_take_no_frame();
-        self.pages.change(i, stretches, steps);
+        self.pages.clone_place(i, j, steps);
+    }
+
+    /// Makes the pages of each stretch of a place what their source says.
+    fn change_pages<L: Ledger>(
+        &mut self,
+        i: usize,
+        stretches: &ArrayVec<Stretch, MOST_STRETCHES>,
+        steps: &mut Steps<L>,
+    )
+        requires place { i < count self.old }
+        requires given { All (IsStretch (count self.old) i) stretches.now.items }
+        requires ranges { ranges MOST_PAGES
+            (kinds_of (with_pages (rows self.old) (Stretches stretches.now) (rows self.old i)))
+            ≤ MOST_RANGES }
+        ensures rows { rows self.new ≡ put_row (rows self.old) i
+            (with_pages (rows self.old) (Stretches stretches.now) (rows self.old i)) }
+        ensures count { count self.new ≡ count self.old }
+        ensures frames { frame_count self.new ≡ frame_count self.old }
+        ensures nodes { free_nodes self.old ≤ free_nodes self.new + (1 + 2 * length stretches.now.items) }
+        ensures used { HasNoPages (rows self.old i) → used_frames self.new ≡ used_frames self.old }
+        ensures cost { HasNoPages (rows self.old i)
+            → steps.new ≤ steps.old + 64 * length stretches.now.items }
+    {
+        copies_take_no_frame();
+        self.pages.change(i, stretches.as_slice(), steps);
+    }
+
+    /// Makes the pages of a place what their sources say.
+    fn take_pages<L: Ledger>(&mut self, i: usize, pages: &PageSources, steps: &mut Steps<L>)
+        requires place { i < count self.old }
+        requires given { ArePagesGiven (count self.old) i pages.now }
+        requires ranges { ranges MOST_PAGES
+            (kinds_of (with_pages (rows self.old) pages.now (rows self.old i))) ≤ MOST_RANGES }
+        ensures rows { rows self.new
+            ≡ put_row (rows self.old) i (with_pages (rows self.old) pages.now (rows self.old i)) }
+        ensures count { count self.new ≡ count self.old }
+        ensures frames { frame_count self.new ≡ frame_count self.old }
+        ensures nodes { free_nodes self.old ≤ free_nodes self.new + most_nodes pages.now }
+        ensures used { HasNoPages (rows self.old i) → used_frames self.new ≡ used_frames self.old }
+        ensures cost { HasNoPages (rows self.old i)
+            → steps.new ≤ steps.old + most_steps (rows self.old) pages.now }
+    {
+        match pages {
+            PageSources::AllOf(j) => self.copy_pages(i, *j, steps),
+            PageSources::Stretches(stretches) => self.change_pages(i, stretches, steps),
+        }
     }
 
     /// Makes a slot of a place what the same slot of another place is.
@@ -80,8 +135,8 @@ impl Places {
         requires source { j < count self.old }
         requires apart { j ≢ i }
         requires slot { n < SLOTS }
-        ensures rows { rows self.new
-            ≡ put_row (rows self.old) i (with_key Cell (Slot n) (rows self.old j (Slot n)) (rows self.old i)) }
+        ensures rows { rows self.new ≡ put_row (rows self.old) i
+            (with_key Cell (Slot n) (rows self.old j (Slot n)) (rows self.old i)) }
         ensures count { count self.new ≡ count self.old }
         ensures frames { frame_count self.new ≡ frame_count self.old }
         ensures store { KeepsStore self.old self.new }
@@ -159,9 +214,9 @@ impl Places {
     fn take_uid(&mut self, i: usize, source: Option<Source>)
         requires place { i < count self.old }
         requires given { CanGet (count self.old) i source }
-        ensures rows { rows self.new
-            ≡ put_row (rows self.old) i
-            (with_key Cell Cred (given_or (rows self.old) Cred (rows self.old i Cred) source) (rows self.old i)) }
+        ensures rows { rows self.new ≡ put_row (rows self.old) i
+            (with_key Cell Cred (given_or (rows self.old) Cred (rows self.old i Cred) source)
+            (rows self.old i)) }
         ensures count { count self.new ≡ count self.old }
         ensures frames { frame_count self.new ≡ frame_count self.old }
         ensures store { KeepsStore self.old self.new }
@@ -173,20 +228,21 @@ impl Places {
     }
 
     /// Makes the cells of a place what their sources say. A place without pages takes at most 64 node steps
-    /// for each stretch, and no frame.
+    /// for each stretch, or one if it gets all pages of another one, and no frame.
     pub fn take<L: Ledger>(&mut self, i: usize, sources: &Sources, steps: &mut Steps<L>)
         requires place { i < count self.old }
         requires given { AreGiven (count self.old) i sources.now }
-        requires few { ranges MOST_PAGES (kinds_of (sourced_row (rows self.old) i sources.now)) ≤ MOST_RANGES }
+        requires few { ranges MOST_PAGES (kinds_of (sourced_row (rows self.old) i sources.now))
+            ≤ MOST_RANGES }
         ensures rows { rows self.new ≡ put_row (rows self.old) i (sourced_row (rows self.old) i sources.now) }
         ensures count { count self.new ≡ count self.old }
         ensures frames { frame_count self.new ≡ frame_count self.old }
-        ensures nodes { free_nodes self.old ≤ free_nodes self.new + (1 + 2 * length sources.now.pages.items) }
+        ensures nodes { free_nodes self.old ≤ free_nodes self.new + most_nodes sources.now.pages }
         ensures used { HasNoPages (rows self.old i) → used_frames self.new ≡ used_frames self.old }
         ensures cost { HasNoPages (rows self.old i)
-            → steps.new ≤ steps.old + 64 * length sources.now.pages.items }
+            → steps.new ≤ steps.old + most_steps (rows self.old) sources.now.pages }
     {
-        self.take_pages(i, sources.pages.as_slice(), steps);
+        self.take_pages(i, &sources.pages, steps);
         self.take_slots(i, &sources.slots);
         self.take_uid(i, sources.uid);
     }

@@ -62,7 +62,8 @@ impl Places {
     ghost use Rattle.lazy_world.specs.KeyValues.{HasSlot, group_in, key_in, value_in};
     ghost use Rattle.lazy_world.specs.Seen.{KeepsStore, count, frame_count, rows};
 
-    /// This number of places with nothing in them, over this number of frames. The only error is out of memory.
+    /// This number of places with nothing in them, over this number of frames. The only error is out of
+    /// memory.
     #[tactic(auto, unfolding(crate::specs::Seen::rows, crate::specs::Seen::count, crate::specs::Seen::frame_count, crate::specs::Cells::rows_of))]
     pub fn open(alloc: Global, frames: u32, places: u32) -> Result<Places, OutOfMemory>
         requires frames { frames ≤ 65536 }
@@ -197,7 +198,8 @@ impl Places {
     pub fn put_slot(&mut self, i: usize, n: u8, cell: Cell<Descriptor>)
         requires place { i < count self.old }
         requires slot { n < SLOTS }
-        ensures rows { rows self.new ≡ put_row (rows self.old) i (with_key Cell (Slot n) cell (rows self.old i)) }
+        ensures rows { rows self.new
+            ≡ put_row (rows self.old) i (with_key Cell (Slot n) cell (rows self.old i)) }
         ensures count { count self.new ≡ count self.old }
         ensures frames { frame_count self.new ≡ frame_count self.old }
         ensures store { KeepsStore self.old self.new }
@@ -222,8 +224,8 @@ impl Places {
     pub fn put(&mut self, i: usize, value: KeyValue)
         requires place { i < count self.old }
         requires slot { HasSlot value }
-        ensures rows { rows self.new
-            ≡ put_row (rows self.old) i (with_key Cell (key_in value) (Own (value_in value)) (rows self.old i)) }
+        ensures rows { rows self.new ≡ put_row (rows self.old) i
+            (with_key Cell (key_in value) (Own (value_in value)) (rows self.old i)) }
         ensures count { count self.new ≡ count self.old }
         ensures frames { frame_count self.new ≡ frame_count self.old }
     {

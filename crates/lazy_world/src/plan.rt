@@ -56,8 +56,8 @@ impl Found {
         mode == Some(Mode::Share) && self.kind == Some(SegmentKind::Own)
     }
 
-    /// What the place `to` gets under a key of a mode, where this is at the place `from`, and what moves goes into
-    /// a group.
+    /// What the place `to` gets under a key of a mode, where this is at the place `from`, and what moves
+    /// goes into a group.
     fn taken(self, mode: Mode, group: Name, from: usize, to: usize) -> Option<Source>
         ensures { result ≡ taken_source group mode self from to }
     {
@@ -78,8 +78,8 @@ impl Found {
 }
 
 impl Plan {
-    /// What the place `to` gets under a key of a mode, where this is found at the place `from`; `None` where it
-    /// keeps what it has.
+    /// What the place `to` gets under a key of a mode, where this is found at the place `from`; `None`
+    /// where it keeps what it has.
     pub fn source(self, mode: Option<Mode>, found: Found, from: usize, to: usize) -> Option<Source>
         ensures { result ≡ source_of self mode found from to }
     {

@@ -2,44 +2,31 @@ ghost use Rattle.std.specs.Prelude.{◌≡◌, ◌<◌, ◌≤◌, ℕ, All, Non
 ghost use Rattle.lwc_base.specs.declared.descriptor.TheConstants.{SLOTS};
 ghost use Rattle.lwc_base.specs.declared.key.Key.TheVariants.{Page, Slot, Cred};
 ghost use Rattle.lwc_base.specs.declared.limits.TheConstants.{MOST_PAGES};
-ghost use Rattle.lwc_base.specs.Modes.{IsSpec, mode, names};
+ghost use Rattle.lwc_base.specs.Modes.{IsItem, IsSpec, mode, names};
 ghost use Rattle.lwc_base.specs.declared.cell.Cell.{Cell};
 ghost use Rattle.lwc_base.specs.declared.key.Key.{Key};
 ghost use Rattle.lwc_base.specs.Keys.{ValueOf};
 ghost use Rattle.lazy_world.specs.Plans.{kind_in, owner};
 
-use crate::pieces::Sources;
+use crate::pieces::{PageSources, Sources};
 use crate::plan::{Found, Plan};
 use crate::world::PlacedWorld;
 use arrayvec::ArrayVec;
 use lwc_base::{Cell, Item, Key, Kind, MOST_PAGES, Range, SLOTS, Spec};
 use page_cells::{MOST_STRETCHES, Source, Stretch};
-use range_map::SegmentKind;
+use range_map::{SegmentKind, sooner_edge};
 use res_spec::mode_of;
-
-/// The lesser of an edge and another number, if that lies past the page.
-fn sooner(p: u16, edge: u16, other: u32) -> u16
-    requires { p < edge }
-    ensures past { p < result }
-    ensures within { result ≤ edge }
-    ensures other { p < other → result ≤ other }
-{
-    if u32::from(p) < other && other < u32::from(edge) {
-        other as u16
-    } else {
-        edge
-    }
-}
 
 /// Where an item of pages first begins or ends past a page, if that is before the edge.
 fn item_edge(item: &Item, p: u16, edge: u16) -> u16
-    requires { p < edge }
+    requires item { IsItem MOST_PAGES item.now }
+    requires page { p < edge }
     ensures past { p < result }
     ensures within { result ≤ edge }
     ensures alike { (q : ℕ) → p ≤ q → q < result → names item.now (Page q) ≡ names item.now (Page p) }
 {
     match item.kind {
-        Kind::Page => sooner(p, sooner(p, edge, item.from), item.to),
+        Kind::Page => sooner_edge(item.from as u16, item.to as u16, p, edge),
         _ => edge,
     }
 }
@@ -70,10 +57,10 @@ fn owner<T>(cell: &Cell<T>) -> SegmentKind
 
 impl PlacedWorld {
     ghost use Rattle.page_cells.specs.Changes.{IsStretch};
-    ghost use Rattle.lazy_world.specs.Plans.{CanGet, Gives, IsFor, IsFound, given_or, planned_row};
+    ghost use Rattle.lazy_world.specs.Plans.{CanGet, Gives, IsFor, IsFound, given_or};
     ghost use Rattle.lazy_world.specs.Seen.{count, rows};
     ghost use Rattle.lazy_world.specs.Sources.{AreGiven, slot_source, source_at, sourced_row};
-    ghost use Rattle.lazy_world.specs.Worlds.{parts, seen};
+    ghost use Rattle.lazy_world.specs.Worlds.{parts, planned, seen};
 
     /// What is found under a key where the cell is of a kind.
     fn found(&self, kind: Option<SegmentKind>) -> Found
@@ -118,7 +105,7 @@ impl PlacedWorld {
         ensures within { result.1 ≤ MOST_PAGES }
         ensures gives { (q : ℕ) → p ≤ q → q < result.1
             → given_or (rows self.now.places) (Page q) (rows self.now.places to (Page q)) result.0
-            ≡ planned_row (seen self.now) plan spec.now (rows self.now.places from) (rows self.now.places to) (Page q) }
+            ≡ planned self.now plan spec.now from to (Page q) }
         ensures can { CanGet (count self.now.places) to result.0 }
     {
         let (found, edge) = self.found_page(from, p);
@@ -140,8 +127,8 @@ impl PlacedWorld {
         requires from { from < count self.now.places }
         requires plan { IsFor (parts self.now).size.contexts from to plan }
         ensures gives { (q : ℕ) → q < MOST_PAGES
-            → given_or (rows self.now.places) (Page q) (rows self.now.places to (Page q)) (source_at result.items q)
-            ≡ planned_row (seen self.now) plan spec.now (rows self.now.places from) (rows self.now.places to) (Page q) }
+            → given_or (rows self.now.places) (Page q) (rows self.now.places to (Page q))
+            (source_at result.items q) ≡ planned self.now plan spec.now from to (Page q) }
         ensures past { (q : ℕ) → MOST_PAGES ≤ q → source_at result.items q ≡ None }
         ensures given { All (IsStretch (count self.now.places) to) result.items }
     {
@@ -184,8 +171,8 @@ impl PlacedWorld {
         requires from { from < count self.now.places }
         requires plan { IsFor (parts self.now).size.contexts from to plan }
         requires slot { n < SLOTS }
-        ensures { Gives (count self.now.places) (rows self.now.places) to (Slot n) (planned_row (seen self.now) plan
-            spec.now (rows self.now.places from) (rows self.now.places to) (Slot n)) result }
+        ensures { Gives (count self.now.places) (rows self.now.places) to (Slot n)
+            (planned self.now plan spec.now from to (Slot n)) result }
     {
         let found = self.found_slot(from, n);
         plan.source(mode_of(spec, Key::Slot(n)), found, from, to)
@@ -202,8 +189,7 @@ impl PlacedWorld {
         requires from { from < count self.now.places }
         requires plan { IsFor (parts self.now).size.contexts from to plan }
         ensures { (n : ℕ) → n < SLOTS → Gives (count self.now.places) (rows self.now.places) to (Slot n)
-            (planned_row (seen self.now) plan spec.now (rows self.now.places from) (rows self.now.places to) (Slot n))
-            (slot_source result n) }
+            (planned self.now plan spec.now from to (Slot n)) (slot_source result n) }
     {
         let mut sources = [None; 64];
         for n in 0..SLOTS {
@@ -222,8 +208,8 @@ impl PlacedWorld {
     ) -> Option<Source>
         requires from { from < count self.now.places }
         requires plan { IsFor (parts self.now).size.contexts from to plan }
-        ensures { Gives (count self.now.places) (rows self.now.places) to Cred (planned_row (seen self.now) plan
-            spec.now (rows self.now.places from) (rows self.now.places to) Cred) result }
+        ensures { Gives (count self.now.places) (rows self.now.places) to Cred
+            (planned self.now plan spec.now from to Cred) result }
     {
         let found = self.found_uid(from);
         plan.source(mode_of(spec, Key::Cred), found, from, to)
@@ -234,12 +220,11 @@ impl PlacedWorld {
         requires from { from < count self.now.places }
         requires plan { IsFor (parts self.now).size.contexts from to plan }
         requires within { IsSpec (seen self.now).size.pages spec.now }
-        ensures row { sourced_row (rows self.now.places) to result
-            ≡ planned_row (seen self.now) plan spec.now (rows self.now.places from) (rows self.now.places to) }
+        ensures row { sourced_row (rows self.now.places) to result ≡ planned self.now plan spec.now from to }
         ensures given { AreGiven (count self.now.places) to result }
     {
         Sources {
-            pages: self.page_sources(plan, spec, from, to),
+            pages: PageSources::Stretches(self.page_sources(plan, spec, from, to)),
             slots: self.slot_sources(plan, spec, from, to),
             uid: self.uid_source(plan, spec, from, to),
         }

@@ -4,16 +4,19 @@ ghost use Rattle.lwc_base.specs.Modes.{IsSpec};
 ghost use Rattle.range_map.specs.Kinds.{ranges};
 ghost use Rattle.page_cells.specs.Changes.{IsStretch};
 ghost use Rattle.lazy_world.specs.Cells.{kinds_of};
-ghost use Rattle.lazy_world.specs.Sources.{with_pages};
+ghost use Rattle.lazy_world.specs.Sources.{ArePagesGiven, with_pages};
+ghost use Rattle.lazy_world.specs.declared.pieces.PageSources.TheVariants.{Stretches};
 ghost use Rattle.lazy_world.specs.Seen.{count, rows};
 
 use crate::facts::facts;
+use crate::pieces::PageSources;
 use crate::places::Places;
 use crate::plan::Plan;
 use crate::world::PlacedWorld;
+use arrayvec::ArrayVec;
 use lwc_base::laws::a_group_is_needed_where_a_value_moves;
 use lwc_base::{Name, Spec};
-use page_cells::Stretch;
+use page_cells::{MOST_STRETCHES, Stretch};
 use range_map::ranges_are_those_of_the_context;
 
 impl Places {
@@ -27,12 +30,26 @@ impl Places {
     }
 
     /// The number of ranges of a place once the pages of each stretch were what their source says.
-    fn count_with(&self, i: usize, stretches: &[Stretch]) -> u32
+    fn count_changed(&self, i: usize, stretches: &ArrayVec<Stretch, MOST_STRETCHES>) -> u32
         requires place { i < count self.now }
-        requires given { All (IsStretch (count self.now) i) stretches.now }
-        ensures { result ≡ ranges MOST_PAGES (kinds_of (with_pages (rows self.now) stretches.now (rows self.now i))) }
+        requires given { All (IsStretch (count self.now) i) stretches.now.items }
+        ensures { result ≡ ranges MOST_PAGES
+            (kinds_of (with_pages (rows self.now) (Stretches stretches.now) (rows self.now i))) }
     {
-        self.pages.count_after(i, stretches)
+        self.pages.count_after(i, stretches.as_slice())
+    }
+
+    /// The number of ranges of a place once it had the pages that sources give it.
+    fn count_with(&self, i: usize, pages: &PageSources) -> u32
+        requires place { i < count self.now }
+        requires given { ArePagesGiven (count self.now) i pages.now }
+        ensures { result ≡ ranges MOST_PAGES
+            (kinds_of (with_pages (rows self.now) pages.now (rows self.now i))) }
+    {
+        match pages {
+            PageSources::AllOf(j) => self.range_count(*j),
+            PageSources::Stretches(stretches) => self.count_changed(i, stretches),
+        }
     }
 }
 
@@ -43,8 +60,8 @@ impl PlacedWorld {
     ghost use Rattle.lwc_base.specs.World.{next_group};
     ghost use Rattle.world_face.specs.Calls.{IsLive};
     ghost use Rattle.lazy_world.specs.Followed.{IsOfContexts, followed};
-    ghost use Rattle.lazy_world.specs.Plans.{IsFor, planned_row};
-    ghost use Rattle.lazy_world.specs.Worlds.{parts, seen};
+    ghost use Rattle.lazy_world.specs.Plans.{IsFor};
+    ghost use Rattle.lazy_world.specs.Worlds.{parts, planned, seen};
 
     /// The name of the next group of job 0, which no cell has.
     fn unnamed(&self) -> Name
@@ -64,11 +81,10 @@ impl PlacedWorld {
         requires to { to < count self.now.places }
         requires plan { IsFor (parts self.now).size.contexts from to plan }
         requires within { IsSpec (seen self.now).size.pages spec.now }
-        ensures { result ≡ ranges MOST_PAGES (kinds_of (planned_row (seen self.now) plan spec.now
-            (rows self.now.places from) (rows self.now.places to))) }
+        ensures { result ≡ ranges MOST_PAGES (kinds_of (planned self.now plan spec.now from to)) }
     {
         let sources = self.sources(plan, spec, from, to);
-        self.places.count_with(to, sources.pages.as_slice())
+        self.places.count_with(to, &sources.pages)
     }
 
     /// The number of ranges of a context once it got the cells that a plan gives it of another one.
@@ -107,8 +123,8 @@ impl PlacedWorld {
         (left, made)
     }
 
-    /// The numbers of ranges that the contexts `from` and `to` would have after `overlay`, in this order. They are
-    /// the same for every job.
+    /// The numbers of ranges that the contexts `from` and `to` would have after `overlay`, in this order.
+    /// They are the same for every job.
     pub(crate) fn ranges_after_overlay(&self, to: Name, from: Name, spec: &Spec) -> (u32, u32)
         requires to { IsLive (seen self.now) to }
         requires from { IsLive (seen self.now) from }

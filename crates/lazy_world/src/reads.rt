@@ -1,4 +1,5 @@
-ghost use Rattle.std.specs.Prelude.{◌≡◌, ◌<◌, ◌≤◌, ◌^◌, ℕ, IfNone, IfSome, Some, count_by, false, is_some, not, slice_get};
+ghost use Rattle.std.specs.Prelude.{◌≡◌, ◌<◌, ◌≤◌, ◌^◌, ℕ, IfNone, IfSome, Some};
+ghost use Rattle.std.specs.Prelude.{count_by, false, is_some, not, slice_get};
 ghost use Rattle.std.specs.FinMap as fm;
 ghost use Rattle.lwc_base.specs.declared.descriptor.TheConstants.{SLOTS};
 ghost use Rattle.lwc_base.specs.declared.key.Key.TheVariants.{Page, Slot, Cred};
@@ -122,7 +123,8 @@ impl PlacedWorld {
     /// The lowest empty slot of the context at a place.
     fn lowest_empty_at(&self, i: usize) -> Option<u8>
         requires { i < count self.now.places }
-        ensures { result ≡ find (λ n. is_empty (value_of (seen self.now) (Slot n) (rows self.now.places i (Slot n))))
+        ensures { result
+            ≡ find (λ n. is_empty (value_of (seen self.now) (Slot n) (rows self.now.places i (Slot n))))
             (range_with_len 0 SLOTS) }
     {
         let open = self.open_slots(i);

@@ -73,8 +73,8 @@ impl PlacedWorld {
         self.found_uid(i).moves(mode_of(spec, Key::Cred))
     }
 
-    /// Whether `clone_context` and `overlay` make a group: an item of mode share names a key that is present and
-    /// the context's own.
+    /// Whether `clone_context` and `overlay` make a group: an item of mode share names a key that is
+    /// present and the context's own.
     pub(crate) fn needs_group(&self, c: Name, spec: &Spec) -> bool
         requires live { IsLive (seen self.now) c }
         requires within { IsSpec (seen self.now).size.pages spec.now }

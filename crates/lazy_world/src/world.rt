@@ -12,9 +12,9 @@ use ctx_table::Names;
 use lwc_base::{OutOfMemory, Regs, WorldSize};
 use std::alloc::Global;
 
-/// A world whose contexts and groups share pages and descriptors. The context at place i of `contexts` has its
-/// cells and registers at place i, and the group at place j of `groups` has its values at the place j behind
-/// the last context's. After `open` no call takes memory. It stands for `seen`.
+/// A world whose contexts and groups share pages and descriptors. The context at place i of `contexts`
+/// has its cells and registers at place i, and the group at place j of `groups` has its values at the
+/// place j behind the last context's. After `open` no call takes memory. It stands for `seen`.
 #[derive(Drop)]
 pub struct PlacedWorld {
     pub(crate) size: WorldSize,

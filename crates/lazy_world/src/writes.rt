@@ -20,7 +20,8 @@ impl PlacedWorld {
     /// Puts a value under a key of a group.
     fn put_common(&mut self, g: Name, value: KeyValue)
         requires { HasSlot value }
-        ensures { seen self.new ≡ change_group (seen self.old) g (with_value (key_in value) (value_in value)) }
+        ensures { seen self.new
+            ≡ change_group (seen self.old) g (with_value (key_in value) (value_in value)) }
     {
         facts();
         self.contexts.are_placed();

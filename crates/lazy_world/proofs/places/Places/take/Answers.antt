@@ -1,8 +1,7 @@
-use Rattle.std.proofs.Common.{arith, ap, length, subst, sym, ◌∙◌}
-use Rattle.lazy_world.specs.Cells.{put_row}
+use Rattle.std.proofs.Common.{arith, subst, sym, ◌∙◌}
 use Rattle.lazy_world.specs.Plans.{CanGet}
 use Rattle.lazy_world.specs.Seen.{count, rows}
-use Rattle.lazy_world.specs.Sources.{slot_source, with_pages}
+use Rattle.lazy_world.specs.Sources.{slot_source}
 use Rattle.lazy_world.proofs.TakenLemmas.{all-taken}
 use Rattle.lazy_world.proofs.places.Places.take.Goals as goal
 
@@ -16,15 +15,14 @@ pub returns-clause-rows : goal.returns-clause-rows
 returns-clause-rows g c =
     let old = rows c.args.self.now in
     all-taken (count c.args.self.now) old c.args.i c.args.sources.now c.requires.given (omega arith) (rows c.take_pages.new.self) (rows c.take_slots.new.self) (rows c.take_uid.new.self)
-    (c.take_pages.ensures.rows ∙ ap (λ stretches. put_row old c.args.i (with_pages old stretches (old c.args.i))) c.as_slice.ensures.value)
-    c.take_slots.ensures.rows c.take_uid.ensures.rows
+    c.take_pages.ensures.rows c.take_slots.ensures.rows c.take_uid.ensures.rows
 
 pub returns-clause-nodes : goal.returns-clause-nodes
 returns-clause-nodes g c =
-    omega (arith, c.take_pages.ensures.nodes, c.take_slots.ensures.store.nodes, c.take_uid.ensures.store.nodes, ap length c.as_slice.ensures.value)
+    omega (arith, c.take_pages.ensures.nodes, c.take_slots.ensures.store.nodes, c.take_uid.ensures.store.nodes)
 
 pub returns-clause-cost : goal.returns-clause-cost
-returns-clause-cost g c empty = omega (arith, c.take_pages.ensures.cost empty, ap length c.as_slice.ensures.value)
+returns-clause-cost g c empty = c.take_pages.ensures.cost empty
 
 pub returns-clause-used : goal.returns-clause-used
 returns-clause-used g c empty = c.take_uid.ensures.store.used ∙ c.take_slots.ensures.store.used ∙ c.take_pages.ensures.used empty

@@ -1,10 +1,9 @@
-use Rattle.std.proofs.Common.{refl, ◌+◌, ◌≤◌, min, ◌∙◌, ap, arith, sym, subst}
+use Rattle.std.proofs.Common.{◌+◌, ◌≤◌, min, ◌∙◌, ap, arith, sym, subst}
 use Rattle.std.proofs.Math.Nat.{min-le_right}
 use Rattle.lwc_base.specs.declared.key.Key.TheVariants.{Page}
-use Rattle.lwc_base.specs.declared.limits.TheConstants.{MOST_PAGES}
 use Rattle.lwc_base.specs.World.{Context}
-use Rattle.range_map.specs.Kinds.{ranges}
-use Rattle.lazy_world.specs.Cells.{HasNoPages, is_nothing, is_own, kinds_of, put_row}
+use Rattle.lwc_base.specs.Ranges.{ranges_of}
+use Rattle.lazy_world.specs.Cells.{HasNoPages, put_row}
 use Rattle.lazy_world.specs.Plans.{planned_row}
 use Rattle.lazy_world.specs.Seen.{rows}
 use Rattle.lazy_world.specs.Sound.{HasOldTags, HasOneHome, IsSound}
@@ -12,7 +11,7 @@ use Rattle.lazy_world.specs.States.{context_at, world_of}
 use Rattle.lazy_world.specs.Worlds.{parts, seen}
 use Rattle.lazy_world.specs.declared.plan.Plan.TheVariants.{Clone}
 use Rattle.lazy_world.proofs.AddLemmas.{no_page}
-use Rattle.lazy_world.proofs.FollowLemmas.{copied-homes, followed-from, other-place, ranges-here, row-sound, row-world}
+use Rattle.lazy_world.proofs.FollowLemmas.{copied-homes, followed-from, ranges-here, row-sound, row-world}
 use Rattle.lazy_world.proofs.PastLemmas.{planned-within}
 use Rattle.lazy_world.proofs.world.PlacedWorld.clone_by.Goals as goal
 
@@ -46,50 +45,22 @@ returns-then-can_copy-clause-world g c =
     ∙ row-world s w.sound c.facts.ensures c.are_placed.ensures.placed c.args.made c.place-to.result c.place-to.ensures.found row _
     (followed-from (seen w) (Clone c.args.made) c.args.spec.now c.args.c (context_at s c.place-from.result) (context_at s c.place-to.result) c.place-from.ensures.context)
 
-pub returns-then-can_copy-clause-nodes : goal.returns-then-can_copy-clause-nodes
-returns-then-can_copy-clause-nodes g c = omega (arith, c.copy_place.ensures.nodes)
-
 pub returns-then-can_copy-clause-cost : goal.returns-then-can_copy-clause-cost
-unfolding seen parts
+unfolding seen parts rows
 returns-then-can_copy-clause-cost g c =
     let w = c.args.self.now in
     let s = parts w in
+    let copied = c.copy_place.ensures in
     let here = ranges-here s w.sound c.args.c c.place-from.result c.place-from.ensures.found c.ranges_are_those_of_the_context.ensures in
     let empty : HasNoPages (s.rows c.place-to.result) = λ p. sym (ap (λ (x : Context). x.cell (Page p)) c.place-to.ensures.context) ∙ no_page _ p (c.requires.empty (Page p)) in
-    omega (arith, c.copy_place.ensures.cost empty, min-le_right 1 (ranges MOST_PAGES (kinds_of (rows w.places c.place-from.result))), here)
-
-pub returns-then-can_copy-clause-used : goal.returns-then-can_copy-clause-used
-unfolding seen parts rows
-returns-then-can_copy-clause-used g c = c.copy_place.ensures.used (λ p. sym (ap (λ (x : Context). x.cell (Page p)) c.place-to.ensures.context) ∙ no_page _ p (c.requires.empty (Page p)))
+    let steps : c.copy_place.new.steps ≤ c.args.steps.now + min 1 (ranges_of (seen w) c.args.c) = omega (arith, copied.cost empty, ap (min 1) here) in
+    record {
+      used = copied.used empty;
+      nodes = omega (arith, copied.nodes);
+      steps = omega (arith, steps, min-le_right 1 (ranges_of (seen w) c.args.c));
+      whole_nodes = λ copies own. copied.nodes;
+      whole_steps = λ copies own. steps;
+    }
 
 pub clone_pieces-requires-clause-empty : goal.clone_pieces-requires-clause-empty
 clone_pieces-requires-clause-empty g c p = no_page _ p (c.requires.empty (Page p))
-
-pub returns-then-can_copy-clause-whole_nodes : goal.returns-then-can_copy-clause-whole_nodes
-returns-then-can_copy-clause-whole_nodes g c none own = c.copy_place.ensures.nodes
-
-pub returns-then-can_copy-clause-whole_cost : goal.returns-then-can_copy-clause-whole_cost
-unfolding seen parts rows
-returns-then-can_copy-clause-whole_cost g c none own =
-    let w = c.args.self.now in
-    let here = ranges-here (parts w) w.sound c.args.c c.place-from.result c.place-from.ensures.found c.ranges_are_those_of_the_context.ensures in
-    subst (λ n. c.copy_place.new.steps ≤ c.args.steps.now + min 1 n) (sym here)
-    (c.copy_place.ensures.cost (λ p. sym (ap (λ (x : Context). x.cell (Page p)) c.place-to.ensures.context) ∙ no_page _ p (c.requires.empty (Page p))))
-
-pub returns-else-can_copy-clause-whole_nodes : goal.returns-else-can_copy-clause-whole_nodes
-unfolding seen parts rows
-returns-else-can_copy-clause-whole_nodes g c none own =
-    let always = c.can_copy.ensures.all c.args.made refl none
-    (other-place (parts c.args.self.now).contexts c.are_placed.ensures.placed c.args.c c.args.made c.place-from.result c.place-to.result c.place-from.ensures.found c.place-to.ensures.found c.requires.apart)
-    (λ k. sym (ap (λ (x : Context). is_nothing k (x.cell k)) c.place-to.ensures.context) ∙ c.requires.empty k)
-    (λ k. sym (ap (λ (x : Context). is_own (x.cell k)) c.place-from.ensures.context) ∙ own k) in
-    absurd (let both = sym c.if-can_copy.false ∙ always in cc)
-
-pub returns-else-can_copy-clause-whole_cost : goal.returns-else-can_copy-clause-whole_cost
-unfolding seen parts rows
-returns-else-can_copy-clause-whole_cost g c none own =
-    let always = c.can_copy.ensures.all c.args.made refl none
-    (other-place (parts c.args.self.now).contexts c.are_placed.ensures.placed c.args.c c.args.made c.place-from.result c.place-to.result c.place-from.ensures.found c.place-to.ensures.found c.requires.apart)
-    (λ k. sym (ap (λ (x : Context). is_nothing k (x.cell k)) c.place-to.ensures.context) ∙ c.requires.empty k)
-    (λ k. sym (ap (λ (x : Context). is_own (x.cell k)) c.place-from.ensures.context) ∙ own k) in
-    absurd (let both = sym c.if-can_copy.false ∙ always in cc)

@@ -1,12 +1,15 @@
-use Rattle.std.proofs.Common.{arith, ◌≤◌, ◌∙◌, ap, sym, subst}
+use Rattle.std.proofs.Common.{arith, ◌≡◌, ◌≤◌, ◌∙◌, ap, min, sym, subst}
 use Rattle.lwc_base.specs.declared.limits.TheConstants.{MOST_PAGES, MOST_RANGES}
 use Rattle.lwc_base.specs.declared.key.Key.TheVariants.{Page}
-use Rattle.lwc_base.specs.World.{Context}
+use Rattle.lwc_base.specs.World.{Context, context}
 use Rattle.range_map.specs.Kinds.{ranges}
-use Rattle.lazy_world.specs.Cells.{HasNoPages, Row, kinds_of, put_row}
+use Rattle.lazy_world.specs.Cells.{HasNoPages, HasOwnPages, Row, is_own, kinds_of, put_row}
+use Rattle.lazy_world.specs.Clones.{CopiesPages}
+use Rattle.lazy_world.specs.declared.pieces.PageSources.TheVariants.{AllOf}
 use Rattle.lazy_world.specs.Plans.{moves, planned_row}
 use Rattle.lazy_world.specs.Seen.{rows}
 use Rattle.lazy_world.specs.Sound.{HasOldTags, HasOneHome, IsSound}
+use Rattle.lazy_world.specs.Sources.{most_nodes, most_steps}
 use Rattle.lazy_world.specs.States.{context_at, world_of}
 use Rattle.lazy_world.specs.Worlds.{parts, seen}
 use Rattle.lazy_world.specs.declared.plan.Plan.TheVariants.{Clone}
@@ -71,23 +74,19 @@ returns-clause-world g c =
     ∙ row-world s w.sound c.facts.ensures c.are_placed.ensures.placed c.args.made c.place-to.result c.place-to.ensures.found row _
     (followed-from (seen w) (Clone c.args.made) c.args.spec.now c.args.c (context_at s c.place-from.result) (context_at s c.place-to.result) c.place-from.ensures.context)
 
-pub returns-clause-nodes : goal.returns-clause-nodes
-unfolding seen parts
-returns-clause-nodes g c =
-    let w = c.args.self.now in
-    let s = parts w in
-    let ranges = ranges-here s w.sound c.args.c c.place-from.result c.place-from.ensures.found c.ranges_are_those_of_the_context.ensures in
-    omega (arith, c.take.ensures.nodes, c.clone_sources-sources.ensures.few, ranges)
-
 pub returns-clause-cost : goal.returns-clause-cost
-unfolding seen parts
+unfolding seen parts rows
 returns-clause-cost g c =
     let w = c.args.self.now in
     let s = parts w in
-    let ranges = ranges-here s w.sound c.args.c c.place-from.result c.place-from.ensures.found c.ranges_are_those_of_the_context.ensures in
+    let bounded = c.clone_sources-sources.ensures.bounded in
+    let here = ranges-here s w.sound c.args.c c.place-from.result c.place-from.ensures.found c.ranges_are_those_of_the_context.ensures in
     let empty : HasNoPages (s.rows c.place-to.result) = λ p. sym (ap (λ (x : Context). x.cell (Page p)) c.place-to.ensures.context) ∙ c.requires.empty p in
-    omega (arith, c.take.ensures.cost empty, c.clone_sources-sources.ensures.few, ranges)
-
-pub returns-clause-used : goal.returns-clause-used
-unfolding seen parts rows
-returns-clause-used g c = c.take.ensures.used (λ p. sym (ap (λ (x : Context). x.cell (Page p)) c.place-to.ensures.context) ∙ c.requires.empty p)
+    let whole : CopiesPages c.args.spec.now → HasOwnPages (context (seen w) c.args.c).cell → c.clone_sources-sources.result.pages ≡ AllOf c.place-from.result = λ copies own. bounded.whole copies (λ p. sym (ap (λ (x : Context). is_own (x.cell (Page p))) c.place-from.ensures.context) ∙ own p) in
+    record {
+      used = c.take.ensures.used empty;
+      nodes = omega (arith, c.take.ensures.nodes, bounded.nodes, here);
+      steps = omega (arith, c.take.ensures.cost empty, bounded.steps, here);
+      whole_nodes = λ copies own. omega (arith, c.take.ensures.nodes, ap most_nodes (whole copies own));
+      whole_steps = λ copies own. omega (arith, c.take.ensures.cost empty, ap (most_steps (rows w.places)) (whole copies own) ∙ ap (min 1) (sym here));
+    }

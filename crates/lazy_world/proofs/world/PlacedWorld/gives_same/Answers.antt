@@ -5,16 +5,16 @@ use Rattle.lazy_world.specs.Worlds.{parts, seen}
 use Rattle.lazy_world.proofs.CopyLemmas.{all-own, cloned-same, marked-same, no-items}
 use Rattle.lazy_world.proofs.world.PlacedWorld.gives_same.Goals as goal
 
-pub returns-in-Mark-clause-same : goal.returns-in-Mark-clause-same
-returns-in-Mark-clause-same c _ old =
+pub returns-in-Mark : goal.returns-in-Mark
+returns-in-Mark c _ old =
     let w = c.args.self.now in
     let none = no-items c.items.result.now c.args.spec.now c.is_empty.result c.items.ensures.items c.is_empty.ensures c.if-is_empty.true in
     (λ e. planned_row (seen w) (c.in-Mark.is e) (none e) (rows w.places c.args.from) old)
     ∙ marked-same (seen w) c.in-Mark.field-0 (rows w.places c.args.from) old
 
-pub returns-in-Clone-clause-same : goal.returns-in-Clone-clause-same
+pub returns-in-Clone : goal.returns-in-Clone
 unfolding parts
-returns-in-Clone-clause-same c here old =
+returns-in-Clone c here old =
     let w = c.args.self.now in
     let none = no-items c.items.result.now c.args.spec.now c.is_empty.result c.items.ensures.items c.is_empty.ensures c.if-is_empty.true in
     let own = c.is_all_own.ensures in

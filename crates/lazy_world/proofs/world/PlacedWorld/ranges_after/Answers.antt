@@ -37,7 +37,7 @@ returns-then-gives_same c =
     let i = c.place-to.result in
     let row = planned_row (seen w) c.args.plan c.args.spec.now (rows w.places c.place-from.result) (rows w.places i) in
     c.range_count.ensures
-    ∙ ap (λ (row : Row). ranges MOST_PAGES (kinds_of row)) (sym (c.gives_same.ensures.same c.if-gives_same.true (rows w.places i)))
+    ∙ ap (λ (row : Row). ranges MOST_PAGES (kinds_of row)) (sym (c.gives_same.ensures c.if-gives_same.true (rows w.places i)))
     ∙ sym
     (row-ranges s w.sound c.facts.ensures c.are_placed.ensures.placed c.args.c i c.place-to.ensures.found row _
     (followed-from (seen w) c.args.plan c.args.spec.now c.args.d (context_at s c.place-from.result) (context_at s i) c.place-from.ensures.context)

@@ -1,5 +1,8 @@
-use Rattle.std.proofs.Common.{arith}
+use Rattle.std.proofs.Common.{arith, ap}
+use Rattle.lwc_base.specs.declared.key.Key.TheVariants.{Page}
+use Rattle.lazy_world.specs.Plans.{given_or}
 use Rattle.lazy_world.specs.Seen.{count, rows}
+use Rattle.lazy_world.specs.declared.pieces.PageSources.TheVariants.{Stretches}
 use Rattle.lazy_world.specs.States.{world_of}
 use Rattle.lazy_world.specs.Worlds.{parts, seen}
 use Rattle.lazy_world.proofs.PastLemmas.{sourced-planned}
@@ -9,8 +12,8 @@ pub returns-clause-row : goal.returns-clause-row
 unfolding seen world_of parts
 returns-clause-row c =
     let w = c.args.self.now in
-    sourced-planned (seen w) w.size.pages (count w.places) c.args.spec.now c.args.plan (rows w.places) c.args.from c.args.to _ w.sound.sizes.size.pages.1 (omega arith)
-    c.requires.within (w.sound.past c.args.from) (w.sound.past c.args.to) c.page_sources.ensures.gives c.page_sources.ensures.past c.slot_sources.ensures c.uid_source.ensures
+    sourced-planned (seen w) w.size.pages (count w.places) c.args.spec.now c.args.plan (rows w.places) c.args.from c.args.to (record { pages = Stretches c.page_sources.result; slots = c.slot_sources.result; uid = c.uid_source.result }) w.sound.sizes.size.pages.1 (omega arith)
+    c.requires.within (w.sound.past c.args.from) (w.sound.past c.args.to) c.page_sources.ensures.gives (λ q high. ap (given_or (rows w.places) (Page q) (rows w.places c.args.to (Page q))) (c.page_sources.ensures.past q high)) c.slot_sources.ensures c.uid_source.ensures
 
 pub returns-clause-given : goal.returns-clause-given
 returns-clause-given c = record { pages = c.page_sources.ensures.given; slots = λ n low. (c.slot_sources.ensures n low).can; uid = c.uid_source.ensures.can }

@@ -1,0 +1,78 @@
+use Rattle.std.proofs.Common.{arith, ◌≤◌, ◌∙◌, ap, length, length-set, set, subst, sym, ℕ, List, Option}
+use Rattle.std.specs.Prelude.{All}
+use Rattle.std.proofs.Math.Nat.{min-le_left}
+use Rattle.lwc_base.specs.declared.limits.TheConstants.{MOST_PAGES, MOST_RANGES}
+use Rattle.range_map.specs.declared.segment.SegmentKind.{SegmentKind}
+use Rattle.range_map.specs.Kinds.{ranges}
+use Rattle.fd_table.specs.Seen as slots_seen
+use Rattle.page_cells.specs.Seen as pages_seen
+use Rattle.page_cells.specs.Cells as page_specs
+use Rattle.page_cells.specs.declared.stretches.Stretch.{Stretch}
+use Rattle.page_cells.specs.Changes.{IsStretch, changed_place}
+use Rattle.page_cells.specs.Tags.{used}
+use Rattle.lazy_world.specs.Cells.{rows_of}
+use Rattle.lazy_world.specs.Seen.{count, frame_count, free_nodes, rows, used_frames}
+use Rattle.lazy_world.specs.declared.pieces.PageSources.TheVariants.{Stretches}
+use Rattle.lazy_world.proofs.TakeLemmas.{kinds-given, row-given, stretches-given}
+use Rattle.lazy_world.proofs.places.Places.change_pages.Goals as goal
+
+pub change-requires-clause-place : goal.change-requires-clause-place
+unfolding count
+change-requires-clause-place g c = c.requires.place
+
+pub change-requires-clause-stretches : goal.change-requires-clause-stretches
+unfolding count
+change-requires-clause-stretches g c = subst (All (IsStretch (count c.args.self.now) c.args.i)) (sym c.as_slice.ensures.value) c.requires.given
+
+pub change-requires-clause-ranges : goal.change-requires-clause-ranges
+unfolding rows count
+change-requires-clause-ranges g c =
+    let w = c.args.self.now in
+    let cells = pages_seen.cells w.pages in
+    let table = slots_seen.slots w.slots in
+    let stretches = c.args.stretches.now in
+    subst (λ (list : List Stretch). ranges MOST_PAGES (page_specs.kinds_of (changed_place cells c.args.i list)) ≤ MOST_RANGES) (sym c.as_slice.ensures.value)
+    (subst (λ (kinds : ℕ → Option SegmentKind). ranges MOST_PAGES kinds ≤ MOST_RANGES)
+    (kinds-given cells table w.uids.items c.args.i (Stretches stretches) (changed_place cells c.args.i stretches.items) (stretches-given cells table w.uids.items c.args.i stretches.items)) c.requires.ranges)
+
+pub invariant_of-self : goal.invariant_of-self
+invariant_of-self g c =
+    let w = c.args.self.now in
+    let same = ap length c.change.ensures.cells ∙ length-set (pages_seen.cells w.pages) c.args.i _ in
+    record { kept = record { slot_count = w.kept.slot_count ∙ sym same; uid_count = w.kept.uid_count ∙ sym same; targets = w.kept.targets } }
+
+pub returns-clause-rows : goal.returns-clause-rows
+unfolding rows count
+returns-clause-rows g c =
+    let w = c.args.self.now in
+    let cells = pages_seen.cells w.pages in
+    let table = slots_seen.slots w.slots in
+    let stretches = c.args.stretches.now in
+    ap (λ cells. rows_of cells table w.uids.items) c.change.ensures.cells
+    ∙ ap (λ (list : List Stretch). rows_of (set cells c.args.i (changed_place cells c.args.i list)) table w.uids.items) c.as_slice.ensures.value
+    ∙ row-given cells table w.uids.items c.args.i (Stretches stretches) (changed_place cells c.args.i stretches.items) (stretches-given cells table w.uids.items c.args.i stretches.items) c.requires.place
+
+pub returns-clause-count : goal.returns-clause-count
+unfolding count
+returns-clause-count g c = ap length c.change.ensures.cells ∙ length-set (pages_seen.cells c.args.self.now.pages) c.args.i _
+
+pub returns-clause-frames : goal.returns-clause-frames
+unfolding frame_count
+returns-clause-frames g c = c.change.ensures.frames
+
+pub returns-clause-nodes : goal.returns-clause-nodes
+unfolding free_nodes
+returns-clause-nodes g c =
+    omega (arith, c.change.ensures.nodes, ap length c.as_slice.ensures.value, min-le_left 1 (length c.as_slice.result.now))
+
+pub returns-clause-cost : goal.returns-clause-cost
+unfolding rows rows_of
+returns-clause-cost g c = λ empty. omega (arith, c.change.ensures.cost_empty (λ e p. empty p e), ap length c.as_slice.ensures.value)
+
+pub returns-clause-used : goal.returns-clause-used
+unfolding rows rows_of count used_frames
+returns-clause-used g c empty =
+    let w = c.args.self.now in
+    ap used c.change.ensures.cells
+    ∙ c.copies_take_no_frame.ensures.changed (pages_seen.cells w.pages) c.args.i c.as_slice.result.now c.requires.place (λ e p. empty p e)
+    (subst (All (IsStretch (count w) c.args.i)) (sym c.as_slice.ensures.value) c.requires.given)

@@ -1,0 +1,55 @@
+use Rattle.std.proofs.Common.{◌∙◌, ap, length, length-set, sym}
+use Rattle.fd_table.specs.Seen as slots_seen
+use Rattle.page_cells.specs.Cells.{place_of}
+use Rattle.page_cells.specs.Seen as pages_seen
+use Rattle.page_cells.specs.Tags.{used}
+use Rattle.lazy_world.specs.Cells.{rows_of}
+use Rattle.lazy_world.specs.Seen.{count, frame_count, free_nodes, rows, used_frames}
+use Rattle.lazy_world.specs.declared.pieces.PageSources.TheVariants.{AllOf}
+use Rattle.lazy_world.proofs.TakeLemmas.{all-given, row-given}
+use Rattle.lazy_world.proofs.places.Places.copy_pages.Goals as goal
+
+pub clone_place-requires-clause-to : goal.clone_place-requires-clause-to
+unfolding count
+clone_place-requires-clause-to g c = c.requires.place
+
+pub clone_place-requires-clause-from : goal.clone_place-requires-clause-from
+unfolding count
+clone_place-requires-clause-from g c = c.requires.source
+
+pub invariant_of-self : goal.invariant_of-self
+invariant_of-self g c =
+    let w = c.args.self.now in
+    let same = ap length c.clone_place.ensures.cells ∙ length-set (pages_seen.cells w.pages) c.args.i _ in
+    record { kept = record { slot_count = w.kept.slot_count ∙ sym same; uid_count = w.kept.uid_count ∙ sym same; targets = w.kept.targets } }
+
+pub returns-clause-rows : goal.returns-clause-rows
+unfolding rows count
+returns-clause-rows g c =
+    let w = c.args.self.now in
+    let cells = pages_seen.cells w.pages in
+    let table = slots_seen.slots w.slots in
+    ap (λ cells. rows_of cells table w.uids.items) c.clone_place.ensures.cells
+    ∙ row-given cells table w.uids.items c.args.i (AllOf c.args.j) (place_of cells c.args.j) (all-given cells table w.uids.items c.args.i c.args.j) c.requires.place
+
+pub returns-clause-count : goal.returns-clause-count
+unfolding count
+returns-clause-count g c = ap length c.clone_place.ensures.cells ∙ length-set (pages_seen.cells c.args.self.now.pages) c.args.i _
+
+pub returns-clause-frames : goal.returns-clause-frames
+unfolding frame_count
+returns-clause-frames g c = c.clone_place.ensures.frames
+
+pub returns-clause-nodes : goal.returns-clause-nodes
+unfolding free_nodes
+returns-clause-nodes g c = c.clone_place.ensures.nodes
+
+pub returns-clause-cost : goal.returns-clause-cost
+unfolding rows rows_of
+returns-clause-cost g c = λ empty. c.clone_place.ensures.cost_empty (λ e p. empty p e)
+
+pub returns-clause-used : goal.returns-clause-used
+unfolding rows rows_of count used_frames
+returns-clause-used g c empty =
+    ap used c.clone_place.ensures.cells
+    ∙ c.copies_take_no_frame.ensures.cloned (pages_seen.cells c.args.self.now.pages) c.args.i c.args.j c.requires.place c.requires.source (λ e p. empty p e)
