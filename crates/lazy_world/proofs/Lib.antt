@@ -1,7 +1,6 @@
 mod AddLemmas
 mod AfterLemmas
 mod AnchorLemmas
-mod BegunLemmas
 mod ClearLemmas
 mod CloneLemmas
 mod CloneSources

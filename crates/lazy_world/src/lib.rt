@@ -30,6 +30,3 @@ pub mod world;
 pub mod writes;
 
 pub use lazy::LazyWorld;
-
-#[cfg(test)]
-mod tests;

@@ -1,5 +1,4 @@
 pub mod Adding
-pub mod BegunWorld
 pub mod CloneCells
 pub mod Counted
 pub mod Gathered

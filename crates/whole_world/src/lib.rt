@@ -17,8 +17,6 @@ mod sharing;
 mod store;
 mod table;
 mod tags;
-#[cfg(test)]
-mod tests;
 mod touched;
 mod world;
 mod writes;
