@@ -141,7 +141,3 @@ module _ (files mid after : FilesView) (name : List ℕ) (limit : ℕ) (bytes : 
 -- a count that has increased since it was what it was at first
 pub increased_by_then : (files mid after : FilesView) (name : List ℕ) → mid.faults ≡ files.faults → CountsOneFault (mid.faults name) (after.faults name) → CountsOneFault (files.faults name) (after.faults name)
 increased_by_then files mid after name same rose = (let P : (List ℕ → ℕ) → Type 0 = λ f. CountsOneFault (f name) (after.faults name) in subst P same rose)
-
--- the same bytes under another name
-pub same_contents : (contents : Option (List ℕ)) (bytes now : List ℕ) → now ≡ bytes → MayBeContents contents bytes → MayBeContents contents now
-same_contents contents bytes now is may = subst (λ xs. MayBeContents contents xs) (sym is) may
