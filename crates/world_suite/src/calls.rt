@@ -1,21 +1,20 @@
 //! Each call of `World` once, over both worlds. What is expected is said by the definitions of the calls.
 
-ghost use Rattle.std.specs.Prelude.{◌≡◌, ℕ, ◌≤◌, IfOk};
+ghost use Rattle.std.specs.Prelude.{◌≡◌, ◌≤◌, IfOk};
 ghost use Rattle.lwc_base.specs.Modes.{IsSpec};
 ghost use Rattle.world_face.specs.Calls.{HasGroupPlace, HasPlace, IsLive};
 
 use lazy_world::LazyWorld;
 use lwc_base::laws::{changes_leave_the_rest, live_names_are_counted, names_stay_old};
 use lwc_base::{
-    Cap, Descriptor, Item, Kind, Mode, Name, OutOfMemory, Range, Regs, Spec, StoreFault, Summary,
-    WorldSize,
+    Cap, Descriptor, Item, Kind, Mode, Name, Range, Regs, Spec, StoreFault, Summary, WorldSize,
 };
 use std::process::Abort;
 use std::test::Fail;
 use whole_world::WholeWorld;
 use world_face::World;
 
-/// A world of four pages with one context, whose first two pages are mapped.
+/// A world of four pages with one context, which has the first two.
 fn begun<R: AllocGlobal + Abort, W: World>(rt: &R, frames: u32) -> Result<(W, Name), Fail>
     requires some { 1 ≤ frames }
     requires few { frames ≤ 65536 }
@@ -64,8 +63,14 @@ fn refuses_stores<R: AllocGlobal + Abort, W: World>(rt: &R) -> Result<(), Fail> 
         world.store(c, 4092, &[1, 2, 3, 4, 5, 6, 7, 8], 1),
         Err(StoreFault::NoFrame)
     );
+    assert_eq!(rt;
+        world.store(c, 8191, &[1, 2], 1),
+        Err(StoreFault::BadAddress)
+    );
     assert_eq!(rt; world.used(), 0);
     let mut out = [9; 2];
+    assert!(rt; !world.bytes(c, 8191, &mut out));
+    assert_eq!(rt; out, [9, 9]);
     assert!(rt; world.bytes(c, 4095, &mut out));
     assert_eq!(rt; out, [0, 0]);
     Ok(())
