@@ -1,6 +1,8 @@
 -- What rows over a store are seen as.
 use Rattle.std.specs.Prelude.{◌≡◌, ℕ, List, Option, length, slice_index}
+use Rattle.lwc_base.specs.declared.name.Tag.{Tag}
 use Rattle.lwc_base.specs.declared.page.PageValue.{PageValue}
+use Rattle.frame_pool.specs.Frame.{frame_bytes, frame_stamp}
 use Rattle.std.proofs.Math.Nat.{ℕ_set}
 use Rattle.node_pool.specs.Nodes.{free_of}
 use Rattle.page_tree.specs.Steps.{root_short}
@@ -14,6 +16,10 @@ maps w = tree_maps w.store.frames w.store.nodes w.trees.items
 -- how many frames there are
 unfoldable pub frames_of : Rows → ℕ
 frames_of w = length w.store.frames
+
+-- the stamp and the bytes of each frame, in use or free
+unfoldable pub pool : Rows → ℕ → Tag × List ℕ
+pool w f = (frame_stamp w.store.frames f, frame_bytes w.store.frames f)
 
 -- how many tree nodes are free
 unfoldable pub free_nodes : Rows → ℕ

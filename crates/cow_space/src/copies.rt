@@ -16,10 +16,10 @@ impl Rows {
     ghost use Rattle.std.specs.Prelude.{◌≡◌, ◌≢◌, ℕ, ◌+◌, ◌<◌, ◌≤◌, ◌⊎◌, length, slice_set};
     ghost use Rattle.page_tree.specs.declared.store.TheConstants.{PAGES};
     ghost use Rattle.cow_space.specs.Maps.{no_pages, put_range, row_of, share_range};
-    ghost use Rattle.cow_space.specs.Seen.{frames_of, free_nodes, maps, HasNoTree, HasOwnRoot};
+    ghost use Rattle.cow_space.specs.Seen.{frames_of, free_nodes, maps, pool, HasNoTree, HasOwnRoot};
 
-    /// Makes the pages of a range of one row those of another. No frame is taken, and at most the root and
-    /// two leaves.
+    /// Makes the pages of a range of one row those of another. No frame is taken or written, and at most the
+    /// root and two leaves are taken.
     pub fn share_between<L: Ledger>(
         &mut self,
         to: usize,
@@ -34,6 +34,7 @@ impl Rows {
         requires inside { range.to ≤ PAGES }
         ensures maps { maps self.new ≡ share_range (maps self.old) to from range.from range.to }
         ensures frames { frames_of self.new ≡ frames_of self.old }
+        ensures pool { pool self.new ≡ pool self.old }
         ensures others { (j : ℕ) → j ≢ to → HasNoTree self.old j → HasNoTree self.new j }
         ensures own { HasOwnRoot self.new to }
         ensures nodes { free_nodes self.old ≤ free_nodes self.new + 3 }
@@ -49,7 +50,7 @@ impl Rows {
         self.trees[to] = tree;
     }
 
-    /// Takes the pages of a range from a row.
+    /// Takes the pages of a range from a row. No frame is written.
     pub fn clear<L: Ledger>(&mut self, i: usize, range: Range, steps: &mut Steps<L>)
         requires row { i < length (maps self.old) }
         requires order { range.from ≤ range.to }
@@ -57,6 +58,7 @@ impl Rows {
         ensures maps { maps self.new
             ≡ slice_set (maps self.old) i (put_range (row_of (maps self.old) i) range.from range.to no_pages) }
         ensures frames { frames_of self.new ≡ frames_of self.old }
+        ensures pool { pool self.new ≡ pool self.old }
         ensures others { (j : ℕ) → j ≢ i → HasNoTree self.old j → HasNoTree self.new j }
         ensures own { (HasNoTree self.new i) ⊎ (HasOwnRoot self.new i) }
         ensures all { range.from ≡ 0 → range.to ≡ PAGES → HasNoTree self.new i }
@@ -77,6 +79,7 @@ impl Rows {
         requires row { i < length (maps self.old) }
         ensures maps { maps self.new ≡ slice_set (maps self.old) i no_pages }
         ensures frames { frames_of self.new ≡ frames_of self.old }
+        ensures pool { pool self.new ≡ pool self.old }
         ensures others { (j : ℕ) → j ≢ i → HasNoTree self.old j → HasNoTree self.new j }
         ensures nodes { free_nodes self.old ≤ free_nodes self.new }
         ensures empty { HasNoTree self.new i }
@@ -96,6 +99,7 @@ impl Rows {
         requires apart { from ≢ to }
         ensures maps { maps self.new ≡ slice_set (maps self.old) to (row_of (maps self.old) from) }
         ensures frames { frames_of self.new ≡ frames_of self.old }
+        ensures pool { pool self.new ≡ pool self.old }
         ensures others { (j : ℕ) → j ≢ to → HasNoTree self.old j → HasNoTree self.new j }
         ensures nodes { free_nodes self.old ≤ free_nodes self.new }
         ensures cost { steps.new ≤ steps.old + 34 }

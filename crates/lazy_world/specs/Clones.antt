@@ -14,14 +14,17 @@ use Rattle.range_map.specs.declared.segment.SegmentKind.{SegmentKind}
 use Rattle.range_map.specs.declared.segment.SegmentKind.TheVariants.{Own, Common}
 use Rattle.page_cells.specs.declared.stretches.Source.{Source}
 use Rattle.page_cells.specs.declared.stretches.Source.TheVariants.{Absent, CopyOf}
-use Rattle.lazy_world.specs.declared.places.Places.{Places}
+use Rattle.lwc_base.specs.Ranges.{ranges_of}
+use Rattle.lwc_base.specs.World.{context}
+use Rattle.lazy_world.specs.declared.world.PlacedWorld.{PlacedWorld}
 use Rattle.lazy_world.specs.Cells.{HasOwnPages, Row, kinds_of}
 use Rattle.lazy_world.specs.Plans.{copied_source}
-use Rattle.lazy_world.specs.Seen.{free_nodes, used_frames}
+use Rattle.lazy_world.specs.Seen.{free_nodes, pool, used_frames}
 use Rattle.lazy_world.specs.Sources.{most_nodes, most_steps}
 use Rattle.lazy_world.specs.declared.pieces.PageSources.{PageSources}
 use Rattle.lazy_world.specs.declared.pieces.PageSources.TheVariants.{AllOf}
 use Rattle.lazy_world.specs.States.{Parts}
+use Rattle.lazy_world.specs.Worlds.{seen}
 
 -- the place of a group, if it is live
 abbrev pub place_of_group : Parts → Name → Option ℕ
@@ -56,12 +59,13 @@ pub record AreBounded (rows : ℕ → Row) (from : ℕ) (items : List Item) (pag
   pub steps : most_steps rows pages ≤ 64 * (ranges MOST_PAGES (kinds_of (rows from)) + length items)
   pub whole : CopiesPages items → HasOwnPages (rows from) → pages ≡ AllOf from
 
--- what it takes to give a context the pages of a row with this number of ranges by items: no frame, and at most 64
--- node steps and 2 free nodes for each range and each item, and one free node besides; where all pages are copied and
--- all are the row's own, at most one node step and no free node
-pub record CloneCost (old new : Places) (before after ranges : ℕ) (items : List Item) (row : Row) : Type 0 where
-  pub used : used_frames new ≡ used_frames old
-  pub nodes : free_nodes old ≤ free_nodes new + (1 + 2 * (ranges + length items))
-  pub steps : after ≤ before + 64 * (ranges + length items)
-  pub whole_nodes : CopiesPages items → HasOwnPages row → free_nodes old ≤ free_nodes new
-  pub whole_steps : CopiesPages items → HasOwnPages row → after ≤ before + min 1 ranges
+-- what a clone of a context takes: the frames in use are as many as before, and each frame keeps its stamp and its
+-- bytes; for each range of the context and each item at most 64 node steps and 2 free nodes, and one free node besides;
+-- where all pages are copied and all are the context's own, at most one node step and no free node
+pub record CloneCost (old new : PlacedWorld) (before after : ℕ) (c : Name) (items : List Item) : Type 0 where
+  pub used : used_frames new.places ≡ used_frames old.places
+  pub pool : pool new.places ≡ pool old.places
+  pub nodes : free_nodes old.places ≤ free_nodes new.places + (1 + 2 * (ranges_of (seen old) c + length items))
+  pub steps : after ≤ before + 64 * (ranges_of (seen old) c + length items)
+  pub whole_nodes : CopiesPages items → HasOwnPages (context (seen old) c).cell → free_nodes old.places ≤ free_nodes new.places
+  pub whole_steps : CopiesPages items → HasOwnPages (context (seen old) c).cell → after ≤ before + min 1 (ranges_of (seen old) c)

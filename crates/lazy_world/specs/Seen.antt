@@ -1,5 +1,6 @@
 -- What places are seen as.
 use Rattle.std.specs.Prelude.{◌≡◌, ℕ, List, length}
+use Rattle.lwc_base.specs.declared.name.Tag.{Tag}
 use Rattle.fd_table.specs.Seen as slots_seen
 use Rattle.page_cells.specs.Cells.{Place}
 use Rattle.page_cells.specs.Seen as pages_seen
@@ -31,7 +32,12 @@ free_nodes w = pages_seen.free_nodes w.pages
 unfoldable pub used_frames : Places → ℕ
 used_frames w = used (pages_seen.cells w.pages)
 
--- as many tree nodes are free as before, and as many frames in use
+-- the stamp and the bytes of each frame, in use or free
+unfoldable pub pool : Places → ℕ → Tag × List ℕ
+pool w = pages_seen.pool w.pages
+
+-- as many tree nodes are free as before, as many frames are in use, and each frame is as it was
 pub record KeepsStore (old new : Places) : Type 0 where
   pub nodes : free_nodes new ≡ free_nodes old
   pub used : used_frames new ≡ used_frames old
+  pub pool : pool new ≡ pool old

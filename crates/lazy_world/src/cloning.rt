@@ -184,8 +184,7 @@ impl PlacedWorld {
         requires fresh { IsFresh (followed (seen self.old) (Clone made) spec.now c made) }
         requires few { ranges_of (followed (seen self.old) (Clone made) spec.now c made) made ≤ MOST_RANGES }
         ensures world { seen self.new ≡ followed (seen self.old) (Clone made) spec.now c made }
-        ensures cost { CloneCost self.old.places self.new.places steps.old steps.new
-            (ranges_of (seen self.old) c) spec.now (context (seen self.old) c).cell }
+        ensures cost { CloneCost self.old self.new steps.old steps.new c spec.now }
     {
         facts();
         self.contexts.are_placed();
@@ -198,9 +197,8 @@ impl PlacedWorld {
 
     /// A context with nothing but a credential gets the cells of a clone of another one, once that one's
     /// values of mode share have moved. For each range of the other one and for each item it takes at most 64
-    /// node steps and 2 free nodes, and one free node besides. Pages that are all the other one's own, and of
-    /// which items share none and leave none out, are copied by one hold of the root of their tree. No frame
-    /// is taken.
+    /// node steps and 2 free nodes, and one free node besides; at most one node step and no node where all
+    /// pages are the other one's own, and items share none and leave none out. No frame is taken or written.
     pub(crate) fn clone_by<L: Ledger>(
         &mut self,
         spec: &Spec,
@@ -217,8 +215,7 @@ impl PlacedWorld {
         requires fresh { IsFresh (followed (seen self.old) (Clone made) spec.now c made) }
         requires few { ranges_of (followed (seen self.old) (Clone made) spec.now c made) made ≤ MOST_RANGES }
         ensures world { seen self.new ≡ followed (seen self.old) (Clone made) spec.now c made }
-        ensures cost { CloneCost self.old.places self.new.places steps.old steps.new
-            (ranges_of (seen self.old) c) spec.now (context (seen self.old) c).cell }
+        ensures cost { CloneCost self.old self.new steps.old steps.new c spec.now }
     {
         facts();
         self.contexts.are_placed();

@@ -7,7 +7,7 @@ ghost use Rattle.lwc_base.specs.declared.limits.TheConstants.{MOST_PAGES};
 ghost use Rattle.range_map.specs.Kinds.{ranges};
 ghost use Rattle.lazy_world.specs.Cells.{HasNoPages, HasOwnPages, Row, is_own, kinds_of, put_row};
 ghost use Rattle.lazy_world.specs.Plans.{planned_row};
-ghost use Rattle.lazy_world.specs.Seen.{count, frame_count, free_nodes, rows, used_frames};
+ghost use Rattle.lazy_world.specs.Seen.{count, frame_count, free_nodes, pool, rows, used_frames};
 
 use crate::places::Places;
 use crate::plan::Plan;
@@ -32,6 +32,7 @@ impl Places {
         ensures frames { frame_count self.new ≡ frame_count self.old }
         ensures nodes { free_nodes self.old ≤ free_nodes self.new }
         ensures used { HasNoPages (rows self.old to) → used_frames self.new ≡ used_frames self.old }
+        ensures pool { pool self.new ≡ pool self.old }
         ensures cost { HasNoPages (rows self.old to)
             → steps.new ≤ steps.old + min 1 (ranges MOST_PAGES (kinds_of (rows self.old from))) }
     {

@@ -38,7 +38,7 @@ impl Places {
     ghost use Rattle.lazy_world.specs.Sources.{AreGiven, ArePagesGiven, most_nodes, most_steps, slot_source};
     ghost use Rattle.lazy_world.specs.Sources.{sourced_row, with_pages, with_slots};
     ghost use Rattle.lazy_world.specs.declared.pieces.PageSources.TheVariants.{AllOf, Stretches};
-    ghost use Rattle.lazy_world.specs.Seen.{KeepsStore, count, frame_count, free_nodes, rows, used_frames};
+    ghost use Rattle.lazy_world.specs.Seen.{KeepsStore, count, frame_count, free_nodes, pool, rows, used_frames};
 
     /// A later page, or the end of all pages, up to which the pages of a place have the kind of this one.
     #[tactic(auto, unfolding(crate::specs::Seen::rows, crate::specs::Seen::count, crate::specs::Cells::rows_of))]
@@ -76,6 +76,7 @@ impl Places {
         ensures frames { frame_count self.new ≡ frame_count self.old }
         ensures nodes { free_nodes self.old ≤ free_nodes self.new }
         ensures used { HasNoPages (rows self.old i) → used_frames self.new ≡ used_frames self.old }
+        ensures pool { pool self.new ≡ pool self.old }
         ensures cost { HasNoPages (rows self.old i)
             → steps.new ≤ steps.old + min 1 (ranges MOST_PAGES (kinds_of (rows self.old j))) }
     {
@@ -101,6 +102,7 @@ impl Places {
         ensures frames { frame_count self.new ≡ frame_count self.old }
         ensures nodes { free_nodes self.old ≤ free_nodes self.new + (1 + 2 * length stretches.now.items) }
         ensures used { HasNoPages (rows self.old i) → used_frames self.new ≡ used_frames self.old }
+        ensures pool { pool self.new ≡ pool self.old }
         ensures cost { HasNoPages (rows self.old i)
             → steps.new ≤ steps.old + 64 * length stretches.now.items }
     {
@@ -120,6 +122,7 @@ impl Places {
         ensures frames { frame_count self.new ≡ frame_count self.old }
         ensures nodes { free_nodes self.old ≤ free_nodes self.new + most_nodes pages.now }
         ensures used { HasNoPages (rows self.old i) → used_frames self.new ≡ used_frames self.old }
+        ensures pool { pool self.new ≡ pool self.old }
         ensures cost { HasNoPages (rows self.old i)
             → steps.new ≤ steps.old + most_steps (rows self.old) pages.now }
     {
@@ -228,7 +231,7 @@ impl Places {
     }
 
     /// Makes the cells of a place what their sources say. A place without pages takes at most 64 node steps
-    /// for each stretch, or one if it gets all pages of another one, and no frame.
+    /// for each stretch, or one if it gets all pages of another one, and no frame. No frame is written.
     pub fn take<L: Ledger>(&mut self, i: usize, sources: &Sources, steps: &mut Steps<L>)
         requires place { i < count self.old }
         requires given { AreGiven (count self.old) i sources.now }
@@ -239,6 +242,7 @@ impl Places {
         ensures frames { frame_count self.new ≡ frame_count self.old }
         ensures nodes { free_nodes self.old ≤ free_nodes self.new + most_nodes sources.now.pages }
         ensures used { HasNoPages (rows self.old i) → used_frames self.new ≡ used_frames self.old }
+        ensures pool { pool self.new ≡ pool self.old }
         ensures cost { HasNoPages (rows self.old i)
             → steps.new ≤ steps.old + most_steps (rows self.old) sources.now.pages }
     {

@@ -1,5 +1,6 @@
 -- What the pages of places are seen as.
 use Rattle.std.specs.Prelude.{ℕ, List}
+use Rattle.lwc_base.specs.declared.name.Tag.{Tag}
 use Rattle.cow_space.specs.Seen as rows
 use Rattle.page_cells.specs.declared.cells.PageCells.{PageCells}
 use Rattle.page_cells.specs.Cells.{Place, all_cells}
@@ -11,6 +12,10 @@ cells w = all_cells w.kinds.items (rows.maps w.rows)
 -- how many frames there are
 unfoldable pub frames_of : PageCells → ℕ
 frames_of w = rows.frames_of w.rows
+
+-- the stamp and the bytes of each frame, in use or free
+unfoldable pub pool : PageCells → ℕ → Tag × List ℕ
+pool w = rows.pool w.rows
 
 -- how many tree nodes are free
 unfoldable pub free_nodes : PageCells → ℕ

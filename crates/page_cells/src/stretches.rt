@@ -5,7 +5,7 @@ ghost use Rattle.cow_space.specs.Seen as rows_seen;
 ghost use Rattle.page_cells.specs.Cells.{kinds_of, no_pages, place_of};
 ghost use Rattle.page_cells.specs.Changes.{IsStretch, changed_place};
 ghost use Rattle.page_cells.specs.Rows.{changed_row};
-ghost use Rattle.page_cells.specs.Seen.{cells, frames_of, free_nodes};
+ghost use Rattle.page_cells.specs.Seen.{cells, frames_of, free_nodes, pool};
 
 use crate::cells::PageCells;
 use cow_space::Rows;
@@ -14,7 +14,7 @@ use pool_base::Steps;
 use range_map::{RangeMap, ranges_go_by_kinds};
 use std::sync::ledger::Ledger;
 
-/// The most stretches of one change: one for each page.
+/// The most stretches of one change, and the most changes of kinds that they make: one for each page.
 pub const MOST_STRETCHES: usize = 1024;
 
 /// What the pages of a stretch get.
@@ -55,6 +55,7 @@ fn fill_row<L: Ledger>(rows: &mut Rows, i: usize, stretches: &[Stretch], steps: 
     ensures maps { rows_seen.maps rows.new
         ≡ slice_set (rows_seen.maps rows.old) i (changed_row (rows_seen.maps rows.old) i stretches.now) }
     ensures frames { rows_seen.frames_of rows.new ≡ rows_seen.frames_of rows.old }
+    ensures pool { rows_seen.pool rows.new ≡ rows_seen.pool rows.old }
     ensures others { (j : ℕ) → j ≢ i → rows_seen.HasNoTree rows.old j → rows_seen.HasNoTree rows.new j }
     ensures nodes { rows_seen.free_nodes rows.old
         ≤ rows_seen.free_nodes rows.new + (min 1 (length stretches.now) + 2 * length stretches.now) }
@@ -84,7 +85,7 @@ impl PageCells {
     }
 
     /// Gives the pages of each stretch of a place what its source says, and leaves all other pages. Of two
-    /// stretches that have a page, the first counts. No frame is taken.
+    /// stretches that have a page, the first counts. No frame is written.
     pub fn change<L: Ledger>(&mut self, i: usize, stretches: &[Stretch], steps: &mut Steps<L>)
         requires place { i < length (cells self.old) }
         requires stretches { All (IsStretch (length (cells self.old)) i) stretches.now }
@@ -93,6 +94,7 @@ impl PageCells {
         ensures cells { cells self.new
             ≡ slice_set (cells self.old) i (changed_place (cells self.old) i stretches.now) }
         ensures frames { frames_of self.new ≡ frames_of self.old }
+        ensures pool { pool self.new ≡ pool self.old }
         ensures nodes { free_nodes self.old
             ≤ free_nodes self.new + (min 1 (length stretches.now) + 2 * length stretches.now) }
         ensures cost { steps.new
@@ -110,13 +112,15 @@ impl PageCells {
         }
     }
 
-    /// Makes all pages of a place those of another, by one hold of the root of their tree. No frame is taken.
+    /// Makes all pages of a place those of another, by one hold of the root of their tree. No frame is
+    /// written.
     pub fn clone_place<L: Ledger>(&mut self, to: usize, from: usize, steps: &mut Steps<L>)
         requires to { to < length (cells self.old) }
         requires from { from < length (cells self.old) }
         requires apart { from ≢ to }
         ensures cells { cells self.new ≡ slice_set (cells self.old) to (place_of (cells self.old) from) }
         ensures frames { frames_of self.new ≡ frames_of self.old }
+        ensures pool { pool self.new ≡ pool self.old }
         ensures nodes { free_nodes self.old ≤ free_nodes self.new }
         ensures cost { steps.new ≤ steps.old + 34 }
         ensures cost_empty { place_of (cells self.old) to ≡ no_pages
@@ -135,6 +139,7 @@ impl PageCells {
         requires place { i < length (cells self.old) }
         ensures cells { cells self.new ≡ slice_set (cells self.old) i no_pages }
         ensures frames { frames_of self.new ≡ frames_of self.old }
+        ensures pool { pool self.new ≡ pool self.old }
         ensures nodes { free_nodes self.old ≤ free_nodes self.new }
         ensures cost { steps.new ≤ steps.old + 33 }
         ensures cost_empty { place_of (cells self.old) i ≡ no_pages → steps.new ≡ steps.old }

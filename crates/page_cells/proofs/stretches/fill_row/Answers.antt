@@ -14,6 +14,7 @@ stretches-init g c =
       maps = row-begin (maps c.args.rows.now) c.args.i (length c.args.stretches.now) c.args.stretches.now (omega arith);
       within = omega arith;
       frames = refl;
+      pool = refl;
       others = λ j off none. none;
       begins = λ _ none. none;
       own = λ some. absurd (omega (arith, some));
@@ -73,6 +74,7 @@ stretches-preserved-in-CopyOf g c =
           c.in-CopyOf.j c.in-CopyOf.is source.1 mine.maps;
       within = omega (arith, more);
       frames = mine.frames ∙ inv.frames;
+      pool = mine.pool ∙ inv.pool;
       others = λ j off none. mine.others j off (inv.others j off none);
       begins = λ is. absurd (omega (arith, is, more));
       own = λ _. inr mine.own;
@@ -96,6 +98,7 @@ stretches-preserved g c =
           (no-value (maps c.args.rows.now) (get_or stretches k none).source c.in_default.not-CopyOf) mine.maps;
       within = omega (arith, more);
       frames = mine.frames ∙ inv.frames;
+      pool = mine.pool ∙ inv.pool;
       others = λ j off none. mine.others j off (inv.others j off none);
       begins = λ is. absurd (omega (arith, is, more));
       own = λ _. ⊎_elim

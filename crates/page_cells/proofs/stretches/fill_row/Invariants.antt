@@ -1,5 +1,5 @@
 use Rattle.std.proofs.Common.{◌≡◌, ◌≢◌, ℕ, ◌<◌, ◌≤◌, ◌+◌, ◌*◌, ◌-◌, ◌⊎◌, drop, length, min, set}
-use Rattle.cow_space.specs.Seen.{maps, frames_of, free_nodes, HasNoTree, HasOwnRoot}
+use Rattle.cow_space.specs.Seen.{maps, frames_of, free_nodes, pool, HasNoTree, HasOwnRoot}
 use Rattle.page_cells.specs.Rows.{changed_row}
 use Rattle.page_cells.proofs.stretches.fill_row.Given as goal
 
@@ -8,6 +8,7 @@ invariant-stretches g l = record {
   maps : maps l.rows ≡ set (maps l.fn.rows) l.fn.i (changed_row (maps l.fn.rows) l.fn.i (drop l.k l.stretches));
   within : l.k ≤ length l.stretches;
   frames : frames_of l.rows ≡ frames_of l.fn.rows;
+  pool : pool l.rows ≡ pool l.fn.rows;
   others : (j : ℕ) → j ≢ l.fn.i → HasNoTree l.fn.rows j → HasNoTree l.rows j;
   begins : l.k ≡ length l.stretches → HasNoTree l.fn.rows l.fn.i → HasNoTree l.rows l.fn.i;
   own : l.k < length l.stretches → (HasNoTree l.rows l.fn.i × (free_nodes l.fn.rows ≤ free_nodes l.rows + 2 * (length l.stretches - l.k))) ⊎ HasOwnRoot l.rows l.fn.i;

@@ -2,7 +2,7 @@ use Rattle.std.proofs.Common.{ap, ◌∙◌, sym, inl, inr, ⊎_elim, arith, get
 use Rattle.std.proofs.lemmas.List.{get_or_read, get_or-set_same}
 use Rattle.page_tree.specs.declared.cell.PageCell.TheVariants.{Absent}
 use Rattle.page_tree.specs.Steps.{root_short}
-use Rattle.cow_space.specs.Seen.{maps, frames_of, free_nodes, HasNoTree, HasOwnRoot}
+use Rattle.cow_space.specs.Seen.{maps, frames_of, free_nodes, HasNoTree, HasOwnRoot, pool}
 use Rattle.cow_space.proofs.Trees.{rows-in, kept-tree, kept-free, kept-set, maps-range}
 use Rattle.cow_space.proofs.rows.Rows.clear.Goals as goal
 
@@ -101,3 +101,7 @@ unfolding HasNoTree maps
 returns-clause-all g c = λ first end.
     let inside = rows-in _ _ c.args.self.now.trees.items c.args.i c.requires.row in
     get_or-set_same c.args.self.now.trees.items c.args.i c.clear_range.new.self 0 inside ∙ c.clear_range.ensures.all first end
+
+pub returns-clause-pool : goal.returns-clause-pool
+unfolding pool
+returns-clause-pool g c = λ e f. (c.clear_range.ensures.frames.stamps f e, c.clear_range.ensures.frames.bytes f e)

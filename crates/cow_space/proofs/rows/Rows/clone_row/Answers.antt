@@ -1,7 +1,7 @@
 use Rattle.std.proofs.Common.{length, sym, ap, ◌∙◌, arith, length-set, get_or-set_other}
 use Rattle.std.proofs.lemmas.List.{get_or_read}
 use Rattle.cow_space.specs.Maps.{no_pages}
-use Rattle.cow_space.specs.Seen.{maps, frames_of, free_nodes, HasNoTree}
+use Rattle.cow_space.specs.Seen.{maps, frames_of, free_nodes, HasNoTree, pool}
 use Rattle.cow_space.proofs.Trees.{rows-in, length-maps, kept-tree, kept-few, kept-set, maps-clone}
 use Rattle.cow_space.proofs.rows.Rows.clone_row.Goals as goal
 
@@ -60,3 +60,10 @@ pub returns-clause-others : goal.returns-clause-others
 unfolding HasNoTree
 returns-clause-others g c = λ j off none.
     get_or-set_other c.drop_row.new.self.trees.items c.args.to j c.held_too-tree.result 0 off ∙ c.drop_row.ensures.others j off none
+
+pub returns-clause-pool : goal.returns-clause-pool
+unfolding pool
+returns-clause-pool g c =
+    let held = c.held_too-tree.ensures.frames in
+    let dropped = c.drop_row.ensures.pool in
+    λ e f. ((held.stamps f ∙ ap (λ frame. frame.0) (λ i. dropped i f)) e, (held.bytes f ∙ ap (λ frame. frame.1) (λ i. dropped i f)) e)

@@ -2,7 +2,7 @@ use Rattle.std.proofs.Common.{ap, ◌∙◌, arith, get_or-set_other}
 use Rattle.std.proofs.lemmas.List.{get_or_read, get_or-set_same}
 use Rattle.page_tree.specs.declared.cell.PageCell.TheVariants.{Absent}
 use Rattle.cow_space.specs.Cells.{cells}
-use Rattle.cow_space.specs.Seen.{maps, frames_of, free_nodes, HasNoTree}
+use Rattle.cow_space.specs.Seen.{maps, frames_of, free_nodes, HasNoTree, pool}
 use Rattle.cow_space.proofs.Trees.{rows-in, kept-tree, kept-set, maps-set, cells-empty}
 use Rattle.cow_space.proofs.rows.Rows.drop_row.Goals as goal
 
@@ -62,3 +62,7 @@ returns-clause-cost_empty g c = λ none.
 pub returns-clause-others : goal.returns-clause-others
 unfolding HasNoTree
 returns-clause-others g c = λ j off none. get_or-set_other c.args.self.now.trees.items c.args.i j c.clear_range.new.self 0 off ∙ none
+
+pub returns-clause-pool : goal.returns-clause-pool
+unfolding pool
+returns-clause-pool g c = λ e f. (c.clear_range.ensures.frames.stamps f e, c.clear_range.ensures.frames.bytes f e)

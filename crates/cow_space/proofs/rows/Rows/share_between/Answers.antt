@@ -5,7 +5,7 @@ use Rattle.page_tree.specs.Steps.{root_short}
 use Rattle.cow_space.specs.Cells.{cells, values, tree_maps}
 use Rattle.cow_space.specs.Kept.{IsKept}
 use Rattle.cow_space.specs.Maps.{put_range, row_of}
-use Rattle.cow_space.specs.Seen.{maps, frames_of, free_nodes, HasOwnRoot, HasNoTree}
+use Rattle.cow_space.specs.Seen.{maps, frames_of, free_nodes, HasOwnRoot, HasNoTree, pool}
 use Rattle.cow_space.proofs.Lists.{set-twice}
 use Rattle.cow_space.proofs.Trees.{rows-in, other-read, kept-tree, kept-both, kept-free, kept-set, maps-range, row-at, cells-page}
 use Rattle.cow_space.proofs.rows.Rows.share_between.Goals as goal
@@ -133,3 +133,7 @@ unfolding HasNoTree
 returns-clause-others g c = λ j off none.
     get_or-set_other (set c.args.self.now.trees.items c.args.to c.replace-tree.new.dest) c.args.to j c.share_range.new.self 0 off
     ∙ get_or-set_other c.args.self.now.trees.items c.args.to j c.replace-tree.new.dest 0 off ∙ none
+
+pub returns-clause-pool : goal.returns-clause-pool
+unfolding pool
+returns-clause-pool g c = λ e f. (c.share_range.ensures.frames.stamps f e, c.share_range.ensures.frames.bytes f e)

@@ -11,7 +11,7 @@ use Rattle.page_cells.specs.declared.stretches.Stretch.{Stretch}
 use Rattle.page_cells.specs.Changes.{IsStretch, changed_place}
 use Rattle.page_cells.specs.Tags.{used}
 use Rattle.lazy_world.specs.Cells.{rows_of}
-use Rattle.lazy_world.specs.Seen.{count, frame_count, free_nodes, rows, used_frames}
+use Rattle.lazy_world.specs.Seen.{count, frame_count, free_nodes, rows, used_frames, pool}
 use Rattle.lazy_world.specs.declared.pieces.PageSources.TheVariants.{Stretches}
 use Rattle.lazy_world.proofs.TakeLemmas.{kinds-given, row-given, stretches-given}
 use Rattle.lazy_world.proofs.places.Places.change_pages.Goals as goal
@@ -76,3 +76,7 @@ returns-clause-used g c empty =
     ap used c.change.ensures.cells
     ∙ c.copies_take_no_frame.ensures.changed (pages_seen.cells w.pages) c.args.i c.as_slice.result.now c.requires.place (λ e p. empty p e)
     (subst (All (IsStretch (count w) c.args.i)) (sym c.as_slice.ensures.value) c.requires.given)
+
+pub returns-clause-pool : goal.returns-clause-pool
+unfolding pool
+returns-clause-pool g c = c.change.ensures.pool

@@ -4,7 +4,7 @@ use Rattle.page_cells.specs.Cells.{place_of}
 use Rattle.page_cells.specs.Seen as pages_seen
 use Rattle.page_cells.specs.Tags.{used}
 use Rattle.lazy_world.specs.Cells.{rows_of}
-use Rattle.lazy_world.specs.Seen.{count, frame_count, free_nodes, rows, used_frames}
+use Rattle.lazy_world.specs.Seen.{count, frame_count, free_nodes, rows, used_frames, pool}
 use Rattle.lazy_world.specs.declared.pieces.PageSources.TheVariants.{AllOf}
 use Rattle.lazy_world.proofs.TakeLemmas.{all-given, row-given}
 use Rattle.lazy_world.proofs.places.Places.copy_pages.Goals as goal
@@ -53,3 +53,7 @@ unfolding rows rows_of count used_frames
 returns-clause-used g c empty =
     ap used c.clone_place.ensures.cells
     ∙ c.copies_take_no_frame.ensures.cloned (pages_seen.cells c.args.self.now.pages) c.args.i c.args.j c.requires.place c.requires.source (λ e p. empty p e)
+
+pub returns-clause-pool : goal.returns-clause-pool
+unfolding pool
+returns-clause-pool g c = c.clone_place.ensures.pool

@@ -5,7 +5,7 @@ use Rattle.page_cells.specs.Seen as pages_seen
 use Rattle.page_cells.specs.Tags.{used}
 use Rattle.lazy_world.specs.Cells.{rows_of}
 use Rattle.lazy_world.specs.Kept.{IsNumbered}
-use Rattle.lazy_world.specs.Seen.{count, frame_count, free_nodes, rows, used_frames}
+use Rattle.lazy_world.specs.Seen.{count, frame_count, free_nodes, rows, used_frames, pool}
 use Rattle.lazy_world.proofs.ClearLemmas.{no-slots, rows-copied}
 use Rattle.lazy_world.proofs.PlaceLemmas.{numbered-set}
 use Rattle.lazy_world.proofs.places.Places.copy_place.Goals as goal
@@ -78,3 +78,7 @@ unfolding rows rows_of count used_frames
 returns-clause-used g c empty =
     ap used c.clone_place.ensures.cells
     ∙ c.copies_take_no_frame.ensures.cloned (pages_seen.cells c.args.self.now.pages) c.args.to c.args.from c.requires.to c.requires.from (λ e p. empty p e)
+
+pub returns-clause-pool : goal.returns-clause-pool
+unfolding pool
+returns-clause-pool g c = c.clone_place.ensures.pool

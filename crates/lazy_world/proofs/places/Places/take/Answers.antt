@@ -26,3 +26,6 @@ returns-clause-cost g c empty = c.take_pages.ensures.cost empty
 
 pub returns-clause-used : goal.returns-clause-used
 returns-clause-used g c empty = c.take_uid.ensures.store.used ∙ c.take_slots.ensures.store.used ∙ c.take_pages.ensures.used empty
+
+pub returns-clause-pool : goal.returns-clause-pool
+returns-clause-pool g c = c.take_uid.ensures.store.pool ∙ c.take_slots.ensures.store.pool ∙ c.take_pages.ensures.pool

@@ -56,6 +56,7 @@ returns-then-can_copy-clause-cost g c =
     let steps : c.copy_place.new.steps ≤ c.args.steps.now + min 1 (ranges_of (seen w) c.args.c) = omega (arith, copied.cost empty, ap (min 1) here) in
     record {
       used = copied.used empty;
+      pool = copied.pool;
       nodes = omega (arith, copied.nodes);
       steps = omega (arith, steps, min-le_right 1 (ranges_of (seen w) c.args.c));
       whole_nodes = λ copies own. copied.nodes;

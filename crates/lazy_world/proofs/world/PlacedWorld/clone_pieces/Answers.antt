@@ -85,6 +85,7 @@ returns-clause-cost g c =
     let whole : CopiesPages c.args.spec.now → HasOwnPages (context (seen w) c.args.c).cell → c.clone_sources-sources.result.pages ≡ AllOf c.place-from.result = λ copies own. bounded.whole copies (λ p. sym (ap (λ (x : Context). is_own (x.cell (Page p))) c.place-from.ensures.context) ∙ own p) in
     record {
       used = c.take.ensures.used empty;
+      pool = c.take.ensures.pool;
       nodes = omega (arith, c.take.ensures.nodes, bounded.nodes, here);
       steps = omega (arith, c.take.ensures.cost empty, bounded.steps, here);
       whole_nodes = λ copies own. omega (arith, c.take.ensures.nodes, ap most_nodes (whole copies own));

@@ -9,7 +9,7 @@ use Rattle.page_cells.specs.Cells.{all_cells, kinds_of, place_cells}
 use Rattle.page_cells.specs.Changes.{IsStretch, changed_place}
 use Rattle.page_cells.specs.Kept.{IsKept}
 use Rattle.page_cells.specs.Rows.{changed_row}
-use Rattle.page_cells.specs.Seen.{cells, frames_of, free_nodes}
+use Rattle.page_cells.specs.Seen.{cells, frames_of, free_nodes, pool}
 use Rattle.page_cells.proofs.Changed.{cells-changed, fit-changed, kinds-after, none-before, none-left}
 use Rattle.page_cells.proofs.Places.{bare-set, inside-kinds, kept-set, length-cells, may-none, no-segments, none-cells, none-present, set-cells, some-present, some-segments}
 use Rattle.page_cells.proofs.Written.{is-ok, of-ok}
@@ -168,3 +168,11 @@ unfolding cells
 returns-else-is_empty-clause-cost_empty g c empty =
     let w = c.args.self.now in
     c.fill_row.ensures.cost_empty (w.bare c.args.i (none-present w.kinds.items (maps w.rows) c.args.i w.kept.places empty))
+
+pub returns-then-is_empty-clause-pool : goal.returns-then-is_empty-clause-pool
+unfolding pool
+returns-then-is_empty-clause-pool g c = c.drop_row.ensures.pool
+
+pub returns-else-is_empty-clause-pool : goal.returns-else-is_empty-clause-pool
+unfolding pool
+returns-else-is_empty-clause-pool g c = c.fill_row.ensures.pool

@@ -2,7 +2,7 @@ use Rattle.std.proofs.Common.{[], set, ap, ◌∙◌, arith}
 use Rattle.cow_space.specs.Seen.{HasNoTree, maps}
 use Rattle.cow_space.specs.Maps as rows
 use Rattle.page_cells.specs.Cells.{all_cells}
-use Rattle.page_cells.specs.Seen.{cells, frames_of, free_nodes}
+use Rattle.page_cells.specs.Seen.{cells, frames_of, free_nodes, pool}
 use Rattle.page_cells.proofs.Places.{bare-set, inside-kinds, length-cells, none-cells, none-present, set-cells}
 use Rattle.page_cells.proofs.cells.PageCells.clear_place.Goals as goal
 
@@ -43,3 +43,7 @@ pub returns-clause-cost_empty : goal.returns-clause-cost_empty
 unfolding cells
 returns-clause-cost_empty g c empty =
     let w = c.args.self.now in c.drop_row.ensures.cost_empty (w.bare c.args.i (none-present w.kinds.items (maps w.rows) c.args.i w.kept.places empty))
+
+pub returns-clause-pool : goal.returns-clause-pool
+unfolding pool
+returns-clause-pool g c = c.drop_row.ensures.pool

@@ -6,7 +6,7 @@ use Rattle.cow_space.specs.Maps as rows
 use Rattle.range_map.specs.Kinds.{IsCanonical, kind_at, ranges}
 use Rattle.page_cells.specs.Cells.{all_cells, place_cells, segments_of}
 use Rattle.page_cells.specs.Kept.{IsKept}
-use Rattle.page_cells.specs.Seen.{cells, frames_of, free_nodes}
+use Rattle.page_cells.specs.Seen.{cells, frames_of, free_nodes, pool}
 use Rattle.page_cells.proofs.Places.{at-place, bare-set, inside-kinds, kept-set, kinds-place, length-cells, no-segments, none-cells, none-present, set-cells, some-present, some-segments}
 use Rattle.page_cells.proofs.cells.PageCells.clone_place.Goals as goal
 
@@ -126,3 +126,11 @@ returns-else-is_empty-clause-cost_empty g c empty =
     let counted = ap length c.segments.ensures.items ∙ c.segments.ensures.canonical.counted ∙ ap (λ s. ranges 1024 (kind_at s)) (now ∙ read) ∙ ap (ranges 1024) (sym (kinds-place w.kinds.items (maps w.rows) c.args.from w.kept.places)) in
     let few = c.clone_row.ensures.cost_empty (w.bare c.args.to (none-present w.kinds.items (maps w.rows) c.args.to w.kept.places empty)) in
     omega (arith, few, some, counted)
+
+pub returns-then-is_empty-clause-pool : goal.returns-then-is_empty-clause-pool
+unfolding pool
+returns-then-is_empty-clause-pool g c = c.drop_row.ensures.pool
+
+pub returns-else-is_empty-clause-pool : goal.returns-else-is_empty-clause-pool
+unfolding pool
+returns-else-is_empty-clause-pool g c = c.clone_row.ensures.pool
