@@ -1,8 +1,8 @@
 -- Bytes of a page that are written one after another.
-use Rattle.std.proofs.Common.{◌≡◌, ℕ, ◌+◌, ◌-◌, ◌*◌, ◌<◌, ◌≤◌, ◌⊎◌, inl, inr, ⊎_elim, cond, leb, ltb, ◌&&◌, List, length, get_or, set, map, refl, sym, ◌∙◌, ap, arith, length-set, get_or-set_other}
+use Rattle.std.proofs.Common.{◌≡◌, ℕ, ◌+◌, ◌-◌, ◌*◌, ◌<◌, ◌≤◌, ◌⊎◌, inl, inr, ⊎_elim, cond, leb, ltb, ◌&&◌, List, length, get_or, map, sym, ◌∙◌, ap, arith}
 use Rattle.std.specs.List.{range_with_len}
-use Rattle.std.proofs.lemmas.Bool.{cases_eq, cases_lt, and_from, and_left, and_right, le-leb, lt-leb, lt-ltb, le-ltb, cond-true, cond-false}
-use Rattle.std.proofs.lemmas.List.{ext_get_or, get_or-map, length-map, get_or-set_same}
+use Rattle.std.proofs.lemmas.Bool.{cases_lt, and_from, and_left, and_right, le-leb, lt-leb, lt-ltb, le-ltb, cond-true, cond-false}
+use Rattle.std.proofs.lemmas.List.{ext_get_or, get_or-map, length-map}
 use Rattle.std.proofs.lemmas.List.FromFn.{get_or-range_with_len, length-range_with_len}
 use Rattle.lwc_base.specs.Store.{Piece, byte_after, bytes_after}
 
@@ -11,24 +11,6 @@ pub record PutsBytes (old page bytes : List ℕ) (lo skip k : ℕ) : Type 0 wher
   pub long : length page ≡ length old
   pub put : (j : ℕ) → j < k → get_or page (lo + j) 0 ≡ get_or bytes (skip + j) 0
   pub rest : (j : ℕ) → (j < lo) ⊎ (lo + k ≤ j) → get_or page j 0 ≡ get_or old j 0
-
-pub PutsBytes-none : (old bytes : List ℕ) (lo skip : ℕ) → PutsBytes old old bytes lo skip 0
-PutsBytes-none old bytes lo skip = record { long = refl; put = λ j lt. absurd (omega (arith, lt)); rest = λ j _. refl }
-
-pub PutsBytes-more : (old page page' bytes : List ℕ) (lo skip k b : ℕ) → PutsBytes old page bytes lo skip k → lo + k < length old → page' ≡ set page (lo + k) b → b ≡ get_or bytes (skip + k) 0 → PutsBytes old page' bytes lo skip (k + 1)
-PutsBytes-more old page page' bytes lo skip k b so_far inside is same =
-    record {
-      long = ap length is ∙ length-set page (lo + k) b ∙ so_far.long;
-      put = λ j lt.
-          ⊎_elim
-          (λ here. ap (λ x. get_or page' (lo + x) 0) here ∙ ap (λ l. get_or l (lo + k) 0) is ∙ get_or-set_same page (lo + k) b 0 (omega (arith, inside, so_far.long)) ∙ same ∙ ap (λ x. get_or bytes (skip + x) 0) (sym here))
-          (λ off. ap (λ l. get_or l (lo + j) 0) is ∙ get_or-set_other page (lo + k) (lo + j) b 0 (λ e. off (omega (arith, e))) ∙ so_far.put j (omega (arith, lt, off)))
-          (cases_eq j k);
-      rest = λ j out.
-          ap (λ l. get_or l j 0) is
-          ∙ get_or-set_other page (lo + k) j b 0 (λ e. ⊎_elim (λ low. absurd (omega (arith, e, low))) (λ high. absurd (omega (arith, e, high))) out)
-          ∙ so_far.rest j (⊎_elim (λ low. inl low) (λ high. inr (omega (arith, high))) out);
-    }
 
 -- where the piece was put as far as it reaches, the page is what a store makes of it
 pub PutsBytes-all : (old page : List ℕ) (piece : Piece) (p lo skip k : ℕ) → length old ≡ 4096 → PutsBytes old page piece.bytes lo skip k → ((j : ℕ) → j < 4096 → piece.at ≤ p * 4096 + j → p * 4096 + j < piece.at + length piece.bytes → (lo ≤ j) × (j < lo + k) × (skip + (j - lo) ≡ p * 4096 + j - piece.at)) → ((j : ℕ) → lo ≤ j → j < lo + k → (piece.at ≤ p * 4096 + j) × (p * 4096 + j < piece.at + length piece.bytes)) → page ≡ bytes_after piece p old

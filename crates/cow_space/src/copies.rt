@@ -56,7 +56,8 @@ impl Rows {
         requires order { range.from ≤ range.to }
         requires inside { range.to ≤ PAGES }
         ensures maps { maps self.new
-            ≡ slice_set (maps self.old) i (put_range (row_of (maps self.old) i) range.from range.to no_pages) }
+            ≡ slice_set (maps self.old) i
+            (put_range (row_of (maps self.old) i) range.from range.to no_pages) }
         ensures frames { frames_of self.new ≡ frames_of self.old }
         ensures pool { pool self.new ≡ pool self.old }
         ensures others { (j : ℕ) → j ≢ i → HasNoTree self.old j → HasNoTree self.new j }

@@ -11,8 +11,8 @@ pub fn copies_take_no_frame()
     names_are_ordered();
 }
 
-/// A write takes one frame where the page parts, and none else. Another page of the row parts as before, if the
-/// two pages have no tag in common.
+/// A write takes one frame where the page parts, and none else. Another page of the row parts as before,
+/// if the two pages have no tag in common.
 pub fn writes_take_few_frames()
     ensures { WriteLaws }
 {

@@ -95,11 +95,13 @@ impl Rows {
         requires row { i < length (maps self.old) }
         requires page { p < PAGES }
         requires new { IsNewTag (maps self.old) tag }
-        ensures full { IsErr result ↔ (frames_of self.old < used (maps self.old) + taken_by (maps self.old) i p) }
+        ensures full { IsErr result
+            ↔ (frames_of self.old < used (maps self.old) + taken_by (maps self.old) i p) }
         ensures full_same { OnErr result (maps self.new ≡ maps self.old) }
         ensures written { IfOk result (λ parted. maps self.new
             ≡ write_page (maps self.old) i p (record { at = at; bytes = piece.now }) tag) }
-        ensures parted { IfOk result (λ parted. parted ≡ is_parting (maps self.old) (row_of (maps self.old) i p)) }
+        ensures parted { IfOk result (λ parted. parted
+            ≡ is_parting (maps self.old) (row_of (maps self.old) i p)) }
         ensures frames { frames_of self.new ≡ frames_of self.old }
         ensures others { (j : ℕ) → j ≢ i → HasNoTree self.old j → HasNoTree self.new j }
         ensures nodes { free_nodes self.old ≤ free_nodes self.new + 2 }
@@ -132,7 +134,8 @@ impl Rows {
         requires new { IsNewTag (maps self.old) tag }
         requires parts { is_parting (maps self.old) (row_of (maps self.old) i p) ≡ true }
         requires free { used (maps self.old) < frames_of self.old }
-        ensures written { maps self.new ≡ write_page (maps self.old) i p (record { at = at; bytes = piece.now }) tag }
+        ensures written { maps self.new
+            ≡ write_page (maps self.old) i p (record { at = at; bytes = piece.now }) tag }
         ensures frames { frames_of self.new ≡ frames_of self.old }
         ensures others { (j : ℕ) → j ≢ i → HasNoTree self.old j → HasNoTree self.new j }
         ensures nodes { free_nodes self.old ≤ free_nodes self.new + 2 }

@@ -38,7 +38,8 @@ impl Places {
     ghost use Rattle.lazy_world.specs.Sources.{AreGiven, ArePagesGiven, most_nodes, most_steps, slot_source};
     ghost use Rattle.lazy_world.specs.Sources.{sourced_row, with_pages, with_slots};
     ghost use Rattle.lazy_world.specs.declared.pieces.PageSources.TheVariants.{AllOf, Stretches};
-    ghost use Rattle.lazy_world.specs.Seen.{KeepsStore, count, frame_count, free_nodes, pool, rows, used_frames};
+    ghost use Rattle.lazy_world.specs.Seen.{KeepsStore, count, frame_count, free_nodes, pool, rows};
+    ghost use Rattle.lazy_world.specs.Seen.{used_frames};
 
     /// A later page, or the end of all pages, up to which the pages of a place have the kind of this one.
     #[tactic(auto, unfolding(crate::specs::Seen::rows, crate::specs::Seen::count, crate::specs::Cells::rows_of))]

@@ -211,7 +211,8 @@ impl PlacedWorld {
     fn filled_count(&self, i: usize) -> usize
         requires { i < count self.now.places }
         ensures filled { result
-            ≡ count_by (λ n. not (is_empty (value_of (seen self.now) (Slot n) (rows self.now.places i (Slot n)))))
+            ≡ count_by (λ n. not
+            (is_empty (value_of (seen self.now) (Slot n) (rows self.now.places i (Slot n)))))
             (range_with_len 0 SLOTS) }
         ensures few { result ≤ SLOTS }
     {

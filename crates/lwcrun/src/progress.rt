@@ -15,8 +15,9 @@ const TURNS_A_LOOK: u64 = 256;
 /// The last tenth of a second in which no line is shown, counted from 0 on.
 const QUIET_TENTHS: u64 = 9;
 
-/// A gate at which nobody waits. Where standard error is a terminal it counts the turns of all threads and the requests that
-/// they finished, and once a second has passed it shows these numbers there, at most once in each tenth of a second.
+/// A gate at which nobody waits. Where standard error is a terminal it counts the turns of all threads
+/// and the requests that they finished, and once a second has passed it shows these numbers there, at
+/// most once in each tenth of a second.
 #[derive(Drop)]
 pub struct Progress {
     rt: HostRuntime,
@@ -72,7 +73,8 @@ impl Progress {
         };
     }
 
-    /// Notes which tenth of a second it is. Says whether the line may be shown in it, and nobody noted it before.
+    /// Notes which tenth of a second it is. Says whether the line may be shown in it, and nobody noted it
+    /// before.
     fn enter_tenth(&self, start: Instant) -> bool {
         let Ok(elapsed) = start.elapsed(&self.rt) else {
             return false;

@@ -135,8 +135,8 @@ fn a_worker_serves_the_requests_in_order(rt: HostRuntime) -> Result<(), Fail> {
     Ok(())
 }
 
-/// One request by itself, with as many frames as 32 steps may want: this is the machine of the definition `alone`, and the
-/// reply is its value.
+/// One request by itself, with as many frames as 32 steps may want: this is the machine of the definition
+/// `alone`, and the reply is its value.
 const SERVED_ALONE: &str = "thread 0 done 0 ctx 0.1 pc 0
 regs 0 0 0 0 0 0 0 0 0 0 0 0 0 0 0 0 0
 context 0.1 pages 1 slots 0 uid 0
@@ -308,8 +308,8 @@ fn request_files_are_refused_before_a_thread_starts(rt: HostRuntime) -> Result<(
     Ok(())
 }
 
-/// Reads the word x of its request into page 1, adds it to the first word of page p = 2 + (x mod 298), adds 1 to the first
-/// word of page 0, and replies with both words.
+/// Reads the word x of its request into page 1, adds it to the first word of page p = 2 + (x mod 298),
+/// adds 1 to the first word of page 0, and replies with both words.
 const GENERATED: &str = ".entry 0
 LI r2, 4096
 LI r3, 8

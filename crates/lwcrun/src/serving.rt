@@ -145,10 +145,11 @@ fn each_request_is_served_in_a_fresh_copy(rt: HostRuntime) -> Result<(), Fail> {
     Ok(())
 }
 
-/// Replies with what it finds: a byte of register 15, of page 1 and of the file, the uid, and the refusals of a
-/// dup of slot 3, of a write from page 2 and of a write through slot 0. Then it changes all of these: it maps
-/// page 2 and stores to pages 1 and 2, fills slot 3, changes the uid, and shares page 1, slot 2 and the
-/// credential with a new context, in which it stores to page 1 again and ends with other registers.
+/// Replies with what it finds: a byte of register 15, of page 1 and of the file, the uid, and the
+/// refusals of a dup of slot 3, of a write from page 2 and of a write through slot 0. Then it changes all
+/// of these: it maps page 2 and stores to pages 1 and 2, fills slot 3, changes the uid, and shares page
+/// 1, slot 2 and the credential with a new context, in which it stores to page 1 again and ends with
+/// other registers.
 const LEAVES_ALL_IT_CAN: &str = ".entry 0
 .page 0 000000000100000001000000020000000100000001000000020000000300000002000000010000000000000001000000
 .page 1 2a

@@ -114,7 +114,8 @@ pub struct Left {
     pub err: MemorySink,
 }
 
-/// How the outside of a call behaves: which fetch fails, how many bytes a write takes at most, and which write fails.
+/// How the outside of a call behaves: which fetch fails, how many bytes a write takes at most, and which
+/// write fails.
 #[derive(Clone, Copy)]
 pub struct Outside {
     pub fetch: u64,

@@ -1,6 +1,8 @@
 ghost use Rattle.std.specs.Prelude.{◌≡◌, ◌≢◌, ◌⊎◌, ℕ, List, None, Some, map, string_bytes};
 ghost use Rattle.lwcrun_core.specs.declared.ending.Rejection.{Rejection};
-ghost use Rattle.lwcrun_core.specs.Calls.{Answers, AreContents, FetchesNamed, FetchesPlan, FileFailed, Headline, IsOrNoMemory, IsRejected, IsRunnable, IsUndisturbed, status_by};
+ghost use Rattle.lwcrun_core.specs.Calls.{Answers, AreContents, FetchesNamed, FetchesPlan, FileFailed};
+ghost use Rattle.lwcrun_core.specs.Calls.{Headline, IsOrNoMemory, IsRejected, IsRunnable, IsUndisturbed};
+ghost use Rattle.lwcrun_core.specs.Calls.{status_by};
 ghost use Rattle.lwcrun_core.specs.Ends as ends;
 ghost use Rattle.lwcrun_core.specs.Ends.{Ended, IsUnwritten, NothingFailed, WriteFailed};
 ghost use Rattle.lwcrun_core.specs.Headline.{IsText, plan_of};
@@ -28,11 +30,11 @@ use std::alloc::Global;
 use std::sync::Wait;
 use std::thread::Threads;
 
-/// What the program does: it reads the line, the program's name first, reads the files that the line names
-/// in their order, tests each before the next, runs or makes what is asked for, and writes it to `out`. If
-/// it does not come to that, it writes why in one line to `err`; a fault of `err` changes nothing. The
-/// result is the exit status. Threads are started, and come to the gate, for `run`, `serve` and `gen` alone: the other
-/// modes are carried out in functions that have no handle of the runtime.
+/// What the program does: it reads the line, the program's name first, reads the files that the line
+/// names in their order, tests each before the next, runs or makes what is asked for, and writes it to
+/// `out`. If it does not come to that, it writes why in one line to `err`; a fault of `err` changes
+/// nothing. The result is the exit status. Threads are started, and come to the gate, for `run`, `serve`
+/// and `gen` alone: the other modes are carried out in functions that have no handle of the runtime.
 ///
 /// `outcome` is the whole table: how the call ended, what holds then, and the message on `err`. The other
 /// clauses follow from it, each a promise by itself. `NoMemory` may always come, and then nothing was
@@ -54,8 +56,8 @@ pub fn lwcrun<R: Threads + Wait + Sync, F: Files, O: Sink, E: Sink, G: Gate>(
         (outside (F.seen files.old) (F.seen files.new) (O.seen out.old) (O.seen out.new))
         (command_of (map string_bytes words.now)) result (E.seen err.old) (E.seen err.new) }
 
-    // What was written at status 0, over known files: the report of the steps that are kept of the schedule, or that the
-    // threads made; an image or a source; the summary of a generated serve.
+    // What was written at status 0, over known files: the report of the steps that are kept of the schedule,
+    // or that the threads made; an image or a source; the summary of a generated serve.
     ensures headline { (command : Command) (bytes : List ℕ → List ℕ) → result ≡ ExitStatus.Ok
         → command_of (map string_bytes words.now) ≡ Some command
         → AreContents (F.seen files.old).contents command bytes
@@ -101,8 +103,8 @@ pub fn lwcrun<R: Threads + Wait + Sync, F: Files, O: Sink, E: Sink, G: Gate>(
         → result ≢ ExitStatus.WriteFault → NothingFailed
         (outside (F.seen files.old) (F.seen files.new) (O.seen out.old) (O.seen out.new)) }
 
-    // No file is fetched to which the plan does not come. Each is read onward, no further than one byte past its
-    // limit, and to its end before the next one. Nothing is fetched after a fetch that failed.
+    // No file is fetched to which the plan does not come. Each is read onward, no further than one byte past
+    // its limit, and to its end before the next one. Nothing is fetched after a fetch that failed.
     ensures fetches { FetchesPlan (command_of (map string_bytes words.now))
         (F.seen files.old) (F.seen files.new) }
 

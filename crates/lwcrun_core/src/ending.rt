@@ -15,8 +15,8 @@ pub enum Rejection {
     /// The source is not in its grammar, or the image that it makes is not: the rule that it breaks first,
     /// and the offset in the source or, for a rule of images, in the image.
     Source { rule: SourceRule, at: u64 },
-    /// The schedule, or the requests, are not in their grammar or limits: the rule that they break first, and the
-    /// offset where they do.
+    /// The schedule, or the requests, are not in their grammar or limits: the rule that they break first,
+    /// and the offset where they do.
     Input { rule: InputRule, at: u64 },
     /// The image has more pages than there are frames.
     TooLarge { pages: u32, frames: u32 },

@@ -1,9 +1,12 @@
 ghost use Rattle.std.specs.Prelude.{◌≡◌, ◌≤◌, ◌<◌, ◌^◌, All, IfOk, OnOk, length};
-ghost use Rattle.lwc_base.specs.declared.limits.TheConstants.{MOST_IMAGE_BYTES, MOST_REQUESTS, MOST_REQUEST_FILE_BYTES, MOST_SCHEDULE_BYTES, MOST_SOURCE_BYTES, MOST_STEPS};
+ghost use Rattle.lwc_base.specs.declared.limits.TheConstants.{MOST_IMAGE_BYTES, MOST_REQUESTS};
+ghost use Rattle.lwc_base.specs.declared.limits.TheConstants.{MOST_REQUEST_FILE_BYTES, MOST_SCHEDULE_BYTES};
+ghost use Rattle.lwc_base.specs.declared.limits.TheConstants.{MOST_SOURCE_BYTES, MOST_STEPS};
 ghost use Rattle.guest_image.specs.Limits.{IsImage};
 ghost use Rattle.kernel_core.specs.Kernel.{AreRequests};
 ghost use Rattle.kernel_core.specs.Settings.{IsSettings};
-ghost use Rattle.lwcrun_core.specs.Images.{bounded_requests_of, fitting_image_of, image_of, requests_of, schedule_of, serve_steps, source_of, within_limit};
+ghost use Rattle.lwcrun_core.specs.Images.{bounded_requests_of, fitting_image_of, image_of, requests_of};
+ghost use Rattle.lwcrun_core.specs.Images.{schedule_of, serve_steps, source_of, within_limit};
 ghost use Rattle.lwcrun_core.specs.Parts.{ReadsBy};
 ghost use Rattle.lwcrun_core.specs.Reading.{Fetched, ReadsOnward, ReadsToTheEnd};
 ghost use Rattle.lwcrun_core.specs.Views.{found};
@@ -134,8 +137,8 @@ pub fn requests_in<'a, F: Files>(
     Ok(read_requests(alloc, &bytes)?)
 }
 
-/// The requests in the file of that name, whose serve takes no more steps than there may be, or the end of the call
-/// without them.
+/// The requests in the file of that name, whose serve takes no more steps than there may be, or the end
+/// of the call without them.
 pub fn bounded_requests_in<'a, F: Files>(
     alloc: Global,
     files: &mut F,
@@ -178,8 +181,8 @@ pub fn most_steps(settings: &Settings, requests: usize) -> u32
     requests as u32 * (settings.budget + 1) + workers
 }
 
-/// The bytes of the file of that name, or the end of the call without them: a file of more bytes than the limit is
-/// rejected by `too_long`.
+/// The bytes of the file of that name, or the end of the call without them: a file of more bytes than the
+/// limit is rejected by `too_long`.
 fn bytes_in<'a, F: Files>(
     alloc: Global,
     files: &mut F,

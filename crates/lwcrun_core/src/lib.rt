@@ -1,5 +1,5 @@
-//! The call behind the program: it reads a line and the files that the line names, runs or serves what they ask
-//! for, and writes the report.
+//! The call behind the program: it reads a line and the files that the line names, runs or serves what
+//! they ask for, and writes the report.
 #![tactic(auto)]
 
 mod arguments;

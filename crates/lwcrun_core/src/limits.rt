@@ -1,15 +1,26 @@
 ghost use Rattle.std.specs.Prelude.{◌≡◌, ◌^◌};
-ghost use Rattle.lwc_base.specs.declared.limits.TheConstants.{MOST_BUDGET, MOST_BYTES_OF_CALL, MOST_CONSOLE_BYTES, MOST_CONTEXTS, MOST_CONTEXTS_OF_JOB, MOST_FILES, MOST_FILE_BYTES, MOST_FRAMES, MOST_GROUPS, MOST_GROUPS_OF_JOB, MOST_IMAGE_BYTES, MOST_IMAGE_SLOTS, MOST_INSTRUCTIONS, MOST_ITEMS, MOST_JOBS, MOST_PAGES, MOST_RANGES, MOST_REPLY_BYTES, MOST_REQUESTS, MOST_REQUEST_BYTES, MOST_REQUEST_FILE_BYTES, MOST_ROOTS, MOST_SCHEDULE_BYTES, MOST_SOURCE_BYTES, MOST_STEPS, MOST_THREADS};
+ghost use Rattle.lwc_base.specs.declared.limits.TheConstants.{MOST_BUDGET, MOST_BYTES_OF_CALL};
+ghost use Rattle.lwc_base.specs.declared.limits.TheConstants.{MOST_CONSOLE_BYTES, MOST_CONTEXTS};
+ghost use Rattle.lwc_base.specs.declared.limits.TheConstants.{MOST_CONTEXTS_OF_JOB, MOST_FILES};
+ghost use Rattle.lwc_base.specs.declared.limits.TheConstants.{MOST_FILE_BYTES, MOST_FRAMES, MOST_GROUPS};
+ghost use Rattle.lwc_base.specs.declared.limits.TheConstants.{MOST_GROUPS_OF_JOB, MOST_IMAGE_BYTES};
+ghost use Rattle.lwc_base.specs.declared.limits.TheConstants.{MOST_IMAGE_SLOTS, MOST_INSTRUCTIONS};
+ghost use Rattle.lwc_base.specs.declared.limits.TheConstants.{MOST_ITEMS, MOST_JOBS, MOST_PAGES, MOST_RANGES};
+ghost use Rattle.lwc_base.specs.declared.limits.TheConstants.{MOST_REPLY_BYTES, MOST_REQUESTS};
+ghost use Rattle.lwc_base.specs.declared.limits.TheConstants.{MOST_REQUEST_BYTES, MOST_REQUEST_FILE_BYTES};
+ghost use Rattle.lwc_base.specs.declared.limits.TheConstants.{MOST_ROOTS, MOST_SCHEDULE_BYTES};
+ghost use Rattle.lwc_base.specs.declared.limits.TheConstants.{MOST_SOURCE_BYTES, MOST_STEPS, MOST_THREADS};
 ghost use Rattle.guest_image.specs.declared.image.TheConstants.{FIRST_SLOT};
-ghost use Rattle.kernel_core.specs.declared.calling.TheConstants.{LW_CREATE, LW_OVERLAY, LW_RESTRICT, LW_SWITCH, LW_SYSCALL};
+ghost use Rattle.kernel_core.specs.declared.calling.TheConstants.{LW_CREATE, LW_OVERLAY, LW_RESTRICT};
+ghost use Rattle.kernel_core.specs.declared.calling.TheConstants.{LW_SWITCH, LW_SYSCALL};
 ghost use Rattle.kernel_core.specs.declared.settings.Job.TheVariants.{Serve};
 ghost use Rattle.lwc_base.specs.declared.descriptor.TheConstants.{SLOTS};
 ghost use Rattle.lwc_base.specs.declared.key.TheConstants.{NOBODY};
 ghost use Rattle.lwc_base.specs.declared.page.TheConstants.{PAGE_BYTES};
 ghost use Rattle.lwc_gen.specs.declared.generating.TheConstants.{PAGES, REQUESTS_FOR_EACH, SETTINGS};
 
-/// A law: the numbers behind the names that definitions use for limits, and for a generated serve. A change of one of
-/// these constants changes what the program accepts or generates, and does not pass.
+/// A law: the numbers behind the names that definitions use for limits, and for a generated serve. A
+/// change of one of these constants changes what the program accepts or generates, and does not pass.
 pub fn limits_are_as_documented()
     ensures pages { MOST_PAGES ≡ 1024 }
     ensures page_bytes { PAGE_BYTES ≡ 4096 }

@@ -184,7 +184,8 @@ fn run_line(alloc: Global, arguments: &Arguments<'_>) -> Result<Line, LineFault>
 
 /// The line of a serve: an image and requests, with frames, a budget and workers.
 fn serve_line(alloc: Global, arguments: &Arguments<'_>) -> Result<Line, LineFault>
-    ensures accepted { IfOk result (λ line. spec.serve_of (arguments_in arguments.now) ≡ Some (asked_by line)) }
+    ensures accepted { IfOk result (λ line. spec.serve_of (arguments_in arguments.now)
+        ≡ Some (asked_by line)) }
     ensures limits { IfOk result (λ line. IsWithinLimits (asked_by line)) }
     ensures usage { result ≡ Err LineFault.Usage → spec.serve_of (arguments_in arguments.now) ≡ None }
 {

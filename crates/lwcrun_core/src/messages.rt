@@ -1,7 +1,8 @@
 ghost use Rattle.std.specs.Prelude.{◌≡◌, ◌⊎◌, ◌++◌, ◌∷◌, [], IfOk, string_bytes, codes};
 ghost use Rattle.lwcrun_core.specs.Ends as ends;
 ghost use Rattle.lwcrun_core.specs.Ends.{End};
-ghost use Rattle.lwcrun_core.specs.Statuses.{MayBeAnsweredAs, IsAnswered, Takes, message_of, rejection_words, message, status_of_rejection};
+ghost use Rattle.lwcrun_core.specs.Statuses.{MayBeAnsweredAs, IsAnswered, Takes, message_of, rejection_words};
+ghost use Rattle.lwcrun_core.specs.Statuses.{message, status_of_rejection};
 ghost use Rattle.lwcrun_core.specs.Views.{end_of};
 
 use crate::ending::{Ending, Rejection};

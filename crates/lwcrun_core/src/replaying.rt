@@ -6,7 +6,8 @@ ghost use Rattle.kernel_core.specs.Kernel.{CanOpen};
 ghost use Rattle.kernel_core.specs.Runs.{kept};
 ghost use Rattle.kernel_core.specs.Start.{start, thread_count, threads_for};
 ghost use Rattle.lwcrun_core.specs.Ends.{Ended};
-ghost use Rattle.lwcrun_core.specs.Headline.{IsText, after_image, after_schedule, inputs_of, replay_plan, text_of};
+ghost use Rattle.lwcrun_core.specs.Headline.{IsText, after_image, after_schedule, inputs_of, replay_plan};
+ghost use Rattle.lwcrun_core.specs.Headline.{text_of};
 ghost use Rattle.lwcrun_core.specs.Headline as works;
 ghost use Rattle.lwcrun_core.specs.Lines.{AreReplaySettings};
 ghost use Rattle.lwcrun_core.specs.Plans as plans;
@@ -26,8 +27,8 @@ use lwc_text::{Schedule, report};
 use std::alloc::Global;
 use world_face::World;
 
-/// Reads the image and the schedule of these names, and the requests of a serve, makes the schedule's steps, and
-/// writes the report.
+/// Reads the image and the schedule of these names, and the requests of a serve, makes the schedule's
+/// steps, and writes the report.
 pub fn replay<'a, F: Files, O: Sink>(
     alloc: Global,
     files: &mut F,
@@ -40,7 +41,8 @@ pub fn replay<'a, F: Files, O: Sink>(
     requires settings { AreReplaySettings requests settings.now }
     ensures ended { Ended IsText
         (outside (F.seen files.old) (F.seen files.new) (O.seen out.old) (O.seen out.new))
-        (replay_plan image.now schedule.now (option_map (λ s. s.now) requests.entry) settings.now) (end_of result) }
+        (replay_plan image.now schedule.now (option_map (λ s. s.now) requests.entry) settings.now)
+        (end_of result) }
     ensures fetches { Fetched (AreFetchesOf (F.seen files.old).contents
         (replay_plan image.now schedule.now (option_map (λ s. s.now) requests.entry) settings.now))
         (F.seen files.old).fetches (F.seen files.new).fetches }
@@ -66,7 +68,8 @@ fn replay_image<'a, F: Files, O: Sink>(
     requires settings { AreReplaySettings requests settings.now }
     ensures ended { Ended IsText
         (outside (F.seen files.old) (F.seen files.new) (O.seen out.old) (O.seen out.new))
-        (after_image schedule.now (option_map (λ s. s.now) requests.entry) settings.now image.now) (end_of result) }
+        (after_image schedule.now (option_map (λ s. s.now) requests.entry) settings.now image.now)
+        (end_of result) }
     ensures fetches { Fetched (AreFetchesOf (F.seen files.old).contents
         (after_image schedule.now (option_map (λ s. s.now) requests.entry) settings.now image.now))
         (F.seen files.old).fetches (F.seen files.new).fetches }
@@ -94,7 +97,8 @@ fn replay_schedule<'a, F: Files, O: Sink>(
     requires short { length schedule.now ≤ MOST_STEPS }
     ensures ended { Ended IsText
         (outside (F.seen files.old) (F.seen files.new) (O.seen out.old) (O.seen out.new))
-        (after_schedule (option_map (λ s. s.now) requests.entry) settings.now image.now schedule.now) (end_of result) }
+        (after_schedule (option_map (λ s. s.now) requests.entry) settings.now image.now schedule.now)
+        (end_of result) }
     ensures fetches { Fetched (AreFetchesOf (F.seen files.old).contents
         (after_schedule (option_map (λ s. s.now) requests.entry) settings.now image.now schedule.now))
         (F.seen files.old).fetches (F.seen files.new).fetches }

@@ -199,8 +199,9 @@ fn history<R: Threads + Wait + Sync, G: Gate>(
     run_threads(rt, alloc, process, passes, gate)
 }
 
-/// A process at the start of an image, with a pass for each of its threads, and with room for all steps that they may
-/// make. A run has no requests.
+/// A process at the start of an image, with a pass for each of its threads, and with room for all steps
+/// that they may make. A run has no requests.
+///
 ///
 /// # Errors
 ///

@@ -21,7 +21,8 @@ pub struct PageCells {
     pub(crate) rows: Rows,
     pub(crate) kinds: Vec<RangeMap>,
     ghost kept: { IsKept (rows_seen.maps rows) kinds.items },
-    ghost bare: { (i : ℕ) → HasNoPage (segments_of kinds.items i) → rows_seen.HasNoTree rows i } by { Prim.hlevel (props, no_tree-prop) },
+    ghost bare: { (i : ℕ) → HasNoPage (segments_of kinds.items i)
+        → rows_seen.HasNoTree rows i } by { Prim.hlevel (props, no_tree-prop) },
 }
 
 /// The kinds of this number of places without pages. The only error is out of memory.

@@ -34,7 +34,8 @@ fn change<L: Ledger>(
 )
     requires place { i < length (cells places.old) }
     requires stretches { All (IsStretch (length (cells places.old)) i) stretches.now }
-    ensures { cells places.new ≡ slice_set (cells places.old) i (changed_place (cells places.old) i stretches.now) }
+    ensures { cells places.new
+        ≡ slice_set (cells places.old) i (changed_place (cells places.old) i stretches.now) }
 {
     let count = places.count_after(i, stretches);
     assert!(rt; count <= MOST_RANGES);

@@ -11,8 +11,9 @@ impl PageCells {
     ghost use Rattle.page_cells.specs.Tags.{IsNewTag, is_parting, taken_by, used};
     ghost use Rattle.page_cells.specs.Writes.{write_page};
 
-    /// Writes what a piece at an address has of page p of a place, whose own it is, under a new tag if the page
-    /// parts, and tells whether it did. No other page of any place changes.
+    /// Writes what a piece at an address has of page p of a place, whose own it is, under a new tag if
+    /// the page parts, and tells whether it did. No other page of any place changes.
+    ///
     ///
     /// # Errors
     ///
@@ -30,7 +31,8 @@ impl PageCells {
         requires place { i < length (cells self.old) }
         requires own { IsOwnPage (place_of (cells self.old) i p) }
         requires new { IsNewTag (cells self.old) tag }
-        ensures full { IsErr result ↔ (frames_of self.old < used (cells self.old) + taken_by (cells self.old) i p) }
+        ensures full { IsErr result
+            ↔ (frames_of self.old < used (cells self.old) + taken_by (cells self.old) i p) }
         ensures full_same { OnErr result (cells self.new ≡ cells self.old) }
         ensures written { IfOk result (λ parted. cells self.new
             ≡ write_page (cells self.old) i p (record { at = at; bytes = piece.now }) tag) }
