@@ -135,7 +135,8 @@ fn put_text(out: &mut Vec<u8>, source: &Source<'_>) -> Result<(), OutOfMemory>
 
 /// Appends an instruction with the number of its immediate.
 fn put_instruction(out: &mut Vec<u8>, instr: &Instr, value: u32) -> Result<(), OutOfMemory>
-    ensures { OnOk result (out.new.items ≡ out.old.items ++ instructions.spelling (record instr.now { imm = value })) }
+    ensures { OnOk result (out.new.items
+        ≡ out.old.items ++ instructions.spelling (record instr.now { imm = value })) }
 {
     out.extend_from_slice(&[instr.op.number(), instr.rd, instr.ra, instr.rb])?;
     put_number(out, value)

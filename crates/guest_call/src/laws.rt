@@ -25,7 +25,8 @@ pub fn a_descriptor_in_a_slot_is_a_link()
     names_are_ordered();
 }
 
-/// Another value under a key of a context changes that key alone, also for the contexts that have it in common.
+/// Another value under a key of a context changes that key alone, also for the contexts that have it in
+/// common.
 pub fn a_put_leaves_the_rest()
     ensures { (w : World) (c : Name) (k : Key) (value : ValueOf k) → ChangesKey w (put_at w c k value) c k }
 {

@@ -6,7 +6,8 @@ ghost use Rattle.guest_isa.specs.Instructions.{IsInstruction};
 ghost use Rattle.lwc_base.specs.declared.limits.TheConstants.{MOST_FILE_BYTES, MOST_FILES, MOST_RANGES};
 ghost use Rattle.guest_image.specs.Numbers.{is_above, begins, ranges_with};
 ghost use Rattle.guest_image.specs.Limits.{stays_inside};
-ghost use Rattle.guest_image.specs.Reading.{number_below, instruction_at, page_number_at, page_at, public_at, length_at, file_at, slot_number_at, slot_at};
+ghost use Rattle.guest_image.specs.Reading.{number_below, instruction_at, page_number_at, page_at, public_at};
+ghost use Rattle.guest_image.specs.Reading.{length_at, file_at, slot_number_at, slot_at};
 
 use crate::fault::{ImageFault, ImageRule};
 use crate::image::{FIRST_SLOT, PageImage, SlotImage};

@@ -4,7 +4,8 @@ ghost use Rattle.std.specs.Prelude.{◌≡◌, ◌++◌, ◌<◌, ◌^◌, lengt
 ghost use Rattle.std.specs.List.{flat_map};
 ghost use Rattle.guest_isa.specs.Spelling as instructions;
 ghost use Rattle.guest_image.specs.Limits.{IsImage};
-ghost use Rattle.guest_image.specs.Spelling.{number, flag, magic, header, header_of, page, file, file as file_spelling, slot, spelling};
+ghost use Rattle.guest_image.specs.Spelling.{number, flag, magic, header, header_of, page, file};
+ghost use Rattle.guest_image.specs.Spelling.{file as file_spelling, slot, spelling};
 
 use crate::header::Header;
 use crate::image::{Image, PageImage, SlotImage};

@@ -1,10 +1,10 @@
 -- The contexts of threads as roots: what a step that cuts no link leaves reached, and what a reaped world keeps.
-use Rattle.std.proofs.Common.{◌≡◌, ◌≢◌, ◌⊎◌, inl, inr, ℕ, zero, suc, ◌+◌, ◌<◌, ◌≤◌, refl, sym, ap, subst, ◌∙◌, Bool, true, false, ◌||◌, Option, Some, None, List, [], ◌∷◌, ◌++◌, length, take, get_or, arith}
+use Rattle.std.proofs.Common.{◌≡◌, ◌≢◌, ◌⊎◌, inl, inr, ℕ, zero, suc, ◌+◌, ◌<◌, refl, sym, ap, subst, ◌∙◌, Bool, true, false, ◌||◌, Option, Some, None, List, [], ◌∷◌, ◌++◌, length, arith}
 use Rattle.std.specs.Ordering.{eq_by_cmp}
 use Rattle.std.specs.Prelude.{All, is_none, map, slice_get, slice_set, unwrap_or}
 use Rattle.std.specs.List.{range_with_len}
 use Rattle.std.proofs.lemmas.List.FromFn.{length-map-range_with_len}
-use Rattle.std.proofs.lemmas.List.{append_assoc, length-map, length-take-le, map-append, take_all, take_more}
+use Rattle.std.proofs.lemmas.List.{append_assoc, length-map}
 use Rattle.std.proofs.lemmas.List.Elements.{All-cons, All-map, All-nil, All-weaker}
 use Rattle.kernel_core.proofs.Worlds.{WorldFacts, done_after, name_itself, same_name}
 use Rattle.kernel_core.specs.Changes.{Keeps, LeavesNothing, change_by}
@@ -56,19 +56,6 @@ contexts-set [] t y = refl
 contexts-set (x ∷ xs) zero y = refl
 contexts-set (x ∷ xs) (suc t) y = ap (λ l. x.context ∷ l) (contexts-set xs t y)
 
--- the contexts of the first threads
-pub roots_more : (threads : List Thread) (i : ℕ) (x : Thread) (names more : List Name) → i < length threads → names ≡ contexts_of (take i threads) → more ≡ names ++ (get_or threads i x).context ∷ [] →
-    more ≡ contexts_of (take (i + 1) threads)
-roots_more threads i x names more within so_far pushed =
-    pushed ∙ ap (λ (l : List Name). l ++ (get_or threads i x).context ∷ []) so_far
-    ∙ sym (ap contexts_of (take_more threads i x within) ∙ map-append (λ (y : Thread). y.context) (take i threads) (get_or threads i x ∷ []))
-
-pub length-roots : (threads : List Thread) (i : ℕ) → i < length threads → length (contexts_of (take i threads)) < length threads
-length-roots threads i within = omega (arith, length-map (take i threads) (λ (y : Thread). y.context), length-take-le i threads (omega arith), within)
-
-pub roots_all : (threads : List Thread) (i : ℕ) → length threads ≤ i → contexts_of (take i threads) ≡ contexts_of threads
-roots_all threads i all = ap contexts_of (take_all i threads all)
-
 -- the homes of one worker more
 pub homes-more : (from count : ℕ) → map home_of (range_with_len from (count + 1)) ≡ map home_of (range_with_len from count) ++ home_of (from + count) ∷ []
 homes-more from zero = let same : from + 0 ≡ from = omega arith in ap (λ n. home_of n ∷ []) (sym same)
@@ -92,10 +79,6 @@ length-contexts threads = length-map threads (λ (y : Thread). y.context)
 append-none : (names : List Name) → names ++ [] ≡ names
 append-none [] = refl
 append-none (c ∷ cs) = ap (λ l. c ∷ l) (append-none cs)
-
-pub no_home_yet : (threads : List Thread) (i t : ℕ) (names : List Name) → names ≡ contexts_of (take i threads) → length threads ≤ i → t ≡ 0 → names ≡ contexts_of threads ++ homes_of t
-no_home_yet threads i t names so_far all none =
-    so_far ∙ roots_all threads i all ∙ sym (append-none (contexts_of threads)) ∙ ap (λ n. contexts_of threads ++ homes_of n) (sym none)
 
 -- the contexts of threads are live where each one's is
 pub live_roots : (w : World) (threads : List Thread) → All (λ (x : Thread). is_live w x.context ≡ true) threads → All (λ c. is_live w c ≡ true) (contexts_of threads)

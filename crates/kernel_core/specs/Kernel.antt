@@ -8,8 +8,10 @@ use Rattle.kernel_core.specs.Settings.{IsSettings}
 use Rattle.kernel_core.specs.Start.{Inputs, start}
 use Rattle.kernel_core.specs.declared.settings.Job.{Job}
 use Rattle.kernel_core.specs.declared.settings.Job.TheVariants.{Run, Serve}
+use Rattle.kernel_core.specs.declared.thread.Thread.{Thread}
 use Rattle.kernel_core.specs.declared.thread.ThreadView.{ThreadView}
 use Rattle.kernel_core.specs.declared.thread.Turn.{Turn}
+use Rattle.snapshot_host.specs.declared.finishing.Finished.{Finished}
 use Rattle.lwc_base.specs.declared.limits.TheConstants.{MOST_REQUESTS, MOST_REQUEST_BYTES}
 
 -- requests within their limits
@@ -48,20 +50,19 @@ unfoldable pub stepped : History → ℕ → History
 stepped h t =
     if is_ended (machine_of h) t then h else record h { steps = h.steps ++ t ∷ []; room = h.room - 1 }
 
--- what the last step of a thread left: its registers, its status, and the request that this step finished, if it did
+-- what a step has left of its thread: its registers, its status, and the request that it finished, if it did
+abbrev pub turn_of : Thread → Option Finished → Turn
+turn_of x finished = record { regs = x.regs; status = x.status; finished = finished }
+
+-- what the last step of a thread left
 unfoldable pub turn : History → ℕ → Option Turn
 turn h t =
-    option_map (λ x. record {
-      regs = x.regs;
-      status = x.status;
-      finished = last_finished (start h.inputs) h.steps t None;
-    }) (slice_get (machine_of h).threads t)
+    option_map (λ x. turn_of x (last_finished (start h.inputs) h.steps t None)) (slice_get (machine_of h).threads t)
 
 -- the turn of a thread whose last step finished the request of this number, or none
 unfoldable pub turn_at : Machine → ℕ → Option ℕ → Option Turn
 turn_at m t r =
-    option_map (λ x. record { regs = x.regs; status = x.status; finished = recorded m.serve r })
-    (slice_get m.threads t)
+    option_map (λ x. turn_of x (recorded m.serve r)) (slice_get m.threads t)
 
 -- what can be seen of a thread
 unfoldable pub view_of : Machine → ℕ → Option ThreadView

@@ -95,8 +95,8 @@ pub(crate) fn step_thread<W: World>(
     }
 }
 
-/// Ends a step of running thread `t`: in a serve its request is finished once the thread has ended, and the worker
-/// waits at home again.
+/// Ends a step of running thread `t`: in a serve its request is finished once the thread has ended, and
+/// the worker waits at home again.
 fn settle<W: World>(
     world: &W,
     io: &Channels,
@@ -111,7 +111,8 @@ fn settle<W: World>(
     requires known { IfSome serve.old (λ s. s.next ≤ length io.now.requests) }
     requires replies { IfSome serve.old (λ s. length s.replies ≡ length io.now.requests) }
     ensures number { IsNumbered result serve.new }
-    ensures after { spec.settled t serve.old (spec.unchanged (spec.beside (W.seen world.now) io.now) thread.old)
+    ensures after { spec.settled t serve.old
+        (spec.unchanged (spec.beside (W.seen world.now) io.now) thread.old)
         ≡ after_effect result (spec.beside (W.seen world.now) io.now) serve.new thread.new }
     ensures kept { (w : World) (x : Thread) → Keeps change w x (W.seen world.now) thread.old →
         Keeps result.change w x (W.seen world.now) thread.new }
@@ -132,8 +133,8 @@ fn settle<W: World>(
     }
 }
 
-/// Makes a step of idle thread `t`: it begins the next request in a copy of its home, or ends if none is left.
-/// The only error is out of memory, and then nothing has changed.
+/// Makes a step of idle thread `t`: it begins the next request in a copy of its home, or ends if none is
+/// left. The only error is out of memory, and then nothing has changed.
 fn wake<W: World>(
     world: &mut W,
     io: &Channels,

@@ -123,8 +123,8 @@ fn call_restrict<W: World>(world: &mut W, thread: &mut Thread) -> Change
     end_call(thread, answer, Change::World)
 }
 
-/// Makes the call that takes over from a context what items name. The only error is out of memory, and then the
-/// world is as before.
+/// Makes the call that takes over from a context what items name. The only error is out of memory, and
+/// then the world is as before.
 fn call_overlay<W: World>(world: &mut W, thread: &mut Thread) -> Result<Change, OutOfMemory>
     requires { CanAct (W.seen world.old) thread.old }
     ensures outcome { OnOk result (Makes (λ e x. spec.overlay_outcome e x)
@@ -207,8 +207,9 @@ fn change_by_number(number: u64) -> Change
     }
 }
 
-/// Ends a plain call by its answer: the thread goes on with a value in r0, or with the reason of a refusal, or
-/// it ends. Answers what has changed: by an accepted call this change, and by a refused one the thread alone.
+/// Ends a plain call by its answer: the thread goes on with a value in r0, or with the reason of a
+/// refusal, or it ends. Answers what has changed: by an accepted call this change, and by a refused one
+/// the thread alone.
 fn end_plain(thread: &mut Thread, answer: CallAnswer, change: Change) -> Change
     ensures thread { thread.new ≡ spec.plainly thread.old answer }
     ensures change { result ≡ change_by_end answer change }

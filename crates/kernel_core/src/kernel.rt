@@ -1,9 +1,12 @@
-ghost use Rattle.std.specs.Prelude.{◌≡◌, ◌≢◌, ◌<◌, All, ◌≤◌, ◌+◌, ◌*◌, ◌-◌, ◌^◌, ◌++◌, ◌∷◌, [], false, max, true, None, IfErr, IfOk, IfSome, IsOk, OnErr, OnOk, Some, length, vec_capacity, vec_len};
+ghost use Rattle.std.specs.Prelude.{◌≡◌, ◌≢◌, ◌<◌, All, ◌≤◌, ◌+◌, ◌*◌, ◌-◌, ◌^◌, ◌++◌, ◌∷◌, [], false, max};
+ghost use Rattle.std.specs.Prelude.{true, None, IfErr, IfOk, IfSome, IsOk, OnErr, OnOk, Some, length};
+ghost use Rattle.std.specs.Prelude.{vec_capacity, vec_len};
 ghost use Rattle.guest_image.specs.Limits.{IsImage};
 ghost use Rattle.guest_machine.specs.Advances.{advanced};
 ghost use Rattle.kernel_core.specs.Kernel as spec;
 ghost use Rattle.kernel_core.specs.Kernel.{CanOpen, MayHave, machine_of};
-ghost use Rattle.kernel_core.specs.Machine.{homes_of, is_ended, reply_of, steps_after, steps_for_requests, steps_left, work};
+ghost use Rattle.kernel_core.specs.Machine.{homes_of, is_ended, reply_of, steps_after, steps_for_requests};
+ghost use Rattle.kernel_core.specs.Machine.{steps_left, work};
 ghost use Rattle.kernel_core.specs.Machine as machines;
 ghost use Rattle.kernel_core.specs.Runs as runs;
 ghost use Rattle.kernel_core.specs.Settings.{IsSettings};
@@ -13,7 +16,8 @@ ghost use Rattle.kernel_core.specs.Step.{contexts_of};
 ghost use Rattle.lwc_base.specs.Frames.{used};
 ghost use Rattle.lwc_base.specs.Life as life;
 ghost use Rattle.lwc_base.specs.Life.{IsReaped};
-ghost use Rattle.lwc_base.specs.declared.limits.TheConstants.{MOST_BUDGET, MOST_REQUESTS, MOST_STEPS, MOST_THREADS};
+ghost use Rattle.lwc_base.specs.declared.limits.TheConstants.{MOST_BUDGET, MOST_REQUESTS, MOST_STEPS};
+ghost use Rattle.lwc_base.specs.declared.limits.TheConstants.{MOST_THREADS};
 ghost use Rattle.std.specs.List.{sum_by};
 ghost use Rattle.std.specs.Option.{option_map};
 ghost use Rattle.world_face.specs.Calls.{IsLive};
@@ -165,8 +169,8 @@ impl<W: World> Kernel<W> {
         Ok(self.turn(t, finished))
     }
 
-    /// The step of `step`, which answers the number of the request that it has finished, if it has, in place of
-    /// the turn. `note_turn` tells the turn by that number.
+    /// The step of `step`, which answers the number of the request that it has finished, if it has, in
+    /// place of the turn. `note_turn` tells the turn by that number.
     pub fn make_step(
         &mut self,
         t: u32,
@@ -303,9 +307,9 @@ impl<W: World> Kernel<W> {
         self.threads[t as usize].view()
     }
 
-    /// The number of steps that the threads may still make (`work`): in a run the budgets of those that run. In
-    /// a serve, for each request that is not begun the budget and 1, for each idle worker 1, and for each
-    /// other one what is left of its budget and 1.
+    /// The number of steps that the threads may still make (`work`): in a run the budgets of those that
+    /// run. In a serve, for each request that is not begun the budget and 1, for each idle worker 1, and
+    /// for each other one what is left of its budget and 1.
     pub fn work(&self) -> u32
         ensures { result ≡ work (machine_of self.now) }
     {
@@ -334,18 +338,16 @@ impl<W: World> Kernel<W> {
         self.channels.requests().len() as u32
     }
 
-    /// What is recorded of request `r`; `None` if it is not finished.
+    /// What is recorded of request `r`; `None` if it is not finished, or if there is none of this number.
     pub fn reply(&self, r: u16) -> Option<&Finished>
-        requires { r < length self.now.inputs.requests }
         ensures { option_map (λ x. x.now) result ≡ reply_of (machine_of self.now) r }
     {
         runs_stay_ready();
         recorded(&self.serve, r)
     }
 
-    /// How request `r` ended; `None` if it is not finished.
+    /// How request `r` ended; `None` if it is not finished, or if there is none of this number.
     pub fn reply_status(&self, r: u16) -> Option<ThreadStatus>
-        requires { r < length self.now.inputs.requests }
         ensures { result ≡ option_map (λ x. x.status) (reply_of (machine_of self.now) r) }
     {
         match self.reply(r) {
@@ -369,8 +371,9 @@ impl<W: World> Kernel<W> {
     }
 }
 
-/// Drops the contexts that are reached neither from a thread's context nor from the homes of this number of workers,
-/// and then the groups that no cell names. There are none if the step has cut no link, and then no work is done.
+/// Drops the contexts that are reached neither from a thread's context nor from the homes of this number
+/// of workers, and then the groups that no cell names. There are none if the step has cut no link, and
+/// then no work is done.
 fn drop_unreached<W: World>(world: &mut W, threads: &[Thread], workers: u32, change: Change)
     requires few { length threads.now ≤ MOST_THREADS }
     requires few_homes { workers ≤ MOST_THREADS }
@@ -442,8 +445,8 @@ fn work_for_requests(serve: &Serve, requests: u32) -> u32
     (requests - u32::from(serve.next)) * (serve.budget + 1)
 }
 
-/// The number of steps that the threads may still make, where each that runs makes this number more after those of
-/// its budget.
+/// The number of steps that the threads may still make, where each that runs makes this number more after
+/// those of its budget.
 fn work_left(threads: &[Thread], more: u32) -> u32
     requires more { more ≤ 1 }
     requires few { All (λ x. x.budget ≤ MOST_BUDGET) threads.now }

@@ -1,10 +1,12 @@
-ghost use Rattle.std.specs.Prelude.{◌≡◌, ◌<◌, ◌+◌, ◌*◌, ◌++◌, ◌∷◌, [], false, true, if◌then◌else◌, length, ℕ, List, Some};
+ghost use Rattle.std.specs.Prelude.{◌≡◌, ◌<◌, ◌+◌, ◌*◌, ◌++◌, ◌∷◌, [], false, true, if◌then◌else◌, length, ℕ};
+ghost use Rattle.std.specs.Prelude.{List, Some};
 ghost use Rattle.guest_isa.specs.declared.instr.Instr.{Instr};
 ghost use Rattle.kernel_core.specs.Histories.{IsComplete, IsLegal, steps_by, turn_after};
 ghost use Rattle.kernel_core.specs.Kernel.{CanOpen, History, machine_of, turn};
 ghost use Rattle.kernel_core.specs.Machine.{Environment, Machine, has_ended, is_ended, work};
 ghost use Rattle.kernel_core.specs.Ready.{RunFacts};
-ghost use Rattle.kernel_core.specs.Refused.{ComesToRefusal, IsNotLast, after_refusal, refusal_of, thread_refused};
+ghost use Rattle.kernel_core.specs.Refused.{ComesToRefusal, IsNotLast, after_refusal, refusal_of};
+ghost use Rattle.kernel_core.specs.Refused.{thread_refused};
 ghost use Rattle.kernel_core.specs.Runs.{kept, peak, run};
 ghost use Rattle.kernel_core.specs.Start.{Inputs, start, thread_count};
 ghost use Rattle.kernel_core.specs.Step.{after_outcome, guest_calls, refused, settled, step, unchanged};
@@ -60,8 +62,8 @@ pub fn worlds_of_runs_are_sound()
     runs_stay_ready();
 }
 
-/// A call that is refused, whatever its number, changes its thread alone, and of it r0, pc and the budget. In a
-/// serve the last step of the budget besides finishes the request.
+/// A call that is refused, whatever its number, changes its thread alone, and of it r0, pc and the
+/// budget. In a serve the last step of the budget besides finishes the request.
 pub fn a_refused_call_changes_its_thread_alone()
     ensures call { (number t : ℕ) (e : Environment) (x : Thread) (refusal : Refusal) →
         refusal_of number t e x ≡ Some refusal → guest_calls number t e x ≡ unchanged e (refused x refusal) }
@@ -133,7 +135,8 @@ pub fn each_thread_has_its_budget()
         work (start inputs) ≡ length inputs.image.entries * inputs.settings.budget }
 {}
 
-/// At the start of a serve there is the budget and one step more for each request, and one step for each worker.
+/// At the start of a serve there is the budget and one step more for each request, and one step for each
+/// worker.
 #[tactic(auto, using(crate::proofs::Others::work_at_serve))]
 pub fn each_request_has_its_budget()
     ensures { (inputs : Inputs) (workers : ℕ) → inputs.settings.job ≡ jobs.Serve workers →

@@ -1,5 +1,6 @@
 ghost use Rattle.std.specs.Prelude.{◌≡◌, ◌<◌, ◌≤◌, ◌+◌, ◌^◌};
 ghost use Rattle.std.specs.Option.{option_map};
+ghost use Rattle.kernel_core.specs.Kernel.{turn_of};
 ghost use Rattle.kernel_core.specs.Machine as machine;
 ghost use Rattle.kernel_core.specs.Step as spec;
 
@@ -57,11 +58,7 @@ impl Turn {
 
     /// Makes this the turn of a thread whose step finished a request, or none. It takes no memory.
     pub(crate) fn note(&mut self, thread: &Thread, finished: Option<&Finished>)
-        ensures { self.new ≡ record {
-          regs = thread.now.regs;
-          status = thread.now.status;
-          finished = option_map (λ x. x.now) finished.entry;
-        } }
+        ensures { self.new ≡ turn_of thread.now (option_map (λ x. x.now) finished.entry) }
     {
         self.regs = thread.regs;
         self.status = thread.status;
@@ -97,11 +94,7 @@ impl Thread {
 
     /// The registers and the status, and the request that a step of it has finished.
     pub(crate) fn turn(&self, finished: Option<&Finished>) -> Turn
-        ensures { result ≡ record {
-          regs = self.now.regs;
-          status = self.now.status;
-          finished = option_map (λ x. x.now) finished.entry;
-        } }
+        ensures { result ≡ turn_of self.now (option_map (λ x. x.now) finished.entry) }
     {
         Turn {
             regs: self.regs,
@@ -122,8 +115,8 @@ impl Thread {
         }
     }
 
-    /// The number of steps that the thread may still make, where a worker makes this number more after those of
-    /// its request.
+    /// The number of steps that the thread may still make, where a worker makes this number more after
+    /// those of its request.
     pub(crate) fn steps_left(&self, more: u32) -> u32
         requires { self.now.budget + more < 2 ^ 32 }
         ensures { result ≡ machine.steps_left more self.now.budget self.now.status }

@@ -1,7 +1,10 @@
-ghost use Rattle.std.specs.Prelude.{◌≡◌, ℕ, ◌+◌, ◌-◌, ◌<◌, ◌≤◌, ◌↔◌, min, ◌⊎◌, List, [], length, take, replicate, Some, None, option_copied, IfOk, IfSome, OnOk, OnErr, IsErr, IsTrue, bytes_eq, position, ◌==◌};
+ghost use Rattle.std.specs.Prelude.{◌≡◌, ℕ, ◌+◌, ◌-◌, ◌<◌, ◌≤◌, ◌↔◌, min, ◌⊎◌, List, [], length, take};
+ghost use Rattle.std.specs.Prelude.{replicate, Some, None, option_copied, IfOk, IfSome, OnOk, OnErr, IsErr};
+ghost use Rattle.std.specs.Prelude.{IsTrue, bytes_eq, position, ◌==◌};
 ghost use Rattle.std.specs.List.{list_any};
 ghost use Rattle.lwc_io.specs.Outside.{CountsOneFault, IsPiece, fetch_into, given_by};
-ghost use Rattle.lwc_io.specs.Memory.{place_of, bytes_of, faults_of, fetch_fails, after_fetch, with_fault, write_fails, after_write, after_failed_write};
+ghost use Rattle.lwc_io.specs.Memory.{place_of, bytes_of, faults_of, fetch_fails, after_fetch, with_fault};
+ghost use Rattle.lwc_io.specs.Memory.{write_fails, after_write, after_failed_write};
 
 use crate::log::{Asked, FetchLog};
 use crate::outside::{Failed, Files, Sink};

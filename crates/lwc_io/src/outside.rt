@@ -1,5 +1,6 @@
 ghost use Rattle.std.specs.Prelude.{◌≡◌, ℕ, ◌<◌, ◌≤◌, List, length, take, IfOk, IfSome, OnErr, OnOk};
-ghost use Rattle.lwc_io.specs.Outside.{CountsOneFault, FilesView, IsPiece, SinkView, appended, given_by, with_fetch};
+ghost use Rattle.lwc_io.specs.Outside.{CountsOneFault, FilesView, IsPiece, SinkView, appended, given_by};
+ghost use Rattle.lwc_io.specs.Outside.{with_fetch};
 
 use std::sync::Wait;
 use thiserror::Error;

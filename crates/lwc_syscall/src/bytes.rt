@@ -1,4 +1,5 @@
-ghost use Rattle.std.specs.Prelude.{◌≡◌, ◌≢◌, ◌≤◌, ◌↔◌, ◌+◌, ◌<◌, ◌^◌, if◌then◌else◌, true, length, is_some, not, IfOk, IfSome, IsOk, OnErr, OnOk};
+ghost use Rattle.std.specs.Prelude.{◌≡◌, ◌≢◌, ◌≤◌, ◌↔◌, ◌+◌, ◌<◌, ◌^◌, if◌then◌else◌, true, length, is_some};
+ghost use Rattle.std.specs.Prelude.{not, IfOk, IfSome, IsOk, OnErr, OnOk};
 ghost use Rattle.lwc_base.specs.Channels.{HasItsFiles, IsInRange};
 ghost use Rattle.lwc_base.specs.Store as stores;
 ghost use Rattle.lwc_base.specs.World.{is_live};

@@ -8,12 +8,14 @@ ghost use Rattle.lwc_base.specs.Life.{HasItsContexts};
 ghost use Rattle.lwc_base.specs.Modes.{IsKey};
 ghost use Rattle.lwc_base.specs.Refusals.{first_refusal};
 ghost use Rattle.lwc_base.specs.World.{World, is_live};
-ghost use Rattle.lwc_syscall.specs.Changes.{ChangesIfDone, ChangesOnly, CutsNone, IsPlainChange, IsWell, KeepsNumbers, cuts_none, holder, leaves_world, may_change};
+ghost use Rattle.lwc_syscall.specs.Changes.{ChangesIfDone, ChangesOnly, CutsNone, IsPlainChange, IsWell};
+ghost use Rattle.lwc_syscall.specs.Changes.{KeepsNumbers, cuts_none, holder, leaves_world, may_change};
 ghost use Rattle.lwc_base.specs.declared.key.Key.{Key};
 ghost use Rattle.lwc_base.specs.declared.name.Name.{Name};
 ghost use Rattle.lwc_base.specs.declared.regs.Regs.{Regs};
 ghost use Rattle.lwc_syscall.specs.Plain.{plain};
-ghost use Rattle.lwc_syscall.specs.Syscall.{IsAllowed, inner_args, inner_call, link, lw_syscall, refusals, three_of};
+ghost use Rattle.lwc_syscall.specs.Syscall.{IsAllowed, inner_args, inner_call, link, lw_syscall, refusals};
+ghost use Rattle.lwc_syscall.specs.Syscall.{three_of};
 ghost use Rattle.lwc_syscall.specs.declared.calls.Three.{Three};
 
 use guest_call::laws::{a_descriptor_in_a_slot_is_a_link, a_put_leaves_the_rest};
@@ -23,9 +25,9 @@ use lwc_base::laws::{
     sound_worlds_stay_sound, the_lowest_empty_slot_is_empty, what_is_apart_stays_apart,
 };
 
-/// A plain call does at most one thing: a put under a slot or of the credential, a mapping, a store and then
-/// a put, or a write. A descriptor that it puts is in range, and of a live context if it is of one; of the job's own,
-/// where names keep to their jobs.
+/// A plain call does at most one thing: a put under a slot or of the credential, a mapping, a store and
+/// then a put, or a write. A descriptor that it puts is in range, and of a live context if it is of one;
+/// of the job's own, where names keep to their jobs.
 pub fn a_plain_call_does_one_thing()
     ensures { (w : World) (io : Channels) (three : Three) (job call : ℕ) (args : List ℕ) → HasItsContexts w →
         HasItsFiles io w → is_live w three.slots ≡ true → IsPlainChange w io three job
@@ -37,8 +39,8 @@ pub fn a_plain_call_does_one_thing()
     the_lowest_empty_slot_is_empty();
 }
 
-/// A plain call changes what it may: a page, a slot or the uid of one of its three contexts, also for the contexts that
-/// have it in common. It changes nothing else.
+/// A plain call changes what it may: a page, a slot or the uid of one of its three contexts, also for the
+/// contexts that have it in common. It changes nothing else.
 pub fn a_plain_call_changes_what_it_may()
     ensures plain { (w : World) (io : Channels) (three : Three) (job call : ℕ) (args : List ℕ) →
         ChangesOnly w (plain w io three job call args).world three (may_change w io three call args) }
@@ -52,8 +54,8 @@ pub fn a_plain_call_changes_what_it_may()
     what_is_apart_stays_apart();
 }
 
-/// What a call over chosen contexts may change is the caller's, or of the context that the slot names and under a key
-/// that the capability has.
+/// What a call over chosen contexts may change is the caller's, or of the context that the slot names and
+/// under a key that the capability has.
 pub fn a_syscall_changes_only_keys_of_its_capability()
     ensures { (w : World) (c : Name) (regs : Regs) (k : Key) → IsAllowed w c regs → IsKey w.size.pages k →
         (holder (three_of w c regs) k ≡ c) ⊎ ((holder (three_of w c regs) k ≡ (link w c regs).0)
@@ -100,8 +102,8 @@ pub fn a_syscall_keeps_the_world_well()
     a_plain_call_keeps_the_world_well();
 }
 
-/// What a job's contexts and groups name is of that job after a plain call, and after a call over the contexts that a
-/// mask chooses, if it was so before.
+/// What a job's contexts and groups name is of that job after a plain call, and after a call over the
+/// contexts that a mask chooses, if it was so before.
 pub fn calls_keep_names_to_their_jobs()
     ensures plain { (w : World) (io : Channels) (three : Three) (job : ℕ) (v : World) (after : Channels) →
         IsPlainChange w io three job v after → NamesKeepToJobs w → NamesKeepToJobs v }
@@ -122,15 +124,16 @@ pub fn a_refused_call_changes_nothing()
         ChangesIfDone w io (lw_syscall w io c job regs) }
 {}
 
-/// What an open, a dup and a read change loses no descriptor of a context, and a write, a getuid and an exit leave
-/// the world: no link is cut. So it is where they are made over chosen contexts.
+/// What an open, a dup and a read change loses no descriptor of a context, and a write, a getuid and an
+/// exit leave the world: no link is cut. So it is where they are made over chosen contexts.
 pub fn some_plain_calls_cut_no_link()
     ensures none { (w : World) (io : Channels) (three : Three) (job call : ℕ) (args : List ℕ) →
         cuts_none call ≡ true → CutsNone w three job (plain w io three job call args).world }
     ensures same { (w : World) (io : Channels) (three : Three) (job call : ℕ) (args : List ℕ) →
         leaves_world call ≡ true → (plain w io three job call args).world ≡ w }
     ensures chosen_none { (w : World) (io : Channels) (c : Name) (job : ℕ) (regs : Regs) →
-        cuts_none (inner_call regs) ≡ true → CutsNone w (three_of w c regs) job (lw_syscall w io c job regs).world }
+        cuts_none (inner_call regs) ≡ true
+        → CutsNone w (three_of w c regs) job (lw_syscall w io c job regs).world }
     ensures chosen_same { (w : World) (io : Channels) (c : Name) (job : ℕ) (regs : Regs) →
         leaves_world (inner_call regs) ≡ true → (lw_syscall w io c job regs).world ≡ w }
 {

@@ -52,9 +52,6 @@ line_open bs none some =
     ap lines_of_parts (slice_split_none is_feed bs (All-from_get_or (λ b. is_feed b ≡ false) bs 0 (λ i within. fails_before_first is_feed bs i 0 (omega arith))))
     ∙ last_line bs some
 
-pub nothing_follows : (bs : List ℕ) → length bs ≤ position_or_len is_feed bs → after_first is_feed bs ≡ []
-nothing_follows bs none = drop_all (position_or_len is_feed bs + 1) bs (omega (arith, none))
-
 -- a line that breaks no rule is the digits of a request
 record IsGood (line : List ℕ) : Type 0 where
   request : List ℕ

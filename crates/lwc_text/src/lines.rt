@@ -4,7 +4,9 @@
 ghost use Rattle.std.specs.Prelude.{◌≡◌, ◌++◌, IfOk, OnOk, OnErr, string_bytes, codes, decimal};
 ghost use Rattle.std.specs.List.{flat_map};
 ghost use Rattle.std.specs.Option.{option_map};
-ghost use Rattle.lwc_text.specs.Lines.{bytes_text, context_line, groups_line, name_text, regs_line, reply_line, reply_text, status_text, steps_text, tail_lines, thread_line, thread_lines};
+ghost use Rattle.lwc_text.specs.Lines.{bytes_text, context_line, groups_line, name_text, regs_line};
+ghost use Rattle.lwc_text.specs.Lines.{reply_line, reply_text, status_text, steps_text, tail_lines};
+ghost use Rattle.lwc_text.specs.Lines.{thread_line, thread_lines};
 
 use kernel_core::ThreadView;
 use lwc_base::{Name, OutOfMemory, Summary, ThreadStatus};

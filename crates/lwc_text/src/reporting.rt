@@ -11,9 +11,9 @@ use lwc_base::laws::names_are_ordered;
 use std::alloc::Global;
 use world_face::World;
 
-/// The report of a run: its threads with their registers, its contexts, the number of live groups, the replies
-/// to its requests, what was written to the console, the frames in use and the most that were, and the steps that were kept. The only
-/// error is out of memory.
+/// The report of a run: its threads with their registers, its contexts, the number of live groups, the
+/// replies to its requests, what was written to the console, the frames in use and the most that were,
+/// and the steps that were kept. The only error is out of memory.
 #[tactic(auto, unfolding(crate::specs::Report::report_of, kernel_core::specs::Kernel::machine_of))]
 pub fn report<W: World>(alloc: Global, k: &Kernel<W>) -> Result<Vec<u8>, OutOfMemory>
     ensures exact { IfOk result (λ text. text.items ≡ report_after k.now.inputs k.now.steps) }

@@ -1,6 +1,7 @@
 //! Requests: the bytes of each, one a line.
 
-ghost use Rattle.std.specs.Prelude.{◌≡◌, ◌<◌, ◌≤◌, ◌+◌, ◌^◌, ◌∷◌, ◌==◌, ℕ, List, length, IfErr, IfOk, IfSome, OnOk, None, Some, Ok};
+ghost use Rattle.std.specs.Prelude.{◌≡◌, ◌<◌, ◌≤◌, ◌+◌, ◌^◌, ◌∷◌, ◌==◌, ℕ, List, length, IfErr, IfOk, IfSome};
+ghost use Rattle.std.specs.Prelude.{OnOk, None, Some, Ok};
 ghost use Rattle.std.specs.List.{after_first, position_or_len};
 ghost use Rattle.std.specs.Str.Lines.{lines, strip_carriage_return};
 ghost use Rattle.byte_reading.specs.Outcomes.{Answers, Fails, IsFound, unless_refused};

@@ -1,11 +1,13 @@
 //! Schedules: which thread makes each step.
 
-ghost use Rattle.std.specs.Prelude.{◌≡◌, ◌≤◌, ◌<◌, ◌++◌, ◌∷◌, ℕ, List, [], ◌↔◌, IsTrue, length, All, slice_get, IfOk, IfErr, OnOk, Some, None, Ok};
+ghost use Rattle.std.specs.Prelude.{◌≡◌, ◌≤◌, ◌<◌, ◌++◌, ◌∷◌, ℕ, List, [], ◌↔◌, IsTrue, length, All};
+ghost use Rattle.std.specs.Prelude.{slice_get, IfOk, IfErr, OnOk, Some, None, Ok};
 ghost use Rattle.std.specs.Option.{option_map};
 ghost use Rattle.byte_reading.specs.Outcomes.{Answers, Fails, IsFound, unless_refused};
 ghost use Rattle.byte_reading.specs.declared.error.ReadError.TheVariants.{OutOfMemory};
 ghost use Rattle.lwc_base.specs.declared.limits.TheConstants.{MOST_STEPS, MOST_THREADS};
-ghost use Rattle.lwc_text.specs.Schedules.{IsSchedule, digit_number, is_blank, names_thread, numbers, refusal_of, refusals, rule_broken, schedule_at};
+ghost use Rattle.lwc_text.specs.Schedules.{IsSchedule, digit_number, is_blank, names_thread, numbers};
+ghost use Rattle.lwc_text.specs.Schedules.{refusal_of, refusals, rule_broken, schedule_at};
 
 use crate::fault::{InputFault, InputRule};
 use byte_reading::ReadError;

@@ -85,7 +85,8 @@ impl<W: World> Guarded<W> {
     ) -> Box<Turn>
         requires within { t < thread_count self.old.kernel.value.inputs }
         requires going { is_ended (machine_of self.old.kernel.value) t ≡ false }
-        requires proposal { IfSome proposal (λ a. a ≡ advanced self.old.kernel.value.inputs.image.text a.before) }
+        requires proposal { IfSome proposal (λ a. a
+            ≡ advanced self.old.kernel.value.inputs.image.text a.before) }
         ensures inputs { self.new.kernel.value.inputs ≡ self.old.kernel.value.inputs }
         ensures steps { self.new.kernel.value.steps ≡ self.old.kernel.value.steps ++ t ∷ [] }
         ensures turn { turn self.new.kernel.value t ≡ Some result.value }

@@ -44,7 +44,8 @@ pub(crate) fn hand_out<W: World>(
     requires empty { passes.items ≡ [] }
     requires room { length held.items ≤ vec_capacity passes }
     requires count { length held.items ≡ length turns.now.items }
-    requires new { (i : ℕ) (p : Held Inputs) → slice_get held.items i ≡ Some p → gates.IsNewPass gate.now i p }
+    requires new { (i : ℕ) (p : Held Inputs) → slice_get held.items i ≡ Some p
+        → gates.IsNewPass gate.now i p }
     requires threads { length turns.now.items ≡ thread_count gate.now.name }
     requires turns { (t : ℕ) (last : Turn) →
         slice_get turns.now.items t ≡ Some last → turn_after gate.now.name [] t ≡ Some last }

@@ -27,7 +27,11 @@ impl<W: World> Model for ProcessPass<W> {
 
     ghost Value = { Carried };
 
-    ghost view = { λ p. record { held = p.pass; last = unwrap_or (option_map (λ b. b.value) p.last) no_turn } };
+    ghost view = { λ p. record {
+      held = p.pass;
+      last = unwrap_or
+          (option_map (λ b. b.value) p.last) no_turn;
+    } };
 
     ghost invariant = { λ p. is_some p.last ≡ true };
 }

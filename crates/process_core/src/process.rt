@@ -1,5 +1,6 @@
 //! A process, as its callers see it.
-ghost use Rattle.std.specs.Prelude.{◌≡◌, ◌<◌, ◌≤◌, ℕ, [], ◌∷◌, ◌++◌, false, true, length, All, IfOk, IfSome, Some, slice_get};
+ghost use Rattle.std.specs.Prelude.{◌≡◌, ◌<◌, ◌≤◌, ℕ, [], ◌∷◌, ◌++◌, false, true, length, All, IfOk, IfSome};
+ghost use Rattle.std.specs.Prelude.{Some, slice_get};
 ghost use Rattle.guest_machine.specs.Advances.{advanced};
 ghost use Rattle.kernel_core.specs.Histories.{GoesOn, IsComplete, IsLegal, turn_after};
 ghost use Rattle.kernel_core.specs.Kernel as kernels;
@@ -45,7 +46,8 @@ impl<W: World> Model for Process<W> {
     ghost invariant = { λ p. (p.text ≡ p.gate.name.image.text) × (p.gate.seats ≡ thread_count p.gate.name) };
 }
 
-/// One step of the pass's thread, which its last turn had not ended. What it left is noted in the box of that turn.
+/// One step of the pass's thread, which its last turn had not ended. What it left is noted in the box of
+/// that turn.
 fn take_turn<R: Wait, W: World>(
     gate: &Turnstile<Guarded<W>>,
     rt: &R,
@@ -120,11 +122,12 @@ impl<W: World> Process<W> {
     }
 
     /// One step of the pass's thread, or none where its last turn had ended the thread: then that turn is
-    /// answered again. It may wait, and takes no memory. A proposal is the advance of some registers over the
-    /// text; it is used if it begins with the thread's registers, and the answer is the same without it.
+    /// answered again. It may wait, and takes no memory. A proposal is the advance of some registers over
+    /// the text; it is used if it begins with the thread's registers, and the answer is the same without
+    /// it.
     ///
-    /// The answer is what the history that the pass has then seen leaves of the thread. That history is legal,
-    /// and goes on from the one that the pass had seen by steps of others and one of this thread.
+    /// The answer is what the history that the pass has then seen leaves of the thread. That history is
+    /// legal, and goes on from the one that the pass had seen by steps of others and one of this thread.
     pub fn turn<R: Wait>(
         &self,
         rt: &R,

@@ -42,8 +42,8 @@ pub fn a_finished_serve_has_each_reply()
         length (run (start inputs) steps).environment.channels.requests ≡ length inputs.requests }
 {}
 
-/// What is recorded of a request bears its number, and its bytes are those that are written to its reply: none
-/// is written once the request is finished.
+/// What is recorded of a request bears its number, and its bytes are those that are written to its reply:
+/// none is written once the request is finished.
 pub fn a_recorded_reply_is_what_was_written()
     ensures request { (inputs : Inputs) (steps : List ℕ) (r : ℕ) (told : Finished) → CanOpen inputs →
         reply_of (run (start inputs) steps) r ≡ Some told → told.request ≡ r }
@@ -54,8 +54,8 @@ pub fn a_recorded_reply_is_what_was_written()
     jobs_are_apart();
 }
 
-/// What a serve's contexts and groups have is of their own request, and beside it the pages of a home; and no context of a
-/// finished request lives.
+/// What a serve's contexts and groups have is of their own request, and beside it the pages of a home;
+/// and no context of a finished request lives.
 pub fn requests_are_apart()
     ensures own { (inputs : Inputs) (steps : List ℕ) (workers : ℕ) → CanOpen inputs →
         inputs.settings.job ≡ jobs.Serve workers →

@@ -15,8 +15,8 @@ use lwc_base::laws::{
     a_group_is_needed_where_a_value_moves, changes_leave_the_rest, names_are_ordered,
 };
 
-/// A request begins as a copy of the home by no item, in which two slots are put. Such a copy needs no group, and
-/// has at most as many ranges as the home.
+/// A request begins as a copy of the home by no item, in which two slots are put. Such a copy needs no
+/// group, and has at most as many ranges as the home.
 pub fn a_request_begins_as_a_copy()
     ensures begun { (w : World) (home : Name) (r : ℕ) → begin w home r
         ≡ put_slot (put_slot (clone_context w home (r + 1) [] (context w home).entry)

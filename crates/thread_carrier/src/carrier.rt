@@ -20,9 +20,9 @@ pub struct Carrier<W: World> {
     pub turns: u64,
 }
 
-/// Carries a thread to its end. Each turn has as its proposal the advance of the thread's registers, which is
-/// computed outside the lock. It comes to the gate before each, and after each that finished a request. It may wait, and
-/// takes no memory.
+/// Carries a thread to its end. Each turn has as its proposal the advance of the thread's registers,
+/// which is computed outside the lock. It comes to the gate before each, and after each that finished a
+/// request. It may wait, and takes no memory.
 pub fn carry<R: Wait, W: World, G: Gate>(
     rt: &R,
     process: &Process<W>,
@@ -69,14 +69,16 @@ pub fn carry_all<R: Threads + Wait + Sync, W: World, G: Gate>(
     requires turns { All (λ c. c.turns < 2 ^ 63) carriers.old }
     ensures ours { All (λ c. IsPassOf process.now c.pass) carriers.new }
     ensures ended { All (λ c. has_ended c.pass.last.status ≡ true) carriers.new }
-    ensures numbers { map (λ c. c.pass.held.number) carriers.new ≡ map (λ c. c.pass.held.number) carriers.old }
+    ensures numbers { map (λ c. c.pass.held.number) carriers.new
+        ≡ map (λ c. c.pass.held.number) carriers.old }
 {
     thread::for_each_mut(
         rt,
         carriers,
         MOST_THREADS as usize,
         &|_, carrier: &mut Carrier<W>|
-            requires { G.leave gate.now × IsPassOf process.now carrier.now.pass × (carrier.now.turns < 2 ^ 63) }
+            requires { G.leave gate.now × IsPassOf process.now carrier.now.pass
+                × (carrier.now.turns < 2 ^ 63) }
             ensures { IsPassOf process.entry.now carrier.exit.now.pass
                 × (has_ended carrier.exit.now.pass.last.status ≡ true)
                 × (carrier.exit.now.pass.held.number ≡ carrier.entry.now.pass.held.number) }

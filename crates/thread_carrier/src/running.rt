@@ -13,11 +13,13 @@ use std::sync::Wait;
 use std::thread::Threads;
 use world_face::World;
 
-/// Runs all threads of a process to their ends, and gives its kernel back. The steps that the kernel has kept then are a
-/// legal history after which every thread has ended. It may wait.
+/// Runs all threads of a process to their ends, and gives its kernel back. The steps that the kernel has
+/// kept then are a legal history after which every thread has ended. It may wait.
 ///
-/// Each thread is carried by a worker of its own where one can be started, and comes to the gate before each turn. All
-/// memory is taken before the first step. No clause says these three: tests show the first.
+/// Each thread is carried by a worker of its own where one can be started, and comes to the gate before
+/// each turn. All memory is taken before the first step. No clause says these three: tests show the
+/// first.
+///
 ///
 /// # Errors
 ///

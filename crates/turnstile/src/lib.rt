@@ -5,16 +5,17 @@
 //! thread with a pass has a turn by `with_turn`, asks how many turns there were by `served`, and whoever
 //! has all the passes takes the state back by `close`. What the holder of a pass knows lies in the pass:
 //!
-//! - after each turn it has seen the whole past up to its turn, and of its own turns there are just those that
-//!   it had (`with_turn`: `called`, `front`, `count`);
-//! - what `served` answers is never taken back: later turns and the end have more turns, or as many (`served`,
-//!   and `later` of `with_turn`, `noted` of `close`);
+//! - after each turn it has seen the whole past up to its turn, and of its own turns there are just those
+//!   that it had (`with_turn`: `called`, `front`, `count`);
+//! - what `served` answers is never taken back: later turns and the end have more turns, or as many
+//!   (`served`, and `later` of `with_turn`, `noted` of `close`);
 //! - at the end all passes agree: each has seen a beginning of the one past (`close`: `seen`).
 //!
 //! Beneath lies a table of the kit's `atomic_table` with two words, `next` and `serving`, and one slot for
 //! the state. `specs/Rule.antt` has the rule that holds at every moment, and `specs/Steps.antt` what each
 //! kind of step does: draw ticket, look, move out, move in, pass on, split seat and join seat. `moves.rt`
-//! has one function for each kind. Beside the table are sixteen words that waiting threads sleep on (`waiting.rt`).
+//! has one function for each kind. Beside the table are sixteen words that waiting threads sleep on
+//! (`waiting.rt`).
 #![tactic(auto)]
 
 mod lock;

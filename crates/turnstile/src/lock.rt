@@ -1,5 +1,6 @@
 //! The lock, as its callers see it.
-ghost use Rattle.std.specs.Prelude.{◌≡◌, ◌+◌, ◌<◌, ◌≤◌, ℕ, [], ◌∷◌, ◌++◌, length, All, Contains, IfOk, map, slice_get, Some};
+ghost use Rattle.std.specs.Prelude.{◌≡◌, ◌+◌, ◌<◌, ◌≤◌, ℕ, [], ◌∷◌, ◌++◌, length, All, Contains, IfOk, map};
+ghost use Rattle.std.specs.Prelude.{slice_get, Some};
 ghost use Rattle.std.specs.Fn.{FnOnceTakesAtMut, FnOnceReturnsAtMut};
 ghost use mathlib.Core.List.{IsPrefix};
 ghost use Rattle.turnstile.specs.Past.{times, Knows};
@@ -32,9 +33,14 @@ impl<S: Turned> Model for Turnstile<S> {
 
     ghost Value = { Lock S.Name };
 
-    ghost view = { λ t. record { table = t.table.shared.table_id; name = S.name t.table.shared.key.value; seats = t.seats } };
+    ghost view = { λ t. record {
+      table = t.table.shared.table_id;
+      name = S.name t.table.shared.key.value;
+      seats = t.seats;
+    } };
 
-    ghost invariant = { λ t. (0 < t.seats) × (t.table.shared.table_id.words ≡ 2) × (t.table.shared.table_id.slots ≡ 1) };
+    ghost invariant = { λ t. (0 < t.seats) × (t.table.shared.table_id.words ≡ 2)
+        × (t.table.shared.table_id.slots ≡ 1) };
 }
 
 impl<S: Turned> Turnstile<S> {
@@ -55,7 +61,8 @@ impl<S: Turned> Turnstile<S> {
         ensures name { IfOk result (λ t. t.0.name ≡ S.name state) }
         ensures seats { IfOk result (λ t. (t.0.seats ≡ seats) × (length t.1.items ≡ seats)) }
         ensures all { IfOk result (λ t. AreAllOf t.0 t.1.items) }
-        ensures passes { IfOk result (λ t. (i : ℕ) (p : Held S.Name) → slice_get t.1.items i ≡ Some p → IsNewPass t.0 i p) }
+        ensures passes { IfOk result (λ t. (i : ℕ) (p : Held S.Name) → slice_get t.1.items i ≡ Some p
+            → IsNewPass t.0 i p) }
     {
         let (table, first) = open_table(alloc, state)?;
         let passes = deal_passes(alloc, &table.shared, first, seats)?;
@@ -83,9 +90,13 @@ impl<S: Turned> Turnstile<S> {
         action: A,
     ) -> R
         requires ours { IsPassOf self.now pass.old }
-        requires callable { (x : S) → IsDueFor S.name S.past self.now pass.old x → FnOnceTakesAtMut A.FnOnce action x }
-        requires moves { (x y : S) (r : R) → IsDueFor S.name S.past self.now pass.old x → FnOnceReturnsAtMut A.FnOnce action x r y → (S.name y ≡ S.name x) × (S.past y ≡ S.past x ++ pass.old.number ∷ []) }
-        ensures called { (x : S) × (y : S) × IsDueFor S.name S.past self.now pass.old x × FnOnceReturnsAtMut A.FnOnce action x result y × (pass.new.seen ≡ S.past y) }
+        requires callable { (x : S) → IsDueFor S.name S.past self.now pass.old x
+            → FnOnceTakesAtMut A.FnOnce action x }
+        requires moves { (x y : S) (r : R) → IsDueFor S.name S.past self.now pass.old x
+            → FnOnceReturnsAtMut A.FnOnce action x r y → (S.name y ≡ S.name x)
+            × (S.past y ≡ S.past x ++ pass.old.number ∷ []) }
+        ensures called { (x : S) × (y : S) × IsDueFor S.name S.past self.now pass.old x
+            × FnOnceReturnsAtMut A.FnOnce action x result y × (pass.new.seen ≡ S.past y) }
         ensures front { IsPrefix pass.old.seen pass.new.seen }
         ensures count { times pass.old.number pass.new.seen ≡ times pass.old.number pass.old.seen + 1 }
         ensures later { pass.old.noted < length pass.new.seen }
@@ -113,11 +124,11 @@ impl<S: Turned> Turnstile<S> {
         look(&self.table.shared, &mut pass.seat)
     }
 
-    /// Ends the turnstile, and gives its state back. What is handed in holds all the passes that `new` gave, in
-    /// any order; passes hold themselves. It takes no memory.
+    /// Ends the turnstile, and gives its state back. What is handed in holds all the passes that `new`
+    /// gave, in any order; passes hold themselves. It takes no memory.
     ///
-    /// The past of the state begins with what each pass had seen, has no further turn of that pass, and has
-    /// at least as many turns as the pass had noted.
+    /// The past of the state begins with what each pass had seen, has no further turn of that pass, and
+    /// has at least as many turns as the pass had noted.
     pub fn close<P: HoldsPass<S>>(self, mut passes: Vec<P>) -> S
         requires { HoldAllOf P.held self passes.items }
         ensures name { S.name result ≡ self.name }

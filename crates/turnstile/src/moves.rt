@@ -5,7 +5,8 @@ ghost use Rattle.turnstile.specs.declared.views.Stage.TheVariants.{Idle, Waiting
 ghost use Rattle.turnstile.specs.Moves.{IsSeatAt, IsSameSeat, CanLook, TakesTurn, MayEnd, Settles};
 ghost use Rattle.turnstile.specs.Passes.{IsAtRest};
 ghost use Rattle.turnstile.specs.Rule.{first_view};
-ghost use Rattle.turnstile.specs.Steps.{staged, Looks, TakesState, MovesState, PassesOn, kept_view, new_view, joined_view, rested};
+ghost use Rattle.turnstile.specs.Steps.{staged, Looks, TakesState, MovesState, PassesOn, kept_view, new_view};
+ghost use Rattle.turnstile.specs.Steps.{joined_view, rested};
 
 use crate::queue::{
     DrawTicket, JoinSeat, LockSeat, LockShared, LockTable, Look, NEXT, PassOn, SERVING, STATE,
@@ -62,7 +63,8 @@ pub(crate) fn move_in<S: Turned>(shared: &LockShared<S>, seat: &mut LockSeat<S>,
 /// Gives the slot back, and ends the turn. Returns the ticket whose turn has come.
 pub(crate) fn pass_on<S: Turned>(shared: &LockShared<S>, seat: &mut LockSeat<S>) -> u64
     requires seat { IsSeatAt shared.now.table_id seat.old }
-    requires turn { (state : S) × (seat.old.me.1 ≡ (0, Some state) ∷ []) × MayEnd S.name S.past seat.old.me.0 state }
+    requires turn { (state : S) × (seat.old.me.1 ≡ (0, Some state) ∷ [])
+        × MayEnd S.name S.past seat.old.me.0 state }
     ensures seat { IsSameSeat seat.old seat.new }
     ensures passed { PassesOn S.past seat.old.me seat.new.me }
 {
@@ -185,7 +187,8 @@ pub(crate) fn open_table<S: Turned>(
 pub(crate) fn settle<S: Turned>(table: LockTable<S>, first: LockSeat<S>) -> S
     requires seat { IsSeatAt table.shared.table_id first }
     requires rest { IsAtRest 0 first }
-    requires all { (n : ℕ) → 0 < n → n < first.me.0.made → Contains (map (λ j. j.number) first.me.0.joined) n }
+    requires all { (n : ℕ) → 0 < n → n < first.me.0.made
+        → Contains (map (λ j. j.number) first.me.0.joined) n }
     ensures { Settles S.name S.past (S.name table.shared.key.value) first.me.0 result }
 {
     let mut closed = table.close_with(first);

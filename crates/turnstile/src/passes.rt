@@ -1,5 +1,6 @@
 //! The passes of a turnstile.
-ghost use Rattle.std.specs.Prelude.{◌≡◌, ◌+◌, ◌<◌, ◌≤◌, ◌==◌, ◌++◌, ℕ, [], ◌∷◌, length, map, All, Contains, IfOk, Some, slice_get};
+ghost use Rattle.std.specs.Prelude.{◌≡◌, ◌+◌, ◌<◌, ◌≤◌, ◌==◌, ◌++◌, ℕ, [], ◌∷◌, length, map, All, Contains};
+ghost use Rattle.std.specs.Prelude.{IfOk, Some, slice_get};
 ghost use Rattle.std.specs.List.{position};
 ghost use Rattle.std.specs.List.Sorted.{IsPermutation};
 ghost use Rattle.turnstile.specs.Rule.{first_view};
@@ -95,8 +96,10 @@ pub(crate) fn deal_passes<S: Turned>(
     requires first { first.me ≡ (first_view (S.name shared.now.key.value), []) }
     requires few { (1 ≤ seats) × (seats ≤ 16) }
     ensures count { IfOk result (λ passes. length passes.items ≡ seats) }
-    ensures first { IfOk result (λ passes. slice_get passes.items 0 ≡ Some (record (fresh_pass shared.now.table_id (S.name shared.now.key.value) 0) { made = seats })) }
-    ensures others { IfOk result (λ passes. (i : ℕ) (p : Held S.Name) → 0 < i → slice_get passes.items i ≡ Some p → p ≡ fresh_pass shared.now.table_id (S.name shared.now.key.value) i) }
+    ensures first { IfOk result (λ passes. slice_get passes.items 0
+        ≡ Some (record (fresh_pass shared.now.table_id (S.name shared.now.key.value) 0) { made = seats })) }
+    ensures others { IfOk result (λ passes. (i : ℕ) (p : Held S.Name) → 0 < i → slice_get passes.items i
+        ≡ Some p → p ≡ fresh_pass shared.now.table_id (S.name shared.now.key.value) i) }
 {
     let mut passes = Vec::with_capacity(alloc, seats as usize)?;
     for number in 1..seats {
@@ -140,7 +143,8 @@ pub(crate) fn join_all<S: Turned, P: HoldsPass<S>>(
     first: P,
     others: Vec<P>,
 ) -> LockSeat<S>
-    requires shared { ((P.held first).table ≡ shared.now.table_id) × (shared.now.table_id.words ≡ 2) × (shared.now.table_id.slots ≡ 1) }
+    requires shared { ((P.held first).table ≡ shared.now.table_id) × (shared.now.table_id.words ≡ 2)
+        × (shared.now.table_id.slots ≡ 1) }
     requires first { (P.held first).number ≡ 0 }
     requires others { All (λ p. (P.held p).table ≡ shared.now.table_id) others.items }
     ensures seat { held_of result ≡ P.held first }

@@ -1,4 +1,5 @@
-ghost use Rattle.std.specs.Prelude.{◌≡◌, ◌+◌, ◌*◌, ◌<◌, ◌≤◌, ◌^◌, ◌++◌, ℕ, [], ◌∷◌, length, sum, IfOk, Some, slice_get, All, Contains, vec_len, vec_capacity, slice_index, replicate};
+ghost use Rattle.std.specs.Prelude.{◌≡◌, ◌+◌, ◌*◌, ◌<◌, ◌≤◌, ◌^◌, ◌++◌, ℕ, [], ◌∷◌, length, sum, IfOk, Some};
+ghost use Rattle.std.specs.Prelude.{slice_get, All, Contains, vec_len, vec_capacity, slice_index, replicate};
 ghost use Rattle.turnstile.specs.Past.{times};
 ghost use Rattle.turnstile.specs.Passes.{Held, IsPassOf, IsNewPass, AreAllOf};
 
@@ -18,7 +19,8 @@ struct Log {
     turns: Vec<u64>,
     left: Vec<u64>,
     ghost room: { (vec_len turns + sum left.items ≤ vec_capacity turns) × (vec_capacity turns < 2 ^ 32) },
-    ghost budgets: { (n : ℕ) → n < length left.items → slice_index left.items n + times n turns.items ≡ 1000 },
+    ghost budgets: { (n : ℕ) → n < length left.items → slice_index left.items n + times n turns.items
+        ≡ 1000 },
 }
 
 impl Turned for Log {
@@ -150,11 +152,13 @@ fn both_ask<S: Turned, R: Threads + Sync>(
         rt,
         || -> Pass<S>
             requires { IsPassOf gate.now one }
-            ensures { IsPassOf gate.entry.now result × (result.seen ≡ one.seen) × (result.number ≡ one.number) }
+            ensures { IsPassOf gate.entry.now result × (result.seen ≡ one.seen)
+                × (result.number ≡ one.number) }
         { asked(gate, one) },
         || -> Pass<S>
             requires { IsPassOf gate.now other }
-            ensures { IsPassOf gate.entry.now result × (result.seen ≡ other.seen) × (result.number ≡ other.number) }
+            ensures { IsPassOf gate.entry.now result × (result.seen ≡ other.seen)
+                × (result.number ≡ other.number) }
         { asked(gate, other) },
     )
 }

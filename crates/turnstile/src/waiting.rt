@@ -83,8 +83,8 @@ impl WaitWords {
         }
     }
 
-    /// Pauses after a look that found the turn of another ticket, the longer the more such looks there were. Returns
-    /// their number for the next pause.
+    /// Pauses after a look that found the turn of another ticket, the longer the more such looks there
+    /// were. Returns their number for the next pause.
     pub(crate) fn pause<H: Wait>(&self, rt: &H, ticket: u64, looks: u32) -> u32 {
         if looks < SPINS {
             spin_loop();

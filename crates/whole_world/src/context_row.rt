@@ -1,4 +1,5 @@
-ghost use Rattle.std.specs.Prelude.{◌≡◌, if◌then◌else◌, ℕ, ◌<◌, ◌≤◌, IfOk, Option, Some, None, replicate, true, unwrap_or, vec_len};
+ghost use Rattle.std.specs.Prelude.{◌≡◌, if◌then◌else◌, ℕ, ◌<◌, ◌≤◌, IfOk, Option, Some, None, replicate};
+ghost use Rattle.std.specs.Prelude.{true, unwrap_or, vec_len};
 ghost use Rattle.std.specs.Option.{option_copied};
 ghost use Rattle.lwc_base.specs.declared.cell.Cell.TheVariants.{Own, Common};
 ghost use Rattle.lwc_base.specs.declared.descriptor.Descriptor.TheVariants.{Empty};

@@ -49,7 +49,8 @@ fn retagged(parting: bool, new: Tag, value: Option<&PageValue>, bytes: PageBytes
     }
 }
 
-/// The new value of a page that a piece touches, under a new tag if it parts. The only error is out of memory.
+/// The new value of a page that a piece touches, under a new tag if it parts. The only error is out of
+/// memory.
 pub fn new_value(
     alloc: Global,
     parting: bool,

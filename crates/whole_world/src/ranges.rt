@@ -56,7 +56,8 @@ impl WholeWorld {
     ghost use Rattle.lwc_base.specs.Ranges.{ranges_of};
     ghost use Rattle.lwc_base.specs.Sharing.{ranges_after_clone};
     ghost use Rattle.lwc_base.specs.World.{is_live};
-    ghost use Rattle.whole_world.specs.Holders.{holder_after_clone, holder_after_map, holder_after_overlay, holder_in_clone, page_holder};
+    ghost use Rattle.whole_world.specs.Holders.{holder_after_clone, holder_after_map, holder_after_overlay};
+    ghost use Rattle.whole_world.specs.Holders.{holder_in_clone, page_holder};
     ghost use Rattle.whole_world.specs.Worlds.{seen};
 
     /// The numbers of ranges that the context and the new one would have after a clone, in this order.

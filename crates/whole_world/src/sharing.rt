@@ -1,4 +1,5 @@
-ghost use Rattle.std.specs.Prelude.{◌≡◌, if◌then◌else◌, ◌+◌, ◌<◌, ◌≤◌, ◌^◌, IsTrue, OnErr, OnOk, true, vec_len};
+ghost use Rattle.std.specs.Prelude.{◌≡◌, if◌then◌else◌, ◌+◌, ◌<◌, ◌≤◌, ◌^◌, IsTrue, OnErr, OnOk, true};
+ghost use Rattle.std.specs.Prelude.{vec_len};
 ghost use Rattle.std.specs.List.{list_any, range_with_len};
 ghost use Rattle.lwc_base.specs.declared.descriptor.TheConstants.{SLOTS};
 ghost use Rattle.lwc_base.specs.declared.key.Key.TheVariants.{Page, Slot};
@@ -140,8 +141,8 @@ impl WholeWorld {
         self.row(c).moves_any(self.page_count(), spec)
     }
 
-    /// Moves a context's own values under share into a new group of the job, if there are any. The only error is
-    /// out of memory; that for the row of the group has been taken.
+    /// Moves a context's own values under share into a new group of the job, if there are any. The only
+    /// error is out of memory; that for the row of the group has been taken.
     pub(crate) fn share(&mut self, c: Name, spec: &Spec, job: u32) -> Result<(), OutOfMemory>
         requires live { IsTrue (is_live (seen self.old) c) }
         requires within { IsSpec (seen self.old).size.pages spec.now }

@@ -1,4 +1,5 @@
-ghost use Rattle.std.specs.Prelude.{◌≡◌, ◌==◌, ◌<◌, ◌≤◌, List, [], None, OnOk, count_by, map, slice_get, vec_capacity, vec_len};
+ghost use Rattle.std.specs.Prelude.{◌≡◌, ◌==◌, ◌<◌, ◌≤◌, List, [], None, OnOk, count_by, map, slice_get};
+ghost use Rattle.std.specs.Prelude.{vec_capacity, vec_len};
 ghost use Rattle.std.specs.FinMap as fm;
 ghost use Rattle.std.specs.List.{items_where_true, position, position_or_len};
 ghost use Rattle.std.specs.Option.{option_copied};

@@ -1,9 +1,11 @@
-ghost use Rattle.std.specs.Prelude.{◌≡◌, ◌||◌, ◌+◌, ◌++◌, ◌<◌, ◌≤◌, ◌^◌, IfSome, IfNone, IsTrue, [], Option, length};
+ghost use Rattle.std.specs.Prelude.{◌≡◌, ◌||◌, ◌+◌, ◌++◌, ◌<◌, ◌≤◌, ◌^◌, IfSome, IfNone, IsTrue, [], Option};
+ghost use Rattle.std.specs.Prelude.{length};
 ghost use Rattle.std.specs.List.{flat_map};
 ghost use Rattle.std.specs.Option.{option_copied, option_to_list};
 ghost use Rattle.lwc_base.specs.declared.page.PageValue.{PageValue};
 ghost use Rattle.lwc_base.specs.Frames.{own_value, tag_of};
-ghost use Rattle.whole_world.specs.Tags.{different, has_tag, page_tags, row_tags, rows_count, rows_tags, times};
+ghost use Rattle.whole_world.specs.Tags.{different, has_tag, page_tags, row_tags, rows_count, rows_tags};
+ghost use Rattle.whole_world.specs.Tags.{times};
 
 use crate::context_row::ContextRow;
 use crate::facts::facts;

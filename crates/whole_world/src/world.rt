@@ -24,7 +24,8 @@ pub struct WholeWorld {
     pub(crate) contexts: Table<ContextRow>,
     pub(crate) groups: Table<GroupRow>,
     pub(crate) counts: Vec<Counts>,
-    ghost sound: { IsSound size contexts.rows.items groups.rows.items counts.items } by { Prim.hlevel (props, named_cell-prop) },
+    ghost sound: { IsSound size contexts.rows.items groups.rows.items counts.items } by { Prim.hlevel
+        (props, named_cell-prop) },
 }
 
 impl World for WholeWorld {
