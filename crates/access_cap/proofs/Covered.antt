@@ -14,25 +14,8 @@ use Rattle.lwc_base.specs.declared.key.Key.TheVariants.{Page, Slot, Cred}
 use Rattle.lwc_base.specs.declared.limits.TheConstants.{MOST_PAGES}
 use Rattle.lwc_base.specs.Modes.{IsKey, kind_of, limit, number_of}
 use Rattle.lwc_base.specs.Sharing.{any_key}
-
--- a number below n passes, or none does
-some_below : (test : ℕ → Bool) (n k : ℕ) → k < n → test k ≡ true → list_any test (range_with_len 0 n) ≡ true
-some_below test n k within passes =
-    list_any_at test (range_with_len 0 n) k 0 (rw (length-range_with_len 0 n) within) (ap test (get_or-range_with_len 0 n k 0 within ∙ omega arith) ∙ passes)
-
-none_below : (test : ℕ → Bool) (n : ℕ) → ((k : ℕ) → k < n → test k ≡ false) → list_any test (range_with_len 0 n) ≡ false
-none_below test n fails =
-    list_any_none test (range_with_len 0 n) (λ k d within. let inside : k < n = omega (arith, length-range_with_len 0 n) in ap test (get_or-range_with_len 0 n k d inside ∙ omega arith) ∙ fails k inside)
-
-some_key : (pages : ℕ) (test : Key → Bool) (k : Key) → IsKey pages k → test k ≡ true → any_key pages test ≡ true
-unfolding any_key
-some_key pages test (Page p) within passes = or_left _ _ (or_left _ _ (some_below (λ q. test (Page q)) pages p within passes))
-some_key pages test (Slot n) within passes = or_left _ _ (or_right _ _ (some_below (λ m. test (Slot m)) SLOTS n within passes))
-some_key pages test Cred within passes = or_right _ _ passes
-
-no_key : (pages : ℕ) (test : Key → Bool) → ((k : Key) → IsKey pages k → test k ≡ false) → any_key pages test ≡ false
-unfolding any_key
-no_key pages test fails = or_from _ _ (or_from _ _ (none_below (λ q. test (Page q)) pages (λ p. fails (Page p))) (none_below (λ m. test (Slot m)) SLOTS (λ n. fails (Slot n)))) (fails Cred (omega arith))
+use Rattle.lwc_base.proofs.Caps.{some_below}
+use Rattle.lwc_base.proofs.Needs.{any_key-none, any_key-some}
 
 -- a test is another's opposite where each way is shown from one side
 opposite : (t x : Bool) → (t ≡ true → x ≡ false) → (x ≡ false → t ≡ true) → t ≡ not x
@@ -46,7 +29,7 @@ module _ (pages : ℕ) (cap part : Cap) (test : Key → Bool) (few : pages ≤ M
 
   none_missing : HasKeysOf cap part → any_key pages is_missing ≡ false
   unfolding is_missing
-  none_missing all = no_key pages is_missing (λ k within.
+  none_missing all = any_key-none pages is_missing (λ k within.
       let most = within_most pages few k within in
       let is = has k most in
       let each = all k most in
@@ -56,7 +39,7 @@ module _ (pages : ℕ) (cap part : Cap) (test : Key → Bool) (few : pages ≤ M
   unfolding is_missing
   all_had none k most had = true_from_ne_false (has_key cap k) (λ lacks.
       let both = and_parts (nat_lt (number_of k) (limit pages (kind_of k))) (test k) (sym (has k most) ∙ had) in
-      both_ways _ none (some_key pages is_missing k (ltb-true (number_of k) (limit pages (kind_of k)) both.0) (and_from _ _ both.1 (not_from_false _ lacks))))
+      both_ways _ none (any_key-some pages is_missing k (ltb-true (number_of k) (limit pages (kind_of k)) both.0) (and_from _ _ both.1 (not_from_false _ lacks))))
 
   pub had_exactly : (t : Bool) → ((t ≡ true) ↔ HasKeysOf cap part) → t ≡ not (any_key pages (λ k. test k && not (has_key cap k)))
   unfolding is_missing

@@ -11,13 +11,14 @@ use Rattle.std.proofs.lemmas.Grind.{get_or-set_at, same_number_lists}
 use Rattle.std.proofs.lemmas.List.{get_or-set_other, get_or_default, length-set}
 use Rattle.std.proofs.lemmas.List.FromFn.{get_or-map-range_with_len}
 use Rattle.access_cap.proofs.Bits.{has_bit-and, has_bit-zero, low_word-has}
-use Rattle.lwc_base.specs.Capabilities.{IsCap, cap_of, full_cap, full_word, has_bit, has_key, is_named, restricted}
+use Rattle.lwc_base.specs.Capabilities.{IsCap, full_cap, full_word, has_bit, has_key, is_named, restricted}
 use Rattle.lwc_base.specs.declared.descriptor.Cap.{Cap}
 use Rattle.lwc_base.specs.declared.item.Item.{Item}
 use Rattle.lwc_base.specs.declared.key.Key.{Key}
 use Rattle.lwc_base.specs.declared.key.Key.TheVariants.{Page, Slot, Cred}
 use Rattle.lwc_base.specs.declared.limits.TheConstants.{MOST_PAGES}
 use Rattle.lwc_base.specs.Modes.{IsKey, kind_of, limit, number_of}
+use Rattle.lwc_base.proofs.Caps.{cap_of-valid, restricted-has, same_keys}
 
 -- the words below a place are what each has to be
 pub record HasWords (is_word : ℕ → ℕ → Type 0) (i : ℕ) (words : List ℕ) : Type 0 where
@@ -122,18 +123,15 @@ meet_has cap part items is (Slot n) within = is.slots n within
 meet_has cap part items is Cred within = is.cred
 
 -- it is the restriction, since capabilities are sets of keys
-module _ (valid : (test : Key → Bool) → IsCap (cap_of test))
-    (equal : (a b : Cap) → IsCap a → IsCap b → ((k : Key) → IsKey MOST_PAGES k → has_key a k ≡ has_key b k) → a ≡ b)
-    (restricts : (cap : Cap) (items : List Item) (k : Key) → IsKey MOST_PAGES k → has_key (restricted cap items) k ≡ (has_key cap k && is_named items k)) where
-  is_cap : (cap part : Cap) (items : List Item) → IsMeet cap items part → IsCap part
-  is_cap cap part items is =
-      let fits = λ (k : ℕ) (within : k < 16). (is.words.below k within).fits in
-      record { words = is.words.whole; pages = λ k d within. rw (get_or_default part.pages k d 0 within) (fits k (omega (arith, is.words.whole))); slots = is.fits }
+is_cap : (cap part : Cap) (items : List Item) → IsMeet cap items part → IsCap part
+is_cap cap part items is =
+    let fits = λ (k : ℕ) (within : k < 16). (is.words.below k within).fits in
+    record { words = is.words.whole; pages = λ k d within. rw (get_or_default part.pages k d 0 within) (fits k (omega (arith, is.words.whole))); slots = is.fits }
 
-  pub meet_is : (cap part : Cap) (items named : List Item) → items ≡ named → IsMeet cap items part → part ≡ restricted cap named
-  unfolding restricted
-  meet_is cap part items named same is = rw (← same) (equal part (restricted cap items) (is_cap cap part items is) (valid (λ k. has_key cap k && is_named items k))
-      (λ k within. meet_has cap part items is k within ∙ sym (restricts cap items k within)))
+pub meet_is : (cap part : Cap) (items named : List Item) → items ≡ named → IsMeet cap items part → part ≡ restricted cap named
+unfolding restricted
+meet_is cap part items named same is = rw (← same) (same_keys part (restricted cap items) (is_cap cap part items is) (cap_of-valid (λ k. has_key cap k && is_named items k))
+    (λ k within. meet_has cap part items is k within ∙ sym (restricted-has cap items k within)))
 
 -- a number has a bit exactly if that is left where the others are masked out
 one_times : (b p : ℕ) → b < 2 → 0 < p → eqb (b * p) p ≡ eqb b 1

@@ -3,8 +3,6 @@
 
 pub mod kinds;
 pub mod sets;
-#[cfg(test)]
-mod tests;
 pub mod whole;
 mod words;
 

@@ -7,15 +7,12 @@ ghost use Rattle.lwc_base.specs.declared.limits.TheConstants.{MOST_PAGES};
 
 use crate::whole::full;
 use crate::words::{has_bits_of, named_word};
-use lwc_base::laws::{a_restriction_adds_no_key, capabilities_are_sets_of_keys};
 use lwc_base::{Cap, Kind, Spec};
 
 /// The capability of the keys that a capability has and a specifier names (`restricted`).
 pub fn meet(cap: &Cap, spec: &Spec) -> Cap
     ensures { result ≡ restricted cap.now spec.now }
 {
-    capabilities_are_sets_of_keys();
-    a_restriction_adds_no_key();
     let items = spec.items();
     let mut words = [0; 16];
     'words: for i in 0..16usize {
@@ -34,7 +31,6 @@ pub fn covers(cap: &Cap, spec: &Spec, pages: u32) -> bool
     requires { pages ≤ MOST_PAGES }
     ensures { result ≡ caps.covers pages cap.now spec.now }
 {
-    a_restriction_adds_no_key();
     includes(cap, &meet(&full(pages), spec))
 }
 

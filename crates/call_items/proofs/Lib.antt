@@ -1,1 +1,2 @@
 pub mod NotRefused
+pub mod Taken

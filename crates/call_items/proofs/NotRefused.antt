@@ -2,7 +2,6 @@
 use Rattle.std.proofs.Common.{◌≡◌, ◌*◌, ◌≤◌, ◌++◌, ℕ, Bool, List, Some, None, Ok, arith, length}
 use Rattle.std.proofs.lemmas.List.FromFn.{length-map-range_with_len}
 use Rattle.call_items.specs.Asked.{asked, item_bytes, item_refusals, items_of}
-use Rattle.lwc_base.specs.declared.item.Item.{Item}
 use Rattle.lwc_base.specs.declared.limits.TheConstants.{MOST_ITEMS}
 use Rattle.lwc_base.specs.declared.name.Name.{Name}
 use Rattle.lwc_base.specs.declared.refusal.Refusal.{Refusal}
@@ -10,6 +9,7 @@ use Rattle.lwc_base.specs.Memory.{bytes_for, byte_at, load}
 use Rattle.lwc_base.specs.Modes.{IsSpec}
 use Rattle.lwc_base.specs.Refusals.{first_refusal}
 use Rattle.lwc_base.specs.World.{World}
+use Rattle.res_spec.proofs.ValidItems.{read_spec}
 use Rattle.res_spec.specs.Items.{faults, read}
 use Rattle.res_spec.specs.declared.items.SpecCall.{SpecCall}
 use Rattle.res_spec.specs.declared.items.TheConstants.{ITEM_BYTES}
@@ -32,10 +32,9 @@ unfolding item_refusals items_of read faults
 items_read w c call at count rows none = grind arith
 
 -- and are a specifier
-pub spec_asked : ((call : SpecCall) (pages : ℕ) (bytes : List ℕ) (items : List Item) → length bytes ≤ MOST_ITEMS * ITEM_BYTES → read call pages bytes ≡ Ok items → IsSpec pages items) →
-    (w : World) (c : Name) (call : SpecCall) (at count : ℕ) (rows : List (Bool × Refusal)) → first_refusal (item_refusals w c call at count ++ rows) ≡ None →
+pub spec_asked : (w : World) (c : Name) (call : SpecCall) (at count : ℕ) (rows : List (Bool × Refusal)) → first_refusal (item_refusals w c call at count ++ rows) ≡ None →
     IsSpec w.size.pages (items_of w c call at count)
-spec_asked read_spec w c call at count rows none =
+spec_asked w c call at count rows none =
     read_spec call w.size.pages (asked w c at count) (items_of w c call at count) (few_bytes w c call at count rows none) (items_read w c call at count rows none)
 
 -- no other row holds

@@ -10,7 +10,7 @@ ghost use Rattle.res_spec.specs.declared.items.SpecCall as calls;
 ghost use Rattle.world_face.specs.Calls.{IsLive};
 
 use lwc_base::{MOST_ITEMS, Name, Refusal, Spec};
-use res_spec::{ITEM_BYTES, SpecCall, SpecFault, items_that_are_read_are_a_spec, read_items};
+use res_spec::{ITEM_BYTES, SpecCall, SpecFault, read_items};
 use world_face::{World, bytes_for};
 
 /// The number of bytes of the most items.
@@ -58,9 +58,7 @@ pub fn items_that_are_not_refused_are_a_spec()
     ensures rest { (w : worlds.World) (c : names.Name) (call : calls.SpecCall) (at count : ℕ)
         (rows : List (Bool × Refusal)) → first_refusal (item_refusals w c call at count ++ rows) ≡ None →
         first_refusal rows ≡ None }
-{
-    items_that_are_read_are_a_spec();
-}
+{}
 
 /// The refusal of a fault of the items.
 fn refusal_of(fault: SpecFault) -> Refusal

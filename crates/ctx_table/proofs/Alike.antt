@@ -6,8 +6,8 @@ use Rattle.std.specs.FinMap.Entries.{below_all}
 use Rattle.std.specs.Option.{option_map}
 use Rattle.std.specs.Ordering.{eq_by_cmp, is_lt}
 use Rattle.lwc_base.specs.declared.name.Name.{Name}
-use Rattle.lwc_base.specs.Facts.{OrderFacts}
 use Rattle.lwc_base.specs.Names.{name_cmp}
+use Rattle.lwc_base.proofs.Orders.{name_cmp-IsAntisymmetric, name_cmp-total}
 
 module _ {A : Type 0} where
   -- the names alone
@@ -49,9 +49,9 @@ same_marks (Some a) (Some b) same = refl
 same_marks None (Some b) same = cc
 same_marks (Some a) None same = cc
 
-pub same_names : (o : OrderFacts) {A B : Type 0} (m : fm.FinMap name_cmp A) (n : fm.FinMap name_cmp B) →
+pub same_names : {A B : Type 0} (m : fm.FinMap name_cmp A) (n : fm.FinMap name_cmp B) →
     ((q : Name) → fm.contains_key m q ≡ fm.contains_key n q) → fm.keys m ≡ fm.keys n
-same_names o m n same =
-    let maps = fm.same_map o.names o.one_name (fm.from_sorted {R = name_cmp} (bare (fm.entries m))) (fm.from_sorted {R = name_cmp} (bare (fm.entries n)))
+same_names m n same =
+    let maps = fm.same_map name_cmp-total name_cmp-IsAntisymmetric (fm.from_sorted {R = name_cmp} (bare (fm.entries m))) (fm.from_sorted {R = name_cmp} (bare (fm.entries n)))
     (λ q. get-bare m q ∙ same_marks (fm.get m q) (fm.get n q) (same q) ∙ sym (get-bare n q)) in
     sym (names-bare (fm.entries m)) ∙ ap (λ (l : List (Name × Bool)). map (λ e. e.0) l) (sym (entries-bare m) ∙ ap fm.entries maps ∙ entries-bare n) ∙ names-bare (fm.entries n)

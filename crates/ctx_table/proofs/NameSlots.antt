@@ -7,16 +7,17 @@ use Rattle.std.specs.Option.{option_eq}
 use Rattle.std.proofs.lemmas.Bool.Decides.{nat_tests}
 use Rattle.std.specs.FinMap as fm
 use Rattle.std.proofs.Math.ListN.{get_or-map}
-use Rattle.std.proofs.lemmas.List.{length-drop, length-map, length-replicate}
+use Rattle.std.proofs.lemmas.List.{length-drop, length-map, length-replicate, map-set}
 use Rattle.ctx_table.specs.Contexts.{first_free}
 use Rattle.ctx_table.specs.NameTables.{ArePlaced, NameTable}
 use Rattle.ctx_table.specs.Places.{Places}
 use Rattle.ctx_table.specs.Slots.{IsIndexed, name_in, name_slot}
-use Rattle.ctx_table.proofs.Held.{not_some}
-use Rattle.ctx_table.proofs.Taken.{first_free-free, found_pos, none_at, none_count, none_pos, some_free}
+use Rattle.ctx_table.proofs.Held.{insert-indexed, not_some, remove-indexed}
+use Rattle.ctx_table.proofs.Taken.{first_free-free, found_pos, none_at, none_count, some_free}
 use Rattle.lwc_base.specs.contracts.name.NamePartialEq.TheImpl.{eq-value}
 use Rattle.lwc_base.specs.declared.name.Name.{Name}
 use Rattle.lwc_base.specs.Names.{name_cmp}
+use Rattle.lwc_base.proofs.Small.{nothing_found}
 
 name-name_slot : (x : Option Name) → name_in (name_slot x) ≡ x
 name-name_slot None = refl
@@ -59,6 +60,16 @@ module _ (names : List (Option Name)) (index : Places) {most : ℕ} (is : IsInde
   told_within n None told = tt
   told_within n (Some p) told = omega (arith, is.within n p (sym told), length-map names name_slot)
 
+-- an index of the names after one is put or taken
+module _ (names : List (Option Name)) (index after : Places) {most : ℕ} (is : IsIndexed most (map name_slot names) index) (n : Name) (p : ℕ) where
+  pub indexed-insert : after ≡ record { map = fm.insert index.map n p; room = index.room } → fm.get index.map n ≡ None → p < length (map name_slot names) →
+      get_or (map name_slot names) p None ≡ None → IsIndexed most (map name_slot (set names p (Some n))) after
+  indexed-insert put new within free = rw (map-set name_slot names p (Some n), put) (insert-indexed _ _ is n p new within free tt)
+
+  pub indexed-remove : after ≡ record { map = fm.remove index.map n; room = index.room } → fm.get index.map n ≡ Some p →
+      IsIndexed most (map name_slot (set names p None)) after
+  indexed-remove taken at = rw (map-set name_slot names p None, taken) (remove-indexed _ _ is n p at)
+
 pub free_slot : (names : List (Option Name)) → first_free names < length names → get_or (map name_slot names) (first_free names) None ≡ None
 free_slot names within = get_or-map name_slot names (first_free names) None ∙ ap name_slot (first_free-free names within)
 
@@ -73,7 +84,7 @@ found_place names p found = sym (found_pos (nat_lt (position_or_len is_none name
 
 pub no_place : (names : List (Option Name)) → position is_none names ≡ None → first_free names < length names → ⊥
 no_place names none within =
-    let past = ltb-false _ _ (none_pos (nat_lt (position_or_len is_none names) (length names)) (position_or_len is_none names) none) in
+    let past = ltb-false _ _ (nothing_found (nat_lt (position_or_len is_none names) (length names)) (position_or_len is_none names) none) in
     omega (arith, past, within, free_len names)
 
 -- as long as no place is free before one, the first free place is the first from there on

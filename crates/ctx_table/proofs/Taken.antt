@@ -15,11 +15,11 @@ use Rattle.ctx_table.specs.Slots.{IsIndexed, contexts_of, held, is_free, map_of,
 use Rattle.ctx_table.specs.declared.place.Place.{Place}
 use Rattle.ctx_table.specs.declared.place.Place.TheVariants.{Free, Held}
 use Rattle.ctx_table.proofs.Alike.{same_names}
-use Rattle.ctx_table.proofs.Held.{count-set, get-map_of, not_some, same_Some, update-indexed, update-map_of, weight}
+use Rattle.ctx_table.proofs.Held.{count-set, get-map_of, not_some, update-indexed, update-map_of, weight}
 use Rattle.lwc_base.specs.declared.limits.TheConstants.{MOST_CONTEXTS}
 use Rattle.lwc_base.specs.declared.name.Name.{Name}
-use Rattle.lwc_base.specs.Facts.{OrderFacts}
 use Rattle.lwc_base.specs.Names.{name_cmp}
+use Rattle.lwc_base.proofs.Small.{nothing_found, same_some}
 
 -- the first free place is free
 pub first_free-free : (names : List (Option Name)) → first_free names < length names → get_or names (first_free names) None ≡ None
@@ -50,14 +50,14 @@ module _ {X : Type 0} where
   pub free-within : (slots : List (Option (Name × X))) (names : List (Option Name)) → map name_in slots ≡ names → first_free names < length names → first_free names < length slots
   free-within slots names are within = omega (arith, within, ap (λ (l : List (Option Name)). length l) are, length-map slots name_in)
 
-  module _ {most : ℕ} (o : OrderFacts) (slots : List (Option (Name × X))) (index : Places) (is : IsIndexed most slots index) where
+  module _ {most : ℕ} (slots : List (Option (Name × X))) (index : Places) (is : IsIndexed most slots index) where
     some_in : (p : ℕ) (n : Name) (x : Option (Name × X)) → get_or slots p None ≡ x → name_in x ≡ Some n → is_some (option_map (λ e. e.1) (get_or slots p None)) ≡ true
     some_in p n None at named = absurd (not_some refl named)
     some_in p n (Some e) at named = ap (λ (x : Option (Name × X)). is_some (option_map (λ e. e.1) x)) at
 
     live_at : (n : Name) (p : Option ℕ) → fm.get index.map n ≡ p → is_some (fm.get (map_of slots) n) ≡ is_some p
-    live_at n None at = ap is_some (get-map_of o slots index n is None at)
-    live_at n (Some p) at = ap is_some (get-map_of o slots index n is (Some p) at) ∙ some_in p n (get_or slots p None) refl (is.there n p at)
+    live_at n None at = ap is_some (get-map_of slots index n is None at)
+    live_at n (Some p) at = ap is_some (get-map_of slots index n is (Some p) at) ∙ some_in p n (get_or slots p None) refl (is.there n p at)
 
     -- a name is in the map exactly if it is in the index
     pub live : (n : Name) → fm.contains_key (map_of slots) n ≡ fm.contains_key index.map n
@@ -82,7 +82,7 @@ module _ {X : Type 0} where
     -- there is room in the index as long as a place is free
     pub has_room : (p : ℕ) (n : Name) (x : X) → p < length slots → get_or slots p None ≡ None → fm.len index.map < index.room
     has_room p n x within free =
-        omega (arith, count-set o slots p (Some (n, x)) within, ap weight free, count_by-le-length is_some (set slots p (Some (n, x))), length-set slots p (Some (n, x)), is.counted, is.room)
+        omega (arith, count-set slots p (Some (n, x)) within, ap weight free, count_by-le-length is_some (set slots p (Some (n, x))), length-set slots p (Some (n, x)), is.counted, is.room)
 
   pub some_free : (slots : List (Option (Name × X))) → count_by is_some slots < length slots → first_free (map name_in slots) < length slots
   some_free [] few = absurd (omega arith)
@@ -94,12 +94,8 @@ module _ {X : Type 0} where
   names-set slots p x = map-set name_in slots p x
 
 pub found_pos : (b : Bool) (n i : ℕ) → cond b (Some n) None ≡ Some i → n ≡ i
-found_pos true n i is = same_Some n i is
+found_pos true n i is = same_some n i is
 found_pos false n i is = absurd (not_some refl is)
-
-pub none_pos : (b : Bool) (n : ℕ) → cond b (Some n) None ≡ None → b ≡ false
-none_pos true n none = absurd (not_some none refl)
-none_pos false n none = refl
 
 module _ {C : Type 0} where
   free_len : (places : List (Place C)) → first_free (map name_in (map slot_of places)) ≡ position_or_len is_free places
@@ -113,13 +109,13 @@ module _ {C : Type 0} where
 
   pub no_free : (places : List (Place C)) (names : List (Option Name)) → map name_in (map slot_of places) ≡ names → position is_free places ≡ None → first_free names < length names → ⊥
   no_free places names are none within =
-      let past = ltb-false _ _ (none_pos (nat_lt (position_or_len is_free places) (length places)) (position_or_len is_free places) none) in
+      let past = ltb-false _ _ (nothing_found (nat_lt (position_or_len is_free places) (length places)) (position_or_len is_free places) none) in
       omega (arith, past, within, free_len places, ap first_free are, ap (λ (l : List (Option Name)). length l) are, length-map (map slot_of places) name_in, length-map places slot_of)
 
 -- the slot of a place with another value
 slot-with_value : {C : Type 0} (x : Place C) (n : Name) (kept : Kept C) (w : C) → slot_of x ≡ Some (n, kept) → slot_of (with_value x w) ≡ Some (n, record kept { value = w })
 slot-with_value Free n kept w slot = absurd (not_some refl slot)
-slot-with_value {C} (Held m v e s) n kept w slot = ap (λ (entry : Name × Kept C). Some (entry.0, record entry.1 { value = w })) (same_Some _ _ slot)
+slot-with_value {C} (Held m v e s) n kept w slot = ap (λ (entry : Name × Kept C). Some (entry.0, record entry.1 { value = w })) (same_some _ _ slot)
 
 same_contexts : {C : Type 0} (a b : fm.FinMap name_cmp (Kept C)) (xs ys : List (Option Name)) → a ≡ b → xs ≡ ys →
     ◌≡◌ {A = Contexts C} (record { kept = a; places = xs }) (record { kept = b; places = ys })
@@ -132,7 +128,7 @@ named_held (Held m v e s) n named = refl
 
 pub held_entry : {C : Type 0} (x : Place C) (n : Name) → name_in (slot_of x) ≡ Some n → (kept : Kept C) × (slot_of x ≡ Some (n, kept))
 held_entry Free n named = absurd (not_some refl named)
-held_entry (Held m v e s) n named = (record { value = v; entry = e; saved = s }, ap (λ (k : Name). Some (k, record { value = v; entry = e; saved = s })) (same_Some m n named))
+held_entry (Held m v e s) n named = (record { value = v; entry = e; saved = s }, ap (λ (k : Name). Some (k, record { value = v; entry = e; saved = s })) (same_some m n named))
 
 module _ {C : Type 0} (places : List (Place C)) (table : Contexts C) (stands : contexts_of places ≡ table) where
   pub names_are : map name_in (map slot_of places) ≡ table.places
@@ -169,7 +165,7 @@ module _ {C : Type 0} (places : List (Place C)) (table : Contexts C) (stands : c
   pub name-read : (p : ℕ) (x : Place C) (n : Name) → x ≡ get_or places p x → p < length places → get_or table.places p None ≡ Some n → name_in (slot_of x) ≡ Some n
   name-read p x n is within has = ap name_in (sym (slot-read p x x is within refl)) ∙ sym (place_name p) ∙ has
 
-  module _ {most : ℕ} (o : OrderFacts) (index : Places) (is : IsIndexed most (map slot_of places) index) where
+  module _ {most : ℕ} (index : Places) (is : IsIndexed most (map slot_of places) index) where
     -- the index has the place of a name
     pub index_at : (n : Name) (p : ℕ) → get_or table.places p None ≡ Some n → fm.get index.map n ≡ Some p
     index_at n p has = is.known n p (sym (place_name p) ∙ has)
@@ -177,12 +173,12 @@ module _ {C : Type 0} (places : List (Place C)) (table : Contexts C) (stands : c
     pub name_live : (p : ℕ) (found : Option Name) → found ≡ get_or table.places p None → IfSome found (λ n. fm.contains_key table.kept n ≡ true)
     name_live p None at = tt
     name_live p (Some n) at =
-        ap (λ (t : Contexts C). fm.contains_key t.kept n) (sym stands) ∙ live o (map slot_of places) index is n ∙ ap is_some (index_at n p (sym at))
+        ap (λ (t : Contexts C). fm.contains_key t.kept n) (sym stands) ∙ live (map slot_of places) index is n ∙ ap is_some (index_at n p (sym at))
 
     -- there are as many names as slots that are taken, so a place is free as long as there are fewer names
     len_kept : fm.len table.kept ≡ count_by is_some (map slot_of places)
     len_kept =
-        let same = same_names o (map_of (map slot_of places)) index.map (live o (map slot_of places) index is) in
+        let same = same_names (map_of (map slot_of places)) index.map (live (map slot_of places) index is) in
         ap (λ (t : Contexts C). fm.len t.kept) (sym stands)
         ∙ omega (
           arith,
@@ -205,7 +201,7 @@ module _ {C : Type 0} (places : List (Place C)) (table : Contexts C) (stands : c
     -- what the map has under a name is in its slot
     pub kept_at : (n : Name) (p : ℕ) (e : Name × Kept C) → get_or table.places p None ≡ Some n → get_or (map slot_of places) p None ≡ Some e → fm.get table.kept n ≡ Some e.1
     kept_at n p e has slot =
-        ap (λ (t : Contexts C). fm.get t.kept n) (sym stands) ∙ get-map_of o (map slot_of places) index n is (Some p) (index_at n p has)
+        ap (λ (t : Contexts C). fm.get t.kept n) (sym stands) ∙ get-map_of (map slot_of places) index n is (Some p) (index_at n p has)
         ∙ ap (option_map (λ e. e.1)) slot
 
   -- the place of a name is the only one that has it
@@ -213,7 +209,7 @@ module _ {C : Type 0} (places : List (Place C)) (table : Contexts C) (stands : c
       IfSome o (λ place. (p : ℕ) → (get_or table.places p None ≡ Some n) ↔ (p ≡ place))
   place_exactly index is n None at = tt
   place_exactly index is n (Some r) at = λ p. (
-    (λ has. same_Some p r (sym (is.known n p (sym (place_name p) ∙ has)) ∙ at)),
+    (λ has. same_some p r (sym (is.known n p (sym (place_name p) ∙ has)) ∙ at)),
     (λ same. place_name p ∙ is.there n p (at ∙ ap (λ (k : ℕ). Some k) (sym same))),
   )
 
@@ -266,22 +262,22 @@ module _ {C : Type 0} (places : List (Place C)) (n m : ℕ) (free : places ≡ r
   empty-places = ap (λ (l : List (Option (Name × Kept C))). map name_in l) all_none ∙ none_names (Kept C) m
 
 -- another value for a name, at its place
-module _ (o : OrderFacts) {C : Type 0} (places : List (Place C)) (table : Contexts C) (stands : contexts_of places ≡ table) (index : Places)
+module _ {C : Type 0} (places : List (Place C)) (table : Contexts C) (stands : contexts_of places ≡ table) (index : Places)
     {most : ℕ} (is : IsIndexed most (map slot_of places) index) (n : Name) (p : ℕ) (x : Place C) (read : x ≡ get_or places p x) (within : p < length table.places)
     (has : get_or table.places p None ≡ Some n) (kept : Kept C) (slot : slot_of x ≡ Some (n, kept)) where
   pub kept_read : fm.get table.kept n ≡ Some kept
-  kept_read = kept_at places table stands o index is n p (n, kept) has (slot-read places table stands p x x read (is_place places table stands p within) refl ∙ slot)
+  kept_read = kept_at places table stands index is n p (n, kept) has (slot-read places table stands p x x read (is_place places table stands p within) refl ∙ slot)
 
   slots_set : (w : C) → map slot_of (set places p (with_value x w)) ≡ set (map slot_of places) p (Some (n, record kept { value = w }))
   slots_set w = map-set slot_of places p (with_value x w) ∙ ap (λ (s : Option (Name × Kept C)). set (map slot_of places) p s) (slot-with_value x n kept w slot)
 
   pub value-indexed : (w : C) → IsIndexed most (map slot_of (set places p (with_value x w))) index
-  value-indexed w = rw (slots_set w) (update-indexed o (map slot_of places) index is n p (index_at places table stands o index is n p has) (record kept { value = w }))
+  value-indexed w = rw (slots_set w) (update-indexed (map slot_of places) index is n p (index_at places table stands index is n p has) (record kept { value = w }))
 
   pub value-set : (w : C) → contexts_of (set places p (with_value x w)) ≡ with_value_at table n (fm.get table.kept n) w
   value-set w =
       same_contexts _ _ _ _
-      (ap map_of (slots_set w) ∙ update-map_of o (map slot_of places) index is n p (index_at places table stands o index is n p has) (record kept { value = w })
+      (ap map_of (slots_set w) ∙ update-map_of (map slot_of places) index is n p (index_at places table stands index is n p has) (record kept { value = w })
       ∙ ap (λ (t : Contexts C). fm.insert t.kept n (record kept { value = w })) stands)
       (places-set places table stands p (with_value x w) ∙ ap (λ (s : Option Name). set table.places p s) (ap name_in (slot-with_value x n kept w slot) ∙ sym has)
       ∙ set-get_or table.places p None)

@@ -3,7 +3,6 @@ ghost use Rattle.std.specs.FinMap as fm;
 ghost use Rattle.ctx_table.specs.Places.{IsAt, IsGap};
 ghost use Rattle.lwc_base.specs.Names.{name_cmp};
 
-use lwc_base::laws::names_are_ordered;
 use lwc_base::{Name, OutOfMemory};
 use std::alloc::Global;
 use std::cmp::Ordering;
@@ -48,7 +47,6 @@ impl Index {
     pub(crate) fn get(&self, name: Name) -> Option<usize>
         ensures { result ≡ fm.get self.now.map name }
     {
-        names_are_ordered();
         match self.search(name) {
             Ok(i) => Some(self.rows[i].1),
             Err(_) => None,
@@ -59,7 +57,6 @@ impl Index {
     pub(crate) fn len(&self) -> usize
         ensures { result ≡ fm.len self.now.map }
     {
-        names_are_ordered();
         self.rows.len()
     }
 
@@ -69,7 +66,6 @@ impl Index {
         requires room { fm.len self.old.map < self.old.room }
         ensures { self.new ≡ record { map = fm.insert self.old.map name place; room = self.old.room } }
     {
-        names_are_ordered();
         if let Err(i) = self.search(name) {
             self.rows.insert(i, (name, place)).unwrap();
         }
@@ -80,7 +76,6 @@ impl Index {
         requires { fm.contains_key self.old.map name ≡ true }
         ensures { self.new ≡ record { map = fm.remove self.old.map name; room = self.old.room } }
     {
-        names_are_ordered();
         if let Ok(i) = self.search(name) {
             self.rows.remove(i);
         }
@@ -97,7 +92,6 @@ impl Index {
     fn count_below(&self, job: u64) -> usize
         ensures { result ≡ count_by (λ name. nat_lt name.job job) (fm.keys self.now.map) }
     {
-        names_are_ordered();
         if let Some(first) = self.rows.first() {
             if job <= u64::from(first.0.job) {
                 return 0;
@@ -126,7 +120,6 @@ impl Index {
         ensures found { IfOk result (IsAt (fm.entries self.now.map) name) }
         ensures absent { IfErr result (IsGap (fm.entries self.now.map) name) }
     {
-        names_are_ordered();
         if let Some(last) = self.rows.last() {
             match last.0.cmp(&name) {
                 Ordering::Less => return Err(self.rows.len()),

@@ -6,8 +6,6 @@ mod index;
 pub mod names;
 mod place;
 pub mod table;
-#[cfg(test)]
-mod tests;
 
 pub use names::Names;
 pub use table::CtxTable;

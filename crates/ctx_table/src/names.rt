@@ -7,12 +7,12 @@ ghost use Rattle.lwc_base.specs.declared.limits.TheConstants.{MOST_GROUPS};
 
 use crate::hints::Hints;
 use crate::index::Index;
-use lwc_base::laws::names_are_ordered;
 use lwc_base::{Name, OutOfMemory};
 use std::alloc::Global;
 use std::marker::Model;
 
-/// Names, each at one place while it lives. They are seen as the place of each name and the name at each place.
+/// Names, each at one place while it lives and nowhere else (`ArePlaced`). They are seen as the place of each
+/// name and the name at each place.
 #[derive(Drop)]
 pub struct Names {
     index: Index,
@@ -40,7 +40,9 @@ impl Names {
     /// No name, and this number of places. The only error is out of memory, which no later call takes.
     pub fn open(alloc: Global, places: u32) -> Result<Names, OutOfMemory>
         requires { places ≤ MOST_GROUPS }
-        ensures { IfOk result (λ names. names ≡ record { map = fm.empty; places = replicate places None }) }
+        ensures none { IfOk result (λ names.
+            names ≡ record { map = fm.empty; places = replicate places None }) }
+        ensures placed { IfOk result (λ names. ArePlaced names) }
     {
         Ok(Names {
             index: Index::with_room(alloc, places as usize)?,
@@ -54,7 +56,6 @@ impl Names {
     pub fn has_room(&self) -> bool
         ensures { (result ≡ true) ↔ (fm.len self.now.map < length self.now.places) }
     {
-        names_are_ordered();
         self.index.len() < self.places.len()
     }
 
@@ -66,8 +67,8 @@ impl Names {
         ensures within { result < length self.old.places }
         ensures map { self.new.map ≡ fm.insert self.old.map name result }
         ensures places { self.new.places ≡ slice_set self.old.places result (Some name) }
+        ensures placed { ArePlaced self.new }
     {
-        names_are_ordered();
         let hinted = self.at(self.hints.place(name));
         let place = self.free_place();
         self.index.insert(name, place);
@@ -83,8 +84,8 @@ impl Names {
         ensures place { fm.get self.old.map name ≡ Some result }
         ensures map { self.new.map ≡ fm.remove self.old.map name }
         ensures places { self.new.places ≡ slice_set self.old.places result None }
+        ensures placed { ArePlaced self.new }
     {
-        names_are_ordered();
         let place = self.place_of(name);
         self.index.remove(name);
         self.places[place] = None;
@@ -120,7 +121,6 @@ impl Names {
     pub fn len(&self) -> u32
         ensures { result ≡ fm.len self.now.map }
     {
-        names_are_ordered();
         self.index.len() as u32
     }
 
@@ -128,7 +128,6 @@ impl Names {
     pub fn count_of(&self, job: u32) -> u32
         ensures { result ≡ count_by (λ name. name.job == job) (fm.keys self.now.map) }
     {
-        names_are_ordered();
         self.index.count_of(job) as u32
     }
 
@@ -137,14 +136,6 @@ impl Names {
         ensures { result ≡ slice_get (fm.keys self.now.map) i }
     {
         self.index.nth(i as usize)
-    }
-
-    /// A law of every table: each name stands at its place and nowhere else.
-    pub fn are_placed(&self)
-        ensures placed { ArePlaced self.now }
-        ensures few { length self.now.places ≤ MOST_GROUPS }
-    {
-        let _count = self.places.len();
     }
 
     /// The place of a name that has one.

@@ -8,7 +8,6 @@ ghost use Rattle.lwc_base.specs.declared.limits.TheConstants.{MOST_CONTEXTS, MOS
 
 use crate::index::Index;
 use crate::place::{Place, first_free};
-use lwc_base::laws::names_are_ordered;
 use lwc_base::{Name, OutOfMemory, Regs};
 use std::alloc::Global;
 use std::marker::Model;
@@ -62,7 +61,6 @@ impl<C: Drop> CtxTable<C> {
     pub fn has_room(&self) -> bool
         ensures { (result ≡ true) ↔ (fm.len self.now.kept < length self.now.places) }
     {
-        names_are_ordered();
         self.index.len() < self.places.len()
     }
 
@@ -75,7 +73,6 @@ impl<C: Drop> CtxTable<C> {
         ensures places { self.new.places
             ≡ slice_set self.old.places (first_free self.old.places) (Some name) }
     {
-        names_are_ordered();
         let place = self.free_place();
         self.index.insert(name, place);
         let held = Place::Held {
@@ -98,7 +95,6 @@ impl<C: Drop> CtxTable<C> {
         ensures places { (p : ℕ) → slice_index_or self.old.places p None ≡ Some name →
             self.new.places ≡ slice_set self.old.places p None }
     {
-        names_are_ordered();
         let place = self.place_of(name);
         self.index.remove(name);
         match mem::replace(&mut self.places[place], Place::Free) {
@@ -114,7 +110,6 @@ impl<C: Drop> CtxTable<C> {
             (slice_index_or self.now.places p None ≡ Some name) ↔ (p ≡ place)) }
         ensures within { IfSome result (λ place. place < MOST_CONTEXTS) }
     {
-        names_are_ordered();
         self.index.get(name)
     }
 
@@ -123,7 +118,6 @@ impl<C: Drop> CtxTable<C> {
         ensures name { result ≡ slice_index_or self.now.places place None }
         ensures live { IfSome result (λ name. fm.contains_key self.now.kept name ≡ true) }
     {
-        names_are_ordered();
         if place < self.places.len() {
             self.places[place].name()
         } else {
@@ -136,7 +130,6 @@ impl<C: Drop> CtxTable<C> {
         requires { fm.contains_key self.now.kept name ≡ true }
         ensures { option_map (λ kept. kept.value) (fm.get self.now.kept name) ≡ Some result.now }
     {
-        names_are_ordered();
         let place = self.place_of(name);
         match &self.places[place] {
             Place::Held { value, .. } => value,
@@ -150,7 +143,6 @@ impl<C: Drop> CtxTable<C> {
         ensures* writes_back { sem 𝓛 (lends_value C.row self.entry name result) }
         ensures value { option_map (λ kept. kept.value) (fm.get self.old.kept name) ≡ Some result.now }
     {
-        names_are_ordered();
         let place = self.place_of(name);
         self.places[place].value_mut()
     }
@@ -160,7 +152,6 @@ impl<C: Drop> CtxTable<C> {
         requires { fm.contains_key self.now.kept name ≡ true }
         ensures { option_map (λ kept. kept.entry) (fm.get self.now.kept name) ≡ Some result }
     {
-        names_are_ordered();
         let place = self.place_of(name);
         match &self.places[place] {
             Place::Held { entry, .. } => *entry,
@@ -175,7 +166,6 @@ impl<C: Drop> CtxTable<C> {
         ensures { option_map (λ kept. slice_index_or kept.saved t None) (fm.get self.now.kept name)
             ≡ Some result }
     {
-        names_are_ordered();
         let place = self.place_of(name);
         match &self.places[place] {
             Place::Held { saved, .. } => saved[t as usize],
@@ -191,7 +181,6 @@ impl<C: Drop> CtxTable<C> {
             ≡ fm.insert self.old.kept name (record kept { saved = slice_set kept.saved t (Some regs.now) }) }
         ensures places { self.new.places ≡ self.old.places }
     {
-        names_are_ordered();
         let place = self.place_of(name);
         self.places[place].save(t, regs);
     }
@@ -200,7 +189,6 @@ impl<C: Drop> CtxTable<C> {
     pub fn live_of(&self, job: u32) -> u32
         ensures { result ≡ count_by (λ name. name.job == job) (fm.keys self.now.kept) }
     {
-        names_are_ordered();
         self.index.count_of(job) as u32
     }
 
@@ -208,7 +196,6 @@ impl<C: Drop> CtxTable<C> {
     pub fn nth(&self, i: u32) -> Option<Name>
         ensures { result ≡ slice_get (fm.keys self.now.kept) i }
     {
-        names_are_ordered();
         self.index.nth(i as usize)
     }
 
@@ -218,7 +205,6 @@ impl<C: Drop> CtxTable<C> {
         ensures there { slice_index_or self.now.places result None ≡ Some name }
         ensures within { result < length self.now.places }
     {
-        names_are_ordered();
         match self.index.get(name) {
             Some(place) => place,
             None => unreachable!(),

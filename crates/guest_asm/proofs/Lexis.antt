@@ -7,9 +7,6 @@ use Rattle.std.proofs.lemmas.List.Sums.{prefix_len-le-length}
 use Rattle.guest_asm.specs.Lexis.{lines, words, is_separator, has_bytes, from_first_word, labelled, labelled_at, is_name}
 use Rattle.std.proofs.lemmas.Bool.{lt-ltb}
 
-pub or_len : (p : ℕ → Bool) (xs : List ℕ) (o : Option ℕ) → o ≡ position p xs → unwrap_or o (length xs) ≡ position_or_len p xs
-or_len p xs o e = let le = prefix_len-le-length (λ x. not (p x)) xs in grind arith
-
 pub not_not : (xs : List ℕ) → position_or_len (λ b. not (is_separator b)) xs ≡ prefix_len is_separator xs
 not_not [] = refl
 not_not (b ∷ bs) = by (is_separator b) (not_not bs)

@@ -6,16 +6,7 @@ use Rattle.std.proofs.lemmas.Option.{slice_get_within, get_or_from_slice_get}
 use Rattle.guest_image.specs.Spelling.{magic, number}
 use Rattle.guest_asm.specs.declared.parts.FileDraft.{FileDraft}
 use Rattle.guest_asm.specs.Drafts.{Draft, header, file}
-
-take_next : {X : Type 0} (xs : List X) (i : ℕ) (x : X) → slice_get xs i ≡ Some x → take (i + 1) xs ≡ take i xs ++ x ∷ []
-take_next {X} xs i x e = take_more xs i x (slice_get_within xs i x e) ∙ ap (λ (y : X). take i xs ++ y ∷ []) (get_or_from_slice_get xs i x x e)
-
--- one value more of a list
-pub spell_next : {X : Type 0} (spell : X → List ℕ) (bytes : List ℕ) (xs : List X) (i : ℕ) (x : X) → slice_get xs i ≡ Some x → (bytes ++ flat_map spell (take i xs)) ++ spell x ≡ bytes ++ flat_map spell (take (i + 1) xs)
-spell_next {X} spell bytes xs i x e = flat_map_more spell bytes (take i xs) x ∙ ap (λ (ys : List X). bytes ++ flat_map spell ys) (sym (take_next xs i x e))
-
-more : (x y n rest : List ℕ) → y ≡ x ++ n → y ++ rest ≡ x ++ (n ++ rest)
-more x y n rest is = ap (λ (t : List ℕ). t ++ rest) is ∙ append_assoc x n rest
+use Rattle.guest_image.proofs.Writes.{more, take_next}
 
 pub header_written : (h : Draft) (o a b c d e f g : List ℕ) → a ≡ o ++ magic → b ≡ a ++ number (length h.text) → c ≡ b ++ number (length h.pages) → d ≡ c ++ number (length h.files) → e ≡ d ++ number (length h.slots) → f ≡ e ++ number (length h.entries) → g ≡ f ++ number h.uid → g ≡ o ++ header h
 header_written h o a b c d e f g p0 p1 p2 p3 p4 p5 p6 =

@@ -17,6 +17,3 @@ pub use error::{SourceError, SourceRule};
 pub use mnemonics::{fields_of, mnemonic};
 pub use operand::Field;
 pub use parts::{FileDraft, PageDraft, SlotDraft};
-
-#[cfg(test)]
-mod tests;

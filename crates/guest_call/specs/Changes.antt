@@ -7,7 +7,8 @@ use Rattle.lwc_base.specs.Clones.{AreApart}
 use Rattle.lwc_base.specs.Facts.{KeepsNames}
 use Rattle.lwc_base.specs.World.{World, context}
 
--- a key is not the one that changes, or the context in which that changes and the other one are apart under it
+-- a key is not the one that changes, or the context in which that changes and the other one are apart under
+-- it
 abbrev pub IsUntouched : World → Name → Key → Name → Key → Type 0
 IsUntouched w d changed e k = k ≡ changed → AreApart w d e k
 
@@ -16,6 +17,7 @@ pub record ChangesKey (w v : World) (d : Name) (changed : Key) : Type 0 where
   pub names : KeepsNames w v
   pub values : (e : Name) (k : Key) → IsUntouched w d changed e k → value_at v e k ≡ value_at w e k
   pub cells : (e : Name) (k : Key) → IsUntouched w d changed e k → (context v e).cell k ≡ (context w e).cell k
+  pub others : (e : Name) → e ≢ d → context v e ≡ context w e
   pub entries : (e : Name) → (context v e).entry ≡ (context w e).entry
   pub saved : (e : Name) (t : ℕ) → (context v e).saved t ≡ (context w e).saved t
 

@@ -11,36 +11,20 @@ ghost use Rattle.lwc_base.specs.declared.key.Key.{Key};
 ghost use Rattle.lwc_base.specs.declared.name.Name.{Name};
 ghost use Rattle.lwc_base.specs.declared.regs.Regs.{Regs};
 
-use lwc_base::laws::{
-    a_put_changes_one_key, changes_leave_the_rest, names_are_ordered,
-    saving_changes_saved_registers_alone, what_is_apart_is_not_seen,
-};
-
 /// A context links to the one that a slot of it has a descriptor of.
-#[tactic(auto, using(crate::proofs::Targets::slot_links))]
+#[tactic(auto, using(crate::proofs::Targets::target_links))]
 pub fn a_descriptor_in_a_slot_is_a_link()
     ensures { (w : World) (c : Name) (n : ℕ) (link : Name × Cap) →
         link_of (descriptor_for w c n) ≡ Some link → links w c link.0 ≡ true }
-{
-    names_are_ordered();
-}
+{}
 
 /// Another value under a key of a context changes that key alone, also for the contexts that have it in
 /// common.
 pub fn a_put_leaves_the_rest()
     ensures { (w : World) (c : Name) (k : Key) (value : ValueOf k) → ChangesKey w (put_at w c k value) c k }
-{
-    names_are_ordered();
-    changes_leave_the_rest();
-    a_put_changes_one_key();
-    what_is_apart_is_not_seen();
-}
+{}
 
 /// To save registers changes what one context keeps for one thread.
 pub fn a_save_changes_one_threads_registers()
     ensures { (w : World) (c : Name) (t : ℕ) (regs : Regs) → ChangesSaved w (save w c t regs) c t }
-{
-    names_are_ordered();
-    changes_leave_the_rest();
-    saving_changes_saved_registers_alone();
-}
+{}

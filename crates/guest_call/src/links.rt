@@ -6,7 +6,6 @@ ghost use Rattle.lwc_base.specs.declared.descriptor.TheConstants.{SLOTS};
 ghost use Rattle.lwc_base.specs.declared.refusal.Refusal.{Refusal};
 ghost use Rattle.world_face.specs.Calls.{IsLive};
 
-use crate::laws::a_descriptor_in_a_slot_is_a_link;
 use lwc_base::{Cap, Descriptor, Name, Refusal, SLOTS};
 use world_face::World;
 
@@ -28,7 +27,6 @@ pub fn context_for<W: World>(world: &W, c: Name, n: u64) -> Result<(Name, Cap), 
     ensures link { IfOk result (λ link. link_of (descriptor_for (W.seen world.now) c n) ≡ Some link) }
     ensures target { IfOk result (λ link. IsLive (W.seen world.now) link.0) }
 {
-    a_descriptor_in_a_slot_is_a_link();
     match descriptor_for(world, c, n) {
         Descriptor::Empty => Err(Refusal::BadFd),
         Descriptor::Ctx { name, cap } => Ok((name, cap)),

@@ -10,6 +10,7 @@ use Rattle.std.proofs.lemmas.List.Elements.{All-nil, All-cons}
 use Rattle.std.proofs.lemmas.List.Splits.{slice_split_at, slice_split_none}
 use Rattle.guest_asm.specs.Lexis.{lines, words, is_separator, has_bytes, labelled, is_plain, text_of, without_end}
 use Rattle.guest_asm.specs.Statements.{line_of, statement_of, ◌>>=◌}
+use Rattle.guest_asm.proofs.Lexis.{separated}
 
 -- whether a word of a listing may have this byte: a digit, a letter, `-` or `.`
 abbrev pub is_clean : ℕ → Bool
@@ -74,11 +75,6 @@ unfolding words
 word_last w clean =
     let both = and_parts (has_bytes w) (list_all is_clean w) clean in
     ap (filter has_bytes) (slice_split_none is_separator w (no_separators w both.1)) ∙ rw both.0 refl
-
--- a separator in front adds no word
-separated : (b : ℕ) (bs : List ℕ) → is_separator b ≡ true → words (b ∷ bs) ≡ words bs
-unfolding words
-separated b bs e = rw e refl
 
 all_separated : (s rest : List ℕ) → list_all is_separator s ≡ true → words (s ++ rest) ≡ words rest
 all_separated [] rest all = refl

@@ -14,7 +14,6 @@ use Rattle.guest_image.specs.declared.image.PageImage.{PageImage}
 use Rattle.guest_image.specs.declared.image.SlotImage.{SlotImage}
 use Rattle.guest_image.specs.Limits.{IsImage, content}
 use Rattle.guest_image.specs.Spelling as image
-use Rattle.guest_image.specs.Reading.{image_at}
 use Rattle.guest_asm.specs.Drafts as draft
 use Rattle.guest_asm.specs.Drafts.{assembled, draft_bytes}
 use Rattle.guest_dis.specs.Listing.{HasBytes, trimmed, flag, bytes_text, uid_line, entry_line, instruction_line, page_line, file_line, slot_line, listing}
@@ -22,6 +21,8 @@ use Rattle.guest_dis.proofs.Numerals.{decimal_short, text_length}
 use Rattle.guest_dis.proofs.Operations.{instruction_short}
 use Rattle.guest_dis.proofs.Trims.{padded_again, trimmed_short}
 use Rattle.guest_dis.proofs.Rounds.{page_for, file_for, slot_for, draft_for, IsListed, draft_again}
+use Rattle.guest_image.proofs.WholeLaws.{image_again}
+use Rattle.guest_isa.proofs.Fields.{in_range}
 
 -- what follows for each value of a list
 all_from : {X : Type 0} (P Q : X → Type 0) → ((x : X) → P x → Q x) → (xs : List X) → All P xs → All Q xs
@@ -36,11 +37,11 @@ all_three : {X : Type 0} (P Q R : X → Type 0) (xs : List X) → All P xs → A
 all_three P Q R [] p q r = All-nil (λ x. P x × Q x × R x)
 all_three P Q R (x ∷ xs) p q r = All-cons (λ x. P x × Q x × R x) x xs (All-head P x xs p, All-head Q x xs q, All-head R x xs r) (all_three P Q R xs (All-tail P x xs p) (All-tail Q x xs q) (All-tail R x xs r))
 
-pub is_listed : (i : Image) → IsImage i → HasBytes i → ((x : Instr) → IsInstruction x → HasFieldsInRange x) → IsListed i
-is_listed i is has range = record {
+pub is_listed : (i : Image) → IsImage i → HasBytes i → IsListed i
+is_listed i is has = record {
   uid = is.uid;
   entries = all_from (λ e. e < length i.text) (λ n. n < 2 ^ 32) (λ e lt. omega (arith, lt, is.text.bounded)) i.entries is.entries;
-  text = all_from IsInstruction (λ x. HasFieldsInRange x × IsInstruction x) (λ x h. (range x h, h)) i.text is.text.instructions;
+  text = all_from IsInstruction (λ x. HasFieldsInRange x × IsInstruction x) (λ x h. (in_range x h, h)) i.text is.text.instructions;
   pages = all_three (λ p. p.number < 2 ^ 32) (λ p. length p.bytes ≡ 4096) (λ p. All (λ b. b < 256) p.bytes) i.pages (all_from (λ p. p.number < 1024) (λ p. p.number < 2 ^ 32) (λ p lt. omega (arith, lt)) i.pages is.pages.numbers) is.pages.whole has.pages;
   files = all_both (λ f. f.owner < 2 ^ 32) (λ f. All (λ b. b < 256) f.bytes) i.files is.files.owners has.files;
   slots = all_both (λ s. s.slot < 2 ^ 32) (λ s. s.file < 2 ^ 32) i.slots (all_from (λ s. s.slot < 64) (λ s. s.slot < 2 ^ 32) (λ s lt. omega (arith, lt)) i.slots is.slots.below)
@@ -140,12 +141,12 @@ listing_short i is listed =
       length-append f s,
     )
 
-pub assembled_again : (i : Image) → IsImage i → HasBytes i → ((x : Instr) → IsInstruction x → HasFieldsInRange x) → image_at (image.spelling i) ≡ Ok i → assembled (listing i) ≡ Ok i
+pub assembled_again : (i : Image) → IsImage i → HasBytes i → assembled (listing i) ≡ Ok i
 unfolding assembled
-assembled_again i is has range read =
-    let listed = is_listed i is has range in
-    rw (draft_again i listed (listing_short i is listed), bytes_again i is.pages.whole, read) refl
+assembled_again i is has =
+    let listed = is_listed i is has in
+    rw (draft_again i listed (listing_short i is listed), bytes_again i is.pages.whole, image_again i is) refl
 
-pub read_back : {X E : Type 0} (i : Image) (r : Result X E) (items : X → List ℕ) → IfOk r (λ v. items v ≡ listing i) → OnOk r (HasBytes i) → (HasBytes i → assembled (listing i) ≡ Ok i) → IfOk r (λ v. assembled (items v) ≡ Ok i)
-read_back i (Ok v) items is has law = ap assembled is ∙ law has
-read_back i (Err e) items is has law = tt
+pub read_back : {X E : Type 0} (i : Image) → IsImage i → (r : Result X E) (items : X → List ℕ) → IfOk r (λ v. items v ≡ listing i) → OnOk r (HasBytes i) → IfOk r (λ v. assembled (items v) ≡ Ok i)
+read_back i image (Ok v) items is has = ap assembled is ∙ assembled_again i image has
+read_back i image (Err e) items is has = tt

@@ -4,9 +4,7 @@ use Rattle.std.specs.List.{flat_map, slice_get, slice_index}
 use Rattle.std.proofs.lemmas.List.{take_more, flat_map_more}
 use Rattle.std.proofs.lemmas.List.Elements.{All-nil, All-cons, All-push}
 use Rattle.std.proofs.lemmas.Option.{slice_get_within, get_or_from_slice_get}
-
-take_next : {X : Type 0} (xs : List X) (i : ℕ) (x : X) → slice_get xs i ≡ Some x → take (i + 1) xs ≡ take i xs ++ x ∷ []
-take_next {X} xs i x e = take_more xs i x (slice_get_within xs i x e) ∙ ap (λ (y : X). take i xs ++ y ∷ []) (get_or_from_slice_get xs i x x e)
+use Rattle.guest_image.proofs.Writes.{take_next}
 
 pub line_next : {X : Type 0} (line : X → List ℕ) (bytes : List ℕ) (xs : List X) (i : ℕ) (x : X) → slice_get xs i ≡ Some x → (bytes ++ flat_map line (take i xs)) ++ line x ≡ bytes ++ flat_map line (take (i + 1) xs)
 line_next {X} line bytes xs i x e = flat_map_more line bytes (take i xs) x ∙ ap (λ (ys : List X). bytes ++ flat_map line ys) (sym (take_next xs i x e))

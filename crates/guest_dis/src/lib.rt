@@ -7,6 +7,3 @@ mod listing;
 
 pub use laws::a_listing_is_read_as_its_image;
 pub use listing::disassemble;
-
-#[cfg(test)]
-mod tests;

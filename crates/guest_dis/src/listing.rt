@@ -6,7 +6,6 @@ ghost use Rattle.guest_image.specs.Limits.{IsImage};
 ghost use Rattle.guest_asm.specs.Drafts.{assembled};
 ghost use Rattle.guest_dis.specs.Listing as spec;
 
-use crate::laws::a_listing_is_read_as_its_image;
 use crate::lines::{put_entry, put_file, put_instruction, put_page, put_slot, put_uid};
 use guest_image::{Image, PageImage, SlotImage};
 use guest_isa::Text;
@@ -20,7 +19,6 @@ pub fn disassemble(alloc: Global, image: &Image) -> Result<Vec<u8>, OutOfMemory>
     ensures source { IfOk result (λ source. source.items ≡ spec.listing image.now) }
     ensures read_back { IfOk result (λ source. assembled source.items ≡ Ok image.now) }
 {
-    a_listing_is_read_as_its_image();
     list(alloc, image)
 }
 

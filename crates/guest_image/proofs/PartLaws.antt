@@ -31,6 +31,7 @@ use Rattle.guest_image.proofs.FieldLaws.{IsBytes, from, bind_ok, bind_err, passe
 use Rattle.guest_image.proofs.Stops.{Stops, ends_early, stops_at}
 use Rattle.guest_image.proofs.ValueLaws.{TakesEach, ReadsEach}
 use Rattle.guest_image.proofs.Push.{rising-push, page_ranges}
+use Rattle.guest_isa.proofs.Inverse.{reading-spelling, spelling-reading}
 
 All-last : {X : Type 0} (P : X → Type 0) (before : List X) (x : X) → All P (before ++ x ∷ []) → P x
 All-last P before x all = All-contains P (before ++ x ∷ []) x all (Contains-push before x)
@@ -56,11 +57,6 @@ ranges-front before (n ∷ ns) ms = either (begins before n) (ranges_after (Some
 
 -- ---- instructions
 
--- that instructions are spelled and read by inverse functions
-pub record IsInverse : Type 0 where
-  pub read_back : (i : Instr) → IsInstruction i → reading (instructions.spelling i) ≡ Some i
-  pub spelled : (bytes : List ℕ) (i : Instr) → length bytes ≡ 8 → All (λ b. b < 256) bytes → reading bytes ≡ Some i → IsInstruction i × (bytes ≡ instructions.spelling i)
-
 pub all_bytes : (bytes : List ℕ) → IsBytes bytes → All (λ b. b < 256) bytes
 all_bytes bytes fits k d lt = rw (get_or_default bytes k d 0 lt) (fits k)
 
@@ -70,72 +66,71 @@ checked_takes count r (Some j) i e =
     let g = passed (stays_inside count j) (record { rule = BadTarget; at = r.at }) j i e in
     (ap (λ (k : Instr). Some k) g.1, subst (λ (k : Instr). stays_inside count k ≡ true) g.1 g.0)
 
-module _ (isa : IsInverse) where
-  instruction_takes : (count : ℕ) (r : Rest) (i : Instr) (after : Rest) → IsBytes r.bytes → instruction_at count r ≡ Ok (i, after) → Takes r (instructions.spelling i) after × IsInstruction i × (stays_inside count i ≡ true)
-  unfolding instruction_at
-  instruction_takes count r i after fits e =
-      let a = bind_ok (bytes_at 8 r) _ _ e in
-      let b = bind_ok (checked count r (reading a.0.0)) _ _ a.2 in
-      let t = bytes_take 8 r a.0.0 a.0.1 fits a.1 in
-      let k = checked_takes count r (reading a.0.0) b.0 b.1 in
-      let s = isa.spelled a.0.0 b.0 t.1 (all_bytes a.0.0 t.2) k.0 in
-      subst (λ (y : Instr × Rest). Takes r (instructions.spelling y.0) y.1 × IsInstruction y.0 × (stays_inside count y.0 ≡ true)) (ok_is (b.0, a.0.1) (i, after) b.2)
-      (subst (λ (f : List ℕ). Takes r f a.0.1) s.1 t.0, s.0, k.1)
+instruction_takes : (count : ℕ) (r : Rest) (i : Instr) (after : Rest) → IsBytes r.bytes → instruction_at count r ≡ Ok (i, after) → Takes r (instructions.spelling i) after × IsInstruction i × (stays_inside count i ≡ true)
+unfolding instruction_at
+instruction_takes count r i after fits e =
+    let a = bind_ok (bytes_at 8 r) _ _ e in
+    let b = bind_ok (checked count r (reading a.0.0)) _ _ a.2 in
+    let t = bytes_take 8 r a.0.0 a.0.1 fits a.1 in
+    let k = checked_takes count r (reading a.0.0) b.0 b.1 in
+    let s = spelling-reading a.0.0 b.0 t.1 t.2 k.0 in
+    subst (λ (y : Instr × Rest). Takes r (instructions.spelling y.0) y.1 × IsInstruction y.0 × (stays_inside count y.0 ≡ true)) (ok_is (b.0, a.0.1) (i, after) b.2)
+    (subst (λ (f : List ℕ). Takes r f a.0.1) s.1 t.0, s.0, k.1)
 
-  instruction_again : (count : ℕ) (i : Instr) (at : ℕ) (rest : List ℕ) → IsInstruction i → stays_inside count i ≡ true → instruction_at count (from at (instructions.spelling i ++ rest)) ≡ Ok (i, from (at + 8) rest)
-  unfolding instruction_at
-  instruction_again count i at rest is inside = rw (bytes_again 8 at (instructions.spelling i) rest refl, isa.read_back i is, inside) refl
+instruction_again : (count : ℕ) (i : Instr) (at : ℕ) (rest : List ℕ) → IsInstruction i → stays_inside count i ≡ true → instruction_at count (from at (instructions.spelling i ++ rest)) ≡ Ok (i, from (at + 8) rest)
+unfolding instruction_at
+instruction_again count i at rest is inside = rw (bytes_again 8 at (instructions.spelling i) rest refl, reading-spelling i is, inside) refl
 
-  pub code_takes : (count : ℕ) → TakesEach (IsCode count) instructions.spelling (next_instruction count)
-  code_takes count = record {
-    takes = λ before r x after fits p e.
-        let t = instruction_takes count r x after fits e in
-        (t.0, record { instructions = All-push IsInstruction before x p.instructions t.1; targets = All-push (λ i. IsTrue (stays_inside count i)) before x p.targets t.2 });
-  }
+pub code_takes : (count : ℕ) → TakesEach (IsCode count) instructions.spelling (next_instruction count)
+code_takes count = record {
+  takes = λ before r x after fits p e.
+      let t = instruction_takes count r x after fits e in
+      (t.0, record { instructions = All-push IsInstruction before x p.instructions t.1; targets = All-push (λ i. IsTrue (stays_inside count i)) before x p.targets t.2 });
+}
 
-  pub code_reads : (count : ℕ) → ReadsEach (IsCode count) instructions.spelling (next_instruction count)
-  code_reads count = record {
-    reads = λ before x at rest p. instruction_again count x at rest (All-last IsInstruction before x p.instructions) (All-last (λ i. IsTrue (stays_inside count i)) before x p.targets);
-    front = λ before after p. record { instructions = All-front IsInstruction before after p.instructions; targets = All-front (λ i. IsTrue (stays_inside count i)) before after p.targets };
-  }
+pub code_reads : (count : ℕ) → ReadsEach (IsCode count) instructions.spelling (next_instruction count)
+code_reads count = record {
+  reads = λ before x at rest p. instruction_again count x at rest (All-last IsInstruction before x p.instructions) (All-last (λ i. IsTrue (stays_inside count i)) before x p.targets);
+  front = λ before after p. record { instructions = All-front IsInstruction before after p.instructions; targets = All-front (λ i. IsTrue (stays_inside count i)) before after p.targets };
+}
 
-  -- the bytes of an instruction that is not taken
-  checked_stop : (file : Rest) (h : Header) (text : List Instr) (front : List ℕ) (r : Rest) (bytes rest : List ℕ) (s : Refusal ImageRule) (o : Option Instr) → InText h text front → Takes file front r → r.bytes ≡ bytes ++ rest → length bytes ≡ 8 → IsBytes bytes
-      → reading bytes ≡ o → checked h.instructions r o ≡ Err s → Stops file s
-  unfolding Breaks
-  checked_stop file h text front r bytes rest s None place t is len fits none e =
-      let same : s ≡ record { rule = BadInstruction; at = r.at } = cc in
-      stops_at file front r BadInstruction s t (h, text, bytes, place, (rest, is), len, λ i instr spelled. let some : reading bytes ≡ Some i = ap reading spelled ∙ isa.read_back i instr in absurd cc) same
-  checked_stop file h text front r bytes rest s (Some i) place t is len fits some e =
-      let f = failed (stays_inside h.instructions i) (record { rule = BadTarget; at = r.at }) s i e in
-      let k = isa.spelled bytes i len (all_bytes bytes fits) some in
-      stops_at file front r BadTarget s t (h, text, i, place, (rest, is ∙ ap (λ (b : List ℕ). b ++ rest) k.1), k.0, f.0) (sym f.1)
+-- the bytes of an instruction that is not taken
+checked_stop : (file : Rest) (h : Header) (text : List Instr) (front : List ℕ) (r : Rest) (bytes rest : List ℕ) (s : Refusal ImageRule) (o : Option Instr) → InText h text front → Takes file front r → r.bytes ≡ bytes ++ rest → length bytes ≡ 8 → IsBytes bytes
+    → reading bytes ≡ o → checked h.instructions r o ≡ Err s → Stops file s
+unfolding Breaks
+checked_stop file h text front r bytes rest s None place t is len fits none e =
+    let same : s ≡ record { rule = BadInstruction; at = r.at } = cc in
+    stops_at file front r BadInstruction s t (h, text, bytes, place, (rest, is), len, λ i instr spelled. let some : reading bytes ≡ Some i = ap reading spelled ∙ reading-spelling i instr in absurd cc) same
+checked_stop file h text front r bytes rest s (Some i) place t is len fits some e =
+    let f = failed (stays_inside h.instructions i) (record { rule = BadTarget; at = r.at }) s i e in
+    let k = spelling-reading bytes i len fits some in
+    stops_at file front r BadTarget s t (h, text, i, place, (rest, is ∙ ap (λ (b : List ℕ). b ++ rest) k.1), k.0, f.0) (sym f.1)
 
-  pub instruction_stop : (file : Rest) (h : Header) (text : List Instr) (front : List ℕ) (r : Rest) (s : Refusal ImageRule) → InText h text front → Takes file front r → next_instruction h.instructions text r ≡ Err s → Stops file s
-  unfolding instruction_at
-  instruction_stop file h text front r s place t e =
-      elim (bind_err (bytes_at 8 r) (λ field. checked h.instructions r (reading field.0) >>= λ i. Ok (i, field.1)) s e) [
-        | inl short ↦ ends_early file front r s t (bytes_stop 8 r s short)
-        | inr a ↦
-            let took = bytes_take 8 r a.0.0 a.0.1 t.rest_fits a.1 in
-            elim (bind_err (checked h.instructions r (reading a.0.0)) (λ i. Ok (i, a.0.1)) s a.2) [
-              | inl bad ↦ checked_stop file h text front r a.0.0 a.0.1.bytes s (reading a.0.0) place t took.0.parts took.1 took.2 refl bad
-              | inr b ↦ absurd cc
-            ]
-      ]
+pub instruction_stop : (file : Rest) (h : Header) (text : List Instr) (front : List ℕ) (r : Rest) (s : Refusal ImageRule) → InText h text front → Takes file front r → next_instruction h.instructions text r ≡ Err s → Stops file s
+unfolding instruction_at
+instruction_stop file h text front r s place t e =
+    elim (bind_err (bytes_at 8 r) (λ field. checked h.instructions r (reading field.0) >>= λ i. Ok (i, field.1)) s e) [
+      | inl short ↦ ends_early file front r s t (bytes_stop 8 r s short)
+      | inr a ↦
+          let took = bytes_take 8 r a.0.0 a.0.1 t.rest_fits a.1 in
+          elim (bind_err (checked h.instructions r (reading a.0.0)) (λ i. Ok (i, a.0.1)) s a.2) [
+            | inl bad ↦ checked_stop file h text front r a.0.0 a.0.1.bytes s (reading a.0.0) place t took.0.parts took.1 took.2 refl bad
+            | inr b ↦ absurd cc
+          ]
+    ]
 
-  -- bytes that spell no instruction are not read
-  unread : (bytes : List ℕ) (o : Option Instr) → length bytes ≡ 8 → IsBytes bytes → reading bytes ≡ o → ((i : Instr) → IsInstruction i → bytes ≢ instructions.spelling i) → o ≡ None
-  unread bytes None len fits e none = refl
-  unread bytes (Some i) len fits e none = let k = isa.spelled bytes i len (all_bytes bytes fits) e in absurd (none i k.0 k.1)
+-- bytes that spell no instruction are not read
+unread : (bytes : List ℕ) (o : Option Instr) → length bytes ≡ 8 → IsBytes bytes → reading bytes ≡ o → ((i : Instr) → IsInstruction i → bytes ≢ instructions.spelling i) → o ≡ None
+unread bytes None len fits e none = refl
+unread bytes (Some i) len fits e none = let k = spelling-reading bytes i len fits e in absurd (none i k.0 k.1)
 
-  pub instruction_fails : (count at : ℕ) (bytes rest : List ℕ) → length bytes ≡ 8 → IsBytes bytes → ((i : Instr) → IsInstruction i → bytes ≢ instructions.spelling i) → instruction_at count (from at (bytes ++ rest)) ≡ Err (record { rule = BadInstruction; at = at })
-  unfolding instruction_at
-  instruction_fails count at bytes rest len fits none = rw (bytes_again 8 at bytes rest len, unread bytes (reading bytes) len fits refl none) refl
+pub instruction_fails : (count at : ℕ) (bytes rest : List ℕ) → length bytes ≡ 8 → IsBytes bytes → ((i : Instr) → IsInstruction i → bytes ≢ instructions.spelling i) → instruction_at count (from at (bytes ++ rest)) ≡ Err (record { rule = BadInstruction; at = at })
+unfolding instruction_at
+instruction_fails count at bytes rest len fits none = rw (bytes_again 8 at bytes rest len, unread bytes (reading bytes) len fits refl none) refl
 
-  pub target_fails : (count at : ℕ) (i : Instr) (rest : List ℕ) → IsInstruction i → stays_inside count i ≡ false → instruction_at count (from at (instructions.spelling i ++ rest)) ≡ Err (record { rule = BadTarget; at = at })
-  unfolding instruction_at
-  target_fails count at i rest is outside = rw (bytes_again 8 at (instructions.spelling i) rest refl, isa.read_back i is, outside) refl
+pub target_fails : (count at : ℕ) (i : Instr) (rest : List ℕ) → IsInstruction i → stays_inside count i ≡ false → instruction_at count (from at (instructions.spelling i ++ rest)) ≡ Err (record { rule = BadTarget; at = at })
+unfolding instruction_at
+target_fails count at i rest is outside = rw (bytes_again 8 at (instructions.spelling i) rest refl, reading-spelling i is, outside) refl
 
 -- ---- pages
 

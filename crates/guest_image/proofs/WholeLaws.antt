@@ -32,7 +32,7 @@ use Rattle.guest_image.proofs.FieldLaws.{IsBytes, from, bind_ok, bind_err, passe
 use Rattle.guest_image.proofs.Stops.{Stops, StopsAt, stops_at}
 use Rattle.guest_image.proofs.HeaderLaws.{header_takes, header_again, header_stop, header_breaks_magic, header_breaks_count}
 use Rattle.guest_image.proofs.ValueLaws.{values_take, values_stop, values_again, all_read, some_fail}
-use Rattle.guest_image.proofs.PartLaws.{IsInverse, flag_len, not_nil, code_takes, code_reads, instruction_stop, instruction_fails, target_fails, pages_take, pages_read, page_stop, page_fails, files_take, files_read, file_stop, public_fails, length_fails, slots_take, slots_read, slot_stop, slot_fails, slot_file_fails, entries_take, entries_read, entry_stop, entry_fails}
+use Rattle.guest_image.proofs.PartLaws.{flag_len, not_nil, code_takes, code_reads, instruction_stop, instruction_fails, target_fails, pages_take, pages_read, page_stop, page_fails, files_take, files_read, file_stop, public_fails, length_fails, slots_take, slots_read, slot_stop, slot_fails, slot_file_fails, entries_take, entries_read, entry_stop, entry_fails}
 
 no_pages : ArePages []
 unfolding rising_after ranges_after
@@ -109,14 +109,14 @@ no_trailing r made image e =
     let g = passed (eqb (length r.bytes) 0) (record { rule = Trailing; at = r.at }) made image e in
     (nil_from_length r.bytes (eqb-true _ _ g.0), g.1)
 
-module _ (isa : IsInverse) (file : Rest) (fits : IsBytes file.bytes) where
+module _ (file : Rest) (fits : IsBytes file.bytes) where
   -- every part of the file was taken
   parts_ok : (h : Header) (text : List Instr) (pages : List PageImage) (files : List FileImage) (slots : List SlotImage) (entries : List ℕ) (r0 r1 r2 r3 r4 r5 : Rest)
       → header_at file ≡ Ok (h, r0) → instructions_at h.instructions r0 ≡ Ok (text, r1) → pages_at h.pages r1 ≡ Ok (pages, r2) → files_at h.files r2 ≡ Ok (files, r3) → slots_at h.files h.slots r3 ≡ Ok (slots, r4) → entries_at h.instructions h.threads r4 ≡ Ok (entries, r5)
       → Parts file (made_of h text pages files slots entries) r5
   parts_ok h text pages files slots entries r0 r1 r2 r3 r4 r5 e0 e1 e2 e3 e4 e5 =
       let t0 = header_takes file h r0 fits e0 in
-      let t1 = values_take file (IsCode h.instructions) instructions.spelling (next_instruction h.instructions) (code_takes isa h.instructions) h.instructions (header h) r0 text r1 (no_code h.instructions) t0.0 e1 in
+      let t1 = values_take file (IsCode h.instructions) instructions.spelling (next_instruction h.instructions) (code_takes h.instructions) h.instructions (header h) r0 text r1 (no_code h.instructions) t0.0 e1 in
       let f1 = header h ++ flat_map instructions.spelling text in
       let t2 = values_take file ArePages page next_page pages_take h.pages f1 r1 pages r2 no_pages t1.2 e2 in
       let f2 = f1 ++ flat_map page pages in
@@ -162,9 +162,9 @@ module _ (isa : IsInverse) (file : Rest) (fits : IsBytes file.bytes) where
             let k = h.0.0 in
             let t0 = header_takes file k h.0.1 fits h.1 in
             elim (bind_err (instructions_at k.instructions h.0.1) _ s h.2) [
-              | inl stop ↦ values_stop file (IsCode k.instructions) instructions.spelling (next_instruction k.instructions) (code_takes isa k.instructions) k.instructions (header k) (AfterHeader k) t0.1 (instruction_stop isa file k) h.0.1 s (no_code k.instructions) t0.0 stop
+              | inl stop ↦ values_stop file (IsCode k.instructions) instructions.spelling (next_instruction k.instructions) (code_takes k.instructions) k.instructions (header k) (AfterHeader k) t0.1 (instruction_stop file k) h.0.1 s (no_code k.instructions) t0.0 stop
               | inr x ↦
-                  let t1 = values_take file (IsCode k.instructions) instructions.spelling (next_instruction k.instructions) (code_takes isa k.instructions) k.instructions (header k) h.0.1 x.0.0 x.0.1 (no_code k.instructions) t0.0 x.1 in
+                  let t1 = values_take file (IsCode k.instructions) instructions.spelling (next_instruction k.instructions) (code_takes k.instructions) k.instructions (header k) h.0.1 x.0.0 x.0.1 (no_code k.instructions) t0.0 x.1 in
                   let f1 = header k ++ flat_map instructions.spelling x.0.0 in
                   let a1 : AfterText k f1 = (x.0.0, record { start = header k; before = t0.1; valid = t1.0; spelled = refl }, t1.1) in
                   elim (bind_err (pages_at k.pages x.0.1) _ s x.2) [
@@ -200,35 +200,34 @@ module _ (isa : IsInverse) (file : Rest) (fits : IsBytes file.bytes) where
 regroup : (t p f s e rest : List ℕ) → (t ++ (p ++ (f ++ (s ++ e)))) ++ rest ≡ t ++ (p ++ (f ++ (s ++ (e ++ rest))))
 regroup t p f s e rest = simp append_assoc
 
-module _ (isa : IsInverse) where
-  parts_again : (image : Image) (rest : List ℕ) → IsImage image → parts_at (from 0 (spelling image ++ rest)) ≡ unless_trailing (from (length (spelling image)) rest) image
-  unfolding parts_at spelling
-  parts_again image rest is =
-      let h = header_of image in
-      let count = length image.text in
-      let t = flat_map instructions.spelling image.text in
-      let p = flat_map page image.pages in
-      let f = flat_map file_spelling image.files in
-      let s = flat_map slot image.slots in
-      let e = flat_map number image.entries in
-      let are : AreInRanges count_ranges (counts_of h) =
-      ((is.text.some, is.text.bounded), ((omega arith, is.page_count), ((omega arith, is.file_count), ((omega arith, is.slot_count), ((is.some_thread, is.thread_count), tt))))) in
-      let code : IsCode count image.text = record { instructions = is.text.instructions; targets = is.targets } in
-      let short : count < 2 ^ 32 = omega (arith, is.text.bounded) in
-      let few : length image.files < 2 ^ 32 = omega (arith, is.file_count) in
-      let place : ((((28 + length t) + length p) + length f) + length s) + length e ≡ length (spelling image) =
-      omega (arith, length-append (header h) (t ++ (p ++ (f ++ (s ++ e)))), length-append t (p ++ (f ++ (s ++ e))), length-append p (f ++ (s ++ e)), length-append f (s ++ e), length-append s e) in
-      let all : spelling image ++ rest ≡ header h ++ (t ++ (p ++ (f ++ (s ++ (e ++ rest))))) = append_assoc (header h) (body image) rest ∙ ap (λ (l : List ℕ). header h ++ l) (regroup t p f s e rest) in
-      let read : parts_at (from 0 (header h ++ (t ++ (p ++ (f ++ (s ++ (e ++ rest))))))) ≡ unless_trailing (from (((((28 + length t) + length p) + length f) + length s) + length e) rest) image =
-      rw (
-        header_again h (t ++ (p ++ (f ++ (s ++ (e ++ rest))))) are is.uid,
-        values_again (IsCode count) instructions.spelling (next_instruction count) (code_reads isa count) image.text 28 (p ++ (f ++ (s ++ (e ++ rest)))) code,
-        values_again ArePages page next_page pages_read image.pages (28 + length t) (f ++ (s ++ (e ++ rest))) is.pages,
-        values_again AreFiles file_spelling next_file files_read image.files ((28 + length t) + length p) (s ++ (e ++ rest)) is.files,
-        values_again (AreSlots (length image.files)) slot (next_slot (length image.files)) (slots_read (length image.files) few) image.slots (((28 + length t) + length p) + length f) (e ++ rest) is.slots,
-        values_again (All (λ e. e < count)) number (next_entry count) (entries_read count short) image.entries ((((28 + length t) + length p) + length f) + length s) rest is.entries,
-      ) refl in
-      ap (λ (l : List ℕ). parts_at (from 0 l)) all ∙ read ∙ ap (λ (n : ℕ). unless_trailing (from n rest) image) place
+parts_again : (image : Image) (rest : List ℕ) → IsImage image → parts_at (from 0 (spelling image ++ rest)) ≡ unless_trailing (from (length (spelling image)) rest) image
+unfolding parts_at spelling
+parts_again image rest is =
+    let h = header_of image in
+    let count = length image.text in
+    let t = flat_map instructions.spelling image.text in
+    let p = flat_map page image.pages in
+    let f = flat_map file_spelling image.files in
+    let s = flat_map slot image.slots in
+    let e = flat_map number image.entries in
+    let are : AreInRanges count_ranges (counts_of h) =
+    ((is.text.some, is.text.bounded), ((omega arith, is.page_count), ((omega arith, is.file_count), ((omega arith, is.slot_count), ((is.some_thread, is.thread_count), tt))))) in
+    let code : IsCode count image.text = record { instructions = is.text.instructions; targets = is.targets } in
+    let short : count < 2 ^ 32 = omega (arith, is.text.bounded) in
+    let few : length image.files < 2 ^ 32 = omega (arith, is.file_count) in
+    let place : ((((28 + length t) + length p) + length f) + length s) + length e ≡ length (spelling image) =
+    omega (arith, length-append (header h) (t ++ (p ++ (f ++ (s ++ e)))), length-append t (p ++ (f ++ (s ++ e))), length-append p (f ++ (s ++ e)), length-append f (s ++ e), length-append s e) in
+    let all : spelling image ++ rest ≡ header h ++ (t ++ (p ++ (f ++ (s ++ (e ++ rest))))) = append_assoc (header h) (body image) rest ∙ ap (λ (l : List ℕ). header h ++ l) (regroup t p f s e rest) in
+    let read : parts_at (from 0 (header h ++ (t ++ (p ++ (f ++ (s ++ (e ++ rest))))))) ≡ unless_trailing (from (((((28 + length t) + length p) + length f) + length s) + length e) rest) image =
+    rw (
+      header_again h (t ++ (p ++ (f ++ (s ++ (e ++ rest))))) are is.uid,
+      values_again (IsCode count) instructions.spelling (next_instruction count) (code_reads count) image.text 28 (p ++ (f ++ (s ++ (e ++ rest)))) code,
+      values_again ArePages page next_page pages_read image.pages (28 + length t) (f ++ (s ++ (e ++ rest))) is.pages,
+      values_again AreFiles file_spelling next_file files_read image.files ((28 + length t) + length p) (s ++ (e ++ rest)) is.files,
+      values_again (AreSlots (length image.files)) slot (next_slot (length image.files)) (slots_read (length image.files) few) image.slots (((28 + length t) + length p) + length f) (e ++ rest) is.slots,
+      values_again (All (λ e. e < count)) number (next_entry count) (entries_read count short) image.entries ((((28 + length t) + length p) + length f) + length s) rest is.entries,
+    ) refl in
+    ap (λ (l : List ℕ). parts_at (from 0 l)) all ∙ read ∙ ap (λ (n : ℕ). unless_trailing (from n rest) image) place
 
 -- ---- an image is short enough
 
@@ -295,7 +294,7 @@ short_text h front after = omega (arith, after.counts.0.1)
 few_files : (h : Header) (front : List ℕ) → AfterHeader h front → h.files < 2 ^ 32
 few_files h front after = omega (arith, after.counts.1.1.0.1)
 
-module _ (isa : IsInverse) (h : Header) where
+module _ (h : Header) where
   -- the header and the instructions were read
   abbrev TextRead : List ℕ → Rest → Type 0
   TextRead bytes r = (r1 : Rest) × (text : List Instr) × HeaderRead h bytes r1 × (instructions_at h.instructions r1 ≡ Ok (text, r))
@@ -313,7 +312,7 @@ module _ (isa : IsInverse) (h : Header) where
   SlotsRead bytes r = (r1 : Rest) × (slots : List SlotImage) × FilesRead bytes r1 × (slots_at h.files h.slots r1 ≡ Ok (slots, r))
 
   text_read : (start rest : List ℕ) → AfterText h start → TextRead (start ++ rest) (from (length start) rest)
-  text_read start rest after = all_read (IsCode h.instructions) instructions.spelling (next_instruction h.instructions) (code_reads isa h.instructions) (AfterHeader h) h.instructions (HeaderRead h) (header_read h) start rest after
+  text_read start rest after = all_read (IsCode h.instructions) instructions.spelling (next_instruction h.instructions) (code_reads h.instructions) (AfterHeader h) h.instructions (HeaderRead h) (header_read h) start rest after
 
   pages_were_read : (start rest : List ℕ) → AfterPages h start → PagesRead (start ++ rest) (from (length start) rest)
   pages_were_read start rest after = all_read ArePages page next_page pages_read (AfterText h) h.pages TextRead text_read start rest after
@@ -364,68 +363,67 @@ IsBytes-front before after fits i =
       | inr le ↦ rw (get_or_past before i 0 le) (omega arith)
     ]
 
-module _ (isa : IsInverse) where
-  -- a rule that is broken is the refusal
-  pub parts_fail : (rule : ImageRule) (before after : List ℕ) → IsBytes (before ++ after) → Breaks rule before after → parts_at (from 0 (before ++ after)) ≡ Err (record { rule = rule; at = length before })
-  unfolding Breaks
-  parts_fail BadMagic before after fits b = header_refused (before ++ after) _ (header_breaks_magic before after b)
-  parts_fail BadCount before after fits b = header_refused (before ++ after) _ (header_breaks_count before after b)
-  parts_fail BadInstruction before after fits (h, text, bytes, place, (rest, is), len, none) =
-      let own : IsBytes bytes = IsBytes-front bytes rest (subst IsBytes is (IsBytes-behind before after fits)) in
-      in_text isa h (before ++ after) _ (some_fail (IsCode h.instructions) instructions.spelling (next_instruction h.instructions) (code_reads isa h.instructions) (AfterHeader h) h.instructions (HeaderRead h) (header_read h) text before after _ place
-      (subst (λ (l : List ℕ). next_instruction h.instructions text (from (length before) l) ≡ Err (record { rule = BadInstruction; at = length before })) (sym is) (instruction_fails isa h.instructions (length before) bytes rest len own none)))
-  parts_fail BadTarget before after fits (h, text, i, place, (rest, is), instr, outside) =
-      in_text isa h (before ++ after) _ (some_fail (IsCode h.instructions) instructions.spelling (next_instruction h.instructions) (code_reads isa h.instructions) (AfterHeader h) h.instructions (HeaderRead h) (header_read h) text before after _ place
-      (subst (λ (l : List ℕ). next_instruction h.instructions text (from (length before) l) ≡ Err (record { rule = BadTarget; at = length before })) (sym is) (target_fails isa h.instructions (length before) i rest instr outside)))
-  parts_fail BadPage before after fits (h, pages, n, place, (lt, (rest, is)), none) =
-      in_pages isa h (before ++ after) _ (some_fail ArePages page next_page pages_read (AfterText h) h.pages (TextRead isa h) (text_read isa h) pages before after _ place
-      (subst (λ (l : List ℕ). next_page pages (from (length before) l) ≡ Err (record { rule = BadPage; at = length before })) (sym is) (page_fails pages n (length before) rest place.0.valid lt none)))
-  parts_fail BadFile before after fits (inl b) =
-      let h = b.head in
-      let same : b.start ++ (number b.owner ++ after) ≡ before ++ after = sym (append_assoc b.start (number b.owner) after) ∙ ap (λ (l : List ℕ). l ++ after) (sym b.is) in
-      let at : length b.start + 4 ≡ length before = omega (arith, ap length b.is, length-append b.start (number b.owner)) in
-      let refusal : Refusal ImageRule = record { rule = BadFile; at = length b.start + 4 } in
-      let fails : next_file b.files (from (length b.start) (number b.owner ++ after)) ≡ Err refusal =
-      subst (λ (l : List ℕ). next_file b.files (from (length b.start) (number b.owner ++ l)) ≡ Err refusal) (sym b.next.1.1) (public_fails b.files b.owner b.flag (length b.start) b.next.1.0 b.fits b.next.0 b.high) in
-      subst (λ (l : List ℕ). parts_at (from 0 l) ≡ Err (record { rule = BadFile; at = length before })) same
-      (subst (λ (n : ℕ). parts_at (from 0 (b.start ++ (number b.owner ++ after))) ≡ Err (record { rule = BadFile; at = n })) at
-      (in_files isa h (b.start ++ (number b.owner ++ after)) refusal (some_fail AreFiles file_spelling next_file files_read (AfterPages h) h.files (PagesRead isa h) (pages_were_read isa h) b.files b.start (number b.owner ++ after) refusal b.place fails)))
-  parts_fail BadFile before after fits (inr b) =
-      let h = b.head in
-      let head = number b.owner ++ flag b.public in
-      let same : b.start ++ (head ++ after) ≡ before ++ after = sym (append_assoc b.start head after) ∙ ap (λ (l : List ℕ). l ++ after) (sym b.is) in
-      let at : (length b.start + 4) + 4 ≡ length before = omega (arith, ap length b.is, length-append b.start head, length-append (number b.owner) (flag b.public), flag_len b.public) in
-      let refusal : Refusal ImageRule = record { rule = BadFile; at = (length b.start + 4) + 4 } in
-      let fails : next_file b.files (from (length b.start) (head ++ after)) ≡ Err refusal =
-      subst (λ (l : List ℕ). next_file b.files (from (length b.start) (head ++ l)) ≡ Err refusal) (sym b.next.1.1) (length_fails b.files b.owner b.public b.length (length b.start) b.next.1.0 b.fits b.next.0 b.high) in
-      subst (λ (l : List ℕ). parts_at (from 0 l) ≡ Err (record { rule = BadFile; at = length before })) same
-      (subst (λ (n : ℕ). parts_at (from 0 (b.start ++ (head ++ after))) ≡ Err (record { rule = BadFile; at = n })) at
-      (in_files isa h (b.start ++ (head ++ after)) refusal (some_fail AreFiles file_spelling next_file files_read (AfterPages h) h.files (PagesRead isa h) (pages_were_read isa h) b.files b.start (head ++ after) refusal b.place fails)))
-  parts_fail BadSlot before after fits (inl (h, slots, n, place, (lt, (rest, is)), none)) =
-      let top = header_before isa h place.0.start place.0.before in
-      in_slots isa h (before ++ after) _ (some_fail (AreSlots h.files) slot (next_slot h.files) (slots_read h.files (few_files h top.0 top.1)) (AfterFiles h) h.slots (FilesRead isa h) (files_were_read isa h) slots before after _ place
-      (subst (λ (l : List ℕ). next_slot h.files slots (from (length before) l) ≡ Err (record { rule = BadSlot; at = length before })) (sym is) (slot_fails h.files slots n (length before) rest place.0.valid lt none)))
-  parts_fail BadSlot before after fits (inr b) =
-      let h = b.head in
-      let top = header_before isa h b.place.0.start b.place.0.before in
-      let same : b.start ++ (number b.slot ++ after) ≡ before ++ after = sym (append_assoc b.start (number b.slot) after) ∙ ap (λ (l : List ℕ). l ++ after) (sym b.is) in
-      let at : length b.start + 4 ≡ length before = omega (arith, ap length b.is, length-append b.start (number b.slot)) in
-      let refusal : Refusal ImageRule = record { rule = BadSlot; at = length b.start + 4 } in
-      let fails : next_slot h.files b.slots (from (length b.start) (number b.slot ++ after)) ≡ Err refusal =
-      subst (λ (l : List ℕ). next_slot h.files b.slots (from (length b.start) (number b.slot ++ l)) ≡ Err refusal) (sym b.next.1.1) (slot_file_fails h.files b.slots b.slot b.file (length b.start) b.next.1.0 b.fits b.next.0 b.high) in
-      subst (λ (l : List ℕ). parts_at (from 0 l) ≡ Err (record { rule = BadSlot; at = length before })) same
-      (subst (λ (n : ℕ). parts_at (from 0 (b.start ++ (number b.slot ++ after))) ≡ Err (record { rule = BadSlot; at = n })) at
-      (in_slots isa h (b.start ++ (number b.slot ++ after)) refusal (some_fail (AreSlots h.files) slot (next_slot h.files) (slots_read h.files (few_files h top.0 top.1)) (AfterFiles h) h.slots (FilesRead isa h) (files_were_read isa h) b.slots b.start (number b.slot ++ after) refusal b.place fails)))
-  parts_fail BadEntry before after fits (h, entries, n, place, (lt, (rest, is)), high) =
-      let files = place.0.before.1.before in
-      let top = header_before isa h place.0.before.1.start files in
-      in_entries isa h (before ++ after) _ (some_fail (All (λ e. e < h.instructions)) number (next_entry h.instructions) (entries_read h.instructions (short_text h top.0 top.1)) (AfterSlots h) h.threads (SlotsRead isa h) (slots_were_read isa h (few_files h top.0 top.1)) entries before after _ place
-      (subst (λ (l : List ℕ). next_entry h.instructions entries (from (length before) l) ≡ Err (record { rule = BadEntry; at = length before })) (sym is) (entry_fails h.instructions n (length before) rest lt high)))
-  parts_fail Trailing before after fits (image, is_image, is, some) =
-      let left : eqb (length after) 0 ≡ false = not_nil after some in
-      rw is (parts_again isa image after is_image ∙ rw left refl)
-  parts_fail TooLong before after fits b = absurd b
-  parts_fail Truncated before after fits b = absurd b
+-- a rule that is broken is the refusal
+pub parts_fail : (rule : ImageRule) (before after : List ℕ) → IsBytes (before ++ after) → Breaks rule before after → parts_at (from 0 (before ++ after)) ≡ Err (record { rule = rule; at = length before })
+unfolding Breaks
+parts_fail BadMagic before after fits b = header_refused (before ++ after) _ (header_breaks_magic before after b)
+parts_fail BadCount before after fits b = header_refused (before ++ after) _ (header_breaks_count before after b)
+parts_fail BadInstruction before after fits (h, text, bytes, place, (rest, is), len, none) =
+    let own : IsBytes bytes = IsBytes-front bytes rest (subst IsBytes is (IsBytes-behind before after fits)) in
+    in_text h (before ++ after) _ (some_fail (IsCode h.instructions) instructions.spelling (next_instruction h.instructions) (code_reads h.instructions) (AfterHeader h) h.instructions (HeaderRead h) (header_read h) text before after _ place
+    (subst (λ (l : List ℕ). next_instruction h.instructions text (from (length before) l) ≡ Err (record { rule = BadInstruction; at = length before })) (sym is) (instruction_fails h.instructions (length before) bytes rest len own none)))
+parts_fail BadTarget before after fits (h, text, i, place, (rest, is), instr, outside) =
+    in_text h (before ++ after) _ (some_fail (IsCode h.instructions) instructions.spelling (next_instruction h.instructions) (code_reads h.instructions) (AfterHeader h) h.instructions (HeaderRead h) (header_read h) text before after _ place
+    (subst (λ (l : List ℕ). next_instruction h.instructions text (from (length before) l) ≡ Err (record { rule = BadTarget; at = length before })) (sym is) (target_fails h.instructions (length before) i rest instr outside)))
+parts_fail BadPage before after fits (h, pages, n, place, (lt, (rest, is)), none) =
+    in_pages h (before ++ after) _ (some_fail ArePages page next_page pages_read (AfterText h) h.pages (TextRead h) (text_read h) pages before after _ place
+    (subst (λ (l : List ℕ). next_page pages (from (length before) l) ≡ Err (record { rule = BadPage; at = length before })) (sym is) (page_fails pages n (length before) rest place.0.valid lt none)))
+parts_fail BadFile before after fits (inl b) =
+    let h = b.head in
+    let same : b.start ++ (number b.owner ++ after) ≡ before ++ after = sym (append_assoc b.start (number b.owner) after) ∙ ap (λ (l : List ℕ). l ++ after) (sym b.is) in
+    let at : length b.start + 4 ≡ length before = omega (arith, ap length b.is, length-append b.start (number b.owner)) in
+    let refusal : Refusal ImageRule = record { rule = BadFile; at = length b.start + 4 } in
+    let fails : next_file b.files (from (length b.start) (number b.owner ++ after)) ≡ Err refusal =
+    subst (λ (l : List ℕ). next_file b.files (from (length b.start) (number b.owner ++ l)) ≡ Err refusal) (sym b.next.1.1) (public_fails b.files b.owner b.flag (length b.start) b.next.1.0 b.fits b.next.0 b.high) in
+    subst (λ (l : List ℕ). parts_at (from 0 l) ≡ Err (record { rule = BadFile; at = length before })) same
+    (subst (λ (n : ℕ). parts_at (from 0 (b.start ++ (number b.owner ++ after))) ≡ Err (record { rule = BadFile; at = n })) at
+    (in_files h (b.start ++ (number b.owner ++ after)) refusal (some_fail AreFiles file_spelling next_file files_read (AfterPages h) h.files (PagesRead h) (pages_were_read h) b.files b.start (number b.owner ++ after) refusal b.place fails)))
+parts_fail BadFile before after fits (inr b) =
+    let h = b.head in
+    let head = number b.owner ++ flag b.public in
+    let same : b.start ++ (head ++ after) ≡ before ++ after = sym (append_assoc b.start head after) ∙ ap (λ (l : List ℕ). l ++ after) (sym b.is) in
+    let at : (length b.start + 4) + 4 ≡ length before = omega (arith, ap length b.is, length-append b.start head, length-append (number b.owner) (flag b.public), flag_len b.public) in
+    let refusal : Refusal ImageRule = record { rule = BadFile; at = (length b.start + 4) + 4 } in
+    let fails : next_file b.files (from (length b.start) (head ++ after)) ≡ Err refusal =
+    subst (λ (l : List ℕ). next_file b.files (from (length b.start) (head ++ l)) ≡ Err refusal) (sym b.next.1.1) (length_fails b.files b.owner b.public b.length (length b.start) b.next.1.0 b.fits b.next.0 b.high) in
+    subst (λ (l : List ℕ). parts_at (from 0 l) ≡ Err (record { rule = BadFile; at = length before })) same
+    (subst (λ (n : ℕ). parts_at (from 0 (b.start ++ (head ++ after))) ≡ Err (record { rule = BadFile; at = n })) at
+    (in_files h (b.start ++ (head ++ after)) refusal (some_fail AreFiles file_spelling next_file files_read (AfterPages h) h.files (PagesRead h) (pages_were_read h) b.files b.start (head ++ after) refusal b.place fails)))
+parts_fail BadSlot before after fits (inl (h, slots, n, place, (lt, (rest, is)), none)) =
+    let top = header_before h place.0.start place.0.before in
+    in_slots h (before ++ after) _ (some_fail (AreSlots h.files) slot (next_slot h.files) (slots_read h.files (few_files h top.0 top.1)) (AfterFiles h) h.slots (FilesRead h) (files_were_read h) slots before after _ place
+    (subst (λ (l : List ℕ). next_slot h.files slots (from (length before) l) ≡ Err (record { rule = BadSlot; at = length before })) (sym is) (slot_fails h.files slots n (length before) rest place.0.valid lt none)))
+parts_fail BadSlot before after fits (inr b) =
+    let h = b.head in
+    let top = header_before h b.place.0.start b.place.0.before in
+    let same : b.start ++ (number b.slot ++ after) ≡ before ++ after = sym (append_assoc b.start (number b.slot) after) ∙ ap (λ (l : List ℕ). l ++ after) (sym b.is) in
+    let at : length b.start + 4 ≡ length before = omega (arith, ap length b.is, length-append b.start (number b.slot)) in
+    let refusal : Refusal ImageRule = record { rule = BadSlot; at = length b.start + 4 } in
+    let fails : next_slot h.files b.slots (from (length b.start) (number b.slot ++ after)) ≡ Err refusal =
+    subst (λ (l : List ℕ). next_slot h.files b.slots (from (length b.start) (number b.slot ++ l)) ≡ Err refusal) (sym b.next.1.1) (slot_file_fails h.files b.slots b.slot b.file (length b.start) b.next.1.0 b.fits b.next.0 b.high) in
+    subst (λ (l : List ℕ). parts_at (from 0 l) ≡ Err (record { rule = BadSlot; at = length before })) same
+    (subst (λ (n : ℕ). parts_at (from 0 (b.start ++ (number b.slot ++ after))) ≡ Err (record { rule = BadSlot; at = n })) at
+    (in_slots h (b.start ++ (number b.slot ++ after)) refusal (some_fail (AreSlots h.files) slot (next_slot h.files) (slots_read h.files (few_files h top.0 top.1)) (AfterFiles h) h.slots (FilesRead h) (files_were_read h) b.slots b.start (number b.slot ++ after) refusal b.place fails)))
+parts_fail BadEntry before after fits (h, entries, n, place, (lt, (rest, is)), high) =
+    let files = place.0.before.1.before in
+    let top = header_before h place.0.before.1.start files in
+    in_entries h (before ++ after) _ (some_fail (All (λ e. e < h.instructions)) number (next_entry h.instructions) (entries_read h.instructions (short_text h top.0 top.1)) (AfterSlots h) h.threads (SlotsRead h) (slots_were_read h (few_files h top.0 top.1)) entries before after _ place
+    (subst (λ (l : List ℕ). next_entry h.instructions entries (from (length before) l) ≡ Err (record { rule = BadEntry; at = length before })) (sym is) (entry_fails h.instructions n (length before) rest lt high)))
+parts_fail Trailing before after fits (image, is_image, is, some) =
+    let left : eqb (length after) 0 ≡ false = not_nil after some in
+    rw is (parts_again image after is_image ∙ rw left refl)
+parts_fail TooLong before after fits b = absurd b
+parts_fail Truncated before after fits b = absurd b
 
 -- ---- the whole file
 
@@ -448,86 +446,85 @@ long_file bytes long = rw (lt-ltb MOST_IMAGE_BYTES (length bytes) long) refl
 stops_broken : (bytes : List ℕ) (s : Refusal ImageRule) → StopsAt (from 0 bytes) s → IsBroken bytes s.rule s.at
 stops_broken bytes s h = record { before = h.before; after = h.after.bytes; split = h.takes.parts; offset = omega (arith, h.offset, h.takes.moved); breaks = h.breaks }
 
-module _ (isa : IsInverse) where
-  pub image_takes : (bytes : List ℕ) (image : Image) → IsBytes bytes → image_at bytes ≡ Ok image → IsImage image × (bytes ≡ spelling image)
-  image_takes bytes image fits e =
-      elim (cases_lt MOST_IMAGE_BYTES (length bytes)) [
-        | inl long ↦ let refused = long_file bytes long in absurd cc
-        | inr short ↦ parts_take isa (from 0 bytes) fits image (sym (short_file bytes short) ∙ e)
+pub image_takes : (bytes : List ℕ) (image : Image) → IsBytes bytes → image_at bytes ≡ Ok image → IsImage image × (bytes ≡ spelling image)
+image_takes bytes image fits e =
+    elim (cases_lt MOST_IMAGE_BYTES (length bytes)) [
+      | inl long ↦ let refused = long_file bytes long in absurd cc
+      | inr short ↦ parts_take (from 0 bytes) fits image (sym (short_file bytes short) ∙ e)
+    ]
+
+pub image_again : (image : Image) → IsImage image → image_at (spelling image) ≡ Ok image
+image_again image is =
+    short_file (spelling image) (spelling_len image is)
+    ∙ ap (λ (l : List ℕ). parts_at (from 0 l)) (sym (append-nil (spelling image)))
+    ∙ parts_again image [] is
+
+broken_fails : (bytes : List ℕ) (rule : ImageRule) (at : ℕ) → IsBytes bytes → length bytes ≤ MOST_IMAGE_BYTES → IsBroken bytes rule at → image_at bytes ≡ Err (record { rule = rule; at = at })
+broken_fails bytes rule at fits short b =
+    let own : IsBytes (b.before ++ b.after) = subst IsBytes b.split fits in
+    short_file bytes short ∙ ap (λ (l : List ℕ). parts_at (from 0 l)) b.split ∙ parts_fail rule b.before b.after own b.breaks ∙ ap (λ (n : ℕ). Err (record { rule = rule; at = n })) (sym b.offset)
+
+-- a file that is cut off is refused at its end
+cut_off : (bytes : List ℕ) (r : Read Image) → IsBytes bytes → length bytes ≤ MOST_IMAGE_BYTES → IsCutOff bytes → image_at bytes ≡ r → r ≡ Err (record { rule = Truncated; at = length bytes })
+cut_off bytes (Ok image) fits short cut e = let k = image_takes bytes image fits e in absurd (cut.no_image image k.0 k.1)
+cut_off bytes (Err s) fits short cut e =
+    elim (parts_stop (from 0 bytes) fits s (sym (short_file bytes short) ∙ e)) [
+      | inl end ↦ ap (λ (t : Refusal ImageRule). Err t) (end ∙ ap (λ (n : ℕ). record { rule = Truncated; at = n }) (omega arith))
+      | inr h ↦ absurd (cut.unbroken s.rule s.at (stops_broken bytes s h))
+    ]
+
+-- a file that is refused is refused by this rule, at this offset
+pub refused_fails : (bytes : List ℕ) (rule : ImageRule) (at : ℕ) → IsBytes bytes → IsRefused bytes rule at → image_at bytes ≡ Err (record { rule = rule; at = at })
+unfolding IsRefused
+refused_fails bytes TooLong at fits (long, is) = long_file bytes long ∙ ap (λ (n : ℕ). Err (record { rule = TooLong; at = n })) (sym is)
+refused_fails bytes Truncated at fits (short, cut, is) = cut_off bytes (image_at bytes) fits short cut refl ∙ ap (λ (n : ℕ). Err (record { rule = Truncated; at = n })) (sym is)
+refused_fails bytes BadMagic at fits (short, b) = broken_fails bytes BadMagic at fits short b
+refused_fails bytes BadCount at fits (short, b) = broken_fails bytes BadCount at fits short b
+refused_fails bytes BadInstruction at fits (short, b) = broken_fails bytes BadInstruction at fits short b
+refused_fails bytes BadTarget at fits (short, b) = broken_fails bytes BadTarget at fits short b
+refused_fails bytes BadPage at fits (short, b) = broken_fails bytes BadPage at fits short b
+refused_fails bytes BadFile at fits (short, b) = broken_fails bytes BadFile at fits short b
+refused_fails bytes BadSlot at fits (short, b) = broken_fails bytes BadSlot at fits short b
+refused_fails bytes BadEntry at fits (short, b) = broken_fails bytes BadEntry at fits short b
+refused_fails bytes Trailing at fits (short, b) = broken_fails bytes Trailing at fits short b
+
+-- a rule that is broken is a refusal
+broken_refused : (bytes : List ℕ) (rule : ImageRule) (at : ℕ) → length bytes ≤ MOST_IMAGE_BYTES → IsBroken bytes rule at → IsRefused bytes rule at
+unfolding IsRefused Breaks
+broken_refused bytes TooLong at short b = absurd b.breaks
+broken_refused bytes Truncated at short b = absurd b.breaks
+broken_refused bytes BadMagic at short b = (short, b)
+broken_refused bytes BadCount at short b = (short, b)
+broken_refused bytes BadInstruction at short b = (short, b)
+broken_refused bytes BadTarget at short b = (short, b)
+broken_refused bytes BadPage at short b = (short, b)
+broken_refused bytes BadFile at short b = (short, b)
+broken_refused bytes BadSlot at short b = (short, b)
+broken_refused bytes BadEntry at short b = (short, b)
+broken_refused bytes Trailing at short b = (short, b)
+
+truncated_refused : (bytes : List ℕ) (s : Refusal ImageRule) → IsBytes bytes → length bytes ≤ MOST_IMAGE_BYTES → image_at bytes ≡ Err s → s ≡ end_of (from 0 bytes) → IsRefused bytes s.rule s.at
+unfolding IsRefused Breaks
+truncated_refused bytes s fits short e end =
+    subst (λ (t : Refusal ImageRule). IsRefused bytes t.rule t.at) (sym end) (
+      short,
+      record {
+        unbroken = λ rule at b. let other = broken_fails bytes rule at fits short b in not_truncated rule b.before b.after b.breaks (ap (λ (t : Refusal ImageRule). t.rule) (same_refusal (record { rule = rule; at = at }) s (sym other ∙ e) ∙ end));
+        no_image = λ image is spelled_so. let read : image_at bytes ≡ Ok image = ap image_at spelled_so ∙ image_again image is in absurd cc;
+      },
+      omega arith,
+    )
+
+-- a refusal is a fact of the bytes
+pub fails_refused : (bytes : List ℕ) (s : Refusal ImageRule) → IsBytes bytes → image_at bytes ≡ Err s → IsRefused bytes s.rule s.at
+unfolding IsRefused
+fails_refused bytes s fits e =
+    elim (cases_lt MOST_IMAGE_BYTES (length bytes)) [
+      | inl long ↦
+          let is : s ≡ record { rule = TooLong; at = MOST_IMAGE_BYTES } = let refused = long_file bytes long in cc in
+          subst (λ (t : Refusal ImageRule). IsRefused bytes t.rule t.at) (sym is) (long, refl)
+      | inr short ↦ elim (parts_stop (from 0 bytes) fits s (sym (short_file bytes short) ∙ e)) [
+        | inl end ↦ truncated_refused bytes s fits short e end
+        | inr h ↦ broken_refused bytes s.rule s.at short (stops_broken bytes s h)
       ]
-
-  pub image_again : (image : Image) → IsImage image → image_at (spelling image) ≡ Ok image
-  image_again image is =
-      short_file (spelling image) (spelling_len image is)
-      ∙ ap (λ (l : List ℕ). parts_at (from 0 l)) (sym (append-nil (spelling image)))
-      ∙ parts_again isa image [] is
-
-  broken_fails : (bytes : List ℕ) (rule : ImageRule) (at : ℕ) → IsBytes bytes → length bytes ≤ MOST_IMAGE_BYTES → IsBroken bytes rule at → image_at bytes ≡ Err (record { rule = rule; at = at })
-  broken_fails bytes rule at fits short b =
-      let own : IsBytes (b.before ++ b.after) = subst IsBytes b.split fits in
-      short_file bytes short ∙ ap (λ (l : List ℕ). parts_at (from 0 l)) b.split ∙ parts_fail isa rule b.before b.after own b.breaks ∙ ap (λ (n : ℕ). Err (record { rule = rule; at = n })) (sym b.offset)
-
-  -- a file that is cut off is refused at its end
-  cut_off : (bytes : List ℕ) (r : Read Image) → IsBytes bytes → length bytes ≤ MOST_IMAGE_BYTES → IsCutOff bytes → image_at bytes ≡ r → r ≡ Err (record { rule = Truncated; at = length bytes })
-  cut_off bytes (Ok image) fits short cut e = let k = image_takes bytes image fits e in absurd (cut.no_image image k.0 k.1)
-  cut_off bytes (Err s) fits short cut e =
-      elim (parts_stop isa (from 0 bytes) fits s (sym (short_file bytes short) ∙ e)) [
-        | inl end ↦ ap (λ (t : Refusal ImageRule). Err t) (end ∙ ap (λ (n : ℕ). record { rule = Truncated; at = n }) (omega arith))
-        | inr h ↦ absurd (cut.unbroken s.rule s.at (stops_broken bytes s h))
-      ]
-
-  -- a file that is refused is refused by this rule, at this offset
-  pub refused_fails : (bytes : List ℕ) (rule : ImageRule) (at : ℕ) → IsBytes bytes → IsRefused bytes rule at → image_at bytes ≡ Err (record { rule = rule; at = at })
-  unfolding IsRefused
-  refused_fails bytes TooLong at fits (long, is) = long_file bytes long ∙ ap (λ (n : ℕ). Err (record { rule = TooLong; at = n })) (sym is)
-  refused_fails bytes Truncated at fits (short, cut, is) = cut_off bytes (image_at bytes) fits short cut refl ∙ ap (λ (n : ℕ). Err (record { rule = Truncated; at = n })) (sym is)
-  refused_fails bytes BadMagic at fits (short, b) = broken_fails bytes BadMagic at fits short b
-  refused_fails bytes BadCount at fits (short, b) = broken_fails bytes BadCount at fits short b
-  refused_fails bytes BadInstruction at fits (short, b) = broken_fails bytes BadInstruction at fits short b
-  refused_fails bytes BadTarget at fits (short, b) = broken_fails bytes BadTarget at fits short b
-  refused_fails bytes BadPage at fits (short, b) = broken_fails bytes BadPage at fits short b
-  refused_fails bytes BadFile at fits (short, b) = broken_fails bytes BadFile at fits short b
-  refused_fails bytes BadSlot at fits (short, b) = broken_fails bytes BadSlot at fits short b
-  refused_fails bytes BadEntry at fits (short, b) = broken_fails bytes BadEntry at fits short b
-  refused_fails bytes Trailing at fits (short, b) = broken_fails bytes Trailing at fits short b
-
-  -- a rule that is broken is a refusal
-  broken_refused : (bytes : List ℕ) (rule : ImageRule) (at : ℕ) → length bytes ≤ MOST_IMAGE_BYTES → IsBroken bytes rule at → IsRefused bytes rule at
-  unfolding IsRefused Breaks
-  broken_refused bytes TooLong at short b = absurd b.breaks
-  broken_refused bytes Truncated at short b = absurd b.breaks
-  broken_refused bytes BadMagic at short b = (short, b)
-  broken_refused bytes BadCount at short b = (short, b)
-  broken_refused bytes BadInstruction at short b = (short, b)
-  broken_refused bytes BadTarget at short b = (short, b)
-  broken_refused bytes BadPage at short b = (short, b)
-  broken_refused bytes BadFile at short b = (short, b)
-  broken_refused bytes BadSlot at short b = (short, b)
-  broken_refused bytes BadEntry at short b = (short, b)
-  broken_refused bytes Trailing at short b = (short, b)
-
-  truncated_refused : (bytes : List ℕ) (s : Refusal ImageRule) → IsBytes bytes → length bytes ≤ MOST_IMAGE_BYTES → image_at bytes ≡ Err s → s ≡ end_of (from 0 bytes) → IsRefused bytes s.rule s.at
-  unfolding IsRefused Breaks
-  truncated_refused bytes s fits short e end =
-      subst (λ (t : Refusal ImageRule). IsRefused bytes t.rule t.at) (sym end) (
-        short,
-        record {
-          unbroken = λ rule at b. let other = broken_fails bytes rule at fits short b in not_truncated rule b.before b.after b.breaks (ap (λ (t : Refusal ImageRule). t.rule) (same_refusal (record { rule = rule; at = at }) s (sym other ∙ e) ∙ end));
-          no_image = λ image is spelled_so. let read : image_at bytes ≡ Ok image = ap image_at spelled_so ∙ image_again image is in absurd cc;
-        },
-        omega arith,
-      )
-
-  -- a refusal is a fact of the bytes
-  pub fails_refused : (bytes : List ℕ) (s : Refusal ImageRule) → IsBytes bytes → image_at bytes ≡ Err s → IsRefused bytes s.rule s.at
-  unfolding IsRefused
-  fails_refused bytes s fits e =
-      elim (cases_lt MOST_IMAGE_BYTES (length bytes)) [
-        | inl long ↦
-            let is : s ≡ record { rule = TooLong; at = MOST_IMAGE_BYTES } = let refused = long_file bytes long in cc in
-            subst (λ (t : Refusal ImageRule). IsRefused bytes t.rule t.at) (sym is) (long, refl)
-        | inr short ↦ elim (parts_stop isa (from 0 bytes) fits s (sym (short_file bytes short) ∙ e)) [
-          | inl end ↦ truncated_refused bytes s fits short e end
-          | inr h ↦ broken_refused bytes s.rule s.at short (stops_broken bytes s h)
-        ]
-      ]
+    ]

@@ -13,7 +13,7 @@ take_next {X} xs i x e = take_more xs i x (slice_get_within xs i x e) ∙ ap (λ
 pub spell_next : {X : Type 0} (spell : X → List ℕ) (bytes : List ℕ) (xs : List X) (i : ℕ) (x : X) → slice_get xs i ≡ Some x → (bytes ++ flat_map spell (take i xs)) ++ spell x ≡ bytes ++ flat_map spell (take (i + 1) xs)
 spell_next {X} spell bytes xs i x e = flat_map_more spell bytes (take i xs) x ∙ ap (λ (ys : List X). bytes ++ flat_map spell ys) (sym (take_next xs i x e))
 
-more : (x y n rest : List ℕ) → y ≡ x ++ n → y ++ rest ≡ x ++ (n ++ rest)
+pub more : (x y n rest : List ℕ) → y ≡ x ++ n → y ++ rest ≡ x ++ (n ++ rest)
 more x y n rest is = ap (λ (t : List ℕ). t ++ rest) is ∙ append_assoc x n rest
 
 -- the parts of a header, written one after another

@@ -16,6 +16,3 @@ pub use image::{FIRST_SLOT, Image, PageImage, SlotImage};
 pub use laws::images_are_read_as_spelled;
 pub use reading::read_image;
 pub use writing::write_image;
-
-#[cfg(test)]
-mod tests;

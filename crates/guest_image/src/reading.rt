@@ -13,7 +13,6 @@ ghost use Rattle.guest_image.specs.Reading.{parts_at, image_at};
 use crate::fault::{ImageFault, ImageRule};
 use crate::header::Header;
 use crate::image::Image;
-use crate::laws::images_are_read_as_spelled;
 use crate::lists::{read_entries, read_files, read_pages, read_slots, read_text};
 use crate::reader::Reader;
 use byte_reading::ReadError;
@@ -41,7 +40,6 @@ pub fn read_image(alloc: Global, bytes: &[u8]) -> Result<Image, ImageFault>
     // What is answered is what the reading gives, unless memory runs out.
     ensures exact { Answers (λ image. image) result (image_at bytes.now) }
 {
-    images_are_read_as_spelled();
     read_file(alloc, bytes)
 }
 

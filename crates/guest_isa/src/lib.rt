@@ -10,6 +10,3 @@ pub use instr::{Instr, fields_are_in_range};
 pub use op::{Form, Op};
 pub use spelling::{decode, encode, spelling_is_inverse};
 pub use text::Text;
-
-#[cfg(test)]
-mod tests;

@@ -59,6 +59,14 @@ impl Text {
         self.list.len()
     }
 
+    /// The instructions.
+    pub fn as_slice(&self) -> &[Instr]
+        ensures value { result.now ≡ self.now }
+        ensures text { IsText self.now }
+    {
+        self.list.as_slice()
+    }
+
     /// The instruction at place i.
     pub fn get(&self, i: usize) -> &Instr
         requires { i < length self.now }

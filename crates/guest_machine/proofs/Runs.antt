@@ -1,10 +1,10 @@
 -- The advance of a loop, and the facts of an advance.
-use Rattle.std.proofs.Common.{◌≡◌, ℕ, ◌+◌, ◌<◌, ◌≤◌, Bool, true, false, cond, ◌⊎◌, inl, inr, List, length, Option, Some, None, refl, sym, ap, subst, ◌∙◌, add-one, arith}
+use Rattle.std.proofs.Common.{◌≡◌, ℕ, ◌+◌, ◌<◌, ◌≤◌, Bool, true, false, cond, ◌⊎◌, inl, inr, List, length, get_or, Option, Some, None, refl, sym, ap, subst, ◌∙◌, add-one, arith}
 use Rattle.std.specs.Prelude.{All, slice_get, is_some, unwrap_or}
 use Rattle.std.proofs.lemmas.List.Elements.{All-get_or}
 use Rattle.guest_isa.specs.Instructions.{IsInstruction, IsText}
 use Rattle.std.proofs.lemmas.Bool.{cases_lt}
-use Rattle.std.proofs.lemmas.Option.{slice_get_past, slice_get_cases, slice_get_within, get_or_from_slice_get}
+use Rattle.std.proofs.lemmas.Option.{slice_get-get_or, slice_get_past, slice_get_cases, slice_get_within, get_or_from_slice_get}
 use Rattle.guest_isa.specs.declared.op.Op.{Op}
 use Rattle.guest_isa.specs.declared.op.Op.TheVariants.{Li}
 use Rattle.guest_isa.specs.declared.instr.Instr.{Instr}
@@ -140,6 +140,21 @@ stopped text s t j next way lt is = advanced_is text s t j next way (omega arith
 -- an advance of 256 instructions
 pub paused : (text : List Instr) (s t : Regs) (j : ℕ) (next : Next) → IsUnderWay text s j t → j ≤ 256 → 256 ≤ j → next ≡ unwrap_or (stop text t) Pause → record { before = s; after = t; next = next } ≡ advanced text s
 paused text s t j next way le ge is = advanced_is text s t j next way le (inr (omega arith)) is
+
+-- no instruction is past the end
+pub stop_past : (text code : List Instr) (t : Regs) → code ≡ text → length code ≤ t.pc → stop text t ≡ Some BadPc
+stop_past text code t same past =
+    let none : slice_get code t.pc ≡ None = slice_get_past code t.pc past in rw (← same, none) refl
+
+-- the instruction that is read comes next
+pub read_at : (text code : List Instr) (pc : ℕ) (d : Instr) → code ≡ text → pc < length code → slice_get text pc ≡ Some (get_or code pc d)
+read_at text code pc d same within = subst (λ (l : List Instr). slice_get l pc ≡ Some (get_or code pc d)) same (slice_get-get_or code pc d within)
+
+pub stop_shared : (text : List Instr) (t : Regs) (i : Instr) → slice_get text t.pc ≡ Some i → is_shared i.op ≡ true → stop text t ≡ Some (Shared i)
+stop_shared text t i found shared = rw (found, shared) refl
+
+pub stop_private : (text : List Instr) (t : Regs) (i : Instr) → slice_get text t.pc ≡ Some i → is_shared i.op ≡ false → stop text t ≡ None
+stop_private text t i found private = rw (found, private) refl
 
 comes_to_by : (b : Bool) (i : Instr) → IsInstruction i → IfShared (unwrap_or (cond b (Some (Shared i)) None) Pause) IsInstruction
 comes_to_by true i is = is

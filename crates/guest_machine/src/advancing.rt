@@ -5,7 +5,7 @@ ghost use Rattle.lwc_base.specs.declared.regs.Regs.{Regs};
 ghost use Rattle.guest_machine.specs.declared.progress.Advance.{Advance};
 ghost use Rattle.guest_machine.specs.Advances.{stop, advanced, IfShared, IsAdvance, IsShared};
 
-use crate::effect::apply;
+use crate::effect::after_private;
 use crate::progress::{Advance, Next};
 use guest_isa::{Instr, Text};
 use lwc_base::Regs;
@@ -35,12 +35,23 @@ pub fn run_on(text: &Text, regs: &mut Regs) -> Next
         ≡ advanced text.now regs.old }
     ensures shared { IfShared result IsShared }
 {
+    let code = text.as_slice();
+    let mut pc = regs.pc;
     for _done in 0..MOST {
-        match private_at(text, regs) {
-            Ok(i) => apply(i, regs),
-            Err(next) => return next,
+        if pc >= code.len() as u64 {
+            regs.pc = pc;
+            return Next::BadPc;
+        }
+        let i = &code[pc as usize];
+        match after_private(i, pc, &mut regs.r) {
+            Some(next) => pc = next,
+            None => {
+                regs.pc = pc;
+                return Next::Shared(*i);
+            }
         }
     }
+    regs.pc = pc;
     next_at(text, regs)
 }
 

@@ -1,9 +1,9 @@
-ghost use Rattle.std.specs.Prelude.{◌≡◌, ◌<◌, IsTrue};
+ghost use Rattle.std.specs.Prelude.{◌≡◌, ◌<◌, ◌+◌, ◌%◌, ◌^◌, IfNone, IfSome, IsTrue, Some, false, slice_index, slice_set, true};
 ghost use Rattle.guest_isa.specs.Instructions.{IsInstruction};
-ghost use Rattle.guest_isa.specs.Opcodes.{is_private};
-ghost use Rattle.guest_machine.specs.Effects.{quotient, remainder, effect_of, after_effect, effect};
+ghost use Rattle.guest_isa.specs.Opcodes.{is_private, is_shared};
+ghost use Rattle.guest_machine.specs.Effects.{quotient, remainder, effect};
 
-use guest_isa::{Instr, Op, fields_are_in_range};
+use guest_isa::{Instr, Op};
 use lwc_base::Regs;
 
 /// What a private instruction does. Unless it says otherwise, pc grows by one, modulo 2^64.
@@ -25,75 +25,79 @@ pub fn private(i: &Instr, regs: &Regs) -> Regs
     requires private { IsTrue (is_private i.now.op) }
     ensures { result ≡ effect i.now regs.now }
 {
-    let mut after = *regs;
-    apply(i, &mut after);
-    after
+    let mut r = regs.r;
+    match after_private(i, regs.pc, &mut r) {
+        Some(pc) => Regs { r, pc },
+        None => unreachable!(),
+    }
 }
 
-/// Does a private instruction in place.
-#[tactic(auto, unfolding(crate::specs::Effects::effect))]
-pub(crate) fn apply(i: &Instr, regs: &mut Regs)
+/// Does a private instruction, which is at pc, on the registers, and answers the pc after it. A shared one
+/// is not done.
+#[inline(always)]
+#[tactic(auto, using(guest_isa::proofs::Fields::in_range), unfolding(crate::specs::Effects::effect))]
+pub(crate) fn after_private(i: &Instr, pc: u64, r: &mut [u64; 16]) -> Option<u64>
     requires { IsInstruction i.now }
-    ensures { regs.new ≡ effect i.now regs.old }
+    ensures done { IfSome result (λ next.
+        record { r = r.new; pc = next } ≡ effect i.now (record { r = r.old; pc = pc })) }
+    ensures private { IfSome result (λ next. is_shared i.now.op ≡ false) }
+    ensures shared { IfNone result (is_shared i.now.op ≡ true) }
+    ensures kept { IfNone result (r.new ≡ r.old) }
 {
-    fields_are_in_range();
-    let d = regs.r[i.rd as usize];
-    let a = regs.r[i.ra as usize];
-    let b = regs.r[i.rb as usize];
-    carry_out(effect_of(i, d, a, b), i.rd, regs);
-}
-
-/// Does an effect on register rd and pc.
-fn carry_out(effect: Effect, rd: u8, regs: &mut Regs)
-    requires { rd < 16 }
-    ensures { regs.new ≡ after_effect effect rd regs.old }
-{
-    let next = regs.pc.wrapping_add(1);
-    match effect {
-        Effect::Puts(number) => {
-            regs.r[rd as usize] = number;
-            regs.pc = next;
-        }
-        Effect::Jumps(number) => regs.pc = number,
-        Effect::Links(number) => {
-            regs.r[rd as usize] = next;
-            regs.pc = number;
-        }
-        Effect::Passes => regs.pc = next,
-    }
-}
-
-/// The effect of an instruction, with d, a and b in its registers rd, ra and rb.
-fn effect_of(i: &Instr, d: u64, a: u64, b: u64) -> Effect
-    ensures { result ≡ effect_of i.now.op d a b i.now.imm }
-{
-    let imm = u64::from(i.imm);
     match i.op {
-        Op::Li => Effect::Puts(imm),
-        Op::Lih => Effect::Puts((imm << 32) | (d & 0xffff_ffff)),
-        Op::Mov => Effect::Puts(a),
-        Op::Add => Effect::Puts(a.wrapping_add(b)),
-        Op::Sub => Effect::Puts(a.wrapping_sub(b)),
-        Op::Mul => Effect::Puts(a.wrapping_mul(b)),
-        Op::Divu => Effect::Puts(quotient(a, b)),
-        Op::Remu => Effect::Puts(remainder(a, b)),
-        Op::And => Effect::Puts(a & b),
-        Op::Or => Effect::Puts(a | b),
-        Op::Xor => Effect::Puts(a ^ b),
-        Op::Shl => Effect::Puts(a << (b % 64)),
-        Op::Shr => Effect::Puts(a >> (b % 64)),
-        Op::Ltu => Effect::Puts(u64::from(a < b)),
-        Op::Eq => Effect::Puts(u64::from(a == b)),
-        Op::Addi => Effect::Puts(a.wrapping_add(i.sx())),
-        Op::Jmp => Effect::Jumps(imm),
-        Op::Jz if a == 0 => Effect::Jumps(imm),
-        Op::Jnz if a != 0 => Effect::Jumps(imm),
-        Op::Jal => Effect::Links(imm),
-        Op::Jr => Effect::Jumps(a),
-        Op::Jz | Op::Jnz => Effect::Passes,
+        Op::Li => put(i.rd, u64::from(i.imm), pc, r),
+        Op::Lih => put(
+            i.rd,
+            (u64::from(i.imm) << 32) | (of(i.rd, r) & 0xffff_ffff),
+            pc,
+            r,
+        ),
+        Op::Mov => put(i.rd, of(i.ra, r), pc, r),
+        Op::Add => put(i.rd, of(i.ra, r).wrapping_add(of(i.rb, r)), pc, r),
+        Op::Sub => put(i.rd, of(i.ra, r).wrapping_sub(of(i.rb, r)), pc, r),
+        Op::Mul => put(i.rd, of(i.ra, r).wrapping_mul(of(i.rb, r)), pc, r),
+        Op::Divu => put(i.rd, quotient(of(i.ra, r), of(i.rb, r)), pc, r),
+        Op::Remu => put(i.rd, remainder(of(i.ra, r), of(i.rb, r)), pc, r),
+        Op::And => put(i.rd, of(i.ra, r) & of(i.rb, r), pc, r),
+        Op::Or => put(i.rd, of(i.ra, r) | of(i.rb, r), pc, r),
+        Op::Xor => put(i.rd, of(i.ra, r) ^ of(i.rb, r), pc, r),
+        Op::Shl => put(i.rd, of(i.ra, r) << (of(i.rb, r) % 64), pc, r),
+        Op::Shr => put(i.rd, of(i.ra, r) >> (of(i.rb, r) % 64), pc, r),
+        Op::Ltu => put(i.rd, u64::from(of(i.ra, r) < of(i.rb, r)), pc, r),
+        Op::Eq => put(i.rd, u64::from(of(i.ra, r) == of(i.rb, r)), pc, r),
+        Op::Addi => put(i.rd, of(i.ra, r).wrapping_add(i.sx()), pc, r),
+        Op::Jmp => Some(u64::from(i.imm)),
+        Op::Jz if of(i.ra, r) == 0 => Some(u64::from(i.imm)),
+        Op::Jnz if of(i.ra, r) != 0 => Some(u64::from(i.imm)),
+        Op::Jz | Op::Jnz => Some(pc.wrapping_add(1)),
+        Op::Jal => {
+            let _next = put(i.rd, pc.wrapping_add(1), pc, r);
+            Some(u64::from(i.imm))
+        }
+        Op::Jr => Some(of(i.ra, r)),
         // Shared operations are done elsewhere.
-        Op::Ldb | Op::Ldw | Op::Stb | Op::Stw | Op::Sys | Op::Halt => Effect::Passes,
+        Op::Ldb | Op::Ldw | Op::Stb | Op::Stw | Op::Sys | Op::Halt => None,
     }
+}
+
+/// The number in a register.
+#[inline(always)]
+fn of(k: u8, r: &[u64; 16]) -> u64
+    requires { k < 16 }
+    ensures { result ≡ slice_index r.now k }
+{
+    r[k as usize]
+}
+
+/// Puts a number into a register, and answers the pc after this one.
+#[inline(always)]
+fn put(rd: u8, number: u64, pc: u64, r: &mut [u64; 16]) -> Option<u64>
+    requires { rd < 16 }
+    ensures next { result ≡ Some ((pc + 1) % 2 ^ 64) }
+    ensures registers { r.new ≡ slice_set r.old rd number }
+{
+    r[rd as usize] = number;
+    Some(pc.wrapping_add(1))
 }
 
 /// a divided by b, rounded down; the greatest number if b is 0.

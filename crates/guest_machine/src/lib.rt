@@ -8,6 +8,3 @@ mod progress;
 pub use advancing::{advance, advance_is_determined, advances_come_to_instructions, run_on};
 pub use effect::{Effect, private};
 pub use progress::{Advance, Next};
-
-#[cfg(test)]
-mod tests;

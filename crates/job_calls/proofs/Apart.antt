@@ -6,13 +6,12 @@ use Rattle.job_calls.proofs.Calling.{target_job}
 use Rattle.job_calls.proofs.Plainly.{all_calls, by_refusal, slice_get-other, store_at_cases}
 use Rattle.job_calls.proofs.Seen.{descriptor_fits, link_job, read_fits, three_own}
 use Rattle.job_calls.specs.Ends.{AreOf}
-use Rattle.job_view.specs.ByJob.{Home, IsSlotOf, IsValueOf, KeepsJobs, by_job}
+use Rattle.job_view.specs.ByJob.{Home, IsSlotOf, KeepsJobs}
 use Rattle.job_view.specs.Facts.{ChangesHidden, ChangesKeepJobs}
 use Rattle.job_view.specs.Views.{channel_view, view}
 use Rattle.lwc_base.specs.Capabilities.{empty_cap, full_cap}
-use Rattle.lwc_base.specs.Cells.{put_slot, put_uid, value_at}
+use Rattle.lwc_base.specs.Cells.{put_slot, put_uid}
 use Rattle.lwc_base.specs.Channels.{Channels, bytes_in}
-use Rattle.lwc_base.specs.Holders.{Keeps}
 use Rattle.lwc_base.specs.Mapping.{mapped_or_not}
 use Rattle.lwc_base.specs.Refusals.{first_refusal}
 use Rattle.lwc_base.specs.Sharing.{clone_context}
@@ -23,7 +22,6 @@ use Rattle.lwc_base.specs.declared.answer.Moved.TheVariants as moved
 use Rattle.lwc_base.specs.declared.answer.Moved.{Moved}
 use Rattle.lwc_base.specs.declared.descriptor.Descriptor.{Descriptor}
 use Rattle.lwc_base.specs.declared.descriptor.Descriptor.TheVariants.{Empty, Console, File, Request, Reply, Ctx}
-use Rattle.lwc_base.specs.declared.key.Key.{Key}
 use Rattle.lwc_base.specs.declared.key.Key.TheVariants.{Cred, Slot}
 use Rattle.lwc_base.specs.declared.name.Name.{Name}
 use Rattle.lwc_base.specs.declared.refusal.Refusal.{Refusal}
@@ -40,28 +38,23 @@ use Rattle.lwc_syscall.specs.Syscall as syscalls
 use Rattle.lwc_syscall.specs.declared.answer.CallAnswer.{CallAnswer}
 use Rattle.lwc_syscall.specs.declared.calls.Three.{Three}
 use Rattle.res_spec.specs.declared.items.SpecCall.TheVariants as spec_call
-
--- the laws of job_view that calls stand on
-pub record OwnFacts (home : Home) : Type 0 where
-  pub keeps : (c : Name) (w : World) → c.job ≢ 0 → KeepsJobs home w → ChangesKeepJobs home c w
-  pub hides : (job t : ℕ) (c : Name) (w : World) → c.job ≢ job → Keeps (by_job home) w → ChangesHidden job t c w
-  pub value : (c : Name) (k : Key) (w : World) → Keeps (by_job home) w → IsValueOf home c.job k (value_at w c k)
+use Rattle.job_view.proofs.Keeping.{changes-hidden, changes-keep}
 
 -- a change by a job leaves each job what is its own, and no other job sees it
 pub record LeavesOthers (home : Home) (own : ℕ) (w v : World) : Type 0 where
   pub kept : KeepsJobs home v
   pub hidden : (job t : ℕ) → own ≢ job → view job t v ≡ view job t w
 
-module _ (home : Home) (facts : OwnFacts home) where
+module _ (home : Home) where
   leaves_then : (own : ℕ) (u v w : World) → LeavesOthers home own u v → LeavesOthers home own v w → LeavesOthers home own u w
   leaves_then own u v w first second = record { kept = second.kept; hidden = λ job t other. second.hidden job t other ∙ first.hidden job t other }
 
   module _ (c : Name) (w : World) (some : c.job ≢ 0) (keeps : KeepsJobs home w) where
     abbrev kept : ChangesKeepJobs home c w
-    kept = facts.keeps c w some keeps
+    kept = changes-keep home c w some keeps
 
     abbrev hidden : (job t : ℕ) → c.job ≢ job → ChangesHidden job t c w
-    hidden job t other = facts.hides job t c w other keeps.kept
+    hidden job t other = changes-hidden home c w keeps.kept job t other
 
     leaves_same : LeavesOthers home c.job w w
     leaves_same = record { kept = keeps; hidden = λ job t other. refl }
@@ -75,12 +68,12 @@ module _ (home : Home) (facts : OwnFacts home) where
     leaves_mapped : (from to : ℕ) (present : Bool) → LeavesOthers home c.job w (mapped_or_not w c from to present)
     leaves_mapped from to present = record { kept = kept.map from to present; hidden = λ job t other. (hidden job t other).map from to present }
 
-    leaves_stored : (piece : Piece) → LeavesOthers home c.job w (after_store w c c.job piece)
+    pub leaves_stored : (piece : Piece) → LeavesOthers home c.job w (after_store w c c.job piece)
     leaves_stored piece = record { kept = kept.store piece; hidden = λ job t other. (hidden job t other).store piece }
 
     -- what a slot has is of the job
     slot_fits : (n : ℕ) → IsSlotOf c.job (descriptor_for w c n)
-    slot_fits = descriptor_fits home facts.value c w keeps.kept
+    slot_fits = descriptor_fits home c w keeps.kept
 
   module _ (c : Name) (w : World) (some : c.job ≢ 0) (keeps : KeepsJobs home w) (regs : Regs) where
     created_leaves : (slot : ℕ) (first : Option Refusal) → LeavesOthers home c.job w (creating.ended w c c.job regs slot first).1
@@ -89,7 +82,7 @@ module _ (home : Home) (facts : OwnFacts home) where
         let items = creating.items_of w c regs in
         let entry = creating.after_call regs creating.no_caller in
         let clone : LeavesOthers home c.job w (clone_context w c c.job items entry) =
-        record { kept = (facts.keeps c w some keeps).clone items entry; hidden = λ job t other. (facts.hides job t c w other keeps.kept).clone items entry } in
+        record { kept = (changes-keep home c w some keeps).clone items entry; hidden = λ job t other. (changes-hidden home c w keeps.kept job t other).clone items entry } in
         leaves_then c.job _ _ _ clone (leaves_slot c _ some clone.kept slot (Ctx (next_context w c.job) (full_cap w.size.pages)) refl)
 
     pub create-leaves : LeavesOthers home c.job w (creating.create w c c.job regs).1
@@ -107,7 +100,7 @@ module _ (home : Home) (facts : OwnFacts home) where
     switched_leaves t slot (Some refusal) = leaves_same c w some keeps
     switched_leaves t slot None =
         let saved : LeavesOthers home c.job w (switching.left w c t regs) =
-        record { kept = (facts.keeps c w some keeps).save t (with_answer regs 0); hidden = λ job s other. (facts.hides job s c w other keeps.kept).save t (with_answer regs 0) } in
+        record { kept = (changes-keep home c w some keeps).save t (with_answer regs 0); hidden = λ job s other. (changes-hidden home c w keeps.kept job s other).save t (with_answer regs 0) } in
         leaves_then c.job _ _ _ saved
         (subst (λ j. LeavesOthers home j (switching.left w c t regs) (switching.switched w c t regs aim slot)) aim_job
         (leaves_slot aim _ (λ none. some (sym aim_job ∙ none)) saved.kept slot (Ctx c empty_cap) (sym aim_job)))
@@ -133,8 +126,8 @@ module _ (home : Home) (facts : OwnFacts home) where
     overlaid_leaves None =
         let items = named.items_of w c spec_call.Overlay regs in
         record {
-          kept = (facts.keeps c w some keeps).overlay (link w c regs).0 items link_own;
-          hidden = λ job t other. (facts.hides job t c w other keeps.kept).overlay (link w c regs).0 items link_own;
+          kept = (changes-keep home c w some keeps).overlay (link w c regs).0 items link_own;
+          hidden = λ job t other. (changes-hidden home c w keeps.kept job t other).overlay (link w c regs).0 items link_own;
         }
 
     pub overlay-leaves : LeavesOthers home c.job w (overlaying.overlay w c c.job regs).1
@@ -145,7 +138,7 @@ module _ (home : Home) (facts : OwnFacts home) where
   pub switch-target : (c d : Name) (t : ℕ) (w : World) (regs arrived : Regs) → KeepsJobs home w → (switching.switch w c t regs).0 ≡ To d arrived → d.job ≡ c.job
   unfolding switching.switch switching.target
   switch-target c d t w regs arrived keeps is =
-      goes_to (switching.target w c regs) (target_job c.job c (descriptor_for w c (slice_index regs.r 1)) refl (descriptor_fits home facts.value c w keeps.kept (slice_index regs.r 1))) _ _ is
+      goes_to (switching.target w c regs) (target_job c.job c (descriptor_for w c (slice_index regs.r 1)) refl (descriptor_fits home c w keeps.kept (slice_index regs.r 1))) _ _ is
     where
       to_name : Moved → Name
       to_name (moved.To e r) = e
@@ -169,7 +162,7 @@ module _ (home : Home) (facts : OwnFacts home) where
     end_leaves first done leaves = by_refusal Leaves w io done first (λ refusal is. record { kept = keeps; hidden = λ job t other. refl }) (λ is. leaves)
 
     slot_of : (n : ℕ) → IsSlotOf three.slots.job (descriptor_for w three.slots n)
-    slot_of = descriptor_fits home facts.value three.slots w keeps.kept
+    slot_of = descriptor_fits home three.slots w keeps.kept
 
     placed_leaves : (value : Descriptor) → IsSlotOf three.slots.job value → Leaves (placed w io three.slots value)
     unfolding Leaves
@@ -243,7 +236,7 @@ module _ (home : Home) (facts : OwnFacts home) where
     unfolding calls.reading calls.writing
     plain_same call args =
         let fits : IsSlotOf own (descriptor_for w three.slots (slice_index args 0)) =
-        subst (λ j. IsSlotOf j (descriptor_for w three.slots (slice_index args 0))) of.slots (descriptor_fits home facts.value three.slots w keeps.kept (slice_index args 0)) in
+        subst (λ j. IsSlotOf j (descriptor_for w three.slots (slice_index args 0))) of.slots (descriptor_fits home three.slots w keeps.kept (slice_index args 0)) in
         all_calls (λ a b. Same a) w w io io three own call args (record {
           opens = search (end_same, keeps_io);
           closes = search (end_same, keeps_io);
@@ -264,7 +257,7 @@ module _ (home : Home) (facts : OwnFacts home) where
   -- the call over contexts that a mask chooses
   module _ (c : Name) (w : World) (io : Channels) (regs : Regs) (keeps : KeepsJobs home w) where
     own_three : AreOf c.job (syscalls.three_of w c regs)
-    own_three = three_own home facts.value c w regs keeps.kept
+    own_three = three_own home c w regs keeps.kept
 
     pub syscall-leaves : c.job ≢ 0 → LeavesOthers home c.job w (syscalls.lw_syscall w io c c.job regs).world
     unfolding syscalls.lw_syscall

@@ -6,7 +6,7 @@ use Rattle.access_cap.specs.Kinds.{has_kinds, is_chosen}
 use Rattle.guest_call.specs.Guest.{descriptor_for}
 use Rattle.job_calls.proofs.Channels.{files-alike, left-alike, passes-alike, written-alike}
 use Rattle.job_calls.proofs.Plainly.{all_calls}
-use Rattle.job_calls.proofs.Seen.{SeenFacts, descriptor-alike, descriptor_fits, link_or, read_fits, slot_refusals-alike, three_own}
+use Rattle.job_calls.proofs.Seen.{descriptor-alike, descriptor_fits, link_or, read_fits, slot_refusals-alike, three_own}
 use Rattle.job_calls.specs.Ends.{AreOf, HasFrames, OutcomesAlike}
 use Rattle.job_view.specs.ByJob.{Home, IsSlotOf, LooksAlike}
 use Rattle.job_view.specs.Facts.{AnswersAlike}
@@ -34,6 +34,7 @@ use Rattle.lwc_syscall.specs.Plain as calls
 use Rattle.lwc_syscall.specs.Syscall as syscalls
 use Rattle.lwc_syscall.specs.declared.answer.CallAnswer.TheVariants.{Value}
 use Rattle.lwc_syscall.specs.declared.calls.Three.{Three}
+use Rattle.job_view.proofs.Together.{answers-alike, changes-alike}
 
 -- two stores end alike, or one of them finds too few frames
 data StoresAlike (home : Home) (job t s : ℕ) : Stored → Stored → Type 0 where
@@ -42,7 +43,7 @@ data StoresAlike (home : Home) (job t s : ℕ) : Stored → Stored → Type 0 wh
   First_full : (b : Stored) → StoresAlike home job t s Full b
   Second_full : (a : Stored) → StoresAlike home job t s a Full
 
-module _ (home : Home) (facts : SeenFacts home) (r t s : ℕ) (three : Three) (w v : World) (io other : Channels) (of : AreOf (r + 1) three) (alike : LooksAlike home (r + 1) t s w v)
+module _ (home : Home) (r t s : ℕ) (three : Three) (w v : World) (io other : Channels) (of : AreOf (r + 1) three) (alike : LooksAlike home (r + 1) t s w v)
     (same : channel_view r io ≡ channel_view r other) where
   here : (c : Name) → c.job ≡ r + 1 → (a b : World) → LooksAlike home (r + 1) t s a b → LooksAlike home c.job t s a b
   here c own a b is = subst (λ j. LooksAlike home j t s a b) (sym own) is
@@ -51,7 +52,7 @@ module _ (home : Home) (facts : SeenFacts home) (r t s : ℕ) (three : Three) (w
   back c own a b is = subst (λ j. LooksAlike home j t s a b) own is
 
   asks : (c : Name) → c.job ≡ r + 1 → AnswersAlike t s c w v
-  asks c own = facts.asks t s c w v (here c own w v alike)
+  asks c own = answers-alike home t s c w v (here c own w v alike)
 
   -- by the same refusal, or done alike
   pub by_first : (a b : Outcome) (f g : Option Refusal) → f ≡ g → (HasFrames a → HasFrames b → OutcomesAlike home r t s a b) →
@@ -64,10 +65,10 @@ module _ (home : Home) (facts : SeenFacts home) (r t s : ℕ) (three : Three) (w
       by_one None one two = done one two
 
   value_alike : (n : ℕ) → descriptor_for w three.slots n ≡ descriptor_for v three.slots n
-  value_alike n = descriptor-alike home facts t s three.slots w v (here three.slots of.slots w v alike) n
+  value_alike n = descriptor-alike home t s three.slots w v (here three.slots of.slots w v alike) n
 
   value_fits : (n : ℕ) → IsSlotOf three.slots.job (descriptor_for w three.slots n)
-  value_fits n = descriptor_fits home facts.value three.slots w alike.first.kept n
+  value_fits n = descriptor_fits home three.slots w alike.first.kept n
 
   -- a put into a slot
   put_alike : (a b : World) → LooksAlike home (r + 1) t s a b → (m n : ℕ) (x y : Descriptor) → m ≡ n → x ≡ y → IsSlotOf three.slots.job x →
@@ -75,7 +76,7 @@ module _ (home : Home) (facts : SeenFacts home) (r t s : ℕ) (three : Three) (w
   put_alike a b is m n x y numbers values fits =
       back three.slots of.slots _ _
       (subst (λ u. LooksAlike home three.slots.job t s (put_slot a three.slots m x) u) (λ i. put_slot b three.slots (numbers i) (values i))
-      ((facts.does t s three.slots a b (here three.slots of.slots a b is)).put (Slot m) x fits))
+      ((changes-alike home t s three.slots a b (here three.slots of.slots a b is)).put (Slot m) x fits))
 
   placed_alike : (x y : Descriptor) → x ≡ y → IsSlotOf three.slots.job x → OutcomesAlike home r t s (placed w io three.slots x) (placed v other three.slots y)
   placed_alike x y values fits =
@@ -91,7 +92,7 @@ module _ (home : Home) (facts : SeenFacts home) (r t s : ℕ) (three : Three) (w
     where
       stored : LooksAlike home (r + 1) t s (after_store w three.memory (r + 1) piece) (after_store v three.memory (r + 1) piece)
       stored = subst (λ j. LooksAlike home j t s (after_store w three.memory j piece) (after_store v three.memory j piece)) of.memory
-          ((facts.does t s three.memory w v (here three.memory of.memory w v alike)).store piece)
+          ((changes-alike home t s three.memory w v (here three.memory of.memory w v alike)).store piece)
 
       by_presence : (p q : Bool) → p ≡ q → (m n : Bool) →
           StoresAlike home (r + 1) t s (cond (not p) Absent (cond m Full (Done (after_store w three.memory (r + 1) piece)))) (cond (not q) Absent (cond n Full (Done (after_store v three.memory (r + 1) piece))))
@@ -191,12 +192,12 @@ module _ (home : Home) (facts : SeenFacts home) (r t s : ℕ) (three : Three) (w
       })
 
   mapped_alike : (from to : ℕ) (present : Bool) → LooksAlike home (r + 1) t s (mapped_or_not w three.memory from to present) (mapped_or_not v three.memory from to present)
-  mapped_alike from to present = back three.memory of.memory _ _ ((facts.does t s three.memory w v (here three.memory of.memory w v alike)).map from to present)
+  mapped_alike from to present = back three.memory of.memory _ _ ((changes-alike home t s three.memory w v (here three.memory of.memory w v alike)).map from to present)
 
   maps_alike : (from to : ℕ) (present : Bool) → EndAlike (calls.mapping w io three.memory from to present) (calls.mapping v other three.memory from to present)
   maps_alike from to present =
       let pages = (asks three.memory of.memory).pages in
-      let ranges = (facts.asks t s three.memory _ _ (here three.memory of.memory _ _ (mapped_alike from to present))).ranges in
+      let ranges = (answers-alike home t s three.memory _ _ (here three.memory of.memory _ _ (mapped_alike from to present))).ranges in
       by_first _ _ _ _
       (ap first_refusal (λ i. (nat_le to from || nat_lt (pages i) to, BadRange) ∷ (nat_lt MOST_RANGES (ranges i), TooManyRanges) ∷ []))
       (λ one two. record { answer = refl; worlds = mapped_alike from to present; channels = same })
@@ -208,7 +209,7 @@ module _ (home : Home) (facts : SeenFacts home) (r t s : ℕ) (three : Three) (w
       (ap first_refusal (λ i. (nat_le (2 ^ 32) uid, BadRange) ∷ (not (may_set (uids i) uid), NotPermitted) ∷ []))
       (λ one two. record {
         answer = refl;
-        worlds = back three.cred of.cred _ _ ((facts.does t s three.cred w v (here three.cred of.cred w v alike)).put Cred uid tt);
+        worlds = back three.cred of.cred _ _ ((changes-alike home t s three.cred w v (here three.cred of.cred w v alike)).put Cred uid tt);
         channels = same;
       })
 
@@ -248,13 +249,13 @@ module _ (home : Home) (facts : SeenFacts home) (r t s : ℕ) (three : Three) (w
       })
 
 -- the call over contexts that a mask chooses
-module _ (home : Home) (facts : SeenFacts home) (r t s : ℕ) (c : Name) (w v : World) (io other : Channels) (regs : Regs) (own : c.job ≡ r + 1) (alike : LooksAlike home (r + 1) t s w v)
+module _ (home : Home) (r t s : ℕ) (c : Name) (w v : World) (io other : Channels) (regs : Regs) (own : c.job ≡ r + 1) (alike : LooksAlike home (r + 1) t s w v)
     (same : channel_view r io ≡ channel_view r other) where
   of_caller : LooksAlike home c.job t s w v
   of_caller = subst (λ j. LooksAlike home j t s w v) (sym own) alike
 
   links : syscalls.link w c regs ≡ syscalls.link v c regs
-  links = ap (link_or c) (descriptor-alike home facts t s c w v of_caller (slice_index regs.r 1))
+  links = ap (link_or c) (descriptor-alike home t s c w v of_caller (slice_index regs.r 1))
 
   threes : syscalls.three_of w c regs ≡ syscalls.three_of v c regs
   threes = λ i. record {
@@ -266,9 +267,9 @@ module _ (home : Home) (facts : SeenFacts home) (r t s : ℕ) (c : Name) (w v : 
   refusals-alike : syscalls.refusals w c regs ≡ syscalls.refusals v c regs
   unfolding syscalls.refusals
   refusals-alike =
-      let pages = (facts.asks t s c w v of_caller).pages in
+      let pages = (answers-alike home t s c w v of_caller).pages in
       λ i.
-      slot_refusals-alike home facts t s c w v of_caller (slice_index regs.r 1) i
+      slot_refusals-alike home t s c w v of_caller (slice_index regs.r 1) i
       ++ ((nat_lt 7 (syscalls.mask_in regs), BadMode)
       ∷ (not (has_kinds (pages i) (links i).1 (syscalls.mask_in regs)), NotCovered)
       ∷ (nat_lt (syscalls.inner_call regs) 1 || nat_lt 9 (syscalls.inner_call regs), BadCall) ∷ [])
@@ -277,10 +278,10 @@ module _ (home : Home) (facts : SeenFacts home) (r t s : ℕ) (c : Name) (w v : 
       OutcomesAlike home r t s (syscalls.lw_syscall w io c (r + 1) regs) (syscalls.lw_syscall v other c (r + 1) regs)
   unfolding syscalls.lw_syscall
   syscall-alike =
-      let of : AreOf (r + 1) (syscalls.three_of w c regs) = subst (λ j. AreOf j (syscalls.three_of w c regs)) own (three_own home facts.value c w regs alike.first.kept) in
+      let of : AreOf (r + 1) (syscalls.three_of w c regs) = subst (λ j. AreOf j (syscalls.three_of w c regs)) own (three_own home c w regs alike.first.kept) in
       let call = syscalls.inner_call regs in
       let args = syscalls.inner_args regs in
-      by_first home facts r t s (syscalls.three_of w c regs) w v io other of alike same _ (plain v other (syscalls.three_of v c regs) (r + 1) call args) _ _ (ap first_refusal refusals-alike)
+      by_first home r t s (syscalls.three_of w c regs) w v io other of alike same _ (plain v other (syscalls.three_of v c regs) (r + 1) call args) _ _ (ap first_refusal refusals-alike)
       (subst (λ three. HasFrames (plain w io (syscalls.three_of w c regs) (r + 1) call args) → HasFrames (plain v other three (r + 1) call args) →
       OutcomesAlike home r t s (plain w io (syscalls.three_of w c regs) (r + 1) call args) (plain v other three (r + 1) call args)) threes
-      (plain-alike home facts r t s (syscalls.three_of w c regs) w v io other of alike same call args))
+      (plain-alike home r t s (syscalls.three_of w c regs) w v io other of alike same call args))

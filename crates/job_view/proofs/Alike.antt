@@ -1,16 +1,15 @@
--- What a job changes in two worlds that look alike to it leaves them alike.
+-- What a job in two worlds that look alike to it leaves them alike.
 use Rattle.std.proofs.Common.{◌≡◌, ℕ, ◌+◌, refl, sym, ap, subst, ◌∙◌, Bool, true, false, cond, eqb, Option, Some, None, List, [], ◌∷◌, length}
 use Rattle.std.proofs.lemmas.Bool.{eq-eqb}
 use Rattle.std.specs.List.{AllByRecursion}
 use Rattle.std.specs.Prelude.{count_by, unwrap_or}
-use Rattle.job_view.proofs.Keeping.{context-in, keeps-put_pages, keeps-share, plan_fits}
+use Rattle.job_view.proofs.Keeping.{context-in, keeps-put_pages, keeps-share, stored_pages_fit}
 use Rattle.job_view.proofs.Reading.{cell-alike, needs-alike, value-alike}
 use Rattle.job_view.proofs.Tables.{at}
 use Rattle.job_view.proofs.Views.{KeepsAlike, alike-add_context, alike-add_group, alike-change_context, alike-change_counters, alike-change_group, next-alike}
 use Rattle.job_view.specs.ByJob.{Home, IsPageOf, by_job}
 use Rattle.job_view.specs.Views.{seen_by, view}
 use Rattle.lwc_base.specs.Cells.{put_at, put_in, put_page, with_cell, with_value}
-use Rattle.lwc_base.specs.Facts.{ChangeFacts, OrderFacts}
 use Rattle.lwc_base.specs.Frames.{is_parting}
 use Rattle.lwc_base.specs.Holders.{InCell, Keeps}
 use Rattle.lwc_base.specs.Keys.{ValueOf, is_there}
@@ -21,7 +20,7 @@ use Rattle.lwc_base.specs.Overlay.{overlaid_cell, overlay, with_overlay}
 use Rattle.lwc_base.specs.Pages.{bytes_of}
 use Rattle.lwc_base.specs.Saved.{save, with_saved}
 use Rattle.lwc_base.specs.Sharing.{clone_context, cloned_cell, cloned_context, moved_value, moved_values, needs_group, share, with_shared}
-use Rattle.lwc_base.specs.Store.{Piece, after_store, bytes_after, page_value_at, parting_count, plan, put_pages, stored_value}
+use Rattle.lwc_base.specs.Store.{Piece, after_store, bytes_after, page_value_at, parting_count, stored_pages, put_pages, stored_value}
 use Rattle.lwc_base.specs.World.{World, Context, Counters, add_group, change_context, change_counters, context, next_group}
 use Rattle.lwc_base.specs.declared.cell.Cell.{Cell}
 use Rattle.lwc_base.specs.declared.cell.Cell.TheVariants.{Own, Common}
@@ -35,7 +34,7 @@ use Rattle.lwc_base.specs.declared.page.PageValue.{PageValue}
 use Rattle.lwc_base.specs.declared.page.PageValue.TheVariants.{Zero}
 use Rattle.lwc_base.specs.declared.regs.Regs.{Regs}
 
-module _ (home : Home) (orders : OrderFacts) (facts : ChangeFacts) (t s : ℕ) where
+module _ (home : Home) (t s : ℕ) where
   -- a put under a key
   module _ (c : Name) (w v : World) (keeps : Keeps (by_job home) w) (alike : view c.job t w ≡ view c.job s v) where
     put_alike : (k : Key) (value : ValueOf k) (cell : Cell (ValueOf k)) → InCell (by_job home) c.job k cell →
@@ -43,11 +42,11 @@ module _ (home : Home) (orders : OrderFacts) (facts : ChangeFacts) (t s : ℕ) w
     put_alike k value (Own old) is = by_there (is_there k old)
       where
         by_there : (b : Bool) → view c.job t (cond b (change_context w c (with_cell k (Own value))) w) ≡ view c.job s (cond b (change_context v c (with_cell k (Own value))) v)
-        by_there true = alike-change_context orders facts t s c w v _ _ (λ x y e. ap (with_cell k (Own value)) e) alike
+        by_there true = alike-change_context t s c w v _ _ (λ x y e. ap (with_cell k (Own value)) e) alike
         by_there false = alike
     put_alike k value (Common g) is =
         subst (λ j. view j t w ≡ view j s v → view j t (put_in w c k value (Common g)) ≡ view j s (put_in v c k value (Common g))) is
-        (alike-change_group orders facts t s g w v (with_value k value)) alike
+        (alike-change_group t s g w v (with_value k value)) alike
 
     pub alike-put_at : (k : Key) (value : ValueOf k) → view c.job t (put_at w c k value) ≡ view c.job s (put_at v c k value)
     unfolding put_at
@@ -59,7 +58,7 @@ module _ (home : Home) (orders : OrderFacts) (facts : ChangeFacts) (t s : ℕ) w
       view c.job t w ≡ view c.job s v → view c.job t (put_pages w c values) ≡ view c.job s (put_pages v c values)
   alike-put_pages c w v [] fits keeps alike = alike
   alike-put_pages c w v (x ∷ xs) fits keeps alike =
-      alike-put_pages c (put_page w c x.0 x.1) (put_page v c x.0 x.1) xs fits.1 (keeps-put_pages home orders facts c w (x ∷ []) (fits.0, tt) keeps)
+      alike-put_pages c (put_page w c x.0 x.1) (put_page v c x.0 x.1) xs fits.1 (keeps-put_pages home c w (x ∷ []) (fits.0, tt) keeps)
       (alike-put_at c w v keeps alike (Page x.0) (Some x.1))
 
   module _ (c : Name) (w v : World) (keeps : Keeps (by_job home) w) (alike : view c.job t w ≡ view c.job s v) where
@@ -67,11 +66,11 @@ module _ (home : Home) (orders : OrderFacts) (facts : ChangeFacts) (t s : ℕ) w
     abbrev pub PartsAlike : Type 0
     PartsAlike = (p : ℕ) → is_parting w (page_value_at w c p) ≡ is_parting v (page_value_at v c p)
 
-    plan-alike : PartsAlike → (piece : Piece) (ps : List ℕ) (n : ℕ) → plan w c c.job piece n ps ≡ plan v c c.job piece n ps
-    plan-alike parts piece [] n = refl
-    plan-alike parts piece (p ∷ ps) n =
+    stored_pages-alike : PartsAlike → (piece : Piece) (ps : List ℕ) (n : ℕ) → stored_pages w c c.job piece n ps ≡ stored_pages v c c.job piece n ps
+    stored_pages-alike parts piece [] n = refl
+    stored_pages-alike parts piece (p ∷ ps) n =
         let value : page_value_at w c p ≡ page_value_at v c p = ap (λ o. unwrap_or o Zero) (value-alike t s c w v alike home keeps (Page p)) in
-        λ i. (p, stored_value (parts p i) (record { job = c.job; k = n }) (value i) (bytes_after piece p (bytes_of (value i)))) ∷ plan-alike parts piece ps (cond (parts p i) (n + 1) n) i
+        λ i. (p, stored_value (parts p i) (record { job = c.job; k = n }) (value i) (bytes_after piece p (bytes_of (value i)))) ∷ stored_pages-alike parts piece ps (cond (parts p i) (n + 1) n) i
 
     pub count-alike : PartsAlike → (piece : Piece) → parting_count w c piece ≡ parting_count v c piece
     unfolding parting_count
@@ -82,16 +81,16 @@ module _ (home : Home) (orders : OrderFacts) (facts : ChangeFacts) (t s : ℕ) w
     unfolding after_store
     alike-after_store parts piece =
         let ps = touched piece.at (length piece.bytes) in
-        let plans : plan w c c.job piece (w.next c.job).tags ps ≡ plan v c c.job piece (v.next c.job).tags ps =
-        plan-alike parts piece ps (w.next c.job).tags ∙ ap (λ (n : Counters). plan v c c.job piece n.tags ps) (next-alike c.job t s w v alike) in
-        alike-change_counters orders facts c.job t s _ _ (λ n. record n { tags = n.tags + parting_count w c piece })
-        (alike-put_pages c w v _ (plan_fits home w keeps c piece ps _) keeps alike ∙ ap (λ values. view c.job s (put_pages v c values)) plans)
-        ∙ ap (λ m. view c.job s (change_counters (put_pages v c (plan v c c.job piece (v.next c.job).tags ps)) c.job (λ n. record n { tags = n.tags + m }))) (count-alike parts piece)
+        let plans : stored_pages w c c.job piece (w.next c.job).tags ps ≡ stored_pages v c c.job piece (v.next c.job).tags ps =
+        stored_pages-alike parts piece ps (w.next c.job).tags ∙ ap (λ (n : Counters). stored_pages v c c.job piece n.tags ps) (next-alike c.job t s w v alike) in
+        alike-change_counters c.job t s _ _ (λ n. record n { tags = n.tags + parting_count w c piece })
+        (alike-put_pages c w v _ (stored_pages_fit home w keeps c piece ps _) keeps alike ∙ ap (λ values. view c.job s (put_pages v c values)) plans)
+        ∙ ap (λ m. view c.job s (change_counters (put_pages v c (stored_pages v c c.job piece (v.next c.job).tags ps)) c.job (λ n. record n { tags = n.tags + m }))) (count-alike parts piece)
 
     pub alike-mapped : (from to : ℕ) (present : Bool) → view c.job t (mapped_or_not w c from to present) ≡ view c.job s (mapped_or_not v c from to present)
     unfolding map_pages unmap_pages
-    alike-mapped from to true = alike-change_context orders facts t s c w v _ _ (λ x y e. ap (with_zeros from to) e) alike
-    alike-mapped from to false = alike-change_context orders facts t s c w v _ _ (λ x y e. ap (without_pages from to) e) alike
+    alike-mapped from to true = alike-change_context t s c w v _ _ (λ x y e. ap (with_zeros from to) e) alike
+    alike-mapped from to false = alike-change_context t s c w v _ _ (λ x y e. ap (without_pages from to) e) alike
 
     saved_alike : (regs : Regs) → KeepsAlike t s (with_saved t regs) (with_saved s regs)
     saved_alike regs x y e =
@@ -100,7 +99,7 @@ module _ (home : Home) (orders : OrderFacts) (facts : ChangeFacts) (t s : ℕ) w
 
     pub alike-save : (regs : Regs) → view c.job t (save w c t regs) ≡ view c.job s (save v c s regs)
     unfolding save
-    alike-save regs = alike-change_context orders facts t s c w v _ _ (saved_alike regs) alike
+    alike-save regs = alike-change_context t s c w v _ _ (saved_alike regs) alike
 
     shared_alike : (items : List Item) (g h : Name) → g ≡ h → KeepsAlike t s (with_shared g items) (with_shared h items)
     unfolding with_shared
@@ -123,8 +122,8 @@ module _ (home : Home) (orders : OrderFacts) (facts : ChangeFacts) (t s : ℕ) w
 
         by_need : (b : Bool) → view c.job t (cond b (moved w) w) ≡ view c.job s (cond b (moved v) v)
         by_need true =
-            alike-add_group orders facts c.job t s _ _ (moved_values items (context w c))
-            (alike-change_context orders facts t s c w v _ _ (shared_alike items _ _ names) alike)
+            alike-add_group c.job t s _ _ (moved_values items (context w c))
+            (alike-change_context t s c w v _ _ (shared_alike items _ _ names) alike)
             ∙ ap (λ x. view c.job s (add_group (change_context v c (with_shared (next_group v c.job) items)) c.job x)) (moved_alike items)
         by_need false = alike
 
@@ -158,8 +157,8 @@ module _ (home : Home) (orders : OrderFacts) (facts : ChangeFacts) (t s : ℕ) w
     unfolding clone_context
     alike-clone items entry =
         let shared = alike-share c w v keeps alike items in
-        let kept = keeps-share home orders facts c w keeps c.job refl items in
-        alike-add_context orders facts c.job t s _ _ _ _
+        let kept = keeps-share home c w keeps c.job refl items in
+        alike-add_context c.job t s _ _ _ _
         (none_saved c _ _ kept shared items entry ∙ ap (seen_by s) (cloned-alike c _ _ kept shared items entry)) shared
 
     -- an overlay from a context of the same job
@@ -169,6 +168,6 @@ module _ (home : Home) (orders : OrderFacts) (facts : ChangeFacts) (t s : ℕ) w
         let here : view d.job t w ≡ view d.job s v = subst (λ j. view j t w ≡ view j s v) (sym own) alike in
         let shared : view d.job t (share w d c.job items) ≡ view d.job s (share v d c.job items) =
         subst (λ j. view d.job t (share w d j items) ≡ view d.job s (share v d j items)) own (alike-share d w v keeps here items) in
-        let kept = keeps-share home orders facts d w keeps c.job own items in
-        alike-change_context orders facts t s c _ _ _ _ (with_overlay-alike d _ _ kept shared items)
+        let kept = keeps-share home d w keeps c.job own items in
+        alike-change_context t s c _ _ _ _ (with_overlay-alike d _ _ kept shared items)
         (subst (λ j. view j t (share w d c.job items) ≡ view j s (share v d c.job items)) own shared)

@@ -11,10 +11,12 @@ use Rattle.std.specs.declared.cmp.Ordering.{Ordering}
 use Rattle.std.specs.declared.cmp.Ordering.TheVariants.{Less, Equal, Greater}
 use Rattle.std.specs.FinMap as fm
 use Rattle.std.specs.FinMap.Entries.{below_all, find, find-where_key, is_sorted, is_sorted-where_key, same_entries, where_key}
-use Rattle.job_view.proofs.Tables.{at, same_name}
-use Rattle.lwc_base.specs.Facts.{OrderFacts}
+use Rattle.job_view.proofs.Tables.{at}
 use Rattle.lwc_base.specs.Names.{name_cmp}
 use Rattle.lwc_base.specs.declared.name.Name.{Name}
+use Rattle.lwc_base.proofs.Facts.{orders}
+use Rattle.lwc_base.proofs.Orders.{same_name}
+use Rattle.lwc_base.proofs.Reaped.{not_tied}
 
 -- whether a name is of a job
 abbrev pub of_job : ℕ → Name → Bool
@@ -28,11 +30,6 @@ head_of : (a b : Bool) → T (a && b) → T a
 head_of true b h = tt
 head_of false b h = absurd h
 
-not_tied : (o : Ordering) → T (is_lt o) → is_eq o ≡ false
-not_tied Less h = refl
-not_tied Equal h = absurd h
-not_tied Greater h = absurd h
-
 -- a count over lists in a row is the sum of their counts
 pub count-flat_map : {X Y : Type 0} (test : Y → Bool) (h : X → List Y) (xs : List X) → count_by test (flat_map h xs) ≡ sum_by (λ x. count_by test (h x)) xs
 count-flat_map test h [] = refl
@@ -40,7 +37,7 @@ count-flat_map test h (x ∷ xs) =
     sum_by-append (λ y. cond (test y) 1 0) (h x) (flat_map h xs) ∙ ap (λ n. count_by test (h x) + n) (count-flat_map test h xs)
     ∙ sym (sum_by-cons (λ x. count_by test (h x)) x xs)
 
-module _ (orders : OrderFacts) {X : Type 0} where
+module _ {X : Type 0} where
   none_below : (q : Name) (es : List (Name × X)) → T (below_all name_cmp q es) → find name_cmp q es ≡ None
   none_below q [] h = refl
   none_below q (e ∷ es) h = ap (λ b. cond b (Some e.1) (find name_cmp q es)) (not_tied (name_cmp q e.0) (head_of _ _ h)) ∙ none_below q es (tail_of _ _ h)
@@ -55,7 +52,7 @@ module _ (orders : OrderFacts) {X : Type 0} where
   )
     where
       later : (q : Name) (x : X) (b : Bool) → eq_by_cmp name_cmp q e.0 ≡ b → find name_cmp q es ≡ Some x → P q x
-      later q x true same is = let none = ap (λ n. find name_cmp n es) (same_name orders q e.0 same) ∙ none_below e.0 es (head_of _ _ sorted) in cc
+      later q x true same is = let none = ap (λ n. find name_cmp n es) (same_name q e.0 same) ∙ none_below e.0 es (head_of _ _ sorted) in cc
       later q x false other is = all q x (ap (λ b. cond b (Some e.1) (find name_cmp q es)) other ∙ is)
 
   pub each_entry : (P : Name → X → Type 0) (m : fm.FinMap name_cmp X) → ((q : Name) (x : X) → fm.get m q ≡ Some x → P q x) →
@@ -143,7 +140,7 @@ module _ (orders : OrderFacts) {X : Type 0} where
   -- an entry that weighs something
   here_or_later : (q : Name) (x : X) (e : Name × X) (es : List (Name × X)) (b : Bool) → eq_by_cmp name_cmp q e.0 ≡ b → cond b (Some e.1) (find name_cmp q es) ≡ Some x →
       ((q ≡ e.0) × (e.1 ≡ x)) ⊎ (find name_cmp q es ≡ Some x)
-  here_or_later q x e es true same is = inl (same_name orders q e.0 same, ap (λ o. unwrap_or o x) is)
+  here_or_later q x e es true same is = inl (same_name q e.0 same, ap (λ o. unwrap_or o x) is)
   here_or_later q x e es false other is = inr is
 
   one_in : (W : X → ℕ) (q : Name) (x : X) (es : List (Name × X)) → find name_cmp q es ≡ Some x → 1 ≤ W x → 1 ≤ sum_by (λ e. W e.1) es

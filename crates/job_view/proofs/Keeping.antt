@@ -1,30 +1,27 @@
 -- Each job has what is its own, after each change that puts nothing else there; and no change is seen by another job.
-use Rattle.std.proofs.Common.{◌≡◌, ◌≢◌, inl, ℕ, ◌<◌, refl, sym, ap, subst, ◌∙◌, Bool, true, false, Option, Some, None, List, [], ◌∷◌, length, arith}
+use Rattle.std.proofs.Common.{◌≡◌, ◌≢◌, inl, ℕ, ◌<◌, refl, sym, ap, subst, ◌∙◌, Bool, true, false, Option, Some, None, List, [], ◌∷◌, length}
 use Rattle.std.proofs.lemmas.Bool.{cond_both}
-use Rattle.std.proofs.lemmas.Bool.Decides.{nat_tests}
 use Rattle.std.specs.List.{AllByRecursion}
 use Rattle.std.specs.Prelude.{is_some, unwrap_or}
 use Rattle.std.specs.FinMap as fm
-use Rattle.job_view.proofs.Tables.{at, cases_name}
+use Rattle.job_view.proofs.Tables.{at}
 use Rattle.job_view.proofs.Views.{contexts-alike, hidden-add_context, hidden-add_group, hidden-change_context, hidden-change_counters, hidden-change_group, pages-alike, seen}
 use Rattle.job_view.specs.ByJob.{Home, HasHome, IsPageOf, IsValueOf, KeepsJobs, by_job}
 use Rattle.job_view.specs.Facts.{ChangesHidden, ChangesKeepJobs}
 use Rattle.job_view.specs.Views.{view}
-use Rattle.lwc_base.specs.Cells.{page_at, put_at, put_in, put_page, value_at, value_of, with_cell, with_value}
-use Rattle.lwc_base.specs.Facts.{ChangeFacts, ChangesContext, ChangesGroup, OrderFacts}
+use Rattle.lwc_base.specs.Cells.{page_at, put_at, put_in, put_page, value_at, value_of}
 use Rattle.lwc_base.specs.Frames.{own_value, tag_of}
-use Rattle.lwc_base.specs.Holders.{InCell, InContext, InGroup, IsGroup, Keeps}
-use Rattle.lwc_base.specs.Keys.{ValueOf, is_there, nothing, with_key}
-use Rattle.lwc_base.specs.Mapping.{map_pages, mapped_or_not, on_pages, unmap_pages}
+use Rattle.lwc_base.specs.Holders.{InCell, InContext, InGroup, Keeps}
+use Rattle.lwc_base.specs.Keys.{ValueOf, is_there, nothing}
+use Rattle.lwc_base.specs.Mapping.{map_pages, mapped_or_not, unmap_pages}
 use Rattle.lwc_base.specs.Memory.{touched}
 use Rattle.lwc_base.specs.Modes.{mode, mode_or_copy}
-use Rattle.lwc_base.specs.Names.{name_cmp}
 use Rattle.lwc_base.specs.Overlay.{overlaid_cell, overlay}
 use Rattle.lwc_base.specs.Registers.{fresh_registers}
 use Rattle.lwc_base.specs.Saved.{save}
 use Rattle.lwc_base.specs.Sharing.{clone_context, cloned_cell, cloned_context, is_moved, moved_value, moved_values, needs_group, share, shared_cell, with_shared}
-use Rattle.lwc_base.specs.Store.{Piece, after_store, plan, put_pages, stored_value}
-use Rattle.lwc_base.specs.World.{World, Context, Counters, Group, add_context, add_group, change_counters, context, group, is_live, new_context, new_group, new_value, next_context, next_group}
+use Rattle.lwc_base.specs.Store.{Piece, after_store, stored_pages, put_pages, stored_value}
+use Rattle.lwc_base.specs.World.{World, Context, Group, add_context, context, group, new_context, new_group, new_value, next_group}
 use Rattle.lwc_base.specs.declared.cell.Cell.{Cell}
 use Rattle.lwc_base.specs.declared.cell.Cell.TheVariants.{Own, Common}
 use Rattle.lwc_base.specs.declared.item.Item.{Item}
@@ -36,21 +33,8 @@ use Rattle.lwc_base.specs.declared.name.Name.{Name}
 use Rattle.lwc_base.specs.declared.page.PageValue.{PageValue}
 use Rattle.lwc_base.specs.declared.page.PageValue.TheVariants.{Zero, Data}
 use Rattle.lwc_base.specs.declared.regs.Regs.{Regs}
-
--- what is so of what is put under a key, and of what was under each key, is so under each key afterwards
-under_keys : (F : Type 0 → Type 0) (k : Key) (new : F (ValueOf k)) (old : (q : Key) → F (ValueOf q)) (P : (q : Key) → F (ValueOf q) → Type 0) →
-    P k new → ((q : Key) → P q (old q)) → (q : Key) → P q (with_key F k new old q)
-under_keys F (Page p) new old P here there (Page q) = let was = there (Page q) in grind (arith, nat_tests)
-under_keys F (Slot p) new old P here there (Slot q) = let was = there (Slot q) in grind (arith, nat_tests)
-under_keys F Cred new old P here there Cred = here
-under_keys F _ new old P here there q = there q
-
--- the same of a cell that is put under the pages of a range
-on_range : (from to : ℕ) (cell : Cell (Option PageValue)) (old : (q : Key) → Cell (ValueOf q)) (P : (q : Key) → Cell (ValueOf q) → Type 0) →
-    ((p : ℕ) → P (Page p) cell) → ((q : Key) → P q (old q)) → (q : Key) → P q (on_pages from to cell old q)
-on_range from to cell old P here there (Page p) = let one = here p in let two = there (Page p) in grind (arith, nat_tests)
-on_range from to cell old P here there (Slot n) = there (Slot n)
-on_range from to cell old P here there Cred = there Cred
+use Rattle.lwc_base.proofs.Holders as holders
+use Rattle.lwc_base.proofs.Holders.{keeps-add_context, keeps-add_group, keeps-change_context, keeps-change_counters, keeps-on_pages}
 
 module _ (home : Home) where
   pub nothing_fits : (job : ℕ) (k : Key) → IsValueOf home job k (nothing k)
@@ -102,10 +86,10 @@ module _ (home : Home) where
     page_fits job p (Some value) is = is
 
     -- what a store puts under pages of a context is of its job
-    pub plan_fits : (c : Name) (piece : Piece) (ps : List ℕ) (n : ℕ) → AllByRecursion (λ v. IsPageOf home c.job v.0 (Some v.1)) (plan w c c.job piece n ps)
-    plan_fits c piece [] n = tt
-    plan_fits c piece (p ∷ ps) n =
-        (stored_fits c.job n p _ _ _ (page_fits c.job p (page_at w c p) (value_at-in c (Page p))), plan_fits c piece ps _)
+    pub stored_pages_fit : (c : Name) (piece : Piece) (ps : List ℕ) (n : ℕ) → AllByRecursion (λ v. IsPageOf home c.job v.0 (Some v.1)) (stored_pages w c c.job piece n ps)
+    stored_pages_fit c piece [] n = tt
+    stored_pages_fit c piece (p ∷ ps) n =
+        (stored_fits c.job n p _ _ _ (page_fits c.job p (page_at w c p) (value_at-in c (Page p))), stored_pages_fit c piece ps _)
 
   -- a home that job 0 sees as before is as before
   has_home-seen : (w v : World) → view 0 0 v ≡ view 0 0 w → HasHome home w → HasHome home v
@@ -133,208 +117,138 @@ module _ (home : Home) where
       cell_by None (Some y) is p = cc
       cell_by (Some x) None is p = cc
 
-  module _ (orders : OrderFacts) (facts : ChangeFacts) where
-    -- a context has changed, and may have what it has now
-    keeps-changed : (w v : World) (c : Name) (f : Context → Context) → ChangesContext w c f v →
-        (InContext (by_job home) c.job (context w c) → InContext (by_job home) c.job (f (context w c))) → Keeps (by_job home) w → Keeps (by_job home) v
-    keeps-changed w v c f changes fits keeps = record {
-      contexts = λ q live. cases_name orders q c
-          (λ same. subst (λ (n : Name). InContext (by_job home) n.job (context v n)) (sym same)
-          (let was : is_live w c ≡ true = sym (changes.names.live c) ∙ ap (is_live v) (sym same) ∙ live in
-          subst (InContext (by_job home) c.job) (sym (changes.changed was)) (fits (keeps.contexts c was))))
-          (λ other. subst (InContext (by_job home) q.job) (sym (changes.others q other)) (keeps.contexts q (sym (changes.names.live q) ∙ live)));
-      groups = λ g live. subst (InGroup (by_job home) g.job) (sym (changes.groups g)) (keeps.groups g (sym (changes.names.groups g) ∙ live));
-    }
+  -- a put: what changes is the context's own cell, or a group of its job
+  module _ (w : World) (c : Name) (keeps : Keeps (by_job home) w) where
+    pub keeps-put_at : (k : Key) (value : ValueOf k) → IsValueOf home c.job k value → Keeps (by_job home) (put_at w c k value)
+    keeps-put_at k value fits = holders.keeps-put_at (by_job home) w c k value fits (λ g own. subst (λ j. IsValueOf home j k value) (sym own) fits) keeps
 
-    keeps-changed_group : (w v : World) (h : Name) (f : Group → Group) → ChangesGroup w h f v →
-        (InGroup (by_job home) h.job (group w h) → InGroup (by_job home) h.job (f (group w h))) → Keeps (by_job home) w → Keeps (by_job home) v
-    keeps-changed_group w v h f changes fits keeps = record {
-      contexts = λ q live. subst (InContext (by_job home) q.job) (sym (changes.contexts q)) (keeps.contexts q (sym (changes.names.live q) ∙ live));
-      groups = λ g live. cases_name orders g h
-          (λ same. subst (λ (n : Name). InGroup (by_job home) n.job (group v n)) (sym same)
-          (let was : IsGroup w h = sym (changes.names.groups h) ∙ ap (fm.contains_key v.groups) (sym same) ∙ live in
-          subst (InGroup (by_job home) h.job) (sym (changes.changed was)) (fits (keeps.groups h was))))
-          (λ other. subst (InGroup (by_job home) g.job) (sym (changes.others g other)) (keeps.groups g (sym (changes.names.groups g) ∙ live)));
-    }
+    module _ (job t : ℕ) (other : c.job ≢ job) where
+      put_hidden : (k : Key) (value : ValueOf k) (cell : Cell (ValueOf k)) → InCell (by_job home) c.job k cell → view job t (put_in w c k value cell) ≡ view job t w
+      put_hidden k value (Own old) is =
+          cond_both (is_there k old) _ w (λ v. view job t v ≡ view job t w) (λ _. hidden-change_context job t c w _ other) (λ _. refl)
+      put_hidden k value (Common g) is = hidden-change_group job t g w _ (λ same. other (sym is ∙ same))
 
-    keeps-same : (w v : World) → v.contexts ≡ w.contexts → v.groups ≡ w.groups → Keeps (by_job home) w → Keeps (by_job home) v
-    keeps-same w v contexts groups keeps = record {
-      contexts = λ q live. subst (InContext (by_job home) q.job) (sym (facts.same_contexts w v q contexts))
-          (keeps.contexts q (ap (λ (m : fm.FinMap name_cmp Context). fm.contains_key m q) (sym contexts) ∙ live));
-      groups = λ g live. subst (InGroup (by_job home) g.job) (sym (facts.same_groups w v g groups))
-          (keeps.groups g (ap (λ (m : fm.FinMap name_cmp Group). fm.contains_key m g) (sym groups) ∙ live));
-    }
-
-    pub keeps-add_context : (w : World) (job : ℕ) (x : Context) → InContext (by_job home) job x → Keeps (by_job home) w → Keeps (by_job home) (add_context w job x)
-    keeps-add_context w job x fits keeps =
-        let adds = facts.context_added w job x in
-        let v : World = add_context w job x in
-        record {
-          contexts = λ q live. cases_name orders q (next_context w job)
-              (λ same. subst (λ (n : Name). InContext (by_job home) n.job (context v n)) (sym same) (subst (InContext (by_job home) job) (sym adds.added) fits))
-              (λ other. subst (InContext (by_job home) q.job) (sym (adds.others q other)) (keeps.contexts q (sym (adds.still_live q other) ∙ live)));
-          groups = λ g live. subst (InGroup (by_job home) g.job) (sym (facts.same_groups w v g adds.groups))
-              (keeps.groups g (ap (λ (m : fm.FinMap name_cmp Group). fm.contains_key m g) (sym adds.groups) ∙ live));
-        }
-
-    keeps-add_group : (w : World) (job : ℕ) (x : Group) → InGroup (by_job home) job x → Keeps (by_job home) w → Keeps (by_job home) (add_group w job x)
-    keeps-add_group w job x fits keeps =
-        let adds = facts.group_added w job x in
-        let v : World = add_group w job x in
-        record {
-          contexts = λ q live. subst (InContext (by_job home) q.job) (sym (facts.same_contexts w v q adds.contexts))
-              (keeps.contexts q (ap (λ (m : fm.FinMap name_cmp Context). fm.contains_key m q) (sym adds.contexts) ∙ live));
-          groups = λ g live. cases_name orders g (next_group w job)
-              (λ same. subst (λ (n : Name). InGroup (by_job home) n.job (group v n)) (sym same) (subst (InGroup (by_job home) job) (sym adds.added) fits))
-              (λ other. subst (InGroup (by_job home) g.job) (sym (adds.others g other)) (keeps.groups g (sym (adds.still_live g other) ∙ live)));
-        }
-
-    -- a put: what changes is the context's own cell, or a group of its job
-    module _ (w : World) (c : Name) (keeps : Keeps (by_job home) w) where
-      put_keeps : (k : Key) (value : ValueOf k) (cell : Cell (ValueOf k)) → InCell (by_job home) c.job k cell → IsValueOf home c.job k value → Keeps (by_job home) (put_in w c k value cell)
-      put_keeps k value (Own old) is fits =
-          cond_both (is_there k old) _ w (Keeps (by_job home))
-          (λ _. keeps-changed w _ c (with_cell k (Own value)) (facts.context_changed w c (with_cell k (Own value)))
-          (λ within. under_keys Cell k (Own value) (context w c).cell (InCell (by_job home) c.job) fits within) keeps)
-          (λ _. keeps)
-      put_keeps k value (Common g) is fits =
-          keeps-changed_group w _ g (with_value k value) (facts.group_changed w g (with_value k value))
-          (λ within. under_keys (λ T. T) k value (group w g).value (IsValueOf home g.job) (subst (λ j. IsValueOf home j k value) (sym is) fits) within) keeps
-
-      pub keeps-put_at : (k : Key) (value : ValueOf k) → IsValueOf home c.job k value → Keeps (by_job home) (put_at w c k value)
+      pub hidden-put_at : (k : Key) (value : ValueOf k) → view job t (put_at w c k value) ≡ view job t w
       unfolding put_at
-      keeps-put_at k value fits = put_keeps k value ((context w c).cell k) (context-in w keeps c k) fits
+      hidden-put_at k value = put_hidden k value ((context w c).cell k) (context-in w keeps c k)
 
-      module _ (job t : ℕ) (other : c.job ≢ job) where
-        put_hidden : (k : Key) (value : ValueOf k) (cell : Cell (ValueOf k)) → InCell (by_job home) c.job k cell → view job t (put_in w c k value cell) ≡ view job t w
-        put_hidden k value (Own old) is =
-            cond_both (is_there k old) _ w (λ v. view job t v ≡ view job t w) (λ _. hidden-change_context orders facts job t c w _ other) (λ _. refl)
-        put_hidden k value (Common g) is = hidden-change_group orders facts job t g w _ (λ same. other (sym is ∙ same))
+  -- puts of pages
+  pub keeps-put_pages : (c : Name) (w : World) (values : List (ℕ × PageValue)) → AllByRecursion (λ v. IsPageOf home c.job v.0 (Some v.1)) values → Keeps (by_job home) w →
+      Keeps (by_job home) (put_pages w c values)
+  keeps-put_pages c w [] fits keeps = keeps
+  keeps-put_pages c w (v ∷ vs) fits keeps = keeps-put_pages c (put_page w c v.0 v.1) vs fits.1 (keeps-put_at w c keeps (Page v.0) (Some v.1) fits.0)
 
-        pub hidden-put_at : (k : Key) (value : ValueOf k) → view job t (put_at w c k value) ≡ view job t w
-        unfolding put_at
-        hidden-put_at k value = put_hidden k value ((context w c).cell k) (context-in w keeps c k)
+  hidden-put_pages : (c : Name) (job t : ℕ) → c.job ≢ job → (w : World) (values : List (ℕ × PageValue)) → AllByRecursion (λ v. IsPageOf home c.job v.0 (Some v.1)) values →
+      Keeps (by_job home) w → view job t (put_pages w c values) ≡ view job t w
+  hidden-put_pages c job t other w [] fits keeps = refl
+  hidden-put_pages c job t other w (v ∷ vs) fits keeps =
+      hidden-put_pages c job t other (put_page w c v.0 v.1) vs fits.1 (keeps-put_at w c keeps (Page v.0) (Some v.1) fits.0)
+      ∙ hidden-put_at w c keeps job t other (Page v.0) (Some v.1)
 
-    -- puts of pages
-    pub keeps-put_pages : (c : Name) (w : World) (values : List (ℕ × PageValue)) → AllByRecursion (λ v. IsPageOf home c.job v.0 (Some v.1)) values → Keeps (by_job home) w →
-        Keeps (by_job home) (put_pages w c values)
-    keeps-put_pages c w [] fits keeps = keeps
-    keeps-put_pages c w (v ∷ vs) fits keeps = keeps-put_pages c (put_page w c v.0 v.1) vs fits.1 (keeps-put_at w c keeps (Page v.0) (Some v.1) fits.0)
+  module _ (c : Name) (w : World) (keeps : Keeps (by_job home) w) where
+    pub keeps-after_store : (piece : Piece) → Keeps (by_job home) (after_store w c c.job piece)
+    unfolding after_store
+    keeps-after_store piece = keeps-change_counters (by_job home) _ c.job _ (keeps-put_pages c w _ (stored_pages_fit w keeps c piece (touched piece.at (length piece.bytes)) _) keeps)
 
-    hidden-put_pages : (c : Name) (job t : ℕ) → c.job ≢ job → (w : World) (values : List (ℕ × PageValue)) → AllByRecursion (λ v. IsPageOf home c.job v.0 (Some v.1)) values →
-        Keeps (by_job home) w → view job t (put_pages w c values) ≡ view job t w
-    hidden-put_pages c job t other w [] fits keeps = refl
-    hidden-put_pages c job t other w (v ∷ vs) fits keeps =
-        hidden-put_pages c job t other (put_page w c v.0 v.1) vs fits.1 (keeps-put_at w c keeps (Page v.0) (Some v.1) fits.0)
-        ∙ hidden-put_at w c keeps job t other (Page v.0) (Some v.1)
+    keeps-mapped : (from to : ℕ) (present : Bool) → Keeps (by_job home) (mapped_or_not w c from to present)
+    unfolding map_pages unmap_pages
+    keeps-mapped from to true = keeps-on_pages (by_job home) w c from to _ (λ p _. tt) keeps
+    keeps-mapped from to false = keeps-on_pages (by_job home) w c from to _ (λ p _. tt) keeps
 
-    module _ (c : Name) (w : World) (keeps : Keeps (by_job home) w) where
-      keeps-counted : (u : World) (own : ℕ) (f : Counters → Counters) → Keeps (by_job home) u → Keeps (by_job home) (change_counters u own f)
-      unfolding change_counters
-      keeps-counted u own f kept = keeps-same u _ refl refl kept
+    keeps-save : (t : ℕ) (regs : Regs) → Keeps (by_job home) (save w c t regs)
+    unfolding save
+    keeps-save t regs = keeps-change_context (by_job home) w c _ (λ _. context-in w keeps c) keeps
 
-      pub keeps-after_store : (piece : Piece) → Keeps (by_job home) (after_store w c c.job piece)
-      unfolding after_store
-      keeps-after_store piece = keeps-counted _ c.job _ (keeps-put_pages c w _ (plan_fits w keeps c piece (touched piece.at (length piece.bytes)) _) keeps)
+    moved_fits : (job : ℕ) (mode : Mode) (k : Key) (cell : Cell (ValueOf k)) → InCell (by_job home) job k cell → IsValueOf home job k (moved_value mode k cell)
+    moved_fits job Share k (Own value) is = is
+    moved_fits job _ k _ is = nothing_fits job k
 
-      keeps-mapped : (from to : ℕ) (present : Bool) → Keeps (by_job home) (mapped_or_not w c from to present)
-      keeps-mapped from to true =
-          keeps-changed w _ c _ (facts.mapped w c from to) (λ within. on_range from to (Own (Some Zero)) (context w c).cell (InCell (by_job home) c.job) (λ p. tt) within) keeps
-      keeps-mapped from to false =
-          keeps-changed w _ c _ (facts.unmapped w c from to) (λ within. on_range from to (Own None) (context w c).cell (InCell (by_job home) c.job) (λ p. tt) within) keeps
+    shared_fits : (g : Name) (mode : Mode) (k : Key) (cell : Cell (ValueOf k)) → g.job ≡ c.job → InCell (by_job home) c.job k cell → InCell (by_job home) c.job k (shared_cell g mode k cell)
+    shared_fits g mode k cell own is = cond_both (is_moved mode k cell) (Common g) cell (InCell (by_job home) c.job k) (λ _. own) (λ _. is)
 
-      keeps-save : (t : ℕ) (regs : Regs) → Keeps (by_job home) (save w c t regs)
-      keeps-save t regs = keeps-changed w _ c _ (facts.saved w c t regs) (λ within. within) keeps
+    moved_in : (items : List Item) → InGroup (by_job home) c.job (moved_values items (context w c))
+    unfolding moved_values
+    moved_in items k = moved_fits c.job (mode_or_copy items k) k ((context w c).cell k) (context-in w keeps c k)
 
-      moved_fits : (job : ℕ) (mode : Mode) (k : Key) (cell : Cell (ValueOf k)) → InCell (by_job home) job k cell → IsValueOf home job k (moved_value mode k cell)
-      moved_fits job Share k (Own value) is = is
-      moved_fits job _ k _ is = nothing_fits job k
+    shared_in : (items : List Item) (g : Name) → g.job ≡ c.job → InContext (by_job home) c.job (context w c) → InContext (by_job home) c.job (with_shared g items (context w c))
+    unfolding with_shared
+    shared_in items g own within k = shared_fits g (mode_or_copy items k) k ((context w c).cell k) own (within k)
 
-      shared_fits : (g : Name) (mode : Mode) (k : Key) (cell : Cell (ValueOf k)) → g.job ≡ c.job → InCell (by_job home) c.job k cell → InCell (by_job home) c.job k (shared_cell g mode k cell)
-      shared_fits g mode k cell own is = cond_both (is_moved mode k cell) (Common g) cell (InCell (by_job home) c.job k) (λ _. own) (λ _. is)
+    -- values are shared in a group of the context's job
+    pub keeps-share : (job : ℕ) → c.job ≡ job → (items : List Item) → Keeps (by_job home) (share w c job items)
+    unfolding share
+    keeps-share job own items =
+        cond_both (needs_group w c items) _ w (Keeps (by_job home))
+        (λ _. keeps-add_group (by_job home) _ job _ (subst (λ j. InGroup (by_job home) j (moved_values items (context w c))) own (moved_in items))
+        (keeps-change_context (by_job home) w c (with_shared (next_group w job) items) (λ _. shared_in items (next_group w job) (sym own) (context-in w keeps c)) keeps))
+        (λ _. keeps)
 
-      moved_in : (items : List Item) → InGroup (by_job home) c.job (moved_values items (context w c))
-      unfolding moved_values
-      moved_in items k = moved_fits c.job (mode_or_copy items k) k ((context w c).cell k) (context-in w keeps c k)
+    cloned_fits : (k : Key) (mode : Mode) → InCell (by_job home) c.job k (cloned_cell w c k mode)
+    cloned_fits k Copy = value_at-in w keeps c k
+    cloned_fits k Share = context-in w keeps c k
+    cloned_fits k Unmap = nothing_fits c.job k
 
-      shared_in : (items : List Item) (g : Name) → g.job ≡ c.job → InContext (by_job home) c.job (context w c) → InContext (by_job home) c.job (with_shared g items (context w c))
-      unfolding with_shared
-      shared_in items g own within k = shared_fits g (mode_or_copy items k) k ((context w c).cell k) own (within k)
+    cloned_in : (items : List Item) (entry : Regs) → InContext (by_job home) c.job (cloned_context w c items entry)
+    unfolding cloned_context
+    cloned_in items entry k = cloned_fits k (mode_or_copy items k)
 
-      -- values are shared in a group of the context's job
-      pub keeps-share : (job : ℕ) → c.job ≡ job → (items : List Item) → Keeps (by_job home) (share w c job items)
-      unfolding share
-      keeps-share job own items =
-          cond_both (needs_group w c items) _ w (Keeps (by_job home))
-          (λ _. keeps-add_group _ job _ (subst (λ j. InGroup (by_job home) j (moved_values items (context w c))) own (moved_in items))
-          (keeps-changed w _ c _ (facts.context_changed w c (with_shared (next_group w job) items)) (shared_in items (next_group w job) (sym own)) keeps))
-          (λ _. keeps)
+    overlaid_fits : (job : ℕ) → c.job ≡ job → (k : Key) (mode : Option Mode) (cell : Cell (ValueOf k)) → InCell (by_job home) job k cell →
+        InCell (by_job home) job k (overlaid_cell w c k mode cell)
+    overlaid_fits job own k None cell is = is
+    overlaid_fits job own k (Some m) cell is = subst (λ j. InCell (by_job home) j k (cloned_cell w c k m)) own (cloned_fits k m)
 
-      cloned_fits : (k : Key) (mode : Mode) → InCell (by_job home) c.job k (cloned_cell w c k mode)
-      cloned_fits k Copy = value_at-in w keeps c k
-      cloned_fits k Share = context-in w keeps c k
-      cloned_fits k Unmap = nothing_fits c.job k
+    hidden-share : (job t : ℕ) → c.job ≢ job → (own : ℕ) → own ≢ job → (items : List Item) → view job t (share w c own items) ≡ view job t w
+    unfolding share
+    hidden-share job t other own differs items =
+        cond_both (needs_group w c items) _ w (λ v. view job t v ≡ view job t w)
+        (λ _. hidden-add_group job t own _ _ differs ∙ hidden-change_context job t c w _ other)
+        (λ _. refl)
 
-      cloned_in : (items : List Item) (entry : Regs) → InContext (by_job home) c.job (cloned_context w c items entry)
-      unfolding cloned_context
-      cloned_in items entry k = cloned_fits k (mode_or_copy items k)
+  module _ (c : Name) (w : World) (keeps : Keeps (by_job home) w) where
+    keeps-clone : (items : List Item) (entry : Regs) → Keeps (by_job home) (clone_context w c c.job items entry)
+    unfolding clone_context
+    keeps-clone items entry =
+        let shared = keeps-share c w keeps c.job refl items in
+        keeps-add_context (by_job home) _ c.job _ (cloned_in c (share w c c.job items) shared items entry) shared
 
-      overlaid_fits : (job : ℕ) → c.job ≡ job → (k : Key) (mode : Option Mode) (cell : Cell (ValueOf k)) → InCell (by_job home) job k cell →
-          InCell (by_job home) job k (overlaid_cell w c k mode cell)
-      overlaid_fits job own k None cell is = is
-      overlaid_fits job own k (Some m) cell is = subst (λ j. InCell (by_job home) j k (cloned_cell w c k m)) own (cloned_fits k m)
+    pub keeps-overlay : (d : Name) (items : List Item) → d.job ≡ c.job → Keeps (by_job home) (overlay w c d c.job items)
+    unfolding overlay
+    keeps-overlay d items own =
+        let shared = keeps-share d w keeps c.job own items in
+        keeps-change_context (by_job home) (share w d c.job items) c _
+        (λ _ k. overlaid_fits d (share w d c.job items) shared c.job own k (mode items k) _ (context-in (share w d c.job items) shared c k)) shared
 
-      hidden-share : (job t : ℕ) → c.job ≢ job → (own : ℕ) → own ≢ job → (items : List Item) → view job t (share w c own items) ≡ view job t w
-      unfolding share
-      hidden-share job t other own differs items =
-          cond_both (needs_group w c items) _ w (λ v. view job t v ≡ view job t w)
-          (λ _. hidden-add_group orders facts job t own _ _ differs ∙ hidden-change_context orders facts job t c w _ other)
-          (λ _. refl)
+    pub changes-hidden : (job t : ℕ) → c.job ≢ job → ChangesHidden job t c w
+    unfolding after_store map_pages unmap_pages save clone_context overlay
+    changes-hidden job t other = record {
+      put = λ k value. hidden-put_at w c keeps job t other k value;
+      store = λ piece. hidden-change_counters job t c.job _ _ other
+          ∙ hidden-put_pages c job t other w _ (stored_pages_fit w keeps c piece (touched piece.at (length piece.bytes)) _) keeps;
+      map = λ from to present. hidden_map from to present;
+      save = λ s regs. hidden-change_context job t c w _ other;
+      clone = λ items entry. hidden-add_context job t c.job _ _ other ∙ hidden-share c w keeps job t other c.job other items;
+      overlay = λ d items own. hidden-change_context job t c _ _ other ∙ hidden-share d w keeps job t (λ same. other (sym own ∙ same)) c.job other items;
+    }
+      where
+        hidden_map : (from to : ℕ) (present : Bool) → view job t (mapped_or_not w c from to present) ≡ view job t w
+        hidden_map from to true = hidden-change_context job t c w _ other
+        hidden_map from to false = hidden-change_context job t c w _ other
 
-    module _ (c : Name) (w : World) (keeps : Keeps (by_job home) w) where
-      keeps-clone : (items : List Item) (entry : Regs) → Keeps (by_job home) (clone_context w c c.job items entry)
-      unfolding clone_context
-      keeps-clone items entry =
-          let shared = keeps-share c w keeps c.job refl items in
-          keeps-add_context _ c.job _ (cloned_in c (share w c c.job items) shared items entry) shared
+  -- what is not seen by job 0 leaves the home
+  pub still_keeps : (w v : World) → Keeps (by_job home) v → view 0 0 v ≡ view 0 0 w → KeepsJobs home w → KeepsJobs home v
+  still_keeps w v kept alike keeps = record { kept = kept; there = has_home-seen w v alike keeps.there }
 
-      pub keeps-overlay : (d : Name) (items : List Item) → d.job ≡ c.job → Keeps (by_job home) (overlay w c d c.job items)
-      keeps-overlay d items own =
-          let shared = keeps-share d w keeps c.job own items in
-          keeps-changed (share w d c.job items) _ c _ (facts.overlaid w c d c.job items)
-          (λ within k. overlaid_fits d (share w d c.job items) shared c.job own k (mode items k) _ (within k)) shared
-
-      pub changes-hidden : (job t : ℕ) → c.job ≢ job → ChangesHidden job t c w
-      unfolding after_store map_pages unmap_pages save clone_context overlay
-      changes-hidden job t other = record {
-        put = λ k value. hidden-put_at w c keeps job t other k value;
-        store = λ piece. hidden-change_counters orders facts job t c.job _ _ other
-            ∙ hidden-put_pages c job t other w _ (plan_fits w keeps c piece (touched piece.at (length piece.bytes)) _) keeps;
-        map = λ from to present. hidden_map from to present;
-        save = λ s regs. hidden-change_context orders facts job t c w _ other;
-        clone = λ items entry. hidden-add_context orders facts job t c.job _ _ other ∙ hidden-share c w keeps job t other c.job other items;
-        overlay = λ d items own. hidden-change_context orders facts job t c _ _ other ∙ hidden-share d w keeps job t (λ same. other (sym own ∙ same)) c.job other items;
+  pub changes-keep : (c : Name) (w : World) → c.job ≢ 0 → KeepsJobs home w → ChangesKeepJobs home c w
+  changes-keep c w some keeps =
+      let hidden = changes-hidden c w keeps.kept 0 0 some in
+      record {
+        put = λ k value fits. still_keeps w _ (keeps-put_at w c keeps.kept k value fits) (hidden.put k value) keeps;
+        store = λ piece. still_keeps w _ (keeps-after_store c w keeps.kept piece) (hidden.store piece) keeps;
+        map = λ from to present. still_keeps w _ (keeps-mapped c w keeps.kept from to present) (hidden.map from to present) keeps;
+        save = λ t regs. still_keeps w _ (keeps-save c w keeps.kept t regs) (hidden.save t regs) keeps;
+        clone = λ items entry. still_keeps w _ (keeps-clone c w keeps.kept items entry) (hidden.clone items entry) keeps;
+        overlay = λ d items own. still_keeps w _ (keeps-overlay c w keeps.kept d items own) (hidden.overlay d items own) keeps;
       }
-        where
-          hidden_map : (from to : ℕ) (present : Bool) → view job t (mapped_or_not w c from to present) ≡ view job t w
-          hidden_map from to true = hidden-change_context orders facts job t c w _ other
-          hidden_map from to false = hidden-change_context orders facts job t c w _ other
 
-    -- what is not seen by job 0 leaves the home
-    pub still_keeps : (w v : World) → Keeps (by_job home) v → view 0 0 v ≡ view 0 0 w → KeepsJobs home w → KeepsJobs home v
-    still_keeps w v kept alike keeps = record { kept = kept; there = has_home-seen w v alike keeps.there }
-
-    pub changes-keep : (c : Name) (w : World) → c.job ≢ 0 → KeepsJobs home w → ChangesKeepJobs home c w
-    changes-keep c w some keeps =
-        let hidden = changes-hidden c w keeps.kept 0 0 some in
-        record {
-          put = λ k value fits. still_keeps w _ (keeps-put_at w c keeps.kept k value fits) (hidden.put k value) keeps;
-          store = λ piece. still_keeps w _ (keeps-after_store c w keeps.kept piece) (hidden.store piece) keeps;
-          map = λ from to present. still_keeps w _ (keeps-mapped c w keeps.kept from to present) (hidden.map from to present) keeps;
-          save = λ t regs. still_keeps w _ (keeps-save c w keeps.kept t regs) (hidden.save t regs) keeps;
-          clone = λ items entry. still_keeps w _ (keeps-clone c w keeps.kept items entry) (hidden.clone items entry) keeps;
-          overlay = λ d items own. still_keeps w _ (keeps-overlay c w keeps.kept d items own) (hidden.overlay d items own) keeps;
-        }
-
-    pub add-keeps : (job : ℕ) (w : World) (x : Context) → job ≢ 0 → InContext (by_job home) job x → KeepsJobs home w → KeepsJobs home (add_context w job x)
-    add-keeps job w x some fits keeps = still_keeps w _ (keeps-add_context w job x fits keeps.kept) (hidden-add_context orders facts 0 0 job w x some) keeps
+  pub add-keeps : (job : ℕ) (w : World) (x : Context) → job ≢ 0 → InContext (by_job home) job x → KeepsJobs home w → KeepsJobs home (add_context w job x)
+  add-keeps job w x some fits keeps = still_keeps w _ (keeps-add_context (by_job home) w job x fits keeps.kept) (hidden-add_context 0 0 job w x some) keeps

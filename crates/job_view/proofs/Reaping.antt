@@ -1,5 +1,5 @@
 -- What is dropped of a job's contexts and groups is the same in two worlds that look alike to it, where it has the same roots.
-use Rattle.std.proofs.Common.{◌≡◌, ◌⊎◌, inl, inr, ℕ, refl, sym, ap, subst, ◌∙◌, Bool, true, false, cond, ◌||◌, Option, Some, None, List, [], ◌∷◌, map}
+use Rattle.std.proofs.Common.{◌≡◌, inl, inr, ℕ, refl, sym, ap, subst, ◌∙◌, Bool, true, false, cond, ◌||◌, Option, Some, None, List, [], ◌∷◌, map}
 use Rattle.std.proofs.lemmas.Bool.{false≢true}
 use Rattle.std.specs.Prelude.{is_some, unwrap_or}
 use Rattle.std.specs.List.{AllByRecursion, list_any, range_with_len}
@@ -10,18 +10,16 @@ use Rattle.std.specs.FinMap.Entries.{find}
 use Rattle.job_view.proofs.Entries.{each_entry}
 use Rattle.job_view.proofs.Keeping.{value_at-in}
 use Rattle.job_view.proofs.Reading.{live-alike, value-alike}
-use Rattle.job_view.proofs.Tables.{at, one_test, same_name}
+use Rattle.job_view.proofs.Tables.{at}
 use Rattle.job_view.proofs.Views.{contexts-alike, groups-alike, next-alike, pages-alike, same_views, seen}
 use Rattle.job_view.specs.ByJob.{Home, IsSlotOf, SameRoots, by_job}
 use Rattle.job_view.specs.Views.{seen_by, view}
 use Rattle.lwc_base.specs.Cells.{slot_at}
-use Rattle.lwc_base.specs.Facts.{OrderFacts}
 use Rattle.lwc_base.specs.Holders.{InCell, InContext, Keeps}
 use Rattle.lwc_base.specs.Keys.{ValueOf}
 use Rattle.lwc_base.specs.Life.{Link, Reaches, Root, is_among, is_in, is_of, is_reached, links, names_group, reap}
 use Rattle.lwc_base.specs.Names.{name_cmp}
 use Rattle.lwc_base.specs.Registers.{fresh_registers}
-use Rattle.lwc_base.specs.Sharing.{any_key}
 use Rattle.lwc_base.specs.World.{World, Context, context, is_live, new_context}
 use Rattle.lwc_base.specs.declared.cell.Cell.{Cell}
 use Rattle.lwc_base.specs.declared.cell.Cell.TheVariants.{Own, Common}
@@ -29,35 +27,15 @@ use Rattle.lwc_base.specs.declared.descriptor.Descriptor.{Descriptor}
 use Rattle.lwc_base.specs.declared.descriptor.Descriptor.TheVariants.{Ctx}
 use Rattle.lwc_base.specs.declared.descriptor.TheConstants.{SLOTS}
 use Rattle.lwc_base.specs.declared.key.Key.{Key}
-use Rattle.lwc_base.specs.declared.key.Key.TheVariants.{Page, Slot, Cred}
+use Rattle.lwc_base.specs.declared.key.Key.TheVariants.{Slot}
 use Rattle.lwc_base.specs.declared.name.Name.{Name}
+use Rattle.lwc_base.proofs.Facts.{orders}
+use Rattle.lwc_base.proofs.Orders.{same_name}
+use Rattle.lwc_base.proofs.Life.{or_cases, or_right, reached_by_way, way_of_reached}
+use Rattle.lwc_base.proofs.Reaped.{number_in, some_key}
+use Rattle.lwc_base.proofs.Small.{same_bool}
 
--- a context is reached exactly if a chain leads to it, where it is live
-pub record ChainFacts : Type 0 where
-  pub reached : (w : World) (roots : List Name) (c : Name) → Reaches w roots c → is_live w c ≡ true → is_reached w roots c ≡ true
-  pub chain : (w : World) (roots : List Name) (c : Name) → is_reached w roots c ≡ true → Reaches w roots c
-
-or_cases : (a b : Bool) → (a || b) ≡ true → (a ≡ true) ⊎ (b ≡ true)
-or_cases true b e = inl refl
-or_cases false b e = inr e
-
-some_number : (test : ℕ → Bool) (ns : List ℕ) → list_any test ns ≡ true → (n : ℕ) × (test n ≡ true)
-some_number test [] e = absurd (false≢true e)
-some_number test (n ∷ ns) e = elim (or_cases (test n) (list_any test ns) e) [ inl here ↦ (n, here) | inr later ↦ some_number test ns later ]
-
--- a test that holds of a key holds of some key
-some_key : (pages : ℕ) (test : Key → Bool) → any_key pages test ≡ true → (k : Key) × (test k ≡ true)
-unfolding any_key
-some_key pages test e =
-    elim (or_cases _ _ e) [
-      | inl some ↦ elim (or_cases _ _ some) [
-        | inl page ↦ let found = some_number (λ p. test (Page p)) (range_with_len 0 pages) page in (Page found.0, found.1)
-        | inr slot ↦ let found = some_number (λ n. test (Slot n)) (range_with_len 0 SLOTS) slot in (Slot found.0, found.1)
-      ]
-      | inr cred ↦ (Cred, cred)
-    ]
-
-module _ (orders : OrderFacts) {X : Type 0} where
+module _ {X : Type 0} where
   some_entry : (P : Name → X → Type 0) (test : X → Bool) (es : List (Name × X)) → AllByRecursion (λ e. P e.0 e.1) es → list_any test (map (λ (e : Name × X). e.1) es) ≡ true →
       (q : Name) × (x : X) × P q x × (test x ≡ true)
   some_entry P test [] all e = absurd (false≢true e)
@@ -66,16 +44,12 @@ module _ (orders : OrderFacts) {X : Type 0} where
 
   -- a test passes at some value of a table
   some_value : (test : X → Bool) (m : fm.FinMap name_cmp X) → list_any test (fm.values m) ≡ true → (q : Name) × (x : X) × (fm.get m q ≡ Some x) × (test x ≡ true)
-  some_value test m passes = some_entry (λ q x. fm.get m q ≡ Some x) test (fm.entries m) (each_entry orders (λ q x. fm.get m q ≡ Some x) m (λ q x is. is)) passes
+  some_value test m passes = some_entry (λ q x. fm.get m q ≡ Some x) test (fm.entries m) (each_entry (λ q x. fm.get m q ≡ Some x) m (λ q x is. is)) passes
 
   any_entry : (test : X → Bool) (q : Name) (x : X) (es : List (Name × X)) → find name_cmp q es ≡ Some x → test x ≡ true → list_any test (map (λ (e : Name × X). e.1) es) ≡ true
   any_entry test q x [] there passes = cc
   any_entry test q x (e ∷ es) there passes = by_first (any_entry test q x es) (eq_by_cmp name_cmp q e.0) there
     where
-      or_right : (a b : Bool) → b ≡ true → (a || b) ≡ true
-      or_right true b is = refl
-      or_right false b is = is
-
       by_first : (find name_cmp q es ≡ Some x → test x ≡ true → list_any test (map (λ (f : Name × X). f.1) es) ≡ true) → (b : Bool) → cond b (Some e.1) (find name_cmp q es) ≡ Some x →
           (test e.1 || list_any test (map (λ (f : Name × X). f.1) es)) ≡ true
       by_first later true is = ap (λ b. b || list_any test (map (λ (f : Name × X). f.1) es)) (ap (λ o. test (unwrap_or o x)) is ∙ passes)
@@ -104,25 +78,25 @@ found_too : {X Y : Type 0} (f g : X → Y) (o p : Option X) (x : X) → o ≡ So
 found_too f g o None x is same = let clash : Some (f x) ≡ None = sym (ap (option_map f) is) ∙ same in cc
 found_too f g o (Some y) x is same = (y, refl, ap (λ q. unwrap_or q (f x)) (sym (ap (option_map f) is) ∙ same))
 
-module _ (orders : OrderFacts) (chains : ChainFacts) (home : Home) where
+module _ (home : Home) where
   slot_job : (job : ℕ) (c : Name) (d : Descriptor) → IsSlotOf job d → is_of c d ≡ true → c.job ≡ job
-  slot_job job c (Ctx name cap) fits e = ap (λ (n : Name). n.job) (sym (same_name orders name c e)) ∙ fits
+  slot_job job c (Ctx name cap) fits e = ap (λ (n : Name). n.job) (sym (same_name name c e)) ∙ fits
   slot_job job c _ fits e = absurd (false≢true e)
 
   -- a descriptor leads to a context of its own job
-  links-job : (w : World) (d c : Name) → Keeps (by_job home) w → links w d c ≡ true → c.job ≡ d.job
+  pub links-job : (w : World) (d c : Name) → Keeps (by_job home) w → links w d c ≡ true → c.job ≡ d.job
   unfolding links
   links-job w d c keeps e =
-      let found = some_number (λ n. is_of c (slot_at w d n)) (range_with_len 0 SLOTS) e in
-      slot_job d.job c (slot_at w d found.0) (value_at-in home w keeps d (Slot found.0)) found.1
+      let found = number_in (λ n. is_of c (slot_at w d n)) SLOTS 0 e in
+      slot_job d.job c (slot_at w d found.0) (value_at-in home w keeps d (Slot found.0)) found.3
 
   cell_job : (job : ℕ) (k : Key) (g : Name) (cell : Cell (ValueOf k)) → InCell (by_job home) job k cell → is_in g cell ≡ true → g.job ≡ job
   cell_job job k g (Own value) fits e = absurd (false≢true e)
-  cell_job job k g (Common h) fits e = ap (λ (n : Name). n.job) (sym (same_name orders h g e)) ∙ fits
+  cell_job job k g (Common h) fits e = ap (λ (n : Name). n.job) (sym (same_name h g e)) ∙ fits
 
   names_group-job : (pages job : ℕ) (g : Name) (x : Context) → InContext (by_job home) job x → names_group pages g x ≡ true → g.job ≡ job
   unfolding names_group
-  names_group-job pages job g x within e = let found = some_key pages (λ k. is_in g (x.cell k)) e in cell_job job found.0 g (x.cell found.0) (within found.0) found.1
+  names_group-job pages job g x within e = let found = some_key pages (λ k. is_in g (x.cell k)) e in cell_job job found.0 g (x.cell found.0) (within found.0) found.2
 
   names_group-seen : (t pages : ℕ) (g : Name) (x : Context) → names_group pages g (seen_by t x) ≡ names_group pages g x
   unfolding names_group
@@ -144,29 +118,29 @@ module _ (orders : OrderFacts) (chains : ChainFacts) (home : Home) where
         Link d c (chain-alike d there of_job) (sym (live-alike t s d w v (here d of_job)) ∙ live) (sym (links-alike d c of_job) ∙ link)
 
     reached-alike : (k : ℕ) → is_live w (at job k) ≡ true → is_reached w roots (at job k) ≡ true → is_reached v others (at job k) ≡ true
-    reached-alike k live e = chains.reached v others (at job k) (chain-alike (at job k) (chains.chain w roots (at job k) e) refl) (sym (live-alike t s (at job k) w v alike) ∙ live)
+    reached-alike k live e = reached_by_way v others (at job k) (chain-alike (at job k) (way_of_reached w roots (at job k) e) refl) (sym (live-alike t s (at job k) w v alike) ∙ live)
 
   module _ (job t s : ℕ) (w v : World) (roots others : List Name) (keeps_w : Keeps (by_job home) w) (keeps_v : Keeps (by_job home) v) (alike : view job t w ≡ view job s v)
       (same : SameRoots job roots others) where
     same_reached : (k : ℕ) → is_live w (at job k) ≡ true → is_reached w roots (at job k) ≡ is_reached v others (at job k)
     same_reached k live =
-        one_test _ _ (reached-alike job t s w v roots others keeps_w alike same k live)
+        same_bool _ _ (reached-alike job t s w v roots others keeps_w alike same k live)
         (reached-alike job s t v w others roots keeps_v (sym alike) (λ n. sym (same n)) k (sym (live-alike t s (at job k) w v alike) ∙ live))
 
     kept-alike : (k : ℕ) → seen t (fm.get (fm.retain_keys w.contexts (is_reached w roots)) (at job k)) ≡ seen s (fm.get (fm.retain_keys v.contexts (is_reached v others)) (at job k))
     kept-alike k =
-        ap (seen t) (get-kept orders w.contexts (is_reached w roots) (at job k))
+        ap (seen t) (get-kept w.contexts (is_reached w roots) (at job k))
         ∙ where_kept (seen_by t) (seen_by s) (is_reached w roots (at job k)) (is_reached v others (at job k)) _ _ (same_reached k) (contexts-alike job t s w v alike k)
-        ∙ sym (ap (seen s) (get-kept orders v.contexts (is_reached v others) (at job k)))
+        ∙ sym (ap (seen s) (get-kept v.contexts (is_reached v others) (at job k)))
 
     -- a group of the job that a kept context names in the one world, one names in the other
     named-alike : (k : ℕ) → list_any (names_group w.size.pages (at job k)) (fm.values (fm.retain_keys w.contexts (is_reached w roots))) ≡ true →
         list_any (names_group v.size.pages (at job k)) (fm.values (fm.retain_keys v.contexts (is_reached v others))) ≡ true
     unfolding context
     named-alike k e =
-        let found = some_value orders (names_group w.size.pages (at job k)) (fm.retain_keys w.contexts (is_reached w roots)) e in
+        let found = some_value (names_group w.size.pages (at job k)) (fm.retain_keys w.contexts (is_reached w roots)) e in
         let q : Name = found.0 in
-        let live : fm.get w.contexts q ≡ Some found.1 = was_there (is_reached w roots q) (fm.get w.contexts q) found.1 (sym (get-kept orders w.contexts (is_reached w roots) q) ∙ found.2) in
+        let live : fm.get w.contexts q ≡ Some found.1 = was_there (is_reached w roots q) (fm.get w.contexts q) found.1 (sym (get-kept w.contexts (is_reached w roots) q) ∙ found.2) in
         let within : InContext (by_job home) q.job found.1 =
         subst (λ o. InContext (by_job home) q.job (unwrap_or o (new_context 0 (fresh_registers 0)))) live (keeps_w.contexts q (ap is_some live)) in
         let own : job ≡ q.job = names_group-job w.size.pages q.job (at job k) found.1 within found.3 in
@@ -175,15 +149,15 @@ module _ (orders : OrderFacts) (chains : ChainFacts) (home : Home) where
         let names : names_group v.size.pages (at job k) there.0 ≡ true =
         sym (names_group-seen s v.size.pages (at job k) there.0) ∙ ap (names_group v.size.pages (at job k)) (sym there.2) ∙ names_group-seen t v.size.pages (at job k) found.1
         ∙ ap (λ n. names_group n (at job k) found.1) (sym (pages-alike job t s w v alike)) ∙ found.3 in
-        any_value orders (names_group v.size.pages (at job k)) (fm.retain_keys v.contexts (is_reached v others)) q there.0 there.1 names
+        any_value (names_group v.size.pages (at job k)) (fm.retain_keys v.contexts (is_reached v others)) q there.0 there.1 names
 
   pub alike-reap : (job t s : ℕ) (w v : World) (roots others : List Name) → Keeps (by_job home) w → Keeps (by_job home) v → view job t w ≡ view job s v → SameRoots job roots others →
       view job t (reap w roots) ≡ view job s (reap v others)
   unfolding reap
   alike-reap job t s w v roots others keeps_w keeps_v alike same =
-      let named = λ (k : ℕ). one_test _ _ (named-alike job t s w v roots others keeps_w keeps_v alike same k) (named-alike job s t v w others roots keeps_v keeps_w (sym alike) (λ n. sym (same n)) k) in
+      let named = λ (k : ℕ). same_bool _ _ (named-alike job t s w v roots others keeps_w keeps_v alike same k) (named-alike job s t v w others roots keeps_v keeps_w (sym alike) (λ n. sym (same n)) k) in
       same_views job t s _ _ (kept-alike job t s w v roots others keeps_w keeps_v alike same)
-      (λ k. get-kept orders w.groups (λ g. list_any (names_group w.size.pages g) (fm.values (fm.retain_keys w.contexts (is_reached w roots)))) (at job k)
+      (λ k. get-kept w.groups (λ g. list_any (names_group w.size.pages g) (fm.values (fm.retain_keys w.contexts (is_reached w roots)))) (at job k)
       ∙ (λ i. cond (named k i) (groups-alike job t s w v alike k i) None)
-      ∙ sym (get-kept orders v.groups (λ g. list_any (names_group v.size.pages g) (fm.values (fm.retain_keys v.contexts (is_reached v others)))) (at job k)))
+      ∙ sym (get-kept v.groups (λ g. list_any (names_group v.size.pages g) (fm.values (fm.retain_keys v.contexts (is_reached v others)))) (at job k)))
       (next-alike job t s w v alike) (pages-alike job t s w v alike)

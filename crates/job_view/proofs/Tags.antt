@@ -18,7 +18,6 @@ use Rattle.job_view.proofs.Views.{contexts-alike, groups-alike, pages-alike, see
 use Rattle.job_view.specs.ByJob.{HasHome, Home, IsPageOf, LooksAlike, by_job}
 use Rattle.job_view.specs.Views.{view}
 use Rattle.lwc_base.specs.Cells.{page_at, value_at, value_of}
-use Rattle.lwc_base.specs.Facts.{OrderFacts}
 use Rattle.lwc_base.specs.Frames.{is_parting, is_shared_tag, own_value, tag_of, tags, tags_of_context, tags_of_group}
 use Rattle.lwc_base.specs.Holders.{InCell, InContext, InGroup, Keeps}
 use Rattle.lwc_base.specs.Names.{tag_cmp}
@@ -32,6 +31,7 @@ use Rattle.lwc_base.specs.declared.name.Name.{Name}
 use Rattle.lwc_base.specs.declared.name.Tag.{Tag}
 use Rattle.lwc_base.specs.declared.page.PageValue.{PageValue}
 use Rattle.lwc_base.specs.declared.page.PageValue.TheVariants.{Zero, Data}
+use Rattle.lwc_base.proofs.Facts.{orders}
 
 -- whether a tag is this one
 abbrev pub is_tag : Tag → Tag → Bool
@@ -72,7 +72,7 @@ in_range test h p one (suc n) a low high =
         let rest = later past in
         omega (arith, rest, split)
 
-module _ (orders : OrderFacts) (tag : Tag) where
+module _ (tag : Tag) where
   pub one_tag : (ts : List Tag) → ts ≡ tag ∷ [] → 1 ≤ count_by (is_tag tag) ts
   one_tag ts is =
       let one : count_by (is_tag tag) (tag ∷ []) ≡ 1 =
@@ -118,12 +118,12 @@ module _ (orders : OrderFacts) (tag : Tag) where
 
     -- a tag of a job is at holders of that job alone
     times_of_job : (w : World) → Keeps (by_job home) w → count_by (is_tag tag) (tags w)
-        ≡ sum_by (λ e. e.1) (job_weights orders tag.job (in_context tag w.size.pages) w.contexts) + sum_by (λ e. e.1) (job_weights orders tag.job (in_group tag w.size.pages) w.groups)
+        ≡ sum_by (λ e. e.1) (job_weights tag.job (in_context tag w.size.pages) w.contexts) + sum_by (λ e. e.1) (job_weights tag.job (in_group tag w.size.pages) w.groups)
     unfolding context group
     times_of_job w keeps =
         times tag w
-        ∙ (λ i. sum_of_job orders tag.job (in_context tag w.size.pages) w.contexts (λ q x is other. other_context q.job w.size.pages x (differs q other) (context_found q x is)) i
-        + sum_of_job orders tag.job (in_group tag w.size.pages) w.groups (λ q x is other. other_group q.job w.size.pages x (differs q other) (group_found q x is)) i)
+        ∙ (λ i. sum_of_job tag.job (in_context tag w.size.pages) w.contexts (λ q x is other. other_context q.job w.size.pages x (differs q other) (context_found q x is)) i
+        + sum_of_job tag.job (in_group tag w.size.pages) w.groups (λ q x is other. other_group q.job w.size.pages x (differs q other) (group_found q x is)) i)
       where
         context_found : (q : Name) (x : Context) → fm.get w.contexts q ≡ Some x → InContext (by_job home) q.job x
         context_found q x is = subst (λ o. InContext (by_job home) q.job (unwrap_or o (new_context 0 (fresh_registers 0)))) is (keeps.contexts q (ap is_some is))
@@ -141,11 +141,11 @@ module _ (orders : OrderFacts) (tag : Tag) where
         count_by (is_tag tag) (tags w) ≡ count_by (is_tag tag) (tags v)
     times-alike t s w v keeps_w keeps_v alike =
         let pages = pages-alike tag.job t s w v alike in
-        let contexts = same_weights orders tag.job (in_context tag w.size.pages) (in_context tag v.size.pages) w.contexts v.contexts
+        let contexts = same_weights tag.job (in_context tag w.size.pages) (in_context tag v.size.pages) w.contexts v.contexts
         (λ k. sym (weighs_seen t w.size.pages (fm.get w.contexts (at tag.job k)))
         ∙ (λ i. option_map (in_context tag (pages i)) (contexts-alike tag.job t s w v alike k i))
         ∙ weighs_seen s v.size.pages (fm.get v.contexts (at tag.job k))) in
-        let groups = same_weights orders tag.job (in_group tag w.size.pages) (in_group tag v.size.pages) w.groups v.groups
+        let groups = same_weights tag.job (in_group tag w.size.pages) (in_group tag v.size.pages) w.groups v.groups
         (λ k i. option_map (in_group tag (pages i)) (groups-alike tag.job t s w v alike k i)) in
         times_of_job w keeps_w
         ∙ (λ i. sum_by (λ e. e.1) (contexts i) + sum_by (λ e. e.1) (groups i))
@@ -155,7 +155,7 @@ found_or_new : {X : Type 0} (o : Option X) (d : X) → (o ≡ Some (unwrap_or o 
 found_or_new None d = inr refl
 found_or_new (Some x) d = inl refl
 
-module _ (orders : OrderFacts) (home : Home) (w : World) (has : HasHome home w) where
+module _ (home : Home) (w : World) (has : HasHome home w) where
   pub home_found : fm.get w.contexts home.name ≡ Some (context w home.name)
   unfolding context
   home_found = by_entry (fm.get w.contexts home.name) has.live
@@ -174,21 +174,21 @@ module _ (orders : OrderFacts) (home : Home) (w : World) (has : HasHome home w) 
       let mine : tag_of (own_value ((context w c).cell (Page p))) ≡ tag ∷ [] = ap (λ (x : Cell (Option PageValue)). tag_of (own_value x)) is ∙ ap tag_of value in
       elim (found_or_new (fm.get w.contexts c) (new_context 0 (fresh_registers 0))) [
         | inl found ↦
-            let two = two_weigh orders (in_context tag w.size.pages) w.contexts home.name c _ _ (λ same. some_job (sym (ap (λ (n : Name). n.job) same) ∙ has.nobody)) home_found found
-            (in_context-there orders tag w.size.pages p _ at_home.0 at_home.2) (in_context-there orders tag w.size.pages p _ at_home.0 mine) in
+            let two = two_weigh (in_context tag w.size.pages) w.contexts home.name c _ _ (λ same. some_job (sym (ap (λ (n : Name). n.job) same) ∙ has.nobody)) home_found found
+            (in_context-there tag w.size.pages p _ at_home.0 at_home.2) (in_context-there tag w.size.pages p _ at_home.0 mine) in
             omega (arith, two, all)
         | inr new ↦ let none : Own o ≡ Own None = sym is ∙ ap (λ (x : Context). x.cell (Page p)) new in cc
       ]
   shared_twice c p tag bytes (Common g) some_job there is value =
       let at_home = has.tags p tag there in
       let all = times tag w in
-      let one = one_weighs orders (in_context tag w.size.pages) w.contexts home.name _ home_found (in_context-there orders tag w.size.pages p _ at_home.0 at_home.2) in
+      let one = one_weighs (in_context tag w.size.pages) w.contexts home.name _ home_found (in_context-there tag w.size.pages p _ at_home.0 at_home.2) in
       let other = in_its_group g value at_home.0 in
       omega (arith, one, other, all)
     where
       in_its_group : (g : Name) → (group w g).value (Page p) ≡ Some (Data tag bytes) → p < w.size.pages → 1 ≤ sum_by (λ e. in_group tag w.size.pages e.1) (fm.entries w.groups)
       in_its_group g value small = elim (found_or_new (fm.get w.groups g) new_group) [
-        | inl found ↦ one_weighs orders (in_group tag w.size.pages) w.groups g _ found (in_group-there orders tag w.size.pages p _ small (ap tag_of value))
+        | inl found ↦ one_weighs (in_group tag w.size.pages) w.groups g _ found (in_group-there tag w.size.pages p _ small (ap tag_of value))
         | inr new ↦ let none : None ≡ Some (Data tag bytes) = sym (ap (λ (x : Group). x.value (Page p)) new) ∙ value in cc
       ]
 
@@ -196,16 +196,16 @@ module _ (orders : OrderFacts) (home : Home) (w : World) (has : HasHome home w) 
   unfolding value_at
   is_shared c p tag bytes some_job there value = lt-ltb 1 (count_by (is_tag tag) (tags w)) (shared_twice c p tag bytes _ some_job there refl value)
 
-module _ (orders : OrderFacts) (home : Home) (t s : ℕ) (c : Name) (w v : World) (alike : LooksAlike home c.job t s w v) where
+module _ (home : Home) (t s : ℕ) (c : Name) (w v : World) (alike : LooksAlike home c.job t s w v) where
   parts_by : (p : ℕ) (value : Option PageValue) → page_at w c p ≡ value → page_at v c p ≡ value → IsPageOf home c.job p value → is_parting w (unwrap_or value Zero) ≡ is_parting v (unwrap_or value Zero)
   unfolding is_parting
   parts_by p None is_w is_v fits = refl
   parts_by p (Some Zero) is_w is_v fits = refl
   parts_by p (Some (Data tag bytes)) is_w is_v (inl own) =
-      ap (nat_lt 1) (times-alike orders tag home (λ q u there. (alike.first.there.tags q u there).1) (λ same. alike.some_job (sym own ∙ same)) t s w v alike.first.kept alike.second.kept
+      ap (nat_lt 1) (times-alike tag home (λ q u there. (alike.first.there.tags q u there).1) (λ same. alike.some_job (sym own ∙ same)) t s w v alike.first.kept alike.second.kept
       (subst (λ j. view j t w ≡ view j s v) (sym own) alike.seen))
   parts_by p (Some (Data tag bytes)) is_w is_v (inr there) =
-      is_shared orders home w alike.first.there c p tag bytes alike.some_job there is_w ∙ sym (is_shared orders home v alike.second.there c p tag bytes alike.some_job there is_v)
+      is_shared home w alike.first.there c p tag bytes alike.some_job there is_w ∙ sym (is_shared home v alike.second.there c p tag bytes alike.some_job there is_v)
 
   -- the same pages part
   pub parts-alike : (p : ℕ) → is_parting w (page_value_at w c p) ≡ is_parting v (page_value_at v c p)

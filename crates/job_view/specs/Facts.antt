@@ -1,4 +1,5 @@
--- What is asked and changed for a job: the same where worlds look alike to it, and nothing that other jobs see.
+-- What is asked and changed for a job: the same where worlds look alike to it, and nothing that other jobs
+-- see.
 use Rattle.std.specs.Prelude.{◌≡◌, ℕ, Bool, List}
 use Rattle.lwc_base.specs.declared.item.Item.{Item}
 use Rattle.lwc_base.specs.declared.key.Key.{Key}

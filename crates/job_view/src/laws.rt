@@ -15,19 +15,11 @@ ghost use Rattle.job_view.specs.Facts.{AnswersAlike, ChangesAlike, ChangesHidden
 ghost use Rattle.job_view.specs.JobFrames.{AreHomes, different, used_by};
 ghost use Rattle.job_view.specs.Views.{seen_by, view};
 
-use lwc_base::laws::{
-    a_reaped_world_keeps_what_is_reached, changes_leave_the_rest, names_are_ordered,
-    reached_contexts_are_those_with_a_chain,
-};
-
 /// What a job asks of its contexts is answered alike in two worlds that look alike to it.
 pub fn what_a_job_asks_is_answered_alike()
     ensures { (home : Home) (t s : ℕ) (c : Name) (w v : World) → LooksAlike home c.job t s w v →
         AnswersAlike t s c w v }
-{
-    names_are_ordered();
-    changes_leave_the_rest();
-}
+{}
 
 /// What a job changes leaves two worlds alike to it, and so does what is dropped where it has the same roots.
 pub fn what_a_job_does_leaves_worlds_alike()
@@ -43,12 +35,7 @@ pub fn what_a_job_does_leaves_worlds_alike()
     ensures new { (job t s : ℕ) (w v : World) → IsFresh w → IsFresh v →
         w.next job ≡ record { contexts = 0; groups = 0; tags = 0 } → w.next job ≡ v.next job →
         w.size.pages ≡ v.size.pages → view job t w ≡ view job s v }
-{
-    names_are_ordered();
-    changes_leave_the_rest();
-    a_reaped_world_keeps_what_is_reached();
-    reached_contexts_are_those_with_a_chain();
-}
+{}
 
 /// Each job has what is its own, whatever jobs but 0 change, and whatever is dropped but the home.
 pub fn each_job_keeps_what_is_its_own()
@@ -60,11 +47,7 @@ pub fn each_job_keeps_what_is_its_own()
         KeepsJobs home w → KeepsJobs home (reap w roots) }
     ensures value { (home : Home) (c : Name) (k : Key) (w : World) → Keeps (by_job home) w →
         IsValueOf home c.job k (value_at w c k) }
-{
-    names_are_ordered();
-    changes_leave_the_rest();
-    a_reaped_world_keeps_what_is_reached();
-}
+{}
 
 /// No job sees what another one changes, nor what is dropped, where before nothing was left to drop.
 pub fn no_job_sees_what_another_one_does()
@@ -76,12 +59,7 @@ pub fn no_job_sees_what_another_one_does()
         IsReaped w roots → KeepsJobs home w → KeepsJobs home v →
         SameRoots job roots others →
         view job t v ≡ view job t w → view job t (reap v others) ≡ view job t w }
-{
-    names_are_ordered();
-    changes_leave_the_rest();
-    a_reaped_world_keeps_what_is_reached();
-    reached_contexts_are_those_with_a_chain();
-}
+{}
 
 /// The frames that are used are those of job 0 and those of each other job. A job uses as many in worlds that
 /// it sees alike, and job 0 uses those of its home, where each context of job 0 is like that.
@@ -95,6 +73,4 @@ pub fn frames_are_those_of_jobs()
     ensures apart { (job : ℕ) (w : World) → job ≢ 0 → used_by 0 w + used_by job w ≤ used w }
     ensures homes { (home : Home) (w : World) → KeepsJobs home w → AreHomes home.name w →
         used_by 0 w ≡ different (tags_of_context w.size.pages (context w home.name)) }
-{
-    names_are_ordered();
-}
+{}

@@ -1,11 +1,11 @@
 -- A request begins: what its job's first context changes.
-use Rattle.std.proofs.Common.{◌≡◌, inl, inr, ℕ, zero, suc, ◌+◌, ◌≤◌, ◌<◌, refl, sym, ap, subst, ◌∙◌, Bool, true, false, cond, eqb, List, [], ◌∷◌, length, arith}
+use Rattle.std.proofs.Common.{◌≡◌, ℕ, zero, suc, ◌+◌, ◌≤◌, ◌<◌, refl, sym, ap, subst, ◌∙◌, Bool, true, false, cond, eqb, List, [], ◌∷◌, length, arith}
 use Rattle.std.specs.FinMap as fm
 use Rattle.std.specs.List.{Contains}
 use Rattle.std.proofs.lemmas.Bool.Decides.{nat_tests}
 use Rattle.std.proofs.lemmas.List.Elements.{All-nil}
 use Rattle.kernel_core.proofs.Limits.{none_borne}
-use Rattle.kernel_core.proofs.Worlds.{WorldFacts, RisesBy, name_itself, same_or_not, well_slot}
+use Rattle.kernel_core.proofs.Worlds.{RisesBy}
 use Rattle.kernel_core.specs.Ready.{IsWithinLimits}
 use Rattle.lwc_base.specs.Cells.{put_slot}
 use Rattle.lwc_base.specs.Channels.{Channels}
@@ -18,26 +18,33 @@ use Rattle.lwc_base.specs.declared.descriptor.Descriptor.TheVariants.{Reply, Req
 use Rattle.lwc_base.specs.declared.name.Name.{Name}
 use Rattle.lwc_syscall.specs.Changes.{IsWell}
 use Rattle.snapshot_host.specs.Begin.{IsNewJob, begin, begun_context, request_context}
+use Rattle.lwc_base.proofs.Facts.{counts}
+use Rattle.lwc_base.proofs.InRange.{files-clone}
+use Rattle.lwc_base.proofs.Lookups.{adds-add_context}
+use Rattle.lwc_base.proofs.NamedContexts.{contexts-clone}
+use Rattle.lwc_base.proofs.Orders.{cases_name}
+use Rattle.lwc_base.proofs.Sound.{sound-clone_context}
+use Rattle.snapshot_host.proofs.Copies.{begun}
+use Rattle.lwc_syscall.proofs.Kept.{well-slot}
 
 rises_one : (b : Bool) (n : Counters) → RisesBy 2 n (cond b (record n { contexts = n.contexts + 1 }) n)
 rises_one true n = record { contexts = omega arith; groups = omega arith; tags = omega arith }
 rises_one false n = record { contexts = omega arith; groups = omega arith; tags = omega arith }
 
-module _ (facts : WorldFacts) (w : World) (home : Name) (r : ℕ) where
+module _ (w : World) (home : Name) (r : ℕ) where
   -- a context is added
   pub adds : AddsContext w (r + 1) (begun_context w home r) (begin w home r)
   unfolding begin
-  adds = facts.changes.context_added w (r + 1) (begun_context w home r)
+  adds = adds-add_context w (r + 1) (begun_context w home r)
 
   pub still_live : (c : Name) → is_live w c ≡ true → is_live (begin w home r) c ≡ true
   still_live c live =
-      elim (same_or_not facts c (next_context w (r + 1))) [
-        | inl same ↦ ap (is_live (begin w home r)) same ∙ adds.live
-        | inr other ↦ adds.still_live c other ∙ live
-      ]
+      cases_name c (next_context w (r + 1))
+      (λ same. ap (is_live (begin w home r)) same ∙ adds.live)
+      (λ other. adds.still_live c other ∙ live)
 
-  pub counts : (j : ℕ) → RisesBy 2 (w.next j) ((begin w home r).next j)
-  counts j = subst (λ (next : ℕ → Counters). RisesBy 2 (w.next j) (next j)) (sym adds.next) (rises_one (eqb j (r + 1)) (w.next j))
+  pub rises_begun : (j : ℕ) → RisesBy 2 (w.next j) ((begin w home r).next j)
+  rises_begun j = subst (λ (next : ℕ → Counters). RisesBy 2 (w.next j) (next j)) (sym adds.next) (rises_one (eqb j (r + 1)) (w.next j))
 
   module _ (new : IsNewJob w (r + 1)) where
     -- it bears the name of the request's context
@@ -60,13 +67,13 @@ module _ (facts : WorldFacts) (w : World) (home : Name) (r : ℕ) where
 
     none_yet : IsFresh w → live_of w (r + 1) ≡ 0
     unfolding live_of
-    none_yet fresh = none_borne (name_itself facts.orders) (r + 1) (fm.keys w.contexts) (λ q there. no_context fresh q (fm.contains_key-keys w.contexts q ∙ there))
+    none_yet fresh = none_borne (r + 1) (fm.keys w.contexts) (λ q there. no_context fresh q (fm.contains_key-keys w.contexts q ∙ there))
 
     at_most : (j : ℕ) → IsFresh w → live_of w j ≤ 32 → live_of (begin w home r) j ≤ 32
     at_most j fresh few = by_test (eqb j (r + 1)) refl
       where
         count : live_of (begin w home r) j ≡ cond (eqb j (r + 1)) (live_of w j + 1) (live_of w j)
-        count = (facts.counts.context_added w (begin w home r) (r + 1) j (begun_context w home r) fresh adds).0
+        count = (counts.context_added w (begin w home r) (r + 1) j (begun_context w home r) fresh adds).0
 
         by_test : (b : Bool) → eqb j (r + 1) ≡ b → live_of (begin w home r) j ≤ 32
         by_test true is =
@@ -80,16 +87,15 @@ module _ (facts : WorldFacts) (w : World) (home : Name) (r : ℕ) where
     -- the request's job takes the place of one that is 0
     pub limits_begun : (jobs now : List ℕ) → IsFresh w → Contains now (r + 1) → ((j : ℕ) → Contains jobs j → 1 ≤ j → Contains now j) → IsWithinLimits w jobs → IsWithinLimits (begin w home r) now
     limits_begun jobs now fresh there others limits = record {
-      contexts = λ c live. elim (same_or_not facts c (next_context w (r + 1))) [
-        | inl same ↦ later _ _ (subst (Contains now) (sym (ap (λ (n : Name). n.job) same)) there)
-        | inr other ↦ old c.job (limits.contexts c (sym (adds.still_live c other) ∙ live))
-      ];
+      contexts = λ c live. cases_name c (next_context w (r + 1))
+          (λ same. later _ _ (subst (Contains now) (sym (ap (λ (n : Name). n.job) same)) there))
+          (λ other. old c.job (limits.contexts c (sym (adds.still_live c other) ∙ live)));
       groups = λ g live.
           let was = limits.groups g (sym (ap (λ m. fm.contains_key m g) adds.groups) ∙ live) in
           (others g.job was.0 was.1, was.1);
-      homes = omega (arith, (facts.counts.context_added w (begin w home r) (r + 1) 0 (begun_context w home r) fresh adds).0 ∙ ap (λ b. cond b (live_of w 0 + 1) (live_of w 0)) not_0, limits.homes);
+      homes = omega (arith, (counts.context_added w (begin w home r) (r + 1) 0 (begun_context w home r) fresh adds).0 ∙ ap (λ b. cond b (live_of w 0 + 1) (live_of w 0)) not_0, limits.homes);
       few_contexts = λ j. at_most j fresh (limits.few_contexts j);
-      few_groups = λ j. omega (arith, (facts.counts.same_groups w (begin w home r) j (λ g. ap (λ m. fm.contains_key m g) adds.groups)).0, limits.few_groups j);
+      few_groups = λ j. omega (arith, (counts.same_groups w (begin w home r) j (λ g. ap (λ m. fm.contains_key m g) adds.groups)).0, limits.few_groups j);
     }
       where
         later : (ks : List ℕ) (j : ℕ) → Contains ks j → Contains (0 ∷ ks) j
@@ -113,10 +119,10 @@ module _ (facts : WorldFacts) (w : World) (home : Name) (r : ℕ) where
         let c = next_context w (r + 1) in
         let copy : World = clone_context w home (r + 1) [] entry in
         let first : IsWell copy io = record {
-          sound = facts.sound.clone w home (r + 1) [] entry no_items live well.sound;
-          named = facts.named.clone w home (r + 1) [] entry well.sound.fresh live well.named;
-          files = facts.files.clone io w home (r + 1) [] entry live well.files;
+          sound = sound-clone_context w home (r + 1) [] no_items live well.sound entry;
+          named = contexts-clone w home (r + 1) [] entry well.sound.fresh live well.named;
+          files = files-clone io w home (r + 1) [] entry live well.files;
         } in
-        let second : IsWell (put_slot copy c 1 (Reply r)) io = well_slot facts copy io c 1 (Reply r) there (λ d is. cc) first in
-        subst (λ (v : World). IsWell v io) (sym (facts.begins.begun w home r))
-        (well_slot facts (put_slot copy c 1 (Reply r)) io c 0 (Request r 0) (record { there = there; within = omega arith }) (λ d is. cc) second)
+        let second : IsWell (put_slot copy c 1 (Reply r)) io = well-slot copy io c 1 (Reply r) there (λ d is. cc) first in
+        subst (λ (v : World). IsWell v io) (sym (begun w home r))
+        (well-slot (put_slot copy c 1 (Reply r)) io c 0 (Request r 0) (record { there = there; within = omega arith }) (λ d is. cc) second)

@@ -17,7 +17,6 @@ use Rattle.kernel_core.proofs.FirstWorld.{context-first, first_added, live-first
 use Rattle.kernel_core.proofs.Ranges.{has, is_some-found, num, one_tag, ranges-own, ranges-take, tags-within}
 use Rattle.kernel_core.specs.Start.{first_context, first_entry, first_name, first_page, first_slot, first_value, image_tag, world_size, world_so_far, world_with}
 use Rattle.lwc_base.specs.Cells.{put_slot, with_cell}
-use Rattle.lwc_base.specs.Facts.{OrderFacts}
 use Rattle.lwc_base.specs.Frames.{own_value, tag_of, used}
 use Rattle.lwc_base.specs.Mapping.{map_pages, with_zeros}
 use Rattle.lwc_base.specs.Names.{name_cmp}
@@ -145,11 +144,11 @@ pub record IsFirstWorld (frames : ℕ) (w : World) : Type 0 where
   pub may : MayName w 0
 
 -- the k-th page of an image
-module _ (orders : OrderFacts) (image : Image) (is : IsImage image) where
+module _ (image : Image) (is : IsImage image) where
   is_first : (frames tags : ℕ) (x : Context) → tags ≤ 1024 → IsFirstWorld frames (world_with frames tags x)
   unfolding world_with
   is_first frames tags x few = record {
-    live = live-first orders frames tags x;
+    live = live-first frames tags x;
     size = refl;
     may = record { known = omega arith; contexts = omega arith; groups = omega arith; tags = omega arith };
   }
@@ -190,7 +189,7 @@ module _ (orders : OrderFacts) (image : Image) (is : IsImage image) where
   slot_put frames pages n value w v before value_is put =
       let had = first_context image (take pages image.pages) n in
       put ∙ (λ i. put_slot (before i) first_name n (value_is i))
-      ∙ put_at-first orders frames pages had (Slot n) Empty (first_slot image.slots n) (empty_slot (take pages image.pages) n) refl
+      ∙ put_at-first frames pages had (Slot n) Empty (first_slot image.slots n) (empty_slot (take pages image.pages) n) refl
       ∙ ap (world_with frames pages) (context_with_slot (take pages image.pages) n)
 
   module _ (k : ℕ) (x : PageImage) (found : slice_get image.pages k ≡ Some x) where
@@ -293,13 +292,13 @@ module _ (orders : OrderFacts) (image : Image) (is : IsImage image) where
     frame_left frames fits =
         let tags = tags-within mapped (page_numbers (take k image.pages)) tagged 1024 in
         let numbers : length (page_numbers (take k image.pages)) ≡ k = length-map (take k image.pages) (λ y. y.number) ∙ length-take-le k image.pages (omega (arith, within)) in
-        omega (arith, used-first orders frames k mapped, tags, numbers, within, fits)
+        omega (arith, used-first frames k mapped, tags, numbers, within, fits)
 
     -- a page that is mapped, and then stored
     module _ (frames : ℕ) (fits : length image.pages ≤ frames) (w v : World) (before : w ≡ world_so_far image frames k 0) (after : v ≡ map_pages w first_name x.number (x.number + 1)) where
       is_mapped : v ≡ world_with frames k mapped
       unfolding world_so_far mapped had
-      is_mapped = after ∙ ap (λ u. map_pages u first_name x.number (x.number + 1)) before ∙ map-first orders frames k (first_context image (take k image.pages) 0) x.number (x.number + 1)
+      is_mapped = after ∙ ap (λ u. map_pages u first_name x.number (x.number + 1)) before ∙ map-first frames k (first_context image (take k image.pages) 0) x.number (x.number + 1)
 
       pub mapped_world : IsFirstWorld frames v
       mapped_world = subst (IsFirstWorld frames) (sym is_mapped) (is_first frames k mapped (omega (arith, within, is.page_count)))
@@ -308,13 +307,13 @@ module _ (orders : OrderFacts) (image : Image) (is : IsImage image) where
       unfolding ranges_of world_with
       few_ranges =
           subst (λ (u : World). ranges_of u first_name ≤ 64) (sym is_mapped)
-          (subst (λ (y : Context). ranges 1024 y ≤ 64) (sym (context-first orders frames k mapped)) few_ranges_in)
+          (subst (λ (y : Context). ranges 1024 y ≤ 64) (sym (context-first frames k mapped)) few_ranges_in)
 
       pub page_stored : store v first_name 0 (page_piece x.number x.bytes) ≡ Done (world_so_far image frames (k + 1) 0)
       unfolding world_so_far
       page_stored =
           ap (λ u. store u first_name 0 (page_piece x.number x.bytes)) is_mapped
-          ∙ store-first orders frames k x.number mapped x.bytes whole zeros (frame_left frames fits)
+          ∙ store-first frames k x.number mapped x.bytes whole zeros (frame_left frames fits)
           ∙ ap (λ y. Done (world_with frames (k + 1) y)) context_with_page
 
       -- the store as the code makes it is done

@@ -10,7 +10,6 @@ use Rattle.guest_image.specs.declared.image.Image.{Image}
 use Rattle.guest_image.specs.declared.image.PageImage.{PageImage}
 use Rattle.guest_image.specs.declared.image.SlotImage.{SlotImage}
 use Rattle.kernel_core.proofs.FirstWorld.{context-first, get-first}
-use Rattle.kernel_core.proofs.Worlds.{WorldFacts, same_name}
 use Rattle.kernel_core.specs.Start.{first_context, first_name, first_slot, first_threads, world_with}
 use Rattle.kernel_core.specs.Step.{roots}
 use Rattle.lwc_base.specs.Cells.{slot_at, value_at, value_of}
@@ -20,6 +19,7 @@ use Rattle.lwc_base.specs.World.{Context, is_live}
 use Rattle.lwc_base.specs.declared.descriptor.Descriptor.TheVariants.{Console, Empty, File}
 use Rattle.lwc_base.specs.declared.key.Key.TheVariants.{Slot}
 use Rattle.lwc_base.specs.declared.name.Name.{Name}
+use Rattle.lwc_base.proofs.Orders.{same_name}
 
 pub none_of : (test : ℕ → Bool) (ns : List ℕ) → ((n : ℕ) → test n ≡ false) → list_any test ns ≡ false
 none_of test [] fails = refl
@@ -42,14 +42,14 @@ not_of d image n = by_number (ltb n 64)
     by_number true = by_console (ltb n 2)
     by_number false = refl
 
-module _ (facts : WorldFacts) (frames tags : ℕ) where
+module _ (frames tags : ℕ) where
   -- a name that is live at the start is the first one
   only_first : (x : Context) (c : Name) → is_live (world_with frames tags x) c ≡ true → c ≡ first_name
   unfolding world_with
-  only_first x c live = by_name _ refl (sym (ap is_some (get-first facts.orders x c)) ∙ live)
+  only_first x c live = by_name _ refl (sym (ap is_some (get-first x c)) ∙ live)
     where
       by_name : (b : Bool) → eq_by_cmp name_cmp c first_name ≡ b → is_some (cond b (Some x) None) ≡ true → c ≡ first_name
-      by_name true same live = same_name facts.orders c first_name same
+      by_name true same live = same_name c first_name same
       by_name false other live = absurd (false≢true live)
 
   pub reaped_first : (x : Context) (budget : ℕ) (entries : List ℕ) → 1 ≤ length entries → IsReaped (world_with frames tags x) (roots (first_threads budget entries) None)
@@ -60,15 +60,15 @@ module _ (facts : WorldFacts) (frames tags : ℕ) where
     groups = λ g live. absurd (false≢true (sym (ap is_some (fm.get-empty name_cmp g)) ∙ live));
   }
 
-module _ (facts : WorldFacts) (image : Image) (frames tags : ℕ) (pages : List PageImage) where
+module _ (image : Image) (frames tags : ℕ) (pages : List PageImage) where
   slot-first : (n : ℕ) → slot_at (world_with frames tags (first_context image pages 64)) first_name n ≡ cond (ltb n 64) (first_slot image.slots n) Empty
   unfolding value_at first_context
-  slot-first n = ap (λ (y : Context). value_of (world_with frames tags (first_context image pages 64)) (Slot n) (y.cell (Slot n))) (context-first facts.orders frames tags (first_context image pages 64))
+  slot-first n = ap (λ (y : Context). value_of (world_with frames tags (first_context image pages 64)) (Slot n) (y.cell (Slot n))) (context-first frames tags (first_context image pages 64))
 
   no_links : (c d : Name) → is_live (world_with frames tags (first_context image pages 64)) c ≡ true → links (world_with frames tags (first_context image pages 64)) c d ≡ false
   unfolding links
   no_links c d live =
-      ap (λ e. list_any (λ n. is_of d (slot_at (world_with frames tags (first_context image pages 64)) e n)) (range_with_len 0 64)) (only_first facts frames tags (first_context image pages 64) c live)
+      ap (λ e. list_any (λ n. is_of d (slot_at (world_with frames tags (first_context image pages 64)) e n)) (range_with_len 0 64)) (only_first frames tags (first_context image pages 64) c live)
       ∙ none_of _ (range_with_len 0 64) (λ n. ap (is_of d) (slot-first n) ∙ not_of d image n)
 
   pub named_first : HasItsContexts (world_with frames tags (first_context image pages 64))

@@ -10,7 +10,6 @@ use Rattle.std.proofs.lemmas.List.{length-replicate}
 use Rattle.std.proofs.lemmas.List.FromFn.{fill_by_all}
 use Rattle.kernel_core.specs.Start.{counted, first_name, world_size, world_with}
 use Rattle.lwc_base.specs.Cells.{page_at, put_at, put_in, value_at, value_of, with_cell}
-use Rattle.lwc_base.specs.Facts.{OrderFacts}
 use Rattle.lwc_base.specs.Frames.{is_parting, tags, tags_of_context, tags_of_group, used}
 use Rattle.lwc_base.specs.Keys.{ValueOf, is_there}
 use Rattle.lwc_base.specs.Mapping.{map_pages, with_zeros}
@@ -18,7 +17,7 @@ use Rattle.lwc_base.specs.Memory.{is_present, touched}
 use Rattle.lwc_base.specs.Names.{name_cmp, tag_cmp}
 use Rattle.lwc_base.specs.Pages.{bytes_of, zero_bytes, zero_page}
 use Rattle.lwc_base.specs.Registers.{fresh_registers}
-use Rattle.lwc_base.specs.Store.{Absent, Done, Full, Piece, after_store, byte_after, bytes_after, page_value_at, parting_count, plan, put_pages, store, stored_value}
+use Rattle.lwc_base.specs.Store.{Absent, Done, Full, Piece, after_store, byte_after, bytes_after, page_value_at, parting_count, stored_pages, put_pages, store, stored_value}
 use Rattle.lwc_base.specs.World.{World, Context, Group, add_context, change_context, change_counters, changed_context, context, empty_world, is_live, new_context}
 use Rattle.lwc_base.specs.declared.cell.Cell.TheVariants.{Own}
 use Rattle.lwc_base.specs.declared.key.Key.{Key}
@@ -27,6 +26,8 @@ use Rattle.lwc_base.specs.declared.name.Name.{Name}
 use Rattle.lwc_base.specs.declared.name.Tag.{Tag}
 use Rattle.lwc_base.specs.declared.page.PageValue.TheVariants.{Zero, Data}
 use Rattle.lwc_base.specs.declared.page.TheConstants.{PAGE_BYTES}
+use Rattle.lwc_base.proofs.Facts.{orders}
+use Rattle.snapshot_host.proofs.Copies.{chosen_twice}
 
 counted_once : (b : Bool) → cond b (record (counted 0 0) { contexts = 0 + 1 }) (counted 0 0) ≡ cond b (counted 1 0) (counted 0 0)
 counted_once true = refl
@@ -42,53 +43,48 @@ first_added frames x = λ i. record {
   size = world_size frames;
 }
 
-chosen_twice : {A : Type 0} (b : Bool) (x y z : A) → cond b x (cond b y z) ≡ cond b x z
-chosen_twice true x y z = refl
-chosen_twice false x y z = refl
-
 chosen : {A : Type 0} (b : Bool) (x y : A) → b ≡ true → cond b x y ≡ x
 chosen b x y is = ap (λ c. cond c x y) is
 
-module _ (orders : OrderFacts) where
-  pub get-first : (x : Context) (q : Name) → fm.get (fm.insert (fm.empty {R = name_cmp}) first_name x) q ≡ cond (eq_by_cmp name_cmp q first_name) (Some x) None
-  get-first x q = fm.get-insert orders.names fm.empty first_name x q ∙ ap (cond (eq_by_cmp name_cmp q first_name) (Some x)) (fm.get-empty name_cmp q)
+pub get-first : (x : Context) (q : Name) → fm.get (fm.insert (fm.empty {R = name_cmp}) first_name x) q ≡ cond (eq_by_cmp name_cmp q first_name) (Some x) None
+get-first x q = fm.get-insert orders.names fm.empty first_name x q ∙ ap (cond (eq_by_cmp name_cmp q first_name) (Some x)) (fm.get-empty name_cmp q)
 
-  insert-twice : (x y : Context) → fm.insert (fm.insert (fm.empty {R = name_cmp}) first_name x) first_name y ≡ fm.insert fm.empty first_name y
-  insert-twice x y = fm.same_map orders.names orders.one_name _ _ (λ q.
-      fm.get-insert orders.names (fm.insert fm.empty first_name x) first_name y q
-      ∙ ap (cond (eq_by_cmp name_cmp q first_name) (Some y)) (get-first x q)
-      ∙ chosen_twice (eq_by_cmp name_cmp q first_name) (Some y) (Some x) None
-      ∙ sym (get-first y q))
+insert-twice : (x y : Context) → fm.insert (fm.insert (fm.empty {R = name_cmp}) first_name x) first_name y ≡ fm.insert fm.empty first_name y
+insert-twice x y = fm.same_map orders.names orders.one_name _ _ (λ q.
+    fm.get-insert orders.names (fm.insert fm.empty first_name x) first_name y q
+    ∙ ap (cond (eq_by_cmp name_cmp q first_name) (Some y)) (get-first x q)
+    ∙ chosen_twice (eq_by_cmp name_cmp q first_name) (Some y) (Some x) None
+    ∙ sym (get-first y q))
 
-  -- the one context
-  pub context-first : (frames tags : ℕ) (x : Context) → context (world_with frames tags x) first_name ≡ x
-  unfolding context world_with
-  context-first frames tags x = ap (λ o. unwrap_or o (new_context 0 (fresh_registers 0))) (get-first x first_name)
+-- the one context
+pub context-first : (frames tags : ℕ) (x : Context) → context (world_with frames tags x) first_name ≡ x
+unfolding context world_with
+context-first frames tags x = ap (λ o. unwrap_or o (new_context 0 (fresh_registers 0))) (get-first x first_name)
 
-  -- it is live
-  pub live-first : (frames tags : ℕ) (x : Context) → is_live (world_with frames tags x) first_name ≡ true
-  unfolding world_with
-  live-first frames tags x = ap is_some (get-first x first_name)
+-- it is live
+pub live-first : (frames tags : ℕ) (x : Context) → is_live (world_with frames tags x) first_name ≡ true
+unfolding world_with
+live-first frames tags x = ap is_some (get-first x first_name)
 
-  change-first : (frames tags : ℕ) (x : Context) (change : Context → Context) → change_context (world_with frames tags x) first_name change ≡ world_with frames tags (change x)
-  unfolding change_context world_with
-  change-first frames tags x change =
-      ap (changed_context (world_with frames tags x) first_name change) (get-first x first_name)
-      ∙ ap (λ m. record (world_with frames tags x) { contexts = m }) (insert-twice x (change x))
+change-first : (frames tags : ℕ) (x : Context) (change : Context → Context) → change_context (world_with frames tags x) first_name change ≡ world_with frames tags (change x)
+unfolding change_context world_with
+change-first frames tags x change =
+    ap (changed_context (world_with frames tags x) first_name change) (get-first x first_name)
+    ∙ ap (λ m. record (world_with frames tags x) { contexts = m }) (insert-twice x (change x))
 
-  -- another value under a key of its own
-  pub put_at-first : (frames tags : ℕ) (x : Context) (k : Key) (old value : ValueOf k) → x.cell k ≡ Own old → is_there k old ≡ true →
-      put_at (world_with frames tags x) first_name k value ≡ world_with frames tags (with_cell k (Own value) x)
-  unfolding put_at
-  put_at-first frames tags x k old value own there =
-      ap (put_in (world_with frames tags x) first_name k value) (ap (λ (y : Context). y.cell k) (context-first frames tags x) ∙ own)
-      ∙ ap (λ b. cond b (change_context (world_with frames tags x) first_name (with_cell k (Own value))) (world_with frames tags x)) there
-      ∙ change-first frames tags x (with_cell k (Own value))
+-- another value under a key of its own
+pub put_at-first : (frames tags : ℕ) (x : Context) (k : Key) (old value : ValueOf k) → x.cell k ≡ Own old → is_there k old ≡ true →
+    put_at (world_with frames tags x) first_name k value ≡ world_with frames tags (with_cell k (Own value) x)
+unfolding put_at
+put_at-first frames tags x k old value own there =
+    ap (put_in (world_with frames tags x) first_name k value) (ap (λ (y : Context). y.cell k) (context-first frames tags x) ∙ own)
+    ∙ ap (λ b. cond b (change_context (world_with frames tags x) first_name (with_cell k (Own value))) (world_with frames tags x)) there
+    ∙ change-first frames tags x (with_cell k (Own value))
 
-  -- pages that are mapped
-  pub map-first : (frames tags : ℕ) (x : Context) (from to : ℕ) → map_pages (world_with frames tags x) first_name from to ≡ world_with frames tags (with_zeros from to x)
-  unfolding map_pages
-  map-first frames tags x from to = change-first frames tags x (with_zeros from to)
+-- pages that are mapped
+pub map-first : (frames tags : ℕ) (x : Context) (from to : ℕ) → map_pages (world_with frames tags x) first_name from to ≡ world_with frames tags (with_zeros from to x)
+unfolding map_pages
+map-first frames tags x from to = change-first frames tags x (with_zeros from to)
 
 -- the bytes of a whole page
 abbrev pub page_piece : ℕ → List ℕ → Piece
@@ -142,7 +138,7 @@ is_done false true after present free = cc
 is_done false false after present free = refl
 
 -- a page of zeros of the one context, for which a frame is free, and the whole page that is stored over it
-module _ (orders : OrderFacts) (frames tags p : ℕ) (x : Context) (bytes : List ℕ) (whole : length bytes ≡ 4096) (zeros : x.cell (Page p) ≡ Own (Some Zero))
+module _ (frames tags p : ℕ) (x : Context) (bytes : List ℕ) (whole : length bytes ≡ 4096) (zeros : x.cell (Page p) ≡ Own (Some Zero))
     (free : used (world_with frames tags x) < frames) where
   w : World
   w = world_with frames tags x
@@ -152,7 +148,7 @@ module _ (orders : OrderFacts) (frames tags p : ℕ) (x : Context) (bytes : List
 
   page-zeros : page_at w first_name p ≡ Some Zero
   unfolding value_at w
-  page-zeros = ap (value_of w (Page p)) (ap (λ (y : Context). y.cell (Page p)) (context-first orders frames tags x) ∙ zeros)
+  page-zeros = ap (value_of w (Page p)) (ap (λ (y : Context). y.cell (Page p)) (context-first frames tags x) ∙ zeros)
 
   value-zeros : page_value_at w first_name p ≡ Zero
   value-zeros = ap (λ o. unwrap_or o Zero) page-zeros
@@ -169,9 +165,9 @@ module _ (orders : OrderFacts) (frames tags p : ℕ) (x : Context) (bytes : List
       ap (λ l. not (list_all (λ q. is_some (page_at w first_name q)) l)) (touched_page p (length bytes) whole)
       ∙ ap (λ o. not (is_some o && true)) page-zeros
 
-  plan-one : plan w first_name 0 (page_piece p bytes) tags (p ∷ []) ≡ (p, Data (record { job = 0; k = tags }) bytes) ∷ []
+  stored_pages-one : stored_pages w first_name 0 (page_piece p bytes) tags (p ∷ []) ≡ (p, Data (record { job = 0; k = tags }) bytes) ∷ []
   unfolding is_parting
-  plan-one =
+  stored_pages-one =
       ap (λ v. (p, stored_value (is_parting w v) (record { job = 0; k = tags }) v (bytes_after (page_piece p bytes) p (bytes_of v))) ∷ []) value-zeros
       ∙ ap (λ l. (p, Data (record { job = 0; k = tags }) l) ∷ []) (bytes_whole p bytes zero_page whole length-zero_page)
 
@@ -181,9 +177,9 @@ module _ (orders : OrderFacts) (frames tags p : ℕ) (x : Context) (bytes : List
   after_store-one : after_store w first_name 0 (page_piece p bytes) ≡ world_with frames (tags + 1) stored
   unfolding after_store world_with w stored
   after_store-one =
-      ap (λ l. with_tags (put_pages (world_with frames tags x) first_name (plan (world_with frames tags x) first_name 0 (page_piece p bytes) tags l))) (touched_page p (length bytes) whole)
-      ∙ ap (λ l. with_tags (put_pages (world_with frames tags x) first_name l)) plan-one
-      ∙ ap with_tags (put_at-first orders frames tags x (Page p) (Some Zero) (Some (Data (record { job = 0; k = tags }) bytes)) zeros refl)
+      ap (λ l. with_tags (put_pages (world_with frames tags x) first_name (stored_pages (world_with frames tags x) first_name 0 (page_piece p bytes) tags l))) (touched_page p (length bytes) whole)
+      ∙ ap (λ l. with_tags (put_pages (world_with frames tags x) first_name l)) stored_pages-one
+      ∙ ap with_tags (put_at-first frames tags x (Page p) (Some Zero) (Some (Data (record { job = 0; k = tags }) bytes)) zeros refl)
       ∙ one_more_tag frames tags stored _ parting-one
 
   frame_free : ltb frames (used w + parting_count w first_name (page_piece p bytes)) ≡ false
@@ -207,28 +203,27 @@ no_entries (x ∷ es) e = absurd (omega (arith, e))
 entries-none : {X : Type 0} → fm.entries (fm.empty {X = X} {R = name_cmp}) ≡ []
 entries-none {X} = no_entries _ (sym (fm.len-entries fm.empty) ∙ fm.len-empty name_cmp X)
 
-module _ (orders : OrderFacts) where
-  -- a set has no more items than the list that it was made of
-  len-from_list : (ts : List Tag) → set.len (set.from_list {R = tag_cmp} ts) ≤ length ts
-  len-from_list [] = subst (λ (n : ℕ). n ≤ 0) (sym (set.len-empty tag_cmp)) (omega arith)
-  len-from_list (t ∷ ts) =
-      subst (λ (n : ℕ). n ≤ length (t ∷ ts)) (sym (set.len-insert orders.tags (set.from_list {R = tag_cmp} ts) t))
-      (set_by_suc (set.contains (set.from_list {R = tag_cmp} ts) t) _ (length ts) (len-from_list ts))
+-- a set has no more items than the list that it was made of
+len-from_list : (ts : List Tag) → set.len (set.from_list {R = tag_cmp} ts) ≤ length ts
+len-from_list [] = subst (λ (n : ℕ). n ≤ 0) (sym (set.len-empty tag_cmp)) (omega arith)
+len-from_list (t ∷ ts) =
+    subst (λ (n : ℕ). n ≤ length (t ∷ ts)) (sym (set.len-insert orders.tags (set.from_list {R = tag_cmp} ts) t))
+    (set_by_suc (set.contains (set.from_list {R = tag_cmp} ts) t) _ (length ts) (len-from_list ts))
 
-  entries-first : (x : Context) → fm.entries (fm.insert (fm.empty {R = name_cmp}) first_name x) ≡ (first_name, x) ∷ []
-  entries-first x = fm.entries-insert orders.names fm.empty first_name x ∙ ap (fm.put name_cmp first_name x) entries-none
+entries-first : (x : Context) → fm.entries (fm.insert (fm.empty {R = name_cmp}) first_name x) ≡ (first_name, x) ∷ []
+entries-first x = fm.entries-insert orders.names fm.empty first_name x ∙ ap (fm.put name_cmp first_name x) entries-none
 
-  -- the tags of the world are those of the context
-  tags-first : (frames counted : ℕ) (x : Context) → tags (world_with frames counted x) ≡ (tags_of_context 1024 x ++ []) ++ []
-  unfolding tags world_with
-  tags-first frames counted x =
-      ap (λ es. flat_map (λ (e : Name × Context). tags_of_context 1024 e.1) es ++ flat_map (λ (e : Name × Group). tags_of_group 1024 e.1) (fm.entries (fm.empty {X = Group} {R = name_cmp}))) (entries-first x)
-      ∙ ap (λ es. (tags_of_context 1024 x ++ []) ++ flat_map (λ (e : Name × Group). tags_of_group 1024 e.1) es) entries-none
+-- the tags of the world are those of the context
+tags-first : (frames counted : ℕ) (x : Context) → tags (world_with frames counted x) ≡ (tags_of_context 1024 x ++ []) ++ []
+unfolding tags world_with
+tags-first frames counted x =
+    ap (λ es. flat_map (λ (e : Name × Context). tags_of_context 1024 e.1) es ++ flat_map (λ (e : Name × Group). tags_of_group 1024 e.1) (fm.entries (fm.empty {X = Group} {R = name_cmp}))) (entries-first x)
+    ∙ ap (λ es. (tags_of_context 1024 x ++ []) ++ flat_map (λ (e : Name × Group). tags_of_group 1024 e.1) es) entries-none
 
-  -- no more frames are used than the context's pages have tags
-  pub used-first : (frames counted : ℕ) (x : Context) → used (world_with frames counted x) ≤ length (tags_of_context 1024 x)
-  unfolding used
-  used-first frames counted x =
-      let few = len-from_list (tags (world_with frames counted x)) in
-      let same : length (tags (world_with frames counted x)) ≡ length ((tags_of_context 1024 x ++ []) ++ []) = ap length (tags-first frames counted x) in
-      omega (arith, few, same, length-append (tags_of_context 1024 x ++ []) [], length-append (tags_of_context 1024 x) [])
+-- no more frames are used than the context's pages have tags
+pub used-first : (frames counted : ℕ) (x : Context) → used (world_with frames counted x) ≤ length (tags_of_context 1024 x)
+unfolding used
+used-first frames counted x =
+    let few = len-from_list (tags (world_with frames counted x)) in
+    let same : length (tags (world_with frames counted x)) ≡ length ((tags_of_context 1024 x ++ []) ++ []) = ap length (tags-first frames counted x) in
+    omega (arith, few, same, length-append (tags_of_context 1024 x ++ []) [], length-append (tags_of_context 1024 x) [])

@@ -8,7 +8,7 @@ use Rattle.guest_image.specs.Limits.{IsImage}
 use Rattle.guest_image.specs.declared.image.Image.{Image}
 use Rattle.kernel_core.proofs.Reaping.{homes-more}
 use Rattle.kernel_core.specs.Machine.{home_of, homes_of}
-use Rattle.kernel_core.specs.Ready.{CanPutHome, HomeFacts}
+use Rattle.kernel_core.specs.Ready.{CanPutHome}
 use Rattle.kernel_core.specs.Start.{first_entry, first_name, first_workers, homes_so_far, serve_world, start_world, world_of, world_with}
 use Rattle.kernel_core.specs.Step.{waiting}
 use Rattle.kernel_core.specs.declared.thread.Thread.{Thread}
@@ -21,6 +21,7 @@ use Rattle.lwc_base.specs.declared.item.Item.{Item}
 use Rattle.lwc_base.specs.declared.name.Name.{Name}
 use Rattle.lwc_base.specs.declared.regs.Regs.{Regs}
 use Rattle.world_face.specs.Calls.{AreFew}
+use Rattle.kernel_core.proofs.HomeStart.{can_put, one_home_more}
 
 -- the homes of one worker more
 pub home_pushed : (t : ℕ) (names more : List Name) → names ≡ homes_of t → more ≡ names ++ home_of t ∷ [] → more ≡ homes_of (t + 1)
@@ -36,9 +37,9 @@ worker_pushed entry t regs threads more regs_are so_far pushed =
     pushed ∙ ap (λ (r : Regs). threads ++ waiting (home_of t) r ∷ []) regs_are ∙ ap (λ (l : List Thread). l ++ make (home_of t) ∷ []) so_far
     ∙ sym (map-append make (homes_of t) (home_of t ∷ [])) ∙ ap (map make) (home_pushed t (homes_of t) (homes_of t ++ home_of t ∷ []) refl refl)
 
-module _ (facts : HomeFacts) (image : Image) (is : IsImage image) (t : ℕ) (few : t < 16) (w : World) (before : w ≡ homes_so_far image w.size.frames t) where
+module _ (image : Image) (is : IsImage image) (t : ℕ) (few : t < 16) (w : World) (before : w ≡ homes_so_far image w.size.frames t) where
   pub can_here : CanPutHome w (home_of t)
-  can_here = subst (λ (u : World). CanPutHome u (home_of t)) (sym before) (facts.can image w.size.frames t is few)
+  can_here = subst (λ (u : World). CanPutHome u (home_of t)) (sym before) (can_put image is w.size.frames t few)
 
   module _ (items : List Item) (none : items ≡ []) where
     pub group_here : (P : Type 0) → needs_group w first_name items ≡ true → P
@@ -69,7 +70,7 @@ module _ (facts : HomeFacts) (image : Image) (is : IsImage image) (t : ℕ) (few
             second ∙ ap (λ (n : Name). put_slot u n 0 Empty) at_home ∙ ap (λ (x : World). put_slot x (home_of t) 0 Empty) emptied
             ∙ ap (λ (x : World). put_slot (put_slot (clone_context x first_name 0 [] entry) (home_of t) 1 Empty) (home_of t) 0 Empty) before
             ∙ ap (λ (r : Regs). put_slot (put_slot (clone_context (homes_so_far image w.size.frames t) first_name 0 [] r) (home_of t) 1 Empty) (home_of t) 0 Empty) entry_is
-            ∙ facts.made image w.size.frames t
+            ∙ one_home_more image w.size.frames t
 
 -- the size stays
 pub size_so_far : (image : Image) (frames t : ℕ) (w : World) → w ≡ homes_so_far image frames t → w.size.frames ≡ frames

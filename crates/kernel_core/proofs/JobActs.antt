@@ -7,8 +7,8 @@ use Rattle.guest_isa.specs.declared.op.Op.TheVariants.{Ldb, Ldw, Stb, Stw, Sys, 
 use Rattle.guest_machine.specs.declared.progress.Advance.{Advance}
 use Rattle.guest_machine.specs.declared.progress.Next.{Next}
 use Rattle.guest_machine.specs.declared.progress.Next.TheVariants.{Shared, Pause, BadPc}
-use Rattle.kernel_core.proofs.Worlds.{JobFacts, StaysInJob, WorldFacts}
-use Rattle.kernel_core.proofs.JobStays.{job_facts}
+use Rattle.kernel_core.proofs.Worlds.{StaysInJob}
+use Rattle.kernel_core.proofs.JobStays.{stays_created, stays_overlaid, stays_plain_here, stays_restricted, stays_store, stays_switched, stays_syscalled}
 use Rattle.kernel_core.specs.Machine.{Environment}
 use Rattle.kernel_core.specs.Step.{Outcome, advance_outcome, args_of, beside, call_outcome, create_outcome, faulted, guest_calls, is_aligned, loaded, next_outcome, overlay_outcome, plain_outcome, plainly, restrict_outcome, shared_outcome, store_outcome, stored_outcome, switch_outcome, switched, syscall_outcome, unchanged, with_regs, with_status, with_world, word_outcome}
 use Rattle.kernel_core.specs.declared.calling.TheConstants.{LW_CREATE, LW_OVERLAY, LW_RESTRICT, LW_SWITCH, LW_SYSCALL}
@@ -38,7 +38,7 @@ pub record IsLocal (e : Environment) (x : Thread) (outcome : Outcome) : Type 0 w
   pub stays : StaysInJob x.job e.world outcome.environment.world
   pub here : outcome.thread.context.job ≡ x.job
 
-module _ (jobs : JobFacts) (e : Environment) (x : Thread) (names : NamesKeepToJobs e.world) (well : IsWell e.world e.channels) (live : is_live e.world x.context ≡ true) (ours : x.context.job ≡ x.job) where
+module _ (e : Environment) (x : Thread) (names : NamesKeepToJobs e.world) (well : IsWell e.world e.channels) (live : is_live e.world x.context ≡ true) (ours : x.context.job ≡ x.job) where
   same : StaysInJob x.job e.world e.world
   same = record { kept = names; contexts = λ d other. refl; next = λ j other. refl }
 
@@ -52,7 +52,7 @@ module _ (jobs : JobFacts) (e : Environment) (x : Thread) (names : NamesKeepToJo
   local_stored : (piece : Piece) (s : Stored) → store e.world x.context x.job piece ≡ s → IsLocal e x (stored_outcome e x s)
   local_stored piece Absent is = same_context (faulted x fault.BadStore) refl
   local_stored piece Full is = same_context (faulted x fault.NoFrame) refl
-  local_stored piece (Done v) is = record { stays = jobs.stored e.world v e.channels x.context x.job piece names well live ours is; here = ours }
+  local_stored piece (Done v) is = record { stays = stays_store x.context x.job e.world v piece ours is names; here = ours }
 
   local_chosen : (b : Bool) (first second : Outcome) → IsLocal e x first → IsLocal e x second → IsLocal e x (cond b first second)
   local_chosen true first second p q = p
@@ -74,23 +74,23 @@ module _ (jobs : JobFacts) (e : Environment) (x : Thread) (names : NamesKeepToJo
   local_answered (answers.Refused r) v stays = record { stays = stays; here = ours }
 
   local_create : IsLocal e x (create_outcome e x)
-  local_create = local_answered (create e.world x.context x.job x.regs).0 (create e.world x.context x.job x.regs).1 (jobs.created e.world e.channels x.context x.job x.regs names well live ours)
+  local_create = local_answered (create e.world x.context x.job x.regs).0 (create e.world x.context x.job x.regs).1 (stays_created x.context e.world live names x.job ours x.regs)
 
   local_restrict : IsLocal e x (restrict_outcome e x)
   local_restrict =
       local_answered (restrict e.world x.context x.regs).0 (restrict e.world x.context x.regs).1
-      (subst (λ (j : ℕ). StaysInJob j e.world (restrict e.world x.context x.regs).1) ours (jobs.restricted e.world e.channels x.context x.regs names well live))
+      (subst (λ (j : ℕ). StaysInJob j e.world (restrict e.world x.context x.regs).1) ours (stays_restricted x.context e.world live names e.channels well x.regs))
 
   local_overlay : IsLocal e x (overlay_outcome e x)
-  local_overlay = local_answered (overlay e.world x.context x.job x.regs).0 (overlay e.world x.context x.job x.regs).1 (jobs.overlaid e.world e.channels x.context x.job x.regs names well live ours)
+  local_overlay = local_answered (overlay e.world x.context x.job x.regs).0 (overlay e.world x.context x.job x.regs).1 (stays_overlaid x.context e.world live names e.channels well x.job ours x.regs)
 
   local_moved : (t : ℕ) (answer : Moved) → (switch e.world x.context t x.regs).0 ≡ answer → IsLocal e x (unchanged (with_world e (switch e.world x.context t x.regs).1) (switched x answer))
   local_moved t (moved.To d regs) is = record {
-    stays = subst (λ (j : ℕ). StaysInJob j e.world (switch e.world x.context t x.regs).1) ours (jobs.switched e.world e.channels x.context t x.regs names well live);
-    here = jobs.moved e.world e.channels x.context d t x.regs regs names well live is ∙ ours;
+    stays = subst (λ (j : ℕ). StaysInJob j e.world (switch e.world x.context t x.regs).1) ours (stays_switched x.context e.world live names e.channels well t x.regs).0;
+    here = (stays_switched x.context e.world live names e.channels well t x.regs).1 d regs is ∙ ours;
   }
   local_moved t (moved.Refused r) is = record {
-    stays = subst (λ (j : ℕ). StaysInJob j e.world (switch e.world x.context t x.regs).1) ours (jobs.switched e.world e.channels x.context t x.regs names well live);
+    stays = subst (λ (j : ℕ). StaysInJob j e.world (switch e.world x.context t x.regs).1) ours (stays_switched x.context e.world live names e.channels well t x.regs).0;
     here = ours;
   }
 
@@ -107,9 +107,9 @@ module _ (jobs : JobFacts) (e : Environment) (x : Thread) (names : NamesKeepToJo
       (local_chosen (eqb number LW_RESTRICT) (restrict_outcome e x) _ local_restrict
       (local_chosen (eqb number LW_OVERLAY) (overlay_outcome e x) _ local_overlay
       (local_chosen (eqb number LW_SYSCALL) (syscall_outcome e x) (plain_outcome number e x)
-      (local_plainly (beside (lw_syscall e.world e.channels x.context x.job x.regs).world (lw_syscall e.world e.channels x.context x.job x.regs).io) _ (jobs.syscalled e.world e.channels x.context x.job x.regs names well live ours))
+      (local_plainly (beside (lw_syscall e.world e.channels x.context x.job x.regs).world (lw_syscall e.world e.channels x.context x.job x.regs).io) _ (stays_syscalled x.context e.world live names e.channels well x.job ours x.regs))
       (local_plainly (beside (plain e.world e.channels (record { memory = x.context; slots = x.context; cred = x.context }) x.job number (args_of x.regs)).world (plain e.world e.channels (record { memory = x.context; slots = x.context; cred = x.context }) x.job number (args_of x.regs)).io) _
-      (jobs.plain e.world e.channels x.context x.job number (args_of x.regs) names well live ours))))))
+      (stays_plain_here x.context e.world live names e.channels well x.job ours number (args_of x.regs)))))))
 
   local_shared : (t : ℕ) (i : Instr) (op : Op) → IsLocal e x (shared_outcome guest_calls t e x i op)
   unfolding shared_outcome
@@ -128,9 +128,9 @@ module _ (jobs : JobFacts) (e : Environment) (x : Thread) (names : NamesKeepToJo
   local_next t (Shared i) = local_shared t i i.op
 
 -- a step of a running thread in a context of its job stays in the job
-pub local_step : (facts : WorldFacts) (t : ℕ) (e : Environment) (x : Thread) (advance : Advance) → NamesKeepToJobs e.world → IsWell e.world e.channels → is_live e.world x.context ≡ true → x.context.job ≡ x.job →
+pub local_step : (t : ℕ) (e : Environment) (x : Thread) (advance : Advance) → NamesKeepToJobs e.world → IsWell e.world e.channels → is_live e.world x.context ≡ true → x.context.job ≡ x.job →
     IsLocal e x (advance_outcome guest_calls t e x advance)
 unfolding advance_outcome
-local_step facts t e x advance names well live ours =
-    let local = local_next (job_facts facts facts.names) e (with_regs x advance.after) names well live ours t advance.next in
+local_step t e x advance names well live ours =
+    let local = local_next e (with_regs x advance.after) names well live ours t advance.next in
     record { stays = local.stays; here = local.here }

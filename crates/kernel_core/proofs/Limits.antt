@@ -14,6 +14,8 @@ use Rattle.lwc_base.specs.World.{World, groups_of, live_of}
 use Rattle.lwc_base.specs.declared.name.Name.{Name}
 use Rattle.lwc_create.specs.Create.{HasPlaces}
 use Rattle.world_face.specs.Calls.{HasPlace}
+use Rattle.lwc_base.proofs.Orders.{name-itself}
+use Rattle.lwc_base.proofs.Life.{or_right}
 
 abbrev num : Bool → ℕ
 num b = cond b 1 0
@@ -40,17 +42,13 @@ one_more c names (j ∷ jobs) zero within is =
 one_more c names (j ∷ jobs) (suc k) within is =
     omega (arith, sum_by-cons (borne names) j jobs, sum_by-cons (borne (c ∷ names)) j jobs, counted_first j c names, one_more c names jobs k (omega arith) is)
 
-either : (a b : Bool) → b ≡ true → (a || b) ≡ true
-either true b is = refl
-either false b is = is
-
 -- names that each bear one of the jobs are no more than the jobs have
-few_names : (name_itself : (c : Name) → eq_by_cmp name_cmp c c ≡ true) (names : List Name) (jobs : List ℕ) →
+few_names : (names : List Name) (jobs : List ℕ) →
     ((q : Name) → list_any (eq_by_cmp name_cmp q) names ≡ true → Contains jobs q.job) → length names ≤ sum_by (borne names) jobs
-few_names itself [] jobs each = omega arith
-few_names itself (c ∷ names) jobs each =
-    let here : Contains jobs c.job = each c (ap (λ b. b || list_any (eq_by_cmp name_cmp c) names) (itself c)) in
-    omega (arith, few_names itself names jobs (λ q there. each q (either (eq_by_cmp name_cmp q c) _ there)), one_more c names jobs here.0 here.1 here.2)
+few_names [] jobs each = omega arith
+few_names (c ∷ names) jobs each =
+    let here : Contains jobs c.job = each c (ap (λ b. b || list_any (eq_by_cmp name_cmp c) names) (name-itself c)) in
+    omega (arith, few_names names jobs (λ q there. each q (or_right (eq_by_cmp name_cmp q c) _ there)), one_more c names jobs here.0 here.1 here.2)
 
 -- jobs with at most this many each
 few_in_all : (f : ℕ → ℕ) (most : ℕ) (jobs : List ℕ) → ((job : ℕ) → f job ≤ most) → sum_by f jobs ≤ length jobs * most
@@ -70,10 +68,10 @@ pub length_of_keys : {X : Type 0} (m : fm.FinMap name_cmp X) → fm.len m ≡ le
 length_of_keys m = fm.len-entries m ∙ sym (length-map (fm.entries m) (λ e. e.0))
 
 -- within the limits there is a place for one more context
-pub has_place : (name_itself : (c : Name) → eq_by_cmp name_cmp c c ≡ true) (frames : ℕ) (w : World) (jobs : List ℕ) → w.size ≡ world_size frames → IsWithinLimits w jobs → length jobs ≤ 16 → HasPlace w
+pub has_place : (frames : ℕ) (w : World) (jobs : List ℕ) → w.size ≡ world_size frames → IsWithinLimits w jobs → length jobs ≤ 16 → HasPlace w
 unfolding live_of
-has_place itself frames w jobs size limits few =
-    let names = few_names itself (fm.keys w.contexts) (0 ∷ jobs) (λ q live. limits.contexts q (fm.contains_key-keys w.contexts q ∙ live)) in
+has_place frames w jobs size limits few =
+    let names = few_names (fm.keys w.contexts) (0 ∷ jobs) (λ q live. limits.contexts q (fm.contains_key-keys w.contexts q ∙ live)) in
     omega (
       arith,
       length_of_keys w.contexts,
@@ -85,13 +83,13 @@ has_place itself frames w jobs size limits few =
     )
 
 -- there are places for a job's next context and group
-pub has_places : (name_itself : (c : Name) → eq_by_cmp name_cmp c c ≡ true) (frames job : ℕ) (w : World) (jobs : List ℕ) → w.size ≡ world_size frames →
+pub has_places : (frames job : ℕ) (w : World) (jobs : List ℕ) → w.size ≡ world_size frames →
     IsWithinLimits w jobs → length jobs ≤ 16 → Contains jobs job → HasPlaces w job
 unfolding groups_of
-has_places itself frames job w jobs size limits few there = record {
-  context = λ fewer. has_place itself frames w jobs size limits few;
+has_places frames job w jobs size limits few there = record {
+  context = λ fewer. has_place frames w jobs size limits few;
   group = λ fewer.
-      let names = few_names itself (fm.keys w.groups) jobs (λ q live. (limits.groups q (fm.contains_key-keys w.groups q ∙ live)).0) in
+      let names = few_names (fm.keys w.groups) jobs (λ q live. (limits.groups q (fm.contains_key-keys w.groups q ∙ live)).0) in
       omega (
         arith,
         length_of_keys w.groups,
@@ -102,8 +100,8 @@ has_places itself frames job w jobs size limits few there = record {
 }
 
 -- of a job that none of them bears there are none
-pub none_borne : (name_itself : (c : Name) → eq_by_cmp name_cmp c c ≡ true) (job : ℕ) (names : List Name) → ((q : Name) → list_any (eq_by_cmp name_cmp q) names ≡ true → eqb q.job job ≡ false) → borne names job ≡ 0
-none_borne itself job [] each = refl
-none_borne itself job (c ∷ names) each =
-    let here : eqb c.job job ≡ false = each c (ap (λ b. b || list_any (eq_by_cmp name_cmp c) names) (itself c)) in
-    omega (arith, counted_first job c names, ap num here, none_borne itself job names (λ q there. each q (either (eq_by_cmp name_cmp q c) _ there)))
+pub none_borne : (job : ℕ) (names : List Name) → ((q : Name) → list_any (eq_by_cmp name_cmp q) names ≡ true → eqb q.job job ≡ false) → borne names job ≡ 0
+none_borne job [] each = refl
+none_borne job (c ∷ names) each =
+    let here : eqb c.job job ≡ false = each c (ap (λ b. b || list_any (eq_by_cmp name_cmp c) names) (name-itself c)) in
+    omega (arith, counted_first job c names, ap num here, none_borne job names (λ q there. each q (or_right (eq_by_cmp name_cmp q c) _ there)))

@@ -13,7 +13,7 @@ use Rattle.kernel_core.proofs.Runs.{kept_next}
 use Rattle.kernel_core.specs.Histories.{IsComplete, IsLegal, steps_by, turn_after}
 use Rattle.kernel_core.specs.Kernel.{CanOpen, History, machine_of, turn}
 use Rattle.kernel_core.specs.Machine.{Machine, has_ended, homes_of, is_ended, steps_after, steps_for_requests, steps_left, work}
-use Rattle.kernel_core.specs.Ready.{IsRunnable, RunFacts, WhileRunning}
+use Rattle.kernel_core.specs.Ready.{IsRunnable, WhileRunning}
 use Rattle.kernel_core.specs.Runs.{kept, last_finished, run}
 use Rattle.kernel_core.specs.Start.{Inputs, first_entry, first_thread, first_threads, first_workers, serve_at, start, thread_count, threads_at}
 use Rattle.kernel_core.specs.Step.{AfterStep, after_outcome, after_thread, finishes, guest_calls, step, step_by, thread_outcome, waiting}
@@ -28,6 +28,7 @@ use Rattle.lwc_base.specs.declared.regs.Regs.{Regs}
 use Rattle.lwc_base.specs.Registers.{fresh_registers}
 use Rattle.lwc_base.specs.World.{World}
 use Rattle.snapshot_host.specs.declared.finishing.Finished.{Finished}
+use Rattle.kernel_core.proofs.ReadyMachines.{ready_machine}
 
 set_leaves : (xs : List Thread) (s t : ℕ) (y : Thread) → s ≢ t → slice_get (slice_set xs s y) t ≡ slice_get xs t
 set_leaves [] s t y apart = refl
@@ -77,7 +78,7 @@ found_set [] t x after found = cc
 found_set (y ∷ ys) zero x after found = refl
 found_set (y ∷ ys) (suc t) x after found = found_set ys t x after found
 
-run-append : (m : Machine) (ss ts : List ℕ) → run m (ss ++ ts) ≡ run (run m ss) ts
+pub run-append : (m : Machine) (ss ts : List ℕ) → run m (ss ++ ts) ≡ run (run m ss) ts
 run-append m [] ts = refl
 run-append m (s ∷ ss) ts = run-append (step m s) ss ts
 
@@ -194,13 +195,13 @@ decided_by : (n t : ℕ) (b : Bool) → ltb t n ≡ b → (t < n) ⊎ (n ≤ t)
 decided_by n t true is = inl (grind (arith, nat_tests))
 decided_by n t false is = inr (grind (arith, nat_tests))
 
-module _ (facts : RunFacts) (inputs : Inputs) (steps : List ℕ) (can : CanOpen inputs) where
+module _ (inputs : Inputs) (steps : List ℕ) (can : CanOpen inputs) where
   -- while a thread goes on, steps are left
   pub some_left : (t : ℕ) → is_ended (run (start inputs) steps) t ≡ false → 0 < work (run (start inputs) steps)
   unfolding work is_ended
   some_left t going =
       let m = run (start inputs) steps in
-      let ready = facts.ready inputs steps can in
+      let ready = ready_machine inputs steps can in
       let there = thread_going (slice_get m.threads t) going in
       let x = there.0 in
       let left = λ (y : Thread). steps_left (steps_after m.serve) y.budget y.status in
@@ -214,7 +215,7 @@ module _ (facts : RunFacts) (inputs : Inputs) (steps : List ℕ) (can : CanOpen 
   unfolding is_ended
   past_ended t past =
       let m = run (start inputs) steps in
-      ap (λ o. option_map_or (λ (x : Thread). has_ended x.status) o true) (slice_get_past m.threads t (omega (arith, (facts.ready inputs steps can).count)))
+      ap (λ o. option_map_or (λ (x : Thread). has_ended x.status) o true) (slice_get_past m.threads t (omega (arith, (ready_machine inputs steps can).count)))
 
   ended_by : ((t : ℕ) → t < thread_count inputs → is_ended (run (start inputs) steps) t ≡ true) → (t : ℕ) → (t < thread_count inputs) ⊎ (thread_count inputs ≤ t) →
       is_ended (run (start inputs) steps) t ≡ true

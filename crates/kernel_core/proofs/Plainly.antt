@@ -1,6 +1,6 @@
 -- What a plain call keeps, by its number and its answer.
 use Rattle.std.proofs.Common.{◌≡◌, ℕ, refl, sym, subst, Bool, true, false, cond, List}
-use Rattle.kernel_core.proofs.Reaping.{CutFacts, leaves_same}
+use Rattle.kernel_core.proofs.Reaping.{leaves_same}
 use Rattle.kernel_core.proofs.Worlds.{done_after}
 use Rattle.kernel_core.specs.Changes.{Keeps, LeavesNothing, change_by_end, change_by_number}
 use Rattle.kernel_core.specs.Step.{plainly}
@@ -16,17 +16,18 @@ use Rattle.lwc_syscall.specs.Changes.{CutsNone, Put, Same, StoredPut, cuts_none,
 use Rattle.lwc_syscall.specs.declared.answer.CallAnswer.{CallAnswer}
 use Rattle.lwc_syscall.specs.declared.answer.CallAnswer.TheVariants as ends
 use Rattle.lwc_syscall.specs.declared.calls.Three.{Three}
+use Rattle.lwc_base.proofs.StillReaped.{reaped-after_store, reaped-put_slot}
 
-stored_reaped : CutFacts → (w v : World) (names : List Name) (c : Name) (job : ℕ) (piece : Piece) → store w c job piece ≡ Done v → IsReaped w names → IsReaped v names
+stored_reaped : (w v : World) (names : List Name) (c : Name) (job : ℕ) (piece : Piece) → store w c job piece ≡ Done v → IsReaped w names → IsReaped v names
 unfolding store
-stored_reaped cuts w v names c job piece done reaped = subst (λ (u : World). IsReaped u names) (done_after _ _ _ v done) (cuts.stored w names c job piece reaped)
+stored_reaped w v names c job piece done reaped = subst (λ (u : World). IsReaped u names) (done_after _ _ _ v done) (reaped-after_store w names c job piece reaped)
 
 -- what cuts no link leaves nothing to drop
-pub cuts_leaves : CutFacts → (w : World) (c : Name) (three : Three) (job : ℕ) (v : World) → CutsNone w three job v → LeavesNothing w c v c
-cuts_leaves cuts w c three job v Same = leaves_same w w c (λ names reaped. reaped)
-cuts_leaves cuts w c three job v (Put n value loses) = leaves_same w _ c (λ names. cuts.put w names three.slots n value loses)
-cuts_leaves cuts w c three job v (StoredPut u piece n value done loses) =
-    leaves_same w _ c (λ names reaped. cuts.put u names three.slots n value loses (stored_reaped cuts w u names three.memory job piece done reaped))
+pub cuts_leaves : (w : World) (c : Name) (three : Three) (job : ℕ) (v : World) → CutsNone w three job v → LeavesNothing w c v c
+cuts_leaves w c three job v Same = leaves_same w w c (λ names reaped. reaped)
+cuts_leaves w c three job v (Put n value loses) = leaves_same w _ c (λ names. reaped-put_slot w names three.slots n value loses)
+cuts_leaves w c three job v (StoredPut u piece n value done loses) =
+    leaves_same w _ c (λ names reaped. reaped-put_slot u names three.slots n value loses (stored_reaped w u names three.memory job piece done reaped))
 
 -- what an accepted call keeps, for a thread that stays in its context
 by_number : (w v : World) (x y : Thread) (leaves cuts : Bool) → y.context ≡ x.context → (leaves ≡ true → v ≡ w) → (cuts ≡ true → LeavesNothing w x.context v x.context) →

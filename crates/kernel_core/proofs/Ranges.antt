@@ -14,6 +14,7 @@ use Rattle.lwc_base.specs.declared.cell.Cell.TheVariants.{Own}
 use Rattle.lwc_base.specs.declared.key.Key.TheVariants.{Page}
 use Rattle.lwc_base.specs.declared.page.PageValue.{PageValue}
 use Rattle.lwc_base.specs.declared.page.PageValue.TheVariants.{Zero, Data}
+use Rattle.lwc_base.proofs.Life.{or_right}
 
 at_most_one : (b : Bool) → cond b 1 0 ≤ 1
 at_most_one true = omega arith
@@ -121,11 +122,7 @@ module _ (x : Context) (numbers : List ℕ) (value : ℕ → Option PageValue) (
   itself m ms = let same : eqb m m ≡ true = grind (arith, nat_tests) in ap (λ b. b || has ms m) same
 
   later : (m p : ℕ) (ms : List ℕ) → has ms p ≡ true → has (m ∷ ms) p ≡ true
-  later m p ms is = either (eqb m p) (has ms p) is
-    where
-      either : (a b : Bool) → b ≡ true → (a || b) ≡ true
-      either true b is = refl
-      either false b is = is
+  later m p ms is = or_right (eqb m p) (has ms p) is
 
   -- of these numbers, no more begin a range than in the list
   count-begun : (before : Option ℕ) (ms : List ℕ) → ((k : ℕ) → before ≡ Some k → has numbers k ≡ true) → ((p : ℕ) → has ms p ≡ true → has numbers p ≡ true) →

@@ -1,12 +1,12 @@
 -- The contexts of threads as roots: what a step that cuts no link leaves reached, and what a reaped world keeps.
-use Rattle.std.proofs.Common.{◌≡◌, ◌≢◌, ◌⊎◌, inl, inr, ℕ, zero, suc, ◌+◌, ◌<◌, refl, sym, ap, subst, ◌∙◌, Bool, true, false, ◌||◌, Option, Some, None, List, [], ◌∷◌, ◌++◌, length, arith}
+use Rattle.std.proofs.Common.{◌≡◌, ◌≢◌, ◌⊎◌, inl, inr, ℕ, zero, suc, ◌+◌, ◌<◌, refl, sym, ap, subst, ◌∙◌, true, false, ◌||◌, Option, Some, None, List, [], ◌∷◌, ◌++◌, length, arith}
 use Rattle.std.specs.Ordering.{eq_by_cmp}
 use Rattle.std.specs.Prelude.{All, is_none, map, slice_get, slice_set, unwrap_or}
 use Rattle.std.specs.List.{range_with_len}
 use Rattle.std.proofs.lemmas.List.FromFn.{length-map-range_with_len}
 use Rattle.std.proofs.lemmas.List.{append_assoc, length-map}
 use Rattle.std.proofs.lemmas.List.Elements.{All-cons, All-map, All-nil, All-weaker}
-use Rattle.kernel_core.proofs.Worlds.{WorldFacts, done_after, name_itself, same_name}
+use Rattle.kernel_core.proofs.Worlds.{done_after}
 use Rattle.kernel_core.specs.Changes.{Keeps, LeavesNothing, change_by}
 use Rattle.kernel_core.specs.Ready.{IsWithinLimits}
 use Rattle.kernel_core.specs.Machine.{Serve, home_of, homes, homes_of}
@@ -15,30 +15,32 @@ use Rattle.kernel_core.specs.declared.acting.Change.{Change}
 use Rattle.kernel_core.specs.declared.acting.Change.TheVariants as changes
 use Rattle.kernel_core.specs.declared.thread.Thread.{Thread}
 use Rattle.lwc_base.specs.Cells.{put_slot, slot_at}
-use Rattle.lwc_base.specs.Facts.{HasFewer, OrderFacts}
-use Rattle.lwc_base.specs.Fresh.{IsFresh}
+use Rattle.lwc_base.specs.Facts.{HasFewer}
 use Rattle.lwc_base.specs.Life.{IsReaped, Root, is_among, is_of, reap}
 use Rattle.lwc_base.specs.Names.{name_cmp}
-use Rattle.lwc_base.specs.Refusals.{first_refusal}
 use Rattle.lwc_base.specs.Saved.{save}
-use Rattle.lwc_base.specs.Sharing.{clone_context}
 use Rattle.lwc_base.specs.Slots.{lowest_empty}
 use Rattle.lwc_base.specs.Sound.{HasItsGroups, IsSound}
 use Rattle.lwc_base.specs.Store.{Done, Piece, after_store, store}
 use Rattle.lwc_base.specs.Summaries.{is_empty}
-use Rattle.lwc_base.specs.World.{World, is_live, next_context}
+use Rattle.lwc_base.specs.World.{World, is_live}
 use Rattle.lwc_base.specs.declared.answer.Answer.{Answer}
 use Rattle.lwc_base.specs.declared.answer.Answer.TheVariants as answers
 use Rattle.lwc_base.specs.declared.descriptor.Cap.{Cap}
-use Rattle.lwc_base.specs.declared.descriptor.Descriptor.{Descriptor}
 use Rattle.lwc_base.specs.declared.descriptor.Descriptor.TheVariants.{Ctx}
 use Rattle.lwc_base.specs.declared.descriptor.TheConstants.{SLOTS}
-use Rattle.lwc_base.specs.declared.item.Item.{Item}
 use Rattle.lwc_base.specs.declared.name.Name.{Name}
 use Rattle.lwc_base.specs.declared.refusal.Refusal.{Refusal}
 use Rattle.lwc_base.specs.declared.regs.Regs.{Regs}
 use Rattle.lwc_create.specs.Create as create
 use Rattle.lwc_overlay.specs.RestrictCall.{IsRestriction}
+use Rattle.lwc_base.proofs.Facts.{counts}
+use Rattle.lwc_base.proofs.Orders.{name-itself, same_name}
+use Rattle.lwc_base.proofs.Reaped.{kept-by_way, live-was_live, was_group-reap}
+use Rattle.lwc_base.proofs.Slots.{lowest_is_empty_slot}
+use Rattle.lwc_base.proofs.StillReaped.{reaped-after_store, reaped-created, reaped-put_slot, reaped-switched}
+use Rattle.lwc_create.proofs.Allowed.{slot_there}
+use Rattle.lwc_base.proofs.Life.{or_cases, or_right}
 
 get-front : {T : Type 0} (xs ys : List T) (t : ℕ) (x : T) → slice_get xs t ≡ Some x → slice_get (xs ++ ys) t ≡ Some x
 get-front [] ys t x found = cc
@@ -108,22 +110,11 @@ set-same (d ∷ ds) (suc t) c found = ap (λ l. d ∷ l) (set-same ds t c found)
 pub leaves_same : (w v : World) (c : Name) → ((contexts : List Name) → IsReaped w contexts → IsReaped v contexts) → LeavesNothing w c v c
 leaves_same w v c stays contexts t found reaped = subst (IsReaped v) (sym (set-same contexts t c found)) (stays contexts reaped)
 
--- the changes that cut no link
-pub record CutFacts : Type 0 where
-  pub stored : (w : World) (names : List Name) (c : Name) (job : ℕ) (piece : Piece) → IsReaped w names → IsReaped (after_store w c job piece) names
-  pub put : (w : World) (names : List Name) (c : Name) (n : ℕ) (value : Descriptor) → ((d : Name) → is_of d (slot_at w c n) ≡ true → is_of d value ≡ true) → IsReaped w names →
-      IsReaped (put_slot w c n value) names
-  pub created : (w : World) (names : List Name) (c : Name) (job : ℕ) (items : List Item) (entry : Regs) (n : ℕ) (cap : Cap) → IsFresh w → HasItsGroups w → is_live w c ≡ true → n < SLOTS →
-      is_empty (slot_at w c n) ≡ true → IsReaped w names → IsReaped (put_slot (clone_context w c job items entry) c n (Ctx (next_context w job) cap)) names
-  pub switched : (w : World) (names others : List Name) (c d : Name) (t : ℕ) (regs : Regs) (n : ℕ) (cap : Cap) → HasItsGroups w → is_live w c ≡ true → is_live w d ≡ true → n < SLOTS →
-      is_empty (slot_at w d n) ≡ true → is_among others d ≡ true → ((e : Name) → is_among names e ≡ true → (is_among others e ≡ true) ⊎ (e ≡ c)) → IsReaped w names →
-      IsReaped (put_slot (save w c t regs) d n (Ctx c cap)) others
-
 -- a store that is done
-pub leaves_stored : CutFacts → (w v : World) (c : Name) (job : ℕ) (piece : Piece) → store w c job piece ≡ Done v → LeavesNothing w c v c
+pub leaves_stored : (w v : World) (c : Name) (job : ℕ) (piece : Piece) → store w c job piece ≡ Done v → LeavesNothing w c v c
 unfolding store
-leaves_stored cuts w v c job piece done =
-    subst (λ (u : World). LeavesNothing w c u c) (done_after _ _ _ v done) (leaves_same w (after_store w c job piece) c (λ contexts. cuts.stored w contexts c job piece))
+leaves_stored w v c job piece done =
+    subst (λ (u : World). LeavesNothing w c u c) (done_after _ _ _ v done) (leaves_same w (after_store w c job piece) c (λ contexts. reaped-after_store w contexts c job piece))
 
 -- the end of a call that made a context
 created_by : (w v : World) (c : Name) (job : ℕ) (regs after : Regs) (slot : ℕ) (refusal : Option Refusal) → create.ended w c job regs slot refusal ≡ (answers.Done after, v) →
@@ -137,21 +128,19 @@ slot_of None there = cc
 slot_of (Some n) there = refl
 
 -- a context that was made
-pub leaves_created : CutFacts → ((w : World) (c : Name) (n : ℕ) → lowest_empty w c ≡ Some n → (n < SLOTS) × (is_empty (slot_at w c n) ≡ true)) →
-    ((w : World) (c : Name) (job : ℕ) (regs : Regs) → first_refusal (create.refusals w c job regs) ≡ None → is_none (lowest_empty w c) ≡ false) →
-    (w v : World) (c : Name) (job : ℕ) (regs after : Regs) → IsSound w → is_live w c ≡ true → create.create w c job regs ≡ (answers.Done after, v) → LeavesNothing w c v c
+pub leaves_created : (w v : World) (c : Name) (job : ℕ) (regs after : Regs) → IsSound w → is_live w c ≡ true → create.create w c job regs ≡ (answers.Done after, v) → LeavesNothing w c v c
 unfolding create.create
-leaves_created cuts lowest slots w v c job regs after sound live done =
+leaves_created w v c job regs after sound live done =
     let ended = created_by w v c job regs after _ _ done in
-    let slot = lowest w c _ (slot_of (lowest_empty w c) (slots w c job regs ended.0)) in
+    let slot = lowest_is_empty_slot w c _ (slot_of (lowest_empty w c) (slot_there w c job regs ended.0)) in
     subst (λ (u : World). LeavesNothing w c u c) (sym ended.1)
-    (leaves_same w _ c (λ contexts. cuts.created w contexts c job _ _ _ _ sound.fresh sound.groups live slot.0 slot.1))
+    (leaves_same w _ c (λ contexts. reaped-created w c job _ _ sound.fresh contexts _ _ sound.groups live slot.0 slot.1))
 
 -- a capability that was restricted
-pub leaves_restricted : CutFacts → (w v : World) (c : Name) (regs : Regs) → IsRestriction w v c regs → LeavesNothing w c v c
-leaves_restricted cuts w v c regs is =
+pub leaves_restricted : (w v : World) (c : Name) (regs : Regs) → IsRestriction w v c regs → LeavesNothing w c v c
+leaves_restricted w v c regs is =
     subst (λ (u : World). LeavesNothing w c u c) (sym is.made)
-    (leaves_same w _ c (λ contexts. cuts.put w contexts c _ _ (λ d of. sym (ap (is_of d) is.had) ∙ of)))
+    (leaves_same w _ c (λ contexts. reaped-put_slot w contexts c _ _ (λ d of. sym (ap (is_of d) is.had) ∙ of)))
 
 -- a call that ended by its answer
 pub ended_keeps : (w v : World) (x y : Thread) (answer : Answer) (accepted change : Change) → ((regs : Regs) → answer ≡ answers.Done regs → Keeps accepted w x v (with_regs x regs)) →
@@ -174,81 +163,71 @@ uncut changes.World w v threads serve t x y keeps other found reaped =
     subst (IsReaped v) (sym (roots-set threads serve t x found y)) (keeps (roots threads serve) t (root_of threads serve t x found) reaped)
 uncut changes.Links w v threads serve t x y keeps other found reaped = absurd (other refl)
 
-either : (a b : Bool) → b ≡ true → (a || b) ≡ true
-either true b is = refl
-either false b is = is
+first_is : (c : Name) (names : List Name) → is_among (c ∷ names) c ≡ true
+first_is c names = ap (λ b. b || is_among names c) (name-itself c)
 
-or_rest : (a b : Bool) → (a || b) ≡ true → (a ≡ true) ⊎ (b ≡ true)
-or_rest true b is = inl refl
-or_rest false b is = inr is
+pub among_front : (xs ys : List Name) (c : Name) → is_among xs c ≡ true → is_among (xs ++ ys) c ≡ true
+among_front [] ys c among = cc
+among_front (d ∷ xs) ys c among =
+    elim (or_cases (eq_by_cmp name_cmp c d) (is_among xs c) among) [
+      | inl here ↦ ap (λ b. b || is_among (xs ++ ys) c) here
+      | inr later ↦ or_right _ _ (among_front xs ys c later)
+    ]
 
-module _ (orders : OrderFacts) where
-  first_is : (c : Name) (names : List Name) → is_among (c ∷ names) c ≡ true
-  first_is c names = ap (λ b. b || is_among names c) (name_itself orders c)
+pub among_back : (xs ys : List Name) (c : Name) → is_among ys c ≡ true → is_among (xs ++ ys) c ≡ true
+among_back [] ys c among = among
+among_back (d ∷ xs) ys c among = or_right _ _ (among_back xs ys c among)
 
-  pub among_front : (xs ys : List Name) (c : Name) → is_among xs c ≡ true → is_among (xs ++ ys) c ≡ true
-  among_front [] ys c among = cc
-  among_front (d ∷ xs) ys c among =
-      elim (or_rest (eq_by_cmp name_cmp c d) (is_among xs c) among) [
-        | inl here ↦ ap (λ b. b || is_among (xs ++ ys) c) here
-        | inr later ↦ either _ _ (among_front xs ys c later)
-      ]
+each_context : (threads : List Thread) → All (λ (x : Thread). is_among (contexts_of threads) x.context ≡ true) threads
+each_context [] = All-nil _
+each_context (x ∷ xs) =
+    All-cons (λ (y : Thread). is_among (contexts_of (x ∷ xs)) y.context ≡ true) x xs (first_is x.context (contexts_of xs))
+    (All-weaker (λ (y : Thread). is_among (contexts_of xs) y.context ≡ true) (λ (y : Thread). is_among (contexts_of (x ∷ xs)) y.context ≡ true) (λ y is. or_right _ _ is) xs (each_context xs))
 
-  pub among_back : (xs ys : List Name) (c : Name) → is_among ys c ≡ true → is_among (xs ++ ys) c ≡ true
-  among_back [] ys c among = among
-  among_back (d ∷ xs) ys c among = either _ _ (among_back xs ys c among)
+-- each thread's context is a root
+pub each_root : (threads : List Thread) (serve : Option Serve) → All (λ (x : Thread). is_among (roots threads serve) x.context ≡ true) threads
+each_root threads serve =
+    All-weaker (λ (x : Thread). is_among (contexts_of threads) x.context ≡ true) (λ (x : Thread). is_among (roots threads serve) x.context ≡ true)
+    (λ x among. among_front (contexts_of threads) (homes serve) x.context among) threads (each_context threads)
 
-  each_context : (threads : List Thread) → All (λ (x : Thread). is_among (contexts_of threads) x.context ≡ true) threads
-  each_context [] = All-nil _
-  each_context (x ∷ xs) =
-      All-cons (λ (y : Thread). is_among (contexts_of (x ∷ xs)) y.context ≡ true) x xs (first_is x.context (contexts_of xs))
-      (All-weaker (λ (y : Thread). is_among (contexts_of xs) y.context ≡ true) (λ (y : Thread). is_among (contexts_of (x ∷ xs)) y.context ≡ true) (λ y is. either _ _ is) xs (each_context xs))
+-- a root that is put in the place of another one, and what the other roots were
+pub put_root : (names : List Name) (t : ℕ) (c d : Name) → slice_get names t ≡ Some c → is_among (slice_set names t d) d ≡ true
+put_root [] t c d found = cc
+put_root (e ∷ es) zero c d found = first_is d es
+put_root (e ∷ es) (suc t) c d found = or_right _ _ (put_root es t c d found)
 
-  -- each thread's context is a root
-  pub each_root : (threads : List Thread) (serve : Option Serve) → All (λ (x : Thread). is_among (roots threads serve) x.context ≡ true) threads
-  each_root threads serve =
-      All-weaker (λ (x : Thread). is_among (contexts_of threads) x.context ≡ true) (λ (x : Thread). is_among (roots threads serve) x.context ≡ true)
-      (λ x among. among_front (contexts_of threads) (homes serve) x.context among) threads (each_context threads)
+pub was_root : (names : List Name) (t : ℕ) (c d : Name) → slice_get names t ≡ Some c → (e : Name) → is_among names e ≡ true → (is_among (slice_set names t d) e ≡ true) ⊎ (e ≡ c)
+was_root [] t c d found e among = cc
+was_root (f ∷ fs) zero c d found e among =
+    let same : f ≡ c = cc in
+    elim (or_cases (eq_by_cmp name_cmp e f) (is_among fs e) among) [
+      | inl here ↦ inr (same_name e f here ∙ same)
+      | inr later ↦ inl (or_right _ _ later)
+    ]
+was_root (f ∷ fs) (suc t) c d found e among =
+    elim (or_cases (eq_by_cmp name_cmp e f) (is_among fs e) among) [
+      | inl here ↦ inl (ap (λ b. b || is_among (slice_set fs t d) e) here)
+      | inr later ↦ elim (was_root fs t c d found e later) [ inl still ↦ inl (or_right _ _ still) | inr is ↦ inr is ]
+    ]
 
-  -- a root that is put in the place of another one, and what the other roots were
-  pub put_root : (names : List Name) (t : ℕ) (c d : Name) → slice_get names t ≡ Some c → is_among (slice_set names t d) d ≡ true
-  put_root [] t c d found = cc
-  put_root (e ∷ es) zero c d found = first_is d es
-  put_root (e ∷ es) (suc t) c d found = either _ _ (put_root es t c d found)
+-- a thread that goes from a context to a live one, an empty slot of which gets a descriptor of the first, cuts no link
+pub leaves_switched : (w : World) (c d : Name) (t : ℕ) (regs : Regs) (n : ℕ) (cap : Cap) → HasItsGroups w → is_live w c ≡ true → is_live w d ≡ true → n < SLOTS →
+    is_empty (slot_at w d n) ≡ true → LeavesNothing w c (put_slot (save w c t regs) d n (Ctx c cap)) d
+leaves_switched w c d t regs n cap groups here there within empty contexts place found =
+    reaped-switched w contexts (slice_set contexts place d) c d t regs n cap groups here there within empty (put_root contexts place c d found) (was_root contexts place c d found)
 
-  pub was_root : (names : List Name) (t : ℕ) (c d : Name) → slice_get names t ≡ Some c → (e : Name) → is_among names e ≡ true → (is_among (slice_set names t d) e ≡ true) ⊎ (e ≡ c)
-  was_root [] t c d found e among = cc
-  was_root (f ∷ fs) zero c d found e among =
-      let same : f ≡ c = cc in
-      elim (or_rest (eq_by_cmp name_cmp e f) (is_among fs e) among) [
-        | inl here ↦ inr (same_name orders e f here ∙ same)
-        | inr later ↦ inl (either _ _ later)
-      ]
-  was_root (f ∷ fs) (suc t) c d found e among =
-      elim (or_rest (eq_by_cmp name_cmp e f) (is_among fs e) among) [
-        | inl here ↦ inl (ap (λ b. b || is_among (slice_set fs t d) e) here)
-        | inr later ↦ elim (was_root fs t c d found e later) [ inl still ↦ inl (either _ _ still) | inr is ↦ inr is ]
-      ]
+-- a root that lives is kept
+pub root_kept : (w : World) (names : List Name) (c : Name) → is_live w c ≡ true → is_among names c ≡ true → is_live (reap w names) c ≡ true
+root_kept w names c live among = kept-by_way w names c live (Root c among)
 
-  -- a thread that goes from a context to a live one, an empty slot of which gets a descriptor of the first, cuts no link
-  pub leaves_switched : CutFacts → (w : World) (c d : Name) (t : ℕ) (regs : Regs) (n : ℕ) (cap : Cap) → HasItsGroups w → is_live w c ≡ true → is_live w d ≡ true → n < SLOTS →
-      is_empty (slot_at w d n) ≡ true → LeavesNothing w c (put_slot (save w c t regs) d n (Ctx c cap)) d
-  leaves_switched cuts w c d t regs n cap groups here there within empty contexts place found =
-      cuts.switched w contexts (slice_set contexts place d) c d t regs n cap groups here there within empty (put_root contexts place c d found) (was_root contexts place c d found)
-
-module _ (facts : WorldFacts) where
-  -- a root that lives is kept
-  pub root_kept : (w : World) (names : List Name) (c : Name) → is_live w c ≡ true → is_among names c ≡ true → is_live (reap w names) c ≡ true
-  root_kept w names c live among = facts.life.kept w names c live (Root c among)
-
-  -- a world within its limits stays so
-  pub limits_reaped : (w : World) (names : List Name) (jobs : List ℕ) → IsWithinLimits w jobs → IsWithinLimits (reap w names) jobs
-  limits_reaped w names jobs limits =
-      let fewer : HasFewer w (reap w names) = facts.counts.reaped w names in
-      record {
-        contexts = λ c live. limits.contexts c (facts.life.was_live w names c live);
-        groups = λ g live. limits.groups g (facts.life.was_group w names g live);
-        homes = omega (arith, fewer.live_of 0, limits.homes);
-        few_contexts = λ job. omega (arith, fewer.live_of job, limits.few_contexts job);
-        few_groups = λ job. omega (arith, fewer.groups_of job, limits.few_groups job);
-      }
+-- a world within its limits stays so
+pub limits_reaped : (w : World) (names : List Name) (jobs : List ℕ) → IsWithinLimits w jobs → IsWithinLimits (reap w names) jobs
+limits_reaped w names jobs limits =
+    let fewer : HasFewer w (reap w names) = counts.reaped w names in
+    record {
+      contexts = λ c live. limits.contexts c (live-was_live w names c live);
+      groups = λ g live. limits.groups g (was_group-reap w names g live);
+      homes = omega (arith, fewer.live_of 0, limits.homes);
+      few_contexts = λ job. omega (arith, fewer.live_of job, limits.few_contexts job);
+      few_groups = λ job. omega (arith, fewer.groups_of job, limits.few_groups job);
+    }

@@ -13,7 +13,7 @@ use Rattle.kernel_core.specs.declared.acting.Change.TheVariants as changes
 use Rattle.kernel_core.specs.declared.calling.TheConstants.{LW_CREATE, LW_OVERLAY, LW_RESTRICT, LW_SWITCH, LW_SYSCALL}
 use Rattle.kernel_core.specs.declared.thread.Thread.{Thread}
 use Rattle.lwc_base.specs.Channels.{Channels}
-use Rattle.lwc_base.specs.Life.{IsReaped, reap}
+use Rattle.lwc_base.specs.Life.{IsReaped}
 use Rattle.lwc_base.specs.World.{World}
 use Rattle.lwc_base.specs.declared.fault.Fault.TheVariants.{Budget}
 use Rattle.lwc_base.specs.declared.fault.ThreadStatus.{ThreadStatus}
@@ -24,17 +24,12 @@ use Rattle.lwc_create.specs.Create as create
 use Rattle.lwc_overlay.specs.OverlayCall as overlaying
 use Rattle.lwc_overlay.specs.RestrictCall as restricting
 use Rattle.lwc_switch.specs.Switch as switching
-use Rattle.lwc_syscall.specs.Changes.{ChangesIfDone}
 use Rattle.lwc_syscall.specs.Plain.{plain}
 use Rattle.lwc_syscall.specs.Syscall.{lw_syscall}
 use Rattle.lwc_syscall.specs.declared.answer.CallAnswer.{CallAnswer}
 use Rattle.lwc_syscall.specs.declared.answer.CallAnswer.TheVariants as ends
-use Rattle.lwc_syscall.specs.declared.calls.Three.{Three}
-
--- what is known of plain calls that are refused
-pub record IdleFacts : Type 0 where
-  pub plain : (w : World) (io : Channels) (three : Three) (job call : ℕ) (args : List ℕ) → ChangesIfDone w io (plain w io three job call args)
-  pub chosen : (w : World) (io : Channels) (c : Name) (job : ℕ) (regs : _) → ChangesIfDone w io (lw_syscall w io c job regs)
+use Rattle.lwc_base.proofs.Reaped.{reap-reaped}
+use Rattle.lwc_syscall.proofs.Refused.{plain-done, syscall-done}
 
 module _ (e : Environment) (x : Thread) (r : Refusal) where
   create-refused : (slot : ℕ) (first : Option Refusal) → refusal_in (create.ended e.world x.context x.job x.regs slot first).0 ≡ Some r →
@@ -87,31 +82,31 @@ module _ (e : Environment) (x : Thread) (r : Refusal) where
   overlay-row is = overlay-refused _ is
 
   -- of a call that is refused
-  pub call_refused : IdleFacts → (number t : ℕ) → refusal_of number t e x ≡ Some r → guest_calls number t e x ≡ unchanged e (refused x r)
+  pub call_refused : (number t : ℕ) → refusal_of number t e x ≡ Some r → guest_calls number t e x ≡ unchanged e (refused x r)
   unfolding refusal_of guest_calls
-  call_refused facts number t is =
+  call_refused number t is =
       by_row (eqb number LW_CREATE) _ _ (create_outcome e x) _ create-row
       (by_row (eqb number LW_SWITCH) _ _ (switch_outcome t e x) _ (switch-row t)
       (by_row (eqb number LW_RESTRICT) _ _ (restrict_outcome e x) _ restrict-row
       (by_row (eqb number LW_OVERLAY) _ _ (overlay_outcome e x) _ overlay-row
       (by_row (eqb number LW_SYSCALL) _ _ (syscall_outcome e x) (plain_outcome number e x)
-      (end-refused (lw_syscall e.world e.channels x.context x.job x.regs).answer _ _ (facts.chosen e.world e.channels x.context x.job x.regs))
+      (end-refused (lw_syscall e.world e.channels x.context x.job x.regs).answer _ _ (syscall-done e.world e.channels x.context x.job x.regs))
       (end-refused (plain e.world e.channels (three_times x.context) x.job number (args_of x.regs)).answer _ _
-      (facts.plain e.world e.channels (three_times x.context) x.job number (args_of x.regs))))))) is
+      (plain-done e.world e.channels (three_times x.context) x.job number (args_of x.regs))))))) is
 
 module _ (m : Machine) (t : ℕ) (x : Thread) (i : Instr) (r : Refusal) (comes : ComesToRefusal m t x i r) where
-  made : IdleFacts → thread_outcome guest_calls t m.environment m.serve m.text x x.status ≡ Some (settled t m.serve (unchanged m.environment (thread_refused m x r)))
+  made : thread_outcome guest_calls t m.environment m.serve m.text x x.status ≡ Some (settled t m.serve (unchanged m.environment (thread_refused m x r)))
   unfolding advance_outcome next_outcome shared_outcome
-  made facts =
+  made =
       ap (thread_outcome guest_calls t m.environment m.serve m.text x) comes.running
       ∙ ap (λ (next : Next). Some (settled t m.serve (counted (x.budget - 1) (next_outcome guest_calls t m.environment (advanced_thread m x) next)))) comes.next
       ∙ ap (λ (op : Op). Some (settled t m.serve (counted (x.budget - 1) (shared_outcome guest_calls t m.environment (advanced_thread m x) i op)))) comes.call
-      ∙ ap (λ (outcome : Outcome). Some (settled t m.serve (counted (x.budget - 1) outcome))) (call_refused m.environment (advanced_thread m x) r facts i.imm t comes.refused)
+      ∙ ap (λ (outcome : Outcome). Some (settled t m.serve (counted (x.budget - 1) outcome))) (call_refused m.environment (advanced_thread m x) r i.imm t comes.refused)
 
   -- a step that comes to it changes its thread, and what the end of a budget changes
-  pub step_refused : IdleFacts → step m t ≡ after_outcome m t (Some (settled t m.serve (unchanged m.environment (thread_refused m x r))))
+  pub step_refused : step m t ≡ after_outcome m t (Some (settled t m.serve (unchanged m.environment (thread_refused m x r))))
   unfolding step_by
-  step_refused facts = ap (after_thread guest_calls m t) comes.found ∙ ap (after_outcome m t) (made facts)
+  step_refused = ap (after_thread guest_calls m t) comes.found ∙ ap (after_outcome m t) made
 
   goes_on : 1 < x.budget → has_ended (thread_refused m x r).status ≡ false
   goes_on more =
@@ -125,12 +120,12 @@ module _ (m : Machine) (t : ℕ) (x : Thread) (i : Instr) (r : Refusal) (comes :
       ap (λ b. cond b (finish t s (unchanged m.environment (thread_refused m x r))) (only (Some s) (unchanged m.environment (thread_refused m x r)))) (goes_on more)
 
   -- it changes its thread alone, where nothing was left to drop
-  pub refused_alone : IdleFacts → ((w : World) (names : List Name) → IsReaped w names → reap w names ≡ w) → IsReaped m.environment.world (roots m.threads m.serve) → IsNotLast m x →
+  pub refused_alone : IsReaped m.environment.world (roots m.threads m.serve) → IsNotLast m x →
       step m t ≡ after_refusal m t x r
-  refused_alone facts same reaped last =
+  refused_alone reaped last =
       let threads : List Thread = slice_set m.threads t (thread_refused m x r) in
       let w = m.environment.world in
-      step_refused facts
+      step_refused
       ∙ ap (λ (after : AfterStep). after_outcome m t (Some after)) (not_settled m.serve last)
       ∙ ap (λ (u : World). record m { threads = threads; environment = with_world m.environment u })
-      (same w (roots threads m.serve) (uncut changes.Thread w w m.threads m.serve t x (thread_refused m x r) (refl, refl) (λ is. cc) comes.found reaped))
+      (reap-reaped w (roots threads m.serve) (uncut changes.Thread w w m.threads m.serve t x (thread_refused m x r) (refl, refl) (λ is. cc) comes.found reaped))

@@ -4,15 +4,16 @@ use Rattle.std.specs.Prelude.{IfSome}
 use Rattle.guest_isa.specs.declared.instr.Instr.{Instr}
 use Rattle.guest_machine.specs.Advances.{advanced}
 use Rattle.kernel_core.specs.Machine.{Serve, home_of}
-use Rattle.kernel_core.specs.Ready.{CanAct, CanServe, HasItsJob, KeepsContexts, RunFacts, WhileRunning}
+use Rattle.kernel_core.specs.Ready.{CanAct, CanServe, HasItsJob, KeepsContexts, WhileRunning}
 use Rattle.kernel_core.specs.Step.{advance_outcome, beside, guest_calls, unchanged}
 use Rattle.kernel_core.specs.declared.thread.Thread.{Thread}
 use Rattle.lwc_base.specs.Channels.{Channels, HasItsFiles}
 use Rattle.lwc_base.specs.World.{World, is_live}
 use Rattle.lwc_base.specs.declared.fault.ThreadStatus.{ThreadStatus}
 use Rattle.lwc_base.specs.declared.fault.ThreadStatus.TheVariants.{Running}
+use Rattle.kernel_core.proofs.Outcomes.{keeps_contexts}
 
-module _ (facts : RunFacts) (t : ℕ) (w : World) (io : Channels) (v : World) (after : Channels) (x y : Thread) (text : List Instr) (serve : Option Serve) (running : x.status ≡ Running)
+module _ (t : ℕ) (w : World) (io : Channels) (v : World) (after : Channels) (x y : Thread) (text : List Instr) (serve : Option Serve) (running : x.status ≡ Running)
     (ready : WhileRunning x.status (CanAct w x)) (files : HasItsFiles io w) (outcome : advance_outcome guest_calls t (beside w io) x (advanced text x.regs) ≡ unchanged (beside v after) y) where
   can : CanAct w x
   can = subst (λ (s : ThreadStatus). WhileRunning s (CanAct w x)) running ready
@@ -20,7 +21,7 @@ module _ (facts : RunFacts) (t : ℕ) (w : World) (io : Channels) (v : World) (a
   keeps : KeepsContexts (beside w io) x (unchanged (beside v after) y)
   keeps =
       subst (KeepsContexts (beside w io) x) outcome
-      (facts.keeps t (beside w io) x (advanced text x.regs) (record { sound = can.sound; named = can.named; files = files }) can.live)
+      (keeps_contexts t (beside w io) x (advanced text x.regs) (record { sound = can.sound; named = can.named; files = files }) can.live)
 
   count : length after.requests ≡ length io.requests
   count = ap (λ (l : List (List ℕ)). length l) keeps.requests

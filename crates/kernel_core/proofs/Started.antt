@@ -19,7 +19,7 @@ use Rattle.kernel_core.proofs.Building.{enumerate-push, first_made, first_world,
 use Rattle.kernel_core.proofs.FirstLife.{named_first, reaped_first}
 use Rattle.kernel_core.proofs.FirstWorld.{get-first, page_piece}
 use Rattle.kernel_core.proofs.Limits.{length_of_keys}
-use Rattle.kernel_core.proofs.Worlds.{WorldFacts, files_store, same_name}
+use Rattle.kernel_core.proofs.Worlds.{files_store}
 use Rattle.kernel_core.specs.Kernel.{CanOpen}
 use Rattle.kernel_core.specs.Machine.{Machine}
 use Rattle.kernel_core.specs.declared.settings.Job.{Job}
@@ -38,6 +38,11 @@ use Rattle.lwc_base.specs.declared.channels.FileImage.{FileImage}
 use Rattle.lwc_base.specs.declared.descriptor.Descriptor.TheVariants.{Console, Empty, File}
 use Rattle.lwc_base.specs.declared.limits.TheConstants.{MOST_BUDGET}
 use Rattle.lwc_base.specs.declared.name.Name.{Name}
+use Rattle.lwc_base.proofs.Facts.{orders}
+use Rattle.lwc_base.proofs.InRange.{files-add_context, files-empty_world, files-map_pages, files-put_slot}
+use Rattle.lwc_base.proofs.Orders.{same_name}
+use Rattle.lwc_base.proofs.Room.{sound-store}
+use Rattle.lwc_base.proofs.Sound.{sound-add_new_context, sound-empty_world, sound-map_pages, sound-put_slot}
 
 -- the threads of one entry more
 pub one_thread_more : (budget t : ℕ) (entries : List ℕ) → t < length entries →
@@ -126,109 +131,108 @@ machine_at inputs job = record {
   serve = serve_at job inputs.settings.budget (length inputs.requests);
 }
 
-module _ (facts : WorldFacts) where
-  -- the world of one context is within the limits
-  within_limits : (frames tags : ℕ) (x : Context) (jobs : List ℕ) → IsWithinLimits (world_with frames tags x) jobs
-  unfolding world_with live_of groups_of
-  within_limits frames tags x jobs =
-      let w : World = world_with frames tags x in
-      let one : fm.len w.contexts ≡ 1 =
-      fm.len-insert facts.orders.names nobody first_name x
-      ∙ ap (λ b. cond b (fm.len nobody) (fm.len nobody + 1)) (ap is_some (fm.get-empty name_cmp first_name))
-      ∙ ap (λ n. n + 1) (fm.len-empty name_cmp Context) in
-      let no_group : fm.len w.groups ≡ 0 = fm.len-empty name_cmp Group in
-      let contexts : (job : ℕ) → live_of w job ≤ 1 = λ job. omega (arith, one, length_of_keys w.contexts, count_by-le-length (λ (c : Name). eqb c.job job) (fm.keys w.contexts)) in
-      let groups : (job : ℕ) → groups_of w job ≤ 0 = λ job. omega (arith, no_group, length_of_keys w.groups, count_by-le-length (λ (c : Name). eqb c.job job) (fm.keys w.groups)) in
-      record {
-        contexts = λ c live. only_first c _ refl (sym (ap is_some (get-first facts.orders x c)) ∙ live);
-        groups = λ g there. absurd (false≢true (sym (ap is_some (fm.get-empty name_cmp g)) ∙ there));
-        homes = omega (arith, contexts 0);
-        few_contexts = λ job. omega (arith, contexts job);
-        few_groups = λ job. omega (arith, groups job);
-      }
-    where
-      only_first : (c : Name) (b : Bool) → eq_by_cmp name_cmp c first_name ≡ b → is_some (cond b (Some x) None) ≡ true → Contains (0 ∷ jobs) c.job
-      only_first c true same live =
-          let is : c ≡ first_name = same_name facts.orders c first_name same in (zero, omega arith, sym (ap (λ (n : Name). n.job) is))
-      only_first c false other live = absurd (false≢true live)
+-- the world of one context is within the limits
+within_limits : (frames tags : ℕ) (x : Context) (jobs : List ℕ) → IsWithinLimits (world_with frames tags x) jobs
+unfolding world_with live_of groups_of
+within_limits frames tags x jobs =
+    let w : World = world_with frames tags x in
+    let one : fm.len w.contexts ≡ 1 =
+    fm.len-insert orders.names nobody first_name x
+    ∙ ap (λ b. cond b (fm.len nobody) (fm.len nobody + 1)) (ap is_some (fm.get-empty name_cmp first_name))
+    ∙ ap (λ n. n + 1) (fm.len-empty name_cmp Context) in
+    let no_group : fm.len w.groups ≡ 0 = fm.len-empty name_cmp Group in
+    let contexts : (job : ℕ) → live_of w job ≤ 1 = λ job. omega (arith, one, length_of_keys w.contexts, count_by-le-length (λ (c : Name). eqb c.job job) (fm.keys w.contexts)) in
+    let groups : (job : ℕ) → groups_of w job ≤ 0 = λ job. omega (arith, no_group, length_of_keys w.groups, count_by-le-length (λ (c : Name). eqb c.job job) (fm.keys w.groups)) in
+    record {
+      contexts = λ c live. only_first c _ refl (sym (ap is_some (get-first x c)) ∙ live);
+      groups = λ g there. absurd (false≢true (sym (ap is_some (fm.get-empty name_cmp g)) ∙ there));
+      homes = omega (arith, contexts 0);
+      few_contexts = λ job. omega (arith, contexts job);
+      few_groups = λ job. omega (arith, groups job);
+    }
+  where
+    only_first : (c : Name) (b : Bool) → eq_by_cmp name_cmp c first_name ≡ b → is_some (cond b (Some x) None) ≡ true → Contains (0 ∷ jobs) c.job
+    only_first c true same live =
+        let is : c ≡ first_name = same_name c first_name same in (zero, omega arith, sym (ap (λ (n : Name). n.job) is))
+    only_first c false other live = absurd (false≢true live)
 
-  module _ (image : Image) (is : IsImage image) (frames : ℕ) (fits : length image.pages ≤ frames) where
-    module _ (P : World → Type 0) (stays : StaysSo image frames P) where
-      so_after_pages : (k : ℕ) → k ≤ length image.pages → P (world_so_far image frames k 0)
-      so_after_pages zero within = subst P (first_made image frames (fresh_registers (first_entry image)) _ _ refl refl refl) stays.add
-      so_after_pages (suc k) within =
-          let there = page_there image.pages k (omega arith) in
-          let x = there.0 in
-          let w : World = world_so_far image frames k 0 in
-          let v : World = map_pages w first_name x.number (x.number + 1) in
-          let first = first_world facts.orders image is frames k 0 w refl (omega (arith, is.page_count)) in
-          let number : x.number < 1024 = number_below facts.orders image is k x there.1 in
-          let so : P v = stays.map w first_name x.number (x.number + 1) (omega (arith, number, ap (λ s. s.pages) first.size)) (so_after_pages k (omega arith)) in
-          let live = (mapped_world facts.orders image is k x there.1 frames fits w v refl refl).live in
-          let next : k + 1 ≡ suc k = omega arith in
-          subst (λ (n : ℕ). P (world_so_far image frames n 0)) next
-          (stays.store v (world_so_far image frames (k + 1) 0) first_name 0 (page_piece x.number x.bytes) so live
-          (page_stored facts.orders image is k x there.1 frames fits w v refl refl))
+module _ (image : Image) (is : IsImage image) (frames : ℕ) (fits : length image.pages ≤ frames) where
+  module _ (P : World → Type 0) (stays : StaysSo image frames P) where
+    so_after_pages : (k : ℕ) → k ≤ length image.pages → P (world_so_far image frames k 0)
+    so_after_pages zero within = subst P (first_made image frames (fresh_registers (first_entry image)) _ _ refl refl refl) stays.add
+    so_after_pages (suc k) within =
+        let there = page_there image.pages k (omega arith) in
+        let x = there.0 in
+        let w : World = world_so_far image frames k 0 in
+        let v : World = map_pages w first_name x.number (x.number + 1) in
+        let first = first_world image is frames k 0 w refl (omega (arith, is.page_count)) in
+        let number : x.number < 1024 = number_below image is k x there.1 in
+        let so : P v = stays.map w first_name x.number (x.number + 1) (omega (arith, number, ap (λ s. s.pages) first.size)) (so_after_pages k (omega arith)) in
+        let live = (mapped_world image is k x there.1 frames fits w v refl refl).live in
+        let next : k + 1 ≡ suc k = omega arith in
+        subst (λ (n : ℕ). P (world_so_far image frames n 0)) next
+        (stays.store v (world_so_far image frames (k + 1) 0) first_name 0 (page_piece x.number x.bytes) so live
+        (page_stored image is k x there.1 frames fits w v refl refl))
 
-      so_after_slots : (n : ℕ) → P (world_so_far image frames (length image.pages) n)
-      so_after_slots zero = so_after_pages (length image.pages) (omega arith)
-      so_after_slots (suc n) =
-          let w : World = world_so_far image frames (length image.pages) n in
-          let next : n + 1 ≡ suc n = omega arith in
-          subst (λ (m : ℕ). P (world_so_far image frames (length image.pages) m)) next
-          (subst P (slot_put facts.orders image is frames (length image.pages) n (first_slot image.slots n) w _ refl refl refl) (stays.slot w n (so_after_slots n)))
+    so_after_slots : (n : ℕ) → P (world_so_far image frames (length image.pages) n)
+    so_after_slots zero = so_after_pages (length image.pages) (omega arith)
+    so_after_slots (suc n) =
+        let w : World = world_so_far image frames (length image.pages) n in
+        let next : n + 1 ≡ suc n = omega arith in
+        subst (λ (m : ℕ). P (world_so_far image frames (length image.pages) m)) next
+        (subst P (slot_put image is frames (length image.pages) n (first_slot image.slots n) w _ refl refl refl) (stays.slot w n (so_after_slots n)))
 
-      so_at_start : P (start_world image frames)
-      so_at_start = subst P (all_put image frames) (so_after_slots 64)
+    so_at_start : P (start_world image frames)
+    so_at_start = subst P (all_put image frames) (so_after_slots 64)
 
-    pub sound_start : IsSound (start_world image frames)
-    sound_start =
-        so_at_start IsSound
-        (record {
-          add = facts.sound.add (empty_world (world_size frames)) 0 image.uid (fresh_registers (first_entry image)) (facts.sound.empty (world_size frames));
-          map = facts.sound.map;
-          store = facts.sound.store;
-          slot = λ w n. facts.sound.slot w first_name n (first_slot image.slots n);
-        })
+  pub sound_start : IsSound (start_world image frames)
+  sound_start =
+      so_at_start IsSound
+      (record {
+        add = sound-add_new_context (empty_world (world_size frames)) 0 image.uid (fresh_registers (first_entry image)) (sound-empty_world (world_size frames));
+        map = sound-map_pages;
+        store = sound-store;
+        slot = λ w n. sound-put_slot w first_name n (first_slot image.slots n);
+      })
 
-    -- each file that a slot names is there
-    pub files_start : (requests : List (List ℕ)) → HasItsFiles (opened image.files requests) (start_world image frames)
-    files_start requests =
-        let io = opened image.files requests in
-        so_at_start (HasItsFiles io)
-        (record {
-          add = facts.files.add io (empty_world (world_size frames)) 0 image.uid (fresh_registers (first_entry image)) (facts.files.empty io (world_size frames));
-          map = λ w c from to within. facts.files.map io w c from to;
-          store = λ w v c job piece has live done. files_store facts w v io c job piece done has;
-          slot = λ w n. facts.files.slot io w first_name n (first_slot image.slots n) (first_in_range image.files requests image.slots is.slots.files n);
-        })
+  -- each file that a slot names is there
+  pub files_start : (requests : List (List ℕ)) → HasItsFiles (opened image.files requests) (start_world image frames)
+  files_start requests =
+      let io = opened image.files requests in
+      so_at_start (HasItsFiles io)
+      (record {
+        add = files-add_context io (empty_world (world_size frames)) 0 image.uid (fresh_registers (first_entry image)) (files-empty_world io (world_size frames));
+        map = λ w c from to within. files-map_pages io w c from to;
+        store = λ w v c job piece has live done. files_store w v io c job piece done has;
+        slot = λ w n. files-put_slot io w first_name n (first_slot image.slots n) (first_in_range image.files requests image.slots is.slots.files n);
+      })
 
-  -- the machine of a run's start is ready
-  pub ready_run_start : (inputs : Inputs) → CanOpen inputs → inputs.settings.job ≡ Run → inputs.requests ≡ [] → IsReady inputs 0 (machine_at inputs Run)
-  unfolding start_world first_threads world_with thread_count
-  ready_run_start inputs can job none =
-      let image = inputs.image in
-      let frames = inputs.settings.frames in
-      let entries = image.entries in
-      let count : length (first_threads inputs.settings.budget entries) ≡ length entries = length-first_threads inputs.settings.budget entries in
-      record {
-        image = can.image;
-        few_requests = omega (arith, ap (λ (l : List (List ℕ)). length l) none);
-        serve = tt;
-        size = refl;
-        sound = sound_start image can.image frames can.fits;
-        named = named_first facts image frames (length image.pages) image.pages;
-        files = files_start image can.image frames can.fits inputs.requests;
-        given_files = refl;
-        given_requests = refl;
-        reaped = reaped_first facts frames (length image.pages) (first_context image image.pages 64) inputs.settings.budget entries can.image.some_thread;
-        limits = within_limits frames (length image.pages) (first_context image image.pages 64) (jobs_of (first_threads inputs.settings.budget entries));
-        counted = λ job. counted_by (eqb job 0) (length image.pages) can.image.page_count;
-        threads = ready_from (start_world image frames) inputs.settings.budget 0 entries
-            (first_world facts.orders image can.image frames (length image.pages) 64 _ (sym (all_put image frames)) can.image.page_count).live
-            can.settings.budget.0 can.settings.budget.1 (omega (arith, can.image.thread_count));
-        count = count ∙ sym (ap (threads_for image) job);
-        some = omega (arith, count, can.image.some_thread);
-        few = omega (arith, count, can.image.thread_count);
-        text = refl;
-      }
+-- the machine of a run's start is ready
+pub ready_run_start : (inputs : Inputs) → CanOpen inputs → inputs.settings.job ≡ Run → inputs.requests ≡ [] → IsReady inputs 0 (machine_at inputs Run)
+unfolding start_world first_threads world_with thread_count
+ready_run_start inputs can job none =
+    let image = inputs.image in
+    let frames = inputs.settings.frames in
+    let entries = image.entries in
+    let count : length (first_threads inputs.settings.budget entries) ≡ length entries = length-first_threads inputs.settings.budget entries in
+    record {
+      image = can.image;
+      few_requests = omega (arith, ap (λ (l : List (List ℕ)). length l) none);
+      serve = tt;
+      size = refl;
+      sound = sound_start image can.image frames can.fits;
+      named = named_first image frames (length image.pages) image.pages;
+      files = files_start image can.image frames can.fits inputs.requests;
+      given_files = refl;
+      given_requests = refl;
+      reaped = reaped_first frames (length image.pages) (first_context image image.pages 64) inputs.settings.budget entries can.image.some_thread;
+      limits = within_limits frames (length image.pages) (first_context image image.pages 64) (jobs_of (first_threads inputs.settings.budget entries));
+      counted = λ job. counted_by (eqb job 0) (length image.pages) can.image.page_count;
+      threads = ready_from (start_world image frames) inputs.settings.budget 0 entries
+          (first_world image can.image frames (length image.pages) 64 _ (sym (all_put image frames)) can.image.page_count).live
+          can.settings.budget.0 can.settings.budget.1 (omega (arith, can.image.thread_count));
+      count = count ∙ sym (ap (threads_for image) job);
+      some = omega (arith, count, can.image.some_thread);
+      few = omega (arith, count, can.image.thread_count);
+      text = refl;
+    }

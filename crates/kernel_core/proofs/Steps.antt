@@ -12,13 +12,13 @@ use Rattle.guest_isa.specs.declared.instr.Instr.{Instr}
 use Rattle.guest_machine.specs.Advances.{advanced}
 use Rattle.kernel_core.proofs.Finished.{ended_none, finished-push}
 use Rattle.kernel_core.proofs.Others.{found_set}
-use Rattle.kernel_core.proofs.ReadyRuns.{ready_thread, while_running}
+use Rattle.kernel_core.proofs.ReadyRuns.{fewer_steps, live_after, ready_thread, running_acts, while_running}
 use Rattle.kernel_core.proofs.Reaping.{uncut}
 use Rattle.kernel_core.proofs.Runs.{run-push, peak-push, used_last}
 use Rattle.kernel_core.specs.Changes.{IsNumbered, Keeps, KeepsAll, after_effect, made}
 use Rattle.kernel_core.specs.Kernel.{CanOpen, History, machine_of, stepped, turn, turn_at, view_of}
 use Rattle.kernel_core.specs.Machine.{Environment, Machine, Serve, has_ended, homes, homes_of, in_serve, is_ended, recorded, reply_of, steps_after, steps_for_requests, steps_left, work}
-use Rattle.kernel_core.specs.Ready.{CanAct, HasItsJob, IsReady, IsReadyServe, IsReadyThread, IsRunnable, IsWorker, RunFacts, WhileRunning}
+use Rattle.kernel_core.specs.Ready.{CanAct, HasItsJob, IsReady, IsReadyServe, IsReadyThread, IsRunnable, IsWorker, WhileRunning}
 use Rattle.kernel_core.specs.Runs.{frames_of, last_finished, peak}
 use Rattle.kernel_core.specs.Start.{Inputs, serve_at, start, thread_count, threads_at, world_for}
 use Rattle.kernel_core.specs.Steady.{IsSteady, history, machine}
@@ -39,6 +39,8 @@ use Rattle.lwc_base.specs.declared.fault.ThreadStatus.TheVariants.{Idle, Running
 use Rattle.lwc_base.specs.declared.limits.TheConstants.{MOST_BUDGET, MOST_STEPS}
 use Rattle.lwc_base.specs.declared.name.Name.{Name}
 use Rattle.snapshot_host.specs.declared.finishing.Finished.{Finished}
+use Rattle.kernel_core.proofs.ReadyMachines.{ready_machine}
+use Rattle.lwc_base.proofs.Reaped.{reap-reaped}
 
 -- a history with one more step
 abbrev pub longer : History → ℕ → History
@@ -174,10 +176,10 @@ homes_after t e (Some s) text x Idle after made =
 homes_after t e serve text x (Done code) after made = cc
 homes_after t e serve text x (Faulted f) after made = cc
 
-module _ (facts : RunFacts) (m : Machine) (most : ℕ) (h : History) (steady : IsSteady m most h) where
+module _ (m : Machine) (most : ℕ) (h : History) (steady : IsSteady m most h) where
   pub is_ready : IsReady h.inputs (length h.steps) m
   unfolding machine_of
-  is_ready = subst (IsReady h.inputs (length h.steps)) (sym steady.machine) (facts.ready h.inputs h.steps steady.inputs)
+  is_ready = subst (IsReady h.inputs (length h.steps)) (sym steady.machine) (ready_machine h.inputs h.steps steady.inputs)
 
   -- a number below the number of threads
   pub within : (t : ℕ) → t < thread_count h.inputs → t < length m.threads
@@ -238,7 +240,7 @@ module _ (facts : RunFacts) (m : Machine) (most : ℕ) (h : History) (steady : I
 
     -- the thread can act while it runs, and has steps left
     pub acts : WhileRunning x.status (CanAct m.environment.world x)
-    acts = facts.act h.inputs (length h.steps) t m x is_ready (omega (arith, steady.room)) found
+    acts = running_acts h.inputs (length h.steps) t m x is_ready (omega (arith, steady.room)) found
 
     pub has_steps : WhileRunning x.status (0 < x.budget)
     has_steps =
@@ -329,11 +331,11 @@ module _ (facts : RunFacts) (m : Machine) (most : ℕ) (h : History) (steady : I
       unfolding turn turn_at after
       made_step =
           let going : is_ended (machine_of h) t ≡ false = ended_as ∙ not_ended t m.environment m.serve m.text x x.status made_after made in
-          let fewer = facts.fewer h.inputs (length h.steps) t m x made_after is_ready found made in
+          let fewer = fewer_steps h.inputs (length h.steps) t m x is_ready found made_after made in
           record {
             going = going;
             kept = stepped_by h t false going;
-            live = facts.live h.inputs (length h.steps) t m x made_after is_ready found made;
+            live = live_after h.inputs (length h.steps) t m x is_ready found made_after made;
             steady = λ some u reaped.
                 subst (λ (u : World). IsSteady (record m { threads = slice_set m.threads t made_after.thread; environment = with_world made_after.environment u; serve = made_after.serve }) (max most (used u)) (longer h t)) (sym reaped)
                 (record { inputs = steady.inputs; machine = machine_after; peak = peak_after; room = one_less some });
@@ -387,4 +389,4 @@ module _ (facts : RunFacts) (m : Machine) (most : ℕ) (h : History) (steady : I
           let kept : Keeps f.change m.environment.world x v y = subst (λ (k : Option Effect). KeepsAll k m.environment.world m.environment.channels m.serve x v after serve y) is keeps in
           let alone : Keeps changes.Thread m.environment.world x v y = subst (λ (c : Change). Keeps c m.environment.world x v y) thread kept in
           let left = nothing_left f is (λ same. let both : changes.Thread ≡ changes.Links = sym thread ∙ same in cc) in
-          omega (arith, ap used (reaped ∙ facts.same v (roots (slice_set m.threads t y) serve) left ∙ alone.0), used_below)
+          omega (arith, ap used (reaped ∙ reap-reaped v (roots (slice_set m.threads t y) serve) left ∙ alone.0), used_below)

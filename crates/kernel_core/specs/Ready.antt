@@ -1,37 +1,32 @@
 -- What threads need of the world that they act in, and what each machine of a run keeps true of both.
-use Rattle.std.specs.Prelude.{◌≡◌, ℕ, ◌+◌, ◌*◌, ◌≤◌, ◌<◌, false, true, List, [], ◌∷◌, Some, length, map, slice_get, slice_set, All, IfSome}
+use Rattle.std.specs.Prelude.{◌≡◌, ℕ, ◌+◌, ◌*◌, ◌≤◌, ◌<◌, false, true, List, [], ◌∷◌, length, map, All, IfSome}
 use Rattle.std.specs.List.{Contains}
 use Rattle.guest_image.specs.Limits.{IsImage}
-use Rattle.kernel_core.specs.Kernel.{CanOpen}
-use Rattle.kernel_core.specs.Machine.{Environment, Machine, Serve, home_of, homes_of, work}
+use Rattle.kernel_core.specs.Machine.{Environment, Machine, Serve, home_of}
 use Rattle.lwc_base.specs.Jobs.{NamesKeepToJobs}
-use Rattle.kernel_core.specs.Runs.{run}
-use Rattle.guest_image.specs.declared.image.Image.{Image}
-use Rattle.kernel_core.specs.Start.{Inputs, first_entry, first_name, home_context, homes_so_far, serve_world, start, start_world, thread_count, world_size}
-use Rattle.kernel_core.specs.Step.{AfterStep, Outcome, advance_outcome, after_outcome, guest_calls, roots, thread_outcome}
+use Rattle.kernel_core.specs.Start.{Inputs, first_name, home_context, thread_count, world_size}
+use Rattle.kernel_core.specs.Step.{Outcome, roots}
 use Rattle.kernel_core.specs.declared.thread.Thread.{Thread}
 use Rattle.lwc_base.specs.declared.fault.ThreadStatus.{ThreadStatus}
 use Rattle.lwc_base.specs.declared.fault.ThreadStatus.TheVariants.{Idle, Running, Done, Faulted}
-use Rattle.lwc_base.specs.declared.limits.TheConstants.{MOST_BUDGET, MOST_CONTEXTS_OF_JOB, MOST_GROUPS_OF_JOB, MOST_PAGES, MOST_RANGES, MOST_REQUESTS, MOST_STEPS, MOST_THREADS}
+use Rattle.lwc_base.specs.declared.limits.TheConstants.{MOST_BUDGET, MOST_CONTEXTS_OF_JOB, MOST_GROUPS_OF_JOB, MOST_PAGES, MOST_RANGES, MOST_REQUESTS, MOST_THREADS}
 use Rattle.lwc_base.specs.declared.name.Name.{Name}
-use Rattle.guest_machine.specs.declared.progress.Advance.{Advance}
 use Rattle.lwc_base.specs.Channels.{Channels, HasItsFiles}
 use Rattle.lwc_base.specs.Holders.{IsGroup}
-use Rattle.lwc_base.specs.Life.{HasItsContexts, IsReaped, reap}
+use Rattle.lwc_base.specs.Life.{HasItsContexts, IsReaped}
 use Rattle.lwc_base.specs.Ranges.{ranges_of}
 use Rattle.lwc_base.specs.Sound.{HasItsGroups, IsSound}
 use Rattle.lwc_base.specs.Cells.{put_slot}
-use Rattle.lwc_base.specs.Registers.{fresh_registers}
 use Rattle.lwc_base.specs.Sharing.{clone_context, needs_group, ranges_after_clone}
 use Rattle.lwc_base.specs.declared.descriptor.Descriptor.TheVariants.{Empty}
 use Rattle.lwc_base.specs.declared.regs.Regs.{Regs}
 use Rattle.lwc_base.specs.World.{World, Counters, context, groups_of, is_live, live_of, next_context}
 use Rattle.lwc_create.specs.Create.{HasPlaces}
-use Rattle.lwc_syscall.specs.Changes.{IsWell}
 use Rattle.snapshot_host.specs.Begin.{IsNewJob}
 use Rattle.world_face.specs.Calls.{AreFew, HasPlace, IsLive, MayName}
 
--- a thread may act in a world: the world is sound and has the contexts that its slots name, the thread's context
+-- a thread may act in a world: the world is sound and has the contexts that its slots name, the thread's
+-- context
 -- is live, and its job may name and place what it makes
 pub record CanAct (w : World) (x : Thread) : Type 0 where
   pub sound : IsSound w
@@ -75,7 +70,8 @@ pub record CanServe (w : World) (io : Channels) (s : Serve) : Type 0 where
 abbrev pub jobs_of : List Thread → List ℕ
 jobs_of threads = map (λ x. x.job) threads
 
--- live contexts bear job 0 or a thread's job, live groups a thread's job that is not 0, and no job has too many
+-- live contexts bear job 0 or a thread's job, live groups a thread's job that is not 0, and no job has too
+-- many
 pub record IsWithinLimits (w : World) (jobs : List ℕ) : Type 0 where
   pub contexts : (c : Name) → is_live w c ≡ true → Contains (0 ∷ jobs) c.job
   pub groups : (g : Name) → IsGroup w g → Contains jobs g.job × (1 ≤ g.job)
@@ -105,7 +101,8 @@ pub record IsWorker (s : Serve) (x : Thread) : Type 0 where
   pub here : x.context.job ≡ x.job
   pub job : HasItsJob s x.status x.job
 
--- a serve is as its next requests need it: its homes are as at the start, names keep to their jobs, and jobs that are
+-- a serve is as its next requests need it: its homes are as at the start, names keep to their jobs, and jobs
+-- that are
 -- not begun have counted nothing
 pub record IsReadyServe (inputs : Inputs) (m : Machine) (s : Serve) : Type 0 where
   pub workers : s.workers ≤ MOST_THREADS
@@ -155,40 +152,3 @@ pub record CanPutHome (w : World) (home : Name) : Type 0 where
   pub next : next_context w 0 ≡ home
   pub copied : (entry : Regs) → IsLive (clone_context w first_name 0 [] entry) home
   pub emptied : (entry : Regs) → IsLive (put_slot (clone_context w first_name 0 [] entry) home 1 Empty) home
-
--- how the homes of a serve are made: each from the first context, which is dropped then
-pub record HomeFacts : Type 0 where
-  pub first : (image : Image) (frames : ℕ) → homes_so_far image frames 0 ≡ start_world image frames
-  pub can : (image : Image) (frames t : ℕ) → IsImage image → t < MOST_THREADS →
-      CanPutHome (homes_so_far image frames t) (home_of t)
-  pub made : (image : Image) (frames t : ℕ) →
-      put_slot (put_slot (clone_context (homes_so_far image frames t) first_name 0 []
-      (fresh_registers (first_entry image))) (home_of t) 1 Empty) (home_of t) 0 Empty
-      ≡ homes_so_far image frames (t + 1)
-  pub live : (image : Image) (frames workers : ℕ) →
-      All (IsLive (homes_so_far image frames workers)) (homes_of workers)
-  pub left : (image : Image) (frames workers : ℕ) →
-      reap (homes_so_far image frames workers) (homes_of workers) ≡ serve_world image frames workers
-
--- the machines of runs are ready, and stay as they are when they are reaped; in a ready one running threads can act
--- and requests can be begun, and a step leaves each thread and each home in a live context, and fewer steps
-pub record RunFacts : Type 0 where
-  pub ready : (inputs : Inputs) (steps : List ℕ) → CanOpen inputs →
-      IsReady inputs (length steps) (run (start inputs) steps)
-  pub act : (inputs : Inputs) (steps t : ℕ) (m : Machine) (x : Thread) →
-      IsReady inputs steps m → steps ≤ MOST_STEPS → slice_get m.threads t ≡ Some x →
-      WhileRunning x.status (CanAct m.environment.world x)
-  pub serve : (inputs : Inputs) (steps : ℕ) (m : Machine) → IsReady inputs steps m →
-      IfSome m.serve (CanServe m.environment.world m.environment.channels)
-  pub fewer : (inputs : Inputs) (steps t : ℕ) (m : Machine) (x : Thread) (after : AfterStep) →
-      IsReady inputs steps m → slice_get m.threads t ≡ Some x →
-      thread_outcome guest_calls t m.environment m.serve m.text x x.status ≡ Some after →
-      work (after_outcome m t (Some after)) < work m
-  pub live : (inputs : Inputs) (steps t : ℕ) (m : Machine) (x : Thread) (after : AfterStep) →
-      IsReady inputs steps m → slice_get m.threads t ≡ Some x →
-      thread_outcome guest_calls t m.environment m.serve m.text x x.status ≡ Some after →
-      All (IsLive after.environment.world) (roots (slice_set m.threads t after.thread) after.serve)
-  pub keeps : (t : ℕ) (e : Environment) (x : Thread) (advance : Advance) → IsWell e.world e.channels →
-      is_live e.world x.context ≡ true → KeepsContexts e x (advance_outcome guest_calls t e x advance)
-  pub same : (w : World) (names : List Name) → IsReaped w names → reap w names ≡ w
-  pub homes : HomeFacts

@@ -24,7 +24,8 @@ abbrev pub peak : Machine → List ℕ → ℕ
 peak m [] = frames_of m
 peak m (t ∷ ts) = max (frames_of m) (peak (step m t) ts)
 
--- what the last of these steps that a thread makes finishes; what was last finished before them if it makes none
+-- what the last of these steps that a thread makes finishes; what was last finished before them if it makes
+-- none
 abbrev pub last_finished : Machine → List ℕ → ℕ → Option Finished → Option Finished
 last_finished m [] t before = before
 last_finished m (s ∷ ss) t before = last_finished (step m s) ss t (if s == t then finishes m t else before)

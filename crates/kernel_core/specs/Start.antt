@@ -142,7 +142,8 @@ abbrev pub with_homes : fm.FinMap name_cmp Context → Context → ℕ → fm.Fi
 with_homes contexts home zero = contexts
 with_homes contexts home (suc t) = fm.insert (with_homes contexts home t) (home_of t) home
 
--- the world of these contexts, where job 0 has named the first context and this number of homes, and taken a tag for
+-- the world of these contexts, where job 0 has named the first context and this number of homes, and taken a
+-- tag for
 -- each page
 unfoldable pub world_of : Image → ℕ → ℕ → fm.FinMap name_cmp Context → World
 world_of image frames workers contexts = record {

@@ -238,7 +238,8 @@ unfoldable pub advance_outcome : Calls → ℕ → Environment → Thread → Ad
 advance_outcome calls t e x advance =
     counted (x.budget - 1) (next_outcome calls t e (with_regs x advance.after) advance.next)
 
--- what a step leaves: the thread, what it has in common with the others, the serve, and what is finished, if a request is
+-- what a step leaves: the thread, what it has in common with the others, the serve, and what is finished, if
+-- a request is
 pub record AfterStep : Type 0 where
   pub thread : Thread
   pub environment : Environment
@@ -314,7 +315,8 @@ contexts_of threads = map (λ x. x.context) threads
 abbrev pub roots : List Thread → Option Serve → List Name
 roots threads serve = contexts_of threads ++ homes serve
 
--- the machine without the contexts that are not reached from these, and then without the groups that no cell names
+-- the machine without the contexts that are not reached from these, and then without the groups that no cell
+-- names
 abbrev pub reap : Machine → Machine
 reap m =
     record m {

@@ -12,12 +12,11 @@ ghost use Rattle.lwc_base.specs.declared.limits.TheConstants.{MOST_THREADS};
 ghost use Rattle.world_face.specs.Calls.{IsLive};
 
 use crate::calling::call;
-use crate::laws::runs_stay_ready;
 use crate::memory::{address_of, byte_at, store_byte, store_word, word_at};
 use crate::serve::{Serve, home_of};
 use crate::thread::{Thread, has_ended};
-use guest_isa::{Instr, Op, Text, fields_are_in_range};
-use guest_machine::{Advance, Next, advances_come_to_instructions, run_on};
+use guest_isa::{Instr, Op, Text};
+use guest_machine::{Advance, Next, run_on};
 use lwc_base::{Channels, Fault, OutOfMemory, Regs, ThreadStatus};
 use snapshot_host::begin;
 use world_face::World;
@@ -86,7 +85,6 @@ pub(crate) fn step_thread<W: World>(
 {
     match thread.status {
         ThreadStatus::Running => {
-            runs_stay_ready();
             let change = run_thread(world, io, text, t, thread, proposal)?;
             Ok(Some(settle(world, io, serve, t, thread, change)))
         }
@@ -211,6 +209,7 @@ fn run_thread<W: World>(
 
 /// Does the private instructions that come first, as proposed if the proposal begins with these registers.
 /// Answers what comes next.
+#[tactic(auto, using(guest_machine::proofs::Runs::comes_to_instruction))]
 fn advance_regs(text: &Text, regs: &mut Regs, proposal: Option<&Advance>) -> Next
     requires proposal { IfSome proposal (λ a. a.now ≡ advanced text.now a.now.before) }
     requires text { IsText text.now }
@@ -218,7 +217,6 @@ fn advance_regs(text: &Text, regs: &mut Regs, proposal: Option<&Advance>) -> Nex
         ≡ advanced text.now regs.old }
     ensures instruction { IfShared result IsInstruction }
 {
-    advances_come_to_instructions();
     match proposal {
         Some(proposed) if proposed.before == *regs => {
             *regs = proposed.after;
@@ -260,7 +258,7 @@ fn run_next<W: World>(
 }
 
 /// Does a shared instruction of thread `t`.
-#[tactic(auto, unfolding(crate::specs::Step::shared_outcome))]
+#[tactic(auto, using(guest_isa::proofs::Fields::in_range), unfolding(crate::specs::Step::shared_outcome))]
 fn execute<W: World>(
     world: &mut W,
     io: &mut Channels,
@@ -280,7 +278,6 @@ fn execute<W: World>(
     ensures err_io { OnErr result (io.new ≡ io.old) }
     ensures ample { W.roomy ≡ true → IsOk result }
 {
-    fields_are_in_range();
     let at = address_of(&thread.regs, i);
     match i.op {
         Op::Ldb => {

@@ -8,18 +8,10 @@ ghost use Rattle.lwc_base.specs.declared.limits.TheConstants.{MOST_THREADS};
 
 use crate::acting::Change;
 use crate::thread::Thread;
-use lwc_base::laws::{
-    changes_that_cut_no_link_leave_nothing_to_drop, names_are_ordered,
-    the_lowest_empty_slot_is_empty,
-};
 use lwc_base::{Answer, Channels, Moved, OutOfMemory};
 use lwc_create::create;
-use lwc_create::laws::an_accepted_call_is_within_limits;
-use lwc_overlay::laws::an_accepted_restriction_takes_keys;
 use lwc_overlay::{overlay, restrict};
-use lwc_switch::laws::an_accepted_switch_goes_to_a_linked_context;
 use lwc_switch::switch;
-use lwc_syscall::laws::{a_refused_call_changes_nothing, some_plain_calls_cut_no_link};
 use lwc_syscall::{CallAnswer, Three, lw_syscall, plain};
 use world_face::World;
 
@@ -79,9 +71,6 @@ fn call_create<W: World>(world: &mut W, thread: &mut Thread) -> Result<Change, O
     ensures err { OnErr result (W.seen world.new ≡ W.seen world.old) }
     ensures ample { W.roomy ≡ true → IsOk result }
 {
-    changes_that_cut_no_link_leave_nothing_to_drop();
-    the_lowest_empty_slot_is_empty();
-    an_accepted_call_is_within_limits();
     let answer = create(world, thread.context, thread.job, &thread.regs)?;
     Ok(end_call(thread, answer, Change::World))
 }
@@ -94,9 +83,6 @@ fn call_switch<W: World>(world: &mut W, t: u32, thread: &mut Thread) -> Change
         (W.seen world.old) thread.old (W.seen world.new) thread.new }
     ensures kept { Keeps result (W.seen world.old) thread.old (W.seen world.new) thread.new }
 {
-    names_are_ordered();
-    changes_that_cut_no_link_leave_nothing_to_drop();
-    an_accepted_switch_goes_to_a_linked_context();
     match switch(world, thread.context, t, &thread.regs) {
         Moved::To { context, regs } => {
             thread.context = context;
@@ -117,8 +103,6 @@ fn call_restrict<W: World>(world: &mut W, thread: &mut Thread) -> Change
         (W.seen world.old) thread.old (W.seen world.new) thread.new }
     ensures kept { Keeps result (W.seen world.old) thread.old (W.seen world.new) thread.new }
 {
-    changes_that_cut_no_link_leave_nothing_to_drop();
-    an_accepted_restriction_takes_keys();
     let answer = restrict(world, thread.context, &thread.regs);
     end_call(thread, answer, Change::World)
 }
@@ -155,9 +139,6 @@ fn call_syscall<W: World>(
     ensures err_io { OnErr result (io.new ≡ io.old) }
     ensures ample { W.roomy ≡ true → IsOk result }
 {
-    changes_that_cut_no_link_leave_nothing_to_drop();
-    a_refused_call_changes_nothing();
-    some_plain_calls_cut_no_link();
     let accepted = change_by_number(thread.regs.r[3]);
     let answer = lw_syscall(world, io, thread.context, thread.job, &thread.regs)?;
     Ok(end_plain(thread, answer, accepted))
@@ -181,9 +162,6 @@ fn call_plain<W: World>(
     ensures err_io { OnErr result (io.new ≡ io.old) }
     ensures ample { W.roomy ≡ true → IsOk result }
 {
-    changes_that_cut_no_link_leave_nothing_to_drop();
-    a_refused_call_changes_nothing();
-    some_plain_calls_cut_no_link();
     let c = thread.context;
     let three = Three {
         memory: c,

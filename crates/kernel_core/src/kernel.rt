@@ -23,7 +23,6 @@ ghost use Rattle.std.specs.Option.{option_map};
 ghost use Rattle.world_face.specs.Calls.{IsLive};
 
 use crate::acting::{Change, step_thread};
-use crate::laws::runs_stay_ready;
 use crate::serve::{Serve, home_of, recorded, worker_count};
 use crate::settings::{Job, OpenFault, Settings};
 use crate::starting::{first_serve, open_channels, threads_at, world_for};
@@ -32,7 +31,6 @@ use arrayvec::ArrayVec;
 use guest_image::Image;
 use guest_isa::Text;
 use guest_machine::Advance;
-use lwc_base::laws::a_reaped_world_keeps_what_is_reached;
 use lwc_base::{Channels, Name, OutOfMemory, Requests, ThreadStatus};
 use snapshot_host::Finished;
 use std::alloc::Global;
@@ -190,7 +188,6 @@ impl<W: World> Kernel<W> {
         ensures err { OnErr result (self.new ≡ self.old) }
         ensures ample { W.roomy ≡ true → IsOk result }
     {
-        runs_stay_ready();
         let mut thread = self.threads[t as usize];
         let world = &mut self.world;
         let io = &mut self.channels;
@@ -219,7 +216,6 @@ impl<W: World> Kernel<W> {
         requires { t < thread_count self.now.inputs }
         ensures { spec.turn_at (machine_of self.now) t finished ≡ Some last.new }
     {
-        runs_stay_ready();
         last.note(&self.threads[t as usize], self.recorded(finished));
     }
 
@@ -228,7 +224,6 @@ impl<W: World> Kernel<W> {
         requires { t < thread_count self.now.inputs }
         ensures { spec.turn_at (machine_of self.now) t finished ≡ Some result }
     {
-        runs_stay_ready();
         self.threads[t as usize].turn(self.recorded(finished))
     }
 
@@ -236,7 +231,6 @@ impl<W: World> Kernel<W> {
     fn recorded(&self, finished: Option<u16>) -> Option<&Finished>
         ensures { option_map (λ x. x.now) result ≡ machines.recorded (machine_of self.now).serve finished }
     {
-        runs_stay_ready();
         match finished {
             Some(r) => recorded(&self.serve, r),
             None => None,
@@ -254,7 +248,6 @@ impl<W: World> Kernel<W> {
     pub fn text(&self) -> &Text
         ensures { result.now ≡ self.now.inputs.image.text }
     {
-        runs_stay_ready();
         &self.text
     }
 
@@ -265,7 +258,6 @@ impl<W: World> Kernel<W> {
         ensures some { 1 ≤ result }
         ensures few { result ≤ MOST_THREADS }
     {
-        runs_stay_ready();
         self.threads.len() as u32
     }
 
@@ -303,7 +295,6 @@ impl<W: World> Kernel<W> {
         requires { t < thread_count self.now.inputs }
         ensures { spec.view_of (machine_of self.now) t ≡ Some result }
     {
-        runs_stay_ready();
         self.threads[t as usize].view()
     }
 
@@ -313,7 +304,6 @@ impl<W: World> Kernel<W> {
     pub fn work(&self) -> u32
         ensures { result ≡ work (machine_of self.now) }
     {
-        runs_stay_ready();
         let requests = self.channels.requests().len();
         work_of(self.threads.as_slice(), &self.serve, requests)
     }
@@ -324,7 +314,6 @@ impl<W: World> Kernel<W> {
         requires fresh { self.now.steps ≡ [] }
         ensures { spec.turn self.now t ≡ Some result }
     {
-        runs_stay_ready();
         self.threads[t as usize].turn(None)
     }
 
@@ -334,7 +323,6 @@ impl<W: World> Kernel<W> {
         ensures requests { result ≡ length (machine_of self.now).environment.channels.requests }
         ensures few { result ≤ MOST_REQUESTS }
     {
-        runs_stay_ready();
         self.channels.requests().len() as u32
     }
 
@@ -342,7 +330,6 @@ impl<W: World> Kernel<W> {
     pub fn reply(&self, r: u16) -> Option<&Finished>
         ensures { option_map (λ x. x.now) result ≡ reply_of (machine_of self.now) r }
     {
-        runs_stay_ready();
         recorded(&self.serve, r)
     }
 
@@ -384,7 +371,6 @@ fn drop_unreached<W: World>(world: &mut W, threads: &[Thread], workers: u32, cha
     ensures { W.seen world.new
         ≡ life.reap (W.seen world.old) (contexts_of threads.now ++ homes_of workers) }
 {
-    a_reaped_world_keeps_what_is_reached();
     if change == Change::Links {
         let mut contexts: ArrayVec<Name, 32> = ArrayVec::new();
         'threads: for i in 0..threads.len() {

@@ -4,7 +4,7 @@ ghost use Rattle.guest_isa.specs.declared.instr.Instr.{Instr};
 ghost use Rattle.kernel_core.specs.Histories.{IsComplete, IsLegal, steps_by, turn_after};
 ghost use Rattle.kernel_core.specs.Kernel.{CanOpen, History, machine_of, turn};
 ghost use Rattle.kernel_core.specs.Machine.{Environment, Machine, has_ended, is_ended, work};
-ghost use Rattle.kernel_core.specs.Ready.{RunFacts};
+ghost use Rattle.kernel_core.specs.Ready.{IsReady};
 ghost use Rattle.kernel_core.specs.Refused.{ComesToRefusal, IsNotLast, after_refusal, refusal_of};
 ghost use Rattle.kernel_core.specs.Refused.{thread_refused};
 ghost use Rattle.kernel_core.specs.Runs.{kept, peak, run};
@@ -15,23 +15,6 @@ ghost use Rattle.kernel_core.specs.declared.thread.Thread.{Thread};
 ghost use Rattle.kernel_core.specs.declared.thread.Turn.{Turn};
 ghost use Rattle.lwc_base.specs.Sound.{IsSound};
 ghost use Rattle.lwc_base.specs.declared.refusal.Refusal.{Refusal};
-
-use lwc_base::laws::{
-    a_reaped_world_keeps_what_is_reached, changes_leave_the_rest,
-    contexts_keep_the_contexts_that_they_name, descriptors_stay_in_range, live_names_are_counted,
-    names_are_ordered, names_keep_to_their_jobs, only_jobs_with_a_root_are_reached,
-    reached_contexts_are_those_with_a_chain, sound_worlds_stay_sound,
-};
-use lwc_create::laws::an_accepted_call_is_within_limits;
-use lwc_overlay::laws::{
-    an_accepted_overlay_takes_what_is_covered, an_accepted_restriction_takes_keys,
-};
-use lwc_switch::laws::an_accepted_switch_goes_to_a_linked_context;
-use lwc_syscall::laws::{
-    a_plain_call_does_one_thing, a_plain_call_keeps_the_world_well, a_refused_call_changes_nothing,
-    a_syscall_keeps_the_world_well, an_allowed_syscall_takes_what_is_covered,
-};
-use snapshot_host::laws::a_request_begins_as_a_copy;
 
 /// Of kept steps all are kept.
 #[tactic(auto, using(crate::proofs::Runs::kept_twice))]
@@ -58,9 +41,15 @@ pub fn next_step_is_kept()
 pub fn worlds_of_runs_are_sound()
     ensures { (inputs : Inputs) (steps : List ℕ) → CanOpen inputs →
         IsSound (run (start inputs) steps).environment.world }
-{
-    runs_stay_ready();
-}
+{}
+
+/// From everything that a kernel can be opened with, each run comes to a ready machine: its world is sound,
+/// and its threads, slots and homes name live contexts.
+#[tactic(auto, using(crate::proofs::ReadyMachines::ready_machine))]
+pub fn machines_of_runs_are_ready()
+    ensures { (inputs : Inputs) (steps : List ℕ) → CanOpen inputs →
+        IsReady inputs (length steps) (run (start inputs) steps) }
+{}
 
 /// A call that is refused, whatever its number, changes its thread alone, and of it r0, pc and the
 /// budget. In a serve the last step of the budget besides finishes the request.
@@ -76,36 +65,7 @@ pub fn a_refused_call_changes_its_thread_alone()
         CanOpen inputs → ComesToRefusal (run (start inputs) steps) t x i refusal →
         IsNotLast (run (start inputs) steps) x →
         step (run (start inputs) steps) t ≡ after_refusal (run (start inputs) steps) t x refusal }
-{
-    runs_stay_ready();
-    a_refused_call_changes_nothing();
-}
-
-/// From everything that a kernel can be opened with, each run comes to a machine that is ready. In a ready
-/// machine running threads can act, and each step leaves its thread fewer steps.
-pub(crate) fn runs_stay_ready()
-    ensures { RunFacts }
-{
-    names_are_ordered();
-    changes_leave_the_rest();
-    live_names_are_counted();
-    sound_worlds_stay_sound();
-    contexts_keep_the_contexts_that_they_name();
-    a_reaped_world_keeps_what_is_reached();
-    an_accepted_call_is_within_limits();
-    an_accepted_switch_goes_to_a_linked_context();
-    an_accepted_restriction_takes_keys();
-    an_accepted_overlay_takes_what_is_covered();
-    descriptors_stay_in_range();
-    a_plain_call_does_one_thing();
-    a_plain_call_keeps_the_world_well();
-    a_syscall_keeps_the_world_well();
-    a_request_begins_as_a_copy();
-    names_keep_to_their_jobs();
-    only_jobs_with_a_root_are_reached();
-    reached_contexts_are_those_with_a_chain();
-    an_allowed_syscall_takes_what_is_covered();
-}
+{}
 
 /// The steps of other threads leave a thread's turn as it is.
 #[tactic(auto, using(crate::proofs::Others::turn_stays))]
@@ -144,18 +104,16 @@ pub fn each_request_has_its_budget()
 {}
 
 /// While a thread has not ended, steps are left.
+#[tactic(auto, using(crate::proofs::Others::some_left))]
 pub fn a_thread_that_goes_on_has_steps_left()
     ensures { (inputs : Inputs) (steps : List ℕ) (t : ℕ) → CanOpen inputs →
         is_ended (run (start inputs) steps) t ≡ false → 0 < work (run (start inputs) steps) }
-{
-    runs_stay_ready();
-}
+{}
 
 /// A legal history after which each thread of the kernel has ended is complete.
+#[tactic(auto, using(crate::proofs::Others::completed))]
 pub fn a_history_that_ends_each_thread_is_complete()
     ensures { (inputs : Inputs) (steps : List ℕ) → CanOpen inputs → IsLegal (start inputs) steps →
         ((t : ℕ) → t < thread_count inputs → is_ended (run (start inputs) steps) t ≡ true) →
         IsComplete (start inputs) steps }
-{
-    runs_stay_ready();
-}
+{}

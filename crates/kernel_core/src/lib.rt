@@ -19,8 +19,9 @@ pub use kernel::Kernel;
 pub use laws::{
     a_history_that_ends_each_thread_is_complete, a_refused_call_changes_its_thread_alone,
     a_step_of_a_thread_that_goes_on_is_legal, a_thread_that_goes_on_has_steps_left,
-    each_thread_has_its_budget, kept_steps_are_enough, kept_steps_are_kept, next_step_is_kept,
-    others_leave_a_turn, turns_say_who_has_ended, worlds_of_runs_are_sound,
+    each_thread_has_its_budget, kept_steps_are_enough, kept_steps_are_kept,
+    machines_of_runs_are_ready, next_step_is_kept, others_leave_a_turn, turns_say_who_has_ended,
+    worlds_of_runs_are_sound,
 };
 pub use settings::{Job, OpenFault, Settings};
 pub use thread::{Thread, ThreadView, Turn};

@@ -8,7 +8,6 @@ ghost use Rattle.world_face.specs.Calls.{IsLive};
 use crate::acting::Change;
 use crate::thread::Thread;
 use guest_isa::Instr;
-use lwc_base::laws::changes_that_cut_no_link_leave_nothing_to_drop;
 use lwc_base::{Fault, Name, OutOfMemory, Regs};
 use world_face::{StoreFault, World, bytes_for, is_within};
 
@@ -114,7 +113,6 @@ fn store_bytes<W: World>(
         thread.fail(Fault::BadStore);
         return Ok(Change::Thread);
     }
-    changes_that_cut_no_link_leave_nothing_to_drop();
     match world.store(thread.context, at as u32, bytes, thread.job) {
         Ok(()) => {
             thread.advance();

@@ -8,13 +8,11 @@ ghost use Rattle.lwc_base.specs.Channels.{opened};
 ghost use Rattle.lwc_base.specs.declared.descriptor.TheConstants.{SLOTS};
 ghost use Rattle.lwc_base.specs.declared.limits.TheConstants.{MOST_FRAMES, MOST_THREADS};
 
-use crate::laws::runs_stay_ready;
 use crate::serve::{Serve, home_of};
 use crate::settings::{Job, Settings};
 use crate::thread::Thread;
 use arrayvec::ArrayVec;
 use guest_image::{Image, SlotImage};
-use lwc_base::laws::names_are_ordered;
 use lwc_base::{
     Channels, Descriptor, FileImage, MOST_CONTEXTS, MOST_GROUPS, MOST_JOBS, MOST_PAGES, Name,
     OutOfMemory, PAGE_BYTES, Range, Regs, Requests, SLOTS, Sequence, Spec, StoreFault,
@@ -177,6 +175,7 @@ fn serve_world<W: World>(
 }
 
 /// Makes the homes of a serve from the first context, and drops that. The only error is out of memory.
+#[tactic(auto, using(crate::proofs::HomeStart::homes_are_made))]
 fn put_homes<W: World>(world: &mut W, image: &Image, workers: u32) -> Result<(), OutOfMemory>
     requires image { IsImage image.now }
     requires few { workers ≤ MOST_THREADS }
@@ -184,7 +183,6 @@ fn put_homes<W: World>(world: &mut W, image: &Image, workers: u32) -> Result<(),
     ensures { OnOk result (W.seen world.new
         ≡ spec.serve_world image.now (W.seen world.old).size.frames workers) }
 {
-    runs_stay_ready();
     'workers: for t in 0..workers {
         put_home(world, image, t)?;
     }
@@ -204,7 +202,6 @@ fn put_home<W: World>(world: &mut W, image: &Image, t: u32) -> Result<(), OutOfM
     ensures { OnOk result (W.seen world.new
         ≡ spec.homes_so_far image.now (W.seen world.old).size.frames (t + 1)) }
 {
-    runs_stay_ready();
     let entry = Regs::fresh(u64::from(image.entries.as_slice()[0]));
     let home = world.clone_context(FIRST, &Spec::empty(), 0, &entry)?;
     world.set_slot(home, 1, Descriptor::Empty);
@@ -260,7 +257,6 @@ fn put_page<W: World>(world: &mut W, image: &Image, k: usize) -> Result<(), OutO
     ensures { OnOk result (W.seen world.new
         ≡ spec.world_so_far image.now (W.seen world.old).size.frames (k + 1) 0) }
 {
-    names_are_ordered();
     let page = image.pages.get(k);
     world.map(
         FIRST,
@@ -310,7 +306,6 @@ fn put_slot<W: World>(world: &mut W, image: &Image, n: u8)
     ensures { W.seen world.new
         ≡ spec.world_so_far image.now (W.seen world.old).size.frames (length image.now.pages) (n + 1) }
 {
-    names_are_ordered();
     world.set_slot(FIRST, n, first_slot(image.slots.as_slice(), n));
 }
 

@@ -5,20 +5,19 @@ use Rattle.std.specs.Int.{bit_at}
 use Rattle.std.specs.List.{list_any, range_with_len}
 use Rattle.std.proofs.Math.Nat.{eq-or-lt_of_le}
 use Rattle.std.proofs.lemmas.Grind.{common_steps, same_number_lists}
-use Rattle.std.proofs.lemmas.Bool.{and_from, both_ways, not-true, not_from_false, or_from, or_left, or_right, true_from_ne_false}
+use Rattle.std.proofs.lemmas.Bool.{and_from, both_ways, not-true, not_from_false, true_from_ne_false}
 use Rattle.std.proofs.lemmas.Bool.Decides.{nat_tests}
 use Rattle.std.proofs.lemmas.List.Folds.{list_any_at, list_any_none}
 use Rattle.std.proofs.lemmas.List.FromFn.{get_or-map-range_with_len, get_or-range_with_len, length-map-range_with_len, length-range_with_len}
 use Rattle.std.proofs.lemmas.Nat.Bits.{bit_at_cat_low, bit_at_cat_high, bit_at-lt, same_from_bits_below}
 use Rattle.lwc_base.specs.Capabilities.{IsCap, bits_of, cap_of, covers, has_bit, has_key, is_named, restricted}
 use Rattle.lwc_base.specs.declared.descriptor.Cap.{Cap}
-use Rattle.lwc_base.specs.declared.descriptor.TheConstants.{SLOTS}
 use Rattle.lwc_base.specs.declared.item.Item.{Item}
 use Rattle.lwc_base.specs.declared.key.Key.{Key}
 use Rattle.lwc_base.specs.declared.key.Key.TheVariants.{Page, Slot, Cred}
 use Rattle.lwc_base.specs.declared.limits.TheConstants.{MOST_PAGES}
 use Rattle.lwc_base.specs.Modes.{IsKey}
-use Rattle.lwc_base.specs.Sharing.{any_key}
+use Rattle.lwc_base.proofs.Needs.{any_key-none, any_key-some}
 
 -- one bit more goes above the bits that there are
 bits_of-more : (n : ℕ) (test : ℕ → Bool) → bits_of (suc n) test ≡ (if test n then 1 else 0) * 2 ^ n + bits_of n test
@@ -108,24 +107,13 @@ pub restricted-twice : (cap : Cap) (items others : List Item) (k : Key) → IsKe
 restricted-twice cap items others k within = rw (restricted-has (restricted cap items) others k within, restricted-has cap items k within) refl
 
 -- a number below n passes, or none does
-some_below : (test : ℕ → Bool) (n k : ℕ) → k < n → test k ≡ true → list_any test (range_with_len 0 n) ≡ true
+pub some_below : (test : ℕ → Bool) (n k : ℕ) → k < n → test k ≡ true → list_any test (range_with_len 0 n) ≡ true
 some_below test n k within passes =
     list_any_at test (range_with_len 0 n) k 0 (rw (length-range_with_len 0 n) within) (ap test (get_or-range_with_len 0 n k 0 within ∙ omega arith) ∙ passes)
 
-none_below : (test : ℕ → Bool) (n : ℕ) → ((k : ℕ) → k < n → test k ≡ false) → list_any test (range_with_len 0 n) ≡ false
+pub none_below : (test : ℕ → Bool) (n : ℕ) → ((k : ℕ) → k < n → test k ≡ false) → list_any test (range_with_len 0 n) ≡ false
 none_below test n fails =
     list_any_none test (range_with_len 0 n) (λ k d within. let inside : k < n = omega (arith, length-range_with_len 0 n) in ap test (get_or-range_with_len 0 n k d inside ∙ omega arith) ∙ fails k inside)
-
--- so with the keys of a context
-some_key : (pages : ℕ) (test : Key → Bool) (k : Key) → IsKey pages k → test k ≡ true → any_key pages test ≡ true
-unfolding any_key
-some_key pages test (Page p) within passes = or_left _ _ (or_left _ _ (some_below (λ q. test (Page q)) pages p within passes))
-some_key pages test (Slot n) within passes = or_left _ _ (or_right _ _ (some_below (λ m. test (Slot m)) SLOTS n within passes))
-some_key pages test Cred within passes = or_right _ _ passes
-
-no_key : (pages : ℕ) (test : Key → Bool) → ((k : Key) → IsKey pages k → test k ≡ false) → any_key pages test ≡ false
-unfolding any_key
-no_key pages test fails = or_from _ _ (or_from _ _ (none_below (λ q. test (Page q)) pages (λ p. fails (Page p))) (none_below (λ m. test (Slot m)) SLOTS (λ n. fails (Slot n)))) (fails Cred (omega arith))
 
 -- a capability covers items exactly if no key that they name is missing
 is_missing : Cap → List Item → Key → Bool
@@ -144,6 +132,6 @@ pub covers-all : (pages : ℕ) (cap : Cap) (items : List Item) →
 unfolding covers is_missing
 covers-all pages cap items = (
   (λ all k within named. true_from_ne_false (has_key cap k) (λ lacks.
-      both_ways _ (not-true _ all) (some_key pages (is_missing cap items) k within (uncovered cap items k named lacks)))),
-  (λ each. not_from_false _ (no_key pages (is_missing cap items) (λ k within. covered cap items k (each k within)))),
+      both_ways _ (not-true _ all) (any_key-some pages (is_missing cap items) k within (uncovered cap items k named lacks)))),
+  (λ each. not_from_false _ (any_key-none pages (is_missing cap items) (λ k within. covered cap items k (each k within)))),
 )

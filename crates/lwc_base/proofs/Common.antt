@@ -1,5 +1,5 @@
 -- What two contexts have apart and in common, and what is read in each, after puts, stores, mappings, sharings and clones.
-use Rattle.std.proofs.Common.{◌≡◌, ◌≢◌, ◌⊎◌, ℕ, refl, ap, subst, ◌∙◌, true, Option, Some, None, List, [], ◌∷◌, length, arith, rules}
+use Rattle.std.proofs.Common.{◌≡◌, ◌≢◌, ◌⊎◌, inl, inr, ℕ, false, refl, ap, subst, ◌∙◌, true, Option, Some, None, List, [], ◌∷◌, length, arith, rules}
 use Rattle.std.proofs.lemmas.Bool.Decides.{nat_tests}
 use Rattle.std.specs.FinMap as fm
 use Rattle.lwc_base.specs.declared.cell.Cell.{Cell}
@@ -17,7 +17,7 @@ use Rattle.lwc_base.specs.Mapping.{on_pages, map_pages, unmap_pages}
 use Rattle.lwc_base.specs.Memory.{touched}
 use Rattle.lwc_base.specs.Sound.{HasItsGroups, HasValue, live_groups}
 use Rattle.lwc_base.specs.Holders.{InCell, IsGroup}
-use Rattle.lwc_base.specs.Store.{Piece, after_store, plan, put_pages}
+use Rattle.lwc_base.specs.Store.{Piece, after_store, stored_pages, put_pages}
 use Rattle.lwc_base.specs.World.{World, Context, context, group, is_live, change_context, change_group, change_counters}
 use Rattle.lwc_base.proofs.Keys.{with_key-cases, with_key-itself, with_key-other, on_pages-cases}
 use Rattle.lwc_base.proofs.Lookups.{changes-change_context, changes-change_group}
@@ -91,6 +91,43 @@ module _ (w : World) (c : Name) (k : Key) (value : ValueOf k) where
   pub put-itself : is_live w c ≡ true → HasItsGroups w → is_there k (value_at w c k) ≡ true → value_at (put_at w c k value) c k ≡ value
   put-itself live groups there = put-there live (group_of_cell w groups c k) there
 
+  -- under the key itself each context reads what it did, or what is put
+  pub put-old_or_new : (a : Name) → (value_at (put_at w c k value) a k ≡ value_at w a k) ⊎ (value_at (put_at w c k value) a k ≡ value)
+  unfolding value_at
+  put-old_or_new a =
+      after_put_at (λ v. (value_at v a k ≡ value_at w a k) ⊎ (value_at v a k ≡ value)) w c k value (λ _ _ _. inl refl)
+      (λ old is there.
+      let changes = own_changes w c k value in
+      let put = with_key-itself Cell k (Own value) (context w c).cell in
+      cases_name a c
+      (λ same. elim (is_live w c) as (λ b. is_live w c ≡ b → (value_at (change_context w c (with_cell k (Own value))) a k ≡ value_at w a k)
+      ⊎ (value_at (change_context w c (with_cell k (Own value))) a k ≡ value)) [
+        | true ↦ λ live. inr (let now = changes.changed live in grind arith)
+        | false ↦ λ dead. inl (let still = changes.same dead in grind arith)
+      ] refl)
+      (λ other. inl (let still = changes.others a other in grind (arith, value_of-same))))
+      (λ g is.
+      let changes = group_changes w g k value in
+      let put = with_key-itself (λ T. T) k value (group w g).value in
+      grind (arith, changes.changed, changes.same, changes.others, changes.contexts a, cases_name))
+
+  -- each other context stays
+  pub put-others : (a : Name) → a ≢ c → context (put_at w c k value) a ≡ context w a
+  put-others a other =
+      after_put_at (λ v. context v a ≡ context w a) w c k value (λ _ _ _. refl)
+      (λ _ _ _. (own_changes w c k value).others a other) (λ g _. (group_changes w g k value).contexts a)
+
+  -- and so does each cell but the one
+  pub put-other_cell : (a : Name) (q : Key) → (a ≡ c → q ≢ k) → (context (put_at w c k value) a).cell q ≡ (context w a).cell q
+  put-other_cell a q other =
+      after_put_at (λ v. (context v a).cell q ≡ (context w a).cell q) w c k value (λ _ _ _. refl)
+      (λ _ _ _.
+      let changes = own_changes w c k value in
+      cases_name a c
+      (λ same. let rest = with_key-other Cell k (Own value) (context w c).cell q (other same) in grind (arith, changes.changed, changes.same))
+      (λ differ. ap (λ x. x.cell q) (changes.others a differ)))
+      (λ g _. ap (λ x. x.cell q) ((group_changes w g k value).contexts a))
+
 -- the same cells name the same groups
 pub record NamesSame (w v : World) : Type 0 where
   pub there : (a : Name) (k : Key) (g : Name) → (context w a).cell k ≡ Common g → (context v a).cell k ≡ Common g
@@ -125,7 +162,7 @@ names_same-put_pages w c (v ∷ vs) =
 pub names_same-after_store : (w : World) (c : Name) (job : ℕ) (piece : Piece) → NamesSame w (after_store w c job piece)
 unfolding after_store change_counters context
 names_same-after_store w c job piece =
-    let same = names_same-put_pages w c (plan w c job piece (w.next job).tags (touched piece.at (length piece.bytes))) in record { there = same.there; back = same.back }
+    let same = names_same-put_pages w c (stored_pages w c job piece (w.next job).tags (touched piece.at (length piece.bytes))) in record { there = same.there; back = same.back }
 
 module _ (w v : World) (a b : Name) (k : Key) (same : NamesSame w v) where
   -- what is apart is so where the same cells name the same groups

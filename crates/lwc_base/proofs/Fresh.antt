@@ -21,7 +21,7 @@ use Rattle.lwc_base.specs.Memory.{touched}
 use Rattle.lwc_base.specs.Overlay.{overlay, with_overlay}
 use Rattle.lwc_base.specs.Saved.{save, with_saved}
 use Rattle.lwc_base.specs.Sharing.{cloned_context, share, clone_context}
-use Rattle.lwc_base.specs.Store.{Piece, after_store, parting_count, plan, put_pages}
+use Rattle.lwc_base.specs.Store.{Piece, after_store, parting_count, stored_pages, put_pages}
 use Rattle.lwc_base.specs.World.{World, Context, Group, Counters, is_live, context, change_context, change_group, change_counters, empty_world, add_context, next_context, add_group, next_group}
 use Rattle.lwc_base.proofs.Holders.{keeps-weaker, in_cell-weaker, keeps-empty_world, keeps-insert_context, keeps-insert_group, keeps-change_context, keeps-change_group, keeps-change_counters, keeps-put_at, keeps-put_pages, keeps-on_pages, keeps-share, may_have-free, in_clone, keeps-with_overlay, lets-everywhere}
 use Rattle.lwc_base.proofs.Lookups.{changes-change_context, changes-change_group}
@@ -108,7 +108,7 @@ fresh-unmap_pages w c from to = fresh-names w _ (changes-change_context w c _).n
 pub fresh-after_store : (w : World) (c : Name) (job : ℕ) (piece : Piece) → IsFresh w → IsFresh (after_store w c job piece)
 unfolding after_store
 fresh-after_store w c job piece fresh =
-    let values : List (ℕ × PageValue) = plan w c job piece (w.next job).tags (touched piece.at (length piece.bytes)) in
+    let values : List (ℕ × PageValue) = stored_pages w c job piece (w.next job).tags (touched piece.at (length piece.bytes)) in
     fresh-change_counters (put_pages w c values) job (λ n. record n { tags = n.tags + parting_count w c piece })
     (search rules) (fresh-put_pages w c values fresh)
 

@@ -22,7 +22,7 @@ use Rattle.lwc_base.specs.Memory.{touched}
 use Rattle.lwc_base.specs.Modes.{mode, mode_or_copy}
 use Rattle.lwc_base.specs.Overlay.{overlaid_cell, with_overlay}
 use Rattle.lwc_base.specs.Sharing.{is_moved, moved_value, moved_values, with_shared, share, cloned_cell, cloned_context}
-use Rattle.lwc_base.specs.Store.{Piece, after_store, plan, put_pages}
+use Rattle.lwc_base.specs.Store.{Piece, after_store, stored_pages, put_pages}
 use Rattle.lwc_base.specs.World.{World, Context, Group, Counters, context, group, is_live, change_context, change_group, change_counters, add_context, next_context, add_group, next_group, empty_world}
 use Rattle.lwc_base.proofs.Keys.{with_key-cases, on_pages-cases}
 use Rattle.lwc_base.proofs.Lookups.{group-dead, after_change_context, after_change_group}
@@ -97,10 +97,10 @@ module _ (rules : Rules) where
   keeps-put_pages w c (v ∷ vs) fits keeps = keeps-put_pages (put_page w c v.0 v.1) c vs fits.1 (keeps-put_at w c (Page v.0) (Some v.1) fits.0.0 fits.0.1 keeps)
 
   pub keeps-after_store : (w : World) (c : Name) (job : ℕ) (piece : Piece) →
-      MayHave c.job (plan w c job piece (w.next job).tags (touched piece.at (length piece.bytes))) → Keeps rules w → Keeps rules (after_store w c job piece)
+      MayHave c.job (stored_pages w c job piece (w.next job).tags (touched piece.at (length piece.bytes))) → Keeps rules w → Keeps rules (after_store w c job piece)
   unfolding after_store
   keeps-after_store w c job piece fits keeps =
-      keeps-change_counters _ job _ (keeps-put_pages w c (plan w c job piece (w.next job).tags (touched piece.at (length piece.bytes))) fits keeps)
+      keeps-change_counters _ job _ (keeps-put_pages w c (stored_pages w c job piece (w.next job).tags (touched piece.at (length piece.bytes))) fits keeps)
 
   -- pages of a range of the context's own become another value, as zeros or absent ones
   pub keeps-on_pages : (w : World) (c : Name) (from to : ℕ) (value : Option PageValue) → ((p : ℕ) → p < to → rules.value c.job (Page p) value) →

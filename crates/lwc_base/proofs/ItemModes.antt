@@ -5,9 +5,10 @@ use Rattle.std.specs.List.{find, AllPairs, Contains}
 use Rattle.std.specs.Option.{option_map}
 use Rattle.std.proofs.lemmas.Bool.Decides.{nat_tests}
 use Rattle.lwc_base.specs.declared.item.Item.{Item}
+use Rattle.lwc_base.specs.declared.item.Mode.TheVariants.{Share}
 use Rattle.lwc_base.specs.declared.key.Key.{Key}
 use Rattle.lwc_base.specs.declared.key.Kind.{Kind}
-use Rattle.lwc_base.specs.Modes.{names, mode, overlaps, AreApart, IsItem, IsKey, IsSpec, limit, same_kind}
+use Rattle.lwc_base.specs.Modes.{names, mode, mode_or_copy, overlaps, AreApart, IsItem, IsKey, IsSpec, limit, same_kind}
 
 -- two items that name one key overlap
 overlap_at : (a b : Item) (key : Key) → names a key ≡ true → names b key ≡ true → overlaps a b ≡ true
@@ -53,3 +54,8 @@ named-key-find pages (x ∷ xs) key each named =
 pub named-key : (pages : ℕ) (items : List Item) (key : Key) → IsSpec pages items → is_some (mode items key) ≡ true → IsKey pages key
 unfolding mode
 named-key pages items key spec named = named-key-find pages items key spec.each named
+
+-- a key is shared only if an item says so
+pub mode-shared : (items : List Item) (key : Key) → mode_or_copy items key ≡ Share → mode items key ≡ Some Share
+unfolding mode_or_copy
+mode-shared items key is = grind arith

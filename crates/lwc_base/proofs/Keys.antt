@@ -1,5 +1,6 @@
 -- What is under each key once something else is put under one of them, or under a range of pages.
-use Rattle.std.proofs.Common.{◌≡◌, ◌≢◌, ℕ, ◌<◌, refl, Option, arith}
+use Rattle.std.proofs.Common.{◌≡◌, ◌≢◌, ℕ, ◌<◌, true, false, refl, ap, Option, arith}
+use Rattle.std.specs.Prelude.{◌==◌}
 use Rattle.std.proofs.lemmas.Bool.Decides.{nat_tests}
 use Rattle.lwc_base.specs.declared.cell.Cell.{Cell}
 use Rattle.lwc_base.specs.declared.key.Key.{Key}
@@ -7,6 +8,26 @@ use Rattle.lwc_base.specs.declared.key.Key.TheVariants.{Page, Slot, Cred}
 use Rattle.lwc_base.specs.declared.page.PageValue.{PageValue}
 use Rattle.lwc_base.specs.Keys.{ValueOf, with_key}
 use Rattle.lwc_base.specs.Mapping.{on_pages}
+
+-- two numbers are one, or they differ
+pub cases_number : {A : Type 0} (m n : ℕ) → (m ≡ n → A) → (m ≢ n → A) → A
+cases_number {A} m n one two =
+    elim (m == n) as (λ b. (m == n) ≡ b → A) [
+      | true ↦ λ same. one (grind arith)
+      | false ↦ λ other. two (λ e. grind arith)
+    ] refl
+
+-- two keys are one, or they differ
+pub cases_key : {A : Type 0} (k q : Key) → (k ≡ q → A) → (k ≢ q → A) → A
+cases_key (Page m) (Page n) one two = cases_number m n (λ e. one (ap Page e)) (λ differ. two (λ e. differ cc))
+cases_key (Slot m) (Slot n) one two = cases_number m n (λ e. one (ap Slot e)) (λ differ. two (λ e. differ cc))
+cases_key Cred Cred one two = one refl
+cases_key (Page m) (Slot n) one two = two (λ e. cc)
+cases_key (Page m) Cred one two = two (λ e. cc)
+cases_key (Slot m) (Page n) one two = two (λ e. cc)
+cases_key (Slot m) Cred one two = two (λ e. cc)
+cases_key Cred (Page n) one two = two (λ e. cc)
+cases_key Cred (Slot n) one two = two (λ e. cc)
 
 -- what is so of what is put under a key, and of what was under the others, is so under each key afterwards
 pub with_key-cases : (F : Type 0 → Type 0) (k : Key) (new : F (ValueOf k)) (old : (q : Key) → F (ValueOf q)) (P : (q : Key) → F (ValueOf q) → Type 0) →

@@ -29,3 +29,4 @@ pub mod Tables
 pub mod StoredBytes
 pub mod Tags
 pub mod Room
+pub mod Small

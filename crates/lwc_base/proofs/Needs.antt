@@ -32,7 +32,7 @@ any_key-some pages test (Slot n) within passes = or_left _ _ (or_right _ _ (some
 any_key-some pages test Cred within passes = or_right _ _ passes
 
 -- none does
-any_key-none : (pages : ℕ) (test : Key → Bool) → ((k : Key) → IsKey pages k → test k ≡ false) → any_key pages test ≡ false
+pub any_key-none : (pages : ℕ) (test : Key → Bool) → ((k : Key) → IsKey pages k → test k ≡ false) → any_key pages test ≡ false
 unfolding any_key
 any_key-none pages test fails = search (rules, or_from, none_in_range)
 

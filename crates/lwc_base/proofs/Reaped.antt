@@ -36,7 +36,7 @@ number_in test (suc n) a e =
       | inr later ↦ let found = number_in test n (a + 1) later in (found.0, omega (arith, found.1), omega (arith, found.2), found.3)
     ]
 
-any_entry : {X : Type 0} (test : X → Bool) (es : List (Name × X)) (q : Name) (x : X) → find name_cmp q es ≡ Some x → test x ≡ true → list_any test (map (λ (e : Name × X). e.1) es) ≡ true
+pub any_entry : {X : Type 0} (test : X → Bool) (es : List (Name × X)) (q : Name) (x : X) → find name_cmp q es ≡ Some x → test x ≡ true → list_any test (map (λ (e : Name × X). e.1) es) ≡ true
 any_entry test [] q x there passes = cc
 any_entry {X} test (e ∷ es) q x there passes =
     elim (eq_by_cmp name_cmp q e.0) as (λ c. cond c (Some e.1) (find name_cmp q es) ≡ Some x → (test e.1 || list_any test (map (λ (f : Name × X). f.1) es)) ≡ true) [
@@ -44,13 +44,13 @@ any_entry {X} test (e ∷ es) q x there passes =
       | false ↦ λ is. or_right _ _ (any_entry test es q x is passes)
     ] there
 
-any_value : {X : Type 0} (test : X → Bool) (m : fm.FinMap name_cmp X) (q : Name) (x : X) → fm.get m q ≡ Some x → test x ≡ true → list_any test (fm.values m) ≡ true
+pub any_value : {X : Type 0} (test : X → Bool) (m : fm.FinMap name_cmp X) (q : Name) (x : X) → fm.get m q ≡ Some x → test x ≡ true → list_any test (fm.values m) ≡ true
 any_value test m q x there passes = any_entry test (fm.entries m) q x (sym (fm.get-entries m q) ∙ there) passes
 
 get-kept : {X : Type 0} (m : fm.FinMap name_cmp X) (p : Name → Bool) (q : Name) → fm.get (fm.retain_keys m p) q ≡ cond (p q) (fm.get m q) None
 get-kept m p q = fm.get-retain_keys m p q (λ x tie. ap p (sym (name_cmp-IsAntisymmetric q x tie)))
 
-there_of : {X : Type 0} (o : Option X) (d : X) → is_some o ≡ true → o ≡ Some (unwrap_or o d)
+pub there_of : {X : Type 0} (o : Option X) (d : X) → is_some o ≡ true → o ≡ Some (unwrap_or o d)
 there_of None d e = absurd (false≢true e)
 there_of (Some x) d e = refl
 
@@ -208,7 +208,7 @@ head_of : (a b : Bool) → T (a && b) → T a
 head_of true b h = tt
 head_of false b h = absurd h
 
-not_tied : (o : Ordering) → T (is_lt o) → is_eq o ≡ false
+pub not_tied : (o : Ordering) → T (is_lt o) → is_eq o ≡ false
 not_tied Less h = refl
 not_tied Equal h = absurd h
 not_tied Greater h = absurd h

@@ -24,7 +24,7 @@ use Rattle.lwc_base.specs.Modes.{IsKey, number_of}
 use Rattle.lwc_base.specs.Names.{tag_cmp}
 use Rattle.lwc_base.specs.Pages.{bytes_of}
 use Rattle.lwc_base.specs.Sound.{HasItsGroups, IsSound, IsSoundPage, common_keys, sound_pages}
-use Rattle.lwc_base.specs.Store.{Piece, Done, after_store, byte_after, bytes_after, page_value_at, parting_count, plan, put_pages, store, stored_value}
+use Rattle.lwc_base.specs.Store.{Piece, Done, after_store, byte_after, bytes_after, page_value_at, parting_count, stored_pages, put_pages, store, stored_value}
 use Rattle.lwc_base.specs.World.{World, Counters, context, group, is_live, change_counters}
 use Rattle.lwc_base.proofs.Common.{put-itself, put-other_key}
 use Rattle.lwc_base.proofs.Fresh.{fresh-after_store}
@@ -200,7 +200,7 @@ module _ (w : World) (c : Name) (job : ℕ) (piece : Piece) where
 
   -- once pages have got their new values: each that parts has taken a tag
   stored : (n a k : ℕ) (u : World) → first ≤ a → IsStage u k a → list_all (λ p. is_some (page_at w c p)) (range_with_len a n) ≡ true →
-      (last : ℕ) × (end : ℕ) × (last ≡ k + count_by parts (range_with_len a n)) × (end ≡ a + n) × IsStage (put_pages u c (plan w c job piece k (range_with_len a n))) last end
+      (last : ℕ) × (end : ℕ) × (last ≡ k + count_by parts (range_with_len a n)) × (end ≡ a + n) × IsStage (put_pages u c (stored_pages w c job piece k (range_with_len a n))) last end
   stored zero a k u from stage present = (k, a, omega arith, omega arith, stage)
   stored (suc n) a k u from stage present =
       let there = and_parts (is_some (page_at w c a)) (list_all (λ p. is_some (page_at w c p)) (range_with_len (a + 1) n)) present in
@@ -215,7 +215,7 @@ module _ (w : World) (c : Name) (job : ℕ) (piece : Piece) where
     after = after_store w c job piece
 
     abbrev values : List (ℕ × PageValue)
-    values = plan w c job piece taken (touched piece.at (length piece.bytes))
+    values = stored_pages w c job piece taken (touched piece.at (length piece.bytes))
 
     all_stored : IsStage (put_pages w c values) (taken + parting_count w c piece) (first + touched_count piece.at (length piece.bytes))
     unfolding is_present parting_count
@@ -233,7 +233,7 @@ module _ (w : World) (c : Name) (job : ℕ) (piece : Piece) where
         } in
         let n : ℕ = touched_count piece.at (length piece.bytes) in
         let all = subst (λ ps. list_all (λ p. is_some (page_at w c p)) ps ≡ true →
-        (last : ℕ) × (end : ℕ) × (last ≡ taken + count_by parts ps) × (end ≡ first + n) × IsStage (put_pages w c (plan w c job piece taken ps)) last end) (sym (touched-range piece.at (length piece.bytes)))
+        (last : ℕ) × (end : ℕ) × (last ≡ taken + count_by parts ps) × (end ≡ first + n) × IsStage (put_pages w c (stored_pages w c job piece taken ps)) last end) (sym (touched-range piece.at (length piece.bytes)))
         (stored n first taken w (omega arith) start) present in
         subst (λ end. IsStage (put_pages w c values) (taken + parting_count w c piece) end) all.3 (subst (λ last. IsStage (put_pages w c values) last all.1) all.2 all.4)
 

@@ -48,7 +48,7 @@ unfolding ranges begins_range
 ranges-absent pages x absent = count_none (begins_range x) 0 pages (λ p low high. let gone = absent p (omega arith) in grind arith)
 
 -- one number more at the end of a range
-count_more : (test : ℕ → Bool) (a n k : ℕ) → k ≡ a + n → count_by test (range_with_len a (n + 1)) ≡ count_by test (range_with_len a n) + cond (test k) 1 0
+pub count_more : (test : ℕ → Bool) (a n k : ℕ) → k ≡ a + n → count_by test (range_with_len a (n + 1)) ≡ count_by test (range_with_len a n) + cond (test k) 1 0
 count_more test a zero k is = grind (arith, sum_by-cons (λ x. cond (test x) 1 0) a [])
 count_more test a (suc n) k is =
     let rest = count_more test (a + 1) n k (omega arith) in

@@ -1,11 +1,11 @@
 -- Sharing changes no value: what moves out of a context is in the new group, and the context's cells name it.
-use Rattle.std.proofs.Common.{◌≡◌, ◌≢◌, ℕ, refl, ap, false, true, List, arith, rules}
+use Rattle.std.proofs.Common.{◌≡◌, ◌≢◌, ◌⊎◌, inl, inr, ℕ, refl, ap, false, true, List, arith, rules}
 use Rattle.std.proofs.lemmas.Bool.{cond_both}
 use Rattle.lwc_base.specs.declared.cell.Cell.{Cell}
 use Rattle.lwc_base.specs.declared.cell.Cell.TheVariants.{Own, Common}
 use Rattle.lwc_base.specs.declared.item.Item.{Item}
 use Rattle.lwc_base.specs.declared.item.Mode.{Mode}
-use Rattle.lwc_base.specs.declared.item.Mode.TheVariants.{Share}
+use Rattle.lwc_base.specs.declared.item.Mode.TheVariants.{Copy, Share, Unmap}
 use Rattle.lwc_base.specs.declared.key.Key.{Key}
 use Rattle.lwc_base.specs.declared.key.Key.TheVariants.{Page, Slot, Cred}
 use Rattle.lwc_base.specs.declared.name.Name.{Name}
@@ -15,7 +15,7 @@ use Rattle.lwc_base.specs.Fresh.{IsFresh}
 use Rattle.lwc_base.specs.Keys.{ValueOf, nothing}
 use Rattle.lwc_base.specs.Modes.{mode_or_copy}
 use Rattle.lwc_base.specs.Sharing.{is_moved, moved_value, moved_values, needs_group, shared_cell, with_shared, share}
-use Rattle.lwc_base.specs.World.{World, Counters, Group, context, group, change_context, add_group, next_group}
+use Rattle.lwc_base.specs.World.{World, Context, Counters, Group, context, group, change_context, add_group, next_group}
 use Rattle.lwc_base.proofs.Lookups.{changes-change_context, adds-add_group}
 use Rattle.lwc_base.proofs.Orders.{cases_name}
 use Rattle.lwc_base.proofs.Puts.{live_of_common}
@@ -52,6 +52,31 @@ module _ (w : World) (c : Name) (job : ℕ) (items : List Item) where
   pub shares-share : SharesValues w c job items (share w c job items)
   unfolding share
   shares-share = cond_both (needs_group w c items) moved w (SharesValues w c job items) shares-moved (λ none. search rules)
+
+  -- what a sharing leaves of each context: cells of other modes, and all registers
+  left_by : {X : Type 0} (part : Context → X) → (part (with_shared (next_group w job) items (context w c)) ≡ part (context w c)) → (d : Name) →
+      part (context (share w c job items) d) ≡ part (context w d)
+  left_by part stays d = let shares = shares-share in cases_name d c
+      (λ same. grind (arith, shares.none, shares.named, shares.dead))
+      (λ other. ap part (shares.others d other))
+
+  pub share-cell : (d : Name) (k : Key) → ((context (share w c job items) d).cell k ≡ (context w d).cell k) ⊎ ((d ≡ c) × (mode_or_copy items k ≡ Share))
+  unfolding with_shared
+  share-cell d k = cases_name d c
+      (λ same. elim (mode_or_copy items k) as (λ m. mode_or_copy items k ≡ m → ((context (share w c job items) d).cell k ≡ (context w d).cell k) ⊎ ((d ≡ c) × (m ≡ Share))) [
+        | Share ↦ λ is. inr (same, refl)
+        | Copy ↦ λ is. inl (left_by (λ x. x.cell k) (ap (λ m. shared_cell (next_group w job) m k ((context w c).cell k)) is) d)
+        | Unmap ↦ λ is. inl (left_by (λ x. x.cell k) (ap (λ m. shared_cell (next_group w job) m k ((context w c).cell k)) is) d)
+      ] refl)
+      (λ other. inl (ap (λ x. x.cell k) (shares-share.others d other)))
+
+  pub share-entry : (d : Name) → (context (share w c job items) d).entry ≡ (context w d).entry
+  unfolding with_shared
+  share-entry = left_by (λ x. x.entry) refl
+
+  pub share-saved : (d : Name) (t : ℕ) → (context (share w c job items) d).saved t ≡ (context w d).saved t
+  unfolding with_shared
+  share-saved d t = left_by (λ x. x.saved t) refl d
 
   -- the new group has each value that has moved, and nothing else
   pub group-moved : needs_group w c items ≡ true → (k : Key) (value : ValueOf k) → mode_or_copy items k ≡ Share → (context w c).cell k ≡ Own value →

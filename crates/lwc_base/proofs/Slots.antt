@@ -19,7 +19,7 @@ use Rattle.lwc_base.specs.Memory.{touched}
 use Rattle.lwc_base.specs.Overlay.{overlay, with_overlay}
 use Rattle.lwc_base.specs.Sharing.{clone_context, cloned_context, share}
 use Rattle.lwc_base.specs.Slots.{lowest_empty}
-use Rattle.lwc_base.specs.Store.{Piece, after_store, plan}
+use Rattle.lwc_base.specs.Store.{Piece, after_store, stored_pages}
 use Rattle.lwc_base.specs.Summaries.{is_empty}
 use Rattle.lwc_base.specs.World.{World, change_counters, context, group, is_live, next_context}
 use Rattle.lwc_base.proofs.Common.{put-other_key, value_at-same}
@@ -53,7 +53,7 @@ slot_links w c d n within is = some_in_range (λ m. is_of d (slot_at w c m)) SLO
 pub slot_at-after_store : (w : World) (c : Name) (job : ℕ) (piece : Piece) (d : Name) (n : ℕ) → slot_at (after_store w c job piece) d n ≡ slot_at w d n
 unfolding after_store change_counters value_at context group
 slot_at-after_store w c job piece d n =
-    put_pages-other_keys w c (plan w c job piece (w.next job).tags (touched piece.at (length piece.bytes))) d (Slot n) (λ p same. cc)
+    put_pages-other_keys w c (stored_pages w c job piece (w.next job).tags (touched piece.at (length piece.bytes))) d (Slot n) (λ p same. cc)
 
 -- after a put a context reads what it did, or what is put, where it read what the context of the put did
 pub put_at-reads : (w : World) (c : Name) (k : Key) (value : ValueOf k) (a : Name) →

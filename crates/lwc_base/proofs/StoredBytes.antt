@@ -9,7 +9,7 @@ use Rattle.lwc_base.specs.Cells.{page_at, put_page, value_at}
 use Rattle.lwc_base.specs.Clones.{AreApart, HaveInCommon}
 use Rattle.lwc_base.specs.Memory.{byte_at, touched}
 use Rattle.lwc_base.specs.Modes.{number_of}
-use Rattle.lwc_base.specs.Store.{Piece, Done, after_store, plan, put_pages, store}
+use Rattle.lwc_base.specs.Store.{Piece, Done, after_store, stored_pages, put_pages, store}
 use Rattle.lwc_base.specs.World.{World, context, group, change_counters}
 use Rattle.lwc_base.proofs.Common.{put-other_key, put-apart, apart-put_at, common-after_store, value_at-common}
 use Rattle.lwc_base.proofs.Stored.{IsDone, is_done}
@@ -30,7 +30,7 @@ put_pages-apart w c d p (v ∷ vs) apart =
     rest ∙ grind (arith, other)
 
 page_at-after_store : (w : World) (c : Name) (job : ℕ) (piece : Piece) (d : Name) (p : ℕ) →
-    page_at (after_store w c job piece) d p ≡ page_at (put_pages w c (plan w c job piece (w.next job).tags (touched piece.at (length piece.bytes)))) d p
+    page_at (after_store w c job piece) d p ≡ page_at (put_pages w c (stored_pages w c job piece (w.next job).tags (touched piece.at (length piece.bytes)))) d p
 unfolding after_store change_counters value_at context group
 page_at-after_store w c job piece d p = refl
 

@@ -46,7 +46,8 @@ used w = set.len (set.from_list {R = tag_cmp} (tags w))
 abbrev pub is_shared_tag : World → Tag → Bool
 is_shared_tag w tag = nat_lt 1 (count_by (λ t. is_eq (tag_cmp t tag)) (tags w))
 
--- whether a page parts when it is stored to, and takes a new tag: it is zeros, or its tag is at other holders too
+-- whether a page parts when it is stored to, and takes a new tag: it is zeros, or its tag is at other holders
+-- too
 unfoldable pub is_parting : World → PageValue → Bool
 is_parting w Zero = true
 is_parting w (Data tag bytes) = is_shared_tag w tag

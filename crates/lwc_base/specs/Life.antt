@@ -1,4 +1,5 @@
--- Which contexts and groups stay: the contexts that are reached from roots, and the groups that cells of these name.
+-- Which contexts and groups stay: the contexts that are reached from roots, and the groups that cells of
+-- these name.
 use Rattle.std.specs.Prelude.{◌≡◌, ℕ, zero, suc, ◌&&◌, ◌||◌, Bool, true, false, List}
 use Rattle.std.specs.List.{list_any, range_with_len}
 use Rattle.std.specs.Ordering.{eq_by_cmp, is_eq}
@@ -30,7 +31,8 @@ links w d c = list_any (λ n. is_of c (slot_at w d n)) (range_with_len 0 SLOTS)
 abbrev pub is_among : List Name → Name → Bool
 is_among names c = list_any (eq_by_cmp name_cmp c) names
 
--- whether a context is reached in a number of rounds: roots are, and each round adds what reached live contexts link to
+-- whether a context is reached in a number of rounds: roots are, and each round adds what reached live
+-- contexts link to
 abbrev pub reached_in : World → List Name → ℕ → Name → Bool
 reached_in w roots zero c = is_among roots c
 reached_in w roots (suc k) c =
@@ -63,7 +65,8 @@ pub data Reaches (w : World) (roots : List Name) : Name → Type 0 where
   Root : (c : Name) → is_among roots c ≡ true → Reaches w roots c
   Link : (d c : Name) → Reaches w roots d → is_live w d ≡ true → links w d c ≡ true → Reaches w roots c
 
--- nothing is left to drop: each live context is reached from the roots, and a cell of a live context names each live group
+-- nothing is left to drop: each live context is reached from the roots, and a cell of a live context names
+-- each live group
 pub record IsReaped (w : World) (roots : List Name) : Type 0 where
   pub contexts : (c : Name) → is_live w c ≡ true → Reaches w roots c
   pub groups : (g : Name) → IsGroup w g →

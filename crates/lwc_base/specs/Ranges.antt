@@ -1,4 +1,5 @@
--- The ranges of a context: its longest runs of present pages that are all its own, or all common of one group.
+-- The ranges of a context: its longest runs of present pages that are all its own, or all common of one
+-- group.
 use Rattle.std.specs.Prelude.{ℕ, zero, suc, ◌&&◌, Bool, true, false, not, Option, Some, count_by, is_some}
 use Rattle.std.specs.List.{range_with_len}
 use Rattle.std.specs.Ordering.{is_eq}

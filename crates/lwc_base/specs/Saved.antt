@@ -12,6 +12,7 @@ with_saved t regs x = record x { saved = λ s. if s == t then Some regs else x.s
 unfoldable pub save : World → Name → ℕ → Regs → World
 save w c t regs = change_context w c (with_saved t regs)
 
--- the registers that a thread enters a context with: those that the context keeps for it, else those it begins with
+-- the registers that a thread enters a context with: those that the context keeps for it, else those it
+-- begins with
 abbrev pub entered : Context → ℕ → Regs
 entered x t = unwrap_or (x.saved t) x.entry

@@ -52,7 +52,8 @@ sound_pages w home = everywhere (λ k g. Unit {0}) (IsSoundValue w home)
 abbrev pub common_keys : World → Rules
 common_keys w = everywhere (λ k g. IsKey w.size.pages k) (λ k value. Unit {0})
 
--- names are old, groups have what cells name them for, which they do under keys that there are, and each tag is
+-- names are old, groups have what cells name them for, which they do under keys that there are, and each tag
+-- is
 -- under one page number
 pub record IsSound (w : World) : Type 0 where
   pub fresh : IsFresh w

@@ -38,13 +38,13 @@ stored_value parting new Zero bytes = Data new bytes
 stored_value parting new (Data tag old) bytes = Data (if parting then new else tag) bytes
 
 -- the new value of each page that is touched; those that part take the job's tags from number k on, in order
-abbrev pub plan : World → Name → ℕ → Piece → ℕ → List ℕ → List (ℕ × PageValue)
-plan w c job piece k [] = []
-plan w c job piece k (p ∷ ps) =
+abbrev pub stored_pages : World → Name → ℕ → Piece → ℕ → List ℕ → List (ℕ × PageValue)
+stored_pages w c job piece k [] = []
+stored_pages w c job piece k (p ∷ ps) =
     let value = page_value_at w c p in
     let parting = is_parting w value in
     (p, stored_value parting (record { job = job; k = k }) value (bytes_after piece p (bytes_of value)))
-    ∷ plan w c job piece (if parting then k + 1 else k) ps
+    ∷ stored_pages w c job piece (if parting then k + 1 else k) ps
 
 -- pages of a context get new values, one after another
 abbrev pub put_pages : World → Name → List (ℕ × PageValue) → World
@@ -66,7 +66,7 @@ parting_count w c piece =
 unfoldable pub after_store : World → Name → ℕ → Piece → World
 after_store w c job piece =
     change_counters
-    (put_pages w c (plan w c job piece (w.next job).tags (touched piece.at (length piece.bytes)))) job
+    (put_pages w c (stored_pages w c job piece (w.next job).tags (touched piece.at (length piece.bytes)))) job
     (λ n. record n { tags = n.tags + parting_count w c piece })
 
 -- the store of a piece in a context, for a job

@@ -9,8 +9,8 @@ pub enum Answer {
     Refused(Refusal),
 }
 
-/// What a switch answers: the context that the thread goes on in, with the registers that it has there, or why
-/// the call was refused.
+/// What a switch answers: the context that the thread goes on in, with the registers that it has there, or
+/// why the call was refused.
 #[derive(Clone, Copy, Debug, PartialEq, Eq)]
 pub enum Moved {
     To { context: Name, regs: Regs },

@@ -37,6 +37,20 @@ pub const MOST_BUDGET: u32 = 100000;
 /// The most steps of a whole run.
 pub const MOST_STEPS: u32 = 16000000;
 
+/// The most places of pages, contexts and groups alike. Each has a tree of at most 33 nodes, a change takes a
+/// few more, and a store has at most 65536.
+pub const MOST_PAGE_PLACES: u32 = 1983;
+
+/// The most places of slots, contexts and groups alike.
+pub const MOST_SLOT_PLACES: u32 = 65536;
+
+/// The most runs of pages that one change of a place names, and the most changes of kinds that they make: one
+/// for each page.
+pub const MOST_PAGE_RUNS: usize = 1024;
+
+/// The most roots that a world remembers between two reaps.
+pub const MOST_KEPT_ROOTS: usize = 64;
+
 /// The most instructions of an image.
 pub const MOST_INSTRUCTIONS: u32 = 65536;
 

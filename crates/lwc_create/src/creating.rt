@@ -8,7 +8,6 @@ ghost use Rattle.world_face.specs.Calls.{IsLive, MayName};
 use access_cap::full;
 use call_items::items_for;
 use guest_call::are_too_many;
-use lwc_base::laws::{changes_leave_the_rest, names_are_ordered, the_lowest_empty_slot_is_empty};
 use lwc_base::{
     Answer, Descriptor, MOST_CONTEXTS_OF_JOB, MOST_GROUPS_OF_JOB, Name, OutOfMemory, Refusal, Regs,
     Spec,
@@ -42,9 +41,6 @@ pub fn create<W: World>(
         Ok(made) => made,
         Err(refusal) => return Ok(Answer::Refused(refusal)),
     };
-    names_are_ordered();
-    changes_leave_the_rest();
-    the_lowest_empty_slot_is_empty();
     let cap = full(world.pages());
     let name = world.clone_context(c, &items, job, &after_call(regs, NO_CALLER))?;
     world.set_slot(c, slot, Descriptor::Ctx { name, cap });

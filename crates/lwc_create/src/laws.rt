@@ -9,8 +9,6 @@ ghost use Rattle.lwc_base.specs.declared.name.Name.{Name};
 ghost use Rattle.lwc_base.specs.declared.regs.Regs.{Regs};
 ghost use Rattle.lwc_create.specs.Create.{items_of, refusals};
 
-use call_items::items_that_are_not_refused_are_a_spec;
-
 /// Where no refusal holds, the items that the caller asks for are a specifier, the job may have one more
 /// context, and one more group if these items need one, and a slot of the caller's context is empty.
 pub fn an_accepted_call_is_within_limits()
@@ -23,6 +21,4 @@ pub fn an_accepted_call_is_within_limits()
         groups_of w job < MOST_GROUPS_OF_JOB }
     ensures slot { (w : World) (c : Name) (job : ℕ) (regs : Regs) →
         first_refusal (refusals w c job regs) ≡ None → is_none (lowest_empty w c) ≡ false }
-{
-    items_that_are_not_refused_are_a_spec();
-}
+{}

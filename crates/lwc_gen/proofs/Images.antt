@@ -13,22 +13,18 @@ use Rattle.lwc_base.specs.declared.page.TheConstants.{PAGE_BYTES}
 use Rattle.lwc_gen.specs.Generated.{numbered_page, server}
 use Rattle.lwc_gen.specs.declared.generating.TheConstants.{PAGES}
 use Rattle.lwc_gen.specs.declared.handler.TheConstants.{HANDLER}
+use Rattle.lwc_base.proofs.Small.{both-true}
 
 -- whether each element passes a test
 each : {A : Type 0} → (A → Bool) → List A → Bool
 each p [] = true
 each p (x ∷ xs) = p x && each p xs
 
-both : (a b : Bool) → (a && b) ≡ true → (a ≡ true) × (b ≡ true)
-both true true is = (refl, refl)
-both true false is = cc
-both false b is = cc
-
 all_pass : {A : Type 0} (p : A → Bool) (xs : List A) → each p xs ≡ true → All (λ x. p x ≡ true) xs
 unfolding each
 all_pass p [] is k d below = absurd (omega arith)
-all_pass p (x ∷ xs) is zero d below = (both (p x) (each p xs) is).0
-all_pass p (x ∷ xs) is (suc k) d below = all_pass p xs (both (p x) (each p xs) is).1 k d (omega arith)
+all_pass p (x ∷ xs) is zero d below = (both-true (p x) (each p xs) is).0
+all_pass p (x ∷ xs) is (suc k) d below = all_pass p xs (both-true (p x) (each p xs) is).1 k d (omega arith)
 
 -- the handler is a text
 pub handler_is_text : IsText HANDLER

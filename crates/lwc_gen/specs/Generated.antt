@@ -14,7 +14,8 @@ use Rattle.lwc_gen.specs.declared.handler.TheConstants.{HANDLER}
 abbrev pub numbered_page : ℕ → PageImage
 numbered_page p = record { number = p; bytes = to_le_bytes w64 p ++ zero_bytes (PAGE_BYTES - 8) }
 
--- the server: the handler, PAGES pages from 0 on, each with its number, and one thread from the first instruction on
+-- the server: the handler, PAGES pages from 0 on, each with its number, and one thread from the first
+-- instruction on
 abbrev pub server : Image
 server = record {
   text = HANDLER;

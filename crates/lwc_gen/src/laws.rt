@@ -7,13 +7,9 @@ ghost use Rattle.kernel_core.specs.Start.{start};
 ghost use Rattle.lwc_base.specs.declared.limits.TheConstants.{MOST_STEPS};
 ghost use Rattle.lwc_gen.specs.Generated.{generated};
 
-use kernel_core::laws::each_request_has_its_budget;
-
 /// A law: a kernel can be opened with a generated server and its requests, and the steps of its threads are
 /// within the limit.
 pub fn a_generated_server_can_be_served()
     ensures opens { (number : ℕ) → number ≤ 100 → CanOpen (generated number) }
     ensures steps { (number : ℕ) → number ≤ 100 → work (start (generated number)) ≤ MOST_STEPS }
-{
-    each_request_has_its_budget();
-}
+{}

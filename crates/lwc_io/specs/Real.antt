@@ -2,7 +2,8 @@
 use Rattle.std.specs.Prelude.{ℕ, List}
 use Rattle.lwc_io.specs.Outside.{Fetch}
 
--- files of the system: the runtime that reaches them, the number of fetches that failed, and all fetches so far
+-- files of the system: the runtime that reaches them, the number of fetches that failed, and all fetches so
+-- far
 pub record SystemFiles (R : Type 0) : Type 0 where
   pub runtime : R
   pub faults : ℕ

@@ -1,32 +1,27 @@
 -- Calls that are not refused.
 use Rattle.std.proofs.Common.{◌≡◌, ◌<◌, ◌++◌, ℕ, Bool, true, List, [], Option, Some, None, arith, refl, subst}
 use Rattle.std.specs.Prelude.{slice_index}
-use Rattle.call_items.specs.Asked as asked
+use Rattle.call_items.proofs.NotRefused.{rest_clear, spec_asked}
 use Rattle.call_items.specs.Asked.{item_refusals}
 use Rattle.guest_call.specs.Guest.{descriptor_for, link_of, slot_refusals}
 use Rattle.lwc_base.specs.declared.answer.Answer.{Answer}
 use Rattle.lwc_base.specs.declared.answer.Answer.TheVariants.{Done, Refused}
-use Rattle.lwc_base.specs.declared.descriptor.Cap.{Cap}
-use Rattle.lwc_base.specs.declared.descriptor.Descriptor.TheVariants.{Ctx}
-use Rattle.lwc_base.specs.declared.descriptor.TheConstants.{SLOTS}
 use Rattle.lwc_base.specs.declared.limits.TheConstants.{MOST_GROUPS_OF_JOB}
 use Rattle.lwc_base.specs.declared.name.Name.{Name}
 use Rattle.lwc_base.specs.declared.refusal.Refusal.{Refusal}
 use Rattle.lwc_base.specs.declared.regs.Regs.{Regs}
 use Rattle.lwc_base.specs.Capabilities.{covers}
-use Rattle.lwc_base.specs.Cells.{slot_at}
-use Rattle.lwc_base.specs.Life.{HasItsContexts, links}
-use Rattle.lwc_base.specs.Modes.{IsSpec}
+use Rattle.lwc_base.specs.Life.{HasItsContexts}
 use Rattle.lwc_base.specs.Refusals.{first_refusal}
 use Rattle.lwc_base.specs.Sharing.{needs_group}
 use Rattle.lwc_base.specs.World.{World, groups_of, is_live}
 use Rattle.lwc_overlay.specs.Named.{items_of, link}
 use Rattle.lwc_overlay.specs.OverlayCall as overlaying
-use Rattle.lwc_overlay.specs.OverlayCall.{IsTaken, overlay, source_refusals}
+use Rattle.lwc_overlay.specs.OverlayCall.{IsTaken, overlay, giver_refusals}
 use Rattle.lwc_overlay.specs.RestrictCall as restricting
 use Rattle.lwc_overlay.specs.RestrictCall.{IsRestriction, restrict}
-use Rattle.res_spec.specs.declared.items.SpecCall.{SpecCall}
 use Rattle.res_spec.specs.declared.items.SpecCall.TheVariants as call
+use Rattle.guest_call.proofs.Targets.{in_slot, target_links}
 
 -- where no row holds, the slot has a descriptor of a context, and no row of the items holds
 named_link : (w : World) (c : Name) (regs : Regs) (rows : List (Bool × Refusal)) → first_refusal (slot_refusals w c (slice_index regs.r 1) ++ rows) ≡ None →
@@ -34,22 +29,14 @@ named_link : (w : World) (c : Name) (regs : Regs) (rows : List (Bool × Refusal)
 unfolding slot_refusals link
 named_link w c regs rows none = grind arith
 
--- that descriptor is in the slot
-in_slot : (w : World) (c : Name) (n : ℕ) (l : Name × Cap) → link_of (descriptor_for w c n) ≡ Some l → (n < SLOTS) × (slot_at w c n ≡ Ctx l.0 l.1)
-unfolding descriptor_for
-in_slot w c n l is = grind arith
-
--- where no row of the source holds, its capability covers the items, and the job may have a group that they need
-may_take : (w : World) (c : Name) (job : ℕ) (regs : Regs) → first_refusal (source_refusals w c job (link w c regs) (items_of w c call.Overlay regs)) ≡ None →
+-- where no row of the giver holds, its capability covers the items, and the job may have a group that they need
+may_take : (w : World) (c : Name) (job : ℕ) (regs : Regs) → first_refusal (giver_refusals w c job (link w c regs) (items_of w c call.Overlay regs)) ≡ None →
     (covers w.size.pages (link w c regs).1 (items_of w c call.Overlay regs) ≡ true)
     × (needs_group w (link w c regs).0 (items_of w c call.Overlay regs) ≡ true → groups_of w job < MOST_GROUPS_OF_JOB)
-unfolding source_refusals
+unfolding giver_refusals
 may_take w c job regs none = (grind arith, λ needs. grind arith)
 
-module _ (spec : (w : World) (c : Name) (call : SpecCall) (at count : ℕ) (rows : List (Bool × Refusal)) → first_refusal (item_refusals w c call at count ++ rows) ≡ None →
-    IsSpec w.size.pages (asked.items_of w c call at count))
-    (rest : (w : World) (c : Name) (call : SpecCall) (at count : ℕ) (rows : List (Bool × Refusal)) → first_refusal (item_refusals w c call at count ++ rows) ≡ None → first_refusal rows ≡ None)
-    (w : World) (c : Name) (regs : Regs) where
+module _ (w : World) (c : Name) (regs : Regs) where
   -- an answer is what a restriction is
   abbrev Restricts : Answer → World → Type 0
   Restricts (Done after) v = IsRestriction w v c regs
@@ -63,11 +50,11 @@ module _ (spec : (w : World) (c : Name) (call : SpecCall) (at count : ℕ) (rows
       let named = named_link w c regs (item_refusals w c call.Restrict (slice_index regs.r 2) (slice_index regs.r 3) ++ []) none in
       let slot = in_slot w c (slice_index regs.r 1) (link w c regs) named.0 in
       rw none (record {
-        source = (link w c regs).0;
+        giver = (link w c regs).0;
         cap = (link w c regs).1;
         within = slot.0;
         had = slot.1;
-        spec = spec w c call.Restrict (slice_index regs.r 2) (slice_index regs.r 3) [] named.1;
+        spec = spec_asked w c call.Restrict (slice_index regs.r 2) (slice_index regs.r 3) [] named.1;
         made = refl;
       })
 
@@ -75,8 +62,7 @@ module _ (spec : (w : World) (c : Name) (call : SpecCall) (at count : ℕ) (rows
   pub restriction : (v : World) (after : Regs) → restrict w c regs ≡ (Done after, v) → IsRestriction w v c regs
   restriction v after is = subst (λ (a : Answer × World). Restricts a.0 a.1) is (answered_restrict _ refl)
 
-  module _ (job : ℕ) (linked : (w : World) (c : Name) (n : ℕ) (l : Name × Cap) → link_of (descriptor_for w c n) ≡ Some l → links w c l.0 ≡ true)
-      (whole : HasItsContexts w) (live : is_live w c ≡ true) where
+  module _ (job : ℕ) (whole : HasItsContexts w) (live : is_live w c ≡ true) where
     -- an answer is what an overlay is
     abbrev Takes : Answer → World → Type 0
     Takes (Done after) v = IsTaken w v c job regs
@@ -87,17 +73,17 @@ module _ (spec : (w : World) (c : Name) (call : SpecCall) (at count : ℕ) (rows
     unfolding overlay overlaying.refusals
     answered_overlay (Some refusal) some = rw some tt
     answered_overlay None none =
-        let rows = source_refusals w c job (link w c regs) (items_of w c call.Overlay regs) in
+        let rows = giver_refusals w c job (link w c regs) (items_of w c call.Overlay regs) in
         let named = named_link w c regs (item_refusals w c call.Overlay (slice_index regs.r 2) (slice_index regs.r 3) ++ rows) none in
         let slot = in_slot w c (slice_index regs.r 1) (link w c regs) named.0 in
-        let may = may_take w c job regs (rest w c call.Overlay (slice_index regs.r 2) (slice_index regs.r 3) rows named.1) in
+        let may = may_take w c job regs (rest_clear w c call.Overlay (slice_index regs.r 2) (slice_index regs.r 3) rows named.1) in
         rw none (record {
-          source = (link w c regs).0;
+          giver = (link w c regs).0;
           cap = (link w c regs).1;
           had = slot.1;
-          live = whole.live c (link w c regs).0 live (linked w c (slice_index regs.r 1) (link w c regs) named.0);
+          live = whole.live c (link w c regs).0 live (target_links w c (slice_index regs.r 1) (link w c regs) named.0);
           covered = may.0;
-          spec = spec w c call.Overlay (slice_index regs.r 2) (slice_index regs.r 3) rows named.1;
+          spec = spec_asked w c call.Overlay (slice_index regs.r 2) (slice_index regs.r 3) rows named.1;
           group = may.1;
           made = refl;
         })

@@ -14,7 +14,8 @@ use Rattle.lwc_base.specs.Capabilities.{empty_cap}
 use Rattle.lwc_base.specs.World.{World}
 use Rattle.res_spec.specs.declared.items.SpecCall.{SpecCall}
 
--- the context that the slot has a descriptor of, and the capability; the caller's without a key if it has none
+-- the context that the slot has a descriptor of, and the capability; the caller's without a key if it has
+-- none
 unfoldable pub link : World → Name → Regs → Name × Cap
 link w c regs = unwrap_or (link_of (descriptor_for w c (slice_index regs.r 1))) (c, empty_cap)
 

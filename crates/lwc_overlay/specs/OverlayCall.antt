@@ -26,8 +26,8 @@ use Rattle.res_spec.specs.declared.items.SpecCall.TheVariants as call
 use Rattle.world_face.specs.Calls.{AreFew}
 
 -- why items may not be taken over from a context through a capability: the first of these that holds
-unfoldable pub source_refusals : World → Name → ℕ → Name × Cap → List Item → List (Bool × Refusal)
-source_refusals w c job l items =
+unfoldable pub giver_refusals : World → Name → ℕ → Name × Cap → List Item → List (Bool × Refusal)
+giver_refusals w c job l items =
     (not (covers w.size.pages l.1 items), NotCovered)
     ∷ (needs_group w l.0 items && nat_le MOST_GROUPS_OF_JOB (groups_of w job), TooManyGroups)
     ∷ (are_too_many (ranges_after_overlay w c l.0 job items), TooManyRanges)
@@ -37,7 +37,7 @@ source_refusals w c job l items =
 unfoldable pub refusals : World → Name → ℕ → Regs → List (Bool × Refusal)
 refusals w c job regs =
     refusals_before w c call.Overlay regs
-    (source_refusals w c job (link w c regs) (items_of w c call.Overlay regs))
+    (giver_refusals w c job (link w c regs) (items_of w c call.Overlay regs))
 
 -- the end of the call: a refusal changes nothing; else the items are taken over, and the answer is 0
 abbrev pub ended : World → Name → ℕ → Regs → Option Refusal → Answer × World
@@ -56,15 +56,15 @@ pub record MayTake (w : World) (c : Name) (job : ℕ) (l : Name × Cap) (items :
 
 -- an accepted overlay: what items name is taken over from a live context, through a capability that covers it
 pub record IsTaken (w v : World) (c : Name) (job : ℕ) (regs : Regs) : Type 0 where
-  pub source : Name
+  pub giver : Name
   pub cap : Cap
-  pub had : slot_at w c (slice_index regs.r 1) ≡ Ctx source cap
-  pub live : is_live w source ≡ true
+  pub had : slot_at w c (slice_index regs.r 1) ≡ Ctx giver cap
+  pub live : is_live w giver ≡ true
   pub covered : covers w.size.pages cap (items_of w c call.Overlay regs) ≡ true
   pub spec : IsSpec w.size.pages (items_of w c call.Overlay regs)
-  pub group : needs_group w source (items_of w c call.Overlay regs) ≡ true →
+  pub group : needs_group w giver (items_of w c call.Overlay regs) ≡ true →
       groups_of w job < MOST_GROUPS_OF_JOB
-  pub made : v ≡ base.overlay w c source job (items_of w c call.Overlay regs)
+  pub made : v ≡ base.overlay w c giver job (items_of w c call.Overlay regs)
 
 -- nothing has changed but what items name in one context, and which cells of another one are common
 pub record LeavesRest (w v : World) (c d : Name) (items : List Item) : Type 0 where

@@ -38,10 +38,10 @@ restrict w c regs = ended w c regs (first_refusal (refusals w c regs))
 
 -- an accepted restriction: a slot that had a descriptor of a context has one with fewer keys of it
 pub record IsRestriction (w v : World) (c : Name) (regs : Regs) : Type 0 where
-  pub source : Name
+  pub giver : Name
   pub cap : Cap
   pub within : slice_index regs.r 1 < SLOTS
-  pub had : slot_at w c (slice_index regs.r 1) ≡ Ctx source cap
+  pub had : slot_at w c (slice_index regs.r 1) ≡ Ctx giver cap
   pub spec : IsSpec w.size.pages (items_of w c Restrict regs)
   pub made : v ≡
-      put_slot w c (slice_index regs.r 1) (Ctx source (restricted cap (items_of w c Restrict regs)))
+      put_slot w c (slice_index regs.r 1) (Ctx giver (restricted cap (items_of w c Restrict regs)))

@@ -30,7 +30,7 @@ pub(crate) fn named<W: World>(
         first_refusal (refusals_before (W.seen world.now) c call regs.now rows) ≡ first_refusal rows) }
     ensures within { IfOk result (λ found. slice_index regs.now.r 1 < SLOTS) }
     ensures link { IfOk result (λ found. found.0 ≡ link (W.seen world.now) c regs.now) }
-    ensures source { IfOk result (λ found. IsLive (W.seen world.now) found.0.0) }
+    ensures giver { IfOk result (λ found. IsLive (W.seen world.now) found.0.0) }
     ensures items { IfOk result (λ found. found.1 ≡ items_of (W.seen world.now) c call regs.now) }
     ensures valid { IfOk result (λ found. IsSpec (W.seen world.now).size.pages found.1) }
 {

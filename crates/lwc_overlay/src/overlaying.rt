@@ -48,7 +48,7 @@ pub fn overlay<W: World>(
 }
 
 /// Why items may not be taken over from a context through a capability: the first refusal, if one holds.
-#[tactic(auto, unfolding(crate::specs::OverlayCall::source_refusals))]
+#[tactic(auto, unfolding(crate::specs::OverlayCall::giver_refusals))]
 fn refusal_of<W: World>(
     world: &W,
     c: Name,
@@ -57,10 +57,10 @@ fn refusal_of<W: World>(
     items: &Spec,
 ) -> Option<Refusal>
     requires live { IsLive (W.seen world.now) c }
-    requires source { IsLive (W.seen world.now) link.now.0 }
+    requires giver { IsLive (W.seen world.now) link.now.0 }
     requires valid { IsSpec (W.seen world.now).size.pages items.now }
     ensures first { result
-        ≡ first_refusal (spec.source_refusals (W.seen world.now) c job link.now items.now) }
+        ≡ first_refusal (spec.giver_refusals (W.seen world.now) c job link.now items.now) }
     ensures none { IfNone result (MayTake (W.seen world.now) c job link.now items.now) }
 {
     if !covers(&link.1, items, world.pages()) {

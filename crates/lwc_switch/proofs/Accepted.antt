@@ -1,21 +1,21 @@
 -- A switch that is not refused.
-use Rattle.std.proofs.Common.{◌≡◌, ◌<◌, ℕ, true, Option, Some, None, arith, refl, subst}
+use Rattle.std.proofs.Common.{◌≡◌, ◌∙◌, ℕ, true, Option, Some, None, ap, arith, refl, subst, sym}
 use Rattle.std.specs.Prelude.{slice_index}
 use Rattle.guest_call.specs.Guest.{descriptor_for, link_of, slot_refusals}
 use Rattle.lwc_base.specs.declared.descriptor.Cap.{Cap}
+use Rattle.lwc_base.specs.declared.descriptor.Descriptor.TheVariants.{Ctx}
 use Rattle.lwc_base.specs.declared.refusal.Refusal.{Refusal}
-use Rattle.lwc_base.specs.Cells.{slot_at}
 use Rattle.lwc_base.specs.Refusals.{first_refusal}
-use Rattle.lwc_base.specs.Summaries.{is_empty}
 use Rattle.lwc_base.specs.declared.answer.Moved.{Moved}
 use Rattle.lwc_base.specs.declared.answer.Moved.TheVariants.{To, Refused}
-use Rattle.lwc_base.specs.declared.descriptor.TheConstants.{SLOTS}
 use Rattle.lwc_base.specs.declared.name.Name.{Name}
 use Rattle.lwc_base.specs.declared.regs.Regs.{Regs}
 use Rattle.lwc_base.specs.Life.{HasItsContexts, links}
 use Rattle.lwc_base.specs.Slots.{lowest_empty}
 use Rattle.lwc_base.specs.World.{World, is_live}
 use Rattle.lwc_switch.specs.Switch.{IsSwitch, going_on, refusals, switch, switched, target}
+use Rattle.guest_call.proofs.Targets.{in_slot, target_links}
+use Rattle.lwc_base.proofs.Slots.{lowest_is_empty_slot}
 
 -- where no row holds, the slot has a descriptor of the target, and a slot there is empty
 passed : (w : World) (c : Name) (regs : Regs) → first_refusal (refusals w c regs) ≡ None →
@@ -23,10 +23,7 @@ passed : (w : World) (c : Name) (regs : Regs) → first_refusal (refusals w c re
 unfolding refusals slot_refusals target
 passed w c regs none = grind arith
 
-module _ (linked : (w : World) (c : Name) (n : ℕ) (link : Name × Cap) → link_of (descriptor_for w c n) ≡ Some link → links w c link.0 ≡ true)
-    (within : (w : World) (c : Name) (n : ℕ) → lowest_empty w c ≡ Some n → n < SLOTS)
-    (empty : (w : World) (c : Name) (n : ℕ) → lowest_empty w c ≡ Some n → is_empty (slot_at w c n) ≡ true)
-    (w : World) (c : Name) (t : ℕ) (regs : Regs) (whole : HasItsContexts w) (live : is_live w c ≡ true) where
+module _ (w : World) (c : Name) (t : ℕ) (regs : Regs) (whole : HasItsContexts w) (live : is_live w c ≡ true) where
   -- where no row holds, the thread goes to the target
   goes : first_refusal (refusals w c regs) ≡ None → (slot : ℕ) → lowest_empty w (target w c regs) ≡ Some slot →
       switch w c t regs ≡ (To (target w c regs) (going_on w c t regs (target w c regs) slot), switched w c t regs (target w c regs) slot)
@@ -50,13 +47,16 @@ module _ (linked : (w : World) (c : Name) (n : ℕ) (link : Name × Cap) → lin
       let p = passed w c regs none in
       let slot = p.1 in
       let lowest = p.4 in
-      let link : links w c (target w c regs) ≡ true = rw p.3 (linked w c (slice_index regs.r 1) p.0 p.2) in
+      let link : links w c (target w c regs) ≡ true = rw p.3 (target_links w c (slice_index regs.r 1) p.0 p.2) in
       rw (goes none slot lowest) (record {
+        cap = p.0.1;
         slot = slot;
+        had = (in_slot w c (slice_index regs.r 1) p.0 p.2).1 ∙ ap (λ (n : Name). Ctx n p.0.1) (sym p.3);
         linked = link;
         live = whole.live c (target w c regs) live link;
-        within = within w (target w c regs) slot lowest;
-        empty = empty w (target w c regs) slot lowest;
+        within = (lowest_is_empty_slot w (target w c regs) slot lowest).0;
+        lowest = lowest;
+        empty = (lowest_is_empty_slot w (target w c regs) slot lowest).1;
         made = refl;
         goes_on = refl;
       })

@@ -5,6 +5,7 @@ use Rattle.guest_call.specs.Changes.{IsUntouched}
 use Rattle.guest_call.specs.Guest.{descriptor_for, link_of, slot_refusals, with_answer}
 use Rattle.lwc_base.specs.declared.answer.Moved.{Moved}
 use Rattle.lwc_base.specs.declared.answer.Moved.TheVariants.{To, Refused}
+use Rattle.lwc_base.specs.declared.descriptor.Cap.{Cap}
 use Rattle.lwc_base.specs.declared.descriptor.Descriptor.TheVariants.{Ctx}
 use Rattle.lwc_base.specs.declared.descriptor.TheConstants.{SLOTS}
 use Rattle.lwc_base.specs.declared.key.Key.{Key}
@@ -67,12 +68,15 @@ abbrev pub IfRefused : Moved → Type 0 → Type 0
 IfRefused (To d regs) P = Unit {0}
 IfRefused (Refused refusal) P = P
 
--- a thread has gone from a context to a live one that it links to, where a slot was empty
+-- a thread has gone from a context to a live one that it links to, where a slot was the lowest empty one
 pub record IsSwitch (w v : World) (c d : Name) (t : ℕ) (regs arrived : Regs) : Type 0 where
+  pub cap : Cap
   pub slot : ℕ
+  pub had : slot_at w c (slice_index regs.r 1) ≡ Ctx d cap
   pub linked : links w c d ≡ true
   pub live : is_live w d ≡ true
   pub within : slot < SLOTS
+  pub lowest : lowest_empty w d ≡ Some slot
   pub empty : is_empty (slot_at w d slot) ≡ true
   pub made : v ≡ switched w c t regs d slot
   pub goes_on : arrived ≡ going_on w c t regs d slot

@@ -6,27 +6,16 @@ ghost use Rattle.lwc_base.specs.declared.name.Name.{Name};
 ghost use Rattle.lwc_base.specs.declared.regs.Regs.{Regs};
 ghost use Rattle.lwc_switch.specs.Switch.{IsSwitch, LeavesRest, switch};
 
-use guest_call::laws::{
-    a_descriptor_in_a_slot_is_a_link, a_put_leaves_the_rest, a_save_changes_one_threads_registers,
-};
-use lwc_base::laws::the_lowest_empty_slot_is_empty;
-
 /// An accepted switch takes its thread to a live context that a slot of the caller's has a descriptor of, and
 /// an empty slot of which then has a descriptor of the caller's context without a key.
 pub fn an_accepted_switch_goes_to_a_linked_context()
     ensures { (w v : World) (c d : Name) (t : ℕ) (regs arrived : Regs) → HasItsContexts w →
         is_live w c ≡ true → switch w c t regs ≡ (To d arrived, v) → IsSwitch w v c d t regs arrived }
-{
-    a_descriptor_in_a_slot_is_a_link();
-    the_lowest_empty_slot_is_empty();
-}
+{}
 
 /// A switch changes the registers that the context that it leaves keeps for the thread, and the empty slot
 /// of the target, also for the contexts that have this slot in common with it. It changes nothing else.
 pub fn a_switch_leaves_the_rest()
     ensures { (w v : World) (c d : Name) (t : ℕ) (regs arrived : Regs) →
         (moved : IsSwitch w v c d t regs arrived) → LeavesRest w v c d t moved.slot }
-{
-    a_save_changes_one_threads_registers();
-    a_put_leaves_the_rest();
-}
+{}

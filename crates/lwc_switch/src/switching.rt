@@ -11,7 +11,6 @@ ghost use Rattle.world_face.specs.Calls.{IsLive};
 
 use access_cap::empty;
 use guest_call::{context_for, with_answer};
-use lwc_base::laws::{changes_leave_the_rest, the_lowest_empty_slot_is_empty};
 use lwc_base::{Descriptor, Moved, Name, Refusal, Regs};
 use world_face::World;
 
@@ -29,8 +28,6 @@ pub fn switch<W: World>(world: &mut W, c: Name, t: u32, regs: &Regs) -> Moved
         Ok(found) => found,
         Err(refusal) => return Moved::Refused(refusal),
     };
-    changes_leave_the_rest();
-    the_lowest_empty_slot_is_empty();
     world.save(c, t, &with_answer(regs, 0));
     let entered = entered(world, target, t);
     let cap = empty();

@@ -18,18 +18,8 @@ use Rattle.lwc_base.specs.declared.name.Name.{Name}
 use Rattle.lwc_base.specs.declared.regs.Regs.{Regs}
 use Rattle.lwc_syscall.specs.Changes.{holder}
 use Rattle.lwc_syscall.specs.Syscall.{IsAllowed, link, mask_in, taken_from, three_of}
-
--- a number below an end that passes a test
-some_below : (test : ℕ → Bool) (n k : ℕ) → k < n → test k ≡ true → list_any test (range_with_len 0 n) ≡ true
-some_below test n k inside passes =
-    list_any_at test (range_with_len 0 n) k 0 (omega (arith, length-range_with_len 0 n)) (ap test (get_or-range_with_len 0 n k 0 inside ∙ omega arith) ∙ passes)
-
--- a key that passes a test
-some_key : (pages : ℕ) (test : Key → Bool) (k : Key) → IsKey pages k → test k ≡ true → any_key pages test ≡ true
-unfolding any_key
-some_key pages test (Page p) within passes = or_left _ _ (or_left _ _ (some_below (λ q. test (Page q)) pages p within passes))
-some_key pages test (Slot n) within passes = or_left _ _ (or_right _ _ (some_below (λ m. test (Slot m)) SLOTS n within passes))
-some_key pages test Cred within passes = or_right _ _ passes
+use Rattle.lwc_base.proofs.Caps.{some_below}
+use Rattle.lwc_base.proofs.Needs.{any_key-some}
 
 -- a capability with all keys of the chosen kinds has each key of one of them
 has_chosen : (pages : ℕ) (cap : Cap) (mask : ℕ) (k : Key) → has_kinds pages cap mask ≡ true → IsKey pages k → is_chosen mask (kind_of k) ≡ true → has_key cap k ≡ true
@@ -37,7 +27,7 @@ unfolding has_kinds
 has_chosen pages cap mask k all within chosen =
     elim (has_key cap k) as (λ b. has_key cap k ≡ b → b ≡ true) [
       | true ↦ λ has. refl
-      | false ↦ λ lacks. let some = some_key pages (λ k. is_chosen mask (kind_of k) && not (has_key cap k)) k within (grind arith) in grind arith
+      | false ↦ λ lacks. let some = any_key-some pages (λ k. is_chosen mask (kind_of k) && not (has_key cap k)) k within (grind arith) in grind arith
     ] refl
 
 -- a key's context is the one that its kind is taken from

@@ -5,7 +5,7 @@ use Rattle.std.proofs.lemmas.List.{length-map, length-take}
 use Rattle.std.specs.Prelude.{◌==◌, if◌then◌else◌, slice_index, is_none, unwrap_or}
 use Rattle.guest_call.specs.Guest.{descriptor_for}
 use Rattle.lwc_base.specs.Cells.{put_slot, put_uid, slot_at, uid_at}
-use Rattle.lwc_base.specs.Channels.{Channels, bytes_in, contents}
+use Rattle.lwc_base.specs.Channels.{Channels, HasItsFiles, bytes_in, contents}
 use Rattle.lwc_base.specs.Mapping.{mapped_or_not}
 use Rattle.lwc_base.specs.Memory.{bytes_for}
 use Rattle.lwc_base.specs.Refusals.{first_refusal}
@@ -25,6 +25,11 @@ use Rattle.lwc_syscall.specs.Changes.{IsKnown, IsPlainChange, Mapped, Nothing, R
 use Rattle.lwc_syscall.specs.Plain.{Outcome, answering, becoming, close_refusals, closing, copy_refusals, copying, ended, is_absent, is_full, left, map_refusals, mapping, moved, open_refusals, opening, placed, plain, read_on, read_refusals, reading, refused_or, store_at, uid_refusals, world_after, write_refusals, writing, written}
 use Rattle.lwc_syscall.specs.declared.answer.CallAnswer.TheVariants.{Exit, Refused}
 use Rattle.lwc_syscall.specs.declared.calls.Three.{Three}
+use Rattle.lwc_base.proofs.InRange.{files-slot_at}
+use Rattle.lwc_base.proofs.Jobs.{jobs-slot_at}
+use Rattle.lwc_base.proofs.NamedContexts.{named-live}
+use Rattle.lwc_base.proofs.Slots.{lowest_is_empty_slot}
+use Rattle.lwc_base.specs.Life.{HasItsContexts}
 
 -- a call ends as it does where it is refused, or as it is done where no row of its table holds
 pub ended-cases : (P : Outcome → Type 0) (w : World) (io : Channels) (rows : List (Bool × Refusal)) (done : Outcome) →
@@ -71,7 +76,7 @@ module _ (w : World) (io : Channels) (three : Three) (job : ℕ) (ready : Ready 
   closing-does : (n : ℕ) → Does w io three job (closing w io three.slots n)
   closing-does n =
       ended-cases (Does w io three job) w io (close_refusals w three.slots n) (answering 0 (put_slot w three.slots n Empty) io) (λ _. Nothing)
-      (λ passed. SlotPut n Empty (found-slot n (grind arith)) (record { in_range = tt; named = λ d is. grind arith; own = λ keeps. tt }))
+      (λ passed. SlotPut n Empty (found-slot n (grind arith)) (record { in_range = tt; named = λ d is. grind arith; own = λ keeps. tt; stood = λ d cap is. absurd (grind arith) }))
 
   placed-does : (value : Descriptor) (rows : List (Bool × Refusal)) → (first_refusal rows ≡ None → is_none (lowest_empty w three.slots) ≡ false) →
       (first_refusal rows ≡ None → IsKnown w io three.slots value) → Does w io three job (ended w io rows (placed w io three.slots value))
@@ -84,7 +89,7 @@ module _ (w : World) (io : Channels) (three : Three) (job : ℕ) (ready : Ready 
 
   -- a file that is there is in range at its beginning
   file-known : (file : ℕ) → file < length io.files → IsKnown w io three.slots (File file 0)
-  file-known file there = record { in_range = record { there = simp length-map there; within = omega arith }; named = λ d is. grind arith; own = λ keeps. tt }
+  file-known file there = record { in_range = record { there = simp length-map there; within = omega arith }; named = λ d is. grind arith; own = λ keeps. tt; stood = λ d cap is. absurd (grind arith) }
 
   opening-does : (file : ℕ) → Does w io three job (opening w io three file)
   opening-does file = placed-does (File file 0) (open_refusals w io three file) (λ passed. grind arith) (λ passed. file-known file (grind (arith, nat_tests)))
@@ -114,6 +119,7 @@ module _ (w : World) (io : Channels) (three : Three) (job : ℕ) (ready : Ready 
         in_range = record { there = range.there; within = let within = range.within in omega (arith, length-drop at (bytes_in (contents io.files) file)) };
         named = λ d is. grind arith;
         own = λ keeps. tt;
+        stood = λ d cap is. absurd (grind arith);
       }
   on-known (Request r at) count few known =
       let range = known.in_range in
@@ -121,6 +127,7 @@ module _ (w : World) (io : Channels) (three : Three) (job : ℕ) (ready : Ready 
         in_range = record { there = range.there; within = let within = range.within in omega (arith, length-drop at (bytes_in io.requests r)) };
         named = λ d is. grind arith;
         own = λ keeps. tt;
+        stood = λ d cap is. absurd (grind arith);
       }
   on-known Empty count few known = known
   on-known Console count few known = known
@@ -162,3 +169,18 @@ module _ (w : World) (io : Channels) (three : Three) (job : ℕ) (ready : Ready 
       (answering (uid_at w three.cred) w io) (becoming w io three.cred (arg 0)) (record { answer = Exit (arg 0); world = w; io = io }) (record { answer = Refused BadCall; world = w; io = io })
       (opening-does (arg 0)) (closing-does (arg 0)) (copying-does (arg 0)) (reading-does (arg 0) (arg 1) (arg 2)) (writing-does (arg 0) (arg 1) (arg 2))
       (mapping-does (arg 0) (arg 1) true) (mapping-does (arg 0) (arg 1) false) Nothing (becoming-does (arg 0)) Nothing Nothing
+
+-- where the contexts and the files that slots name are there, so are those of the caller's slots
+pub does-one_thing : (w : World) (io : Channels) (three : Three) (job call : ℕ) (args : List ℕ) → HasItsContexts w → HasItsFiles io w → is_live w three.slots ≡ true →
+    IsPlainChange w io three job (plain w io three job call args).world (plain w io three job call args).io
+does-one_thing w io three job call args named files live =
+    plain-does w io three job (record {
+      live = live;
+      known = λ n within. record {
+        in_range = files-slot_at io w three.slots n live files;
+        named = λ d is. named-live w three.slots d n named live within is;
+        own = jobs-slot_at w three.slots n live;
+        stood = λ d cap is. (n, within, is);
+      };
+      lowest = λ n is. (lowest_is_empty_slot w three.slots n is).0;
+    }) call args

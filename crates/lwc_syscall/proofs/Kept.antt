@@ -4,14 +4,13 @@ use Rattle.std.proofs.lemmas.Bool.{cond_both}
 use Rattle.std.proofs.lemmas.List.FromFn.{length-range_with_len}
 use Rattle.std.proofs.lemmas.List.Sums.{count_by-le-length}
 use Rattle.std.specs.List.{range_with_len}
-use Rattle.lwc_base.specs.Cells.{put_slot, put_uid}
+use Rattle.lwc_base.specs.Cells.{put_slot}
 use Rattle.lwc_base.specs.Channels.{Channels, HasItsFiles, IsInRange}
-use Rattle.lwc_base.specs.Facts.{ChangeFacts, KeepsNames, TakesTags, with_tags}
+use Rattle.lwc_base.specs.Facts.{KeepsNames, TakesTags, with_tags}
 use Rattle.lwc_base.specs.Frames.{is_parting}
 use Rattle.lwc_base.specs.Life.{HasItsContexts, is_of}
-use Rattle.lwc_base.specs.Mapping.{map_pages, mapped_or_not, unmap_pages}
+use Rattle.lwc_base.specs.Mapping.{mapped_or_not}
 use Rattle.lwc_base.specs.Memory.{touched}
-use Rattle.lwc_base.specs.Sound.{IsSound}
 use Rattle.lwc_base.specs.Store.{Done, Piece, after_store, page_value_at, parting_count, store}
 use Rattle.lwc_base.specs.World.{World, Counters, is_live}
 use Rattle.lwc_base.specs.declared.descriptor.Descriptor.{Descriptor}
@@ -23,25 +22,11 @@ use Rattle.lwc_base.specs.declared.page.TheConstants.{PAGE_BYTES}
 use Rattle.lwc_syscall.specs.Changes.{IsPlainChange, IsWell, KeepsNumbers, Mapped, Nothing, Read, SlotPut, UidPut, Written}
 use Rattle.lwc_syscall.specs.Plain.{written}
 use Rattle.lwc_syscall.specs.declared.calls.Three.{Three}
-
--- what each change of a world keeps
-pub record KeepFacts : Type 0 where
-  pub changes : ChangeFacts
-  pub sound_slot : (w : World) (c : Name) (n : ℕ) (value : Descriptor) → IsSound w → IsSound (put_slot w c n value)
-  pub sound_uid : (w : World) (c : Name) (uid : ℕ) → IsSound w → IsSound (put_uid w c uid)
-  pub sound_map : (w : World) (c : Name) (from to : ℕ) → to ≤ w.size.pages → IsSound w → IsSound (map_pages w c from to)
-  pub sound_unmap : (w : World) (c : Name) (from to : ℕ) → IsSound w → IsSound (unmap_pages w c from to)
-  pub sound_store : (w v : World) (c : Name) (job : ℕ) (piece : Piece) → IsSound w → is_live w c ≡ true → store w c job piece ≡ Done v → IsSound v
-  pub named_slot : (w : World) (c : Name) (n : ℕ) (value : Descriptor) → ((d : Name) → is_of d value ≡ true → is_live w d ≡ true) → HasItsContexts w → HasItsContexts (put_slot w c n value)
-  pub named_uid : (w : World) (c : Name) (uid : ℕ) → HasItsContexts w → HasItsContexts (put_uid w c uid)
-  pub named_map : (w : World) (c : Name) (from to : ℕ) → HasItsContexts w → HasItsContexts (map_pages w c from to)
-  pub named_unmap : (w : World) (c : Name) (from to : ℕ) → HasItsContexts w → HasItsContexts (unmap_pages w c from to)
-  pub named_store : (w : World) (c : Name) (job : ℕ) (piece : Piece) → HasItsContexts w → HasItsContexts (after_store w c job piece)
-  pub files_slot : (io : Channels) (w : World) (c : Name) (n : ℕ) (value : Descriptor) → IsInRange io value → HasItsFiles io w → HasItsFiles io (put_slot w c n value)
-  pub files_uid : (io : Channels) (w : World) (c : Name) (uid : ℕ) → HasItsFiles io w → HasItsFiles io (put_uid w c uid)
-  pub files_map : (io : Channels) (w : World) (c : Name) (from to : ℕ) → HasItsFiles io w → HasItsFiles io (map_pages w c from to)
-  pub files_unmap : (io : Channels) (w : World) (c : Name) (from to : ℕ) → HasItsFiles io w → HasItsFiles io (unmap_pages w c from to)
-  pub files_store : (io : Channels) (w : World) (c : Name) (job : ℕ) (piece : Piece) → HasItsFiles io w → HasItsFiles io (after_store w c job piece)
+use Rattle.lwc_base.proofs.Facts.{changes}
+use Rattle.lwc_base.proofs.InRange.{files-after_store, files-map_pages, files-put_slot, files-put_uid, files-unmap_pages}
+use Rattle.lwc_base.proofs.NamedContexts.{contexts-after_store, contexts-map_pages, contexts-put_slot, contexts-put_uid, contexts-unmap_pages}
+use Rattle.lwc_base.proofs.Room.{sound-store}
+use Rattle.lwc_base.proofs.Sound.{sound-map_pages, sound-put_slot, sound-put_uid, sound-unmap_pages}
 
 -- a store that is done leaves what stores do
 pub store-done : (w v : World) (c : Name) (job : ℕ) (piece : Piece) → store w c job piece ≡ Done v → v ≡ after_store w c job piece
@@ -60,97 +45,96 @@ unfolding parting_count
 few_parting w c piece few =
     omega (arith, count_by-le-length (λ p. is_parting w (page_value_at w c p)) (touched piece.at (length piece.bytes)), two_touched piece.at (length piece.bytes) few)
 
-module _ (facts : KeepFacts) where
-  well-slot : (w : World) (io : Channels) (c : Name) (n : ℕ) (value : Descriptor) → IsInRange io value → ((d : Name) → is_of d value ≡ true → is_live w d ≡ true) → IsWell w io → IsWell (put_slot w c n value) io
-  well-slot w io c n value range named well = record {
-    sound = facts.sound_slot w c n value well.sound;
-    named = facts.named_slot w c n value named well.named;
-    files = facts.files_slot io w c n value range well.files;
-  }
+pub well-slot : (w : World) (io : Channels) (c : Name) (n : ℕ) (value : Descriptor) → IsInRange io value → ((d : Name) → is_of d value ≡ true → is_live w d ≡ true) → IsWell w io → IsWell (put_slot w c n value) io
+well-slot w io c n value range named well = record {
+  sound = sound-put_slot w c n value well.sound;
+  named = contexts-put_slot w c n value named well.named;
+  files = files-put_slot io w c n value range well.files;
+}
 
-  well-store : (w v : World) (io : Channels) (c : Name) (job : ℕ) (piece : Piece) → is_live w c ≡ true → store w c job piece ≡ Done v → IsWell w io → IsWell v io
-  well-store w v io c job piece live is well =
-      let done = sym (store-done w v c job piece is) in
-      record {
-        sound = facts.sound_store w v c job piece well.sound live is;
-        named = subst HasItsContexts done (facts.named_store w c job piece well.named);
-        files = subst (HasItsFiles io) done (facts.files_store io w c job piece well.files);
-      }
+pub well-store : (w v : World) (io : Channels) (c : Name) (job : ℕ) (piece : Piece) → is_live w c ≡ true → store w c job piece ≡ Done v → IsWell w io → IsWell v io
+well-store w v io c job piece live is well =
+    let done = sym (store-done w v c job piece is) in
+    record {
+      sound = sound-store w v c job piece well.sound live is;
+      named = subst HasItsContexts done (contexts-after_store w c job piece well.named);
+      files = subst (HasItsFiles io) done (files-after_store io w c job piece well.files);
+    }
 
-  takes-store : (w v : World) (c : Name) (job : ℕ) (piece : Piece) → store w c job piece ≡ Done v → TakesTags w job (parting_count w c piece) v
-  takes-store w v c job piece is = subst (TakesTags w job (parting_count w c piece)) (sym (store-done w v c job piece is)) (facts.changes.stored w c job piece)
+takes-store : (w v : World) (c : Name) (job : ℕ) (piece : Piece) → store w c job piece ≡ Done v → TakesTags w job (parting_count w c piece) v
+takes-store w v c job piece is = subst (TakesTags w job (parting_count w c piece)) (sym (store-done w v c job piece is)) (changes.stored w c job piece)
 
-  named-store : (w v : World) (c : Name) (job : ℕ) (piece : Piece) (d : Name) → store w c job piece ≡ Done v → is_live w d ≡ true → is_live v d ≡ true
-  named-store w v c job piece d is live = let takes = takes-store w v c job piece is in takes.live d ∙ live
+named-store : (w v : World) (c : Name) (job : ℕ) (piece : Piece) (d : Name) → store w c job piece ≡ Done v → is_live w d ≡ true → is_live v d ≡ true
+named-store w v c job piece d is live = let takes = takes-store w v c job piece is in takes.live d ∙ live
 
-  well-mapped : (w : World) (io : Channels) (c : Name) (from to : ℕ) (present : Bool) → to ≤ w.size.pages → IsWell w io → IsWell (mapped_or_not w c from to present) io
-  well-mapped w io c from to true few well =
-      record { sound = facts.sound_map w c from to few well.sound; named = facts.named_map w c from to well.named; files = facts.files_map io w c from to well.files }
-  well-mapped w io c from to false few well =
-      record { sound = facts.sound_unmap w c from to well.sound; named = facts.named_unmap w c from to well.named; files = facts.files_unmap io w c from to well.files }
+well-mapped : (w : World) (io : Channels) (c : Name) (from to : ℕ) (present : Bool) → to ≤ w.size.pages → IsWell w io → IsWell (mapped_or_not w c from to present) io
+well-mapped w io c from to true few well =
+    record { sound = sound-map_pages w c from to few well.sound; named = contexts-map_pages w c from to well.named; files = files-map_pages io w c from to well.files }
+well-mapped w io c from to false few well =
+    record { sound = sound-unmap_pages w c from to well.sound; named = contexts-unmap_pages w c from to well.named; files = files-unmap_pages io w c from to well.files }
 
-  well-written : (w : World) (io : Channels) (value : Descriptor) (bytes : List ℕ) → IsWell w io → IsWell w (written io value bytes)
-  well-written w io Console bytes well = record { sound = well.sound; named = well.named; files = well.files }
-  well-written w io (Reply r) bytes well = record { sound = well.sound; named = well.named; files = well.files }
-  well-written w io Empty bytes well = well
-  well-written w io (File file at) bytes well = well
-  well-written w io (Request r at) bytes well = well
-  well-written w io (Ctx name cap) bytes well = well
+well-written : (w : World) (io : Channels) (value : Descriptor) (bytes : List ℕ) → IsWell w io → IsWell w (written io value bytes)
+well-written w io Console bytes well = record { sound = well.sound; named = well.named; files = well.files }
+well-written w io (Reply r) bytes well = record { sound = well.sound; named = well.named; files = well.files }
+well-written w io Empty bytes well = well
+well-written w io (File file at) bytes well = well
+well-written w io (Request r at) bytes well = well
+well-written w io (Ctx name cap) bytes well = well
 
-  pub well-change : (w : World) (io : Channels) (three : Three) (job : ℕ) (v : World) (after : Channels) → IsPlainChange w io three job v after → is_live w three.memory ≡ true → IsWell w io → IsWell v after
-  well-change w io three job v after Nothing live well = well
-  well-change w io three job v after (SlotPut n value within known) live well = well-slot w io three.slots n value known.in_range known.named well
-  well-change w io three job v after (UidPut uid) live well = record {
-    sound = facts.sound_uid w three.cred uid well.sound;
-    named = facts.named_uid w three.cred uid well.named;
-    files = facts.files_uid io w three.cred uid well.files;
-  }
-  well-change w io three job v after (Mapped from to present few) live well = well-mapped w io three.memory from to present few well
-  well-change w io three job v after (Read u piece n value short is within known) live well =
-      well-slot u io three.slots n value known.in_range (λ d of. named-store w u three.memory job piece d is (known.named d of)) (well-store w u io three.memory job piece live is well)
-  well-change w io three job v after (Written value bytes) live well = well-written w io value bytes well
+pub well-change : (w : World) (io : Channels) (three : Three) (job : ℕ) (v : World) (after : Channels) → IsPlainChange w io three job v after → is_live w three.memory ≡ true → IsWell w io → IsWell v after
+well-change w io three job v after Nothing live well = well
+well-change w io three job v after (SlotPut n value within known) live well = well-slot w io three.slots n value known.in_range known.named well
+well-change w io three job v after (UidPut uid) live well = record {
+  sound = sound-put_uid w three.cred uid well.sound;
+  named = contexts-put_uid w three.cred uid well.named;
+  files = files-put_uid io w three.cred uid well.files;
+}
+well-change w io three job v after (Mapped from to present few) live well = well-mapped w io three.memory from to present few well
+well-change w io three job v after (Read u piece n value short is within known) live well =
+    well-slot u io three.slots n value known.in_range (λ d of. named-store w u three.memory job piece d is (known.named d of)) (well-store w u io three.memory job piece live is well)
+well-change w io three job v after (Written value bytes) live well = well-written w io value bytes well
 
-  -- names that are kept keep numbers
-  numbers-names : (w v : World) → KeepsNames w v → KeepsNumbers w v
-  numbers-names w v names = record {
-    live = names.live;
-    groups = names.groups;
-    size = names.size;
-    contexts_counted = λ j. ap (λ (n : ℕ → Counters). (n j).contexts) names.next;
-    groups_counted = λ j. ap (λ (n : ℕ → Counters). (n j).groups) names.next;
-    tags_counted = λ j. let same : (v.next j).tags ≡ (w.next j).tags = ap (λ (n : ℕ → Counters). (n j).tags) names.next in (omega arith, omega arith);
-  }
+-- names that are kept keep numbers
+numbers-names : (w v : World) → KeepsNames w v → KeepsNumbers w v
+numbers-names w v names = record {
+  live = names.live;
+  groups = names.groups;
+  size = names.size;
+  contexts_counted = λ j. ap (λ (n : ℕ → Counters). (n j).contexts) names.next;
+  groups_counted = λ j. ap (λ (n : ℕ → Counters). (n j).groups) names.next;
+  tags_counted = λ j. let same : (v.next j).tags ≡ (w.next j).tags = ap (λ (n : ℕ → Counters). (n j).tags) names.next in (omega arith, omega arith);
+}
 
-  names-itself : (w : World) → KeepsNames w w
-  names-itself w = search rules
+names-itself : (w : World) → KeepsNames w w
+names-itself w = search rules
 
-  names-mapped : (w : World) (c : Name) (from to : ℕ) (present : Bool) → KeepsNames w (mapped_or_not w c from to present)
-  names-mapped w c from to true = (facts.changes.mapped w c from to).names
-  names-mapped w c from to false = (facts.changes.unmapped w c from to).names
+names-mapped : (w : World) (c : Name) (from to : ℕ) (present : Bool) → KeepsNames w (mapped_or_not w c from to present)
+names-mapped w c from to true = (changes.mapped w c from to).names
+names-mapped w c from to false = (changes.unmapped w c from to).names
 
-  with-tags : (next : ℕ → Counters) (job count j : ℕ) → ((with_tags next job count j).contexts ≡ (next j).contexts) × (((with_tags next job count j).groups ≡ (next j).groups)
-      × (((next j).tags ≤ (with_tags next job count j).tags) × ((with_tags next job count j).tags ≤ (next j).tags + count)))
-  with-tags next job count j = grind arith
+with-tags : (next : ℕ → Counters) (job count j : ℕ) → ((with_tags next job count j).contexts ≡ (next j).contexts) × (((with_tags next job count j).groups ≡ (next j).groups)
+    × (((next j).tags ≤ (with_tags next job count j).tags) × ((with_tags next job count j).tags ≤ (next j).tags + count)))
+with-tags next job count j = grind arith
 
-  -- a job that takes at most two tags more, before a change that keeps names
-  numbers-takes : (w u v : World) (job count : ℕ) → TakesTags w job count u → count ≤ 2 → KeepsNames u v → KeepsNumbers w v
-  numbers-takes w u v job count takes few names = record {
-    live = λ c. names.live c ∙ takes.live c;
-    groups = λ g. names.groups g ∙ takes.groups g;
-    size = names.size ∙ takes.size;
-    contexts_counted = λ j. ap (λ (n : ℕ → Counters). (n j).contexts) (names.next ∙ takes.next) ∙ (with-tags w.next job count j).0;
-    groups_counted = λ j. ap (λ (n : ℕ → Counters). (n j).groups) (names.next ∙ takes.next) ∙ (with-tags w.next job count j).1.0;
-    tags_counted = λ j. let same : (v.next j).tags ≡ (with_tags w.next job count j).tags = ap (λ (n : ℕ → Counters). (n j).tags) (names.next ∙ takes.next) in let tags = (with-tags w.next job count j).1.1 in (omega arith, omega arith);
-  }
+-- a job that takes at most two tags more, before a change that keeps names
+numbers-takes : (w u v : World) (job count : ℕ) → TakesTags w job count u → count ≤ 2 → KeepsNames u v → KeepsNumbers w v
+numbers-takes w u v job count takes few names = record {
+  live = λ c. names.live c ∙ takes.live c;
+  groups = λ g. names.groups g ∙ takes.groups g;
+  size = names.size ∙ takes.size;
+  contexts_counted = λ j. ap (λ (n : ℕ → Counters). (n j).contexts) (names.next ∙ takes.next) ∙ (with-tags w.next job count j).0;
+  groups_counted = λ j. ap (λ (n : ℕ → Counters). (n j).groups) (names.next ∙ takes.next) ∙ (with-tags w.next job count j).1.0;
+  tags_counted = λ j. let same : (v.next j).tags ≡ (with_tags w.next job count j).tags = ap (λ (n : ℕ → Counters). (n j).tags) (names.next ∙ takes.next) in let tags = (with-tags w.next job count j).1.1 in (omega arith, omega arith);
+}
 
-  pub numbers-change : (w : World) (io : Channels) (three : Three) (job : ℕ) (v : World) (after : Channels) → IsPlainChange w io three job v after → KeepsNumbers w v
-  numbers-change w io three job v after Nothing = numbers-names w w (names-itself w)
-  numbers-change w io three job v after (SlotPut n value within known) = numbers-names w _ (facts.changes.put w three.slots (Slot n) value)
-  numbers-change w io three job v after (UidPut uid) = numbers-names w _ (facts.changes.put w three.cred Cred uid)
-  numbers-change w io three job v after (Mapped from to present few) = numbers-names w _ (names-mapped w three.memory from to present)
-  numbers-change w io three job v after (Read u piece n value short is within known) =
-      numbers-takes w u _ job (parting_count w three.memory piece) (takes-store w u three.memory job piece is) (few_parting w three.memory piece short) (facts.changes.put u three.slots (Slot n) value)
-  numbers-change w io three job v after (Written value bytes) = numbers-names w w (names-itself w)
+pub numbers-change : (w : World) (io : Channels) (three : Three) (job : ℕ) (v : World) (after : Channels) → IsPlainChange w io three job v after → KeepsNumbers w v
+numbers-change w io three job v after Nothing = numbers-names w w (names-itself w)
+numbers-change w io three job v after (SlotPut n value within known) = numbers-names w _ (changes.put w three.slots (Slot n) value)
+numbers-change w io three job v after (UidPut uid) = numbers-names w _ (changes.put w three.cred Cred uid)
+numbers-change w io three job v after (Mapped from to present few) = numbers-names w _ (names-mapped w three.memory from to present)
+numbers-change w io three job v after (Read u piece n value short is within known) =
+    numbers-takes w u _ job (parting_count w three.memory piece) (takes-store w u three.memory job piece is) (few_parting w three.memory piece short) (changes.put u three.slots (Slot n) value)
+numbers-change w io three job v after (Written value bytes) = numbers-names w w (names-itself w)
 
 -- no call changes files or requests
 inputs-written : (io : Channels) (value : Descriptor) (bytes : List ℕ) → ((written io value bytes).files ≡ io.files) × ((written io value bytes).requests ≡ io.requests)

@@ -1,25 +1,21 @@
 -- Which calls cut no link.
-use Rattle.std.proofs.Common.{◌≡◌, ◌≢◌, ◌⊎◌, inl, inr, ◌∙◌, ◌+◌, ℕ, Bool, true, false, List, [], ◌∷◌, None, Option, Some, ap, refl, length, subst, sym, arith}
+use Rattle.std.proofs.Common.{◌≡◌, ◌⊎◌, inl, inr, ◌∙◌, ℕ, Bool, true, false, List, [], None, Option, Some, ap, refl, length, subst, sym, arith}
 use Rattle.std.proofs.lemmas.Bool.Decides.{nat_tests}
 use Rattle.std.specs.Prelude.{◌==◌, if◌then◌else◌, is_none, slice_index, unwrap_or}
 use Rattle.guest_call.specs.Guest.{descriptor_for}
-use Rattle.lwc_base.specs.Cells.{put_at, put_page, put_slot, slot_at, uid_at, value_at}
+use Rattle.lwc_base.specs.Cells.{put_slot, slot_at, uid_at}
 use Rattle.lwc_base.specs.Channels.{Channels}
-use Rattle.lwc_base.specs.Keys.{ValueOf}
 use Rattle.lwc_base.specs.Life.{is_of}
-use Rattle.lwc_base.specs.Memory.{bytes_for, touched}
+use Rattle.lwc_base.specs.Memory.{bytes_for}
 use Rattle.lwc_base.specs.Refusals.{first_refusal}
 use Rattle.lwc_base.specs.Slots.{lowest_empty}
-use Rattle.lwc_base.specs.Store.{Piece, Stored, after_store, parting_count, plan, put_pages, store}
+use Rattle.lwc_base.specs.Store.{Piece, Stored, after_store, store}
 use Rattle.lwc_base.specs.Store as stores
 use Rattle.lwc_base.specs.Summaries.{is_empty}
-use Rattle.lwc_base.specs.World.{World, Counters, change_counters, context, group}
+use Rattle.lwc_base.specs.World.{World}
 use Rattle.lwc_base.specs.declared.descriptor.Descriptor.{Descriptor}
 use Rattle.lwc_base.specs.declared.descriptor.Descriptor.TheVariants.{Empty, Console, File, Request, Reply, Ctx}
-use Rattle.lwc_base.specs.declared.key.Key.{Key}
-use Rattle.lwc_base.specs.declared.key.Key.TheVariants.{Page, Slot}
 use Rattle.lwc_base.specs.declared.name.Name.{Name}
-use Rattle.lwc_base.specs.declared.page.PageValue.{PageValue}
 use Rattle.lwc_base.specs.declared.refusal.Refusal.{Refusal}
 use Rattle.lwc_base.specs.declared.refusal.Refusal.TheVariants.{BadCall}
 use Rattle.lwc_base.specs.declared.regs.Regs.{Regs}
@@ -29,11 +25,7 @@ use Rattle.lwc_syscall.specs.Plain.{Outcome, answering, becoming, closing, copy_
 use Rattle.lwc_syscall.specs.Syscall.{inner_args, inner_call, lw_syscall, refusals, three_of}
 use Rattle.lwc_syscall.specs.declared.answer.CallAnswer.TheVariants.{Exit, Refused}
 use Rattle.lwc_syscall.specs.declared.calls.Three.{Three}
-
--- what is known of puts and of empty slots
-pub record LinkFacts : Type 0 where
-  pub others : (w : World) (c : Name) (k : Key) (value : ValueOf k) (d : Name) (q : Key) → q ≢ k → value_at (put_at w c k value) d q ≡ value_at w d q
-  pub empty : (w : World) (c : Name) (n : ℕ) → lowest_empty w c ≡ Some n → is_empty (slot_at w c n) ≡ true
+use Rattle.lwc_base.proofs.Slots.{lowest_is_empty_slot, slot_at-after_store}
 
 -- an outcome by a number that is one of three, in the order of the calls
 one_of_cutting : (Q : Outcome → Type 0) (call : ℕ) (a b c d e f g h i j k : Outcome) → cuts_none call ≡ true → Q a → Q c → Q d →
@@ -66,29 +58,15 @@ read-of-none io d (Ctx name cap) is = cc
 loses-none : (old new : Descriptor) → ((d : Name) → is_of d old ≡ false) → LosesNone old new
 loses-none old new none d is = absurd (cc (none d, is))
 
--- pages that are put leave slots, and so does a store
-pages-leave : LinkFacts → (w : World) (c : Name) (values : List (ℕ × PageValue)) (d : Name) (n : ℕ) → slot_at (put_pages w c values) d n ≡ slot_at w d n
-pages-leave facts w c [] d n = refl
-pages-leave facts w c (v ∷ vs) d n = pages-leave facts (put_page w c v.0 v.1) c vs d n ∙ facts.others w c (Page v.0) (Some v.1) d (Slot n) (λ is. cc)
-
-counters-leave : (w : World) (job : ℕ) (f : Counters → Counters) (d : Name) (n : ℕ) → slot_at (change_counters w job f) d n ≡ slot_at w d n
-unfolding change_counters value_at context group
-counters-leave w job f d n = refl
-
-store-leaves : LinkFacts → (w : World) (c : Name) (job : ℕ) (piece : Piece) (d : Name) (n : ℕ) → slot_at (after_store w c job piece) d n ≡ slot_at w d n
-unfolding after_store
-store-leaves facts w c job piece d n =
-    let put = plan w c job piece (w.next job).tags (touched piece.at (length piece.bytes)) in
-    counters-leave (put_pages w c put) job (λ (k : Counters). record k { tags = k.tags + parting_count w c piece }) d n ∙ pages-leave facts w c put d n
-
-done-leaves : LinkFacts → (w v : World) (c : Name) (job : ℕ) (piece : Piece) (d : Name) (n : ℕ) → store w c job piece ≡ stores.Done v → slot_at v d n ≡ slot_at w d n
+-- a store leaves slots
+done-leaves : (w v : World) (c : Name) (job : ℕ) (piece : Piece) (d : Name) (n : ℕ) → store w c job piece ≡ stores.Done v → slot_at v d n ≡ slot_at w d n
 unfolding store
-done-leaves facts w v c job piece d n is = let done : v ≡ after_store w c job piece = grind arith in ap (λ u. slot_at u d n) done ∙ store-leaves facts w c job piece d n
+done-leaves w v c job piece d n is = let done : v ≡ after_store w c job piece = grind arith in ap (λ u. slot_at u d n) done ∙ slot_at-after_store w c job piece d n
 
-module _ (facts : LinkFacts) (w : World) (io : Channels) (three : Three) (job : ℕ) where
+module _ (w : World) (io : Channels) (three : Three) (job : ℕ) where
   lowest-of-none : (lowest : Option ℕ) → lowest_empty w three.slots ≡ lowest → is_none lowest ≡ false → (d : Name) → is_of d (slot_at w three.slots (unwrap_or lowest 0)) ≡ false
   lowest-of-none None is some d = cc
-  lowest-of-none (Some n) is some d = empty-of-none d _ (facts.empty w three.slots n is)
+  lowest-of-none (Some n) is some d = empty-of-none d _ (lowest_is_empty_slot w three.slots n is).1
 
   placed-cuts : (value : Descriptor) (rows : List (Bool × Refusal)) → (first_refusal rows ≡ None → is_none (lowest_empty w three.slots) ≡ false) →
       CutsNone w three job (ended w io rows (placed w io three.slots value)).world
@@ -105,7 +83,7 @@ module _ (facts : LinkFacts) (w : World) (io : Channels) (three : Three) (job : 
       let is : w ≡ v = grind arith in subst (λ (u : World). CutsNone w three job (put_slot u three.slots n value)) is (Put n value (loses-none _ _ none))
   done-cuts (stores.Done v) piece n value there room (inr (inl same)) none = absurd (grind arith)
   done-cuts (stores.Done v) piece n value there room (inr (inr is)) none =
-      StoredPut v piece n value (sym is) (loses-none _ _ (λ d. ap (is_of d) (done-leaves facts w v three.memory job piece three.slots n (sym is)) ∙ none d))
+      StoredPut v piece n value (sym is) (loses-none _ _ (λ d. ap (is_of d) (done-leaves w v three.memory job piece three.slots n (sym is)) ∙ none d))
 
   -- what is found under a number is of no context where the slot is of none
   found-of-none : (n : ℕ) (d : Name) → is_empty (descriptor_for w three.slots n) ≡ false → is_of d (descriptor_for w three.slots n) ≡ false → is_of d (slot_at w three.slots n) ≡ false
@@ -152,14 +130,14 @@ module _ (facts : LinkFacts) (w : World) (io : Channels) (three : Three) (job : 
       (writing-leaves (arg 0) (arg 1) (arg 2)) refl refl
 
 -- and so over the contexts that a mask chooses
-pub syscall-cuts : LinkFacts → (w : World) (io : Channels) (c : Name) (job : ℕ) (regs : Regs) → cuts_none (inner_call regs) ≡ true → CutsNone w (three_of w c regs) job (lw_syscall w io c job regs).world
+pub syscall-cuts : (w : World) (io : Channels) (c : Name) (job : ℕ) (regs : Regs) → cuts_none (inner_call regs) ≡ true → CutsNone w (three_of w c regs) job (lw_syscall w io c job regs).world
 unfolding lw_syscall
-syscall-cuts facts w io c job regs is =
+syscall-cuts w io c job regs is =
     ended-cases (λ o. CutsNone w (three_of w c regs) job o.world) w io (refusals w c regs) (plain w io (three_of w c regs) job (inner_call regs) (inner_args regs)) (λ _. Same)
-    (λ _. plain-cuts facts w io (three_of w c regs) job (inner_call regs) (inner_args regs) is)
+    (λ _. plain-cuts w io (three_of w c regs) job (inner_call regs) (inner_args regs) is)
 
-pub syscall-leaves : LinkFacts → (w : World) (io : Channels) (c : Name) (job : ℕ) (regs : Regs) → leaves_world (inner_call regs) ≡ true → (lw_syscall w io c job regs).world ≡ w
+pub syscall-leaves : (w : World) (io : Channels) (c : Name) (job : ℕ) (regs : Regs) → leaves_world (inner_call regs) ≡ true → (lw_syscall w io c job regs).world ≡ w
 unfolding lw_syscall
-syscall-leaves facts w io c job regs is =
+syscall-leaves w io c job regs is =
     ended-cases (λ o. o.world ≡ w) w io (refusals w c regs) (plain w io (three_of w c regs) job (inner_call regs) (inner_args regs)) (λ _. refl)
-    (λ _. plain-leaves facts w io (three_of w c regs) job (inner_call regs) (inner_args regs) is)
+    (λ _. plain-leaves w io (three_of w c regs) job (inner_call regs) (inner_args regs) is)

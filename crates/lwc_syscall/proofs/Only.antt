@@ -1,24 +1,21 @@
 -- What plain calls leave as it was.
-use Rattle.std.proofs.Common.{◌≡◌, ◌≢◌, ◌⊎◌, inl, inr, ◌∙◌, ◌+◌, ℕ, Bool, true, false, List, [], ◌∷◌, None, Some, ap, refl, length, subst, sym, arith}
+use Rattle.std.proofs.Common.{◌≡◌, ◌⊎◌, inl, inr, ◌∙◌, ◌+◌, ℕ, Bool, true, false, List, [], ◌∷◌, None, Some, ap, refl, length, subst, sym, arith}
 use Rattle.std.proofs.lemmas.Bool.Decides.{nat_tests}
-use Rattle.std.proofs.lemmas.Cmp.{tied_itself}
-use Rattle.std.specs.Ordering.{eq_by_cmp, is_eq}
 use Rattle.std.specs.Prelude.{◌==◌, ◌&&◌, if◌then◌else◌, is_none, map, nat_le, nat_lt, slice_index, unwrap_or}
-use Rattle.guest_call.specs.Changes.{ChangesKey, IsUntouched}
+use Rattle.guest_call.specs.Changes.{IsUntouched}
 use Rattle.guest_call.specs.Guest.{descriptor_for}
 use Rattle.lwc_base.specs.Cells.{put_at, put_page, put_slot, put_uid, uid_at, value_at, value_of}
 use Rattle.lwc_base.specs.declared.cell.Cell.TheVariants.{Own, Common}
 use Rattle.lwc_base.specs.Channels.{Channels}
 use Rattle.lwc_base.specs.Clones.{AreApart}
-use Rattle.lwc_base.specs.Facts.{ChangeFacts, ChangesContext, OrderFacts}
+use Rattle.lwc_base.specs.Facts.{ChangesContext}
 use Rattle.lwc_base.specs.Frames.{is_parting}
 use Rattle.lwc_base.specs.Keys.{ValueOf}
 use Rattle.lwc_base.specs.Mapping.{mapped_or_not, with_zeros, without_pages}
 use Rattle.lwc_base.specs.Memory.{bytes_for, touched}
-use Rattle.lwc_base.specs.Names.{name_cmp}
 use Rattle.lwc_base.specs.Refusals.{first_refusal}
 use Rattle.lwc_base.specs.Slots.{lowest_empty}
-use Rattle.lwc_base.specs.Store.{Piece, Stored, after_store, page_value_at, parting_count, plan, put_pages, store}
+use Rattle.lwc_base.specs.Store.{Piece, Stored, after_store, page_value_at, parting_count, stored_pages, put_pages, store}
 use Rattle.lwc_base.specs.Store as stores
 use Rattle.lwc_base.specs.World.{World, Context, Counters, change_counters, context, group, is_live}
 use Rattle.lwc_base.specs.declared.descriptor.Descriptor.{Descriptor}
@@ -36,6 +33,10 @@ use Rattle.lwc_syscall.specs.Plain.{Outcome, answering, becoming, close_refusals
 use Rattle.lwc_syscall.specs.Syscall.{inner_args, inner_call, lw_syscall, refusals, three_of}
 use Rattle.lwc_syscall.specs.declared.answer.CallAnswer.TheVariants.{Exit, Refused}
 use Rattle.lwc_syscall.specs.declared.calls.Three.{Three}
+use Rattle.guest_call.proofs.Changes.{putting}
+use Rattle.lwc_base.proofs.Common.{apart-put_at}
+use Rattle.lwc_base.proofs.Facts.{changes}
+use Rattle.lwc_base.proofs.Orders.{cases_name}
 
 -- what is so of each outcome under its number is so of the one of a call's number
 by_call : (P : Outcome → Type 0) (call : ℕ) (a b c d e f g h i j k : Outcome) → (call ≡ 1 → P a) → (call ≡ 2 → P b) → (call ≡ 3 → P c) → (call ≡ 4 → P d) → P e →
@@ -43,13 +44,6 @@ by_call : (P : Outcome → Type 0) (call : ℕ) (a b c d e f g h i j k : Outcome
     P (if call == 1 then a else (if call == 2 then b else (if call == 3 then c else (if call == 4 then d else (if call == 5 then e else (if call == 6 then f
     else (if call == 7 then g else (if call == 8 then h else (if call == 9 then i else (if call == 10 then j else k))))))))))
 by_call P call a b c d e f g h i j k pa pb pc pd pe pf pg ph pi pj pk = grind (arith, nat_tests)
-
--- what is known of puts
-pub record PutFacts : Type 0 where
-  pub orders : OrderFacts
-  pub changes : ChangeFacts
-  pub leaves : (w : World) (c : Name) (k : Key) (value : ValueOf k) → ChangesKey w (put_at w c k value) c k
-  pub apart : (w : World) (c : Name) (q : Key) (value : ValueOf q) (a b : Name) (k : Key) → AreApart w a b k → AreApart (put_at w c q value) a b k
 
 -- what is apart in one world is apart in another
 abbrev KeepsApart : World → World → Type 0
@@ -64,14 +58,14 @@ record Leaves (w v : World) (three : Three) (keys : Key → Bool) : Type 0 where
 abbrev PagesIn : (Key → Bool) → List ℕ → Type 0
 PagesIn keys pages = (p : ℕ) → has_page pages p ≡ true → keys (Page p) ≡ true
 
-module _ (facts : PutFacts) (w : World) (three : Three) (keys : Key → Bool) where
+module _ (w : World) (three : Three) (keys : Key → Bool) where
   same : Leaves w w three keys
   same = record { only = record { values = λ e k out. refl; cells = λ e k out. refl; entries = λ e. refl; saved = λ e t. refl }; apart = λ a b k is. is }
 
   -- one more put under one of the keys
   put_on : (v : World) (q : Key) (value : ValueOf q) → keys q ≡ true → Leaves w v three keys → Leaves w (put_at v (holder three q) q value) three keys
   put_on v q value is left =
-      let put = facts.leaves v (holder three q) q value in
+      let put = putting v (holder three q) q value in
       let out : (e : Name) (k : Key) → (keys k ≡ true → AreApart w (holder three k) e k) → IsUntouched v (holder three q) q e k =
       λ e k out same. left.apart (holder three q) e k (subst (λ r. AreApart w (holder three r) e k) same (out (subst (λ r. keys r ≡ true) (sym same) is))) in
       record {
@@ -81,7 +75,7 @@ module _ (facts : PutFacts) (w : World) (three : Three) (keys : Key → Bool) wh
           entries = λ e. put.entries e ∙ left.only.entries e;
           saved = λ e t. put.saved e t ∙ left.only.saved e t;
         };
-        apart = λ a b k is. facts.apart v (holder three q) q value a b k (left.apart a b k is);
+        apart = λ a b k is. apart-put_at v (holder three q) q value a b k (left.apart a b k is);
       }
 
   -- pages of the memory's context that get new values
@@ -90,10 +84,10 @@ module _ (facts : PutFacts) (w : World) (three : Three) (keys : Key → Bool) wh
   pages_on v (x ∷ xs) named left =
       pages_on (put_page v three.memory x.0 x.1) xs (λ p is. named p (grind arith)) (put_on v (Page x.0) (Some x.1) (named x.0 (grind (arith, nat_tests))) left)
 
-  -- the pages of a plan are those that are touched
-  planned : (c : Name) (job : ℕ) (piece : Piece) (ps : List ℕ) (k : ℕ) → map (λ x. x.0) (plan w c job piece k ps) ≡ ps
-  planned c job piece [] k = refl
-  planned c job piece (p ∷ ps) k = ap (λ qs. p ∷ qs) (planned c job piece ps (if is_parting w (page_value_at w c p) then k + 1 else k))
+  -- the pages that are stored are those that are touched
+  put_so_far : (c : Name) (job : ℕ) (piece : Piece) (ps : List ℕ) (k : ℕ) → map (λ x. x.0) (stored_pages w c job piece k ps) ≡ ps
+  put_so_far c job piece [] k = refl
+  put_so_far c job piece (p ∷ ps) k = ap (λ qs. p ∷ qs) (put_so_far c job piece ps (if is_parting w (page_value_at w c p) then k + 1 else k))
 
   counters_on : (v : World) (job : ℕ) (f : Counters → Counters) → Leaves w v three keys → Leaves w (change_counters v job f) three keys
   unfolding change_counters value_at context group
@@ -106,19 +100,11 @@ module _ (facts : PutFacts) (w : World) (three : Three) (keys : Key → Bool) wh
   unfolding store after_store
   store_on job piece named v is =
       let pages = touched piece.at (length piece.bytes) in
-      let put = plan w three.memory job piece (w.next job).tags pages in
-      let left = pages_on w put (subst (PagesIn keys) (sym (planned three.memory job piece pages (w.next job).tags)) named) same in
+      let put = stored_pages w three.memory job piece (w.next job).tags pages in
+      let left = pages_on w put (subst (PagesIn keys) (sym (put_so_far three.memory job piece pages (w.next job).tags)) named) same in
       let f = λ (n : Counters). record n { tags = n.tags + parting_count w three.memory piece } in
       let done : v ≡ change_counters (put_pages w three.memory put) job f = grind arith in
       subst (λ u. Leaves w u three keys) (sym done) (counters_on (put_pages w three.memory put) job f left)
-
-  -- two names are one, or they differ
-  cases_name : {A : Type 0} (a b : Name) → (a ≡ b → A) → (a ≢ b → A) → A
-  cases_name {A} a b one two =
-      elim (eq_by_cmp name_cmp a b) as (λ t. eq_by_cmp name_cmp a b ≡ t → A) [
-        | true ↦ λ same. one (grind (arith, facts.orders.one_name))
-        | false ↦ λ other. two (λ same. let itself = ap is_eq (tied_itself facts.orders.names a) in grind arith)
-      ] refl
 
   -- a context in which cells of pages of a range have changed
   record TurnsPages (from to : ℕ) (change : Context → Context) : Type 0 where
@@ -183,7 +169,7 @@ module _ (facts : PutFacts) (w : World) (three : Three) (keys : Key → Bool) wh
     mapped_on : ChangesOnly w v three keys
     mapped_on = record { values = values_on; cells = cells_on; entries = λ e. each (λ x. x.entry) e (λ is. turns.entry); saved = λ e t. each (λ x. x.saved t) e (λ is x. turns.saved x t) }
 
-module _ (facts : PutFacts) (w : World) (io : Channels) (three : Three) (job : ℕ) (call : ℕ) (args : List ℕ) where
+module _ (w : World) (io : Channels) (three : Three) (job : ℕ) (call : ℕ) (args : List ℕ) where
   abbrev keys : Key → Bool
   keys = may_change w io three call args
 
@@ -194,10 +180,10 @@ module _ (facts : PutFacts) (w : World) (io : Channels) (three : Three) (job : �
   Only o = ChangesOnly w o.world three keys
 
   none : ChangesOnly w w three keys
-  none = (same facts w three keys).only
+  none = (same w three keys).only
 
   slot_on : (n : ℕ) (value : Descriptor) → keys (Slot n) ≡ true → ChangesOnly w (put_slot w three.slots n value) three keys
-  slot_on n value is = (put_on facts w three keys w (Slot n) value is (same facts w three keys)).only
+  slot_on n value is = (put_on w three keys w (Slot n) value is (same w three keys)).only
 
   closing_only : call ≡ 2 → Only (closing w io three.slots (arg 0))
   unfolding may_change
@@ -216,7 +202,7 @@ module _ (facts : PutFacts) (w : World) (io : Channels) (three : Three) (job : �
   unfolding may_change
   uid_only uid is =
       ended-cases Only w io (uid_refusals w three.cred uid) (answering 0 (put_uid w three.cred uid) io) (λ _. none)
-      (λ passed. (put_on facts w three keys w Cred uid (grind (arith, nat_tests)) (same facts w three keys)).only)
+      (λ passed. (put_on w three keys w Cred uid (grind (arith, nat_tests)) (same w three keys)).only)
 
   range_in : (call ≡ 6) ⊎ (call ≡ 7) → (p : ℕ) → (nat_le (arg 0) p && nat_lt p (arg 1)) ≡ true → keys (Page p) ≡ true
   unfolding may_change
@@ -226,8 +212,8 @@ module _ (facts : PutFacts) (w : World) (io : Channels) (three : Three) (job : �
   mapping_only present is =
       ended-cases Only w io (map_refusals w three.memory (arg 0) (arg 1) present) (answering 0 (mapped_or_not w three.memory (arg 0) (arg 1) present) io) (λ _. none)
       (λ passed. elim present as (λ b. ChangesOnly w (mapped_or_not w three.memory (arg 0) (arg 1) b) three keys) [
-        | true ↦ mapped_on facts w three keys (arg 0) (arg 1) _ _ (zeros_turn facts w three keys (arg 0) (arg 1)) (facts.changes.mapped w three.memory (arg 0) (arg 1)) (range_in is)
-        | false ↦ mapped_on facts w three keys (arg 0) (arg 1) _ _ (absent_turn facts w three keys (arg 0) (arg 1)) (facts.changes.unmapped w three.memory (arg 0) (arg 1)) (range_in is)
+        | true ↦ mapped_on w three keys (arg 0) (arg 1) _ _ (zeros_turn w three keys (arg 0) (arg 1)) (changes.mapped w three.memory (arg 0) (arg 1)) (range_in is)
+        | false ↦ mapped_on w three keys (arg 0) (arg 1) _ _ (absent_turn w three keys (arg 0) (arg 1)) (changes.unmapped w three.memory (arg 0) (arg 1)) (range_in is)
       ])
 
   writing_only : (n at count : ℕ) → Only (writing w io three n at count)
@@ -254,7 +240,7 @@ module _ (facts : PutFacts) (w : World) (io : Channels) (three : Three) (job : �
       let one : w ≡ v = grind arith in subst (λ (u : World). ChangesOnly w (put_slot u three.slots (arg 0) value) three keys) one (slot_on (arg 0) value slot)
   done_only (stores.Done v) piece value there room (inr (inl is)) slot pages = absurd (grind arith)
   done_only (stores.Done v) piece value there room (inr (inr is)) slot pages =
-      (put_on facts w three keys v (Slot (arg 0)) value slot (store_on facts w three keys job piece pages v (sym is))).only
+      (put_on w three keys v (Slot (arg 0)) value slot (store_on w three keys job piece pages v (sym is))).only
 
   reading_only : call ≡ 4 → Only (reading w io three job (arg 0) (arg 1) (arg 2))
   unfolding reading
@@ -276,10 +262,10 @@ module _ (facts : PutFacts) (w : World) (io : Channels) (three : Three) (job : �
       (λ is. placed_only (descriptor_for w three.slots (arg 0)) (copy_refusals w three.slots (arg 0)) (inr is) (λ passed. grind arith)) reading_only (writing_only (arg 0) (arg 1) (arg 2))
       (λ is. mapping_only true (inl is)) (λ is. mapping_only false (inr is)) none (uid_only (arg 0)) none none
 
-pub syscall_only : PutFacts → (w : World) (io : Channels) (c : Name) (job : ℕ) (regs : Regs) →
+pub syscall_only : (w : World) (io : Channels) (c : Name) (job : ℕ) (regs : Regs) →
     ChangesOnly w (lw_syscall w io c job regs).world (three_of w c regs) (may_change w io (three_of w c regs) (inner_call regs) (inner_args regs))
 unfolding lw_syscall
-syscall_only facts w io c job regs =
+syscall_only w io c job regs =
     ended-cases (λ o. ChangesOnly w o.world (three_of w c regs) (may_change w io (three_of w c regs) (inner_call regs) (inner_args regs))) w io (refusals w c regs)
-    (plain w io (three_of w c regs) job (inner_call regs) (inner_args regs)) (λ _. none facts w io (three_of w c regs) job (inner_call regs) (inner_args regs))
-    (λ _. plain_only facts w io (three_of w c regs) job (inner_call regs) (inner_args regs))
+    (plain w io (three_of w c regs) job (inner_call regs) (inner_args regs)) (λ _. none w io (three_of w c regs) job (inner_call regs) (inner_args regs))
+    (λ _. plain_only w io (three_of w c regs) job (inner_call regs) (inner_args regs))

@@ -1,16 +1,15 @@
 -- What a call over the contexts that a mask chooses does and keeps.
-use Rattle.std.proofs.Common.{◌≡◌, ℕ, Bool, true, false, List, None, Some, ap, refl, subst, sym, arith}
+use Rattle.std.proofs.Common.{◌≡◌, ℕ, Bool, true, false, None, Some, ap, refl, subst, sym, arith}
 use Rattle.std.proofs.lemmas.Bool.Decides.{nat_tests}
 use Rattle.std.specs.Prelude.{if◌then◌else◌, slice_index}
 use Rattle.access_cap.specs.Kinds.{is_chosen}
 use Rattle.guest_call.specs.Guest.{descriptor_for, link_of, slot_refusals}
 use Rattle.lwc_base.specs.Channels.{Channels, HasItsFiles}
 use Rattle.lwc_base.specs.Jobs.{NamesKeepToJobs}
-use Rattle.lwc_base.specs.Life.{HasItsContexts, links}
+use Rattle.lwc_base.specs.Life.{HasItsContexts}
 use Rattle.lwc_base.specs.Refusals.{first_refusal}
 use Rattle.lwc_base.specs.Sound.{IsSound}
 use Rattle.lwc_base.specs.World.{World, is_live}
-use Rattle.lwc_base.specs.declared.descriptor.Cap.{Cap}
 use Rattle.lwc_base.specs.declared.key.Kind.{Kind}
 use Rattle.lwc_base.specs.declared.key.Kind.TheVariants.{Page, Slot}
 use Rattle.lwc_base.specs.declared.name.Name.{Name}
@@ -18,18 +17,9 @@ use Rattle.lwc_base.specs.declared.regs.Regs.{Regs}
 use Rattle.lwc_syscall.specs.Changes.{IsPlainChange, IsWell, KeepsNumbers, Nothing}
 use Rattle.lwc_syscall.specs.Plain.{Outcome, plain}
 use Rattle.lwc_syscall.specs.Syscall.{IsAllowed, inner_args, inner_call, link, lw_syscall, mask_in, refusals, taken_from, three_of}
-use Rattle.lwc_syscall.specs.declared.calls.Three.{Three}
-use Rattle.lwc_syscall.proofs.Does.{ended-cases}
-
--- what links, and what plain calls do and keep
-pub record OverFacts : Type 0 where
-  pub linked : (w : World) (c : Name) (n : ℕ) (l : Name × Cap) → link_of (descriptor_for w c n) ≡ Some l → links w c l.0 ≡ true
-  pub does : (w : World) (io : Channels) (three : Three) (job call : ℕ) (args : List ℕ) → HasItsContexts w → HasItsFiles io w → is_live w three.slots ≡ true →
-      IsPlainChange w io three job (plain w io three job call args).world (plain w io three job call args).io
-  pub well : (w : World) (io : Channels) (three : Three) (job : ℕ) (v : World) (after : Channels) → IsPlainChange w io three job v after → is_live w three.memory ≡ true → IsWell w io → IsWell v after
-  pub numbers : (w : World) (io : Channels) (three : Three) (job : ℕ) (v : World) (after : Channels) → IsPlainChange w io three job v after → KeepsNumbers w v
-  pub inputs : (w : World) (io : Channels) (three : Three) (job : ℕ) (v : World) (after : Channels) → IsPlainChange w io three job v after →
-      (after.files ≡ io.files) × (after.requests ≡ io.requests)
+use Rattle.lwc_syscall.proofs.Does.{does-one_thing, ended-cases}
+use Rattle.guest_call.proofs.Targets.{target_links}
+use Rattle.lwc_syscall.proofs.Kept.{inputs-change, numbers-change, well-change}
 
 -- what is taken from two live contexts is taken from a live one
 taken-live : (w : World) (c : Name) (regs : Regs) (kind : Kind) → is_live w c ≡ true → is_live w (link w c regs).0 ≡ true → is_live w (taken_from w c regs kind) ≡ true
@@ -43,22 +33,22 @@ found-link : (w : World) (c : Name) (regs : Regs) → first_refusal (refusals w 
 unfolding refusals slot_refusals
 found-link w c regs passed = grind arith
 
-pub allowed : (linked : (w : World) (c : Name) (n : ℕ) (l : Name × Cap) → link_of (descriptor_for w c n) ≡ Some l → links w c l.0 ≡ true) (w : World) (c : Name) (regs : Regs) →
+pub allowed : (w : World) (c : Name) (regs : Regs) →
     HasItsContexts w → is_live w c ≡ true → first_refusal (refusals w c regs) ≡ None → IsAllowed w c regs
 unfolding refusals slot_refusals
-allowed linked w c regs has live passed =
+allowed w c regs has live passed =
     let found = found-link w c regs passed in
     record {
       found = found;
-      live = λ kind. taken-live w c regs kind live (has.live c (link w c regs).0 live (linked w c (slice_index regs.r 1) (link w c regs) found));
+      live = λ kind. taken-live w c regs kind live (has.live c (link w c regs).0 live (target_links w c (slice_index regs.r 1) (link w c regs) found));
       covered = grind arith;
       inner = grind (arith, nat_tests);
     }
 
-module _ (facts : OverFacts) (w : World) (io : Channels) (c : Name) (job : ℕ) (regs : Regs) (named : HasItsContexts w) (files : HasItsFiles io w) (live : is_live w c ≡ true) where
+module _ (w : World) (io : Channels) (c : Name) (job : ℕ) (regs : Regs) (named : HasItsContexts w) (files : HasItsFiles io w) (live : is_live w c ≡ true) where
   inner-does : IsAllowed w c regs → IsPlainChange w io (three_of w c regs) job (plain w io (three_of w c regs) job (inner_call regs) (inner_args regs)).world
       (plain w io (three_of w c regs) job (inner_call regs) (inner_args regs)).io
-  inner-does is = facts.does w io (three_of w c regs) job (inner_call regs) (inner_args regs) named files (is.live Slot)
+  inner-does is = does-one_thing w io (three_of w c regs) job (inner_call regs) (inner_args regs) named files (is.live Slot)
 
   -- what is so where nothing changes, and where the inner call does one thing, is so after the call
   over-cases : (P : Outcome → Type 0) → ((o : Outcome) → o.world ≡ w → o.io ≡ io → P o) →
@@ -66,17 +56,17 @@ module _ (facts : OverFacts) (w : World) (io : Channels) (c : Name) (job : ℕ) 
   unfolding lw_syscall
   over-cases P same done =
       ended-cases P w io (refusals w c regs) (plain w io (three_of w c regs) job (inner_call regs) (inner_args regs)) (λ refusal. same _ refl refl)
-      (λ passed. done (allowed facts.linked w c regs named live passed))
+      (λ passed. done (allowed w c regs named live passed))
 
   pub numbers-over : KeepsNumbers w (lw_syscall w io c job regs).world
   numbers-over =
-      over-cases (λ o. KeepsNumbers w o.world) (λ o same _. facts.numbers w io (three_of w c regs) job o.world io (subst (λ (v : World). IsPlainChange w io (three_of w c regs) job v io) (sym same) Nothing))
-      (λ is. facts.numbers w io (three_of w c regs) job _ _ (inner-does is))
+      over-cases (λ o. KeepsNumbers w o.world) (λ o same _. numbers-change w io (three_of w c regs) job o.world io (subst (λ (v : World). IsPlainChange w io (three_of w c regs) job v io) (sym same) Nothing))
+      (λ is. numbers-change w io (three_of w c regs) job _ _ (inner-does is))
 
   pub inputs-over : ((lw_syscall w io c job regs).io.files ≡ io.files) × ((lw_syscall w io c job regs).io.requests ≡ io.requests)
   inputs-over =
       over-cases (λ o. (o.io.files ≡ io.files) × (o.io.requests ≡ io.requests)) (λ o _ same. (ap (λ (x : Channels). x.files) same, ap (λ (x : Channels). x.requests) same))
-      (λ is. facts.inputs w io (three_of w c regs) job _ _ (inner-does is))
+      (λ is. inputs-change w io (three_of w c regs) job _ _ (inner-does is))
 
   pub jobs-over : ((v : World) (after : Channels) → IsPlainChange w io (three_of w c regs) job v after → NamesKeepToJobs w → NamesKeepToJobs v) → NamesKeepToJobs w →
       NamesKeepToJobs (lw_syscall w io c job regs).world
@@ -86,4 +76,4 @@ module _ (facts : OverFacts) (w : World) (io : Channels) (c : Name) (job : ℕ) 
   well-over sound =
       let well : IsWell w io = record { sound = sound; named = named; files = files } in
       over-cases (λ o. IsWell o.world o.io) (λ o same one. rw (same, one) well)
-      (λ is. facts.well w io (three_of w c regs) job _ _ (inner-does is) (is.live Page) well)
+      (λ is. well-change w io (three_of w c regs) job _ _ (inner-does is) (is.live Page) well)

@@ -15,7 +15,9 @@ use Rattle.lwc_base.specs.Slots.{lowest_empty}
 use Rattle.lwc_base.specs.Sound.{IsSound}
 use Rattle.lwc_base.specs.Store.{Done, Piece, store}
 use Rattle.lwc_base.specs.World.{World, context, is_live}
+use Rattle.lwc_base.specs.declared.descriptor.Cap.{Cap}
 use Rattle.lwc_base.specs.declared.descriptor.Descriptor.{Descriptor}
+use Rattle.lwc_base.specs.declared.descriptor.Descriptor.TheVariants.{Ctx}
 use Rattle.lwc_base.specs.declared.descriptor.TheConstants.{SLOTS}
 use Rattle.lwc_base.specs.declared.key.Key.{Key}
 use Rattle.lwc_base.specs.declared.key.Key.TheVariants.{Page, Slot, Cred}
@@ -26,12 +28,14 @@ use Rattle.lwc_syscall.specs.declared.calls.Three.{Three}
 use Rattle.lwc_syscall.specs.Plain.{Outcome, moved, written}
 use Rattle.lwc_syscall.specs.declared.answer.CallAnswer.TheVariants.{Refused}
 
--- a descriptor that may be in a slot of a context: it is in range, each context that it is of is live, and it is of the
--- context's own job where names keep to their jobs
+-- a descriptor that may be in a slot of a context: it is in range, each context that it is of is live, it is
+-- of the
+-- context's own job where names keep to their jobs, and one of a context was in a slot of this one as it is
 pub record IsKnown (w : World) (io : Channels) (c : Name) (value : Descriptor) : Type 0 where
   pub in_range : IsInRange io value
   pub named : (d : Name) → is_of d value ≡ true → is_live w d ≡ true
   pub own : NamesKeepToJobs w → IsOwnName c.job value
+  pub stood : (d : Name) (cap : Cap) → value ≡ Ctx d cap → (n : ℕ) × (n < SLOTS) × (slot_at w c n ≡ Ctx d cap)
 
 -- what a plain call may do over three contexts: nothing, a put, a mapping, a store and a put, or a write
 pub data IsPlainChange (w : World) (io : Channels) (three : Three) (job : ℕ) : World → Channels → Type 0 where
@@ -71,7 +75,8 @@ read_pages w io three args =
     touched (slice_index args 1)
     (length (moved io (descriptor_for w three.slots (slice_index args 0)) (slice_index args 2)))
 
--- whether a plain call may change what is under a key: a page that a read touches or that is in the range of a map or
+-- whether a plain call may change what is under a key: a page that a read touches or that is in the range of
+-- a map or
 -- unmap, the slot that an open or a dup fills or that a close or a read names, and the uid by a setuid
 unfoldable pub may_change : World → Channels → Three → ℕ → List ℕ → Key → Bool
 may_change w io three call args (Page p) =
@@ -82,7 +87,8 @@ may_change w io three call args (Slot n) =
     || (call == 2 || call == 4) && n == slice_index args 0
 may_change w io three call args Cred = call == 9
 
--- nothing has changed but what is under some keys of the three contexts, and of each context that has it in common
+-- nothing has changed but what is under some keys of the three contexts, and of each context that has it in
+-- common
 pub record ChangesOnly (w v : World) (three : Three) (keys : Key → Bool) : Type 0 where
   pub values : (e : Name) (k : Key) → (keys k ≡ true → AreApart w (holder three k) e k) →
       value_at v e k ≡ value_at w e k

@@ -11,7 +11,6 @@ ghost use Rattle.world_face.specs.Calls.{IsLive, MayName};
 use crate::answer::CallAnswer;
 use crate::calls::Three;
 use crate::slots::filled_slot;
-use lwc_base::laws::changes_leave_the_rest;
 use lwc_base::{
     Channels, Descriptor, MOST_BYTES_OF_CALL, MOST_CONSOLE_BYTES, MOST_REPLY_BYTES, Name,
     OutOfMemory, Refusal, StoreFault,
@@ -104,7 +103,7 @@ fn read_on(value: Descriptor, count: usize) -> Descriptor
 ///
 /// `BadAddress` if one of them is past the last page or in an absent page; else `NoFrame` if too few frames
 /// are free; or `OutOfMemory`.
-#[tactic(auto, unfolding(crate::specs::Plain::store_at, lwc_base::specs::Store::store))]
+#[tactic(auto, using(lwc_base::proofs::Facts::changes), unfolding(crate::specs::Plain::store_at, lwc_base::specs::Store::store))]
 fn store_at<W: World>(
     world: &mut W,
     c: Name,
@@ -126,7 +125,6 @@ fn store_at<W: World>(
     ensures live { OnOk result ((d : names.Name) →
         is_live (W.seen world.new) d ≡ is_live (W.seen world.old) d) }
 {
-    changes_leave_the_rest();
     if bytes.is_empty() {
         return Ok(());
     }

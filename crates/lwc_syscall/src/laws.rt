@@ -18,13 +18,6 @@ ghost use Rattle.lwc_syscall.specs.Syscall.{IsAllowed, inner_args, inner_call, l
 ghost use Rattle.lwc_syscall.specs.Syscall.{three_of};
 ghost use Rattle.lwc_syscall.specs.declared.calls.Three.{Three};
 
-use guest_call::laws::{a_descriptor_in_a_slot_is_a_link, a_put_leaves_the_rest};
-use lwc_base::laws::{
-    a_put_changes_one_key, changes_leave_the_rest, contexts_keep_the_contexts_that_they_name,
-    descriptors_stay_in_range, names_are_ordered, names_keep_to_their_jobs,
-    sound_worlds_stay_sound, the_lowest_empty_slot_is_empty, what_is_apart_stays_apart,
-};
-
 /// A plain call does at most one thing: a put under a slot or of the credential, a mapping, a store and
 /// then a put, or a write. A descriptor that it puts is in range, and of a live context if it is of one;
 /// of the job's own, where names keep to their jobs.
@@ -32,12 +25,7 @@ pub fn a_plain_call_does_one_thing()
     ensures { (w : World) (io : Channels) (three : Three) (job call : ℕ) (args : List ℕ) → HasItsContexts w →
         HasItsFiles io w → is_live w three.slots ≡ true → IsPlainChange w io three job
         (plain w io three job call args).world (plain w io three job call args).io }
-{
-    contexts_keep_the_contexts_that_they_name();
-    descriptors_stay_in_range();
-    names_keep_to_their_jobs();
-    the_lowest_empty_slot_is_empty();
-}
+{}
 
 /// A plain call changes what it may: a page, a slot or the uid of one of its three contexts, also for the
 /// contexts that have it in common. It changes nothing else.
@@ -47,12 +35,7 @@ pub fn a_plain_call_changes_what_it_may()
     ensures syscall { (w : World) (io : Channels) (c : Name) (job : ℕ) (regs : Regs) →
         ChangesOnly w (lw_syscall w io c job regs).world (three_of w c regs)
         (may_change w io (three_of w c regs) (inner_call regs) (inner_args regs)) }
-{
-    names_are_ordered();
-    changes_leave_the_rest();
-    a_put_leaves_the_rest();
-    what_is_apart_stays_apart();
-}
+{}
 
 /// What a call over chosen contexts may change is the caller's, or of the context that the slot names and
 /// under a key that the capability has.
@@ -71,21 +54,14 @@ pub fn a_plain_call_keeps_the_world_well()
         IsPlainChange w io three job v after → KeepsNumbers w v }
     ensures inputs { (w : World) (io : Channels) (three : Three) (job : ℕ) (v : World) (after : Channels) →
         IsPlainChange w io three job v after → (after.files ≡ io.files) × (after.requests ≡ io.requests) }
-{
-    changes_leave_the_rest();
-    contexts_keep_the_contexts_that_they_name();
-    descriptors_stay_in_range();
-    sound_worlds_stay_sound();
-}
+{}
 
 /// A call over the contexts that a mask chooses that is not refused before the inner one takes from live
 /// contexts, and the capability in the slot has every key of each chosen kind.
 pub fn an_allowed_syscall_takes_what_is_covered()
     ensures { (w : World) (c : Name) (regs : Regs) → HasItsContexts w → is_live w c ≡ true →
         first_refusal (refusals w c regs) ≡ None → IsAllowed w c regs }
-{
-    a_descriptor_in_a_slot_is_a_link();
-}
+{}
 
 /// A call over the contexts that a mask chooses keeps the world well, as plain calls do.
 pub fn a_syscall_keeps_the_world_well()
@@ -96,11 +72,7 @@ pub fn a_syscall_keeps_the_world_well()
     ensures inputs { (w : World) (io : Channels) (c : Name) (job : ℕ) (regs : Regs) → is_live w c ≡ true →
         IsWell w io → ((lw_syscall w io c job regs).io.files ≡ io.files)
         × ((lw_syscall w io c job regs).io.requests ≡ io.requests) }
-{
-    a_descriptor_in_a_slot_is_a_link();
-    a_plain_call_does_one_thing();
-    a_plain_call_keeps_the_world_well();
-}
+{}
 
 /// What a job's contexts and groups name is of that job after a plain call, and after a call over the
 /// contexts that a mask chooses, if it was so before.
@@ -109,12 +81,7 @@ pub fn calls_keep_names_to_their_jobs()
         IsPlainChange w io three job v after → NamesKeepToJobs w → NamesKeepToJobs v }
     ensures syscall { (w : World) (io : Channels) (c : Name) (job : ℕ) (regs : Regs) → is_live w c ≡ true →
         IsWell w io → NamesKeepToJobs w → NamesKeepToJobs (lw_syscall w io c job regs).world }
-{
-    a_descriptor_in_a_slot_is_a_link();
-    a_plain_call_does_one_thing();
-    a_plain_call_keeps_the_world_well();
-    names_keep_to_their_jobs();
-}
+{}
 
 /// A call that is refused changes nothing.
 pub fn a_refused_call_changes_nothing()
@@ -136,7 +103,4 @@ pub fn some_plain_calls_cut_no_link()
         → CutsNone w (three_of w c regs) job (lw_syscall w io c job regs).world }
     ensures chosen_same { (w : World) (io : Channels) (c : Name) (job : ℕ) (regs : Regs) →
         leaves_world (inner_call regs) ≡ true → (lw_syscall w io c job regs).world ≡ w }
-{
-    a_put_changes_one_key();
-    the_lowest_empty_slot_is_empty();
-}
+{}

@@ -10,7 +10,6 @@ ghost use Rattle.world_face.specs.Calls.{IsLive};
 use crate::answer::CallAnswer;
 use crate::calls::Three;
 use guest_call::descriptor_for;
-use lwc_base::laws::{descriptors_stay_in_range, the_lowest_empty_slot_is_empty};
 use lwc_base::{Descriptor, FileImage, Name, Refusal, may_open};
 use world_face::World;
 
@@ -67,7 +66,6 @@ pub(crate) fn filled_slot<W: World>(world: &W, slots: Name, n: u64) -> Option<(u
     ensures range { IfSome result (λ found. (io : Channels) → HasItsFiles io (W.seen world.now) →
         IsInRange io found.1) }
 {
-    descriptors_stay_in_range();
     match descriptor_for(world, slots, n) {
         Descriptor::Empty => None,
         value => Some((n as u8, value)),
@@ -81,7 +79,6 @@ fn place<W: World>(world: &mut W, slots: Name, value: Descriptor) -> CallAnswer
         (spec.place_refusals (W.seen world.old) slots) (spec.placed (W.seen world.old) io slots value)
         ≡ record { answer = result; world = W.seen world.new; io = io } }
 {
-    the_lowest_empty_slot_is_empty();
     let Some(n) = world.lowest_empty(slots) else {
         return CallAnswer::Refused(Refusal::NoSlot);
     };

@@ -13,19 +13,19 @@ use Rattle.kernel_core.specs.Kernel.{view_of}
 use Rattle.kernel_core.specs.Machine.{Machine, reply_of}
 use Rattle.snapshot_host.specs.declared.finishing.Finished.{Finished}
 use Rattle.kernel_core.specs.declared.thread.ThreadView.{ThreadView}
-use Rattle.lwc_base.specs.Facts.{OrderFacts}
 use Rattle.lwc_base.specs.Summaries.{summary_of}
 use Rattle.lwc_base.specs.World.{World}
 use Rattle.lwc_base.specs.declared.name.Name.{Name}
 use Rattle.lwc_base.specs.declared.size.Summary.{Summary}
 use Rattle.lwc_text.specs.Lines.{context_line, reply_line, thread_lines}
 use Rattle.lwc_text.specs.Report.{thread_at}
+use Rattle.lwc_base.proofs.Orders.{name_cmp-total}
 
 -- a name among those of live contexts is live
-pub lives : (w : World) (i : ℕ) (c : Name) → OrderFacts → slice_get (fm.keys w.contexts) i ≡ Some c → fm.contains_key w.contexts c ≡ true
-lives w i c order found =
+pub lives : (w : World) (i : ℕ) (c : Name) → slice_get (fm.keys w.contexts) i ≡ Some c → fm.contains_key w.contexts c ≡ true
+lives w i c found =
     fm.contains_key-keys w.contexts c
-    ∙ list_any-from_Contains (eq_by_cmp_equiv order.names) c (fm.keys w.contexts) (i, slice_get_within (fm.keys w.contexts) i c found, get_or_from_slice_get (fm.keys w.contexts) i c c found)
+    ∙ list_any-from_Contains (eq_by_cmp_equiv name_cmp-total) c (fm.keys w.contexts) (i, slice_get_within (fm.keys w.contexts) i c found, get_or_from_slice_get (fm.keys w.contexts) i c c found)
 
 -- the last of some pieces
 last_piece : {X : Type 0} (f : X → List ℕ) (xs : List X) (x : X) → flat_map f (xs ++ x ∷ []) ≡ flat_map f xs ++ f x

@@ -9,6 +9,7 @@ pub use Rattle.lwc_base.specs.Frames
 pub use Rattle.lwc_base.specs.Summaries
 pub use Rattle.lwc_base.specs.World
 pub mod Facts
+pub mod Glyphs
 pub mod Rules
 pub mod Schedules
 pub mod Requests

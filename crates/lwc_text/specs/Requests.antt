@@ -30,7 +30,8 @@ pub record IsRequestFile (bytes : List ℕ) (requests : List (List ℕ)) : Type 
 abbrev pub digits_end : List ℕ → ℕ
 digits_end line = position_or_len (λ b. not (is_hex_digit b)) line
 
--- the rule that a line breaks first, and the place in it: there are too many digits, a byte is none, or one lacks
+-- the rule that a line breaks first, and the place in it: there are too many digits, a byte is none, or one
+-- lacks
 abbrev pub rule_in : List ℕ → Option (InputRule × ℕ)
 rule_in line =
     if nat_lt (2 * MOST_REQUEST_BYTES) (digits_end line) then Some (RequestTooLong, 2 * MOST_REQUEST_BYTES)

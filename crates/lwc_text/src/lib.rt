@@ -1,6 +1,7 @@
 //! The texts of a run: the grammars of its inputs, and its report.
 #![tactic(auto)]
 
+mod digits;
 mod fault;
 mod laws;
 mod lines;

@@ -8,6 +8,7 @@ ghost use Rattle.lwc_text.specs.Lines.{bytes_text, context_line, groups_line, na
 ghost use Rattle.lwc_text.specs.Lines.{reply_line, reply_text, status_text, steps_text, tail_lines};
 ghost use Rattle.lwc_text.specs.Lines.{thread_line, thread_lines};
 
+use crate::digits::digits_of;
 use kernel_core::ThreadView;
 use lwc_base::{Name, OutOfMemory, Summary, ThreadStatus};
 use snapshot_host::Finished;
@@ -187,6 +188,9 @@ fn steps_text(alloc: Global, steps: &[u8]) -> Result<String, OutOfMemory>
     if steps.is_empty() {
         return Ok(String::from_str(alloc, "-")?);
     }
+    if steps.iter().all(|step| *step < 16) {
+        return digits_of(alloc, steps);
+    }
     let mut text = String::new(alloc);
     'steps: for thread in steps {
         write!(text, "{thread:x}")?;
@@ -274,10 +278,12 @@ mod tests {
         groups_line(&mut out, 12)?;
         tail_lines(&mut out, &[0, 0x2a, 0xff], 3, 4, &[0, 10, 15])?;
         tail_lines(&mut out, &[], 0, 0, &[])?;
+        tail_lines(&mut out, &[], 0, 0, &[2, 16])?;
         let want = [
             "context 1.0 pages 2 slots 5 uid 65534\ngroups 12\n",
             "console 002aff\nused 3\npeak 4\nsteps 3\nschedule 0af\n",
             "console -\nused 0\npeak 0\nsteps 0\nschedule -\n",
+            "console -\nused 0\npeak 0\nsteps 2\nschedule 210\n",
         ];
         assert_eq!(rt; out.as_slice(), want.concat(rt.alloc())?.as_bytes());
         Ok(())

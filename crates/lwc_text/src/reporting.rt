@@ -7,7 +7,6 @@ ghost use Rattle.lwc_text.specs.Report.{contexts_text, replies_text, report_afte
 use crate::lines::{context_line, groups_line, reply_line, tail_lines, thread_lines};
 use kernel_core::Kernel;
 use lwc_base::OutOfMemory;
-use lwc_base::laws::names_are_ordered;
 use std::alloc::Global;
 use world_face::World;
 
@@ -50,7 +49,6 @@ fn threads_text<W: World>(alloc: Global, k: &Kernel<W>) -> Result<Vec<u8>, OutOf
 fn context_lines<W: World>(out: &mut Vec<u8>, world: &W) -> Result<(), OutOfMemory>
     ensures { OnOk result (out.new.items ≡ out.old.items ++ contexts_text (W.seen world.now)) }
 {
-    names_are_ordered();
     'contexts: for i in 0..world.context_count() {
         let Some(name) = world.nth_context(i) else {
             unreachable!();

@@ -9,9 +9,9 @@ use Rattle.kernel_core.specs.Machine.{has_ended, is_ended}
 use Rattle.kernel_core.specs.Start.{Inputs, start, thread_count}
 use Rattle.kernel_core.specs.declared.thread.Turn.{Turn}
 use Rattle.lwc_base.specs.declared.limits.TheConstants.{MOST_STEPS}
-use Rattle.process_core.specs.Facts.{HistoryFacts}
 use Rattle.process_core.specs.Running.{Leaves}
 use Rattle.turnstile.specs.Past.{Knows}
+use Rattle.kernel_core.proofs.Others.{ended_by_turn, turn_stays}
 
 -- the steps that came after what was seen are those of others
 none_later : (past seen : List ℕ) (t : ℕ) (k : Knows past t seen) → steps_by t (k.0.0) ≡ 0
@@ -51,25 +51,24 @@ after_turn inputs n t seen new x y r same k kept_inputs grown turn_is is legal f
     } in
     subst (λ (l : List ℕ). IsAfter inputs n seen l r) (sym new_is) whole
 
-module _ (facts : HistoryFacts) where
-  -- a thread is as the pass last saw it
-  pub still_is : (h : History) (inputs : Inputs) (seen : List ℕ) (t : ℕ) (last : Turn) → h.inputs ≡ inputs → Knows h.steps t seen → Leaves inputs t seen last → turn h t ≡ Some last
-  still_is h inputs seen t last same k leaves =
-      turn_now h inputs t same
-      ∙ (ap (λ (l : List ℕ). turn_after inputs l t) (sym k.0.1)
-      ∙ (facts.others inputs seen k.0.0 t (none_later h.steps seen t k)
-      ∙ leaves.turn_is))
+-- a thread is as the pass last saw it
+pub still_is : (h : History) (inputs : Inputs) (seen : List ℕ) (t : ℕ) (last : Turn) → h.inputs ≡ inputs → Knows h.steps t seen → Leaves inputs t seen last → turn h t ≡ Some last
+still_is h inputs seen t last same k leaves =
+    turn_now h inputs t same
+    ∙ (ap (λ (l : List ℕ). turn_after inputs l t) (sym k.0.1)
+    ∙ (turn_stays inputs seen k.0.0 t (none_later h.steps seen t k)
+    ∙ leaves.turn_is))
 
-  still_going : (h : History) (inputs : Inputs) (seen : List ℕ) (t : ℕ) (last : Turn) → h.inputs ≡ inputs → Knows h.steps t seen → Leaves inputs t seen last →
-      has_ended last.status ≡ false → is_ended (machine_of h) t ≡ false
-  still_going h inputs seen t last same k leaves going = facts.ended h t last (still_is h inputs seen t last same k leaves) ∙ going
+still_going : (h : History) (inputs : Inputs) (seen : List ℕ) (t : ℕ) (last : Turn) → h.inputs ≡ inputs → Knows h.steps t seen → Leaves inputs t seen last →
+    has_ended last.status ≡ false → is_ended (machine_of h) t ≡ false
+still_going h inputs seen t last same k leaves going = ended_by_turn h t last (still_is h inputs seen t last same k leaves) ∙ going
 
-  -- a step of the thread may be made
-  pub ready : (h : History) (inputs : Inputs) (seen : List ℕ) (n t : ℕ) (last : Turn) (proposal : Option Advance) → h.inputs ≡ inputs → Knows h.steps n seen → Leaves inputs n seen last →
-      has_ended last.status ≡ false → n < thread_count inputs → IfSome proposal (λ (a : Advance). a ≡ advanced inputs.image.text a.before) → t ≡ n →
-      (t < thread_count h.inputs) × (is_ended (machine_of h) t ≡ false) × IfSome proposal (λ (a : Advance). a ≡ advanced h.inputs.image.text a.before)
-  ready h inputs seen n t last proposal same k leaves going within offer is = (
-    subst (λ (i : Inputs). t < thread_count i) (sym same) (subst (λ (m : ℕ). m < thread_count inputs) (sym is) within),
-    subst (λ (m : ℕ). is_ended (machine_of h) m ≡ false) (sym is) (still_going h inputs seen n last same k leaves going),
-    subst (λ (i : Inputs). IfSome proposal (λ (a : Advance). a ≡ advanced i.image.text a.before)) (sym same) offer,
-  )
+-- a step of the thread may be made
+pub ready : (h : History) (inputs : Inputs) (seen : List ℕ) (n t : ℕ) (last : Turn) (proposal : Option Advance) → h.inputs ≡ inputs → Knows h.steps n seen → Leaves inputs n seen last →
+    has_ended last.status ≡ false → n < thread_count inputs → IfSome proposal (λ (a : Advance). a ≡ advanced inputs.image.text a.before) → t ≡ n →
+    (t < thread_count h.inputs) × (is_ended (machine_of h) t ≡ false) × IfSome proposal (λ (a : Advance). a ≡ advanced h.inputs.image.text a.before)
+ready h inputs seen n t last proposal same k leaves going within offer is = (
+  subst (λ (i : Inputs). t < thread_count i) (sym same) (subst (λ (m : ℕ). m < thread_count inputs) (sym is) within),
+  subst (λ (m : ℕ). is_ended (machine_of h) m ≡ false) (sym is) (still_going h inputs seen n last same k leaves going),
+  subst (λ (i : Inputs). IfSome proposal (λ (a : Advance). a ≡ advanced i.image.text a.before)) (sym same) offer,
+)

@@ -5,12 +5,12 @@ use Rattle.kernel_core.specs.Kernel.{CanOpen, History, machine_of, stepped}
 use Rattle.kernel_core.specs.Machine.{is_ended, work}
 use Rattle.kernel_core.specs.Start.{start}
 use Rattle.lwc_base.specs.declared.limits.TheConstants.{MOST_STEPS}
-use Rattle.process_core.specs.Facts.{HistoryFacts}
+use Rattle.kernel_core.proofs.Others.{legal_push, some_left}
 
 -- there is room for a step of a thread that has not ended
-pub some_room : HistoryFacts → (h : History) (t : ℕ) → CanOpen h.inputs → is_ended (machine_of h) t ≡ false → work (machine_of h) ≤ h.room → 0 < h.room
+pub some_room : (h : History) (t : ℕ) → CanOpen h.inputs → is_ended (machine_of h) t ≡ false → work (machine_of h) ≤ h.room → 0 < h.room
 unfolding machine_of
-some_room facts h t can going room = omega (arith, facts.left h.inputs h.steps t can going)
+some_room h t can going room = omega (arith, some_left h.inputs h.steps can t going)
 
 abbrev longer : History → ℕ → History
 longer h t = record h { steps = h.steps ++ t ∷ []; room = h.room - 1 }
@@ -27,10 +27,10 @@ module _ (h next : History) (t : ℕ) (going : is_ended (machine_of h) t ≡ fal
   stepped_steps = ap (λ (k : History). k.steps) is_longer
 
   -- a legal history stays legal
-  pub stays_legal : HistoryFacts → IsLegal (start h.inputs) h.steps → IsLegal (start next.inputs) next.steps
+  pub stays_legal : IsLegal (start h.inputs) h.steps → IsLegal (start next.inputs) next.steps
   unfolding machine_of
-  stays_legal facts legal =
-      subst (λ (k : History). IsLegal (start k.inputs) k.steps) (sym is_longer) (facts.longer (start h.inputs) h.steps t legal going)
+  stays_legal legal =
+      subst (λ (k : History). IsLegal (start k.inputs) k.steps) (sym is_longer) (legal_push (start h.inputs) h.steps t legal going)
 
   pub stays_few : 0 < h.room → length h.steps + h.room ≤ MOST_STEPS → length next.steps + next.room ≤ MOST_STEPS
   stays_few some few =

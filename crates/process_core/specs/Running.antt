@@ -24,7 +24,8 @@ pub record Leaves (inputs : Inputs) (t : ℕ) (seen : List ℕ) (turn : Turn) : 
   pub few : length seen ≤ MOST_STEPS
   pub turn_is : turn_after inputs seen t ≡ Some turn
 
--- the process's `open` gave the pass: its number is that of a thread, and its last turn is what the history that it has seen leaves of that thread
+-- the process's `open` gave the pass: its number is that of a thread, and its last turn is what the history
+-- that it has seen leaves of that thread
 pub record IsPassOf (process : Lock Inputs) (p : Carried) : Type 0 where
   pub ours : gate.IsPassOf process p.held
   pub within : p.held.number < thread_count process.name

@@ -7,7 +7,6 @@ ghost use Rattle.kernel_core.specs.Machine.{is_ended, work};
 ghost use Rattle.kernel_core.specs.Start.{start, thread_count};
 ghost use Rattle.lwc_base.specs.declared.limits.TheConstants.{MOST_STEPS};
 
-use crate::facts::histories_are_known;
 use guest_machine::Advance;
 use kernel_core::{Inputs, Kernel, Turn};
 use lwc_base::OutOfMemory;
@@ -57,7 +56,6 @@ fn step_kernel<W: World>(
     ensures work { work (machine_of kernel.new) < work (machine_of kernel.old) }
 {
     kernel.was_opened();
-    histories_are_known();
     match kernel.make_step(t, proposal) {
         Ok(finished) => kernel.note_turn(t, finished, last),
         Err(OutOfMemory) => unreachable!(),
@@ -91,7 +89,6 @@ impl<W: World> Guarded<W> {
         ensures steps { self.new.kernel.value.steps ≡ self.old.kernel.value.steps ++ t ∷ [] }
         ensures turn { turn self.new.kernel.value t ≡ Some result.value }
     {
-        histories_are_known();
         step_kernel(&mut self.kernel, t, proposal.as_ref(), &mut last);
         last
     }

@@ -7,7 +7,6 @@
 //! kernel back by `close`.
 #![tactic(auto)]
 
-mod facts;
 mod guarded;
 mod opening;
 mod passes;

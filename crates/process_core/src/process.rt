@@ -11,7 +11,6 @@ ghost use Rattle.process_core.specs.Running.{AreAllOf, Carried, IsNewPass, IsPas
 ghost use Rattle.turnstile.specs.Passes as gates;
 ghost use Rattle.turnstile.specs.Past.{Knows};
 
-use crate::facts::histories_are_known;
 use crate::guarded::{Guarded, guard};
 use crate::opening::{first_turns, hand_out};
 use crate::passes::{ProcessPass, ProcessPasses};
@@ -67,7 +66,6 @@ fn take_turn<R: Wait, W: World>(
     ensures later { pass.old.noted < length pass.new.seen }
     ensures noted { pass.old.noted ≤ pass.new.noted }
 {
-    histories_are_known();
     let t = pass.number();
     gate.with_turn(
         rt,
@@ -204,7 +202,6 @@ impl<W: World> Process<W> {
         ensures complete { All (λ p. has_ended p.last.status ≡ true) passes.items →
             IsComplete (start self.name) result.steps }
     {
-        histories_are_known();
         let Process { gate, text: _ } = self;
         let kernel = gate.close(passes).into_kernel();
         kernel.was_opened();

@@ -55,7 +55,7 @@ unfolding kind_at
 push_on segments s q on none =
     ap (option_map (λ (t : Segment). t.kind)) (find_on (λ t. is_between t.from t.to q) segments s on (map_none (λ t. t.kind) (find (λ t. is_between t.from t.to q) segments) none))
 
-all_one : {X : Type 0} (P : X → Type 0) (x : X) → P x → All P (x ∷ [])
+pub all_one : {X : Type 0} (P : X → Type 0) (x : X) → P x → All P (x ∷ [])
 all_one P x holds zero d inside = holds
 all_one P x holds (suc k) d inside = absurd (omega arith)
 

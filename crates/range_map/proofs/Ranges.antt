@@ -21,13 +21,7 @@ use Rattle.range_map.specs.Kinds.{are_alike, begins_range, kind_of, ranges}
 use Rattle.range_map.specs.contracts.segment.SegmentKindPartialEq.TheImpl.{eq-value}
 use Rattle.range_map.specs.declared.segment.SegmentKind.{SegmentKind}
 use Rattle.range_map.specs.declared.segment.SegmentKind.TheVariants.{Own, Common}
-
--- one number more at the end
-count_more : (test : ℕ → Bool) (a n k : ℕ) → k ≡ a + n → count_by test (range_with_len a (n + 1)) ≡ count_by test (range_with_len a n) + cond (test k) 1 0
-count_more test a zero k is = grind (arith, sum_by-cons (λ x. cond (test x) 1 0) a [])
-count_more test a (suc n) k is =
-    let rest = count_more test (a + 1) n k (omega arith) in
-    grind (arith, sum_by-cons (λ x. cond (test x) 1 0) a (range_with_len (a + 1) (suc n)), sum_by-cons (λ x. cond (test x) 1 0) a (range_with_len (a + 1) n))
+use Rattle.lwc_base.proofs.Runs.{count_more}
 
 -- two tests that agree below a number count the same there
 count_same : (f g : ℕ → Bool) (n : ℕ) → ((p : ℕ) → p < n → f p ≡ g p) → count_by f (range_with_len 0 n) ≡ count_by g (range_with_len 0 n)

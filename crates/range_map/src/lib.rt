@@ -5,8 +5,6 @@ pub mod laws;
 pub mod map;
 pub mod segment;
 pub(crate) mod stretches;
-#[cfg(test)]
-mod tests;
 
 pub use laws::{ranges_are_those_of_the_context, ranges_go_by_kinds};
 pub use map::{RangeMap, TooManyRanges};

@@ -96,7 +96,7 @@ impl RangeMap {
         let segments = self.segments.as_slice();
         let mut count = 0u32;
         let mut p = 0u16;
-        'runs: while u32::from(p) < MOST_PAGES {
+        'page_runs: while u32::from(p) < MOST_PAGES {
             if stretches::kind_after(segments, changes, p).is_some() {
                 count += 1;
             }
@@ -136,7 +136,7 @@ fn segments_after(segments: &[Segment], changes: &[Change]) -> ArrayVec<Segment,
 {
     let mut after = ArrayVec::new();
     let mut p = 0u16;
-    'runs: while u32::from(p) < MOST_PAGES {
+    'page_runs: while u32::from(p) < MOST_PAGES {
         let end = stretches::run_end(segments, changes, p);
         if let Some(kind) = stretches::kind_after(segments, changes, p) {
             after.push(Segment {

@@ -4,8 +4,6 @@
 pub mod links;
 pub mod marks;
 mod search;
-#[cfg(test)]
-mod tests;
 
 pub use links::Links;
 pub use marks::{Marks, mark};

@@ -32,7 +32,9 @@ use Rattle.lwc_syscall.specs.Plain.{plain}
 use Rattle.lwc_syscall.specs.Syscall.{lw_syscall}
 use Rattle.lwc_syscall.specs.declared.answer.CallAnswer.TheVariants as ends
 use Rattle.request_isolation.specs.Needs.{CallIsFull, IsFull, StoreIsFull, WantsFrames}
-use Rattle.request_isolation.specs.JobLaws.{JobLaws}
+use Rattle.job_calls.proofs.Calling.{create-alike, overlay-alike, restrict-alike, switch-alike}
+use Rattle.job_calls.proofs.PlainAlike.{plain-alike, syscall-alike}
+use Rattle.job_view.proofs.Together.{answers-alike, changes-alike}
 
 -- two acts for a request leave the same thread, and what looks alike to its job
 pub record ActsAlike (home : Home) (r t s : ℕ) (first second : Outcome) : Type 0 where
@@ -40,7 +42,7 @@ pub record ActsAlike (home : Home) (r t s : ℕ) (first second : Outcome) : Type
   pub worlds : LooksAlike home (r + 1) t s first.environment.world second.environment.world
   pub channels : channel_view r first.environment.channels ≡ channel_view r second.environment.channels
 
-module _ (laws : JobLaws) (home : Home) (r t s : ℕ) (e f : Environment) (x : Thread) (here : x.context.job ≡ r + 1) (job : x.job ≡ r + 1)
+module _ (home : Home) (r t s : ℕ) (e f : Environment) (x : Thread) (here : x.context.job ≡ r + 1) (job : x.job ≡ r + 1)
     (like : LooksAlike home (r + 1) t s e.world f.world) (same : channel_view r e.channels ≡ channel_view r f.channels) where
   own_job : x.context.job ≡ x.job
   own_job = here ∙ sym job
@@ -49,7 +51,7 @@ module _ (laws : JobLaws) (home : Home) (r t s : ℕ) (e f : Environment) (x : T
   like_here = subst (λ (j : ℕ). LooksAlike home j t s e.world f.world) (sym here) like
 
   asked : AnswersAlike t s x.context e.world f.world
-  asked = laws.asks.asked home t s x.context e.world f.world like_here
+  asked = answers-alike home t s x.context e.world f.world like_here
 
   alike_thread : (y : Thread) → ActsAlike home r t s (unchanged e y) (unchanged f y)
   alike_thread y = record { thread = refl; worlds = like; channels = same }
@@ -96,7 +98,7 @@ module _ (laws : JobLaws) (home : Home) (r t s : ℕ) (e f : Environment) (x : T
       (ltb e.world.size.frames (used e.world + parting_count e.world x.context piece)) (ltb f.world.size.frames (used f.world + parting_count f.world x.context piece))
       (after_store e.world x.context x.job piece) (after_store f.world x.context x.job piece) (λ full. first (one, full)) (λ full. second (two, full))
       (subst (λ (j : ℕ). LooksAlike home x.context.job t s (after_store e.world x.context j piece) (after_store f.world x.context j piece)) own_job
-      ((laws.does.changes home t s x.context e.world f.world like_here).store piece)))
+      ((changes-alike home t s x.context e.world f.world like_here).store piece)))
 
   alike_word_stored : (at value : ℕ) → ((is_aligned at ≡ true) × StoreIsFull e x (record { at = at; bytes = to_le_bytes w64 value }) → ⊥) →
       ((is_aligned at ≡ true) × StoreIsFull f x (record { at = at; bytes = to_le_bytes w64 value }) → ⊥) → ActsAlike home r t s (word_outcome e x at value) (word_outcome f x at value)
@@ -105,17 +107,17 @@ module _ (laws : JobLaws) (home : Home) (r t s : ℕ) (e f : Environment) (x : T
 
   alike_create : ActsAlike home r t s (call_outcome e x (create e.world x.context x.job x.regs)) (call_outcome f x (create f.world x.context x.job x.regs))
   alike_create = subst (λ (j : ℕ). ActsAlike home r t s (call_outcome e x (create e.world x.context j x.regs)) (call_outcome f x (create f.world x.context j x.regs))) own_job
-      (let both = laws.alike.created home t s x.context e.world f.world x.regs like_here in alike_world _ _ _ _ (ap (answered x) both.answer) both.worlds)
+      (let both = create-alike home t s x.context e.world f.world x.regs like_here in alike_world _ _ _ _ (ap (answered x) both.answer) both.worlds)
 
   alike_overlay : ActsAlike home r t s (call_outcome e x (overlay e.world x.context x.job x.regs)) (call_outcome f x (overlay f.world x.context x.job x.regs))
   alike_overlay = subst (λ (j : ℕ). ActsAlike home r t s (call_outcome e x (overlay e.world x.context j x.regs)) (call_outcome f x (overlay f.world x.context j x.regs))) own_job
-      (let both = laws.alike.overlaid home t s x.context e.world f.world x.regs like_here in alike_world _ _ _ _ (ap (answered x) both.answer) both.worlds)
+      (let both = overlay-alike home t s x.context e.world f.world x.regs like_here in alike_world _ _ _ _ (ap (answered x) both.answer) both.worlds)
 
   alike_restrict : ActsAlike home r t s (call_outcome e x (restrict e.world x.context x.regs)) (call_outcome f x (restrict f.world x.context x.regs))
-  alike_restrict = let both = laws.alike.restricted home t s x.context e.world f.world x.regs like_here in alike_world _ _ _ _ (ap (answered x) both.answer) both.worlds
+  alike_restrict = let both = restrict-alike home t s x.context e.world f.world x.regs like_here in alike_world _ _ _ _ (ap (answered x) both.answer) both.worlds
 
   alike_switch : ActsAlike home r t s (switch_outcome t e x) (switch_outcome s f x)
-  alike_switch = let both = laws.alike.switched home t s x.context e.world f.world x.regs like_here in alike_world _ _ _ _ (ap (switched x) both.answer) both.worlds
+  alike_switch = let both = switch-alike home t s x.context e.world f.world x.regs like_here in alike_world _ _ _ _ (ap (switched x) both.answer) both.worlds
 
   alike_ended : (first second : calls.Outcome) → OutcomesAlike home r t s first second → ActsAlike home r t s (ended_outcome x first) (ended_outcome x second)
   alike_ended first second both = record { thread = ap (plainly x) both.answer; worlds = both.worlds; channels = both.channels }
@@ -126,7 +128,7 @@ module _ (laws : JobLaws) (home : Home) (r t s : ℕ) (e f : Environment) (x : T
   alike_plain number args first second =
       subst (λ (j : ℕ). (plain e.world e.channels (three_times x.context) j number args).answer ≢ ends.Refused NoFrame → (plain f.world f.channels (three_times x.context) j number args).answer ≢ ends.Refused NoFrame →
       ActsAlike home r t s (ended_outcome x (plain e.world e.channels (three_times x.context) j number args)) (ended_outcome x (plain f.world f.channels (three_times x.context) j number args))) (sym job)
-      (λ one two. alike_ended _ _ (laws.alike.plainly home r t s (three_times x.context) e.world f.world e.channels f.channels number args (record { memory = here; slots = here; cred = here }) like same one two))
+      (λ one two. alike_ended _ _ (plain-alike home r t s (three_times x.context) e.world f.world e.channels f.channels (record { memory = here; slots = here; cred = here }) like same number args one two))
       first second
 
   alike_syscall : (lw_syscall e.world e.channels x.context x.job x.regs).answer ≢ ends.Refused NoFrame → (lw_syscall f.world f.channels x.context x.job x.regs).answer ≢ ends.Refused NoFrame →
@@ -134,7 +136,7 @@ module _ (laws : JobLaws) (home : Home) (r t s : ℕ) (e f : Environment) (x : T
   alike_syscall first second =
       subst (λ (j : ℕ). (lw_syscall e.world e.channels x.context j x.regs).answer ≢ ends.Refused NoFrame → (lw_syscall f.world f.channels x.context j x.regs).answer ≢ ends.Refused NoFrame →
       ActsAlike home r t s (ended_outcome x (lw_syscall e.world e.channels x.context j x.regs)) (ended_outcome x (lw_syscall f.world f.channels x.context j x.regs))) (sym job)
-      (λ one two. alike_ended _ _ (laws.alike.syscalled home r t s x.context e.world f.world e.channels f.channels x.regs here like same one two))
+      (λ one two. alike_ended _ _ (syscall-alike home r t s x.context e.world f.world e.channels f.channels x.regs here like same one two))
       first second
 
   -- a call that is not refused for want of frames
@@ -170,10 +172,10 @@ module _ (laws : JobLaws) (home : Home) (r t s : ℕ) (e f : Environment) (x : T
   alike_next (Shared i) first second = alike_shared i i.op first second
 
 -- acts of a running thread in two environments that look alike to its job
-pub acts_alike : (laws : JobLaws) (home : Home) (r t s : ℕ) (e f : Environment) (x : Thread) (advance : Advance) → x.context.job ≡ r + 1 → x.job ≡ r + 1 →
+pub acts_alike : (home : Home) (r t s : ℕ) (e f : Environment) (x : Thread) (advance : Advance) → x.context.job ≡ r + 1 → x.job ≡ r + 1 →
     LooksAlike home (r + 1) t s e.world f.world → channel_view r e.channels ≡ channel_view r f.channels → (WantsFrames e (with_regs x advance.after) advance.next → ⊥) → (WantsFrames f (with_regs x advance.after) advance.next → ⊥) →
     ActsAlike home r t s (advance_outcome guest_calls t e x advance) (advance_outcome guest_calls s f x advance)
 unfolding advance_outcome
-acts_alike laws home r t s e f x advance here job like same first second =
-    let both = alike_next laws home r t s e f (with_regs x advance.after) here job like same advance.next first second in
+acts_alike home r t s e f x advance here job like same first second =
+    let both = alike_next home r t s e f (with_regs x advance.after) here job like same advance.next first second in
     record { thread = ap (with_steps (x.budget - 1)) both.thread; worlds = both.worlds; channels = both.channels }

@@ -33,7 +33,7 @@ use Rattle.lwc_syscall.specs.Plain.{plain}
 use Rattle.lwc_syscall.specs.Syscall.{lw_syscall}
 use Rattle.lwc_syscall.specs.declared.answer.CallAnswer.{CallAnswer}
 use Rattle.lwc_syscall.specs.declared.answer.CallAnswer.TheVariants as ends
-use Rattle.request_isolation.specs.JobLaws.{JobLaws}
+use Rattle.job_calls.proofs.Apart.{LeavesOthers, create-leaves, leaves_stored, overlay-leaves, plain-leaves, plain-same, restrict-leaves, switch-leaves, switch-target, syscall-leaves, syscall-same}
 
 -- an environment after a change for a job
 pub record Apart (home : Home) (job : ℕ) (e f : Environment) : Type 0 where
@@ -49,15 +49,15 @@ pub record ActsApart (home : Home) (job : ℕ) (e : Environment) (outcome : Outc
 pub apart_same : (home : Home) (job : ℕ) (e : Environment) → KeepsJobs home e.world → Apart home job e e
 apart_same home job e jobs = record { jobs = jobs; hidden = λ other t apart. refl; channels = λ r apart. refl }
 
-module _ (laws : JobLaws) (home : Home) (e : Environment) (x : Thread) (here : x.context.job ≡ x.job) (some_job : x.job ≢ 0) (jobs : KeepsJobs home e.world) where
+module _ (home : Home) (e : Environment) (x : Thread) (here : x.context.job ≡ x.job) (some_job : x.job ≢ 0) (jobs : KeepsJobs home e.world) where
   not_nobody : x.context.job ≢ 0
   not_nobody none = some_job (sym here ∙ none)
 
   -- a change of the world alone
-  apart_world : (v : World) → KeepsJobs home v → ((other t : ℕ) → x.context.job ≢ other → view other t v ≡ view other t e.world) → Apart home x.job e (with_world e v)
-  apart_world v kept hidden = record {
-    jobs = kept;
-    hidden = λ other t apart. hidden other t (λ same. apart (sym here ∙ same));
+  apart_world : (v : World) → LeavesOthers home x.context.job e.world v → Apart home x.job e (with_world e v)
+  apart_world v leaves = record {
+    jobs = leaves.kept;
+    hidden = λ other t apart. leaves.hidden other t (λ same. apart (sym here ∙ same));
     channels = λ r apart. refl;
   }
 
@@ -83,7 +83,7 @@ module _ (laws : JobLaws) (home : Home) (e : Environment) (x : Thread) (here : x
       let after : after_store e.world x.context x.job piece ≡ v = store_done (is_present e.world x.context piece.at (length piece.bytes)) (ltb e.world.size.frames (used e.world + parting_count e.world x.context piece)) _ v is in
       let own : after_store e.world x.context x.context.job piece ≡ v = ap (λ (j : ℕ). after_store e.world x.context j piece) here ∙ after in
       subst (λ (u : World). Apart home x.job e (with_world e u)) own
-      (apart_world _ ((laws.own.changes home x.context e.world not_nobody jobs).store piece) (λ other t apart. (laws.sees.changes home other t x.context e.world apart jobs.kept).store piece))
+      (apart_world _ (leaves_stored home x.context e.world not_nobody jobs piece))
 
   acts_stored : (s : Stored) → ((v : World) → s ≡ Done v → Apart home x.job e (with_world e v)) → ActsApart home x.job e (stored_outcome e x s)
   acts_stored Absent done = acts_thread _ refl
@@ -113,40 +113,42 @@ module _ (laws : JobLaws) (home : Home) (e : Environment) (x : Thread) (here : x
 
   apart_create : Apart home x.job e (with_world e (create e.world x.context x.job x.regs).1)
   apart_create = subst (λ (j : ℕ). Apart home x.job e (with_world e (create e.world x.context j x.regs).1)) here
-      (apart_world _ (laws.keep.created home x.context e.world x.regs not_nobody jobs) (λ other t apart. laws.hidden.created home other t x.context e.world x.regs not_nobody apart jobs))
+      (apart_world _ (create-leaves home x.context e.world not_nobody jobs x.regs))
 
   apart_overlay : Apart home x.job e (with_world e (overlay e.world x.context x.job x.regs).1)
   apart_overlay = subst (λ (j : ℕ). Apart home x.job e (with_world e (overlay e.world x.context j x.regs).1)) here
-      (apart_world _ (laws.keep.overlaid home x.context e.world x.regs not_nobody jobs) (λ other t apart. laws.hidden.overlaid home other t x.context e.world x.regs not_nobody apart jobs))
+      (apart_world _ (overlay-leaves home x.context e.world not_nobody jobs x.regs))
 
   apart_restrict : Apart home x.job e (with_world e (restrict e.world x.context x.regs).1)
-  apart_restrict = apart_world _ (laws.keep.restricted home x.context e.world x.regs not_nobody jobs) (λ other t apart. laws.hidden.restricted home other t x.context e.world x.regs not_nobody apart jobs)
+  apart_restrict = apart_world _ (restrict-leaves home x.context e.world not_nobody jobs x.regs)
 
   apart_switch : (t : ℕ) → Apart home x.job e (with_world e (switch e.world x.context t x.regs).1)
-  apart_switch s = apart_world _ (laws.keep.switched home x.context s e.world x.regs not_nobody jobs) (λ other t apart. laws.hidden.switched home other t s x.context e.world x.regs not_nobody apart jobs)
+  apart_switch s = apart_world _ (switch-leaves home x.context e.world not_nobody jobs x.regs s)
 
   acts_plain : (number : ℕ) (args : List ℕ) → ActsApart home x.job e (ended_outcome x (plain e.world e.channels (three_times x.context) x.job number args))
   acts_plain number args =
       let of_job : AreOf x.job (three_times x.context) = record { memory = here; slots = here; cred = here } in
+      let leaves = plain-leaves home x.job (three_times x.context) e.world e.channels some_job of_job jobs number args in
       acts_answer _ _ (record {
-        jobs = laws.keep.plainly home x.job (three_times x.context) e.world e.channels number args some_job of_job jobs;
-        hidden = λ other t apart. laws.hidden.plainly home x.job other t (three_times x.context) e.world e.channels number args some_job apart of_job jobs;
-        channels = λ r apart. laws.hidden.plain_channels home x.job r (three_times x.context) e.world e.channels number args apart of_job jobs;
+        jobs = leaves.kept;
+        hidden = leaves.hidden;
+        channels = λ r apart. plain-same home x.job r (three_times x.context) e.world e.channels apart of_job jobs number args;
       })
 
   acts_syscall : ActsApart home x.job e (ended_outcome x (lw_syscall e.world e.channels x.context x.job x.regs))
   acts_syscall = subst (λ (j : ℕ). ActsApart home x.job e (ended_outcome x (lw_syscall e.world e.channels x.context j x.regs))) here
-      (acts_answer _ _ (record {
-        jobs = laws.keep.syscalled home x.context e.world e.channels x.regs not_nobody jobs;
-        hidden = λ other t apart. laws.hidden.syscalled home other t x.context e.world e.channels x.regs not_nobody (λ same. apart (sym here ∙ same)) jobs;
-        channels = λ r apart. laws.hidden.syscall_channels home r x.context e.world e.channels x.regs (λ same. apart (sym here ∙ same)) jobs;
+      (let leaves = syscall-leaves home x.context e.world e.channels x.regs jobs not_nobody in
+      acts_answer _ _ (record {
+        jobs = leaves.kept;
+        hidden = λ other t apart. leaves.hidden other t (λ same. apart (sym here ∙ same));
+        channels = λ r apart. syscall-same home x.context e.world e.channels x.regs jobs r (λ same. apart (sym here ∙ same));
       }))
 
   acts_guest : (number t : ℕ) → ActsApart home x.job e (guest_calls number t e x)
   unfolding guest_calls
   acts_guest number t =
       acts_chosen (eqb number LW_CREATE) _ _ (acts_call _ _ apart_create)
-      (acts_chosen (eqb number LW_SWITCH) _ _ (acts_moved _ _ (apart_switch t) (λ d arrived is. laws.keep.target home x.context d t e.world x.regs arrived jobs is))
+      (acts_chosen (eqb number LW_SWITCH) _ _ (acts_moved _ _ (apart_switch t) (λ d arrived is. switch-target home x.context d t e.world x.regs arrived jobs is))
       (acts_chosen (eqb number LW_RESTRICT) _ _ (acts_call _ _ apart_restrict)
       (acts_chosen (eqb number LW_OVERLAY) _ _ (acts_call _ _ apart_overlay)
       (acts_chosen (eqb number LW_SYSCALL) _ _ acts_syscall (acts_plain number _)))))
@@ -168,8 +170,8 @@ module _ (laws : JobLaws) (home : Home) (e : Environment) (x : Thread) (here : x
   acts_next t (Shared i) = acts_shared t i i.op
 
 -- an act of a running thread is apart
-pub acts_apart : (laws : JobLaws) (home : Home) (t : ℕ) (e : Environment) (x : Thread) (advance : Advance) → x.context.job ≡ x.job → x.job ≢ 0 → KeepsJobs home e.world →
+pub acts_apart : (home : Home) (t : ℕ) (e : Environment) (x : Thread) (advance : Advance) → x.context.job ≡ x.job → x.job ≢ 0 → KeepsJobs home e.world →
     ActsApart home x.job e (advance_outcome guest_calls t e x advance)
 unfolding advance_outcome
-acts_apart laws home t e x advance here some_job jobs =
-    let acts = acts_next laws home e (with_regs x advance.after) here some_job jobs t advance.next in record { apart = acts.apart; here = acts.here }
+acts_apart home t e x advance here some_job jobs =
+    let acts = acts_next home e (with_regs x advance.after) here some_job jobs t advance.next in record { apart = acts.apart; here = acts.here }

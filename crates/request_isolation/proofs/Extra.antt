@@ -15,7 +15,6 @@ use Rattle.kernel_core.specs.Runs.{frames_of}
 use Rattle.kernel_core.specs.Start.{first_page, image_tag}
 use Rattle.kernel_core.specs.Step.{AfterStep, guest_calls, step, thread_outcome}
 use Rattle.kernel_core.specs.declared.thread.Thread.{Thread}
-use Rattle.lwc_base.specs.Facts.{OrderFacts}
 use Rattle.lwc_base.specs.Frames.{own_value, tag_of, tags, used}
 use Rattle.lwc_base.specs.World.{World, context}
 use Rattle.lwc_base.specs.declared.cell.Cell.{Cell}
@@ -25,10 +24,10 @@ use Rattle.lwc_base.specs.declared.name.Tag.{Tag}
 use Rattle.lwc_base.specs.declared.page.PageValue.{PageValue}
 use Rattle.lwc_base.specs.declared.page.PageValue.TheVariants.{Zero, Data}
 use Rattle.request_isolation.specs.Needs.{acted_world, most_used, world_by, world_left}
-use Rattle.request_isolation.proofs.Counting.{is_in_list}
 use Rattle.request_isolation.proofs.Homes.{home_for, tag_at}
 use Rattle.request_isolation.proofs.Stages.{by_one}
 use Rattle.request_isolation.proofs.Tagged.{AtContext, held_in}
+use Rattle.job_view.proofs.Counting.{is_in_list}
 
 -- each page of an image is found by its number
 above_first : (p : ℕ) (pages : List PageImage) (k : ℕ) (q : PageImage) → rising_after (Some p) (map (λ (e : PageImage). e.number) pages) ≡ true → slice_get pages k ≡ Some q → p < q.number
@@ -87,12 +86,12 @@ one_tag t (Own (Some (Data u bytes))) is = let same : u ≡ t = cc in (bytes, ap
 one_tag t (Common g) is = cc
 
 -- each world in which jobs keep what is their own has the image's tags
-pub image_tags : (orders : OrderFacts) (image : Image) (w : World) → IsImage image → KeepsJobs (home_for image) w → (k : ℕ) → k < length image.pages → is_in_list (image_tag k) (tags w) ≡ true
-image_tags orders image w is jobs k low =
+pub image_tags : (image : Image) (w : World) → IsImage image → KeepsJobs (home_for image) w → (k : ℕ) → k < length image.pages → is_in_list (image_tag k) (tags w) ≡ true
+image_tags image w is jobs k low =
     let place = tag_placed image k is low in
     let home = jobs.there.tags place.0 (image_tag k) place.1 in
     let cell = one_tag (image_tag k) ((context w (home_for image).name).cell (Page place.0)) home.2 in
-    held_in orders w (image_tag k) (AtContext (home_for image).name jobs.there.live place.0 home.0 cell.0 cell.1)
+    held_in w (image_tag k) (AtContext (home_for image).name jobs.there.live place.0 home.0 cell.0 cell.1)
 
 -- the most frames that are in use
 by_one_first : (m : Machine) (k : ℕ) → by_one m (suc k) ≡ by_one (step m 0) k

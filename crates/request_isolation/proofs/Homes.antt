@@ -1,10 +1,9 @@
 -- The homes of a serve, the context that a request begins in, and the start.
-use Rattle.std.proofs.Common.{◌≡◌, inr, ℕ, zero, suc, ◌+◌, ◌≤◌, ◌<◌, refl, sym, ap, subst, ◌∙◌, Bool, true, false, cond, eqb, ltb, Option, Some, None, List, [], ◌∷◌, length, arith}
+use Rattle.std.proofs.Common.{◌≡◌, inr, ℕ, suc, ◌+◌, ◌≤◌, ◌<◌, refl, sym, ap, subst, ◌∙◌, Bool, true, false, cond, eqb, ltb, Option, Some, None, List, [], ◌∷◌, length, arith}
 use Rattle.std.specs.Prelude.{All, is_some, unwrap_or}
 use Rattle.std.specs.FinMap as fm
 use Rattle.std.specs.List.{enumerate_from, find}
 use Rattle.std.specs.Option.{option_map, option_map_or}
-use Rattle.std.specs.Ordering.{eq_by_cmp}
 use Rattle.std.proofs.lemmas.Bool.{false≢true}
 use Rattle.std.proofs.lemmas.Bool.Decides.{nat_tests}
 use Rattle.guest_image.specs.Limits.{IsImage}
@@ -16,15 +15,12 @@ use Rattle.job_view.specs.Views.{seen_by, view}
 use Rattle.kernel_core.specs.Machine.{home_of}
 use Rattle.kernel_core.specs.Start.{counted, first_page, first_slot, first_entry, home_context, home_value, image_tag, serve_world, with_homes, world_of}
 use Rattle.lwc_base.specs.Cells.{value_at, value_of}
-use Rattle.lwc_base.specs.Facts.{OrderFacts}
 use Rattle.lwc_base.specs.Frames.{own_value, tag_of}
 use Rattle.lwc_base.specs.Holders.{InContext, IsGroup}
 use Rattle.lwc_base.specs.Keys.{ValueOf}
-use Rattle.lwc_base.specs.Life.{IsReaped, Root, is_among}
 use Rattle.lwc_base.specs.Names.{name_cmp}
 use Rattle.lwc_base.specs.Registers.{fresh_registers}
-use Rattle.lwc_base.specs.World.{Context, Group, World, context, is_live}
-use Rattle.lwc_base.specs.declared.cell.Cell.{Cell}
+use Rattle.lwc_base.specs.World.{Context, Group, World, context, is_live, new_context}
 use Rattle.lwc_base.specs.declared.cell.Cell.TheVariants.{Own}
 use Rattle.lwc_base.specs.declared.descriptor.Descriptor.{Descriptor}
 use Rattle.lwc_base.specs.declared.descriptor.Descriptor.TheVariants.{Console, Empty, File, Reply, Request}
@@ -35,7 +31,7 @@ use Rattle.lwc_base.specs.declared.name.Tag.{Tag}
 use Rattle.lwc_base.specs.declared.page.PageValue.{PageValue}
 use Rattle.lwc_base.specs.declared.page.PageValue.TheVariants.{Zero, Data}
 use Rattle.snapshot_host.specs.Begin.{begun_context, begun_value}
-use Rattle.request_isolation.proofs.Roots.{name_itself, same_name}
+use Rattle.kernel_core.proofs.HomeStart.{at_home, get-homes, home_at, is_home}
 
 -- the tag of a page's value, if it has one
 abbrev pub tag_at : Option PageValue → Option Tag
@@ -47,9 +43,9 @@ tag_at (Some (Data tag bytes)) = Some tag
 abbrev pub home_for : Image → Home
 home_for image = record { name = home_of 0; tags = λ p. tag_at (first_page image.pages p) }
 
--- the home of a number is as at the start, as job 0 sees it
+-- the home of a number is as at the start
 abbrev pub IsHomeOf : Image → World → ℕ → Type 0
-IsHomeOf image w t = (view 0 t w).contexts (t + 1) ≡ Some (seen_by t (home_context image))
+IsHomeOf image w t = context w (home_of t) ≡ home_context image
 
 -- what a home may have under its keys, any job may have
 page_in : (image : Image) (job p : ℕ) (o : Option PageValue) → first_page image.pages p ≡ o → IsPageOf (home_for image) job p o
@@ -98,23 +94,14 @@ begun_in_home image r (Slot n) = by_place (eqb n 0) (eqb n 1)
     by_place false false = slot_in image (r + 1) n
 begun_in_home image r Cred = tt
 
--- a home that is seen is there
-found_like : (t : ℕ) (o : Option Context) (y d : Context) → option_map (seen_by t) o ≡ Some (seen_by t y) → ((unwrap_or o d).cell ≡ y.cell) × ((unwrap_or o d).entry ≡ y.entry)
-found_like t None y d is = cc
-found_like t (Some x) y d is = (ap (λ (o : Option Context). (unwrap_or o d).cell) is, ap (λ (o : Option Context). (unwrap_or o d).entry) is)
-
 module _ (image : Image) (w : World) (t : ℕ) (is : IsHomeOf image w t) where
-  pub home_like : ((context w (home_of t)).cell ≡ (home_context image).cell) × ((context w (home_of t)).entry ≡ (home_context image).entry)
-  unfolding view context
-  home_like = found_like t (fm.get w.contexts (home_of t)) (home_context image) _ is
-
   pub value_of_home : (k : Key) → value_at w (home_of t) k ≡ home_value image k
   unfolding value_at home_context
-  value_of_home k = ap (λ (cell : (k : Key) → Cell (ValueOf k)). value_of w k (cell k)) home_like.0
+  value_of_home k = ap (λ (x : Context). value_of w k (x.cell k)) is
 
   pub entry_of_home : (context w (home_of t)).entry ≡ fresh_registers (first_entry image)
   unfolding home_context
-  entry_of_home = home_like.1
+  entry_of_home = ap (λ (x : Context). x.entry) is
 
   begun_value_is : (r : ℕ) (k : Key) → begun_value w (home_of t) r k ≡ begun_home image r k
   unfolding begun_home
@@ -135,57 +122,35 @@ pub begun_alike : (image : Image) (w v : World) (t s r : ℕ) → IsHomeOf image
 begun_alike image w v t s r is also = begun_is image w t is r ∙ sym (begun_is image v s also r)
 
 -- the start of a serve
-module _ (orders : OrderFacts) (image : Image) where
+module _ (image : Image) where
   homes_map : ℕ → fm.FinMap name_cmp Context
   homes_map count = with_homes fm.empty (home_context image) count
 
-  home_found : (count t : ℕ) → t < count → fm.get (homes_map count) (home_of t) ≡ Some (home_context image)
+  get_home : (count : ℕ) (c : Name) → fm.get (homes_map count) c ≡ cond (is_home count c) (Some (home_context image)) None
   unfolding homes_map
-  home_found zero t within = absurd (omega arith)
-  home_found (suc n) t within =
-      fm.get-insert orders.names (homes_map n) (home_of n) (home_context image) (home_of t) ∙ by_test (eqb t n) refl (λ low. home_found n t low)
-    where
-      itself : t ≡ n → eq_by_cmp name_cmp (home_of t) (home_of n) ≡ true
-      itself same = ap (λ k. eq_by_cmp name_cmp (home_of k) (home_of n)) same ∙ name_itself orders (home_of n)
-
-      either : (b : Bool) (o : Option Context) → o ≡ Some (home_context image) → cond b (Some (home_context image)) o ≡ Some (home_context image)
-      either true o is = refl
-      either false o is = is
-
-      by_test : (b : Bool) → eqb t n ≡ b → (t < n → fm.get (homes_map n) (home_of t) ≡ Some (home_context image)) → cond (eq_by_cmp name_cmp (home_of t) (home_of n)) (Some (home_context image)) (fm.get (homes_map n) (home_of t)) ≡ Some (home_context image)
-      by_test true is rest = ap (λ b. cond b (Some (home_context image)) (fm.get (homes_map n) (home_of t))) (itself (grind (arith, nat_tests)))
-      by_test false is rest = either (eq_by_cmp name_cmp (home_of t) (home_of n)) _ (rest (grind (arith, nat_tests)))
+  get_home count c = get-homes fm.empty (home_context image) count c ∙ ap (cond (is_home count c) (Some (home_context image))) (fm.get-empty name_cmp c)
 
   -- who is found is a home
-  found_home : (count : ℕ) (c : Name) (x : Context) → fm.get (homes_map count) c ≡ Some x → (t : ℕ) × (t < count) × (c ≡ home_of t) × (x ≡ home_context image)
-  unfolding homes_map
-  found_home zero c x is = let none : fm.get (homes_map zero) c ≡ None = fm.get-empty name_cmp c in cc
-  found_home (suc n) c x is = by_test (eq_by_cmp name_cmp c (home_of n)) refl (sym (fm.get-insert orders.names (homes_map n) (home_of n) (home_context image) c) ∙ is) (λ same. found_home n c x same)
+  found_home : (count : ℕ) (c : Name) → is_some (fm.get (homes_map count) c) ≡ true → (t : ℕ) × (t < count) × (c ≡ home_of t) × (fm.get (homes_map count) c ≡ Some (home_context image))
+  found_home count c there = by_test (is_home count c) refl
     where
-      by_test : (b : Bool) → eq_by_cmp name_cmp c (home_of n) ≡ b → cond b (Some (home_context image)) (fm.get (homes_map n) c) ≡ Some x →
-          (fm.get (homes_map n) c ≡ Some x → (t : ℕ) × (t < n) × (c ≡ home_of t) × (x ≡ home_context image)) → (t : ℕ) × (t < suc n) × (c ≡ home_of t) × (x ≡ home_context image)
-      by_test true here same earlier = (n, omega arith, same_name orders c (home_of n) here, (let both : home_context image ≡ x = cc in sym both))
-      by_test false other same earlier = let rest = earlier same in (rest.0, omega (arith, rest.1), rest.2, rest.3)
-
-  some_of : (o : Option Context) (d : Context) → is_some o ≡ true → o ≡ Some (unwrap_or o d)
-  some_of None d is = cc
-  some_of (Some x) d is = refl
-
-  none_of : (o : Option Context) → ((x : Context) → o ≡ Some x → ⊥) → o ≡ None
-  none_of None none = refl
-  none_of (Some x) none = absurd (none x refl)
+      by_test : (b : Bool) → is_home count c ≡ b → (t : ℕ) × (t < count) × (c ≡ home_of t) × (fm.get (homes_map count) c ≡ Some (home_context image))
+      by_test true is = let at = home_at count c is in (at.0, at.1, at.2, get_home count c ∙ ap (λ b. cond b (Some (home_context image)) None) is)
+      by_test false is = absurd (false≢true (sym (ap is_some (get_home count c ∙ ap (λ b. cond b (Some (home_context image)) None) is)) ∙ there))
 
   not_home : (count r k : ℕ) → fm.get (homes_map count) (record { job = r + 1; k = k }) ≡ None
-  not_home count r k = none_of _ (λ x is. let found = found_home count (record { job = r + 1; k = k }) x is in let none : r + 1 ≡ 0 = ap (λ (n : Name). n.job) found.2 in omega (arith, none))
+  not_home count r k = by_test (is_home count (record { job = r + 1; k = k })) refl
+    where
+      by_test : (b : Bool) → is_home count (record { job = r + 1; k = k }) ≡ b → fm.get (homes_map count) (record { job = r + 1; k = k }) ≡ None
+      by_test false is = get_home count (record { job = r + 1; k = k }) ∙ ap (λ b. cond b (Some (home_context image)) None) is
+      by_test true is =
+          let at = home_at count (record { job = r + 1; k = k }) is in let none : r + 1 ≡ 0 = ap (λ (n : Name). n.job) at.2 in absurd (omega (arith, none))
 
   module _ (frames count : ℕ) where
-    pub start_is_home : (t : ℕ) → t < count → IsHomeOf image (serve_world image frames count) t
-    unfolding view world_of homes_map
-    start_is_home t within = ap (option_map (seen_by t)) (home_found count t within)
-
     live_home : (c : Name) → is_live (serve_world image frames count) c ≡ true → (t : ℕ) × (t < count) × (c ≡ home_of t) × (context (serve_world image frames count) c ≡ home_context image)
     unfolding context world_of homes_map
-    live_home c live = found_home count c _ (some_of (fm.get (homes_map count) c) _ live)
+    live_home c live =
+        let home = found_home count c live in (home.0, home.1, home.2, ap (λ (o : Option Context). unwrap_or o (new_context 0 (fresh_registers 0))) home.3)
 
     home_context_in : (job : ℕ) → InContext (by_job (home_for image)) job (home_context image)
     unfolding home_context
@@ -232,16 +197,10 @@ module _ (orders : OrderFacts) (image : Image) where
     }
       where
         live_at : is_live (serve_world image frames count) (home_of 0) ≡ true
-        live_at = ap is_some (home_found count 0 (omega (arith, some)))
+        live_at = ap is_some (get_home count (home_of 0)) ∙ ap (λ b. is_some (cond b (Some (home_context image)) None)) (at_home count 0 (omega (arith, some)))
 
         size_is : (p : ℕ) → p < 1024 → p < (serve_world image frames count).size.pages
         size_is p small = small
-
-    pub start_reaped : (names : List Name) → ((t : ℕ) → t < count → is_among names (home_of t) ≡ true) → IsReaped (serve_world image frames count) names
-    start_reaped names homes = record {
-      contexts = λ c live. let home = live_home c live in Root c (subst (λ (n : Name). is_among names n ≡ true) (sym home.2) (homes home.0 home.1));
-      groups = λ g is. absurd (no_group g is);
-    }
 
   -- a request that has not begun is seen alike at each start
   pub start_alike : (frames other count also r t : ℕ) → view (r + 1) t (serve_world image frames count) ≡ view (r + 1) 0 (serve_world image other also)

@@ -3,31 +3,26 @@ use Rattle.std.proofs.Common.{◌≡◌, ◌≢◌, inl, inr, ℕ, zero, suc, �
 use Rattle.std.specs.Prelude.{max, replicate, slice_get}
 use Rattle.std.specs.List.{range_with_len}
 use Rattle.std.proofs.lemmas.Bool.Decides.{nat_tests}
-use Rattle.std.proofs.lemmas.List.{get_or_past, length-map, length-replicate}
-use Rattle.std.proofs.lemmas.List.FromFn.{length-map-range_with_len}
+use Rattle.std.proofs.lemmas.List.{get_or_past}
 use Rattle.std.proofs.lemmas.Option.{slice_get-get_or}
-use Rattle.guest_image.specs.Limits.{IsImage}
 use Rattle.guest_image.specs.declared.image.Image.{Image}
 use Rattle.guest_isa.specs.declared.instr.Instr.{Instr}
 use Rattle.guest_machine.specs.Advances.{advanced}
 use Rattle.job_view.specs.ByJob.{KeepsJobs, LooksAlike}
 use Rattle.job_view.specs.Views.{channel_view, view}
-use Rattle.kernel_core.specs.Kernel.{CanOpen}
-use Rattle.kernel_core.specs.Machine.{Machine, Serve, has_ended, home_of, homes_of, in_serve, reply_of}
+use Rattle.kernel_core.specs.Kernel.{CanOpen, MayHave}
+use Rattle.kernel_core.specs.Machine.{Machine, Serve, has_ended, home_of, in_serve, reply_of}
 use Rattle.kernel_core.specs.Runs.{run}
 use Rattle.kernel_core.specs.Start.{Inputs, first_entry, first_workers, home_context, serve_at, serve_world, start, threads_at, world_for, world_of, world_size}
-use Rattle.kernel_core.specs.Step.{AfterStep, advance_outcome, after_outcome, after_thread, guest_calls, only, roots, step, step_by, thread_outcome, unchanged, waiting, with_regs, with_status}
+use Rattle.kernel_core.specs.Step.{AfterStep, advance_outcome, after_outcome, after_thread, guest_calls, only, step, step_by, thread_outcome, unchanged, waiting, with_regs, with_status}
 use Rattle.kernel_core.specs.declared.settings.Job.{Job}
 use Rattle.kernel_core.specs.declared.settings.Job.TheVariants as jobs
 use Rattle.kernel_core.specs.declared.thread.Thread.{Thread}
 use Rattle.lwc_base.specs.Channels.{bytes_in}
-use Rattle.lwc_base.specs.Facts.{OrderFacts}
 use Rattle.lwc_base.specs.Names.{name_cmp}
 use Rattle.std.specs.FinMap as fm
 use Rattle.request_isolation.proofs.Taking.{names_of}
-use Rattle.lwc_base.specs.Life.{IsReaped}
 use Rattle.lwc_base.specs.Frames.{used}
-use Rattle.lwc_base.specs.Sound.{IsSound}
 use Rattle.lwc_base.specs.declared.name.Name.{Name}
 use Rattle.lwc_base.specs.declared.size.WorldSize.{WorldSize}
 use Rattle.lwc_base.specs.Registers.{fresh_registers}
@@ -36,19 +31,22 @@ use Rattle.lwc_base.specs.declared.fault.ThreadStatus.{ThreadStatus}
 use Rattle.lwc_base.specs.declared.fault.ThreadStatus.TheVariants.{Done, Faulted, Idle, Running}
 use Rattle.lwc_base.specs.declared.regs.Regs.{Regs}
 use Rattle.snapshot_host.specs.declared.finishing.Finished.{Finished}
-use Rattle.request_isolation.specs.Alone.{alone, alone_in, ample, start_alone, steps_alone}
+use Rattle.request_isolation.specs.Alone.{alone, alone_in, ample, inputs_alone, start_alone, steps_alone}
 use Rattle.request_isolation.specs.Needs.{HasFrames, HasFramesFor, IsShort, acted_world, extra, greatest_extra, most_used}
-use Rattle.request_isolation.proofs.Homes.{IsHomeOf, home_for, start_alike, start_is_home, start_keeps, start_reaped}
-use Rattle.request_isolation.proofs.Holds.{Holds, few_after}
-use Rattle.request_isolation.specs.JobLaws.{JobLaws}
+use Rattle.request_isolation.proofs.Homes.{home_for, start_alike, start_keeps}
+use Rattle.request_isolation.proofs.Holds.{Holds, begun_few, few_after, reply_count_is, serving_now, text_stays}
 use Rattle.request_isolation.proofs.Recorded.{recorded_run, told_nobody, told_written}
-use Rattle.request_isolation.proofs.Roots.{Placed, home_root}
+use Rattle.request_isolation.proofs.Roots.{Placed}
 use Rattle.request_isolation.proofs.Serves.{some_worker}
 use Rattle.request_isolation.proofs.Enough.{alike_bound, never_wants, not_here}
 use Rattle.request_isolation.proofs.Bounds.{used_by}
 use Rattle.request_isolation.proofs.Extra.{acted_is, acted_most, before_most, max_first, max_second}
 use Rattle.request_isolation.proofs.Reached.{IsServedBy, of_live}
 use Rattle.request_isolation.proofs.Stages.{Finishes, Goes, IsEnough, IsServed, Made, Served, Stage, Stands, Told, Waits, acted_by, by_one, how_made, leaves_by, stage_made, stands_step, told_alone}
+use Rattle.lwc_base.proofs.Facts.{orders}
+use Rattle.kernel_core.proofs.HomeStart.{ready_serve, ready_start}
+use Rattle.kernel_core.specs.Ready.{IsReady}
+use Rattle.lwc_base.specs.declared.limits.TheConstants.{MOST_REQUESTS}
 
 -- a worker of a start waits at home
 waits_from : (regs : Regs) (a n t : ℕ) (x : Thread) → slice_get (map (λ home. waiting home regs) (map home_of (range_with_len a n))) t ≡ Some x → x ≡ waiting (home_of (a + t)) regs
@@ -64,13 +62,8 @@ unfolding first_workers
 waits_at entry workers t x found =
     let same : 0 + t ≡ t = omega arith in waits_from (fresh_registers entry) 0 workers t x found ∙ ap (λ (k : ℕ). waiting (home_of k) (fresh_registers entry)) same
 
-count_first : (entry workers : ℕ) → length (first_workers entry workers) ≡ workers
-unfolding first_workers
-count_first entry workers = length-map (homes_of workers) (λ home. waiting home (fresh_registers entry)) ∙ length-map-range_with_len home_of 0 workers
-
-placed_first : (entry workers next : ℕ) → Placed (first_workers entry workers) next
-placed_first entry workers next = record {
-  serving = λ t x found runs. let clash : Idle ≡ Running = ap (λ (y : Thread). y.status) (sym (waits_at entry workers t x found)) ∙ runs in cc;
+placed_first : (entry workers : ℕ) → Placed (first_workers entry workers)
+placed_first entry workers = record {
   resting = λ t x found rests. ap (λ (y : Thread). y.context) (waits_at entry workers t x found);
   once = λ t u x y found also runs too job. let clash : Idle ≡ Running = ap (λ (y : Thread). y.status) (sym (waits_at entry workers t x found)) ∙ runs in cc;
 }
@@ -81,9 +74,9 @@ some_first entry zero some = absurd (omega (arith, some))
 some_first entry (suc n) some = (_, refl, refl)
 
 -- a serve of one worker has one context
-one_home : (orders : OrderFacts) (image : Image) → names_of (serve_world image 0 1) ≤ 1
+one_home : (image : Image) → names_of (serve_world image 0 1) ≤ 1
 unfolding world_of
-one_home orders image =
+one_home image =
     let more = len_inserted in
     let none : fm.len (fm.empty {K = Name} {X = Group} {R = name_cmp}) ≡ 0 = fm.len-empty name_cmp Group in
     omega (arith, more, none)
@@ -97,25 +90,20 @@ one_home orders image =
         by_there false is none = omega (arith, is, none)
 
 -- a serve before its first step
-module _ (laws : JobLaws) (image : Image) (is_image : IsImage image) (frames workers budget n : ℕ) (some : 1 ≤ workers) (m : Machine) (s : Serve) where
-  pub holds_first : m.threads ≡ first_workers (first_entry image) workers → m.environment.world ≡ serve_world image frames workers → m.text ≡ image.text → length m.environment.channels.requests ≡ n →
-      m.serve ≡ Some s → s.workers ≡ workers → s.budget ≡ budget → s.next ≤ n → length s.replies ≡ n → Holds image workers budget n m s
-  holds_first threads world text many is own_workers own_budget next replies = record {
-    is = is;
-    some = some;
-    own_workers = own_workers;
-    own_budget = own_budget;
-    text = text;
-    count = ap (λ (l : List Thread). length l) threads ∙ count_first (first_entry image) workers;
-    requests = many;
-    replies = replies;
-    next = next;
-    jobs = subst (λ (w : World). KeepsJobs (home_for image) w) (sym world) (start_keeps laws.orders image frames workers some is_image);
-    reaped = subst (λ (w : World). IsReaped w (roots m.threads (Some s))) (sym world)
-        (start_reaped laws.orders image frames workers (roots m.threads (Some s)) (λ t low. home_root laws.orders m.threads s t (omega (arith, low, own_workers))));
-    homes = λ t low. subst (λ (w : World). IsHomeOf image w t) (sym world) (start_is_home laws.orders image frames workers t low);
-    placed = subst (λ (l : List Thread). Placed l s.next) (sym threads) (placed_first (first_entry image) workers s.next);
-  }
+holds_first : (inputs : Inputs) (workers n : ℕ) (m : Machine) (s : Serve) → IsReady inputs 0 m → length inputs.requests ≡ n → 1 ≤ workers → m.serve ≡ Some s → s.workers ≡ workers → s.budget ≡ inputs.settings.budget →
+    m.threads ≡ first_workers (first_entry inputs.image) workers → m.environment.world ≡ serve_world inputs.image inputs.settings.frames workers → Holds inputs.image workers inputs.settings.budget n m s
+holds_first inputs workers n m s ready many some is own_workers own_budget threads world = record {
+  is = is;
+  own_workers = own_workers;
+  own_budget = own_budget;
+  inputs = inputs;
+  steps = 0;
+  own_image = refl;
+  many = many;
+  ready = ready;
+  jobs = subst (λ (w : World). KeepsJobs (home_for inputs.image) w) (sym world) (start_keeps inputs.image inputs.settings.frames workers some ready.image);
+  placed = subst Placed (sym threads) (placed_first (first_entry inputs.image) workers);
+}
 
 last_of : (r : ℕ) (bytes : List ℕ) → slice_get (replicate r [] ++ bytes ∷ []) r ≡ Some bytes
 last_of zero bytes = refl
@@ -152,12 +140,12 @@ run_by_one m zero = refl
 run_by_one m (suc k) = run_more m k ∙ ap (λ (a : Machine). step a 0) (run_by_one m k)
 
 -- what is recorded of a request that there is not
-module _ (laws : JobLaws) (image : Image) (workers budget n : ℕ) where
-  stands_run : (m : Machine) (steps : List ℕ) → Stands laws image budget workers n (λ m s. Unit {0}) m → Stands laws image budget workers n (λ m s. Unit {0}) (run m steps)
+module _ (image : Image) (workers budget n : ℕ) where
+  stands_run : (m : Machine) (steps : List ℕ) → Stands image budget workers n (λ m s. Unit {0}) m → Stands image budget workers n (λ m s. Unit {0}) (run m steps)
   stands_run m [] stands = stands
-  stands_run m (t ∷ ts) stands = stands_run (step m t) ts (stands_step laws image budget workers n (λ m s. Unit {0}) (λ m s. Unit {0}) m t stands (λ fact. fact) (λ made. tt))
+  stands_run m (t ∷ ts) stands = stands_run (step m t) ts (stands_step image budget workers n (λ m s. Unit {0}) (λ m s. Unit {0}) m t stands (λ fact. fact) (λ made. tt))
 
-  recorded_below : (m : Machine) (r : ℕ) (told : Finished) → Stands laws image budget workers n (λ m s. Unit {0}) m → reply_of m r ≡ Some told → r < n
+  recorded_below : (m : Machine) (r : ℕ) (told : Finished) → Stands image budget workers n (λ m s. Unit {0}) m → reply_of m r ≡ Some told → r < n
   unfolding reply_of
   recorded_below m r told stands is = by_test (ltb r n) refl
     where
@@ -166,7 +154,7 @@ module _ (laws : JobLaws) (image : Image) (workers budget n : ℕ) where
 
       past : n ≤ r → ⊥
       past high =
-          let none : get_or stands.serve.replies r None ≡ None = get_or_past stands.serve.replies r None (omega (arith, high, stands.holds.replies)) in
+          let none : get_or stands.serve.replies r None ≡ None = get_or_past stands.serve.replies r None (omega (arith, high, reply_count_is stands.holds)) in
           let clash : None ≡ Some told = sym none ∙ recorded in cc
 
       by_test : (b : Bool) → ltb r n ≡ b → r < n
@@ -174,7 +162,7 @@ module _ (laws : JobLaws) (image : Image) (workers budget n : ℕ) where
       by_test false high = absurd (past (grind (arith, nat_tests)))
 
 -- a serve, and each of its requests by itself
-module _ (laws : JobLaws) (inputs : Inputs) (workers : ℕ) (can : CanOpen inputs) (serve : inputs.settings.job ≡ jobs.Serve workers) where
+module _ (inputs : Inputs) (workers : ℕ) (can : CanOpen inputs) (serve : inputs.settings.job ≡ jobs.Serve workers) where
   some : 1 ≤ workers
   some = some_worker inputs.settings.job workers can.settings.job serve
 
@@ -184,9 +172,9 @@ module _ (laws : JobLaws) (inputs : Inputs) (workers : ℕ) (can : CanOpen input
   holds_start : Holds inputs.image workers inputs.settings.budget (length inputs.requests) (start inputs) first_serve
   unfolding start first_serve
   holds_start =
-      holds_first laws inputs.image can.image inputs.settings.frames workers inputs.settings.budget (length inputs.requests) some (start inputs) first_serve
-      (ap (threads_at inputs.image inputs.settings.budget) serve) (ap (world_for inputs.image inputs.settings.frames) serve) refl refl
-      (ap (λ (job : Job). serve_at job inputs.settings.budget (length inputs.requests)) serve) refl refl (omega arith) (length-replicate (length inputs.requests) None)
+      holds_first inputs workers (length inputs.requests) (start inputs) first_serve (ready_start inputs can) refl some
+      (ap (λ (job : Job). serve_at job inputs.settings.budget (length inputs.requests)) serve) refl refl
+      (ap (threads_at inputs.image inputs.settings.budget) serve) (ap (world_for inputs.image inputs.settings.frames) serve)
 
   module _ (frames r : ℕ) (low : r < length inputs.requests) where
     abbrev bytes : List ℕ
@@ -201,11 +189,23 @@ module _ (laws : JobLaws) (inputs : Inputs) (workers : ℕ) (can : CanOpen input
     many_alone : length (replicate r [] ++ bytes ∷ []) ≡ r + 1
     many_alone = length_alone r bytes
 
-    holds_alone : Holds inputs.image 1 inputs.settings.budget (r + 1) by_itself alone_serve
-    unfolding start start_alone
-    holds_alone =
-        holds_first laws inputs.image can.image frames 1 inputs.settings.budget (r + 1) (omega arith) by_itself alone_serve
-        refl refl refl many_alone refl refl refl (omega arith) (length-replicate (length (replicate r [] ++ bytes ∷ [])) None ∙ many_alone)
+    few_alone : length (replicate r [] ++ bytes ∷ []) ≤ MOST_REQUESTS
+    few_alone = by_job inputs.settings.job serve can.requests
+      where
+        by_job : (job : Job) → job ≡ jobs.Serve workers → MayHave job inputs.requests → length (replicate r [] ++ bytes ∷ []) ≤ MOST_REQUESTS
+        by_job jobs.Run is may = cc
+        by_job (jobs.Serve count) is may = omega (arith, many_alone, low, may.few)
+
+    module _ (enough : ample inputs.settings.budget ≤ frames) where
+      fits_alone : length inputs.image.pages ≤ frames
+      fits_alone = omega (arith, enough, can.image.page_count, can.settings.budget.0)
+
+      holds_alone : Holds inputs.image 1 inputs.settings.budget (r + 1) by_itself alone_serve
+      unfolding start start_alone
+      holds_alone =
+          holds_first (inputs_alone inputs.image frames inputs.settings.budget r bytes) 1 (r + 1) by_itself alone_serve
+          (ready_serve (inputs_alone inputs.image frames inputs.settings.budget r bytes) can.image fits_alone can.settings.budget 1 refl (omega arith, omega arith) few_alone r (omega (arith, many_alone)))
+          many_alone (omega arith) refl refl refl refl refl
 
     none_told : get_or alone_serve.replies r None ≡ None
     none_told = none_at (length (replicate r [] ++ bytes ∷ [])) r
@@ -220,12 +220,12 @@ module _ (laws : JobLaws) (inputs : Inputs) (workers : ℕ) (can : CanOpen input
 
     names_alone : names_of by_itself.environment.world ≤ 1
     unfolding start start_alone world_of
-    names_alone = one_home laws.orders inputs.image
+    names_alone = one_home inputs.image
 
     seen_at_start : (v : ℕ) → view (r + 1) v (start inputs).environment.world ≡ view (r + 1) 0 by_itself.environment.world
     unfolding start start_alone
     seen_at_start v =
-        ap (view (r + 1) v) (ap (world_for inputs.image inputs.settings.frames) serve) ∙ start_alike laws.orders inputs.image inputs.settings.frames frames workers 1 r v
+        ap (view (r + 1) v) (ap (world_for inputs.image inputs.settings.frames) serve) ∙ start_alike inputs.image inputs.settings.frames frames workers 1 r v
 
     channels_at_start : channel_view r (start inputs).environment.channels ≡ channel_view r by_itself.environment.channels
     unfolding start start_alone channel_view none_yet
@@ -250,15 +250,15 @@ module _ (laws : JobLaws) (inputs : Inputs) (workers : ℕ) (can : CanOpen input
       (told.request ≡ r) × (bytes_in (run (start inputs) steps).environment.channels.replies r ≡ told.bytes)
   unfolding first_serve
   written r steps told is =
-      told_written laws inputs.image workers inputs.settings.budget (length inputs.requests) r (run (start inputs) steps) told
-      (recorded_run laws inputs.image workers inputs.settings.budget (length inputs.requests) r (start inputs) steps
+      told_written inputs.image workers inputs.settings.budget (length inputs.requests) r (run (start inputs) steps) told
+      (recorded_run inputs.image workers inputs.settings.budget (length inputs.requests) r (start inputs) steps
       (record { serve = first_serve; holds = holds_start; fact = inl (none_at (length inputs.requests) r) }))
       is
 
   -- each job has what is its own
   pub kept_apart : (steps : List ℕ) → KeepsJobs (home_for inputs.image) (run (start inputs) steps).environment.world
   kept_apart steps =
-      (stands_run laws inputs.image workers inputs.settings.budget (length inputs.requests) (start inputs) steps
+      (stands_run inputs.image workers inputs.settings.budget (length inputs.requests) (start inputs) steps
       (record { serve = first_serve; holds = holds_start; fact = tt })).holds.jobs
 
   -- nothing of a finished request lives
@@ -267,19 +267,19 @@ module _ (laws : JobLaws) (inputs : Inputs) (workers : ℕ) (can : CanOpen input
   gone r steps told c is live same =
       let m = run (start inputs) steps in
       let stands =
-      recorded_run laws inputs.image workers inputs.settings.budget (length inputs.requests) r (start inputs) steps
+      recorded_run inputs.image workers inputs.settings.budget (length inputs.requests) r (start inputs) steps
       (record { serve = first_serve; holds = holds_start; fact = inl (none_at (length inputs.requests) r) }) in
-      elim (of_live laws inputs.image workers inputs.settings.budget (length inputs.requests) m stands.serve stands.holds c live) [
+      elim (of_live inputs.image workers inputs.settings.budget (length inputs.requests) m stands.serve stands.holds c live) [
         | inl home ↦ let nobody : c.job ≡ 0 = ap (λ (d : Name). d.job) home.2 in omega (arith, nobody, same)
         | inr served ↦
-            told_nobody laws inputs.image workers inputs.settings.budget (length inputs.requests) r m told stands is served.number served.thread served.found served.running (served.job_is ∙ same)
+            told_nobody inputs.image workers inputs.settings.budget (length inputs.requests) r m told stands is served.number served.thread served.found served.running (served.job_is ∙ same)
       ]
 
   -- a request by itself with one number of frames and with another, both ample
   module _ (f g r : ℕ) (low : r < length inputs.requests) (enough_f : ample inputs.settings.budget ≤ f) (enough_g : ample inputs.settings.budget ≤ g) where
     abbrev StageFor : Machine → Serve → Type 0
     StageFor m s =
-        Stage laws inputs.image inputs.settings.budget r (by_itself g r low) (alone_serve g r low) (holds_alone g r low) refl (none_told g r low) (waits_alone g r low)
+        Stage inputs.image inputs.settings.budget r (by_itself g r low) (alone_serve g r low) (holds_alone g r low enough_g) refl (none_told g r low) (waits_alone g r low)
         can.settings.budget.0 g (size_alone g r low) (names_alone g r low) m s
 
     record Pair (j : ℕ) (m : Machine) (s : Serve) : Type 0 where
@@ -290,24 +290,24 @@ module _ (laws : JobLaws) (inputs : Inputs) (workers : ℕ) (can : CanOpen input
     pair_start : Pair 0 (by_itself f r low) (alone_serve f r low)
     unfolding start start_alone
     pair_start = record {
-      stage = Waits (omega arith) (λ v. start_alike laws.orders inputs.image f g 1 1 r v) refl (none_told f r low);
+      stage = Waits (omega arith) (λ v. start_alike inputs.image f g 1 1 r v) refl (none_told f r low);
       size = size_alone f r low;
       names = names_alone f r low;
     }
 
     pair_made : (j : ℕ) (m : Machine) (s : Serve) → j ≤ inputs.settings.budget → (holds : Holds inputs.image 1 inputs.settings.budget (r + 1) m s) → Pair j m s → (made : Made m s 0) → Pair (suc j) (after_outcome m 0 (Some made.after)) made.now
     pair_made j m s few holds pair made =
-        let leaves = leaves_by laws inputs.image inputs.settings.budget 1 (r + 1) m s holds 0 made.thread made.found made.acted made.after made.now made.how in
-        let adds = few_after laws inputs.image 1 inputs.settings.budget (r + 1) m s holds 0 made.thread made.found made.acted made.after made.now leaves in
+        let leaves = leaves_by inputs.image inputs.settings.budget 1 (r + 1) m s holds 0 made.thread made.found made.acted made.after made.now made.how in
+        let adds = few_after inputs.image 1 inputs.settings.budget (r + 1) m s holds 0 made.thread made.found made.acted made.after made.now leaves in
         record {
-          stage = stage_made laws inputs.image inputs.settings.budget r (by_itself g r low) (alone_serve g r low) (holds_alone g r low) refl (none_told g r low) (waits_alone g r low)
+          stage = stage_made inputs.image inputs.settings.budget r (by_itself g r low) (alone_serve g r low) (holds_alone g r low enough_g) refl (none_told g r low) (waits_alone g r low)
               can.settings.budget.0 g (size_alone g r low) (names_alone g r low) 1 (r + 1) m s holds 0
               (λ x found running job k served.
               let left = served.left in
               let some = served.some in
               record {
-                here = never_wants laws inputs.image m.environment (with_regs x (advanced m.text x.regs).after) 0 (advanced m.text x.regs).next j f holds.jobs pair.size pair.names (omega (arith, few, enough_f));
-                alone = never_wants laws inputs.image (by_one (by_itself g r low) k).environment (with_regs x (advanced m.text x.regs).after) 0 (advanced m.text x.regs).next k g served.like.second served.alone.fact.size served.alone.fact.names
+                here = never_wants inputs.image m.environment (with_regs x (advanced m.text x.regs).after) 0 (advanced m.text x.regs).next j f holds.jobs pair.size pair.names (omega (arith, few, enough_f));
+                alone = never_wants inputs.image (by_one (by_itself g r low) k).environment (with_regs x (advanced m.text x.regs).after) 0 (advanced m.text x.regs).next k g served.like.second served.alone.fact.size served.alone.fact.names
                     (omega (arith, left, some, enough_g));
               })
               made pair.stage;
@@ -315,11 +315,11 @@ module _ (laws : JobLaws) (inputs : Inputs) (workers : ℕ) (can : CanOpen input
           names = let more = adds.names in let names = pair.names in omega (arith, more, names);
         }
 
-    pair_at : (j : ℕ) → j ≤ inputs.settings.budget + 1 → Stands laws inputs.image inputs.settings.budget 1 (r + 1) (Pair j) (by_one (by_itself f r low) j)
-    pair_at zero few = record { serve = alone_serve f r low; holds = holds_alone f r low; fact = pair_start }
+    pair_at : (j : ℕ) → j ≤ inputs.settings.budget + 1 → Stands inputs.image inputs.settings.budget 1 (r + 1) (Pair j) (by_one (by_itself f r low) j)
+    pair_at zero few = record { serve = alone_serve f r low; holds = holds_alone f r low enough_f; fact = pair_start }
     pair_at (suc j) few =
         let before = pair_at j (omega (arith, few)) in
-        stands_step laws inputs.image inputs.settings.budget 1 (r + 1) (Pair j) (Pair (suc j)) (by_one (by_itself f r low) j) 0 before
+        stands_step inputs.image inputs.settings.budget 1 (r + 1) (Pair j) (Pair (suc j)) (by_one (by_itself f r low) j) 0 before
         (λ pair. record { stage = pair.stage; size = pair.size; names = let names = pair.names in omega (arith, names) })
         (λ made. pair_made j (by_one (by_itself f r low) j) before.serve (omega (arith, few)) before.holds before.fact made)
 
@@ -327,7 +327,7 @@ module _ (laws : JobLaws) (inputs : Inputs) (workers : ℕ) (can : CanOpen input
     told_too told is =
         let there = pair_at (inputs.settings.budget + 1) (omega arith) in
         ap (λ (a : Machine). reply_of a r) (run_by_one (by_itself g r low) (inputs.settings.budget + 1))
-        ∙ told_alone laws inputs.image inputs.settings.budget r (by_itself g r low) (alone_serve g r low) (holds_alone g r low) refl (none_told g r low) (waits_alone g r low)
+        ∙ told_alone inputs.image inputs.settings.budget r (by_itself g r low) (alone_serve g r low) (holds_alone g r low enough_g) refl (none_told g r low) (waits_alone g r low)
         can.settings.budget.0 g (size_alone g r low) (names_alone g r low) 1 (r + 1) (by_one (by_itself f r low) (inputs.settings.budget + 1)) told
         (record { serve = there.serve; holds = there.holds; fact = there.fact.stage })
         (ap (λ (a : Machine). reply_of a r) (sym (run_by_one (by_itself f r low) (inputs.settings.budget + 1))) ∙ is)
@@ -344,16 +344,19 @@ module _ (laws : JobLaws) (inputs : Inputs) (workers : ℕ) (can : CanOpen input
       one_option _ _ (told_too frames (ample inputs.settings.budget) r low enough (omega arith)) (told_too (ample inputs.settings.budget) frames r low (omega arith) enough)
 
   -- with the frames that the requests by themselves take
-  module _ (enough : HasFrames inputs) (sound : (steps : List ℕ) → IsSound (run (start inputs) steps).environment.world) where
+  module _ (enough : HasFrames inputs) where
     abbrev frames_alone : ℕ
     frames_alone = ample inputs.settings.budget
+
+    enough_alone : ample inputs.settings.budget ≤ frames_alone
+    enough_alone = omega arith
 
     abbrev most : ℕ
     most = greatest_extra inputs.image inputs.settings.budget 0 inputs.requests
 
     abbrev StageOf : (r : ℕ) → r < length inputs.requests → Machine → Serve → Type 0
     StageOf r low m s =
-        Stage laws inputs.image inputs.settings.budget r (by_itself frames_alone r low) (alone_serve frames_alone r low) (holds_alone frames_alone r low) refl (none_told frames_alone r low) (waits_alone frames_alone r low)
+        Stage inputs.image inputs.settings.budget r (by_itself frames_alone r low) (alone_serve frames_alone r low) (holds_alone frames_alone r low enough_alone) refl (none_told frames_alone r low) (waits_alone frames_alone r low)
         can.settings.budget.0 frames_alone (size_alone frames_alone r low) (names_alone frames_alone r low) m s
 
     -- the stages of all requests, in a world with the frames of the settings
@@ -391,17 +394,17 @@ module _ (laws : JobLaws) (inputs : Inputs) (workers : ℕ) (can : CanOpen input
         by_end true ended = acted_is a sa 0 x _ serve found (how_made a sa 0 x _ _ _ (Finishes running ended))
         by_end false going = acted_is a sa 0 x _ serve found (how_made a sa 0 x _ _ _ (Goes running going))
 
-    module _ (m : Machine) (s : Serve) (holds : Holds inputs.image workers inputs.settings.budget (length inputs.requests) m s) (all : AllStages m s) (well : IsSound m.environment.world) where
+    module _ (m : Machine) (s : Serve) (holds : Holds inputs.image workers inputs.settings.budget (length inputs.requests) m s) (all : AllStages m s) where
       -- what the other requests have
       others : (j : ℕ) → IsServedBy m.threads j → used_by j m.environment.world ≤ most
       others zero served = let some = served.some in absurd (omega (arith, some))
       others (suc q) served = by_stage (all.stages q low)
         where
           begun : suc q ≤ s.next
-          begun = let own = (holds.placed.serving served.number served.thread served.found served.running).2 in let job = served.job_is in omega (arith, own, job)
+          begun = let own = (serving_now holds served.number served.thread served.found served.running).2 in let job = served.job_is in omega (arith, own, job)
 
           low : q < length inputs.requests
-          low = let few = holds.next in let own = begun in omega (arith, few, own)
+          low = let few = begun_few holds in let own = begun in omega (arith, few, own)
 
           job_is : served.thread.job ≡ q + 1
           job_is = let job = served.job_is in omega (arith, job)
@@ -411,7 +414,7 @@ module _ (laws : JobLaws) (inputs : Inputs) (workers : ℕ) (can : CanOpen input
           by_stage (Told is) = absurd (is.nobody served.number served.thread served.found served.running job_is)
           by_stage (Served k now none by) =
               let some_job : q + 1 ≢ 0 = λ e. omega (arith, e) in
-              let bound = alike_bound laws inputs.image (q + 1) by.number 0 m.environment.world (by_one (by_itself frames_alone q low) k).environment.world can.image some_job holds.jobs by.like.second by.like.seen in
+              let bound = alike_bound inputs.image (q + 1) by.number 0 m.environment.world (by_one (by_itself frames_alone q low) k).environment.world can.image some_job holds.jobs by.like.second by.like.seen in
               let most_alone = before_most (by_itself frames_alone q low) (inputs.settings.budget + 1) k (let left = by.left in let some = by.some in omega (arith, left, some)) in
               let few = used_alone q low in
               let same : q + 1 ≡ suc q = omega arith in
@@ -419,9 +422,9 @@ module _ (laws : JobLaws) (inputs : Inputs) (workers : ℕ) (can : CanOpen input
 
       -- a worker that serves a request has frames, and so has the request by itself
       has_enough : (r : ℕ) (low : r < length inputs.requests) (t : ℕ) (x : Thread) → slice_get m.threads t ≡ Some x → x.status ≡ Running → x.job ≡ r + 1 → (k : ℕ) →
-          (served : IsServed laws inputs.image inputs.settings.budget r (by_itself frames_alone r low) (alone_serve frames_alone r low) (holds_alone frames_alone r low) refl (none_told frames_alone r low) (waits_alone frames_alone r low)
+          (served : IsServed inputs.image inputs.settings.budget r (by_itself frames_alone r low) (alone_serve frames_alone r low) (holds_alone frames_alone r low enough_alone) refl (none_told frames_alone r low) (waits_alone frames_alone r low)
           can.settings.budget.0 frames_alone (size_alone frames_alone r low) (names_alone frames_alone r low) m k) →
-          IsEnough laws inputs.image inputs.settings.budget r (by_itself frames_alone r low) (alone_serve frames_alone r low) (holds_alone frames_alone r low) refl (none_told frames_alone r low) (waits_alone frames_alone r low)
+          IsEnough inputs.image inputs.settings.budget r (by_itself frames_alone r low) (alone_serve frames_alone r low) (holds_alone frames_alone r low enough_alone) refl (none_told frames_alone r low) (waits_alone frames_alone r low)
           can.settings.budget.0 frames_alone (size_alone frames_alone r low) (names_alone frames_alone r low) m x k
       has_enough r low t x found running job k served =
           let a = by_one (by_itself frames_alone r low) k in
@@ -431,42 +434,42 @@ module _ (laws : JobLaws) (inputs : Inputs) (workers : ℕ) (can : CanOpen input
           let number_is : served.number ≡ t = holds.placed.once served.number t served.thread x served.found found served.running running (served.job ∙ sym job) in
           let thread_is : served.thread ≡ x = let both : Some served.thread ≡ Some x = sym served.found ∙ ap (slice_get m.threads) number_is ∙ found in cc in
           let found_a : slice_get a.threads 0 ≡ Some x = served.alone.fact.found ∙ ap Some thread_is in
-          let text_is : a.text ≡ m.text = served.alone.holds.text ∙ sym holds.text in
+          let text_is : a.text ≡ m.text = text_stays served.alone.holds ∙ sym (text_stays holds) in
           let like = subst (λ (u : ℕ). LooksAlike (home_for inputs.image) (r + 1) u 0 m.environment.world a.environment.world) number_is served.like in
           let acted = acted_most (by_itself frames_alone r low) (inputs.settings.budget + 1) k (omega (arith, left, some)) in
           let world = acted_running a sa x served.alone.holds.is found_a running in
           let few = used_alone r low in
           let bound : used (advance_outcome guest_calls 0 a.environment x (advanced m.text x.regs)).environment.world ≤ length inputs.image.pages + most =
           subst (λ (text : List Instr). used (advance_outcome guest_calls 0 a.environment x (advanced text x.regs)).environment.world ≤ length inputs.image.pages + most) text_is (omega (arith, acted, few, ap used world)) in
-          let spared = never_wants laws inputs.image a.environment (with_regs x (advanced m.text x.regs).after) 0 (advanced m.text x.regs).next k frames_alone served.like.second served.alone.fact.size served.alone.fact.names
+          let spared = never_wants inputs.image a.environment (with_regs x (advanced m.text x.regs).after) 0 (advanced m.text x.regs).next k frames_alone served.like.second served.alone.fact.size served.alone.fact.names
           (omega (arith, left, some)) in
           record {
-            here = not_here laws inputs.image can.image workers inputs.settings.budget (length inputs.requests) m s holds well t x found running r job a sa served.alone.holds found_a like served.channels
+            here = not_here inputs.image can.image workers inputs.settings.budget (length inputs.requests) m s holds t x found running r job a sa served.alone.holds found_a like served.channels
                 most inputs.settings.frames spared bound (λ j by apart. others j by) all.size frames_are;
             alone = spared;
           }
 
-    all_step : (m : Machine) (t : ℕ) → IsSound m.environment.world → Stands laws inputs.image inputs.settings.budget workers (length inputs.requests) AllStages m →
-        Stands laws inputs.image inputs.settings.budget workers (length inputs.requests) AllStages (step m t)
-    all_step m t well stands =
-        stands_step laws inputs.image inputs.settings.budget workers (length inputs.requests) AllStages AllStages m t stands (λ fact. fact)
+    all_step : (m : Machine) (t : ℕ) → Stands inputs.image inputs.settings.budget workers (length inputs.requests) AllStages m →
+        Stands inputs.image inputs.settings.budget workers (length inputs.requests) AllStages (step m t)
+    all_step m t stands =
+        stands_step inputs.image inputs.settings.budget workers (length inputs.requests) AllStages AllStages m t stands (λ fact. fact)
         (λ made.
-        let leaves = leaves_by laws inputs.image inputs.settings.budget workers (length inputs.requests) m stands.serve stands.holds t made.thread made.found made.acted made.after made.now made.how in
-        let few = few_after laws inputs.image workers inputs.settings.budget (length inputs.requests) m stands.serve stands.holds t made.thread made.found made.acted made.after made.now leaves in
+        let leaves = leaves_by inputs.image inputs.settings.budget workers (length inputs.requests) m stands.serve stands.holds t made.thread made.found made.acted made.after made.now made.how in
+        let few = few_after inputs.image workers inputs.settings.budget (length inputs.requests) m stands.serve stands.holds t made.thread made.found made.acted made.after made.now leaves in
         record {
           size = ap (λ (z : WorldSize). z.frames) few.size ∙ stands.fact.size;
           stages = λ r low.
-              stage_made laws inputs.image inputs.settings.budget r (by_itself frames_alone r low) (alone_serve frames_alone r low) (holds_alone frames_alone r low) refl (none_told frames_alone r low) (waits_alone frames_alone r low)
+              stage_made inputs.image inputs.settings.budget r (by_itself frames_alone r low) (alone_serve frames_alone r low) (holds_alone frames_alone r low enough_alone) refl (none_told frames_alone r low) (waits_alone frames_alone r low)
               can.settings.budget.0 frames_alone (size_alone frames_alone r low) (names_alone frames_alone r low) workers (length inputs.requests) m stands.serve stands.holds t
-              (λ x found running job k served. has_enough m stands.serve stands.holds stands.fact well r low t x found running job k served) made (stands.fact.stages r low);
+              (λ x found running job k served. has_enough m stands.serve stands.holds stands.fact r low t x found running job k served) made (stands.fact.stages r low);
         })
 
-    all_run : (m : Machine) (steps : List ℕ) → ((more : List ℕ) → IsSound (run m more).environment.world) → Stands laws inputs.image inputs.settings.budget workers (length inputs.requests) AllStages m →
-        Stands laws inputs.image inputs.settings.budget workers (length inputs.requests) AllStages (run m steps)
-    all_run m [] well stands = stands
-    all_run m (t ∷ ts) well stands = all_run (step m t) ts (λ more. well (t ∷ more)) (all_step m t (well []) stands)
+    all_run : (m : Machine) (steps : List ℕ) → Stands inputs.image inputs.settings.budget workers (length inputs.requests) AllStages m →
+        Stands inputs.image inputs.settings.budget workers (length inputs.requests) AllStages (run m steps)
+    all_run m [] stands = stands
+    all_run m (t ∷ ts) stands = all_run (step m t) ts (all_step m t stands)
 
-    all_start : Stands laws inputs.image inputs.settings.budget workers (length inputs.requests) AllStages (start inputs)
+    all_start : Stands inputs.image inputs.settings.budget workers (length inputs.requests) AllStages (start inputs)
     unfolding start world_of first_serve
     all_start = record {
       serve = first_serve;
@@ -477,16 +480,16 @@ module _ (laws : JobLaws) (inputs : Inputs) (workers : ℕ) (can : CanOpen input
       };
     }
 
-    all_there : (steps : List ℕ) → Stands laws inputs.image inputs.settings.budget workers (length inputs.requests) AllStages (run (start inputs) steps)
-    all_there steps = all_run (start inputs) steps sound all_start
+    all_there : (steps : List ℕ) → Stands inputs.image inputs.settings.budget workers (length inputs.requests) AllStages (run (start inputs) steps)
+    all_there steps = all_run (start inputs) steps all_start
 
     -- each reply is that of its request by itself
     apart : (r : ℕ) (steps : List ℕ) (told : Finished) → reply_of (run (start inputs) steps) r ≡ Some told → alone inputs.image inputs.settings.budget r (bytes_in inputs.requests r) ≡ Some told
     apart r steps told is =
         let there = all_there steps in
-        let low = recorded_below laws inputs.image workers inputs.settings.budget (length inputs.requests) (run (start inputs) steps) r told (record { serve = there.serve; holds = there.holds; fact = tt }) is in
+        let low = recorded_below inputs.image workers inputs.settings.budget (length inputs.requests) (run (start inputs) steps) r told (record { serve = there.serve; holds = there.holds; fact = tt }) is in
         ap (λ (a : Machine). reply_of a r) (run_by_one (by_itself frames_alone r low) (inputs.settings.budget + 1))
-        ∙ told_alone laws inputs.image inputs.settings.budget r (by_itself frames_alone r low) (alone_serve frames_alone r low) (holds_alone frames_alone r low) refl (none_told frames_alone r low) (waits_alone frames_alone r low)
+        ∙ told_alone inputs.image inputs.settings.budget r (by_itself frames_alone r low) (alone_serve frames_alone r low) (holds_alone frames_alone r low enough_alone) refl (none_told frames_alone r low) (waits_alone frames_alone r low)
         can.settings.budget.0 frames_alone (size_alone frames_alone r low) (names_alone frames_alone r low) workers (length inputs.requests) (run (start inputs) steps) told
         (record { serve = there.serve; holds = there.holds; fact = there.fact.stages r low }) is
 
@@ -494,11 +497,11 @@ module _ (laws : JobLaws) (inputs : Inputs) (workers : ℕ) (can : CanOpen input
     pub never_full : (steps : List ℕ) (t : ℕ) → IsShort (run (start inputs) steps) t → ⊥
     never_full steps t short = by_job short.thread.job refl
       where
-        there : Stands laws inputs.image inputs.settings.budget workers (length inputs.requests) AllStages (run (start inputs) steps)
+        there : Stands inputs.image inputs.settings.budget workers (length inputs.requests) AllStages (run (start inputs) steps)
         there = all_there steps
 
         own : (short.thread.context.job ≡ short.thread.job) × (1 ≤ short.thread.job) × (short.thread.job ≤ there.serve.next)
-        own = there.holds.placed.serving t short.thread short.found short.runs
+        own = serving_now there.holds t short.thread short.found short.runs
 
         by_job : (j : ℕ) → short.thread.job ≡ j → ⊥
         by_job zero is = let some = own.1 in omega (arith, some, is)
@@ -508,13 +511,13 @@ module _ (laws : JobLaws) (inputs : Inputs) (workers : ℕ) (can : CanOpen input
             job = omega (arith, is)
 
             low : r < length inputs.requests
-            low = let few = there.holds.next in let begun = own.2 in omega (arith, few, begun, is)
+            low = let few = begun_few there.holds in let begun = own.2 in omega (arith, few, begun, is)
 
             by_stage : StageOf r low (run (start inputs) steps) there.serve → ⊥
             by_stage (Waits waits views channels none) = let begun = own.2 in omega (arith, begun, waits, is)
             by_stage (Told told) = told.nobody t short.thread short.found short.runs job
             by_stage (Served k now none served) =
-                (has_enough (run (start inputs) steps) there.serve there.holds there.fact (sound steps) r low t short.thread short.found short.runs job k served).here short.wants
+                (has_enough (run (start inputs) steps) there.serve there.holds there.fact r low t short.thread short.found short.runs job k served).here short.wants
 
 -- a run that is no serve has no replies
 none_after : (m : Machine) (t : ℕ) (x : Thread) (st : ThreadStatus) (made : Option AfterStep) → m.serve ≡ None → thread_outcome guest_calls t m.environment None m.text x st ≡ made → (after_outcome m t made).serve ≡ None
@@ -542,17 +545,17 @@ no_reply_in_run inputs steps r told runs is =
     let clash : None ≡ Some told = ap (λ (serve : Option Serve). in_serve serve r) (sym none) ∙ is in cc
 
 -- what is recorded, in whatever job
-module _ (laws : JobLaws) (inputs : Inputs) (can : CanOpen inputs) (steps : List ℕ) (r : ℕ) (told : Finished) (is : reply_of (run (start inputs) steps) r ≡ Some told) where
+module _ (inputs : Inputs) (can : CanOpen inputs) (steps : List ℕ) (r : ℕ) (told : Finished) (is : reply_of (run (start inputs) steps) r ≡ Some told) where
   pub recorded_written : (told.request ≡ r) × (bytes_in (run (start inputs) steps).environment.channels.replies r ≡ told.bytes)
   recorded_written = by_job inputs.settings.job refl
     where
       by_job : (job : Job) → inputs.settings.job ≡ job → (told.request ≡ r) × (bytes_in (run (start inputs) steps).environment.channels.replies r ≡ told.bytes)
       by_job jobs.Run runs = absurd (no_reply_in_run inputs steps r told runs is)
-      by_job (jobs.Serve workers) serve = written laws inputs workers can serve r steps told is
+      by_job (jobs.Serve workers) serve = written inputs workers can serve r steps told is
 
-  pub recorded_alone : HasFrames inputs → ((before : List ℕ) → IsSound (run (start inputs) before).environment.world) → alone inputs.image inputs.settings.budget r (bytes_in inputs.requests r) ≡ Some told
-  recorded_alone enough sound = by_job inputs.settings.job refl
+  pub recorded_alone : HasFrames inputs → alone inputs.image inputs.settings.budget r (bytes_in inputs.requests r) ≡ Some told
+  recorded_alone enough = by_job inputs.settings.job refl
     where
       by_job : (job : Job) → inputs.settings.job ≡ job → alone inputs.image inputs.settings.budget r (bytes_in inputs.requests r) ≡ Some told
       by_job jobs.Run runs = absurd (no_reply_in_run inputs steps r told runs is)
-      by_job (jobs.Serve workers) serve = apart laws inputs workers can serve enough sound r steps told is
+      by_job (jobs.Serve workers) serve = apart inputs workers can serve enough r steps told is

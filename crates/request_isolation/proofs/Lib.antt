@@ -1,4 +1,3 @@
-pub mod Acts
 pub mod Alike
 pub mod Apart
 pub mod Bounds

@@ -1,41 +1,39 @@
 -- What lives in a serve: the homes, as they were at the start, and contexts and groups of running requests.
-use Rattle.std.proofs.Common.{◌≡◌, ◌⊎◌, inl, inr, ℕ, zero, suc, ◌+◌, ◌≤◌, ◌<◌, refl, sym, ap, subst, ◌∙◌, Bool, true, false, cond, eqb, ltb, Option, Some, None, List, [], ◌∷◌, length, map, arith}
+use Rattle.std.proofs.Common.{◌≡◌, ◌⊎◌, inl, inr, ℕ, suc, ◌+◌, ◌≤◌, ◌<◌, refl, sym, ap, subst, ◌∙◌, Bool, true, false, cond, eqb, Option, Some, None, List, [], ◌∷◌, length, arith}
 use Rattle.std.specs.Prelude.{slice_get}
-use Rattle.std.specs.List.{enumerate_from, find, list_any, range_with_len}
-use Rattle.std.specs.Option.{option_map, option_map_or}
-use Rattle.std.specs.Ordering.{eq_by_cmp}
-use Rattle.std.proofs.lemmas.Bool.{false≢true}
+use Rattle.std.specs.List.{enumerate_from, find}
+use Rattle.std.specs.Option.{option_map}
+use Rattle.std.proofs.lemmas.Bool.{false≢true, or_cases}
 use Rattle.std.proofs.lemmas.Option.{slice_get_within}
 use Rattle.guest_image.specs.declared.image.Image.{Image}
 use Rattle.guest_image.specs.declared.image.PageImage.{PageImage}
-use Rattle.guest_image.specs.declared.image.SlotImage.{SlotImage}
-use Rattle.job_view.specs.ByJob.{IsSlotOf, by_job}
+use Rattle.job_view.specs.ByJob.{by_job}
 use Rattle.kernel_core.specs.Machine.{Machine, Serve, home_of, homes_of}
-use Rattle.kernel_core.specs.Start.{first_page, first_slot, home_context, home_value, image_tag}
+use Rattle.kernel_core.specs.Start.{first_page, home_context, home_value, image_tag}
 use Rattle.kernel_core.specs.Step.{contexts_of, roots}
 use Rattle.kernel_core.specs.declared.thread.Thread.{Thread}
 use Rattle.lwc_base.specs.Cells.{slot_at}
 use Rattle.lwc_base.specs.Holders.{InCell, IsGroup}
-use Rattle.lwc_base.specs.Keys.{ValueOf}
 use Rattle.lwc_base.specs.Life.{Link, Reaches, Root, is_among, is_of, links}
-use Rattle.lwc_base.specs.Names.{name_cmp}
-use Rattle.lwc_base.specs.World.{context, is_live}
+use Rattle.lwc_base.specs.World.{Context, context, is_live}
 use Rattle.lwc_base.specs.declared.cell.Cell.{Cell}
 use Rattle.lwc_base.specs.declared.cell.Cell.TheVariants.{Own, Common}
-use Rattle.lwc_base.specs.declared.descriptor.Descriptor.{Descriptor}
-use Rattle.lwc_base.specs.declared.descriptor.Descriptor.TheVariants.{Console, Ctx, Empty, File, Reply, Request}
 use Rattle.lwc_base.specs.declared.fault.ThreadStatus.TheVariants.{Running}
 use Rattle.lwc_base.specs.declared.key.Key.{Key}
-use Rattle.lwc_base.specs.declared.key.Key.TheVariants.{Page, Slot}
+use Rattle.lwc_base.specs.declared.key.Key.TheVariants.{Page}
 use Rattle.lwc_base.specs.declared.name.Name.{Name}
 use Rattle.lwc_base.specs.declared.name.Tag.{Tag}
 use Rattle.lwc_base.specs.declared.page.PageValue.{PageValue}
 use Rattle.lwc_base.specs.declared.page.PageValue.TheVariants.{Data}
-use Rattle.request_isolation.specs.JobLaws.{JobLaws}
-use Rattle.request_isolation.proofs.Holds.{Holds}
-use Rattle.request_isolation.proofs.Homes.{home_for, home_like, tag_at, value_of_home}
-use Rattle.request_isolation.proofs.Roots.{among_roots, or_else, running_or_not, same_name, thread_at}
+use Rattle.request_isolation.proofs.Holds.{Holds, home_stays, ready_serve, reaped_now, serving_now, thread_count_is}
+use Rattle.request_isolation.proofs.Homes.{home_for, tag_at}
+use Rattle.request_isolation.proofs.Roots.{among_roots, running_or_not, thread_at}
 use Rattle.request_isolation.proofs.Tagged.{AtContext, AtGroup, Holder, job_of}
+use Rattle.kernel_core.proofs.HomeStart.{home_among_at}
+use Rattle.kernel_core.proofs.Homes.{no_names}
+use Rattle.lwc_base.proofs.Reaped.{number_in}
+use Rattle.lwc_base.specs.declared.descriptor.TheConstants.{SLOTS}
+use Rattle.job_view.proofs.Reaping.{links-job}
 
 -- a worker serves a request of a job
 pub record IsServedBy (threads : List Thread) (job : ℕ) : Type 0 where
@@ -45,37 +43,6 @@ pub record IsServedBy (threads : List Thread) (job : ℕ) : Type 0 where
   pub running : thread.status ≡ Running
   pub job_is : thread.job ≡ job
   pub some : 1 ≤ job
-
--- what the test of a list finds
-any_at : (test : ℕ → Bool) (n a : ℕ) → list_any test (range_with_len a n) ≡ true → (p : ℕ) × (test p ≡ true)
-any_at test zero a is = absurd (false≢true is)
-any_at test (suc n) a is =
-    elim (or_else (test a) (list_any test (range_with_len (a + 1) n)) is) [
-      | inl here ↦ (a, here)
-      | inr later ↦ any_at test n (a + 1) later
-    ]
-
--- no home has a descriptor of a context
-no_link_found : (c : Name) (found : Option SlotImage) → is_of c (option_map_or (λ s. File s.file 0) found Empty) ≡ false
-no_link_found c None = refl
-no_link_found c (Some s) = refl
-
-no_link_past : (image : Image) (c : Name) (n : ℕ) → ltb n 2 ≡ false → is_of c (first_slot image.slots n) ≡ false
-unfolding first_slot
-no_link_past image c n past =
-    ap (λ b. is_of c (cond b Console (option_map_or (λ s. File s.file 0) (find (λ s. eqb s.slot n) image.slots) Empty))) past
-    ∙ no_link_found c (find (λ s. eqb s.slot n) image.slots)
-
-no_link_home : (image : Image) (c : Name) (n : ℕ) → is_of c (home_value image (Slot n)) ≡ false
-no_link_home image c n = by_first (ltb n 2) refl
-  where
-    by_there : (there : Bool) → ltb n 2 ≡ false → is_of c (cond there (first_slot image.slots n) Empty) ≡ false
-    by_there true past = no_link_past image c n past
-    by_there false past = refl
-
-    by_first : (first : Bool) → ltb n 2 ≡ first → is_of c (cond first Empty (cond (ltb n 64) (first_slot image.slots n) Empty)) ≡ false
-    by_first true is = refl
-    by_first false is = by_there (ltb n 64) is
 
 -- a tag of the image is one of the pages'
 found_below : (a : ℕ) (pages : List PageImage) (p : ℕ) (e : ℕ × PageImage) → find (λ (e : ℕ × PageImage). eqb e.1.number p) (enumerate_from a pages) ≡ Some e → e.0 < a + length pages
@@ -103,76 +70,57 @@ pub image_below : (image : Image) (p : ℕ) (t : Tag) → (home_for image).tags 
 unfolding first_page
 image_below image p t is = tag_below image.pages p t (find (λ (e : ℕ × PageImage). eqb e.1.number p) (enumerate_from 0 image.pages)) refl is
 
-module _ (laws : JobLaws) (image : Image) (workers budget n : ℕ) (m : Machine) (s : Serve) (holds : Holds image workers budget n m s) where
+module _ (image : Image) (workers budget n : ℕ) (m : Machine) (s : Serve) (holds : Holds image workers budget n m s) where
   abbrev pub IsHome : Name → Type 0
   IsHome c = (t : ℕ) × (t < workers) × (c ≡ home_of t)
-
-  home_at : (a count : ℕ) (c : Name) → is_among (map home_of (range_with_len a count)) c ≡ true → (t : ℕ) × (t < a + count) × (c ≡ home_of t)
-  home_at a zero c among = cc
-  home_at a (suc count) c among =
-      elim (or_else (eq_by_cmp name_cmp c (home_of a)) (is_among (map home_of (range_with_len (a + 1) count)) c) among) [
-        | inl here ↦ (a, omega arith, same_name laws.orders c (home_of a) here)
-        | inr later ↦ let rest = home_at (a + 1) count c later in (rest.0, omega (arith, rest.1), rest.2)
-      ]
 
   of_thread : (t : ℕ) (x : Thread) → slice_get m.threads t ≡ Some x → IsHome x.context ⊎ IsServedBy m.threads x.context.job
   of_thread t x found =
       elim (running_or_not x.status) [
         | inl runs ↦
-            let own = holds.placed.serving t x found runs in
+            let own = serving_now holds t x found runs in
             inr (record { number = t; thread = x; found = found; running = runs; job_is = sym own.0; some = omega (arith, own.0, own.1) })
-        | inr rests ↦ inl (t, (let low = slice_get_within m.threads t x found in omega (arith, low, holds.count)), holds.placed.resting t x found rests)
+        | inr rests ↦ inl (t, (let low = slice_get_within m.threads t x found in omega (arith, low, thread_count_is holds)), holds.placed.resting t x found rests)
       ]
 
   of_root : (c : Name) → is_among (roots m.threads (Some s)) c ≡ true → IsHome c ⊎ IsServedBy m.threads c.job
   of_root c among =
-      elim (or_else (is_among (contexts_of m.threads) c) (is_among (homes_of s.workers) c) (sym (among_roots laws.orders m.threads s c) ∙ among)) [
+      elim (or_cases (is_among (contexts_of m.threads) c) (is_among (homes_of s.workers) c) (sym (among_roots m.threads s c) ∙ among)) [
         | inl here ↦
-            let at = thread_at laws.orders m.threads c here in
+            let at = thread_at m.threads c here in
             subst (λ (d : Name). ((t : ℕ) × (t < workers) × (d ≡ home_of t)) ⊎ IsServedBy m.threads d.job) (sym at.3) (of_thread at.0 at.1 at.2)
-        | inr home ↦ let at = home_at 0 s.workers c home in inl (at.0, omega (arith, at.1, holds.own_workers), at.2)
+        | inr home ↦ let at = home_among_at 0 s.workers c home in inl (at.0, omega (arith, at.1, holds.own_workers), at.2)
       ]
-
-  linked_of : (c : Name) (job : ℕ) (value : Descriptor) → IsSlotOf job value → is_of c value ≡ true → c.job ≡ job
-  linked_of c job Empty own is = cc
-  linked_of c job Console own is = cc
-  linked_of c job (File f at) own is = cc
-  linked_of c job (Request r at) own is = cc
-  linked_of c job (Reply r) own is = cc
-  linked_of c job (Ctx name cap) own is = ap (λ (d : Name). d.job) (sym (same_name laws.orders name c is)) ∙ own
 
   -- what is reached is a home, or of the job of a request that is served
   pub of_reached : (c : Name) → Reaches m.environment.world (roots m.threads (Some s)) c → IsHome c ⊎ IsServedBy m.threads c.job
   unfolding links
   of_reached c (Root _ among) = of_root c among
   of_reached c (Link d _ before live link) =
-      let at = any_at (λ k. is_of c (slot_at m.environment.world d k)) 64 0 link in
+      let at = number_in (λ k. is_of c (slot_at m.environment.world d k)) SLOTS 0 link in
       elim (of_reached d before) [
         | inl home ↦
-            let none = ap (is_of c) (value_of_home image m.environment.world home.0 (holds.homes home.0 home.1) (Slot at.0)) ∙ no_link_home image c at.0 in
-            absurd (false≢true (sym none ∙ ap (λ (e : Name). is_of c (slot_at m.environment.world e at.0)) (sym home.2) ∙ at.1))
-        | inr served ↦
-            let same = linked_of c d.job (slot_at m.environment.world d at.0) (laws.own.value (home_for image) d (Slot at.0) m.environment.world holds.jobs.kept) at.1 in
-            inr (subst (IsServedBy m.threads) (sym same) served)
+            let none = no_names holds.inputs m.environment.world (home_of home.0) ((ready_serve holds).homes home.0 (omega (arith, home.1, holds.own_workers))) at.0 c in
+            absurd (false≢true (sym none ∙ ap (λ (e : Name). is_of c (slot_at m.environment.world e at.0)) (sym home.2) ∙ at.3))
+        | inr served ↦ inr (subst (IsServedBy m.threads) (sym (links-job (home_for image) m.environment.world d c holds.jobs.kept link)) served)
       ]
 
   pub of_live : (c : Name) → is_live m.environment.world c ≡ true → IsHome c ⊎ IsServedBy m.threads c.job
-  of_live c live = of_reached c (holds.reaped.contexts c live)
+  of_live c live = of_reached c ((reaped_now holds).contexts c live)
 
   home_page : (t p : ℕ) (cell : Cell (Option PageValue)) → t < workers → (context m.environment.world (home_of t)).cell (Page p) ≡ cell → cell ≡ Own (first_page image.pages p)
   unfolding home_context
-  home_page t p cell low is = sym is ∙ ap (λ (f : (k : Key) → Cell (ValueOf k)). f (Page p)) (home_like image m.environment.world t (holds.homes t low)).0
+  home_page t p cell low is = sym is ∙ ap (λ (x : Context). x.cell (Page p)) (home_stays holds t low)
 
   -- a group is of the job of a request that is served
   pub of_group : (g : Name) → IsGroup m.environment.world g → IsServedBy m.threads g.job
   unfolding home_context
   of_group g live =
-      let named = holds.reaped.groups g live in
+      let named = (reaped_now holds).groups g live in
       let own : g.job ≡ named.0.job = own_group named.0 named.1 named.3 named.4 in
       elim (of_live named.0 named.3) [
         | inl home ↦
-            let cells = (home_like image m.environment.world home.0 (holds.homes home.0 home.1)).0 in
-            let clash : Own (home_value image named.1) ≡ Common g = ap (λ (f : (k : Key) → Cell (ValueOf k)). f named.1) (sym cells) ∙ ap (λ (e : Name). (context m.environment.world e).cell named.1) (sym home.2) ∙ named.4 in cc
+            let clash : Own (home_value image named.1) ≡ Common g = ap (λ (x : Context). x.cell named.1) (sym (home_stays holds home.0 home.1)) ∙ ap (λ (e : Name). (context m.environment.world e).cell named.1) (sym home.2) ∙ named.4 in cc
         | inr served ↦ subst (IsServedBy m.threads) (sym own) served
       ]
     where
@@ -180,7 +128,7 @@ module _ (laws : JobLaws) (image : Image) (workers budget n : ℕ) (m : Machine)
       own_group c k alive is = subst (InCell (by_job (home_for image)) c.job k) is (holds.jobs.kept.contexts c alive k)
 
   -- a tag at a holder of job 0 is the image's
-  pub first_tag : (t : Tag) → (holder : Holder m.environment.world t) → job_of laws.orders m.environment.world t holder ≡ 0 → (t.job ≡ 0) × (t.k < length image.pages)
+  pub first_tag : (t : Tag) → (holder : Holder m.environment.world t) → job_of m.environment.world t holder ≡ 0 → (t.job ≡ 0) × (t.k < length image.pages)
   first_tag t (AtContext c live p small bytes is) nobody =
       elim (of_live c live) [
         | inl home ↦

@@ -24,14 +24,16 @@ use Rattle.lwc_base.specs.declared.fault.ThreadStatus.TheVariants.{Idle, Running
 use Rattle.snapshot_host.specs.Begin.{begin}
 use Rattle.snapshot_host.specs.declared.finishing.Finished.{Finished}
 use Rattle.request_isolation.specs.Needs.{WantsFrames}
-use Rattle.request_isolation.proofs.Acts.{acts_step}
 use Rattle.request_isolation.proofs.Alike.{ActsAlike, acts_alike}
 use Rattle.request_isolation.proofs.Homes.{IsHomeOf, begun_alike, begun_in, entry_of_home, home_for}
-use Rattle.request_isolation.proofs.Holds.{Holds, Leaves, few_after, holds_after, leaves_begun, leaves_ended, leaves_finished, leaves_going, nobody_after, still_running, unseen_nobody, unseen_served, world_is}
-use Rattle.request_isolation.specs.JobLaws.{JobLaws}
-use Rattle.request_isolation.proofs.Roots.{Nobody, home_root, only_root}
+use Rattle.request_isolation.proofs.Holds.{Holds, Leaves, acts, begun_few, few_after, holds_after, home_at_root, home_stays, leaves_begun, leaves_ended, leaves_finished, leaves_going, nobody_after, ready_serve, reply_count_is, request_count_is, serving_now, text_stays, thread_count_is, unseen_nobody, unseen_served, world_is}
+use Rattle.request_isolation.proofs.Roots.{Nobody, only_root}
 use Rattle.request_isolation.proofs.Taking.{names_of}
-use Rattle.request_isolation.proofs.Serves.{found_other, found_same, same_or_apart}
+use Rattle.job_calls.proofs.Beginning.{begin-alike}
+use Rattle.job_view.proofs.Together.{reap-alike}
+use Rattle.job_calls.proofs.Plainly.{slice_get-other}
+use Rattle.kernel_core.proofs.Others.{found_set}
+use Rattle.std.proofs.lemmas.Bool.{cases_eq}
 
 -- the act of a running thread
 abbrev pub acted_by : Machine → ℕ → Thread → Outcome
@@ -106,13 +108,13 @@ module _ (m : Machine) (s : Serve) (t : ℕ) (serve : m.serve ≡ Some s) where
   made_or_not : (step m t ≡ m) ⊎ Made m s t
   made_or_not = made_found (slice_get m.threads t) refl
 
-module _ (laws : JobLaws) (image : Image) (budget : ℕ) where
+module _ (image : Image) (budget : ℕ) where
   module _ (workers n : ℕ) (m : Machine) (s : Serve) (holds : Holds image workers budget n m s) (t : ℕ) (x : Thread) (found : slice_get m.threads t ≡ Some x) where
     pub leaves_by : (acted : ℕ) (after : AfterStep) (now : Serve) → How m s t x acted after now → Leaves image m s t acted x after now
-    leaves_by _ _ _ (Finishes running ended) = leaves_finished laws image workers budget n m s holds t x found running
-    leaves_by _ _ _ (Goes running going) = leaves_going laws image workers budget n m s holds t x found running going
-    leaves_by _ _ _ (Begins idle some) = leaves_begun laws image workers budget n m s holds t x found idle (grind (arith, nat_tests))
-    leaves_by _ _ _ (Ends idle none) = leaves_ended laws image workers budget n m s holds t x found idle
+    leaves_by _ _ _ (Finishes running ended) = leaves_finished image workers budget n m s holds t x found running (how_made m s t x _ _ _ (Finishes running ended))
+    leaves_by _ _ _ (Goes running going) = leaves_going image workers budget n m s holds t x found running going (how_made m s t x _ _ _ (Goes running going))
+    leaves_by _ _ _ (Begins idle some) = leaves_begun image workers budget n m s holds t x found idle (how_made m s t x _ _ _ (Begins idle some))
+    leaves_by _ _ _ (Ends idle none) = leaves_ended image workers budget n m s holds t x found idle (how_made m s t x _ _ _ (Ends idle none))
 
   -- a request is told a reply, and nobody serves it
   pub record IsTold (r : ℕ) (reply : Option Finished) (m : Machine) (s : Serve) : Type 0 where
@@ -145,7 +147,7 @@ module _ (laws : JobLaws) (image : Image) (budget : ℕ) where
               subst (Stands workers n Q) (sym (how_step m stands.serve t made.thread made.acted made.after made.now stands.holds.is made.found made.how))
               (record {
                 serve = made.now;
-                holds = holds_after laws image workers budget n m stands.serve stands.holds t made.thread made.found made.acted made.after made.now
+                holds = holds_after image workers budget n m stands.serve stands.holds t made.thread made.found made.acted made.after made.now
                     (leaves_by workers n m stands.serve stands.holds t made.thread made.found made.acted made.after made.now made.how);
                 fact = keeps made;
               })
@@ -159,7 +161,7 @@ module _ (laws : JobLaws) (image : Image) (budget : ℕ) where
         let more = later m s holds t made in
         record {
           begun = omega (arith, is.begun, more);
-          nobody = nobody_after laws image workers budget n m s holds t made.thread made.found made.acted made.after made.now leaves r other is.nobody;
+          nobody = nobody_after image workers budget n m s holds t made.thread made.found made.acted made.after made.now leaves r other is.nobody;
           told = leaves.others r other ∙ is.told;
         }
 
@@ -180,26 +182,26 @@ module _ (laws : JobLaws) (image : Image) (budget : ℕ) where
   module _ (workers n r : ℕ) (m : Machine) (s : Serve) (holds : Holds image workers budget n m s) (t : ℕ) (x : Thread) (found : slice_get m.threads t ≡ Some x) (running : x.status ≡ Running) (job : x.job ≡ r + 1) where
     nobody_left : (y : Thread) → y.status ≡ Idle → Nobody (slice_set m.threads t y) r
     nobody_left y idle u z is runs own =
-        elim (same_or_apart u t) [
+        elim (cases_eq u t) [
           | inl same ↦
-              let both : y ≡ z = let some : Some y ≡ Some z = sym (found_same m.threads t x y found) ∙ ap (slice_get (slice_set m.threads t y)) (sym same) ∙ is in cc in
+              let both : y ≡ z = let some : Some y ≡ Some z = sym (found_set m.threads t x y found) ∙ ap (slice_get (slice_set m.threads t y)) (sym same) ∙ is in cc in
               let clash : Idle ≡ Running = sym idle ∙ ap (λ (v : Thread). v.status) both ∙ runs in cc
-          | inr apart ↦ apart (holds.placed.once u t z x (sym (found_other m.threads t u y apart) ∙ is) found runs running (own ∙ sym job))
+          | inr apart ↦ apart (holds.placed.once u t z x (sym (slice_get-other m.threads t u y (λ same. apart (sym same))) ∙ is) found runs running (own ∙ sym job))
         ]
 
     pub request_is : (acted_by m t x).thread.job - 1 ≡ r
-    request_is = let same = (acts_step t m.environment x (advanced m.text x.regs)).job in omega (arith, same, job)
+    request_is = let same = (acts image workers budget n m s holds t x found running).job in omega (arith, same, job)
 
     pub finished_told : IsTold r (Some (finished_by (acted_by m t x).thread (acted_by m t x).environment.channels)) (after_outcome m t (Some (finish t s (acted_by m t x))))
         (with_reply s (finished_by (acted_by m t x).thread (acted_by m t x).environment.channels))
     finished_told =
         let f = finished_by (acted_by m t x).thread (acted_by m t x).environment.channels in
-        let begun = (holds.placed.serving t x found running).2 in
+        let begun = (serving_now holds t x found running).2 in
         record {
           begun = omega (arith, begun, job);
           nobody = nobody_left (finish t s (acted_by m t x)).thread refl;
           told = subst (λ (q : ℕ). get_or (slice_set s.replies q (Some f)) r None ≡ Some f) (sym request_is)
-              (get_or-set_same s.replies r (Some f) None (omega (arith, begun, job, holds.next, holds.replies)));
+              (get_or-set_same s.replies r (Some f) None (omega (arith, begun, job, begun_few holds, reply_count_is holds)));
         }
 
   pub bytes_seen : (r : ℕ) (io other : Channels) → channel_view r io ≡ channel_view r other → bytes_in io.replies r ≡ bytes_in other.replies r
@@ -283,13 +285,13 @@ module _ (laws : JobLaws) (image : Image) (budget : ℕ) where
           leaves = leaves_by workers n m s holds t made.thread made.found made.acted made.after made.now made.how
 
           nobody_waits : s.next ≤ r → Nobody m.threads r
-          nobody_waits low u z is runs same = let begun = (holds.placed.serving u z is runs).2 in omega (arith, low, same, begun)
+          nobody_waits low u z is runs same = let begun = (serving_now holds u z is runs).2 in omega (arith, low, same, begun)
 
           still_waits : s.next ≤ r → made.now.next ≤ r
           still_waits low =
               elim leaves.next [
                 | inl same ↦ omega (arith, same, low)
-                | inr more ↦ elim (same_or_apart s.next r) [
+                | inr more ↦ elim (cases_eq s.next r) [
                   | inl same ↦ absurd (other (more.1 ∙ ap (λ (k : ℕ). k + 1) same))
                   | inr apart ↦ omega (arith, low, apart, more.0)
                 ]
@@ -302,16 +304,16 @@ module _ (laws : JobLaws) (image : Image) (budget : ℕ) where
 
           stage_others : Stage m s → Stage (after_outcome m t (Some made.after)) made.now
           stage_others (Waits low views channels none) =
-              Waits (still_waits low) (λ v. unseen_nobody laws image workers budget n m s holds t made.thread made.found made.acted made.after made.now leaves r other (nobody_waits low) v ∙ views v)
+              Waits (still_waits low) (λ v. unseen_nobody image workers budget n m s holds t made.thread made.found made.acted made.after made.now leaves r other (nobody_waits low) v ∙ views v)
               (leaves.channels r other ∙ channels) (leaves.others r other ∙ none)
           stage_others (Served k begun none served) =
               let apart = not_own served.number served.thread served.found served.running served.job in
-              let after = holds_after laws image workers budget n m s holds t made.thread made.found made.acted made.after made.now leaves in
+              let after = holds_after image workers budget n m s holds t made.thread made.found made.acted made.after made.now leaves in
               let more = later workers n m s holds t made in
               Served k (omega (arith, begun, more)) (leaves.others r other ∙ none) (record {
                 number = served.number;
                 thread = served.thread;
-                found = found_other m.threads t served.number made.after.thread apart ∙ served.found;
+                found = slice_get-other m.threads t served.number made.after.thread (λ same. apart (sym same)) ∙ served.found;
                 running = served.running;
                 job = served.job;
                 some = served.some;
@@ -321,7 +323,7 @@ module _ (laws : JobLaws) (image : Image) (budget : ℕ) where
                   some_job = served.like.some_job;
                   first = after.jobs;
                   second = served.like.second;
-                  seen = unseen_served laws image workers budget n m s holds t made.thread made.found made.acted made.after made.now leaves r served.number served.thread other served.found served.running served.job apart served.number
+                  seen = unseen_served image workers budget n m s holds t made.thread made.found made.acted made.after made.now leaves r served.number served.thread other served.found served.running served.job apart served.number
                       ∙ served.like.seen;
                 };
                 channels = leaves.channels r other ∙ served.channels;
@@ -339,22 +341,20 @@ module _ (laws : JobLaws) (image : Image) (budget : ℕ) where
             let a = alone_at k in
             let leaves = leaves_by workers n m s holds t x found acted after now how in
             let leaves_a = leaves_by 1 (r + 1) a sa holds_a 0 xa found_a also after_a now_a how_a in
-            let holds_next = holds_after laws image 1 budget (r + 1) a sa holds_a 0 xa found_a also after_a now_a leaves_a in
-            let few = few_after laws image 1 budget (r + 1) a sa holds_a 0 xa found_a also after_a now_a leaves_a in
+            let holds_next = holds_after image 1 budget (r + 1) a sa holds_a 0 xa found_a also after_a now_a leaves_a in
+            let few = few_after image 1 budget (r + 1) a sa holds_a 0 xa found_a also after_a now_a leaves_a in
             let is : alone_at (suc k) ≡ after_outcome a 0 (Some after_a) = how_step a sa 0 xa also after_a now_a holds_a.is found_a how_a in
             let threads_m = slice_set m.threads t after.thread in
             let threads_a = slice_set a.threads 0 after_a.thread in
-            let there : slice_get threads_m t ≡ Some after.thread = found_same m.threads t x after.thread found in
-            let there_a : slice_get threads_a 0 ≡ Some after_a.thread = found_same a.threads 0 xa after_a.thread found_a in
-            let within : t < now.workers = let low = slice_get_within m.threads t x found in omega (arith, low, holds.count, holds.own_workers, leaves.workers) in
-            let some_worker : 1 ≤ now.workers = omega (arith, holds.some, holds.own_workers, leaves.workers) in
-            let some_alone : 1 ≤ now_a.workers = omega (arith, holds_a.some, holds_a.own_workers, leaves_a.workers) in
+            let there : slice_get threads_m t ≡ Some after.thread = found_set m.threads t x after.thread found in
+            let there_a : slice_get threads_a 0 ≡ Some after_a.thread = found_set a.threads 0 xa after_a.thread found_a in
+            let holds_then = holds_after image workers budget n m s holds t x found acted after now leaves in
             let reaped : LooksAlike (home_for image) (r + 1) t 0 (reap after.environment.world (roots threads_m (Some now))) (reap after_a.environment.world (roots threads_a (Some now_a))) =
-            laws.does.reaped (home_for image) (r + 1) t 0 after.environment.world after_a.environment.world (roots threads_m (Some now)) (roots threads_a (Some now_a))
-            (home_root laws.orders threads_m now 0 some_worker) (home_root laws.orders threads_a now_a 0 some_alone)
-            (λ q. only_root laws.orders threads_m now now.next leaves.placed r q t after.thread there runs job
+            reap-alike (home_for image) (r + 1) t 0 after.environment.world after_a.environment.world (roots threads_m (Some now)) (roots threads_a (Some now_a))
+            (home_at_root image workers budget n m s holds t x found acted after now leaves) (home_at_root image 1 budget (r + 1) a sa holds_a 0 xa found_a also after_a now_a leaves_a)
+            (λ q. only_root threads_m now (ready_serve holds_then).threads leaves.placed r q t after.thread there runs job
             ∙ ap (λ (y : Thread). eq_by_cmp name_cmp (record { job = r + 1; k = q }) y.context) threads
-            ∙ sym (only_root laws.orders threads_a now_a now_a.next leaves_a.placed r q 0 after_a.thread there_a (ap (λ (y : Thread). y.status) (sym threads) ∙ runs) (ap (λ (y : Thread). y.job) (sym threads) ∙ job)))
+            ∙ sym (only_root threads_a now_a (ready_serve holds_next).threads leaves_a.placed r q 0 after_a.thread there_a (ap (λ (y : Thread). y.status) (sym threads) ∙ runs) (ap (λ (y : Thread). y.job) (sym threads) ∙ job)))
             like in
             record {
               number = t;
@@ -378,8 +378,8 @@ module _ (laws : JobLaws) (image : Image) (budget : ℕ) where
                   });
               like = subst (λ (b : Machine). LooksAlike (home_for image) (r + 1) t 0 (after_outcome m t (Some after)).environment.world b.environment.world) (sym is)
                   (subst (λ (w : World). LooksAlike (home_for image) (r + 1) t 0 w (after_outcome a 0 (Some after_a)).environment.world)
-                  (world_is laws image workers budget n m s holds t x found acted after now leaves)
-                  (subst (LooksAlike (home_for image) (r + 1) t 0 (reap after.environment.world (roots threads_m (Some now)))) (world_is laws image 1 budget (r + 1) a sa holds_a 0 xa found_a also after_a now_a leaves_a) reaped));
+                  (world_is image workers budget n m s holds t x found acted after now leaves)
+                  (subst (LooksAlike (home_for image) (r + 1) t 0 (reap after.environment.world (roots threads_m (Some now)))) (world_is image 1 budget (r + 1) a sa holds_a 0 xa found_a also after_a now_a leaves_a) reaped));
               channels = subst (λ (b : Machine). channel_view r after.environment.channels ≡ channel_view r b.environment.channels) (sym is) channels;
             }
 
@@ -388,10 +388,10 @@ module _ (laws : JobLaws) (image : Image) (budget : ℕ) where
             ((v : ℕ) → view (r + 1) v m.environment.world ≡ view (r + 1) 0 start.environment.world) → channel_view r m.environment.channels ≡ channel_view r start.environment.channels →
             IsServed (after_outcome m t (Some (begin_next t s m.environment))) 1
         begins x found idle some same views channels =
-            let within : t < workers = let low = slice_get_within m.threads t x found in omega (arith, low, holds.count) in
-            let home_m : IsHomeOf image m.environment.world t = holds.homes t within in
-            let home_a : IsHomeOf image start.environment.world 0 = starts.homes 0 (omega arith) in
-            let some_a : ltb first.next (length start.environment.channels.requests) ≡ true = let many = starts.requests in grind (arith, nat_tests) in
+            let within : t < workers = let low = slice_get_within m.threads t x found in omega (arith, low, thread_count_is holds) in
+            let home_m : IsHomeOf image m.environment.world t = home_stays holds t within in
+            let home_a : IsHomeOf image start.environment.world 0 = home_stays starts 0 (omega arith) in
+            let some_a : ltb first.next (length start.environment.channels.requests) ≡ true = let many = request_count_is starts in grind (arith, nat_tests) in
             let entries : (context m.environment.world (home_of t)).entry ≡ (context start.environment.world (home_of 0)).entry = entry_of_home image m.environment.world t home_m ∙ sym (entry_of_home image start.environment.world 0 home_a) in
             let threads : (begin_next t s m.environment).thread ≡ (begin_next 0 first start.environment).thread =
             ap (λ (q : ℕ). serving q s.budget (context m.environment.world (home_of t)).entry) (same ∙ sym next)
@@ -399,7 +399,7 @@ module _ (laws : JobLaws) (image : Image) (budget : ℕ) where
             ∙ ap (serving first.next first.budget) entries in
             let seen : LooksAlike (home_for image) (r + 1) t 0 m.environment.world start.environment.world = record { some_job = λ none. omega (arith, none); first = holds.jobs; second = starts.jobs; seen = views t } in
             let like : LooksAlike (home_for image) (r + 1) t 0 (begin m.environment.world (home_of t) r) (begin start.environment.world (home_of 0) r) =
-            laws.alike.begun (home_for image) r t 0 (home_of t) (home_of 0) m.environment.world start.environment.world (begun_in image m.environment.world t home_m r) (begun_alike image m.environment.world start.environment.world t 0 r home_m home_a) seen in
+            begin-alike (home_for image) r (home_of t) m.environment.world t 0 (home_of 0) start.environment.world (begun_in image m.environment.world t home_m r) (begun_alike image m.environment.world start.environment.world t 0 r home_m home_a) seen in
             joins 0 x (s.next + 1) (begin_next t s m.environment) (record s { next = s.next + 1 }) found (Begins idle some)
             first starts waiting_first.0 (first.next + 1) (begin_next 0 first start.environment) (record first { next = first.next + 1 }) waiting_first.1 (Begins waiting_first.2 some_a)
             threads refl (ap (λ (q : ℕ). q + 1) same) (omega (arith, some_budget, holds.own_budget)) (omega (arith, holds.own_budget)) (ap (λ (q : ℕ). q + 1) next) none_told
@@ -422,28 +422,28 @@ module _ (laws : JobLaws) (image : Image) (budget : ℕ) where
           found_a = served.alone.fact.found ∙ ap Some thread_is
 
           text_is : m.text ≡ (alone_at k).text
-          text_is = holds.text ∙ sym served.alone.holds.text
+          text_is = text_stays holds ∙ sym (text_stays served.alone.holds)
 
           here : (x.context.job ≡ x.job) × (1 ≤ x.job) × (x.job ≤ s.next)
-          here = holds.placed.serving t x found running
+          here = serving_now holds t x found running
 
-          acts : ActsAlike (home_for image) r t 0 (acted_by m t x) (acted_by (alone_at k) 0 x)
-          acts =
+          alike : ActsAlike (home_for image) r t 0 (acted_by m t x) (acted_by (alone_at k) 0 x)
+          alike =
               subst (λ (text : List Instr). ActsAlike (home_for image) r t 0 (acted_by m t x) (advance_outcome guest_calls 0 (alone_at k).environment x (advanced text x.regs))) text_is
-              (acts_alike laws (home_for image) r t 0 m.environment (alone_at k).environment x (advanced m.text x.regs) (here.0 ∙ job) job
+              (acts_alike (home_for image) r t 0 m.environment (alone_at k).environment x (advanced m.text x.regs) (here.0 ∙ job) job
               (subst (λ (u : ℕ). LooksAlike (home_for image) (r + 1) u 0 m.environment.world (alone_at k).environment.world) number_is served.like) served.channels
               enough.here enough.alone)
 
           goes : has_ended (acted_by m t x).thread.status ≡ false → IsServed (after_outcome m t (Some (only (Some s) (acted_by m t x)))) (suc k)
           goes going =
-              let going_a : has_ended (acted_by (alone_at k) 0 x).thread.status ≡ false = ap (λ (y : Thread). has_ended y.status) (sym acts.thread) ∙ going in
-              let runs = still_running laws image workers budget n m s holds t x found running going in
+              let going_a : has_ended (acted_by (alone_at k) 0 x).thread.status ≡ false = ap (λ (y : Thread). has_ended y.status) (sym alike.thread) ∙ going in
+              let runs = (acts image workers budget n m s holds t x found running).going going in
               let some = budget_left m t x runs in
               let left = served.left in
               let was : served.thread.budget ≡ x.budget = ap (λ (y : Thread). y.budget) thread_is in
               let after = budget_after m t x in
               joins k x x.job (only (Some s) (acted_by m t x)) s found (Goes running going) served.alone.serve served.alone.holds x x.job (only (Some served.alone.serve) (acted_by (alone_at k) 0 x)) served.alone.serve found_a (Goes running going_a)
-              acts.thread runs ((acts_step t m.environment x (advanced m.text x.regs)).job ∙ job) (omega (arith, some, after)) (omega (arith, left, was, after, some)) served.alone.fact.begun served.alone.fact.none acts.worlds acts.channels served.alone.fact.size served.alone.fact.names
+              alike.thread runs ((acts image workers budget n m s holds t x found running).job ∙ job) (omega (arith, some, after)) (omega (arith, left, was, after, some)) served.alone.fact.begun served.alone.fact.none alike.worlds alike.channels served.alone.fact.size served.alone.fact.names
 
           told_from : (reply : Option Finished) (j target q : ℕ) → target ≡ j + q → Stands 1 (r + 1) (IsTold r reply) (alone_at q) → Stands 1 (r + 1) (IsTold r reply) (alone_at target)
           told_from reply zero target q is stands = let same : q ≡ target = omega (arith, is) in subst (λ (k : ℕ). Stands 1 (r + 1) (IsTold r reply) (alone_at k)) same stands
@@ -460,26 +460,26 @@ module _ (laws : JobLaws) (image : Image) (budget : ℕ) where
               let sa = served.alone.serve in
               let f = finished_by o.thread o.environment.channels in
               let g = finished_by p.thread p.environment.channels in
-              let ended_a : has_ended p.thread.status ≡ true = ap (λ (y : Thread). has_ended y.status) (sym acts.thread) ∙ ended in
+              let ended_a : has_ended p.thread.status ≡ true = ap (λ (y : Thread). has_ended y.status) (sym alike.thread) ∙ ended in
               let how_a : How (alone_at k) sa 0 x x.job (finish 0 sa p) (with_reply sa g) = Finishes running ended_a in
               let stands : Stands 1 (r + 1) (IsTold r (Some g)) (alone_at (suc k)) =
               subst (Stands 1 (r + 1) (IsTold r (Some g))) (sym (how_step (alone_at k) sa 0 x x.job (finish 0 sa p) (with_reply sa g) served.alone.holds.is found_a how_a))
               (record {
                 serve = with_reply sa g;
-                holds = holds_after laws image 1 budget (r + 1) (alone_at k) sa served.alone.holds 0 x found_a x.job (finish 0 sa p) (with_reply sa g) (leaves_by 1 (r + 1) (alone_at k) sa served.alone.holds 0 x found_a x.job (finish 0 sa p) (with_reply sa g) how_a);
+                holds = holds_after image 1 budget (r + 1) (alone_at k) sa served.alone.holds 0 x found_a x.job (finish 0 sa p) (with_reply sa g) (leaves_by 1 (r + 1) (alone_at k) sa served.alone.holds 0 x found_a x.job (finish 0 sa p) (with_reply sa g) how_a);
                 fact = finished_told 1 (r + 1) r (alone_at k) sa served.alone.holds 0 x found_a running job;
               }) in
               let left = served.left in
               let some = served.some in
               let last = told_from (Some g) (budget - k) (budget + 1) (suc k) (omega (arith, left, some)) stands in
               let told : reply_of (alone_at (budget + 1)) r ≡ Some g = ap (λ (serve : Option Serve). in_serve serve r) last.holds.is ∙ last.fact.told in
-              let same : f ≡ g = finished_same r o.thread p.thread o.environment.channels p.environment.channels acts.thread (request_is workers n r m s holds t x found running job) acts.channels in
+              let same : f ≡ g = finished_same r o.thread p.thread o.environment.channels p.environment.channels alike.thread (request_is workers n r m s holds t x found running job) alike.channels in
               subst (λ (reply : Option Finished). IsTold r reply (after_outcome m t (Some (finish t s o))) (with_reply s f)) (ap Some same ∙ sym told)
               (finished_told workers n r m s holds t x found running job)
 
         -- the stage after a step for the request
         served_now : (x : Thread) → slice_get m.threads t ≡ Some x → x.status ≡ Running → x.job ≡ r + 1 → Stage m s → (k : ℕ) × IsServed m k × (r < s.next) × (get_or s.replies r None ≡ None)
-        served_now x found running job (Waits low views channels none) = let begun = (holds.placed.serving t x found running).2 in absurd (omega (arith, low, begun, job))
+        served_now x found running job (Waits low views channels none) = let begun = (serving_now holds t x found running).2 in absurd (omega (arith, low, begun, job))
         served_now x found running job (Served k begun none served) = (k, served, begun, none)
         served_now x found running job (Told is) = absurd (is.nobody t x found running job)
 
@@ -498,7 +498,7 @@ module _ (laws : JobLaws) (image : Image) (budget : ℕ) where
         pub stage_made : ((x : Thread) → slice_get m.threads t ≡ Some x → x.status ≡ Running → x.job ≡ r + 1 → (k : ℕ) → IsServed m k → IsEnough m x k) → (made : Made m s t) → Stage m s →
             Stage (after_outcome m t (Some made.after)) made.now
         stage_made enough made stage =
-            elim (same_or_apart made.acted (r + 1)) [
+            elim (cases_eq made.acted (r + 1)) [
               | inl same ↦ own enough made.thread made.found made.acted made.after made.now made.how same stage
               | inr apart ↦ stage_others made apart stage
             ]

@@ -13,6 +13,5 @@ pub use Rattle.kernel_core.specs.Settings
 pub use Rattle.kernel_core.specs.Start
 pub use Rattle.kernel_core.specs.Step
 pub mod Alone
-pub mod JobLaws
 pub mod Needs
 pub mod Replies

@@ -12,24 +12,9 @@ ghost use Rattle.lwc_base.specs.Channels.{bytes_in};
 ghost use Rattle.lwc_base.specs.World.{is_live};
 ghost use Rattle.lwc_base.specs.declared.name.Name.{Name};
 ghost use Rattle.request_isolation.specs.Alone.{alone, alone_in, ample};
-ghost use Rattle.request_isolation.specs.JobLaws.{JobLaws};
 ghost use Rattle.request_isolation.specs.Needs.{HasFrames, IsShort};
 ghost use Rattle.request_isolation.specs.Replies.{HasReply};
 ghost use Rattle.snapshot_host.specs.declared.finishing.Finished.{Finished};
-
-use job_calls::laws::{
-    a_read_alone_wants_frames, calls_do_the_same_in_worlds_that_look_alike,
-    calls_keep_each_job_what_is_its_own, no_job_sees_calls_of_another_one,
-};
-use job_view::laws::{
-    each_job_keeps_what_is_its_own, no_job_sees_what_another_one_does,
-    what_a_job_asks_is_answered_alike, what_a_job_does_leaves_worlds_alike,
-};
-use kernel_core::worlds_of_runs_are_sound;
-use lwc_base::laws::{
-    a_reaped_world_keeps_what_is_reached, changes_leave_the_rest,
-    each_page_that_parts_takes_a_frame, live_names_are_counted, names_are_ordered,
-};
 
 /// At the end of a serve each request has a reply, and there are as many requests as at its start.
 #[tactic(auto, using(crate::proofs::Serves::each_reply, crate::proofs::Serves::requests_stay))]
@@ -50,9 +35,7 @@ pub fn a_recorded_reply_is_what_was_written()
     ensures bytes { (inputs : Inputs) (steps : List ℕ) (r : ℕ) (told : Finished) → CanOpen inputs →
         reply_of (run (start inputs) steps) r ≡ Some told →
         bytes_in (run (start inputs) steps).environment.channels.replies r ≡ told.bytes }
-{
-    jobs_are_apart();
-}
+{}
 
 /// What a serve's contexts and groups have is of their own request, and beside it the pages of a home;
 /// and no context of a finished request lives.
@@ -64,9 +47,7 @@ pub fn requests_are_apart()
         CanOpen inputs → inputs.settings.job ≡ jobs.Serve workers →
         reply_of (run (start inputs) steps) r ≡ Some told →
         is_live (run (start inputs) steps).environment.world c ≡ true → c.job ≢ r + 1 }
-{
-    jobs_are_apart();
-}
+{}
 
 /// Whatever the number of workers and the order of steps, a recorded reply is the one that its request gets
 /// by itself, if there are frames for as many requests at once as there are workers.
@@ -74,20 +55,14 @@ pub fn each_reply_is_that_of_its_request_alone()
     ensures { (inputs : Inputs) (steps : List ℕ) (r : ℕ) (told : Finished) → CanOpen inputs →
         HasFrames inputs → reply_of (run (start inputs) steps) r ≡ Some told →
         alone inputs.image inputs.settings.budget r (bytes_in inputs.requests r) ≡ Some told }
-{
-    jobs_are_apart();
-    worlds_of_runs_are_sound();
-}
+{}
 
 /// With these frames no store of the serve finds too few.
 pub fn no_store_of_a_serve_finds_too_few_frames()
     ensures { (inputs : Inputs) (steps : List ℕ) (workers t : ℕ) → CanOpen inputs →
         inputs.settings.job ≡ jobs.Serve workers → HasFrames inputs →
         IsShort (run (start inputs) steps) t → ⊥ }
-{
-    jobs_are_apart();
-    worlds_of_runs_are_sound();
-}
+{}
 
 /// More frames than ample ones change nothing for a request by itself.
 pub fn ample_frames_are_ample()
@@ -96,25 +71,4 @@ pub fn ample_frames_are_ample()
         ample inputs.settings.budget ≤ frames →
         alone_in frames inputs.image inputs.settings.budget r (bytes_in inputs.requests r)
         ≡ alone inputs.image inputs.settings.budget r (bytes_in inputs.requests r) }
-{
-    jobs_are_apart();
-}
-
-/// Jobs are apart: what one sees evolves by itself, and what it does is hidden from the others.
-pub(crate) fn jobs_are_apart()
-    ensures { JobLaws }
-{
-    names_are_ordered();
-    changes_leave_the_rest();
-    live_names_are_counted();
-    a_reaped_world_keeps_what_is_reached();
-    what_a_job_asks_is_answered_alike();
-    what_a_job_does_leaves_worlds_alike();
-    each_job_keeps_what_is_its_own();
-    no_job_sees_what_another_one_does();
-    calls_do_the_same_in_worlds_that_look_alike();
-    calls_keep_each_job_what_is_its_own();
-    no_job_sees_calls_of_another_one();
-    a_read_alone_wants_frames();
-    each_page_that_parts_takes_a_frame();
-}
+{}

@@ -3,8 +3,6 @@
 
 pub mod items;
 pub mod modes;
-#[cfg(test)]
-mod tests;
 
 pub use items::{ITEM_BYTES, SpecCall, SpecFault, items_that_are_read_are_a_spec, read_items};
 pub use modes::{mode_of, mode_or_copy};

@@ -6,7 +6,7 @@ use Rattle.std.proofs.lemmas.List.Sums.{sum_by-cons}
 use Rattle.lwc_base.specs.Cells.{value_at, value_of}
 use Rattle.lwc_base.specs.Holders.{InCell}
 use Rattle.lwc_base.specs.Ranges.{are_of_one_kind, begins_range, continues_range, has_page, is_page, ranges, ranges_of}
-use Rattle.lwc_base.specs.Sharing.{cloned_context, ranges_after_clone, share}
+use Rattle.lwc_base.specs.Sharing.{cloned_context, ranges_after_clone}
 use Rattle.lwc_base.specs.Sound.{HasItsGroups, live_groups}
 use Rattle.lwc_base.specs.World.{World, context, is_live}
 use Rattle.lwc_base.specs.declared.cell.Cell.{Cell}
@@ -15,7 +15,7 @@ use Rattle.lwc_base.specs.declared.key.Key.TheVariants.{Page}
 use Rattle.lwc_base.specs.declared.name.Name.{Name}
 use Rattle.lwc_base.specs.declared.page.PageValue.{PageValue}
 use Rattle.lwc_base.specs.declared.regs.Regs.{Regs}
-use Rattle.snapshot_host.proofs.Copies.{copy_of, is_copy}
+use Rattle.snapshot_host.proofs.Copies.{copy_of, is_copy, shares_nothing}
 
 -- where a test holds of no more elements, it counts no more
 fewer_by : (p q : ℕ → Bool) (xs : List ℕ) → ((x : ℕ) → p x ≡ true → q x ≡ true) → count_by p xs ≤ count_by q xs
@@ -76,8 +76,8 @@ module _ (w : World) (home : Name) (groups : HasItsGroups w) (live : is_live w h
       (λ p h. begins_by _ _ _ _ (page_here p) (still_continues p) h))
 
 -- the ranges of a context, and of a copy of it
-pub ranges_copied : (w : World) (home : Name) (job : ℕ) → share w home job [] ≡ w → HasItsGroups w → is_live w home ≡ true →
+pub ranges_copied : (w : World) (home : Name) (job : ℕ) → HasItsGroups w → is_live w home ≡ true →
     ((ranges_after_clone w home job []).0 ≡ ranges_of w home) × ((ranges_after_clone w home job []).1 ≤ ranges_of w home)
 unfolding ranges_after_clone
-ranges_copied w home job same groups live =
-    rw same (refl, few_ranges w home groups live (context w home).entry)
+ranges_copied w home job groups live =
+    rw (shares_nothing w home job) (refl, few_ranges w home groups live (context w home).entry)

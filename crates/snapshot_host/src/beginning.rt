@@ -6,14 +6,13 @@ ghost use Rattle.snapshot_host.specs.Begin as spec;
 ghost use Rattle.snapshot_host.specs.Begin.{IsNewJob};
 ghost use Rattle.world_face.specs.Calls.{HasPlace, IsLive};
 
-use crate::laws::a_request_begins_as_a_copy;
-use lwc_base::laws::changes_leave_the_rest;
 use lwc_base::{Descriptor, Name, OutOfMemory, Spec};
 use world_face::World;
 
 /// Makes the context that request `r` is served in: a whole copy of the home, but for slots 0 and 1, which
 /// have the request and its reply (`begin`). Answers its name. The only error is out of memory, and then
 /// nothing has changed.
+#[tactic(auto, using(crate::proofs::Copies::begins, lwc_base::proofs::Facts::changes))]
 pub fn begin<W: World>(world: &mut W, home: Name, r: u16) -> Result<Name, OutOfMemory>
     requires live { IsLive (W.seen world.old) home }
     requires groups { HasItsGroups (W.seen world.old) }
@@ -26,8 +25,6 @@ pub fn begin<W: World>(world: &mut W, home: Name, r: u16) -> Result<Name, OutOfM
     ensures err { OnErr result (W.seen world.new ≡ W.seen world.old) }
     ensures ample { W.roomy ≡ true → IsOk result }
 {
-    a_request_begins_as_a_copy();
-    changes_leave_the_rest();
     let entry = world.entry(home);
     let name = world.clone_context(home, &Spec::empty(), u32::from(r) + 1, &entry)?;
     world.set_slot(name, 1, Descriptor::Reply { r });

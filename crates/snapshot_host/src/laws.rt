@@ -11,10 +11,6 @@ ghost use Rattle.lwc_base.specs.declared.name.Name.{Name};
 ghost use Rattle.snapshot_host.specs.Begin.{begin};
 ghost use Rattle.world_face.specs.Calls.{IsLive};
 
-use lwc_base::laws::{
-    a_group_is_needed_where_a_value_moves, changes_leave_the_rest, names_are_ordered,
-};
-
 /// A request begins as a copy of the home by no item, in which two slots are put. Such a copy needs no
 /// group, and has at most as many ranges as the home.
 pub fn a_request_begins_as_a_copy()
@@ -26,8 +22,4 @@ pub fn a_request_begins_as_a_copy()
     ensures ranges { (w : World) (home : Name) (job : ℕ) → HasItsGroups w → IsLive w home →
         ((ranges_after_clone w home job []).0 ≡ ranges_of w home)
         × ((ranges_after_clone w home job []).1 ≤ ranges_of w home) }
-{
-    a_group_is_needed_where_a_value_moves();
-    changes_leave_the_rest();
-    names_are_ordered();
-}
+{}

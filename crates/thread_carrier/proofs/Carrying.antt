@@ -9,11 +9,6 @@ use Rattle.kernel_core.specs.Start.{Inputs}
 use Rattle.process_core.specs.Running.{AreAllOf, Carried, IsPassOf}
 use Rattle.turnstile.specs.Passes.{Lock}
 
--- what was taken from the front of a list stood there
-pub first_of : {A : Type 0} (xs : List A) (y : A) (ys : List A) → 0 < length xs → y ≡ get_or xs 0 y → ys ≡ take 0 xs ++ drop 1 xs → xs ≡ y ∷ ys
-first_of [] y ys some is rest = absurd (omega arith)
-first_of (x ∷ xs) y ys some is rest = ap (λ z. z ∷ xs) (sym is) ∙ ap (λ zs. y ∷ zs) (sym rest)
-
 -- one more is made of the next
 pub one_made : {A B : Type 0} (f : A → B) (made : List A) (x : A) (rest all : List B) → map f made ++ (f x ∷ rest) ≡ all → map f (made ++ x ∷ []) ++ rest ≡ all
 one_made f [] x rest all is = is

@@ -4,7 +4,7 @@ ghost use Rattle.lwc_base.specs.declared.limits.TheConstants.{MOST_STEPS};
 ghost use Rattle.process_core.specs.Running.{IsPassOf};
 ghost use Rattle.thread_carrier.specs.Carriers.{HasTurned};
 
-use guest_machine::{advance, advance_is_determined};
+use guest_machine::advance;
 use lwc_base::MOST_THREADS;
 use lwc_io::Gate;
 use process_core::{Process, ProcessPass};
@@ -38,7 +38,6 @@ pub fn carry<R: Wait, W: World, G: Gate>(
     ensures counted { HasTurned carrier.old.pass carrier.old.turns carrier.new.pass carrier.new.turns }
     ensures few { carrier.new.turns ≤ carrier.old.turns + MOST_STEPS }
 {
-    advance_is_determined();
     'turns: while !carrier.pass.last().has_ended() {
         let proposal = advance(process.text(), &carrier.pass.last().regs);
         gate.before(rt, carrier.pass.thread(), carrier.turns);

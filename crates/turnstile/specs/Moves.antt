@@ -30,7 +30,8 @@ module _ {S N : Type 0} where
   IsSameSeat seat after = (after.table_id ≡ seat.table_id) × (after.id ≡ seat.id)
 
 module _ {S N : Type 0} (name_of : S → N) (past_of : S → List ℕ) where
-  -- the seat went to its turn and has the state in hand: it has the seat's name, its past is known and has just been seen, and the slot is empty
+  -- the seat went to its turn and has the state in hand: it has the seat's name, its past is known and has
+  -- just been seen, and the slot is empty
   pub record TakesTurn (m : Me (Option S) (View N)) (state : S) (m' : Me (Option S) (View N)) : Type 0 where
     pub ticket : ℕ
     pub turn : m' ≡ (serving_view ticket (past_of state) m.0, (0, None) ∷ [])
@@ -39,14 +40,16 @@ module _ {S N : Type 0} (name_of : S → N) (past_of : S → List ℕ) where
     pub turns : length (past_of state) ≡ ticket
     pub noted : m.0.noted ≤ ticket
 
-  -- the seat is at its turn, and this state may be passed on: it has the seat's name, and its past has one turn more, the seat's
+  -- the seat is at its turn, and this state may be passed on: it has the seat's name, and its past has one
+  -- turn more, the seat's
   pub record MayEnd (v : View N) (state : S) : Type 0 where
     pub ticket : ℕ
     pub serves : v.stage ≡ Serving ticket
     pub named : Some (name_of state) ≡ v.name
     pub past_is : past_of state ≡ v.seen ++ v.number ∷ []
 
-  -- the state at the end: it has the name, and its past is known to the first seat and to each that it joined, with at least as many turns as each noted
+  -- the state at the end: it has the name, and its past is known to the first seat and to each that it
+  -- joined, with at least as many turns as each noted
   pub record Settles (name : N) (first : View N) (state : S) : Type 0 where
     pub named : name_of state ≡ name
     pub knows : Knows (past_of state) first.number first.seen

@@ -1,5 +1,7 @@
--- The rule of the lock: what its two words, its slot and the views of its seats have in common at every moment.
--- It speaks of one past: that of the state in the slot where no seat is at its turn, and else the list of the seat at its turn.
+-- The rule of the lock: what its two words, its slot and the views of its seats have in common at every
+-- moment.
+-- It speaks of one past: that of the state in the slot where no seat is at its turn, and else the list of the
+-- seat at its turn.
 use Rattle.std.specs.Prelude.{◌≡◌, ◌≢◌, ◌⊎◌, ◌+◌, ◌^◌, ◌<◌, ◌≤◌, ℕ, List, [], ◌∷◌, length, All, AllPairs, sum_by, Option, Some}
 use mathlib.Core.Option as maybe
 use mathlib.Core.Option.{some, none}
@@ -40,7 +42,8 @@ module _ {N : Type 0} where
     pub noted : j.noted ≤ length past
     pub spent : (view : View N) × Sits views j.number view × (view.stage ≡ Spent)
 
-  -- a seat that is not spent: its number is its place, it knows the past and noted no turn that was not, its ticket was drawn and is yet to be served, at its turn it is the next and has seen all;
+  -- a seat that is not spent: its number is its place, it knows the past and noted no turn that was not, its
+  -- ticket was drawn and is yet to be served, at its turn it is the next and has seen all;
   -- the first seat knows how many were made, and those that it joined have numbers that differ
   pub record Fits (name : N) (next : ℕ) (past : List ℕ) (views : List (View N)) (seat : ℕ) (view : View N) : Type 0 where
     pub named : view.name ≡ Some name
@@ -53,7 +56,8 @@ module _ {N : Type 0} where
     pub joined : All (Keeps past views) view.joined
     pub differ : AllPairs (λ j k. j.number ≢ k.number) view.joined
 
-  -- the seats together: 1 to 16, the first one never spent; each ticket that was drawn and not served is one seat's alone; and no number that was not made had a turn
+  -- the seats together: 1 to 16, the first one never spent; each ticket that was drawn and not served is one
+  -- seat's alone; and no number that was not made had a turn
   pub record Seated (name : N) (next serving : ℕ) (past : List ℕ) (views : List (View N)) : Type 0 where
     pub some_seat : 0 < length views
     pub few : length views ≤ 16
@@ -82,7 +86,8 @@ module _ {S N : Type 0} (name_of : S → N) (past_of : S → List ℕ) where
     pub past_is : past_of state ≡ past
     pub nobody : (seat t : ℕ) (view : View N) → Sits views seat view → view.stage ≢ Serving t
 
-  -- the rule, for the state's name: the words are how many tickets were drawn and how many turns passed on, which is how many turns the past has, fewer than 2 ^ 63; the state is at home or out
+  -- the rule, for the state's name: the words are how many tickets were drawn and how many turns passed on,
+  -- which is how many turns the past has, fewer than 2 ^ 63; the state is at home or out
   pub record Holds (name : N) (s : State (Option S) (View N)) : Type 0 where
     pub next : ℕ
     pub serving : ℕ

@@ -58,7 +58,8 @@ module _ {S N : Type 0} where
   DrawsTicket step m found m' = m' ≡ (staged (Waiting found) m.0, m.1)
 
 module _ {S N : Type 0} (name_of : S → N) (past_of : S → List ℕ) where
-  -- look, where the seat's turn has come: the seat takes the slot with the state, which has its name and has had as many turns as were found, and whose past it knows and has now seen
+  -- look, where the seat's turn has come: the seat takes the slot with the state, which has its name and has
+  -- had as many turns as were found, and whose past it knows and has now seen
   pub record TakesState (m : Me (Option S) (View N)) (found : ℕ) (m' : Me (Option S) (View N)) : Type 0 where
     pub state : S
     pub takes : m' ≡ (serving_view found (past_of state) m.0, (0, Some state) ∷ m.1)
@@ -66,7 +67,8 @@ module _ {S N : Type 0} (name_of : S → N) (past_of : S → List ℕ) where
     pub knows : Knows (past_of state) m.0.number m.0.seen
     pub turns : length (past_of state) ≡ found
 
-  -- look: the number found is noted, and is below neither what was seen nor what was noted; where it is the seat's ticket, the seat's turn has come
+  -- look: the number found is noted, and is below neither what was seen nor what was noted; where it is the
+  -- seat's ticket, the seat's turn has come
   pub record Looks (m : Me (Option S) (View N)) (found : ℕ) (m' : Me (Option S) (View N)) : Type 0 where
     pub seen : length m.0.seen ≤ found
     pub noted : m.0.noted ≤ found

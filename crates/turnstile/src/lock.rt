@@ -10,7 +10,7 @@ use crate::moves::{act, end_turn, look, open_table, settle, take_turn};
 use crate::passes::{HoldsPass, Pass, Passes, deal_passes, join_all, take_first};
 use crate::queue::LockTable;
 use crate::states::Turned;
-use crate::waiting::WaitWords;
+use crate::waiting::Door;
 use lwc_base::OutOfMemory;
 use std::alloc::Global;
 use std::marker::Model;
@@ -23,7 +23,7 @@ use std::sync::Wait;
 #[derive(Drop)]
 pub struct Turnstile<S: Turned> {
     seats: u32,
-    words: WaitWords,
+    door: Door,
     table: LockTable<S>,
 }
 
@@ -66,18 +66,12 @@ impl<S: Turned> Turnstile<S> {
     {
         let (table, first) = open_table(alloc, state)?;
         let passes = deal_passes(alloc, &table.shared, first, seats)?;
-        let words = WaitWords::new();
-        Ok((
-            Turnstile {
-                seats,
-                words,
-                table,
-            },
-            passes,
-        ))
+        let door = Door::new();
+        Ok((Turnstile { seats, door, table }, passes))
     }
 
-    /// Has one turn: calls the action once on the state, and answers what it answered. It may wait.
+    /// Has one turn: calls the action once on the state, and answers what it answered. It may wait. Threads
+    /// that wait have their turns in no particular order.
     ///
     /// The state is due for the pass (`IsDueFor`): it has the turnstile's name, and its past begins with
     /// what the pass has seen and has no further turn of the pass. On each such state the action must be
@@ -105,10 +99,11 @@ impl<S: Turned> Turnstile<S> {
         ensures noted { pass.old.noted ≤ pass.new.noted }
     {
         let shared = &self.table.shared;
-        let state = take_turn(rt, shared, &self.words, &mut pass.seat);
+        self.door.enter(rt);
+        let state = take_turn(rt, shared, &mut pass.seat);
         let (state, answer) = act(state, action);
-        let next = end_turn(shared, &mut pass.seat, state);
-        self.words.wake(next);
+        end_turn(shared, &mut pass.seat, state);
+        self.door.leave();
         answer
     }
 
@@ -137,7 +132,7 @@ impl<S: Turned> Turnstile<S> {
     {
         let Turnstile {
             seats: _,
-            words: _,
+            door: _,
             table,
         } = self;
         let first = take_first(&mut passes);

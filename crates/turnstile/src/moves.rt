@@ -13,11 +13,11 @@ use crate::queue::{
     SplitSeat,
 };
 use crate::states::Turned;
-use crate::waiting::WaitWords;
 use atomic_table::Table;
 use std::alloc::{AllocError, Global};
 use std::snapshot::Snapshot;
 use std::sync::Wait;
+use std::thread::yield_now;
 
 /// Draws a ticket.
 pub(crate) fn draw_ticket<S: Turned>(shared: &LockShared<S>, seat: &mut LockSeat<S>) -> u64
@@ -60,16 +60,15 @@ pub(crate) fn move_in<S: Turned>(shared: &LockShared<S>, seat: &mut LockSeat<S>,
     shared.exchange(seat, STATE, Some(state));
 }
 
-/// Gives the slot back, and ends the turn. Returns the ticket whose turn has come.
-pub(crate) fn pass_on<S: Turned>(shared: &LockShared<S>, seat: &mut LockSeat<S>) -> u64
+/// Gives the slot back, and ends the turn.
+pub(crate) fn pass_on<S: Turned>(shared: &LockShared<S>, seat: &mut LockSeat<S>)
     requires seat { IsSeatAt shared.now.table_id seat.old }
     requires turn { (state : S) × (seat.old.me.1 ≡ (0, Some state) ∷ [])
         × MayEnd S.name S.past seat.old.me.0 state }
     ensures seat { IsSameSeat seat.old seat.new }
     ensures passed { PassesOn S.past seat.old.me seat.new.me }
 {
-    let served = shared.fetch_add::<PassOn>(seat, SERVING, 1);
-    served.wrapping_add(1)
+    shared.fetch_add::<PassOn>(seat, SERVING, 1);
 }
 
 /// Calls the action on the state.
@@ -81,11 +80,10 @@ pub(crate) fn act<S, R, A: FnOnce(&mut S) -> R>(mut state: S, action: A) -> (S, 
     (state, answer)
 }
 
-/// Waits until the seat's turn has come.
+/// Waits until the seat's turn has come. For a seat that came through the door the first look finds it.
 pub(crate) fn wait<S: Turned, H: Wait>(
     rt: &H,
     shared: &LockShared<S>,
-    words: &WaitWords,
     seat: &mut LockSeat<S>,
     ticket: u64,
 )
@@ -95,13 +93,12 @@ pub(crate) fn wait<S: Turned, H: Wait>(
     ensures noted { seat.old.me.0.noted ≤ ticket }
     ensures turn { TakesState S.name S.past seat.old.me ticket seat.new.me }
 {
-    let mut looks = 0;
     for _ in rt.forever() {
         let serving = look(shared, seat);
         if serving == ticket {
             return;
         }
-        looks = words.pause(rt, ticket, looks);
+        yield_now();
     }
     unreachable!()
 }
@@ -139,7 +136,6 @@ pub(crate) fn join_seat<S: Turned>(
 pub(crate) fn take_turn<S: Turned, H: Wait>(
     rt: &H,
     shared: &LockShared<S>,
-    words: &WaitWords,
     seat: &mut LockSeat<S>,
 ) -> S
     requires seat { IsSeatAt shared.now.table_id seat.old }
@@ -148,12 +144,12 @@ pub(crate) fn take_turn<S: Turned, H: Wait>(
     ensures turn { TakesTurn S.name S.past seat.old.me result seat.new.me }
 {
     let ticket = draw_ticket(shared, seat);
-    wait(rt, shared, words, seat, ticket);
+    wait(rt, shared, seat, ticket);
     move_out(shared, seat)
 }
 
-/// Puts the state back, and ends the turn. Returns the ticket whose turn has come.
-pub(crate) fn end_turn<S: Turned>(shared: &LockShared<S>, seat: &mut LockSeat<S>, state: S) -> u64
+/// Puts the state back, and ends the turn.
+pub(crate) fn end_turn<S: Turned>(shared: &LockShared<S>, seat: &mut LockSeat<S>, state: S)
     requires seat { IsSeatAt shared.now.table_id seat.old }
     requires holds { seat.old.me.1 ≡ (0, None) ∷ [] }
     requires turn { MayEnd S.name S.past seat.old.me.0 state }
@@ -161,7 +157,7 @@ pub(crate) fn end_turn<S: Turned>(shared: &LockShared<S>, seat: &mut LockSeat<S>
     ensures ended { seat.new.me ≡ (rested (S.past state) seat.old.me.0, []) }
 {
     move_in(shared, seat, state);
-    pass_on(shared, seat)
+    pass_on(shared, seat);
 }
 
 /// Makes the table, with the state in its slot, and the first seat.

@@ -222,7 +222,7 @@ fn two_threads_have_their_turns(rt: HostRuntime) -> Result<(), Fail> {
     Ok(())
 }
 
-/// A turn takes longer than a waiting thread looks and yields, so the other one sleeps, and has to be woken.
+/// A turn takes longer than a waiting thread tries, so the other one sleeps, and has to be woken.
 #[test]
 fn a_thread_that_waits_long_is_woken(rt: HostRuntime) -> Result<(), Fail> {
     let log = log_of_both(&rt, 20, 2000)?;

@@ -1,121 +1,77 @@
-//! How a thread waits for its turn: it looks a few times, then yields between looks, and then sleeps on
-//! the word of its ticket, so that the end of a turn wakes the next thread alone.
+//! The door before the queue: a thread comes through it before it draws a ticket, and leaves it after its turn
+//! has ended. So the ticket that it draws is served at once, and where several threads want a turn, the one
+//! that runs may go first. No thread waits for one that has the next turn and no processor.
 //!
-//! At most 16 tickets are drawn and not served, so ticket t has the word t mod 16 to itself while it
-//! waits. A word is odd while a thread has announced that it may sleep there. Words only count up.
+//! The door is an unfair mutex of one word, which is free, taken, or taken and perhaps waited for. All accesses
+//! are sequentially consistent.
 //!
-//! - A thread that waits announces itself (even to odd), looks again at the number of turns that have
-//!   ended, and then sleeps while the word is still the same odd one.
-//! - A thread that ends a turn passes it on first. Then it makes an odd word even and wakes the thread
-//!   that sleeps there.
+//! - A thread tries a few times to make a free word taken. Then it makes the word waited for, whatever it was. If
+//!   the word was free, the thread is through. Else it sleeps while the word is still waited for, and tries again.
+//! - A thread that leaves makes the word free. If it was waited for, it wakes one thread, which then makes the
+//!   word waited for again: others may still sleep there.
 //!
-//! All accesses are sequentially consistent: either the second look sees the turn, or the end of the turn
-//! sees the announcement. A wake that comes late may wake the thread of a later ticket, which then looks
-//! and announces itself again. No clause speaks of any of this: words are no part of the rule.
+//! No clause speaks of any of this: the door is no part of the rule, and the queue guards the state whatever
+//! the door does.
 
 use std::hint::spin_loop;
 use std::sync::Wait;
 use std::sync::atomic::{AtomicU64, Ordering};
-use std::thread::yield_now;
 
-/// How many times a waiting thread looks before it yields.
-const SPINS: u32 = 20;
+/// Nobody is through the door.
+const FREE: u64 = 0;
 
-/// How many times it yields before it sleeps.
-const YIELDS: u32 = 100;
+/// A thread is through the door, and none sleeps before it.
+const TAKEN: u64 = 1;
 
-/// The words that waiting threads sleep on.
+/// A thread is through the door, and others may sleep before it.
+const WAITED: u32 = 2;
+
+/// How many times a thread tries before it sleeps.
+const TRIES: u32 = 20;
+
+/// The word that threads come through one at a time.
 #[derive(Drop)]
-pub(crate) struct WaitWords {
-    words: [AtomicU64; 16],
+pub(crate) struct Door {
+    word: AtomicU64,
 }
 
-impl WaitWords {
-    /// Words on which nobody sleeps.
-    pub(crate) fn new() -> WaitWords {
-        WaitWords {
-            words: [
-                AtomicU64::new(0),
-                AtomicU64::new(0),
-                AtomicU64::new(0),
-                AtomicU64::new(0),
-                AtomicU64::new(0),
-                AtomicU64::new(0),
-                AtomicU64::new(0),
-                AtomicU64::new(0),
-                AtomicU64::new(0),
-                AtomicU64::new(0),
-                AtomicU64::new(0),
-                AtomicU64::new(0),
-                AtomicU64::new(0),
-                AtomicU64::new(0),
-                AtomicU64::new(0),
-                AtomicU64::new(0),
-            ],
+impl Door {
+    /// A free door.
+    pub(crate) fn new() -> Door {
+        Door {
+            word: AtomicU64::new(FREE),
         }
     }
 
-    /// The word of a ticket.
-    fn of(&self, ticket: u64) -> &AtomicU64 {
-        &self.words[(ticket % 16) as usize]
+    /// Takes the door if it is free.
+    fn try_enter(&self) -> bool {
+        self.word.load(Ordering::SeqCst) == FREE
+            && self
+                .word
+                .compare_exchange(FREE, TAKEN, Ordering::SeqCst, Ordering::SeqCst)
+                .is_ok()
     }
 
-    /// Says that the thread of this ticket may sleep.
-    fn announce(&self, ticket: u64) {
-        let word = self.of(ticket);
-        let seen = word.load(Ordering::SeqCst);
-        if seen % 2 == 0 {
-            let _announced = word.compare_exchange(
-                seen,
-                seen.wrapping_add(1),
-                Ordering::SeqCst,
-                Ordering::SeqCst,
-            );
-        }
-    }
-
-    /// Sleeps if the announcement is still there.
-    fn sleep<H: Wait>(&self, rt: &H, ticket: u64) {
-        let word = self.of(ticket);
-        let seen = word.load(Ordering::SeqCst);
-        if seen % 2 == 1 {
-            word.park(rt, (seen & 0xffff_ffff) as u32);
-        }
-    }
-
-    /// Pauses after a look that found the turn of another ticket, the longer the more such looks there
-    /// were. Returns their number for the next pause.
-    pub(crate) fn pause<H: Wait>(&self, rt: &H, ticket: u64, looks: u32) -> u32 {
-        if looks < SPINS {
+    /// Comes through the door. It may wait.
+    pub(crate) fn enter<H: Wait>(&self, rt: &H) {
+        for _ in 0..TRIES {
+            if self.try_enter() {
+                return;
+            }
             spin_loop();
-            looks + 1
-        } else if looks < SPINS + YIELDS {
-            yield_now();
-            looks + 1
-        } else if looks == SPINS + YIELDS {
-            self.announce(ticket);
-            looks + 1
-        } else {
-            self.sleep(rt, ticket);
-            0
+        }
+        for _ in rt.forever() {
+            if self.word.swap(u64::from(WAITED), Ordering::SeqCst) == FREE {
+                return;
+            }
+            self.word.park(rt, WAITED);
         }
     }
 
-    /// Wakes the thread of this ticket, if it has announced itself.
-    pub(crate) fn wake(&self, ticket: u64) {
-        let word = self.of(ticket);
-        let seen = word.load(Ordering::SeqCst);
-        if seen % 2 == 0 {
-            return;
-        }
-        let rung = word.compare_exchange(
-            seen,
-            seen.wrapping_add(1),
-            Ordering::SeqCst,
-            Ordering::SeqCst,
-        );
-        if rung.is_ok() {
-            word.wake_one();
+    /// Lets the next thread come.
+    pub(crate) fn leave(&self) {
+        if self.word.swap(FREE, Ordering::SeqCst) == u64::from(WAITED) {
+            self.word.wake_one();
         }
     }
 }

@@ -1,7 +1,6 @@
 -- A context that is added: its job counts it first, and then it is put in.
-use Rattle.std.proofs.Common.{◌≡◌, ℕ, ◌+◌, ◌<◌, ◌≤◌, arith, sym, ap, subst, ◌∙◌, Bool, true, false, cond, eqb}
+use Rattle.std.proofs.Common.{refl, ◌≡◌, ℕ, ◌+◌, ◌<◌, ◌≤◌, arith, sym, ap, subst, ◌∙◌, Bool, true, false, cond, eqb}
 use Rattle.std.specs.FinMap as fm
-use Rattle.std.proofs.lemmas.Bool.Decides.{nat_tests}
 use Rattle.lwc_base.specs.declared.name.Name.{Name}
 use Rattle.lwc_base.specs.Fresh.{IsFresh, named_groups}
 use Rattle.lwc_base.specs.declared.cell.Cell.{Cell}
@@ -9,11 +8,9 @@ use Rattle.lwc_base.specs.declared.cell.Cell.TheVariants.{Own, Common}
 use Rattle.lwc_base.specs.declared.key.Key.{Key}
 use Rattle.lwc_base.specs.Holders.{InCell, InContext}
 use Rattle.lwc_base.specs.Keys.{ValueOf}
-use Rattle.whole_world.specs.Facts.{Facts}
 use Rattle.lwc_base.specs.World.{World, Context, Counters, change_counters, add_context, is_live, next_context}
-
-eqb-itself : (n : ℕ) → eqb n n ≡ true
-eqb-itself n = grind (arith, nat_tests)
+use Rattle.lwc_base.proofs.Facts.{stays_fresh}
+use Rattle.std.proofs.lemmas.Bool.{eq-eqb}
 
 counts_at : (b : Bool) (n : Counters) → b ≡ true → n.contexts < (cond b (record n { contexts = n.contexts + 1 }) n).contexts
 counts_at true n e = omega arith
@@ -28,7 +25,7 @@ still_old : (next later : ℕ → Counters) (job : ℕ) (k : Key) (cell : Cell (
 still_old next later job k (Own value) rises old = old
 still_old next later job k (Common g) rises old = omega (arith, old, rises g.job)
 
-module _ (facts : Facts) (w counted : World) (job : ℕ) (is_counted : counted ≡ change_counters w job (λ n. record n { contexts = n.contexts + 1 })) where
+module _ (w counted : World) (job : ℕ) (is_counted : counted ≡ change_counters w job (λ n. record n { contexts = n.contexts + 1 })) where
   -- no context is there that was not
   pub same_contexts : counted.contexts ≡ w.contexts
   unfolding change_counters
@@ -40,7 +37,7 @@ module _ (facts : Facts) (w counted : World) (job : ℕ) (is_counted : counted �
 
   -- the next name is still new
   pub counted-dead : (c : Name) → IsFresh w → c ≡ next_context w job → is_live counted c ≡ false
-  counted-dead c fresh is = ap (λ m. fm.contains_key m c) same_contexts ∙ ap (is_live w) is ∙ facts.fresh.next_context_is_new w job fresh
+  counted-dead c fresh is = ap (λ m. fm.contains_key m c) same_contexts ∙ ap (is_live w) is ∙ stays_fresh.next_context_is_new w job fresh
 
   next_is : (j : ℕ) → counted.next j ≡ cond (eqb j job) (record (w.next j) { contexts = (w.next j).contexts + 1 }) (w.next j)
   unfolding change_counters
@@ -50,7 +47,7 @@ module _ (facts : Facts) (w counted : World) (job : ℕ) (is_counted : counted �
   pub counted-named : (c : Name) → c ≡ next_context w job → c.k < (counted.next c.job).contexts
   counted-named c is =
       subst (λ (n : Name). n.k < (counted.next n.job).contexts) (sym is)
-      (subst (λ (n : Counters). (w.next job).contexts < n.contexts) (sym (next_is job)) (counts_at (eqb job job) (w.next job) (eqb-itself job)))
+      (subst (λ (n : Counters). (w.next job).contexts < n.contexts) (sym (next_is job)) (counts_at (eqb job job) (w.next job) (eq-eqb job job refl)))
 
   -- groups that were named are so still
   pub counted-old : (x : Context) → InContext (named_groups w.next) job x → InContext (named_groups counted.next) job x

@@ -21,13 +21,14 @@ use Rattle.lwc_base.specs.Keys.{ValueOf, nothing}
 use Rattle.lwc_base.specs.Modes.{IsSpec, kind_of, limit, mode, mode_or_copy, number_of}
 use Rattle.lwc_base.specs.Sharing.{shared_cell, cloned_context, clone_context, cloned_cell, with_shared, share}
 use Rattle.lwc_base.specs.World.{World, Context, add_context, context, is_live, new_context, next_context, next_group}
-use Rattle.whole_world.specs.Facts.{Facts}
 use Rattle.whole_world.specs.Sharing.{clone_cells, is_below, with_cells}
 use Rattle.whole_world.proofs.Moves.{with_cells-all, with_cells-next, with_cells-none}
 use Rattle.whole_world.proofs.SharedCells.{context-shared}
 use Rattle.whole_world.proofs.Unnamed.{unnamed_past}
+use Rattle.lwc_base.proofs.Facts.{changes, counts, stays_fresh}
+use Rattle.lwc_base.proofs.Sharing.{value_at-share}
 
-module _ (facts : Facts) (w : World) (c : Name) (job : ℕ) (items : List Item) (fresh : IsFresh w) (live : is_live w c ≡ true) (spec : IsSpec w.size.pages items)
+module _ (w : World) (c : Name) (job : ℕ) (items : List Item) (fresh : IsFresh w) (live : is_live w c ≡ true) (spec : IsSpec w.size.pages items)
     (rest : Mode) (not_shared : rest ≢ Share) where
   abbrev shared : World
   shared = share w c job items
@@ -43,7 +44,7 @@ module _ (facts : Facts) (w : World) (c : Name) (job : ℕ) (items : List Item) 
   new = next_group w job
 
   pub key_copied : (k : Key) → mode_of k ≡ Copy → Own (value_at w c k) ≡ cells k
-  key_copied k is = sym (ap (cloned_cell shared c k) is ∙ ap Own (facts.same_values w c job items fresh c k))
+  key_copied k is = sym (ap (cloned_cell shared c k) is ∙ ap Own (value_at-share w c job items fresh c k))
 
   -- a key under share is one in a clone too
   share_mode : (o : Option Mode) → unwrap_or o rest ≡ Share → unwrap_or o Copy ≡ Share
@@ -53,7 +54,7 @@ module _ (facts : Facts) (w : World) (c : Name) (job : ℕ) (items : List Item) 
   pub key_shared : (k : Key) → mode_of k ≡ Share → shared_cell new Share k ((context w c).cell k) ≡ cells k
   unfolding with_shared mode_or_copy
   key_shared k is =
-      sym (ap (cloned_cell shared c k) is ∙ ap (λ (x : Context). x.cell k) (context-shared facts w c job items live spec)
+      sym (ap (cloned_cell shared c k) is ∙ ap (λ (x : Context). x.cell k) (context-shared w c job items live spec)
       ∙ ap (λ m. shared_cell new m k ((context w c).cell k)) (share_mode (mode items k) is))
 
   pub key_unmapped : (k : Key) → mode_of k ≡ Unmap → Own (nothing k) ≡ cells k
@@ -62,7 +63,7 @@ module _ (facts : Facts) (w : World) (c : Name) (job : ℕ) (items : List Item) 
   module _ (past_keys : (k : Key) → limit w.size.pages (kind_of k) ≤ number_of k → (context w c).cell k ≡ Own (nothing k)) where
     rest_past : (k : Key) → limit w.size.pages (kind_of k) ≤ number_of k → (m : Mode) → m ≢ Share → cloned_cell shared c k m ≡ Own (nothing k)
     unfolding value_at
-    rest_past k past Copy other = ap Own (facts.same_values w c job items fresh c k) ∙ ap (λ cell. Own (value_of w k cell)) (past_keys k past)
+    rest_past k past Copy other = ap Own (value_at-share w c job items fresh c k) ∙ ap (λ cell. Own (value_of w k cell)) (past_keys k past)
     rest_past k past Share other = absurd (other refl)
     rest_past k past Unmap other = refl
 
@@ -91,26 +92,26 @@ unfolding cloned_context mode_or_copy
 context-copied w c job items entry x is = is
 
 -- the world once the new context is added to the one in which what is under share has moved
-module _ (facts : Facts) (w shared : World) (c : Name) (job : ℕ) (items : List Item) (is_shared : shared ≡ share w c job items) where
+module _ (w shared : World) (c : Name) (job : ℕ) (items : List Item) (is_shared : shared ≡ share w c job items) where
   pub shared-contexts : (shared.next job).contexts ≡ (w.next job).contexts
-  shared-contexts = ap (λ (v : World). (v.next job).contexts) is_shared ∙ ap (λ (n : Name). n.k) (facts.changes.next_shared w c job job items)
+  shared-contexts = ap (λ (v : World). (v.next job).contexts) is_shared ∙ ap (λ (n : Name). n.k) (changes.next_shared w c job job items)
 
   pub shared-name : next_context shared job ≡ next_context w job
-  shared-name = ap (λ v. next_context v job) is_shared ∙ facts.changes.next_shared w c job job items
+  shared-name = ap (λ v. next_context v job) is_shared ∙ changes.next_shared w c job job items
 
   pub shared-size : shared.size ≡ w.size
-  shared-size = ap (λ (v : World). v.size) is_shared ∙ (facts.changes.shared w c job items).size
+  shared-size = ap (λ (v : World). v.size) is_shared ∙ (changes.shared w c job items).size
 
   pub shared-len : fm.len shared.contexts ≡ fm.len w.contexts
-  shared-len = ap (λ (v : World). fm.len v.contexts) is_shared ∙ (facts.counts.same_contexts w (share w c job items) job (facts.changes.shared w c job items).live).1
+  shared-len = ap (λ (v : World). fm.len v.contexts) is_shared ∙ (counts.same_contexts w (share w c job items) job (changes.shared w c job items).live).1
 
   pub shared-old_groups : (x : Context) (entry : Regs) → is_live w c ≡ true → IsFresh w → x ≡ cloned_context (share w c job items) c items entry →
       InContext (named_groups shared.next) job x
   shared-old_groups x entry live fresh made =
-      let still : is_live (share w c job items) c ≡ true = (facts.changes.shared w c job items).live c ∙ live in
+      let still : is_live (share w c job items) c ≡ true = (changes.shared w c job items).live c ∙ live in
       subst (InContext (named_groups shared.next) job) (sym made)
       (subst (λ (v : World). InContext (named_groups v.next) job (cloned_context (share w c job items) c items entry)) (sym is_shared)
-      (facts.fresh.clone_cells (share w c job items) c job items entry still (facts.fresh.shared w c job items live fresh)))
+      (stays_fresh.clone_cells (share w c job items) c job items entry still (stays_fresh.shared w c job items live fresh)))
 
   pub shared-added : (added : World) (x : Context) (entry : Regs) → x ≡ cloned_context (share w c job items) c items entry → added ≡ add_context shared job x →
       added ≡ clone_context w c job items entry

@@ -1,7 +1,6 @@
 -- Tags that are counted holder by holder: what is counted so far, and what is left to count.
 use Rattle.std.proofs.Common.{◌≡◌, ℕ, ◌+◌, ◌≤◌, List, [], ◌++◌, length, ap, arith, append_assoc, length-append}
 use Rattle.lwc_base.specs.declared.name.Tag.{Tag}
-use Rattle.whole_world.specs.Facts.{Facts}
 use Rattle.whole_world.specs.Tags.{times, different}
 use Rattle.whole_world.proofs.TagLists.{times-append, times-le-length, times-nil, different-append_least, different-append_most}
 
@@ -34,8 +33,8 @@ counted_new_more others all front after count more before is = record {
 pub counted-le-length : (tag : Tag) (all rest : List Tag) (count : ℕ) → IsCounted tag all rest count → count ≤ length all
 counted-le-length tag all rest count counted = omega (arith, counted.sum, times-le-length tag all)
 
-pub counted_new-le-length : (facts : Facts) (others all rest : List Tag) (count : ℕ) → IsCountedNew others all rest count → count ≤ length all
-counted_new-le-length facts others all rest count counted = omega (arith, counted.sum, different-append_least facts rest others, different-append_most facts all others)
+pub counted_new-le-length : (others all rest : List Tag) (count : ℕ) → IsCountedNew others all rest count → count ≤ length all
+counted_new-le-length others all rest count counted = omega (arith, counted.sum, different-append_least rest others, different-append_most all others)
 
 -- the holder that is next has no more tags than all
 pub next-le-length : (all front after : List Tag) → length (front ++ after) ≤ length all → length front ≤ length all

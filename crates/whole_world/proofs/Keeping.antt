@@ -14,11 +14,11 @@ use Rattle.lwc_base.specs.World.{World, context, is_live, new_context}
 use Rattle.whole_world.specs.declared.context_row.ContextRow.{ContextRow}
 use Rattle.whole_world.specs.declared.counts.Counts.{Counts}
 use Rattle.whole_world.specs.declared.group_row.GroupRow.{GroupRow}
-use Rattle.whole_world.specs.Facts.{Facts}
 use Rattle.whole_world.specs.Rows.{context_of, group_of}
 use Rattle.whole_world.specs.Sound.{IsSound, IsWhole, IsWholeGroup}
 use Rattle.whole_world.specs.States.{world_of}
-use Rattle.whole_world.proofs.Tables.{alike, kept-sorted, map-kept}
+use Rattle.whole_world.proofs.Tables.{kept-sorted, map-kept}
+use Rattle.lwc_base.proofs.Small.{alike}
 
 was_some : {A : Type 0} (b : Bool) (o : Option A) → is_some (cond b o None) ≡ true → is_some o ≡ true
 was_some true o there = there
@@ -28,7 +28,7 @@ was_same : {A : Type 0} (b : Bool) (o : Option A) → is_some (cond b o None) �
 was_same true o there = λ i. o
 was_same false o there = cc
 
-module _ (facts : Facts) (w : World) (p : Name → Bool) (fresh : IsFresh w) where
+module _ (w : World) (p : Name → Bool) (fresh : IsFresh w) where
   abbrev kept : World
   kept = record w { contexts = fm.retain_keys w.contexts p }
 
@@ -36,7 +36,7 @@ module _ (facts : Facts) (w : World) (p : Name → Bool) (fresh : IsFresh w) whe
   left = record w { groups = fm.retain_keys w.groups p }
 
   get_kept : (c : Name) → fm.get kept.contexts c ≡ cond (p c) (fm.get w.contexts c) None
-  get_kept c = fm.get-retain_keys w.contexts p c (alike facts p c)
+  get_kept c = fm.get-retain_keys w.contexts p c (alike p c)
 
   was_live : (c : Name) → is_live kept c ≡ true → is_live w c ≡ true
   was_live c live = was_some (p c) (fm.get w.contexts c) (sym (ap is_some (get_kept c)) ∙ live)
@@ -61,14 +61,14 @@ module _ (facts : Facts) (w : World) (p : Name → Bool) (fresh : IsFresh w) whe
   unfolding context
   fresh-left = record {
     contexts = fresh.contexts;
-    groups = λ g there. fresh.groups g (was_some (p g) (fm.get w.groups g) (sym (ap is_some (fm.get-retain_keys w.groups p g (alike facts p g))) ∙ there));
+    groups = λ g there. fresh.groups g (was_some (p g) (fm.get w.groups g) (sym (ap is_some (fm.get-retain_keys w.groups p g (alike p g))) ∙ there));
     cells = record { contexts = fresh.cells.contexts; groups = λ g there k. tt };
   }
 
 fewer : {X : Type 0} (test : X → Bool) (xs : List X) (most : ℕ) → length xs ≤ most → length (filter test xs) ≤ most
 fewer test xs most few = omega (arith, few, length-filter test xs, count_by-le-length test xs)
 
-module _ (facts : Facts) (size : WorldSize) (contexts : List (Name × ContextRow)) (groups : List (Name × GroupRow)) (counts : List Counts) (sound : IsSound size contexts groups counts)
+module _ (size : WorldSize) (contexts : List (Name × ContextRow)) (groups : List (Name × GroupRow)) (counts : List Counts) (sound : IsSound size contexts groups counts)
     (p : Name → Bool) where
   abbrev now : World
   now = world_of size contexts groups counts
@@ -76,11 +76,11 @@ module _ (facts : Facts) (size : WorldSize) (contexts : List (Name × ContextRow
   -- the rows that are kept are the contexts that are
   pub kept-world : world_of size (filter (λ row. p row.0) contexts) groups counts ≡ record now { contexts = fm.retain_keys now.contexts p }
   unfolding world_of
-  kept-world = ap (λ m. record now { contexts = m }) (map-kept facts context_of p contexts sound.contexts_sorted)
+  kept-world = ap (λ m. record now { contexts = m }) (map-kept context_of p contexts sound.contexts_sorted)
 
   pub left-world : world_of size contexts (filter (λ row. p row.0) groups) counts ≡ record now { groups = fm.retain_keys now.groups p }
   unfolding world_of
-  left-world = ap (λ m. record now { groups = m }) (map-kept facts group_of p groups sound.groups_sorted)
+  left-world = ap (λ m. record now { groups = m }) (map-kept group_of p groups sound.groups_sorted)
 
   -- and the world stays sound
   pub sound-kept : IsSound size (filter (λ row. p row.0) contexts) groups counts
@@ -92,11 +92,11 @@ module _ (facts : Facts) (size : WorldSize) (contexts : List (Name × ContextRow
     few_contexts = fewer (λ row. p row.0) contexts size.contexts sound.few_contexts;
     few_groups = sound.few_groups;
     counted = sound.counted;
-    contexts_sorted = kept-sorted facts p contexts sound.contexts_sorted;
+    contexts_sorted = kept-sorted p contexts sound.contexts_sorted;
     groups_sorted = sound.groups_sorted;
     contexts_whole = All-filter (λ row. p row.0) (λ row. IsWhole size.pages row.1) contexts sound.contexts_whole;
     groups_whole = sound.groups_whole;
-    fresh = subst IsFresh (sym kept-world) (fresh-kept facts now p sound.fresh);
+    fresh = subst IsFresh (sym kept-world) (fresh-kept now p sound.fresh);
   }
 
   pub sound-left : IsSound size contexts (filter (λ row. p row.0) groups) counts
@@ -109,8 +109,8 @@ module _ (facts : Facts) (size : WorldSize) (contexts : List (Name × ContextRow
     few_groups = fewer (λ row. p row.0) groups size.groups sound.few_groups;
     counted = sound.counted;
     contexts_sorted = sound.contexts_sorted;
-    groups_sorted = kept-sorted facts p groups sound.groups_sorted;
+    groups_sorted = kept-sorted p groups sound.groups_sorted;
     contexts_whole = sound.contexts_whole;
     groups_whole = All-filter (λ row. p row.0) (λ row. IsWholeGroup size.pages row.1) groups sound.groups_whole;
-    fresh = subst IsFresh (sym left-world) (fresh-left facts now p sound.fresh);
+    fresh = subst IsFresh (sym left-world) (fresh-left now p sound.fresh);
   }

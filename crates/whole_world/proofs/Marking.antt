@@ -16,7 +16,6 @@ use Rattle.lwc_base.specs.Life.{is_in, names_group}
 use Rattle.lwc_base.specs.Names.{name_cmp}
 use Rattle.lwc_base.specs.Sharing.{any_key}
 use Rattle.reach.specs.Reach.{is_marked}
-use Rattle.whole_world.specs.Facts.{Facts}
 use Rattle.whole_world.specs.Reaping.{AddsMarks}
 use Rattle.whole_world.specs.declared.context_row.ContextRow.{ContextRow}
 use Rattle.whole_world.specs.Rows.{cell_of, context_of}
@@ -24,6 +23,7 @@ use Rattle.whole_world.specs.Sound.{IsWhole}
 use Rattle.whole_world.specs.Tables.{has_name}
 use Rattle.whole_world.proofs.Places.{place_after_set, place_of_replicate}
 use Rattle.whole_world.proofs.Tables.{tied-at}
+use Rattle.lwc_base.proofs.Small.{or_assoc}
 
 -- a mark that is set is there
 or_set : (old new : Bool) → cond new true old ≡ (old || new)
@@ -35,10 +35,6 @@ or_set false false = refl
 or_none : (old : Bool) → old ≡ (old || false)
 or_none true = refl
 or_none false = refl
-
-or_assoc : (a b c : Bool) → ((a || b) || c) ≡ (a || (b || c))
-or_assoc true b c = refl
-or_assoc false b c = refl
 
 -- an element passes a test exactly where a place from a number on does
 any_place : {X : Type 0} (test : X → Bool) (xs : List X) (place : ℕ → Bool) (a n : ℕ) (e : X) → length xs ≡ n →
@@ -70,21 +66,21 @@ module _ {A : Type 0} (rows : List (Name × A)) where
   }
 
   -- the group of a cell is marked
-  pub adds-place : (facts : Facts) {C : Type 0} (cell : Cell C) (g : Name) (place : ℕ) (marks : List Bool) → T (fm.is_sorted name_cmp rows) → cell ≡ Common g →
+  pub adds-place : {C : Type 0} (cell : Cell C) (g : Name) (place : ℕ) (marks : List Bool) → T (fm.is_sorted name_cmp rows) → cell ≡ Common g →
       position (has_name g) rows ≡ Some place → place < length marks → AddsMarks rows (λ h. is_in h cell) marks (set marks place true)
-  adds-place facts cell g place marks sorted is found within = record {
+  adds-place cell g place marks sorted is found within = record {
     at = λ i row there.
         place_after_set marks place true i false within ∙ or_set (is_marked marks i) (eqb i place)
-        ∙ ap (λ b. is_marked marks i || b) (sym (tied-at facts g rows (Some place) i row sorted found there))
+        ∙ ap (λ b. is_marked marks i || b) (sym (tied-at g rows (Some place) i row sorted found there))
         ∙ ap (λ c. is_marked marks i || is_in row.0 c) (sym is);
   }
 
   -- there is no place to mark
-  pub adds-nowhere : (facts : Facts) {C : Type 0} (cell : Cell C) (g : Name) (marks : List Bool) → T (fm.is_sorted name_cmp rows) → cell ≡ Common g →
+  pub adds-nowhere : {C : Type 0} (cell : Cell C) (g : Name) (marks : List Bool) → T (fm.is_sorted name_cmp rows) → cell ≡ Common g →
       position (has_name g) rows ≡ None → AddsMarks rows (λ h. is_in h cell) marks marks
-  adds-nowhere facts cell g marks sorted is missed = record {
+  adds-nowhere cell g marks sorted is missed = record {
     at = λ i row there.
-        or_none (is_marked marks i) ∙ ap (λ b. is_marked marks i || b) (sym (tied-at facts g rows None i row sorted missed there))
+        or_none (is_marked marks i) ∙ ap (λ b. is_marked marks i || b) (sym (tied-at g rows None i row sorted missed there))
         ∙ ap (λ c. is_marked marks i || is_in row.0 c) (sym is);
   }
 

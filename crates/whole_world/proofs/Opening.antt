@@ -13,9 +13,9 @@ use Rattle.whole_world.specs.declared.counts.Counts.{Counts}
 use Rattle.whole_world.specs.declared.context_row.ContextRow.{ContextRow}
 use Rattle.whole_world.specs.declared.group_row.GroupRow.{GroupRow}
 use Rattle.whole_world.specs.States.{counters_of, nothing_counted, world_of}
-use Rattle.whole_world.specs.Facts.{Facts}
 use Rattle.whole_world.specs.Sound.{IsSound, IsWhole, IsWholeGroup}
 use Rattle.whole_world.proofs.Places.{place_of_replicate}
+use Rattle.lwc_base.proofs.Facts.{stays_fresh}
 
 no_rows : {X : Type 0} → fm.from_sorted {X = X} {R = name_cmp} [] ≡ fm.empty
 no_rows {X} = fm.empty_of_len (fm.from_sorted []) (fm.len-entries (fm.from_sorted []) ∙ ap length (fm.entries-from_sorted {X = X} name_cmp [] tt))
@@ -32,9 +32,9 @@ pub nothing_counted_yet : (size : WorldSize) (contexts : List (Name × ContextRo
     counts ≡ replicate size.jobs nothing_counted → world_of size contexts groups counts ≡ empty_world size
 nothing_counted_yet size contexts groups counts none no_group nothing = (λ i. world_of size (none i) (no_group i) counts) ∙ nothing_there size counts nothing
 
-sound_there : (facts : Facts) (size : WorldSize) (counts : List Counts) → IsSize size → length counts ≡ size.jobs →
+sound_there : (size : WorldSize) (counts : List Counts) → IsSize size → length counts ≡ size.jobs →
     counts ≡ replicate size.jobs nothing_counted → IsSound size [] [] counts
-sound_there facts size counts is_size many nothing = record {
+sound_there size counts is_size many nothing = record {
   some_job = is_size.jobs.0;
   few_pages = is_size.pages.1;
   size_contexts = is_size.contexts.1;
@@ -46,11 +46,11 @@ sound_there facts size counts is_size many nothing = record {
   groups_sorted = tt;
   contexts_whole = All-nil (λ row. IsWhole size.pages row.1);
   groups_whole = All-nil (λ row. IsWholeGroup size.pages row.1);
-  fresh = subst IsFresh (sym (nothing_there size counts nothing)) (facts.fresh.empty size);
+  fresh = subst IsFresh (sym (nothing_there size counts nothing)) (stays_fresh.empty size);
 }
 
-pub sound-opened : (facts : Facts) (size : WorldSize) (contexts : List (Name × ContextRow)) (groups : List (Name × GroupRow)) (counts : List Counts) → contexts ≡ [] → groups ≡ [] →
+pub sound-opened : (size : WorldSize) (contexts : List (Name × ContextRow)) (groups : List (Name × GroupRow)) (counts : List Counts) → contexts ≡ [] → groups ≡ [] →
     IsSize size → length counts ≡ size.jobs → counts ≡ replicate size.jobs nothing_counted → IsSound size contexts groups counts
-sound-opened facts size contexts groups counts none no_group is_size many nothing =
+sound-opened size contexts groups counts none no_group is_size many nothing =
     subst (λ (rows : List (Name × ContextRow)). IsSound size rows groups counts) (sym none)
-    (subst (λ (rows : List (Name × GroupRow)). IsSound size [] rows counts) (sym no_group) (sound_there facts size counts is_size many nothing))
+    (subst (λ (rows : List (Name × GroupRow)). IsSound size [] rows counts) (sym no_group) (sound_there size counts is_size many nothing))

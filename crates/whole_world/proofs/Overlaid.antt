@@ -25,11 +25,11 @@ use Rattle.lwc_base.specs.Overlay.{overlaid_cell, overlay, ranges_after_overlay,
 use Rattle.lwc_base.specs.Ranges.{ranges, ranges_of}
 use Rattle.lwc_base.specs.Sharing.{cloned_cell, cloned_context, share}
 use Rattle.lwc_base.specs.World.{World, Context, Counters, change_context, context, is_live, new_context, next_group}
-use Rattle.whole_world.specs.Facts.{Facts}
 use Rattle.whole_world.specs.Holders.{count_of_ranges, holder_after_clone, holder_after_overlay, holder_of, moved_holder, overlaid_holder, page_holder}
 use Rattle.whole_world.specs.Sharing.{clone_cells, with_cells}
 use Rattle.whole_world.proofs.Runs.{not_new, page-cloned, page-shared, ranges-holders, ranges-shared, seen_from, seen_from-shared}
-use Rattle.whole_world.proofs.Tables.{same_name}
+use Rattle.lwc_base.proofs.Facts.{changes, orders, stays_fresh}
+use Rattle.lwc_base.proofs.Orders.{same_name}
 
 cell_over : (s : World) (d : Name) (k : Key) (m : Option Mode) (mine : Cell (ValueOf k)) →
     cond (is_some m) (cloned_cell s d k (unwrap_or m Unmap)) mine ≡ overlaid_cell s d k m mine
@@ -48,9 +48,9 @@ pub in_taken : (rules : Rules) (job : ℕ) (test : Key → Bool) (y x : Context)
 in_taken rules job test y x theirs mine k =
     elim (test k) as (λ b. InCell rules job k (cond b (y.cell k) (x.cell k))) [ true ↦ theirs k | false ↦ mine k ]
 
-module _ (facts : Facts) (w s : World) (c d : Name) (job : ℕ) (items : List Item) (is_shared : s ≡ share w d job items) where
+module _ (w s : World) (c d : Name) (job : ℕ) (items : List Item) (is_shared : s ≡ share w d job items) where
   pub live-shared : is_live w c ≡ true → is_live s c ≡ true
-  live-shared live = ap (λ v. is_live v c) is_shared ∙ (facts.changes.shared w d job items).live c ∙ live
+  live-shared live = ap (λ v. is_live v c) is_shared ∙ (changes.shared w d job items).live c ∙ live
 
   module _ (row : Context) (entry : Regs) (is_row : row ≡ record (new_context NOBODY entry) { cell = clone_cells w d job items Unmap }) where
     old_cell : (next : ℕ → Counters) → InContext (named_groups next) c.job (cloned_context (share w d job items) d items entry) →
@@ -67,7 +67,7 @@ module _ (facts : Facts) (w s : World) (c d : Name) (job : ℕ) (items : List It
         (subst (λ (v : World). (k : Key) → InCell (named_groups v.next) c.job k (clone_cells w d job items Unmap k)) (sym is_shared)
         (λ k.
         old_cell (share w d job items).next
-        (facts.fresh.clone_cells (share w d job items) d c.job items entry ((facts.changes.shared w d job items).live d ∙ live) (facts.fresh.shared w d job items live fresh))
+        (stays_fresh.clone_cells (share w d job items) d c.job items entry ((changes.shared w d job items).live d ∙ live) (stays_fresh.shared w d job items live fresh))
         k (mode items k) refl))
 
     -- what takes the cells that items name out of it has taken them over
@@ -83,7 +83,7 @@ module _ (facts : Facts) (w s : World) (c d : Name) (job : ℕ) (items : List It
         is ∙ (λ i. change_context (is_shared i) c (with_cells (is_named items) row.cell))
         ∙ ap (change_context (share w d job items) c) (λ i x. context_over x i)
 
-module _ (facts : Facts) (w : World) (c d : Name) (fresh : IsFresh w) (job : ℕ) (items : List Item) (live_c : is_live w c ≡ true) (live_d : is_live w d ≡ true)
+module _ (w : World) (c d : Name) (fresh : IsFresh w) (job : ℕ) (items : List Item) (live_c : is_live w c ≡ true) (live_d : is_live w d ≡ true)
     (spec : IsSpec w.size.pages items) where
   abbrev s : World
   s = share w d job items
@@ -93,41 +93,41 @@ module _ (facts : Facts) (w : World) (c d : Name) (fresh : IsFresh w) (job : ℕ
 
   -- under a key that no item names the sharing has changed nothing
   page_unnamed : (p : ℕ) → mode items (Page p) ≡ None → (b : Bool) → is_eq (name_cmp c d) ≡ b →
-      seen_from facts new ((context s c).cell (Page p)) ≡ holder_of (Page p) ((context w c).cell (Page p))
+      seen_from new ((context s c).cell (Page p)) ≡ holder_of (Page p) ((context w c).cell (Page p))
   unfolding mode_or_copy
   page_unnamed p unnamed true same =
-      subst (λ (e : Name). seen_from facts new ((context s e).cell (Page p)) ≡ holder_of (Page p) ((context w e).cell (Page p))) (sym (same_name facts c d same))
-      (page-shared facts w d fresh job items live_d spec p ∙ ap (λ o. moved_holder (unwrap_or o Copy) (holder_of (Page p) ((context w d).cell (Page p)))) unnamed)
+      subst (λ (e : Name). seen_from new ((context s e).cell (Page p)) ≡ holder_of (Page p) ((context w e).cell (Page p))) (sym (same_name c d same))
+      (page-shared w d fresh job items live_d spec p ∙ ap (λ o. moved_holder (unwrap_or o Copy) (holder_of (Page p) ((context w d).cell (Page p)))) unnamed)
   page_unnamed p unnamed false differ =
       let other : c ≢ d = λ same. false≢true (sym differ ∙ ap (λ e. is_eq (name_cmp c e)) (sym same) ∙ itself) in
-      ap (λ (x : Context). seen_from facts new (x.cell (Page p))) ((facts.changes.shared w d job items).others c other)
-      ∙ seen_from-shared facts new p Copy ((context w c).cell (Page p)) (not_new facts w c fresh job p)
+      ap (λ (x : Context). seen_from new (x.cell (Page p))) ((changes.shared w d job items).others c other)
+      ∙ seen_from-shared new p Copy ((context w c).cell (Page p)) (not_new w c fresh job p)
     where
       itself : is_eq (name_cmp c c) ≡ true
-      itself = (eq_by_cmp_equiv facts.orders.names).refl c
+      itself = (eq_by_cmp_equiv orders.names).refl c
 
   page_over : (p : ℕ) (m : Option Mode) → mode items (Page p) ≡ m →
-      seen_from facts new (overlaid_cell s d (Page p) m ((context s c).cell (Page p)))
+      seen_from new (overlaid_cell s d (Page p) m ((context s c).cell (Page p)))
       ≡ overlaid_holder m (is_some (page_at w d p)) (holder_of (Page p) ((context w d).cell (Page p))) (holder_of (Page p) ((context w c).cell (Page p)))
   unfolding mode_or_copy
   page_over p None is = page_unnamed p is _ refl
-  page_over p (Some m) is = page-cloned facts w d fresh job items live_d spec p m (ap (λ o. unwrap_or o Copy) is)
+  page_over p (Some m) is = page-cloned w d fresh job items live_d spec p m (ap (λ o. unwrap_or o Copy) is)
 
   -- the ranges of the context that gets it
   pub ranges-over : ranges_of (overlay w c d job items) c ≡ count_of_ranges w.size.pages (holder_after_overlay w c d items)
   unfolding overlay ranges_of holder_after_overlay page_holder
   ranges-over =
-      let changed = facts.changes.context_changed s c (with_overlay s d items) in
-      (λ i. ranges ((changed.names.size ∙ (facts.changes.shared w d job items).size) i).pages (changed.changed ((facts.changes.shared w d job items).live c ∙ live_c) i))
-      ∙ ranges-holders facts new (with_overlay s d items (context s c)) (holder_after_overlay w c d items) (λ p. page_over p _ refl) w.size.pages
+      let changed = changes.context_changed s c (with_overlay s d items) in
+      (λ i. ranges ((changed.names.size ∙ (changes.shared w d job items).size) i).pages (changed.changed ((changes.shared w d job items).live c ∙ live_c) i))
+      ∙ ranges-holders new (with_overlay s d items (context s c)) (holder_after_overlay w c d items) (λ p. page_over p _ refl) w.size.pages
 
   -- and of another one that it is taken from
   ranges_left : c ≢ d → ranges_of (overlay w c d job items) d ≡ count_of_ranges w.size.pages (holder_after_clone w d items)
   unfolding overlay ranges_of
   ranges_left differ =
-      let changed = facts.changes.context_changed s c (with_overlay s d items) in
+      let changed = changes.context_changed s c (with_overlay s d items) in
       (λ i. ranges ((changed.names.size i).pages) (changed.others d (λ same. differ (sym same)) i))
-      ∙ ranges-shared facts w d fresh job items live_d spec
+      ∙ ranges-shared w d fresh job items live_d spec
 
   -- both
   pub ranges-same : (n : ℕ) → c ≡ d → n ≡ count_of_ranges w.size.pages (holder_after_overlay w c d items) →

@@ -9,6 +9,7 @@ use Rattle.lwc_base.specs.declared.page.TheConstants.{PAGE_BYTES}
 use Rattle.lwc_base.specs.Pages.{zero_bytes, zero_page}
 use Rattle.std.proofs.lemmas.Grind.{common_steps}
 use Rattle.std.proofs.lemmas.List.{get_or-set_same, get_or-set_other}
+use Rattle.lwc_base.proofs.Small.{filled_from, zero_in_zeros}
 
 -- the written value there, and the old ones elsewhere
 pub place_after_set : {A : Type 0} (xs : List A) (i : ℕ) (v : A) (j : ℕ) (d : A) → i < length xs → get_or (set xs i v) j d ≡ cond (eqb j i) v (get_or xs j d)
@@ -19,21 +20,6 @@ pub place_of_replicate : {A : Type 0} (count : ℕ) (v : A) (j : ℕ) → get_or
 place_of_replicate zero v j = refl
 place_of_replicate (suc count) v zero = refl
 place_of_replicate (suc count) v (suc j) = place_of_replicate count v j
-
--- no more of a range are counted than it has
-pub count_of_range : (p : ℕ → Bool) (first count : ℕ) → count_by p (range_with_len first count) ≤ count
-count_of_range p first count = subst (λ n. count_by p (range_with_len first count) ≤ n) (length-range_with_len first count) (count_by-le-length p (range_with_len first count))
-
--- a list that has f at each place, counted from a number on
-pub filled_from : (f : ℕ → ℕ) (a n : ℕ) (xs : List ℕ) → length xs ≡ n → ((k : ℕ) → k < n → get_or xs k 0 ≡ f (a + k)) → xs ≡ map f (range_with_len a n)
-filled_from f a zero [] all each = refl
-filled_from f a (suc n) [] all each = absurd (omega arith)
-filled_from f a zero (x ∷ xs) all each = absurd (omega arith)
-filled_from f a (suc n) (x ∷ xs) all each =
-    let first : x ≡ f a = each 0 (omega arith) ∙ ap f (add-zero a) in
-    let rest : xs ≡ map f (range_with_len (a + 1) n) =
-    filled_from f (a + 1) n xs (omega arith) (λ k h. each (suc k) (omega arith) ∙ ap f (omega arith)) in
-    λ i. first i ∷ rest i
 
 -- a list is written from its front on: each place below i has what f makes of the old number there, and the others have the old ones
 pub record IsWrittenBelow (f : ℕ → ℕ → ℕ) (old : List ℕ) (i : ℕ) (xs : List ℕ) : Type 0 where
@@ -55,13 +41,3 @@ pub written_all : (f : ℕ → ℕ → ℕ) (old : List ℕ) (i : ℕ) (xs : Lis
     xs ≡ map (λ k. f k (get_or old k 0)) (range_with_len 0 (length old))
 written_all f old i xs written whole all =
     filled_from (λ k. f k (get_or old k 0)) 0 (length old) xs whole (λ k h. written.below k (omega arith) ∙ ap (λ n. f n (get_or old n 0)) (omega arith))
-
-zero_in_zeros : (count j : ℕ) → ◌≡◌ {A = ℕ} (get_or (replicate count 0) j 0) 0
-zero_in_zeros zero j = refl
-zero_in_zeros (suc count) zero = refl
-zero_in_zeros (suc count) (suc j) = zero_in_zeros count j
-
--- each of them is 0
-pub zeros_at : (j : ℕ) → ◌≡◌ {A = ℕ} (get_or zero_page j 0) 0
-unfolding zero_page zero_bytes
-zeros_at j = zero_in_zeros PAGE_BYTES j

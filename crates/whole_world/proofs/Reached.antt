@@ -1,10 +1,9 @@
 -- The places that a search marks are those of the contexts that are reached.
-use Rattle.std.proofs.Common.{◌≡◌, ◌⊎◌, inl, inr, ◌↔◌, ℕ, zero, suc, ◌+◌, ◌<◌, arith, List, [], ◌∷◌, length, refl, sym, ap, subst, ◌∙◌, Bool, true, false, ◌||◌, Option, Some, None, map, add-zero}
+use Rattle.std.proofs.Common.{◌≡◌, ◌⊎◌, inl, inr, ◌↔◌, ℕ, zero, suc, ◌<◌, arith, List, [], ◌∷◌, length, refl, sym, ap, subst, ◌∙◌, Bool, true, false, Option, Some, None, map}
 use Rattle.std.specs.Prelude.{All, slice_get}
-use Rattle.std.specs.List.{Contains, cons_option, filter, filter_map, items_where_true, list_any, position, range_with_len}
+use Rattle.std.specs.List.{Contains, cons_option, filter, filter_map, items_where_true, position}
 use Rattle.std.specs.Option.{option_map}
 use Rattle.std.specs.Ordering.{eq_by_cmp, is_eq}
-use Rattle.std.specs.Cmp.{eq_by_cmp_equiv}
 use Rattle.std.proofs.lemmas.Bool.{false≢true}
 use Rattle.std.proofs.lemmas.List.Elements.{All-cons, All-nil}
 use Rattle.std.proofs.lemmas.Option.{get_or_from_slice_get, slice_get-map, slice_get_cases, slice_get_within}
@@ -15,67 +14,25 @@ use Rattle.lwc_base.specs.declared.limits.TheConstants.{MOST_CONTEXTS}
 use Rattle.lwc_base.specs.declared.name.Name.{Name}
 use Rattle.lwc_base.specs.Cells.{slot_at}
 use Rattle.lwc_base.specs.Life as life
-use Rattle.lwc_base.specs.Life.{is_among, is_of, is_reached, links}
+use Rattle.lwc_base.specs.Life.{is_among, is_of, is_reached}
 use Rattle.lwc_base.specs.Names.{name_cmp}
 use Rattle.lwc_base.specs.World.{is_live}
 use Rattle.reach.specs.Reach as reach
 use Rattle.reach.specs.Reach.{is_marked}
 use Rattle.whole_world.specs.declared.context_row.ContextRow.{ContextRow}
 use Rattle.whole_world.specs.declared.world.WholeWorld.{WholeWorld}
-use Rattle.whole_world.specs.Facts.{Facts}
 use Rattle.whole_world.specs.Reaping.{link_from, link_of, place_in}
 use Rattle.whole_world.specs.Tables.{has_name}
 use Rattle.whole_world.specs.Worlds.{seen}
 use Rattle.whole_world.proofs.Marking.{kept_rows}
-use Rattle.whole_world.proofs.Tables.{IsPlace, found-at, name-at, nothing-at, place_found, placed, same_name}
+use Rattle.whole_world.proofs.Tables.{IsPlace, found-at, name-at, nothing-at, place_found, placed}
 use Rattle.whole_world.proofs.Worlds.{dead-missed, live-found}
+use Rattle.lwc_base.proofs.Life.{or_cases, or_left, or_right, reached_by_way, way_of_reached}
+use Rattle.lwc_base.proofs.Slots.{linked_slot, slot_links}
+use Rattle.lwc_base.proofs.Orders.{name-itself, same_name}
+use Rattle.lwc_base.proofs.Small.{gathered_either, gathered_later, same_bool, same_some}
 
-same_some : {A : Type 0} (x y : A) → Some x ≡ Some y → x ≡ y
-same_some x y e = cc
-
-or_first : (a b : Bool) → a ≡ true → (a || b) ≡ true
-or_first true b e = refl
-or_first false b e = cc
-
-or_second : (a b : Bool) → b ≡ true → (a || b) ≡ true
-or_second true b e = refl
-or_second false b e = e
-
-or_either : (a b : Bool) → (a || b) ≡ true → (a ≡ true) ⊎ (b ≡ true)
-or_either true b e = inl refl
-or_either false b e = inr e
-
--- two tests that pass together are the same
-same_bool : (a b : Bool) → (a ≡ true → b ≡ true) → (b ≡ true → a ≡ true) → a ≡ b
-same_bool true b to from = sym (to refl)
-same_bool false true to from = from refl
-same_bool false false to from = refl
-
--- a test passes at a number of a range
-any_here : (test : ℕ → Bool) (a n k : ℕ) → k < n → test (a + k) ≡ true → list_any test (range_with_len a n) ≡ true
-any_here test a zero k less passes = absurd (omega arith)
-any_here test a (suc n) zero less passes = or_first _ _ (ap test (sym (add-zero a)) ∙ passes)
-any_here test a (suc n) (suc k) less passes = or_second _ _ (any_here test (a + 1) n k (omega arith) (ap test (omega arith) ∙ passes))
-
-any_where : (test : ℕ → Bool) (a n : ℕ) → list_any test (range_with_len a n) ≡ true → (k : ℕ) × (k < n) × (test (a + k) ≡ true)
-any_where test a zero passes = cc
-any_where test a (suc n) passes =
-    elim (or_either (test a) (list_any test (range_with_len (a + 1) n)) passes) [
-      | inl here ↦ (0, omega arith, ap test (add-zero a) ∙ here)
-      | inr later ↦ let found = any_where test (a + 1) n later in (suc found.0, omega (arith, found.1), ap test (omega arith) ∙ found.2)
-    ]
-
--- what is gathered of a list has what is gathered of its end
-gathered_later : {Y : Type 0} (o : Option Y) (ys : List Y) (y : Y) → Contains ys y → Contains (cons_option o ys) y
-gathered_later None ys y there = there
-gathered_later (Some z) ys y there = (suc there.0, omega (arith, there.1), there.2)
-
-gathered_either : {Y : Type 0} (o : Option Y) (ys : List Y) (y : Y) → Contains (cons_option o ys) y → (o ≡ Some y) ⊎ Contains ys y
-gathered_either None ys y there = inr there
-gathered_either (Some z) ys y (zero, within, is) = inl (ap Some is)
-gathered_either (Some z) ys y (suc k, within, is) = inr (k, omega (arith, within), is)
-
-module _ (facts : Facts) (w : WholeWorld) where
+module _ (w : WholeWorld) where
   abbrev rows : List (Name × ContextRow)
   rows = w.contexts.rows.items
 
@@ -99,13 +56,13 @@ module _ (facts : Facts) (w : WholeWorld) where
   place_of_name : (i : ℕ) (c : Name) → slice_get names i ≡ Some c → position (has_name c) rows ≡ Some i
   place_of_name i c is =
       let row = row_of_name i c is in
-      subst (λ (d : Name). position (has_name d) rows ≡ Some i) row.2 (placed facts rows i row.0 w.sound.contexts_sorted row.1)
+      subst (λ (d : Name). position (has_name d) rows ≡ Some i) row.2 (placed rows i row.0 w.sound.contexts_sorted row.1)
 
   name_of_place : (i : ℕ) (c : Name) → position (has_name c) rows ≡ Some i → slice_get names i ≡ Some c
   name_of_place i c found =
       let place : IsPlace (has_name c) rows i = place_found (has_name c) rows i found in
       elim (slice_get_cases rows i).1 [
-        | inl row ↦ name_of_row i row.0 row.2 ∙ ap Some (ap (λ (r : Name × ContextRow). r.0) (sym row.3) ∙ name-at facts c rows i row.0 place.first place.within)
+        | inl row ↦ name_of_row i row.0 row.2 ∙ ap Some (ap (λ (r : Name × ContextRow). r.0) (sym row.3) ∙ name-at c rows i row.0 place.first place.within)
         | inr past ↦ absurd (omega (arith, place.within, past.0))
       ]
 
@@ -114,7 +71,7 @@ module _ (facts : Facts) (w : WholeWorld) where
   unfolding seen
   live-named i c is =
       let row = row_of_name i c is in
-      live-found _ _ _ _ w.sound c row.0.1 (found-at facts c rows i row.0 (place_of_name i c is) (sym (get_or_from_slice_get rows i row.0 row.0 row.1)))
+      live-found _ _ _ _ w.sound c row.0.1 (found-at c rows i row.0 (place_of_name i c is) (sym (get_or_from_slice_get rows i row.0 row.0 row.1)))
 
   -- and each live name has a place
   has_place : (c : Name) → is_live (seen w) c ≡ true → (i : ℕ) × (position (has_name c) rows ≡ Some i)
@@ -122,7 +79,7 @@ module _ (facts : Facts) (w : WholeWorld) where
   has_place c live = from (position (has_name c) rows) refl
     where
       from : (o : Option ℕ) → position (has_name c) rows ≡ o → (i : ℕ) × (position (has_name c) rows ≡ Some i)
-      from None missed = absurd (false≢true (sym (dead-missed _ _ _ _ w.sound c (nothing-at facts c rows missed)) ∙ live))
+      from None missed = absurd (false≢true (sym (dead-missed _ _ _ _ w.sound c (nothing-at c rows missed)) ∙ live))
       from (Some i) found = (i, found)
 
   -- the place of the context that a descriptor is of
@@ -132,7 +89,7 @@ module _ (facts : Facts) (w : WholeWorld) where
   place_of_it c (File file at) is = cc
   place_of_it c (Request r at) is = cc
   place_of_it c (Reply r) is = cc
-  place_of_it c (Ctx name cap) is = ap (λ d. position (has_name d) rows) (same_name facts name c is)
+  place_of_it c (Ctx name cap) is = ap (λ d. position (has_name d) rows) (same_name name c is)
 
   it_of_place : (c : Name) (value : Descriptor) (i : ℕ) → place_in rows value ≡ Some i → slice_get names i ≡ Some c → is_of c value ≡ true
   it_of_place c Empty i at named = cc
@@ -142,7 +99,7 @@ module _ (facts : Facts) (w : WholeWorld) where
   it_of_place c (Reply r) i at named = cc
   it_of_place c (Ctx name cap) i at named =
       let same : name ≡ c = same_some name c (sym (name_of_place i name at) ∙ named) in
-      ap (λ d. is_eq (name_cmp name d)) (sym same) ∙ (eq_by_cmp_equiv facts.orders.names).refl name
+      ap (λ d. is_eq (name_cmp name d)) (sym same) ∙ name-itself name
 
   module _ (roots : List Name) where
     abbrev places : List Name → List ℕ
@@ -165,16 +122,16 @@ module _ (facts : Facts) (w : WholeWorld) where
         elim (gathered_either (position (has_name r) rows) (places rs) i there) [
           | inl here ↦
               let same : c ≡ r = same_some c r (sym named ∙ name_of_place i r here) in
-              or_first _ _ (ap (eq_by_cmp name_cmp c) (sym same) ∙ (eq_by_cmp_equiv facts.orders.names).refl c)
-          | inr later ↦ or_second _ _ (root_at rs i c named later)
+              or_left _ _ (ap (eq_by_cmp name_cmp c) (sym same) ∙ name-itself c)
+          | inr later ↦ or_right _ _ (root_at rs i c named later)
         ]
 
     at_root : (among : List Name) (i : ℕ) (c : Name) → position (has_name c) rows ≡ Some i → is_among among c ≡ true → Contains (places among) i
     at_root [] i c at there = cc
     at_root (r ∷ rs) i c at there =
-        elim (or_either (eq_by_cmp name_cmp c r) (is_among rs c) there) [
+        elim (or_cases (eq_by_cmp name_cmp c r) (is_among rs c) there) [
           | inl here ↦
-              let o : Some i ≡ position (has_name r) rows = sym at ∙ ap (λ d. position (has_name d) rows) (same_name facts c r here) in
+              let o : Some i ≡ position (has_name r) rows = sym at ∙ ap (λ d. position (has_name d) rows) (same_name c r here) in
               subst (λ o. Contains (cons_option o (places rs)) i) o (0, omega arith, refl)
           | inr later ↦ gathered_later (position (has_name r) rows) (places rs) i (at_root rs i c at later)
         ]
@@ -182,11 +139,10 @@ module _ (facts : Facts) (w : WholeWorld) where
     -- a link from a place is one from the name there
     link_by_name : (place slot next : ℕ) (c : Name) (o : Option Name) → slice_get names next ≡ Some c → slot < SLOTS → slice_get names place ≡ o → link_from w slot o ≡ Some next →
         ((d : Name) → slice_get names place ≡ Some d → life.Reaches (seen w) roots d) → life.Reaches (seen w) roots c
-    unfolding links
     link_by_name place slot next c None named within none link from = cc
     link_by_name place slot next c (Some d) named within there link from =
         life.Link d c (from d there) (live-named place d there)
-        (any_here (λ n. is_of c (slot_at (seen w) d n)) 0 SLOTS slot within (ap (λ n. is_of c (slot_at (seen w) d n)) (omega arith) ∙ it_of_place c (slot_at (seen w) d slot) next link named))
+        (slot_links (seen w) d c slot within (it_of_place c (slot_at (seen w) d slot) next link named))
 
     -- what is reached by places is reached by names
     by_name : (i : ℕ) (c : Name) → slice_get names i ≡ Some c → reach.Reaches (link_of w) (places roots) i → life.Reaches (seen w) roots c
@@ -197,14 +153,14 @@ module _ (facts : Facts) (w : WholeWorld) where
 
     -- and the other way round
     by_place : (c : Name) → life.Reaches (seen w) roots c → (i : ℕ) → position (has_name c) rows ≡ Some i → reach.Reaches (link_of w) (places roots) i
-    unfolding link_of links
+    unfolding link_of
     by_place _ (life.Root c there) i at = reach.Root i (at_root roots i c at there)
     by_place _ (life.Link d c reached live linked) i at =
         let place = has_place d live in
-        let slot = any_where (λ n. is_of c (slot_at (seen w) d n)) 0 SLOTS linked in
+        let slot = linked_slot (seen w) d c linked in
         reach.Link place.0 slot.0 i (by_place d reached place.0 place.1) slot.1
         (ap (link_from w slot.0) (name_of_place place.0 d place.1)
-        ∙ place_of_it c (slot_at (seen w) d slot.0) (ap (λ n. is_of c (slot_at (seen w) d n)) (omega arith) ∙ slot.2) ∙ at)
+        ∙ place_of_it c (slot_at (seen w) d slot.0) slot.2 ∙ at)
 
     -- so the marks of a search are those of the contexts that are reached
     marked-reached : (marks : List Bool) →
@@ -214,8 +170,8 @@ module _ (facts : Facts) (w : WholeWorld) where
         let named = name_of_row i row is in
         let within : i < MOST_CONTEXTS = omega (arith, slice_get_within rows i row is, w.sound.few_contexts, w.sound.size_contexts) in
         same_bool (is_marked marks i) (is_reached (seen w) roots row.0)
-        (λ marked. facts.reached (seen w) roots row.0 (by_name i row.0 named ((searched i within).0 marked)) (live-named i row.0 named))
-        (λ reached. (searched i within).1 (by_place row.0 (facts.chain (seen w) roots row.0 reached) i (place_of_name i row.0 named)))
+        (λ marked. reached_by_way (seen w) roots row.0 (by_name i row.0 named ((searched i within).0 marked)) (live-named i row.0 named))
+        (λ reached. (searched i within).1 (by_place row.0 (way_of_reached (seen w) roots row.0 reached) i (place_of_name i row.0 named)))
 
     -- and the rows that are kept by them too
     pub kept-reached : (searched : List ℕ) (marks slice : List Bool) → searched ≡ places roots → slice ≡ marks → length slice ≡ MOST_CONTEXTS →

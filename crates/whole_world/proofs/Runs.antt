@@ -2,7 +2,6 @@
 use Rattle.std.proofs.Common.{◌≡◌, ◌≢◌, ℕ, zero, suc, ◌+◌, ◌-◌, ◌<◌, ◌≤◌, arith, refl, sym, ap, ◌∙◌, Bool, true, false, cond, List, Option, Some, None}
 use Rattle.std.specs.Prelude.{◌&&◌, not, is_some, count_by, nat_le, nat_lt}
 use Rattle.std.specs.List.{range_with_len}
-use Rattle.std.specs.Cmp.{tied_itself}
 use Rattle.std.specs.Ordering.{eq_by_cmp, is_eq}
 use Rattle.std.proofs.lemmas.Bool.{false≢true}
 use Rattle.std.proofs.lemmas.List.Sums.{sum_by-cons}
@@ -27,161 +26,158 @@ use Rattle.lwc_base.specs.Sharing.{shared_cell, cloned_context, cloned_cell, wit
 use Rattle.lwc_base.specs.World.{World, Context, context, is_live, next_group}
 use Rattle.whole_world.specs.declared.holder.Holder.{Holder}
 use Rattle.whole_world.specs.declared.holder.Holder.TheVariants.{Nobody, Own, NewGroup, Group}
-use Rattle.whole_world.specs.Facts.{Facts}
 use Rattle.whole_world.specs.Holders.{begins_after, begins_at, cloned_holder, count_of_ranges, holder_after_clone, holder_after_map, holder_before, holder_in_clone, holder_of, moved_holder, page_holder}
-use Rattle.whole_world.proofs.Tables.{same_name}
 use Rattle.whole_world.proofs.SharedCells.{context-shared}
+use Rattle.lwc_base.proofs.Facts.{changes, stays_fresh}
+use Rattle.lwc_base.proofs.Sharing.{value_at-share}
+use Rattle.lwc_base.proofs.Orders.{name-itself, same_name}
 
-module _ (facts : Facts) where
-  -- what a page with this cell is to its context, seen from a new group
-  abbrev pub seen_from : Name → Cell (Option PageValue) → Holder
-  seen_from g (cell.Own None) = Nobody
-  seen_from g (cell.Own (Some value)) = Own
-  seen_from g (cell.Common h) = cond (is_eq (name_cmp h g)) NewGroup (Group h)
+-- what a page with this cell is to its context, seen from a new group
+abbrev pub seen_from : Name → Cell (Option PageValue) → Holder
+seen_from g (cell.Own None) = Nobody
+seen_from g (cell.Own (Some value)) = Own
+seen_from g (cell.Common h) = cond (is_eq (name_cmp h g)) NewGroup (Group h)
 
-  name-itself : (g : Name) → is_eq (name_cmp g g) ≡ true
-  name-itself g = ap is_eq (tied_itself facts.orders.names g)
+other_name : (h g : Name) → h ≢ g → is_eq (name_cmp h g) ≡ false
+other_name h g other = not_tied (is_eq (name_cmp h g)) refl
+  where
+    not_tied : (b : Bool) → is_eq (name_cmp h g) ≡ b → b ≡ false
+    not_tied true is = absurd (other (same_name h g is))
+    not_tied false is = refl
 
-  other_name : (h g : Name) → h ≢ g → is_eq (name_cmp h g) ≡ false
-  other_name h g other = not_tied (is_eq (name_cmp h g)) refl
-    where
-      not_tied : (b : Bool) → is_eq (name_cmp h g) ≡ b → b ≡ false
-      not_tied true is = absurd (other (same_name facts h g is))
-      not_tied false is = refl
+same_as_itself : (g h k : Name) (e : Bool) → eq_by_cmp name_cmp h g ≡ true → eq_by_cmp name_cmp k g ≡ true → is_eq (name_cmp h k) ≡ e → e ≡ true
+same_as_itself g h k e h_is k_is is = sym is ∙ (λ i. is_eq (name_cmp (same_name h g h_is i) (same_name k g k_is i))) ∙ name-itself g
 
-  same_as_itself : (g h k : Name) (e : Bool) → eq_by_cmp name_cmp h g ≡ true → eq_by_cmp name_cmp k g ≡ true → is_eq (name_cmp h k) ≡ e → e ≡ true
-  same_as_itself g h k e h_is k_is is = sym is ∙ (λ i. is_eq (name_cmp (same_name facts h g h_is i) (same_name facts k g k_is i))) ∙ name-itself g
+begins_after-common : (g h k : Name) (a b e : Bool) → is_eq (name_cmp h g) ≡ a → is_eq (name_cmp k g) ≡ b → is_eq (name_cmp h k) ≡ e →
+    begins_after (cond a NewGroup (Group h)) (cond b NewGroup (Group k)) ≡ not e
+begins_after-common g h k true true e h_is k_is is = ap not (sym (same_as_itself g h k e h_is k_is is))
+begins_after-common g h k true false true h_is k_is is =
+    absurd (false≢true (sym k_is ∙ ap (λ n. is_eq (name_cmp n g)) (sym (same_name h k is)) ∙ h_is))
+begins_after-common g h k true false false h_is k_is is = refl
+begins_after-common g h k false true true h_is k_is is = absurd (false≢true (sym h_is ∙ ap (λ n. is_eq (name_cmp n g)) (same_name h k is) ∙ k_is))
+begins_after-common g h k false true false h_is k_is is = refl
+begins_after-common g h k false false e h_is k_is is = ap not is
 
-  begins_after-common : (g h k : Name) (a b e : Bool) → is_eq (name_cmp h g) ≡ a → is_eq (name_cmp k g) ≡ b → is_eq (name_cmp h k) ≡ e →
-      begins_after (cond a NewGroup (Group h)) (cond b NewGroup (Group k)) ≡ not e
-  begins_after-common g h k true true e h_is k_is is = ap not (sym (same_as_itself g h k e h_is k_is is))
-  begins_after-common g h k true false true h_is k_is is =
-      absurd (false≢true (sym k_is ∙ ap (λ n. is_eq (name_cmp n g)) (sym (same_name facts h k is)) ∙ h_is))
-  begins_after-common g h k true false false h_is k_is is = refl
-  begins_after-common g h k false true true h_is k_is is = absurd (false≢true (sym h_is ∙ ap (λ n. is_eq (name_cmp n g)) (same_name facts h k is) ∙ k_is))
-  begins_after-common g h k false true false h_is k_is is = refl
-  begins_after-common g h k false false e h_is k_is is = ap not is
+own_begins : (h : Name) (b : Bool) → begins_after (cond b NewGroup (Group h)) Own ≡ true
+own_begins h true = refl
+own_begins h false = refl
 
-  own_begins : (h : Name) (b : Bool) → begins_after (cond b NewGroup (Group h)) Own ≡ true
-  own_begins h true = refl
-  own_begins h false = refl
+begins_after_own : (h : Name) (b : Bool) → begins_after Own (cond b NewGroup (Group h)) ≡ true
+begins_after_own h true = refl
+begins_after_own h false = refl
 
-  begins_after_own : (h : Name) (b : Bool) → begins_after Own (cond b NewGroup (Group h)) ≡ true
-  begins_after_own h true = refl
-  begins_after_own h false = refl
+begins_after_absent : (h : Name) (b : Bool) → begins_after Nobody (cond b NewGroup (Group h)) ≡ true
+begins_after_absent h true = refl
+begins_after_absent h false = refl
 
-  begins_after_absent : (h : Name) (b : Bool) → begins_after Nobody (cond b NewGroup (Group h)) ≡ true
-  begins_after_absent h true = refl
-  begins_after_absent h false = refl
+begins-cells : (g : Name) (a b : Cell (Option PageValue)) → begins_after (seen_from g a) (seen_from g b) ≡ (is_page b && not (are_of_one_kind a b))
+begins-cells g a (cell.Own None) = refl
+begins-cells g (cell.Own None) (cell.Own (Some v)) = refl
+begins-cells g (cell.Own (Some u)) (cell.Own (Some v)) = refl
+begins-cells g (cell.Common h) (cell.Own (Some v)) = own_begins h _
+begins-cells g (cell.Own None) (cell.Common k) = begins_after_absent k _
+begins-cells g (cell.Own (Some u)) (cell.Common k) = begins_after_own k _
+begins-cells g (cell.Common h) (cell.Common k) = begins_after-common g h k _ _ _ refl refl refl
 
-  begins-cells : (g : Name) (a b : Cell (Option PageValue)) → begins_after (seen_from g a) (seen_from g b) ≡ (is_page b && not (are_of_one_kind a b))
-  begins-cells g a (cell.Own None) = refl
-  begins-cells g (cell.Own None) (cell.Own (Some v)) = refl
-  begins-cells g (cell.Own (Some u)) (cell.Own (Some v)) = refl
-  begins-cells g (cell.Common h) (cell.Own (Some v)) = own_begins h _
-  begins-cells g (cell.Own None) (cell.Common k) = begins_after_absent k _
-  begins-cells g (cell.Own (Some u)) (cell.Common k) = begins_after_own k _
-  begins-cells g (cell.Common h) (cell.Common k) = begins_after-common g h k _ _ _ refl refl refl
+begins-first : (g : Name) (b : Cell (Option PageValue)) → begins_after Nobody (seen_from g b) ≡ (is_page b && not false)
+begins-first g (cell.Own None) = refl
+begins-first g (cell.Own (Some v)) = refl
+begins-first g (cell.Common k) = begins_after_absent k _
 
-  begins-first : (g : Name) (b : Cell (Option PageValue)) → begins_after Nobody (seen_from g b) ≡ (is_page b && not false)
-  begins-first g (cell.Own None) = refl
-  begins-first g (cell.Own (Some v)) = refl
-  begins-first g (cell.Common k) = begins_after_absent k _
+-- a context whose pages are to it what some holders say has the ranges that they make
+module _ (g : Name) (x : Context) (holders : ℕ → Holder) (each : (p : ℕ) → seen_from g (x.cell (Page p)) ≡ holders p) where
+  begins-each : (p : ℕ) → begins_range x p ≡ begins_at holders p
+  unfolding begins_range
+  begins-each zero = sym (begins-first g (x.cell (Page 0))) ∙ ap (begins_after Nobody) (each 0)
+  begins-each (suc p) = sym (begins-cells g (x.cell (Page p)) (x.cell (Page (suc p)))) ∙ (λ i. begins_after (each p i) (each (suc p) i))
 
-  -- a context whose pages are to it what some holders say has the ranges that they make
-  module _ (g : Name) (x : Context) (holders : ℕ → Holder) (each : (p : ℕ) → seen_from g (x.cell (Page p)) ≡ holders p) where
-    begins-each : (p : ℕ) → begins_range x p ≡ begins_at holders p
-    unfolding begins_range
-    begins-each zero = sym (begins-first g (x.cell (Page 0))) ∙ ap (begins_after Nobody) (each 0)
-    begins-each (suc p) = sym (begins-cells g (x.cell (Page p)) (x.cell (Page (suc p)))) ∙ (λ i. begins_after (each p i) (each (suc p) i))
+  pub ranges-holders : (pages : ℕ) → ranges pages x ≡ count_of_ranges pages holders
+  unfolding ranges count_of_ranges
+  ranges-holders pages = ap (λ f. count_by f (range_with_len 0 pages)) (λ i p. begins-each p i)
 
-    pub ranges-holders : (pages : ℕ) → ranges pages x ≡ count_of_ranges pages holders
-    unfolding ranges count_of_ranges
-    ranges-holders pages = ap (λ f. count_by f (range_with_len 0 pages)) (λ i p. begins-each p i)
+pub seen_from-shared : (g : Name) (p : ℕ) (mode : Mode) (c : Cell (Option PageValue)) → c ≢ cell.Common g →
+    seen_from g (shared_cell g mode (Page p) c) ≡ moved_holder mode (holder_of (Page p) c)
+seen_from-shared g p Copy (cell.Own None) other = refl
+seen_from-shared g p Share (cell.Own None) other = refl
+seen_from-shared g p Unmap (cell.Own None) other = refl
+seen_from-shared g p Copy (cell.Own (Some v)) other = refl
+seen_from-shared g p Share (cell.Own (Some v)) other = ap (λ b. cond b NewGroup (Group g)) (name-itself g)
+seen_from-shared g p Unmap (cell.Own (Some v)) other = refl
+seen_from-shared g p Copy (cell.Common h) other = ap (λ b. cond b NewGroup (Group h)) (other_name h g (λ same. other (ap (λ n. cell.Common n) same)))
+seen_from-shared g p Share (cell.Common h) other = ap (λ b. cond b NewGroup (Group h)) (other_name h g (λ same. other (ap (λ n. cell.Common n) same)))
+seen_from-shared g p Unmap (cell.Common h) other = ap (λ b. cond b NewGroup (Group h)) (other_name h g (λ same. other (ap (λ n. cell.Common n) same)))
 
-  pub seen_from-shared : (g : Name) (p : ℕ) (mode : Mode) (c : Cell (Option PageValue)) → c ≢ cell.Common g →
-      seen_from g (shared_cell g mode (Page p) c) ≡ moved_holder mode (holder_of (Page p) c)
-  seen_from-shared g p Copy (cell.Own None) other = refl
-  seen_from-shared g p Share (cell.Own None) other = refl
-  seen_from-shared g p Unmap (cell.Own None) other = refl
-  seen_from-shared g p Copy (cell.Own (Some v)) other = refl
-  seen_from-shared g p Share (cell.Own (Some v)) other = ap (λ b. cond b NewGroup (Group g)) (name-itself g)
-  seen_from-shared g p Unmap (cell.Own (Some v)) other = refl
-  seen_from-shared g p Copy (cell.Common h) other = ap (λ b. cond b NewGroup (Group h)) (other_name h g (λ same. other (ap (λ n. cell.Common n) same)))
-  seen_from-shared g p Share (cell.Common h) other = ap (λ b. cond b NewGroup (Group h)) (other_name h g (λ same. other (ap (λ n. cell.Common n) same)))
-  seen_from-shared g p Unmap (cell.Common h) other = ap (λ b. cond b NewGroup (Group h)) (other_name h g (λ same. other (ap (λ n. cell.Common n) same)))
+seen_from-own : (g : Name) (value : Option PageValue) → seen_from g (cell.Own value) ≡ cond (is_some value) Own Nobody
+seen_from-own g None = refl
+seen_from-own g (Some value) = refl
 
-  seen_from-own : (g : Name) (value : Option PageValue) → seen_from g (cell.Own value) ≡ cond (is_some value) Own Nobody
-  seen_from-own g None = refl
-  seen_from-own g (Some value) = refl
+module _ (w : World) (c : Name) (fresh : IsFresh w) where
+  pub not_new : (job p : ℕ) → (context w c).cell (Page p) ≢ cell.Common (next_group w job)
+  not_new job p is = let h : (w.next job).groups < (w.next job).groups = stays_fresh.named w c (Page p) (next_group w job) fresh is in absurd (omega arith)
 
-  module _ (w : World) (c : Name) (fresh : IsFresh w) where
-    pub not_new : (job p : ℕ) → (context w c).cell (Page p) ≢ cell.Common (next_group w job)
-    not_new job p is = let h : (w.next job).groups < (w.next job).groups = facts.fresh.named w c (Page p) (next_group w job) fresh is in absurd (omega arith)
+  module _ (job : ℕ) (items : List Item) (live : is_live w c ≡ true) (spec : IsSpec w.size.pages items) where
+    abbrev new : Name
+    new = next_group w job
 
-    module _ (job : ℕ) (items : List Item) (live : is_live w c ≡ true) (spec : IsSpec w.size.pages items) where
-      abbrev new : Name
-      new = next_group w job
+    pub page-shared : (p : ℕ) → seen_from new ((context (share w c job items) c).cell (Page p)) ≡ moved_holder (mode_or_copy items (Page p)) (holder_of (Page p) ((context w c).cell (Page p)))
+    unfolding with_shared moved_values
+    page-shared p =
+        ap (λ (x : Context). seen_from new (x.cell (Page p))) (context-shared w c job items live spec)
+        ∙ seen_from-shared new p (mode_or_copy items (Page p)) ((context w c).cell (Page p)) (not_new job p)
 
-      pub page-shared : (p : ℕ) → seen_from new ((context (share w c job items) c).cell (Page p)) ≡ moved_holder (mode_or_copy items (Page p)) (holder_of (Page p) ((context w c).cell (Page p)))
-      unfolding with_shared moved_values
-      page-shared p =
-          ap (λ (x : Context). seen_from new (x.cell (Page p))) (context-shared facts w c job items live spec)
-          ∙ seen_from-shared new p (mode_or_copy items (Page p)) ((context w c).cell (Page p)) (not_new job p)
+    -- the ranges of the context after the sharing
+    pub ranges-shared : ranges_of (share w c job items) c ≡ count_of_ranges w.size.pages (holder_after_clone w c items)
+    unfolding ranges_of holder_after_clone page_holder
+    ranges-shared =
+        ap (λ (s : WorldSize). ranges s.pages (context (share w c job items) c)) ((changes.shared w c job items).size)
+        ∙ ranges-holders new (context (share w c job items) c) (holder_after_clone w c items) page-shared w.size.pages
 
-      -- the ranges of the context after the sharing
-      pub ranges-shared : ranges_of (share w c job items) c ≡ count_of_ranges w.size.pages (holder_after_clone w c items)
-      unfolding ranges_of holder_after_clone page_holder
-      ranges-shared =
-          ap (λ (s : WorldSize). ranges s.pages (context (share w c job items) c)) ((facts.changes.shared w c job items).size)
-          ∙ ranges-holders new (context (share w c job items) c) (holder_after_clone w c items) page-shared w.size.pages
+    pub page-cloned : (p : ℕ) (mode : Mode) → mode_or_copy items (Page p) ≡ mode →
+        seen_from new (cloned_cell (share w c job items) c (Page p) mode) ≡ cloned_holder mode (is_some (page_at w c p)) (holder_of (Page p) ((context w c).cell (Page p)))
+    page-cloned p Copy is =
+        ap (λ o. seen_from new (cell.Own o)) (value_at-share w c job items fresh c (Page p)) ∙ seen_from-own new (page_at w c p)
+    page-cloned p Share is = page-shared p ∙ ap (λ m. moved_holder m (holder_of (Page p) ((context w c).cell (Page p)))) is
+    page-cloned p Unmap is = refl
 
-      pub page-cloned : (p : ℕ) (mode : Mode) → mode_or_copy items (Page p) ≡ mode →
-          seen_from new (cloned_cell (share w c job items) c (Page p) mode) ≡ cloned_holder mode (is_some (page_at w c p)) (holder_of (Page p) ((context w c).cell (Page p)))
-      page-cloned p Copy is =
-          ap (λ o. seen_from new (cell.Own o)) (facts.same_values w c job items fresh c (Page p)) ∙ seen_from-own new (page_at w c p)
-      page-cloned p Share is = page-shared p ∙ ap (λ m. moved_holder m (holder_of (Page p) ((context w c).cell (Page p)))) is
-      page-cloned p Unmap is = refl
+    -- the ranges of the new context
+    pub ranges-cloned : (entry : Regs) → ranges (share w c job items).size.pages (cloned_context (share w c job items) c items entry) ≡ count_of_ranges w.size.pages (holder_in_clone w c items)
+    unfolding cloned_context holder_in_clone page_holder
+    ranges-cloned entry =
+        ap (λ (s : WorldSize). ranges s.pages (cloned_context (share w c job items) c items entry)) ((changes.shared w c job items).size)
+        ∙ ranges-holders new (cloned_context (share w c job items) c items entry) (holder_in_clone w c items) (λ p. page-cloned p _ refl) w.size.pages
 
-      -- the ranges of the new context
-      pub ranges-cloned : (entry : Regs) → ranges (share w c job items).size.pages (cloned_context (share w c job items) c items entry) ≡ count_of_ranges w.size.pages (holder_in_clone w c items)
-      unfolding cloned_context holder_in_clone page_holder
-      ranges-cloned entry =
-          ap (λ (s : WorldSize). ranges s.pages (cloned_context (share w c job items) c items entry)) ((facts.changes.shared w c job items).size)
-          ∙ ranges-holders new (cloned_context (share w c job items) c items entry) (holder_in_clone w c items) (λ p. page-cloned p _ refl) w.size.pages
+    -- both
+    pub ranges-both : (a b : ℕ) → a ≡ count_of_ranges w.size.pages (holder_after_clone w c items) → b ≡ count_of_ranges w.size.pages (holder_in_clone w c items) →
+        ◌≡◌ {A = ℕ × ℕ} (a, b) (ranges_after_clone w c job items)
+    unfolding ranges_after_clone
+    ranges-both a b shared cloned = λ i. ((shared ∙ sym ranges-shared) i, (cloned ∙ sym (ranges-cloned (context (share w c job items) c).entry)) i)
 
-      -- both
-      pub ranges-both : (a b : ℕ) → a ≡ count_of_ranges w.size.pages (holder_after_clone w c items) → b ≡ count_of_ranges w.size.pages (holder_in_clone w c items) →
-          ◌≡◌ {A = ℕ × ℕ} (a, b) (ranges_after_clone w c job items)
-      unfolding ranges_after_clone
-      ranges-both a b shared cloned = λ i. ((shared ∙ sym ranges-shared) i, (cloned ∙ sym (ranges-cloned (context (share w c job items) c).entry)) i)
+  mapped-cell : (g : Name) (here present : Bool) (old : Cell (Option PageValue)) (held : Holder) → seen_from g old ≡ held →
+      seen_from g (cond present (cond here (cell.Own (Some Zero)) old) (cond here (cell.Own None) old)) ≡ cond here (cond present Own Nobody) held
+  mapped-cell g true true old held same = refl
+  mapped-cell g true false old held same = refl
+  mapped-cell g false true old held same = same
+  mapped-cell g false false old held same = same
 
-    mapped-cell : (g : Name) (here present : Bool) (old : Cell (Option PageValue)) (held : Holder) → seen_from g old ≡ held →
-        seen_from g (cond present (cond here (cell.Own (Some Zero)) old) (cond here (cell.Own None) old)) ≡ cond here (cond present Own Nobody) held
-    mapped-cell g true true old held same = refl
-    mapped-cell g true false old held same = refl
-    mapped-cell g false true old held same = same
-    mapped-cell g false false old held same = same
+  size-mapped : (from to : ℕ) (present : Bool) → (mapped_or_not w c from to present).size ≡ w.size
+  size-mapped from to true = (changes.mapped w c from to).names.size
+  size-mapped from to false = (changes.unmapped w c from to).names.size
 
-    size-mapped : (from to : ℕ) (present : Bool) → (mapped_or_not w c from to present).size ≡ w.size
-    size-mapped from to true = (facts.changes.mapped w c from to).names.size
-    size-mapped from to false = (facts.changes.unmapped w c from to).names.size
+  context-mapped : (from to : ℕ) (present : Bool) → is_live w c ≡ true → (p : ℕ) → (context (mapped_or_not w c from to present) c).cell (Page p)
+      ≡ (let here : Bool = nat_le from p && nat_lt p to in cond present (cond here (cell.Own (Some Zero)) ((context w c).cell (Page p))) (cond here (cell.Own None) ((context w c).cell (Page p))))
+  context-mapped from to true live p = ap (λ (x : Context). x.cell (Page p)) ((changes.mapped w c from to).changed live)
+  context-mapped from to false live p = ap (λ (x : Context). x.cell (Page p)) ((changes.unmapped w c from to).changed live)
 
-    context-mapped : (from to : ℕ) (present : Bool) → is_live w c ≡ true → (p : ℕ) → (context (mapped_or_not w c from to present) c).cell (Page p)
-        ≡ (let here : Bool = nat_le from p && nat_lt p to in cond present (cond here (cell.Own (Some Zero)) ((context w c).cell (Page p))) (cond here (cell.Own None) ((context w c).cell (Page p))))
-    context-mapped from to true live p = ap (λ (x : Context). x.cell (Page p)) ((facts.changes.mapped w c from to).changed live)
-    context-mapped from to false live p = ap (λ (x : Context). x.cell (Page p)) ((facts.changes.unmapped w c from to).changed live)
-
-    -- the ranges of the context once pages have been mapped or unmapped
-    pub ranges-mapped : (from to : ℕ) (present : Bool) → is_live w c ≡ true →
-        ranges_of (mapped_or_not w c from to present) c ≡ count_of_ranges w.size.pages (holder_after_map w c from to present)
-    unfolding ranges_of holder_after_map page_holder
-    ranges-mapped from to present live =
-        let new : Name = next_group w 0 in
-        ap (λ (s : WorldSize). ranges s.pages (context (mapped_or_not w c from to present) c)) (size-mapped from to present)
-        ∙ ranges-holders new (context (mapped_or_not w c from to present) c) (holder_after_map w c from to present)
-        (λ p. ap (seen_from new) (context-mapped from to present live p)
-        ∙ mapped-cell new (nat_le from p && nat_lt p to) present ((context w c).cell (Page p)) _ (seen_from-shared new p Copy ((context w c).cell (Page p)) (not_new 0 p))) w.size.pages
+  -- the ranges of the context once pages have been mapped or unmapped
+  pub ranges-mapped : (from to : ℕ) (present : Bool) → is_live w c ≡ true →
+      ranges_of (mapped_or_not w c from to present) c ≡ count_of_ranges w.size.pages (holder_after_map w c from to present)
+  unfolding ranges_of holder_after_map page_holder
+  ranges-mapped from to present live =
+      let new : Name = next_group w 0 in
+      ap (λ (s : WorldSize). ranges s.pages (context (mapped_or_not w c from to present) c)) (size-mapped from to present)
+      ∙ ranges-holders new (context (mapped_or_not w c from to present) c) (holder_after_map w c from to present)
+      (λ p. ap (seen_from new) (context-mapped from to present live p)
+      ∙ mapped-cell new (nat_le from p && nat_lt p to) present ((context w c).cell (Page p)) _ (seen_from-shared new p Copy ((context w c).cell (Page p)) (not_new 0 p))) w.size.pages
 
 next_page : (p end : ℕ) → p < end → end - p ≡ suc (end - (p + 1))
 next_page p end within = omega arith

@@ -11,7 +11,6 @@ use Rattle.lwc_base.specs.Frames.{tag_of, own_value, tags_of_context, tags_of_gr
 use Rattle.whole_world.specs.declared.context_row.ContextRow.{ContextRow}
 use Rattle.whole_world.specs.declared.group_row.GroupRow.{GroupRow}
 use Rattle.whole_world.specs.declared.world.WholeWorld.{WholeWorld}
-use Rattle.whole_world.specs.Facts.{Facts}
 use Rattle.whole_world.specs.Rows.{cell_of, context_of, group_of, value_of}
 use Rattle.whole_world.specs.Sound.{IsWhole, IsWholeGroup}
 use Rattle.whole_world.specs.States.{world_of}
@@ -20,11 +19,7 @@ use Rattle.whole_world.specs.Worlds.{seen}
 use Rattle.whole_world.proofs.Gathered.{flat_map-places, first_of_all, others_of_all, length-flat_map-le}
 use Rattle.whole_world.proofs.Tables.{entries_of, map-entries}
 use Rattle.whole_world.proofs.TagLists.{different-le-length}
-
-one_tag : (value : Option PageValue) → length (tag_of value) ≤ 1
-one_tag None = omega arith
-one_tag (Some Zero) = omega arith
-one_tag (Some (Data tag bytes)) = omega arith
+use Rattle.lwc_base.proofs.Small.{one_tag}
 
 -- pages have no more tags than there are pages
 length-page_tags : {P : Type 0} (value : P → Option PageValue) (pages : List P) → length (page_tags value pages) ≤ length pages
@@ -91,5 +86,5 @@ module _ (w : WholeWorld) where
   used-seen = refl
 
   -- which are no more than tags
-  pub few_used : (facts : Facts) → used (seen w) ≤ 2 ^ 30
-  few_used facts = omega (arith, used-seen, different-le-length facts (tags (seen w)), ap length tags-seen, few_tags)
+  pub few_used : used (seen w) ≤ 2 ^ 30
+  few_used = omega (arith, used-seen, different-le-length (tags (seen w)), ap length tags-seen, few_tags)

@@ -1,7 +1,6 @@
 -- Sharing step by step: the job counts a group, the values move out of the context, and the group is put in.
 use Rattle.std.proofs.Common.{◌≡◌, ℕ, ◌+◌, ◌<◌, arith, refl, sym, ap, subst, ◌∙◌, Bool, true, false, cond, eqb, List, Option, Some, None}
 use Rattle.std.specs.FinMap as fm
-use Rattle.std.proofs.lemmas.Bool.Decides.{nat_tests}
 use Rattle.lwc_base.specs.declared.item.Item.{Item}
 use Rattle.lwc_base.specs.declared.name.Name.{Name}
 use Rattle.lwc_base.specs.declared.cell.Cell.{Cell}
@@ -10,9 +9,10 @@ use Rattle.lwc_base.specs.declared.key.Key.{Key}
 use Rattle.lwc_base.specs.Fresh.{IsFresh, IsNamedGroup, named_groups}
 use Rattle.lwc_base.specs.Holders.{InCell}
 use Rattle.lwc_base.specs.Keys.{ValueOf}
-use Rattle.whole_world.specs.Facts.{Facts}
 use Rattle.lwc_base.specs.Sharing.{with_shared, moved_values, needs_group, share}
 use Rattle.lwc_base.specs.World.{World, Context, Counters, Group, add_group, change_context, changed_context, context, change_counters, is_live, next_group}
+use Rattle.lwc_base.proofs.Facts.{changes, stays_fresh}
+use Rattle.std.proofs.lemmas.Bool.{eq-eqb}
 
 -- one group more
 abbrev pub one_group_more : Counters → Counters
@@ -24,10 +24,10 @@ in_shared next g job k true cell named old = named
 in_shared next g job k false cell named old = old
 
 -- a context that names a group that has been named
-pub fresh-with_shared : (facts : Facts) (w : World) (c g : Name) (items : List Item) → IsNamedGroup w.next g → IsFresh w → IsFresh (change_context w c (with_shared g items))
+pub fresh-with_shared : (w : World) (c g : Name) (items : List Item) → IsNamedGroup w.next g → IsFresh w → IsFresh (change_context w c (with_shared g items))
 unfolding with_shared
-fresh-with_shared facts w c g items named fresh =
-    facts.fresh.context_changed w c (with_shared g items) (λ live old k. in_shared w.next g c.job k _ ((context w c).cell k) named (old k)) fresh
+fresh-with_shared w c g items named fresh =
+    stays_fresh.context_changed w c (with_shared g items) (λ live old k. in_shared w.next g c.job k _ ((context w c).cell k) named (old k)) fresh
 
 groups-changed : (w : World) (c : Name) (change : Context → Context) (found : Option Context) → (changed_context w c change found).groups ≡ w.groups
 groups-changed w c change None = refl
@@ -49,15 +49,12 @@ change-counted : (w : World) (job : ℕ) (more : Counters → Counters) (c : Nam
 unfolding change_context change_counters
 change-counted w job more c change = changed-counted w job more c change (fm.get w.contexts c)
 
-eqb-itself : (n : ℕ) → eqb n n ≡ true
-eqb-itself n = grind (arith, nat_tests)
-
 counts_at : (b : Bool) (n : Counters) → b ≡ true → n.groups < (cond b (one_group_more n) n).groups
 counts_at true n e = omega arith
 counts_at false n e = cc
 
 -- once the job has counted the group
-module _ (facts : Facts) (w counted : World) (job : ℕ) (is_counted : counted ≡ change_counters w job one_group_more) where
+module _ (w counted : World) (job : ℕ) (is_counted : counted ≡ change_counters w job one_group_more) where
   pub counted-size : counted.size ≡ w.size
   unfolding change_counters
   counted-size = ap (λ (v : World). v.size) is_counted
@@ -78,16 +75,16 @@ module _ (facts : Facts) (w counted : World) (job : ℕ) (is_counted : counted �
   pub counted-named : (g : Name) → g ≡ next_group w job → IsNamedGroup counted.next g
   counted-named g is =
       subst (IsNamedGroup counted.next) (sym is)
-      (subst (λ (n : Counters). (w.next job).groups < n.groups) (sym (counted-next job)) (counts_at (eqb job job) (w.next job) (eqb-itself job)))
+      (subst (λ (n : Counters). (w.next job).groups < n.groups) (sym (counted-next job)) (counts_at (eqb job job) (w.next job) (eq-eqb job job refl)))
 
   -- and so it is once values have moved out of a context
   module _ (left : World) (c : Name) (change : Context → Context) (is_left : left ≡ change_context counted c change) where
     pub left-size : left.size ≡ w.size
-    left-size = ap (λ (v : World). v.size) is_left ∙ (facts.changes.context_changed counted c change).names.size ∙ counted-size
+    left-size = ap (λ (v : World). v.size) is_left ∙ (changes.context_changed counted c change).names.size ∙ counted-size
 
     pub left-named : (g : Name) → g ≡ next_group w job → IsNamedGroup left.next g
     left-named g is =
-        subst (λ (next : ℕ → Counters). IsNamedGroup next g) (sym (ap (λ (v : World). v.next) is_left ∙ (facts.changes.context_changed counted c change).names.next)) (counted-named g is)
+        subst (λ (next : ℕ → Counters). IsNamedGroup next g) (sym (ap (λ (v : World). v.next) is_left ∙ (changes.context_changed counted c change).names.next)) (counted-named g is)
 
     pub left-groups : left.groups ≡ w.groups
     unfolding change_counters
@@ -95,15 +92,15 @@ module _ (facts : Facts) (w counted : World) (job : ℕ) (is_counted : counted �
 
     -- no group has that name yet
     pub left-new : (g : Name) → IsFresh w → g ≡ next_group w job → fm.contains_key left.groups g ≡ false
-    left-new g fresh is = ap (λ m. fm.contains_key m g) left-groups ∙ ap (fm.contains_key w.groups) is ∙ facts.fresh.next_group_is_new w job fresh
+    left-new g fresh is = ap (λ m. fm.contains_key m g) left-groups ∙ ap (fm.contains_key w.groups) is ∙ stays_fresh.next_group_is_new w job fresh
 
-added_as : (facts : Facts) (w : World) (c : Name) (job : ℕ) (items : List Item) (values : Group) → let left : World = change_context w c (with_shared (next_group w job) items) in
+added_as : (w : World) (c : Name) (job : ℕ) (items : List Item) (values : Group) → let left : World = change_context w c (with_shared (next_group w job) items) in
     (λ (v : World). record v { groups = fm.insert v.groups (next_group w job) values }) (change_counters left job one_group_more) ≡ add_group left job values
 unfolding add_group change_counters
-added_as facts w c job items values =
+added_as w c job items values =
     let left : World = change_context w c (with_shared (next_group w job) items) in
     let name : next_group w job ≡ next_group left job =
-    ap (λ (next : ℕ → Counters). record { job = job; k = (next job).groups }) (sym (facts.changes.context_changed w c (with_shared (next_group w job) items)).names.next) in
+    ap (λ (next : ℕ → Counters). record { job = job; k = (next job).groups }) (sym (changes.context_changed w c (with_shared (next_group w job) items)).names.next) in
     λ i. change_counters (record left { groups = fm.insert left.groups (name i) values }) job one_group_more
 
 share_moves : (w : World) (c : Name) (job : ℕ) (items : List Item) → needs_group w c items ≡ true →
@@ -113,14 +110,14 @@ share_moves w c job items needs =
     ap (λ b. cond b (add_group (change_context w c (with_shared (next_group w job) items)) job (moved_values items (context w c))) w) needs
 
 -- the world once the group is put in
-pub share-steps : (facts : Facts) (w counted left shared : World) (c : Name) (job : ℕ) (items : List Item) (g : Name) (values : Group) → needs_group w c items ≡ true →
+pub share-steps : (w counted left shared : World) (c : Name) (job : ℕ) (items : List Item) (g : Name) (values : Group) → needs_group w c items ≡ true →
     g ≡ next_group w job → values ≡ moved_values items (context counted c) → counted ≡ change_counters w job one_group_more →
     left ≡ change_context counted c (with_shared g items) → shared ≡ record left { groups = fm.insert left.groups g values } →
     shared ≡ share w c job items
-share-steps facts w counted left shared c job items g values needs g_is values_are is_counted is_left is_shared =
-    let same : values ≡ moved_values items (context w c) = values_are ∙ ap (moved_values items) (counted-context facts w counted job is_counted c) in
+share-steps w counted left shared c job items g values needs g_is values_are is_counted is_left is_shared =
+    let same : values ≡ moved_values items (context w c) = values_are ∙ ap (moved_values items) (counted-context w counted job is_counted c) in
     let moves : left ≡ change_counters (change_context w c (with_shared (next_group w job) items)) job one_group_more =
     is_left ∙ (λ i. change_context (is_counted i) c (with_shared (g_is i) items))
     ∙ change-counted w job one_group_more c _ in
     is_shared ∙ (λ i. record (moves i) { groups = fm.insert (moves i).groups (g_is i) (same i) })
-    ∙ added_as facts w c job items (moved_values items (context w c)) ∙ sym (share_moves w c job items needs)
+    ∙ added_as w c job items (moved_values items (context w c)) ∙ sym (share_moves w c job items needs)

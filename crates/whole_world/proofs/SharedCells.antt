@@ -12,10 +12,11 @@ use Rattle.lwc_base.specs.Keys.{ValueOf, is_there}
 use Rattle.lwc_base.specs.Modes.{IsKey, IsSpec, kind_of, limit, mode_or_copy, number_of}
 use Rattle.lwc_base.specs.Sharing.{with_shared, is_moved, needs_group, share}
 use Rattle.lwc_base.specs.World.{World, Context, context, is_live, next_group}
-use Rattle.whole_world.specs.Facts.{Facts}
 use Rattle.whole_world.proofs.Unnamed.{copied_past}
+use Rattle.lwc_base.proofs.Facts.{changes}
+use Rattle.lwc_base.proofs.Needs.{needed-own}
 
-module _ (facts : Facts) (w : World) (c : Name) (job : ℕ) (items : List Item) (live : is_live w c ≡ true) (spec : IsSpec w.size.pages items) where
+module _ (w : World) (c : Name) (job : ℕ) (items : List Item) (live : is_live w c ≡ true) (spec : IsSpec w.size.pages items) where
   abbrev here : Context
   here = context w c
 
@@ -28,7 +29,7 @@ module _ (facts : Facts) (w : World) (c : Name) (job : ℕ) (items : List Item) 
   none_moves none k within Unmap cell is cell_is = refl
   none_moves none k within Share (Common g) is cell_is = refl
   none_moves none k within Share (Own value) is cell_is =
-      none_there (is_there k value) (λ there. false≢true (sym none ∙ facts.needed w c items k value within is cell_is there))
+      none_there (is_there k value) (λ there. false≢true (sym none ∙ needed-own w c items k value within is cell_is there))
 
   -- where no value moves, none moves under any key
   no_key_moves : needs_group w c items ≡ false → (k : Key) → is_moved (mode_or_copy items k) k (here.cell k) ≡ false
@@ -39,9 +40,9 @@ module _ (facts : Facts) (w : World) (c : Name) (job : ℕ) (items : List Item) 
 
   left_or_not : (b : Bool) → needs_group w c items ≡ b → context (share w c job items) c ≡ with_shared (next_group w job) items here
   unfolding with_shared
-  left_or_not true needs = (facts.changes.shared w c job items).named needs live
+  left_or_not true needs = (changes.shared w c job items).named needs live
   left_or_not false needs =
-      ap (λ v. context v c) ((facts.changes.shared w c job items).none needs)
+      ap (λ v. context v c) ((changes.shared w c job items).none needs)
       ∙ sym (λ i. record here { cell = λ k. cond (no_key_moves needs k i) (Common (next_group w job)) (here.cell k) })
 
   -- whether or not values move, the context is as if they had

@@ -1,4 +1,4 @@
--- Loads and stores: how they end, what is planned, and what is counted.
+-- Loads and stores: how they end, what is stored, and what is counted.
 use Rattle.std.proofs.Common.{◌≡◌, ℕ, cond, eqb, suc, ◌+◌, ◌-◌, ◌<◌, List, [], ◌∷◌, ◌++◌, Some, None, refl, sym, ap, ◌∙◌, append_assoc, Bool, true, false, arith, length, map, ◌≤◌}
 use Rattle.std.proofs.lemmas.Bool.{eqb-true, false≢true, lt-ltb, le-ltb}
 use Rattle.std.specs.Prelude.{if◌then◌else◌, not, count_by, is_some, nat_lt}
@@ -10,11 +10,12 @@ use Rattle.lwc_base.specs.Cells.{page_at}
 use Rattle.lwc_base.specs.Frames.{is_parting, used}
 use Rattle.lwc_base.specs.Memory.{byte_at, load, touched, is_present}
 use Rattle.lwc_base.specs.Pages.{bytes_of}
-use Rattle.lwc_base.specs.Store.{Piece, Stored, Absent, Full, Done, bytes_after, plan, put_pages, stored_value, page_value_at, parting_count, after_store, store}
+use Rattle.lwc_base.specs.Store.{Piece, Stored, Absent, Full, Done, bytes_after, stored_pages, put_pages, stored_value, page_value_at, parting_count, after_store, store}
 use Rattle.lwc_base.specs.World.{World, Counters, change_counters}
 use Rattle.whole_world.specs.States.{world_of}
 use Rattle.whole_world.specs.Worlds.{seen}
 use Rattle.whole_world.specs.declared.world.WholeWorld.{WholeWorld}
+use Rattle.lwc_base.proofs.Small.{answer-absent, answer-done, answer-full, load_where, none_where, steps_left}
 
 -- a world has few pages
 pub few_pages-seen : (w : WholeWorld) → (seen w).size.pages ≤ MOST_PAGES
@@ -27,61 +28,26 @@ unfolding seen world_of
 frames-seen w = refl
 
 pub after_store-counted : (w put counted : World) (c : Name) (job : ℕ) (piece : Piece) (ps : List ℕ) (values : List (ℕ × PageValue)) (parting : ℕ) →
-    ps ≡ touched piece.at (length piece.bytes) → values ≡ plan w c job piece (w.next job).tags ps → put ≡ put_pages w c values →
+    ps ≡ touched piece.at (length piece.bytes) → values ≡ stored_pages w c job piece (w.next job).tags ps → put ≡ put_pages w c values →
     parting ≡ parting_count w c piece → counted ≡ change_counters put job (λ n. record n { tags = n.tags + parting }) → counted ≡ after_store w c job piece
 unfolding after_store
 after_store-counted w put counted c job piece ps values parting touches plans puts parts counts =
     counts
-    ∙ (λ i. change_counters ((puts ∙ ap (put_pages w c) (plans ∙ ap (plan w c job piece (w.next job).tags) touches)) i) job (λ n. record n { tags = n.tags + parts i }))
+    ∙ (λ i. change_counters ((puts ∙ ap (put_pages w c) (plans ∙ ap (stored_pages w c job piece (w.next job).tags) touches)) i) job (λ n. record n { tags = n.tags + parts i }))
 
-load_where : {A : Type 0} (present : Bool) (x : A) → present ≡ true → (if present then Some x else None) ≡ Some x
-load_where true x there = refl
-load_where false x there = absurd (false≢true there)
-
-none_where : {A : Type 0} (present : Bool) (x : A) → present ≡ false → (if present then Some x else None) ≡ None
-none_where true x absent = absurd (false≢true (sym absent))
-none_where false x absent = refl
-
--- a load of pages that are all present
-pub load-present : (w : World) (c : Name) (at count : ℕ) → is_present w c at count ≡ true → load w c at count ≡ Some (map (byte_at w c) (range_with_len at count))
-unfolding load
-load-present w c at count there = load_where (is_present w c at count) (map (byte_at w c) (range_with_len at count)) there
-
--- a load where a page is absent
-pub load-absent : (w : World) (c : Name) (at count : ℕ) → is_present w c at count ≡ false → load w c at count ≡ None
-unfolding load
-load-absent w c at count absent = none_where (is_present w c at count) (map (byte_at w c) (range_with_len at count)) absent
-
-steps_left : (p end : ℕ) → p < end → suc (end - (p + 1)) ≡ end - p
-steps_left p end within = omega arith
-
--- the plan goes on behind what is planned already
+-- the stored pages go on behind those that are listed already
 pub plan_more : (w : World) (c : Name) (job : ℕ) (piece : Piece) (k next p end : ℕ) (front : List (ℕ × PageValue)) (parting : Bool) (value old : PageValue) →
     p < end → parting ≡ is_parting w (page_value_at w c p) → old ≡ page_value_at w c p → next ≡ (if parting then k + 1 else k) →
     value ≡ stored_value parting (record { job = job; k = k }) old (bytes_after piece p (bytes_of old)) →
-    (front ++ (p, value) ∷ []) ++ plan w c job piece next (range_with_len (p + 1) (end - (p + 1))) ≡ front ++ plan w c job piece k (range_with_len p (end - p))
+    (front ++ (p, value) ∷ []) ++ stored_pages w c job piece next (range_with_len (p + 1) (end - (p + 1))) ≡ front ++ stored_pages w c job piece k (range_with_len p (end - p))
 plan_more w c job piece k next p end front parting value old within parts stands counts is =
     let ps : List ℕ = range_with_len (p + 1) (end - (p + 1)) in
     let next_is : next ≡ (if is_parting w (page_value_at w c p) then k + 1 else k) = counts ∙ ap (λ (b : Bool). if b then k + 1 else k) parts in
     let value_is : value ≡ stored_value (is_parting w (page_value_at w c p)) (record { job = job; k = k }) (page_value_at w c p) (bytes_after piece p (bytes_of (page_value_at w c p))) =
     is ∙ (λ i. stored_value (parts i) (record { job = job; k = k }) (stands i) (bytes_after piece p (bytes_of (stands i)))) in
     append_assoc front ((p, value) ∷ []) _
-    ∙ (λ i. front ++ ((p, value_is i) ∷ plan w c job piece (next_is i) ps))
-    ∙ ap (λ n. front ++ plan w c job piece k (range_with_len p n)) (steps_left p end within)
-
-answer-absent : (present full : Bool) (done : Stored) → present ≡ false → (if not present then Absent else (if full then Full else done)) ≡ Absent
-answer-absent true full done absent = absurd (false≢true (sym absent))
-answer-absent false full done absent = refl
-
-answer-full : (present full : Bool) (done : Stored) → present ≡ true → full ≡ true → (if not present then Absent else (if full then Full else done)) ≡ Full
-answer-full true true done there short = refl
-answer-full true false done there short = absurd (false≢true short)
-answer-full false full done there short = absurd (false≢true there)
-
-answer-done : (present full : Bool) (done : Stored) → present ≡ true → full ≡ false → (if not present then Absent else (if full then Full else done)) ≡ done
-answer-done true true done there room = absurd (false≢true (sym room))
-answer-done true false done there room = refl
-answer-done false full done there room = absurd (false≢true there)
+    ∙ (λ i. front ++ ((p, value_is i) ∷ stored_pages w c job piece (next_is i) ps))
+    ∙ ap (λ n. front ++ stored_pages w c job piece k (range_with_len p n)) (steps_left p end within)
 
 -- a store where a touched page is absent
 pub store-absent : (w : World) (c : Name) (job : ℕ) (piece : Piece) → is_present w c piece.at (length piece.bytes) ≡ false → store w c job piece ≡ Absent

@@ -13,8 +13,8 @@ use Rattle.lwc_base.specs.declared.page.PageValue.{PageValue}
 use Rattle.lwc_base.specs.declared.page.PageValue.TheVariants.{Zero, Data}
 use Rattle.lwc_base.specs.Frames.{tag_of}
 use Rattle.lwc_base.specs.Names.{tag_cmp}
-use Rattle.whole_world.specs.Facts.{Facts}
 use Rattle.whole_world.specs.Tags.{has_tag, page_tags, times, different}
+use Rattle.lwc_base.proofs.Facts.{orders}
 
 -- a tag is in one of two lists
 pub has_tag-append : (tag : Tag) (xs ys : List Tag) → has_tag tag (xs ++ ys) ≡ (has_tag tag xs || has_tag tag ys)
@@ -80,50 +80,49 @@ pub page_tags-nil : {P : Type 0} (value : P → Option PageValue) → page_tags 
 unfolding page_tags
 page_tags-nil value = refl
 
-module _ (facts : Facts) where
-  contains-tags : (tag : Tag) (xs : List Tag) → set.contains (set.from_list {R = tag_cmp} xs) tag ≡ has_tag tag xs
-  unfolding has_tag
-  contains-tags tag xs =
-      set.contains-from_list facts.orders.tags xs tag
-      ∙ ap (λ (p : Tag → Bool). list_any p xs) (λ i t. (eq_by_cmp_equiv facts.orders.tags).symm tag t i)
+contains-tags : (tag : Tag) (xs : List Tag) → set.contains (set.from_list {R = tag_cmp} xs) tag ≡ has_tag tag xs
+unfolding has_tag
+contains-tags tag xs =
+    set.contains-from_list orders.tags xs tag
+    ∙ ap (λ (p : Tag → Bool). list_any p xs) (λ i t. (eq_by_cmp_equiv orders.tags).symm tag t i)
 
-  one_more : (b : Bool) (n : ℕ) → cond b n (n + 1) ≡ cond (not b) 1 0 + n
-  one_more true n = omega arith
-  one_more false n = omega arith
+one_more : (b : Bool) (n : ℕ) → cond b n (n + 1) ≡ cond (not b) 1 0 + n
+one_more true n = omega arith
+one_more false n = omega arith
 
-  -- one tag more in front makes one different one more, where it is not in the others
-  pub different-cons : (t : Tag) (ts : List Tag) → different (t ∷ ts) ≡ cond (not (has_tag t ts)) 1 0 + different ts
-  unfolding different
-  different-cons t ts =
-      set.len-insert facts.orders.tags (set.from_list {R = tag_cmp} ts) t
-      ∙ ap (λ b. cond b (set.len (set.from_list {R = tag_cmp} ts)) (set.len (set.from_list {R = tag_cmp} ts) + 1)) (contains-tags t ts)
-      ∙ one_more (has_tag t ts) _
+-- one tag more in front makes one different one more, where it is not in the others
+pub different-cons : (t : Tag) (ts : List Tag) → different (t ∷ ts) ≡ cond (not (has_tag t ts)) 1 0 + different ts
+unfolding different
+different-cons t ts =
+    set.len-insert orders.tags (set.from_list {R = tag_cmp} ts) t
+    ∙ ap (λ b. cond b (set.len (set.from_list {R = tag_cmp} ts)) (set.len (set.from_list {R = tag_cmp} ts) + 1)) (contains-tags t ts)
+    ∙ one_more (has_tag t ts) _
 
-  cond_at_most_one : (b : Bool) → cond b 1 0 ≤ 1
-  cond_at_most_one true = omega arith
-  cond_at_most_one false = omega arith
+cond_at_most_one : (b : Bool) → cond b 1 0 ≤ 1
+cond_at_most_one true = omega arith
+cond_at_most_one false = omega arith
 
-  -- a tag that is in neither of two lists is one different tag more
-  pub different-new : (tag : Tag) (xs ys : List Tag) (n : ℕ) → n ≡ bool_byte (not (has_tag tag xs || has_tag tag ys)) → n + different (xs ++ ys) ≡ different (tag ∷ (xs ++ ys))
-  different-new tag xs ys n count =
-      ap (λ m. m + different (xs ++ ys)) (count ∙ ap (λ b. bool_byte (not b)) (sym (has_tag-append tag xs ys)) ∙ one_where (not (has_tag tag (xs ++ ys)))) ∙ sym (different-cons tag (xs ++ ys))
-    where
-      one_where : (b : Bool) → bool_byte b ≡ cond b 1 0
-      one_where true = refl
-      one_where false = refl
+-- a tag that is in neither of two lists is one different tag more
+pub different-new : (tag : Tag) (xs ys : List Tag) (n : ℕ) → n ≡ bool_byte (not (has_tag tag xs || has_tag tag ys)) → n + different (xs ++ ys) ≡ different (tag ∷ (xs ++ ys))
+different-new tag xs ys n count =
+    ap (λ m. m + different (xs ++ ys)) (count ∙ ap (λ b. bool_byte (not b)) (sym (has_tag-append tag xs ys)) ∙ one_where (not (has_tag tag (xs ++ ys)))) ∙ sym (different-cons tag (xs ++ ys))
+  where
+    one_where : (b : Bool) → bool_byte b ≡ cond b 1 0
+    one_where true = refl
+    one_where false = refl
 
-  -- no more different ones than there are
-  pub different-le-length : (xs : List Tag) → different xs ≤ length xs
-  unfolding different
-  different-le-length [] = omega (arith, set.len-empty tag_cmp)
-  different-le-length (t ∷ ts) = omega (arith, different-cons t ts, cond_at_most_one (not (has_tag t ts)), different-le-length ts)
+-- no more different ones than there are
+pub different-le-length : (xs : List Tag) → different xs ≤ length xs
+unfolding different
+different-le-length [] = omega (arith, set.len-empty tag_cmp)
+different-le-length (t ∷ ts) = omega (arith, different-cons t ts, cond_at_most_one (not (has_tag t ts)), different-le-length ts)
 
-  -- with others there are no fewer
-  pub different-append_least : (xs ys : List Tag) → different ys ≤ different (xs ++ ys)
-  different-append_least [] ys = omega arith
-  different-append_least (x ∷ xs) ys = omega (arith, different-cons x (xs ++ ys), different-append_least xs ys)
+-- with others there are no fewer
+pub different-append_least : (xs ys : List Tag) → different ys ≤ different (xs ++ ys)
+different-append_least [] ys = omega arith
+different-append_least (x ∷ xs) ys = omega (arith, different-cons x (xs ++ ys), different-append_least xs ys)
 
-  -- and no more than as many more
-  pub different-append_most : (xs ys : List Tag) → different (xs ++ ys) ≤ length xs + different ys
-  different-append_most [] ys = omega arith
-  different-append_most (x ∷ xs) ys = omega (arith, different-cons x (xs ++ ys), cond_at_most_one (not (has_tag x (xs ++ ys))), different-append_most xs ys)
+-- and no more than as many more
+pub different-append_most : (xs ys : List Tag) → different (xs ++ ys) ≤ length xs + different ys
+different-append_most [] ys = omega arith
+different-append_most (x ∷ xs) ys = omega (arith, different-cons x (xs ++ ys), cond_at_most_one (not (has_tag x (xs ++ ys))), different-append_most xs ys)

@@ -26,7 +26,6 @@ use Rattle.whole_world.specs.declared.counts.Counts.{Counts}
 use Rattle.whole_world.specs.declared.group_row.GroupRow.{GroupRow}
 use Rattle.whole_world.specs.declared.world.WholeWorld.{WholeWorld}
 use Rattle.whole_world.specs.declared.holder.Holder.TheVariants.{Nobody}
-use Rattle.whole_world.specs.Facts.{Facts}
 use Rattle.whole_world.specs.Holders.{holder_of}
 use Rattle.whole_world.specs.Rows.{context_of, group_of, with_pages}
 use Rattle.whole_world.specs.Sound.{HasGroupSizeOf, HasKey, HasSizeOf, HasSlot, IsSound, IsWhole, IsWholeGroup}
@@ -36,6 +35,7 @@ use Rattle.whole_world.specs.Worlds.{seen}
 use Rattle.whole_world.proofs.Places.{place_after_set}
 use Rattle.whole_world.proofs.Rows.{cell-past}
 use Rattle.whole_world.proofs.Tables.{found-at, found-holds, map-get, map-keys, map-len, map-put, map-values, nothing-at, put-at, put-holds, put-sorted}
+use Rattle.lwc_base.proofs.Facts.{orders, stays_fresh}
 
 get_or_default : {A : Type 0} (xs : List A) (i : ℕ) (d e : A) → i < length xs → get_or xs i d ≡ get_or xs i e
 get_or_default [] i d e h = absurd (omega arith)
@@ -154,181 +154,180 @@ module _ (size : WorldSize) (contexts : List (Name × ContextRow)) (groups : Lis
       λ j. ap counters_of (place_after_set counts job n j nothing_counted there) ∙ counters_of_choice (eqb j job) n (get_or counts j nothing_counted) in
       λ i. record now { next = λ j. each j i }
 
-  module _ (facts : Facts) where
-    -- a row is put under the name of a context
-    pub put-context : (c : Name) (row : ContextRow) →
-        world_of size (fm.put name_cmp c row contexts) groups counts ≡ record now { contexts = fm.insert now.contexts c (context_of row) }
-    unfolding world_of
-    put-context c row = ap (λ m. record now { contexts = m }) (map-put facts context_of c row contexts sound.contexts_sorted)
+  -- a row is put under the name of a context
+  pub put-context : (c : Name) (row : ContextRow) →
+      world_of size (fm.put name_cmp c row contexts) groups counts ≡ record now { contexts = fm.insert now.contexts c (context_of row) }
+  unfolding world_of
+  put-context c row = ap (λ m. record now { contexts = m }) (map-put context_of c row contexts sound.contexts_sorted)
 
-    -- a row is put under the name of a group
-    pub put-group : (g : Name) (row : GroupRow) →
-        world_of size contexts (fm.put name_cmp g row groups) counts ≡ record now { groups = fm.insert now.groups g (group_of row) }
-    unfolding world_of
-    put-group g row = ap (λ m. record now { groups = m }) (map-put facts group_of g row groups sound.groups_sorted)
+  -- a row is put under the name of a group
+  pub put-group : (g : Name) (row : GroupRow) →
+      world_of size contexts (fm.put name_cmp g row groups) counts ≡ record now { groups = fm.insert now.groups g (group_of row) }
+  unfolding world_of
+  put-group g row = ap (λ m. record now { groups = m }) (map-put group_of g row groups sound.groups_sorted)
 
-    length-put : (c : Name) (row : ContextRow) → length (fm.put name_cmp c row contexts) ≡ fm.len (fm.insert now.contexts c (context_of row))
-    unfolding world_of
-    length-put c row =
-        sym (map-len context_of (fm.put name_cmp c row contexts) (put-sorted facts c row contexts sound.contexts_sorted))
-        ∙ ap fm.len (map-put facts context_of c row contexts sound.contexts_sorted)
+  length-put : (c : Name) (row : ContextRow) → length (fm.put name_cmp c row contexts) ≡ fm.len (fm.insert now.contexts c (context_of row))
+  unfolding world_of
+  length-put c row =
+      sym (map-len context_of (fm.put name_cmp c row contexts) (put-sorted c row contexts sound.contexts_sorted))
+      ∙ ap fm.len (map-put context_of c row contexts sound.contexts_sorted)
 
-    length-put_group : (g : Name) (row : GroupRow) → length (fm.put name_cmp g row groups) ≡ fm.len (fm.insert now.groups g (group_of row))
-    unfolding world_of
-    length-put_group g row =
-        sym (map-len group_of (fm.put name_cmp g row groups) (put-sorted facts g row groups sound.groups_sorted))
-        ∙ ap fm.len (map-put facts group_of g row groups sound.groups_sorted)
+  length-put_group : (g : Name) (row : GroupRow) → length (fm.put name_cmp g row groups) ≡ fm.len (fm.insert now.groups g (group_of row))
+  unfolding world_of
+  length-put_group g row =
+      sym (map-len group_of (fm.put name_cmp g row groups) (put-sorted g row groups sound.groups_sorted))
+      ∙ ap fm.len (map-put group_of g row groups sound.groups_sorted)
 
-    -- the world stays sound
-    sound-put : (c : Name) (row : ContextRow) → IsWhole size.pages row → fm.len (fm.insert now.contexts c (context_of row)) ≤ size.contexts →
-        IsFresh (record now { contexts = fm.insert now.contexts c (context_of row) }) → IsSound size (fm.put name_cmp c row contexts) groups counts
-    sound-put c row whole few fresh = record {
-      some_job = sound.some_job;
-      few_pages = sound.few_pages;
-      size_contexts = sound.size_contexts;
-      size_groups = sound.size_groups;
-      few_contexts = subst (λ n. n ≤ size.contexts) (sym (length-put c row)) few;
-      few_groups = sound.few_groups;
-      counted = sound.counted;
-      contexts_sorted = put-sorted facts c row contexts sound.contexts_sorted;
-      groups_sorted = sound.groups_sorted;
-      contexts_whole = put-holds (IsWhole size.pages) c row contexts whole sound.contexts_whole;
-      groups_whole = sound.groups_whole;
-      fresh = subst IsFresh (sym (put-context c row)) fresh;
-    }
+  -- the world stays sound
+  sound-put : (c : Name) (row : ContextRow) → IsWhole size.pages row → fm.len (fm.insert now.contexts c (context_of row)) ≤ size.contexts →
+      IsFresh (record now { contexts = fm.insert now.contexts c (context_of row) }) → IsSound size (fm.put name_cmp c row contexts) groups counts
+  sound-put c row whole few fresh = record {
+    some_job = sound.some_job;
+    few_pages = sound.few_pages;
+    size_contexts = sound.size_contexts;
+    size_groups = sound.size_groups;
+    few_contexts = subst (λ n. n ≤ size.contexts) (sym (length-put c row)) few;
+    few_groups = sound.few_groups;
+    counted = sound.counted;
+    contexts_sorted = put-sorted c row contexts sound.contexts_sorted;
+    groups_sorted = sound.groups_sorted;
+    contexts_whole = put-holds (IsWhole size.pages) c row contexts whole sound.contexts_whole;
+    groups_whole = sound.groups_whole;
+    fresh = subst IsFresh (sym (put-context c row)) fresh;
+  }
 
-    sound-put_group : (g : Name) (row : GroupRow) → IsWholeGroup size.pages row → fm.len (fm.insert now.groups g (group_of row)) ≤ size.groups →
-        IsFresh (record now { groups = fm.insert now.groups g (group_of row) }) → IsSound size contexts (fm.put name_cmp g row groups) counts
-    sound-put_group g row whole few fresh = record {
-      some_job = sound.some_job;
-      few_pages = sound.few_pages;
-      size_contexts = sound.size_contexts;
-      size_groups = sound.size_groups;
-      few_contexts = sound.few_contexts;
-      few_groups = subst (λ n. n ≤ size.groups) (sym (length-put_group g row)) few;
-      counted = sound.counted;
-      contexts_sorted = sound.contexts_sorted;
-      groups_sorted = put-sorted facts g row groups sound.groups_sorted;
-      contexts_whole = sound.contexts_whole;
-      groups_whole = put-holds (IsWholeGroup size.pages) g row groups whole sound.groups_whole;
-      fresh = subst IsFresh (sym (put-group g row)) fresh;
-    }
+  sound-put_group : (g : Name) (row : GroupRow) → IsWholeGroup size.pages row → fm.len (fm.insert now.groups g (group_of row)) ≤ size.groups →
+      IsFresh (record now { groups = fm.insert now.groups g (group_of row) }) → IsSound size contexts (fm.put name_cmp g row groups) counts
+  sound-put_group g row whole few fresh = record {
+    some_job = sound.some_job;
+    few_pages = sound.few_pages;
+    size_contexts = sound.size_contexts;
+    size_groups = sound.size_groups;
+    few_contexts = sound.few_contexts;
+    few_groups = subst (λ n. n ≤ size.groups) (sym (length-put_group g row)) few;
+    counted = sound.counted;
+    contexts_sorted = sound.contexts_sorted;
+    groups_sorted = put-sorted g row groups sound.groups_sorted;
+    contexts_whole = sound.contexts_whole;
+    groups_whole = put-holds (IsWholeGroup size.pages) g row groups whole sound.groups_whole;
+    fresh = subst IsFresh (sym (put-group g row)) fresh;
+  }
 
-    -- a context or a group of a new name
-    more_contexts : (c : Name) (x : Context) → fm.len (fm.insert now.contexts c x) ≤ fm.len now.contexts + 1
-    more_contexts c x = subst (λ n. n ≤ fm.len now.contexts + 1) (sym (fm.len-insert facts.orders.names now.contexts c x)) (one_more (fm.contains_key now.contexts c) _)
-      where
-        one_more : (b : Bool) (n : ℕ) → cond b n (n + 1) ≤ n + 1
-        one_more true n = omega arith
-        one_more false n = omega arith
+  -- a context or a group of a new name
+  more_contexts : (c : Name) (x : Context) → fm.len (fm.insert now.contexts c x) ≤ fm.len now.contexts + 1
+  more_contexts c x = subst (λ n. n ≤ fm.len now.contexts + 1) (sym (fm.len-insert orders.names now.contexts c x)) (one_more (fm.contains_key now.contexts c) _)
+    where
+      one_more : (b : Bool) (n : ℕ) → cond b n (n + 1) ≤ n + 1
+      one_more true n = omega arith
+      one_more false n = omega arith
 
-    more_groups : (g : Name) (x : Group) → fm.len (fm.insert now.groups g x) ≤ fm.len now.groups + 1
-    more_groups g x = subst (λ n. n ≤ fm.len now.groups + 1) (sym (fm.len-insert facts.orders.names now.groups g x)) (one_more (fm.contains_key now.groups g) _)
-      where
-        one_more : (b : Bool) (n : ℕ) → cond b n (n + 1) ≤ n + 1
-        one_more true n = omega arith
-        one_more false n = omega arith
+  more_groups : (g : Name) (x : Group) → fm.len (fm.insert now.groups g x) ≤ fm.len now.groups + 1
+  more_groups g x = subst (λ n. n ≤ fm.len now.groups + 1) (sym (fm.len-insert orders.names now.groups g x)) (one_more (fm.contains_key now.groups g) _)
+    where
+      one_more : (b : Bool) (n : ℕ) → cond b n (n + 1) ≤ n + 1
+      one_more true n = omega arith
+      one_more false n = omega arith
 
-    -- the world stays sound where a context of a name that has been counted is put in
-    pub sound-added : (c : Name) (row : ContextRow) → IsNamedContext now.next c → InContext (named_groups now.next) c.job (context_of row) → IsWhole size.pages row →
-        fm.len now.contexts < size.contexts → IsSound size (fm.put name_cmp c row contexts) groups counts
-    sound-added c row named old whole place =
-        sound-put c row whole (let more = more_contexts c (context_of row) in omega (arith, more, place)) (facts.fresh.context_inserted now c (context_of row) named old sound.fresh)
+  -- the world stays sound where a context of a name that has been counted is put in
+  pub sound-added : (c : Name) (row : ContextRow) → IsNamedContext now.next c → InContext (named_groups now.next) c.job (context_of row) → IsWhole size.pages row →
+      fm.len now.contexts < size.contexts → IsSound size (fm.put name_cmp c row contexts) groups counts
+  sound-added c row named old whole place =
+      sound-put c row whole (let more = more_contexts c (context_of row) in omega (arith, more, place)) (stays_fresh.context_inserted now c (context_of row) named old sound.fresh)
 
-    pub sound-added_group : (g : Name) (row : GroupRow) → IsNamedGroup now.next g → IsWholeGroup size.pages row →
-        fm.len now.groups < size.groups → IsSound size contexts (fm.put name_cmp g row groups) counts
-    sound-added_group g row named whole place =
-        sound-put_group g row whole (let more = more_groups g (group_of row) in omega (arith, more, place)) (facts.fresh.group_inserted now g (group_of row) named sound.fresh)
+  pub sound-added_group : (g : Name) (row : GroupRow) → IsNamedGroup now.next g → IsWholeGroup size.pages row →
+      fm.len now.groups < size.groups → IsSound size contexts (fm.put name_cmp g row groups) counts
+  sound-added_group g row named whole place =
+      sound-put_group g row whole (let more = more_groups g (group_of row) in omega (arith, more, place)) (stays_fresh.group_inserted now g (group_of row) named sound.fresh)
 
-    -- a change of a name that no row has changes nothing
-    pub change_context-missed : (c : Name) (change : Context → Context) → position (has_name c) contexts ≡ None → now ≡ change_context now c change
-    unfolding change_context
-    change_context-missed c change missed = sym (ap (changed_context now c change) (get-context c ∙ ap (option_map context_of) (nothing-at facts c contexts missed)))
+  -- a change of a name that no row has changes nothing
+  pub change_context-missed : (c : Name) (change : Context → Context) → position (has_name c) contexts ≡ None → now ≡ change_context now c change
+  unfolding change_context
+  change_context-missed c change missed = sym (ap (changed_context now c change) (get-context c ∙ ap (option_map context_of) (nothing-at c contexts missed)))
 
-    pub change_group-missed : (g : Name) (change : Group → Group) → position (has_name g) groups ≡ None → now ≡ change_group now g change
-    unfolding change_group
-    change_group-missed g change missed = sym (ap (changed_group now g change) (get-group g ∙ ap (option_map group_of) (nothing-at facts g groups missed)))
+  pub change_group-missed : (g : Name) (change : Group → Group) → position (has_name g) groups ≡ None → now ≡ change_group now g change
+  unfolding change_group
+  change_group-missed g change missed = sym (ap (changed_group now g change) (get-group g ∙ ap (option_map group_of) (nothing-at g groups missed)))
 
-    -- a context whose row is at a place
-    module _ (c : Name) (i : ℕ) (old : Name × ContextRow) (found : position (has_name c) contexts ≡ Some i) (is : old ≡ get_or contexts i old) where
-      there : fm.find name_cmp c contexts ≡ Some old.1
-      there = found-at facts c contexts i old found is
+  -- a context whose row is at a place
+  module _ (c : Name) (i : ℕ) (old : Name × ContextRow) (found : position (has_name c) contexts ≡ Some i) (is : old ≡ get_or contexts i old) where
+    there : fm.find name_cmp c contexts ≡ Some old.1
+    there = found-at c contexts i old found is
 
-      pub context-at : context now c ≡ context_of old.1
-      context-at = context-found c old.1 there
+    pub context-at : context now c ≡ context_of old.1
+    context-at = context-found c old.1 there
 
-      pub whole-at : IsWhole size.pages old.1
-      whole-at = whole-found c old.1 there
+    pub whole-at : IsWhole size.pages old.1
+    whole-at = whole-found c old.1 there
 
-      kept_len : (x : Context) → fm.len (fm.insert now.contexts c x) ≡ fm.len now.contexts
-      kept_len x =
-          fm.len-insert facts.orders.names now.contexts c x
-          ∙ ap (λ b. cond b (fm.len now.contexts) (fm.len now.contexts + 1)) (ap is_some (get-context c ∙ ap (option_map context_of) there))
+    kept_len : (x : Context) → fm.len (fm.insert now.contexts c x) ≡ fm.len now.contexts
+    kept_len x =
+        fm.len-insert orders.names now.contexts c x
+        ∙ ap (λ b. cond b (fm.len now.contexts) (fm.len now.contexts + 1)) (ap is_some (get-context c ∙ ap (option_map context_of) there))
 
-      -- its row gets what a change of the context makes of it
-      module _ (new : ContextRow) (change : Context → Context) (changed : context_of new ≡ change (context_of old.1)) where
-        changed_at : record now { contexts = fm.insert now.contexts c (context_of new) } ≡ change_context now c change
-        unfolding change_context
-        changed_at =
-            ap (λ x. record now { contexts = fm.insert now.contexts c x }) changed
-            ∙ sym (ap (changed_context now c change) (get-context c ∙ ap (option_map context_of) there))
+    -- its row gets what a change of the context makes of it
+    module _ (new : ContextRow) (change : Context → Context) (changed : context_of new ≡ change (context_of old.1)) where
+      changed_at : record now { contexts = fm.insert now.contexts c (context_of new) } ≡ change_context now c change
+      unfolding change_context
+      changed_at =
+          ap (λ x. record now { contexts = fm.insert now.contexts c x }) changed
+          ∙ sym (ap (changed_context now c change) (get-context c ∙ ap (option_map context_of) there))
 
-        pub change_context-at : world_of size (set contexts i (old.0, new)) groups counts ≡ change_context now c change
-        change_context-at =
-            ap (λ rows. world_of size rows groups counts) (put-at facts c new contexts i old sound.contexts_sorted found is) ∙ put-context c new ∙ changed_at
+      pub change_context-at : world_of size (set contexts i (old.0, new)) groups counts ≡ change_context now c change
+      change_context-at =
+          ap (λ rows. world_of size rows groups counts) (put-at c new contexts i old sound.contexts_sorted found is) ∙ put-context c new ∙ changed_at
 
-        pub sound-at : IsWhole size.pages new → IsFresh (change_context now c change) → IsSound size (set contexts i (old.0, new)) groups counts
-        sound-at whole fresh =
-            let few : fm.len (fm.insert now.contexts c (context_of new)) ≤ size.contexts = omega (arith, kept_len (context_of new), len-contexts, sound.few_contexts) in
-            subst (λ rows. IsSound size rows groups counts) (sym (put-at facts c new contexts i old sound.contexts_sorted found is))
-            (sound-put c new whole few (subst IsFresh (sym changed_at) fresh))
+      pub sound-at : IsWhole size.pages new → IsFresh (change_context now c change) → IsSound size (set contexts i (old.0, new)) groups counts
+      sound-at whole fresh =
+          let few : fm.len (fm.insert now.contexts c (context_of new)) ≤ size.contexts = omega (arith, kept_len (context_of new), len-contexts, sound.few_contexts) in
+          subst (λ rows. IsSound size rows groups counts) (sym (put-at c new contexts i old sound.contexts_sorted found is))
+          (sound-put c new whole few (subst IsFresh (sym changed_at) fresh))
 
-    -- a group whose row is at a place
-    module _ (g : Name) (i : ℕ) (old : Name × GroupRow) (found : position (has_name g) groups ≡ Some i) (is : old ≡ get_or groups i old) where
-      group_there : fm.find name_cmp g groups ≡ Some old.1
-      group_there = found-at facts g groups i old found is
+  -- a group whose row is at a place
+  module _ (g : Name) (i : ℕ) (old : Name × GroupRow) (found : position (has_name g) groups ≡ Some i) (is : old ≡ get_or groups i old) where
+    group_there : fm.find name_cmp g groups ≡ Some old.1
+    group_there = found-at g groups i old found is
 
-      pub whole_group-at : IsWholeGroup size.pages old.1
-      whole_group-at = whole_group-found g old.1 group_there
+    pub whole_group-at : IsWholeGroup size.pages old.1
+    whole_group-at = whole_group-found g old.1 group_there
 
-      kept_groups : (x : Group) → fm.len (fm.insert now.groups g x) ≡ fm.len now.groups
-      kept_groups x =
-          fm.len-insert facts.orders.names now.groups g x
-          ∙ ap (λ b. cond b (fm.len now.groups) (fm.len now.groups + 1)) (ap is_some (get-group g ∙ ap (option_map group_of) group_there))
+    kept_groups : (x : Group) → fm.len (fm.insert now.groups g x) ≡ fm.len now.groups
+    kept_groups x =
+        fm.len-insert orders.names now.groups g x
+        ∙ ap (λ b. cond b (fm.len now.groups) (fm.len now.groups + 1)) (ap is_some (get-group g ∙ ap (option_map group_of) group_there))
 
-      module _ (new : GroupRow) (change : Group → Group) (changed : group_of new ≡ change (group_of old.1)) where
-        changed_group_at : record now { groups = fm.insert now.groups g (group_of new) } ≡ change_group now g change
-        unfolding change_group
-        changed_group_at =
-            ap (λ x. record now { groups = fm.insert now.groups g x }) changed
-            ∙ sym (ap (changed_group now g change) (get-group g ∙ ap (option_map group_of) group_there))
+    module _ (new : GroupRow) (change : Group → Group) (changed : group_of new ≡ change (group_of old.1)) where
+      changed_group_at : record now { groups = fm.insert now.groups g (group_of new) } ≡ change_group now g change
+      unfolding change_group
+      changed_group_at =
+          ap (λ x. record now { groups = fm.insert now.groups g x }) changed
+          ∙ sym (ap (changed_group now g change) (get-group g ∙ ap (option_map group_of) group_there))
 
-        pub change_group-at : world_of size contexts (set groups i (old.0, new)) counts ≡ change_group now g change
-        change_group-at =
-            ap (λ rows. world_of size contexts rows counts) (put-at facts g new groups i old sound.groups_sorted found is) ∙ put-group g new ∙ changed_group_at
+      pub change_group-at : world_of size contexts (set groups i (old.0, new)) counts ≡ change_group now g change
+      change_group-at =
+          ap (λ rows. world_of size contexts rows counts) (put-at g new groups i old sound.groups_sorted found is) ∙ put-group g new ∙ changed_group_at
 
-        pub sound-group_at : IsWholeGroup size.pages new → IsSound size contexts (set groups i (old.0, new)) counts
-        sound-group_at whole =
-            let few : fm.len (fm.insert now.groups g (group_of new)) ≤ size.groups = omega (arith, kept_groups (group_of new), len-groups, sound.few_groups) in
-            subst (λ rows. IsSound size contexts rows counts) (sym (put-at facts g new groups i old sound.groups_sorted found is))
-            (sound-put_group g new whole few (subst IsFresh (sym changed_group_at) (facts.fresh.group_changed now g change sound.fresh)))
+      pub sound-group_at : IsWholeGroup size.pages new → IsSound size contexts (set groups i (old.0, new)) counts
+      sound-group_at whole =
+          let few : fm.len (fm.insert now.groups g (group_of new)) ≤ size.groups = omega (arith, kept_groups (group_of new), len-groups, sound.few_groups) in
+          subst (λ rows. IsSound size contexts rows counts) (sym (put-at g new groups i old sound.groups_sorted found is))
+          (sound-put_group g new whole few (subst IsFresh (sym changed_group_at) (stays_fresh.group_changed now g change sound.fresh)))
 
-    -- the world stays sound where it has counted no less
-    pub sound-counts : (job : ℕ) (n : Counts) → job < length counts → Rises (now.next job) (counters_of n) → IsSound size contexts groups (set counts job n)
-    sound-counts job n there rises = record {
-      some_job = sound.some_job;
-      few_pages = sound.few_pages;
-      size_contexts = sound.size_contexts;
-      size_groups = sound.size_groups;
-      few_contexts = sound.few_contexts;
-      few_groups = sound.few_groups;
-      counted = length-set counts job n ∙ sound.counted;
-      contexts_sorted = sound.contexts_sorted;
-      groups_sorted = sound.groups_sorted;
-      contexts_whole = sound.contexts_whole;
-      groups_whole = sound.groups_whole;
-      fresh = subst IsFresh (sym (change_counters-at job n there)) (facts.fresh.counted now job (λ _. counters_of n) rises sound.fresh);
-    }
+  -- the world stays sound where it has counted no less
+  pub sound-counts : (job : ℕ) (n : Counts) → job < length counts → Rises (now.next job) (counters_of n) → IsSound size contexts groups (set counts job n)
+  sound-counts job n there rises = record {
+    some_job = sound.some_job;
+    few_pages = sound.few_pages;
+    size_contexts = sound.size_contexts;
+    size_groups = sound.size_groups;
+    few_contexts = sound.few_contexts;
+    few_groups = sound.few_groups;
+    counted = length-set counts job n ∙ sound.counted;
+    contexts_sorted = sound.contexts_sorted;
+    groups_sorted = sound.groups_sorted;
+    contexts_whole = sound.contexts_whole;
+    groups_whole = sound.groups_whole;
+    fresh = subst IsFresh (sym (change_counters-at job n there)) (stays_fresh.counted now job (λ _. counters_of n) rises sound.fresh);
+  }
 
 -- names of the world are old
 pub fresh-seen : (w : WholeWorld) → IsFresh (seen w)
@@ -363,7 +362,7 @@ unfolding map_pages unmap_pages
 pages-set w c from to true = refl
 pages-set w c from to false = refl
 
-pub fresh-pages : (facts : Facts) (w : World) (c : Name) (from to : ℕ) (present : Bool) → IsFresh w → IsFresh (change_context w c (with_pages from to present))
+pub fresh-pages : (w : World) (c : Name) (from to : ℕ) (present : Bool) → IsFresh w → IsFresh (change_context w c (with_pages from to present))
 unfolding map_pages unmap_pages
-fresh-pages facts w c from to true fresh = facts.fresh.mapped w c from to fresh
-fresh-pages facts w c from to false fresh = facts.fresh.unmapped w c from to fresh
+fresh-pages w c from to true fresh = stays_fresh.mapped w c from to fresh
+fresh-pages w c from to false fresh = stays_fresh.unmapped w c from to fresh

@@ -1,4 +1,3 @@
-pub mod Facts
 pub mod Holders
 pub mod KeyValues
 pub mod Reaping

@@ -27,7 +27,8 @@ is_below kind n k = same_kind kind (kind_of k) && nat_lt (number_of k) n
 abbrev pub with_cells : (Key → Bool) → ((k : Key) → Cell (ValueOf k)) → Context → Context
 with_cells done cells x = record x { cell = λ k. if done k then cells k else x.cell k }
 
--- the cells that a clone gets, or an overlay: by the mode of the item that names the key, and by a mode where none does
+-- the cells that a clone gets, or an overlay: by the mode of the item that names the key, and by a mode where
+-- none does
 abbrev pub clone_cells : World → Name → ℕ → List Item → Mode → (k : Key) → Cell (ValueOf k)
 clone_cells w c job items rest k = cloned_cell (share w c job items) c k (unwrap_or (mode items k) rest)
 

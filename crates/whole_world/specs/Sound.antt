@@ -51,7 +51,8 @@ pub record HasGroupSizeOf (old new : GroupRow) : Type 0 where
   pub pages : vec_len new.pages ≡ vec_len old.pages
   pub slots : vec_len new.slots ≡ vec_len old.slots
 
--- the sizes are within the limits, rows are whole and in the order of their names, and jobs have counted each name
+-- the sizes are within the limits, rows are whole and in the order of their names, and jobs have counted each
+-- name
 pub record IsSound (size : WorldSize) (contexts : List (Name × ContextRow)) (groups : List (Name × GroupRow)) (counts : List Counts) : Type 0 where
   pub some_job : 1 ≤ size.jobs
   pub few_pages : size.pages ≤ MOST_PAGES

@@ -8,7 +8,6 @@ ghost use Rattle.lwc_base.specs.Modes.{IsKey, IsSpec, mode};
 ghost use Rattle.whole_world.specs.KeyValues.{key_in, value_in};
 
 use crate::context_row::ContextRow;
-use crate::facts::facts;
 use crate::holder::Holder;
 use crate::key_value::KeyValue;
 use crate::world::WholeWorld;
@@ -64,7 +63,6 @@ impl WholeWorld {
               cell = clone_cells (seen self.now) c job spec.now rest;
             }) }
     {
-        facts();
         let mut row = ContextRow::new(self.alloc, self.page_count(), NOBODY, entry)?;
         self.clone_pages(c, spec, job, rest, &mut row)?;
         self.clone_slots(c, spec, job, rest, &mut row)?;
@@ -141,7 +139,6 @@ impl WholeWorld {
         ensures context { OnOk result (context_of row.new ≡ with_cell key
             (clone_cells (seen self.now) c job spec.now rest key) (context_of row.old)) }
     {
-        facts();
         match mode_or(spec, key, rest) {
             Mode::Copy => row.put(self.copied_value(c, key)?),
             Mode::Share => match self.row(c).holder(key) {

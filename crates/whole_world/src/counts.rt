@@ -1,6 +1,5 @@
 ghost use Rattle.std.specs.Prelude.{◌≡◌, ◌+◌, ◌<◌, ◌^◌};
 
-use crate::facts::facts;
 use crate::world::WholeWorld;
 use lwc_base::Name;
 
@@ -52,7 +51,6 @@ impl WholeWorld {
         ensures room { HasRoom self.old.contexts → HasRoom self.new.contexts }
         ensures group_room { HasRoom self.old.groups → HasRoom self.new.groups }
     {
-        facts();
         self.counts[job as usize] = counts;
     }
 

@@ -4,7 +4,6 @@
 mod cloning;
 mod context_row;
 mod counts;
-mod facts;
 mod group_row;
 mod holder;
 mod key_value;

@@ -8,7 +8,6 @@ ghost use Rattle.whole_world.specs.Sharing.{key_of, with_cells};
 ghost use Rattle.whole_world.specs.Sound.{HasSizeOf, IsWhole};
 
 use crate::context_row::ContextRow;
-use crate::facts::facts;
 use crate::world::WholeWorld;
 use lwc_base::{Cell, Key, Kind, Name, Spec};
 use res_spec::mode_of;
@@ -75,7 +74,6 @@ impl WholeWorld {
         ensures { seen self.new ≡ change_context (seen self.old) c
             (with_cells (is_named spec.now) (context_of row).cell) }
     {
-        facts();
         let pages = self.page_count();
         match self.contexts.position(c) {
             Some(i) => self.contexts.rows[i].1.take_named(pages, spec, row),

@@ -3,7 +3,6 @@ ghost use Rattle.whole_world.specs.Holders.{begins_after, count_of_ranges, moved
 ghost use Rattle.whole_world.specs.declared.holder.Holder as holders;
 ghost use Rattle.whole_world.specs.declared.holder.Holder.TheVariants.{Nobody, Own};
 
-use crate::facts::facts;
 use crate::holder::Holder;
 use crate::world::WholeWorld;
 use lwc_base::{Key, Mode, Name, Range, Spec};
@@ -66,7 +65,6 @@ impl WholeWorld {
         requires within { IsSpec (seen self.now).size.pages spec.now }
         ensures { (job : ℕ) → result ≡ ranges_after_clone (seen self.now) c job spec.now }
     {
-        facts();
         let pages = self.page_count();
         (
             count_ranges(pages, |p| self.holder_after_clone(c, spec, p)),
@@ -81,7 +79,6 @@ impl WholeWorld {
         requires within { IsSpec (seen self.now).size.pages spec.now }
         ensures { (job : ℕ) → result ≡ ranges_after_overlay (seen self.now) to from job spec.now }
     {
-        facts();
         let pages = self.page_count();
         let taken = count_ranges(pages, |p| self.holder_after_overlay(to, from, spec, p));
         if to == from {
@@ -96,7 +93,6 @@ impl WholeWorld {
         requires { IsTrue (is_live (seen self.now) c) }
         ensures { result ≡ ranges_of (mapped_or_not (seen self.now) c range.from range.to present) c }
     {
-        facts();
         count_ranges(self.page_count(), |p| {
             self.holder_after_map(c, range, present, p)
         })

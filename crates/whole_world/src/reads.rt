@@ -145,7 +145,7 @@ impl WholeWorld {
     }
 
     /// The number of pages of a context that are present.
-    #[tactic(auto, using(crate::proofs::Places::count_of_range))]
+    #[tactic(auto, using(lwc_base::proofs::Small::count_of_range))]
     pub(crate) fn present_count(&self, c: Name) -> usize
         requires { IsTrue (is_live (seen self.now) c) }
         ensures present { result ≡ count_by (λ p. is_some (page_at (seen self.now) c p))
@@ -158,7 +158,7 @@ impl WholeWorld {
     }
 
     /// The number of slots of a context that are not empty.
-    #[tactic(auto, using(crate::proofs::Places::count_of_range))]
+    #[tactic(auto, using(lwc_base::proofs::Small::count_of_range))]
     pub(crate) fn filled_count(&self, c: Name) -> usize
         requires { IsTrue (is_live (seen self.now) c) }
         ensures filled { result ≡ count_by (λ n. not (is_empty (slot_at (seen self.now) c n)))
@@ -169,7 +169,7 @@ impl WholeWorld {
     }
 
     /// The byte at an address, 0 where its page is absent.
-    #[tactic(auto, unfolding(lwc_base::specs::Memory::byte_at), using(crate::proofs::Places::zeros_at))]
+    #[tactic(auto, unfolding(lwc_base::specs::Memory::byte_at), using(lwc_base::proofs::Small::zeros_at))]
     fn byte(&self, c: Name, at: usize) -> u8
         requires live { IsTrue (is_live (seen self.now) c) }
         requires within { at < 2 ^ 28 }

@@ -10,7 +10,6 @@ ghost use Rattle.whole_world.specs.Tables.{has_name};
 ghost use Rattle.whole_world.specs.Worlds.{seen};
 
 use crate::context_row::ContextRow;
-use crate::facts::facts;
 use crate::world::WholeWorld;
 use arrayvec::ArrayVec;
 use lwc_base::{Cell, Descriptor, Name};
@@ -23,7 +22,6 @@ impl Links for WholeWorld {
     ghost link_of = { spec.link_of };
 
     fn link(&self, place: usize, slot: u8) -> Option<usize> {
-        facts();
         match self.contexts.name_at(place) {
             Some(c) => self.place_of(self.slot_value(c, slot)),
             None => None,
@@ -43,7 +41,6 @@ impl WholeWorld {
           contexts = fm.retain_keys (seen self.old).contexts (is_reached (seen self.old) roots.now);
         } }
     {
-        facts();
         let mut marks = Marks::new();
         let places = self.places_of(roots);
         mark(self, places.as_slice(), &mut marks);
@@ -57,7 +54,6 @@ impl WholeWorld {
               (λ g. list_any (names_group (seen self.old).size.pages g) (fm.values (seen self.old).contexts));
         } }
     {
-        facts();
         let marks = self.named_groups();
         self.groups.keep(&marks);
     }
@@ -125,7 +121,6 @@ impl WholeWorld {
     fn mark_cell<T>(&self, cell: &Cell<T>, marks: &mut [bool; 1024])
         ensures { AddsMarks self.now.groups.rows.items (λ g. is_in g cell.now) marks.old marks.new }
     {
-        facts();
         if let Cell::Common(g) = cell {
             if let Some(place) = self.groups.position(*g) {
                 marks[place] = true;

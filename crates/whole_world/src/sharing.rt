@@ -14,7 +14,6 @@ ghost use Rattle.whole_world.specs.Sharing.{gave, is_below, took};
 ghost use Rattle.whole_world.specs.Sound.{HasGroupSizeOf, HasKey, HasSizeOf, HasSlot, IsWhole, IsWholeGroup};
 
 use crate::context_row::ContextRow;
-use crate::facts::facts;
 use crate::group_row::GroupRow;
 use crate::world::WholeWorld;
 use lwc_base::{Key, Mode, Name, OutOfMemory, SLOTS, Spec};
@@ -153,7 +152,6 @@ impl WholeWorld {
         ensures err { OnErr result (seen self.new ≡ seen self.old) }
         ensures room { HasRoom self.old.contexts → HasRoom self.new.contexts }
     {
-        facts();
         if self.moves_any(c, spec) {
             let group = GroupRow::new(self.alloc, self.page_count())?;
             self.share_into(c, spec, job, group);
@@ -175,7 +173,6 @@ impl WholeWorld {
         ensures world { seen self.new ≡ share (seen self.old) c job spec.now }
         ensures room { HasRoom self.old.contexts → HasRoom self.new.contexts }
     {
-        facts();
         let name = self.next_group(job);
         self.count_group(job);
         self.move_out(c, spec, name, &mut group);
@@ -195,7 +192,6 @@ impl WholeWorld {
         ensures whole { IsWholeGroup (seen self.old).size.pages group.new }
         ensures group { group_of group.new ≡ moved_values spec.now (context (seen self.old) c) }
     {
-        facts();
         let pages = self.page_count();
         match self.contexts.position(c) {
             Some(i) => self.contexts.rows[i]

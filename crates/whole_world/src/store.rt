@@ -8,12 +8,12 @@ use lwc_base::{Name, OutOfMemory, PageValue, Tag};
 impl WholeWorld {
     ghost use Rattle.std.specs.List.{range_with_len};
     ghost use Rattle.lwc_base.specs.Frames.{is_parting};
-    ghost use Rattle.lwc_base.specs.Store.{plan, page_value_at};
+    ghost use Rattle.lwc_base.specs.Store.{stored_pages, page_value_at};
     ghost use Rattle.lwc_base.specs.World.{is_live};
     ghost use Rattle.whole_world.specs.Worlds.{seen};
 
     /// The number of pages that a store to some pages parts.
-    #[tactic(auto, using(crate::proofs::Places::count_of_range))]
+    #[tactic(auto, using(lwc_base::proofs::Small::count_of_range))]
     pub(crate) fn parting_count(&self, c: Name, pages: Touched) -> usize
         requires { IsTrue (is_live (seen self.now) c) }
         ensures parting { result ≡ count_by (λ p. is_parting (seen self.now) (page_value_at
@@ -27,7 +27,7 @@ impl WholeWorld {
     }
 
     /// The new value of each page that a piece touches. The only error is out of memory.
-    pub(crate) fn plan(
+    pub(crate) fn stored_pages(
         &self,
         c: Name,
         at: usize,
@@ -39,7 +39,7 @@ impl WholeWorld {
         requires job { job < (seen self.now).size.jobs }
         requires counted { ((seen self.now).next job).tags < 2 ^ 31 }
         ensures { IfOk result (λ values. values.items
-            ≡ plan (seen self.now) c job (record { at = at; bytes = piece.now })
+            ≡ stored_pages (seen self.now) c job (record { at = at; bytes = piece.now })
             ((seen self.now).next job).tags (range_with_len pages.first (pages.end - pages.first))) }
     {
         let mut k = self.counts_of(job).tags;

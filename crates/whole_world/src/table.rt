@@ -6,7 +6,6 @@ ghost use Rattle.std.specs.Option.{option_copied};
 ghost use Rattle.lwc_base.specs.Names.{name_cmp};
 ghost use Rattle.whole_world.specs.Tables.{has_name, is_past};
 
-use crate::facts::facts;
 use lwc_base::{Name, OutOfMemory};
 use std::alloc::Global;
 
@@ -46,7 +45,6 @@ impl<T> Table<T> {
     pub fn get(&self, name: Name) -> Option<&T>
         ensures { option_copied result ≡ fm.find name_cmp name self.now.rows.items }
     {
-        facts();
         match self.position(name) {
             Some(i) => Some(&self.rows[i].1),
             None => None,
@@ -77,7 +75,6 @@ impl<T> Table<T> {
         requires room { vec_len self.old.rows < vec_capacity self.old.rows }
         ensures { self.new.rows.items ≡ fm.put name_cmp name value self.old.rows.items }
     {
-        facts();
         let place = self.place_for(name);
         self.rows.insert(place, (name, value)).unwrap();
     }

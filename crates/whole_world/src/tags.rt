@@ -8,7 +8,6 @@ ghost use Rattle.whole_world.specs.Tags.{different, has_tag, page_tags, row_tags
 ghost use Rattle.whole_world.specs.Tags.{times};
 
 use crate::context_row::ContextRow;
-use crate::facts::facts;
 use crate::group_row::GroupRow;
 use crate::world::WholeWorld;
 use lwc_base::{Cell, Name, PageValue, Tag};
@@ -83,7 +82,6 @@ fn count_new_tags<P: Page>(pages: &[P], later: Rows) -> usize
     ensures { result + different (rows_tags later.entry)
         ≡ different (page_tags P.value pages.now ++ rows_tags later.entry) }
 {
-    facts();
     let mut count = 0;
     let mut rest = pages;
     while let Some((first, after)) = rest.split_first() {
@@ -98,7 +96,6 @@ fn count_new_tag<P: Page>(tag: Option<Tag>, pages: &[P], later: Rows) -> usize
     ensures { result + different (page_tags P.value pages.now ++ rows_tags later.entry)
         ≡ different (option_to_list tag ++ (page_tags P.value pages.now ++ rows_tags later.entry)) }
 {
-    facts();
     match tag {
         Some(tag) => usize::from(!follows(tag, pages, later)),
         None => 0,
@@ -212,7 +209,6 @@ impl<'a> Rows<'a> {
         requires { length (rows_tags self) < 2 ^ 32 }
         ensures { result ≡ different (rows_tags self.entry) }
     {
-        facts();
         let mut count = 0;
         let mut rest = self;
         while let Some((row, others)) = rest.split_first() {
@@ -246,7 +242,6 @@ impl WholeWorld {
         ensures used { result ≡ used (seen self.now) }
         ensures few { result ≤ 2 ^ 30 }
     {
-        facts();
         self.rows().count_different()
     }
 

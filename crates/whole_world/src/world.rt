@@ -5,7 +5,6 @@ ghost use Rattle.whole_world.specs.States.{nothing_counted};
 
 use crate::context_row::ContextRow;
 use crate::counts::Counts;
-use crate::facts::facts;
 use crate::group_row::GroupRow;
 use crate::key_value::KeyValue;
 use crate::table::Table;
@@ -37,7 +36,6 @@ impl World for WholeWorld {
     ghost roomy = { false };
 
     fn open(alloc: Global, world_size: &WorldSize) -> Result<WholeWorld, OutOfMemory> {
-        facts();
         Ok(WholeWorld {
             alloc,
             size: *world_size,
@@ -77,7 +75,6 @@ impl World for WholeWorld {
     }
 
     fn store(&mut self, c: Name, at: u32, piece: &[u8], job: u32) -> Result<(), StoreFault> {
-        facts();
         let pages = touched_pages(at as usize, piece.len());
         if !self.are_present(c, pages) {
             return Err(StoreFault::BadAddress);
@@ -86,7 +83,7 @@ impl World for WholeWorld {
         if (self.size.frames as usize) < self.used() as usize + parting {
             return Err(StoreFault::NoFrame);
         }
-        match self.plan(c, at as usize, piece, job, pages) {
+        match self.stored_pages(c, at as usize, piece, job, pages) {
             Ok(values) => {
                 self.put_pages(c, values);
                 self.count_tags(job, parting as u32);
@@ -137,7 +134,6 @@ impl World for WholeWorld {
         job: u32,
         entry: &Regs,
     ) -> Result<Name, OutOfMemory> {
-        facts();
         let row = self.cloned_row(c, spec, job, Mode::Copy, entry)?;
         self.reserve()?;
         self.share(c, spec, job)?;
@@ -145,7 +141,6 @@ impl World for WholeWorld {
     }
 
     fn overlay(&mut self, to: Name, from: Name, spec: &Spec, job: u32) -> Result<(), OutOfMemory> {
-        facts();
         let row = self.cloned_row(from, spec, job, Mode::Unmap, &Regs::fresh(0))?;
         self.reserve()?;
         self.share(from, spec, job)?;

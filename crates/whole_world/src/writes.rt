@@ -2,7 +2,6 @@ ghost use Rattle.std.specs.Prelude.{◌≡◌, ◌<◌, ◌≤◌, ◌^◌, IsTr
 ghost use Rattle.lwc_base.specs.declared.descriptor.TheConstants.{SLOTS};
 
 use crate::context_row::ContextRow;
-use crate::facts::facts;
 use crate::holder::Holder;
 use crate::key_value::KeyValue;
 use crate::world::WholeWorld;
@@ -32,7 +31,6 @@ impl WholeWorld {
         requires own { holder_of (key_in value) ((context (seen self.old) c).cell (key_in value)) ≡ spec.Own }
         ensures { seen self.new ≡ put_at (seen self.old) c (key_in value) (value_in value) }
     {
-        facts();
         match self.contexts.position(c) {
             Some(i) => self.contexts.rows[i].1.put(value),
             None => {}
@@ -45,7 +43,6 @@ impl WholeWorld {
         ensures { seen self.new ≡ change_group (seen self.old) g (with_value (key_in value)
             (value_in value)) }
     {
-        facts();
         match self.groups.position(g) {
             Some(i) => self.groups.rows[i].1.put(value),
             None => {}
@@ -70,7 +67,6 @@ impl WholeWorld {
         requires { IsTrue (is_live (seen self.old) c) }
         ensures { seen self.new ≡ put_pages (seen self.old) c values.items }
     {
-        facts();
         for (p, value) in values {
             self.put(c, KeyValue::Page(p, Some(value)));
         }
@@ -82,7 +78,6 @@ impl WholeWorld {
         requires pages { range.to ≤ (seen self.old).size.pages }
         ensures { seen self.new ≡ mapped_or_not (seen self.old) c range.from range.to present }
     {
-        facts();
         match self.contexts.position(c) {
             Some(i) => self.contexts.rows[i]
                 .1
@@ -96,7 +91,6 @@ impl WholeWorld {
         requires { t < MOST_THREADS }
         ensures { seen self.new ≡ save (seen self.old) c t regs.now }
     {
-        facts();
         match self.contexts.position(c) {
             Some(i) => self.contexts.rows[i].1.save(t, regs),
             None => {}
@@ -124,7 +118,6 @@ impl WholeWorld {
         ensures name { result ≡ next_context (seen self.old) job }
         ensures world { seen self.new ≡ add_context (seen self.old) job (context_of row) }
     {
-        facts();
         let name = self.next_context(job);
         self.count_context(job);
         self.contexts.insert(name, row);

@@ -22,7 +22,8 @@ pub fn is_within(pages: u32, at: u64, count: usize) -> bool
 pub fn bytes_for<W: World>(world: &W, c: Name, at: u64, out: &mut [u8]) -> bool
     requires live { IsLive (W.seen world.now) c }
     ensures present { result ≡ is_some (memory.bytes_for (W.seen world.now) c at (length out.old)) }
-    ensures found { IfSome (memory.bytes_for (W.seen world.now) c at (length out.old)) (λ bytes. out.new ≡ bytes) }
+    ensures found { IfSome (memory.bytes_for (W.seen world.now) c at (length out.old))
+        (λ bytes. out.new ≡ bytes) }
     ensures absent { IfNone (memory.bytes_for (W.seen world.now) c at (length out.old)) (out.new ≡ out.old) }
 {
     out.is_empty() || (is_within(world.pages(), at, out.len()) && world.bytes(c, at as u32, out))

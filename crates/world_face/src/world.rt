@@ -173,10 +173,11 @@ pub trait World: Sized + Drop + Send + Sync {
         ensures err { OnErr result (seen self.new ≡ seen self.old) }
         ensures ample { roomy ≡ true → IsOk result };
 
-    /// Takes over what the items name from the context `from` into the context `to`, for a job; both may be the
-    /// same. First the values of mode share that are `from`'s own move into one new group. Then `to` gets a copy
-    /// of each value of mode copy, has each value of mode share in common with `from`, and nothing under a key of
-    /// mode unmap. An absent page of `from` becomes absent in `to`. The only error is out of memory.
+    /// Takes over what the items name from the context `from` into the context `to`, for a job; both may be
+    /// the same. First the values of mode share that are `from`'s own move into one new group. Then `to` gets
+    /// a copy of each value of mode copy, has each value of mode share in common with `from`, and nothing
+    /// under a key of mode unmap. An absent page of `from` becomes absent in `to`. The only error is out of
+    /// memory.
     fn overlay(&mut self, to: Name, from: Name, spec: &Spec, job: u32) -> Result<(), OutOfMemory>
         requires to { IsLive (seen self.old) to }
         requires from { IsLive (seen self.old) from }
@@ -188,15 +189,15 @@ pub trait World: Sized + Drop + Send + Sync {
         ensures err { OnErr result (seen self.new ≡ seen self.old) }
         ensures ample { roomy ≡ true → IsOk result };
 
-    /// Drops the contexts that are not reached from the roots by descriptors in slots, and then the groups that
-    /// no cell names.
+    /// Drops the contexts that are not reached from the roots by descriptors in slots, and then the groups
+    /// that no cell names.
     fn reap(&mut self, roots: &[Name])
         requires few { length roots.now ≤ MOST_ROOTS }
         requires live { All (λ root. IsLive (seen self.old) root) roots.now }
         ensures reaped { seen self.new ≡ reap (seen self.old) roots.now };
 
-    /// Whether `clone_context` and `overlay` make a group: an item of mode share names a key that is present and
-    /// the context's own.
+    /// Whether `clone_context` and `overlay` make a group: an item of mode share names a key that is present
+    /// and the context's own.
     fn needs_group(&self, c: Name, spec: &Spec) -> bool
         requires live { IsLive (seen self.now) c }
         requires within { IsSpec (seen self.now).size.pages spec.now }
@@ -209,8 +210,8 @@ pub trait World: Sized + Drop + Send + Sync {
         requires within { IsSpec (seen self.now).size.pages spec.now }
         ensures value { (job : ℕ) → result ≡ ranges_after_clone (seen self.now) c job spec.now };
 
-    /// The numbers of ranges that the contexts `from` and `to` would have after `overlay`, in this order. They are
-    /// the same for every job.
+    /// The numbers of ranges that the contexts `from` and `to` would have after `overlay`, in this order.
+    /// They are the same for every job.
     fn ranges_after_overlay(&self, to: Name, from: Name, spec: &Spec) -> (u32, u32)
         requires to { IsLive (seen self.now) to }
         requires from { IsLive (seen self.now) from }

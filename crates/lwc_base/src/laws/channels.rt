@@ -14,8 +14,8 @@ ghost use Rattle.lwc_base.specs.declared.name.Name.{Name};
 ghost use Rattle.lwc_base.specs.declared.regs.Regs.{Regs};
 ghost use Rattle.lwc_base.specs.declared.size.WorldSize.{WorldSize};
 
-/// A descriptor that a slot of a live context has names a file or a request that is there, and has been read at
-/// most up to its end. This stays so whatever a run changes: what is put into a slot has to be so too.
+/// A descriptor that a slot of a live context has names a file or a request that is there, and has been read
+/// at most up to its end. This stays so whatever a run changes: what is put into a slot has to be so too.
 pub fn descriptors_stay_in_range()
     ensures empty { (io : Channels) (size : WorldSize) →
         HasItsFiles io (empty_world size) }

@@ -68,9 +68,9 @@ pub fn what_is_dropped_is_named_by_nothing()
 
 /// A change that cuts no link leaves nothing to drop, so to reap after it changes nothing: a store; another
 /// descriptor in a slot, if it is one of the context that the old one was of, or the old one was of none; a
-/// new context with a descriptor of it in an empty slot of the context that it is made from; and a switch from
-/// a root to a context whose empty slot gets a descriptor of the root. The last two need the groups that cells
-/// name, since what is put into a group that is not live is nowhere.
+/// new context with a descriptor of it in an empty slot of the context that it is made from; and a switch
+/// from a root to a context whose empty slot gets a descriptor of the root. The last two need the groups that
+/// cells name, since what is put into a group that is not live is nowhere.
 #[tactic(auto, using(crate::proofs::StillReaped::nothing_to_drop))]
 pub fn changes_that_cut_no_link_leave_nothing_to_drop()
     ensures stored { (w : World) (roots : List Name) (c : Name) (job : ℕ) (piece : Piece) → IsReaped w roots →
@@ -89,8 +89,8 @@ pub fn changes_that_cut_no_link_leave_nothing_to_drop()
         IsReaped (put_slot (save w c t regs) d n (Ctx c cap)) others }
 {}
 
-/// A context that a slot of a live context has a descriptor of stays live, whatever a run changes: a descriptor
-/// that is put into a slot has to be one of a live context, or of none.
+/// A context that a slot of a live context has a descriptor of stays live, whatever a run changes: a
+/// descriptor that is put into a slot has to be one of a live context, or of none.
 #[tactic(auto, using(crate::proofs::NamedContexts::keep_contexts))]
 pub fn contexts_keep_the_contexts_that_they_name()
     ensures store { (w : World) (c : Name) (job : ℕ) (piece : Piece) → HasItsContexts w →

@@ -21,8 +21,8 @@ pub fn an_overlay_changes_what_it_names()
 {}
 
 /// What is copied, the context has of its own, as the other one had it, and apart from each other context.
-/// What is shared reads as in the other one, and if something is there, both have it in common. In both ways a
-/// page that is absent in the other context becomes absent.
+/// What is shared reads as in the other one, and if something is there, both have it in common. In both ways
+/// a page that is absent in the other context becomes absent.
 pub fn an_overlay_copies_or_shares()
     ensures copied { (w v : World) (c d : Name) (items : List Item) → IsOverlay w v c d items →
         (k : Key) → mode items k ≡ Some Copy → (context v c).cell k ≡ Own (value_at w d k) }

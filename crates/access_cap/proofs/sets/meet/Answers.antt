@@ -11,8 +11,7 @@ words-preserved c =
 
 pub returns-then-cap : goal.returns-then-cap
 returns-then-cap c =
-    let laws = c.capabilities_are_sets_of_keys.ensures in
-    meet_is laws.valid laws.equal c.a_restriction_adds_no_key.ensures.has c.args.cap.now _ _ _ c.items-items.ensures.items record {
+    meet_is c.args.cap.now _ _ _ c.items-items.ensures.items record {
       words = all_words _ _ _ c.words-test.false c.words.auto.i-end c.words.invariant;
       fits = omega (arith, and_le_r c.args.cap.now.slots c.named_word-2.result);
       slots = λ n within. both_bits _ _ n _ (c.named_word-2.ensures (Slot n) n refl (omega arith) within);
@@ -21,8 +20,7 @@ returns-then-cap c =
 
 pub returns-else-cap : goal.returns-else-cap
 returns-else-cap c =
-    let laws = c.capabilities_are_sets_of_keys.ensures in
-    meet_is laws.valid laws.equal c.a_restriction_adds_no_key.ensures.has c.args.cap.now _ _ _ c.items-items.ensures.items record {
+    meet_is c.args.cap.now _ _ _ c.items-items.ensures.items record {
       words = all_words _ _ _ c.words-test.false c.words.auto.i-end c.words.invariant;
       fits = omega (arith, and_le_r c.args.cap.now.slots c.named_word-2.result);
       slots = λ n within. both_bits _ _ n _ (c.named_word-2.ensures (Slot n) n refl (omega arith) within);

@@ -2,4 +2,4 @@ use Rattle.call_items.proofs.NotRefused.{rest_clear, spec_asked}
 use Rattle.call_items.proofs.asking.items_that_are_not_refused_are_a_spec.Goals as goal
 
 pub returns : goal.returns
-returns c = record { spec = spec_asked c.items_that_are_read_are_a_spec.ensures; rest = rest_clear }
+returns c = record { spec = spec_asked; rest = rest_clear }

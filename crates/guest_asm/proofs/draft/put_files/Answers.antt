@@ -1,9 +1,9 @@
 use Rattle.std.proofs.Common.{◌++◌, ap, ◌∙◌, refl}
 use Rattle.std.proofs.lemmas.Option.{slice_get_read}
 use Rattle.guest_asm.specs.Drafts.{file}
-use Rattle.guest_asm.proofs.Writes.{spell_next}
 use Rattle.guest_asm.proofs.Lengths.{file_fits}
 use Rattle.guest_asm.proofs.draft.put_files.Goals as goal
+use Rattle.guest_image.proofs.Writes.{spell_next}
 
 pub put_file-requires : goal.put_file-requires
 put_file-requires c = file_fits c.args.files.now c.loop-file.file-index c.file-item.result c.loop-file-test.true c.file-item.is c.requires

@@ -1,6 +1,6 @@
 use Rattle.std.proofs.Common.{◌≡◌, ◌∙◌, Some, ap, sym}
 use Rattle.guest_call.specs.Guest.{descriptor_for, link_of}
-use Rattle.guest_call.proofs.Targets.{in_slot}
+use Rattle.guest_call.proofs.Targets.{in_slot, target_links}
 use Rattle.guest_call.proofs.links.context_for.Goals as goal
 
 pub returns-in-Ctx-clause-within : goal.returns-in-Ctx-clause-within
@@ -14,4 +14,4 @@ returns-in-Ctx-clause-target g c =
     let w = g.W.World.seen c.args.world.now in
     let is : link_of (descriptor_for w c.args.c c.args.n) ≡ Some (c.in-Ctx.name, c.in-Ctx.cap) = ap link_of (sym c.descriptor_for.ensures ∙ c.in-Ctx.is) in
     c.requires.named.live c.args.c c.in-Ctx.name c.requires.live
-    (c.a_descriptor_in_a_slot_is_a_link.ensures w c.args.c c.args.n (c.in-Ctx.name, c.in-Ctx.cap) is)
+    (target_links w c.args.c c.args.n (c.in-Ctx.name, c.in-Ctx.cap) is)

@@ -2,13 +2,13 @@ use Rattle.job_view.proofs.Using.{used-apart, used-together, used_by-alike, used
 use Rattle.job_view.proofs.laws.frames_are_those_of_jobs.Goals as goal
 
 pub returns-clause-alike : goal.returns-clause-alike
-returns-clause-alike c = used_by-alike c.names_are_ordered.ensures
+returns-clause-alike c = used_by-alike
 
 pub returns-clause-together : goal.returns-clause-together
-returns-clause-together c home jobs w keeps = used-together c.names_are_ordered.ensures home w keeps jobs
+returns-clause-together c home jobs w keeps = used-together home w keeps jobs
 
 pub returns-clause-apart : goal.returns-clause-apart
-returns-clause-apart c = used-apart c.names_are_ordered.ensures
+returns-clause-apart c = used-apart
 
 pub returns-clause-homes : goal.returns-clause-homes
-returns-clause-homes c home w keeps = used_by-home c.names_are_ordered.ensures home w keeps
+returns-clause-homes c = used_by-home

@@ -6,11 +6,8 @@ use Rattle.kernel_core.proofs.calling.call_create.Goals as goal
 
 pub returns-clause-kept : goal.returns-clause-kept
 returns-clause-kept g c =
-    let cuts = c.changes_that_cut_no_link_leave_nothing_to_drop.ensures in
-    let lowest = c.the_lowest_empty_slot_is_empty.ensures in
     ended_keeps _ _ _ _ c.in_ok-answer.answer _ _
-    (λ regs is. leaves_created (record { stored = cuts.stored; put = cuts.put; created = cuts.created; switched = cuts.switched }) (λ w d n found. (lowest.within w d n found, lowest.empty w d n found))
-    c.an_accepted_call_is_within_limits.ensures.slot _ _ _ c.args.thread.now.job c.args.thread.now.regs regs c.requires.ready.sound c.requires.ready.live
+    (λ regs is. leaves_created _ _ _ c.args.thread.now.job c.args.thread.now.regs regs c.requires.ready.sound c.requires.ready.live
     (c.in_ok-answer.ensures.done ∙ ap (λ (a : Answer). (a, g.W.World.seen c.create.new.world)) is))
     (λ refusal is. subst (λ (a : Answer). IfRefused a (g.W.World.seen c.create.new.world ≡ g.W.World.seen c.args.world.now)) is c.in_ok-answer.ensures.refused)
     c.end_call.ensures.change c.end_call.ensures.thread

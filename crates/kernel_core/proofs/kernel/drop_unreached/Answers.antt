@@ -1,4 +1,4 @@
-use Rattle.std.proofs.Common.{◌≡◌, ◌∙◌, ◌++◌, ◌∷◌, [], List, ap, arith, length, length-append, subst, sym, ℕ}
+use Rattle.std.proofs.Common.{List, [], ap, arith, length, length-append, rules, subst, sym, ℕ, ◌++◌, ◌∙◌, ◌∷◌, ◌≡◌}
 use Rattle.std.specs.Prelude.{All}
 use Rattle.std.proofs.lemmas.List.Elements.{All-append}
 use Rattle.kernel_core.proofs.Reaping.{home_more, length-contexts, length-homes, live_roots}
@@ -6,6 +6,7 @@ use Rattle.kernel_core.specs.Machine.{homes_of}
 use Rattle.kernel_core.specs.Step.{contexts_of}
 use Rattle.lwc_base.specs.declared.name.Name.{Name}
 use Rattle.world_face.specs.Calls.{IsLive}
+use Rattle.lwc_base.proofs.Reaped.{reap-reaped}
 use Rattle.kernel_core.proofs.kernel.drop_unreached.Goals as goal
 
 pub push-requires-in-homes : goal.push-requires-in-homes
@@ -32,3 +33,6 @@ reap-requires-clause-live g c =
     let all : c.homes.t ≡ c.args.workers = omega (arith, c.homes-test.false, c.homes.auto.t-end) in
     subst (All (IsLive (g.W.World.seen c.args.world.now))) (sym (c.as_slice.ensures.value ∙ c.homes.invariant ∙ ap (λ (n : ℕ). contexts_of c.args.threads.now ++ homes_of n) all))
     (All-append (IsLive (g.W.World.seen c.args.world.now)) (contexts_of c.args.threads.now) (homes_of c.args.workers) (live_roots (g.W.World.seen c.args.world.now) c.args.threads.now c.requires.live) c.requires.homes)
+
+pub returns-else-eq : goal.returns-else-eq
+returns-else-eq g c = search (rules, reap-reaped, c.requires.uncut, c.if-eq.ensures, c.if-eq.false)

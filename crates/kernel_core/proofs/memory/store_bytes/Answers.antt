@@ -7,6 +7,5 @@ use Rattle.kernel_core.proofs.memory.store_bytes.Goals as goal
 
 pub returns-in-Ok-clause-kept : goal.returns-in-Ok-clause-kept
 returns-in-Ok-clause-kept g c =
-    let cuts = c.changes_that_cut_no_link_leave_nothing_to_drop.ensures in
     subst (λ (d : Name). LeavesNothing (g.W.World.seen c.args.world.now) c.args.thread.now.context (g.W.World.seen c.store.new.self) d) (sym (ap (λ (x : Thread). x.context) c.advance.ensures))
-    (leaves_stored (record { stored = cuts.stored; put = cuts.put; created = cuts.created; switched = cuts.switched }) _ _ _ c.args.thread.now.job _ c.in-Ok.ensures.done)
+    (leaves_stored _ _ _ c.args.thread.now.job _ c.in-Ok.ensures.done)

@@ -5,9 +5,9 @@ use Rattle.kernel_core.proofs.starting.put_slot.Goals as goal
 
 pub set_slot-requires-clause-live : goal.set_slot-requires-clause-live
 set_slot-requires-clause-live g c =
-    (first_world c.names_are_ordered.ensures _ c.requires.image _ _ _ _ c.requires.before c.requires.image.page_count).live
+    (first_world _ c.requires.image _ _ _ _ c.requires.before c.requires.image.page_count).live
 
 pub returns : goal.returns
 returns g c =
-    slot_put c.names_are_ordered.ensures _ c.requires.image _ _ _ _ _ _ c.requires.before
+    slot_put _ c.requires.image _ _ _ _ _ _ c.requires.before
     (c.first_slot.ensures ∙ ap (λ slots. first_slot slots c.args.n) c.as_slice.ensures) c.set_slot.ensures.put

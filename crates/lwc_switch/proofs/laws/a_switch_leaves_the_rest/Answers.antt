@@ -6,10 +6,11 @@ use Rattle.lwc_base.specs.Capabilities.{empty_cap}
 use Rattle.lwc_base.specs.Saved.{save}
 use Rattle.lwc_switch.proofs.Rest.{leaves_rest}
 use Rattle.lwc_switch.specs.Switch.{LeavesRest}
+use Rattle.guest_call.proofs.Changes.{putting, saving}
 use Rattle.lwc_switch.proofs.laws.a_switch_leaves_the_rest.Goals as goal
 
 pub returns : goal.returns
 returns c = λ w v from d t regs arrived moved.
     subst (λ v. LeavesRest w v from d t moved.slot) (sym moved.made)
-    (leaves_rest w _ _ from d t moved.slot (c.a_save_changes_one_threads_registers.ensures w from t (with_answer regs 0))
-    (c.a_put_leaves_the_rest.ensures (save w from t (with_answer regs 0)) d (Slot moved.slot) (Ctx from empty_cap)))
+    (leaves_rest w _ _ from d t moved.slot (saving w from t (with_answer regs 0))
+    (putting (save w from t (with_answer regs 0)) d (Slot moved.slot) (Ctx from empty_cap)))

@@ -3,4 +3,4 @@ use Rattle.lwc_switch.proofs.laws.an_accepted_switch_goes_to_a_linked_context.Go
 
 pub returns : goal.returns
 returns c = λ w v from d t regs arrived whole live is.
-    accepted c.a_descriptor_in_a_slot_is_a_link.ensures c.the_lowest_empty_slot_is_empty.ensures.within c.the_lowest_empty_slot_is_empty.ensures.empty w from t regs whole live v d arrived is
+    accepted w from t regs whole live v d arrived is

@@ -24,7 +24,7 @@ with_turn-requires-clause-callable g c κs lives x due p is =
     let e : p.now.kernel.value ≡ x.kernel.value = cc in
     let s = c.type_bounds.send-W in
     let y = c.type_bounds.sync-W in (
-      ready c.histories_are_known.ensures p.now.kernel.value c.args.gate.now.name c.args.pass.now.seen c.args.pass.now.number c.number-t.result c.args.last.value c.args.proposal
+      ready p.now.kernel.value c.args.gate.now.name c.args.pass.now.seen c.args.pass.now.number c.number-t.result c.args.last.value c.args.proposal
           (ap (λ (h : History). h.inputs) e ∙ due.0) (subst (λ (h : History). Knows h.steps c.args.pass.now.number c.args.pass.now.seen) (sym e) due.1)
           c.requires.knows c.requires.going c.requires.within c.requires.proposal c.number-t.ensures,
       (search (sendable, crosses) depth 80 fits 20000, search (sendable, crosses) depth 80 fits 20000),

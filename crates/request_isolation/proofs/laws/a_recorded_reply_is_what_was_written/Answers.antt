@@ -3,6 +3,6 @@ use Rattle.request_isolation.proofs.laws.a_recorded_reply_is_what_was_written.Go
 
 pub returns : goal.returns
 returns c = record {
-  request = λ inputs steps r told can is. (recorded_written c.jobs_are_apart.ensures inputs can steps r told is).0;
-  bytes = λ inputs steps r told can is. (recorded_written c.jobs_are_apart.ensures inputs can steps r told is).1;
+  request = λ inputs steps r told can is. (recorded_written inputs can steps r told is).0;
+  bytes = λ inputs steps r told can is. (recorded_written inputs can steps r told is).1;
 }

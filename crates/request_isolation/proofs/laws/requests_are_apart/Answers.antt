@@ -4,6 +4,6 @@ use Rattle.request_isolation.proofs.laws.requests_are_apart.Goals as goal
 
 pub returns : goal.returns
 returns c = record {
-  own = λ inputs steps workers can serve. (home_for inputs.image, kept_apart c.jobs_are_apart.ensures inputs workers can serve steps);
-  gone = λ inputs steps workers r told d can serve is live. gone c.jobs_are_apart.ensures inputs workers can serve r steps told d is live;
+  own = λ inputs steps workers can serve. (home_for inputs.image, kept_apart inputs workers can serve steps);
+  gone = λ inputs steps workers r told d can serve is live. gone inputs workers can serve r steps told d is live;
 }

@@ -1,8 +1,9 @@
 use Rattle.std.proofs.Common.{◌≡◌, ◌<◌, ◌^◌, ◌++◌, ◌∷◌, All, length, map, sym, ap, subst, arith}
 use Rattle.std.proofs.lemmas.Bool.Decides.{nat_tests}
 use Rattle.std.proofs.lemmas.List.Elements.{All-push}
-use Rattle.thread_carrier.proofs.Carrying.{first_of, one_made}
+use Rattle.thread_carrier.proofs.Carrying.{one_made}
 use Rattle.thread_carrier.proofs.running.carriers_of.Goals as goal
+use Rattle.process_core.proofs.Handing.{first_of}
 
 pub passes-preserved : goal.passes-preserved
 passes-preserved g c =

@@ -1,8 +1,6 @@
 use Rattle.std.proofs.Common.{◌≡◌, ◌∙◌, All, map, sym, ap, subst, true, arith}
 use Rattle.std.proofs.lemmas.List.Elements.{All-map}
-use Rattle.kernel_core.specs.Histories.{IsComplete}
 use Rattle.kernel_core.specs.Machine.{has_ended}
-use Rattle.kernel_core.specs.Start.{start}
 use Rattle.process_core.specs.Running.{AreAllOf, IsPassOf}
 use Rattle.thread_carrier.proofs.Carrying.{all_made, still_all, written_back}
 use Rattle.thread_carrier.proofs.running.run_threads.Goals as goal

@@ -20,7 +20,7 @@ counted g c =
     ∙ ap (λ ts. different (ts ++ (tags c.in-Some.after.now ++ others))) own)
 
 pub overflow_add-count : goal.overflow_add-count
-overflow_add-count g c = omega (arith, counted_new-le-length c.facts.ensures _ _ _ _ (counted g c), c.requires)
+overflow_add-count g c = omega (arith, counted_new-le-length _ _ _ _ (counted g c), c.requires)
 
 pub loop-first-preserved : goal.loop-first-preserved
 loop-first-preserved g c = counted g c

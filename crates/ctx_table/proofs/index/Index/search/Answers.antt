@@ -10,14 +10,14 @@ returns c =
     let facts = c.binary_search_by_key.ensures in
     let by_key = facts.position (λ row. row.0) (answers_always _ _ _ (λ f a r g called. search rules)) in
     rw (← c.self.view_is, fm.entries-from_sorted name_cmp c.self.inside.rows.items c.self.invariant, ← c.deref-2.ensures.value)
-    (searched c.names_are_ordered.ensures _ c.args.name _ (rw c.deref-2.ensures.value c.self.invariant) facts.bound by_key)
+    (searched _ c.args.name _ (rw c.deref-2.ensures.value c.self.invariant) facts.bound by_key)
 
 pub returns-in-Less-clause-absent : goal.returns-in-Less-clause-absent
 returns-in-Less-clause-absent c =
     rw (← c.self.view_is, fm.entries-from_sorted name_cmp c.self.inside.rows.items c.self.invariant, c.len.ensures, ← c.deref.ensures.len, c.deref.ensures.value)
-    (past_last c.names_are_ordered.ensures _ c.args.name c.in-Some.last.now c.self.invariant (sym (rw c.deref.ensures.value at c.in-Some.ensures.value)) (sym c.cmp.ensures ∙ c.in-Less.is))
+    (past_last _ c.args.name c.in-Some.last.now c.self.invariant (sym (rw c.deref.ensures.value at c.in-Some.ensures.value)) (sym c.cmp.ensures ∙ c.in-Less.is))
 
 pub returns-in-Equal-clause-found : goal.returns-in-Equal-clause-found
 returns-in-Equal-clause-found c =
     rw (← c.self.view_is, fm.entries-from_sorted name_cmp c.self.inside.rows.items c.self.invariant, c.len-in-Equal.ensures, ← c.deref.ensures.len, c.deref.ensures.value)
-    (at_last c.names_are_ordered.ensures _ c.args.name c.in-Some.last.now (sym (rw c.deref.ensures.value at c.in-Some.ensures.value)) (sym c.cmp.ensures ∙ c.in-Equal.is))
+    (at_last _ c.args.name c.in-Some.last.now (sym (rw c.deref.ensures.value at c.in-Some.ensures.value)) (sym c.cmp.ensures ∙ c.in-Equal.is))

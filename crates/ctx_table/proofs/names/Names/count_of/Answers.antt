@@ -5,4 +5,4 @@ use Rattle.ctx_table.proofs.names.Names.count_of.Goals as goal
 
 pub overflow_cast-result : goal.overflow_cast-result
 overflow_cast-result c =
-    omega (arith, c.count_of.ensures, few_names c.names_are_ordered.ensures _ _ c.self.invariant.indexed (λ name. name.job == c.args.job))
+    omega (arith, c.count_of.ensures, few_names _ _ c.self.invariant.indexed (λ name. name.job == c.args.job))

@@ -1,9 +1,7 @@
 use Rattle.std.proofs.Common.{◌<◌, ◌∙◌, ap, arith, length, sym}
 use Rattle.ctx_table.specs.NameTables.{NameTable}
-use Rattle.std.proofs.lemmas.List.{map-set}
 use Rattle.ctx_table.specs.Contexts.{first_free}
-use Rattle.ctx_table.proofs.Held.{insert-indexed}
-use Rattle.ctx_table.proofs.NameSlots.{free_within, place_inside, slot_free, slot_inside, taken_to}
+use Rattle.ctx_table.proofs.NameSlots.{free_within, indexed-insert, place_inside, placed, slot_free, slot_inside, taken_to}
 use Rattle.ctx_table.proofs.Taken.{nothing_there}
 use Rattle.ctx_table.proofs.names.Names.insert.Goals as goal
 
@@ -37,9 +35,14 @@ pub invariant_of-self : goal.invariant_of-self
 invariant_of-self c =
     let room : first_free c.args.self.now.places < length c.args.self.now.places = rw (← c.self.view_is) (free_within _ _ c.self.invariant.indexed (rw (← c.self.view_is) at c.requires.room)) in
     record {
-      indexed = rw (map-set, c.insert.ensures)
-          (insert-indexed c.names_are_ordered.ensures _ _ c.self.invariant.indexed c.args.name c.free_place-place.result
-          (nothing_there _ (rw (← c.self.view_is) at c.requires.new))
-          (slot_inside _ c.self.inside.index _ c.self.view_is _ c.free_place-place.ensures room) (slot_free _ c.self.inside.index _ c.self.view_is _ c.free_place-place.ensures room) tt);
+      indexed = indexed-insert _ _ _ c.self.invariant.indexed c.args.name c.free_place-place.result c.insert.ensures (nothing_there _ (rw (← c.self.view_is) at c.requires.new))
+          (slot_inside _ c.self.inside.index _ c.self.view_is _ c.free_place-place.ensures room) (slot_free _ c.self.inside.index _ c.self.view_is _ c.free_place-place.ensures room);
       taken = taken_to _ c.args.name _ (c.free_place-place.ensures ∙ ap (λ (t : NameTable). first_free t.places) (sym c.self.view_is)) (rw (← c.self.view_is) at room);
     }
+
+pub returns-clause-placed : goal.returns-clause-placed
+returns-clause-placed c =
+    let room : first_free c.args.self.now.places < length c.args.self.now.places = rw (← c.self.view_is) (free_within _ _ c.self.invariant.indexed (rw (← c.self.view_is) at c.requires.room)) in
+    placed _ _
+    (indexed-insert _ _ _ c.self.invariant.indexed c.args.name c.free_place-place.result c.insert.ensures (nothing_there _ (rw (← c.self.view_is) at c.requires.new))
+    (slot_inside _ c.self.inside.index _ c.self.view_is _ c.free_place-place.ensures room) (slot_free _ c.self.inside.index _ c.self.view_is _ c.free_place-place.ensures room))

@@ -8,5 +8,5 @@ returns-then-place-len-clause-name g c =
     c.name.ensures ∙ ap name_in (sym (slot-read _ _ c.self.view_is c.args.place c.index.result.now _ c.index.ensures (omega arith) refl)) ∙ sym (place_name _ _ c.self.view_is c.args.place)
 
 pub returns-then-place-len-clause-live : goal.returns-then-place-len-clause-live
-returns-then-place-len-clause-live g c = name_live _ _ c.self.view_is c.names_are_ordered.ensures _ c.self.invariant c.args.place c.name.result
+returns-then-place-len-clause-live g c = name_live _ _ c.self.view_is _ c.self.invariant c.args.place c.name.result
     (c.name.ensures ∙ ap name_in (sym (slot-read _ _ c.self.view_is c.args.place c.index.result.now _ c.index.ensures (omega arith) refl)) ∙ sym (place_name _ _ c.self.view_is c.args.place))

@@ -8,4 +8,4 @@ use Rattle.ctx_table.proofs.table.CtxTable.nth.Goals as goal
 pub returns : goal.returns
 returns g c =
     rw (← c.self.view_is) (c.nth.ensures ∙ ap (λ (names : List Name). slice_get names c.args.i)
-    (sym (same_names c.names_are_ordered.ensures _ _ (live c.names_are_ordered.ensures _ _ c.self.invariant))))
+    (sym (same_names _ _ (live _ _ c.self.invariant))))

@@ -6,7 +6,7 @@ use Rattle.ctx_table.proofs.table.CtxTable.place_of.Goals as goal
 
 pub unreachable-requires : goal.unreachable-requires
 unreachable-requires g c =
-    both_ways _ (ap is_some (sym c.get.ensures ∙ c.in-None.is)) (sym (live c.names_are_ordered.ensures _ _ c.self.invariant c.args.name) ∙ (rw (← c.self.view_is) at c.requires))
+    both_ways _ (ap is_some (sym c.get.ensures ∙ c.in-None.is)) (sym (live _ _ c.self.invariant c.args.name) ∙ (rw (← c.self.view_is) at c.requires))
 
 pub returns-clause-there : goal.returns-clause-there
 returns-clause-there g c = place_name _ _ c.self.view_is c.in-Some.place ∙ c.self.invariant.there c.args.name c.in-Some.place (sym c.get.ensures ∙ c.in-Some.is)

@@ -12,18 +12,18 @@ pub invariant_of-self-lent : goal.invariant_of-self-lent
 invariant_of-self-lent g c w =
     let entry = held_entry c.index_mut.result.now c.args.name (name-read _ _ refl c.place_of-place.result c.index_mut.result.now c.args.name c.index_mut.ensures.value
     (is_place _ _ refl _ c.place_of-place.ensures.within) c.place_of-place.ensures.there) in
-    value-indexed c.names_are_ordered.ensures _ _ refl _ c.self.invariant c.args.name c.place_of-place.result c.index_mut.result.now c.index_mut.ensures.value
+    value-indexed _ _ refl _ c.self.invariant c.args.name c.place_of-place.result c.index_mut.result.now c.index_mut.ensures.value
     c.place_of-place.ensures.within c.place_of-place.ensures.there entry.0 entry.1 w
 
 pub returns : goal.returns
 returns g c =
     let entry = held_entry c.index_mut.result.now c.args.name (name-read _ _ refl c.place_of-place.result c.index_mut.result.now c.args.name c.index_mut.ensures.value
     (is_place _ _ refl _ c.place_of-place.ensures.within) c.place_of-place.ensures.there) in
-    let found = kept_read c.names_are_ordered.ensures _ _ refl _ c.self.invariant c.args.name c.place_of-place.result c.index_mut.result.now c.index_mut.ensures.value
+    let found = kept_read _ _ refl _ c.self.invariant c.args.name c.place_of-place.result c.index_mut.result.now c.index_mut.ensures.value
     c.place_of-place.ensures.within c.place_of-place.ensures.there entry.0 entry.1 in (
       (
         refl,
-        λ w. rw (← c.self.view_is) (value-set c.names_are_ordered.ensures _ _ refl _ c.self.invariant c.args.name c.place_of-place.result c.index_mut.result.now c.index_mut.ensures.value
+        λ w. rw (← c.self.view_is) (value-set _ _ refl _ c.self.invariant c.args.name c.place_of-place.result c.index_mut.result.now c.index_mut.ensures.value
             c.place_of-place.ensures.within c.place_of-place.ensures.there entry.0 entry.1 w),
       ),
       record { writes_back = tt; value = rw (← c.self.view_is) (ap (option_map (λ kept. kept.value)) found ∙ ap (λ v. Some v) (c.value_mut.ensures.value c.args.name entry.0 entry.1)) },

@@ -3,4 +3,4 @@ use Rattle.kernel_core.proofs.Steps.{as_seen, reply_seen}
 use Rattle.kernel_core.proofs.kernel.Kernel.reply.Goals as goal
 
 pub returns : goal.returns
-returns g c = c.recorded.ensures ∙ reply_seen c.runs_stay_ready.ensures _ _ _ (as_seen _ _ _ _ c.self.view_is c.self.invariant.1) c.args.r
+returns g c = c.recorded.ensures ∙ reply_seen _ _ _ (as_seen _ _ _ _ c.self.view_is c.self.invariant.1) c.args.r

@@ -5,12 +5,12 @@ use Rattle.kernel_core.proofs.kernel.Kernel.request_count.Goals as goal
 
 pub returns-clause-count : goal.returns-clause-count
 returns-clause-count g c =
-    let ready = is_ready c.runs_stay_ready.ensures _ _ _ (as_seen _ _ _ _ c.self.view_is c.self.invariant.1) in
+    let ready = is_ready _ _ _ (as_seen _ _ _ _ c.self.view_is c.self.invariant.1) in
     c.len.ensures ∙ ap (λ (l : List (List ℕ)). length l) (c.requests.ensures.requests ∙ ready.given_requests)
 
 pub returns-clause-few : goal.returns-clause-few
 returns-clause-few g c =
-    let ready = is_ready c.runs_stay_ready.ensures _ _ _ (as_seen _ _ _ _ c.self.view_is c.self.invariant.1) in
+    let ready = is_ready _ _ _ (as_seen _ _ _ _ c.self.view_is c.self.invariant.1) in
     omega (arith, c.len.ensures, ap (λ (l : List (List ℕ)). length l) (c.requests.ensures.requests ∙ ready.given_requests), ready.few_requests)
 
 pub returns-clause-requests : goal.returns-clause-requests

@@ -25,7 +25,7 @@ invariant_of-self g c =
     let step = subst (λ (k : History). next ≡ stepped k c.args.t) same done.step in
     let less = subst (λ (k : History). work (machine_of next) < work (machine_of k)) same done.work in
     record {
-      legal = stays_legal h _ _ going step c.histories_are_known.ensures c.args.self.now.legal;
+      legal = stays_legal h _ _ going step c.args.self.now.legal;
       room = omega (arith, done.room, room_same, less, c.args.self.now.room);
       few = stays_few h _ _ going step (subst (λ (k : History). 0 < k.room) same done.some) c.args.self.now.few;
       roomy = c.args.self.now.roomy;

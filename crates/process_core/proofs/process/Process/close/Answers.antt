@@ -31,11 +31,11 @@ pub returns-clause-turns : goal.returns-clause-turns
 returns-clause-turns g c =
     let k = c.into_kernel-kernel.result in
     let same : k.inputs ≡ c.args.self.name = ap (λ (h : History). h.inputs) c.into_kernel-kernel.ensures.kernel ∙ (c.close.ensures.name ∙ ap (λ (l : Lock Inputs). l.name) c.self.view_is) in
-    each_turn c.histories_are_known.ensures c.args.self c.args.passes.items k c.requires same (returns-clause-seen g c)
+    each_turn c.args.self c.args.passes.items k c.requires same (returns-clause-seen g c)
 
 pub returns-clause-complete : goal.returns-clause-complete
 returns-clause-complete g c ended =
     let k = c.into_kernel-kernel.result in
     let same : k.inputs ≡ c.args.self.name = ap (λ (h : History). h.inputs) c.into_kernel-kernel.ensures.kernel ∙ (c.close.ensures.name ∙ ap (λ (l : Lock Inputs). l.name) c.self.view_is) in
     let legal = subst (λ (h : History). IsLegal (start h.inputs) h.steps) (sym c.into_kernel-kernel.ensures.kernel) c.close.result.legal in
-    completed c.histories_are_known.ensures c.args.self c.args.passes.items k c.requires same (returns-clause-seen g c) c.was_opened.ensures legal ended
+    completed c.args.self c.args.passes.items k c.requires same (returns-clause-seen g c) c.was_opened.ensures legal ended

@@ -8,8 +8,8 @@ pub act-state-requires : goal.act-state-requires
 act-state-requires g c =
     c.requires.callable _ (due_for g.S.Turned.name g.S.Turned.past _ _ c.pass.inside.seat _ _ c.pass.view_is c.requires.ours c.take_turn-state.ensures.turn)
 
-pub end_turn-next-requires-clause-turn : goal.end_turn-next-requires-clause-turn
-end_turn-next-requires-clause-turn g c κs within =
+pub end_turn-requires-clause-turn : goal.end_turn-requires-clause-turn
+end_turn-requires-clause-turn g c κs within =
     let name = g.S.Turned.name in
     let past = g.S.Turned.past in
     let t = c.take_turn-state.ensures.turn in
@@ -25,7 +25,7 @@ returns-clause-front g c =
     let state = c.take_turn-state.result in
     let moved = c.requires.moves state _ _ (due_for name past _ _ c.pass.inside.seat _ state c.pass.view_is c.requires.ours t) c.act-state.ensures in
     let had = had_turn name past _ _ c.pass.inside.seat _ state _ c.pass.view_is c.requires.ours t moved.1 in
-    let seen = seen_after c.end_turn-next.new.seat.me (past c.act-state.result.0) c.take_turn-state.new.seat.me.0 c.end_turn-next.ensures.ended in
+    let seen = seen_after c.end_turn.new.seat.me (past c.act-state.result.0) c.take_turn-state.new.seat.me.0 c.end_turn.ensures.ended in
     subst (IsPrefix c.args.pass.now.seen) (sym seen) had.front
 
 pub returns-clause-count : goal.returns-clause-count
@@ -36,7 +36,7 @@ returns-clause-count g c =
     let state = c.take_turn-state.result in
     let moved = c.requires.moves state _ _ (due_for name past _ _ c.pass.inside.seat _ state c.pass.view_is c.requires.ours t) c.act-state.ensures in
     let had = had_turn name past _ _ c.pass.inside.seat _ state _ c.pass.view_is c.requires.ours t moved.1 in
-    let seen = seen_after c.end_turn-next.new.seat.me (past c.act-state.result.0) c.take_turn-state.new.seat.me.0 c.end_turn-next.ensures.ended in
+    let seen = seen_after c.end_turn.new.seat.me (past c.act-state.result.0) c.take_turn-state.new.seat.me.0 c.end_turn.ensures.ended in
     ap (times c.args.pass.now.number) seen ∙ had.count
 
 pub returns-clause-later : goal.returns-clause-later
@@ -47,5 +47,5 @@ returns-clause-later g c =
     let state = c.take_turn-state.result in
     let moved = c.requires.moves state _ _ (due_for name past _ _ c.pass.inside.seat _ state c.pass.view_is c.requires.ours t) c.act-state.ensures in
     let had = had_turn name past _ _ c.pass.inside.seat _ state _ c.pass.view_is c.requires.ours t moved.1 in
-    let seen = seen_after c.end_turn-next.new.seat.me (past c.act-state.result.0) c.take_turn-state.new.seat.me.0 c.end_turn-next.ensures.ended in
+    let seen = seen_after c.end_turn.new.seat.me (past c.act-state.result.0) c.take_turn-state.new.seat.me.0 c.end_turn.ensures.ended in
     subst (λ (past : List ℕ). c.args.pass.now.noted < length past) (sym seen) had.later

@@ -4,7 +4,7 @@ use Rattle.whole_world.proofs.Reached.{live-named}
 use Rattle.whole_world.proofs.reaping.WholeWorldLinks.link.Goals as goal
 
 pub slot_value-requires-clause-live : goal.slot_value-requires-clause-live
-slot_value-requires-clause-live c = live-named c.facts.ensures c.args.self.now c.args.place c.in-Some.c (sym c.name_at.ensures ∙ c.in-Some.is)
+slot_value-requires-clause-live c = live-named c.args.self.now c.args.place c.in-Some.c (sym c.name_at.ensures ∙ c.in-Some.is)
 
 pub returns-in-Some-clause-link : goal.returns-in-Some-clause-link
 unfolding link_of

@@ -16,7 +16,7 @@ counted c =
     (subst (λ others. c.count_new-count.result + different others ≡ different (row_tags c.in-Some.row ++ others)) (sym (append-nil (rows_tags c.in-Some.others))) c.count_new-count.ensures)
 
 pub overflow_add-count : goal.overflow_add-count
-overflow_add-count c = omega (arith, counted_new-le-length c.facts.ensures _ _ _ _ (counted c), c.requires)
+overflow_add-count c = omega (arith, counted_new-le-length _ _ _ _ (counted c), c.requires)
 
 pub loop-row-preserved : goal.loop-row-preserved
 loop-row-preserved c = counted c

@@ -15,20 +15,20 @@ pub insert-requires-clause-new : goal.insert-requires-clause-new
 unfolding seen
 insert-requires-clause-new c =
     missed-dead _ _ _ _ c.count_context.new.self.sound c.next_context-name.result
-    (counted-dead c.facts.ensures (seen c.args.self.now) (seen c.count_context.new.self) c.args.job c.count_context.ensures.world c.next_context-name.result (fresh-seen c.args.self.now) c.next_context-name.ensures)
+    (counted-dead (seen c.args.self.now) (seen c.count_context.new.self) c.args.job c.count_context.ensures.world c.next_context-name.result (fresh-seen c.args.self.now) c.next_context-name.ensures)
 
 pub invariant_of-self : goal.invariant_of-self
 unfolding seen world_of
 invariant_of-self c =
     let counted = c.count_context.new.self in
     let old = seen c.args.self.now in
-    let same = ap fm.len (same_contexts c.facts.ensures old (seen counted) c.args.job c.count_context.ensures.world) in
-    let size = counted-size c.facts.ensures old (seen counted) c.args.job c.count_context.ensures.world in
+    let same = ap fm.len (same_contexts old (seen counted) c.args.job c.count_context.ensures.world) in
+    let size = counted-size old (seen counted) c.args.job c.count_context.ensures.world in
     record {
       sound = subst (λ (rows : List (Name × ContextRow)). IsSound counted.size rows counted.groups.rows.items counted.counts.items) (sym c.insert.ensures)
-          (sound-added _ _ _ _ counted.sound c.facts.ensures c.next_context-name.result c.args.row
-          (counted-named c.facts.ensures old (seen counted) c.args.job c.count_context.ensures.world c.next_context-name.result c.next_context-name.ensures)
-          (counted-old c.facts.ensures old (seen counted) c.args.job c.count_context.ensures.world (context_of c.args.row) c.requires.old_groups)
+          (sound-added _ _ _ _ counted.sound c.next_context-name.result c.args.row
+          (counted-named old (seen counted) c.args.job c.count_context.ensures.world c.next_context-name.result c.next_context-name.ensures)
+          (counted-old old (seen counted) c.args.job c.count_context.ensures.world (context_of c.args.row) c.requires.old_groups)
           (subst (λ (s : WorldSize). IsWhole s.pages c.args.row) (sym size) c.requires.whole)
           (omega (arith, same, ap (λ (s : WorldSize). s.contexts) size, c.requires.place)));
     }
@@ -40,4 +40,4 @@ returns-clause-world c =
     add_context-counted (seen c.args.self.now) (seen counted) _ c.args.job c.next_context-name.result (context_of c.args.row)
     c.next_context-name.ensures c.count_context.ensures.world
     (ap (λ (rows : List (Name × ContextRow)). world_of counted.size rows counted.groups.rows.items counted.counts.items) c.insert.ensures
-    ∙ put-context _ _ _ _ counted.sound c.facts.ensures c.next_context-name.result c.args.row)
+    ∙ put-context _ _ _ _ counted.sound c.next_context-name.result c.args.row)

@@ -7,6 +7,6 @@ use Rattle.whole_world.proofs.world.WholeWorld.cloned_row.Goals as goal
 pub returns-clause-context : goal.returns-clause-context
 unfolding seen world_of
 returns-clause-context c =
-    context-made c.facts.ensures _ c.args.c c.args.job c.args.spec.now c.args.self.now.sound.fresh c.requires.live c.requires.within c.args.rest c.requires.rest
+    context-made _ c.args.c c.args.job c.args.spec.now c.args.self.now.sound.fresh c.requires.live c.requires.within c.args.rest c.requires.rest
     (λ k. live_key-past _ _ _ _ c.args.self.now.sound c.args.c k c.requires.live)
     _ _ _ c.args.entry.now c.in_ok-row.ensures.context c.in_ok-clone_pages.ensures.context c.in_ok-clone_slots.ensures.context _ c.in_ok-clone_key.ensures.context

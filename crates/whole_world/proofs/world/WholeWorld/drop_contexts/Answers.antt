@@ -13,15 +13,15 @@ use Rattle.whole_world.proofs.world.WholeWorld.drop_contexts.Goals as goal
 pub mark-requires : goal.mark-requires
 mark-requires c =
     subst (λ (places : List ℕ). All (λ place. place < MOST_CONTEXTS) places) (sym (c.as_slice.ensures.value ∙ c.places_of-places.ensures))
-    (places_within c.facts.ensures c.args.self.now c.args.roots.now c.args.roots.now)
+    (places_within c.args.self.now c.args.roots.now c.args.roots.now)
 
 pub invariant_of-self : goal.invariant_of-self
 invariant_of-self c =
     let w = c.args.self.now in
     record {
       sound = subst (λ (rows : List (Name × ContextRow)). IsSound w.size rows w.groups.rows.items w.counts.items)
-          (sym (c.keep.ensures ∙ kept-reached c.facts.ensures w c.args.roots.now _ _ _ (c.as_slice.ensures.value ∙ c.places_of-places.ensures) c.as_slice-2.ensures.same c.as_slice-2.ensures.all c.mark.ensures))
-          (sound-kept c.facts.ensures _ _ _ _ w.sound (is_reached (seen w) c.args.roots.now));
+          (sym (c.keep.ensures ∙ kept-reached w c.args.roots.now _ _ _ (c.as_slice.ensures.value ∙ c.places_of-places.ensures) c.as_slice-2.ensures.same c.as_slice-2.ensures.all c.mark.ensures))
+          (sound-kept _ _ _ _ w.sound (is_reached (seen w) c.args.roots.now));
     }
 
 pub returns : goal.returns
@@ -29,5 +29,5 @@ unfolding seen
 returns c =
     let w = c.args.self.now in
     ap (λ (rows : List (Name × ContextRow)). world_of w.size rows w.groups.rows.items w.counts.items)
-    (c.keep.ensures ∙ kept-reached c.facts.ensures w c.args.roots.now _ _ _ (c.as_slice.ensures.value ∙ c.places_of-places.ensures) c.as_slice-2.ensures.same c.as_slice-2.ensures.all c.mark.ensures)
-    ∙ kept-world c.facts.ensures _ _ _ _ w.sound (is_reached (seen w) c.args.roots.now)
+    (c.keep.ensures ∙ kept-reached w c.args.roots.now _ _ _ (c.as_slice.ensures.value ∙ c.places_of-places.ensures) c.as_slice-2.ensures.same c.as_slice-2.ensures.all c.mark.ensures)
+    ∙ kept-world _ _ _ _ w.sound (is_reached (seen w) c.args.roots.now)

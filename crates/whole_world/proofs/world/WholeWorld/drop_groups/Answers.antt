@@ -18,7 +18,7 @@ invariant_of-self c =
     record {
       sound = subst (λ (rows : List (Name × GroupRow)). IsSound w.size w.contexts.rows.items rows w.counts.items)
           (sym (c.keep.ensures ∙ kept_rows is_named _ w.groups.rows.items (search rules) (λ i row is. c.named_groups-marks.ensures.at i row is)))
-          (sound-left c.facts.ensures _ _ _ _ w.sound is_named);
+          (sound-left _ _ _ _ w.sound is_named);
     }
 
 pub returns : goal.returns
@@ -28,4 +28,4 @@ returns c =
     let is_named : Name → Bool = λ g. list_any (names_group (seen w).size.pages g) (fm.values (seen w).contexts) in
     ap (λ (rows : List (Name × GroupRow)). world_of w.size w.contexts.rows.items rows w.counts.items)
     (c.keep.ensures ∙ kept_rows is_named _ w.groups.rows.items (search rules) (λ i row is. c.named_groups-marks.ensures.at i row is))
-    ∙ left-world c.facts.ensures _ _ _ _ w.sound is_named
+    ∙ left-world _ _ _ _ w.sound is_named

@@ -9,4 +9,4 @@ pub returns : goal.returns
 returns c =
     let after = holder_after_map (seen c.args.self.now) c.args.c c.args.range.from c.args.range.to c.args.present in
     c.count_ranges.ensures after (λ p h within post. search of_calls) ∙ ap (λ n. count_of_ranges n after) c.page_count.ensures
-    ∙ sym (ranges-mapped c.facts.ensures _ c.args.c (fresh-seen c.args.self.now) c.args.range.from c.args.range.to c.args.present c.requires)
+    ∙ sym (ranges-mapped _ c.args.c (fresh-seen c.args.self.now) c.args.range.from c.args.range.to c.args.present c.requires)

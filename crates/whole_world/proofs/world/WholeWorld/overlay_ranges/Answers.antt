@@ -9,7 +9,7 @@ pub returns-then-eq : goal.returns-then-eq
 returns-then-eq c = λ job.
     let after = holder_after_overlay (seen c.args.self.now) c.args.to c.args.from c.args.spec.now in
     let same : c.args.to ≡ c.args.from = search rules in
-    ranges-same c.facts.ensures (seen c.args.self.now) c.args.to c.args.from (fresh-seen c.args.self.now) job c.args.spec.now c.requires.to c.requires.from c.requires.within _ same
+    ranges-same (seen c.args.self.now) c.args.to c.args.from (fresh-seen c.args.self.now) job c.args.spec.now c.requires.to c.requires.from c.requires.within _ same
     (c.count_ranges-taken.ensures after (λ p h within post. search of_calls) ∙ ap (λ n. count_of_ranges n after) c.page_count-pages.ensures)
 
 pub returns : goal.returns
@@ -17,6 +17,6 @@ returns c = λ job.
     let after = holder_after_overlay (seen c.args.self.now) c.args.to c.args.from c.args.spec.now in
     let left = holder_after_clone (seen c.args.self.now) c.args.from c.args.spec.now in
     let differ : c.args.to ≢ c.args.from = names_differ c.args.to c.args.from (sym c.eq.ensures ∙ c.if-eq.false) in
-    ranges-differ c.facts.ensures (seen c.args.self.now) c.args.to c.args.from (fresh-seen c.args.self.now) job c.args.spec.now c.requires.to c.requires.from c.requires.within _ _ differ
+    ranges-differ (seen c.args.self.now) c.args.to c.args.from (fresh-seen c.args.self.now) job c.args.spec.now c.requires.to c.requires.from c.requires.within _ _ differ
     (c.count_ranges-left.ensures left (λ p h within post. search of_calls) ∙ ap (λ n. count_of_ranges n left) c.page_count-pages.ensures)
     (c.count_ranges-taken.ensures after (λ p h within post. search of_calls) ∙ ap (λ n. count_of_ranges n after) c.page_count-pages.ensures)

@@ -4,6 +4,7 @@ use Rattle.std.proofs.lemmas.List.{nil_from_length}
 use Rattle.lwc_base.specs.Store.{put_pages}
 use Rattle.lwc_base.specs.World.{is_live}
 use Rattle.whole_world.specs.Worlds.{seen}
+use Rattle.lwc_base.proofs.Facts.{changes}
 use Rattle.whole_world.proofs.world.WholeWorld.put_pages.Goals as goal
 
 pub loop-p-preserved : goal.loop-p-preserved
@@ -12,7 +13,7 @@ loop-p-preserved c = record {
       ∙ ap (put_pages (seen c.loop-p.self) c.args.c) (sym c.in-Some.ensures.steps.0)
       ∙ c.loop-p.invariant.left;
   live = ap (λ w. is_live w c.args.c) c.put.ensures
-      ∙ (c.facts.ensures.changes.put (seen c.loop-p.self) c.args.c (Page c.in-Some.p) (Some c.in-Some.value)).live c.args.c
+      ∙ (changes.put (seen c.loop-p.self) c.args.c (Page c.in-Some.p) (Some c.in-Some.value)).live c.args.c
       ∙ c.loop-p.invariant.live;
 }
 

@@ -11,7 +11,7 @@ index_mut-requires c = omega (arith, c.args.self.now.sound.counted, c.requires.k
 pub invariant_of-self : goal.invariant_of-self
 unfolding seen world_of
 invariant_of-self c = record {
-  sound = sound-counts _ _ _ _ c.args.self.now.sound c.facts.ensures c.args.job c.args.counts (omega (arith, c.args.self.now.sound.counted, c.requires.known)) c.requires.rises;
+  sound = sound-counts _ _ _ _ c.args.self.now.sound c.args.job c.args.counts (omega (arith, c.args.self.now.sound.counted, c.requires.known)) c.requires.rises;
 }
 
 pub returns-clause-world : goal.returns-clause-world

@@ -1,8 +1,9 @@
 use Rattle.std.proofs.Common.{◌≡◌, ◌∙◌, Some, None, refl, sym, ap, arith, length}
 use Rattle.lwc_base.specs.Memory.{load}
 use Rattle.whole_world.specs.Worlds.{seen}
-use Rattle.whole_world.proofs.Stores.{few_pages-seen, is_present-touched, load-absent, load-present}
+use Rattle.whole_world.proofs.Stores.{few_pages-seen, is_present-touched}
 use Rattle.whole_world.proofs.world.WholeWorldWorld.bytes.Goals as goal
+use Rattle.lwc_base.proofs.Small.{load-absent, load-present}
 
 pub touched_pages-pages-requires : goal.touched_pages-pages-requires
 touched_pages-pages-requires c = omega (arith, few_pages-seen c.args.self.now, c.requires.within)

@@ -4,6 +4,7 @@ use Rattle.lwc_base.specs.Store.{store, parting_count, Absent, Full, Done, after
 use Rattle.lwc_base.specs.World.{World, Counters}
 use Rattle.whole_world.specs.Worlds.{seen}
 use Rattle.whole_world.proofs.Stores.{after_store-counted, few_pages-seen, frames-seen, store-absent, store-full, store-done, is_present-touched, parting_count-touched}
+use Rattle.lwc_base.proofs.Facts.{changes}
 use Rattle.whole_world.proofs.world.WholeWorldWorld.store.Goals as goal
 
 pub touched_pages-pages-requires : goal.touched_pages-pages-requires
@@ -35,12 +36,12 @@ pub count_tags-requires-clause-few : goal.count_tags-requires-clause-few
 count_tags-requires-clause-few c =
     let tags : ((seen c.put_pages.new.self).next c.args.job).tags ≡ ((seen c.args.self.now).next c.args.job).tags =
     ap (λ (w : World). (w.next c.args.job).tags) c.put_pages.ensures
-    ∙ ap (λ (next : ℕ → Counters). (next c.args.job).tags) (c.facts.ensures.changes.pages_put (seen c.args.self.now) c.args.c c.in-Ok.values.items).next in
+    ∙ ap (λ (next : ℕ → Counters). (next c.args.job).tags) (changes.pages_put (seen c.args.self.now) c.args.c c.in-Ok.values.items).next in
     omega (arith, tags, c.parting_count-parting.ensures.few, c.touched_pages-pages.ensures.last, few_pages-seen c.args.self.now, c.requires.within, c.requires.may.tags)
 
 pub count_tags-requires-clause-known : goal.count_tags-requires-clause-known
 count_tags-requires-clause-known c =
-    let same = ap (λ (w : World). w.size) c.put_pages.ensures ∙ (c.facts.ensures.changes.pages_put (seen c.args.self.now) c.args.c c.in-Ok.values.items).size in
+    let same = ap (λ (w : World). w.size) c.put_pages.ensures ∙ (changes.pages_put (seen c.args.self.now) c.args.c c.in-Ok.values.items).size in
     omega (arith, ap (λ (size : WorldSize). size.jobs) same, c.requires.may.known)
 
 pub returns-in-Ok-clause-done : goal.returns-in-Ok-clause-done

@@ -1,0 +1,35 @@
+//! The hexadecimal digits of numbers below 16.
+
+ghost use Rattle.std.specs.Prelude.{◌≡◌, ◌<◌, All, IfOk, map, string_bytes};
+ghost use Rattle.lwc_text.specs.Glyphs.{glyph};
+
+use lwc_base::OutOfMemory;
+use std::alloc::Global;
+
+/// The hexadecimal digits of numbers below 16, one for each.
+pub fn digits_of(alloc: Global, numbers: &[u8]) -> Result<String, OutOfMemory>
+    requires { All (λ n. n < 16) numbers.now }
+    ensures { IfOk result (λ text. string_bytes text ≡ map glyph numbers.now) }
+{
+    let mut text = Vec::with_capacity(alloc, numbers.len())?;
+    'numbers: for number in numbers {
+        text.push_reserved(digit(*number));
+    }
+    match String::from_utf8(text) {
+        Ok(text) => Ok(text),
+        Err(_) => unreachable!(),
+    }
+}
+
+/// The hexadecimal digit of a number below 16.
+#[inline(always)]
+fn digit(number: u8) -> u8
+    requires { number < 16 }
+    ensures { result ≡ glyph number }
+{
+    if number < 10 {
+        b'0' + number
+    } else {
+        b'a' + (number - 10)
+    }
+}
