@@ -1,0 +1,212 @@
+-- The world that each act of a thread comes to.
+use Rattle.std.proofs.Common.{◌≡◌, inl, inr, ℕ, ◌+◌, ◌<◌, Bool, true, false, cond, eqb, Some, List, refl, ap, sym, subst, ◌∙◌, arith}
+use Rattle.std.specs.Prelude.{is_some, slice_get, slice_index}
+use Rattle.access_cap.specs.Kinds.{is_chosen}
+use Rattle.kernel_core.specs.Machine.{Machine}
+use Rattle.kernel_core.specs.Step.{args_of, three_times}
+use Rattle.kernel_core.specs.declared.calling.TheConstants.{LW_CREATE, LW_OVERLAY, LW_RESTRICT, LW_SWITCH, LW_SYSCALL}
+use Rattle.kernel_core.specs.declared.thread.Thread.{Thread}
+use Rattle.lwc_base.specs.declared.descriptor.Cap.{Cap}
+use Rattle.lwc_base.specs.declared.descriptor.Descriptor.TheVariants.{Ctx, Reply, Request}
+use Rattle.lwc_base.specs.declared.descriptor.TheConstants.{SLOTS}
+use Rattle.lwc_base.specs.declared.item.Item.{Item}
+use Rattle.lwc_base.specs.declared.item.Mode.TheVariants.{Share}
+use Rattle.lwc_base.specs.declared.key.Key.{Key}
+use Rattle.lwc_base.specs.declared.key.Key.TheVariants.{Page, Slot, Cred}
+use Rattle.lwc_base.specs.declared.key.Kind.TheVariants as kinds
+use Rattle.lwc_base.specs.declared.name.Name.{Name}
+use Rattle.lwc_base.specs.declared.regs.Regs.{Regs}
+use Rattle.lwc_base.specs.Capabilities.{empty_cap, full_cap, has_key, restricted}
+use Rattle.lwc_base.specs.Cells.{slot_at, value_of}
+use Rattle.lwc_base.specs.Channels.{HasItsFiles}
+use Rattle.lwc_base.specs.Life.{HasItsContexts}
+use Rattle.lwc_base.specs.Modes.{IsKey, kind_of, mode}
+use Rattle.lwc_base.specs.Slots.{lowest_empty}
+use Rattle.lwc_base.specs.Sound.{IsSound}
+use Rattle.lwc_base.specs.Store.{Done, Piece, store}
+use Rattle.lwc_base.specs.World.{World, add_context, is_live, next_context}
+use Rattle.lwc_create.specs.Create as create
+use Rattle.lwc_create.specs.Create.{after_call, no_caller}
+use Rattle.lwc_overlay.specs.Named.{items_of}
+use Rattle.lwc_overlay.specs.OverlayCall.{IsTaken}
+use Rattle.lwc_overlay.specs.RestrictCall.{IsRestriction}
+use Rattle.lwc_switch.specs.Switch as switching
+use Rattle.guest_call.specs.Guest.{with_answer}
+use Rattle.lwc_syscall.specs.Changes.{holder}
+use Rattle.lwc_syscall.specs.Plain.{plain}
+use Rattle.lwc_syscall.specs.Syscall as syscalls
+use Rattle.lwc_syscall.specs.Syscall.{inner_args, inner_call, link, mask_in, taken_from, three_of}
+use Rattle.res_spec.specs.declared.items.SpecCall.TheVariants as call
+use Rattle.snapshot_host.specs.Begin.{begin, begun_context}
+use Rattle.confinement.proofs.Making.{add_on, clone_on, overlay_on}
+use Rattle.confinement.proofs.Plainly.{plain_on}
+use Rattle.confinement.proofs.Stages.{Confines, Rights, Stage, none, put_on, save_on, store_on}
+use Rattle.confinement.specs.Confined.{ComesFrom, IsPart, Made, OfTheCaller, Restricted, Stood}
+use Rattle.confinement.specs.May.{IsGiven, MakesCall, MayChange, OfItsOwn, OfTheChosen, OfTheGiver, OfTheTarget, regs_at, world_of}
+use Rattle.guest_call.proofs.Targets.{in_slot}
+use Rattle.lwc_base.proofs.Caps.{covers-all, restricted-has}
+use Rattle.lwc_base.proofs.Facts.{changes}
+use Rattle.lwc_base.proofs.ItemModes.{mode-shared}
+use Rattle.lwc_syscall.proofs.Covered.{holder-covered}
+use Rattle.lwc_syscall.proofs.Does.{does-one_thing}
+use Rattle.lwc_base.specs.declared.fault.ThreadStatus.TheVariants.{Idle}
+use Rattle.kernel_core.specs.Machine.{home_of}
+use Rattle.confinement.specs.Confined.{OutOfItsHome, OutOfItsOwn, OutOfTheChosen, OutOfTheGiver}
+use Rattle.lwc_base.specs.Capabilities.{is_named}
+
+-- what a step of a thread may do
+abbrev pub rights : Machine → ℕ → Rights
+rights m t = record {
+  change = MayChange m t;
+  saving = λ e s. (s ≡ t) × (x : Thread) × (slice_get m.threads t ≡ Some x) × (x.context ≡ e);
+  capability = ComesFrom m t;
+}
+
+module _ (m : Machine) (t : ℕ) (x : Thread) (found : slice_get m.threads t ≡ Some x) (sound : IsSound (world_of m)) (live : is_live (world_of m) x.context ≡ true) where
+  abbrev w : World
+  w = world_of m
+
+  abbrev c : Name
+  c = x.context
+
+  abbrev regs : Regs
+  regs = regs_at m x
+
+  abbrev r : Rights
+  r = rights m t
+
+  abbrev Allowed : World → Type 0
+  Allowed v = Confines r w v
+
+  own : (k : Key) → MayChange m t c k
+  own k = OfItsOwn x k found
+
+  own_saving : r.saving c t
+  own_saving = (refl, x, found, refl)
+
+  -- a descriptor in one of its slots may be copied
+  stood : (d : Name) (n : ℕ) (cap : Cap) → n < SLOTS → slot_at w c n ≡ Ctx d cap → ComesFrom m t d cap
+  stood d n cap slot is = Stood c n (OutOfItsOwn x n found) slot is
+
+  start : Stage r w w
+  start = none r w sound.groups
+
+  pub same : Allowed w
+  same = start.confines
+
+  pub stored : (piece : Piece) (v : World) → store w c x.job piece ≡ Done v → Allowed v
+  stored piece v is = (store_on r w sound.groups c x.job piece v start live (λ p key. own (Page p)) is).confines
+
+  pub created : MakesCall m t x LW_CREATE → (slot : ℕ) → Allowed (create.created w c x.job regs slot)
+  created calls slot =
+      let cloned = clone_on r w sound.groups sound.fresh c x.job (create.items_of w c regs) live (λ k key shared. own k) (after_call regs no_caller) sound.groups stood in
+      (put_on r w sound.groups _ cloned c (Slot slot) (Ctx (next_context w x.job) (full_cap w.size.pages)) live (λ key. own (Slot slot))
+      (λ d cap is.
+      let name : d ≡ next_context w x.job = cc in
+      let full : cap ≡ full_cap w.size.pages = cc in
+      Made x calls name full)).confines
+
+  pub switched : MakesCall m t x LW_SWITCH → (d : Name) (cap : Cap) → IsGiven m x d cap → is_live w d ≡ true → (slot : ℕ) → lowest_empty w d ≡ Some slot →
+      Allowed (switching.switched w c t regs d slot)
+  switched calls d cap given there slot lowest =
+      (put_on r w sound.groups _ (save_on r w sound.groups start c t (with_answer regs 0) live own_saving) d (Slot slot) (Ctx c empty_cap) there
+      (λ key. OfTheTarget x d cap slot calls given lowest) (λ e other is. let same : e ≡ c = cc in let none : other ≡ empty_cap = cc in OfTheCaller x calls same none)).confines
+
+  pub restricts : MakesCall m t x LW_RESTRICT → (v : World) → IsRestriction w v c regs → Allowed v
+  restricts calls v is =
+      subst Allowed (sym is.made)
+      (put_on r w sound.groups w start c (Slot (slice_index regs.r 1)) (Ctx is.giver (restricted is.cap items)) live (λ key. own (Slot (slice_index regs.r 1)))
+      (λ d cap same.
+      let name : is.giver ≡ d = cc in
+      let part : restricted is.cap items ≡ cap = cc in
+      Restricted x is.cap calls (is.had ∙ ap (λ (n : Name). Ctx n is.cap) name) (subst (λ (q : Cap). IsPart q is.cap) part less_keys))).confines
+    where
+      items : List Item
+      items = items_of w c call.Restrict regs
+
+      less_keys : IsPart (restricted is.cap items) is.cap
+      less_keys k key has = let less = restricted-has is.cap items k key in grind arith
+
+  pub overlaid : MakesCall m t x LW_OVERLAY → (v : World) → IsTaken w v c x.job regs → Allowed v
+  overlaid calls v is =
+      subst Allowed (sym is.made)
+      (overlay_on r w sound.groups sound.fresh is.giver x.job items is.live
+      (λ k key shared.
+      let named : mode items k ≡ Some Share = mode-shared items k shared in
+      OfTheGiver x is.giver is.cap k calls is.had (covered k key (ap is_some named)) named) c live own
+      (λ d n cap how slot named had. Stood is.giver n (OutOfTheGiver x is.giver is.cap n calls is.had (covered (Slot n) slot (ap is_some named))) slot had))
+    where
+      items : List Item
+      items = items_of w c call.Overlay regs
+
+      covered : (k : Key) → IsKey w.size.pages k → is_named items k ≡ true → has_key is.cap k ≡ true
+      covered = (covers-all w.size.pages is.cap items).0 is.covered
+
+  -- of three contexts that are the caller's
+  one_holder : (k : Key) → holder (three_times c) k ≡ c
+  one_holder (Page p) = refl
+  one_holder (Slot n) = refl
+  one_holder Cred = refl
+
+  pub plainly : HasItsContexts w → HasItsFiles m.environment.channels w → (number : ℕ) → Allowed (plain w m.environment.channels (three_times c) x.job number (args_of regs)).world
+  plainly named files number =
+      plain_on r w sound.groups m.environment.channels (three_times c) x.job
+      (record { memory = live; slots = live; cred = live; each = λ k key. subst (λ (n : Name). MayChange m t n k) (sym (one_holder k)) (own k); had = stood }) _ _
+      (does-one_thing w m.environment.channels (three_times c) x.job number (args_of regs) named files live)
+
+  -- of three contexts that a mask chooses
+  chosen_holder : (k : Key) → holder (three_of w c regs) k ≡ cond (is_chosen (mask_in regs) (kind_of k)) (link w c regs).0 c
+  chosen_holder (Page p) = refl
+  chosen_holder (Slot n) = refl
+  chosen_holder Cred = refl
+
+  module _ (calls : MakesCall m t x LW_SYSCALL) (allowed : syscalls.IsAllowed w c regs) where
+    given : IsGiven m x (link w c regs).0 (link w c regs).1
+    given = (in_slot w c (slice_index regs.r 1) (link w c regs) allowed.found).1
+
+    by_choice : (k : Key) → IsKey w.size.pages k → (b : Bool) → is_chosen (mask_in regs) (kind_of k) ≡ b → MayChange m t (holder (three_of w c regs) k) k
+    by_choice k key false other = subst (λ (n : Name). MayChange m t n k) (sym (chosen_holder k ∙ ap (λ b. cond b (link w c regs).0 c) other)) (own k)
+    by_choice k key true chosen = elim (holder-covered w c regs k allowed key) [
+      | inl mine ↦ subst (λ (n : Name). MayChange m t n k) (sym mine) (own k)
+      | inr theirs ↦ subst (λ (n : Name). MayChange m t n k) (sym theirs.0) (OfTheChosen x (link w c regs).0 (link w c regs).1 k calls given theirs.1 chosen)
+    ]
+
+    copied : (n : ℕ) → n < SLOTS → (b : Bool) → is_chosen (mask_in regs) kinds.Slot ≡ b → (d : Name) (cap : Cap) → slot_at w (three_of w c regs).slots n ≡ Ctx d cap → ComesFrom m t d cap
+    copied n slot false other d cap is = stood d n cap slot (subst (λ (e : Name). slot_at w e n ≡ Ctx d cap) (chosen_holder (Slot n) ∙ ap (λ b. cond b (link w c regs).0 c) other) is)
+    copied n slot true chosen d cap is =
+        let there : (three_of w c regs).slots ≡ (link w c regs).0 = chosen_holder (Slot n) ∙ ap (λ b. cond b (link w c regs).0 c) chosen in
+        let had : slot_at w (link w c regs).0 n ≡ Ctx d cap = subst (λ (e : Name). slot_at w e n ≡ Ctx d cap) there is in
+        elim (holder-covered w c regs (Slot n) allowed slot) [
+          | inl mine ↦ stood d n cap slot (subst (λ (e : Name). slot_at w e n ≡ Ctx d cap) mine is)
+          | inr theirs ↦ Stood (link w c regs).0 n (OutOfTheChosen x (link w c regs).0 (link w c regs).1 n calls given theirs.1 chosen) slot had
+        ]
+
+    pub chosen : HasItsContexts w → HasItsFiles m.environment.channels w →
+        Allowed (plain w m.environment.channels (three_of w c regs) x.job (inner_call regs) (inner_args regs)).world
+    chosen named files =
+        plain_on r w sound.groups m.environment.channels (three_of w c regs) x.job
+        (record {
+          memory = allowed.live kinds.Page;
+          slots = allowed.live kinds.Slot;
+          cred = allowed.live kinds.Cred;
+          each = λ k key. by_choice k key (is_chosen (mask_in regs) (kind_of k)) refl;
+          had = λ d n cap slot is. copied n slot (is_chosen (mask_in regs) kinds.Slot) refl d cap is;
+        }) _ _
+        (does-one_thing w m.environment.channels (three_of w c regs) x.job (inner_call regs) (inner_args regs) named files (allowed.live kinds.Slot))
+
+  -- a request begins in a copy of the thread's home, which is live
+  module _ (idle : x.status ≡ Idle) (q : ℕ) where
+    begun_cap : (d : Name) (n : ℕ) (cap : Cap) → n < SLOTS → value_of w (Slot n) ((begun_context w (home_of t) q).cell (Slot n)) ≡ Ctx d cap → ComesFrom m t d cap
+    unfolding begun_context
+    begun_cap d n cap slot is = by_number (eqb n 0) (eqb n 1) is
+      where
+        by_number : (first second : Bool) → cond first (Request q 0) (cond second (Reply q) (slot_at w (home_of t) n)) ≡ Ctx d cap → ComesFrom m t d cap
+        by_number true second has = absurd cc
+        by_number false true has = absurd cc
+        by_number false false has = Stood (home_of t) n (OutOfItsHome x n found idle) slot has
+
+    pub begins : Allowed (begin w (home_of t) q)
+    unfolding begin
+    begins =
+        add_on r w sound.groups sound.fresh w start.confines (q + 1) (begun_context w (home_of t) q) (add_context w (q + 1) (begun_context w (home_of t) q))
+        (changes.context_added w (q + 1) (begun_context w (home_of t) q)) begun_cap

@@ -1,0 +1,15 @@
+pub mod Decide
+pub mod Stages
+pub mod Making
+pub mod Plainly
+pub mod Acts
+pub mod Steps
+pub mod Taking
+pub mod Confining
+pub mod Snapshots
+pub mod Entering
+pub mod Standing
+pub mod Left
+pub mod Touching
+pub mod EachRun
+pub mod Faults

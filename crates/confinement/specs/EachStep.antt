@@ -1,0 +1,43 @@
+-- What each step of a history is confined to, and what its steps leave alone.
+use Rattle.std.specs.Prelude.{◌≡◌, ℕ, List, ◌∷◌, ◌++◌}
+use Rattle.kernel_core.specs.Machine.{Machine}
+use Rattle.kernel_core.specs.Refused.{advanced_thread}
+use Rattle.kernel_core.specs.Runs.{run}
+use Rattle.kernel_core.specs.Start.{Inputs, start}
+use Rattle.kernel_core.specs.Step.{guest_calls, step}
+use Rattle.kernel_core.specs.declared.calling.TheConstants.{LW_SWITCH}
+use Rattle.kernel_core.specs.declared.thread.Thread.{Thread}
+use Rattle.lwc_base.specs.declared.descriptor.Cap.{Cap}
+use Rattle.lwc_base.specs.declared.name.Name.{Name}
+use Rattle.confinement.specs.Confined.{IsConfined}
+use Rattle.confinement.specs.May.{IsGiven, MakesCall, world_of}
+use Rattle.confinement.specs.Snapshots.{IsAsMade, IsResumed, IsUntouched, Makes}
+
+-- the machine after these steps, and after one more
+abbrev pub machine_after : Inputs → List ℕ → Machine
+machine_after inputs steps = run (start inputs) steps
+
+abbrev pub machine_made : Inputs → List ℕ → ℕ → Machine
+machine_made inputs before t = step (machine_after inputs before) t
+
+-- the machine after the steps since then
+abbrev pub machine_since : Inputs → List ℕ → ℕ → List ℕ → Machine
+machine_since inputs before t since = run (machine_made inputs before t) since
+
+-- of a history: each step is confined; a context that a step makes by the call for it, and that is untouched
+-- for some steps,
+-- is then as it was made; and a thread that enters it by the next step goes on as it was made
+pub record IsConfinedRun (inputs : Inputs) (steps : List ℕ) : Type 0 where
+  pub each : (before rest : List ℕ) (t : ℕ) → steps ≡ before ++ t ∷ rest →
+      IsConfined (machine_after inputs before) t (machine_made inputs before t)
+  pub snapshots : (before since rest : List ℕ) (t : ℕ) (c : Name) → steps ≡ before ++ t ∷ (since ++ rest) →
+      Makes (machine_after inputs before) t c → IsUntouched (machine_made inputs before t) since c →
+      IsAsMade (world_of (machine_made inputs before t)) (world_of (machine_since inputs before t since)) c
+  pub resumed : (before since rest : List ℕ) (t u : ℕ) (c : Name) (x : Thread) (cap : Cap) →
+      steps ≡ before ++ t ∷ (since ++ u ∷ rest) →
+      Makes (machine_after inputs before) t c → IsUntouched (machine_made inputs before t) since c →
+      MakesCall (machine_since inputs before t since) u x LW_SWITCH →
+      IsGiven (machine_since inputs before t since) x c cap →
+      IsResumed (world_of (machine_made inputs before t)) c (machine_since inputs before t since) x
+      (guest_calls LW_SWITCH u (machine_since inputs before t since).environment
+      (advanced_thread (machine_since inputs before t since) x))

@@ -1,0 +1,127 @@
+//! Laws of steps: functions with empty bodies, each with a contract that is the law.
+
+ghost use Rattle.std.specs.Prelude.{◌≡◌, ◌≢◌, ◌⊎◌, ◌<◌, ℕ, List, Some, false, slice_get, true};
+ghost use Rattle.access_cap.specs.Kinds.{is_chosen};
+ghost use Rattle.confinement.specs.Confined.{IsConfined, IsLiveInBoth};
+ghost use Rattle.confinement.specs.Faults.{EndsByFault};
+ghost use Rattle.confinement.specs.May.{IsGiven, MakesCall, MayChange, regs_at, world_of};
+ghost use Rattle.confinement.specs.One.{IsOneValue};
+ghost use Rattle.confinement.specs.Rest.{LacksKey, MakesNoneOfThree};
+ghost use Rattle.confinement.specs.EachStep.{IsConfinedRun};
+ghost use Rattle.confinement.specs.Snapshots.{IsAsMade, IsResumed, IsUntouched, Makes, Touches};
+ghost use Rattle.kernel_core.specs.Kernel.{CanOpen};
+ghost use Rattle.kernel_core.specs.Machine.{Machine};
+ghost use Rattle.kernel_core.specs.Refused.{advanced_thread};
+ghost use Rattle.kernel_core.specs.Runs.{run};
+ghost use Rattle.kernel_core.specs.Start.{Inputs, start};
+ghost use Rattle.kernel_core.specs.Step.{guest_calls, step};
+ghost use Rattle.kernel_core.specs.declared.calling.TheConstants.{LW_OVERLAY, LW_SWITCH, LW_SYSCALL};
+ghost use Rattle.kernel_core.specs.declared.thread.Thread.{Thread};
+ghost use Rattle.lwc_base.specs.Life.{HasItsContexts};
+ghost use Rattle.lwc_base.specs.Capabilities.{has_key};
+ghost use Rattle.lwc_base.specs.Cells.{slot_at, value_at};
+ghost use Rattle.lwc_base.specs.Modes.{IsKey, kind_of};
+ghost use Rattle.lwc_base.specs.World.{context, is_live};
+ghost use Rattle.lwc_base.specs.declared.descriptor.Cap.{Cap};
+ghost use Rattle.lwc_base.specs.declared.descriptor.Descriptor.TheVariants.{Ctx};
+ghost use Rattle.lwc_base.specs.declared.descriptor.TheConstants.{SLOTS};
+ghost use Rattle.lwc_base.specs.declared.key.Key.{Key};
+ghost use Rattle.lwc_base.specs.declared.limits.TheConstants.{MOST_PAGES};
+ghost use Rattle.lwc_syscall.specs.Syscall.{mask_in};
+ghost use Rattle.lwc_base.specs.declared.name.Name.{Name};
+
+/// Whatever steps came before, the next step of a thread changes nothing of a context but what it may
+/// change, there or where it is common; and each capability that is new in a slot is one that the step may
+/// copy, restrict, make or leave.
+pub fn each_step_is_confined()
+    ensures { (inputs : Inputs) (steps : List ℕ) (t : ℕ) → CanOpen inputs →
+        IsConfined (run (start inputs) steps) t (step (run (start inputs) steps) t) }
+{}
+
+/// A context that a step made by the call for it, and that no later step may have changed, is as it was
+/// made: it has the same cells, so the same values of its own, it begins with the same registers, and it
+/// keeps none.
+pub fn a_context_that_is_left_alone_is_as_it_was_made()
+    ensures { (inputs : Inputs) (before since : List ℕ) (t : ℕ) (c : Name) → CanOpen inputs →
+        Makes (run (start inputs) before) t c →
+        IsUntouched (step (run (start inputs) before) t) since c →
+        IsAsMade (world_of (step (run (start inputs) before) t))
+        (world_of (run (step (run (start inputs) before) t) since)) c }
+{}
+
+/// A thread that enters such a context goes on with the registers that the context begins with, but for the
+/// slot of its caller's descriptor and the argument. The call leaves the context as it was made, but for this
+/// descriptor in its lowest empty slot.
+pub fn who_enters_it_goes_on_as_it_was_made()
+    ensures { (inputs : Inputs) (before since : List ℕ) (t u : ℕ) (c : Name) (x : Thread) (cap : Cap) →
+        CanOpen inputs → Makes (run (start inputs) before) t c →
+        IsUntouched (step (run (start inputs) before) t) since c →
+        MakesCall (run (step (run (start inputs) before) t) since) u x LW_SWITCH →
+        IsGiven (run (step (run (start inputs) before) t) since) x c cap →
+        IsResumed (world_of (step (run (start inputs) before) t)) c
+        (run (step (run (start inputs) before) t) since) x
+        (guest_calls LW_SWITCH u (run (step (run (start inputs) before) t) since).environment
+        (advanced_thread (run (step (run (start inputs) before) t) since) x)) }
+{}
+
+/// What a step may change anything of, it touches: its thread stands in it, or names it by a switch, by an
+/// overlay that shares, or by a call over chosen contexts. So a context that no step touches is untouched.
+pub fn what_may_change_is_touched()
+    ensures { (m : Machine) (t : ℕ) (c : Name) (k : Key) → MayChange m t c k → Touches m t c }
+{}
+
+/// What a confined step leaves as it was. An instruction that is none of the three calls which reach
+/// another context changes no value but those that its own context has, alone or in common with others.
+/// Registers that are kept for other threads stay. An overlay leaves its giver under keys that the
+/// capability lacks, and a call over chosen contexts leaves the other context's keys of kinds that are not
+/// chosen. Where no slot had a capability with a key for a context, none has one afterwards.
+pub fn a_confined_step_leaves_the_rest()
+    ensures values { (m after : Machine) (t : ℕ) (x : Thread) (e : Name) (k : Key) → IsConfined m t after →
+        slice_get m.threads t ≡ Some x → MakesNoneOfThree m t → IsLiveInBoth (world_of m) (world_of after) e →
+        IsKey (world_of m).size.pages k →
+        (value_at (world_of after) e k ≡ value_at (world_of m) e k) ⊎ IsOneValue (world_of m) x.context e k }
+    ensures registers { (m after : Machine) (t s : ℕ) (e : Name) → IsConfined m t after → s ≢ t →
+        IsLiveInBoth (world_of m) (world_of after) e →
+        (context (world_of after) e).saved s ≡ (context (world_of m) e).saved s }
+    ensures giver { (m after : Machine) (t : ℕ) (x : Thread) (d : Name) (cap : Cap) (k : Key) →
+        IsConfined m t after → MakesCall m t x LW_OVERLAY → IsGiven m x d cap → x.context ≢ d →
+        has_key cap k ≡ false → IsLiveInBoth (world_of m) (world_of after) d →
+        IsKey (world_of m).size.pages k →
+        (context (world_of after) d).cell k ≡ (context (world_of m) d).cell k }
+    ensures kinds { (m after : Machine) (t : ℕ) (x : Thread) (d : Name) (k : Key) → IsConfined m t after →
+        MakesCall m t x LW_SYSCALL → x.context ≢ d → is_chosen (mask_in (regs_at m x)) (kind_of k) ≡ false →
+        IsLiveInBoth (world_of m) (world_of after) d → IsKey (world_of m).size.pages k →
+        (context (world_of after) d).cell k ≡ (context (world_of m) d).cell k }
+    ensures keys { (m after : Machine) (t : ℕ) (e d : Name) (n : ℕ) (cap : Cap) (k : Key) →
+        IsConfined m t after → is_live (world_of after) e ≡ true → n < SLOTS →
+        slot_at (world_of after) e n ≡ Ctx d cap → IsKey MOST_PAGES k →
+        LacksKey (world_of m) d k → has_key cap k ≡ false }
+{}
+
+/// A fault ends its thread alone. No step changes another thread; and one that ends its thread by a fault,
+/// but for the budget that is used up, changes nothing of a context that lives on, and no value.
+pub fn a_fault_ends_its_thread_alone()
+    ensures others { (m : Machine) (t u : ℕ) → t ≢ u →
+        slice_get (step m t).threads u ≡ slice_get m.threads u }
+    ensures contexts { (m : Machine) (t : ℕ) (x : Thread) (e : Name) → EndsByFault m t x →
+        is_live (world_of (step m t)) e ≡ true → context (world_of (step m t)) e ≡ context (world_of m) e }
+    ensures values { (m : Machine) (t : ℕ) (x : Thread) (e : Name) (k : Key) → EndsByFault m t x →
+        is_live (world_of (step m t)) e ≡ true → IsKey (world_of m).size.pages k →
+        value_at (world_of (step m t)) e k ≡ value_at (world_of m) e k }
+{}
+
+/// No step drops what is still reached: each thread stands in a live context, and each slot of a live context
+/// that has a descriptor of a context has one of a live one.
+pub fn what_is_reached_is_live()
+    ensures threads { (inputs : Inputs) (steps : List ℕ) (t : ℕ) (x : Thread) → CanOpen inputs →
+        slice_get (run (start inputs) steps).threads t ≡ Some x →
+        is_live (world_of (run (start inputs) steps)) x.context ≡ true }
+    ensures slots { (inputs : Inputs) (steps : List ℕ) → CanOpen inputs →
+        HasItsContexts (world_of (run (start inputs) steps)) }
+{}
+
+/// The first three of these laws hold of each list of steps, for each beginning of it: so they do of the
+/// steps that a kernel has kept.
+pub fn runs_are_confined()
+    ensures { (inputs : Inputs) (steps : List ℕ) → CanOpen inputs → IsConfinedRun inputs steps }
+{}
