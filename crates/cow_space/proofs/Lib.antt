@@ -1,8 +1,15 @@
-pub mod CopyLemmas
+mod Changed
+pub mod KindChanges
 pub mod Lists
+mod OwnTags
 pub mod PieceLemmas
+pub mod Places
+mod RowViews
 pub mod TagLemmas
+pub mod Taken
 pub mod Trees
 pub mod UsedLemmas
+mod Views
+pub mod WorldTags
 pub mod WriteLemmas
-pub mod TakenLemmas
+mod Written

@@ -4,6 +4,8 @@ use Rattle.std.specs.List.{sum_by}
 use Rattle.std.proofs.lemmas.Bool.{eq-eqb, ne_eqb}
 use Rattle.std.proofs.lemmas.List.{map-set}
 use Rattle.std.proofs.lemmas.List.Sums.{get_or-le-sum_by, sum_by-cons}
+use Rattle.pool_base.proofs.Totals.{total, total-same}
+use Rattle.lwc_base.proofs.Small.{map-same, set-map_same}
 
 -- 1 where a test passes, else 0
 abbrev pub one_if : Bool → ℕ
@@ -15,29 +17,9 @@ one-yes m n is = ap one_if (eq-eqb m n is)
 pub one-no : (m n : ℕ) → m ≢ n → one_if (eqb m n) ≡ 0
 one-no m n off = ap one_if (ne_eqb m n off)
 
--- a number is 0 or one more than another
-pub zero_or_more : (e : ℕ) → (e ≡ 0) ⊎ ((m : ℕ) × (e ≡ m + 1))
-zero_or_more zero = inl refl
-zero_or_more (suc m) = inr (m, omega arith)
-
 pub cond-of : {X Y : Type 0} (f : X → Y) (b : Bool) (x y : X) → f (cond b x y) ≡ cond b (f x) (f y)
 cond-of f true x y = refl
 cond-of f false x y = refl
-
-pub map-same : {X Y : Type 0} (f g : X → Y) (xs : List X) (d : X) → ((j : ℕ) → j < length xs → f (get_or xs j d) ≡ g (get_or xs j d)) → map f xs ≡ map g xs
-map-same f g [] d h = refl
-map-same f g (x ∷ xs) d h =
-    let head = h 0 (omega arith) in
-    let tail = map-same f g xs d (λ j lt. h (suc j) (omega (arith, lt))) in
-    λ i. head i ∷ tail i
-
-set-map_same : {X Y : Type 0} (f g : X → Y) (xs : List X) (i : ℕ) (y : Y) (d : X) → ((j : ℕ) → j < length xs → j ≢ i → f (get_or xs j d) ≡ g (get_or xs j d)) → set (map f xs) i y ≡ set (map g xs) i y
-set-map_same f g [] i y d h = refl
-set-map_same f g (x ∷ xs) zero y d h = ap (λ ys. y ∷ ys) (map-same f g xs d (λ j lt. h (suc j) (omega (arith, lt)) (λ is. absurd (omega (arith, is)))))
-set-map_same f g (x ∷ xs) (suc k) y d h =
-    let head = h 0 (omega arith) (λ is. absurd (omega (arith, is))) in
-    let tail = set-map_same f g xs k y d (λ j lt off. h (suc j) (omega (arith, lt)) (λ is. off (omega (arith, is)))) in
-    λ i. head i ∷ tail i
 
 -- one element is another now, and what all others stand for is what they stood for
 pub map-set_changed : {X Y : Type 0} (f g : X → Y) (xs : List X) (i : ℕ) (x d : X) (y : Y) → f x ≡ y → ((j : ℕ) → j < length xs → j ≢ i → f (get_or xs j d) ≡ g (get_or xs j d)) → map f (set xs i x) ≡ set (map g xs) i y
@@ -55,21 +37,11 @@ two_terms f (x ∷ xs) (suc i) (suc j) d i_in j_in off =
     omega (arith, sum_by-cons f x xs, tail)
 two_terms f [] i j d i_in j_in off = absurd (omega (arith, i_in))
 
-pub set-twice : {X : Type 0} (xs : List X) (i : ℕ) (x y : X) → set (set xs i x) i y ≡ set xs i y
-set-twice [] zero x y = refl
-set-twice [] (suc i) x y = refl
-set-twice (z ∷ xs) zero x y = refl
-set-twice (z ∷ xs) (suc i) x y = ap (λ ys. z ∷ ys) (set-twice xs i x y)
-
 pub replicate_push : {X : Type 0} (n : ℕ) (x : X) → replicate n x ++ x ∷ [] ≡ replicate (n + 1) x
 replicate_push zero x = refl
 replicate_push (suc n) x =
     let more : suc n + 1 ≡ suc (n + 1) = omega arith in
     ap (λ xs. x ∷ xs) (replicate_push n x) ∙ ap (λ k. replicate k x) (sym more)
-
-pub map-replicate : {X Y : Type 0} (f : X → Y) (n : ℕ) (x : X) → map f (replicate n x) ≡ replicate n (f x)
-map-replicate f zero x = refl
-map-replicate f (suc n) x = ap (λ ys. f x ∷ ys) (map-replicate f n x)
 
 -- what is left of a list begins with the element at that place
 pub drop-one : {X : Type 0} (xs : List X) (k : ℕ) (d : X) → k < length xs → drop k xs ≡ get_or xs k d ∷ drop (k + 1) xs
@@ -84,3 +56,11 @@ drop-all [] zero le = refl
 drop-all [] (suc k) le = refl
 drop-all (x ∷ xs) zero le = absurd (omega (arith, le))
 drop-all (x ∷ xs) (suc k) le = drop-all xs k (omega (arith, le))
+
+-- a sum of which one term changes
+pub total-change : (f g : ℕ → ℕ) (n p : ℕ) → p < n → ((q : ℕ) → q ≢ p → f q ≡ g q) → total f n + g p ≡ total g n + f p
+total-change f g zero p lt same = absurd (omega (arith, lt))
+total-change f g (suc n) zero lt same =
+    omega (arith, total-same (λ k. f (suc k)) (λ k. g (suc k)) n (λ k _. same (suc k) (λ is. absurd (omega (arith, is)))))
+total-change f g (suc n) (suc p) lt same =
+    omega (arith, same 0 (λ is. absurd (omega (arith, is))), total-change (λ k. f (suc k)) (λ k. g (suc k)) n p (omega (arith, lt)) (λ q off. same (suc q) (λ is. off (omega (arith, is)))))

@@ -1,7 +1,7 @@
 -- Bytes of a page that are written one after another.
-use Rattle.std.proofs.Common.{◌≡◌, ℕ, ◌+◌, ◌-◌, ◌*◌, ◌<◌, ◌≤◌, ◌⊎◌, inl, inr, ⊎_elim, cond, leb, ltb, ◌&&◌, List, length, get_or, map, sym, ◌∙◌, ap, arith}
+use Rattle.std.proofs.Common.{◌≡◌, ℕ, ◌+◌, ◌-◌, ◌*◌, ◌<◌, ◌≤◌, ◌⊎◌, inl, inr, cond, leb, ltb, ◌&&◌, List, length, get_or, map, sym, ◌∙◌, ap, arith}
 use Rattle.std.specs.List.{range_with_len}
-use Rattle.std.proofs.lemmas.Bool.{cases_lt, and_from, and_left, and_right, le-leb, lt-leb, lt-ltb, le-ltb, cond-true, cond-false}
+use Rattle.std.proofs.lemmas.Bool.Decides.{nat_tests}
 use Rattle.std.proofs.lemmas.List.{ext_get_or, get_or-map, length-map}
 use Rattle.std.proofs.lemmas.List.FromFn.{get_or-range_with_len, length-range_with_len}
 use Rattle.lwc_base.specs.Store.{Piece, byte_after, bytes_after}
@@ -26,23 +26,4 @@ PutsBytes-all old page piece p lo skip k size puts inner outer =
   where
     at : (j : ℕ) → j < 4096 → get_or page j 0 ≡ cond (leb piece.at (p * 4096 + j) && ltb (p * 4096 + j) (piece.at + length piece.bytes)) (get_or piece.bytes (p * 4096 + j - piece.at) 0) (get_or old j 0)
     at j lt =
-        ⊎_elim
-        (λ low.
-        puts.rest j (out j (λ l. absurd (omega (arith, low, l.0))))
-        ∙ sym (cond-false (leb piece.at (p * 4096 + j) && ltb (p * 4096 + j) (piece.at + length piece.bytes)) (get_or piece.bytes (p * 4096 + j - piece.at) 0) (get_or old j 0) (and_left (leb piece.at (p * 4096 + j)) (ltb (p * 4096 + j) (piece.at + length piece.bytes)) (lt-leb piece.at (p * 4096 + j) low))))
-        (λ from_on.
-        ⊎_elim
-        (λ within.
-        let places = inner j lt from_on within in
-        let place : lo + (j - lo) ≡ j = omega (arith, places.0) in
-        ap (λ x. get_or page x 0) (sym place) ∙ puts.put (j - lo) (omega (arith, places.0, places.1)) ∙ ap (λ x. get_or piece.bytes x 0) places.2
-        ∙ sym (cond-true (leb piece.at (p * 4096 + j) && ltb (p * 4096 + j) (piece.at + length piece.bytes)) (get_or piece.bytes (p * 4096 + j - piece.at) 0) (get_or old j 0) (and_from (leb piece.at (p * 4096 + j)) (ltb (p * 4096 + j) (piece.at + length piece.bytes)) (le-leb piece.at (p * 4096 + j) from_on) (lt-ltb (p * 4096 + j) (piece.at + length piece.bytes) within))))
-        (λ past.
-        puts.rest j (out j (λ l. absurd (omega (arith, past, l.1))))
-        ∙ sym (cond-false (leb piece.at (p * 4096 + j) && ltb (p * 4096 + j) (piece.at + length piece.bytes)) (get_or piece.bytes (p * 4096 + j - piece.at) 0) (get_or old j 0) (and_right (leb piece.at (p * 4096 + j)) (ltb (p * 4096 + j) (piece.at + length piece.bytes)) (le-ltb (p * 4096 + j) (piece.at + length piece.bytes) past))))
-        (cases_lt (p * 4096 + j) (piece.at + length piece.bytes)))
-        (cases_lt (p * 4096 + j) piece.at)
-      where
-        out : (j : ℕ) → ((piece.at ≤ p * 4096 + j) × (p * 4096 + j < piece.at + length piece.bytes) → ⊥) → (j < lo) ⊎ (lo + k ≤ j)
-        out j off =
-            ⊎_elim (λ low. inl low) (λ from_on. ⊎_elim (λ here. absurd (off (outer j from_on here))) (λ past. inr past) (cases_lt j (lo + k))) (cases_lt j lo)
+        grind (arith, nat_tests, puts.put (j - lo), (λ (low : j < lo). puts.rest j (inl low)), (λ (past : lo + k ≤ j). puts.rest j (inr past)), inner j lt, outer j)

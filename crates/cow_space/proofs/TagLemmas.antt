@@ -1,26 +1,93 @@
--- The tags of maps: where each is, and how often.
-use Rattle.std.proofs.Common.{◌≡◌, ℕ, ◌+◌, ◌<◌, ◌≤◌, Bool, true, false, cond, List, [], ◌∷◌, ◌||◌, length, get_or, refl, sym, ◌∙◌, ap, arith, subst, Option, None, Some}
+-- Lists of tags: how often each is there, and how many different ones there are.
+use Rattle.std.proofs.Common.{◌≡◌, ℕ, ◌+◌, ◌<◌, ◌≤◌, cond, ltb, List, [], ◌∷◌, length, get_or, refl, sym, ◌∙◌, ap, arith, subst, Option, None, Some}
 use Rattle.std.specs.List.{flat_map, list_any, range_with_len, sum_by}
-use Rattle.std.specs.Bool.{Decides}
-use Rattle.std.specs.Ordering.{is_eq}
-use Rattle.std.specs.Cmp.{IsTotalOrder, eq_by_cmp_equiv, Equal-is}
-use Rattle.std.specs.FinMap as fm
-use Rattle.std.proofs.lemmas.List.{get_or_default}
-use Rattle.std.proofs.lemmas.List.Folds.{list_any-append, list_any_at, Any-from_list_any}
+use Rattle.std.specs.Ordering.{eq_by_cmp, is_eq}
+use Rattle.std.specs.FinSet as set
+use Rattle.std.proofs.lemmas.Bool.Decides.{nat_tests}
 use Rattle.std.proofs.lemmas.List.FromFn.{get_or-range_with_len, length-range_with_len}
-use Rattle.std.proofs.lemmas.List.Sums.{sum_by-append, sum_by-cons}
-use Rattle.pool_base.proofs.Totals.{total, total-same, total-list, total2, total2-two, total2-other, IsElsewhere}
+use Rattle.std.proofs.lemmas.List.Sums.{get_or-le-sum_by, sum_by-append, sum_by-cons}
+use Rattle.pool_base.proofs.Totals.{total, total-at, total-list, total-same, total-some, total2, total2-two, total2-other, IsElsewhere}
 use Rattle.lwc_base.specs.declared.name.Tag.{Tag}
 use Rattle.lwc_base.specs.declared.page.PageValue.{PageValue}
 use Rattle.lwc_base.specs.declared.page.PageValue.TheVariants.{Zero, Data}
 use Rattle.lwc_base.specs.Frames.{tag_of}
 use Rattle.lwc_base.specs.Names.{tag_cmp}
+use Rattle.lwc_base.proofs.Orders.{same_tag, tag-itself, tag_cmp-IsAntisymmetric, tag_cmp-total}
 use Rattle.cow_space.specs.Maps.{no_pages, row_of}
-use Rattle.cow_space.specs.Tags.{tags_of_map, tags, times}
+use Rattle.cow_space.specs.Tags.{different, row_tags, tags_of_map, times}
+use Rattle.lwc_base.proofs.Small.{sum-some}
 
 -- whether a tag is in a list
-unfoldable pub has_tag : Tag → List Tag → Bool
-has_tag tag ts = list_any (λ t. is_eq (tag_cmp t tag)) ts
+among : (t : Tag) (ts : List Tag) → list_any (eq_by_cmp tag_cmp t) ts ≡ ltb 0 (times t ts)
+unfolding times
+among t [] = refl
+among t (u ∷ us) = grind (arith, nat_tests, among t us, same_tag, tag-itself t, sum_by-cons (λ (s : Tag). cond (is_eq (tag_cmp s t)) 1 0) u us)
+
+-- lists with the same tags have as many different ones
+pub different-same : (xs ys : List Tag) → ((t : Tag) → 0 < times t ys → 0 < times t xs) → ((t : Tag) → 0 < times t xs → 0 < times t ys) → different ys ≡ different xs
+unfolding different
+different-same xs ys there back =
+    ap set.len (set.same_set tag_cmp-total tag_cmp-IsAntisymmetric (set.from_list {R = tag_cmp} ys) (set.from_list xs)
+    (λ t. grind (arith, nat_tests, set.contains-from_list tag_cmp-total ys t, set.contains-from_list tag_cmp-total xs t, among t ys, among t xs, there t, back t)))
+
+pub different-none : different [] ≡ 0
+unfolding different
+different-none = set.len-empty tag_cmp
+
+-- and one more where a new tag is there too
+pub different-more : (t : Tag) (ts : List Tag) → times t ts ≡ 0 → different (t ∷ ts) ≡ different ts + 1
+unfolding different
+different-more t ts new =
+    grind (arith, nat_tests, set.len-insert tag_cmp-total (set.from_list {R = tag_cmp} ts) t, set.contains-from_list tag_cmp-total ts t, among t ts, new)
+
+-- how often a tag is in lists one after another
+
+pub times-cons : (t u : Tag) (ts : List Tag) → times t (u ∷ ts) ≡ times t (u ∷ []) + times t ts
+unfolding times
+times-cons t u ts = omega (arith, sum_by-cons (λ (s : Tag). cond (is_eq (tag_cmp s t)) 1 0) u ts)
+
+pub times-flat_map : {X : Type 0} (t : Tag) (f : X → List Tag) (xs : List X) → times t (flat_map f xs) ≡ sum_by (λ x. times t (f x)) xs
+unfolding times
+times-flat_map t f [] = refl
+times-flat_map t f (x ∷ xs) =
+    sum_by-append (λ u. cond (is_eq (tag_cmp u t)) 1 0) (f x) (flat_map f xs) ∙ ap (λ n. times t (f x) + n) (times-flat_map t f xs) ∙ sym (sum_by-cons (λ y. times t (f y)) x xs)
+
+-- how often it is at a value, and at the pages of a map
+
+pub times-le : (t : Tag) (v : Option PageValue) → times t (tag_of v) ≤ 1
+unfolding times
+times-le t None = omega arith
+times-le t (Some Zero) = omega arith
+times-le t (Some (Data own bytes)) = grind arith
+
+pub times-from : (t : Tag) (v : Option PageValue) → 0 < times t (tag_of v) → (bytes : List ℕ) × (v ≡ Some (Data t bytes))
+unfolding times
+times-from t None some = absurd (omega (arith, some))
+times-from t (Some Zero) some = absurd (omega (arith, some))
+times-from t (Some (Data own bytes)) some = (bytes, ap (λ u. Some (Data u bytes)) (grind (arith, some, same_tag own t)))
+
+pub times-is : (t : Tag) (bytes : List ℕ) (v : Option PageValue) → v ≡ Some (Data t bytes) → times t (tag_of v) ≡ 1
+unfolding times
+times-is t bytes v is = grind (arith, tag-itself t)
+
+pub times-map : (t : Tag) (m : ℕ → Option PageValue) → times t (tags_of_map m) ≡ total (λ p. times t (tag_of (m p))) 1024
+unfolding tags_of_map
+times-map t m =
+    times-flat_map t (λ p. tag_of (m p)) (range_with_len 0 1024)
+    ∙ total-list (λ p. times t (tag_of (m p))) (range_with_len 0 1024) 0
+    ∙ ap (λ n. total (λ k. times t (tag_of (m (get_or (range_with_len 0 1024) k 0)))) n) (length-range_with_len 0 1024)
+    ∙ total-same (λ k. times t (tag_of (m (get_or (range_with_len 0 1024) k 0)))) (λ p. times t (tag_of (m p))) 1024 (λ p lt. ap (λ k. times t (tag_of (m k))) (get_or-range_with_len 0 1024 p 0 lt ∙ omega arith))
+
+-- a map that has a tag has it at a page
+pub map-has : (t : Tag) (m : ℕ → Option PageValue) → 0 < times t (tags_of_map m) → (p : ℕ) × ((p < 1024) × ((bytes : List ℕ) × (m p ≡ Some (Data t bytes))))
+map-has t m some =
+    let at = total-some (λ p. times t (tag_of (m p))) 1024 (subst (λ n. 0 < n) (times-map t m) some) in
+    (at.0, (at.1.0, times-from t (m at.0) at.1.1))
+
+pub page-le : (t : Tag) (m : ℕ → Option PageValue) (p : ℕ) → p < 1024 → times t (tag_of (m p)) ≤ times t (tags_of_map m)
+page-le t m p lt = subst (λ n. times t (tag_of (m p)) ≤ n) (sym (times-map t m)) (total-at (λ q. times t (tag_of (m q))) 1024 p lt)
+
+-- how often it is at the pages of rows
 
 -- a row has a tag at a page
 pub record HasTag (maps : List (ℕ → Option PageValue)) (tag : Tag) : Type 0 where
@@ -31,127 +98,45 @@ pub record HasTag (maps : List (ℕ → Option PageValue)) (tag : Tag) : Type 0 
   pub below : p < 1024
   pub is : row_of maps k p ≡ Some (Data tag bytes)
 
-module _ (total_order : IsTotalOrder tag_cmp) (one_tag : fm.IsAntisymmetric tag_cmp) where
-  -- tags that compare alike are one
-  pub same-tag : (a b : Tag) → is_eq (tag_cmp a b) ≡ true → a ≡ b
-  same-tag a b h = one_tag a b ((Equal-is (tag_cmp a b)).0 h)
+module _ (maps : List (ℕ → Option PageValue)) (t : Tag) where
+  abbrev times_at : ℕ → ℕ → ℕ
+  times_at k p = times t (tag_of (row_of maps k p))
 
-  pub tag-same : (a b : Tag) → a ≡ b → is_eq (tag_cmp a b) ≡ true
-  tag-same a b h = subst (λ t. is_eq (tag_cmp a t) ≡ true) h ((eq_by_cmp_equiv total_order).refl a)
+  times-rows : times t (row_tags maps) ≡ total2 times_at (length maps) 1024
+  unfolding row_tags
+  times-rows =
+      times-flat_map t tags_of_map maps ∙ total-list (λ m. times t (tags_of_map m)) maps no_pages
+      ∙ total-same (λ k. times t (tags_of_map (row_of maps k))) (λ k. total (times_at k) 1024) (length maps) (λ k _. times-map t (row_of maps k))
 
-  pub has_tag-flat_map : {X : Type 0} (tag : Tag) (f : X → List Tag) (xs : List X) → has_tag tag (flat_map f xs) ≡ list_any (λ x. has_tag tag (f x)) xs
-  unfolding has_tag
-  has_tag-flat_map tag f [] = refl
-  has_tag-flat_map tag f (x ∷ xs) = list_any-append (λ t. is_eq (tag_cmp t tag)) (f x) (flat_map f xs) ∙ ap (λ b. has_tag tag (f x) || b) (has_tag-flat_map tag f xs)
+  -- the tags of the rows are those that a row has at a page
+  pub tag-some : HasTag maps t → 0 < times t (row_tags maps)
+  unfolding row_tags
+  tag-some has =
+      omega (
+        arith,
+        times-flat_map t tags_of_map maps,
+        get_or-le-sum_by (λ m. times t (tags_of_map m)) maps has.k no_pages has.inside,
+        page-le t (row_of maps has.k) has.p has.below,
+        times-is t has.bytes (row_of maps has.k has.p) has.is,
+      )
 
-  pub has_tag-one : (tag own : Tag) → has_tag tag (own ∷ []) ≡ true → own ≡ tag
-  unfolding has_tag
-  has_tag-one tag own h = same-tag own tag (or-none (is_eq (tag_cmp own tag)) h)
-    where
-      or-none : (b : Bool) → (b || false) ≡ true → b ≡ true
-      or-none true h = refl
-      or-none false h = h
-
-  pub one-has_tag : (tag own : Tag) → own ≡ tag → has_tag tag (own ∷ []) ≡ true
-  unfolding has_tag
-  one-has_tag tag own h = ap (λ b. b || false) (tag-same own tag h)
-
-  pub has_tag-none : (tag : Tag) → has_tag tag [] ≡ true → ⊥
-  unfolding has_tag
-  has_tag-none tag h = cc
-
-  value-has : (tag : Tag) (v : Option PageValue) → has_tag tag (tag_of v) ≡ true → (bytes : List ℕ) × (v ≡ Some (Data tag bytes))
-  value-has tag None h = absurd (has_tag-none tag h)
-  value-has tag (Some Zero) h = absurd (has_tag-none tag h)
-  value-has tag (Some (Data own bytes)) h = (bytes, ap (λ t. Some (Data t bytes)) (has_tag-one tag own h))
-
-  -- a tag is in the list of tags where a row has it at a page
-  pub tags-tell : (maps : List (ℕ → Option PageValue)) (tag : Tag) → Decides (has_tag tag (tags maps)) (HasTag maps tag)
-  unfolding tags tags_of_map
-  tags-tell maps tag = (there, back)
-    where
-      there : has_tag tag (tags maps) ≡ true → HasTag maps tag
-      there h =
-          let row = Any-from_list_any (λ m. has_tag tag (tags_of_map m)) maps (sym (has_tag-flat_map tag tags_of_map maps) ∙ h) in
-          let at = Any-from_list_any (λ p. has_tag tag (tag_of (row.1 p))) (range_with_len 0 1024) (sym (has_tag-flat_map tag (λ p. tag_of (row.1 p)) (range_with_len 0 1024)) ∙ row.4) in
-          let found = value-has tag (row.1 at.1) at.4 in
-          let below : at.0 < 1024 = omega (arith, at.2, length-range_with_len 0 1024) in
-          let page : at.0 ≡ at.1 = sym (get_or-range_with_len 0 1024 at.0 at.1 below ∙ omega arith) ∙ at.3 in
-          let same : row_of maps row.0 ≡ row.1 = get_or_default maps row.0 no_pages row.1 row.2 ∙ row.3 in
-          record { k = row.0; p = at.1; bytes = found.0; inside = row.2; below = omega (arith, below, page); is = ap (λ (m : ℕ → Option PageValue). m at.1) same ∙ found.1 }
-
-      back : HasTag maps tag → has_tag tag (tags maps) ≡ true
-      back has =
-          let here : get_or (range_with_len 0 1024) has.p 0 ≡ has.p = get_or-range_with_len 0 1024 has.p 0 has.below ∙ omega arith in
-          has_tag-flat_map tag tags_of_map maps
-          ∙ list_any_at (λ m. has_tag tag (tags_of_map m)) maps has.k no_pages has.inside
-          (has_tag-flat_map tag (λ p. tag_of (row_of maps has.k p)) (range_with_len 0 1024)
-          ∙ list_any_at (λ p. has_tag tag (tag_of (row_of maps has.k p))) (range_with_len 0 1024) has.p 0 (omega (arith, has.below, length-range_with_len 0 1024))
-          (ap (λ p. has_tag tag (tag_of (row_of maps has.k p))) here ∙ ap (λ v. has_tag tag (tag_of v)) has.is ∙ one-has_tag tag tag refl))
-
-  -- how often a tag is in the list
-
-  times-flat_map : {X : Type 0} (tag : Tag) (f : X → List Tag) (xs : List X) → times tag (flat_map f xs) ≡ sum_by (λ x. times tag (f x)) xs
-  unfolding times
-  times-flat_map tag f [] = refl
-  times-flat_map tag f (x ∷ xs) =
-      let tail = times-flat_map tag f xs in
-      sum_by-append (λ t. cond (is_eq (tag_cmp t tag)) 1 0) (f x) (flat_map f xs) ∙ ap (λ n. times tag (f x) + n) tail ∙ sym (sum_by-cons (λ y. times tag (f y)) x xs)
-
-  abbrev times_at : List (ℕ → Option PageValue) → Tag → ℕ → ℕ → ℕ
-  times_at maps tag k p = times tag (tag_of (row_of maps k p))
-
-  times-total : (maps : List (ℕ → Option PageValue)) (tag : Tag) → times tag (tags maps) ≡ total2 (times_at maps tag) (length maps) 1024
-  unfolding tags tags_of_map
-  times-total maps tag =
-      times-flat_map tag tags_of_map maps
-      ∙ total-list (λ m. times tag (tags_of_map m)) maps no_pages
-      ∙ total-same (λ k. times tag (tags_of_map (row_of maps k))) (λ k. total (times_at maps tag k) 1024) (length maps) (λ k _.
-      times-flat_map tag (λ p. tag_of (row_of maps k p)) (range_with_len 0 1024)
-      ∙ total-list (λ p. times_at maps tag k p) (range_with_len 0 1024) 0
-      ∙ ap (λ n. total (λ p. times_at maps tag k (get_or (range_with_len 0 1024) p 0)) n) (length-range_with_len 0 1024)
-      ∙ total-same (λ p. times_at maps tag k (get_or (range_with_len 0 1024) p 0)) (times_at maps tag k) 1024 (λ p lt.
-      ap (times_at maps tag k) (get_or-range_with_len 0 1024 p 0 lt ∙ omega arith)))
-
-  once-or-not : (b : Bool) → 0 + cond b 1 0 ≤ 1
-  once-or-not true = omega arith
-  once-or-not false = omega arith
-
-  once-true : (b : Bool) → 0 < 0 + cond b 1 0 → b ≡ true
-  once-true true h = refl
-  once-true false h = absurd (omega (arith, h))
-
-  once-is : (b : Bool) → b ≡ true → 0 < 0 + cond b 1 0
-  once-is true h = omega arith
-  once-is false h = absurd cc
-
-  times-le : (tag : Tag) (v : Option PageValue) → times tag (tag_of v) ≤ 1
-  unfolding times
-  times-le tag None = omega arith
-  times-le tag (Some Zero) = omega arith
-  times-le tag (Some (Data own bytes)) = once-or-not (is_eq (tag_cmp own tag))
-
-  times-from : (tag : Tag) (v : Option PageValue) → 0 < times tag (tag_of v) → (bytes : List ℕ) × (v ≡ Some (Data tag bytes))
-  unfolding times
-  times-from tag None h = absurd (omega (arith, h))
-  times-from tag (Some Zero) h = absurd (omega (arith, h))
-  times-from tag (Some (Data own bytes)) h = (bytes, ap (λ t. Some (Data t bytes)) (same-tag own tag (once-true (is_eq (tag_cmp own tag)) h)))
-
-  times-some : (tag : Tag) (bytes : List ℕ) (v : Option PageValue) → v ≡ Some (Data tag bytes) → 0 < times tag (tag_of v)
-  unfolding times
-  times-some tag bytes v is = subst (λ x. 0 < times tag (tag_of x)) (sym is) (once-is (is_eq (tag_cmp tag tag)) (tag-same tag tag refl))
+  pub some-tag : 0 < times t (row_tags maps) → HasTag maps t
+  unfolding row_tags
+  some-tag some =
+      let row = sum-some (λ m. times t (tags_of_map m)) maps no_pages (omega (arith, some, times-flat_map t tags_of_map maps)) in
+      let page = map-has t (row_of maps row.0) row.1.1 in
+      record { k = row.0; p = page.0; bytes = page.1.1.0; inside = row.1.0; below = page.1.0; is = page.1.1.1 }
 
   -- a tag that is at two pages is in the list more than once
-  pub two-times : (maps : List (ℕ → Option PageValue)) (tag : Tag) (i p : ℕ) (bytes : List ℕ) → i < length maps → p < 1024 → row_of maps i p ≡ Some (Data tag bytes) → (other : HasTag maps tag) → IsElsewhere i p other.k other.p → 1 < times tag (tags maps)
-  two-times maps tag i p bytes i_in p_in is other apart =
-      let two = total2-two (times_at maps tag) (length maps) 1024 i p other.k other.p i_in p_in other.inside other.below apart (times-some tag bytes (row_of maps i p) is) (times-some tag other.bytes (row_of maps other.k other.p) other.is) in
-      let all = times-total maps tag in
-      omega (arith, two, all)
+  pub two-times : (i p : ℕ) (bytes : List ℕ) → i < length maps → p < 1024 → row_of maps i p ≡ Some (Data t bytes) → (other : HasTag maps t) → IsElsewhere i p other.k other.p → 1 < times t (row_tags maps)
+  two-times i p bytes i_in p_in is other apart =
+      let one = times-is t bytes (row_of maps i p) is in
+      let two = times-is t other.bytes (row_of maps other.k other.p) other.is in
+      omega (arith, times-rows, total2-two times_at (length maps) 1024 i p other.k other.p i_in p_in other.inside other.below apart (omega (arith, one)) (omega (arith, two)))
 
   -- a tag that is in the list more than once is at another page too
-  pub other-time : (maps : List (ℕ → Option PageValue)) (tag : Tag) (i p : ℕ) → i < length maps → p < 1024 → 1 < times tag (tags maps) → (other : HasTag maps tag) × IsElsewhere i p other.k other.p
-  other-time maps tag i p i_in p_in more =
-      let all = times-total maps tag in
-      let off = total2-other (times_at maps tag) (length maps) 1024 i p i_in p_in (times-le tag (row_of maps i p)) (omega (arith, all, more)) in
-      let found = times-from tag (row_of maps off.c off.d) off.some in
+  pub other-time : (i p : ℕ) → i < length maps → p < 1024 → 1 < times t (row_tags maps) → (other : HasTag maps t) × IsElsewhere i p other.k other.p
+  other-time i p i_in p_in more =
+      let off = total2-other times_at (length maps) 1024 i p i_in p_in (times-le t (row_of maps i p)) (omega (arith, times-rows, more)) in
+      let found = times-from t (row_of maps off.c off.d) off.some in
       (record { k = off.c; p = off.d; bytes = found.0; inside = off.c_in; below = off.d_in; is = found.1 }, off.apart)

@@ -1,6 +1,7 @@
 -- A store that is tied to trees of which one changes: what is kept, and what the trees stand for.
-use Rattle.std.proofs.Common.{◌≡◌, ◌≢◌, ℕ, zero, suc, ◌+◌, ◌*◌, ◌<◌, ◌≤◌, ⊎_elim, true, false, cond, eqb, ltb, leb, ◌&&◌, List, [], ◌∷◌, length, get_or, set, map, replicate, refl, sym, ◌∙◌, ap, arith, subst, length-set, get_or-set_other, Option, None, Some}
-use Rattle.std.proofs.lemmas.Bool.{and_from, and_left, and_right, le-leb, lt-leb, cases_eq, cases_lt, lt-ltb, le-ltb, cond-true, cond-false, eq-eqb, ne_eqb}
+use Rattle.std.proofs.Common.{◌≡◌, ◌≢◌, ℕ, zero, suc, ◌+◌, ◌*◌, ◌<◌, ◌≤◌, ⊎_elim, true, cond, eqb, ltb, leb, ◌&&◌, List, [], ◌∷◌, length, get_or, set, map, replicate, refl, sym, ◌∙◌, ap, arith, subst, length-set, get_or-set_other, Option, None, Some}
+use Rattle.std.proofs.lemmas.Bool.{cases_eq, cases_lt, lt-ltb, le-ltb, cond-true, cond-false}
+use Rattle.std.proofs.lemmas.Bool.Decides.{nat_tests}
 use Rattle.std.proofs.lemmas.List.{map-set, get_or-map, length-map, length-replicate, get_or-replicate, get_or_past, get_or_read}
 use Rattle.std.proofs.lemmas.List.Sums.{sum_by-set, get_or-le-sum_by, sum_by-cons}
 use Rattle.frame_pool.specs.Frame.{Frame, no_frame, zero_frame, frame_count}
@@ -12,16 +13,20 @@ use Rattle.page_tree.specs.declared.cell.PageCell.{PageCell}
 use Rattle.page_tree.specs.declared.cell.PageCell.TheVariants.{Absent, Zero}
 use Rattle.page_tree.specs.declared.cell.PageCell.TheVariants as cell
 use Rattle.page_tree.specs.Changes.{KeepsTrees, KeepsMaps, KeepsFrames}
-use Rattle.page_tree.specs.Laws.{TreeLaws, TiedLaws}
 use Rattle.page_tree.specs.Pages.{page, entry_for}
 use Rattle.page_tree.specs.Sound.{IsSound, IsTree, trees_at, is_root}
 use Rattle.page_tree.specs.Tied.{having, IsTied}
-use Rattle.cow_space.specs.Cells.{cells, all_cells, cell_value, values, tree_maps}
-use Rattle.cow_space.specs.Kept.{IsStamped, IsKept}
+use Rattle.cow_space.specs.Trees.{cells, all_cells, cell_value, values, tree_maps}
+use Rattle.cow_space.specs.RowKept.{IsStamped, IsKept}
 use Rattle.frame_pool.specs.declared.pool.FrameNo.{FrameNo}
-use Rattle.cow_space.specs.Tags.{is_parting}
+use Rattle.cow_space.specs.Tags.{parts}
 use Rattle.cow_space.specs.Maps.{data_of, no_pages, row_of, put_page, put_range}
-use Rattle.cow_space.proofs.Lists.{one_if, one-yes, one-no, zero_or_more, cond-of, map-set_changed, two_terms, set-twice, map-replicate}
+use Rattle.cow_space.proofs.Lists.{one_if, one-yes, one-no, cond-of, map-set_changed, two_terms}
+use Rattle.page_tree.proofs.HolderLemmas.{having-le, tied-tree}
+use Rattle.page_tree.proofs.NodeBound.{node_bound}
+use Rattle.page_tree.proofs.PageLemmas.{page-none}
+use Rattle.page_tree.proofs.KeepsLemmas.{zero_or_more}
+use Rattle.lwc_base.proofs.Small.{map-replicate, set-again}
 
 -- held frames have stamps of their own still, where free ones stay free
 pub stamped-kept : (old new : List Node) (frames frames' : List Frame) → KeepsFrames old new frames frames' → IsStamped frames → IsStamped frames'
@@ -34,12 +39,12 @@ stamped-kept old new frames frames' keeps stamped = λ f g f_held g_held is.
 pub few-trees : (nodes : List Node) (frames : List Frame) (trees : List ℕ) → IsKept nodes frames trees → length trees ≤ 65536
 few-trees nodes frames trees kept = let few = kept.tied.sound.few in omega (arith, kept.room, few)
 
-pub kept-free : TiedLaws → (nodes : List Node) (frames : List Frame) (trees : List ℕ) → IsKept nodes frames trees → 66 ≤ free_of nodes
-kept-free laws nodes frames trees kept = let bound = laws.free nodes frames trees kept.tied in omega (arith, bound, kept.room)
+pub kept-free : (nodes : List Node) (frames : List Frame) (trees : List ℕ) → IsKept nodes frames trees → 66 ≤ free_of nodes
+kept-free nodes frames trees kept = let bound = node_bound nodes frames trees kept.tied in omega (arith, bound, kept.room)
 
-pub kept-tree : TiedLaws → (nodes : List Node) (frames : List Frame) (trees : List ℕ) (i tree : ℕ) → IsKept nodes frames trees → i < length trees → tree ≡ get_or trees i 0 → IsTree nodes tree
-kept-tree laws nodes frames trees i tree kept lt is =
-    subst (λ t. IsTree nodes t) (sym is) (laws.are_trees nodes frames trees i kept.tied (few-trees nodes frames trees kept) lt)
+pub kept-tree : (nodes : List Node) (frames : List Frame) (trees : List ℕ) (i tree : ℕ) → IsKept nodes frames trees → i < length trees → tree ≡ get_or trees i 0 → IsTree nodes tree
+kept-tree nodes frames trees i tree kept lt is =
+    subst (λ t. IsTree nodes t) (sym is) (tied-tree nodes frames trees i kept.tied lt (few-trees nodes frames trees kept))
 
 -- two rows with one root are both counted there
 pub kept-both : (nodes : List Node) (frames : List Frame) (trees : List ℕ) (i j n left other : ℕ) → IsKept nodes frames trees → i < length trees → j < length trees → j ≢ i → left ≡ get_or trees i 0 → other ≡ get_or trees j 0 → left ≡ n + 1 → other ≡ n + 1 → 1 < trees_at nodes n
@@ -61,67 +66,41 @@ unfolding cells
 cells-past nodes tree p le = cond-false (ltb p 1024) (page nodes tree p) Absent (le-ltb p 1024 le)
 
 -- the empty tree has nothing
-pub cells-empty : TreeLaws → (nodes : List Node) → cells nodes 0 ≡ (λ p. Absent)
-cells-empty laws nodes = λ i p. at p i
+pub cells-empty : (nodes : List Node) → cells nodes 0 ≡ (λ p. Absent)
+cells-empty nodes = λ i p. at p i
   where
     at : (p : ℕ) → cells nodes 0 p ≡ Absent
-    at p = ⊎_elim (λ lt. cells-page nodes 0 p lt ∙ laws.empty nodes p) (λ le. cells-past nodes 0 p le) (cases_lt p 1024)
+    at p = ⊎_elim (λ lt. cells-page nodes 0 p lt ∙ page-none nodes p) (λ le. cells-past nodes 0 p le) (cases_lt p 1024)
 
 -- two trees have the same cells where they have the same pages
 pub cells-same : (old new : List Node) (tree tree' : ℕ) → ((p : ℕ) → p < 1024 → page new tree' p ≡ page old tree p) → cells new tree' ≡ cells old tree
+unfolding cells
 cells-same old new tree tree' same = λ i p. at p i
   where
-    at : (p : ℕ) → cells new tree' p ≡ cells old tree p
-    at p =
-        ⊎_elim
-        (λ lt. cells-page new tree' p lt ∙ same p lt ∙ sym (cells-page old tree p lt))
-        (λ le. cells-past new tree' p le ∙ sym (cells-past old tree p le))
-        (cases_lt p 1024)
+    at : (p : ℕ) → cond (ltb p 1024) (page new tree' p) Absent ≡ cond (ltb p 1024) (page old tree p) Absent
+    at p = grind (arith, nat_tests, same p)
 
 -- a page is another now
 pub cells-put : (old new : List Node) (left came p : ℕ) (c : PageCell) → p < 1024 → page new came p ≡ c → ((q : ℕ) → q ≢ p → q < 1024 → page new came q ≡ page old left q) → cells new came ≡ put_page (cells old left) p c
+unfolding cells
 cells-put old new left came p c lt here there = λ i q. at q i
   where
-    at : (q : ℕ) → cells new came q ≡ cond (eqb q p) c (cells old left q)
-    at q =
-        ⊎_elim
-        (λ is. ap (cells new came) is ∙ cells-page new came p lt ∙ here ∙ sym (cond-true (eqb q p) c (cells old left q) (eq-eqb q p is)))
-        (λ off.
-        ⊎_elim
-        (λ below. cells-page new came q below ∙ there q off below ∙ sym (cells-page old left q below))
-        (λ past. cells-past new came q past ∙ sym (cells-past old left q past))
-        (cases_lt q 1024)
-        ∙ sym (cond-false (eqb q p) c (cells old left q) (ne_eqb q p off)))
-        (cases_eq q p)
+    at : (q : ℕ) → cond (ltb q 1024) (page new came q) Absent ≡ cond (eqb q p) c (cond (ltb q 1024) (page old left q) Absent)
+    at q = grind (arith, nat_tests, lt, here, there q)
 
 -- a range of pages is another tree's now
 pub cells-share : (old new : List Node) (left came from to : ℕ) (other : ℕ → PageCell) → to ≤ 1024 → ((q : ℕ) → from ≤ q → q < to → page new came q ≡ other q) → ((q : ℕ) → q < from → page new came q ≡ page old left q) → ((q : ℕ) → to ≤ q → q < 1024 → page new came q ≡ page old left q) → cells new came ≡ put_range (cells old left) from to other
+unfolding cells
 cells-share old new left came from to other most within before after = λ i q. at q i
   where
-    out : (q : ℕ) → (leb from q && ltb q to) ≡ false → page new came q ≡ page old left q → q < 1024 → cells new came q ≡ cond (leb from q && ltb q to) (other q) (cells old left q)
-    out q outside same below = cells-page new came q below ∙ same ∙ sym (cells-page old left q below) ∙ sym (cond-false (leb from q && ltb q to) (other q) (cells old left q) outside)
-
-    at : (q : ℕ) → cells new came q ≡ cond (leb from q && ltb q to) (other q) (cells old left q)
-    at q =
-        ⊎_elim
-        (λ below.
-        ⊎_elim
-        (λ low. out q (and_left (leb from q) (ltb q to) (lt-leb from q low)) (before q low) below)
-        (λ from_on. ⊎_elim
-        (λ here. cells-page new came q below ∙ within q from_on here ∙ sym (cond-true (leb from q && ltb q to) (other q) (cells old left q) (and_from (leb from q) (ltb q to) (le-leb from q from_on) (lt-ltb q to here))))
-        (λ high. out q (and_right (leb from q) (ltb q to) (le-ltb q to high)) (after q high below) below)
-        (cases_lt q to))
-        (cases_lt q from))
-        (λ past.
-        cells-past new came q past ∙ sym (cells-past old left q past)
-        ∙ sym (cond-false (leb from q && ltb q to) (other q) (cells old left q) (and_right (leb from q) (ltb q to) (le-ltb q to (omega (arith, past, most))))))
-        (cases_lt q 1024)
+    at : (q : ℕ) → cond (ltb q 1024) (page new came q) Absent ≡ cond (leb from q && ltb q to) (other q) (cond (ltb q 1024) (page old left q) Absent)
+    at q = grind (arith, nat_tests, most, within q, before q, after q)
 
 -- a tree that is one of the trees beside the one that left stands for the same
-pub cells-other : TreeLaws → (old new : List Node) (frames : List Frame) (trees : List ℕ) (left tree : ℕ) → IsTied old frames trees → KeepsMaps old new left → ((n : ℕ) → tree ≡ n + 1 → is_root left n < having trees n) → cells new tree ≡ cells old tree
-cells-other laws old new frames trees left tree tied kept other =
+pub cells-other : (old new : List Node) (frames : List Frame) (trees : List ℕ) (left tree : ℕ) → IsTied old frames trees → KeepsMaps old new left → ((n : ℕ) → tree ≡ n + 1 → is_root left n < having trees n) → cells new tree ≡ cells old tree
+cells-other old new frames trees left tree tied kept other =
     ⊎_elim
-    (λ none. ap (cells new) none ∙ cells-empty laws new ∙ sym (cells-empty laws old) ∙ sym (ap (cells old) none))
+    (λ none. ap (cells new) none ∙ cells-empty new ∙ sym (cells-empty old) ∙ sym (ap (cells old) none))
     (λ some.
     let rooted = tied.rooted some.0 in
     let more = other some.0 some.1 in
@@ -161,16 +140,29 @@ pub row-page : (frames : List Frame) (nodes : List Node) (trees : List ℕ) (i p
 row-page frames nodes trees i p lt below =
     ap (λ (m : ℕ → Option PageValue). m p) (row-at frames nodes trees i lt) ∙ ap (cell_value frames) (cells-page nodes (get_or trees i 0) p below)
 
+-- a row has no value past the last page, so one whose pages are all gone has none
+pub row-none : (frames : List Frame) (nodes : List Node) (trees : List ℕ) (i : ℕ) → i < length trees → put_range (row_of (tree_maps frames nodes trees) i) 0 1024 no_pages ≡ no_pages
+row-none frames nodes trees i lt = λ x q. at q x
+  where
+    at : (q : ℕ) → put_range (row_of (tree_maps frames nodes trees) i) 0 1024 no_pages q ≡ None
+    at q =
+        ⊎_elim
+        (λ below. grind (arith, nat_tests, below))
+        (λ past.
+        let row = ap (λ (m : ℕ → Option PageValue). m q) (row-at frames nodes trees i lt) ∙ ap (cell_value frames) (cells-past nodes (get_or trees i 0) q past) in
+        grind (arith, nat_tests, past, row))
+        (cases_lt q 1024)
+
 -- a cell without a frame has no bytes, and parts
 pub data-none : (frames : List Frame) (c : PageCell) → ((f : FrameNo) → c ≡ cell.Frame f → ⊥) → data_of (cell_value frames c) ≡ None
 data-none frames Absent off = refl
 data-none frames Zero off = refl
 data-none frames (cell.Frame f) off = absurd (off f refl)
 
-pub parting-none : (maps : List (ℕ → Option PageValue)) (frames : List Frame) (c : PageCell) → ((f : FrameNo) → c ≡ cell.Frame f → ⊥) → is_parting maps (cell_value frames c) ≡ true
-parting-none maps frames Absent off = refl
-parting-none maps frames Zero off = refl
-parting-none maps frames (cell.Frame f) off = absurd (off f refl)
+pub parting-none : (tags : List Tag) (frames : List Frame) (c : PageCell) → ((f : FrameNo) → c ≡ cell.Frame f → ⊥) → parts tags (cell_value frames c) ≡ true
+parting-none tags frames Absent off = refl
+parting-none tags frames Zero off = refl
+parting-none tags frames (cell.Frame f) off = absurd (off f refl)
 
 -- how often trees have a root once one left its place in the list for another
 pub having-set : (trees : List ℕ) (i left came : ℕ) → i < length trees → left ≡ get_or trees i 0 → (n : ℕ) → having (set trees i came) n + is_root left n ≡ having trees n + is_root came n
@@ -180,16 +172,16 @@ having-set trees i left came i_in left_is n =
     omega (arith, sums, there)
 
 -- the other trees stand for what they stood for
-pub other-tree : TreeLaws → (old new : List Node) (frames : List Frame) (trees : List ℕ) (i left : ℕ) → IsKept old frames trees → i < length trees → left ≡ get_or trees i 0 → KeepsMaps old new left → (j : ℕ) → j < length trees → j ≢ i → cells new (get_or trees j 0) ≡ cells old (get_or trees j 0)
-other-tree laws old new frames trees i left kept i_in left_is maps j j_in off =
-    cells-other laws old new frames trees left (get_or trees j 0) kept.tied maps (λ n root.
+pub other-tree : (old new : List Node) (frames : List Frame) (trees : List ℕ) (i left : ℕ) → IsKept old frames trees → i < length trees → left ≡ get_or trees i 0 → KeepsMaps old new left → (j : ℕ) → j < length trees → j ≢ i → cells new (get_or trees j 0) ≡ cells old (get_or trees j 0)
+other-tree old new frames trees i left kept i_in left_is maps j j_in off =
+    cells-other old new frames trees left (get_or trees j 0) kept.tied maps (λ n root.
     let one = one-yes (get_or trees j 0) (n + 1) root in
     let two = two_terms (λ tree. is_root tree n) trees i j 0 i_in j_in off in
     let here = ap (λ t. is_root t n) left_is in
     omega (arith, one, two, here))
 
 -- one tree left its place in the list for another
-module _ (tree_laws : TreeLaws) (old new : List Node) (frames frames' : List Frame) (trees : List ℕ) (i left came : ℕ) (kept : IsKept old frames trees) (i_in : i < length trees) (left_is : left ≡ get_or trees i 0) (sound : IsSound new frames') (keeps : KeepsTrees old new left came) (maps : KeepsMaps old new left) (frames_kept : KeepsFrames old new frames frames') where
+module _ (old new : List Node) (frames frames' : List Frame) (trees : List ℕ) (i left came : ℕ) (kept : IsKept old frames trees) (i_in : i < length trees) (left_is : left ≡ get_or trees i 0) (sound : IsSound new frames') (keeps : KeepsTrees old new left came) (maps : KeepsMaps old new left) (frames_kept : KeepsFrames old new frames frames') where
   pub kept-set : IsKept new frames' (set trees i came)
   kept-set =
       record {
@@ -204,7 +196,7 @@ module _ (tree_laws : TreeLaws) (old new : List Node) (frames frames' : List Fra
 
   cells-set : (f : ℕ → PageCell) → cells new came ≡ f → all_cells new (set trees i came) ≡ set (all_cells old trees) i f
   unfolding all_cells
-  cells-set f is = map-set_changed (cells new) (cells old) trees i came 0 f is (other-tree tree_laws old new frames trees i left kept i_in left_is maps)
+  cells-set f is = map-set_changed (cells new) (cells old) trees i came 0 f is (other-tree old new frames trees i left kept i_in left_is maps)
 
   pub maps-set : (f : ℕ → PageCell) → cells new came ≡ f → tree_maps frames' new (set trees i came) ≡ set (tree_maps frames old trees) i (values frames f)
   unfolding tree_maps
@@ -230,13 +222,6 @@ pub other-read : (trees : List ℕ) (i j tree r : ℕ) → j ≢ i → j < lengt
 other-read trees i j tree r off lt is =
     get_or_read (set trees i tree) j r (omega (arith, lt, length-set trees i tree)) is 0 ∙ get_or-set_other trees i j tree 0 off
 
-having-le : (trees : List ℕ) (n : ℕ) → having trees n ≤ length trees
-having-le [] n = omega arith
-having-le (t ∷ ts) n =
-    let tail = having-le ts n in
-    let one : one_if (eqb t (n + 1)) ≤ 1 = ⊎_elim (λ is. omega (arith, one-yes t (n + 1) is)) (λ off. omega (arith, one-no t (n + 1) off)) (cases_eq t (n + 1)) in
-    omega (arith, sum_by-cons (λ tree. is_root tree n) t ts, tail, one)
-
 -- a root can be held once more
 pub kept-few : (nodes : List Node) (frames : List Frame) (trees : List ℕ) (n : ℕ) → IsKept nodes frames trees → trees_at nodes n + 1 < 2147483648
 kept-few nodes frames trees n kept =
@@ -244,11 +229,11 @@ kept-few nodes frames trees n kept =
     omega (arith, rooted, having-le trees n, few-trees nodes frames trees kept)
 
 -- an empty place of the list gets a tree that another place has
-module _ (tree_laws : TreeLaws) (old new : List Node) (frames frames' : List Frame) (trees : List ℕ) (maps : List (ℕ → Option PageValue)) (to from tree came : ℕ) (kept : IsKept old frames trees) (to_in : to < length trees) (from_in : from < length trees) (apart : from ≢ to) (none : get_or trees to 0 ≡ 0) (tree_is : tree ≡ get_or trees from 0) (same : came ≡ tree) (sound : IsSound new frames') (keeps : KeepsTrees old new 0 came) (kept_maps : KeepsMaps old new 0) (frames_kept : KeepsFrames old new frames frames') (are : tree_maps frames old trees ≡ set maps to no_pages) where
+module _ (old new : List Node) (frames frames' : List Frame) (trees : List ℕ) (maps : List (ℕ → Option PageValue)) (to from tree came : ℕ) (kept : IsKept old frames trees) (to_in : to < length trees) (from_in : from < length trees) (apart : from ≢ to) (none : get_or trees to 0 ≡ 0) (tree_is : tree ≡ get_or trees from 0) (same : came ≡ tree) (sound : IsSound new frames') (keeps : KeepsTrees old new 0 came) (kept_maps : KeepsMaps old new 0) (frames_kept : KeepsFrames old new frames frames') (are : tree_maps frames old trees ≡ set maps to no_pages) where
   cells-held : cells new came ≡ cells old (get_or trees from 0)
   cells-held =
       ap (cells new) (same ∙ tree_is)
-      ∙ cells-other tree_laws old new frames trees 0 (get_or trees from 0) kept.tied kept_maps (λ n is.
+      ∙ cells-other old new frames trees 0 (get_or trees from 0) kept.tied kept_maps (λ n is.
       let one = one-yes (get_or trees from 0) (n + 1) is in
       let some = get_or-le-sum_by (λ t. is_root t n) trees from 0 from_in in
       let zero = one-no 0 (n + 1) (λ e. absurd (omega (arith, e))) in
@@ -256,10 +241,10 @@ module _ (tree_laws : TreeLaws) (old new : List Node) (frames frames' : List Fra
 
   pub maps-clone : tree_maps frames' new (set trees to came) ≡ set maps to (row_of maps from)
   maps-clone =
-      maps-set tree_laws old new frames frames' trees to 0 came kept to_in (sym none) sound keeps kept_maps frames_kept (cells old (get_or trees from 0)) cells-held
+      maps-set old new frames frames' trees to 0 came kept to_in (sym none) sound keeps kept_maps frames_kept (cells old (get_or trees from 0)) cells-held
       ∙ ap (set (tree_maps frames old trees) to) (sym (row-at frames old trees from from_in))
       ∙ ap (λ ms. set ms to (row_of (tree_maps frames old trees) from)) are
-      ∙ set-twice maps to no_pages (row_of (tree_maps frames old trees) from)
+      ∙ set-again maps to no_pages (row_of (tree_maps frames old trees) from)
       ∙ ap (set maps to) (ap (λ ms. row_of ms from) are ∙ get_or-set_other maps to from no_pages no_pages apart)
 
 -- a new store with empty trees
@@ -290,11 +275,11 @@ kept-new n m k tag nodes frames trees tied size new empty room =
       room = omega (arith, room, size, ap length empty, length-replicate {A = ℕ} k 0);
     }
 
-pub maps-new : TreeLaws → (frames : List Frame) (nodes : List Node) (trees : List ℕ) (k : ℕ) → trees ≡ replicate k 0 → tree_maps frames nodes trees ≡ replicate k no_pages
+pub maps-new : (frames : List Frame) (nodes : List Node) (trees : List ℕ) (k : ℕ) → trees ≡ replicate k 0 → tree_maps frames nodes trees ≡ replicate k no_pages
 unfolding tree_maps all_cells
-maps-new laws frames nodes trees k empty =
+maps-new frames nodes trees k empty =
     ap (λ ts. map (values frames) (map (cells nodes) ts)) empty
-    ∙ ap (map (values frames)) (map-replicate (cells nodes) k 0 ∙ ap (replicate k) (cells-empty laws nodes))
+    ∙ ap (map (values frames)) (map-replicate (cells nodes) k 0 ∙ ap (replicate k) (cells-empty nodes))
     ∙ map-replicate (values frames) k (λ p. Absent)
 
 pub none-new : (k i : ℕ) → ◌≡◌ {A = ℕ} (get_or (replicate k 0) i 0) 0

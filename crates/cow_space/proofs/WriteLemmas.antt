@@ -1,15 +1,13 @@
 -- A page of a row is written: in a new frame, or in its own.
 use Rattle.std.proofs.Common.{◌≡◌, ◌≢◌, ℕ, ◌+◌, ◌-◌, ◌^◌, ◌<◌, ◌≤◌, inl, inr, ⊎_elim, true, false, cond, eqb, List, [], ◌∷◌, length, get_or, set, map, refl, sym, ◌∙◌, ap, arith, length-set, get_or-set_other, Option, Some}
 use Rattle.std.specs.Prelude.{unwrap_or}
-use Rattle.std.specs.Cmp.{IsTotalOrder}
-use Rattle.std.specs.FinMap as fm
-use Rattle.std.proofs.lemmas.Bool.{cases_eq, cases_lt, cond-true, cond-false, eq-eqb, ne_eqb, lt-ltb}
+use Rattle.std.proofs.lemmas.Bool.{cases_eq, cases_lt, lt-ltb}
+use Rattle.std.proofs.lemmas.Bool.Decides.{nat_tests}
 use Rattle.std.proofs.lemmas.List.{get_or-set_same, set-get_or}
 use Rattle.frame_pool.specs.Frame.{Frame, no_frame, frame_at, frame_count, frame_stamp, frame_bytes, recount_frame, refill_frame}
 use Rattle.lwc_base.specs.declared.name.Tag.{Tag}
 use Rattle.lwc_base.specs.declared.page.PageValue.{PageValue}
 use Rattle.lwc_base.specs.declared.page.PageValue.TheVariants as value
-use Rattle.lwc_base.specs.Names.{tag_cmp}
 use Rattle.lwc_base.specs.Pages.{bytes_of}
 use Rattle.lwc_base.specs.Store.{Piece, bytes_after, stored_value}
 use Rattle.node_pool.specs.Nodes.{Node}
@@ -17,20 +15,22 @@ use Rattle.page_tree.specs.declared.cell.PageCell.{PageCell}
 use Rattle.page_tree.specs.declared.cell.PageCell.TheVariants.{Absent, Zero}
 use Rattle.page_tree.specs.declared.cell.PageCell.TheVariants as cell
 use Rattle.page_tree.specs.Changes.{KeepsTrees, KeepsMaps, KeepsFrames}
-use Rattle.page_tree.specs.Laws.{TreeLaws, TiedLaws}
 use Rattle.page_tree.specs.Pages.{page}
 use Rattle.page_tree.specs.Short.{page_short}
 use Rattle.page_tree.specs.Sound.{IsSound, naming}
 use Rattle.page_tree.specs.Tied.{HasElsewhere, IsElsewhere, page_of}
-use Rattle.cow_space.specs.Cells.{cells, all_cells, cell_value, values, tree_maps}
-use Rattle.cow_space.specs.Kept.{IsStamped, IsKept}
+use Rattle.cow_space.specs.Trees.{cells, all_cells, cell_value, values, tree_maps}
+use Rattle.cow_space.specs.RowKept.{IsStamped, IsKept}
 use Rattle.cow_space.specs.Maps.{row_of, put_page}
-use Rattle.cow_space.specs.Tags.{IsNewTag, is_parting}
+use Rattle.cow_space.specs.Tags.{parts, row_tags, times}
 use Rattle.cow_space.specs.Takes.{Takes, cell_bytes}
-use Rattle.cow_space.specs.Writes.{read_value, written_value}
+use Rattle.cow_space.specs.RowWrites.{read_value, written_value}
 use Rattle.cow_space.proofs.Lists.{map-set_changed}
 use Rattle.cow_space.proofs.Trees.{cells-page, cells-past, cells-put, having-set, other-tree, row-at}
-use Rattle.cow_space.proofs.UsedLemmas.{inside-frame, tag-of, parting-shared, parting-alone}
+use Rattle.cow_space.proofs.TagLemmas.{tag-some}
+use Rattle.cow_space.proofs.UsedLemmas.{held-tag, inside-frame, parting-shared, parting-alone}
+use Rattle.page_tree.proofs.HolderLemmas.{held-frame}
+use Rattle.page_tree.proofs.ElsewhereLemmas.{elsewhere-is}
 
 -- a store stays sound with other frames that are held near enough to as often as entries name them
 sound-frames : (nodes : List Node) (frames frames' : List Frame) → IsSound nodes frames → length frames' ≡ length frames → ((f : ℕ) → naming nodes f ≤ frame_count frames' f) → ((f : ℕ) → frame_count frames' f < naming nodes f + 2 ^ 31) → IsSound nodes frames'
@@ -71,14 +71,7 @@ module _ (old new : List Node) (frames frames' : List Frame) (trees : List ℕ) 
       (cases_lt q 1024)
 
   own-value : (q : ℕ) → cell_value frames' (cond (eqb q p) c (cells old (get_or trees i 0) q)) ≡ cond (eqb q p) v (cell_value frames (cells old (get_or trees i 0) q))
-  own-value q =
-      ⊎_elim
-      (λ at. ap (cell_value frames') (cond-true (eqb q p) c (cells old (get_or trees i 0) q) (eq-eqb q p at)) ∙ is ∙ sym (cond-true (eqb q p) v (cell_value frames (cells old (get_or trees i 0) q)) (eq-eqb q p at)))
-      (λ off.
-      ap (cell_value frames') (cond-false (eqb q p) c (cells old (get_or trees i 0) q) (ne_eqb q p off))
-      ∙ value-elsewhere i q i_in (inr (refl, off))
-      ∙ sym (cond-false (eqb q p) v (cell_value frames (cells old (get_or trees i 0) q)) (ne_eqb q p off)))
-      (cases_eq q p)
+  own-value q = grind (arith, nat_tests, is, (λ (off : q ≢ p). value-elsewhere i q i_in (inr (refl, off))))
 
   pub maps-put : tree_maps frames' new (set trees i came) ≡ set (tree_maps frames old trees) i (put_page (row_of (tree_maps frames old trees) i) p v)
   maps-put =
@@ -100,13 +93,13 @@ read-bytes frames Absent = refl
 read-bytes frames Zero = refl
 read-bytes frames (cell.Frame f) = refl
 
-pub written-parting : (maps : List (ℕ → Option PageValue)) (frames : List Frame) (i p : ℕ) (piece : Piece) (tag : Tag) (c : PageCell) → row_of maps i p ≡ cell_value frames c → is_parting maps (row_of maps i p) ≡ true → value.Data tag (bytes_after piece p (cell_bytes frames c)) ≡ written_value maps i p piece tag
+pub written-parting : (maps : List (ℕ → Option PageValue)) (frames : List Frame) (i p : ℕ) (piece : Piece) (tag : Tag) (c : PageCell) → row_of maps i p ≡ cell_value frames c → parts (row_tags maps) (row_of maps i p) ≡ true → value.Data tag (bytes_after piece p (cell_bytes frames c)) ≡ written_value maps i p piece tag
 written-parting maps frames i p piece tag c row parts =
     sym (ap (λ b. stored_value b tag (read_value maps i p) (bytes_after piece p (bytes_of (read_value maps i p)))) parts
     ∙ stored-parting tag (read_value maps i p) (bytes_after piece p (bytes_of (read_value maps i p)))
     ∙ ap (λ bs. value.Data tag (bytes_after piece p bs)) (ap (λ v. bytes_of (unwrap_or v value.Zero)) row ∙ read-bytes frames c))
 
-pub written-own : (maps : List (ℕ → Option PageValue)) (i p : ℕ) (piece : Piece) (tag own : Tag) (bytes : List ℕ) → row_of maps i p ≡ Some (value.Data own bytes) → is_parting maps (row_of maps i p) ≡ false → value.Data own (bytes_after piece p bytes) ≡ written_value maps i p piece tag
+pub written-own : (maps : List (ℕ → Option PageValue)) (i p : ℕ) (piece : Piece) (tag own : Tag) (bytes : List ℕ) → row_of maps i p ≡ Some (value.Data own bytes) → parts (row_tags maps) (row_of maps i p) ≡ false → value.Data own (bytes_after piece p bytes) ≡ written_value maps i p piece tag
 written-own maps i p piece tag own bytes row alone =
     sym (ap (λ b. stored_value b tag (read_value maps i p) (bytes_after piece p (bytes_of (read_value maps i p)))) alone
     ∙ ap (λ v. stored_value false tag (unwrap_or v value.Zero) (bytes_after piece p (bytes_of (unwrap_or v value.Zero)))) row)
@@ -123,8 +116,8 @@ count-other old new n g tag bytes takes off = ap (λ (frame : Frame). frame.coun
 pub sound-take : (nodes : List Node) (old new : List Frame) (n : ℕ) (tag : Tag) (bytes : List ℕ) → IsSound nodes old → ((f : ℕ) → frame_count old f ≡ naming nodes f) → Takes old new n tag bytes → IsSound nodes new
 sound-take nodes old new n tag bytes sound exact takes =
     sound-frames nodes old new sound takes.size
-    (λ f. ⊎_elim (λ here. omega (arith, exact f, ap (λ x. frame_count old x) here, takes.was_free)) (λ off. omega (arith, exact f, count-other old new n f tag bytes takes off)) (cases_eq f n))
-    (λ f. ⊎_elim (λ here. omega (arith, ap (λ x. frame_count new x) here, count-taken old new n tag bytes takes)) (λ off. omega (arith, exact f, count-other old new n f tag bytes takes off)) (cases_eq f n))
+    (λ f. grind (arith, exact f, takes.was_free, count-taken old new n tag bytes takes, count-other old new n f tag bytes takes))
+    (λ f. grind (arith, exact f, takes.was_free, count-taken old new n tag bytes takes, count-other old new n f tag bytes takes))
 
 -- the frame in hand is held
 pub held-taken : (old new : List Frame) (n f : ℕ) (tag : Tag) (bytes : List ℕ) → Takes old new n tag bytes → f ≡ n → 0 < frame_count new f
@@ -137,7 +130,7 @@ recount-here : (frames : List Frame) (n c : ℕ) → n < length frames → frame
 recount-here frames n c lt = get_or-set_same frames n (record (frame_at frames n) { count = c }) no_frame lt
 
 -- a page parts: a frame is taken and filled, the page gets it, and the hand lets it go
-module _ (tree_laws : TreeLaws) (laws : TiedLaws) (old new : List Node) (first second third fourth : List Frame) (trees : List ℕ) (i left came p n : ℕ) (tag : Tag) (bytes : List ℕ) (kept : IsKept old first trees) (i_in : i < length trees) (left_is : left ≡ get_or trees i 0)
+module _ (old new : List Node) (first second third fourth : List Frame) (trees : List ℕ) (i left came p n : ℕ) (tag : Tag) (bytes : List ℕ) (kept : IsKept old first trees) (i_in : i < length trees) (left_is : left ≡ get_or trees i 0)
     (takes : Takes first second n tag bytes) (sound : IsSound new third) (keeps : KeepsTrees old new left came) (kept_maps : KeepsMaps old new left) (kept_frames : KeepsFrames old new second third) (gone : fourth ≡ recount_frame third n (frame_count third n - 1)) where
   exact : (f : ℕ) → frame_count first f ≡ naming old f
   exact = kept.tied.exact
@@ -159,18 +152,7 @@ module _ (tree_laws : TreeLaws) (laws : TiedLaws) (old new : List Node) (first s
 
   fourth-exact : (f : ℕ) → frame_count fourth f ≡ naming new f
   fourth-exact f =
-      ⊎_elim
-      (λ here.
-      let at = ap (λ (frame : Frame). frame.count) fourth-here in
-      let h = kept_frames.holds n in let e = exact n in
-      let c = ap (frame_count fourth) here in
-      let b = ap (naming new) here in
-      omega (arith, at, h, e, c, b, takes.was_free, count-taken first second n tag bytes takes, third-held))
-      (λ off.
-      let at = ap (λ (frame : Frame). frame.count) (fourth-other f off) in
-      let h = kept_frames.holds f in let e = exact f in
-      omega (arith, at, h, e, count-other first second n f tag bytes takes off))
-      (cases_eq f n)
+      grind (arith, fourth-here, fourth-other f, kept_frames.holds f, exact f, takes.was_free, count-taken first second n tag bytes takes, count-other first second n f tag bytes takes, third-held)
 
   part-other : (f : ℕ) → f ≢ n → (frame_stamp fourth f ≡ frame_stamp first f) × (frame_bytes fourth f ≡ frame_bytes first f)
   part-other f off =
@@ -189,25 +171,16 @@ module _ (tree_laws : TreeLaws) (laws : TiedLaws) (old new : List Node) (first s
       let was = count-other first second n f tag bytes takes off in
       ⊎_elim (λ some. some) (λ none. absurd (let free = kept_frames.free f (omega (arith, was, none)) in omega (arith, free, at, held))) (cases_lt 0 (frame_count first f))
 
-  module _ (new_tag : IsNewTag (tree_maps first old trees) tag) where
+  module _ (new_tag : times tag (row_tags (tree_maps first old trees)) ≡ 0) where
     -- no held frame had the tag
     fresh : (f : ℕ) → 0 < frame_count first f → frame_stamp first f ≢ tag
     fresh f held is =
-        let has = tag-of laws old first trees kept f (laws.held old first trees f kept.tied held) in
-        new_tag has.k has.p has.bytes (has.is ∙ ap (λ t. Some (value.Data t has.bytes)) is)
+        let has = held-tag old first trees kept tag (record { f = f; held = held; is = is }) in
+        absurd (omega (arith, tag-some (tree_maps first old trees) tag has, new_tag))
 
     part-stamped : IsStamped fourth
-    part-stamped = λ f g f_held g_held is.
-        ⊎_elim
-        (λ f_is. ⊎_elim
-        (λ g_is. f_is ∙ sym g_is)
-        (λ g_off. absurd (fresh g (was-held g g_off g_held) (sym (part-other g g_off).0 ∙ sym is ∙ ap (frame_stamp fourth) f_is ∙ part-here.0)))
-        (cases_eq g n))
-        (λ f_off. ⊎_elim
-        (λ g_is. absurd (fresh f (was-held f f_off f_held) (sym (part-other f f_off).0 ∙ is ∙ ap (frame_stamp fourth) g_is ∙ part-here.0)))
-        (λ g_off. kept.stamped f g (was-held f f_off f_held) (was-held g g_off g_held) (sym (part-other f f_off).0 ∙ is ∙ (part-other g g_off).0))
-        (cases_eq g n))
-        (cases_eq f n)
+    part-stamped f g f_held g_held is =
+        grind (arith, kept.stamped f g, was-held f, was-held g, fresh f, fresh g, part-other f, part-other g, part-here)
 
     pub part-kept : IsKept new fourth (set trees i came)
     part-kept =
@@ -231,10 +204,10 @@ module _ (tree_laws : TreeLaws) (laws : TiedLaws) (old new : List Node) (first s
     part-maps v is p_in here there =
         maps-put old new first fourth trees i came p (cell.Frame (record { n = n })) v i_in
         (cells-put old new left came p (cell.Frame (record { n = n })) p_in here there ∙ ap (λ t. put_page (cells old t) p (cell.Frame (record { n = n }))) left_is)
-        (other-tree tree_laws old new first trees i left kept i_in left_is kept_maps)
+        (other-tree old new first trees i left kept i_in left_is kept_maps)
         ((λ x. Some (value.Data (part-here.0 x) (part-here.1 x))) ∙ is)
         (λ k q g k_in q_in off has. part-other g (λ same.
-        let held = laws.has_held old first trees g kept.tied (record { k = k; p = q; inside = k_in; below = q_in; has = has }) in
+        let held = held-frame old first trees kept.tied g (record { k = k; p = q; inside = k_in; below = q_in; has = has }) in
         let free = ap (frame_count first) same in
         absurd (omega (arith, held, free, takes.was_free))))
 
@@ -250,24 +223,24 @@ put-same : (m : ℕ → PageCell) (p : ℕ) (c : PageCell) → m p ≡ c → put
 put-same m p c is = λ i q. at q i
   where
     at : (q : ℕ) → cond (eqb q p) c (m q) ≡ m q
-    at q = ⊎_elim (λ here. cond-true (eqb q p) c (m q) (eq-eqb q p here) ∙ sym is ∙ ap m (sym here)) (λ off. cond-false (eqb q p) c (m q) (ne_eqb q p off)) (cases_eq q p)
+    at q = grind (arith, nat_tests, is)
 
-module _ (total_order : IsTotalOrder tag_cmp) (one_tag : fm.IsAntisymmetric tag_cmp) (laws : TiedLaws) (nodes : List Node) (frames frames' : List Frame) (trees : List ℕ) (i p f : ℕ) (kept : IsKept nodes frames trees) (i_in : i < length trees) (p_in : p < 1024) (is : page_of nodes trees i p ≡ cell.Frame (record { n = f })) (alone : is_parting (tree_maps frames nodes trees) (row_of (tree_maps frames nodes trees) i p) ≡ false) where
+module _ (nodes : List Node) (frames frames' : List Frame) (trees : List ℕ) (i p f : ℕ) (kept : IsKept nodes frames trees) (i_in : i < length trees) (p_in : p < 1024) (is : page_of nodes trees i p ≡ cell.Frame (record { n = f })) (alone : parts (row_tags (tree_maps frames nodes trees)) (row_of (tree_maps frames nodes trees) i p) ≡ false) where
   way-alone : page_short nodes (get_or trees i 0) p ≡ 0
   way-alone =
       ⊎_elim (λ none. none)
-      (λ short. absurd (let parts = parting-shared total_order one_tag laws nodes frames trees kept i p f i_in p_in is short in cc (parts, alone)))
+      (λ short. absurd (let parts = parting-shared nodes frames trees kept i p f i_in p_in is short in cc (parts, alone)))
       (cases_eq (page_short nodes (get_or trees i 0) p) 0)
 
   few-holds : frame_count frames f ≤ 1
   few-holds =
       ⊎_elim
-      (λ more. absurd (let same = parting-alone total_order one_tag laws nodes frames trees kept i p f i_in p_in is way-alone in let yes = lt-ltb 1 (frame_count frames f) more in cc (same, yes, alone)))
+      (λ more. absurd (let same = parting-alone nodes frames trees kept i p f i_in p_in is way-alone in let yes = lt-ltb 1 (frame_count frames f) more in cc (same, yes, alone)))
       (λ few. few)
       (cases_lt 1 (frame_count frames f))
 
   own_held : 0 < frame_count frames f
-  own_held = laws.has_held nodes frames trees f kept.tied (record { k = i; p = p; inside = i_in; below = p_in; has = is })
+  own_held = held-frame nodes frames trees kept.tied f (record { k = i; p = p; inside = i_in; below = p_in; has = is })
 
   pub held-once : frame_count frames f ≡ 1
   held-once = omega (arith, few-holds, own_held)
@@ -280,18 +253,10 @@ module _ (total_order : IsTotalOrder tag_cmp) (one_tag : fm.IsAntisymmetric tag_
     other-at g off = ap (λ fs. frame_at fs g) refilled ∙ refill-other frames f g bytes off
 
     same-count : (g : ℕ) → frame_count frames' g ≡ frame_count frames g
-    same-count g =
-        ⊎_elim
-        (λ same. ap (frame_count frames') same ∙ ap (λ (x : Frame). x.count) here-at ∙ ap (frame_count frames) (sym same))
-        (λ off. ap (λ (x : Frame). x.count) (other-at g off))
-        (cases_eq g f)
+    same-count g = grind (arith, nat_tests, here-at, other-at g)
 
     same-stamp : (g : ℕ) → frame_stamp frames' g ≡ frame_stamp frames g
-    same-stamp g =
-        ⊎_elim
-        (λ same. ap (frame_stamp frames') same ∙ ap (λ (x : Frame). x.stamp) here-at ∙ ap (frame_stamp frames) (sym same))
-        (λ off. ap (λ (x : Frame). x.stamp) (other-at g off))
-        (cases_eq g f)
+    same-stamp g = grind (arith, nat_tests, here-at, other-at g)
 
     pub refill-size : length frames' ≡ length frames
     refill-size = ap length refilled ∙ length-set frames f (record (frame_at frames f) { bytes = bytes })
@@ -321,5 +286,5 @@ module _ (total_order : IsTotalOrder tag_cmp) (one_tag : fm.IsAntisymmetric tag_
         (λ k q g k_in q_in off has.
         let apart : g ≢ f = λ same.
         let elsewhere : HasElsewhere nodes trees i p f = record { other = record { k = k; p = q; inside = k_in; below = q_in; has = has ∙ ap (λ x. cell.Frame (record { n = x })) same }; elsewhere = off } in
-        ⊎_elim (λ short. short way-alone) (λ more. absurd (omega (arith, more, few-holds))) ((laws.elsewhere nodes frames trees i p f kept.tied i_in p_in is).0 elsewhere) in
+        ⊎_elim (λ short. short way-alone) (λ more. absurd (omega (arith, more, few-holds))) ((elsewhere-is nodes frames trees i p f kept.tied i_in p_in is).0 elsewhere) in
         (same-stamp g, ap (λ (x : Frame). x.bytes) (other-at g apart)))

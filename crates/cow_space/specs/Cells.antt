@@ -1,32 +1,50 @@
--- The maps that trees stand for, of their cells and of the frames.
-use Rattle.std.specs.Prelude.{ℕ, if◌then◌else◌, List, Option, None, Some, map, nat_lt}
-use Rattle.frame_pool.specs.Frame.{Frame, frame_stamp, frame_bytes}
+-- The cells of the pages of places, by the kinds of pages and by the rows that have their values.
+use Rattle.std.specs.Prelude.{◌≡◌, ℕ, List, [], Option, None, Some, length, map, slice_index_or, unwrap_or}
+use Rattle.std.specs.List.{range_with_len}
+use Rattle.lwc_base.specs.declared.cell.Cell.{Cell}
+use Rattle.lwc_base.specs.declared.cell.Cell.TheVariants as cell
 use Rattle.lwc_base.specs.declared.page.PageValue.{PageValue}
-use Rattle.lwc_base.specs.declared.page.PageValue.TheVariants as value
-use Rattle.node_pool.specs.Nodes.{Node}
-use Rattle.page_tree.specs.declared.cell.PageCell.{PageCell}
-use Rattle.page_tree.specs.declared.cell.PageCell.TheVariants as cell
-use Rattle.page_tree.specs.declared.store.TheConstants.{PAGES}
-use Rattle.page_tree.specs.Pages.{page}
+use Rattle.lwc_base.specs.declared.page.PageValue.TheVariants.{Zero}
+use Rattle.range_map.specs.declared.segment.Segment.{Segment}
+use Rattle.range_map.specs.declared.segment.SegmentKind.{SegmentKind}
+use Rattle.range_map.specs.declared.segment.SegmentKind.TheVariants.{Own, Common}
+use Rattle.range_map.specs.Kinds.{kind_at, kind_of}
+use Rattle.cow_space.specs.Maps.{row_of}
 
--- what a tree has for each page; past the last page there is nothing
-unfoldable pub cells : List Node → ℕ → ℕ → PageCell
-cells nodes tree p = if nat_lt p PAGES then page nodes tree p else cell.Absent
+-- the cell of each page of a place
+abbrev pub Place : Type 0
+Place = ℕ → Cell (Option PageValue)
 
--- the cells of each tree
-unfoldable pub all_cells : List Node → List ℕ → List (ℕ → PageCell)
-all_cells nodes trees = map (cells nodes) trees
+-- a place without pages
+abbrev pub no_pages : Place
+no_pages p = cell.Own None
 
--- the value of a cell
-abbrev pub cell_value : List Frame → PageCell → Option PageValue
-cell_value frames cell.Absent = None
-cell_value frames cell.Zero = Some value.Zero
-cell_value frames (cell.Frame f) = Some (value.Data (frame_stamp frames f.n) (frame_bytes frames f.n))
+-- the cells of a place
+abbrev pub place_of : List Place → ℕ → Place
+place_of cells i = slice_index_or cells i no_pages
 
--- the values of a tree's cells
-abbrev pub values : List Frame → (ℕ → PageCell) → ℕ → Option PageValue
-values frames cells p = cell_value frames (cells p)
+-- the kinds of the pages of a place
+abbrev pub kinds_of : Place → ℕ → Option SegmentKind
+kinds_of place p = kind_of (place p)
 
--- the map of each tree
-unfoldable pub tree_maps : List Frame → List Node → List ℕ → List (ℕ → Option PageValue)
-tree_maps frames nodes trees = map (values frames) (all_cells nodes trees)
+-- a cell is of a present page that is the place's own
+abbrev pub IsOwnPage : Cell (Option PageValue) → Type 0
+IsOwnPage cell = kind_of cell ≡ Some Own
+
+-- the cell of a page of a kind, where its row has this value; an own page without a value reads as zeros
+abbrev pub cell_of : Option SegmentKind → Option PageValue → Cell (Option PageValue)
+cell_of None value = cell.Own None
+cell_of (Some Own) value = cell.Own (Some (unwrap_or value Zero))
+cell_of (Some (Common g)) value = cell.Common g
+
+-- the segments of a place
+abbrev pub segments_of : List (List Segment) → ℕ → List Segment
+segments_of kinds i = slice_index_or kinds i []
+
+-- the cells of a place with these segments and this row
+abbrev pub place_cells : List Segment → (ℕ → Option PageValue) → Place
+place_cells segments row p = cell_of (kind_at segments p) (row p)
+
+-- the cells of each place
+unfoldable pub all_cells : List (List Segment) → List (ℕ → Option PageValue) → List Place
+all_cells kinds maps = map (λ i. place_cells (segments_of kinds i) (row_of maps i)) (range_with_len 0 (length maps))

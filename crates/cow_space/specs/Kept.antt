@@ -1,15 +1,25 @@
--- What ties the trees of rows to their store.
-use Rattle.std.specs.Prelude.{◌≡◌, ℕ, ◌+◌, ◌*◌, ◌<◌, ◌≤◌, List, length}
-use Rattle.frame_pool.specs.Frame.{Frame, frame_count, frame_stamp}
-use Rattle.node_pool.specs.Nodes.{Node}
-use Rattle.page_tree.specs.Tied.{IsTied}
+-- What ties the rows of places to the kinds of their pages.
+use Rattle.std.specs.Prelude.{◌≡◌, ◌≤◌, ℕ, Bool, true, not, List, Option, None, Some, is_some, length}
+use Rattle.lwc_base.specs.declared.limits.TheConstants.{MOST_PAGES}
+use Rattle.lwc_base.specs.declared.page.PageValue.{PageValue}
+use Rattle.range_map.specs.declared.segment.Segment.{Segment}
+use Rattle.range_map.specs.declared.segment.SegmentKind.{SegmentKind}
+use Rattle.range_map.specs.declared.segment.SegmentKind.TheVariants.{Own}
+use Rattle.range_map.specs.Kinds.{kind_at}
+use Rattle.cow_space.specs.Maps.{row_of}
+use Rattle.cow_space.specs.Cells.{segments_of}
 
--- no two held frames have one stamp
-abbrev pub IsStamped : List Frame → Type 0
-IsStamped frames = (f g : ℕ) → 0 < frame_count frames f → 0 < frame_count frames g → frame_stamp frames f ≡ frame_stamp frames g → f ≡ g
+-- whether a page of a kind may have this value in its row: only one that is the place's own has any
+abbrev pub may_have : Option SegmentKind → Option PageValue → Bool
+may_have (Some Own) value = true
+may_have _ value = not (is_some value)
 
--- nothing else holds anything of the store, each held frame has a stamp of its own, and there are nodes for all trees and for one change
-pub record IsKept (nodes : List Node) (frames : List Frame) (trees : List ℕ) : Type 0 where
-  pub tied : IsTied nodes frames trees
-  pub stamped : IsStamped frames
-  pub room : 33 * length trees + 66 ≤ length nodes
+-- no page is present by these segments
+abbrev pub HasNoPage : List Segment → Type 0
+HasNoPage segments = (p : ℕ) → kind_at segments p ≡ None
+
+-- each place has a row that fits the kinds of its pages, and no page past the last one
+pub record IsKept (maps : List (ℕ → Option PageValue)) (kinds : List (List Segment)) : Type 0 where
+  pub places : length kinds ≡ length maps
+  pub fit : (i p : ℕ) → may_have (kind_at (segments_of kinds i) p) (row_of maps i p) ≡ true
+  pub within : (i p : ℕ) → MOST_PAGES ≤ p → kind_at (segments_of kinds i) p ≡ None

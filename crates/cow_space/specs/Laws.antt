@@ -1,29 +1,36 @@
--- Laws of copies and of writes.
-use Rattle.std.specs.Prelude.{◌≡◌, ◌≢◌, ℕ, ◌+◌, ◌<◌, List, Option, Some, length, slice_set}
+-- Laws of the pages of places.
+use Rattle.std.specs.Prelude.{◌≡◌, ◌≢◌, ℕ, ◌+◌, ◌<◌, All, List, Some, length, slice_set}
+use Rattle.lwc_base.specs.declared.cell.Cell.TheVariants as cell
+use Rattle.lwc_base.specs.declared.limits.TheConstants.{MOST_PAGES}
 use Rattle.lwc_base.specs.declared.name.Tag.{Tag}
-use Rattle.lwc_base.specs.declared.page.PageValue.{PageValue}
 use Rattle.lwc_base.specs.declared.page.PageValue.TheVariants.{Data}
-use Rattle.lwc_base.specs.Store as store
-use Rattle.page_tree.specs.declared.store.TheConstants.{PAGES}
-use Rattle.cow_space.specs.Maps.{no_pages, row_of}
+use Rattle.lwc_base.specs.Store.{Piece}
+use Rattle.cow_space.specs.declared.stretches.Stretch.{Stretch}
+use Rattle.cow_space.specs.Changes.{IsStretch, changed_place}
+use Rattle.cow_space.specs.Cells.{IsOwnPage, Place, kinds_of, no_pages, place_of}
 use Rattle.cow_space.specs.Tags.{IsNewTag, is_parting, taken_by, used}
 use Rattle.cow_space.specs.Writes.{write_page}
 
--- a page with these bytes under a tag is in one of the rows
-pub record IsInRows (maps : List (ℕ → Option PageValue)) (p : ℕ) (tag : Tag) (bytes : List ℕ) : Type 0 where
-  pub row : ℕ
-  pub inside : row < length maps
-  pub is : row_of maps row p ≡ Some (Data tag bytes)
-
--- a row without pages that gets pages of rows alone uses as many frames as before
+-- the places use as many frames as before, once one without pages has those of another one, or what stretches
+-- give it
 pub record CopyLaws : Type 0 where
-  pub copied : (maps : List (ℕ → Option PageValue)) (to : ℕ) (row : ℕ → Option PageValue) → to < length maps → row_of maps to ≡ no_pages →
-      ((p : ℕ) (tag : Tag) (bytes : List ℕ) → row p ≡ Some (Data tag bytes) → IsInRows maps p tag bytes) → used (slice_set maps to row) ≡ used maps
+  pub cloned : (cells : List Place) (to from : ℕ) → to < length cells → from < length cells → place_of cells to ≡ no_pages →
+      used (slice_set cells to (place_of cells from)) ≡ used cells
+  pub changed : (cells : List Place) (i : ℕ) (stretches : List Stretch) → i < length cells → place_of cells i ≡ no_pages →
+      All (IsStretch (length cells) i) stretches → used (slice_set cells i (changed_place cells i stretches)) ≡ used cells
 
--- a write takes a frame where the page parts, and else none; another page of the row, under another tag, parts as before
+-- a write takes a frame if the page parts, and none otherwise; it leaves the kinds of pages, and any other
+-- new tag
+-- stays new; another page of any place is as before, and parts as before if it is under another tag
 pub record WriteLaws : Type 0 where
-  pub taken : (maps : List (ℕ → Option PageValue)) (i p : ℕ) (piece : store.Piece) (tag : Tag) → i < length maps → p < PAGES → IsNewTag maps tag →
-      used (write_page maps i p piece tag) ≡ used maps + taken_by maps i p
-  pub others : (maps : List (ℕ → Option PageValue)) (i p q : ℕ) (piece : store.Piece) (tag : Tag) → i < length maps → p < PAGES → q < PAGES → q ≢ p → IsNewTag maps tag →
-      ((t : Tag) (a b : List ℕ) → row_of maps i p ≡ Some (Data t a) → row_of maps i q ≢ Some (Data t b)) →
-      is_parting (write_page maps i p piece tag) (row_of maps i q) ≡ is_parting maps (row_of maps i q)
+  pub taken : (cells : List Place) (i p : ℕ) (piece : Piece) (tag : Tag) → i < length cells → p < MOST_PAGES → IsNewTag cells tag →
+      used (write_page cells i p piece tag) ≡ used cells + taken_by cells i p
+  pub others : (cells : List Place) (i p j q : ℕ) (piece : Piece) (tag : Tag) → i < length cells → (j ≡ i → q ≢ p) → IsNewTag cells tag →
+      ((t : Tag) (a b : List ℕ) → place_of cells i p ≡ cell.Own (Some (Data t a)) → place_of cells j q ≢ cell.Own (Some (Data t b))) →
+      is_parting (write_page cells i p piece tag) j q ≡ is_parting cells j q
+  pub kinds : (cells : List Place) (i p j : ℕ) (piece : Piece) (tag : Tag) → i < length cells → IsOwnPage (place_of cells i p) →
+      kinds_of (place_of (write_page cells i p piece tag) j) ≡ kinds_of (place_of cells j)
+  pub same : (cells : List Place) (i p j q : ℕ) (piece : Piece) (tag : Tag) → i < length cells → (j ≡ i → q ≢ p) →
+      place_of (write_page cells i p piece tag) j q ≡ place_of cells j q
+  pub new : (cells : List Place) (i p : ℕ) (piece : Piece) (tag next : Tag) → i < length cells → IsNewTag cells next → next ≢ tag →
+      IsOwnPage (place_of cells i p) → IsNewTag (write_page cells i p piece tag) next

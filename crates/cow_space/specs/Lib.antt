@@ -1,8 +1,15 @@
 pub mod Cells
+pub mod Changes
 pub mod Kept
 pub mod Laws
 pub mod Maps
+pub mod RowKept
+pub mod RowSeen
+pub mod RowWrites
+pub mod Rows
 pub mod Seen
-pub mod Takes
 pub mod Tags
+pub mod Takes
+pub mod Trees
+pub mod Worlds
 pub mod Writes

@@ -1,39 +1,22 @@
--- What rows over a store are seen as.
-use Rattle.std.specs.Prelude.{◌≡◌, ℕ, List, Option, length, slice_index}
+-- What the pages of places are seen as.
+use Rattle.std.specs.Prelude.{ℕ, List}
 use Rattle.lwc_base.specs.declared.name.Tag.{Tag}
-use Rattle.lwc_base.specs.declared.page.PageValue.{PageValue}
-use Rattle.frame_pool.specs.Frame.{frame_bytes, frame_stamp}
-use Rattle.std.proofs.Math.Nat.{ℕ_set}
-use Rattle.node_pool.specs.Nodes.{free_of}
-use Rattle.page_tree.specs.Steps.{root_short}
-use Rattle.cow_space.specs.declared.rows.Rows.{Rows}
-use Rattle.cow_space.specs.Cells.{tree_maps}
+use Rattle.cow_space.specs.RowSeen as rows
+use Rattle.cow_space.specs.declared.cells.PageCells.{PageCells}
+use Rattle.cow_space.specs.Cells.{Place, all_cells}
 
--- the maps of the rows
-unfoldable pub maps : Rows → List (ℕ → Option PageValue)
-maps w = tree_maps w.store.frames w.store.nodes w.trees.items
+-- the cells of each place
+unfoldable pub cells : PageCells → List Place
+cells w = all_cells w.kinds.items (rows.maps w.rows)
 
 -- how many frames there are
-unfoldable pub frames_of : Rows → ℕ
-frames_of w = length w.store.frames
+unfoldable pub frames_of : PageCells → ℕ
+frames_of w = rows.frames_of w.rows
 
 -- the stamp and the bytes of each frame, in use or free
-unfoldable pub pool : Rows → ℕ → Tag × List ℕ
-pool w f = (frame_stamp w.store.frames f, frame_bytes w.store.frames f)
+unfoldable pub pool : PageCells → ℕ → Tag × List ℕ
+pool w = rows.pool w.rows
 
 -- how many tree nodes are free
-unfoldable pub free_nodes : Rows → ℕ
-free_nodes w = free_of w.store.nodes
-
--- a row shares the root of its tree with no other
-unfoldable pub HasOwnRoot : Rows → ℕ → Type 0
-HasOwnRoot w i = root_short w.store.nodes (slice_index w.trees.items i) ≡ 0
-
--- a row has no tree: it holds no node
-unfoldable pub HasNoTree : Rows → ℕ → Type 0
-HasNoTree w i = slice_index w.trees.items i ≡ 0
-
--- in at most one way
-pub no_tree-prop : (w : Rows) (i : ℕ) → IsProp (HasNoTree w i)
-unfolding HasNoTree
-no_tree-prop w i = ℕ_set (slice_index w.trees.items i) 0
+unfoldable pub free_nodes : PageCells → ℕ
+free_nodes w = rows.free_nodes w.rows

@@ -1,22 +1,25 @@
 -- A page once a piece is written to it.
-use Rattle.std.specs.Prelude.{ℕ, List, Option, Some, slice_set, unwrap_or}
+use Rattle.std.specs.Prelude.{ℕ, List, Some, slice_set, unwrap_or}
+use Rattle.lwc_base.specs.declared.cell.Cell.TheVariants as cell
 use Rattle.lwc_base.specs.declared.name.Tag.{Tag}
 use Rattle.lwc_base.specs.declared.page.PageValue.{PageValue}
 use Rattle.lwc_base.specs.declared.page.PageValue.TheVariants.{Zero}
 use Rattle.lwc_base.specs.Pages.{bytes_of}
 use Rattle.lwc_base.specs.Store.{Piece, bytes_after, stored_value}
-use Rattle.cow_space.specs.Maps.{put_page, row_of}
-use Rattle.cow_space.specs.Tags.{is_parting}
+use Rattle.cow_space.specs.Maps.{put_page}
+use Rattle.cow_space.specs.Cells.{Place, place_of}
+use Rattle.cow_space.specs.Tags.{is_parting, own_values}
 
--- what a page reads as: an absent one as zeros
-abbrev pub read_value : List (ℕ → Option PageValue) → ℕ → ℕ → PageValue
-read_value maps i p = unwrap_or (row_of maps i p) Zero
+-- what a page of a place reads as
+abbrev pub page_value : List Place → ℕ → ℕ → PageValue
+page_value cells i p = unwrap_or (own_values (place_of cells i) p) Zero
 
 -- the value of a page once a piece is there: under the new tag if it parts, and else under its own
-abbrev pub written_value : List (ℕ → Option PageValue) → ℕ → ℕ → Piece → Tag → PageValue
-written_value maps i p piece tag =
-    stored_value (is_parting maps (row_of maps i p)) tag (read_value maps i p) (bytes_after piece p (bytes_of (read_value maps i p)))
+abbrev pub written_value : List Place → ℕ → ℕ → Piece → Tag → PageValue
+written_value cells i p piece tag =
+    stored_value (is_parting cells i p) tag (page_value cells i p) (bytes_after piece p (bytes_of (page_value cells i p)))
 
--- the rows once a piece is written to a page of one
-abbrev pub write_page : List (ℕ → Option PageValue) → ℕ → ℕ → Piece → Tag → List (ℕ → Option PageValue)
-write_page maps i p piece tag = slice_set maps i (put_page (row_of maps i) p (Some (written_value maps i p piece tag)))
+-- the places once a piece is written to a page of one
+abbrev pub write_page : List Place → ℕ → ℕ → Piece → Tag → List Place
+write_page cells i p piece tag =
+    slice_set cells i (put_page (place_of cells i) p (cell.Own (Some (written_value cells i p piece tag))))

@@ -1,6 +1,5 @@
 use crate::rows::Rows;
 use lwc_base::Range;
-use page_tree::laws::{a_change_takes_few_nodes, trees_account_for_their_store};
 use page_tree::{PAGES, PageTree};
 use pool_base::Steps;
 use std::mem::replace;
@@ -16,7 +15,7 @@ impl Rows {
     ghost use Rattle.std.specs.Prelude.{◌≡◌, ◌≢◌, ℕ, ◌+◌, ◌<◌, ◌≤◌, ◌⊎◌, length, slice_set};
     ghost use Rattle.page_tree.specs.declared.store.TheConstants.{PAGES};
     ghost use Rattle.cow_space.specs.Maps.{no_pages, put_range, row_of, share_range};
-    ghost use Rattle.cow_space.specs.Seen.{frames_of, free_nodes, maps, pool, HasNoTree, HasOwnRoot};
+    ghost use Rattle.cow_space.specs.RowSeen.{frames_of, free_nodes, maps, pool, HasNoTree, HasOwnRoot};
 
     /// Makes the pages of a range of one row those of another. No frame is taken or written, and at most the
     /// root and two leaves are taken.
@@ -43,8 +42,6 @@ impl Rows {
         ensures cost_own { HasOwnRoot self.old to → steps.new ≤ steps.old + 64 }
         ensures cost_empty { HasNoTree self.old to → steps.new ≤ steps.old + 35 }
     {
-        a_change_takes_few_nodes();
-        trees_account_for_their_store();
         let mut tree = replace(&mut self.trees[to], PageTree::empty());
         tree.share_range(&self.trees[from], &mut self.store, range, steps);
         self.trees[to] = tree;
@@ -69,9 +66,10 @@ impl Rows {
         ensures cost { steps.new ≤ steps.old + 98 }
         ensures cost_own { HasOwnRoot self.old i → steps.new ≤ steps.old + 64 }
         ensures cost_empty { HasNoTree self.old i → steps.new ≤ steps.old + 35 }
+        ensures cost_all { range.from ≡ 0 → range.to ≡ PAGES → steps.new ≤ steps.old + 33 }
+        ensures cost_none { range.from ≡ 0 → range.to ≡ PAGES → HasNoTree self.old i
+            → steps.new ≡ steps.old }
     {
-        a_change_takes_few_nodes();
-        trees_account_for_their_store();
         self.trees[i].clear_range(&mut self.store, range, steps);
     }
 
@@ -87,9 +85,7 @@ impl Rows {
         ensures cost { steps.new ≤ steps.old + 33 }
         ensures cost_empty { HasNoTree self.old i → steps.new ≡ steps.old }
     {
-        a_change_takes_few_nodes();
-        trees_account_for_their_store();
-        self.trees[i].clear_range(&mut self.store, ALL_PAGES, steps);
+        self.clear(i, ALL_PAGES, steps);
     }
 
     /// Makes all pages of a row those of another, by one hold of its root. The row's own pages are given up
@@ -106,8 +102,6 @@ impl Rows {
         ensures cost { steps.new ≤ steps.old + 34 }
         ensures cost_empty { HasNoTree self.old to → steps.new ≤ steps.old + 1 }
     {
-        a_change_takes_few_nodes();
-        trees_account_for_their_store();
         self.drop_row(to, steps);
         let tree = self.trees[from].held_too(&mut self.store, steps);
         self.trees[to] = tree;

@@ -1,20 +1,22 @@
-//! Laws of rows: functions with empty bodies, each with a contract that is the law.
+//! Laws of the pages of places: functions with empty bodies, each with a contract that is the law.
 
 ghost use Rattle.cow_space.specs.Laws.{CopyLaws, WriteLaws};
+ghost use Rattle.cow_space.specs.Worlds.{WorldLaws};
 
-use lwc_base::laws::names_are_ordered;
-
-/// A row without pages that gets pages of rows alone takes no frame, and gives none back.
+/// A place without pages that gets what other places have takes no frame, and gives none back.
 pub fn copies_take_no_frame()
     ensures { CopyLaws }
-{
-    names_are_ordered();
-}
+{}
 
-/// A write takes one frame where the page parts, and none else. Another page of the row parts as before,
-/// if the two pages have no tag in common.
-pub fn writes_take_few_frames()
+/// A write takes one frame if the page parts, and none otherwise. It leaves the kind of each page, and any
+/// other new tag stays new. Another page, of this place or another one, is as before, and parts as before if
+/// the two have no tag in common. So if the frames suffice for two such pages, neither write is refused.
+pub fn page_writes_take_few_frames()
     ensures { WriteLaws }
-{
-    names_are_ordered();
-}
+{}
+
+/// A world uses as many frames as the places, and the same pages part, if each context and group has a place
+/// and no other place has a tag.
+pub fn places_have_the_tags_of_their_world()
+    ensures { WorldLaws }
+{}

@@ -1,13 +1,20 @@
-//! Rows of pages over one store: maps from pages to values, of contexts and of groups alike. A copy shares
-//! the nodes and frames of what it copies, and a page gets a frame of its own when it is written.
+//! The pages of contexts and of groups alike, by place: the cell of each page, over one store of pages that
+//! are shared until they are written. A copy shares the nodes and frames of what it copies, a page gets a
+//! frame of its own when it is written, and a present page that was never written takes no frame and no node.
 #![tactic(auto)]
 
+pub mod cells;
 pub mod copies;
+pub(crate) mod kinds;
 pub mod laws;
+pub mod row_writes;
 pub mod rows;
+pub mod stretches;
 pub mod writes;
 
-pub use rows::{MOST_ROWS, Rows};
+pub use cells::PageCells;
+pub use rows::Rows;
+pub use stretches::{Origin, Stretch};
 pub use writes::NoFrame;
 
 #[cfg(test)]

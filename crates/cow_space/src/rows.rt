@@ -1,15 +1,9 @@
 ghost use Rattle.std.specs.Prelude.{◌≡◌, ℕ, IfOk, replicate};
-ghost use Rattle.cow_space.specs.Kept.{IsKept};
+ghost use Rattle.cow_space.specs.RowKept.{IsKept};
 
 use lwc_base::OutOfMemory;
-use lwc_base::laws::names_are_ordered;
-use page_tree::laws::{a_change_takes_few_nodes, trees_account_for_their_store};
 use page_tree::{PAGES, PageCell, PageTree, Store};
 use std::alloc::Global;
-
-/// How many rows there can be: a tree has at most 33 nodes, a change takes a few more, and a store has at
-/// most 65536.
-pub const MOST_ROWS: u32 = 1983;
 
 /// A fixed number of rows, each a map from pages to values. A page with bytes has a frame under a tag, and
 /// pages that were copied share it until one of them is written. After `open` no call takes memory, and none
@@ -37,20 +31,19 @@ impl Rows {
     ghost use Rattle.std.specs.Option.{option_copied};
     ghost use Rattle.page_tree.specs.declared.store.TheConstants.{PAGES};
     ghost use Rattle.page_tree.specs.Pages.{page};
-    ghost use Rattle.cow_space.specs.declared.rows.TheConstants.{MOST_ROWS};
+    ghost use Rattle.lwc_base.specs.declared.limits.TheConstants.{MOST_PAGE_PLACES};
     ghost use Rattle.cow_space.specs.Maps.{data_of, no_pages, row_of};
-    ghost use Rattle.cow_space.specs.Seen.{frames_of, maps, HasNoTree};
-    ghost use Rattle.cow_space.specs.Tags.{is_parting, used};
+    ghost use Rattle.cow_space.specs.RowSeen.{frames_of, maps, HasNoTree};
+    ghost use Rattle.cow_space.specs.Tags.{different, parts, row_tags};
 
     /// This number of rows without pages, over this number of frames. The only error is out of memory.
     pub fn open(alloc: Global, frames: u32, rows: u32) -> Result<Rows, OutOfMemory>
         requires few_frames { frames ≤ 65536 }
-        requires few_rows { rows ≤ MOST_ROWS }
+        requires few_rows { rows ≤ MOST_PAGE_PLACES }
         ensures maps { IfOk result (λ opened. maps opened ≡ replicate rows no_pages) }
         ensures frames { IfOk result (λ opened. frames_of opened ≡ frames) }
         ensures empty { IfOk result (λ opened. (i : ℕ) → HasNoTree opened i) }
     {
-        a_change_takes_few_nodes();
         let store = Store::open(alloc, frames, 33 * rows + 66)?;
         let trees = empty_trees(alloc, rows)?;
         Ok(Rows { store, trees })
@@ -62,7 +55,6 @@ impl Rows {
         requires page { p < PAGES }
         ensures { result ≡ page self.now.store.nodes (slice_index self.now.trees.items i) p }
     {
-        trees_account_for_their_store();
         self.trees[i].get(&self.store, p)
     }
 
@@ -72,7 +64,6 @@ impl Rows {
         requires page { p < PAGES }
         ensures { option_copied result ≡ data_of (row_of (maps self.now) i p) }
     {
-        trees_account_for_their_store();
         match self.cell(i, p) {
             PageCell::Frame(frame) => Some(self.store.frames.bytes(frame)),
             _ => None,
@@ -83,10 +74,8 @@ impl Rows {
     pub fn parts(&self, i: usize, p: u16) -> bool
         requires row { i < length (maps self.now) }
         requires page { p < PAGES }
-        ensures { result ≡ is_parting (maps self.now) (row_of (maps self.now) i p) }
+        ensures { result ≡ parts (row_tags (maps self.now)) (row_of (maps self.now) i p) }
     {
-        trees_account_for_their_store();
-        names_are_ordered();
         match self.cell(i, p) {
             PageCell::Frame(frame) => !self.trees[i].is_alone(&self.store, p)
                 || self.store.frames.count(frame) > 1,
@@ -96,11 +85,9 @@ impl Rows {
 
     /// How many frames are in use: one for each different tag.
     pub fn used(&self) -> u32
-        ensures used { result ≡ used (maps self.now) }
+        ensures used { result ≡ different (row_tags (maps self.now)) }
         ensures within { result ≤ frames_of self.now }
     {
-        trees_account_for_their_store();
-        names_are_ordered();
         self.store.frames.used()
     }
 

@@ -1,15 +1,5 @@
-ghost use Rattle.std.specs.Prelude.{◌≡◌, ◌≢◌, ℕ, ◌+◌, ◌<◌, ◌≤◌};
-ghost use Rattle.frame_pool.specs.Frame.{free_frames, frame_count, frame_bytes, refill_frame};
-ghost use Rattle.lwc_base.specs.Store.{bytes_after};
-ghost use Rattle.page_tree.specs.Pages.{entry_for};
-ghost use Rattle.cow_space.specs.Takes.{Takes, cell_bytes};
-
-use crate::rows::Rows;
-use frame_pool::{FrameNo, Pool};
-use lwc_base::laws::names_are_ordered;
-use lwc_base::{PAGE_BYTES, Tag};
-use page_tree::laws::{a_change_takes_few_nodes, trees_account_for_their_store};
-use page_tree::{PAGES, PageCell};
+use crate::cells::PageCells;
+use lwc_base::Tag;
 use pool_base::Steps;
 use std::sync::ledger::Ledger;
 use thiserror::Error;
@@ -19,70 +9,21 @@ use thiserror::Error;
 #[error("no frame is free")]
 pub struct NoFrame;
 
-/// Puts what a piece at an address has of page p into the page's bytes.
-fn put_piece(page: &mut [u8; PAGE_BYTES], p: u16, at: u32, piece: &[u8])
-    ensures { page.new ≡ bytes_after (record { at = at; bytes = piece.now }) p page.old }
-{
-    let start = p as usize * PAGE_BYTES;
-    let at = at as usize;
-    let first = at.max(start);
-    let room = start + PAGE_BYTES - first.min(start + PAGE_BYTES);
-    let count = piece.len().saturating_sub(first - at).min(room);
-    'bytes: for k in 0..count {
-        page[first - start + k] = piece[first - at + k];
-    }
-}
-
-/// Takes a frame with the bytes of a cell once a piece is there.
-fn fill(frames: &mut Pool, cell: PageCell, p: u16, at: u32, piece: &[u8], tag: Tag) -> FrameNo
-    requires free { 0 < free_frames frames.old }
-    requires held { (f : ℕ) → entry_for cell ≡ f + 2 → 0 < frame_count frames.old f }
-    ensures { Takes frames.old frames.new result.n tag
-        (bytes_after (record { at = at; bytes = piece.now }) p (cell_bytes frames.old cell)) }
-{
-    let frame = copy_cell(frames, cell, tag);
-    write_frame(frames, frame, p, at, piece);
-    frame
-}
-
-/// Takes a frame with the bytes of a cell.
-fn copy_cell(frames: &mut Pool, cell: PageCell, tag: Tag) -> FrameNo
-    requires free { 0 < free_frames frames.old }
-    requires held { (f : ℕ) → entry_for cell ≡ f + 2 → 0 < frame_count frames.old f }
-    ensures { Takes frames.old frames.new result.n tag (cell_bytes frames.old cell) }
-{
-    let frame = frames.take(tag).unwrap();
-    if let PageCell::Frame(from) = cell {
-        frames.copy_to(from, frame);
-    }
-    frame
-}
-
-/// Puts what a piece has of page p into a frame that is held once.
-fn write_frame(frames: &mut Pool, frame: FrameNo, p: u16, at: u32, piece: &[u8])
-    requires once { frame_count frames.old frame.n ≡ 1 }
-    ensures { frames.new ≡ refill_frame frames.old frame.n
-        (bytes_after (record { at = at; bytes = piece.now }) p (frame_bytes frames.old frame.n)) }
-{
-    put_piece(frames.bytes_mut(frame), p, at, piece);
-}
-
-impl Rows {
-    ghost use Rattle.std.specs.Prelude.{◌↔◌, true, false, IsErr, IfOk, OnErr, length};
-    ghost use Rattle.lwc_base.specs.declared.name.Tag.{Tag};
-    ghost use Rattle.page_tree.specs.declared.store.TheConstants.{PAGES};
-    ghost use Rattle.cow_space.specs.Maps.{row_of};
-    ghost use Rattle.cow_space.specs.Writes.{write_page};
-    ghost use Rattle.cow_space.specs.Seen.{frames_of, free_nodes, maps, HasNoTree};
+impl PageCells {
+    ghost use Rattle.std.specs.Prelude.{◌≡◌, ◌↔◌, ◌+◌, ◌<◌, ◌≤◌, IfOk, IsErr, OnErr, length};
+    ghost use Rattle.cow_space.specs.Cells.{IsOwnPage, place_of};
+    ghost use Rattle.cow_space.specs.Seen.{cells, frames_of, free_nodes};
     ghost use Rattle.cow_space.specs.Tags.{IsNewTag, is_parting, taken_by, used};
+    ghost use Rattle.cow_space.specs.Writes.{write_page};
 
-    /// Writes what a piece at an address has of page p of a row, under a new tag if the page parts, and
-    /// tells whether it did. No other page of any row changes.
+    /// Writes what a piece at an address has of page p of a place, whose own it is, under a new tag if
+    /// the page parts, and tells whether it did. No other page of any place changes.
     ///
     /// # Errors
     ///
     /// `NoFrame` exactly where the frames in use and the one that the page takes are more than there are.
     /// Nothing changes then.
+    #[tactic(auto, unfolding(crate::specs::Seen::frames_of, crate::specs::Seen::free_nodes))]
     pub fn write<L: Ledger>(
         &mut self,
         i: usize,
@@ -92,80 +33,28 @@ impl Rows {
         tag: Tag,
         steps: &mut Steps<L>,
     ) -> Result<bool, NoFrame>
-        requires row { i < length (maps self.old) }
-        requires page { p < PAGES }
-        requires new { IsNewTag (maps self.old) tag }
+        requires place { i < length (cells self.old) }
+        requires own { IsOwnPage (place_of (cells self.old) i p) }
+        requires new { IsNewTag (cells self.old) tag }
         ensures full { IsErr result
-            ↔ (frames_of self.old < used (maps self.old) + taken_by (maps self.old) i p) }
-        ensures full_same { OnErr result (maps self.new ≡ maps self.old) }
-        ensures written { IfOk result (λ parted. maps self.new
-            ≡ write_page (maps self.old) i p (record { at = at; bytes = piece.now }) tag) }
-        ensures parted { IfOk result (λ parted. parted
-            ≡ is_parting (maps self.old) (row_of (maps self.old) i p)) }
+            ↔ (frames_of self.old < used (cells self.old) + taken_by (cells self.old) i p) }
+        ensures full_same { OnErr result (cells self.new ≡ cells self.old) }
+        ensures written { IfOk result (λ parted. cells self.new
+            ≡ write_page (cells self.old) i p (record { at = at; bytes = piece.now }) tag) }
+        ensures parted { IfOk result (λ parted. parted ≡ is_parting (cells self.old) i p) }
         ensures frames { frames_of self.new ≡ frames_of self.old }
-        ensures others { (j : ℕ) → j ≢ i → HasNoTree self.old j → HasNoTree self.new j }
         ensures nodes { free_nodes self.old ≤ free_nodes self.new + 2 }
         ensures cost { steps.new ≤ steps.old + 36 }
     {
-        let parting = self.parts(i, p);
+        let parting = self.is_parting(i, p);
         if parting {
             if self.used() == self.frames() {
                 return Err(NoFrame);
             }
-            self.part(i, p, at, piece, tag, steps);
+            self.rows.part(i, p, at, piece, tag, steps);
         } else {
-            self.write_in_place(i, p, at, piece);
+            self.rows.write_in_place(i, p, at, piece);
         }
         Ok(parting)
-    }
-
-    /// Writes a page that parts: it gets a frame of its own under a new tag.
-    fn part<L: Ledger>(
-        &mut self,
-        i: usize,
-        p: u16,
-        at: u32,
-        piece: &[u8],
-        tag: Tag,
-        steps: &mut Steps<L>,
-    )
-        requires row { i < length (maps self.old) }
-        requires page { p < PAGES }
-        requires new { IsNewTag (maps self.old) tag }
-        requires parts { is_parting (maps self.old) (row_of (maps self.old) i p) ≡ true }
-        requires free { used (maps self.old) < frames_of self.old }
-        ensures written { maps self.new
-            ≡ write_page (maps self.old) i p (record { at = at; bytes = piece.now }) tag }
-        ensures frames { frames_of self.new ≡ frames_of self.old }
-        ensures others { (j : ℕ) → j ≢ i → HasNoTree self.old j → HasNoTree self.new j }
-        ensures nodes { free_nodes self.old ≤ free_nodes self.new + 2 }
-        ensures cost { steps.new ≤ steps.old + 36 }
-    {
-        a_change_takes_few_nodes();
-        trees_account_for_their_store();
-        names_are_ordered();
-        let cell = self.cell(i, p);
-        let frame = fill(&mut self.store.frames, cell, p, at, piece, tag);
-        self.trees[i].set(&mut self.store, p, PageCell::Frame(frame), steps);
-        self.store.frames.drop_hold(frame);
-    }
-
-    /// Writes a page whose frame no other page has.
-    fn write_in_place(&mut self, i: usize, p: u16, at: u32, piece: &[u8])
-        requires row { i < length (maps self.old) }
-        requires page { p < PAGES }
-        requires alone { is_parting (maps self.old) (row_of (maps self.old) i p) ≡ false }
-        ensures written { (tag : Tag) → maps self.new
-            ≡ write_page (maps self.old) i p (record { at = at; bytes = piece.now }) tag }
-        ensures frames { frames_of self.new ≡ frames_of self.old }
-        ensures others { (j : ℕ) → HasNoTree self.old j → HasNoTree self.new j }
-        ensures nodes { free_nodes self.new ≡ free_nodes self.old }
-        ensures within { used (maps self.old) ≤ frames_of self.old }
-    {
-        trees_account_for_their_store();
-        names_are_ordered();
-        if let PageCell::Frame(frame) = self.cell(i, p) {
-            write_frame(&mut self.store.frames, frame, p, at, piece);
-        }
     }
 }

@@ -1,6 +1,7 @@
 pub mod BitLemmas
 pub mod NamedLemmas
 pub mod ChangeLemmas
+pub mod ChunkLemmas
 pub mod ObjectLemmas
 pub mod PoolLemmas
 pub mod SlotLemmas

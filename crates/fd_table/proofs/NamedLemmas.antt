@@ -1,8 +1,8 @@
 -- A place is named by a held object exactly where a slot names it.
-use Rattle.std.proofs.Common.{◌≡◌, ℕ, suc, ◌+◌, ◌-◌, ◌<◌, ⊎_elim, Bool, true, false, ◌&&◌, eqb, ltb, List, [], ◌∷◌, length, get_or, refl, sym, ◌∙◌, ap, arith, Option, None, Some}
-use Rattle.std.specs.List.{sum_by, count_by}
+use Rattle.std.proofs.Common.{◌≡◌, ℕ, ◌+◌, ◌-◌, ◌<◌, ⊎_elim, Bool, true, false, ◌&&◌, eqb, ltb, List, length, get_or, refl, sym, ◌∙◌, ap, arith, Option, None, Some}
+use Rattle.std.specs.List.{count_by}
 use Rattle.std.proofs.lemmas.List.{get_or_past}
-use Rattle.std.proofs.lemmas.List.Sums.{sum_by-cons, get_or-le-sum_by}
+use Rattle.std.proofs.lemmas.List.Sums.{get_or-le-sum_by}
 use Rattle.std.proofs.lemmas.Bool.{cases_lt, eq-eqb, eqb-true, false≢true, lt-ltb, ltb-true}
 use Rattle.fd_table.specs.declared.table.Table.{Table}
 use Rattle.fd_table.specs.Slots.{Slot, no_slots, row_of}
@@ -13,18 +13,7 @@ use Rattle.fd_table.specs.Kept.{IsKept}
 use Rattle.fd_table.proofs.ObjectLemmas.{one_if, counts-held, held-in, none-some}
 use Rattle.fd_table.proofs.SlotLemmas.{entry-empty, entry-some, slots-at, length-rows, row-at}
 use Rattle.fd_table.proofs.ChangeLemmas.{entry-held}
-
--- a sum that is more than 0 has a term that is
-sum-some : {X : Type 0} (f : X → ℕ) (xs : List X) (d : X) → 0 < sum_by f xs → (k : ℕ) × ((k < length xs) × (0 < f (get_or xs k d)))
-sum-some f [] d some = absurd (omega (arith, some))
-sum-some f (x ∷ xs) d some =
-    let split = sum_by-cons f x xs in
-    ⊎_elim
-    (λ here. (0, (omega arith, here)))
-    (λ none.
-    let tail = sum-some f xs d (omega (arith, some, split, none)) in
-    (suc tail.0, (omega (arith, tail.1.0), tail.1.1)))
-    (cases_lt 0 (f x))
+use Rattle.lwc_base.proofs.Small.{sum-some}
 
 one-some : (b : Bool) → 0 < one_if b → b ≡ true
 one-some true some = refl

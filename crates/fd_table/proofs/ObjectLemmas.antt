@@ -7,7 +7,7 @@ use Rattle.std.proofs.lemmas.Bool.{cases_eq, cases_lt, eq-eqb, ne_eqb}
 use Rattle.std.proofs.lemmas.Bool.Decides.{nat_tests}
 use Rattle.fd_table.specs.Slots.{Slot}
 use Rattle.fd_table.specs.Pools.{Held, no_held, held_at, count_of, slot_at, recount}
-use Rattle.fd_table.specs.Objects.{is_target, is_naming, IsCounted, counted_more, counted_less, last_target, HoldsMore, HoldsLess, Takes}
+use Rattle.fd_table.specs.Objects.{is_target, is_naming, IsCounted, counted_more, counted_less, last_target, HoldsMore, HoldsLess}
 use Rattle.fd_table.specs.Tables.{times}
 
 pub if-some : (r : Option ℕ) (P : ℕ → Type 0) → ((t : ℕ) → r ≡ Some t → P t) → IfSome r P
@@ -179,17 +179,6 @@ less-more old mid new entries k e less one lt is =
       same = λ o. one.same o ∙ less.same o;
     }
 
--- a free object is taken
-pub takes-set : (old new : List Held) (o : ℕ) (slot : Slot) → o < length old → count_of old o ≡ 0 → new ≡ set old o (record { count = 1; slot = slot }) → Takes old new o slot
-takes-set old new o slot lt free are =
-    record {
-      size = ap length are ∙ length-set old o _;
-      inside = lt;
-      was_free = free;
-      here = ap (λ x. held_at x o) are ∙ get_or-set_same old o (record { count = 1; slot = slot }) no_held lt;
-      others = λ p off. ap (λ x. held_at x p) are ∙ get_or-set_other old o p (record { count = 1; slot = slot }) no_held off;
-    }
-
 -- a number is greater or less by 1 where the place is meant
 more-at : (named : List ℕ) (target : Option ℕ) (p : ℕ) → ((t : ℕ) → target ≡ Some t → t < length named) → get_or (counted_more named target) p 0 ≡ get_or named p 0 + one_if (is_target p target)
 more-at named None p inside = omega arith
@@ -359,15 +348,6 @@ counted-take pool new named o slot counted lt free targets are =
           omega (arith, bound, long))
           (cases_eq q o);
     }
-
--- how many objects name a place is less than how many there are, where one is free
-pub naming-few : (pool : List Held) (p : ℕ) → count_by (is_naming p) pool ≤ length pool
-naming-few pool p = count_by-le-length (is_naming p) pool
-
--- nothing is counted where no object is held
-pub counted-new : (pool : List Held) (named : List ℕ) → ((o : ℕ) → count_of pool o ≡ 0) → ((p : ℕ) → get_or named p 0 ≡ 0) → ((p : ℕ) → count_by (is_naming p) pool ≡ 0) → IsCounted pool named
-counted-new pool named free zero none =
-    record { counts = λ p lt. zero p ∙ sym (none p); inside = λ o p held target. absurd (let no = free o in omega (arith, no, held)) }
 
 -- the entries so far and the next one name an object at most as often as there are entries
 pub times-next : (o : ℕ) (entries : List ℕ) (k : ℕ) → k < length entries → get_or entries k 0 ≡ o + 1 → times o (take k entries) + 1 ≤ length entries

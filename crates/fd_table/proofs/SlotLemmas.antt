@@ -14,23 +14,9 @@ use Rattle.fd_table.specs.Pools.{Held, no_held, count_of, slot_at, free_of}
 use Rattle.fd_table.specs.Tables.{times, naming, entry_slot, slots_of, rows, no_table, table_at, IsTable}
 use Rattle.fd_table.specs.Kept.{IsKept}
 use Rattle.fd_table.proofs.ObjectLemmas.{one_if, one-yes, one-no, times-some}
+use Rattle.lwc_base.proofs.Small.{at-new, map-replicate, set-again, set-map_same}
 
 -- ---- lists in which one element changes
-
-map-same : {X Y : Type 0} (f g : X → Y) (xs : List X) (d : X) → ((j : ℕ) → j < length xs → f (get_or xs j d) ≡ g (get_or xs j d)) → map f xs ≡ map g xs
-map-same f g [] d h = refl
-map-same f g (x ∷ xs) d h =
-    let head = h 0 (omega arith) in
-    let tail = map-same f g xs d (λ j lt. h (suc j) (omega (arith, lt))) in
-    λ i. head i ∷ tail i
-
-set-map_same : {X Y : Type 0} (f g : X → Y) (xs : List X) (i : ℕ) (y : Y) (d : X) → ((j : ℕ) → j < length xs → j ≢ i → f (get_or xs j d) ≡ g (get_or xs j d)) → set (map f xs) i y ≡ set (map g xs) i y
-set-map_same f g [] i y d h = refl
-set-map_same f g (x ∷ xs) zero y d h = ap (λ ys. y ∷ ys) (map-same f g xs d (λ j lt. h (suc j) (omega (arith, lt)) (λ is. absurd (omega (arith, is)))))
-set-map_same f g (x ∷ xs) (suc k) y d h =
-    let head = h 0 (omega arith) (λ is. absurd (omega (arith, is))) in
-    let tail = set-map_same f g xs k y d (λ j lt off. h (suc j) (omega (arith, lt)) (λ is. off (omega (arith, is)))) in
-    λ i. head i ∷ tail i
 
 -- ---- what entries stand for
 
@@ -323,12 +309,6 @@ put-again : (b : Bool) (x y z : Slot) → cond b x (cond b y z) ≡ cond b x z
 put-again true x y z = refl
 put-again false x y z = refl
 
-set-again : {X : Type 0} (xs : List X) (i : ℕ) (x y : X) → set (set xs i x) i y ≡ set xs i y
-set-again [] zero x y = refl
-set-again [] (suc i) x y = refl
-set-again (z ∷ xs) zero x y = refl
-set-again (z ∷ xs) (suc i) x y = ap (λ ys. z ∷ ys) (set-again xs i x y)
-
 pub put-twice : (all : List (ℕ → Slot)) (i n : ℕ) (x y : Slot) → i < length all → set (set all i (put_slot (row_of all i) n x)) i (put_slot (row_of (set all i (put_slot (row_of all i) n x)) i) n y) ≡ set all i (put_slot (row_of all i) n y)
 put-twice all i n x y lt =
     set-again all i (put_slot (row_of all i) n x) (put_slot (row_of (set all i (put_slot (row_of all i) n x)) i) n y)
@@ -337,18 +317,11 @@ put-twice all i n x y lt =
 
 -- ---- places where all slots are empty
 
-pub map-replicate : {X Y : Type 0} (f : X → Y) (n : ℕ) (x : X) → map f (replicate n x) ≡ replicate n (f x)
-map-replicate f zero x = refl
-map-replicate f (suc n) x = ap (λ ys. f x ∷ ys) (map-replicate f n x)
-
 pub rows-new : (pool : List Held) (tables : List Table) (places : ℕ) → tables ≡ replicate places no_table → rows pool tables ≡ replicate places no_slots
 unfolding rows
 rows-new pool tables places are =
     ap (map (λ (t : Table). slots_of pool t.entries)) are ∙ map-replicate (λ (t : Table). slots_of pool t.entries) places no_table
     ∙ ap (replicate places) (slots-none pool no_table.entries no-entries)
-
-pub at-new : {X : Type 0} (n i : ℕ) (x : X) → get_or (replicate n x) i x ≡ x
-at-new n i x = ⊎_elim (λ lt. get_or-replicate n i x x lt) (λ past. get_or_past (replicate n x) i x (let long = length-replicate n x in omega (arith, long, past))) (cases_lt i n)
 
 naming-none : (places o : ℕ) → naming (replicate places no_table) o ≡ 0
 unfolding naming

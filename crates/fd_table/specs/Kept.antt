@@ -1,6 +1,6 @@
 -- What ties the tables of places to their store.
 use Rattle.std.specs.Prelude.{◌≡◌, ℕ, ◌*◌, ◌<◌, ◌≤◌, List, length}
-use Rattle.fd_table.specs.declared.slots.TheConstants.{MOST_PLACES}
+use Rattle.lwc_base.specs.declared.limits.TheConstants.{MOST_SLOT_PLACES}
 use Rattle.fd_table.specs.declared.table.Table.{Table}
 use Rattle.fd_table.specs.Pools.{Held, count_of}
 use Rattle.fd_table.specs.Tables.{IsTable, naming, table_at}
@@ -9,5 +9,5 @@ use Rattle.fd_table.specs.Tables.{IsTable, naming, table_at}
 pub record IsKept (pool : List Held) (tables : List Table) : Type 0 where
   pub exact : (o : ℕ) → count_of pool o ≡ naming tables o
   pub room : length pool ≡ 64 * length tables
-  pub few : length tables ≤ MOST_PLACES
+  pub few : length tables ≤ MOST_SLOT_PLACES
   pub each : (i : ℕ) → i < length tables → IsTable pool (table_at tables i)

@@ -33,7 +33,8 @@ no_table = record { filled = 0; common = 0; entries = replicate 64 0 }
 abbrev pub table_at : List Table → ℕ → Table
 table_at tables i = slice_index_or tables i no_table
 
--- a table has 64 entries, and its bits say which slots are filled, which are those with an object, and which are common
+-- a table has 64 entries, and its bits say which slots are filled, which are those with an object, and which
+-- are common
 pub record IsTable (pool : List Held) (table : Table) : Type 0 where
   pub long : length table.entries ≡ 64
   pub filled : (n : ℕ) → n < 64 → has_bit table.filled n ≡ nat_lt 0 (slice_index table.entries n)

@@ -10,7 +10,4 @@ pub mod slots;
 pub mod table;
 
 pub use bits::lowest_bit;
-pub use slots::{MOST_PLACES, NUMBERS, Slots};
-
-#[cfg(test)]
-mod tests;
+pub use slots::{NUMBERS, Slots};

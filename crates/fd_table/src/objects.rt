@@ -1,4 +1,5 @@
 ghost use Rattle.std.specs.Prelude.{◌≡◌, ℕ, ◌+◌, ◌-◌, ◌≤◌, ◌<◌, ◌^◌, ◌∷◌, [], count_by, length, nat_lt, replicate, slice_index, IfOk, IfSome};
+ghost use Rattle.std.specs.List.{list_any};
 ghost use Rattle.fd_table.specs.Fillings.{slot_of};
 ghost use Rattle.fd_table.specs.Objects.{counted_less, counted_more, is_naming, last_target, HoldsLess, HoldsMore, IsCounted, Takes};
 ghost use Rattle.fd_table.specs.Pools.{count_of, free_of, held_at, no_held, recount};
@@ -15,6 +16,16 @@ pub(crate) struct Objects {
     pub(crate) pool: Pool,
     pub(crate) named: Vec<u32>,
     ghost counted: { IsCounted pool named.items },
+}
+
+/// How many entries are looked at together.
+const CHUNK: usize = 8;
+
+/// Whether one of these entries names an object.
+fn names_any(entries: &[u32]) -> bool
+    ensures { result ≡ list_any (nat_lt 0) entries.now }
+{
+    entries.iter().any(|entry| *entry > 0)
 }
 
 /// Counts one more object for a place, if there is one.
@@ -72,8 +83,22 @@ impl Objects {
         self.pool.hold(o);
     }
 
-    /// Holds each object that entries name once more.
+    /// Holds each object that entries name once more. Chunks that name none are skipped.
     pub(crate) fn hold_all(&mut self, entries: &[u32])
+        requires held { (o : ℕ) → 0 < times o entries.now → 0 < count_of self.old.pool o }
+        requires fits { (o : ℕ) → count_of self.old.pool o + length entries.now < 2 ^ 32 }
+        ensures pool { HoldsMore self.old.pool self.new.pool entries.now }
+        ensures places { length self.new.named.items ≡ length self.old.named.items }
+    {
+        for chunk in entries.chunks(CHUNK) {
+            if names_any(chunk) {
+                self.hold_each(chunk);
+            }
+        }
+    }
+
+    /// Holds each object that the entries of a chunk name once more.
+    fn hold_each(&mut self, entries: &[u32])
         requires held { (o : ℕ) → 0 < times o entries.now → 0 < count_of self.old.pool o }
         requires fits { (o : ℕ) → count_of self.old.pool o + length entries.now < 2 ^ 32 }
         ensures pool { HoldsMore self.old.pool self.new.pool entries.now }
@@ -120,8 +145,21 @@ impl Objects {
         }
     }
 
-    /// Holds each object that entries name once less.
+    /// Holds each object that entries name once less. Chunks that name none are skipped.
     pub(crate) fn drop_all(&mut self, entries: &[u32])
+        requires { (o : ℕ) → times o entries.now ≤ count_of self.old.pool o }
+        ensures pool { HoldsLess self.old.pool self.new.pool entries.now }
+        ensures places { length self.new.named.items ≡ length self.old.named.items }
+    {
+        for chunk in entries.chunks(CHUNK) {
+            if names_any(chunk) {
+                self.drop_each(chunk);
+            }
+        }
+    }
+
+    /// Holds each object that the entries of a chunk name once less.
+    fn drop_each(&mut self, entries: &[u32])
         requires { (o : ℕ) → times o entries.now ≤ count_of self.old.pool o }
         ensures pool { HoldsLess self.old.pool self.new.pool entries.now }
         ensures places { length self.new.named.items ≡ length self.old.named.items }

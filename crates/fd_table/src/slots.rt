@@ -9,9 +9,6 @@ use crate::table::Table;
 use lwc_base::{Cell, Descriptor, Name, OutOfMemory};
 use std::alloc::Global;
 
-/// How many places there can be.
-pub const MOST_PLACES: u32 = 65536;
-
 /// How many numbers there are that slots can name.
 pub const NUMBERS: u32 = 65536;
 
@@ -45,14 +42,14 @@ impl Slots {
     ghost use Rattle.lwc_base.specs.Capabilities.{has_bit};
     ghost use Rattle.lwc_base.specs.declared.cell.Cell.TheVariants.{Own};
     ghost use Rattle.lwc_base.specs.declared.descriptor.Descriptor.TheVariants.{Empty};
-    ghost use Rattle.fd_table.specs.declared.slots.TheConstants.{MOST_PLACES};
+    ghost use Rattle.lwc_base.specs.declared.limits.TheConstants.{MOST_SLOT_PLACES};
     ghost use Rattle.fd_table.specs.Seen.{slots};
     ghost use Rattle.fd_table.specs.Slots.{context_in, empty_slot, is_common, is_filled, no_slots, put_slot, row_of};
     ghost use Rattle.fd_table.specs.Fillings.{slot_of};
 
     /// This number of places whose slots are all empty. The only error is out of memory.
     pub fn open(alloc: Global, places: u32) -> Result<Slots, OutOfMemory>
-        requires { places ≤ MOST_PLACES }
+        requires { places ≤ MOST_SLOT_PLACES }
         ensures { IfOk result (λ opened. slots opened ≡ replicate places no_slots) }
     {
         let objects = Objects::open(alloc, 64 * places, NUMBERS)?;
@@ -97,7 +94,8 @@ impl Slots {
         }
     }
 
-    /// Whether a slot of two places is one object, or has none in both. Slots that are not may be the same, too.
+    /// Whether a slot of two places is one object, or has none in both. Slots that are not may be the same,
+    /// too.
     pub fn is_shared(&self, i: usize, j: usize, n: u8) -> bool
         requires place { i < length (slots self.now) }
         requires other { j < length (slots self.now) }
@@ -126,7 +124,8 @@ impl Slots {
     /// How many slots of a place are not empty slots of its own.
     pub fn count_filled(&self, i: usize) -> u32
         requires { i < length (slots self.now) }
-        ensures { result ≡ count_by (λ n. is_filled (row_of (slots self.now) i n).cell) (range_with_len 0 SLOTS) }
+        ensures { result
+            ≡ count_by (λ n. is_filled (row_of (slots self.now) i n).cell) (range_with_len 0 SLOTS) }
     {
         self.filled(i).count_ones()
     }
@@ -134,7 +133,8 @@ impl Slots {
     /// Whether a slot of any place names a number.
     pub fn is_named(&self, number: u16) -> bool
         requires { number < NUMBERS }
-        ensures { IsTrue result ↔ ((i : ℕ) × (n : ℕ) × ((row_of (slots self.now) i n).target ≡ Some number)) }
+        ensures { IsTrue result ↔
+            ((i : ℕ) × (n : ℕ) × ((row_of (slots self.now) i n).target ≡ Some number)) }
     {
         self.objects.is_named(number)
     }
@@ -159,7 +159,8 @@ impl Slots {
     fn empty_slot(&mut self, i: usize, n: u8)
         requires place { i < length (slots self.old) }
         requires slot { n < SLOTS }
-        ensures { slots self.new ≡ slice_set (slots self.old) i (put_slot (row_of (slots self.old) i) n empty_slot) }
+        ensures { slots self.new ≡ slice_set (slots self.old) i
+            (put_slot (row_of (slots self.old) i) n empty_slot) }
     {
         let entry = self.tables[i].entries[n as usize];
         self.objects.drop_entry(entry);

@@ -51,7 +51,8 @@ impl Table {
 
     /// The entries up to the last slot that is filled.
     pub(crate) fn used(&self) -> &[u32]
-        requires { (n : ℕ) → n < SLOTS → has_bit self.now.filled n ≡ nat_lt 0 (slice_index self.now.entries n) }
+        requires { (n : ℕ) → n < SLOTS →
+            has_bit self.now.filled n ≡ nat_lt 0 (slice_index self.now.entries n) }
         ensures same { (o : ℕ) → times o result.now ≡ times o self.now.entries }
         ensures few { length result.now ≤ SLOTS }
     {

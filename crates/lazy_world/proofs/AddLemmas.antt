@@ -1,5 +1,5 @@
 -- A name that is added at a free place.
-use Rattle.std.proofs.Common.{◌≡◌, ℕ, suc, ◌+◌, ◌<◌, List, [], ◌∷◌, arith, length, length-set, refl, sym, ap, subst, ◌∙◌, Bool, true, false, cond, eqb, Option, Some, None, get_or, get_or-set_other, set, replicate}
+use Rattle.std.proofs.Common.{◌≡◌, ℕ, ◌+◌, ◌<◌, List, arith, length, length-set, refl, sym, ap, subst, ◌∙◌, Bool, true, false, cond, eqb, Option, Some, None, get_or, get_or-set_other, set, replicate}
 use Rattle.std.specs.Prelude.{not}
 use Rattle.std.specs.FinMap as fm
 use Rattle.std.proofs.lemmas.Bool.Decides.{nat_tests}
@@ -19,18 +19,18 @@ use Rattle.lwc_base.specs.Fresh.{IsFresh}
 use Rattle.lwc_base.specs.Keys.{with_key}
 use Rattle.lwc_base.specs.Summaries.{is_empty}
 use Rattle.lwc_base.specs.World.{World, Counters, add_context, change_counters, new_context, new_value, next_context}
-use Rattle.ctx_table.specs.Contexts.{first_free}
 use Rattle.ctx_table.specs.NameTables.{ArePlaced, NameTable}
 use Rattle.lazy_world.specs.declared.counts.Counts.{Counts}
 use Rattle.lazy_world.specs.declared.registers.Registers.{Registers}
 use Rattle.lazy_world.specs.Cells.{Row, is_nothing, put_row}
-use Rattle.lazy_world.specs.Facts.{Facts}
 use Rattle.lazy_world.specs.Mapped.{mapped}
 use Rattle.lazy_world.specs.Sound.{HasOldTags, IsAllOwn, IsEmpty, IsSound, IsWithin}
 use Rattle.lazy_world.specs.States.{Parts, context_at, context_of, counters_of, group_at, group_of, no_registers, nothing_counted, registers_at, world_of}
 use Rattle.lazy_world.proofs.MappedLemmas.{mapped-insert, mapped-same}
-use Rattle.lazy_world.proofs.PlaceLemmas.{at_default, choose, pass, set_at}
+use Rattle.lazy_world.proofs.PlaceLemmas.{choose, pass, set_at}
 use Rattle.lazy_world.proofs.SoundLemmas.{each_row, homes-row}
+use Rattle.lwc_base.proofs.Facts.{stays_fresh}
+use Rattle.lwc_base.proofs.Small.{at-new}
 
 -- a cell with nothing in it
 pub no_page : (cell : Cell (Option PageValue)) (p : ℕ) → is_nothing (Page p) cell ≡ true → cell ≡ Own None
@@ -82,7 +82,7 @@ counters_choice false m n = refl
 pub some_name : (name : Name) (o : Option Name) → o ≡ Some name → o ≡ None → ⊥
 some_name name o is none = let both = sym is ∙ none in cc
 
-module _ (s : Parts) (sound : IsSound s) (facts : Facts) where
+module _ (s : Parts) (sound : IsSound s) where
   abbrev now : World
   now = world_of s
 
@@ -126,7 +126,7 @@ module _ (s : Parts) (sound : IsSound s) (facts : Facts) where
     here =
         ap (λ r. context_of r (registers_at (set s.registers p registers) p)) (choose p p row (s.rows p) refl)
         ∙ ap (context_of row) (get_or-set_same s.registers p registers no_registers (omega (arith, low, sound.sizes.registers)))
-        ∙ (λ e. record { cell = new_row (s.rows p) uid empty e; entry = entry; saved = λ t. at_default 16 t None e })
+        ∙ (λ e. record { cell = new_row (s.rows p) uid empty e; entry = entry; saved = λ t. at-new 16 t None e })
 
     elsewhere : (d : Name) (q : ℕ) → fm.get s.contexts.map d ≡ Some q → context_at later q ≡ context_at s q
     elsewhere d q at_q =
@@ -141,10 +141,10 @@ module _ (s : Parts) (sound : IsSound s) (facts : Facts) where
     unfolding world_of add_context change_counters
     added-context =
         let contexts : mapped (context_at later) table.map ≡ fm.insert now.contexts c (new_context uid entry) =
-        ap (mapped (context_at later)) map ∙ mapped-insert facts.orders (context_at later) s.contexts.map c p
-        ∙ (λ e. fm.insert (mapped-same facts.orders (context_at s) s.contexts.map (context_at later) elsewhere e) c (here e)) in
+        ap (mapped (context_at later)) map ∙ mapped-insert (context_at later) s.contexts.map c p
+        ∙ (λ e. fm.insert (mapped-same (context_at s) s.contexts.map (context_at later) elsewhere e) c (here e)) in
         let groups : mapped (group_at later) s.groups.map ≡ mapped (group_at s) s.groups.map =
-        mapped-same facts.orders (group_at s) s.groups.map (group_at later) (λ d j at_j. ap group_of (pass p (s.size.contexts + j) row (s.rows (s.size.contexts + j)) (behind j))) in
+        mapped-same (group_at s) s.groups.map (group_at later) (λ d j at_j. ap group_of (pass p (s.size.contexts + j) row (s.rows (s.size.contexts + j)) (behind j))) in
         let next : (j : ℕ) → counters_of (get_or (set s.counts job n) j nothing_counted) ≡ cond (eqb j job) (record (now.next j) { contexts = (now.next j).contexts + 1 }) (now.next j) =
         counted-at job n (λ m. record m { contexts = m.contexts + 1 }) (omega (arith, known, sound.sizes.counts)) counted in
         (λ e. record { contexts = contexts e; groups = groups e; next = λ j. next j e; size = s.size })
@@ -181,14 +181,6 @@ module _ (s : Parts) (sound : IsSound s) (facts : Facts) where
           tags = λ j. each_row s.rows p row (HasOldTags (world_of later).next) j
               (λ same. no_tags (world_of later).next row (still_empty (s.rows p) uid empty))
               (λ other q tag bytes is. subst (λ m. tag.k < m) (sym (next tag.job)) (sound.tags j q tag bytes is));
-          fresh = subst IsFresh (sym added-context) (facts.fresh.context_added now job (new_context uid entry) (λ k. tt) sound.fresh);
+          fresh = subst IsFresh (sym added-context) (stays_fresh.context_added now job (new_context uid entry) (λ k. tt) sound.fresh);
           homes = homes-row s.rows p row sound.homes (λ q tag bytes is. absurd (no_tag row (still_empty (s.rows p) uid empty) q tag bytes is));
         }
-
--- the first place that is free is free
-pub free_place : (places : List (Option Name)) → first_free places < length places → get_or places (first_free places) None ≡ None
-free_place [] inside = absurd (omega arith)
-free_place (None ∷ places) inside = refl
-free_place (Some name ∷ places) inside = let rest : first_free places < length places = omega (arith, inside) in
-    let behind : first_free (Some name ∷ places) ≡ suc (first_free places) = omega arith in
-    ap (λ n. get_or (Some name ∷ places) n None) behind ∙ free_place places rest

@@ -1,4 +1,4 @@
--- What contexts have after a clone or an overlay, by plans for the world before it.
+-- What contexts have after a clone or an overlay, by transfers for the world before it.
 use Rattle.std.proofs.Common.{◌≡◌, ℕ, arith, refl, sym, ap, ◌∙◌, Bool, true, false, cond, List, Option, Some, None}
 use Rattle.std.specs.Prelude.{unwrap_or}
 use Rattle.lwc_base.specs.declared.cell.Cell.{Cell}
@@ -11,48 +11,46 @@ use Rattle.lwc_base.specs.declared.key.Key.TheVariants.{Page}
 use Rattle.lwc_base.specs.declared.name.Name.{Name}
 use Rattle.lwc_base.specs.Cells.{value_at, value_of}
 use Rattle.lwc_base.specs.Fresh.{IsFresh}
-use Rattle.lwc_base.specs.Keys.{ValueOf, is_there}
-use Rattle.lwc_base.specs.Modes.{IsKey, IsSpec, mode, mode_or_copy}
+use Rattle.lwc_base.specs.Keys.{ValueOf}
+use Rattle.lwc_base.specs.Modes.{IsSpec, mode, mode_or_copy}
 use Rattle.lwc_base.specs.Overlay.{overlaid_cell, overlay, ranges_after_overlay}
 use Rattle.lwc_base.specs.Ranges.{ranges, ranges_of}
 use Rattle.lwc_base.specs.Sharing.{cloned_cell, cloned_context, needs_group, ranges_after_clone, share, shared_cell, with_shared}
 use Rattle.lwc_base.specs.World.{World, Context, context, group, is_live, next_group}
-use Rattle.lazy_world.specs.Facts.{Facts}
-use Rattle.lazy_world.specs.Followed.{followed, with_planned}
-use Rattle.lazy_world.specs.Plans.{planned_cell, taken_cell}
-use Rattle.lazy_world.specs.declared.plan.Plan.{Plan}
-use Rattle.lazy_world.specs.declared.plan.Plan.TheVariants.{Mark, Clone, Overlay}
+use Rattle.lazy_world.specs.Followed.{followed, with_transferred}
+use Rattle.lazy_world.specs.Transfers.{transferred_cell, taken_cell}
+use Rattle.lazy_world.specs.declared.transfer.Transfer.{Transfer}
+use Rattle.lazy_world.specs.declared.transfer.Transfer.TheVariants.{Mark, Clone, Overlay}
 use Rattle.lazy_world.proofs.CloneLemmas.{none-moves}
-use Rattle.lazy_world.proofs.RenameLemmas.{is_new, planned-away, planned-new, planned-old, ranges-cells, renamed-ranges, with_name}
+use Rattle.lazy_world.proofs.RenameLemmas.{is_new, transferred-away, transferred-new, transferred-old, ranges-cells, renamed-ranges, with_name}
+use Rattle.lwc_base.proofs.Facts.{changes, stays_fresh}
 
-module _ (facts : Facts) (w : World) (fresh : IsFresh w) (items : List Item) (spec : IsSpec w.size.pages items)
-    (law : (w : World) (c : Name) (items : List Item) (k : Key) (value : ValueOf k) → IsKey w.size.pages k → mode_or_copy items k ≡ Share →
-    (context w c).cell k ≡ cells.Own value → is_there k value ≡ true → needs_group w c items ≡ true) where
+module _ (w : World) (fresh : IsFresh w) (items : List Item) (spec : IsSpec w.size.pages items) where
   -- no cell has the next name of a job
   pub no-name : (job : ℕ) (c : Name) (k : Key) → (context w c).cell k ≡ cells.Common (next_group w job) → ⊥
-  no-name job c k is = let named = facts.fresh.named w c k (next_group w job) fresh is in absurd (omega (arith, named))
+  no-name job c k is = let named = stays_fresh.named w c k (next_group w job) fresh is in absurd (omega (arith, named))
 
-  module _ (plan : Plan) (d c : Name) where
+  module _ (transfer : Transfer) (d c : Name) where
     abbrev by_name : Name → Context
-    by_name g = with_planned w (with_name plan g) items (context w d).cell (context w c)
+    by_name g = with_transferred w (with_name transfer g) items (context w d).cell (context w c)
 
     renamed : (i j : ℕ) → ranges w.size.pages (by_name (next_group w i)) ≡ ranges w.size.pages (by_name (next_group w j))
     renamed i j =
-        renamed-ranges facts.orders (by_name (next_group w i)) (by_name (next_group w j)) (next_group w i) (next_group w j)
-        (λ p. is_new plan (mode items (Page p)) (Page p) ((context w d).cell (Page p)))
-        (λ p is. planned-new w (Page p) ((context w d).cell (Page p)) ((context w c).cell (Page p)) (next_group w i) plan (mode items (Page p)) is)
-        (λ p is. planned-new w (Page p) ((context w d).cell (Page p)) ((context w c).cell (Page p)) (next_group w j) plan (mode items (Page p)) is)
-        (λ p is. planned-old w (Page p) ((context w d).cell (Page p)) ((context w c).cell (Page p)) (next_group w i) plan (mode items (Page p)) (next_group w j) is)
-        (λ p is. planned-away w (Page p) ((context w d).cell (Page p)) ((context w c).cell (Page p)) (next_group w i) (no-name i d (Page p)) (no-name i c (Page p)) plan (mode items (Page p)) is)
-        (λ p is. planned-away w (Page p) ((context w d).cell (Page p)) ((context w c).cell (Page p)) (next_group w j) (no-name j d (Page p)) (no-name j c (Page p)) plan (mode items (Page p)) is)
+        renamed-ranges (by_name (next_group w i)) (by_name (next_group w j)) (next_group w i) (next_group w j)
+        (λ p. is_new transfer (mode items (Page p)) (Page p) ((context w d).cell (Page p)))
+        (λ p is. transferred-new w (Page p) ((context w d).cell (Page p)) ((context w c).cell (Page p)) (next_group w i) transfer (mode items (Page p)) is)
+        (λ p is. transferred-new w (Page p) ((context w d).cell (Page p)) ((context w c).cell (Page p)) (next_group w j) transfer (mode items (Page p)) is)
+        (λ p is. transferred-old w (Page p) ((context w d).cell (Page p)) ((context w c).cell (Page p)) (next_group w i) transfer (mode items (Page p)) (next_group w j) is)
+        (λ p is. transferred-away w (Page p) ((context w d).cell (Page p)) ((context w c).cell (Page p)) (next_group w i) (no-name i d (Page p)) (no-name i c (Page p)) transfer (mode items (Page p)) is)
+        (λ p is. transferred-away w (Page p) ((context w d).cell (Page p)) ((context w c).cell (Page p)) (next_group w j) (no-name j d (Page p)) (no-name j c (Page p)) transfer (mode items (Page p)) is)
         w.size.pages
 
-    -- the ranges of a context that has followed a plan, whichever name is new
-    pub followed-ranges : is_live w c ≡ true → (i j : ℕ) → ranges_of (followed w (with_name plan (next_group w i)) items d c) c ≡ ranges w.size.pages (by_name (next_group w j))
+    -- the ranges of a context that has followed a transfer, whichever name is new
+    pub followed-ranges : is_live w c ≡ true → (i j : ℕ) → ranges_of (followed w (with_name transfer (next_group w i)) items d c) c ≡ ranges w.size.pages (by_name (next_group w j))
     unfolding ranges_of
     followed-ranges live i j =
-        let changed = facts.changes.context_changed w c (with_planned w (with_name plan (next_group w i)) items (context w d).cell) in
-        ap (λ n. ranges n.pages (context (followed w (with_name plan (next_group w i)) items d c) c)) changed.names.size
+        let changed = changes.context_changed w c (with_transferred w (with_name transfer (next_group w i)) items (context w d).cell) in
+        ap (λ n. ranges n.pages (context (followed w (with_name transfer (next_group w i)) items d c) c)) changed.names.size
         ∙ ap (ranges w.size.pages) (changed.changed live)
         ∙ renamed i j
 
@@ -75,15 +73,15 @@ module _ (facts : Facts) (w : World) (fresh : IsFresh w) (items : List Item) (sp
     shared-cell k = at (needs_group w d items) refl
       where
         at : (b : Bool) → needs_group w d items ≡ b → (context s d).cell k ≡ shared_cell g (m k) k (row k)
-        at true needs = ap (λ (x : Context). x.cell k) ((facts.changes.shared w d job items).named needs live)
+        at true needs = ap (λ (x : Context). x.cell k) ((changes.shared w d job items).named needs live)
         at false idle =
-            ap (λ v. (context v d).cell k) ((facts.changes.shared w d job items).none idle)
-            ∙ sym (ap (λ b. cond b (cells.Common g) (row k)) (none-moves facts w d job items spec live law idle k))
+            ap (λ v. (context v d).cell k) ((changes.shared w d job items).none idle)
+            ∙ sym (ap (λ b. cond b (cells.Common g) (row k)) (none-moves w d job items spec live idle k))
 
     by_mode : (k : Key) (n : Mode) → m k ≡ n → (context s d).cell k ≡ shared_cell g n k (row k)
     by_mode k n is = shared-cell k ∙ ap (λ n. shared_cell g n k (row k)) is
 
-    -- in a world with the same groups but for the new one, a plan gives what a clone or an overlay does
+    -- in a world with the same groups but for the new one, a transfer gives what a clone or an overlay does
     module _ (u : World) (groups : (h : Name) → (h ≡ g → ⊥) → group u h ≡ group s h) where
       same_value : (k : Key) (cell : Cell (ValueOf k)) → row k ≡ cell → value_of u k cell ≡ value_of s k cell
       same_value k (cells.Own v) is = refl
@@ -95,26 +93,26 @@ module _ (facts : Facts) (w : World) (fresh : IsFresh w) (items : List Item) (sp
       taken-shared k Share is = sym (by_mode k Share is)
       taken-shared k Unmap is = refl
 
-      pub overlaid-shared : (k : Key) (old : Cell (ValueOf k)) (o : Option Mode) → mode items k ≡ o → planned_cell u (Overlay g) o k (row k) old ≡ overlaid_cell s d k o old
+      pub overlaid-shared : (k : Key) (old : Cell (ValueOf k)) (o : Option Mode) → mode items k ≡ o → transferred_cell u (Overlay g) o k (row k) old ≡ overlaid_cell s d k o old
       overlaid-shared k old None is = refl
       overlaid-shared k old (Some n) is = taken-shared k n (ap (λ o. unwrap_or o Copy) is)
 
     same_groups : (h : Name) → (h ≡ g → ⊥) → group w h ≡ group s h
-    same_groups h other = sym ((facts.changes.shared w d job items).groups h other)
+    same_groups h other = sym ((changes.shared w d job items).groups h other)
 
     pub mark-ranges : ranges_of (followed w (Mark (next_group w 0)) items d d) d ≡ ranges_of s d
     unfolding ranges_of
     mark-ranges =
         followed-ranges (Mark g) d d live 0 job
         ∙ ranges-cells w.size.pages (by_name (Mark g) d d g) (context s d) (λ k. sym (shared-cell k))
-        ∙ ap (λ n. ranges n.pages (context s d)) (sym (facts.changes.shared w d job items).size)
+        ∙ ap (λ n. ranges n.pages (context s d)) (sym (changes.shared w d job items).size)
 
     pub clone-ranges : ranges_of (followed w (Clone (next_group w 0)) items d d) d ≡ (ranges_after_clone w d job items).1
     unfolding ranges_after_clone cloned_context mode_or_copy
     clone-ranges =
         followed-ranges (Clone g) d d live 0 job
         ∙ ranges-cells w.size.pages (by_name (Clone g) d d g) (cloned_context s d items (context s d).entry) (λ k. taken-shared w same_groups k (m k) refl)
-        ∙ ap (λ n. ranges n.pages (cloned_context s d items (context s d).entry)) (sym (facts.changes.shared w d job items).size)
+        ∙ ap (λ n. ranges n.pages (cloned_context s d items (context s d).entry)) (sym (changes.shared w d job items).size)
 
     pub after-clone : (a b : ℕ) → a ≡ ranges_of (followed w (Mark (next_group w 0)) items d d) d → b ≡ ranges_of (followed w (Clone (next_group w 0)) items d d) d →
         ◌≡◌ {A = ℕ × ℕ} (a, b) (ranges_after_clone w d job items)
@@ -132,28 +130,28 @@ module _ (facts : Facts) (w : World) (fresh : IsFresh w) (items : List Item) (sp
       stays k None is = kept k is
       stays k (Some n) is = refl
 
-      overlaid : (k : Key) → planned_cell w (Overlay g) (mode items k) k (row k) ((context w c).cell k) ≡ (context v c).cell k
+      overlaid : (k : Key) → transferred_cell w (Overlay g) (mode items k) k (row k) ((context w c).cell k) ≡ (context v c).cell k
       overlaid k =
           overlaid-shared w same_groups k ((context w c).cell k) (mode items k) refl
           ∙ stays k (mode items k) refl
-          ∙ sym (ap (λ (x : Context). x.cell k) ((facts.changes.overlaid w c d job items).changed ((facts.changes.shared w d job items).live c ∙ live_c)))
+          ∙ sym (ap (λ (x : Context). x.cell k) ((changes.overlaid w c d job items).changed ((changes.shared w d job items).live c ∙ live_c)))
 
       pub overlay-ranges : (i : ℕ) → ranges_of (followed w (Overlay (next_group w i)) items d c) c ≡ (ranges_after_overlay w c d job items).1
       unfolding ranges_after_overlay ranges_of
       overlay-ranges i =
           followed-ranges (Overlay g) d c live_c i job
           ∙ ranges-cells w.size.pages (by_name (Overlay g) d c g) (context v c) overlaid
-          ∙ ap (λ n. ranges n.pages (context v c)) (sym ((facts.changes.overlaid w c d job items).names.size ∙ (facts.changes.shared w d job items).size))
+          ∙ ap (λ n. ranges n.pages (context v c)) (sym ((changes.overlaid w c d job items).names.size ∙ (changes.shared w d job items).size))
 
     -- an overlay leaves another context as it is after sharing
     pub left-ranges : (c : Name) → (d ≡ c → ⊥) → (ranges_after_overlay w c d job items).0 ≡ ranges_of s d
     unfolding ranges_after_overlay ranges_of
     left-ranges c other =
-        let overlaid = facts.changes.overlaid w c d job items in
+        let overlaid = changes.overlaid w c d job items in
         ap (λ n. ranges n.pages (context (overlay w c d job items) d)) overlaid.names.size ∙ ap (ranges s.size.pages) (overlaid.others d other)
 
     kept-apart : (c : Name) → (c ≡ d → ⊥) → (k : Key) → mode items k ≡ None → (context w c).cell k ≡ (context s c).cell k
-    kept-apart c other k none = ap (λ (x : Context). x.cell k) (sym ((facts.changes.shared w d job items).others c other))
+    kept-apart c other k none = ap (λ (x : Context). x.cell k) (sym ((changes.shared w d job items).others c other))
 
     pub after-apart : (c : Name) → is_live w c ≡ true → (c ≡ d → ⊥) → (a b : ℕ) → a ≡ ranges_of (followed w (Mark (next_group w 0)) items d d) d →
         b ≡ ranges_of (followed w (Overlay (next_group w 0)) items d c) c → ◌≡◌ {A = ℕ × ℕ} (a, b) (ranges_after_overlay w c d job items)

@@ -1,5 +1,5 @@
 -- What contexts are reached from, once the world has changed.
-use Rattle.std.proofs.Common.{◌≡◌, ◌≢◌, ◌⊎◌, inl, inr, ℕ, arith, List, [], ◌∷◌, refl, sym, ap, subst, ◌∙◌, Bool, true, false, cond, Option, Some, None}
+use Rattle.std.proofs.Common.{◌≡◌, ◌≢◌, ◌⊎◌, inl, inr, ℕ, List, [], ◌∷◌, refl, sym, ap, subst, ◌∙◌, Bool, true, false, cond, Option, Some, None}
 use Rattle.std.specs.Prelude.{Err, Ok, OnErr, OnOk, Result}
 use Rattle.std.specs.Ordering.{eq_by_cmp}
 use Rattle.std.proofs.lemmas.Bool.{false≢true}
@@ -7,16 +7,13 @@ use Rattle.fd_table.specs.Slots.{context_of}
 use Rattle.lwc_base.specs.declared.cell.Cell.{Cell}
 use Rattle.lwc_base.specs.declared.cell.Cell.TheVariants.{Own, Common}
 use Rattle.lwc_base.specs.declared.descriptor.Descriptor.{Descriptor}
-use Rattle.lwc_base.specs.declared.key.Key.{Key}
-use Rattle.lwc_base.specs.declared.key.Key.TheVariants.{Page, Slot, Cred}
+use Rattle.lwc_base.specs.declared.key.Key.TheVariants.{Slot, Cred}
 use Rattle.lwc_base.specs.declared.name.Name.{Name}
 use Rattle.lwc_base.specs.declared.regs.Regs.{Regs}
-use Rattle.lwc_base.specs.Cells.{put_at, put_slot, put_uid, slot_at, value_at, value_of}
-use Rattle.lwc_base.specs.Clones.{AreApart}
+use Rattle.lwc_base.specs.Cells.{put_slot, put_uid, slot_at, value_at, value_of}
 use Rattle.lwc_base.specs.Facts.{AddsContext, ChangesContext}
 use Rattle.lwc_base.specs.Fresh.{IsFresh}
-use Rattle.lwc_base.specs.Keys.{ValueOf}
-use Rattle.lwc_base.specs.Life.{IsReaped, Link, Reaches, Root, is_among, is_reached}
+use Rattle.lwc_base.specs.Life.{IsReaped, Link, Reaches, Root, is_among}
 use Rattle.lwc_base.specs.Mapping.{map_pages, unmap_pages}
 use Rattle.lwc_base.specs.Names.{name_cmp}
 use Rattle.lwc_base.specs.Saved.{save}
@@ -24,14 +21,13 @@ use Rattle.lwc_base.specs.Sharing.{clone_context, cloned_context, share}
 use Rattle.lwc_base.specs.Store.{Absent, Done, Full, Piece, after_store, store}
 use Rattle.lwc_base.specs.World.{World, Context, Group, context, is_live, next_context}
 use Rattle.lazy_world.specs.Anchors.{AreReached, with_anchor}
-use Rattle.lazy_world.specs.Facts.{Facts}
-use Rattle.lazy_world.proofs.LooseLemmas.{itself, links-by, links-slot}
-use Rattle.lazy_world.proofs.SmallLemmas.{equal_of, or_first, or_second, or_either}
-
--- what a chain of links leads to is reached, and the other way round
-pub record ChainLaw : Type 0 where
-  pub reached : (w : World) (roots : List Name) (c : Name) → Reaches w roots c → is_live w c ≡ true → is_reached w roots c ≡ true
-  pub chain : (w : World) (roots : List Name) (c : Name) → is_reached w roots c ≡ true → Reaches w roots c
+use Rattle.lazy_world.proofs.LooseLemmas.{links-by, links-slot}
+use Rattle.lwc_base.proofs.Facts.{changes, stays_fresh}
+use Rattle.lwc_base.proofs.Life.{or_cases, or_left, or_right, reached_by_way, way_of_reached}
+use Rattle.lwc_base.proofs.Common.{put-other_key}
+use Rattle.lwc_base.proofs.Orders.{cases_name, name-itself}
+use Rattle.lwc_base.proofs.Slots.{put_slot-reads}
+use Rattle.lwc_base.proofs.StoredBytes.{store-other_keys}
 
 -- no context is gone, and no slot has lost a descriptor of a context that is not given
 pub record KeepsLinks (w v : World) (cut : Option Name) : Type 0 where
@@ -42,196 +38,142 @@ among-more : (names : List Name) (o : Option Name) (c : Name) → is_among names
 among-more names None c among = among
 among-more [] (Some d) c among = cc
 among-more (n ∷ ns) (Some d) c among =
-    elim (or_either (eq_by_cmp name_cmp c n) (is_among ns c) among) [
-      | inl here ↦ or_first _ _ here
-      | inr later ↦ or_second _ _ (among-more ns (Some d) c later)
+    elim (or_cases (eq_by_cmp name_cmp c n) (is_among ns c) among) [
+      | inl here ↦ or_left _ _ here
+      | inr later ↦ or_right _ _ (among-more ns (Some d) c later)
     ]
 
-module _ (facts : Facts) where
-  same-name : (g h : Name) → (g ≡ h) ⊎ (g ≢ h)
-  same-name g h = at (eq_by_cmp name_cmp g h) refl
+among-last : (names : List Name) (o : Option Name) (c : Name) → o ≡ Some c → is_among (with_anchor names o) c ≡ true
+among-last names None c is = cc
+among-last [] (Some d) c is = let same : d ≡ c = cc in or_left _ _ (ap (eq_by_cmp name_cmp c) same ∙ name-itself c)
+among-last (n ∷ ns) (Some d) c is = or_right _ _ (among-last ns (Some d) c is)
+
+module _ (w v : World) (names : List Name) (cut : Option Name) (keeps : KeepsLinks w v cut) where
+  still-reached : (c : Name) → Reaches w names c → Reaches v (with_anchor names cut) c
+  still-reached _ (Root c among) = Root c (among-more names cut c among)
+  still-reached _ (Link d c before live link) =
+      let slot = links-slot w d c link in
+      elim (keeps.slots d c slot.0 live slot.2) [
+        | inl there ↦ Link d c (still-reached d before) (keeps.live d live) (links-by v d c slot.0 slot.1 there)
+        | inr is ↦ Root c (among-last names cut c is)
+      ]
+
+  -- so all contexts are still reached from the anchors and what was cut, where each new one is what is given
+  pub reached-still : ((c : Name) → is_live v c ≡ true → (is_live w c ≡ true) ⊎ (cut ≡ Some c)) → AreReached w names → AreReached v (with_anchor names cut)
+  reached-still new reached c live =
+      reached_by_way v (with_anchor names cut) c
+      (elim (new c live) [ inl was ↦ still-reached c (way_of_reached w names c (reached c was)) | inr is ↦ Root c (among-last names cut c is) ])
+      live
+
+-- more anchors reach no less
+pub reached-more : (w : World) (names : List Name) (o : Option Name) → AreReached w names → AreReached w (with_anchor names o)
+reached-more w names o reached =
+    reached-still w w names o (record { live = λ c live. live; slots = λ c d n live is. inl is }) (λ c live. inl live) reached
+
+module _ (w : World) (names : List Name) (reached : AreReached w names) where
+  -- where slots are as they were
+  same-slots : (v : World) → ((c : Name) → is_live v c ≡ is_live w c) → ((c : Name) (n : ℕ) → slot_at v c n ≡ slot_at w c n) → AreReached v names
+  same-slots v live slots =
+      reached-still w v names None
+      (record { live = λ c was. live c ∙ was; slots = λ c d n was is. inl (ap context_of (slots c n) ∙ is) })
+      (λ c lives. inl (sym (live c) ∙ lives)) reached
+
+  -- a context changes, but none of its slots does
+  changed-slots : (c : Name) (f : Context → Context) (v : World) → ChangesContext w c f v → ((x : Context) (n : ℕ) → (f x).cell (Slot n) ≡ x.cell (Slot n)) →
+      (d : Name) (n : ℕ) → slot_at v d n ≡ slot_at w d n
+  unfolding value_at
+  changed-slots c f v leaves same d n = value-same ((context v d).cell (Slot n)) ∙ ap (value_of w (Slot n)) cell-same
     where
-      at : (b : Bool) → eq_by_cmp name_cmp g h ≡ b → (g ≡ h) ⊎ (g ≢ h)
-      at true tied = inl (facts.orders.one_name g h (equal_of (name_cmp g h) tied))
-      at false differs = inr (λ is. false≢true (sym differs ∙ ap (eq_by_cmp name_cmp g) (sym is) ∙ itself facts.orders g))
+      value-same : (cell : Cell Descriptor) → value_of v (Slot n) cell ≡ value_of w (Slot n) cell
+      value-same (Own value) = refl
+      value-same (Common g) = ap (λ (x : Group). x.value (Slot n)) (leaves.groups g)
 
-  among-last : (names : List Name) (o : Option Name) (c : Name) → o ≡ Some c → is_among (with_anchor names o) c ≡ true
-  among-last names None c is = cc
-  among-last [] (Some d) c is = let same : d ≡ c = cc in or_first _ _ (ap (eq_by_cmp name_cmp c) same ∙ itself facts.orders c)
-  among-last (n ∷ ns) (Some d) c is = or_second _ _ (among-last ns (Some d) c is)
+      by-live : (b : Bool) → is_live w c ≡ b → (context v c).cell (Slot n) ≡ (context w c).cell (Slot n)
+      by-live true live = ap (λ (x : Context). x.cell (Slot n)) (leaves.changed live) ∙ same (context w c) n
+      by-live false dead = ap (λ (u : World). (context u c).cell (Slot n)) (leaves.same dead)
 
-  module _ (w v : World) (names : List Name) (cut : Option Name) (keeps : KeepsLinks w v cut) where
-    still-reached : (c : Name) → Reaches w names c → Reaches v (with_anchor names cut) c
-    still-reached _ (Root c among) = Root c (among-more names cut c among)
-    still-reached _ (Link d c before live link) =
-        let slot = links-slot facts.orders w d c link in
-        elim (keeps.slots d c slot.0 live slot.2) [
-          | inl there ↦ Link d c (still-reached d before) (keeps.live d live) (links-by facts.orders v d c slot.0 slot.1 there)
-          | inr is ↦ Root c (among-last names cut c is)
-        ]
+      cell-same : (context v d).cell (Slot n) ≡ (context w d).cell (Slot n)
+      cell-same =
+          cases_name d c
+          (λ is. ap (λ e. (context v e).cell (Slot n)) is ∙ by-live (is_live w c) refl ∙ ap (λ e. (context w e).cell (Slot n)) (sym is))
+          (λ other. ap (λ (x : Context). x.cell (Slot n)) (leaves.others d other))
 
-    -- so all contexts are still reached from the anchors and what was cut, where each new one is what is given
-    pub reached-still : ChainLaw → ((c : Name) → is_live v c ≡ true → (is_live w c ≡ true) ⊎ (cut ≡ Some c)) → AreReached w names → AreReached v (with_anchor names cut)
-    reached-still law new reached c live =
-        law.reached v (with_anchor names cut) c
-        (elim (new c live) [ inl was ↦ still-reached c (law.chain w names c (reached c was)) | inr is ↦ Root c (among-last names cut c is) ])
-        live
+  by-change : (c : Name) (f : Context → Context) (v : World) → ChangesContext w c f v → ((x : Context) (n : ℕ) → (f x).cell (Slot n) ≡ x.cell (Slot n)) → AreReached v names
+  by-change c f v leaves same = same-slots v leaves.names.live (changed-slots c f v leaves same)
 
-  -- more anchors reach no less
-  pub reached-more : ChainLaw → (w : World) (names : List Name) (o : Option Name) → AreReached w names → AreReached w (with_anchor names o)
-  reached-more law w names o reached =
-      reached-still w w names o (record { live = λ c live. live; slots = λ c d n live is. inl is }) law (λ c live. inl live) reached
+  pub reached-map : (c : Name) (from to : ℕ) → AreReached (map_pages w c from to) names
+  reached-map c from to = by-change c _ _ (changes.mapped w c from to) (λ x n. refl)
 
-  module _ (law : ChainLaw) (w : World) (names : List Name) (reached : AreReached w names) where
-    -- where slots are as they were
-    same-slots : (v : World) → ((c : Name) → is_live v c ≡ is_live w c) → ((c : Name) (n : ℕ) → slot_at v c n ≡ slot_at w c n) → AreReached v names
-    same-slots v live slots =
-        reached-still w v names None
-        (record { live = λ c was. live c ∙ was; slots = λ c d n was is. inl (ap context_of (slots c n) ∙ is) })
-        law (λ c lives. inl (sym (live c) ∙ lives)) reached
+  pub reached-unmap : (c : Name) (from to : ℕ) → AreReached (unmap_pages w c from to) names
+  reached-unmap c from to = by-change c _ _ (changes.unmapped w c from to) (λ x n. refl)
 
-    -- a context changes, but none of its slots does
-    changed-slots : (c : Name) (f : Context → Context) (v : World) → ChangesContext w c f v → ((x : Context) (n : ℕ) → (f x).cell (Slot n) ≡ x.cell (Slot n)) →
-        (d : Name) (n : ℕ) → slot_at v d n ≡ slot_at w d n
-    unfolding value_at
-    changed-slots c f v changes same d n = value-same ((context v d).cell (Slot n)) ∙ ap (value_of w (Slot n)) cell-same
-      where
-        value-same : (cell : Cell Descriptor) → value_of v (Slot n) cell ≡ value_of w (Slot n) cell
-        value-same (Own value) = refl
-        value-same (Common g) = ap (λ (x : Group). x.value (Slot n)) (changes.groups g)
+  pub reached-save : (c : Name) (t : ℕ) (regs : Regs) → AreReached (save w c t regs) names
+  reached-save c t regs = by-change c _ _ (changes.saved w c t regs) (λ x n. refl)
 
-        by-live : (b : Bool) → is_live w c ≡ b → (context v c).cell (Slot n) ≡ (context w c).cell (Slot n)
-        by-live true live = ap (λ (x : Context). x.cell (Slot n)) (changes.changed live) ∙ same (context w c) n
-        by-live false dead = ap (λ (u : World). (context u c).cell (Slot n)) (changes.same dead)
+  pub reached-uid : (c : Name) (uid : ℕ) → AreReached (put_uid w c uid) names
+  reached-uid c uid = same-slots (put_uid w c uid) (changes.put w c Cred uid).live (λ d n. put-other_key w c Cred uid d (Slot n) (λ is. cc))
 
-        cell-same : (context v d).cell (Slot n) ≡ (context w d).cell (Slot n)
-        cell-same =
-            elim (same-name d c) [
-              | inl is ↦ ap (λ e. (context v e).cell (Slot n)) is ∙ by-live (is_live w c) refl ∙ ap (λ e. (context w e).cell (Slot n)) (sym is)
-              | inr other ↦ ap (λ (x : Context). x.cell (Slot n)) (changes.others d other)
-            ]
+  pub reached-store : (v : World) (c : Name) (job : ℕ) (piece : Piece) → store w c job piece ≡ Done v → AreReached v names
+  unfolding store
+  reached-store v c job piece done =
+      same-slots v (λ d. ap (λ u. is_live u d) (is-after _ _ done) ∙ (changes.stored w c job piece).live d) (λ d n. store-other_keys w v c job piece done d (Slot n) (λ p is. cc))
+    where
+      is-after : (a b : Bool) → cond a Absent (cond b Full (Done (after_store w c job piece))) ≡ Done v → v ≡ after_store w c job piece
+      is-after true b is = cc
+      is-after false true is = cc
+      is-after false false is = cc
 
-    by-change : (c : Name) (f : Context → Context) (v : World) → ChangesContext w c f v → ((x : Context) (n : ℕ) → (f x).cell (Slot n) ≡ x.cell (Slot n)) → AreReached v names
-    by-change c f v changes same = same-slots v changes.names.live (changed-slots c f v changes same)
+  -- so are they after a store that is refused
+  pub reached-stored : {T E : Type 0} → (v : World) (c : Name) (job : ℕ) (piece : Piece) (r : Result T E) → OnOk r (store w c job piece ≡ Done v) → OnErr r (v ≡ w) → AreReached v names
+  reached-stored v c job piece (Ok x) done refused = reached-store v c job piece done
+  reached-stored v c job piece (Err e) done refused = subst (λ u. AreReached u names) (sym refused) reached
 
-    pub reached-map : (c : Name) (from to : ℕ) → AreReached (map_pages w c from to) names
-    reached-map c from to = by-change c _ _ (facts.changes.mapped w c from to) (λ x n. refl)
+  -- a put in a slot cuts a link to what the old descriptor was of, at most
+  pub reached-put : (c : Name) (n : ℕ) (value : Descriptor) (cut : Option Name) → cut ≡ context_of (slot_at w c n) → AreReached (put_slot w c n value) (with_anchor names cut)
+  reached-put c n value cut is =
+      let live = (changes.put w c (Slot n) value).live in
+      reached-still w (put_slot w c n value) names cut
+      (record {
+        live = λ d was. live d ∙ was;
+        slots = λ d e m was named.
+            elim (put_slot-reads w c n value d m) [
+              | inl same ↦ inl (ap context_of same ∙ named)
+              | inr old ↦ inr (is ∙ ap context_of (sym old.1) ∙ named)
+            ];
+      })
+      (λ d lives. inl (sym (live d) ∙ lives)) reached
 
-    pub reached-unmap : (c : Name) (from to : ℕ) → AreReached (unmap_pages w c from to) names
-    reached-unmap c from to = by-change c _ _ (facts.changes.unmapped w c from to) (λ x n. refl)
+  -- a new context without items is one more anchor
+  pub reached-clone : IsFresh w → (c : Name) (job : ℕ) (entry : Regs) → share w c job [] ≡ w → AreReached (clone_context w c job [] entry) (with_anchor names (Some (next_context w job)))
+  unfolding value_at
+  reached-clone fresh c job entry same =
+      reached-still w v names (Some (next_context w job))
+      (record {
+        live = λ d was. adds.still_live d (not-new d was) ∙ was;
+        slots = λ d e n was named. inl (ap context_of (slot-same d n was) ∙ named);
+      })
+      new reached
+    where
+      v : World
+      v = clone_context w c job [] entry
 
-    pub reached-save : (c : Name) (t : ℕ) (regs : Regs) → AreReached (save w c t regs) names
-    reached-save c t regs = by-change c _ _ (facts.changes.saved w c t regs) (λ x n. refl)
+      adds : AddsContext w job (cloned_context (share w c job []) c [] entry) v
+      adds = subst (λ u. AddsContext u job (cloned_context (share w c job []) c [] entry) v) same (changes.cloned w c job [] entry)
 
-    pub reached-uid : ((w : World) (c : Name) (k : Key) (value : ValueOf k) (d : Name) (q : Key) → q ≢ k → value_at (put_at w c k value) d q ≡ value_at w d q) →
-        (c : Name) (uid : ℕ) → AreReached (put_uid w c uid) names
-    reached-uid others c uid = same-slots (put_uid w c uid) (facts.changes.put w c Cred uid).live (λ d n. others w c Cred uid d (Slot n) (λ is. cc))
+      not-new : (d : Name) → is_live w d ≡ true → d ≢ next_context w job
+      not-new d was is = false≢true (sym (stays_fresh.next_context_is_new w job fresh) ∙ ap (is_live w) (sym is) ∙ was)
 
-    pub reached-store : ((w v : World) (c : Name) (job : ℕ) (piece : Piece) → store w c job piece ≡ Done v → (d : Name) (k : Key) → ((p : ℕ) → k ≢ Page p) → value_at v d k ≡ value_at w d k) →
-        (v : World) (c : Name) (job : ℕ) (piece : Piece) → store w c job piece ≡ Done v → AreReached v names
-    unfolding store
-    reached-store others v c job piece done =
-        same-slots v (λ d. ap (λ u. is_live u d) (is-after _ _ done) ∙ (facts.changes.stored w c job piece).live d) (λ d n. others w v c job piece done d (Slot n) (λ p is. cc))
-      where
-        is-after : (a b : Bool) → cond a Absent (cond b Full (Done (after_store w c job piece))) ≡ Done v → v ≡ after_store w c job piece
-        is-after true b is = cc
-        is-after false true is = cc
-        is-after false false is = cc
-
-    -- so are they after a store that is refused
-    pub reached-stored : {T E : Type 0} → ((w v : World) (c : Name) (job : ℕ) (piece : Piece) → store w c job piece ≡ Done v → (d : Name) (k : Key) → ((p : ℕ) → k ≢ Page p) → value_at v d k ≡ value_at w d k) →
-        (v : World) (c : Name) (job : ℕ) (piece : Piece) (r : Result T E) → OnOk r (store w c job piece ≡ Done v) → OnErr r (v ≡ w) → AreReached v names
-    reached-stored others v c job piece (Ok x) done refused = reached-store others v c job piece done
-    reached-stored others v c job piece (Err e) done refused = subst (λ u. AreReached u names) (sym refused) reached
-
-    -- a put in a slot cuts a link to what the old descriptor was of, at most
-    module _ (others : (w : World) (c : Name) (k : Key) (value : ValueOf k) (d : Name) (q : Key) → q ≢ k → value_at (put_at w c k value) d q ≡ value_at w d q)
-        (unseen : (w : World) (a b : Name) (k : Key) → AreApart w a b k → (value : ValueOf k) → value_at (put_at w a k value) b k ≡ value_at w b k) where
-      put-reads : (c : Name) (n : ℕ) (value : Descriptor) (d : Name) (m : ℕ) → (slot_at (put_slot w c n value) d m ≡ slot_at w d m) ⊎ (slot_at w d m ≡ slot_at w c n)
-      unfolding value_at
-      put-reads c n value d m = by-slot (eq-slot m n)
+      slot-same : (d : Name) (n : ℕ) → is_live w d ≡ true → slot_at v d n ≡ slot_at w d n
+      slot-same d n was = value-same ((context v d).cell (Slot n)) ∙ ap (λ (x : Context). value_of w (Slot n) (x.cell (Slot n))) (adds.others d (not-new d was))
         where
-          eq-slot : (a b : ℕ) → (a ≡ b) ⊎ (a ≢ b)
-          eq-slot a b = grind arith
+          value-same : (cell : Cell Descriptor) → value_of v (Slot n) cell ≡ value_of w (Slot n) cell
+          value-same (Own value) = refl
+          value-same (Common g) = ap (λ (x : Group). x.value (Slot n)) (changes.same_groups w v g adds.groups)
 
-          apart : (a b : Cell Descriptor) → (context w c).cell (Slot n) ≡ a → (context w d).cell (Slot n) ≡ b → c ≢ d → AreApart w c d (Slot n) ⊎ (a ≡ b)
-          apart (Own x) b here there differ = inl (record { differ = differ; no_group = λ g is. absurd (let both = sym here ∙ is in cc) })
-          apart (Common g) (Own y) here there differ = inl (record { differ = differ; no_group = λ h is other. absurd (let both = sym there ∙ other in cc) })
-          apart (Common g) (Common h) here there differ =
-              elim (same-name g h) [
-                | inl same ↦ inr (ap Common same)
-                | inr other ↦
-                    inl
-                    (record {
-                      differ = differ;
-                      no_group = λ k is also.
-                          let first : g ≡ k = let both = sym here ∙ is in cc in
-                          let second : h ≡ k = let both = sym there ∙ also in cc in
-                          other (first ∙ sym second);
-                    })
-              ]
+      new : (d : Name) → is_live v d ≡ true → (is_live w d ≡ true) ⊎ (Some (next_context w job) ≡ Some d)
+      new d lives =
+          cases_name d (next_context w job) (λ same. inr (ap Some (sym same))) (λ other. inl (sym (adds.still_live d other) ∙ lives))
 
-          by-name : (c ≡ d) ⊎ (c ≢ d) → (slot_at (put_slot w c n value) d n ≡ slot_at w d n) ⊎ (slot_at w d n ≡ slot_at w c n)
-          by-name (inl same) = inr (ap (λ e. slot_at w e n) (sym same))
-          by-name (inr differ) =
-              elim (apart ((context w c).cell (Slot n)) ((context w d).cell (Slot n)) refl refl differ) [
-                | inl is ↦ inl (unseen w c d (Slot n) is value)
-                | inr same ↦ inr (ap (value_of w (Slot n)) (sym same))
-              ]
-
-          by-slot : (m ≡ n) ⊎ (m ≢ n) → (slot_at (put_slot w c n value) d m ≡ slot_at w d m) ⊎ (slot_at w d m ≡ slot_at w c n)
-          by-slot (inl same) =
-              subst (λ k. (slot_at (put_slot w c n value) d k ≡ slot_at w d k) ⊎ (slot_at w d k ≡ slot_at w c n)) (sym same) (by-name (same-name c d))
-          by-slot (inr differ) = inl (others w c (Slot n) value d (Slot m) (λ is. differ (let same = is in cc)))
-
-      pub reached-put : (c : Name) (n : ℕ) (value : Descriptor) (cut : Option Name) → cut ≡ context_of (slot_at w c n) → AreReached (put_slot w c n value) (with_anchor names cut)
-      reached-put c n value cut is =
-          let live = (facts.changes.put w c (Slot n) value).live in
-          reached-still w (put_slot w c n value) names cut
-          (record {
-            live = λ d was. live d ∙ was;
-            slots = λ d e m was named.
-                elim (put-reads c n value d m) [
-                  | inl same ↦ inl (ap context_of same ∙ named)
-                  | inr old ↦ inr (is ∙ ap context_of (sym old) ∙ named)
-                ];
-          })
-          law (λ d lives. inl (sym (live d) ∙ lives)) reached
-
-    -- a new context without items is one more anchor
-    pub reached-clone : IsFresh w → (c : Name) (job : ℕ) (entry : Regs) → share w c job [] ≡ w → AreReached (clone_context w c job [] entry) (with_anchor names (Some (next_context w job)))
-    unfolding value_at
-    reached-clone fresh c job entry same =
-        reached-still w v names (Some (next_context w job))
-        (record {
-          live = λ d was. adds.still_live d (not-new d was) ∙ was;
-          slots = λ d e n was named. inl (ap context_of (slot-same d n was) ∙ named);
-        })
-        law new reached
-      where
-        v : World
-        v = clone_context w c job [] entry
-
-        adds : AddsContext w job (cloned_context (share w c job []) c [] entry) v
-        adds = subst (λ u. AddsContext u job (cloned_context (share w c job []) c [] entry) v) same (facts.changes.cloned w c job [] entry)
-
-        not-new : (d : Name) → is_live w d ≡ true → d ≢ next_context w job
-        not-new d was is = false≢true (sym (facts.fresh.next_context_is_new w job fresh) ∙ ap (is_live w) (sym is) ∙ was)
-
-        slot-same : (d : Name) (n : ℕ) → is_live w d ≡ true → slot_at v d n ≡ slot_at w d n
-        slot-same d n was = value-same ((context v d).cell (Slot n)) ∙ ap (λ (x : Context). value_of w (Slot n) (x.cell (Slot n))) (adds.others d (not-new d was))
-          where
-            value-same : (cell : Cell Descriptor) → value_of v (Slot n) cell ≡ value_of w (Slot n) cell
-            value-same (Own value) = refl
-            value-same (Common g) = ap (λ (x : Group). x.value (Slot n)) (facts.changes.same_groups w v g adds.groups)
-
-        new : (d : Name) → is_live v d ≡ true → (is_live w d ≡ true) ⊎ (Some (next_context w job) ≡ Some d)
-        new d lives =
-            elim (same-name d (next_context w job)) [
-              | inl same ↦ inr (ap Some (sym same))
-              | inr other ↦ inl (sym (adds.still_live d other) ∙ lives)
-            ]
-
-  -- what is reaped is reached from the roots
-  pub reached-reaped : ChainLaw → (w : World) (roots : List Name) → IsReaped w roots → AreReached w roots
-  reached-reaped law w roots reaped c live = law.reached w roots c (reaped.contexts c live) live
+-- what is reaped is reached from the roots
+pub reached-reaped : (w : World) (roots : List Name) → IsReaped w roots → AreReached w roots
+reached-reaped w roots reaped c live = reached_by_way w roots c (reaped.contexts c live) live

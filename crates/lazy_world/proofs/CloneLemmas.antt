@@ -14,19 +14,19 @@ use Rattle.lwc_base.specs.declared.name.Name.{Name}
 use Rattle.lwc_base.specs.declared.regs.Regs.{Regs}
 use Rattle.lwc_base.specs.Cells.{value_at, value_of}
 use Rattle.lwc_base.specs.Fresh.{IsFresh}
-use Rattle.lwc_base.specs.Keys.{ValueOf, is_there}
+use Rattle.lwc_base.specs.Keys.{ValueOf}
 use Rattle.lwc_base.specs.Modes.{IsKey, IsSpec, kind_of, limit, mode, mode_or_copy, number_of}
 use Rattle.lwc_base.specs.Ranges.{begins_range, ranges, ranges_of}
 use Rattle.lwc_base.specs.Sharing.{clone_context, cloned_cell, cloned_context, is_moved, needs_group, ranges_after_clone, share, with_shared}
 use Rattle.lwc_base.specs.World.{World, Context, add_context, change_context, change_counters, changed_context, context, is_live, new_context, next_context, next_group}
 use Rattle.lazy_world.specs.Cells.{is_nothing}
-use Rattle.lazy_world.specs.Facts.{Facts}
-use Rattle.lazy_world.specs.Followed.{followed, with_planned}
-use Rattle.lazy_world.specs.Plans.{taken_cell}
-use Rattle.lazy_world.specs.declared.plan.Plan.TheVariants.{Clone}
+use Rattle.lazy_world.specs.Followed.{followed, with_transferred}
+use Rattle.lazy_world.specs.Transfers.{taken_cell}
+use Rattle.lazy_world.specs.declared.transfer.Transfer.TheVariants.{Clone}
 use Rattle.lazy_world.proofs.NeedLemmas.{needs-key}
 use Rattle.lazy_world.proofs.PastLemmas.{mode-past}
 use Rattle.lazy_world.proofs.ShareLemmas.{get-same, insert-twice}
+use Rattle.lwc_base.proofs.Facts.{changes, stays_fresh}
 
 -- a new context has nothing but a credential
 pub new-nothing : (uid : ℕ) (entry : Regs) (k : Key) → is_nothing k ((new_context uid entry).cell k) ≡ true
@@ -39,9 +39,7 @@ common_stays Copy k g = refl
 common_stays Share k g = refl
 common_stays Unmap k g = refl
 
-module _ (facts : Facts) (w : World) (c : Name) (job : ℕ) (items : List Item) (spec : IsSpec w.size.pages items) (live : is_live w c ≡ true)
-    (law : (w : World) (c : Name) (items : List Item) (k : Key) (value : ValueOf k) → IsKey w.size.pages k → mode_or_copy items k ≡ Share →
-    (context w c).cell k ≡ cells.Own value → is_there k value ≡ true → needs_group w c items ≡ true) where
+module _ (w : World) (c : Name) (job : ℕ) (items : List Item) (spec : IsSpec w.size.pages items) (live : is_live w c ≡ true) where
   abbrev s : World
   s = share w c job items
 
@@ -63,7 +61,7 @@ module _ (facts : Facts) (w : World) (c : Name) (job : ℕ) (items : List Item) 
       (cases_lt (number_of k) (limit w.size.pages (kind_of k)))
     where
       at : (b : Bool) → is_moved (m k) k ((context w c).cell k) ≡ b → IsKey w.size.pages k → is_moved (m k) k ((context w c).cell k) ≡ false
-      at true is inside = absurd (let needs = sym (needs-key w c items (context w c).cell refl law k inside is) ∙ idle in cc)
+      at true is inside = absurd (let needs = sym (needs-key w c items (context w c).cell refl k inside is) ∙ idle in cc)
       at false is inside = is
 
   -- once values have moved, nothing is left that moves
@@ -73,15 +71,15 @@ module _ (facts : Facts) (w : World) (c : Name) (job : ℕ) (items : List Item) 
     where
       at : (b : Bool) → needs_group w c items ≡ b → is_moved (m k) k ((context s c).cell k) ≡ false
       at true needs =
-          ap (λ (x : Context). is_moved (m k) k (x.cell k)) ((facts.changes.shared w c job items).named needs live)
+          ap (λ (x : Context). is_moved (m k) k (x.cell k)) ((changes.shared w c job items).named needs live)
           ∙ shared_stays k ((context w c).cell k)
-      at false idle = ap (λ v. is_moved (m k) k ((context v c).cell k)) ((facts.changes.shared w c job items).none idle) ∙ none-moves idle k
+      at false idle = ap (λ v. is_moved (m k) k ((context v c).cell k)) ((changes.shared w c job items).none idle) ∙ none-moves idle k
 
   -- so that what is taken is what a clone gets
   module _ (v : World) (g : Name) (groups : v.groups ≡ s.groups) where
     same_value : (k : Key) (cell : Cell (ValueOf k)) → value_of v k cell ≡ value_of s k cell
     same_value k (cells.Own value) = refl
-    same_value k (cells.Common h) = ap (λ x. x.value k) (facts.changes.same_groups s v h groups)
+    same_value k (cells.Common h) = ap (λ x. x.value k) (changes.same_groups s v h groups)
 
     pub taken-cloned : (k : Key) (n : Mode) → is_moved n k ((context s c).cell k) ≡ false → taken_cell v g n k ((context s c).cell k) ≡ cloned_cell s c k n
     unfolding value_at
@@ -97,16 +95,16 @@ module _ (facts : Facts) (w : World) (c : Name) (job : ℕ) (items : List Item) 
     added = add_context s job (new_context uid entry)
 
     fresh_shared : IsFresh s
-    fresh_shared = facts.fresh.shared w c job items live fresh
+    fresh_shared = stays_fresh.shared w c job items live fresh
 
     pub other_name : c ≡ made → ⊥
     other_name same =
-        let new = facts.fresh.next_context_is_new s job fresh_shared in
-        let old = (facts.changes.shared w c job items).live c ∙ live in
+        let new = stays_fresh.next_context_is_new s job fresh_shared in
+        let old = (changes.shared w c job items).live c ∙ live in
         let both = sym old ∙ ap (is_live s) same ∙ new in cc
 
     same_context : context added c ≡ context s c
-    same_context = (facts.changes.context_added s job (new_context uid entry)).others c other_name
+    same_context = (changes.context_added s job (new_context uid entry)).others c other_name
 
     -- nor once the new context is there
     pub still-settled : (v : World) → v ≡ added → (k : Key) → is_moved (m k) k ((context v c).cell k) ≡ false
@@ -116,21 +114,21 @@ module _ (facts : Facts) (w : World) (c : Name) (job : ℕ) (items : List Item) 
     unfolding mode_or_copy
     cloned_cells g k =
         ap (λ (x : Context). taken_cell added g (m k) k (x.cell k)) same_context
-        ∙ taken-cloned added g (facts.changes.context_added s job (new_context uid entry)).groups k (m k) (settled k)
+        ∙ taken-cloned added g (changes.context_added s job (new_context uid entry)).groups k (m k) (settled k)
 
-    as_cloned : (g : Name) → with_planned added (Clone g) items (context added c).cell (new_context uid entry) ≡ cloned_context s c items entry
+    as_cloned : (g : Name) → with_transferred added (Clone g) items (context added c).cell (new_context uid entry) ≡ cloned_context s c items entry
     unfolding cloned_context
     as_cloned g = λ e. record { cell = λ k. cloned_cells g k e; entry = entry; saved = λ t. None }
 
     changed_again : (f : Context → Context) → change_context added made f ≡ add_context s job (f (new_context uid entry))
     unfolding change_context add_context change_counters
     changed_again f =
-        ap (changed_context added made f) (get-same facts.orders s.contexts made (new_context uid entry))
-        ∙ ap (λ x. record added { contexts = x }) (insert-twice facts.orders s.contexts made (new_context uid entry) (f (new_context uid entry)))
+        ap (changed_context added made f) (get-same s.contexts made (new_context uid entry))
+        ∙ ap (λ x. record added { contexts = x }) (insert-twice s.contexts made (new_context uid entry) (f (new_context uid entry)))
 
     pub cloned-world : (g : Name) → followed added (Clone g) items c made ≡ clone_context w c job items entry
     unfolding clone_context
-    cloned-world g = changed_again (with_planned added (Clone g) items (context added c).cell) ∙ ap (add_context s job) (as_cloned g)
+    cloned-world g = changed_again (with_transferred added (Clone g) items (context added c).cell) ∙ ap (add_context s job) (as_cloned g)
 
     pub cloned-is : (g : Name) (v : World) (n : Name) → v ≡ added → n ≡ made → followed v (Clone g) items c n ≡ clone_context w c job items entry
     cloned-is g v n is named = (λ e. followed (is e) (Clone g) items c (named e)) ∙ cloned-world g
@@ -143,7 +141,7 @@ module _ (facts : Facts) (w : World) (c : Name) (job : ℕ) (items : List Item) 
     pub clone-few : (ranges_after_clone w c job items).1 ≤ MOST_RANGES → (n : Name) → n ≡ made → ranges_of (clone_context w c job items entry) n ≤ MOST_RANGES
     unfolding ranges_after_clone ranges_of
     clone-few below n named =
-        let cloned = facts.changes.cloned w c job items entry in
+        let cloned = changes.cloned w c job items entry in
         subst (λ k. k ≤ MOST_RANGES)
         (sym ((λ e. ranges (cloned.size e).pages (context (clone_context w c job items entry) (named e))) ∙ ap (ranges s.size.pages) cloned.added ∙ same_ranges s.size.pages (context s c).entry))
         below

@@ -1,4 +1,4 @@
--- Rows whose cells are all a place's own, and that a plan gives as they are.
+-- Rows whose cells are all a place's own, and that a transfer gives as they are.
 use Rattle.std.proofs.Common.{◌≡◌, ℕ, ◌<◌, ◌≤◌, ⊎_elim, refl, sym, ap, ◌∙◌, true, false, eqb, arith, length, not, [], Bool, List, Option}
 use Rattle.std.specs.Prelude.{unwrap_or}
 use Rattle.std.proofs.lemmas.Bool.{cases_lt}
@@ -19,14 +19,15 @@ use Rattle.lwc_base.specs.declared.page.PageValue.{PageValue}
 use Rattle.lwc_base.specs.Capabilities.{has_bit}
 use Rattle.lwc_base.specs.Cells.{value_of}
 use Rattle.lwc_base.specs.Keys.{ValueOf}
-use Rattle.lwc_base.specs.Modes.{IsKey, mode, mode_or_copy}
+use Rattle.lwc_base.specs.Modes.{mode, mode_or_copy}
 use Rattle.lwc_base.specs.Summaries.{is_empty}
-use Rattle.lwc_base.specs.Sharing.{has_own, needs_group}
-use Rattle.lwc_base.specs.World.{World, context}
+use Rattle.lwc_base.specs.Sharing.{needs_group}
+use Rattle.lwc_base.specs.World.{World}
 use Rattle.lazy_world.specs.Cells.{HasOwnPages, Row, is_nothing, is_own}
-use Rattle.lazy_world.specs.Plans.{planned_cell, planned_row, taken_cell}
+use Rattle.lazy_world.specs.Transfers.{transferred_cell, transferred_row, taken_cell}
 use Rattle.lazy_world.specs.Sound.{IsAllOwn, IsWithin}
-use Rattle.lazy_world.specs.declared.plan.Plan.TheVariants.{Mark, Clone}
+use Rattle.lazy_world.specs.declared.transfer.Transfer.TheVariants.{Mark, Clone}
+use Rattle.lwc_base.proofs.Needs.{not_needed}
 
 pub no-bit : (word n : ℕ) → eqb word 0 ≡ true → has_bit word n ≡ false
 no-bit word n is = let none : word ≡ 0 = grind arith in ap (λ w. has_bit w n) none ∙ ap (λ b. eqb b 1) (bit_at-zero n)
@@ -55,17 +56,17 @@ own-same w k (cells.Own value) own = refl
 own-same w k (cells.Common g) own = cc
 
 -- without items a context is marked as it is
-pub marked-same : (w : World) (g : Name) (row old : Row) → planned_row w (Mark g) [] row old ≡ row
+pub marked-same : (w : World) (g : Name) (row old : Row) → transferred_row w (Mark g) [] row old ≡ row
 unfolding mode
 marked-same w g row old = λ e k. row k
 
 -- and a copy of what is all own is the same
-pub cloned-same : (w : World) (g : Name) (row old : Row) → IsAllOwn row → planned_row w (Clone g) [] row old ≡ row
+pub cloned-same : (w : World) (g : Name) (row old : Row) → IsAllOwn row → transferred_row w (Clone g) [] row old ≡ row
 unfolding mode
 cloned-same w g row old own = λ e k. own-same w k (row k) (own k) e
 
 -- a copy of a page that is the row's own is the same
-pub page-same : (w : World) (g : Name) (m : Option Mode) (q : ℕ) (cell old : Cell (Option PageValue)) → unwrap_or m Copy ≡ Copy → is_own cell ≡ true → planned_cell w (Clone g) m (Page q) cell old ≡ cell
+pub page-same : (w : World) (g : Name) (m : Option Mode) (q : ℕ) (cell old : Cell (Option PageValue)) → unwrap_or m Copy ≡ Copy → is_own cell ≡ true → transferred_cell w (Clone g) m (Page q) cell old ≡ cell
 page-same w g m q cell old copies own = ap (λ n. taken_cell w g n (Page q) cell) copies ∙ own-same w (Page q) cell own
 
 -- an empty slice of what is seen as a list
@@ -77,9 +78,8 @@ unfolding mode_or_copy mode
 copied k is = cc
 
 -- without items no value moves
-pub none-needed : (w : World) (c : Name) → ((w : World) (c : Name) (items : List Item) → ((k : Key) → IsKey w.size.pages k → mode_or_copy items k ≡ Share →
-    has_own k ((context w c).cell k) ≡ false) → needs_group w c items ≡ false) → needs_group w c [] ≡ false
-none-needed w c law = law w c [] (λ k inside shares. absurd (copied k shares))
+pub none-needed : (w : World) (c : Name) → needs_group w c [] ≡ false
+none-needed w c = not_needed w c [] (λ k inside shares. absurd (copied k shares))
 
 -- a filled slot of a place's own is not empty
 pub own-filled : (w : World) (n : ℕ) (cell : Cell Descriptor) → slots.is_common cell ≡ false → slots.is_filled cell ≡ true → false ≡ is_empty (value_of w (Slot n) cell)

@@ -1,10 +1,24 @@
--- How many of a range are counted.
-use Rattle.std.proofs.Common.{◌≤◌, ℕ, Bool, subst}
+-- How many of a range are counted, and what jobs have counted.
+use Rattle.std.proofs.Common.{◌≡◌, ◌<◌, ◌≤◌, ℕ, Bool, arith, get_or, length, subst}
 use Rattle.std.specs.Prelude.{count_by}
 use Rattle.std.specs.List.{range_with_len}
+use Rattle.std.proofs.lemmas.List.{get_or_read}
 use Rattle.std.proofs.lemmas.List.FromFn.{length-range_with_len}
 use Rattle.std.proofs.lemmas.List.Sums.{count_by-le-length}
+use Rattle.lazy_world.specs.declared.counts.Counts.{Counts}
+use Rattle.lazy_world.specs.declared.world.PlacedWorld.{PlacedWorld}
+use Rattle.lazy_world.specs.States.{nothing_counted, world_of}
+use Rattle.lazy_world.specs.Worlds.{parts, seen}
 
--- no more of a range are counted than it has
-pub count_of_range : (p : ℕ → Bool) (first count : ℕ) → count_by p (range_with_len first count) ≤ count
-count_of_range p first count = subst (λ n. count_by p (range_with_len first count) ≤ n) (length-range_with_len first count) (count_by-le-length p (range_with_len first count))
+-- a job that is known has its place
+module _ (w : PlacedWorld) (job : ℕ) (known : job < (seen w).size.jobs) where
+  pub known-job : job < w.size.jobs
+  unfolding seen parts world_of
+  known-job = known
+
+  pub counts-job : job < length w.counts.items
+  counts-job = omega (arith, known-job, w.sound.sizes.counts)
+
+  -- what it has counted, as it is read there
+  pub read-counts : (n : Counts) → n ≡ get_or w.counts.items job n → n ≡ get_or w.counts.items job nothing_counted
+  read-counts n read = get_or_read w.counts.items job n counts-job read nothing_counted

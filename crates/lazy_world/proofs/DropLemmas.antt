@@ -6,7 +6,6 @@ use Rattle.std.specs.Ordering.{eq_by_cmp}
 use Rattle.std.specs.FinMap as fm
 use Rattle.std.proofs.lemmas.Bool.{false≢true}
 use Rattle.lwc_base.specs.declared.name.Name.{Name}
-use Rattle.lwc_base.specs.Facts.{OrderFacts}
 use Rattle.lwc_base.specs.Fresh.{IsFresh, named_groups}
 use Rattle.lwc_base.specs.Holders.{InContext}
 use Rattle.lwc_base.specs.Names.{name_cmp}
@@ -14,7 +13,6 @@ use Rattle.lwc_base.specs.Registers.{fresh_registers}
 use Rattle.lwc_base.specs.World.{World, Context, Group, context, new_context}
 use Rattle.ctx_table.specs.NameTables.{ArePlaced, NameTable}
 use Rattle.lazy_world.specs.Cells.{no_row, put_row}
-use Rattle.lazy_world.specs.Facts.{Facts}
 use Rattle.lazy_world.specs.Mapped.{mapped}
 use Rattle.lazy_world.specs.Sound.{HasOldTags, IsAllOwn, IsEmpty, IsSound, IsWithin}
 use Rattle.lazy_world.specs.States.{Parts, context_at, context_of, group_at, group_of, registers_at, world_of}
@@ -22,8 +20,9 @@ use Rattle.lazy_world.proofs.AddLemmas.{no_tag, no_tags}
 use Rattle.lazy_world.proofs.MappedLemmas.{mapped-remove, mapped-same}
 use Rattle.lazy_world.proofs.OpenLemmas.{nothing_there}
 use Rattle.lazy_world.proofs.PlaceLemmas.{pass}
-use Rattle.lazy_world.proofs.SmallLemmas.{same_some}
 use Rattle.lazy_world.proofs.SoundLemmas.{each_row, homes-row}
+use Rattle.lwc_base.proofs.Facts.{orders}
+use Rattle.lwc_base.proofs.Small.{same_some}
 
 -- a world with no context and no group that was not there has only old names
 pub fresh-fewer : (w : World) → IsFresh w → (contexts : fm.FinMap name_cmp Context) (groups : fm.FinMap name_cmp Group) →
@@ -46,27 +45,26 @@ still : {A : Type 0} (b : Bool) (o : Option A) → is_some (cond b None o) ≡ t
 still true o there = absurd (false≢true there)
 still false o there = refl
 
-module _ (orders : OrderFacts) where
-  -- what is left once a name is removed was there
-  removed : {X : Type 0} (m : fm.FinMap name_cmp X) (c d : Name) → is_some (fm.get (fm.remove m c) d) ≡ true → fm.get (fm.remove m c) d ≡ fm.get m d
-  removed m c d there = let at = fm.get-remove orders.names m c d in at ∙ still (eq_by_cmp name_cmp d c) (fm.get m d) (sym (ap is_some at) ∙ there)
+-- what is left once a name is removed was there
+removed : {X : Type 0} (m : fm.FinMap name_cmp X) (c d : Name) → is_some (fm.get (fm.remove m c) d) ≡ true → fm.get (fm.remove m c) d ≡ fm.get m d
+removed m c d there = let at = fm.get-remove orders.names m c d in at ∙ still (eq_by_cmp name_cmp d c) (fm.get m d) (sym (ap is_some at) ∙ there)
 
-  was_there : {X : Type 0} (m : fm.FinMap name_cmp X) (c d : Name) (x : X) → fm.get (fm.remove m c) d ≡ Some x → fm.get m d ≡ Some x
-  was_there m c d x is = sym (removed m c d (ap is_some is)) ∙ is
+was_there : {X : Type 0} (m : fm.FinMap name_cmp X) (c d : Name) (x : X) → fm.get (fm.remove m c) d ≡ Some x → fm.get m d ≡ Some x
+was_there m c d x is = sym (removed m c d (ap is_some is)) ∙ is
 
-  gone : {X : Type 0} (m : fm.FinMap name_cmp X) (c d : Name) (x : X) → fm.get (fm.remove m c) d ≡ Some x → d ≡ c → ⊥
-  gone m c d x is same =
-      let none : fm.get (fm.remove m c) d ≡ None =
-      fm.get-remove orders.names m c d ∙ ap (λ b. cond b None (fm.get m d)) (ap (λ n. eq_by_cmp name_cmp n c) same ∙ (eq_by_cmp_equiv orders.names).refl c) in
-      let both = sym none ∙ is in cc
+gone : {X : Type 0} (m : fm.FinMap name_cmp X) (c d : Name) (x : X) → fm.get (fm.remove m c) d ≡ Some x → d ≡ c → ⊥
+gone m c d x is same =
+    let none : fm.get (fm.remove m c) d ≡ None =
+    fm.get-remove orders.names m c d ∙ ap (λ b. cond b None (fm.get m d)) (ap (λ n. eq_by_cmp name_cmp n c) same ∙ (eq_by_cmp_equiv orders.names).refl c) in
+    let both = sym none ∙ is in cc
 
-  -- a name that is left has another place
-  apart : (table : NameTable) → ArePlaced table → (c d : Name) (p q : ℕ) → fm.get table.map c ≡ Some p → fm.get (fm.remove table.map c) d ≡ Some q → q ≡ p → ⊥
-  apart table placed c d p q at_p at_q same =
-      gone table.map c d q at_q
-      (same_some d c (sym ((placed.at d q).0 (was_there table.map c d q at_q)) ∙ ap (λ r. get_or table.places r None) same ∙ (placed.at c p).0 at_p))
+-- a name that is left has another place
+apart : (table : NameTable) → ArePlaced table → (c d : Name) (p q : ℕ) → fm.get table.map c ≡ Some p → fm.get (fm.remove table.map c) d ≡ Some q → q ≡ p → ⊥
+apart table placed c d p q at_p at_q same =
+    gone table.map c d q at_q
+    (same_some d c (sym ((placed.at d q).0 (was_there table.map c d q at_q)) ∙ ap (λ r. get_or table.places r None) same ∙ (placed.at c p).0 at_p))
 
-module _ (s : Parts) (sound : IsSound s) (facts : Facts) (placed : ArePlaced s.contexts) where
+module _ (s : Parts) (sound : IsSound s) (placed : ArePlaced s.contexts) where
   -- a context goes
   module _ (c : Name) (i : ℕ) (found : fm.get s.contexts.map c ≡ Some i)
       (table : NameTable) (map : table.map ≡ fm.remove s.contexts.map c) (places : table.places ≡ set s.contexts.places i None) where
@@ -84,11 +82,11 @@ module _ (s : Parts) (sound : IsSound s) (facts : Facts) (placed : ArePlaced s.c
     dropped-context =
         let contexts : mapped (context_at later) table.map ≡ fm.remove (mapped (context_at s) s.contexts.map) c =
         ap (mapped (context_at later)) map
-        ∙ mapped-same facts.orders (context_at s) (fm.remove s.contexts.map c) (context_at later)
-        (λ d q at_q. ap (λ r. context_of r (registers_at s.registers q)) (pass i q no_row (s.rows q) (apart facts.orders s.contexts placed c d i q found at_q)))
-        ∙ mapped-remove facts.orders (context_at s) s.contexts.map c in
+        ∙ mapped-same (context_at s) (fm.remove s.contexts.map c) (context_at later)
+        (λ d q at_q. ap (λ r. context_of r (registers_at s.registers q)) (pass i q no_row (s.rows q) (apart s.contexts placed c d i q found at_q)))
+        ∙ mapped-remove (context_at s) s.contexts.map c in
         let groups : mapped (group_at later) s.groups.map ≡ mapped (group_at s) s.groups.map =
-        mapped-same facts.orders (group_at s) s.groups.map (group_at later) (λ d j at_j. ap group_of (pass i (s.size.contexts + j) no_row (s.rows (s.size.contexts + j)) (behind j))) in
+        mapped-same (group_at s) s.groups.map (group_at later) (λ d j at_j. ap group_of (pass i (s.size.contexts + j) no_row (s.rows (s.size.contexts + j)) (behind j))) in
         λ e. record (world_of s) { contexts = contexts e; groups = groups e }
 
     pub sound-context : IsSound later
@@ -108,7 +106,7 @@ module _ (s : Parts) (sound : IsSound s) (facts : Facts) (placed : ArePlaced s.c
       free_groups = λ j none. each_row s.rows i no_row IsEmpty (s.size.contexts + j) (λ same. absurd (behind j same)) (λ other. sound.free_groups j none);
       tags = λ j. each_row s.rows i no_row (HasOldTags (world_of s).next) j (λ same. no_tags (world_of s).next no_row nothing_there) (λ other. sound.tags j);
       fresh = subst IsFresh (sym dropped-context)
-          (fresh-fewer (world_of s) sound.fresh (fm.remove (world_of s).contexts c) (world_of s).groups (λ d there. removed facts.orders (world_of s).contexts c d there) (λ g there. refl));
+          (fresh-fewer (world_of s) sound.fresh (fm.remove (world_of s).contexts c) (world_of s).groups (λ d there. removed (world_of s).contexts c d there) (λ g there. refl));
       homes = homes-row s.rows i no_row sound.homes (λ q tag bytes is. absurd (no_tag no_row nothing_there q tag bytes is));
     }
 
@@ -125,15 +123,15 @@ module _ (s : Parts) (sound : IsSound s) (facts : Facts) (placed : ArePlaced s.c
     unfolding world_of
     dropped-group =
         let contexts : mapped (context_at later_group) s.contexts.map ≡ mapped (context_at s) s.contexts.map =
-        mapped-same facts.orders (context_at s) s.contexts.map (context_at later_group)
+        mapped-same (context_at s) s.contexts.map (context_at later_group)
         (λ d q at_q. ap (λ r. context_of r (registers_at s.registers q)) (pass (s.size.contexts + j) q no_row (s.rows q) (before d q at_q))) in
         let groups : mapped (group_at later_group) table.map ≡ fm.remove (mapped (group_at s) s.groups.map) g =
         ap (mapped (group_at later_group)) map
-        ∙ mapped-same facts.orders (group_at s) (fm.remove s.groups.map g) (group_at later_group)
+        ∙ mapped-same (group_at s) (fm.remove s.groups.map g) (group_at later_group)
         (λ d q at_q. ap group_of
         (pass (s.size.contexts + j) (s.size.contexts + q) no_row (s.rows (s.size.contexts + q))
-        (λ (same : s.size.contexts + q ≡ s.size.contexts + j). apart facts.orders s.groups placed_groups g d j q found at_q (omega (arith, same)))))
-        ∙ mapped-remove facts.orders (group_at s) s.groups.map g in
+        (λ (same : s.size.contexts + q ≡ s.size.contexts + j). apart s.groups placed_groups g d j q found at_q (omega (arith, same)))))
+        ∙ mapped-remove (group_at s) s.groups.map g in
         λ e. record (world_of s) { contexts = contexts e; groups = groups e }
 
     pub sound-group : IsSound later_group
@@ -154,6 +152,6 @@ module _ (s : Parts) (sound : IsSound s) (facts : Facts) (placed : ArePlaced s.c
           (sym (get_or-set_other s.groups.places j q None None (λ (same : q ≡ j). other (ap (λ r. s.size.contexts + r) same))) ∙ ap (λ ps. get_or ps q None) (sym places) ∙ none));
       tags = λ q. each_row s.rows (s.size.contexts + j) no_row (HasOldTags (world_of s).next) q (λ same. no_tags (world_of s).next no_row nothing_there) (λ other. sound.tags q);
       fresh = subst IsFresh (sym dropped-group)
-          (fresh-fewer (world_of s) sound.fresh (world_of s).contexts (fm.remove (world_of s).groups g) (λ c there. refl) (λ d there. removed facts.orders (world_of s).groups g d there));
+          (fresh-fewer (world_of s) sound.fresh (world_of s).contexts (fm.remove (world_of s).groups g) (λ c there. refl) (λ d there. removed (world_of s).groups g d there));
       homes = homes-row s.rows (s.size.contexts + j) no_row sound.homes (λ q tag bytes is. absurd (no_tag no_row nothing_there q tag bytes is));
     }

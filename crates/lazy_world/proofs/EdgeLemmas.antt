@@ -1,12 +1,12 @@
 -- Pages up to which items have the same pages.
-use Rattle.std.proofs.Common.{◌≡◌, ℕ, suc, ◌+◌, ◌<◌, ◌≤◌, Bool, List, [], ◌∷◌, arith, cond, get_or, length, take, refl, ap, Some}
+use Rattle.std.proofs.Common.{◌≡◌, ℕ, ◌+◌, ◌<◌, ◌≤◌, List, arith, get_or, length, take, ap}
 use Rattle.std.specs.Prelude.{All}
-use Rattle.std.specs.List.{find}
 use Rattle.std.specs.Option.{option_map}
 use Rattle.std.proofs.lemmas.List.Elements.{All-more}
 use Rattle.lwc_base.specs.declared.item.Item.{Item}
 use Rattle.lwc_base.specs.declared.key.Key.TheVariants.{Page}
 use Rattle.lwc_base.specs.Modes.{mode, names}
+use Rattle.range_map.proofs.Alike.{find_same}
 
 -- an item names each page from one up to another, or none of them
 pub record NamesAlike (p edge : ℕ) (item : Item) : Type 0 where
@@ -20,16 +20,8 @@ edge_more p edge next i items d inside sooner alike before =
     (λ k e within. record { alike = λ q low high. (before k e within).alike q low (omega arith) })
     (record { alike = alike })
 
--- two tests that agree on each element find the same
-find_alike : {X : Type 0} (f g : X → Bool) (xs : List X) → All (λ x. f x ≡ g x) xs → find f xs ≡ find g xs
-find_alike f g [] same = refl
-find_alike f g (x ∷ xs) same =
-    let head = same 0 x (omega arith) in
-    let tail = find_alike f g xs (λ k d inside. same (suc k) d (omega arith)) in
-    λ i. cond (head i) (Some x) (tail i)
-
 pub mode_alike : (p edge q : ℕ) (items : List Item) → All (NamesAlike p edge) items → p ≤ q → q < edge → mode items (Page q) ≡ mode items (Page p)
 unfolding mode
 mode_alike p edge q items all low high =
     ap (option_map (λ (item : Item). item.mode))
-    (find_alike (λ item. names item (Page q)) (λ item. names item (Page p)) items (λ k d inside. (all k d inside).alike q low high))
+    (find_same (λ item. names item (Page q)) (λ item. names item (Page p)) items (λ k d inside. (all k d inside).alike q low high))

@@ -1,5 +1,5 @@
 -- A context whose cells become another row.
-use Rattle.std.proofs.Common.{◌≡◌, ◌≢◌, ℕ, ◌<◌, ◌≤◌, arith, refl, sym, ap, subst, ◌∙◌, List, Option, Some, None}
+use Rattle.std.proofs.Common.{◌≡◌, ◌≢◌, ℕ, ◌<◌, arith, refl, sym, ap, subst, ◌∙◌, List, Option, Some, None}
 use Rattle.std.specs.Prelude.{slice_index_or, unwrap_or}
 use Rattle.std.specs.FinMap as fm
 use Rattle.lwc_base.specs.declared.cell.Cell.TheVariants as cells
@@ -16,46 +16,45 @@ use Rattle.lwc_base.specs.Ranges as base
 use Rattle.lwc_base.specs.Ranges.{ranges_of}
 use Rattle.lwc_base.specs.World.{World, Context, Counters, change_context, changed_context, context, new_context}
 use Rattle.range_map.specs.Kinds.{kind_of, ranges}
-use Rattle.range_map.specs.declared.segment.SegmentKind.{SegmentKind}
-use Rattle.page_cells.specs.declared.stretches.Source.{Source}
-use Rattle.page_cells.specs.declared.stretches.Source.TheVariants as sources
+use Rattle.cow_space.specs.declared.stretches.Origin.{Origin}
+use Rattle.cow_space.specs.declared.stretches.Origin.TheVariants as origins
 use Rattle.ctx_table.specs.NameTables.{ArePlaced, NameTable}
 use Rattle.lazy_world.specs.Cells.{Row, kinds_of, put_row}
-use Rattle.lazy_world.specs.Facts.{Facts}
-use Rattle.lazy_world.specs.Followed.{IsOfContexts, with_planned}
-use Rattle.lazy_world.specs.Plans.{IsFor, given_or}
+use Rattle.lazy_world.specs.Followed.{IsOfContexts, with_transferred}
+use Rattle.lazy_world.specs.Transfers.{IsFor, given_or}
 use Rattle.lazy_world.specs.Sound.{HasOldTags, HasOneHome, IsSound, IsWithin}
-use Rattle.lazy_world.specs.Sources.{page_source, sourced_row}
+use Rattle.lazy_world.specs.Origins.{page_origin, origin_row}
 use Rattle.lazy_world.specs.States.{Parts, context_at, context_of, registers_at, world_of}
-use Rattle.lazy_world.specs.declared.pieces.Sources.{Sources}
-use Rattle.lazy_world.specs.declared.plan.Plan.{Plan}
-use Rattle.lazy_world.specs.declared.plan.Plan.TheVariants.{Mark, Move, Clone, Overlay}
+use Rattle.lazy_world.specs.declared.pieces.Origins.{Origins}
+use Rattle.lazy_world.specs.declared.transfer.Transfer.{Transfer}
+use Rattle.lazy_world.specs.declared.transfer.Transfer.TheVariants.{Mark, Move, Clone, Overlay}
 use Rattle.lazy_world.proofs.MapLemmas.{few_pages, no_kind, past_of}
 use Rattle.lazy_world.proofs.PlaceLemmas.{choose}
 use Rattle.lazy_world.proofs.SoundLemmas.{IsTagged, homes-row, sound-row}
 use Rattle.lazy_world.proofs.WorldLemmas.{change_context-row, context-found}
+use Rattle.range_map.proofs.Ranges.{ranges_of_context}
 
--- all tags of what sources give are old
-pub sourced-tags : (next : ℕ → Counters) (rows : ℕ → Row) (i : ℕ) (s : Sources) → ((j : ℕ) → HasOldTags next (rows j)) → HasOldTags next (sourced_row rows i s)
-sourced-tags next rows i s old p tag bytes is = at (page_source s.pages p) is
+-- all tags of what origins give are old
+pub origin-tags : (next : ℕ → Counters) (rows : ℕ → Row) (i : ℕ) (s : Origins) → ((j : ℕ) → HasOldTags next (rows j)) → HasOldTags next (origin_row rows i s)
+origin-tags next rows i s old p tag bytes is = at (page_origin s.pages p) is
   where
-    at : (o : Option Source) → given_or rows (Page p) (rows i (Page p)) o ≡ cells.Own (Some (Data tag bytes)) → tag.k < (next tag.job).tags
+    at : (o : Option Origin) → given_or rows (Page p) (rows i (Page p)) o ≡ cells.Own (Some (Data tag bytes)) → tag.k < (next tag.job).tags
     at None e = old i p tag bytes e
-    at (Some sources.Absent) e = absurd (let none = e in cc)
-    at (Some sources.Zeros) e = absurd (let none = e in cc)
-    at (Some (sources.Common g)) e = absurd (let none = e in cc)
-    at (Some (sources.CopyOf j)) e = old j p tag bytes e
+    at (Some origins.Absent) e = absurd (let none = e in cc)
+    at (Some origins.Zeros) e = absurd (let none = e in cc)
+    at (Some (origins.Common g)) e = absurd (let none = e in cc)
+    at (Some (origins.CopyOf j)) e = old j p tag bytes e
 
--- a row that sources give leaves each tag its one page number
-pub sourced-homes : (rows : ℕ → Row) (i : ℕ) (s : Sources) → HasOneHome rows → HasOneHome (put_row rows i (sourced_row rows i s))
-sourced-homes rows i s homes = homes-row rows i (sourced_row rows i s) homes (λ p tag bytes is. at p tag bytes (page_source s.pages p) is)
+-- a row that origins give leaves each tag its one page number
+pub origin-homes : (rows : ℕ → Row) (i : ℕ) (s : Origins) → HasOneHome rows → HasOneHome (put_row rows i (origin_row rows i s))
+origin-homes rows i s homes = homes-row rows i (origin_row rows i s) homes (λ p tag bytes is. at p tag bytes (page_origin s.pages p) is)
   where
-    at : (p : ℕ) (tag : Tag) (bytes : List ℕ) (o : Option Source) → given_or rows (Page p) (rows i (Page p)) o ≡ cells.Own (Some (Data tag bytes)) → IsTagged rows p tag
+    at : (p : ℕ) (tag : Tag) (bytes : List ℕ) (o : Option Origin) → given_or rows (Page p) (rows i (Page p)) o ≡ cells.Own (Some (Data tag bytes)) → IsTagged rows p tag
     at p tag bytes None e = record { place = i; bytes = bytes; is = e }
-    at p tag bytes (Some sources.Absent) e = absurd (let none = e in cc)
-    at p tag bytes (Some sources.Zeros) e = absurd (let none = e in cc)
-    at p tag bytes (Some (sources.Common g)) e = absurd (let none = e in cc)
-    at p tag bytes (Some (sources.CopyOf j)) e = record { place = j; bytes = bytes; is = e }
+    at p tag bytes (Some origins.Absent) e = absurd (let none = e in cc)
+    at p tag bytes (Some origins.Zeros) e = absurd (let none = e in cc)
+    at p tag bytes (Some (origins.Common g)) e = absurd (let none = e in cc)
+    at p tag bytes (Some (origins.CopyOf j)) e = record { place = j; bytes = bytes; is = e }
 
 -- so does a copy of another row
 pub copied-homes : (rows : ℕ → Row) (i j : ℕ) → HasOneHome rows → HasOneHome (put_row rows i (rows j))
@@ -65,16 +64,16 @@ copied-homes rows i j homes = homes-row rows i (rows j) homes (λ p tag bytes is
 pub same-place : (m : fm.FinMap name_cmp ℕ) (d c : Name) (from to : ℕ) → d ≡ c → fm.get m d ≡ Some from → fm.get m c ≡ Some to → from ≡ to
 same-place m d c from to same at_from at_to = let both : Some from ≡ Some to = sym at_from ∙ ap (fm.get m) same ∙ at_to in cc
 
--- a plan for contexts is one for their places
-pub plan-for : (plan : Plan) (contexts : ℕ) (d c : Name) (from to : ℕ) → IsOfContexts plan d c → (d ≡ c → from ≡ to) → to < contexts → IsFor contexts from to plan
-plan-for (Mark g) contexts d c from to is same low = same is
-plan-for Move contexts d c from to is same low = absurd is
-plan-for (Clone g) contexts d c from to is same low = low
-plan-for (Overlay g) contexts d c from to is same low = low
+-- a transfer for contexts is one for their places
+pub transfer-for : (transfer : Transfer) (contexts : ℕ) (d c : Name) (from to : ℕ) → IsOfContexts transfer d c → (d ≡ c → from ≡ to) → to < contexts → IsFor contexts from to transfer
+transfer-for (Mark g) contexts d c from to is same low = same is
+transfer-for Move contexts d c from to is same low = absurd is
+transfer-for (Clone g) contexts d c from to is same low = low
+transfer-for (Overlay g) contexts d c from to is same low = low
 
 -- a context that gets cells of a context that is known
-pub followed-from : (w : World) (plan : Plan) (items : List Item) (d : Name) (x old : Context) → context w d ≡ x → with_planned w plan items x.cell old ≡ with_planned w plan items (context w d).cell old
-followed-from w plan items d x old is = ap (λ (z : Context). with_planned w plan items z.cell old) (sym is)
+pub followed-from : (w : World) (transfer : Transfer) (items : List Item) (d : Name) (x old : Context) → context w d ≡ x → with_transferred w transfer items x.cell old ≡ with_transferred w transfer items (context w d).cell old
+followed-from w transfer items d x old is = ap (λ (z : Context). with_transferred w transfer items z.cell old) (sym is)
 
 -- two changes of a context that agree on it are one
 pub change-agree : (w : World) (c : Name) (f g : Context → Context) → f (context w c) ≡ g (context w c) → change_context w c f ≡ change_context w c g
@@ -85,7 +84,7 @@ change-agree w c f g same = at (fm.get w.contexts c) same
     at None e = refl
     at (Some x) e = ap (λ y. record w { contexts = fm.insert w.contexts c y }) e
 
-module _ (s : Parts) (sound : IsSound s) (facts : Facts) (placed : ArePlaced s.contexts) (c : Name) (i : ℕ) (found : fm.get s.contexts.map c ≡ Some i)
+module _ (s : Parts) (sound : IsSound s) (placed : ArePlaced s.contexts) (c : Name) (i : ℕ) (found : fm.get s.contexts.map c ≡ Some i)
     (row : Row) (change : Context → Context) (is : context_of row (registers_at s.registers i) ≡ change (context_at s i)) where
   abbrev later : Parts
   later = record s { rows = put_row s.rows i row }
@@ -94,7 +93,7 @@ module _ (s : Parts) (sound : IsSound s) (facts : Facts) (placed : ArePlaced s.c
   inside = let low = placed.within c i found in omega (arith, low, sound.sizes.contexts)
 
   pub row-world : world_of later ≡ change_context (world_of s) c change
-  row-world = change_context-row s facts.orders placed c i found row change inside is
+  row-world = change_context-row s placed c i found row change inside is
 
   pub row-sound : IsWithin s.size.pages row → HasOldTags (world_of s).next row → IsFresh (change_context (world_of s) c change) → HasOneHome later.rows → IsSound later
   row-sound within tags fresh homes =
@@ -105,16 +104,14 @@ module _ (s : Parts) (sound : IsSound s) (facts : Facts) (placed : ArePlaced s.c
       tags (subst IsFresh (sym row-world) fresh) homes
 
   -- the ranges of the context afterwards
-  module _ (law : (pages : ℕ) (x : Context) (kinds : ℕ → Option SegmentKind) → pages ≤ MOST_PAGES → ((p : ℕ) → p < pages → kind_of (x.cell (Page p)) ≡ kinds p) →
-      ((p : ℕ) → pages ≤ p → p < MOST_PAGES → kinds p ≡ None) → base.ranges pages x ≡ ranges MOST_PAGES kinds) where
-    pub row-ranges : IsWithin s.size.pages row → ranges_of (change_context (world_of s) c change) c ≡ ranges MOST_PAGES (kinds_of row)
-    unfolding ranges_of
-    row-ranges within =
-        ap (λ w. ranges_of w c) (sym row-world)
-        ∙ ap (base.ranges (world_of later).size.pages) (context-found later c i found)
-        ∙ law (world_of later).size.pages (context_at later i) (kinds_of row) (few_pages later sound.sizes.size.pages.1)
-        (λ p low. ap (λ (r : Row). kind_of (r (Page p))) (choose i i row (s.rows i) refl))
-        (λ p past low. no_kind p (row (Page p)) (within (Page p) (past_of later p past)))
+  pub row-ranges : IsWithin s.size.pages row → ranges_of (change_context (world_of s) c change) c ≡ ranges MOST_PAGES (kinds_of row)
+  unfolding ranges_of
+  row-ranges within =
+      ap (λ w. ranges_of w c) (sym row-world)
+      ∙ ap (base.ranges (world_of later).size.pages) (context-found later c i found)
+      ∙ ranges_of_context (world_of later).size.pages (context_at later i) (kinds_of row) (few_pages later sound.sizes.size.pages.1)
+      (λ p low. ap (λ (r : Row). kind_of (r (Page p))) (choose i i row (s.rows i) refl))
+      (λ p past low. no_kind p (row (Page p)) (within (Page p) (past_of later p past)))
 
 -- two contexts have two places
 pub other-place : (table : NameTable) → ArePlaced table → (c d : Name) (i j : ℕ) → fm.get table.map c ≡ Some i → fm.get table.map d ≡ Some j → c ≢ d → i ≢ j
@@ -124,11 +121,9 @@ other-place table placed c d i j at_c at_d other same =
     other (let both : Some c ≡ Some d = sym here ∙ ap (λ n. slice_index_or table.places n None) same ∙ there in cc)
 
 -- the ranges of a context are those of its row
-pub ranges-here : (s : Parts) → IsSound s → (c : Name) (i : ℕ) → fm.get s.contexts.map c ≡ Some i →
-    ((pages : ℕ) (x : Context) (kinds : ℕ → Option SegmentKind) → pages ≤ MOST_PAGES → ((p : ℕ) → p < pages → kind_of (x.cell (Page p)) ≡ kinds p) →
-    ((p : ℕ) → pages ≤ p → p < MOST_PAGES → kinds p ≡ None) → base.ranges pages x ≡ ranges MOST_PAGES kinds) → ranges_of (world_of s) c ≡ ranges MOST_PAGES (kinds_of (s.rows i))
+pub ranges-here : (s : Parts) → IsSound s → (c : Name) (i : ℕ) → fm.get s.contexts.map c ≡ Some i → ranges_of (world_of s) c ≡ ranges MOST_PAGES (kinds_of (s.rows i))
 unfolding ranges_of
-ranges-here s sound c i found law =
+ranges-here s sound c i found =
     ap (base.ranges (world_of s).size.pages) (context-found s c i found)
-    ∙ law (world_of s).size.pages (context_at s i) (kinds_of (s.rows i)) (few_pages s sound.sizes.size.pages.1) (λ p low. refl)
+    ∙ ranges_of_context (world_of s).size.pages (context_at s i) (kinds_of (s.rows i)) (few_pages s sound.sizes.size.pages.1) (λ p low. refl)
     (λ p past low. no_kind p (s.rows i (Page p)) (sound.past i (Page p) (past_of s p past)))

@@ -11,24 +11,20 @@ use Rattle.lwc_base.specs.World.{World, group, new_group}
 use Rattle.range_map.specs.declared.segment.SegmentKind.{SegmentKind}
 use Rattle.range_map.specs.declared.segment.SegmentKind.TheVariants.{Common}
 use Rattle.lazy_world.specs.Cells.{Row, is_own}
-use Rattle.lazy_world.specs.Plans.{IsFound, copied_source, given, kind_in}
+use Rattle.lazy_world.specs.Transfers.{IsFound, copied_origin, given, kind_in}
 use Rattle.lazy_world.specs.Sound.{IsAllOwn}
 use Rattle.lazy_world.specs.States.{group_of, held}
+use Rattle.lazy_world.proofs.TransferLemmas.{kind_common}
 
 -- a place has what a group has under a key, if something is there
 pub record IsHolder (w : World) (contexts count : ℕ) (rows : ℕ → Row) (k : Key) (g : Name) (holder : Option ℕ) : Type 0 where
-  pub value : given rows k (copied_source holder) ≡ cells.Own ((group w g).value k)
+  pub value : given rows k (copied_origin holder) ≡ cells.Own ((group w g).value k)
   pub behind : (j : ℕ) → holder ≡ Some j → contexts ≤ j
   pub inside : (j : ℕ) → holder ≡ Some j → j < count
 
 pub held_own : (k : Key) (cell : Cell (ValueOf k)) → is_own cell ≡ true → cell ≡ cells.Own (held k cell)
 held_own k (cells.Own v) own = refl
 held_own k (cells.Common g) own = cc
-
-common_kind : (k : Key) (g : Name) → kind_in k (cells.Common g) ≡ Some (Common g)
-common_kind (Page p) g = refl
-common_kind (Slot n) g = refl
-common_kind Cred g = refl
 
 module _ (w : World) (contexts count : ℕ) (rows : ℕ → Row) (k : Key) (g : Name) where
   -- a group that is not live has nothing
@@ -61,7 +57,7 @@ module _ (w : World) (contexts count : ℕ) (rows : ℕ → Row) (k : Key) (cell
   found-common kind g holder is common holds = record {
     kind = is;
     value = λ h at.
-        let kind_h : Some (Common h) ≡ Some (Common g) = sym (common_kind k h) ∙ ap (kind_in k) (sym at) ∙ sym is ∙ common in
+        let kind_h : Some (Common h) ≡ Some (Common g) = sym (kind_common k h) ∙ ap (kind_in k) (sym at) ∙ sym is ∙ common in
         let same : g ≡ h = cc in
         holds.value ∙ ap (λ n. cells.Own ((group w n).value k)) same;
     behind = holds.behind;
@@ -71,7 +67,7 @@ module _ (w : World) (contexts count : ℕ) (rows : ℕ → Row) (k : Key) (cell
   pub found-alone : (kind : Option SegmentKind) → kind ≡ kind_in k cell → ((g : Name) → kind ≡ Some (Common g) → ⊥) → IsFound w contexts count rows k cell (record { kind = kind; holder = None })
   found-alone kind is alone = record {
     kind = is;
-    value = λ h at. absurd (alone h (is ∙ ap (kind_in k) at ∙ common_kind k h));
+    value = λ h at. absurd (alone h (is ∙ ap (kind_in k) at ∙ kind_common k h));
     behind = λ i same. absurd (let e = same in cc);
     inside = λ i same. absurd (let e = same in cc);
   }

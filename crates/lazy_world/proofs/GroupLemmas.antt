@@ -16,11 +16,10 @@ use Rattle.lwc_base.specs.World.{World, Context, Counters, add_group, change_cou
 use Rattle.ctx_table.specs.NameTables.{ArePlaced, NameTable}
 use Rattle.lazy_world.specs.declared.counts.Counts.{Counts}
 use Rattle.lazy_world.specs.declared.key_value.KeyValue.TheVariants as values
-use Rattle.lazy_world.specs.declared.plan.Plan.TheVariants.{Move}
+use Rattle.lazy_world.specs.declared.transfer.Transfer.TheVariants.{Move}
 use Rattle.lazy_world.specs.Cells.{Row, put_row}
-use Rattle.lazy_world.specs.Facts.{Facts}
 use Rattle.lazy_world.specs.Mapped.{mapped}
-use Rattle.lazy_world.specs.Plans.{planned_row}
+use Rattle.lazy_world.specs.Transfers.{transferred_row}
 use Rattle.lazy_world.specs.Sound.{HasOldTags, HasOneHome, IsAllOwn, IsEmpty, IsSound, IsWithin}
 use Rattle.lazy_world.specs.States.{Parts, context_at, context_of, counters_of, group_at, group_of, held, nothing_counted, registers_at, world_of}
 use Rattle.lazy_world.proofs.AddLemmas.{counted-at, new_row, no_tag, no_tags, some_name, still_empty}
@@ -29,8 +28,9 @@ use Rattle.lazy_world.proofs.MappedLemmas.{mapped-insert, mapped-same}
 use Rattle.lazy_world.proofs.PlaceLemmas.{choose, pass}
 use Rattle.lazy_world.proofs.SoundLemmas.{each_row, homes-row, sound-row}
 use Rattle.lazy_world.proofs.WorldLemmas.{change_group-row}
+use Rattle.lwc_base.proofs.Facts.{stays_fresh}
 
-module _ (s : Parts) (sound : IsSound s) (facts : Facts) (placed : ArePlaced s.contexts) (placed_groups : ArePlaced s.groups) where
+module _ (s : Parts) (sound : IsSound s) (placed : ArePlaced s.contexts) (placed_groups : ArePlaced s.groups) where
   abbrev now : World
   now = world_of s
 
@@ -72,13 +72,13 @@ module _ (s : Parts) (sound : IsSound s) (facts : Facts) (placed : ArePlaced s.c
     unfolding world_of add_group change_counters
     added-group =
         let contexts : mapped (context_at later) s.contexts.map ≡ mapped (context_at s) s.contexts.map =
-        mapped-same facts.orders (context_at s) s.contexts.map (context_at later)
+        mapped-same (context_at s) s.contexts.map (context_at later)
         (λ d q at_q. ap (λ r. context_of r (registers_at s.registers q)) (pass at q row (s.rows q) (behind p d q at_q))) in
         let groups : mapped (group_at later) table.map ≡ fm.insert now.groups g new_group =
-        ap (mapped (group_at later)) map ∙ mapped-insert facts.orders (group_at later) s.groups.map g p
-        ∙ (λ e. fm.insert (mapped-same facts.orders (group_at s) s.groups.map (group_at later) elsewhere e) g (here e)) in
+        ap (mapped (group_at later)) map ∙ mapped-insert (group_at later) s.groups.map g p
+        ∙ (λ e. fm.insert (mapped-same (group_at s) s.groups.map (group_at later) elsewhere e) g (here e)) in
         let next : (j : ℕ) → counters_of (get_or (set s.counts job n) j nothing_counted) ≡ cond (eqb j job) (record (now.next j) { groups = (now.next j).groups + 1 }) (now.next j) =
-        counted-at s sound facts job n (λ m. record m { groups = m.groups + 1 }) (omega (arith, known, sound.sizes.counts)) counted in
+        counted-at s sound job n (λ m. record m { groups = m.groups + 1 }) (omega (arith, known, sound.sizes.counts)) counted in
         (λ e. record { contexts = contexts e; groups = groups e; next = λ j. next j e; size = s.size })
         ∙ ap (λ d. record {
           contexts = now.contexts;
@@ -95,7 +95,7 @@ module _ (s : Parts) (sound : IsSound s) (facts : Facts) (placed : ArePlaced s.c
     unfolding world_of
     sound-new_group =
         let next : (j : ℕ) → ((world_of later).next j).tags ≡ (now.next j).tags =
-        λ j. ap (λ (m : Counters). m.tags) (counted-at s sound facts job n (λ m. record m { groups = m.groups + 1 }) (omega (arith, known, sound.sizes.counts)) counted j) ∙ tags_kept (eqb j job) (now.next j) in
+        λ j. ap (λ (m : Counters). m.tags) (counted-at s sound job n (λ m. record m { groups = m.groups + 1 }) (omega (arith, known, sound.sizes.counts)) counted j) ∙ tags_kept (eqb j job) (now.next j) in
         record {
           sizes = record {
             size = sound.sizes.size;
@@ -113,25 +113,25 @@ module _ (s : Parts) (sound : IsSound s) (facts : Facts) (placed : ArePlaced s.c
           tags = λ j. each_row s.rows at row (HasOldTags (world_of later).next) j
               (λ same. no_tags (world_of later).next row (still_empty (s.rows at) NOBODY empty))
               (λ other q tag bytes is. subst (λ m. tag.k < m) (sym (next tag.job)) (sound.tags j q tag bytes is));
-          fresh = subst IsFresh (sym added-group) (facts.fresh.group_added now job new_group sound.fresh);
+          fresh = subst IsFresh (sym added-group) (stays_fresh.group_added now job new_group sound.fresh);
           homes = homes-row s.rows at row sound.homes (λ q tag bytes is. absurd (no_tag row (still_empty (s.rows at) NOBODY empty) q tag bytes is));
         }
 
   -- a group gets what moves
   module _ (g : Name) (j : ℕ) (found : fm.get s.groups.map g ≡ Some j) (items : List Item) (c : Name) (from : ℕ) (is : context now c ≡ context_at s from) where
     abbrev moved_row : Row
-    moved_row = planned_row now Move items (s.rows from) (s.rows (s.size.contexts + j))
+    moved_row = transferred_row now Move items (s.rows from) (s.rows (s.size.contexts + j))
 
     abbrev filled : Parts
     filled = record s { rows = put_row s.rows (s.size.contexts + j) moved_row }
 
-    same_values : (x : Context) → group_of (planned_row now Move items x.cell (s.rows (s.size.contexts + j))) ≡ moved_values items x
+    same_values : (x : Context) → group_of (transferred_row now Move items x.cell (s.rows (s.size.contexts + j))) ≡ moved_values items x
     unfolding moved_values mode_or_copy
     same_values x = refl
 
     pub filled-world : world_of filled ≡ change_group now g (λ x. moved_values items (context now c))
     filled-world =
-        change_group-row s facts.orders placed_groups g j found (λ d q at_q. let low = placed.within d q at_q in omega (arith, low, sound.sizes.contexts))
+        change_group-row s placed_groups g j found (λ d q at_q. let low = placed.within d q at_q in omega (arith, low, sound.sizes.contexts))
         moved_row (λ x. moved_values items (context now c)) (same_values (context_at s from) ∙ ap (moved_values items) (sym is))
 
     pub filled-sound : IsWithin s.size.pages moved_row → HasOldTags now.next moved_row → HasOneHome filled.rows → IsSound filled
@@ -141,5 +141,5 @@ module _ (s : Parts) (sound : IsSound s) (facts : Facts) (placed : ArePlaced s.c
         (λ low none. absurd (omega (arith, low)))
         (λ q same none. absurd (let q_is : q ≡ j = omega (arith, same) in let both = sym ((placed_groups.at g j).0 found) ∙ ap (λ r. get_or s.groups.places r None) (sym q_is) ∙ none in cc))
         tags
-        (subst IsFresh (sym filled-world) (facts.fresh.group_changed now g (λ x. moved_values items (context now c)) sound.fresh))
+        (subst IsFresh (sym filled-world) (stays_fresh.group_changed now g (λ x. moved_values items (context now c)) sound.fresh))
         homes

@@ -16,12 +16,12 @@ use Rattle.ctx_table.specs.NameTables.{ArePlaced}
 use Rattle.lazy_world.specs.declared.key_value.KeyValue.{KeyValue}
 use Rattle.lazy_world.specs.declared.key_value.KeyValue.TheVariants.{Slot, Cred}
 use Rattle.lazy_world.specs.Cells.{Row, is_nothing, is_own, put_row}
-use Rattle.lazy_world.specs.Facts.{Facts}
 use Rattle.lazy_world.specs.KeyValues.{HasSlot, group_in, key_in, value_in}
 use Rattle.lazy_world.specs.Sound.{HasOldTags, IsAllOwn, IsSound, IsWithin}
 use Rattle.lazy_world.specs.States.{Parts, group_of, held, world_of}
 use Rattle.lazy_world.proofs.SoundLemmas.{homes-row, sound-row}
 use Rattle.lazy_world.proofs.WorldLemmas.{change_context-row, change_group-row, context-found}
+use Rattle.lwc_base.proofs.Facts.{changes, stays_fresh}
 
 -- the row with the value
 abbrev pub put_value : KeyValue → Row → Row
@@ -80,7 +80,7 @@ there : (v : KeyValue) (value : ValueOf (key_in v)) → is_there (key_in v) valu
 there (Slot n d) value = refl
 there (Cred uid) value = refl
 
-module _ (s : Parts) (sound : IsSound s) (facts : Facts) where
+module _ (s : Parts) (sound : IsSound s) where
   abbrev now : World
   now = world_of s
 
@@ -94,12 +94,12 @@ module _ (s : Parts) (sound : IsSound s) (facts : Facts) where
     inside = let low = placed.within c i found in omega (arith, low, sound.sizes.contexts)
 
     put_as : (cell : Cell (ValueOf (key_in v))) → s.rows i (key_in v) ≡ cell → put_at now c (key_in v) (value_in v) ≡ change_context now c (with_cell (key_in v) (Own (value_in v)))
-    put_as (Own value) is = facts.changes.put_own now c (key_in v) value (value_in v) (ap (λ (x : Context). x.cell (key_in v)) (context-found s c i found) ∙ is) (there v value)
+    put_as (Own value) is = changes.put_own now c (key_in v) value (value_in v) (ap (λ (x : Context). x.cell (key_in v)) (context-found s c i found) ∙ is) (there v value)
     put_as (Common g) is = absurd (let none = ap group_in (sym is) ∙ own in cc)
 
     pub put-own : world_of later ≡ put_at now c (key_in v) (value_in v)
     put-own =
-        change_context-row s facts.orders placed c i found (put_value v (s.rows i)) (with_cell (key_in v) (Own (value_in v))) inside refl
+        change_context-row s placed c i found (put_value v (s.rows i)) (with_cell (key_in v) (Own (value_in v))) inside refl
         ∙ sym (put_as (s.rows i (key_in v)) refl)
 
     pub sound-own : IsSound later
@@ -109,7 +109,7 @@ module _ (s : Parts) (sound : IsSound s) (facts : Facts) where
         (λ low none. absurd (let both = sym ((placed.at c i).0 found) ∙ none in cc))
         (λ j same none. absurd (omega (arith, same, inside)))
         (tags-put v now.next (s.rows i) (sound.tags i))
-        (subst IsFresh (sym put-own) (facts.fresh.put now c (key_in v) (value_in v) sound.fresh))
+        (subst IsFresh (sym put-own) (stays_fresh.put now c (key_in v) (value_in v) sound.fresh))
         (homes-row s.rows i (put_value v (s.rows i)) sound.homes (λ p tag bytes is. record { place = i; bytes = bytes; is = sym (page-put v (s.rows i) p) ∙ is }))
 
   -- a group's value changes
@@ -119,7 +119,7 @@ module _ (s : Parts) (sound : IsSound s) (facts : Facts) where
 
     pub put-group : world_of later_group ≡ change_group now g (with_value (key_in v) (value_in v))
     put-group =
-        change_group-row s facts.orders placed_groups g j found (λ d q at_q. let low = placed.within d q at_q in omega (arith, low, sound.sizes.contexts))
+        change_group-row s placed_groups g j found (λ d q at_q. let low = placed.within d q at_q in omega (arith, low, sound.sizes.contexts))
         (put_value v (s.rows (s.size.contexts + j))) (with_value (key_in v) (value_in v)) (group-put v (s.rows (s.size.contexts + j)))
 
     pub sound-group : IsSound later_group
@@ -130,6 +130,6 @@ module _ (s : Parts) (sound : IsSound s) (facts : Facts) where
         (λ low none. absurd (omega (arith, low)))
         (λ q same none. absurd (let q_is : q ≡ j = omega (arith, same) in let both = sym ((placed_groups.at g j).0 found) ∙ ap (λ r. get_or s.groups.places r None) (sym q_is) ∙ none in cc))
         (tags-put v now.next (s.rows (s.size.contexts + j)) (sound.tags (s.size.contexts + j)))
-        (subst IsFresh (sym put-group) (facts.fresh.group_changed now g (with_value (key_in v) (value_in v)) sound.fresh))
+        (subst IsFresh (sym put-group) (stays_fresh.group_changed now g (with_value (key_in v) (value_in v)) sound.fresh))
         (homes-row s.rows (s.size.contexts + j) (put_value v (s.rows (s.size.contexts + j))) sound.homes
         (λ p tag bytes is. record { place = s.size.contexts + j; bytes = bytes; is = sym (page-put v (s.rows (s.size.contexts + j)) p) ∙ is }))

@@ -3,7 +3,7 @@ mod AfterLemmas
 mod AnchorLemmas
 mod ClearLemmas
 mod CloneLemmas
-mod CloneSources
+mod CloneOrigins
 mod CopyLemmas
 mod CountLemmas
 mod DropLemmas
@@ -30,14 +30,14 @@ mod OpenLemmas
 mod OverlayLemmas
 mod PastLemmas
 mod PlaceLemmas
-mod PlanLemmas
+pub mod TransferLemmas
 mod ReachLemmas
 mod RenameLemmas
 mod SaveLemmas
 mod ShareLemmas
 mod SmallLemmas
 mod SoundLemmas
-mod SourceLemmas
+mod OriginLemmas
 mod SpotLemmas
 mod StepLemmas
 mod StoreLemmas

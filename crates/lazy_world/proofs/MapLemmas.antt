@@ -19,24 +19,24 @@ use Rattle.lwc_base.specs.Ranges as base
 use Rattle.lwc_base.specs.Ranges.{ranges_of}
 use Rattle.lwc_base.specs.World.{Context, Counters, change_context}
 use Rattle.range_map.specs.Kinds.{is_between, kind_of, ranges}
-use Rattle.range_map.specs.declared.segment.SegmentKind.{SegmentKind}
-use Rattle.page_cells.specs.declared.stretches.Stretch.{Stretch}
-use Rattle.page_cells.specs.Cells.{Place, place_of}
-use Rattle.page_cells.specs.Cells as page_specs
-use Rattle.page_cells.specs.Changes.{IsStretch, cell_by, changed_place}
+use Rattle.cow_space.specs.declared.stretches.Stretch.{Stretch}
+use Rattle.cow_space.specs.Cells.{Place, place_of}
+use Rattle.cow_space.specs.Cells as page_specs
+use Rattle.cow_space.specs.Changes.{IsStretch, cell_by, changed_place}
 use Rattle.ctx_table.specs.NameTables.{ArePlaced}
 use Rattle.fd_table.specs.Slots as slots
-use Rattle.lazy_world.specs.Cells.{Row, is_nothing, kinds_of, on_place, page_cell, put_row, rows_of, set_pages, source_of}
-use Rattle.lazy_world.specs.Facts.{Facts}
+use Rattle.lazy_world.specs.Cells.{Row, is_nothing, kinds_of, on_place, page_cell, put_row, rows_of, set_pages, origin_of}
 use Rattle.lazy_world.specs.Sound.{HasOldTags, IsSound, IsWithin}
 use Rattle.lazy_world.specs.States.{Parts, context_at, world_of}
 use Rattle.lazy_world.proofs.PlaceLemmas.{choose, pages-put}
 use Rattle.lazy_world.proofs.SoundLemmas.{homes-row, sound-row}
 use Rattle.lazy_world.proofs.WorldLemmas.{change_context-row, context-found}
+use Rattle.lwc_base.proofs.Facts.{stays_fresh}
+use Rattle.range_map.proofs.Ranges.{ranges_of_context}
 
 -- the stretch of a range
 abbrev pub stretch_of : ℕ → ℕ → Bool → Stretch
-stretch_of from to present = record { range = record { from = from; to = to }; source = source_of present }
+stretch_of from to present = record { range = record { from = from; to = to }; origin = origin_of present }
 
 pub is_stretch : (count i from to : ℕ) (present : Bool) → from ≤ to → to ≤ MOST_PAGES → All (IsStretch count i) (stretch_of from to present ∷ [])
 is_stretch count i from to true order inside = All-cons (IsStretch count i) (stretch_of from to true) [] (record { order = order; inside = inside; given = tt }) (All-nil (IsStretch count i))
@@ -108,7 +108,7 @@ pub past_of : (t : Parts) (p : ℕ) → (world_of t).size.pages ≤ p → t.size
 unfolding world_of
 past_of t p past = past
 
-module _ (s : Parts) (sound : IsSound s) (facts : Facts) (placed : ArePlaced s.contexts) (c : Name) (i : ℕ) (found : fm.get s.contexts.map c ≡ Some i)
+module _ (s : Parts) (sound : IsSound s) (placed : ArePlaced s.contexts) (c : Name) (i : ℕ) (found : fm.get s.contexts.map c ≡ Some i)
     (from to : ℕ) (present : Bool) (below : to ≤ s.size.pages) where
   abbrev later : Parts
   later = record s { rows = put_row s.rows i (set_pages from to present (s.rows i)) }
@@ -132,12 +132,12 @@ module _ (s : Parts) (sound : IsSound s) (facts : Facts) (placed : ArePlaced s.c
 
   pub mapped-world : world_of later ≡ mapped_or_not (world_of s) c from to present
   mapped-world =
-      change_context-row s facts.orders placed c i found (set_pages from to present (s.rows i)) (change present) inside (change_is present (context_at s i))
+      change_context-row s placed c i found (set_pages from to present (s.rows i)) (change present) inside (change_is present (context_at s i))
       ∙ as_change present
 
   fresh : (present : Bool) → IsFresh (mapped_or_not (world_of s) c from to present)
-  fresh true = facts.fresh.mapped (world_of s) c from to sound.fresh
-  fresh false = facts.fresh.unmapped (world_of s) c from to sound.fresh
+  fresh true = stays_fresh.mapped (world_of s) c from to sound.fresh
+  fresh false = stays_fresh.unmapped (world_of s) c from to sound.fresh
 
   pub sound-mapped : IsSound later
   sound-mapped =
@@ -150,16 +150,14 @@ module _ (s : Parts) (sound : IsSound s) (facts : Facts) (placed : ArePlaced s.c
       (homes-row s.rows i (set_pages from to present (s.rows i)) sound.homes (λ p tag bytes is. record { place = i; bytes = bytes; is = page-set from to present (s.rows i) p tag bytes is }))
 
   -- the ranges of the context afterwards
-  module _ (law : (pages : ℕ) (x : Context) (kinds : ℕ → Option SegmentKind) → pages ≤ MOST_PAGES → ((p : ℕ) → p < pages → kind_of (x.cell (Page p)) ≡ kinds p) →
-      ((p : ℕ) → pages ≤ p → p < MOST_PAGES → kinds p ≡ None) → base.ranges pages x ≡ ranges MOST_PAGES kinds) where
-    pub ranges-mapped : ranges_of (mapped_or_not (world_of s) c from to present) c ≡ ranges MOST_PAGES (kinds_of (set_pages from to present (s.rows i)))
-    unfolding ranges_of
-    ranges-mapped =
-        ap (λ w. ranges_of w c) (sym mapped-world)
-        ∙ ap (base.ranges (world_of later).size.pages) (context-found later c i found)
-        ∙ law (world_of later).size.pages (context_at later i) (kinds_of (set_pages from to present (s.rows i))) (few_pages later sound.sizes.size.pages.1)
-        (λ p low. ap (λ (row : Row). kind_of (row (Page p))) (choose i i (set_pages from to present (s.rows i)) (s.rows i) refl))
-        (λ p past low. no_kind p (set_pages from to present (s.rows i) (Page p)) (within-set from to present s.size.pages (s.rows i) below (sound.past i) (Page p) (past_of later p past)))
+  pub ranges-mapped : ranges_of (mapped_or_not (world_of s) c from to present) c ≡ ranges MOST_PAGES (kinds_of (set_pages from to present (s.rows i)))
+  unfolding ranges_of
+  ranges-mapped =
+      ap (λ w. ranges_of w c) (sym mapped-world)
+      ∙ ap (base.ranges (world_of later).size.pages) (context-found later c i found)
+      ∙ ranges_of_context (world_of later).size.pages (context_at later i) (kinds_of (set_pages from to present (s.rows i))) (few_pages later sound.sizes.size.pages.1)
+      (λ p low. ap (λ (row : Row). kind_of (row (Page p))) (choose i i (set_pages from to present (s.rows i)) (s.rows i) refl))
+      (λ p past low. no_kind p (set_pages from to present (s.rows i) (Page p)) (within-set from to present s.size.pages (s.rows i) below (sound.past i) (Page p) (past_of later p past)))
 
 pub below_pages : (s : Parts) (to : ℕ) → to ≤ (world_of s).size.pages → to ≤ s.size.pages
 unfolding world_of

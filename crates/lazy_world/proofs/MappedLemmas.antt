@@ -3,29 +3,20 @@ use Rattle.std.proofs.Common.{◌≡◌, ◌≢◌, ℕ, List, [], ◌∷◌, le
 use Rattle.std.specs.Prelude.{T, ◌&&◌, is_some}
 use Rattle.std.specs.Option.{option_map}
 use Rattle.std.specs.Ordering.{eq_by_cmp, is_eq, is_lt}
-use Rattle.std.specs.declared.cmp.Ordering.{Ordering}
-use Rattle.std.specs.declared.cmp.Ordering.TheVariants.{Less, Equal, Greater}
 use Rattle.std.specs.Cmp.{eq_by_cmp_equiv}
 use Rattle.std.specs.FinMap as fm
 use Rattle.std.specs.FinMap.Entries.{below_all}
 use Rattle.std.proofs.lemmas.List.{length-map}
 use Rattle.lwc_base.specs.declared.name.Name.{Name}
-use Rattle.lwc_base.specs.Facts.{OrderFacts}
 use Rattle.lwc_base.specs.Names.{name_cmp}
 use Rattle.lazy_world.specs.Mapped.{mapped}
-
-mapped_choice : {A B : Type 0} (f : A → B) (b : Bool) (x : A) (o : Option A) → option_map f (cond b (Some x) o) ≡ cond b (Some (f x)) (option_map f o)
-mapped_choice f true x o = refl
-mapped_choice f false x o = refl
+use Rattle.lwc_base.proofs.Facts.{orders}
+use Rattle.lwc_base.proofs.Orders.{same_name}
+use Rattle.lwc_base.proofs.Small.{mapped_choice}
 
 mapped_none : {A B : Type 0} (f : A → B) (b : Bool) (o : Option A) → option_map f (cond b None o) ≡ cond b None (option_map f o)
 mapped_none f true o = refl
 mapped_none f false o = refl
-
-pub equal_of : (r : Ordering) → is_eq r ≡ true → r ≡ Equal
-equal_of Less e = cc
-equal_of Equal e = refl
-equal_of Greater e = cc
 
 module _ {X : Type 0} (at : ℕ → X) where
   abbrev entries_of : List (Name × ℕ) → List (Name × X)
@@ -76,10 +67,7 @@ module _ {X : Type 0} (at : ℕ → X) where
       kept_there None = refl
       kept_there (Some p) = refl
 
-module _ (orders : OrderFacts) {X : Type 0} (at : ℕ → X) where
-  same_name : (a b : Name) → eq_by_cmp name_cmp a b ≡ true → a ≡ b
-  same_name a b tied = orders.one_name a b (equal_of (name_cmp a b) tied)
-
+module _ {X : Type 0} (at : ℕ → X) where
   -- a name is put at a place
   pub mapped-insert : (m : fm.FinMap name_cmp ℕ) (c : Name) (p : ℕ) → mapped at (fm.insert m c p) ≡ fm.insert (mapped at m) c (at p)
   mapped-insert m c p =

@@ -1,23 +1,27 @@
 -- Marks at the places of groups that cells name.
-use Rattle.std.proofs.Common.{◌≡◌, ℕ, zero, suc, ◌+◌, arith, List, [], refl, sym, ap, ◌∙◌, Bool, true, false, Option, replicate, add-zero}
+use Rattle.std.proofs.Common.{◌≡◌, ◌<◌, ◌≤◌, None, Some, ℕ, zero, suc, ◌+◌, arith, List, [], refl, sym, ap, ◌∙◌, Bool, true, false, Option, replicate, add-zero}
 use Rattle.std.specs.Prelude.{◌||◌}
 use Rattle.std.specs.List.{list_any, range_with_len}
+use Rattle.std.specs.Ordering.{is_eq}
 use Rattle.lwc_base.specs.declared.cell.Cell.{Cell}
+use Rattle.lwc_base.specs.declared.descriptor.Descriptor.{Descriptor}
+use Rattle.lwc_base.specs.declared.page.PageValue.{PageValue}
+use Rattle.lwc_base.specs.Names.{name_cmp}
+use Rattle.range_map.specs.Kinds.{kind_of}
+use Rattle.range_map.specs.declared.segment.SegmentKind.{SegmentKind}
+use Rattle.range_map.specs.declared.segment.SegmentKind.TheVariants as kind
+use Rattle.fd_table.specs.Slots.{is_common}
 use Rattle.lwc_base.specs.declared.cell.Cell.TheVariants.{Own, Common}
 use Rattle.lwc_base.specs.declared.name.Name.{Name}
 use Rattle.lwc_base.specs.Life.{is_in}
 use Rattle.reach.specs.Reach.{is_marked}
 use Rattle.lazy_world.specs.KeyValues.{group_in}
 use Rattle.lazy_world.specs.Reaping.{AddsMarks, is_name}
-use Rattle.lazy_world.proofs.PlaceLemmas.{at_default}
+use Rattle.lwc_base.proofs.Small.{at-new, or_assoc}
 
 or_false : (b : Bool) → b ≡ (b || false)
 or_false true = refl
 or_false false = refl
-
-or_assoc : (a b c : Bool) → ((a || b) || c) ≡ (a || (b || c))
-or_assoc true b c = refl
-or_assoc false b c = refl
 
 -- the group of a cell
 pub name_of_cell : {C : Type 0} (cell : Cell C) (g : Name) → is_name (group_in cell) g ≡ is_in g cell
@@ -37,10 +41,44 @@ any_next test a (suc n) =
 pub any_more : (test : ℕ → Bool) (n : ℕ) → (list_any test (range_with_len 0 n) || test n) ≡ list_any test (range_with_len 0 (n + 1))
 any_more test n = ap (λ k. list_any test (range_with_len 0 n) || test k) (omega arith) ∙ any_next test 0 n
 
+-- a run of numbers that are alike is gone over at once
+pub any_run : (test : ℕ → Bool) (p n e : ℕ) → e ≡ p + suc n → ((k : ℕ) → p ≤ k → k < e → test k ≡ test p) →
+    (list_any test (range_with_len 0 p) || test p) ≡ list_any test (range_with_len 0 e)
+any_run test p zero e is alike = any_more test p ∙ ap (λ m. list_any test (range_with_len 0 m)) (omega (arith, is))
+any_run test p (suc n) e is alike =
+    let before = any_run test p n (p + suc n) refl (λ k low high. alike k low (omega (arith, high, is))) in
+    let last = alike (p + suc n) (omega arith) (omega (arith, is)) in
+    twice (list_any test (range_with_len 0 p)) (test p) ∙ (λ i. before i || sym last i) ∙ any_more test (p + suc n)
+    ∙ ap (λ m. list_any test (range_with_len 0 m)) (omega (arith, is))
+  where
+    twice : (a b : Bool) → (a || b) ≡ ((a || b) || b)
+    twice true b = refl
+    twice false true = refl
+    twice false false = refl
+
+abbrev named_kind : Name → Option SegmentKind → Bool
+named_kind g None = false
+named_kind g (Some kind.Own) = false
+named_kind g (Some (kind.Common h)) = is_eq (name_cmp h g)
+
+in-kind : (g : Name) (cell : Cell (Option PageValue)) → is_in g cell ≡ named_kind g (kind_of cell)
+in-kind g (Own None) = refl
+in-kind g (Own (Some value)) = refl
+in-kind g (Common h) = refl
+
+-- cells of pages of one kind name the same group
+pub in-alike : (g : Name) (a b : Cell (Option PageValue)) → kind_of a ≡ kind_of b → is_in g a ≡ is_in g b
+in-alike g a b same = in-kind g a ∙ ap (named_kind g) same ∙ sym (in-kind g b)
+
+-- a cell that is not common names none
+pub in-own : (g : Name) (cell : Cell Descriptor) → is_common cell ≡ false → is_in g cell ≡ false
+in-own g (Own value) own = refl
+in-own g (Common h) own = cc
+
 module _ (places : List (Option Name)) where
   -- no mark is set at first
   pub adds-first : (n : ℕ) → AddsMarks places (λ g. false) [] (replicate n false)
-  adds-first n = record { at = λ j g is. at_default n j false }
+  adds-first n = record { at = λ j g is. at-new n j false }
 
   -- nothing is marked
   pub adds-none : (test : Name → Bool) (marks : List Bool) → ((g : Name) → test g ≡ false) → AddsMarks places test marks marks

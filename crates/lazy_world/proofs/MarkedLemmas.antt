@@ -7,29 +7,29 @@ use Rattle.std.specs.FinMap as fm
 use Rattle.std.proofs.lemmas.Bool.{false≢true}
 use Rattle.std.proofs.lemmas.List.{length-map}
 use Rattle.lwc_base.specs.declared.name.Name.{Name}
-use Rattle.lwc_base.specs.Facts.{OrderFacts}
 use Rattle.lwc_base.specs.Names.{name_cmp}
 use Rattle.ctx_table.specs.NameTables.{ArePlaced, NameTable}
 use Rattle.reach.specs.Reach.{is_marked}
 use Rattle.lazy_world.specs.Reaping.{AddsMarks}
-use Rattle.lazy_world.proofs.SmallLemmas.{equal_of, or_either}
+use Rattle.lwc_base.proofs.Life.{or_cases}
+use Rattle.lwc_base.proofs.Orders.{same_name}
 
 -- an element at which a test passes is somewhere
 passes_somewhere : {A : Type 0} (test : A → Bool) (xs : List A) → list_any test xs ≡ true → (n : ℕ) × (x : A) × (n < length xs) × (slice_get xs n ≡ Some x) × (test x ≡ true)
 passes_somewhere test [] passes = absurd (false≢true passes)
 passes_somewhere test (x ∷ xs) passes =
-    elim (or_either (test x) (list_any test xs) passes) [
+    elim (or_cases (test x) (list_any test xs) passes) [
       | inl here ↦ (0, x, omega arith, refl, here)
       | inr later ↦ let found = passes_somewhere test xs later in (suc found.0, found.1, omega (arith, found.2), found.3, found.4)
     ]
 
 -- what holds of each name in their order holds of each name
-pub each_name : (orders : OrderFacts) (m : fm.FinMap name_cmp ℕ) (marks : List Bool) (k : ℕ) →
+pub each_name : (m : fm.FinMap name_cmp ℕ) (marks : List Bool) (k : ℕ) →
     ((n : ℕ) (g : Name) (j : ℕ) → n < k → slice_get (fm.keys m) n ≡ Some g → fm.get m g ≡ Some j → is_marked marks j ≡ true) → fm.len m ≡ k →
     (g : Name) (j : ℕ) → fm.get m g ≡ Some j → is_marked marks j ≡ true
-each_name orders m marks k each all g j found =
+each_name m marks k each all g j found =
     let somewhere = passes_somewhere (eq_by_cmp name_cmp g) (fm.keys m) (sym (fm.contains_key-keys m g) ∙ ap is_some found) in
-    let same : g ≡ somewhere.1 = orders.one_name g somewhere.1 (equal_of (name_cmp g somewhere.1) somewhere.4) in
+    let same : g ≡ somewhere.1 = same_name g somewhere.1 somewhere.4 in
     let many : length (fm.keys m) ≡ fm.len m = length-map (fm.entries m) (λ (e : Name × ℕ). e.0) ∙ sym (fm.len-entries m) in
     each somewhere.0 g j (omega (arith, somewhere.2, many, all)) (somewhere.3 ∙ ap Some (sym same)) found
 

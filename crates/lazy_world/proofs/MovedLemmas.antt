@@ -1,5 +1,5 @@
 -- The ranges of a group that gets what moves are no more than those of the context once it has moved.
-use Rattle.std.proofs.Common.{◌≡◌, ℕ, ◌<◌, ◌≤◌, List, arith, refl, sym, ap, subst, ◌∙◌, true, false, cond, Option, Some, None}
+use Rattle.std.proofs.Common.{◌≡◌, ℕ, ◌≤◌, List, arith, refl, sym, ap, subst, ◌∙◌, true, false, cond, Option, Some, None}
 use Rattle.std.specs.Prelude.{is_some, unwrap_or}
 use Rattle.std.specs.FinMap as fm
 use Rattle.lwc_base.specs.declared.cell.Cell.{Cell}
@@ -21,15 +21,16 @@ use Rattle.range_map.specs.Kinds.{kind_of, ranges}
 use Rattle.range_map.specs.declared.segment.SegmentKind.{SegmentKind}
 use Rattle.range_map.specs.declared.segment.SegmentKind.TheVariants.{Own, Common}
 use Rattle.lazy_world.specs.Cells.{Row, kinds_of, no_row}
-use Rattle.lazy_world.specs.Facts.{Facts}
-use Rattle.lazy_world.specs.Plans.{moves, planned_row}
+use Rattle.lazy_world.specs.Transfers.{moves, transferred_row}
 use Rattle.lazy_world.specs.Sound.{IsSound, IsWithin}
 use Rattle.lazy_world.specs.States.{Parts, world_of}
-use Rattle.lazy_world.specs.declared.plan.Plan.TheVariants.{Mark, Move}
+use Rattle.lazy_world.specs.declared.transfer.Transfer.TheVariants.{Mark, Move}
 use Rattle.lazy_world.proofs.MapLemmas.{no_kind}
-use Rattle.lazy_world.proofs.PastLemmas.{planned-within}
+use Rattle.lazy_world.proofs.PastLemmas.{transferred-within}
 use Rattle.lazy_world.proofs.ShareLemmas.{fewer-ranges}
 use Rattle.lazy_world.proofs.WorldLemmas.{context-found, live-there}
+use Rattle.lwc_base.proofs.Facts.{changes, stays_fresh}
+use Rattle.range_map.proofs.Ranges.{ranges_of_context}
 
 pub moved-kind : (m : Mode) (p : ℕ) (cell : Cell (Option PageValue)) → kind_of (cells.Own (moved_value m (Page p) cell)) ≡ cond (is_moved m (Page p) cell) (Some Own) None
 moved-kind Copy p cell = refl
@@ -51,10 +52,8 @@ live-past s sound c live = at (fm.get s.contexts.map c) refl (sym (live-there s 
     at None is there = absurd (let e = sym (ap is_some is) ∙ there in cc)
     at (Some i) is there = subst (λ (x : Context). IsWithin s.size.pages x.cell) (sym (context-found s c i is)) (sound.past i)
 
-module _ (facts : Facts) (w : World) (fresh : IsFresh w) (c : Name) (job : ℕ) (items : List Item) (few : w.size.pages ≤ MOST_PAGES) (within : IsWithin w.size.pages (context w c).cell)
-    (spec : IsSpec w.size.pages items) (live : is_live w c ≡ true) (needs : needs_group w c items ≡ true)
-    (law : (pages : ℕ) (x : Context) (kinds : ℕ → Option SegmentKind) → pages ≤ MOST_PAGES → ((p : ℕ) → p < pages → kind_of (x.cell (Page p)) ≡ kinds p) →
-    ((p : ℕ) → pages ≤ p → p < MOST_PAGES → kinds p ≡ None) → base.ranges pages x ≡ ranges MOST_PAGES kinds) where
+module _ (w : World) (fresh : IsFresh w) (c : Name) (job : ℕ) (items : List Item) (few : w.size.pages ≤ MOST_PAGES) (within : IsWithin w.size.pages (context w c).cell)
+    (spec : IsSpec w.size.pages items) (live : is_live w c ≡ true) (needs : needs_group w c items ≡ true) where
   abbrev g : Name
   g = next_group w job
 
@@ -62,27 +61,27 @@ module _ (facts : Facts) (w : World) (fresh : IsFresh w) (c : Name) (job : ℕ) 
   row = (context w c).cell
 
   abbrev kinds : ℕ → Option SegmentKind
-  kinds = kinds_of (planned_row w (Mark g) items row row)
+  kinds = kinds_of (transferred_row w (Mark g) items row row)
 
   shared-ranges : ranges_of (share w c job items) c ≡ ranges MOST_PAGES kinds
   unfolding ranges_of with_shared mode_or_copy
   shared-ranges =
-      let shared = facts.changes.shared w c job items in
+      let shared = changes.shared w c job items in
       ap (λ n. base.ranges n.pages (context (share w c job items) c)) shared.size
       ∙ ap (base.ranges w.size.pages) (shared.named needs live)
-      ∙ law w.size.pages (with_shared g items (context w c)) kinds few (λ p low. refl)
-      (λ p past low. no_kind p (planned_row w (Mark g) items row row (Page p)) (planned-within w w.size.pages items spec (Mark g) row row within within (Page p) past))
+      ∙ ranges_of_context w.size.pages (with_shared g items (context w c)) kinds few (λ p low. refl)
+      (λ p past low. no_kind p (transferred_row w (Mark g) items row row (Page p)) (transferred-within w w.size.pages items spec (Mark g) row row within within (Page p) past))
 
   away : (p : ℕ) → moves items (Page p) row ≡ false → kinds p ≡ Some (Common g) → ⊥
   away p off is =
       let kept : kind_of (row (Page p)) ≡ Some (Common g) = sym (ap (λ b. kind_of (cond b (cells.Common g) (row (Page p)))) off) ∙ is in
-      let named = facts.fresh.named w c (Page p) g fresh (common-cell (row (Page p)) g kept) in
+      let named = stays_fresh.named w c (Page p) g fresh (common-cell (row (Page p)) g kept) in
       absurd (omega (arith, named))
 
   pub moved-few : ranges_of (share w c job items) c ≤ MOST_RANGES → (w1 : World) → context w1 c ≡ context w c →
-      ranges MOST_PAGES (kinds_of (planned_row w1 Move items (context w1 c).cell no_row)) ≤ MOST_RANGES
+      ranges MOST_PAGES (kinds_of (transferred_row w1 Move items (context w1 c).cell no_row)) ≤ MOST_RANGES
   moved-few below w1 same =
-      let fewer = fewer-ranges facts.orders (λ p. moves items (Page p) row) (kinds_of (planned_row w1 Move items row no_row)) kinds g
+      let fewer = fewer-ranges (λ p. moves items (Page p) row) (kinds_of (transferred_row w1 Move items row no_row)) kinds g
       (λ p. moved-kind (unwrap_or (mode items (Page p)) Copy) p (row (Page p)))
       (λ p on. ap (λ b. kind_of (cond b (cells.Common g) (row (Page p)))) on) away MOST_PAGES in
-      subst (λ (x : Context). ranges MOST_PAGES (kinds_of (planned_row w1 Move items x.cell no_row)) ≤ MOST_RANGES) (sym same) (omega (arith, fewer, below, shared-ranges))
+      subst (λ (x : Context). ranges MOST_PAGES (kinds_of (transferred_row w1 Move items x.cell no_row)) ≤ MOST_RANGES) (sym same) (omega (arith, fewer, below, shared-ranges))

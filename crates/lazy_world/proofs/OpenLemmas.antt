@@ -9,13 +9,13 @@ use Rattle.lwc_base.specs.World.{empty_world}
 use Rattle.world_face.specs.Calls.{IsSize}
 use Rattle.lazy_world.specs.declared.registers.Registers.{Registers}
 use Rattle.lazy_world.specs.Cells.{no_row}
-use Rattle.lazy_world.specs.Facts.{Facts}
 use Rattle.ctx_table.specs.NameTables.{NameTable}
 use Rattle.lazy_world.specs.Sound.{IsEmpty, IsSound}
 use Rattle.lazy_world.specs.States.{Parts, context_at, counters_of, group_at, nothing_counted, world_of}
 use Rattle.lazy_world.proofs.AddLemmas.{no_tag, no_tags}
 use Rattle.lazy_world.proofs.MappedLemmas.{mapped-empty}
-use Rattle.lazy_world.proofs.PlaceLemmas.{at_default}
+use Rattle.lwc_base.proofs.Facts.{stays_fresh}
+use Rattle.lwc_base.proofs.Small.{at-new}
 
 pub nothing_there : IsEmpty no_row
 nothing_there (Page p) = refl
@@ -26,7 +26,7 @@ nothing_there Cred = refl
 abbrev pub no_names : ℕ → NameTable
 no_names places = record { map = fm.empty; places = replicate places None }
 
-module _ (facts : Facts) (size : WorldSize) (is_size : IsSize size) (registers : List Registers) (many : length registers ≡ size.contexts) where
+module _ (size : WorldSize) (is_size : IsSize size) (registers : List Registers) (many : length registers ≡ size.contexts) where
   abbrev pub opened : Parts
   opened = record {
     size = size;
@@ -42,7 +42,7 @@ module _ (facts : Facts) (size : WorldSize) (is_size : IsSize size) (registers :
   world-opened = λ e. record {
     contexts = mapped-empty (context_at opened) e;
     groups = mapped-empty (group_at opened) e;
-    next = λ job. counters_of (at_default size.jobs job nothing_counted e);
+    next = λ job. counters_of (at-new size.jobs job nothing_counted e);
     size = size;
   }
 
@@ -60,6 +60,6 @@ module _ (facts : Facts) (size : WorldSize) (is_size : IsSize size) (registers :
     free = λ i low none. nothing_there;
     free_groups = λ j none. nothing_there;
     tags = λ i. no_tags (world_of opened).next no_row nothing_there;
-    fresh = subst IsFresh (sym world-opened) (facts.fresh.empty size);
+    fresh = subst IsFresh (sym world-opened) (stays_fresh.empty size);
     homes = λ i j p q tag a b at_p at_q. absurd (no_tag no_row nothing_there p tag a at_p);
   }

@@ -11,20 +11,16 @@ use Rattle.lwc_base.specs.declared.page.PageValue.{PageValue}
 use Rattle.lwc_base.specs.Keys.{with_key}
 use Rattle.fd_table.specs.Slots as slots
 use Rattle.cow_space.specs.Maps.{put_page}
-use Rattle.page_cells.specs.Cells.{Place, no_pages, place_of}
+use Rattle.cow_space.specs.Cells.{Place, no_pages, place_of}
 use Rattle.lazy_world.specs.Cells.{Row, no_row, on_place, put_row, rows_of}
 use Rattle.lazy_world.specs.Kept.{IsNumbered}
+use Rattle.lwc_base.proofs.Small.{at-new}
 
 pub replicate_push : {A : Type 0} (n : ℕ) (x : A) → replicate n x ++ x ∷ [] ≡ replicate (n + 1) x
 replicate_push zero x = refl
 replicate_push (suc n) x =
     let more : suc n + 1 ≡ suc (n + 1) = omega arith in
     ap (λ l. x ∷ l) (replicate_push n x) ∙ ap (λ m. replicate m x) (sym more)
-
-pub at_default : {A : Type 0} (n i : ℕ) (x : A) → get_or (replicate n x) i x ≡ x
-at_default zero i x = refl
-at_default (suc n) zero x = refl
-at_default (suc n) (suc i) x = at_default n i x
 
 pub choose : {A : Type 0} (i j : ℕ) (x y : A) → j ≡ i → cond (eqb j i) x y ≡ x
 choose i j x y same = let is : eqb j i ≡ true = grind (arith, nat_tests) in ap (λ b. cond b x y) is
@@ -46,9 +42,9 @@ unfolding rows_of
 rows-none n = λ e i k. none i k e
   where
     none : (i : ℕ) (k : _) → rows_of (replicate n no_pages) (replicate n slots.no_slots) (replicate n (Own NOBODY)) i k ≡ no_row k
-    none i (Page p) = ap (λ (place : Place). place p) (at_default n i no_pages)
-    none i (Slot m) = ap (λ (row : ℕ → slots.Slot). (row m).cell) (at_default n i slots.no_slots)
-    none i Cred = at_default n i (Own NOBODY)
+    none i (Page p) = ap (λ (place : Place). place p) (at-new n i no_pages)
+    none i (Slot m) = ap (λ (row : ℕ → slots.Slot). (row m).cell) (at-new n i slots.no_slots)
+    none i Cred = at-new n i (Own NOBODY)
 
 by_choice : {A B : Type 0} (f : A → B) (b : Bool) (x y : A) → f (cond b x y) ≡ cond b (f x) (f y)
 by_choice f true x y = refl
@@ -145,4 +141,4 @@ numbered-put row n slot here old m = at (eqb m n)
     at false = old m
 
 pub numbered-none : (count i n : ℕ) → IsNumbered (slots.row_of (replicate count slots.no_slots) i n)
-numbered-none count i n = subst (λ (row : ℕ → slots.Slot). IsNumbered (row n)) (sym (at_default count i slots.no_slots)) refl
+numbered-none count i n = subst (λ (row : ℕ → slots.Slot). IsNumbered (row n)) (sym (at-new count i slots.no_slots)) refl

@@ -1,9 +1,8 @@
 -- The places that a search marks are those of the contexts that are reached.
-use Rattle.std.proofs.Common.{◌≡◌, ◌⊎◌, inl, inr, ◌↔◌, ℕ, zero, suc, ◌+◌, ◌<◌, arith, List, [], ◌∷◌, refl, sym, ap, subst, ◌∙◌, Bool, true, false, Option, Some, None, get_or, add-zero}
+use Rattle.std.proofs.Common.{◌≡◌, ◌⊎◌, inl, inr, ◌↔◌, ℕ, zero, suc, ◌<◌, arith, List, [], ◌∷◌, refl, sym, ap, subst, ◌∙◌, Bool, true, false, Option, Some, None, get_or}
 use Rattle.std.specs.Prelude.{All, is_some}
-use Rattle.std.specs.List.{Contains, cons_option, filter_map, list_any, range_with_len}
+use Rattle.std.specs.List.{Contains, cons_option, filter_map}
 use Rattle.std.specs.Ordering.{eq_by_cmp, is_eq}
-use Rattle.std.specs.Cmp.{eq_by_cmp_equiv}
 use Rattle.std.specs.FinMap as fm
 use Rattle.std.proofs.lemmas.Bool.{false≢true}
 use Rattle.std.proofs.lemmas.List.Elements.{All-cons, All-nil}
@@ -13,59 +12,28 @@ use Rattle.lwc_base.specs.declared.descriptor.TheConstants.{SLOTS}
 use Rattle.lwc_base.specs.declared.limits.TheConstants.{MOST_CONTEXTS}
 use Rattle.lwc_base.specs.declared.name.Name.{Name}
 use Rattle.lwc_base.specs.Cells.{slot_at}
-use Rattle.lwc_base.specs.Facts.{OrderFacts}
 use Rattle.lwc_base.specs.Life as life
-use Rattle.lwc_base.specs.Life.{is_among, is_of, is_reached, links}
+use Rattle.lwc_base.specs.Life.{is_among, is_of, is_reached}
 use Rattle.lwc_base.specs.Names.{name_cmp}
-use Rattle.lwc_base.specs.World.{World, is_live}
+use Rattle.lwc_base.specs.World.{is_live}
 use Rattle.ctx_table.specs.NameTables.{ArePlaced}
 use Rattle.reach.specs.Reach as reach
 use Rattle.reach.specs.Reach.{is_marked}
 use Rattle.lazy_world.specs.declared.world.PlacedWorld.{PlacedWorld}
 use Rattle.lazy_world.specs.Reaping.{link_from, link_of, place_in}
 use Rattle.lazy_world.specs.Worlds.{parts, seen}
-use Rattle.lazy_world.proofs.SmallLemmas.{equal_of, or_either, or_first, or_second, same_some}
 use Rattle.lazy_world.proofs.WorldLemmas.{live-there}
+use Rattle.lwc_base.proofs.Life.{or_cases, or_left, or_right, reached_by_way, way_of_reached}
+use Rattle.lwc_base.proofs.Orders.{name-itself, same_name}
+use Rattle.lwc_base.proofs.Slots.{linked_slot, slot_links}
+use Rattle.lwc_base.proofs.Small.{gathered_either, gathered_later, same_bool, same_some}
 
--- two tests that pass together are the same
-pub same_bool : (a b : Bool) → (a ≡ true → b ≡ true) → (b ≡ true → a ≡ true) → a ≡ b
-same_bool true b to from = sym (to refl)
-same_bool false true to from = from refl
-same_bool false false to from = refl
-
--- a test passes at a number of a range
-pub any_here : (test : ℕ → Bool) (a n k : ℕ) → k < n → test (a + k) ≡ true → list_any test (range_with_len a n) ≡ true
-any_here test a zero k less passes = absurd (omega arith)
-any_here test a (suc n) zero less passes = or_first _ _ (ap test (sym (add-zero a)) ∙ passes)
-any_here test a (suc n) (suc k) less passes = or_second _ _ (any_here test (a + 1) n k (omega arith) (ap test (omega arith) ∙ passes))
-
-pub any_where : (test : ℕ → Bool) (a n : ℕ) → list_any test (range_with_len a n) ≡ true → (k : ℕ) × (k < n) × (test (a + k) ≡ true)
-any_where test a zero passes = cc
-any_where test a (suc n) passes =
-    elim (or_either (test a) (list_any test (range_with_len (a + 1) n)) passes) [
-      | inl here ↦ (0, omega arith, ap test (add-zero a) ∙ here)
-      | inr later ↦ let found = any_where test (a + 1) n later in (suc found.0, omega (arith, found.1), ap test (omega arith) ∙ found.2)
-    ]
-
--- what is gathered of a list has what is gathered of its end
-gathered_later : {Y : Type 0} (o : Option Y) (ys : List Y) (y : Y) → Contains ys y → Contains (cons_option o ys) y
-gathered_later None ys y there = there
-gathered_later (Some z) ys y there = (suc there.0, omega (arith, there.1), there.2)
-
-gathered_either : {Y : Type 0} (o : Option Y) (ys : List Y) (y : Y) → Contains (cons_option o ys) y → (o ≡ Some y) ⊎ Contains ys y
-gathered_either None ys y there = inr there
-gathered_either (Some z) ys y (zero, within, is) = inl (ap Some is)
-gathered_either (Some z) ys y (suc k, within, is) = inr (k, omega (arith, within), is)
-
-module _ (orders : OrderFacts) (w : PlacedWorld) (placed : ArePlaced w.contexts) where
+module _ (w : PlacedWorld) (placed : ArePlaced w.contexts) where
   abbrev places_by_name : fm.FinMap name_cmp ℕ
   places_by_name = w.contexts.map
 
   abbrev names : List (Option Name)
   names = w.contexts.places
-
-  same_name : (c d : Name) → is_eq (name_cmp c d) ≡ true → c ≡ d
-  same_name c d tied = orders.one_name c d (equal_of (name_cmp c d) tied)
 
   -- a name that has a place is live
   pub live-named : (i : ℕ) (c : Name) → get_or names i None ≡ Some c → is_live (seen w) c ≡ true
@@ -98,7 +66,7 @@ module _ (orders : OrderFacts) (w : PlacedWorld) (placed : ArePlaced w.contexts)
   it_of_place c (Reply r) i at named = cc
   it_of_place c (Ctx name cap) i at named =
       let same : name ≡ c = same_some name c (sym ((placed.at name i).0 at) ∙ named) in
-      ap (λ d. is_eq (name_cmp name d)) (sym same) ∙ (eq_by_cmp_equiv orders.names).refl name
+      ap (λ d. is_eq (name_cmp name d)) (sym same) ∙ name-itself name
 
   module _ (roots : List Name) where
     abbrev places : List Name → List ℕ
@@ -119,14 +87,14 @@ module _ (orders : OrderFacts) (w : PlacedWorld) (placed : ArePlaced w.contexts)
         elim (gathered_either (fm.get places_by_name r) (places rs) i there) [
           | inl here ↦
               let same : c ≡ r = same_some c r (sym named ∙ (placed.at r i).0 here) in
-              or_first _ _ (ap (eq_by_cmp name_cmp c) (sym same) ∙ (eq_by_cmp_equiv orders.names).refl c)
-          | inr later ↦ or_second _ _ (root_at rs i c named later)
+              or_left _ _ (ap (eq_by_cmp name_cmp c) (sym same) ∙ name-itself c)
+          | inr later ↦ or_right _ _ (root_at rs i c named later)
         ]
 
     at_root : (among : List Name) (i : ℕ) (c : Name) → fm.get places_by_name c ≡ Some i → is_among among c ≡ true → Contains (places among) i
     at_root [] i c at there = cc
     at_root (r ∷ rs) i c at there =
-        elim (or_either (eq_by_cmp name_cmp c r) (is_among rs c) there) [
+        elim (or_cases (eq_by_cmp name_cmp c r) (is_among rs c) there) [
           | inl here ↦
               let o : Some i ≡ fm.get places_by_name r = sym at ∙ ap (fm.get places_by_name) (same_name c r here) in
               subst (λ o. Contains (cons_option o (places rs)) i) o (0, omega arith, refl)
@@ -136,11 +104,10 @@ module _ (orders : OrderFacts) (w : PlacedWorld) (placed : ArePlaced w.contexts)
     -- a link from a place is one from the name there
     link_by_name : (place slot next : ℕ) (c : Name) (o : Option Name) → get_or names next None ≡ Some c → slot < SLOTS → get_or names place None ≡ o → link_from w slot o ≡ Some next →
         ((d : Name) → get_or names place None ≡ Some d → life.Reaches (seen w) roots d) → life.Reaches (seen w) roots c
-    unfolding links
     link_by_name place slot next c None named within none link from = cc
     link_by_name place slot next c (Some d) named within there link from =
         life.Link d c (from d there) (live-named place d there)
-        (any_here (λ n. is_of c (slot_at (seen w) d n)) 0 SLOTS slot within (ap (λ n. is_of c (slot_at (seen w) d n)) (omega arith) ∙ it_of_place c (slot_at (seen w) d slot) next link named))
+        (slot_links (seen w) d c slot within (it_of_place c (slot_at (seen w) d slot) next link named))
 
     -- what is reached by places is reached by names
     by_name : (i : ℕ) (c : Name) → get_or names i None ≡ Some c → reach.Reaches (link_of w) (places roots) i → life.Reaches (seen w) roots c
@@ -151,25 +118,23 @@ module _ (orders : OrderFacts) (w : PlacedWorld) (placed : ArePlaced w.contexts)
 
     -- and the other way round
     by_place : (c : Name) → life.Reaches (seen w) roots c → (i : ℕ) → fm.get places_by_name c ≡ Some i → reach.Reaches (link_of w) (places roots) i
-    unfolding link_of links
+    unfolding link_of
     by_place _ (life.Root c there) i at = reach.Root i (at_root roots i c at there)
     by_place _ (life.Link d c reached live linked) i at =
         let place = has_place d live in
-        let slot = any_where (λ n. is_of c (slot_at (seen w) d n)) 0 SLOTS linked in
+        let slot = linked_slot (seen w) d c linked in
         reach.Link place.0 slot.0 i (by_place d reached place.0 place.1) slot.1
         (ap (link_from w slot.0) ((placed.at d place.0).0 place.1)
-        ∙ place_of_it c (slot_at (seen w) d slot.0) (ap (λ n. is_of c (slot_at (seen w) d n)) (omega arith) ∙ slot.2) ∙ at)
+        ∙ place_of_it c (slot_at (seen w) d slot.0) slot.2 ∙ at)
 
     -- so the marks of a search are those of the contexts that are reached
-    module _ (is_found : (v : World) (names : List Name) (c : Name) → life.Reaches v names c → is_live v c ≡ true → is_reached v names c ≡ true)
-        (has_way : (v : World) (names : List Name) (c : Name) → is_reached v names c ≡ true → life.Reaches v names c) where
-      pub marked-reached : (searched : List ℕ) (marks : List Bool) → searched ≡ places roots →
-          ((place : ℕ) → place < MOST_CONTEXTS → (is_marked marks place ≡ true) ↔ reach.Reaches (link_of w) searched place) →
-          (c : Name) (i : ℕ) → fm.get places_by_name c ≡ Some i → i < MOST_CONTEXTS → is_marked marks i ≡ is_reached (seen w) roots c
-      marked-reached searched marks from found c i at within =
-          let named : get_or names i None ≡ Some c = (placed.at c i).0 at in
-          let by : (is_marked marks i ≡ true) ↔ reach.Reaches (link_of w) (places roots) i =
-          subst (λ (starts : List ℕ). (is_marked marks i ≡ true) ↔ reach.Reaches (link_of w) starts i) from (found i within) in
-          same_bool (is_marked marks i) (is_reached (seen w) roots c)
-          (λ marked. is_found (seen w) roots c (by_name i c named (by.0 marked)) (live-named i c named))
-          (λ reached. by.1 (by_place c (has_way (seen w) roots c reached) i at))
+    pub marked-reached : (searched : List ℕ) (marks : List Bool) → searched ≡ places roots →
+        ((place : ℕ) → place < MOST_CONTEXTS → (is_marked marks place ≡ true) ↔ reach.Reaches (link_of w) searched place) →
+        (c : Name) (i : ℕ) → fm.get places_by_name c ≡ Some i → i < MOST_CONTEXTS → is_marked marks i ≡ is_reached (seen w) roots c
+    marked-reached searched marks from found c i at within =
+        let named : get_or names i None ≡ Some c = (placed.at c i).0 at in
+        let by : (is_marked marks i ≡ true) ↔ reach.Reaches (link_of w) (places roots) i =
+        subst (λ (starts : List ℕ). (is_marked marks i ≡ true) ↔ reach.Reaches (link_of w) starts i) from (found i within) in
+        same_bool (is_marked marks i) (is_reached (seen w) roots c)
+        (λ marked. reached_by_way (seen w) roots c (by_name i c named (by.0 marked)) (live-named i c named))
+        (λ reached. by.1 (by_place c (way_of_reached (seen w) roots c reached) i at))

@@ -1,4 +1,4 @@
--- A plan by two names that no cell has yet gives pages as many ranges by the one as by the other.
+-- A transfer by two names that no cell has yet gives pages as many ranges by the one as by the other.
 use Rattle.std.proofs.Common.{◌≡◌, ℕ, zero, suc, arith, eqb, refl, sym, ap, ◌∙◌, Bool, true, false, cond, Option, Some, None}
 use Rattle.std.specs.Prelude.{◌&&◌, not, count_by, unwrap_or}
 use Rattle.std.specs.Ordering.{is_eq}
@@ -14,82 +14,81 @@ use Rattle.lwc_base.specs.declared.key.Key.{Key}
 use Rattle.lwc_base.specs.declared.key.Key.TheVariants.{Page}
 use Rattle.lwc_base.specs.declared.name.Name.{Name}
 use Rattle.lwc_base.specs.declared.page.PageValue.{PageValue}
-use Rattle.lwc_base.specs.Facts.{OrderFacts}
 use Rattle.lwc_base.specs.Keys.{ValueOf}
 use Rattle.lwc_base.specs.Names.{name_cmp}
 use Rattle.lwc_base.specs.Ranges.{are_of_one_kind, begins_range, is_page, ranges}
 use Rattle.lwc_base.specs.Sharing.{is_moved}
 use Rattle.lwc_base.specs.World.{World, Context}
-use Rattle.lazy_world.specs.Plans.{planned_cell, taken_cell}
-use Rattle.lazy_world.specs.declared.plan.Plan.{Plan}
-use Rattle.lazy_world.specs.declared.plan.Plan.TheVariants.{Mark, Move, Clone, Overlay}
-use Rattle.lazy_world.proofs.MappedLemmas.{equal_of}
+use Rattle.lazy_world.specs.Transfers.{transferred_cell, taken_cell}
+use Rattle.lazy_world.specs.declared.transfer.Transfer.{Transfer}
+use Rattle.lazy_world.specs.declared.transfer.Transfer.TheVariants.{Mark, Move, Clone, Overlay}
+use Rattle.lwc_base.proofs.Facts.{orders}
+use Rattle.lwc_base.proofs.Orders.{same_name}
 
 -- ranges depend on the cells of a context alone
 pub ranges-cells : (pages : ℕ) (x y : Context) → ((k : Key) → x.cell k ≡ y.cell k) → ranges pages x ≡ ranges pages y
 unfolding ranges begins_range
 ranges-cells pages x y same = ap (λ (row : (k : Key) → Cell (ValueOf k)). ranges pages (record { cell = row; entry = x.entry; saved = x.saved })) (λ e k. same k e)
 
-module _ (orders : OrderFacts) where
-  own_kind : (g : Name) → are_of_one_kind (cells.Common g) (cells.Common g) ≡ true
-  own_kind g = (eq_by_cmp_equiv orders.names).refl g
+own_kind : (g : Name) → are_of_one_kind (cells.Common g) (cells.Common g) ≡ true
+own_kind g = (eq_by_cmp_equiv orders.names).refl g
 
-  other_name : (g h : Name) → (◌≡◌ {A = Cell (Option PageValue)} (cells.Common h) (cells.Common g) → ⊥) → (b : Bool) → is_eq (name_cmp g h) ≡ b → b ≡ false
-  other_name g h other true is = absurd (other (ap cells.Common (sym (orders.one_name g h (equal_of (name_cmp g h) is)))))
-  other_name g h other false is = refl
+other_name : (g h : Name) → (◌≡◌ {A = Cell (Option PageValue)} (cells.Common h) (cells.Common g) → ⊥) → (b : Bool) → is_eq (name_cmp g h) ≡ b → b ≡ false
+other_name g h other true is = absurd (other (ap cells.Common (sym (same_name g h is))))
+other_name g h other false is = refl
 
-  back_name : (g h : Name) → (◌≡◌ {A = Cell (Option PageValue)} (cells.Common h) (cells.Common g) → ⊥) → (b : Bool) → is_eq (name_cmp h g) ≡ b → b ≡ false
-  back_name g h other true is = absurd (other (ap cells.Common (orders.one_name h g (equal_of (name_cmp h g) is))))
-  back_name g h other false is = refl
+back_name : (g h : Name) → (◌≡◌ {A = Cell (Option PageValue)} (cells.Common h) (cells.Common g) → ⊥) → (b : Bool) → is_eq (name_cmp h g) ≡ b → b ≡ false
+back_name g h other true is = absurd (other (ap cells.Common (same_name h g is)))
+back_name g h other false is = refl
 
-  apart_left : (g : Name) (cell : Cell (Option PageValue)) → (cell ≡ cells.Common g → ⊥) → are_of_one_kind (cells.Common g) cell ≡ false
-  apart_left g (cells.Own v) other = refl
-  apart_left g (cells.Common h) other = other_name g h other (is_eq (name_cmp g h)) refl
+apart_left : (g : Name) (cell : Cell (Option PageValue)) → (cell ≡ cells.Common g → ⊥) → are_of_one_kind (cells.Common g) cell ≡ false
+apart_left g (cells.Own v) other = refl
+apart_left g (cells.Common h) other = other_name g h other (is_eq (name_cmp g h)) refl
 
-  apart_right : (g : Name) (cell : Cell (Option PageValue)) → (cell ≡ cells.Common g → ⊥) → are_of_one_kind cell (cells.Common g) ≡ false
-  apart_right g (cells.Own None) other = refl
-  apart_right g (cells.Own (Some v)) other = refl
-  apart_right g (cells.Common h) other = back_name g h other (is_eq (name_cmp h g)) refl
+apart_right : (g : Name) (cell : Cell (Option PageValue)) → (cell ≡ cells.Common g → ⊥) → are_of_one_kind cell (cells.Common g) ≡ false
+apart_right g (cells.Own None) other = refl
+apart_right g (cells.Own (Some v)) other = refl
+apart_right g (cells.Common h) other = back_name g h other (is_eq (name_cmp h g)) refl
 
-  module _ (x y : Context) (g h : Name) (moved : ℕ → Bool)
-      (on_x : (p : ℕ) → moved p ≡ true → x.cell (Page p) ≡ cells.Common g) (on_y : (p : ℕ) → moved p ≡ true → y.cell (Page p) ≡ cells.Common h)
-      (off : (p : ℕ) → moved p ≡ false → x.cell (Page p) ≡ y.cell (Page p))
-      (away_x : (p : ℕ) → moved p ≡ false → x.cell (Page p) ≡ cells.Common g → ⊥) (away_y : (p : ℕ) → moved p ≡ false → y.cell (Page p) ≡ cells.Common h → ⊥) where
-    same_page : (p : ℕ) (b : Bool) → moved p ≡ b → is_page (x.cell (Page p)) ≡ is_page (y.cell (Page p))
-    same_page p true is = ap is_page (on_x p is) ∙ sym (ap is_page (on_y p is))
-    same_page p false is = ap is_page (off p is)
+module _ (x y : Context) (g h : Name) (moved : ℕ → Bool)
+    (on_x : (p : ℕ) → moved p ≡ true → x.cell (Page p) ≡ cells.Common g) (on_y : (p : ℕ) → moved p ≡ true → y.cell (Page p) ≡ cells.Common h)
+    (off : (p : ℕ) → moved p ≡ false → x.cell (Page p) ≡ y.cell (Page p))
+    (away_x : (p : ℕ) → moved p ≡ false → x.cell (Page p) ≡ cells.Common g → ⊥) (away_y : (p : ℕ) → moved p ≡ false → y.cell (Page p) ≡ cells.Common h → ⊥) where
+  same_page : (p : ℕ) (b : Bool) → moved p ≡ b → is_page (x.cell (Page p)) ≡ is_page (y.cell (Page p))
+  same_page p true is = ap is_page (on_x p is) ∙ sym (ap is_page (on_y p is))
+  same_page p false is = ap is_page (off p is)
 
-    same_kind : (p q : ℕ) (a b : Bool) → moved p ≡ a → moved q ≡ b → are_of_one_kind (x.cell (Page p)) (x.cell (Page q)) ≡ are_of_one_kind (y.cell (Page p)) (y.cell (Page q))
-    same_kind p q true true is too =
-        (λ e. are_of_one_kind (on_x p is e) (on_x q too e)) ∙ own_kind g ∙ sym (own_kind h) ∙ sym (λ e. are_of_one_kind (on_y p is e) (on_y q too e))
-    same_kind p q true false is too =
-        ap (λ c. are_of_one_kind c (x.cell (Page q))) (on_x p is) ∙ apart_left g (x.cell (Page q)) (away_x q too)
-        ∙ sym (ap (λ c. are_of_one_kind c (y.cell (Page q))) (on_y p is) ∙ apart_left h (y.cell (Page q)) (away_y q too))
-    same_kind p q false true is too =
-        ap (are_of_one_kind (x.cell (Page p))) (on_x q too) ∙ apart_right g (x.cell (Page p)) (away_x p is)
-        ∙ sym (ap (are_of_one_kind (y.cell (Page p))) (on_y q too) ∙ apart_right h (y.cell (Page p)) (away_y p is))
-    same_kind p q false false is too = λ e. are_of_one_kind (off p is e) (off q too e)
+  same_kind : (p q : ℕ) (a b : Bool) → moved p ≡ a → moved q ≡ b → are_of_one_kind (x.cell (Page p)) (x.cell (Page q)) ≡ are_of_one_kind (y.cell (Page p)) (y.cell (Page q))
+  same_kind p q true true is too =
+      (λ e. are_of_one_kind (on_x p is e) (on_x q too e)) ∙ own_kind g ∙ sym (own_kind h) ∙ sym (λ e. are_of_one_kind (on_y p is e) (on_y q too e))
+  same_kind p q true false is too =
+      ap (λ c. are_of_one_kind c (x.cell (Page q))) (on_x p is) ∙ apart_left g (x.cell (Page q)) (away_x q too)
+      ∙ sym (ap (λ c. are_of_one_kind c (y.cell (Page q))) (on_y p is) ∙ apart_left h (y.cell (Page q)) (away_y q too))
+  same_kind p q false true is too =
+      ap (are_of_one_kind (x.cell (Page p))) (on_x q too) ∙ apart_right g (x.cell (Page p)) (away_x p is)
+      ∙ sym (ap (are_of_one_kind (y.cell (Page p))) (on_y q too) ∙ apart_right h (y.cell (Page p)) (away_y p is))
+  same_kind p q false false is too = λ e. are_of_one_kind (off p is e) (off q too e)
 
-    same_begin : (p : ℕ) → begins_range x p ≡ begins_range y p
-    unfolding begins_range
-    same_begin zero = ap (λ b. b && not false) (same_page zero (moved zero) refl)
-    same_begin (suc p) = λ e. same_page (suc p) (moved (suc p)) refl e && not (same_kind p (suc p) (moved p) (moved (suc p)) refl refl e)
+  same_begin : (p : ℕ) → begins_range x p ≡ begins_range y p
+  unfolding begins_range
+  same_begin zero = ap (λ b. b && not false) (same_page zero (moved zero) refl)
+  same_begin (suc p) = λ e. same_page (suc p) (moved (suc p)) refl e && not (same_kind p (suc p) (moved p) (moved (suc p)) refl refl e)
 
-    pub renamed-ranges : (pages : ℕ) → ranges pages x ≡ ranges pages y
-    unfolding ranges
-    renamed-ranges pages = λ e. count_by (λ p. same_begin p e) (range_with_len 0 pages)
+  pub renamed-ranges : (pages : ℕ) → ranges pages x ≡ ranges pages y
+  unfolding ranges
+  renamed-ranges pages = λ e. count_by (λ p. same_begin p e) (range_with_len 0 pages)
 
--- the plan with another name for what moves
-abbrev pub with_name : Plan → Name → Plan
+-- the transfer with another name for what moves
+abbrev pub with_name : Transfer → Name → Transfer
 with_name (Mark g) h = Mark h
 with_name Move h = Move
 with_name (Clone g) h = Clone h
 with_name (Overlay g) h = Overlay h
 
--- whether a cell by a plan becomes common of the new group
-abbrev pub is_new : Plan → Option Mode → (k : Key) → Cell (ValueOf k) → Bool
+-- whether a cell by a transfer becomes common of the new group
+abbrev pub is_new : Transfer → Option Mode → (k : Key) → Cell (ValueOf k) → Bool
 is_new Move m k cell = false
-is_new plan m k cell = is_moved (unwrap_or m Copy) k cell
+is_new transfer m k cell = is_moved (unwrap_or m Copy) k cell
 
 module _ (w : World) (k : Key) (cell old : Cell (ValueOf k)) (h : Name) where
   taken_new : (m : Mode) → is_moved m k cell ≡ true → taken_cell w h m k cell ≡ cells.Common h
@@ -97,24 +96,24 @@ module _ (w : World) (k : Key) (cell old : Cell (ValueOf k)) (h : Name) where
   taken_new Share is = ap (λ b. cond b (cells.Common h) cell) is
   taken_new Unmap is = absurd (let e = is in cc)
 
-  pub planned-new : (plan : Plan) (m : Option Mode) → is_new plan m k cell ≡ true → planned_cell w (with_name plan h) m k cell old ≡ cells.Common h
-  planned-new (Mark g) m is = ap (λ b. cond b (cells.Common h) cell) is
-  planned-new Move m is = absurd (let e = is in cc)
-  planned-new (Clone g) m is = taken_new (unwrap_or m Copy) is
-  planned-new (Overlay g) None is = absurd (let e = is in cc)
-  planned-new (Overlay g) (Some m) is = taken_new m is
+  pub transferred-new : (transfer : Transfer) (m : Option Mode) → is_new transfer m k cell ≡ true → transferred_cell w (with_name transfer h) m k cell old ≡ cells.Common h
+  transferred-new (Mark g) m is = ap (λ b. cond b (cells.Common h) cell) is
+  transferred-new Move m is = absurd (let e = is in cc)
+  transferred-new (Clone g) m is = taken_new (unwrap_or m Copy) is
+  transferred-new (Overlay g) None is = absurd (let e = is in cc)
+  transferred-new (Overlay g) (Some m) is = taken_new m is
 
   taken_old : (m : Mode) (g : Name) → is_moved m k cell ≡ false → taken_cell w h m k cell ≡ taken_cell w g m k cell
   taken_old Copy g is = refl
   taken_old Share g is = ap (λ b. cond b (cells.Common h) cell) is ∙ sym (ap (λ b. cond b (cells.Common g) cell) is)
   taken_old Unmap g is = refl
 
-  pub planned-old : (plan : Plan) (m : Option Mode) (g : Name) → is_new plan m k cell ≡ false → planned_cell w (with_name plan h) m k cell old ≡ planned_cell w (with_name plan g) m k cell old
-  planned-old (Mark n) m g is = ap (λ b. cond b (cells.Common h) cell) is ∙ sym (ap (λ b. cond b (cells.Common g) cell) is)
-  planned-old Move m g is = refl
-  planned-old (Clone n) m g is = taken_old (unwrap_or m Copy) g is
-  planned-old (Overlay n) None g is = refl
-  planned-old (Overlay n) (Some m) g is = taken_old m g is
+  pub transferred-old : (transfer : Transfer) (m : Option Mode) (g : Name) → is_new transfer m k cell ≡ false → transferred_cell w (with_name transfer h) m k cell old ≡ transferred_cell w (with_name transfer g) m k cell old
+  transferred-old (Mark n) m g is = ap (λ b. cond b (cells.Common h) cell) is ∙ sym (ap (λ b. cond b (cells.Common g) cell) is)
+  transferred-old Move m g is = refl
+  transferred-old (Clone n) m g is = taken_old (unwrap_or m Copy) g is
+  transferred-old (Overlay n) None g is = refl
+  transferred-old (Overlay n) (Some m) g is = taken_old m g is
 
   module _ (here : cell ≡ cells.Common h → ⊥) (there : old ≡ cells.Common h → ⊥) where
     no_own : (value : ValueOf k) → ◌≡◌ {A = Cell (ValueOf k)} (cells.Own value) (cells.Common h) → ⊥
@@ -125,12 +124,12 @@ module _ (w : World) (k : Key) (cell old : Cell (ValueOf k)) (h : Name) where
     taken_away Share is e = here (sym (ap (λ b. cond b (cells.Common h) cell) is) ∙ e)
     taken_away Unmap is e = no_own _ e
 
-    pub planned-away : (plan : Plan) (m : Option Mode) → is_new plan m k cell ≡ false → planned_cell w (with_name plan h) m k cell old ≡ cells.Common h → ⊥
-    planned-away (Mark n) m is e = here (sym (ap (λ b. cond b (cells.Common h) cell) is) ∙ e)
-    planned-away Move m is e = no_own _ e
-    planned-away (Clone n) m is e = taken_away (unwrap_or m Copy) is e
-    planned-away (Overlay n) None is e = there e
-    planned-away (Overlay n) (Some m) is e = taken_away m is e
+    pub transferred-away : (transfer : Transfer) (m : Option Mode) → is_new transfer m k cell ≡ false → transferred_cell w (with_name transfer h) m k cell old ≡ cells.Common h → ⊥
+    transferred-away (Mark n) m is e = here (sym (ap (λ b. cond b (cells.Common h) cell) is) ∙ e)
+    transferred-away Move m is e = no_own _ e
+    transferred-away (Clone n) m is e = taken_away (unwrap_or m Copy) is e
+    transferred-away (Overlay n) None is e = there e
+    transferred-away (Overlay n) (Some m) is e = taken_away m is e
 
 -- names with another job or another number are two
 pub names-differ : (c d : Name) → (eqb c.job d.job && eqb c.k d.k) ≡ false → c ≡ d → ⊥

@@ -8,12 +8,12 @@ use Rattle.lwc_base.specs.Saved.{save, with_saved}
 use Rattle.ctx_table.specs.NameTables.{ArePlaced}
 use Rattle.lazy_world.specs.declared.registers.Registers.{Registers}
 use Rattle.lazy_world.specs.Cells.{Row}
-use Rattle.lazy_world.specs.Facts.{Facts}
 use Rattle.lazy_world.specs.Sound.{IsSound}
 use Rattle.lazy_world.specs.States.{Parts, context_of, registers_at, world_of}
 use Rattle.lazy_world.proofs.PlaceLemmas.{set_at}
 use Rattle.lazy_world.proofs.SoundLemmas.{sound-registers}
 use Rattle.lazy_world.proofs.WorldLemmas.{change_context-registers}
+use Rattle.lwc_base.proofs.Facts.{stays_fresh}
 
 abbrev pub kept : Registers → ℕ → Regs → Registers
 kept old t regs = record { entry = old.entry; saved = set old.saved t (Some regs) }
@@ -21,7 +21,7 @@ kept old t regs = record { entry = old.entry; saved = set old.saved t (Some regs
 saved-context : (row : Row) (old : Registers) (t : ℕ) (regs : Regs) → t < length old.saved → context_of row (kept old t regs) ≡ with_saved t regs (context_of row old)
 saved-context row old t regs inside = λ e. record { cell = row; entry = old.entry; saved = λ n. set_at old.saved t n (Some regs) None inside e }
 
-module _ (s : Parts) (sound : IsSound s) (facts : Facts) (placed : ArePlaced s.contexts) (c : Name) (i : ℕ) (found : fm.get s.contexts.map c ≡ Some i)
+module _ (s : Parts) (sound : IsSound s) (placed : ArePlaced s.contexts) (c : Name) (i : ℕ) (found : fm.get s.contexts.map c ≡ Some i)
     (old : Registers) (is : old ≡ registers_at s.registers i) (t : ℕ) (regs : Regs) (inside : t < length old.saved) where
   low : i < length s.registers
   low = let below = placed.within c i found in omega (arith, below, sound.sizes.contexts, sound.sizes.registers)
@@ -29,8 +29,8 @@ module _ (s : Parts) (sound : IsSound s) (facts : Facts) (placed : ArePlaced s.c
   pub saved-world : world_of (record s { registers = set s.registers i (kept old t regs) }) ≡ save (world_of s) c t regs
   unfolding save
   saved-world =
-      change_context-registers s facts.orders placed c i found (kept old t regs) (with_saved t regs) low
+      change_context-registers s placed c i found (kept old t regs) (with_saved t regs) low
       (saved-context (s.rows i) old t regs inside ∙ ap (λ (r : Registers). with_saved t regs (context_of (s.rows i) r)) is)
 
   pub sound-saved : IsSound (record s { registers = set s.registers i (kept old t regs) })
-  sound-saved = sound-registers s sound i (kept old t regs) (subst IsFresh (sym saved-world) (facts.fresh.saved (world_of s) c t regs sound.fresh))
+  sound-saved = sound-registers s sound i (kept old t regs) (subst IsFresh (sym saved-world) (stays_fresh.saved (world_of s) c t regs sound.fresh))

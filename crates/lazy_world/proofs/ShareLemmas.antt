@@ -7,7 +7,6 @@ use Rattle.std.specs.List.{fold, range_with_len}
 use Rattle.std.specs.FinMap as fm
 use Rattle.lwc_base.specs.declared.item.Item.{Item}
 use Rattle.lwc_base.specs.declared.name.Name.{Name}
-use Rattle.lwc_base.specs.Facts.{OrderFacts}
 use Rattle.lwc_base.specs.Modes.{mode_or_copy}
 use Rattle.lwc_base.specs.Names.{name_cmp}
 use Rattle.lwc_base.specs.Sharing.{moved_values, needs_group, share, with_shared}
@@ -15,29 +14,29 @@ use Rattle.lwc_base.specs.World.{World, Context, Group, add_group, change_contex
 use Rattle.range_map.specs.Kinds.{are_alike, begins_range, ranges}
 use Rattle.range_map.specs.declared.segment.SegmentKind.{SegmentKind}
 use Rattle.range_map.specs.declared.segment.SegmentKind.TheVariants.{Own, Common}
-use Rattle.lazy_world.specs.Facts.{Facts}
-use Rattle.lazy_world.specs.Followed.{followed, with_planned}
-use Rattle.lazy_world.specs.declared.plan.Plan.TheVariants.{Mark}
+use Rattle.lazy_world.specs.Followed.{followed, with_transferred}
+use Rattle.lazy_world.specs.declared.transfer.Transfer.TheVariants.{Mark}
 use Rattle.lazy_world.proofs.FollowLemmas.{change-agree}
-use Rattle.lazy_world.proofs.MappedLemmas.{equal_of}
+use Rattle.lwc_base.proofs.Facts.{changes, orders}
+use Rattle.lwc_base.proofs.Orders.{same_name}
 
 set_twice : {X : Type 0} (b : Bool) (x y : X) (o : Option X) → cond b (Some y) (cond b (Some x) o) ≡ cond b (Some y) o
 set_twice true x y o = refl
 set_twice false x y o = refl
 
 -- what is put under a name again
-pub insert-twice : {X : Type 0} (orders : OrderFacts) (m : fm.FinMap name_cmp X) (c : Name) (x y : X) → fm.insert (fm.insert m c x) c y ≡ fm.insert m c y
-insert-twice orders m c x y =
+pub insert-twice : {X : Type 0} (m : fm.FinMap name_cmp X) (c : Name) (x y : X) → fm.insert (fm.insert m c x) c y ≡ fm.insert m c y
+insert-twice m c x y =
     fm.same_map orders.names orders.one_name _ _
     (λ q. fm.get-insert orders.names (fm.insert m c x) c y q
     ∙ ap (cond (eq_by_cmp name_cmp q c) (Some y)) (fm.get-insert orders.names m c x q)
     ∙ set_twice (eq_by_cmp name_cmp q c) x y (fm.get m q)
     ∙ sym (fm.get-insert orders.names m c y q))
 
-pub get-same : {X : Type 0} (orders : OrderFacts) (m : fm.FinMap name_cmp X) (c : Name) (x : X) → fm.get (fm.insert m c x) c ≡ Some x
-get-same orders m c x = fm.get-insert orders.names m c x c ∙ ap (λ b. cond b (Some x) (fm.get m c)) ((eq_by_cmp_equiv orders.names).refl c)
+pub get-same : {X : Type 0} (m : fm.FinMap name_cmp X) (c : Name) (x : X) → fm.get (fm.insert m c x) c ≡ Some x
+get-same m c x = fm.get-insert orders.names m c x c ∙ ap (λ b. cond b (Some x) (fm.get m c)) ((eq_by_cmp_equiv orders.names).refl c)
 
-module _ (facts : Facts) (w : World) (c : Name) (job : ℕ) (items : List Item) where
+module _ (w : World) (c : Name) (job : ℕ) (items : List Item) where
   abbrev g : Name
   g = next_group w job
 
@@ -48,13 +47,13 @@ module _ (facts : Facts) (w : World) (c : Name) (job : ℕ) (items : List Item) 
   filled = change_group added g (λ x. moved_values items (context added c))
 
   same_context : context added c ≡ context w c
-  same_context = facts.changes.same_contexts w added c (facts.changes.group_added w job new_group).contexts
+  same_context = changes.same_contexts w added c (changes.group_added w job new_group).contexts
 
   filled-is : filled ≡ add_group w job (moved_values items (context w c))
   unfolding add_group change_group change_counters
   filled-is =
-      ap (changed_group added g (λ x. moved_values items (context added c))) (get-same facts.orders w.groups g new_group)
-      ∙ ap (λ m. record added { groups = m }) (insert-twice facts.orders w.groups g new_group (moved_values items (context added c)))
+      ap (changed_group added g (λ x. moved_values items (context added c))) (get-same w.groups g new_group)
+      ∙ ap (λ m. record added { groups = m }) (insert-twice w.groups g new_group (moved_values items (context added c)))
       ∙ ap (λ x. add_group w job (moved_values items x)) same_context
 
   -- a context changes as well before a group is added as after
@@ -66,9 +65,9 @@ module _ (facts : Facts) (w : World) (c : Name) (job : ℕ) (items : List Item) 
       at None = refl
       at (Some y) = refl
 
-  marked : (v : World) → change_context v c (with_planned v (Mark g) items (context v c).cell) ≡ change_context v c (with_shared g items)
+  marked : (v : World) → change_context v c (with_transferred v (Mark g) items (context v c).cell) ≡ change_context v c (with_shared g items)
   unfolding with_shared mode_or_copy
-  marked v = change-agree v c (with_planned v (Mark g) items (context v c).cell) (with_shared g items) refl
+  marked v = change-agree v c (with_transferred v (Mark g) items (context v c).cell) (with_shared g items) refl
 
   pub shared-world : needs_group w c items ≡ true → followed filled (Mark g) items c c ≡ share w c job items
   unfolding share
@@ -103,7 +102,7 @@ fold_mono f h (x ∷ xs) a b below le =
 count_mono : {X : Type 0} (f h : X → Bool) (xs : List X) → ((x : X) → f x ≡ true → h x ≡ true) → count_by f xs ≤ count_by h xs
 count_mono f h xs le = fold_mono f h xs 0 0 (omega arith) le
 
-module _ (orders : OrderFacts) (moved : ℕ → Bool) (group kinds : ℕ → Option SegmentKind) (g : Name)
+module _ (moved : ℕ → Bool) (group kinds : ℕ → Option SegmentKind) (g : Name)
     (is_group : (p : ℕ) → group p ≡ cond (moved p) (Some Own) None) (here : (p : ℕ) → moved p ≡ true → kinds p ≡ Some (Common g))
     (away : (p : ℕ) → moved p ≡ false → kinds p ≡ Some (Common g) → ⊥) where
   apart : (kind : Option SegmentKind) → (kind ≡ Some (Common g) → ⊥) → are_alike kind (Some (Common g)) ≡ false
@@ -112,7 +111,7 @@ module _ (orders : OrderFacts) (moved : ℕ → Bool) (group kinds : ℕ → Opt
   apart (Some (Common h)) other = at (is_eq (name_cmp h g)) refl
     where
       at : (b : Bool) → is_eq (name_cmp h g) ≡ b → is_eq (name_cmp h g) ≡ false
-      at true is = absurd (other (ap (λ n. Some (Common n)) (orders.one_name h g (equal_of (name_cmp h g) is))))
+      at true is = absurd (other (ap (λ n. Some (Common n)) (same_name h g is)))
       at false is = is
 
   begins_too : (p : ℕ) → begins_range group p ≡ true → begins_range kinds p ≡ true

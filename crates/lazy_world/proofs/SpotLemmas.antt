@@ -19,7 +19,6 @@ use Rattle.lwc_base.specs.World.{World, Context, Counters, change_counters}
 use Rattle.ctx_table.specs.NameTables.{ArePlaced}
 use Rattle.lazy_world.specs.declared.counts.Counts.{Counts}
 use Rattle.lazy_world.specs.Cells.{Row, is_nothing, is_own, put_row}
-use Rattle.lazy_world.specs.Facts.{Facts}
 use Rattle.lazy_world.specs.Memory.{holder, holder_of}
 use Rattle.lazy_world.specs.Sound.{HasOldTags, HasOneHome, IsAllOwn, IsSound, IsWithin}
 use Rattle.lazy_world.specs.States.{Parts, counters_of, group_of, held, nothing_counted, world_of}
@@ -27,6 +26,7 @@ use Rattle.lazy_world.proofs.AddLemmas.{counted-at}
 use Rattle.lazy_world.proofs.PlaceLemmas.{choose, pass}
 use Rattle.lazy_world.proofs.SoundLemmas.{IsTagged, sound-row}
 use Rattle.lazy_world.proofs.WorldLemmas.{change_context-row, change_group-row, context-found}
+use Rattle.lwc_base.proofs.Facts.{changes, stays_fresh}
 
 -- the row with a page of a value
 abbrev pub with_page : ℕ → PageValue → Row → Row
@@ -98,7 +98,7 @@ homes-page rows j p v homes keeps m n q r t a b at_q at_r =
     with-new : (k x : ℕ) (c d : List ℕ) → v ≡ Data t c → rows k (Page x) ≡ Own (Some (Data t d)) → p ≡ x
     with-new k x c d is old = ⊎_elim (λ (was : IsTagged rows p t). homes was.place k p x t was.bytes d was.is old) (λ none. absurd (none k x d old)) (keeps t c is)
 
-module _ (s : Parts) (sound : IsSound s) (facts : Facts) where
+module _ (s : Parts) (sound : IsSound s) where
   abbrev now : World
   now = world_of s
 
@@ -131,13 +131,13 @@ module _ (s : Parts) (sound : IsSound s) (facts : Facts) where
         ⊎_elim
         (λ mine.
         ap (λ k. world_of (record s { rows = put_row s.rows k (with_page p v (s.rows k)) })) mine.0
-        ∙ change_context-row s facts.orders placed c i found (with_page p v (s.rows i)) (with_cell (Page p) (Own (Some v))) inside refl
-        ∙ sym (facts.changes.put_own now c (Page p) (Some mine.1.0) (Some v) (ap (λ (x : Context). x.cell (Page p)) (context-found s c i found) ∙ mine.1.1) refl))
+        ∙ change_context-row s placed c i found (with_page p v (s.rows i)) (with_cell (Page p) (Own (Some v))) inside refl
+        ∙ sym (changes.put_own now c (Page p) (Some mine.1.0) (Some v) (ap (λ (x : Context). x.cell (Page p)) (context-found s c i found) ∙ mine.1.1) refl))
         (λ theirs.
         ap (λ k. world_of (record s { rows = put_row s.rows k (with_page p v (s.rows k)) })) theirs.4
-        ∙ change_group-row s facts.orders placed_groups theirs.0 theirs.1 theirs.3 (λ d q at_q. let low = placed.within d q at_q in omega (arith, low, sound.sizes.contexts))
+        ∙ change_group-row s placed_groups theirs.0 theirs.1 theirs.3 (λ d q at_q. let low = placed.within d q at_q in omega (arith, low, sound.sizes.contexts))
         (with_page p v (s.rows (s.size.contexts + theirs.1))) (with_value (Page p) (Some v)) (group-page p v (s.rows (s.size.contexts + theirs.1)))
-        ∙ sym (facts.changes.put_common now c (Page p) theirs.0 (Some v) (ap (λ (x : Context). x.cell (Page p)) (context-found s c i found) ∙ theirs.2)))
+        ∙ sym (changes.put_common now c (Page p) theirs.0 (Some v) (ap (λ (x : Context). x.cell (Page p)) (context-found s c i found) ∙ theirs.2)))
         spot
 
     -- there is no such page past the last one
@@ -164,7 +164,7 @@ module _ (s : Parts) (sound : IsSound s) (facts : Facts) where
         (λ low none. absurd (taken-place low none))
         (λ q is none. absurd (taken-group q is none))
         (old-tags tags)
-        (subst IsFresh (sym put-spot) (facts.fresh.put now c (Page p) (Some v) sound.fresh))
+        (subst IsFresh (sym put-spot) (stays_fresh.put now c (Page p) (Some v) sound.fresh))
         (homes-page s.rows j p v sound.homes keeps)
 
   -- a job takes tags
@@ -174,7 +174,7 @@ module _ (s : Parts) (sound : IsSound s) (facts : Facts) where
     more = record s { counts = set s.counts job n }
 
     next-now : (k : ℕ) → counters_of (get_or (set s.counts job n) k nothing_counted) ≡ cond (eqb k job) (record (now.next k) { tags = (now.next k).tags + taken }) (now.next k)
-    next-now = counted-at s sound facts job n (λ m. record m { tags = m.tags + taken }) (omega (arith, known, sound.sizes.counts)) counted
+    next-now = counted-at s sound job n (λ m. record m { tags = m.tags + taken }) (omega (arith, known, sound.sizes.counts)) counted
 
     pub counted-world : world_of more ≡ change_counters now job (λ m. record m { tags = m.tags + taken })
     unfolding world_of change_counters
@@ -204,6 +204,6 @@ module _ (s : Parts) (sound : IsSound s) (facts : Facts) where
           let same = ap (λ (x : Counters). x.tags) (next-now t.job) in
           omega (arith, before, after, same);
       fresh = subst IsFresh (sym counted-world)
-          (facts.fresh.counted now job (λ m. record m { tags = m.tags + taken }) (record { contexts = omega arith; groups = omega arith; tags = omega arith }) sound.fresh);
+          (stays_fresh.counted now job (λ m. record m { tags = m.tags + taken }) (record { contexts = omega arith; groups = omega arith; tags = omega arith }) sound.fresh);
       homes = sound.homes;
     }

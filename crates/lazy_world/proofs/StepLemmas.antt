@@ -8,22 +8,20 @@ use Rattle.lwc_base.specs.declared.key.Key.{Key}
 use Rattle.lwc_base.specs.declared.key.Key.TheVariants.{Page}
 use Rattle.lwc_base.specs.declared.name.Name.{Name}
 use Rattle.lwc_base.specs.declared.page.PageValue.TheVariants.{Zero}
-use Rattle.lwc_base.specs.Cells.{page_at, put_at, put_page, value_at}
-use Rattle.lwc_base.specs.Facts.{ChangeFacts}
-use Rattle.lwc_base.specs.Keys.{ValueOf}
+use Rattle.lwc_base.specs.Cells.{page_at, put_page}
 use Rattle.lwc_base.specs.Store.{Piece}
 use Rattle.lwc_base.specs.World.{World, Counters, change_counters, is_live}
 use Rattle.lazy_world.specs.Stores.{parts_at, store_pages, taken_at, value_after}
 use Rattle.lazy_world.proofs.StoreLemmas.{count-one, counted-value, next-tags, store-more, store-one}
-
-steps_left : (p end : ℕ) → p < end → suc (end - (p + 1)) ≡ end - p
-steps_left p end within = omega (arith, within)
+use Rattle.lwc_base.proofs.Facts.{changes}
+use Rattle.lwc_base.proofs.Common.{put-other_key}
+use Rattle.lwc_base.proofs.Small.{steps_left}
 
 -- the pages from one on are that one and those that follow
 split : (p end : ℕ) → p < end → range_with_len p (end - p) ≡ p ∷ range_with_len (p + 1) (end - (p + 1))
 split p end low = ap (range_with_len p) (sym (steps_left p end low))
 
-two-pages : (p q : ℕ) → ◌≡◌ {A = Key} (Page q) (Page p) → q ≡ p
+pub two-pages : (p q : ℕ) → ◌≡◌ {A = Key} (Page q) (Page p) → q ≡ p
 two-pages p q is = cc
 
 same-all : (f g : ℕ → Bool) (ps : List ℕ) → ((j d : ℕ) → j < length ps → f (get_or ps j d) ≡ g (get_or ps j d)) → list_all f ps ≡ list_all g ps
@@ -41,8 +39,7 @@ pub first-there : (w : World) (c : Name) (p end : ℕ) → p < end → list_all 
     (is_some (page_at w c p) ≡ true) × (list_all (λ q. is_some (page_at w c q)) (range_with_len (p + 1) (end - (p + 1))) ≡ true)
 first-there w c p end low all = and_parts _ _ (sym (ap (list_all (λ q. is_some (page_at w c q))) (split p end low)) ∙ all)
 
-module _ (changes : ChangeFacts) (one_key : (w : World) (c : Name) (k : Key) (value : ValueOf k) (d : Name) (q : Key) → q ≢ k → value_at (put_at w c k value) d q ≡ value_at w d q)
-    (w v : World) (c : Name) (job : ℕ) (piece : Piece) (p end : ℕ) (low : p < end) (is : v ≡ store_pages w c job piece (p ∷ [])) (others : (q : ℕ) → q ≢ p → parts_at v c q ≡ parts_at w c q) where
+module _ (w v : World) (c : Name) (job : ℕ) (piece : Piece) (p end : ℕ) (low : p < end) (is : v ≡ store_pages w c job piece (p ∷ [])) (others : (q : ℕ) → q ≢ p → parts_at v c q ≡ parts_at w c q) where
   abbrev rest : List ℕ
   rest = range_with_len (p + 1) (end - (p + 1))
 
@@ -61,7 +58,7 @@ module _ (changes : ChangeFacts) (one_key : (w : World) (c : Name) (k : Key) (va
 
   same-page : (q : ℕ) → q ≢ p → page_at v c q ≡ page_at w c q
   same-page q off =
-      ap (λ (x : World). page_at x c q) one ∙ counted-value put job f c q ∙ one_key w c (Page p) (Some (value_after w c job piece p)) c (Page q) (λ same. off (two-pages p q same))
+      ap (λ (x : World). page_at x c q) one ∙ counted-value put job f c q ∙ put-other_key w c (Page p) (Some (value_after w c job piece p)) c (Page q) (λ same. off (two-pages p q same))
 
   pub step-there : list_all (λ q. is_some (page_at w c q)) rest ≡ true → list_all (λ q. is_some (page_at v c q)) rest ≡ true
   step-there all = same-all (λ q. is_some (page_at v c q)) (λ q. is_some (page_at w c q)) rest (λ j d lt. ap is_some (same-page (get_or rest j d) (apart j d lt))) ∙ all
@@ -78,7 +75,7 @@ module _ (changes : ChangeFacts) (one_key : (w : World) (c : Name) (k : Key) (va
 
   pub step-stored : store_pages v c job piece rest ≡ store_pages w c job piece (range_with_len p (end - p))
   step-stored =
-      store-more changes w v c job piece p rest is (λ j d lt. ap (λ o. unwrap_or o Zero) (same-page (get_or rest j d) (apart j d lt))) (λ j d lt. others (get_or rest j d) (apart j d lt))
+      store-more w v c job piece p rest is (λ j d lt. ap (λ o. unwrap_or o Zero) (same-page (get_or rest j d) (apart j d lt))) (λ j d lt. others (get_or rest j d) (apart j d lt))
       ∙ ap (store_pages w c job piece) (sym (split p end low))
 
   pub step-tags : (v.next job).tags ≡ (w.next job).tags + taken_at w c p

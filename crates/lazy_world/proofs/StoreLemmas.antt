@@ -12,15 +12,16 @@ use Rattle.lwc_base.specs.declared.name.Name.{Name}
 use Rattle.lwc_base.specs.declared.page.PageValue.{PageValue}
 use Rattle.lwc_base.specs.declared.page.PageValue.TheVariants.{Zero}
 use Rattle.lwc_base.specs.Cells.{page_at, put_at, put_in, put_page, value_at}
-use Rattle.lwc_base.specs.Facts.{ChangeFacts}
 use Rattle.lwc_base.specs.Frames.{is_parting, used}
 use Rattle.lwc_base.specs.Memory.{is_present, touched}
 use Rattle.lwc_base.specs.Pages.{bytes_of}
-use Rattle.lwc_base.specs.Store.{Piece, Stored, Absent, Full, Done, after_store, bytes_after, page_value_at, parting_count, plan, put_pages, store, stored_value}
+use Rattle.lwc_base.specs.Store.{Piece, Stored, Absent, Full, Done, after_store, bytes_after, page_value_at, parting_count, stored_pages, put_pages, store, stored_value}
 use Rattle.lwc_base.specs.World.{World, Context, Counters, Group, change_context, change_counters, change_group, changed_context, changed_group, context, group}
 use Rattle.lazy_world.specs.Memory.{page_in}
 use Rattle.lazy_world.specs.Stores.{parts_at, store_pages, taken_at, value_after}
 use Rattle.lazy_world.proofs.MemoryLemmas.{page-in}
+use Rattle.lwc_base.proofs.Facts.{changes}
+use Rattle.lwc_base.proofs.Small.{answer-absent, answer-done, answer-full}
 
 -- the number of one page
 pub count-one : (f : ℕ → Bool) (p : ℕ) (ps : List ℕ) → count_by f (p ∷ ps) ≡ cond (f p) 1 0 + count_by f ps
@@ -118,16 +119,16 @@ next-tags w c job f = at (eqb job job) refl
     at false is = let same : eqb job job ≡ true = eq-eqb job job refl in absurd (false≢true (sym is ∙ same))
 
 module _ (w v : World) (c : Name) (job : ℕ) (piece : Piece) where
-  -- the plan of pages whose values are as before and that part as before
-  same-plan : (k : ℕ) (ps : List ℕ) → ((j : ℕ) (d : ℕ) → j < length ps → page_value_at v c (get_or ps j d) ≡ page_value_at w c (get_or ps j d)) →
-      ((j : ℕ) (d : ℕ) → j < length ps → parts_at v c (get_or ps j d) ≡ parts_at w c (get_or ps j d)) → plan v c job piece k ps ≡ plan w c job piece k ps
-  same-plan k [] values parts = refl
-  same-plan k (p ∷ ps) values parts =
+  -- the stored pages whose values are as before and that part as before
+  same-stored_pages : (k : ℕ) (ps : List ℕ) → ((j : ℕ) (d : ℕ) → j < length ps → page_value_at v c (get_or ps j d) ≡ page_value_at w c (get_or ps j d)) →
+      ((j : ℕ) (d : ℕ) → j < length ps → parts_at v c (get_or ps j d) ≡ parts_at w c (get_or ps j d)) → stored_pages v c job piece k ps ≡ stored_pages w c job piece k ps
+  same-stored_pages k [] values parts = refl
+  same-stored_pages k (p ∷ ps) values parts =
       let value = values 0 p (omega arith) in
       let part = parts 0 p (omega arith) in
-      (λ e. (p, stored_value (part e) (record { job = job; k = k }) (value e) (bytes_after piece p (bytes_of (value e)))) ∷ plan v c job piece (if part e then k + 1 else k) ps)
+      (λ e. (p, stored_value (part e) (record { job = job; k = k }) (value e) (bytes_after piece p (bytes_of (value e)))) ∷ stored_pages v c job piece (if part e then k + 1 else k) ps)
       ∙ ap (λ l. (p, stored_value (parts_at w c p) (record { job = job; k = k }) (page_value_at w c p) (bytes_after piece p (bytes_of (page_value_at w c p)))) ∷ l)
-      (same-plan (if parts_at w c p then k + 1 else k) ps (λ j d lt. values (suc j) d (omega (arith, lt))) (λ j d lt. parts (suc j) d (omega (arith, lt))))
+      (same-stored_pages (if parts_at w c p then k + 1 else k) ps (λ j d lt. values (suc j) d (omega (arith, lt))) (λ j d lt. parts (suc j) d (omega (arith, lt))))
 
   same-count : (ps : List ℕ) → ((j : ℕ) (d : ℕ) → j < length ps → parts_at v c (get_or ps j d) ≡ parts_at w c (get_or ps j d)) → count_by (parts_at v c) ps ≡ count_by (parts_at w c) ps
   same-count [] parts = refl
@@ -141,39 +142,25 @@ next-k true k = refl
 next-k false k = omega arith
 
 -- a page is stored to, and then those that follow
-pub store-more : ChangeFacts → (w v : World) (c : Name) (job : ℕ) (piece : Piece) (p : ℕ) (ps : List ℕ) → v ≡ store_pages w c job piece (p ∷ []) →
+pub store-more : (w v : World) (c : Name) (job : ℕ) (piece : Piece) (p : ℕ) (ps : List ℕ) → v ≡ store_pages w c job piece (p ∷ []) →
     ((j : ℕ) (d : ℕ) → j < length ps → page_value_at v c (get_or ps j d) ≡ page_value_at w c (get_or ps j d)) → ((j : ℕ) (d : ℕ) → j < length ps → parts_at v c (get_or ps j d) ≡ parts_at w c (get_or ps j d)) →
     store_pages v c job piece ps ≡ store_pages w c job piece (p ∷ ps)
 unfolding store_pages
-store-more changes w v c job piece p ps is values parts =
+store-more w v c job piece p ps is values parts =
     let f : Counters → Counters = λ n. record n { tags = n.tags + taken_at w c p } in
     let one : v ≡ change_counters (put_page w c p (value_after w c job piece p)) job f = is ∙ store-one w c job piece p in
     let tags : (v.next job).tags ≡ (w.next job).tags + taken_at w c p =
     ap (λ (x : World). (x.next job).tags) one ∙ ap (λ (n : Counters). n.tags) (next-tags (put_page w c p (value_after w c job piece p)) c job f)
     ∙ ap (λ (next : ℕ → Counters). (next job).tags + taken_at w c p) (changes.put w c (Page p) (Some (value_after w c job piece p))).next in
     let k : (v.next job).tags ≡ cond (parts_at w c p) ((w.next job).tags + 1) (w.next job).tags = tags ∙ next-k (parts_at w c p) (w.next job).tags in
-    let vs : List (ℕ × PageValue) = plan w c job piece (cond (parts_at w c p) ((w.next job).tags + 1) (w.next job).tags) ps in
-    let planned : plan v c job piece (v.next job).tags ps ≡ vs = same-plan w v c job piece (v.next job).tags ps values parts ∙ ap (λ n. plan w c job piece n ps) k in
-    (λ e. change_counters (put_pages (one e) c (planned e)) job (λ n. record n { tags = n.tags + same-count w v c job piece ps parts e }))
+    let vs : List (ℕ × PageValue) = stored_pages w c job piece (cond (parts_at w c p) ((w.next job).tags + 1) (w.next job).tags) ps in
+    let same_pages : stored_pages v c job piece (v.next job).tags ps ≡ vs = same-stored_pages w v c job piece (v.next job).tags ps values parts ∙ ap (λ n. stored_pages w c job piece n ps) k in
+    (λ e. change_counters (put_pages (one e) c (same_pages e)) job (λ n. record n { tags = n.tags + same-count w v c job piece ps parts e }))
     ∙ ap (λ (x : World). change_counters x job (λ n. record n { tags = n.tags + count_by (parts_at w c) ps })) (counted-puts (put_page w c p (value_after w c job piece p)) job f c vs)
     ∙ counted-twice (put_pages (put_page w c p (value_after w c job piece p)) c vs) job (taken_at w c p) (count_by (parts_at w c) ps)
     ∙ ap (λ (m : ℕ). change_counters (put_pages (put_page w c p (value_after w c job piece p)) c vs) job (λ n. record n { tags = n.tags + m })) (sym (count-one (parts_at w c) p ps))
 
 -- how a store ends
-
-answer-absent : (present full : Bool) (done : Stored) → present ≡ false → (if not present then Absent else (if full then Full else done)) ≡ Absent
-answer-absent true full done absent = absurd (false≢true (sym absent))
-answer-absent false full done absent = refl
-
-answer-full : (present full : Bool) (done : Stored) → present ≡ true → full ≡ true → (if not present then Absent else (if full then Full else done)) ≡ Full
-answer-full true true done there short = refl
-answer-full true false done there short = absurd (false≢true short)
-answer-full false full done there short = absurd (false≢true there)
-
-answer-done : (present full : Bool) (done : Stored) → present ≡ true → full ≡ false → (if not present then Absent else (if full then Full else done)) ≡ done
-answer-done true true done there room = absurd (false≢true (sym room))
-answer-done true false done there room = refl
-answer-done false full done there room = absurd (false≢true there)
 
 module _ (w : World) (c : Name) (job : ℕ) (piece : Piece) where
   -- a touched page is absent
@@ -200,7 +187,7 @@ module _ (w : World) (c : Name) (job : ℕ) (piece : Piece) where
         answer-done (is_present w c piece.at (length piece.bytes)) (nat_lt w.size.frames (used w + parting_count w c piece)) (Done (after_store w c job piece)) there
         (le-ltb w.size.frames (used w + parting_count w c piece) (omega (arith, room, parting-touched)))
         ∙ ap Done
-        (λ e. change_counters (put_pages w c (plan w c job piece (w.next job).tags (sym touches e))) job (λ n. record n { tags = n.tags + parting-touched e }))
+        (λ e. change_counters (put_pages w c (stored_pages w c job piece (w.next job).tags (sym touches e))) job (λ n. record n { tags = n.tags + parting-touched e }))
 
 -- what is counted, and what is there, by the cells of the context
 module _ (w : World) (c : Name) (x : Context) (ps : List ℕ) (cells : context w c ≡ x) where

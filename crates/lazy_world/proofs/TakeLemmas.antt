@@ -1,4 +1,4 @@
--- A place that gets what sources give.
+-- A place that gets what origins give.
 use Rattle.std.proofs.Common.{◌≡◌, ℕ, ◌+◌, ◌<◌, ⊎_elim, true, false, cond, List, length, arith, refl, sym, ap, ◌∙◌, Option, Some, None, set}
 use Rattle.std.specs.Prelude.{nat_lt}
 use Rattle.std.specs.Option.{option_map}
@@ -9,17 +9,17 @@ use Rattle.lwc_base.specs.declared.key.Key.{Key}
 use Rattle.lwc_base.specs.declared.key.Key.TheVariants.{Page, Slot, Cred}
 use Rattle.lwc_base.specs.Keys.{ValueOf, with_key}
 use Rattle.fd_table.specs.Slots as slots
-use Rattle.page_cells.specs.Cells.{Place, place_of}
-use Rattle.page_cells.specs.Cells as page_specs
-use Rattle.page_cells.specs.Changes.{cell_by, changed_place, sourced_cell, stretch_at}
+use Rattle.cow_space.specs.Cells.{Place, place_of}
+use Rattle.cow_space.specs.Cells as page_specs
+use Rattle.cow_space.specs.Changes.{cell_by, changed_place, origin_cell, stretch_at}
 use Rattle.range_map.specs.Kinds.{kind_of}
-use Rattle.page_cells.specs.declared.stretches.Source.{Source}
-use Rattle.page_cells.specs.declared.stretches.Source.TheVariants as sources
-use Rattle.page_cells.specs.declared.stretches.Stretch.{Stretch}
+use Rattle.cow_space.specs.declared.stretches.Origin.{Origin}
+use Rattle.cow_space.specs.declared.stretches.Origin.TheVariants as origins
+use Rattle.cow_space.specs.declared.stretches.Stretch.{Stretch}
 use Rattle.lazy_world.specs.Cells.{Row, kinds_of, on_place, put_row, rows_of}
-use Rattle.lazy_world.specs.Plans.{CanGet, given, given_or}
-use Rattle.lazy_world.specs.declared.pieces.PageSources.{PageSources}
-use Rattle.lazy_world.specs.Sources.{page_source, slot_source, source_at, with_pages, with_slots}
+use Rattle.lazy_world.specs.Transfers.{CanGet, given, given_or}
+use Rattle.lazy_world.specs.declared.pieces.PageOrigins.{PageOrigins}
+use Rattle.lazy_world.specs.Origins.{page_origin, slot_origin, origin_at, with_pages, with_slots}
 use Rattle.lazy_world.proofs.PlaceLemmas.{choose, pages-put, pass, same_rows}
 
 module _ (cells : List Place) (table : List (ℕ → slots.Slot)) (uids : List (Cell ℕ)) (i : ℕ) where
@@ -27,26 +27,26 @@ module _ (cells : List Place) (table : List (ℕ → slots.Slot)) (uids : List (
   old = rows_of cells table uids
 
   -- the pages of stretches
-  pub stretches-given : (stretches : List Stretch) (p : ℕ) → changed_place cells i stretches p ≡ given_or old (Page p) (old i (Page p)) (source_at stretches p)
+  pub stretches-given : (stretches : List Stretch) (p : ℕ) → changed_place cells i stretches p ≡ given_or old (Page p) (old i (Page p)) (origin_at stretches p)
   unfolding changed_place rows_of
   stretches-given stretches p = at (stretch_at stretches p)
     where
-      sourced : (source : Source) → sourced_cell cells source p ≡ given old (Page p) source
-      sourced sources.Absent = refl
-      sourced sources.Zeros = refl
-      sourced (sources.Common g) = refl
-      sourced (sources.CopyOf j) = refl
+      given_is : (origin : Origin) → origin_cell cells origin p ≡ given old (Page p) origin
+      given_is origins.Absent = refl
+      given_is origins.Zeros = refl
+      given_is (origins.Common g) = refl
+      given_is (origins.CopyOf j) = refl
 
-      at : (o : Option Stretch) → cell_by cells p (place_of cells i p) o ≡ given_or old (Page p) (old i (Page p)) (option_map (λ (s : Stretch). s.source) o)
+      at : (o : Option Stretch) → cell_by cells p (place_of cells i p) o ≡ given_or old (Page p) (old i (Page p)) (option_map (λ (s : Stretch). s.origin) o)
       at None = refl
-      at (Some s) = sourced s.source
+      at (Some s) = given_is s.origin
 
   -- all pages of another place
   pub all-given : (j p : ℕ) → place_of cells j p ≡ old j (Page p)
   unfolding rows_of
   all-given j p = refl
 
-  module _ (pages : PageSources) (place : Place) (is : (p : ℕ) → place p ≡ given_or old (Page p) (old i (Page p)) (page_source pages p)) where
+  module _ (pages : PageOrigins) (place : Place) (is : (p : ℕ) → place p ≡ given_or old (Page p) (old i (Page p)) (page_origin pages p)) where
     pub row-given : i < length cells → rows_of (set cells i place) table uids ≡ put_row old i (with_pages old pages (old i))
     unfolding rows_of
     row-given inside = pages-put cells table uids i place (with_pages old pages (old i)) inside each
@@ -85,20 +85,20 @@ module _ (count : ℕ) (rows : ℕ → Row) (i : ℕ) where
   off_row row j k other = ap (λ (r : Row). r k) (pass i j row (rows j) other)
 
   -- what another place gives does not depend on the row
-  pub given-still : (row : Row) (k : Key) (old : Cell (ValueOf k)) (source : Option Source) → CanGet count i source → given_or (put_row rows i row) k old source ≡ given_or rows k old source
+  pub given-still : (row : Row) (k : Key) (old : Cell (ValueOf k)) (origin : Option Origin) → CanGet count i origin → given_or (put_row rows i row) k old origin ≡ given_or rows k old origin
   given-still row k old None can = refl
-  given-still row k old (Some sources.Absent) can = refl
-  given-still row k old (Some sources.Zeros) can = refl
-  given-still row k old (Some (sources.Common g)) can = refl
-  given-still row k old (Some (sources.CopyOf j)) can = off_row row j k can.1
+  given-still row k old (Some origins.Absent) can = refl
+  given-still row k old (Some origins.Zeros) can = refl
+  given-still row k old (Some (origins.Common g)) can = refl
+  given-still row k old (Some (origins.CopyOf j)) can = off_row row j k can.1
 
-  module _ (slots : List (Option Source)) (can : (n : ℕ) → n < 64 → CanGet count i (slot_source slots n)) where
+  module _ (slots : List (Option Origin)) (can : (n : ℕ) → n < 64 → CanGet count i (slot_origin slots n)) where
     pub slots-none : rows ≡ put_row rows i (with_slots 0 rows slots (rows i))
     slots-none = kept-rows rows i (with_slots 0 rows slots (rows i)) at
       where
         at : (k : Key) → rows i k ≡ with_slots 0 rows slots (rows i) k
         at (Page p) = refl
-        at (Slot n) = let off : nat_lt n 0 ≡ false = grind (arith, nat_tests) in sym (ap (λ b. cond b (given_or rows (Slot n) (rows i (Slot n)) (slot_source slots n)) (rows i (Slot n))) off)
+        at (Slot n) = let off : nat_lt n 0 ≡ false = grind (arith, nat_tests) in sym (ap (λ b. cond b (given_or rows (Slot n) (rows i (Slot n)) (slot_origin slots n)) (rows i (Slot n))) off)
         at Cred = refl
 
     -- one more slot
@@ -107,43 +107,43 @@ module _ (count : ℕ) (rows : ℕ → Row) (i : ℕ) where
       before = with_slots n rows slots (rows i)
 
       here_before : before (Slot n) ≡ rows i (Slot n)
-      here_before = let off : nat_lt n n ≡ false = grind (arith, nat_tests) in ap (λ b. cond b (given_or rows (Slot n) (rows i (Slot n)) (slot_source slots n)) (rows i (Slot n))) off
+      here_before = let off : nat_lt n n ≡ false = grind (arith, nat_tests) in ap (λ b. cond b (given_or rows (Slot n) (rows i (Slot n)) (slot_origin slots n)) (rows i (Slot n))) off
 
       abbrev put : (ℕ → Row) → ℕ → Row
-      put rs = put_row rs i (with_key Cell (Slot n) (given_or rs (Slot n) (rs i (Slot n)) (slot_source slots n)) (rs i))
+      put rs = put_row rs i (with_key Cell (Slot n) (given_or rs (Slot n) (rs i (Slot n)) (slot_origin slots n)) (rs i))
 
-      slot_put : given_or (put_row rows i before) (Slot n) (put_row rows i before i (Slot n)) (slot_source slots n) ≡ given_or rows (Slot n) (rows i (Slot n)) (slot_source slots n)
+      slot_put : given_or (put_row rows i before) (Slot n) (put_row rows i before i (Slot n)) (slot_origin slots n) ≡ given_or rows (Slot n) (rows i (Slot n)) (slot_origin slots n)
       slot_put =
-          ap (λ old. given_or (put_row rows i before) (Slot n) old (slot_source slots n)) (at_row before (Slot n) ∙ here_before)
-          ∙ given-still before (Slot n) (rows i (Slot n)) (slot_source slots n) (can n low)
+          ap (λ old. given_or (put_row rows i before) (Slot n) old (slot_origin slots n)) (at_row before (Slot n) ∙ here_before)
+          ∙ given-still before (Slot n) (rows i (Slot n)) (slot_origin slots n) (can n low)
 
-      slot_after : (m : ℕ) → with_key Cell (Slot n) (given_or rows (Slot n) (rows i (Slot n)) (slot_source slots n)) before (Slot m) ≡ with_slots (n + 1) rows slots (rows i) (Slot m)
+      slot_after : (m : ℕ) → with_key Cell (Slot n) (given_or rows (Slot n) (rows i (Slot n)) (slot_origin slots n)) before (Slot m) ≡ with_slots (n + 1) rows slots (rows i) (Slot m)
       slot_after m =
           ⊎_elim
           (λ same. let on : nat_lt m (n + 1) ≡ true = grind (arith, nat_tests) in
-          choose n m (given_or rows (Slot n) (rows i (Slot n)) (slot_source slots n)) (before (Slot m)) same
-          ∙ ap (λ q. given_or rows (Slot q) (rows i (Slot q)) (slot_source slots q)) (sym same)
-          ∙ sym (ap (λ b. cond b (given_or rows (Slot m) (rows i (Slot m)) (slot_source slots m)) (rows i (Slot m))) on))
+          choose n m (given_or rows (Slot n) (rows i (Slot n)) (slot_origin slots n)) (before (Slot m)) same
+          ∙ ap (λ q. given_or rows (Slot q) (rows i (Slot q)) (slot_origin slots q)) (sym same)
+          ∙ sym (ap (λ b. cond b (given_or rows (Slot m) (rows i (Slot m)) (slot_origin slots m)) (rows i (Slot m))) on))
           (λ other. let both : nat_lt m n ≡ nat_lt m (n + 1) = grind (arith, nat_tests) in
-          pass n m (given_or rows (Slot n) (rows i (Slot n)) (slot_source slots n)) (before (Slot m)) other
-          ∙ ap (λ b. cond b (given_or rows (Slot m) (rows i (Slot m)) (slot_source slots m)) (rows i (Slot m))) both)
+          pass n m (given_or rows (Slot n) (rows i (Slot n)) (slot_origin slots n)) (before (Slot m)) other
+          ∙ ap (λ b. cond b (given_or rows (Slot m) (rows i (Slot m)) (slot_origin slots m)) (rows i (Slot m))) both)
           (cases_eq m n)
 
       slot-step : put (put_row rows i before) ≡ put_row rows i (with_slots (n + 1) rows slots (rows i))
       slot-step = same_rows rows (put (put_row rows i before)) i (with_slots (n + 1) rows slots (rows i)) here others
         where
           start : (k : Key) → put (put_row rows i before) i k
-              ≡ with_key Cell (Slot n) (given_or (put_row rows i before) (Slot n) (put_row rows i before i (Slot n)) (slot_source slots n)) (put_row rows i before i) k
-          start k = ap (λ (r : Row). r k) (choose i i (with_key Cell (Slot n) (given_or (put_row rows i before) (Slot n) (put_row rows i before i (Slot n)) (slot_source slots n)) (put_row rows i before i)) (put_row rows i before i) refl)
+              ≡ with_key Cell (Slot n) (given_or (put_row rows i before) (Slot n) (put_row rows i before i (Slot n)) (slot_origin slots n)) (put_row rows i before i) k
+          start k = ap (λ (r : Row). r k) (choose i i (with_key Cell (Slot n) (given_or (put_row rows i before) (Slot n) (put_row rows i before i (Slot n)) (slot_origin slots n)) (put_row rows i before i)) (put_row rows i before i) refl)
 
           same_before : put_row rows i before i ≡ before
           same_before = choose i i before (rows i) refl
 
-          swap : (k : Key) → with_key Cell (Slot n) (given_or (put_row rows i before) (Slot n) (put_row rows i before i (Slot n)) (slot_source slots n)) (put_row rows i before i) k
-              ≡ with_key Cell (Slot n) (given_or rows (Slot n) (rows i (Slot n)) (slot_source slots n)) before k
+          swap : (k : Key) → with_key Cell (Slot n) (given_or (put_row rows i before) (Slot n) (put_row rows i before i (Slot n)) (slot_origin slots n)) (put_row rows i before i) k
+              ≡ with_key Cell (Slot n) (given_or rows (Slot n) (rows i (Slot n)) (slot_origin slots n)) before k
           swap k = λ e. with_key Cell (Slot n) (slot_put e) (same_before e) k
 
-          rest : (k : Key) → with_key Cell (Slot n) (given_or rows (Slot n) (rows i (Slot n)) (slot_source slots n)) before k ≡ with_slots (n + 1) rows slots (rows i) k
+          rest : (k : Key) → with_key Cell (Slot n) (given_or rows (Slot n) (rows i (Slot n)) (slot_origin slots n)) before k ≡ with_slots (n + 1) rows slots (rows i) k
           rest (Page p) = refl
           rest (Slot m) = slot_after m
           rest Cred = refl
@@ -153,7 +153,7 @@ module _ (count : ℕ) (rows : ℕ → Row) (i : ℕ) where
 
           others : (j : ℕ) → (j ≡ i → ⊥) → (k : Key) → put (put_row rows i before) j k ≡ rows j k
           others j other k =
-              ap (λ (r : Row). r k) (pass i j (with_key Cell (Slot n) (given_or (put_row rows i before) (Slot n) (put_row rows i before i (Slot n)) (slot_source slots n)) (put_row rows i before i)) (put_row rows i before j) other)
+              ap (λ (r : Row). r k) (pass i j (with_key Cell (Slot n) (given_or (put_row rows i before) (Slot n) (put_row rows i before i (Slot n)) (slot_origin slots n)) (put_row rows i before i)) (put_row rows i before j) other)
               ∙ off_row before j k other
 
       pub slot-taken : (rs : ℕ → Row) → rs ≡ put_row rows i before → put rs ≡ put_row rows i (with_slots (n + 1) rows slots (rows i))

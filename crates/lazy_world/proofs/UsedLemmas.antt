@@ -1,11 +1,11 @@
 -- A world uses the frames of its places, and the same pages part.
 use Rattle.std.proofs.Common.{◌≡◌, ◌≢◌, ⊎_elim, ℕ, zero, suc, ◌+◌, ◌-◌, ◌<◌, ◌≤◌, List, [], ◌∷◌, ◌++◌, arith, length, map, refl, sym, ap, subst, ◌∙◌, Bool, true, false, cond, Option, Some, None, get_or}
-use Rattle.std.specs.Prelude.{All, T, ◌&&◌}
+use Rattle.std.specs.Prelude.{All, T}
 use Rattle.std.specs.Cmp.{tied_itself}
 use Rattle.std.specs.List.{AllPairs, Contains, flat_map}
-use Rattle.std.specs.Ordering.{is_eq, is_lt, ordering_reverse}
+use Rattle.std.specs.Ordering.{is_eq, ordering_reverse}
 use Rattle.std.specs.declared.cmp.Ordering.{Ordering}
-use Rattle.std.specs.declared.cmp.Ordering.TheVariants.{Less, Equal, Greater}
+use Rattle.std.specs.declared.cmp.Ordering.TheVariants.{Less, Equal}
 use Rattle.std.specs.FinMap as fm
 use Rattle.std.specs.FinMap.Entries.{below_all}
 use Rattle.std.proofs.lemmas.Bool.{cases_lt}
@@ -19,14 +19,14 @@ use Rattle.lwc_base.specs.declared.key.Key.TheVariants.{Page}
 use Rattle.lwc_base.specs.declared.name.Name.{Name}
 use Rattle.lwc_base.specs.declared.name.Tag.{Tag}
 use Rattle.lwc_base.specs.declared.page.PageValue.{PageValue}
-use Rattle.lwc_base.specs.Facts.{OrderFacts}
 use Rattle.lwc_base.specs.Frames as frames
 use Rattle.lwc_base.specs.Names.{name_cmp}
 use Rattle.lwc_base.specs.World.{Context, Group}
 use Rattle.ctx_table.specs.NameTables.{ArePlaced, NameTable}
-use Rattle.page_cells.specs.Cells.{Place, place_of}
-use Rattle.page_cells.specs.Tags as places
-use Rattle.page_cells.specs.Worlds.{HoldAllTags, WorldLaws, tags_at, tags_of_place}
+use Rattle.cow_space.specs.Cells.{Place, place_of}
+use Rattle.cow_space.specs.Tags as places
+use Rattle.cow_space.specs.Tags.{tags_of_place}
+use Rattle.cow_space.specs.Worlds.{HoldAllTags, tags_at}
 use Rattle.lazy_world.specs.declared.places.Places.{Places}
 use Rattle.lazy_world.specs.Cells.{is_own, rows_of}
 use Rattle.lazy_world.specs.Seen.{count, pages, rows}
@@ -35,32 +35,11 @@ use Rattle.lazy_world.specs.States.{Parts, context_at, group_at, held, world_of}
 use Rattle.lazy_world.proofs.AddLemmas.{no_page}
 use Rattle.lazy_world.proofs.MappedLemmas.{mapped-entries}
 use Rattle.lazy_world.proofs.WorldLemmas.{one_name}
+use Rattle.lwc_base.proofs.Facts.{orders}
+use Rattle.cow_space.proofs.WorldTags.{context-tags, group-tags, world-parting, world-used}
+use Rattle.ctx_table.proofs.Rows.{below-at, first_of_both, rising, second_of_both}
 
 -- rows in the order of names
-
-less_of : (r : Ordering) → T (is_lt r) → r ≡ Less
-less_of Less t = refl
-less_of Equal t = absurd t
-less_of Greater t = absurd t
-
-first_of_both : (a b : Bool) → T (a && b) → T a
-first_of_both true b t = tt
-first_of_both false b t = absurd t
-
-second_of_both : (a b : Bool) → T (a && b) → T b
-second_of_both true b t = t
-second_of_both false b t = absurd t
-
-below-at : (name : Name) (rows : List (Name × ℕ)) (i : ℕ) (d : Name × ℕ) → T (below_all name_cmp name rows) → i < length rows → name_cmp name (get_or rows i d).0 ≡ Less
-below-at name [] i d below within = absurd (omega (arith, within))
-below-at name (e ∷ es) zero d below within = less_of (name_cmp name e.0) (first_of_both (is_lt (name_cmp name e.0)) (below_all name_cmp name es) below)
-below-at name (e ∷ es) (suc i) d below within = below-at name es i d (second_of_both (is_lt (name_cmp name e.0)) (below_all name_cmp name es) below) (omega (arith, within))
-
-rising : (rows : List (Name × ℕ)) (i j : ℕ) (d : Name × ℕ) → T (fm.is_sorted name_cmp rows) → i < j → j < length rows → name_cmp (get_or rows i d).0 (get_or rows j d).0 ≡ Less
-rising [] i j d sorted less within = absurd (omega (arith, within))
-rising (e ∷ es) i zero d sorted less within = absurd (omega (arith, less))
-rising (e ∷ es) zero (suc j) d sorted less within = below-at e.0 es j d (first_of_both (below_all name_cmp e.0 es) (fm.is_sorted name_cmp es) sorted) (omega (arith, within))
-rising (e ∷ es) (suc i) (suc j) d sorted less within = rising es i j d (second_of_both (below_all name_cmp e.0 es) (fm.is_sorted name_cmp es) sorted) (omega (arith, less)) (omega (arith, within))
 
 -- the place that is found is in the list of places
 found-there : (shift : ℕ → ℕ) (rows : List (Name × ℕ)) (name : Name) (p : ℕ) → fm.find name_cmp name rows ≡ Some p → Contains (map (λ e. shift e.1) rows) (shift p)
@@ -85,7 +64,7 @@ flat-map-map g f [] = refl
 flat-map-map g f (x ∷ xs) = ap (λ ts. g (f x) ++ ts) (flat-map-map g f xs)
 
 -- the places of the names of a table
-module _ (orders : OrderFacts) (table : NameTable) (placed : ArePlaced table) where
+module _ (table : NameTable) (placed : ArePlaced table) where
   abbrev es : List (Name × ℕ)
   es = fm.entries table.map
 
@@ -135,7 +114,7 @@ no-context-tags : (x : Context) → frames.tags_of_context 0 x ≡ []
 unfolding frames.tags_of_context
 no-context-tags x = refl
 
-module _ (orders : OrderFacts) (laws : WorldLaws) (s : Parts) (sound : IsSound s) (placed : ArePlaced s.contexts) (placed_groups : ArePlaced s.groups) (cells : List Place)
+module _ (s : Parts) (sound : IsSound s) (placed : ArePlaced s.contexts) (placed_groups : ArePlaced s.groups) (cells : List Place)
     (tie : (i p : ℕ) → s.rows i (Page p) ≡ place_of cells i p) (long : length cells ≡ s.size.contexts + s.size.groups) where
   abbrev context_places : List ℕ
   context_places = map (λ e. e.1) (fm.entries s.contexts.map)
@@ -147,11 +126,11 @@ module _ (orders : OrderFacts) (laws : WorldLaws) (s : Parts) (sound : IsSound s
   nothing-past i p past = sym (tie i p) ∙ no_page (s.rows i (Page p)) p (sound.past i (Page p) past)
 
   place-context : (i : ℕ) → frames.tags_of_context s.size.pages (context_at s i) ≡ tags_of_place (place_of cells i)
-  place-context i = laws.context s.size.pages (context_at s i) (place_of cells i) sound.sizes.size.pages.1 (λ p low. sym (tie i p)) (nothing-past i)
+  place-context i = context-tags s.size.pages (context_at s i) (place_of cells i) sound.sizes.size.pages.1 (λ p low. sym (tie i p)) (nothing-past i)
 
   place-group : (j : ℕ) → frames.tags_of_group s.size.pages (group_at s j) ≡ tags_of_place (place_of cells (s.size.contexts + j))
   place-group j =
-      laws.group s.size.pages (group_at s j) (place_of cells (s.size.contexts + j)) sound.sizes.size.pages.1
+      group-tags s.size.pages (group_at s j) (place_of cells (s.size.contexts + j)) sound.sizes.size.pages.1
       (λ p low. sym (tie (s.size.contexts + j) p) ∙ own_held p (s.rows (s.size.contexts + j) (Page p)) (sound.own j (Page p)))
       (nothing-past (s.size.contexts + j))
 
@@ -173,27 +152,27 @@ module _ (orders : OrderFacts) (laws : WorldLaws) (s : Parts) (sound : IsSound s
 
   empty-tags : (i : ℕ) → IsEmpty (s.rows i) → tags_of_place (place_of cells i) ≡ []
   empty-tags i empty =
-      sym (laws.context 0 (context_at s i) (place_of cells i) (omega arith) (λ p low. absurd (omega (arith, low))) (λ p past. sym (tie i p) ∙ no_page (s.rows i (Page p)) p (empty (Page p))))
+      sym (context-tags 0 (context_at s i) (place_of cells i) (omega arith) (λ p low. absurd (omega (arith, low))) (λ p past. sym (tie i p) ∙ no_page (s.rows i (Page p)) p (empty (Page p))))
       ∙ no-context-tags (context_at s i)
 
   free-tags : (i : ℕ) → (Contains (context_places ++ group_places) i → ⊥) → i < s.size.contexts → (o : Option Name) → get_or s.contexts.places i None ≡ o → tags_of_place (place_of cells i) ≡ []
   free-tags i not_in low None free = empty-tags i (sound.free i low free)
-  free-tags i not_in low (Some name) taken = absurd (not_in (Contains-append_left context_places group_places i (place-there orders s.contexts placed (λ p. p) name i ((placed.at name i).1 taken))))
+  free-tags i not_in low (Some name) taken = absurd (not_in (Contains-append_left context_places group_places i (place-there s.contexts placed (λ p. p) name i ((placed.at name i).1 taken))))
 
   free-group-tags : (j : ℕ) → (Contains (context_places ++ group_places) (s.size.contexts + j) → ⊥) → (o : Option Name) → get_or s.groups.places j None ≡ o →
       tags_of_place (place_of cells (s.size.contexts + j)) ≡ []
   free-group-tags j not_in None free = empty-tags (s.size.contexts + j) (sound.free_groups j free)
   free-group-tags j not_in (Some name) taken =
-      absurd (not_in (Contains-append_right context_places group_places (s.size.contexts + j) (place-there orders s.groups placed_groups (λ q. s.size.contexts + q) name j ((placed_groups.at name j).1 taken))))
+      absurd (not_in (Contains-append_right context_places group_places (s.size.contexts + j) (place-there s.groups placed_groups (λ q. s.size.contexts + q) name j ((placed_groups.at name j).1 taken))))
 
   hold-all : HoldAllTags cells (context_places ++ group_places)
   hold-all = record {
     inside = All-append (λ i. i < length cells) context_places group_places
-        (each-place orders s.contexts placed (λ p. p) (λ i. i < length cells) (λ p lt. omega (arith, lt, long, sound.sizes.contexts)))
-        (each-place orders s.groups placed_groups (λ q. s.size.contexts + q) (λ i. i < length cells) (λ p lt. omega (arith, lt, long, sound.sizes.groups)));
-    apart = pairs-append context_places group_places (pairs orders s.contexts placed (λ p. p) (λ m n same. same)) (pairs orders s.groups placed_groups (λ q. s.size.contexts + q) (λ m n same. omega (arith, same)))
-        (each-place orders s.contexts placed (λ p. p) (λ x. All (λ y. x ≢ y) group_places)
-        (λ p lt. each-place orders s.groups placed_groups (λ q. s.size.contexts + q) (λ y. p ≢ y) (λ q _ same. omega (arith, lt, same, sound.sizes.contexts))));
+        (each-place s.contexts placed (λ p. p) (λ i. i < length cells) (λ p lt. omega (arith, lt, long, sound.sizes.contexts)))
+        (each-place s.groups placed_groups (λ q. s.size.contexts + q) (λ i. i < length cells) (λ p lt. omega (arith, lt, long, sound.sizes.groups)));
+    apart = pairs-append context_places group_places (pairs s.contexts placed (λ p. p) (λ m n same. same)) (pairs s.groups placed_groups (λ q. s.size.contexts + q) (λ m n same. omega (arith, same)))
+        (each-place s.contexts placed (λ p. p) (λ x. All (λ y. x ≢ y) group_places)
+        (λ p lt. each-place s.groups placed_groups (λ q. s.size.contexts + q) (λ y. p ≢ y) (λ q _ same. omega (arith, lt, same, sound.sizes.contexts))));
     rest = λ i not_in.
         ⊎_elim
         (λ low. free-tags i not_in low (get_or s.contexts.places i None) refl)
@@ -209,11 +188,11 @@ module _ (orders : OrderFacts) (laws : WorldLaws) (s : Parts) (sound : IsSound s
 
   -- the frames in use
   pub used-places : frames.used (world_of s) ≡ places.used cells
-  used-places = laws.used (world_of s) cells (context_places ++ group_places) hold-all world-tags
+  used-places = world-used (world_of s) cells (context_places ++ group_places) hold-all world-tags
 
   -- whether a page parts
   pub parting-places : (i p : ℕ) (value : PageValue) → s.rows i (Page p) ≡ Own (Some value) → frames.is_parting (world_of s) value ≡ places.is_parting cells i p
-  parting-places i p value own = laws.parting (world_of s) cells (context_places ++ group_places) i p value hold-all world-tags (sym (tie i p) ∙ own)
+  parting-places i p value own = world-parting (world_of s) cells (context_places ++ group_places) i p value hold-all world-tags (sym (tie i p) ∙ own)
 
 -- the cells of places, and how many there are
 pub row-page : (w : Places) (i p : ℕ) → rows w i (Page p) ≡ place_of (pages w) i p

@@ -11,7 +11,6 @@ use Rattle.std.specs.FinMap as fm
 use Rattle.std.specs.FinMap.Entries.{below_all, find}
 use Rattle.std.proofs.lemmas.Bool.{false≢true}
 use Rattle.lwc_base.specs.declared.name.Name.{Name}
-use Rattle.lwc_base.specs.Facts.{OrderFacts}
 use Rattle.lwc_base.specs.Life.{names_group}
 use Rattle.lwc_base.specs.Names.{name_cmp}
 use Rattle.lwc_base.specs.World.{Context}
@@ -19,9 +18,13 @@ use Rattle.ctx_table.specs.NameTables.{ArePlaced}
 use Rattle.lazy_world.specs.Reaping.{names_at, names_from}
 use Rattle.lazy_world.specs.Sound.{IsSound}
 use Rattle.lazy_world.specs.States.{Parts, context_at, world_of}
-use Rattle.lazy_world.proofs.ReachLemmas.{any_here, any_where, same_bool}
-use Rattle.lazy_world.proofs.SmallLemmas.{equal_of, or_either, or_first, or_second}
 use Rattle.lazy_world.proofs.WorldLemmas.{get-context}
+use Rattle.lwc_base.proofs.Facts.{orders}
+use Rattle.lwc_base.proofs.Life.{or_cases, or_left, or_right}
+use Rattle.lwc_base.proofs.Orders.{same_name}
+use Rattle.lwc_base.proofs.Needs.{some_in_range}
+use Rattle.lwc_base.proofs.Reaped.{any_entry, any_value, number_in}
+use Rattle.lwc_base.proofs.Small.{same_bool}
 
 head_of : (a b : Bool) → T (a && b) → T a
 head_of true b h = tt
@@ -36,19 +39,7 @@ not_tied Less h = refl
 not_tied Equal h = absurd h
 not_tied Greater h = refl
 
-any_entry : {X : Type 0} (test : X → Bool) (es : List (Name × X)) (q : Name) (x : X) → find name_cmp q es ≡ Some x → test x ≡ true → list_any test (map (λ (e : Name × X). e.1) es) ≡ true
-any_entry test [] q x there passes = cc
-any_entry {X} test (e ∷ es) q x there passes =
-    elim (eq_by_cmp name_cmp q e.0) as (λ c. cond c (Some e.1) (find name_cmp q es) ≡ Some x → (test e.1 || list_any test (map (λ (f : Name × X). f.1) es)) ≡ true) [
-      | true ↦ λ is. or_first _ _ (ap (λ o. test (unwrap_or o x)) is ∙ passes)
-      | false ↦ λ is. or_second _ _ (any_entry test es q x is passes)
-    ] there
-
--- a test passes at a value that a name has
-any_value : {X : Type 0} (test : X → Bool) (m : fm.FinMap name_cmp X) (q : Name) (x : X) → fm.get m q ≡ Some x → test x ≡ true → list_any test (fm.values m) ≡ true
-any_value test m q x there passes = any_entry test (fm.entries m) q x (sym (fm.get-entries m q) ∙ there) passes
-
-module _ (orders : OrderFacts) {X : Type 0} where
+module _ {X : Type 0} where
   none_below : (x : Name) (es : List (Name × X)) → T (below_all name_cmp x es) → find name_cmp x es ≡ None
   none_below x [] h = refl
   none_below x (e ∷ es) h = ap (λ b. cond b (Some e.1) (find name_cmp x es)) (not_tied (name_cmp x e.0) (head_of _ _ h)) ∙ none_below x es (tail_of _ _ h)
@@ -57,14 +48,14 @@ module _ (orders : OrderFacts) {X : Type 0} where
       cond b (Some e.1) (find name_cmp q es) ≡ Some x
   later_entry q x e es false other below is = is
   later_entry q x e es true same below is =
-      let none : find name_cmp q es ≡ None = ap (λ n. find name_cmp n es) (orders.one_name q e.0 (equal_of (name_cmp q e.0) same)) ∙ none_below e.0 es below in
+      let none : find name_cmp q es ≡ None = ap (λ n. find name_cmp n es) (same_name q e.0 same) ∙ none_below e.0 es below in
       let both = sym none ∙ is in cc
 
   some_entry : (test : X → Bool) (es : List (Name × X)) → T (fm.is_sorted name_cmp es) → list_any test (map (λ (e : Name × X). e.1) es) ≡ true →
       (q : Name) × (x : X) × (find name_cmp q es ≡ Some x) × (test x ≡ true)
   some_entry test [] sorted e = absurd (false≢true e)
   some_entry test (e ∷ es) sorted passes =
-      elim (or_either (test e.1) (list_any test (map (λ (f : Name × X). f.1) es)) passes) [
+      elim (or_cases (test e.1) (list_any test (map (λ (f : Name × X). f.1) es)) passes) [
         | inl here ↦ (e.0, e.1, ap (λ b. cond b (Some e.1) (find name_cmp e.0 es)) ((eq_by_cmp_equiv orders.names).refl e.0), here)
         | inr later ↦
             let found = some_entry test es (tail_of _ _ sorted) later in
@@ -77,7 +68,7 @@ module _ (orders : OrderFacts) {X : Type 0} where
       let found = some_entry test (fm.entries m) (fm.entries_sorted m) passes in
       (found.0, found.1, fm.get-entries m found.0 ∙ found.2, found.3)
 
-module _ (s : Parts) (sound : IsSound s) (orders : OrderFacts) (placed : ArePlaced s.contexts) (g : Name) where
+module _ (s : Parts) (sound : IsSound s) (placed : ArePlaced s.contexts) (g : Name) where
   abbrev test : Context → Bool
   test x = names_group s.size.pages g x
 
@@ -91,14 +82,14 @@ module _ (s : Parts) (sound : IsSound s) (orders : OrderFacts) (placed : ArePlac
   place_from c x None found is passes = cc
   place_from c x (Some i) found is passes =
       let within = placed.within c i found in
-      any_here (names_at s g) 0 s.size.contexts i (omega (arith, within, sound.sizes.contexts))
-      (ap (names_at s g) (omega arith) ∙ ap (names_from s g i) ((placed.at c i).0 found) ∙ ap (λ o. test (unwrap_or o x)) is ∙ passes)
+      some_in_range (names_at s g) s.size.contexts 0 i (omega arith) (omega (arith, within, sound.sizes.contexts))
+      (ap (names_from s g i) ((placed.at c i).0 found) ∙ ap (λ o. test (unwrap_or o x)) is ∙ passes)
 
   -- a cell of a context names a group exactly where one of a context at a place does
   pub named-values : list_any (names_at s g) (range_with_len 0 s.size.contexts) ≡ list_any test (fm.values (world_of s).contexts)
   named-values =
       same_bool _ _
-      (λ at. let found = any_where (names_at s g) 0 s.size.contexts at in value_at found.0 (get_or s.contexts.places found.0 None) refl (ap (names_at s g) (omega arith) ∙ found.2))
+      (λ at. let found = number_in (names_at s g) s.size.contexts 0 at in value_at found.0 (get_or s.contexts.places found.0 None) refl found.3)
       (λ at.
-      let found = some_value orders test (world_of s).contexts at in
+      let found = some_value test (world_of s).contexts at in
       place_from found.0 found.1 (fm.get s.contexts.map found.0) refl (sym (get-context s found.0) ∙ found.2) found.3)

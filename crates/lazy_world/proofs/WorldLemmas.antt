@@ -5,7 +5,6 @@ use Rattle.std.specs.Option.{option_map}
 use Rattle.std.specs.FinMap as fm
 use Rattle.std.proofs.lemmas.List.{get_or-set_same}
 use Rattle.lwc_base.specs.declared.name.Name.{Name}
-use Rattle.lwc_base.specs.Facts.{OrderFacts}
 use Rattle.lwc_base.specs.Registers.{fresh_registers}
 use Rattle.lwc_base.specs.World.{World, Context, Group, change_context, changed_context, change_group, changed_group, context, group, is_live, new_context, new_group}
 use Rattle.ctx_table.specs.NameTables.{ArePlaced, NameTable}
@@ -15,9 +14,7 @@ use Rattle.lazy_world.specs.Mapped.{mapped}
 use Rattle.lazy_world.specs.States.{Parts, context_at, context_of, counters_of, group_at, group_of, no_registers, nothing_counted, registers_at, world_of}
 use Rattle.lazy_world.proofs.MappedLemmas.{mapped-change, mapped-get, mapped-len, mapped-keys, mapped-live, mapped-same}
 use Rattle.lazy_world.proofs.PlaceLemmas.{choose, pass}
-
-same_Some : {A : Type 0} (x y : A) → Some x ≡ Some y → x ≡ y
-same_Some x y e = cc
+use Rattle.lwc_base.proofs.Small.{same_some}
 
 -- a row at a place, and at another one
 row_here : (rows : ℕ → Row) (i j : ℕ) (row : Row) → j ≡ i → put_row rows i row j ≡ row
@@ -29,7 +26,7 @@ row_there rows i j row other = pass i j row (rows j) other
 -- two names of one place are one
 pub one_name : (table : NameTable) → ArePlaced table → (c d : Name) (p q : ℕ) → fm.get table.map c ≡ Some p → fm.get table.map d ≡ Some q → q ≡ p → d ≡ c
 one_name table placed c d p q at_p at_q same =
-    same_Some d c (sym ((placed.at d q).0 at_q) ∙ ap (λ r. get_or table.places r None) same ∙ (placed.at c p).0 at_p)
+    same_some d c (sym ((placed.at d q).0 at_q) ∙ ap (λ r. get_or table.places r None) same ∙ (placed.at c p).0 at_p)
 
 module _ (s : Parts) where
   abbrev now : World
@@ -86,62 +83,61 @@ module _ (s : Parts) where
   unfolding world_of
   names-groups = mapped-keys (group_at s) s.groups.map
 
-  module _ (orders : OrderFacts) where
-    -- another row at the place of a live context
-    module _ (placed : ArePlaced s.contexts) (c : Name) (i : ℕ) (found : fm.get s.contexts.map c ≡ Some i) where
-      -- the context there is another one, and all other contexts and all groups are as they were
-      changed : (t : Parts) → t.contexts ≡ s.contexts → t.groups ≡ s.groups → t.counts ≡ s.counts → t.size ≡ s.size →
-          ((d : Name) (q : ℕ) → fm.get s.contexts.map d ≡ Some q → d ≢ c → context_at t q ≡ context_at s q) →
-          ((d : Name) (q : ℕ) → fm.get s.groups.map d ≡ Some q → group_at t q ≡ group_at s q) →
-          (change : Context → Context) → context_at t i ≡ change (context_at s i) → world_of t ≡ change_context now c change
-      unfolding world_of change_context
-      changed t contexts groups counts size others same_groups change is =
-          (λ e. record {
-            contexts = (ap (λ (table : NameTable). mapped (context_at t) table.map) contexts ∙ mapped-change orders (context_at s) s.contexts.map (context_at t) c i found others) e;
-            groups = (ap (λ (table : NameTable). mapped (group_at t) table.map) groups ∙ mapped-same orders (group_at s) s.groups.map (group_at t) same_groups) e;
-            next = λ job. counters_of (get_or (counts e) job nothing_counted);
-            size = size e;
-          })
-          ∙ ap (λ x. record now { contexts = fm.insert now.contexts c x }) is
-          ∙ sym (ap (changed_context now c change) (get-context c ∙ ap (option_map (context_at s)) found))
+  -- another row at the place of a live context
+  module _ (placed : ArePlaced s.contexts) (c : Name) (i : ℕ) (found : fm.get s.contexts.map c ≡ Some i) where
+    -- the context there is another one, and all other contexts and all groups are as they were
+    changed : (t : Parts) → t.contexts ≡ s.contexts → t.groups ≡ s.groups → t.counts ≡ s.counts → t.size ≡ s.size →
+        ((d : Name) (q : ℕ) → fm.get s.contexts.map d ≡ Some q → d ≢ c → context_at t q ≡ context_at s q) →
+        ((d : Name) (q : ℕ) → fm.get s.groups.map d ≡ Some q → group_at t q ≡ group_at s q) →
+        (change : Context → Context) → context_at t i ≡ change (context_at s i) → world_of t ≡ change_context now c change
+    unfolding world_of change_context
+    changed t contexts groups counts size others same_groups change is =
+        (λ e. record {
+          contexts = (ap (λ (table : NameTable). mapped (context_at t) table.map) contexts ∙ mapped-change (context_at s) s.contexts.map (context_at t) c i found others) e;
+          groups = (ap (λ (table : NameTable). mapped (group_at t) table.map) groups ∙ mapped-same (group_at s) s.groups.map (group_at t) same_groups) e;
+          next = λ job. counters_of (get_or (counts e) job nothing_counted);
+          size = size e;
+        })
+        ∙ ap (λ x. record now { contexts = fm.insert now.contexts c x }) is
+        ∙ sym (ap (changed_context now c change) (get-context c ∙ ap (option_map (context_at s)) found))
 
-      pub change_context-row : (row : Row) (change : Context → Context) → i < s.size.contexts → context_of row (registers_at s.registers i) ≡ change (context_at s i) →
-          world_of (record s { rows = put_row s.rows i row }) ≡ change_context now c change
-      change_context-row row change inside is =
-          changed (record s { rows = put_row s.rows i row }) refl refl refl refl
-          (λ d q at_q other. ap (λ r. context_of r (registers_at s.registers q)) (row_there s.rows i q row (λ same. other (one_name s.contexts placed c d i q found at_q same))))
-          (λ d q at_q. ap group_of (row_there s.rows i (s.size.contexts + q) row (λ (same : s.size.contexts + q ≡ i). absurd (omega (arith, same, inside)))))
-          change
-          (ap (λ r. context_of r (registers_at s.registers i)) (row_here s.rows i i row refl) ∙ is)
+    pub change_context-row : (row : Row) (change : Context → Context) → i < s.size.contexts → context_of row (registers_at s.registers i) ≡ change (context_at s i) →
+        world_of (record s { rows = put_row s.rows i row }) ≡ change_context now c change
+    change_context-row row change inside is =
+        changed (record s { rows = put_row s.rows i row }) refl refl refl refl
+        (λ d q at_q other. ap (λ r. context_of r (registers_at s.registers q)) (row_there s.rows i q row (λ same. other (one_name s.contexts placed c d i q found at_q same))))
+        (λ d q at_q. ap group_of (row_there s.rows i (s.size.contexts + q) row (λ (same : s.size.contexts + q ≡ i). absurd (omega (arith, same, inside)))))
+        change
+        (ap (λ r. context_of r (registers_at s.registers i)) (row_here s.rows i i row refl) ∙ is)
 
-      -- other registers there
-      pub change_context-registers : (registers : Registers) (change : Context → Context) → i < length s.registers →
-          context_of (s.rows i) registers ≡ change (context_at s i) →
-          world_of (record s { registers = set s.registers i registers }) ≡ change_context now c change
-      change_context-registers registers change inside is =
-          changed (record s { registers = set s.registers i registers }) refl refl refl refl
-          (λ d q at_q other. ap (context_of (s.rows q)) (get_or-set_other s.registers i q registers no_registers (λ same. other (one_name s.contexts placed c d i q found at_q same))))
-          (λ d q at_q. refl)
-          change
-          (ap (context_of (s.rows i)) (get_or-set_same s.registers i registers no_registers inside) ∙ is)
+    -- other registers there
+    pub change_context-registers : (registers : Registers) (change : Context → Context) → i < length s.registers →
+        context_of (s.rows i) registers ≡ change (context_at s i) →
+        world_of (record s { registers = set s.registers i registers }) ≡ change_context now c change
+    change_context-registers registers change inside is =
+        changed (record s { registers = set s.registers i registers }) refl refl refl refl
+        (λ d q at_q other. ap (context_of (s.rows q)) (get_or-set_other s.registers i q registers no_registers (λ same. other (one_name s.contexts placed c d i q found at_q same))))
+        (λ d q at_q. refl)
+        change
+        (ap (context_of (s.rows i)) (get_or-set_same s.registers i registers no_registers inside) ∙ is)
 
-    -- another row at the place of a live group
-    module _ (placed : ArePlaced s.groups) (g : Name) (j : ℕ) (found : fm.get s.groups.map g ≡ Some j) (inside : (d : Name) (q : ℕ) → fm.get s.contexts.map d ≡ Some q → q < s.size.contexts) where
-      pub change_group-row : (row : Row) (change : Group → Group) → group_of row ≡ change (group_at s j) →
-          world_of (record s { rows = put_row s.rows (s.size.contexts + j) row }) ≡ change_group now g change
-      unfolding world_of change_group
-      change_group-row row change is =
-          let t : Parts = record s { rows = put_row s.rows (s.size.contexts + j) row } in
-          let here : group_at t j ≡ change (group_at s j) = ap group_of (row_here s.rows (s.size.contexts + j) (s.size.contexts + j) row refl) ∙ is in
-          let contexts : mapped (context_at t) s.contexts.map ≡ mapped (context_at s) s.contexts.map =
-          mapped-same orders (context_at s) s.contexts.map (context_at t)
-          (λ d q at_q. ap (λ r. context_of r (registers_at s.registers q))
-          (row_there s.rows (s.size.contexts + j) q row (λ (same : q ≡ s.size.contexts + j). absurd (let low = inside d q at_q in omega (arith, same, low))))) in
-          let groups : mapped (group_at t) s.groups.map ≡ fm.insert (mapped (group_at s) s.groups.map) g (group_at t j) =
-          mapped-change orders (group_at s) s.groups.map (group_at t) g j found
-          (λ d q at_q other. ap group_of
-          (row_there s.rows (s.size.contexts + j) (s.size.contexts + q) row
-          (λ (same : s.size.contexts + q ≡ s.size.contexts + j). other (one_name s.groups placed g d j q found at_q (omega (arith, same)))))) in
-          (λ e. record now { contexts = contexts e; groups = groups e })
-          ∙ ap (λ x. record now { groups = fm.insert now.groups g x }) here
-          ∙ sym (ap (changed_group now g change) (get-group g ∙ ap (option_map (group_at s)) found))
+  -- another row at the place of a live group
+  module _ (placed : ArePlaced s.groups) (g : Name) (j : ℕ) (found : fm.get s.groups.map g ≡ Some j) (inside : (d : Name) (q : ℕ) → fm.get s.contexts.map d ≡ Some q → q < s.size.contexts) where
+    pub change_group-row : (row : Row) (change : Group → Group) → group_of row ≡ change (group_at s j) →
+        world_of (record s { rows = put_row s.rows (s.size.contexts + j) row }) ≡ change_group now g change
+    unfolding world_of change_group
+    change_group-row row change is =
+        let t : Parts = record s { rows = put_row s.rows (s.size.contexts + j) row } in
+        let here : group_at t j ≡ change (group_at s j) = ap group_of (row_here s.rows (s.size.contexts + j) (s.size.contexts + j) row refl) ∙ is in
+        let contexts : mapped (context_at t) s.contexts.map ≡ mapped (context_at s) s.contexts.map =
+        mapped-same (context_at s) s.contexts.map (context_at t)
+        (λ d q at_q. ap (λ r. context_of r (registers_at s.registers q))
+        (row_there s.rows (s.size.contexts + j) q row (λ (same : q ≡ s.size.contexts + j). absurd (let low = inside d q at_q in omega (arith, same, low))))) in
+        let groups : mapped (group_at t) s.groups.map ≡ fm.insert (mapped (group_at s) s.groups.map) g (group_at t j) =
+        mapped-change (group_at s) s.groups.map (group_at t) g j found
+        (λ d q at_q other. ap group_of
+        (row_there s.rows (s.size.contexts + j) (s.size.contexts + q) row
+        (λ (same : s.size.contexts + q ≡ s.size.contexts + j). other (one_name s.groups placed g d j q found at_q (omega (arith, same)))))) in
+        (λ e. record now { contexts = contexts e; groups = groups e })
+        ∙ ap (λ x. record now { groups = fm.insert now.groups g x }) here
+        ∙ sym (ap (changed_group now g change) (get-group g ∙ ap (option_map (group_at s)) found))

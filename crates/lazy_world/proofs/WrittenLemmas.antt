@@ -5,32 +5,26 @@ use Rattle.std.specs.Prelude.{is_some, map, unwrap_or}
 use Rattle.std.specs.FinMap as fm
 use Rattle.lwc_base.specs.declared.cell.Cell.{Cell}
 use Rattle.lwc_base.specs.declared.cell.Cell.TheVariants.{Own, Common}
-use Rattle.lwc_base.specs.declared.key.Key.{Key}
 use Rattle.lwc_base.specs.declared.key.Key.TheVariants.{Page}
 use Rattle.lwc_base.specs.declared.name.Name.{Name}
 use Rattle.lwc_base.specs.declared.name.Tag.{Tag}
 use Rattle.lwc_base.specs.declared.page.PageValue.{PageValue}
 use Rattle.lwc_base.specs.declared.page.PageValue.TheVariants.{Zero, Data}
-use Rattle.lwc_base.specs.Cells.{page_at, put_at, put_page, value_at}
+use Rattle.lwc_base.specs.Cells.{page_at, put_page}
 use Rattle.lwc_base.specs.Frames as frames
 use Rattle.lwc_base.specs.Frames.{own_value}
-use Rattle.lwc_base.specs.Keys.{ValueOf}
 use Rattle.lwc_base.specs.Pages.{bytes_of}
 use Rattle.lwc_base.specs.Store.{Piece, bytes_after, page_value_at, stored_value}
 use Rattle.lwc_base.specs.World.{World, Counters, change_counters}
 use Rattle.range_map.specs.declared.segment.SegmentKind.TheVariants as kind
 use Rattle.range_map.specs.Kinds.{kind_of}
-use Rattle.cow_space.specs.Tags as tags_of_rows
-use Rattle.page_cells.specs.Cells.{IsOwnPage, Place, place_of}
-use Rattle.page_cells.specs.Laws.{WriteLaws}
-use Rattle.page_cells.specs.Tags as places
-use Rattle.page_cells.specs.Tags.{own_values}
-use Rattle.page_cells.specs.Worlds.{WorldLaws}
-use Rattle.page_cells.specs.Writes.{page_value, write_page, written_value}
+use Rattle.cow_space.specs.Cells.{IsOwnPage, Place, place_of}
+use Rattle.cow_space.specs.Tags as places
+use Rattle.cow_space.specs.Tags.{own_values, parts}
+use Rattle.cow_space.specs.Writes.{page_value, write_page, written_value}
 use Rattle.ctx_table.specs.NameTables.{ArePlaced}
 use Rattle.lazy_world.specs.declared.counts.Counts.{Counts}
 use Rattle.lazy_world.specs.Cells.{Row, is_nothing, put_row}
-use Rattle.lazy_world.specs.Facts.{Facts}
 use Rattle.lazy_world.specs.Memory.{holder, page_in}
 use Rattle.lazy_world.specs.Sound.{IsSound}
 use Rattle.lazy_world.specs.States.{Parts, context_at, counters_of, nothing_counted, world_of}
@@ -42,21 +36,20 @@ use Rattle.lazy_world.proofs.SpotLemmas.{KeepsHome, counted-world, page-other, p
 use Rattle.lazy_world.proofs.StoreLemmas.{counted-put, counted-value, next-tags, store-one}
 use Rattle.lazy_world.proofs.UsedLemmas.{parting-places, used-places}
 use Rattle.lazy_world.proofs.WorldLemmas.{context-found}
+use Rattle.lwc_base.proofs.Common.{put-other_key}
+use Rattle.cow_space.proofs.Taken.{own-cell, parting-others, write-taken}
+use Rattle.lazy_world.proofs.StepLemmas.{two-pages}
 
 -- a page without bytes of its own parts
-pub parts-none : (maps : List (ℕ → Option PageValue)) (cell : Cell (Option PageValue)) → kind_of cell ≡ None → true ≡ tags_of_rows.is_parting maps (own_value cell)
-parts-none maps (Own None) is = refl
-parts-none maps (Own (Some value)) is = absurd cc
-parts-none maps (Common g) is = absurd cc
+pub parts-none : (tags : List Tag) (cell : Cell (Option PageValue)) → kind_of cell ≡ None → true ≡ parts tags (own_value cell)
+parts-none tags (Own None) is = refl
+parts-none tags (Own (Some value)) is = absurd cc
+parts-none tags (Common g) is = absurd cc
 
-pub parts-common : (maps : List (ℕ → Option PageValue)) (g : Name) (cell : Cell (Option PageValue)) → kind_of cell ≡ Some (kind.Common g) → true ≡ tags_of_rows.is_parting maps (own_value cell)
-parts-common maps g (Own None) is = absurd cc
-parts-common maps g (Own (Some value)) is = absurd cc
-parts-common maps g (Common h) is = refl
-
-own-cell : (cell : Cell (Option PageValue)) (v : PageValue) → own_value cell ≡ Some v → cell ≡ Own (Some v)
-own-cell (Own o) v is = ap (λ x. Own x) is
-own-cell (Common g) v is = absurd cc
+pub parts-common : (tags : List Tag) (g : Name) (cell : Cell (Option PageValue)) → kind_of cell ≡ Some (kind.Common g) → true ≡ parts tags (own_value cell)
+parts-common tags g (Own None) is = absurd cc
+parts-common tags g (Own (Some value)) is = absurd cc
+parts-common tags g (Common h) is = refl
 
 some-own : (cell : Cell (Option PageValue)) → is_some (own_value cell) ≡ true → (v : PageValue) × (cell ≡ Own (Some v))
 some-own (Own None) there = absurd cc
@@ -75,24 +68,20 @@ zero-parts w Zero is = refl
 zero-parts w (Data t bytes) is = absurd cc
 
 -- whether the page at a holder parts
-module _ (facts : Facts) (world_laws : WorldLaws) (s : Parts) (sound : IsSound s) (placed : ArePlaced s.contexts) (placed_groups : ArePlaced s.groups) (cells : List Place)
+module _ (s : Parts) (sound : IsSound s) (placed : ArePlaced s.contexts) (placed_groups : ArePlaced s.groups) (cells : List Place)
     (tie : (m q : ℕ) → s.rows m (Page q) ≡ place_of cells m q) (long : length cells ≡ s.size.contexts + s.size.groups) (i p : ℕ) where
   pub parting-held : (j : ℕ) → holder s i p ≡ Some j → places.is_parting cells j p ≡ frames.is_parting (world_of s) (unwrap_or (page_in (world_of s) (s.rows i) p) Zero)
   unfolding places.is_parting
   parting-held j there = by (own_value (s.rows j (Page p))) refl ∙ sym (ap (λ o. frames.is_parting (world_of s) (unwrap_or o Zero)) (page-held s i p j there))
     where
       by : (o : Option PageValue) → own_value (s.rows j (Page p)) ≡ o → places.is_parting cells j p ≡ frames.is_parting (world_of s) (unwrap_or o Zero)
-      by None is = ap (tags_of_rows.is_parting (map own_values cells)) (ap own_value (sym (tie j p)) ∙ is) ∙ sym (zero-parts (world_of s) Zero refl)
-      by (Some v) is = sym (parting-places facts.orders world_laws s sound placed placed_groups cells tie long j p v (own-cell (s.rows j (Page p)) v is))
+      by None is = ap (parts (places.tags cells)) (ap own_value (sym (tie j p)) ∙ is) ∙ sym (zero-parts (world_of s) Zero refl)
+      by (Some v) is = sym (parting-places s sound placed placed_groups cells tie long j p v (own-cell (s.rows j (Page p)) v is))
 
   pub parting-lost : holder s i p ≡ None → true ≡ frames.is_parting (world_of s) (unwrap_or (page_in (world_of s) (s.rows i) p) Zero)
   parting-lost none = sym (ap (λ o. frames.is_parting (world_of s) (unwrap_or o Zero)) (page-lost s i p none) ∙ zero-parts (world_of s) Zero refl)
 
-two-pages : (p q : ℕ) → ◌≡◌ {A = Key} (Page q) (Page p) → q ≡ p
-two-pages p q is = cc
-
-module _ (facts : Facts) (laws : WriteLaws) (world_laws : WorldLaws) (one_key : (w : World) (c : Name) (k : Key) (value : ValueOf k) (d : Name) (q : Key) → q ≢ k → value_at (put_at w c k value) d q ≡ value_at w d q)
-    (s : Parts) (sound : IsSound s) (placed : ArePlaced s.contexts) (placed_groups : ArePlaced s.groups) (cells : List Place)
+module _ (s : Parts) (sound : IsSound s) (placed : ArePlaced s.contexts) (placed_groups : ArePlaced s.groups) (cells : List Place)
     (tie : (m q : ℕ) → s.rows m (Page q) ≡ place_of cells m q) (long : length cells ≡ s.size.contexts + s.size.groups)
     (c : Name) (i : ℕ) (found : fm.get s.contexts.map c ≡ Some i) (p : ℕ) where
   abbrev w : World
@@ -106,7 +95,7 @@ module _ (facts : Facts) (laws : WriteLaws) (world_laws : WorldLaws) (one_key : 
   no-holder none there = let lost = sym (page-in w c (context_at s i) p (context-found s c i found)) ∙ page-lost s i p none in let two = sym there ∙ ap is_some lost in cc
 
   pub used-now : frames.used w ≡ places.used cells
-  used-now = used-places facts.orders world_laws s sound placed placed_groups cells tie long
+  used-now = used-places s sound placed placed_groups cells tie long
 
   module _ (j : ℕ) (there : holder s i p ≡ Some j) (is_there : is_some (page_at w c p) ≡ true) (job : ℕ) where
     abbrev tag : Tag
@@ -132,7 +121,7 @@ module _ (facts : Facts) (laws : WriteLaws) (world_laws : WorldLaws) (one_key : 
     pub part-now : places.is_parting cells j p ≡ parts_at w c p
     part-now =
         sym (ap (λ o. frames.is_parting w (unwrap_or o Zero)) page-is
-        ∙ parting-places facts.orders world_laws s sound placed placed_groups cells tie long j p value.0 value.1)
+        ∙ parting-places s sound placed placed_groups cells tie long j p value.0 value.1)
 
     module _ (known : job < s.size.jobs) (inside : j < length cells) (piece : Piece) (n : Counts)
         (counted : counters_of n ≡ record (counters_of (get_or s.counts job nothing_counted)) { tags = (counters_of (get_or s.counts job nothing_counted)).tags + taken_at w c p }) where
@@ -155,12 +144,12 @@ module _ (facts : Facts) (laws : WriteLaws) (world_laws : WorldLaws) (one_key : 
       written = λ e. stored_value (part-now e) tag (read e) (bytes_after piece p (bytes_of (read e)))
 
       sound-more : IsSound more
-      sound-more = sound-counted s sound facts job known n (taken_at w c p) counted
+      sound-more = sound-counted s sound job known n (taken_at w c p) counted
 
       pub world-later : world_of later ≡ store_pages w c job piece (p ∷ [])
       world-later =
-          put-spot more sound-more facts placed placed_groups c i found p j there value.0 v value.1
-          ∙ ap (λ (x : World). put_page x c p v) (counted-world s sound facts job known n (taken_at w c p) counted)
+          put-spot more sound-more placed placed_groups c i found p j there value.0 v value.1
+          ∙ ap (λ (x : World). put_page x c p v) (counted-world s sound job known n (taken_at w c p) counted)
           ∙ counted-put w job f c p v
           ∙ ap (λ u. change_counters (put_page w c p u) job f) written
           ∙ sym (store-one w c job piece p)
@@ -175,7 +164,7 @@ module _ (facts : Facts) (laws : WriteLaws) (world_laws : WorldLaws) (one_key : 
       tags-later t bytes is =
           ⊎_elim
           (λ fresh.
-          let now = ap (λ (x : World). (x.next job).tags) (counted-world s sound facts job known n (taken_at w c p) counted) ∙ ap (λ (m : Counters). m.tags) (next-tags w c job f) in
+          let now = ap (λ (x : World). (x.next job).tags) (counted-world s sound job known n (taken_at w c p) counted) ∙ ap (λ (m : Counters). m.tags) (next-tags w c job f) in
           let one = ap {B = ℕ} (λ (b : Bool). cond b 1 0) fresh.0 in
           let below : tag.k < ((world_of more).next tag.job).tags = omega (arith, now, one) in
           subst (λ (u : Tag). u.k < ((world_of more).next u.job).tags) fresh.1 below)
@@ -190,7 +179,7 @@ module _ (facts : Facts) (laws : WriteLaws) (world_laws : WorldLaws) (one_key : 
           (tag-of t bytes is)
 
       pub sound-later : IsSound later
-      sound-later = sound-spot more sound-more facts placed placed_groups c i found p j there value.0 v value.1 tags-later keeps
+      sound-later = sound-spot more sound-more placed placed_groups c i found p j there value.0 v value.1 tags-later keeps
 
       -- the cells of the places afterwards
       module _ (cells' : List Place) (is : cells' ≡ write_page cells j p piece tag) (tie' : (m q : ℕ) → later.rows m (Page q) ≡ place_of cells' m q) where
@@ -199,9 +188,9 @@ module _ (facts : Facts) (laws : WriteLaws) (world_laws : WorldLaws) (one_key : 
 
         pub used-later : frames.used (world_of later) ≡ frames.used w + taken_at w c p
         used-later =
-            used-places facts.orders world_laws later sound-later placed placed_groups cells' tie' long'
+            used-places later sound-later placed placed_groups cells' tie' long'
             ∙ ap places.used is
-            ∙ laws.taken cells j p piece tag inside low-page new-now
+            ∙ write-taken cells j p piece tag inside low-page new-now
             ∙ (λ e. sym used-now e + cond (part-now e) 1 0)
 
         -- another page reads as before
@@ -209,7 +198,7 @@ module _ (facts : Facts) (laws : WriteLaws) (world_laws : WorldLaws) (one_key : 
         page-later q off =
             ap (λ (x : World). page_at x c q) (world-later ∙ store-one w c job piece p)
             ∙ counted-value (put_page w c p (value_after w c job piece p)) job f c q
-            ∙ one_key w c (Page p) (Some (value_after w c job piece p)) c (Page q) (λ same. off (two-pages p q same))
+            ∙ put-other_key w c (Page p) (Some (value_after w c job piece p)) c (Page q) (λ same. off (two-pages p q same))
 
         row-later : (k q : ℕ) → q ≢ p → later.rows k (Page q) ≡ s.rows k (Page q)
         row-later k q off =
@@ -220,11 +209,11 @@ module _ (facts : Facts) (laws : WriteLaws) (world_laws : WorldLaws) (one_key : 
 
         data-parts : (q k : ℕ) (t : Tag) (b : List ℕ) → q ≢ p → s.rows k (Page q) ≡ Own (Some (Data t b)) → frames.is_parting (world_of later) (Data t b) ≡ frames.is_parting w (Data t b)
         data-parts q k t b off at_q =
-            parting-places facts.orders world_laws later sound-later placed placed_groups cells' tie' long' k q (Data t b) (row-later k q off ∙ at_q)
+            parting-places later sound-later placed placed_groups cells' tie' long' k q (Data t b) (row-later k q off ∙ at_q)
             ∙ ap (λ cs. places.is_parting cs k q) is
-            ∙ laws.others cells j p k q piece tag inside (λ _. off) new-now
+            ∙ parting-others cells j p piece tag inside k q (λ _. off) new-now
             (λ u a d at_p there'. off (sym (sound.homes j k p q u a d (tie j p ∙ at_p) (tie k q ∙ there'))))
-            ∙ sym (parting-places facts.orders world_laws s sound placed placed_groups cells tie long k q (Data t b) at_q)
+            ∙ sym (parting-places s sound placed placed_groups cells tie long k q (Data t b) at_q)
 
         pub others-later : (q : ℕ) → q ≢ p → parts_at (world_of later) c q ≡ parts_at w c q
         others-later q off = ap (λ o. frames.is_parting (world_of later) (unwrap_or o Zero)) (page-later q off) ∙ by (page_at w c q) refl

@@ -13,9 +13,9 @@ use Rattle.lwc_base.specs.Ranges.{is_page}
 use Rattle.range_map.specs.Kinds.{kind_of}
 use Rattle.range_map.specs.declared.segment.SegmentKind.{SegmentKind}
 use Rattle.fd_table.specs.Slots as slots
-use Rattle.page_cells.specs.declared.stretches.Source.{Source}
-use Rattle.page_cells.specs.declared.stretches.Source.TheVariants.{Absent, Zeros}
-use Rattle.page_cells.specs.Cells.{Place, place_of}
+use Rattle.cow_space.specs.declared.stretches.Origin.{Origin}
+use Rattle.cow_space.specs.declared.stretches.Origin.TheVariants.{Absent, Zeros}
+use Rattle.cow_space.specs.Cells.{Place, place_of}
 
 -- a cell under each key
 abbrev pub Row : Type 0
@@ -72,5 +72,5 @@ is_nothing (Slot n) cell = not (slots.is_filled cell)
 is_nothing Cred cell = true
 
 -- what pages of a range get
-abbrev pub source_of : Bool → Source
-source_of present = if present then Zeros else Absent
+abbrev pub origin_of : Bool → Origin
+origin_of present = if present then Zeros else Absent

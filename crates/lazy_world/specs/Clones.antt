@@ -12,17 +12,17 @@ use Rattle.lwc_base.specs.declared.limits.TheConstants.{MOST_PAGES}
 use Rattle.range_map.specs.Kinds.{ranges}
 use Rattle.range_map.specs.declared.segment.SegmentKind.{SegmentKind}
 use Rattle.range_map.specs.declared.segment.SegmentKind.TheVariants.{Own, Common}
-use Rattle.page_cells.specs.declared.stretches.Source.{Source}
-use Rattle.page_cells.specs.declared.stretches.Source.TheVariants.{Absent, CopyOf}
+use Rattle.cow_space.specs.declared.stretches.Origin.{Origin}
+use Rattle.cow_space.specs.declared.stretches.Origin.TheVariants.{Absent, CopyOf}
 use Rattle.lwc_base.specs.Ranges.{ranges_of}
 use Rattle.lwc_base.specs.World.{context}
 use Rattle.lazy_world.specs.declared.world.PlacedWorld.{PlacedWorld}
 use Rattle.lazy_world.specs.Cells.{HasOwnPages, Row, kinds_of}
-use Rattle.lazy_world.specs.Plans.{copied_source}
+use Rattle.lazy_world.specs.Transfers.{copied_origin}
 use Rattle.lazy_world.specs.Seen.{free_nodes, pool, used_frames}
-use Rattle.lazy_world.specs.Sources.{most_nodes, most_steps}
-use Rattle.lazy_world.specs.declared.pieces.PageSources.{PageSources}
-use Rattle.lazy_world.specs.declared.pieces.PageSources.TheVariants.{AllOf}
+use Rattle.lazy_world.specs.Origins.{most_nodes, most_steps}
+use Rattle.lazy_world.specs.declared.pieces.PageOrigins.{PageOrigins}
+use Rattle.lazy_world.specs.declared.pieces.PageOrigins.TheVariants.{AllOf}
 use Rattle.lazy_world.specs.States.{Parts}
 use Rattle.lazy_world.specs.Worlds.{seen}
 
@@ -32,35 +32,38 @@ place_of_group s g = option_map (λ j. s.size.contexts + j) (fm.get s.groups.map
 
 -- what the pages of an item get: shared ones what the context has, once its values have moved; those left out
 -- become absent; of copies an item says nothing
-abbrev pub item_source : ℕ → Option Mode → Option Source
-item_source from (Some Share) = Some (CopyOf from)
-item_source from (Some Unmap) = Some Absent
-item_source from _ = None
+abbrev pub item_origin : ℕ → Option Mode → Option Origin
+item_origin from (Some Share) = Some (CopyOf from)
+item_origin from (Some Unmap) = Some Absent
+item_origin from _ = None
 
 -- where copies of pages of a kind come from: from the context itself, or from their group
-abbrev pub kind_source : Parts → ℕ → SegmentKind → Source
-kind_source s from Own = CopyOf from
-kind_source s from (Common g) = copied_source (place_of_group s g)
+abbrev pub kind_origin : Parts → ℕ → SegmentKind → Origin
+kind_origin s from Own = CopyOf from
+kind_origin s from (Common g) = copied_origin (place_of_group s g)
 
 -- where a page of a clone of the context at a place comes from; none where the page stays absent
-abbrev pub clone_source : Parts → List Item → ℕ → ℕ → Option Source
-clone_source s items from q =
-    option_or (item_source from (mode items (Page q)))
-    (option_map (kind_source s from) (kinds_of (s.rows from) q))
+abbrev pub clone_origin : Parts → List Item → ℕ → ℕ → Option Origin
+clone_origin s items from q =
+    option_or (item_origin from (mode items (Page q)))
+    (option_map (kind_origin s from) (kinds_of (s.rows from) q))
 
 -- items share no page and leave none out
 abbrev pub CopiesPages : List Item → Type 0
 CopiesPages items = (p : ℕ) → mode_or_copy items (Page p) ≡ Copy
 
--- the pages of a clone of a place take at most 64 node steps and 2 free nodes for each range of the place and each
+-- the pages of a clone of a place take at most 64 node steps and 2 free nodes for each range of the place and
+-- each
 -- item, and one free node besides; those that are all copied and all the place's own are taken whole
-pub record AreBounded (rows : ℕ → Row) (from : ℕ) (items : List Item) (pages : PageSources) : Type 0 where
+pub record AreBounded (rows : ℕ → Row) (from : ℕ) (items : List Item) (pages : PageOrigins) : Type 0 where
   pub nodes : most_nodes pages ≤ 1 + 2 * (ranges MOST_PAGES (kinds_of (rows from)) + length items)
   pub steps : most_steps rows pages ≤ 64 * (ranges MOST_PAGES (kinds_of (rows from)) + length items)
   pub whole : CopiesPages items → HasOwnPages (rows from) → pages ≡ AllOf from
 
--- what a clone of a context takes: the frames in use are as many as before, and each frame keeps its stamp and its
--- bytes; for each range of the context and each item at most 64 node steps and 2 free nodes, and one free node besides;
+-- what a clone of a context takes: the frames in use are as many as before, and each frame keeps its stamp
+-- and its
+-- bytes; for each range of the context and each item at most 64 node steps and 2 free nodes, and one free
+-- node besides;
 -- where all pages are copied and all are the context's own, at most one node step and no free node
 pub record CloneCost (old new : PlacedWorld) (before after : ℕ) (c : Name) (items : List Item) : Type 0 where
   pub used : used_frames new.places ≡ used_frames old.places

@@ -6,7 +6,7 @@ use Rattle.lwc_base.specs.declared.descriptor.Descriptor.{Descriptor}
 use Rattle.lwc_base.specs.declared.name.Name.{Name}
 use Rattle.fd_table.specs.declared.slots.TheConstants.{NUMBERS}
 use Rattle.fd_table.specs.Slots.{Slot, context_in, row_of}
-use Rattle.page_cells.specs.Cells.{Place}
+use Rattle.cow_space.specs.Cells.{Place}
 
 -- the number of a name; other names may have it too
 unfoldable pub number_of : Name → ℕ

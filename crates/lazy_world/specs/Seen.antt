@@ -2,9 +2,9 @@
 use Rattle.std.specs.Prelude.{◌≡◌, ℕ, List, length}
 use Rattle.lwc_base.specs.declared.name.Tag.{Tag}
 use Rattle.fd_table.specs.Seen as slots_seen
-use Rattle.page_cells.specs.Cells.{Place}
-use Rattle.page_cells.specs.Seen as pages_seen
-use Rattle.page_cells.specs.Tags.{used}
+use Rattle.cow_space.specs.Cells.{Place}
+use Rattle.cow_space.specs.Seen as pages_seen
+use Rattle.cow_space.specs.Tags.{used}
 use Rattle.lazy_world.specs.declared.places.Places.{Places}
 use Rattle.lazy_world.specs.Cells.{Row, rows_of}
 

@@ -44,7 +44,8 @@ HasOldTags next row = (p : ℕ) (tag : Tag) (bytes : List ℕ) → row (Page p) 
 abbrev pub HasOneHome : (ℕ → Row) → Type 0
 HasOneHome rows = (i j p q : ℕ) (tag : Tag) (a b : List ℕ) → rows i (Page p) ≡ Own (Some (Data tag a)) → rows j (Page q) ≡ Own (Some (Data tag b)) → p ≡ q
 
--- sizes are within the limits, free places are empty, groups' cells are their own, all names and tags are old, and
+-- sizes are within the limits, free places are empty, groups' cells are their own, all names and tags are
+-- old, and
 -- each tag stands under one page number
 pub record IsSound (s : Parts) : Type 0 where
   pub sizes : HasSize s

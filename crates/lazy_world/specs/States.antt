@@ -13,7 +13,8 @@ use Rattle.lazy_world.specs.declared.counts.Counts.{Counts}
 use Rattle.lazy_world.specs.Cells.{Row}
 use Rattle.lazy_world.specs.Mapped.{mapped}
 
--- the parts of a world: what is at each place, and the place of each name; the groups' places follow those of contexts
+-- the parts of a world: what is at each place, and the place of each name; the groups' places follow those of
+-- contexts
 pub record Parts : Type 0 where
   pub size : WorldSize
   pub rows : ℕ → Row

@@ -4,7 +4,7 @@ use Rattle.lwc_base.specs.declared.name.Name.{Name}
 use Rattle.lwc_base.specs.declared.page.PageValue.{PageValue}
 use Rattle.lwc_base.specs.Frames.{is_parting}
 use Rattle.lwc_base.specs.Pages.{bytes_of}
-use Rattle.lwc_base.specs.Store.{Piece, bytes_after, page_value_at, plan, put_pages, stored_value}
+use Rattle.lwc_base.specs.Store.{Piece, bytes_after, page_value_at, stored_pages, put_pages, stored_value}
 use Rattle.lwc_base.specs.World.{World, change_counters}
 
 -- whether a page of a context parts when it is stored to
@@ -24,5 +24,5 @@ value_after w c job piece p =
 -- the world once a piece is on these pages, under the job's next tags
 unfoldable pub store_pages : World → Name → ℕ → Piece → List ℕ → World
 store_pages w c job piece ps =
-    change_counters (put_pages w c (plan w c job piece (w.next job).tags ps)) job
+    change_counters (put_pages w c (stored_pages w c job piece (w.next job).tags ps)) job
     (λ n. record n { tags = n.tags + count_by (parts_at w c) ps })

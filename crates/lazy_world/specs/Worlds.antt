@@ -2,10 +2,10 @@
 use Rattle.std.specs.Prelude.{ℕ, List}
 use Rattle.lwc_base.specs.declared.item.Item.{Item}
 use Rattle.lwc_base.specs.World.{World}
-use Rattle.lazy_world.specs.declared.plan.Plan.{Plan}
+use Rattle.lazy_world.specs.declared.transfer.Transfer.{Transfer}
 use Rattle.lazy_world.specs.declared.world.PlacedWorld.{PlacedWorld}
 use Rattle.lazy_world.specs.Cells.{Row}
-use Rattle.lazy_world.specs.Plans.{planned_row}
+use Rattle.lazy_world.specs.Transfers.{transferred_row}
 use Rattle.lazy_world.specs.Seen.{rows}
 use Rattle.lazy_world.specs.States.{Parts, world_of}
 
@@ -24,6 +24,6 @@ parts w = record {
 unfoldable pub seen : PlacedWorld → World
 seen w = world_of (parts w)
 
--- the row that the place `to` gets by a plan of the place `from`
-abbrev pub planned : PlacedWorld → Plan → List Item → ℕ → ℕ → Row
-planned w plan items from to = planned_row (seen w) plan items (rows w.places from) (rows w.places to)
+-- the row that the place `to` gets by a transfer of the place `from`
+abbrev pub transferred : PlacedWorld → Transfer → List Item → ℕ → ℕ → Row
+transferred w transfer items from to = transferred_row (seen w) transfer items (rows w.places from) (rows w.places to)

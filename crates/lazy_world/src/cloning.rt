@@ -8,27 +8,25 @@ ghost use Rattle.lwc_base.specs.Modes.{IsItem, IsSpec, mode, names};
 ghost use Rattle.lwc_base.specs.Sharing.{clone_context, needs_group, ranges_after_clone};
 ghost use Rattle.lwc_base.specs.World.{next_context};
 ghost use Rattle.range_map.specs.Kinds.{is_between, ranges};
-ghost use Rattle.page_cells.specs.Changes.{IsStretch};
+ghost use Rattle.cow_space.specs.Changes.{IsStretch};
 ghost use Rattle.world_face.specs.Calls.{AreFew, HasGroupPlace, HasPlace, IsLive, MayName};
 ghost use Rattle.lazy_world.specs.Cells.{HasNoPages, Row, kinds_of};
 ghost use Rattle.lazy_world.specs.Clones.{AreBounded, CloneCost, CopiesPages};
-ghost use Rattle.lazy_world.specs.Clones.{clone_source, item_source, kind_source};
-ghost use Rattle.lazy_world.specs.Plans.{given_or, moves, planned_row};
+ghost use Rattle.lazy_world.specs.Clones.{clone_origin, item_origin, kind_origin};
+ghost use Rattle.lazy_world.specs.Transfers.{given_or, moves, transferred_row};
 ghost use Rattle.lazy_world.specs.Seen.{count, rows};
 ghost use Rattle.lazy_world.specs.Sound.{IsEmpty};
-ghost use Rattle.lazy_world.specs.Sources.{AreGiven, ArePagesGiven, page_source, source_at, sourced_row};
-ghost use Rattle.lazy_world.specs.declared.plan.Plan.TheVariants.{Clone};
+ghost use Rattle.lazy_world.specs.Origins.{AreGiven, ArePagesGiven, page_origin, origin_at, origin_row};
+ghost use Rattle.lazy_world.specs.declared.transfer.Transfer.TheVariants.{Clone};
 
-use crate::facts::facts;
-use crate::pieces::{PageSources, Sources};
-use crate::plan::Plan;
+use crate::pieces::{Origins, PageOrigins};
+use crate::transfer::Transfer;
 use crate::world::PlacedWorld;
 use arrayvec::ArrayVec;
-use lwc_base::laws::a_group_is_needed_where_a_value_moves;
-use lwc_base::{Item, Kind, Mode, NOBODY, Name, Range, Regs, Spec};
-use page_cells::{MOST_STRETCHES, Source, Stretch};
+use cow_space::{Origin, Stretch};
+use lwc_base::{Item, Kind, MOST_PAGE_RUNS, Mode, NOBODY, Name, Range, Regs, Spec};
 use pool_base::Steps;
-use range_map::{SegmentKind, ranges_are_those_of_the_context};
+use range_map::SegmentKind;
 use std::marker::Brand;
 use std::sync::ledger::{Blank, Ledger};
 
@@ -37,28 +35,28 @@ use std::sync::ledger::{Blank, Ledger};
 fn item_stretch(item: &Item, from: usize) -> Option<Stretch>
     requires { IsItem MOST_PAGES item.now }
     ensures none { IfNone result ((q : ℕ) → names item.now (Page q) ≡ true
-        → item_source from (Some item.now.mode) ≡ None) }
+        → item_origin from (Some item.now.mode) ≡ None) }
     ensures pages { IfSome result (λ s. (q : ℕ)
         → is_between s.range.from s.range.to q ≡ names item.now (Page q)) }
     ensures some { IfSome result (λ s. s.range.from < s.range.to) }
     ensures inside { IfSome result (λ s. s.range.to ≤ MOST_PAGES) }
-    ensures source { IfSome result (λ s. Some s.source ≡ item_source from (Some item.now.mode)) }
+    ensures origin { IfSome result (λ s. Some s.origin ≡ item_origin from (Some item.now.mode)) }
 {
-    let source = match (item.kind, item.mode) {
-        (Kind::Page, Mode::Share) => Source::CopyOf(from),
-        (Kind::Page, Mode::Unmap) => Source::Absent,
+    let origin = match (item.kind, item.mode) {
+        (Kind::Page, Mode::Share) => Origin::CopyOf(from),
+        (Kind::Page, Mode::Unmap) => Origin::Absent,
         _ => return None,
     };
     let range = Range {
         from: item.from as u16,
         to: item.to as u16,
     };
-    Some(Stretch { range, source })
+    Some(Stretch { range, origin })
 }
 
 /// The stretches of the pages of items in a clone of the place `from`.
-fn item_stretches(spec: &Spec, from: usize) -> ArrayVec<Stretch, MOST_STRETCHES>
-    ensures sources { (q : ℕ) → source_at result.items q ≡ item_source from (mode spec.now (Page q)) }
+fn item_stretches(spec: &Spec, from: usize) -> ArrayVec<Stretch, MOST_PAGE_RUNS>
+    ensures origins { (q : ℕ) → origin_at result.items q ≡ item_origin from (mode spec.now (Page q)) }
     ensures few { length result.items ≤ length spec.now }
     ensures given { (count to : ℕ) → from < count → from ≢ to → All (IsStretch count to) result.items }
 {
@@ -90,33 +88,32 @@ impl PlacedWorld {
     ghost use Rattle.lwc_base.specs.Ranges.{ranges_of};
     ghost use Rattle.lwc_base.specs.World.{context};
     ghost use Rattle.lazy_world.specs.Followed.{followed};
-    ghost use Rattle.lazy_world.specs.Worlds.{parts, planned, seen};
+    ghost use Rattle.lazy_world.specs.Worlds.{parts, transferred, seen};
 
     /// Where copies of pages of a kind come from, if they are those of the place `from`.
-    fn kind_source(&self, kind: SegmentKind, from: usize) -> Source
-        ensures { result ≡ kind_source (parts self.now) from kind }
+    fn kind_origin(&self, kind: SegmentKind, from: usize) -> Origin
+        ensures { result ≡ kind_origin (parts self.now) from kind }
     {
         match kind {
-            SegmentKind::Own => Source::CopyOf(from),
+            SegmentKind::Own => Origin::CopyOf(from),
             SegmentKind::Common(g) => match self.group_place(g) {
-                Some(place) => Source::CopyOf(place),
-                None => Source::Absent,
+                Some(place) => Origin::CopyOf(place),
+                None => Origin::Absent,
             },
         }
     }
 
     /// The stretches that give a place without pages those of a clone of the place `from`: at most one for
     /// each item, and one for each segment.
-    fn clone_stretches(&self, spec: &Spec, from: usize) -> ArrayVec<Stretch, MOST_STRETCHES>
+    fn clone_stretches(&self, spec: &Spec, from: usize) -> ArrayVec<Stretch, MOST_PAGE_RUNS>
         requires from { from < count self.now.places }
         requires within { IsSpec (seen self.now).size.pages spec.now }
-        ensures sources { (q : ℕ) → source_at result.items q ≡ clone_source (parts self.now) spec.now from q }
+        ensures origins { (q : ℕ) → origin_at result.items q ≡ clone_origin (parts self.now) spec.now from q }
         ensures few { length result.items
             ≤ ranges MOST_PAGES (kinds_of (rows self.now.places from)) + length spec.now }
         ensures given { (to : ℕ) → from ≢ to → to < (parts self.now).size.contexts
             → All (IsStretch (count self.now.places) to) result.items }
     {
-        self.groups.are_placed();
         let mut stretches = item_stretches(spec, from);
         for segment in self.places.segments(from) {
             stretches.push(Stretch {
@@ -124,7 +121,7 @@ impl PlacedWorld {
                     from: segment.from,
                     to: segment.to,
                 },
-                source: self.kind_source(segment.kind, from),
+                origin: self.kind_origin(segment.kind, from),
             });
         }
         stretches
@@ -132,47 +129,47 @@ impl PlacedWorld {
 
     /// Where a place without pages gets those of a clone of the place `from`, where no page is left that
     /// moves. Pages that are all copied and all that place's own are taken whole.
-    fn clone_pages(&self, spec: &Spec, from: usize) -> PageSources
+    fn clone_pages(&self, spec: &Spec, from: usize) -> PageOrigins
         requires from { from < count self.now.places }
         requires within { IsSpec (seen self.now).size.pages spec.now }
         requires settled { (q : ℕ) → moves spec.now (Page q) (rows self.now.places from) ≡ false }
         ensures gives { (made : Name) (old : Row) (q : ℕ)
-            → given_or (rows self.now.places) (Page q) (Own None) (page_source result q)
-            ≡ planned_row (seen self.now) (Clone made) spec.now (rows self.now.places from) old (Page q) }
+            → given_or (rows self.now.places) (Page q) (Own None) (page_origin result q)
+            ≡ transferred_row (seen self.now) (Clone made) spec.now (rows self.now.places from) old (Page q) }
         ensures given { (to : ℕ) → from ≢ to → to < (parts self.now).size.contexts
             → ArePagesGiven (count self.now.places) to result }
         ensures bounded { AreBounded (rows self.now.places) from spec.now result }
     {
         if copies_pages(spec) && self.places.has_own_pages(from) {
-            return PageSources::AllOf(from);
+            return PageOrigins::AllOf(from);
         }
-        PageSources::Stretches(self.clone_stretches(spec, from))
+        PageOrigins::Stretches(self.clone_stretches(spec, from))
     }
 
     /// Where the place `to`, which has no pages, gets the cells of a clone of the place `from`, where nothing
     /// is left that moves.
-    fn clone_sources(&self, made: Name, spec: &Spec, from: usize, to: usize) -> Sources
+    fn clone_origins(&self, made: Name, spec: &Spec, from: usize, to: usize) -> Origins
         requires from { from < count self.now.places }
         requires to { to < (parts self.now).size.contexts }
         requires apart { from ≢ to }
         requires within { IsSpec (seen self.now).size.pages spec.now }
         requires settled { (k : Key) → moves spec.now k (rows self.now.places from) ≡ false }
         requires empty { HasNoPages (rows self.now.places to) }
-        ensures row { sourced_row (rows self.now.places) to result
-            ≡ planned self.now (Clone made) spec.now from to }
+        ensures row { origin_row (rows self.now.places) to result
+            ≡ transferred self.now (Clone made) spec.now from to }
         ensures given { AreGiven (count self.now.places) to result }
         ensures bounded { AreBounded (rows self.now.places) from spec.now result.pages }
     {
-        let plan = Plan::Clone(made);
-        Sources {
+        let transfer = Transfer::Clone(made);
+        Origins {
             pages: self.clone_pages(spec, from),
-            slots: self.slot_sources(plan, spec, from, to),
-            uid: self.uid_source(plan, spec, from, to),
+            slots: self.slot_origins(transfer, spec, from, to),
+            uid: self.uid_origin(transfer, spec, from, to),
         }
     }
 
-    /// A context without pages gets the cells of a clone of another one, from where its sources say.
-    // The sources are a large value, which each caller would clear if this were a part of it.
+    /// A context without pages gets the cells of a clone of another one, from where its origins say.
+    // The origins are a large value, which each caller would clear if this were a part of it.
     #[inline(never)]
     fn clone_pieces<L: Ledger>(&mut self, spec: &Spec, c: Name, made: Name, steps: &mut Steps<L>)
         requires from { IsLive (seen self.old) c }
@@ -186,13 +183,10 @@ impl PlacedWorld {
         ensures world { seen self.new ≡ followed (seen self.old) (Clone made) spec.now c made }
         ensures cost { CloneCost self.old self.new steps.old steps.new c spec.now }
     {
-        facts();
-        self.contexts.are_placed();
-        ranges_are_those_of_the_context();
         let from = self.place(c);
         let to = self.place(made);
-        let sources = self.clone_sources(made, spec, from, to);
-        self.places.take(to, &sources, steps);
+        let origins = self.clone_origins(made, spec, from, to);
+        self.places.take(to, &origins, steps);
     }
 
     /// A context with nothing but a credential gets the cells of a clone of another one, once that one's
@@ -217,12 +211,9 @@ impl PlacedWorld {
         ensures world { seen self.new ≡ followed (seen self.old) (Clone made) spec.now c made }
         ensures cost { CloneCost self.old self.new steps.old steps.new c spec.now }
     {
-        facts();
-        self.contexts.are_placed();
-        ranges_are_those_of_the_context();
         let from = self.place(c);
         let to = self.place(made);
-        if self.can_copy(Plan::Clone(made), spec, from, to) {
+        if self.can_copy(Transfer::Clone(made), spec, from, to) {
             self.places.copy_place(to, from, steps);
         } else {
             self.clone_pieces(spec, c, made, steps);
@@ -230,6 +221,7 @@ impl PlacedWorld {
     }
 
     /// Makes a new context of a job from another one, on a counter of its own.
+    #[tactic(auto, using(lwc_base::proofs::Facts::changes))]
     fn clone_counted<L: Ledger>(
         &mut self,
         c: Name,
@@ -250,8 +242,6 @@ impl PlacedWorld {
         ensures name { result ≡ next_context (seen self.old) job }
         ensures cloned { seen self.new ≡ clone_context (seen self.old) c job spec.now entry.now }
     {
-        facts();
-        a_group_is_needed_where_a_value_moves();
         let mut steps = Steps::<L>::new(blank);
         self.share(c, spec, job, &mut steps);
         let made = self.add_context(job, NOBODY, entry);

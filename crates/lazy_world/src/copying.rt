@@ -6,15 +6,14 @@ ghost use Rattle.lwc_base.specs.declared.key.Key.TheVariants.{Page, Slot, Cred};
 ghost use Rattle.lwc_base.specs.declared.limits.TheConstants.{MOST_PAGES};
 ghost use Rattle.range_map.specs.Kinds.{ranges};
 ghost use Rattle.lazy_world.specs.Cells.{HasNoPages, HasOwnPages, Row, is_own, kinds_of, put_row};
-ghost use Rattle.lazy_world.specs.Plans.{planned_row};
+ghost use Rattle.lazy_world.specs.Transfers.{transferred_row};
 ghost use Rattle.lazy_world.specs.Seen.{count, frame_count, free_nodes, pool, rows, used_frames};
 
 use crate::places::Places;
-use crate::plan::Plan;
+use crate::transfer::Transfer;
 use crate::world::PlacedWorld;
+use cow_space::Origin;
 use lwc_base::{Cell, MOST_PAGES, Spec};
-use page_cells::Source;
-use page_cells::laws::copies_take_no_frame;
 use pool_base::Steps;
 use range_map::SegmentKind;
 use std::sync::ledger::Ledger;
@@ -36,9 +35,8 @@ impl Places {
         ensures cost { HasNoPages (rows self.old to)
             → steps.new ≤ steps.old + min 1 (ranges MOST_PAGES (kinds_of (rows self.old from))) }
     {
-        copies_take_no_frame();
-        let uid = self.given_uid(Source::CopyOf(from));
-        self.pages.clone_place(to, from, steps);
+        let uid = self.given_uid(Origin::CopyOf(from));
+        self.copy_pages(to, from, steps);
         self.slots.clone_place(to, from);
         self.uids[to] = uid;
     }
@@ -97,32 +95,32 @@ impl Places {
 impl PlacedWorld {
     ghost use Rattle.lazy_world.specs.Worlds.{seen};
 
-    /// Whether a plan gives all that a place has, as it is there: no item names a key, and what is copied
+    /// Whether a transfer gives all that a place has, as it is there: no item names a key, and what is copied
     /// is the place's own.
-    pub(crate) fn gives_same(&self, plan: Plan, spec: &Spec, from: usize) -> bool
+    pub(crate) fn gives_same(&self, transfer: Transfer, spec: &Spec, from: usize) -> bool
         requires { from < count self.now.places }
         ensures { result ≡ true → (old : Row)
-            → planned_row (seen self.now) plan spec.now (rows self.now.places from) old
+            → transferred_row (seen self.now) transfer spec.now (rows self.now.places from) old
             ≡ rows self.now.places from }
     {
         spec.items().is_empty()
-            && match plan {
-                Plan::Mark(_) => true,
-                Plan::Clone(_) => self.places.is_all_own(from),
-                Plan::Move | Plan::Overlay(_) => false,
+            && match transfer {
+                Transfer::Mark(_) => true,
+                Transfer::Clone(_) => self.places.is_all_own(from),
+                Transfer::Move | Transfer::Overlay(_) => false,
             }
     }
 
-    /// Whether what a plan gives the place `to` can be copied whole.
-    pub(crate) fn can_copy(&self, plan: Plan, spec: &Spec, from: usize, to: usize) -> bool
+    /// Whether what a transfer gives the place `to` can be copied whole.
+    pub(crate) fn can_copy(&self, transfer: Transfer, spec: &Spec, from: usize, to: usize) -> bool
         requires from { from < count self.now.places }
         requires to { to < count self.now.places }
         ensures apart { result ≡ true → from ≢ to }
         ensures empty { result ≡ true → (n : ℕ) → rows self.now.places to (Slot n) ≡ Own Empty }
         ensures row { result ≡ true → (old : Row)
-            → planned_row (seen self.now) plan spec.now (rows self.now.places from) old
+            → transferred_row (seen self.now) transfer spec.now (rows self.now.places from) old
             ≡ rows self.now.places from }
     {
-        from != to && self.places.has_no_slot(to) && self.gives_same(plan, spec, from)
+        from != to && self.places.has_no_slot(to) && self.gives_same(transfer, spec, from)
     }
 }

@@ -6,7 +6,6 @@ ghost use Rattle.lazy_world.specs.Reaping.{keeps, left_by, passes};
 ghost use Rattle.lazy_world.specs.Seen.{count, frame_count, rows};
 ghost use Rattle.lazy_world.specs.Worlds.{parts, seen};
 
-use crate::facts::facts;
 use crate::places::Places;
 use crate::world::PlacedWorld;
 use lwc_base::{Cell, NOBODY, Name};
@@ -51,7 +50,6 @@ impl PlacedWorld {
               (seen self.old).contexts;
         } }
     {
-        facts();
         for i in 0..self.size.contexts as usize {
             self.keep_context(i, marks[i]);
         }
@@ -65,8 +63,6 @@ impl PlacedWorld {
           contexts = left_by self.old.contexts.map (passes stays i) (seen self.old).contexts;
         } }
     {
-        facts();
-        self.contexts.are_placed();
         if stays {
             return;
         }
@@ -83,8 +79,6 @@ impl PlacedWorld {
           contexts = fm.remove (seen self.old).contexts c;
         } }
     {
-        facts();
-        self.contexts.are_placed();
         let i = self.contexts.remove(c);
         self.places.clear(i);
     }
@@ -96,7 +90,6 @@ impl PlacedWorld {
           groups = left_by self.old.groups.map (keeps marks.now self.old.size.groups) (seen self.old).groups;
         } }
     {
-        facts();
         for j in 0..self.size.groups as usize {
             self.keep_group(j, marks[j]);
         }
@@ -109,8 +102,6 @@ impl PlacedWorld {
           groups = left_by self.old.groups.map (passes stays j) (seen self.old).groups;
         } }
     {
-        facts();
-        self.groups.are_placed();
         if stays {
             return;
         }
@@ -127,9 +118,6 @@ impl PlacedWorld {
           groups = fm.remove (seen self.old).groups g;
         } }
     {
-        facts();
-        self.contexts.are_placed();
-        self.groups.are_placed();
         let j = self.groups.remove(g);
         self.places.clear(self.size.contexts as usize + j);
     }

@@ -1,12 +1,6 @@
-use crate::facts::facts;
 use crate::lazy::{LazyWorld, anchors_of};
 use crate::world::PlacedWorld;
 use arrayvec::ArrayVec;
-use lwc_base::laws::{
-    a_group_is_needed_where_a_value_moves, a_put_changes_one_key,
-    a_reaped_world_keeps_what_is_reached, reached_contexts_are_those_with_a_chain,
-    what_is_apart_is_not_seen, what_is_stored_reads_back,
-};
 use lwc_base::{Descriptor, Name, OutOfMemory, Range, Regs, Spec, StoreFault, Summary, WorldSize};
 use std::alloc::Global;
 use world_face::World;
@@ -37,15 +31,11 @@ impl World for LazyWorld {
     }
 
     fn map(&mut self, c: Name, range: Range) -> Result<(), OutOfMemory> {
-        facts();
-        reached_contexts_are_those_with_a_chain();
         self.world.map(c, range);
         Ok(())
     }
 
     fn unmap(&mut self, c: Name, range: Range) -> Result<(), OutOfMemory> {
-        facts();
-        reached_contexts_are_those_with_a_chain();
         self.world.unmap(c, range);
         Ok(())
     }
@@ -55,9 +45,6 @@ impl World for LazyWorld {
     }
 
     fn store(&mut self, c: Name, at: u32, piece: &[u8], job: u32) -> Result<(), StoreFault> {
-        facts();
-        reached_contexts_are_those_with_a_chain();
-        what_is_stored_reads_back();
         self.world.store(c, at, piece, job)
     }
 
@@ -66,10 +53,6 @@ impl World for LazyWorld {
     }
 
     fn set_slot(&mut self, c: Name, n: u8, value: Descriptor) {
-        facts();
-        reached_contexts_are_those_with_a_chain();
-        a_put_changes_one_key();
-        what_is_apart_is_not_seen();
         // What the old descriptor is of may have lost its only link.
         let cut = self.world.link(c, n);
         self.add_anchor(cut);
@@ -85,9 +68,6 @@ impl World for LazyWorld {
     }
 
     fn set_uid(&mut self, c: Name, uid: u32) {
-        facts();
-        reached_contexts_are_those_with_a_chain();
-        a_put_changes_one_key();
         self.world.set_uid(c, uid);
     }
 
@@ -100,8 +80,6 @@ impl World for LazyWorld {
     }
 
     fn save(&mut self, c: Name, t: u32, regs: &Regs) {
-        facts();
-        reached_contexts_are_those_with_a_chain();
         self.world.save(c, t, regs);
     }
 
@@ -112,9 +90,6 @@ impl World for LazyWorld {
         job: u32,
         entry: &Regs,
     ) -> Result<Name, OutOfMemory> {
-        facts();
-        reached_contexts_are_those_with_a_chain();
-        a_group_is_needed_where_a_value_moves();
         if !spec.items().is_empty() {
             self.known = false;
             return Ok(self.world.clone_context(c, spec, job, entry));
@@ -131,9 +106,6 @@ impl World for LazyWorld {
     }
 
     fn reap(&mut self, roots: &[Name]) {
-        facts();
-        reached_contexts_are_those_with_a_chain();
-        a_reaped_world_keeps_what_is_reached();
         self.world
             .reap_from(self.known, self.anchors.as_slice(), roots);
         self.anchors = anchors_of(roots);

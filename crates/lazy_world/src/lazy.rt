@@ -3,21 +3,16 @@ ghost use Rattle.lwc_base.specs.declared.limits.TheConstants.{MOST_ROOTS};
 ghost use Rattle.lazy_world.specs.Anchors.{AreReached};
 ghost use Rattle.lazy_world.specs.Worlds as placed;
 
-use crate::facts::facts;
 use crate::world::PlacedWorld;
 use arrayvec::ArrayVec;
-use lwc_base::Name;
-use lwc_base::laws::reached_contexts_are_those_with_a_chain;
-
-/// The most anchors of a world.
-pub const MOST_ANCHORS: usize = 64;
+use lwc_base::{MOST_KEPT_ROOTS, Name};
 
 /// A world by shared pages that knows what its contexts are reached from, so that a reap mostly takes no
 /// search: each live context is reached from the anchors, where they are known.
 #[derive(Drop)]
 pub struct LazyWorld {
     pub(crate) world: PlacedWorld,
-    pub(crate) anchors: ArrayVec<Name, MOST_ANCHORS>,
+    pub(crate) anchors: ArrayVec<Name, MOST_KEPT_ROOTS>,
     pub(crate) known: bool,
     ghost reached: { known ≡ true → AreReached (placed.seen world) anchors.items },
 }
@@ -32,10 +27,8 @@ impl LazyWorld {
         ensures anchors { self.new.known ≡ true
             → self.new.anchors.items ≡ with_anchor self.old.anchors.items c }
     {
-        facts();
-        reached_contexts_are_those_with_a_chain();
         if let Some(c) = c {
-            if self.anchors.len() < MOST_ANCHORS {
+            if self.anchors.len() < MOST_KEPT_ROOTS {
                 self.anchors.push(c);
             } else {
                 self.known = false;
@@ -45,7 +38,7 @@ impl LazyWorld {
 }
 
 /// Roots as anchors.
-pub(crate) fn anchors_of(roots: &[Name]) -> ArrayVec<Name, MOST_ANCHORS>
+pub(crate) fn anchors_of(roots: &[Name]) -> ArrayVec<Name, MOST_KEPT_ROOTS>
     requires { length roots.now ≤ MOST_ROOTS }
     ensures { result.items ≡ roots.now }
 {

@@ -13,17 +13,14 @@ ghost use Rattle.lazy_world.specs.Anchors.{AreReached, HasLoose, HasRoot, IsLoos
 ghost use Rattle.lazy_world.specs.Seen.{count, rows};
 ghost use Rattle.lazy_world.specs.Worlds.{parts, seen};
 
-use crate::facts::facts;
 use crate::world::PlacedWorld;
 use fd_table::lowest_bit;
-use lwc_base::laws::{names_are_ordered, reached_contexts_are_those_with_a_chain};
 use lwc_base::{Descriptor, Name};
 
 /// Whether a name is among some.
 fn is_among(names: &[Name], c: Name) -> bool
     ensures { result ≡ is_among names.now c }
 {
-    names_are_ordered();
     names.contains(&c)
 }
 
@@ -80,7 +77,6 @@ impl PlacedWorld {
         requires { IsLive (seen self.now) d }
         ensures { result ≡ true → links (seen self.now) d c ≡ true }
     {
-        names_are_ordered();
         self.links_at(self.place(d), c)
     }
 
@@ -89,7 +85,6 @@ impl PlacedWorld {
         requires { All (λ root. IsLive (seen self.now) root) roots.now }
         ensures { result ≡ true → Reaches (seen self.now) roots.now c }
     {
-        names_are_ordered();
         for i in 0..roots.len() {
             if self.links_to(roots[i], c) {
                 return true;
@@ -115,7 +110,6 @@ impl PlacedWorld {
         ensures root { IfSome result (HasRoot (parts self.now) roots.now) }
         ensures inside { IfSome result (λ j. j < count self.now.places) }
     {
-        names_are_ordered();
         if roots.is_empty() {
             return None;
         }
@@ -134,7 +128,6 @@ impl PlacedWorld {
             → context_of (value_of (seen self.now) (Slot n) (rows self.now.places i (Slot n))) ≡ Some c
             → Reaches (seen self.now) roots.now c }
     {
-        names_are_ordered();
         if let Some(j) = first {
             if self.places.is_shared(i, j, n) {
                 return true;
@@ -172,7 +165,6 @@ impl PlacedWorld {
         requires roots { All (λ root. IsLive (seen self.now) root) roots.now }
         ensures { result ≡ true → IsLoose (seen self.now) roots.now c }
     {
-        names_are_ordered();
         if self.places.may_name(c) || is_among(roots, c) {
             return false;
         }
@@ -229,8 +221,6 @@ impl PlacedWorld {
         } }
         ensures same { result ≡ false → seen self.new ≡ seen self.old }
     {
-        facts();
-        reached_contexts_are_those_with_a_chain();
         match self.loose_of(anchors, roots) {
             Some(Some(c)) => {
                 self.drop_context(c);

@@ -1,27 +1,25 @@
 ghost use Rattle.std.specs.Prelude.{◌≡◌, ◌<◌, ◌≤◌, [], ◌∷◌};
 ghost use Rattle.lwc_base.specs.declared.limits.TheConstants.{MOST_PAGES, MOST_RANGES};
 ghost use Rattle.range_map.specs.Kinds.{ranges};
-ghost use Rattle.lazy_world.specs.Cells.{kinds_of, put_row, set_pages, source_of};
+ghost use Rattle.lazy_world.specs.Cells.{kinds_of, put_row, set_pages, origin_of};
 ghost use Rattle.lazy_world.specs.Seen.{count, frame_count, rows};
 
-use crate::facts::facts;
 use crate::places::Places;
 use crate::world::PlacedWorld;
+use cow_space::{Origin, Stretch};
 use lwc_base::{Name, Range};
-use page_cells::{Source, Stretch};
 use pool_base::Steps;
-use range_map::ranges_are_those_of_the_context;
 use std::marker::Brand;
 use std::sync::ledger::{Blank, Ledger};
 
 /// What pages get that become zeros or absent.
-fn source_of(present: bool) -> Source
-    ensures { result ≡ source_of present }
+fn origin_of(present: bool) -> Origin
+    ensures { result ≡ origin_of present }
 {
     if present {
-        Source::Zeros
+        Origin::Zeros
     } else {
-        Source::Absent
+        Origin::Absent
     }
 }
 
@@ -42,9 +40,9 @@ impl Places {
         ensures frames { frame_count self.new ≡ frame_count self.old }
     {
         let mut steps = Steps::<L>::new(blank);
-        let source = source_of(present);
+        let origin = origin_of(present);
         self.pages
-            .change(i, &[Stretch { range, source }], &mut steps);
+            .change(i, &[Stretch { range, origin }], &mut steps);
     }
 
     /// Makes each page of a range a page of zeros of the place's own, or absent.
@@ -70,8 +68,8 @@ impl Places {
         ensures { result ≡ ranges MOST_PAGES
             (kinds_of (set_pages range.from range.to present (rows self.now i))) }
     {
-        let source = source_of(present);
-        self.pages.count_after(i, &[Stretch { range, source }])
+        let origin = origin_of(present);
+        self.pages.count_after(i, &[Stretch { range, origin }])
     }
 }
 
@@ -90,9 +88,6 @@ impl PlacedWorld {
             ≤ MOST_RANGES }
         ensures { seen self.new ≡ mapped_or_not (seen self.old) c range.from range.to present }
     {
-        facts();
-        self.contexts.are_placed();
-        ranges_are_those_of_the_context();
         let i = self.place(c);
         self.places.set_pages(i, range, present);
     }
@@ -127,9 +122,6 @@ impl PlacedWorld {
         requires within { range.to ≤ (seen self.now).size.pages }
         ensures value { result ≡ ranges_of (mapped_or_not (seen self.now) c range.from range.to present) c }
     {
-        facts();
-        self.contexts.are_placed();
-        ranges_are_those_of_the_context();
         self.places.count_after(self.place(c), range, present)
     }
 }

@@ -11,7 +11,6 @@ ghost use Rattle.lazy_world.specs.Reaping.{AddsMarks, is_name, names_at};
 ghost use Rattle.lazy_world.specs.Seen.{count, rows};
 ghost use Rattle.lazy_world.specs.Worlds.{parts};
 
-use crate::facts::facts;
 use crate::places::Places;
 use crate::world::PlacedWorld;
 use lwc_base::{Cell, Name, SLOTS};
@@ -72,7 +71,6 @@ impl PlacedWorld {
         requires { i < (parts self.now).size.contexts }
         ensures { AddsMarks self.now.groups.places (λ g. names_at (parts self.now) g i) marks.old marks.new }
     {
-        self.groups.are_placed();
         if self.contexts.at(i).is_none() || self.are_marked(marks) {
             return;
         }
@@ -86,7 +84,6 @@ impl PlacedWorld {
         ensures { result ≡ true → (g : Name) (j : ℕ) → fm.get self.now.groups.map g ≡ Some j →
             is_marked marks.now j ≡ true }
     {
-        facts();
         for k in 0..self.groups.len() {
             if !self.is_marked(k, marks) {
                 return false;
@@ -109,7 +106,7 @@ impl PlacedWorld {
         }
     }
 
-    /// Marks the groups that pages of a place are common of.
+    /// Marks the groups that pages of a place are common of, by page_runs of pages of one kind.
     fn mark_pages(&self, i: usize, marks: &mut [bool; 1024])
         requires { i < count self.now.places }
         ensures { AddsMarks self.now.groups.places
@@ -117,8 +114,11 @@ impl PlacedWorld {
             (range_with_len 0 self.now.size.pages))
             marks.old marks.new }
     {
-        for p in 0..self.pages() as u16 {
+        let pages = self.pages() as u16;
+        let mut p = 0u16;
+        'page_runs: while p < pages {
             self.mark_group(self.places.page_group(i, p), marks);
+            p = self.places.next_edge(i, p).min(pages);
         }
     }
 
@@ -129,6 +129,9 @@ impl PlacedWorld {
             (λ g. list_any (λ n. is_in g (rows self.now.places i (Slot n))) (range_with_len 0 SLOTS))
             marks.old marks.new }
     {
+        if self.places.common(i) == 0 {
+            return;
+        }
         for n in 0..SLOTS {
             self.mark_group(self.places.slot_group(i, n), marks);
         }
@@ -138,8 +141,6 @@ impl PlacedWorld {
     fn mark_group(&self, group: Option<Name>, marks: &mut [bool; 1024])
         ensures { AddsMarks self.now.groups.places (is_name group) marks.old marks.new }
     {
-        facts();
-        self.groups.are_placed();
         if let Some(g) = group {
             if let Some(j) = self.groups.place(g) {
                 marks[j] = true;

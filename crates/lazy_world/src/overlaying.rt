@@ -4,13 +4,10 @@ ghost use Rattle.lwc_base.specs.Overlay.{overlay, ranges_after_overlay};
 ghost use Rattle.lwc_base.specs.Sharing.{needs_group};
 ghost use Rattle.world_face.specs.Calls.{AreFew, HasGroupPlace, IsLive, MayName};
 
-use crate::facts::facts;
-use crate::plan::Plan;
+use crate::transfer::Transfer;
 use crate::world::PlacedWorld;
-use lwc_base::laws::a_group_is_needed_where_a_value_moves;
 use lwc_base::{Name, Spec};
 use pool_base::Steps;
-use range_map::ranges_are_those_of_the_context;
 use std::marker::Brand;
 use std::sync::ledger::{Blank, Ledger};
 
@@ -18,6 +15,7 @@ impl PlacedWorld {
     ghost use Rattle.lazy_world.specs.Worlds.{seen};
 
     /// Takes over what the items name from another context.
+    #[tactic(auto, using(lwc_base::proofs::Facts::changes))]
     fn overlay_other<L: Ledger>(
         &mut self,
         to: Name,
@@ -35,15 +33,14 @@ impl PlacedWorld {
         requires few { AreFew (ranges_after_overlay (seen self.old) to from job spec.now) }
         ensures { seen self.new ≡ overlay (seen self.old) to from job spec.now }
     {
-        facts();
-        a_group_is_needed_where_a_value_moves();
         self.share(from, spec, job, steps);
         // Nothing is left that moves, so that no value becomes common by this name.
-        self.follow(Plan::Overlay(to), spec, from, to, steps);
+        self.follow(Transfer::Overlay(to), spec, from, to, steps);
     }
 
     /// Takes over what the items name from the context itself. Its values move at once with the change of the
     /// others, since a context that has only shared may have too many ranges.
+    #[tactic(auto, using(lwc_base::proofs::Facts::changes))]
     fn overlay_itself<L: Ledger>(&mut self, c: Name, spec: &Spec, job: u32, steps: &mut Steps<L>)
         requires live { IsLive (seen self.old) c }
         requires within { IsSpec (seen self.old).size.pages spec.now }
@@ -52,16 +49,13 @@ impl PlacedWorld {
         requires few { AreFew (ranges_after_overlay (seen self.old) c c job spec.now) }
         ensures { seen self.new ≡ overlay (seen self.old) c c job spec.now }
     {
-        facts();
-        a_group_is_needed_where_a_value_moves();
-        ranges_are_those_of_the_context();
         if self.needs_group(c, spec) {
             let g = self.add_group(job);
             self.fill_group(g, c, spec, steps);
-            self.follow(Plan::Overlay(g), spec, c, c, steps);
+            self.follow(Transfer::Overlay(g), spec, c, c, steps);
         } else {
             // Nothing moves, so that no value becomes common by this name.
-            self.follow(Plan::Overlay(c), spec, c, c, steps);
+            self.follow(Transfer::Overlay(c), spec, c, c, steps);
         }
     }
 

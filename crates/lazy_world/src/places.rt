@@ -1,16 +1,18 @@
+#![tactic(auto, unfolding(crate::specs::Seen::rows, crate::specs::Seen::count, crate::specs::Cells::rows_of))]
+
 ghost use Rattle.std.specs.Prelude.{◌≡◌, ◌<◌, IfOk, replicate};
 ghost use Rattle.lwc_base.specs.declared.cell.Cell.TheVariants.{Own};
 ghost use Rattle.lwc_base.specs.declared.key.TheConstants.{NOBODY};
 ghost use Rattle.fd_table.specs.Seen as slots_seen;
-ghost use Rattle.page_cells.specs.Seen as pages_seen;
+ghost use Rattle.cow_space.specs.Seen as pages_seen;
 ghost use Rattle.fd_table.specs.declared.slots.TheConstants.{NUMBERS};
 ghost use Rattle.lazy_world.specs.Kept.{IsKept, number_of};
 
 use crate::key_value::KeyValue;
+use cow_space::PageCells;
 use fd_table::{NUMBERS, Slots};
 use lwc_base::{Cell, Descriptor, NOBODY, Name, OutOfMemory};
-use page_cells::PageCells;
-use range_map::SegmentKind;
+use range_map::{Segment, SegmentKind};
 use std::alloc::Global;
 
 /// The cells of a fixed number of places: of each the pages, the slots and the credential.
@@ -43,31 +45,30 @@ fn number_of(name: Name) -> u16
 }
 
 impl Places {
-    ghost use Rattle.std.specs.Prelude.{◌≤◌, ◌≢◌, ℕ, IfSome, Some, false, true};
+    ghost use Rattle.std.specs.Prelude.{◌≤◌, ◌≢◌, ℕ, All, IfSome, Some, false, length, true};
     ghost use Rattle.std.specs.Option.{option_copied};
     ghost use Rattle.lwc_base.specs.declared.descriptor.TheConstants.{SLOTS};
     ghost use Rattle.lwc_base.specs.declared.key.Key.TheVariants.{Page, Slot, Cred};
-    ghost use Rattle.lwc_base.specs.declared.limits.TheConstants.{MOST_PAGES};
+    ghost use Rattle.lwc_base.specs.declared.limits.TheConstants.{MOST_PAGES, MOST_RANGES};
     ghost use Rattle.lwc_base.specs.Frames.{own_value};
     ghost use Rattle.lwc_base.specs.Keys.{with_key};
     ghost use Rattle.lwc_base.specs.declared.cell.Cell.{Cell};
     ghost use Rattle.cow_space.specs.Maps.{data_of};
-    ghost use Rattle.range_map.specs.Kinds.{kind_of};
+    ghost use Rattle.range_map.specs.Kinds.{IsSegment, kind_at, kind_of, ranges};
     ghost use Rattle.lwc_base.specs.Capabilities.{has_bit};
     ghost use Rattle.fd_table.specs.declared.slots.TheConstants.{NUMBERS};
     ghost use Rattle.fd_table.specs.Slots.{context_in, is_common, is_filled};
-    ghost use Rattle.lazy_world.specs.Cells.{no_row, put_row};
+    ghost use Rattle.lazy_world.specs.Cells.{kinds_of, no_row, put_row};
     ghost use Rattle.lazy_world.specs.Kept.{target_of};
-    ghost use Rattle.page_cells.specs.declared.cells.TheConstants.{MOST_PLACES};
+    ghost use Rattle.lwc_base.specs.declared.limits.TheConstants.{MOST_PAGE_PLACES};
     ghost use Rattle.lazy_world.specs.KeyValues.{HasSlot, group_in, key_in, value_in};
     ghost use Rattle.lazy_world.specs.Seen.{KeepsStore, count, frame_count, rows};
 
     /// This number of places with nothing in them, over this number of frames. The only error is out of
     /// memory.
-    #[tactic(auto, unfolding(crate::specs::Seen::rows, crate::specs::Seen::count, crate::specs::Seen::frame_count, crate::specs::Cells::rows_of))]
     pub fn open(alloc: Global, frames: u32, places: u32) -> Result<Places, OutOfMemory>
         requires frames { frames ≤ 65536 }
-        requires places { places ≤ MOST_PLACES }
+        requires places { places ≤ MOST_PAGE_PLACES }
         ensures rows { IfOk result (λ opened. rows opened ≡ λ i. no_row) }
         ensures count { IfOk result (λ opened. count opened ≡ places) }
         ensures frames { IfOk result (λ opened. frame_count opened ≡ frames) }
@@ -80,7 +81,6 @@ impl Places {
     }
 
     /// The kind of a page of a place; `None` where it is absent.
-    #[tactic(auto, unfolding(crate::specs::Seen::rows, crate::specs::Seen::count, crate::specs::Cells::rows_of))]
     pub fn kind(&self, i: usize, p: u16) -> Option<SegmentKind>
         requires { i < count self.now }
         ensures { result ≡ kind_of (rows self.now i (Page p)) }
@@ -88,8 +88,30 @@ impl Places {
         self.pages.kind(i, p)
     }
 
+    /// A later page, or the end of all pages, up to which the pages of a place have the kind of this one.
+    pub fn next_edge(&self, i: usize, p: u16) -> u16
+        requires place { i < count self.now }
+        requires page { p < MOST_PAGES }
+        ensures past { p < result }
+        ensures within { result ≤ MOST_PAGES }
+        ensures alike { (q : ℕ) → p ≤ q → q < result
+            → kinds_of (rows self.now i) q ≡ kinds_of (rows self.now i) p }
+    {
+        self.pages.next_edge(i, p)
+    }
+
+    /// The segments of a place, one for each range.
+    pub fn segments(&self, i: usize) -> &[Segment]
+        requires { i < count self.now }
+        ensures kinds { kind_at result.now ≡ kinds_of (rows self.now i) }
+        ensures count { length result.now ≡ ranges MOST_PAGES (kinds_of (rows self.now i)) }
+        ensures few { length result.now ≤ MOST_RANGES }
+        ensures each { All IsSegment result.now }
+    {
+        self.pages.segments(i)
+    }
+
     /// The bytes of a page that is the place's own. A page that is absent, common or zeros has none.
-    #[tactic(auto, unfolding(crate::specs::Seen::rows, crate::specs::Seen::count, crate::specs::Cells::rows_of))]
     pub fn bytes(&self, i: usize, p: u16) -> Option<&[u8]>
         requires place { i < count self.now }
         requires page { p < MOST_PAGES }
@@ -99,7 +121,6 @@ impl Places {
     }
 
     /// The cell of a slot of a place.
-    #[tactic(auto, unfolding(crate::specs::Seen::rows, crate::specs::Seen::count, crate::specs::Cells::rows_of))]
     pub fn slot(&self, i: usize, n: u8) -> Cell<Descriptor>
         requires place { i < count self.now }
         requires slot { n < SLOTS }
@@ -109,7 +130,6 @@ impl Places {
     }
 
     /// The cell of the credential of a place.
-    #[tactic(auto, unfolding(crate::specs::Seen::rows, crate::specs::Seen::count, crate::specs::Cells::rows_of))]
     pub fn uid(&self, i: usize) -> &Cell<u32>
         requires { i < count self.now }
         ensures { result.now ≡ rows self.now i Cred }
@@ -129,7 +149,6 @@ impl Places {
     }
 
     /// The context that a slot of a place's own has a descriptor of, if it has one.
-    #[tactic(auto, unfolding(crate::specs::Seen::rows, crate::specs::Seen::count, crate::specs::Cells::rows_of))]
     pub fn context(&self, i: usize, n: u8) -> Option<Name>
         requires place { i < count self.now }
         requires slot { n < SLOTS }
@@ -139,7 +158,6 @@ impl Places {
     }
 
     /// The slots of a place that are common: slot n is bit n.
-    #[tactic(auto, unfolding(crate::specs::Seen::rows, crate::specs::Seen::count, crate::specs::Cells::rows_of))]
     pub fn common(&self, i: usize) -> u64
         requires { i < count self.now }
         ensures { (n : ℕ) → n < SLOTS → has_bit result n ≡ is_common (rows self.now i (Slot n)) }
@@ -157,7 +175,6 @@ impl Places {
     }
 
     /// The slots of a place that are more than empty ones of its own: slot n is bit n.
-    #[tactic(auto, unfolding(crate::specs::Seen::rows, crate::specs::Seen::count, crate::specs::Cells::rows_of))]
     pub fn filled(&self, i: usize) -> u64
         requires { i < count self.now }
         ensures { (n : ℕ) → n < SLOTS → has_bit result n ≡ is_filled (rows self.now i (Slot n)) }
@@ -166,7 +183,6 @@ impl Places {
     }
 
     /// Whether two places share a slot. Slots that are not shared may be the same, too.
-    #[tactic(auto, unfolding(crate::specs::Seen::rows, crate::specs::Seen::count, crate::specs::Cells::rows_of))]
     pub fn is_shared(&self, i: usize, j: usize, n: u8) -> bool
         requires place { i < count self.now }
         requires other { j < count self.now }
@@ -186,7 +202,6 @@ impl Places {
     }
 
     /// Whether a slot of any place may have a descriptor of a context.
-    #[tactic(auto, unfolding(crate::specs::Seen::rows, crate::specs::Seen::count, crate::specs::Cells::rows_of))]
     pub fn may_name(&self, c: Name) -> bool
         ensures { result ≡ false → (i n : ℕ) → context_in (rows self.now i (Slot n)) ≢ Some c }
     {
@@ -194,7 +209,6 @@ impl Places {
     }
 
     /// Puts another cell into a slot of a place.
-    #[tactic(auto, unfolding(crate::specs::Seen::rows, crate::specs::Seen::count, crate::specs::Seen::frame_count, crate::specs::Cells::rows_of))]
     pub fn put_slot(&mut self, i: usize, n: u8, cell: Cell<Descriptor>)
         requires place { i < count self.old }
         requires slot { n < SLOTS }
@@ -209,7 +223,6 @@ impl Places {
     }
 
     /// Puts another cell of the credential at a place.
-    #[tactic(auto, unfolding(crate::specs::Seen::rows, crate::specs::Seen::count, crate::specs::Seen::frame_count, crate::specs::Cells::rows_of))]
     pub fn put_uid(&mut self, i: usize, cell: Cell<u32>)
         requires { i < count self.old }
         ensures rows { rows self.new ≡ put_row (rows self.old) i (with_key Cell Cred cell (rows self.old i)) }

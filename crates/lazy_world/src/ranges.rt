@@ -6,14 +6,14 @@ ghost use Rattle.lwc_base.specs.Modes.{IsItem, IsSpec, mode, names};
 ghost use Rattle.lwc_base.specs.declared.cell.Cell.{Cell};
 ghost use Rattle.lwc_base.specs.declared.key.Key.{Key};
 ghost use Rattle.lwc_base.specs.Keys.{ValueOf};
-ghost use Rattle.lazy_world.specs.Plans.{kind_in, owner};
+ghost use Rattle.lazy_world.specs.Transfers.{kind_in, owner};
 
-use crate::pieces::{PageSources, Sources};
-use crate::plan::{Found, Plan};
+use crate::pieces::{Origins, PageOrigins};
+use crate::transfer::{Found, Transfer};
 use crate::world::PlacedWorld;
 use arrayvec::ArrayVec;
-use lwc_base::{Cell, Item, Key, Kind, MOST_PAGES, Range, SLOTS, Spec};
-use page_cells::{MOST_STRETCHES, Source, Stretch};
+use cow_space::{Origin, Stretch};
+use lwc_base::{Cell, Item, Key, Kind, MOST_PAGE_RUNS, MOST_PAGES, Range, SLOTS, Spec};
 use range_map::{SegmentKind, sooner_edge};
 use res_spec::mode_of;
 
@@ -56,11 +56,11 @@ fn owner<T>(cell: &Cell<T>) -> SegmentKind
 }
 
 impl PlacedWorld {
-    ghost use Rattle.page_cells.specs.Changes.{IsStretch};
-    ghost use Rattle.lazy_world.specs.Plans.{CanGet, Gives, IsFor, IsFound, given_or};
+    ghost use Rattle.cow_space.specs.Changes.{IsStretch};
+    ghost use Rattle.lazy_world.specs.Transfers.{CanGet, Gives, IsFor, IsFound, given_or};
     ghost use Rattle.lazy_world.specs.Seen.{count, rows};
-    ghost use Rattle.lazy_world.specs.Sources.{AreGiven, slot_source, source_at, sourced_row};
-    ghost use Rattle.lazy_world.specs.Worlds.{parts, planned, seen};
+    ghost use Rattle.lazy_world.specs.Origins.{AreGiven, slot_origin, origin_at, origin_row};
+    ghost use Rattle.lazy_world.specs.Worlds.{parts, transferred, seen};
 
     /// What is found under a key where the cell is of a kind.
     fn found(&self, kind: Option<SegmentKind>) -> Found
@@ -89,57 +89,57 @@ impl PlacedWorld {
         (found, self.places.next_edge(i, p))
     }
 
-    /// The source of a page by a plan, and a later page up to which the pages have this source.
-    fn page_source(
+    /// The origin of a page by a transfer, and a later page up to which the pages have this origin.
+    fn page_origin(
         &self,
-        plan: Plan,
+        transfer: Transfer,
         spec: &Spec,
         from: usize,
         to: usize,
         p: u16,
-    ) -> (Option<Source>, u16)
+    ) -> (Option<Origin>, u16)
         requires from { from < count self.now.places }
-        requires plan { IsFor (parts self.now).size.contexts from to plan }
+        requires transfer { IsFor (parts self.now).size.contexts from to transfer }
         requires page { p < MOST_PAGES }
         ensures past { p < result.1 }
         ensures within { result.1 ≤ MOST_PAGES }
         ensures gives { (q : ℕ) → p ≤ q → q < result.1
             → given_or (rows self.now.places) (Page q) (rows self.now.places to (Page q)) result.0
-            ≡ planned self.now plan spec.now from to (Page q) }
+            ≡ transferred self.now transfer spec.now from to (Page q) }
         ensures can { CanGet (count self.now.places) to result.0 }
     {
         let (found, edge) = self.found_page(from, p);
         let edge = mode_edge(spec, p, edge);
         (
-            plan.source(mode_of(spec, Key::Page(p)), found, from, to),
+            transfer.origin(mode_of(spec, Key::Page(p)), found, from, to),
             edge,
         )
     }
 
-    /// The stretches that give a place its pages by a plan.
-    fn page_sources(
+    /// The stretches that give a place its pages by a transfer.
+    fn page_origins(
         &self,
-        plan: Plan,
+        transfer: Transfer,
         spec: &Spec,
         from: usize,
         to: usize,
-    ) -> ArrayVec<Stretch, MOST_STRETCHES>
+    ) -> ArrayVec<Stretch, MOST_PAGE_RUNS>
         requires from { from < count self.now.places }
-        requires plan { IsFor (parts self.now).size.contexts from to plan }
+        requires transfer { IsFor (parts self.now).size.contexts from to transfer }
         ensures gives { (q : ℕ) → q < MOST_PAGES
             → given_or (rows self.now.places) (Page q) (rows self.now.places to (Page q))
-            (source_at result.items q) ≡ planned self.now plan spec.now from to (Page q) }
-        ensures past { (q : ℕ) → MOST_PAGES ≤ q → source_at result.items q ≡ None }
+            (origin_at result.items q) ≡ transferred self.now transfer spec.now from to (Page q) }
+        ensures past { (q : ℕ) → MOST_PAGES ≤ q → origin_at result.items q ≡ None }
         ensures given { All (IsStretch (count self.now.places) to) result.items }
     {
         let mut stretches = ArrayVec::new();
         let mut p = 0u16;
         'pages: while u32::from(p) < MOST_PAGES {
-            let (source, end) = self.page_source(plan, spec, from, to, p);
-            if let Some(source) = source {
+            let (origin, end) = self.page_origin(transfer, spec, from, to, p);
+            if let Some(origin) = origin {
                 stretches.push(Stretch {
                     range: Range { from: p, to: end },
-                    source,
+                    origin,
                 });
             }
             p = end;
@@ -166,67 +166,74 @@ impl PlacedWorld {
         self.found(Some(owner(self.places.uid(i))))
     }
 
-    /// The source of a slot by a plan.
-    fn slot_source(&self, plan: Plan, spec: &Spec, from: usize, to: usize, n: u8) -> Option<Source>
+    /// The origin of a slot by a transfer.
+    fn slot_origin(
+        &self,
+        transfer: Transfer,
+        spec: &Spec,
+        from: usize,
+        to: usize,
+        n: u8,
+    ) -> Option<Origin>
         requires from { from < count self.now.places }
-        requires plan { IsFor (parts self.now).size.contexts from to plan }
+        requires transfer { IsFor (parts self.now).size.contexts from to transfer }
         requires slot { n < SLOTS }
         ensures { Gives (count self.now.places) (rows self.now.places) to (Slot n)
-            (planned self.now plan spec.now from to (Slot n)) result }
+            (transferred self.now transfer spec.now from to (Slot n)) result }
     {
         let found = self.found_slot(from, n);
-        plan.source(mode_of(spec, Key::Slot(n)), found, from, to)
+        transfer.origin(mode_of(spec, Key::Slot(n)), found, from, to)
     }
 
-    /// The source of each slot by a plan.
-    pub(crate) fn slot_sources(
+    /// The origin of each slot by a transfer.
+    pub(crate) fn slot_origins(
         &self,
-        plan: Plan,
+        transfer: Transfer,
         spec: &Spec,
         from: usize,
         to: usize,
-    ) -> [Option<Source>; 64]
+    ) -> [Option<Origin>; 64]
         requires from { from < count self.now.places }
-        requires plan { IsFor (parts self.now).size.contexts from to plan }
+        requires transfer { IsFor (parts self.now).size.contexts from to transfer }
         ensures { (n : ℕ) → n < SLOTS → Gives (count self.now.places) (rows self.now.places) to (Slot n)
-            (planned self.now plan spec.now from to (Slot n)) (slot_source result n) }
+            (transferred self.now transfer spec.now from to (Slot n)) (slot_origin result n) }
     {
-        let mut sources = [None; 64];
+        let mut origins = [None; 64];
         for n in 0..SLOTS {
-            sources[n as usize] = self.slot_source(plan, spec, from, to, n);
+            origins[n as usize] = self.slot_origin(transfer, spec, from, to, n);
         }
-        sources
+        origins
     }
 
-    /// The source of the credential by a plan.
-    pub(crate) fn uid_source(
+    /// The origin of the credential by a transfer.
+    pub(crate) fn uid_origin(
         &self,
-        plan: Plan,
+        transfer: Transfer,
         spec: &Spec,
         from: usize,
         to: usize,
-    ) -> Option<Source>
+    ) -> Option<Origin>
         requires from { from < count self.now.places }
-        requires plan { IsFor (parts self.now).size.contexts from to plan }
+        requires transfer { IsFor (parts self.now).size.contexts from to transfer }
         ensures { Gives (count self.now.places) (rows self.now.places) to Cred
-            (planned self.now plan spec.now from to Cred) result }
+            (transferred self.now transfer spec.now from to Cred) result }
     {
         let found = self.found_uid(from);
-        plan.source(mode_of(spec, Key::Cred), found, from, to)
+        transfer.origin(mode_of(spec, Key::Cred), found, from, to)
     }
 
-    /// Where the place `to` gets its cells by a plan from what the place `from` has.
-    pub(crate) fn sources(&self, plan: Plan, spec: &Spec, from: usize, to: usize) -> Sources
+    /// Where the place `to` gets its cells by a transfer from what the place `from` has.
+    pub(crate) fn origins(&self, transfer: Transfer, spec: &Spec, from: usize, to: usize) -> Origins
         requires from { from < count self.now.places }
-        requires plan { IsFor (parts self.now).size.contexts from to plan }
+        requires transfer { IsFor (parts self.now).size.contexts from to transfer }
         requires within { IsSpec (seen self.now).size.pages spec.now }
-        ensures row { sourced_row (rows self.now.places) to result ≡ planned self.now plan spec.now from to }
+        ensures row { origin_row (rows self.now.places) to result ≡ transferred self.now transfer spec.now from to }
         ensures given { AreGiven (count self.now.places) to result }
     {
-        Sources {
-            pages: PageSources::Stretches(self.page_sources(plan, spec, from, to)),
-            slots: self.slot_sources(plan, spec, from, to),
-            uid: self.uid_source(plan, spec, from, to),
+        Origins {
+            pages: PageOrigins::Stretches(self.page_origins(transfer, spec, from, to)),
+            slots: self.slot_origins(transfer, spec, from, to),
+            uid: self.uid_origin(transfer, spec, from, to),
         }
     }
 }

@@ -1,27 +1,25 @@
+#![tactic(auto, unfolding(crate::specs::Seen::rows, crate::specs::Seen::count, crate::specs::Cells::rows_of))]
+
 ghost use Rattle.std.specs.Prelude.{◌≡◌, ◌<◌, ◌≤◌, ℕ, All};
 ghost use Rattle.lwc_base.specs.declared.limits.TheConstants.{MOST_PAGES};
 ghost use Rattle.lwc_base.specs.Modes.{IsSpec};
 ghost use Rattle.range_map.specs.Kinds.{ranges};
-ghost use Rattle.page_cells.specs.Changes.{IsStretch};
+ghost use Rattle.cow_space.specs.Changes.{IsStretch};
 ghost use Rattle.lazy_world.specs.Cells.{kinds_of};
-ghost use Rattle.lazy_world.specs.Sources.{ArePagesGiven, with_pages};
-ghost use Rattle.lazy_world.specs.declared.pieces.PageSources.TheVariants.{Stretches};
+ghost use Rattle.lazy_world.specs.Origins.{ArePagesGiven, with_pages};
+ghost use Rattle.lazy_world.specs.declared.pieces.PageOrigins.TheVariants.{Stretches};
 ghost use Rattle.lazy_world.specs.Seen.{count, rows};
 
-use crate::facts::facts;
-use crate::pieces::PageSources;
+use crate::pieces::PageOrigins;
 use crate::places::Places;
-use crate::plan::Plan;
+use crate::transfer::Transfer;
 use crate::world::PlacedWorld;
 use arrayvec::ArrayVec;
-use lwc_base::laws::a_group_is_needed_where_a_value_moves;
-use lwc_base::{Name, Spec};
-use page_cells::{MOST_STRETCHES, Stretch};
-use range_map::ranges_are_those_of_the_context;
+use cow_space::Stretch;
+use lwc_base::{MOST_PAGE_RUNS, Name, Spec};
 
 impl Places {
     /// The number of ranges of a place.
-    #[tactic(auto, unfolding(crate::specs::Seen::rows, crate::specs::Seen::count, crate::specs::Cells::rows_of))]
     fn range_count(&self, i: usize) -> u32
         requires { i < count self.now }
         ensures { result ≡ ranges MOST_PAGES (kinds_of (rows self.now i)) }
@@ -29,8 +27,8 @@ impl Places {
         self.pages.count(i)
     }
 
-    /// The number of ranges of a place once the pages of each stretch were what their source says.
-    fn count_changed(&self, i: usize, stretches: &ArrayVec<Stretch, MOST_STRETCHES>) -> u32
+    /// The number of ranges of a place once the pages of each stretch were what their origin says.
+    fn count_changed(&self, i: usize, stretches: &ArrayVec<Stretch, MOST_PAGE_RUNS>) -> u32
         requires place { i < count self.now }
         requires given { All (IsStretch (count self.now) i) stretches.now.items }
         ensures { result ≡ ranges MOST_PAGES
@@ -39,16 +37,16 @@ impl Places {
         self.pages.count_after(i, stretches.as_slice())
     }
 
-    /// The number of ranges of a place once it had the pages that sources give it.
-    fn count_with(&self, i: usize, pages: &PageSources) -> u32
+    /// The number of ranges of a place once it had the pages that origins give it.
+    fn count_with(&self, i: usize, pages: &PageOrigins) -> u32
         requires place { i < count self.now }
         requires given { ArePagesGiven (count self.now) i pages.now }
         ensures { result ≡ ranges MOST_PAGES
             (kinds_of (with_pages (rows self.now) pages.now (rows self.now i))) }
     {
         match pages {
-            PageSources::AllOf(j) => self.range_count(*j),
-            PageSources::Stretches(stretches) => self.count_changed(i, stretches),
+            PageOrigins::AllOf(j) => self.range_count(*j),
+            PageOrigins::Stretches(stretches) => self.count_changed(i, stretches),
         }
     }
 }
@@ -60,8 +58,8 @@ impl PlacedWorld {
     ghost use Rattle.lwc_base.specs.World.{next_group};
     ghost use Rattle.world_face.specs.Calls.{IsLive};
     ghost use Rattle.lazy_world.specs.Followed.{IsOfContexts, followed};
-    ghost use Rattle.lazy_world.specs.Plans.{IsFor};
-    ghost use Rattle.lazy_world.specs.Worlds.{parts, planned, seen};
+    ghost use Rattle.lazy_world.specs.Transfers.{IsFor};
+    ghost use Rattle.lazy_world.specs.Worlds.{parts, transferred, seen};
 
     /// The name of the next group of job 0, which no cell has.
     fn unnamed(&self) -> Name
@@ -73,37 +71,34 @@ impl PlacedWorld {
         }
     }
 
-    /// The number of ranges of the place `to` once it got the cells that a plan gives it of the place `from`.
-    // The sources are a large value, which each caller would clear if this were a part of it.
+    /// The number of ranges of the place `to` once it got the cells that a transfer gives it of the place `from`.
+    // The origins are a large value, which each caller would clear if this were a part of it.
     #[inline(never)]
-    fn count_sources(&self, plan: Plan, spec: &Spec, from: usize, to: usize) -> u32
+    fn count_origins(&self, transfer: Transfer, spec: &Spec, from: usize, to: usize) -> u32
         requires from { from < count self.now.places }
         requires to { to < count self.now.places }
-        requires plan { IsFor (parts self.now).size.contexts from to plan }
+        requires transfer { IsFor (parts self.now).size.contexts from to transfer }
         requires within { IsSpec (seen self.now).size.pages spec.now }
-        ensures { result ≡ ranges MOST_PAGES (kinds_of (planned self.now plan spec.now from to)) }
+        ensures { result ≡ ranges MOST_PAGES (kinds_of (transferred self.now transfer spec.now from to)) }
     {
-        let sources = self.sources(plan, spec, from, to);
-        self.places.count_with(to, &sources.pages)
+        let origins = self.origins(transfer, spec, from, to);
+        self.places.count_with(to, &origins.pages)
     }
 
-    /// The number of ranges of a context once it got the cells that a plan gives it of another one.
-    fn ranges_after(&self, plan: Plan, spec: &Spec, d: Name, c: Name) -> u32
+    /// The number of ranges of a context once it got the cells that a transfer gives it of another one.
+    fn ranges_after(&self, transfer: Transfer, spec: &Spec, d: Name, c: Name) -> u32
         requires from { IsLive (seen self.now) d }
         requires to { IsLive (seen self.now) c }
-        requires plan { IsOfContexts plan d c }
+        requires transfer { IsOfContexts transfer d c }
         requires within { IsSpec (seen self.now).size.pages spec.now }
-        ensures { result ≡ ranges_of (followed (seen self.now) plan spec.now d c) c }
+        ensures { result ≡ ranges_of (followed (seen self.now) transfer spec.now d c) c }
     {
-        facts();
-        self.contexts.are_placed();
-        ranges_are_those_of_the_context();
         let from = self.place(d);
         let to = self.place(c);
-        if self.gives_same(plan, spec, from) {
+        if self.gives_same(transfer, spec, from) {
             self.places.range_count(from)
         } else {
-            self.count_sources(plan, spec, from, to)
+            self.count_origins(transfer, spec, from, to)
         }
     }
 
@@ -114,12 +109,10 @@ impl PlacedWorld {
         requires within { IsSpec (seen self.now).size.pages spec.now }
         ensures value { (job : ℕ) → result ≡ ranges_after_clone (seen self.now) c job spec.now }
     {
-        facts();
-        a_group_is_needed_where_a_value_moves();
         let g = self.unnamed();
-        let left = self.ranges_after(Plan::Mark(g), spec, c, c);
+        let left = self.ranges_after(Transfer::Mark(g), spec, c, c);
         // The new context's cells do not depend on what is at its place, so that any place will do.
-        let made = self.ranges_after(Plan::Clone(g), spec, c, c);
+        let made = self.ranges_after(Transfer::Clone(g), spec, c, c);
         (left, made)
     }
 
@@ -131,13 +124,14 @@ impl PlacedWorld {
         requires within { IsSpec (seen self.now).size.pages spec.now }
         ensures value { (job : ℕ) → result ≡ ranges_after_overlay (seen self.now) to from job spec.now }
     {
-        facts();
-        a_group_is_needed_where_a_value_moves();
         let g = self.unnamed();
-        let taken = self.ranges_after(Plan::Overlay(g), spec, from, to);
+        let taken = self.ranges_after(Transfer::Overlay(g), spec, from, to);
         if to == from {
             return (taken, taken);
         }
-        (self.ranges_after(Plan::Mark(g), spec, from, from), taken)
+        (
+            self.ranges_after(Transfer::Mark(g), spec, from, from),
+            taken,
+        )
     }
 }

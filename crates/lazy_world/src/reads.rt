@@ -193,7 +193,7 @@ impl PlacedWorld {
     }
 
     /// The number of pages of the context at a place that are present.
-    #[tactic(auto, using(crate::proofs::CountLemmas::count_of_range))]
+    #[tactic(auto, using(lwc_base::proofs::Small::count_of_range))]
     fn present_count(&self, i: usize) -> usize
         requires { i < count self.now.places }
         ensures present { result
@@ -207,7 +207,7 @@ impl PlacedWorld {
     }
 
     /// The number of slots of the context at a place that are not empty.
-    #[tactic(auto, using(crate::proofs::CountLemmas::count_of_range))]
+    #[tactic(auto, using(lwc_base::proofs::Small::count_of_range))]
     fn filled_count(&self, i: usize) -> usize
         requires { i < count self.now.places }
         ensures filled { result

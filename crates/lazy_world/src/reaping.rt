@@ -6,11 +6,9 @@ ghost use Rattle.lwc_base.specs.Life.{is_reached, names_group, reap};
 ghost use Rattle.world_face.specs.Calls.{IsLive};
 ghost use Rattle.lazy_world.specs.Worlds.{seen};
 
-use crate::facts::facts;
 use crate::world::PlacedWorld;
 use arrayvec::ArrayVec;
 use lwc_base::Name;
-use lwc_base::laws::reached_contexts_are_those_with_a_chain;
 use reach::{Links, Marks, mark};
 
 /// The places are those of contexts.
@@ -20,7 +18,6 @@ impl Links for PlacedWorld {
     ghost link_of = { spec.link_of };
 
     fn link(&self, place: usize, slot: u8) -> Option<usize> {
-        self.contexts.are_placed();
         self.contexts.at(place)?;
         if !self.places.is_filled(place, slot) {
             return None;
@@ -52,9 +49,6 @@ impl PlacedWorld {
           contexts = fm.retain_keys (seen self.old).contexts (is_reached (seen self.old) roots.now);
         } }
     {
-        facts();
-        reached_contexts_are_those_with_a_chain();
-        self.contexts.are_placed();
         let mut marks = Marks::new();
         let places = self.places_of(roots);
         mark(self, places.as_slice(), &mut marks);
@@ -69,9 +63,6 @@ impl PlacedWorld {
               (λ g. list_any (names_group (seen self.old).size.pages g) (fm.values (seen self.old).contexts));
         } }
     {
-        facts();
-        self.contexts.are_placed();
-        self.groups.are_placed();
         if self.groups.len() == 0 {
             return;
         }

@@ -3,17 +3,14 @@ ghost use Rattle.lwc_base.specs.declared.descriptor.TheConstants.{SLOTS};
 ghost use Rattle.lwc_base.specs.declared.key.Key.TheVariants.{Page, Slot, Cred};
 ghost use Rattle.lwc_base.specs.declared.limits.TheConstants.{MOST_PAGES, MOST_RANGES};
 ghost use Rattle.lwc_base.specs.Modes.{IsSpec};
-ghost use Rattle.lazy_world.specs.Plans.{moves};
+ghost use Rattle.lazy_world.specs.Transfers.{moves};
 
 use crate::counts::Counts;
-use crate::facts::facts;
-use crate::plan::Plan;
 use crate::ranges::mode_edge;
+use crate::transfer::Transfer;
 use crate::world::PlacedWorld;
-use lwc_base::laws::a_group_is_needed_where_a_value_moves;
 use lwc_base::{Cell, Key, MOST_PAGES, NOBODY, Name, SLOTS, Spec};
 use pool_base::Steps;
-use range_map::ranges_are_those_of_the_context;
 use res_spec::mode_of;
 use std::sync::ledger::Ledger;
 
@@ -25,8 +22,8 @@ impl PlacedWorld {
     ghost use Rattle.lwc_base.specs.Ranges.{ranges_of};
     ghost use Rattle.world_face.specs.Calls.{HasGroupPlace, IsLive, MayName};
     ghost use Rattle.lazy_world.specs.Cells.{kinds_of, no_row};
-    ghost use Rattle.lazy_world.specs.Plans.{planned_row};
-    ghost use Rattle.lazy_world.specs.declared.plan.Plan.TheVariants.{Move};
+    ghost use Rattle.lazy_world.specs.Transfers.{transferred_row};
+    ghost use Rattle.lazy_world.specs.declared.transfer.Transfer.TheVariants.{Move};
     ghost use Rattle.lazy_world.specs.Followed.{IsOfContexts, followed};
     ghost use Rattle.lazy_world.specs.Seen.{count, rows};
     ghost use Rattle.lazy_world.specs.Worlds.{parts, seen};
@@ -80,7 +77,6 @@ impl PlacedWorld {
         requires within { IsSpec (seen self.now).size.pages spec.now }
         ensures value { result ≡ needs_group (seen self.now) c spec.now }
     {
-        a_group_is_needed_where_a_value_moves();
         if spec.items().is_empty() {
             return false;
         }
@@ -94,12 +90,12 @@ impl PlacedWorld {
         self.moves_uid(i, spec)
     }
 
-    /// A context gets the cells that a plan gives it of another one, which may be the same, key by key.
-    // The sources are a large value, which each caller would clear if this were a part of it.
+    /// A context gets the cells that a transfer gives it of another one, which may be the same, key by key.
+    // The origins are a large value, which each caller would clear if this were a part of it.
     #[inline(never)]
-    fn follow_sources<L: Ledger>(
+    fn follow_origins<L: Ledger>(
         &mut self,
-        plan: Plan,
+        transfer: Transfer,
         spec: &Spec,
         d: Name,
         c: Name,
@@ -107,25 +103,22 @@ impl PlacedWorld {
     )
         requires from { IsLive (seen self.old) d }
         requires to { IsLive (seen self.old) c }
-        requires plan { IsOfContexts plan d c }
+        requires transfer { IsOfContexts transfer d c }
         requires within { IsSpec (seen self.old).size.pages spec.now }
-        requires fresh { IsFresh (followed (seen self.old) plan spec.now d c) }
-        requires few { ranges_of (followed (seen self.old) plan spec.now d c) c ≤ MOST_RANGES }
-        ensures { seen self.new ≡ followed (seen self.old) plan spec.now d c }
+        requires fresh { IsFresh (followed (seen self.old) transfer spec.now d c) }
+        requires few { ranges_of (followed (seen self.old) transfer spec.now d c) c ≤ MOST_RANGES }
+        ensures { seen self.new ≡ followed (seen self.old) transfer spec.now d c }
     {
-        facts();
-        self.contexts.are_placed();
-        ranges_are_those_of_the_context();
         let from = self.place(d);
         let to = self.place(c);
-        let sources = self.sources(plan, spec, from, to);
-        self.places.take(to, &sources, steps);
+        let origins = self.origins(transfer, spec, from, to);
+        self.places.take(to, &origins, steps);
     }
 
-    /// A context gets the cells that a plan gives it of another one, which may be the same.
+    /// A context gets the cells that a transfer gives it of another one, which may be the same.
     pub(crate) fn follow<L: Ledger>(
         &mut self,
-        plan: Plan,
+        transfer: Transfer,
         spec: &Spec,
         d: Name,
         c: Name,
@@ -133,21 +126,18 @@ impl PlacedWorld {
     )
         requires from { IsLive (seen self.old) d }
         requires to { IsLive (seen self.old) c }
-        requires plan { IsOfContexts plan d c }
+        requires transfer { IsOfContexts transfer d c }
         requires within { IsSpec (seen self.old).size.pages spec.now }
-        requires fresh { IsFresh (followed (seen self.old) plan spec.now d c) }
-        requires few { ranges_of (followed (seen self.old) plan spec.now d c) c ≤ MOST_RANGES }
-        ensures { seen self.new ≡ followed (seen self.old) plan spec.now d c }
+        requires fresh { IsFresh (followed (seen self.old) transfer spec.now d c) }
+        requires few { ranges_of (followed (seen self.old) transfer spec.now d c) c ≤ MOST_RANGES }
+        ensures { seen self.new ≡ followed (seen self.old) transfer spec.now d c }
     {
-        facts();
-        self.contexts.are_placed();
-        ranges_are_those_of_the_context();
         let from = self.place(d);
         let to = self.place(c);
-        if self.can_copy(plan, spec, from, to) {
+        if self.can_copy(transfer, spec, from, to) {
             self.places.copy_place(to, from, steps);
         } else {
-            self.follow_sources(plan, spec, d, c, steps);
+            self.follow_origins(transfer, spec, d, c, steps);
         }
     }
 
@@ -159,9 +149,6 @@ impl PlacedWorld {
         ensures name { result ≡ next_group (seen self.old) job }
         ensures world { seen self.new ≡ add_group (seen self.old) job new_group }
     {
-        facts();
-        self.contexts.are_placed();
-        self.groups.are_placed();
         let counts = self.counts[job as usize];
         let name = Name {
             job,
@@ -187,26 +174,24 @@ impl PlacedWorld {
     )
         requires live { IsLive (seen self.old) c }
         requires within { IsSpec (seen self.old).size.pages spec.now }
-        requires few { ranges MOST_PAGES (kinds_of (planned_row (seen self.old) Move spec.now
+        requires few { ranges MOST_PAGES (kinds_of (transferred_row (seen self.old) Move spec.now
             (context (seen self.old) c).cell no_row)) ≤ MOST_RANGES }
         ensures { seen self.new ≡ change_group (seen self.old) g
             (λ x. moved_values spec.now (context (seen self.old) c)) }
     {
-        facts();
-        self.contexts.are_placed();
-        self.groups.are_placed();
         let from = self.place(c);
         match self.groups.place(g) {
             Some(j) => {
                 let to = self.size.contexts as usize + j;
-                let sources = self.sources(Plan::Move, spec, from, to);
-                self.places.take(to, &sources, steps);
+                let origins = self.origins(Transfer::Move, spec, from, to);
+                self.places.take(to, &origins, steps);
             }
             None => {}
         }
     }
 
     /// Moves a context's own values under share into a new group of the job, if there are any.
+    #[tactic(auto, using(lwc_base::proofs::Facts::changes))]
     pub(crate) fn share<L: Ledger>(&mut self, c: Name, spec: &Spec, job: u32, steps: &mut Steps<L>)
         requires live { IsLive (seen self.old) c }
         requires within { IsSpec (seen self.old).size.pages spec.now }
@@ -215,12 +200,10 @@ impl PlacedWorld {
         requires few { ranges_of (share (seen self.old) c job spec.now) c ≤ MOST_RANGES }
         ensures { seen self.new ≡ share (seen self.old) c job spec.now }
     {
-        facts();
-        ranges_are_those_of_the_context();
         if self.needs_group(c, spec) {
             let g = self.add_group(job);
             self.fill_group(g, c, spec, steps);
-            self.follow(Plan::Mark(g), spec, c, c, steps);
+            self.follow(Transfer::Mark(g), spec, c, c, steps);
         }
     }
 }

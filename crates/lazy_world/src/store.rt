@@ -6,20 +6,17 @@ ghost use Rattle.lwc_base.specs.declared.key.Key.TheVariants.{Page};
 ghost use Rattle.lwc_base.specs.declared.page.PageValue.TheVariants.{Zero};
 ghost use Rattle.lwc_base.specs.declared.page.TheConstants.{PAGE_BYTES};
 ghost use Rattle.lwc_base.specs.Keys.{with_key};
-ghost use Rattle.page_cells.specs.Cells.{IsOwnPage, place_of};
-ghost use Rattle.page_cells.specs.Tags as places;
-ghost use Rattle.page_cells.specs.Writes.{write_page, written_value};
+ghost use Rattle.cow_space.specs.Cells.{IsOwnPage, place_of};
+ghost use Rattle.cow_space.specs.Tags as places;
+ghost use Rattle.cow_space.specs.Writes.{write_page, written_value};
 ghost use Rattle.lazy_world.specs.Cells.{put_row};
 ghost use Rattle.lazy_world.specs.Seen.{count, frame_count, pages, rows};
 
 use crate::counts::Counts;
-use crate::facts::facts;
 use crate::places::Places;
 use crate::touched::{Touched, touched_pages};
 use crate::world::PlacedWorld;
-use lwc_base::laws::a_put_changes_one_key;
 use lwc_base::{Name, StoreFault, Tag};
-use page_cells::laws::{page_writes_take_few_frames, places_have_the_tags_of_their_world};
 use pool_base::Steps;
 use range_map::SegmentKind;
 use std::marker::Brand;
@@ -122,10 +119,6 @@ impl PlacedWorld {
         ensures used { result ≡ used (seen self.now) }
         ensures within { result ≤ (seen self.now).size.frames }
     {
-        facts();
-        places_have_the_tags_of_their_world();
-        self.contexts.are_placed();
-        self.groups.are_placed();
         self.places.used()
     }
 
@@ -136,10 +129,6 @@ impl PlacedWorld {
         ensures { result ≡ is_parting (seen self.now)
             (unwrap_or (page_in (seen self.now) (rows self.now.places i) p) Zero) }
     {
-        facts();
-        places_have_the_tags_of_their_world();
-        self.contexts.are_placed();
-        self.groups.are_placed();
         match self.holder(i, p) {
             Some(j) => self.places.is_parting(j, p),
             None => true,
@@ -147,7 +136,7 @@ impl PlacedWorld {
     }
 
     /// The number of pages that a store to some pages of the context at a place parts.
-    #[tactic(auto, using(crate::proofs::CountLemmas::count_of_range))]
+    #[tactic(auto, using(lwc_base::proofs::Small::count_of_range))]
     fn parting_count(&self, i: usize, pages: Touched) -> usize
         requires { i < count self.now.places }
         ensures parting { result ≡ count_by (λ p. is_parting (seen self.now)
@@ -172,12 +161,6 @@ impl PlacedWorld {
         ensures used { used (seen self.new) ≡ used (seen self.old) + taken_at (seen self.old) c p }
         ensures others { (q : ℕ) → q ≢ p → parts_at (seen self.new) c q ≡ parts_at (seen self.old) c q }
     {
-        facts();
-        page_writes_take_few_frames();
-        places_have_the_tags_of_their_world();
-        a_put_changes_one_key();
-        self.contexts.are_placed();
-        self.groups.are_placed();
         let i = self.place(c);
         let Some(j) = self.holder(i, p) else {
             unreachable!()
@@ -208,8 +191,6 @@ impl PlacedWorld {
         ensures { seen self.new ≡ store_pages (seen self.old) c job (record { at = at; bytes = piece.now })
             (range_with_len pages.first (pages.end - pages.first)) }
     {
-        facts();
-        a_put_changes_one_key();
         for p in pages.first..pages.end {
             self.write_page(c, p, at, piece, job);
         }

@@ -1,11 +1,11 @@
 ghost use Rattle.std.specs.Prelude.{◌≡◌, ◌+◌, IfOk, length, replicate};
 ghost use Rattle.std.proofs.Props.{props};
+ghost use Rattle.ctx_table.specs.NameTables.{ArePlaced};
 ghost use Rattle.lazy_world.specs.Seen.{count, frame_count, rows};
 ghost use Rattle.lazy_world.specs.Sound.{IsSound, named_cell-prop};
 ghost use Rattle.lazy_world.specs.States.{no_registers, nothing_counted};
 
 use crate::counts::Counts;
-use crate::facts::facts;
 use crate::places::Places;
 use crate::registers::Registers;
 use ctx_table::Names;
@@ -23,6 +23,8 @@ pub struct PlacedWorld {
     pub(crate) contexts: Names,
     pub(crate) groups: Names,
     pub(crate) counts: Vec<Counts>,
+    ghost placed: { ArePlaced contexts },
+    ghost placed_groups: { ArePlaced groups },
     ghost count: { count places ≡ size.contexts + size.groups },
     ghost frames: { frame_count places ≡ size.frames },
     ghost sound: { IsSound (record {
@@ -64,7 +66,6 @@ impl PlacedWorld {
         requires { IsSize world_size.now }
         ensures { IfOk result (λ w. seen w ≡ empty_world world_size.now) }
     {
-        facts();
         let size = *world_size;
         Ok(PlacedWorld {
             size,

@@ -3,7 +3,6 @@ ghost use Rattle.lwc_base.specs.declared.descriptor.TheConstants.{SLOTS};
 ghost use Rattle.lwc_base.specs.declared.limits.TheConstants.{MOST_THREADS};
 
 use crate::counts::Counts;
-use crate::facts::facts;
 use crate::key_value::KeyValue;
 use crate::registers::Registers;
 use crate::world::PlacedWorld;
@@ -23,9 +22,6 @@ impl PlacedWorld {
         ensures { seen self.new
             ≡ change_group (seen self.old) g (with_value (key_in value) (value_in value)) }
     {
-        facts();
-        self.contexts.are_placed();
-        self.groups.are_placed();
         match self.groups.place(g) {
             Some(j) => self.places.put(self.size.contexts as usize + j, value),
             None => {}
@@ -38,8 +34,6 @@ impl PlacedWorld {
         requires slot { HasSlot value }
         ensures { seen self.new ≡ put_at (seen self.old) c (key_in value) (value_in value) }
     {
-        facts();
-        self.contexts.are_placed();
         let i = self.place(c);
         match self.places.group(i, value) {
             None => self.places.put(i, value),
@@ -70,8 +64,6 @@ impl PlacedWorld {
         requires thread { t < MOST_THREADS }
         ensures saved { seen self.new ≡ save (seen self.old) c t regs.now }
     {
-        facts();
-        self.contexts.are_placed();
         let i = self.place(c);
         self.registers[i].saved[t as usize] = Some(*regs);
     }
@@ -95,8 +87,6 @@ impl PlacedWorld {
         ensures name { result ≡ next_context (seen self.old) job }
         ensures world { seen self.new ≡ add_context (seen self.old) job (new_context uid entry.now) }
     {
-        facts();
-        self.contexts.are_placed();
         let counts = self.counts[job as usize];
         let name = Name {
             job,

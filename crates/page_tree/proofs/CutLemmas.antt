@@ -11,10 +11,7 @@ use Rattle.page_tree.specs.Short.{part_short, cut_short, cuts_short}
 use Rattle.page_tree.specs.Steps.{IsMet, IsBeyond, leaf_short}
 use Rattle.page_tree.proofs.RootLemmas.{leaf_short-le}
 use Rattle.page_tree.proofs.UsesLemmas.{one_if-yes}
-
-both-true : (a b : Bool) → (a && b) ≡ true → (a ≡ true) × (b ≡ true)
-both-true true b h = (refl, h)
-both-true false b h = absurd cc
+use Rattle.lwc_base.proofs.Small.{both-true}
 
 -- what a cut leaf is
 pub cut-from : (first end i : ℕ) → is_cut first end i ≡ true → IsMet first end i × IsBeyond first end i

@@ -9,7 +9,7 @@ use Rattle.page_tree.specs.declared.cell.PageCell.TheVariants as cell
 use Rattle.page_tree.specs.Pages.{page, cell_of, cell_at, link_of, entries_of, entry_for}
 use Rattle.page_tree.specs.Sound.{one_if, uses_in, uses, trees_at, is_root, IsTree}
 use Rattle.page_tree.proofs.TwoLevels.{entry-below, link_of-tree, two-levels}
-use Rattle.page_tree.proofs.KeepsLemmas.{trees-is, trees-root, zero_or_more, cell_at-none, cell_at-leaf}
+use Rattle.page_tree.proofs.KeepsLemmas.{cell_at-leaf, cell_at-none, link-none, trees-is, trees-root, zero_or_more}
 use Rattle.page_tree.proofs.UsesLemmas.{one_if-yes, one_if-no, one_if-le, uses_in-yes, uses_in-no, uses-some}
 use Rattle.page_tree.specs.Tied.{having, IsTied, HasFrame}
 use Rattle.pool_base.proofs.Totals.{total-list, total-some, none_or_some}
@@ -42,10 +42,6 @@ pub record Leads (nodes : List Node) (tree i j e : ℕ) : Type 0 where
   pub link : entry_of nodes root i ≡ leaf + 1
   pub entry : entry_of nodes leaf j ≡ e
 
-link-none : (nodes : List Node) (i : ℕ) → link_of nodes 0 i ≡ 0
-unfolding link_of
-link-none nodes i = refl
-
 pub leads-from : (nodes : List Node) (tree i j e : ℕ) → cell_at nodes tree i j ≡ e → 0 < e → Leads nodes tree i j e
 leads-from nodes tree i j e is some =
     ⊎_elim
@@ -66,13 +62,6 @@ leads-from nodes tree i j e is some =
 pub leads-to : (nodes : List Node) (root leaf i j : ℕ) → entry_of nodes root i ≡ leaf + 1 → cell_at nodes (root + 1) i j ≡ entry_of nodes leaf j
 leads-to nodes root leaf i j link = cell_at-leaf nodes (root + 1) i j leaf (link_of-tree nodes root i ∙ link)
 
-pub page-has : (nodes : List Node) (i j f tree : ℕ) → j < 32 → cell_at nodes tree i j ≡ f + 2 → page nodes tree (i * 32 + j) ≡ cell.Frame (record { n = f })
-unfolding page
-page-has nodes i j f tree lt at =
-    let first : (i * 32 + j) / 32 ≡ i = omega (arith, lt) in
-    let second : (i * 32 + j) % 32 ≡ j = omega (arith, lt) in
-    ap (λ e. cell_of e) (entry-below nodes tree (i * 32 + j)) ∙ cell_of-entry (cell_at nodes tree ((i * 32 + j) / 32) ((i * 32 + j) % 32)) f ((λ x. cell_at nodes tree (first x) (second x)) ∙ at)
-
 module _ (nodes : List Node) (frames : List Frame) (trees : List ℕ) (tied : IsTied nodes frames trees) where
   -- a tree of the trees is empty or has a held root
   pub root-there : (k root : ℕ) → k < length trees → get_or trees k 0 ≡ root + 1 → 0 < trees_at nodes root
@@ -82,14 +71,15 @@ module _ (nodes : List Node) (frames : List Frame) (trees : List ℕ) (tied : Is
       let rooted = tied.rooted root in
       omega (arith, one, some, rooted)
 
-  pub held-from_tree : (k p f : ℕ) → k < length trees → page nodes (get_or trees k 0) p ≡ cell.Frame (record { n = f }) → 0 < frame_count frames f
+  -- a frame that a tree has is held
+  pub held-frame : (f : ℕ) → HasFrame nodes trees f → 0 < frame_count frames f
   unfolding page
-  held-from_tree k p f lt is =
-      let leads = leads-from nodes (get_or trees k 0) (p / 32) (p % 32) (f + 2) (sym (entry-below nodes (get_or trees k 0) p) ∙ entry-of_cell _ f is) (omega arith) in
-      let there = root-there k leads.root lt leads.is_tree in
+  held-frame f has =
+      let leads = leads-from nodes (get_or trees has.k 0) (has.p / 32) (has.p % 32) (f + 2) (sym (entry-below nodes (get_or trees has.k 0) has.p) ∙ entry-of_cell _ f has.has) (omega arith) in
+      let there = root-there has.k leads.root has.inside leads.is_tree in
       let level = trees-root nodes leads.root there in
-      let leaf = (two-levels tied.sound).leaves leads.root (p / 32) leads.leaf level leads.link in
-      let named = uses-some 1 nodes leads.leaf (p % 32) (f + 2) (omega arith) leaf leads.entry (omega arith) in
+      let leaf = (two-levels tied.sound).leaves leads.root (has.p / 32) leads.leaf level leads.link in
+      let named = uses-some 1 nodes leads.leaf (has.p % 32) (f + 2) (omega arith) leaf leads.entry (omega arith) in
       let exact = tied.exact f in
       omega (arith, named, exact)
 
@@ -174,7 +164,7 @@ module _ (nodes : List Node) (frames : List Frame) (trees : List ℕ) (tied : Is
       let at = entry-used 1 (f + 2) (omega (arith, exact, held)) in
       holder-of_leaf at.0 at.1.0 f at.1.1.0 at.1.1.1.0 at.1.1.1.1
 
-having-le : (trees : List ℕ) (n : ℕ) → having trees n ≤ length trees
+pub having-le : (trees : List ℕ) (n : ℕ) → having trees n ≤ length trees
 having-le [] n = omega arith
 having-le (t ∷ ts) n = let tail = having-le ts n in omega (arith, sum_by-cons (λ tree. is_root tree n) t ts, tail, one_if-le (eqb t (n + 1)))
 

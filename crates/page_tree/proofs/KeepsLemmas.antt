@@ -179,13 +179,13 @@ Keeps-reroot old new frames m left came sound change here not_left not_came =
 
 -- links and cells
 
-pub link_of-none : (nodes : List Node) (i : ℕ) → link_of nodes 0 i ≡ 0
+pub link-none : (nodes : List Node) (i : ℕ) → link_of nodes 0 i ≡ 0
 unfolding link_of
-link_of-none nodes i = refl
+link-none nodes i = refl
 
 pub cell_at-none : (nodes : List Node) (tree i j : ℕ) → link_of nodes tree i ≡ 0 → cell_at nodes tree i j ≡ 0
 unfolding cell_at
-cell_at-none nodes tree i j none = ap (λ e. link_of nodes e j) none ∙ link_of-none nodes j
+cell_at-none nodes tree i j none = ap (λ e. link_of nodes e j) none ∙ link-none nodes j
 
 pub cell_at-leaf : (nodes : List Node) (tree i j m : ℕ) → link_of nodes tree i ≡ m + 1 → cell_at nodes tree i j ≡ entry_of nodes m j
 unfolding cell_at

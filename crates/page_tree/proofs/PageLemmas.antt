@@ -11,7 +11,7 @@ use Rattle.page_tree.specs.Sound.{IsSound, IsTree, trees_at, is_root}
 use Rattle.page_tree.specs.Changes.{KeepsTrees, Keeps}
 use Rattle.page_tree.specs.Steps.{IsOwned, IsApart, IsMet, IsBeyond, OwnsLeaf, OwnsRoot, OwnsPath, PutsLeaf, PutsLeaves, PutsPages, SharesPages, page_entry, leaf_short, root_short}
 use Rattle.page_tree.proofs.TwoLevels.{entry-below}
-use Rattle.page_tree.proofs.KeepsLemmas.{Keeps-refl, Keeps-trans, cell_at-none, link_of-none, other-cells, zero_or_more}
+use Rattle.page_tree.proofs.KeepsLemmas.{Keeps-refl, Keeps-trans, cell_at-none, link-none, other-cells, zero_or_more}
 use Rattle.page_tree.proofs.RootLemmas.{root_short-shared, leaf_short-le, le-cond}
 use Rattle.page_tree.proofs.ShortLemmas.{root_short-own, leaf_short-alone}
 use Rattle.page_tree.proofs.UsesLemmas.{one_if-no, one_if-le}
@@ -33,7 +33,7 @@ unfolding page
 page-is nodes tree p e same = ap (λ x. cell_of x) (entry-below nodes tree p ∙ same)
 
 pub page-none : (nodes : List Node) (p : ℕ) → page nodes 0 p ≡ Absent
-page-none nodes p = page-is nodes 0 p 0 (cell_at-none nodes 0 (p / 32) (p % 32) (link_of-none nodes (p / 32)))
+page-none nodes p = page-is nodes 0 p 0 (cell_at-none nodes 0 (p / 32) (p % 32) (link-none nodes (p / 32)))
 
 -- a path of its own keeps all pages
 pub page-path : (old new : List Node) (frames frames' : List Frame) (tree root i leaf p : ℕ) → OwnsPath old new frames frames' tree root i leaf → p < 1024 → page_entry new (root + 1) p ≡ page_entry old tree p
@@ -227,7 +227,7 @@ still : (old new : List Node) (frames frames' : List Frame) (tree root from p : 
 still old new frames frames' tree root from p keeps held both =
     ⊎_elim
     (λ none.
-    ap (λ x. page_entry new x p) none ∙ cell_at-none new 0 (p / 32) (p % 32) (link_of-none new (p / 32)) ∙ sym (cell_at-none old 0 (p / 32) (p % 32) (link_of-none old (p / 32))) ∙ ap (λ x. page_entry old x p) (sym none))
+    ap (λ x. page_entry new x p) none ∙ cell_at-none new 0 (p / 32) (p % 32) (link-none new (p / 32)) ∙ sym (cell_at-none old 0 (p / 32) (p % 32) (link-none old (p / 32))) ∙ ap (λ x. page_entry old x p) (sym none))
     (λ some.
     let h = held some.0 some.1 in
     let other : is_root tree some.0 < trees_at old some.0 =
@@ -379,9 +379,8 @@ root_short-le nodes tree = le-cond (eqb tree 0) 1 (cond (eqb (count_of nodes (tr
 pub page_short-le : (nodes : List Node) (tree p : ℕ) → page_short nodes tree p ≤ 2
 page_short-le nodes tree p = omega (arith, root_short-le nodes tree, leaf_short-le nodes tree (p / 32))
 
-pub range_short-le : (nodes : List Node) (tree from to : ℕ) → range_short nodes tree from to ≤ 3
-range_short-le nodes tree from to =
-    omega (arith, root_short-le nodes tree, cuts-le nodes tree from to)
+pub range_short-le : (nodes : List Node) (tree from to : ℕ) → range_short nodes tree from to ≤ root_short nodes tree + 2
+range_short-le nodes tree from to = omega (arith, cuts-le nodes tree from to)
 
 pub clear_short-le : (nodes : List Node) (tree from to : ℕ) → clear_short nodes tree from to ≤ root_short nodes tree + 2
 clear_short-le nodes tree from to =

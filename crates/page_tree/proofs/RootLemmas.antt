@@ -10,7 +10,7 @@ use Rattle.page_tree.specs.Steps.{IsOwned, PutsLeaf, OwnsRoot, LinksAll, root_sh
 use Rattle.page_tree.proofs.TwoLevels.{link_of-tree}
 use Rattle.page_tree.proofs.UsesLemmas.{one_if-yes, one_if-no, inside-count}
 use Rattle.page_tree.proofs.SoundLemmas.{IsRerooted}
-use Rattle.page_tree.proofs.KeepsLemmas.{trees-is, trees-le, is_root-here, is_root-there, is_root-none, Keeps-reroot, Keeps-refl, Keeps-trans, Keeps-swap, other-cells, link_of-none, cell_at-none}
+use Rattle.page_tree.proofs.KeepsLemmas.{Keeps-refl, Keeps-reroot, Keeps-swap, Keeps-trans, cell_at-none, is_root-here, is_root-none, is_root-there, link-none, other-cells, trees-is, trees-le}
 use Rattle.page_tree.proofs.RawLemmas.{at-here, free-entries, IsRerooted-made, free_of-set}
 
 pub root_short-none : (nodes : List Node) → root_short nodes 0 ≡ 1
@@ -66,7 +66,7 @@ module _ (old : List Node) (frames : List Frame) (k : ℕ) (sound : IsSound old 
             (λ x _. is_root-none x)
             (λ x apart. is_root-there k x apart);
         own = record { level = ap (λ node. node.level) at-rooted; once = ap (λ node. node.count) at-rooted };
-        cells = λ i j _ _. cell_at-none rooted (k + 1) i j (link_of-tree rooted k i ∙ empty-rooted i) ∙ sym (cell_at-none old 0 i j (link_of-none old i));
+        cells = λ i j _ _. cell_at-none rooted (k + 1) i j (link_of-tree rooted k i ∙ empty-rooted i) ∙ sym (cell_at-none old 0 i j (link-none old i));
         short = λ i. let a = leaf_short-le rooted (k + 1) i in let b = leaf_short-root old 0 i (root_short-none old) in omega (arith, a, b);
         free =
             let a = free_of-set old k (empty_node 1 2) inside in

@@ -8,14 +8,14 @@ use Rattle.page_tree.specs.Sound.{IsSound}
 use Rattle.page_tree.specs.Changes.{Keeps}
 use Rattle.page_tree.specs.Steps.{IsOwned, IsLeaf, IsPlaced, IsApart, IsRooted, PutsLeaf, PutsLeaves}
 use Rattle.page_tree.proofs.TwoLevels.{link_of-tree, two-levels}
-use Rattle.page_tree.proofs.KeepsLemmas.{trees-root, other-cells, link_of-none, cell_at-none, cell_at-leaf, zero_or_more, Keeps-refl, Keeps-trans}
+use Rattle.page_tree.proofs.KeepsLemmas.{Keeps-refl, Keeps-trans, cell_at-leaf, cell_at-none, link-none, other-cells, trees-root, zero_or_more}
 use Rattle.page_tree.proofs.StepLemmas.{named-held}
 
 -- where a link of a tree leads somewhere, it is an entry of the tree's root
 pub link-entry : (nodes : List Node) (tree i m : ℕ) → link_of nodes tree i ≡ m + 1 → (t : ℕ) × ((tree ≡ t + 1) × (entry_of nodes t i ≡ m + 1))
 link-entry nodes tree i m is =
     ⊎_elim
-    (λ none. absurd (let z = ap (λ x. link_of nodes x i) none ∙ link_of-none nodes i in omega (arith, z, is)))
+    (λ none. absurd (let z = ap (λ x. link_of nodes x i) none ∙ link-none nodes i in omega (arith, z, is)))
     (λ some. (some.0, (some.1, sym (link_of-tree nodes some.0 i) ∙ ap (λ x. link_of nodes x i) (sym some.1) ∙ is)))
     (zero_or_more tree)
 
@@ -51,7 +51,7 @@ pub apart-cells : (old new : List Node) (frames frames' : List Frame) (root tree
 apart-cells old new frames frames' root tree i j keeps apart =
     ⊎_elim
     (λ none.
-    ap (λ x. cell_at new x i j) none ∙ cell_at-none new 0 i j (link_of-none new i) ∙ sym (cell_at-none old 0 i j (link_of-none old i)) ∙ ap (λ x. cell_at old x i j) (sym none))
+    ap (λ x. cell_at new x i j) none ∙ cell_at-none new 0 i j (link-none new i) ∙ sym (cell_at-none old 0 i j (link-none old i)) ∙ ap (λ x. cell_at old x i j) (sym none))
     (λ some.
     ap (λ x. cell_at new x i j) some.1 ∙ other-cells old new (root + 1) (root + 1) some.0 i j keeps.trees (apart some.0 some.1) ∙ ap (λ x. cell_at old x i j) (sym some.1))
     (zero_or_more tree)

@@ -15,7 +15,8 @@ IsBelow nodes (suc levels) link n = (link ≡ n + 1) ⊎ ((i : ℕ) × IsBelow n
 abbrev pub IsReached : List Node → ℕ → ℕ → Type 0
 IsReached nodes tree n = IsBelow nodes ROOT_LEVEL tree n
 
--- one tree left its root and came to another: the other trees keep their roots, and the entries of each node that they lead to
+-- one tree left its root and came to another: the other trees keep their roots, and the entries of each node
+-- that they lead to
 pub record KeepsTrees (old new : List Node) (left came : ℕ) : Type 0 where
   pub size : length new ≡ length old
   pub roots : (n : ℕ) → trees_at new n + is_root left n ≡ trees_at old n + is_root came n
@@ -30,7 +31,8 @@ abbrev pub KeepsShared : List Node → List Node → ℕ → Type 0
 KeepsShared old new tree =
     (n : ℕ) → 0 < count_of old n → (1 < count_of old n) ⊎ (¬ IsReached old tree n) → entries_of new n ≡ entries_of old n
 
--- there are as many frames, a free one stays free, and each has its bytes and its stamp and is held more or less by just as much as more or fewer entries name it
+-- there are as many frames, a free one stays free, and each has its bytes and its stamp and is held more or
+-- less by just as much as more or fewer entries name it
 pub record KeepsFrames (old new : List Node) (frames frames' : List Frame) : Type 0 where
   pub size : length frames' ≡ length frames
   pub free : (f : ℕ) → frame_count frames f ≡ 0 → frame_count frames' f ≡ 0

@@ -12,7 +12,8 @@ use Rattle.page_tree.specs.Sound.{IsTree}
 use Rattle.page_tree.specs.Steps.{root_short}
 use Rattle.page_tree.specs.Tied.{IsTied, HasElsewhere, HasFrame, page_of}
 
--- the laws of one tree: it has a page for each way down, the empty one has none, and a change of a page or a range takes few nodes
+-- the laws of one tree: it has a page for each way down, the empty one has none, and a change of a page or a
+-- range takes few nodes
 pub record TreeLaws : Type 0 where
   pub pages : PAGES ≡ NODE_ENTRIES ^ ROOT_LEVEL
   pub empty : (nodes : List Node) (p : ℕ) → page nodes 0 p ≡ Absent
@@ -21,7 +22,9 @@ pub record TreeLaws : Type 0 where
   pub root_takes : (nodes : List Node) (tree : ℕ) → root_short nodes tree ≤ 1
   pub clear_takes : (nodes : List Node) (tree from to : ℕ) → clear_short nodes tree from to ≤ root_short nodes tree + 2
 
--- the laws of all trees of a store: each is a tree, they take at most 33 nodes each, the held frames are those at pages, and a page's frame is elsewhere too where the way to the page is shared or the frame is held more than once
+-- the laws of all trees of a store: each is a tree, they take at most 33 nodes each, the held frames are
+-- those at pages, and a page's frame is elsewhere too where the way to the page is shared or the frame is
+-- held more than once
 pub record TiedLaws : Type 0 where
   pub are_trees : (nodes : List Node) (frames : List Frame) (trees : List ℕ) (k : ℕ) → IsTied nodes frames trees → length trees ≤ 65536 → k < length trees → IsTree nodes (slice_index trees k)
   pub free : (nodes : List Node) (frames : List Frame) (trees : List ℕ) → IsTied nodes frames trees → length nodes ≤ free_of nodes + 33 * length trees

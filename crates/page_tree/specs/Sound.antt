@@ -30,7 +30,9 @@ leading_to nodes n = sum_by (uses_above (n + 1)) nodes
 abbrev pub naming : List Node → ℕ → ℕ
 naming nodes f = uses LEAF_LEVEL nodes (f + 2)
 
--- every entry leads to what is held and one level lower, each node below the roots is held as often as entries lead to it and has one place in all nodes that lead to it, and each frame is held as often as entries name it or up to 2^31 times more
+-- every entry leads to what is held and one level lower, each node below the roots is held as often as
+-- entries lead to it and has one place in all nodes that lead to it, and each frame is held as often as
+-- entries name it or up to 2^31 times more
 pub record IsSound (nodes : List Node) (frames : List Frame) : Type 0 where
   pub few : length nodes ≤ 65536
   pub few_frames : length frames ≤ 65536

@@ -56,7 +56,8 @@ unfoldable pub leaf_short : List Node → ℕ → ℕ → ℕ
 leaf_short nodes tree i =
     if root_short nodes tree == 1 then 1 else (if link_of nodes tree i == 0 then 1 else (if count_of nodes (link_of nodes tree i - 1) == 1 then 0 else 1))
 
--- leaf i of an owned root has these cells now, its other leaves theirs, and at most this number of free nodes were taken
+-- leaf i of an owned root has these cells now, its other leaves theirs, and at most this number of free nodes
+-- were taken
 pub record PutsLeaf (old new : List Node) (frames frames' : List Frame) (root i : ℕ) (cells : ℕ → ℕ) (taken : ℕ) : Type 0 where
   pub keeps : Keeps old new frames frames' (root + 1) (root + 1)
   pub own : IsOwned new root
@@ -112,7 +113,8 @@ pub record LinksAll (old new : List Node) (frames frames' : List Frame) (copy ro
 abbrev pub IsRooted : List Node → ℕ → Type 0
 IsRooted nodes tree = (t : ℕ) → tree ≡ t + 1 → 0 < trees_at nodes t
 
--- a tree has a root and a leaf of its own now on the way to some page, and all its cells, and must take no leaf that it did not have to take before
+-- a tree has a root and a leaf of its own now on the way to some page, and all its cells, and must take no
+-- leaf that it did not have to take before
 pub record OwnsPath (old new : List Node) (frames frames' : List Frame) (tree root i leaf : ℕ) : Type 0 where
   pub keeps : Keeps old new frames frames' tree (root + 1)
   pub own : IsOwned new root

@@ -27,11 +27,13 @@ impl Store {
         requires one { first < end → (end - 1) / NODE_ENTRIES ≡ first / NODE_ENTRIES }
         requires apart { IsApart self.old.nodes root.n (tree_of from) }
         requires free { part_short self.old.nodes (root.n + 1) first end ≤ free_of self.old.nodes }
-        ensures puts { PutsPages self.old.nodes self.new.nodes self.old.frames self.new.frames root.n (tree_of from)
+        ensures puts { PutsPages self.old.nodes self.new.nodes self.old.frames self.new.frames root.n
+            (tree_of from)
             first end (part_short self.old.nodes (root.n + 1) first end) }
         ensures cost { steps.new ≤ steps.old + 2 }
         ensures cost_none { end ≤ first → steps.new ≡ steps.old }
-        ensures cost_absent { entry_of self.old.nodes root.n (first / NODE_ENTRIES) ≡ 0 → steps.new ≤ steps.old + 1 }
+        ensures cost_absent { entry_of self.old.nodes root.n (first / NODE_ENTRIES) ≡ 0
+            → steps.new ≤ steps.old + 1 }
     {
         if first < end {
             let last = (end - 1) % NODE_ENTRIES;
@@ -61,7 +63,8 @@ impl Store {
         requires begins { first < end → first % NODE_ENTRIES ≡ 0 }
         requires ends { first < end → end % NODE_ENTRIES ≡ 0 }
         requires apart { IsApart self.old.nodes root.n (tree_of from) }
-        ensures puts { PutsPages self.old.nodes self.new.nodes self.old.frames self.new.frames root.n (tree_of from) first end 0 }
+        ensures puts { PutsPages self.old.nodes self.new.nodes self.old.frames self.new.frames root.n
+            (tree_of from) first end 0 }
         ensures cost { steps.new ≤ steps.old + 2 * ((end - first) / NODE_ENTRIES) }
         ensures cost_absent { ((i : ℕ) → first ≤ i * NODE_ENTRIES → entry_of self.old.nodes root.n i ≡ 0) →
             steps.new ≤ steps.old + (end - first) / NODE_ENTRIES }
@@ -83,11 +86,13 @@ impl Store {
         requires sound { IsSound self.old.nodes self.old.frames }
         requires tree { IsTree self.old.nodes (tree_of tree) }
         requires from { IsTree self.old.nodes (tree_of from) }
-        requires both { (n : ℕ) → tree_of tree ≡ n + 1 → tree_of from ≡ n + 1 → 1 < trees_at self.old.nodes n }
+        requires both { (n : ℕ) → tree_of tree ≡ n + 1 → tree_of from ≡ n + 1
+            → 1 < trees_at self.old.nodes n }
         requires order { first ≤ end }
         requires place { end ≤ PAGES }
         requires free { range_short self.old.nodes (tree_of tree) first end ≤ free_of self.old.nodes }
-        ensures shares { SharesPages self.old.nodes self.new.nodes self.old.frames self.new.frames (tree_of tree) result.n
+        ensures shares { SharesPages self.old.nodes self.new.nodes self.old.frames self.new.frames
+            (tree_of tree) result.n
             (tree_of from) first end (range_short self.old.nodes (tree_of tree) first end) }
         ensures cost { steps.new ≤ steps.old + 98 }
         ensures cost_own { root_short self.old.nodes (tree_of tree) ≡ 0 → steps.new ≤ steps.old + 64 }

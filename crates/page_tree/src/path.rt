@@ -30,7 +30,8 @@ impl Store {
         requires sound { IsSound self.old.nodes self.old.frames }
         requires tree { IsTree self.old.nodes (tree_of tree) }
         requires place { i < NODE_ENTRIES }
-        requires free { root_short self.old.nodes (tree_of tree) + leaf_short self.old.nodes (tree_of tree) i ≤ free_of self.old.nodes }
+        requires free { root_short self.old.nodes (tree_of tree) + leaf_short self.old.nodes (tree_of tree) i
+            ≤ free_of self.old.nodes }
         ensures owns { OwnsPath self.old.nodes self.new.nodes self.old.frames self.new.frames (tree_of tree)
             result.root.n i result.leaf.n }
         ensures grows { (f : ℕ) → frame_count self.old.frames f ≤ frame_count self.new.frames f }
@@ -45,7 +46,8 @@ impl Store {
     fn unlink_all<L: Ledger>(&mut self, root: NodeNo, steps: &mut Steps<L>)
         requires sound { IsSound self.old.nodes self.old.frames }
         requires own { IsOwned self.old.nodes root.n }
-        ensures cuts { CutsAll self.old.nodes self.new.nodes self.old.frames self.new.frames root.n NODE_ENTRIES }
+        ensures cuts { CutsAll self.old.nodes self.new.nodes self.old.frames self.new.frames root.n
+            NODE_ENTRIES }
         ensures cost { steps.new ≤ steps.old + NODE_ENTRIES }
     {
         'leaves: for i in 0..NODE_ENTRIES {

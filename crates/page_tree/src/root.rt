@@ -33,7 +33,8 @@ impl Store {
         requires held { 0 < count_of self.old.nodes root.n }
         requires clean { count_of self.old.nodes root.n ≡ 1 → (i : ℕ) → entry_of self.old.nodes root.n i ≡ 0 }
         ensures keeps { Keeps self.old.nodes self.new.nodes self.old.frames self.new.frames (root.n + 1) 0 }
-        ensures left { node_at self.new.nodes root.n ≡ counted (node_at self.old.nodes root.n) (count_of self.old.nodes root.n - 1) }
+        ensures left { node_at self.new.nodes root.n
+            ≡ counted (node_at self.old.nodes root.n) (count_of self.old.nodes root.n - 1) }
         ensures others { (x : ℕ) → x ≢ root.n → node_at self.new.nodes x ≡ node_at self.old.nodes x }
         ensures free { free_of self.old.nodes ≤ free_of self.new.nodes }
         ensures frames { self.new.frames ≡ self.old.frames }
@@ -64,7 +65,8 @@ impl Store {
         requires level { level_of self.old.nodes root.n ≡ ROOT_LEVEL }
         requires held { 0 < count_of self.old.nodes root.n }
         requires apart { root.n ≢ copy.n }
-        ensures links { LinksAll self.old.nodes self.new.nodes self.old.frames self.new.frames copy.n root.n NODE_ENTRIES }
+        ensures links { LinksAll self.old.nodes self.new.nodes self.old.frames self.new.frames copy.n root.n
+            NODE_ENTRIES }
         ensures frames { self.new.frames ≡ self.old.frames }
         ensures cost { steps.new ≤ steps.old + NODE_ENTRIES }
     {
@@ -82,7 +84,8 @@ impl Store {
         requires held { 0 < count_of self.old.nodes root.n }
         ensures puts { PutsLeaf self.old.nodes self.new.nodes self.old.frames self.new.frames copy.n i
             (λ j. cell_at self.old.nodes (root.n + 1) i j) 0 }
-        ensures others { (k : ℕ) → k ≢ i → entry_of self.new.nodes copy.n k ≡ entry_of self.old.nodes copy.n k }
+        ensures others { (k : ℕ) → k ≢ i
+            → entry_of self.new.nodes copy.n k ≡ entry_of self.old.nodes copy.n k }
         ensures frames { self.new.frames ≡ self.old.frames }
         ensures cost { steps.new ≤ steps.old + 1 }
     {
@@ -97,7 +100,8 @@ impl Store {
         requires level { level_of self.old.nodes root.n ≡ ROOT_LEVEL }
         requires shared { 1 < count_of self.old.nodes root.n }
         requires free { 0 < free_of self.old.nodes }
-        ensures owns { OwnsRoot self.old.nodes self.new.nodes self.old.frames self.new.frames (root.n + 1) result.n }
+        ensures owns { OwnsRoot self.old.nodes self.new.nodes self.old.frames self.new.frames (root.n + 1)
+            result.n }
         ensures frames { self.new.frames ≡ self.old.frames }
         ensures cost { steps.new ≤ steps.old + 34 }
     {
@@ -116,7 +120,8 @@ impl Store {
         requires sound { IsSound self.old.nodes self.old.frames }
         requires tree { IsTree self.old.nodes (tree_of tree) }
         requires free { root_short self.old.nodes (tree_of tree) ≤ free_of self.old.nodes }
-        ensures owns { OwnsRoot self.old.nodes self.new.nodes self.old.frames self.new.frames (tree_of tree) result.n }
+        ensures owns { OwnsRoot self.old.nodes self.new.nodes self.old.frames self.new.frames (tree_of tree)
+            result.n }
         ensures frames { self.new.frames ≡ self.old.frames }
         ensures cost { steps.new ≤ steps.old + 34 }
         ensures cost_own { root_short self.old.nodes (tree_of tree) ≡ 0 → steps.new ≡ steps.old }
@@ -134,7 +139,8 @@ impl Store {
         requires level { level_of self.old.nodes root.n ≡ ROOT_LEVEL }
         requires held { 0 < count_of self.old.nodes root.n }
         requires free { root_short self.old.nodes (root.n + 1) ≤ free_of self.old.nodes }
-        ensures owns { OwnsRoot self.old.nodes self.new.nodes self.old.frames self.new.frames (root.n + 1) result.n }
+        ensures owns { OwnsRoot self.old.nodes self.new.nodes self.old.frames self.new.frames (root.n + 1)
+            result.n }
         ensures frames { self.new.frames ≡ self.old.frames }
         ensures cost { steps.new ≤ steps.old + 34 }
         ensures cost_own { root_short self.old.nodes (root.n + 1) ≡ 0 → steps.new ≡ steps.old }

@@ -77,9 +77,11 @@ impl Store {
         requires order { first ≤ end }
         requires place { end ≤ NODE_ENTRIES }
         requires apart { IsApart self.old.nodes root.n (tree_of from) }
-        ensures puts { PutsLeaves self.old.nodes self.new.nodes self.old.frames self.new.frames root.n (tree_of from) first end }
+        ensures puts { PutsLeaves self.old.nodes self.new.nodes self.old.frames self.new.frames root.n
+            (tree_of from) first end }
         ensures cost { steps.new ≤ steps.old + 2 * (end - first) }
-        ensures cost_absent { ((i : ℕ) → first ≤ i → entry_of self.old.nodes root.n i ≡ 0) → steps.new ≤ steps.old + (end - first) }
+        ensures cost_absent { ((i : ℕ) → first ≤ i → entry_of self.old.nodes root.n i ≡ 0)
+            → steps.new ≤ steps.old + (end - first) }
     {
         'leaves: for i in first..end {
             self.share_leaf(root, i, from, steps);

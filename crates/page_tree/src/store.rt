@@ -42,7 +42,8 @@ impl Store {
         ensures tied { IfOk result (λ store. IsTied store.nodes store.frames []) }
         ensures sound { IfOk result (λ store. IsSound store.nodes store.frames) }
         ensures nodes { IfOk result (λ store. store.nodes ≡ replicate nodes (empty_node 0 0)) }
-        ensures frames { IfOk result (λ store. store.frames ≡ replicate frames (zero_frame 0 (record { job = 0; k = 0 }))) }
+        ensures frames { IfOk result
+            (λ store. store.frames ≡ replicate frames (zero_frame 0 (record { job = 0; k = 0 }))) }
         ensures free { IfOk result (λ store. free_of store.nodes ≡ nodes) }
     {
         let frames = Pool::open(alloc, frames)?;
@@ -116,7 +117,8 @@ impl Store {
         ensures puts { PutsLeaf self.old.nodes self.new.nodes self.old.frames self.new.frames root.n i
             (λ j. entry_of self.old.nodes leaf.n j) 0 }
         ensures leads { entry_of self.new.nodes root.n i ≡ leaf.n + 1 }
-        ensures others { (k : ℕ) → k ≢ i → entry_of self.new.nodes root.n k ≡ entry_of self.old.nodes root.n k }
+        ensures others { (k : ℕ) → k ≢ i
+            → entry_of self.new.nodes root.n k ≡ entry_of self.old.nodes root.n k }
         ensures frames { self.new.frames ≡ self.old.frames }
         ensures one_step { steps.new ≡ steps.old + 1 }
     {
@@ -132,9 +134,11 @@ impl Store {
         requires place { i < NODE_ENTRIES }
         requires leads { entry_of self.old.nodes root.n i ≡ leaf.n + 1 }
         requires clean { count_of self.old.nodes leaf.n ≡ 1 → (j : ℕ) → entry_of self.old.nodes leaf.n j ≡ 0 }
-        ensures puts { PutsLeaf self.old.nodes self.new.nodes self.old.frames self.new.frames root.n i (λ j. 0) 0 }
+        ensures puts { PutsLeaf self.old.nodes self.new.nodes self.old.frames self.new.frames root.n i
+            (λ j. 0) 0 }
         ensures empty { entry_of self.new.nodes root.n i ≡ 0 }
-        ensures left { node_at self.new.nodes leaf.n ≡ counted (node_at self.old.nodes leaf.n) (count_of self.old.nodes leaf.n - 1) }
+        ensures left { node_at self.new.nodes leaf.n
+            ≡ counted (node_at self.old.nodes leaf.n) (count_of self.old.nodes leaf.n - 1) }
         ensures frames { self.new.frames ≡ self.old.frames }
         ensures one_step { steps.new ≡ steps.old + 1 }
     {
@@ -149,12 +153,14 @@ impl Store {
         requires place { i < NODE_ENTRIES }
         requires empty { entry_of self.old.nodes root.n i ≡ 0 }
         requires free { 0 < free_of self.old.nodes }
-        ensures puts { PutsLeaf self.old.nodes self.new.nodes self.old.frames self.new.frames root.n i (λ j. 0) 1 }
+        ensures puts { PutsLeaf self.old.nodes self.new.nodes self.old.frames self.new.frames root.n i
+            (λ j. 0) 1 }
         ensures owns { OwnsLeaf self.new.nodes root.n i result.n }
         ensures was_free { count_of self.old.nodes result.n ≡ 0 }
         ensures blank { (j : ℕ) → entry_of self.new.nodes result.n j ≡ 0 }
         ensures frames { self.new.frames ≡ self.old.frames }
-        ensures others { (x : ℕ) → x ≢ result.n → x ≢ root.n → node_at self.new.nodes x ≡ node_at self.old.nodes x }
+        ensures others { (x : ℕ) → x ≢ result.n → x ≢ root.n
+            → node_at self.new.nodes x ≡ node_at self.old.nodes x }
         ensures one_step { steps.new ≡ steps.old + 1 }
     {
         let leaf = self.nodes.take(LEAF_LEVEL, steps).unwrap();
@@ -174,7 +180,8 @@ impl Store {
             (λ k. if k == j then entry_for cell else cell_at self.old.nodes (root.n + 1) i k) 0 }
         ensures owns { OwnsLeaf self.new.nodes root.n i leaf.n }
         ensures others { (x : ℕ) → x ≢ leaf.n → node_at self.new.nodes x ≡ node_at self.old.nodes x }
-        ensures holds { (f : ℕ) → frame_count self.new.frames f + one_if (entry_of self.old.nodes leaf.n j == f + 2)
+        ensures holds { (f : ℕ)
+            → frame_count self.new.frames f + one_if (entry_of self.old.nodes leaf.n j == f + 2)
             ≡ frame_count self.old.frames f + one_if (entry_for cell == f + 2) }
     {
         let old = cell_from(self.nodes.entry(leaf, j));
@@ -191,7 +198,8 @@ impl Store {
         requires own { IsOwned self.old.nodes root.n }
         requires place { i < NODE_ENTRIES }
         requires owns { OwnsLeaf self.old.nodes root.n i leaf.n }
-        ensures puts { PutsLeaf self.old.nodes self.new.nodes self.old.frames self.new.frames root.n i (λ j. 0) 0 }
+        ensures puts { PutsLeaf self.old.nodes self.new.nodes self.old.frames self.new.frames root.n i
+            (λ j. 0) 0 }
         ensures owns { OwnsLeaf self.new.nodes root.n i leaf.n }
     {
         'cells: for j in 0..NODE_ENTRIES {
@@ -204,7 +212,8 @@ impl Store {
         requires sound { IsSound self.old.nodes self.old.frames }
         requires own { IsOwned self.old.nodes root.n }
         requires place { i < NODE_ENTRIES }
-        ensures puts { PutsLeaf self.old.nodes self.new.nodes self.old.frames self.new.frames root.n i (λ j. 0) 0 }
+        ensures puts { PutsLeaf self.old.nodes self.new.nodes self.old.frames self.new.frames root.n i
+            (λ j. 0) 0 }
         ensures empty { entry_of self.new.nodes root.n i ≡ 0 }
         ensures cost { steps.new ≤ steps.old + 1 }
         ensures cost_absent { entry_of self.old.nodes root.n i ≡ 0 → steps.new ≡ steps.old }

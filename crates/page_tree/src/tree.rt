@@ -105,8 +105,10 @@ impl PageTree {
 
         ensures page { page store.new.nodes self.new p ≡ cell }
         ensures alone { page_short store.new.nodes self.new p ≡ 0 }
-        ensures short { (q : ℕ) → page_short store.new.nodes self.new q ≤ page_short store.old.nodes self.old q }
-        ensures pages { (q : ℕ) → q ≢ p → q < PAGES → page store.new.nodes self.new q ≡ page store.old.nodes self.old q }
+        ensures short { (q : ℕ)
+            → page_short store.new.nodes self.new q ≤ page_short store.old.nodes self.old q }
+        ensures pages { (q : ℕ) → q ≢ p → q < PAGES
+            → page store.new.nodes self.new q ≡ page store.old.nodes self.old q }
 
         ensures sound { IsSound store.new.nodes store.new.frames }
         ensures tree { IsTree store.new.nodes self.new }
@@ -114,7 +116,8 @@ impl PageTree {
         ensures maps { KeepsMaps store.old.nodes store.new.nodes self.old }
         ensures shared { KeepsShared store.old.nodes store.new.nodes self.old }
         ensures frames { KeepsFrames store.old.nodes store.new.nodes store.old.frames store.new.frames }
-        ensures free { free_of store.old.nodes ≤ free_of store.new.nodes + page_short store.old.nodes self.old p }
+        ensures free { free_of store.old.nodes
+            ≤ free_of store.new.nodes + page_short store.old.nodes self.old p }
         ensures cost { steps.new ≤ steps.old + 36 }
     {
         let p = p as usize;
@@ -137,8 +140,10 @@ impl PageTree {
         requires free { page_short store.old.nodes self.old p ≤ free_of store.old.nodes }
 
         ensures alone { page_short store.new.nodes self.new p ≡ 0 }
-        ensures short { (q : ℕ) → page_short store.new.nodes self.new q ≤ page_short store.old.nodes self.old q }
-        ensures pages { (q : ℕ) → q < PAGES → page store.new.nodes self.new q ≡ page store.old.nodes self.old q }
+        ensures short { (q : ℕ)
+            → page_short store.new.nodes self.new q ≤ page_short store.old.nodes self.old q }
+        ensures pages { (q : ℕ) → q < PAGES
+            → page store.new.nodes self.new q ≡ page store.old.nodes self.old q }
 
         ensures sound { IsSound store.new.nodes store.new.frames }
         ensures tree { IsTree store.new.nodes self.new }
@@ -146,7 +151,8 @@ impl PageTree {
         ensures maps { KeepsMaps store.old.nodes store.new.nodes self.old }
         ensures shared { KeepsShared store.old.nodes store.new.nodes self.old }
         ensures frames { KeepsFrames store.old.nodes store.new.nodes store.old.frames store.new.frames }
-        ensures free { free_of store.old.nodes ≤ free_of store.new.nodes + page_short store.old.nodes self.old p }
+        ensures free { free_of store.old.nodes
+            ≤ free_of store.new.nodes + page_short store.old.nodes self.old p }
         ensures grows { (f : ℕ) → frame_count store.old.frames f ≤ frame_count store.new.frames f }
         ensures cost { steps.new ≤ steps.old + 36 }
     {
@@ -180,7 +186,8 @@ impl PageTree {
             page_short store.new.nodes self.new q ≡ 0 }
         ensures within { (q : ℕ) → range.from ≤ q → q < range.to →
             page store.new.nodes self.new q ≡ page store.old.nodes from.now q }
-        ensures before { (q : ℕ) → q < range.from → page store.new.nodes self.new q ≡ page store.old.nodes self.old q }
+        ensures before { (q : ℕ) → q < range.from
+            → page store.new.nodes self.new q ≡ page store.old.nodes self.old q }
         ensures after { (q : ℕ) → range.to ≤ q → q < PAGES →
             page store.new.nodes self.new q ≡ page store.old.nodes self.old q }
 
@@ -220,7 +227,8 @@ impl PageTree {
         ensures cut { (q : ℕ) → is_cut range.from range.to (q / NODE_ENTRIES) ≡ true →
             page_short store.new.nodes self.new q ≡ 0 }
         ensures within { (q : ℕ) → range.from ≤ q → q < range.to → page store.new.nodes self.new q ≡ Absent }
-        ensures before { (q : ℕ) → q < range.from → page store.new.nodes self.new q ≡ page store.old.nodes self.old q }
+        ensures before { (q : ℕ) → q < range.from
+            → page store.new.nodes self.new q ≡ page store.old.nodes self.old q }
         ensures after { (q : ℕ) → range.to ≤ q → q < PAGES →
             page store.new.nodes self.new q ≡ page store.old.nodes self.old q }
 

@@ -1,10 +1,10 @@
 -- Lists with copies of an element after them: their places, their changes, and their sums.
-use Rattle.std.proofs.Common.{◌≡◌, ℕ, zero, suc, ◌+◌, ◌-◌, ◌<◌, ◌≤◌, ⊎_elim, cond, eqb, ltb, List, [], ◌∷◌, ◌++◌, length, get_or, set, replicate, refl, sym, ◌∙◌, ap, arith, length-append}
+use Rattle.std.proofs.Common.{◌≡◌, ℕ, zero, suc, ◌-◌, ◌<◌, ◌≤◌, ⊎_elim, cond, ltb, List, [], ◌∷◌, ◌++◌, length, get_or, set, replicate, refl, sym, ◌∙◌, ap, arith, length-append}
 use Rattle.std.proofs.Math.Seq.{set-append_seam}
 use Rattle.std.proofs.lemmas.List.{get_or_append_left, get_or_past, length-replicate, get_or-replicate, set-append_left, length_push}
 use Rattle.std.proofs.lemmas.List.Sums.{sum_by-append, sum_by-cons}
 use Rattle.std.proofs.lemmas.Bool.{cases_lt}
-use Rattle.pool_base.specs.Counts.{free_count, held_count}
+use Rattle.pool_base.specs.Counts.{held_count}
 use Rattle.pool_base.specs.Padded.{padded}
 
 pub length-padded : {A : Type 0} (size : ℕ) (fill : A) (xs : List A) → length xs ≤ size → length (padded size fill xs) ≡ size
@@ -54,16 +54,6 @@ padded-push size fill xs ys n x is lt are =
     ∙ sym (set-append_seam xs fill (replicate (size - length ys) fill) x)
     ∙ ap (λ l. set (xs ++ l) (length xs) x) (sym (replicate-more (size - length xs) (size - length ys) fill rest))
     ∙ ap (λ k. set (padded size fill xs) k x) (sym is)
-
--- the places after the list are free, and none of them is held
-pub free-padded : (size : ℕ) (xs : List ℕ) → length xs ≤ size → free_count (padded size 0 xs) ≡ free_count xs + (size - length xs)
-free-padded size xs le =
-    let split = sum_by-append (λ c. cond (eqb c 0) 1 0) xs (replicate (size - length xs) 0) in
-    omega (arith, split, zeros-free (size - length xs))
-  where
-    zeros-free : (n : ℕ) → free_count (replicate n 0) ≡ n
-    zeros-free zero = refl
-    zeros-free (suc n) = omega (arith, zeros-free n, sum_by-cons (λ c. cond (eqb c 0) 1 0) 0 (replicate n 0))
 
 pub held-padded : (size : ℕ) (xs : List ℕ) → held_count (padded size 0 xs) ≡ held_count xs
 held-padded size xs =

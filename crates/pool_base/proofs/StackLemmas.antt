@@ -14,10 +14,6 @@ one_if b = cond b 1 0
 one_of_two : (c : ℕ) → one_if (eqb c 0) + one_if (ltb 0 c) ≡ 1
 one_of_two c = grind (arith, nat_tests)
 
-empty-count : (test : ℕ → Bool) (xs : List ℕ) → length xs ≡ 0 → count_by test xs ≡ 0
-empty-count test [] none = refl
-empty-count test (x ∷ xs) none = absurd (omega (arith, none))
-
 -- each place is free or held
 pub free-held : (counts : List ℕ) → free_count counts + held_count counts ≡ length counts
 free-held [] = refl
@@ -118,23 +114,6 @@ IsStack-drop counts free n stack held =
           let change = sum_by-set (λ x. one_if (eqb x 0)) counts n 0 0 inside in
           let was : one_if (eqb (get_or counts n 0) 0) ≡ 0 = grind (arith, nat_tests) in
           omega (arith, stack.many, change, was);
-    }
-
--- a place that was never taken comes and is held, where no place was given back
-pub IsStack-next : (counts free : List ℕ) → IsStack counts free → length free ≡ 0 → IsStack (counts ++ 1 ∷ []) free
-IsStack-next counts free stack none =
-    let long = length_push counts 1 in
-    record {
-      inside = λ k lt. absurd (omega arith);
-      once = λ m lt.
-          let nowhere : count_by (λ x. eqb x m) free ≡ 0 = empty-count (λ x. eqb x m) free none in
-          ⊎_elim
-          (λ below. let same = get_or_append_left counts (1 ∷ []) 0 m below in let old = stack.once m below in old ∙ ap (λ c. one_if (eqb c 0)) (sym same))
-          (λ above. let at = get_or_push counts 1 0 m (omega arith) in nowhere ∙ sym (ap (λ c. one_if (eqb c 0)) at))
-          (cases_lt m (length counts));
-      many =
-          let split = sum_by_push (λ x. one_if (eqb x 0)) counts 1 in
-          omega (arith, stack.many, split);
     }
 
 -- where a place is held, not all are free

@@ -76,7 +76,8 @@ impl Counts {
     pub fn hold(&mut self, place: u32)
         requires held { 0 < slice_index self.old.counts place }
         requires fits { slice_index self.old.counts place + 1 < 2 ^ 32 }
-        ensures counts { self.new.counts ≡ slice_set self.old.counts place (slice_index self.old.counts place + 1) }
+        ensures counts { self.new.counts
+            ≡ slice_set self.old.counts place (slice_index self.old.counts place + 1) }
         ensures taken { self.new.taken ≡ self.old.taken }
     {
         self.counts[place as usize] += 1;
@@ -85,7 +86,8 @@ impl Counts {
     /// Gives one hold of a held place back. A place without a hold is free.
     pub fn drop_hold(&mut self, place: u32)
         requires { 0 < slice_index self.old.counts place }
-        ensures counts { self.new.counts ≡ slice_set self.old.counts place (slice_index self.old.counts place - 1) }
+        ensures counts { self.new.counts
+            ≡ slice_set self.old.counts place (slice_index self.old.counts place - 1) }
         ensures taken { self.new.taken ≡ self.old.taken }
     {
         let count = self.counts[place as usize] - 1;

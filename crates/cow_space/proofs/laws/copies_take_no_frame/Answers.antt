@@ -1,5 +1,9 @@
-use Rattle.cow_space.proofs.CopyLemmas.{copied-used}
+use Rattle.cow_space.proofs.Taken.{changed-used, cloned-used}
 use Rattle.cow_space.proofs.laws.copies_take_no_frame.Goals as goal
 
 pub returns : goal.returns
-returns c = record { copied = copied-used c.names_are_ordered.ensures.tags c.names_are_ordered.ensures.one_tag }
+returns c =
+    record {
+      cloned = λ cells to from inside low none. cloned-used cells to inside none from low;
+      changed = λ cells i stretches inside none. changed-used cells i inside none stretches;
+    }

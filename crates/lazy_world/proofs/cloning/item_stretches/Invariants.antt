@@ -2,14 +2,14 @@ use Rattle.std.proofs.Common.{◌≡◌, ◌≢◌, ◌<◌, ◌≤◌, ℕ, len
 use Rattle.std.specs.Prelude.{All}
 use Rattle.lwc_base.specs.declared.key.Key.TheVariants.{Page}
 use Rattle.lwc_base.specs.Modes.{mode}
-use Rattle.page_cells.specs.Changes.{IsStretch}
-use Rattle.lazy_world.specs.Clones.{item_source}
-use Rattle.lazy_world.specs.Sources.{source_at}
+use Rattle.cow_space.specs.Changes.{IsStretch}
+use Rattle.lazy_world.specs.Clones.{item_origin}
+use Rattle.lazy_world.specs.Origins.{origin_at}
 use Rattle.lazy_world.proofs.cloning.item_stretches.Given as goal
 
 abbrev pub invariant-loop-item : goal.invariant-loop-item
 invariant-loop-item l = record {
-  sources : (q : ℕ) → source_at l.stretches.items q ≡ item_source l.from (mode (take l.item-index l.item-items) (Page q));
+  origins : (q : ℕ) → origin_at l.stretches.items q ≡ item_origin l.from (mode (take l.item-index l.item-items) (Page q));
   few : length l.stretches.items ≤ l.item-index;
   given : (count to : ℕ) → l.from < count → l.from ≢ to → All (IsStretch count to) l.stretches.items;
 }

@@ -1,6 +1,5 @@
-use Rattle.std.proofs.Common.{refl, arith}
-use Rattle.page_tree.proofs.CutLemmas.{cuts-le}
-use Rattle.page_tree.proofs.PageLemmas.{page-none, page_short-le, root_short-le, clear_short-le}
+use Rattle.std.proofs.Common.{refl}
+use Rattle.page_tree.proofs.PageLemmas.{page-none, page_short-le, range_short-le, root_short-le, clear_short-le}
 use Rattle.page_tree.proofs.laws.a_change_takes_few_nodes.Goals as goal
 
 pub returns : goal.returns
@@ -9,7 +8,7 @@ returns c =
       pages = refl;
       empty = page-none;
       page_takes = page_short-le;
-      range_takes = λ nodes tree from to. let cuts = cuts-le nodes tree from to in omega (arith, cuts);
+      range_takes = range_short-le;
       root_takes = root_short-le;
       clear_takes = clear_short-le;
     }

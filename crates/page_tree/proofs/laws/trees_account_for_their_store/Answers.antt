@@ -1,5 +1,5 @@
 use Rattle.page_tree.proofs.ElsewhereLemmas.{elsewhere-is}
-use Rattle.page_tree.proofs.HolderLemmas.{held-from_tree, holder-of_held, tied-tree}
+use Rattle.page_tree.proofs.HolderLemmas.{held-frame, holder-of_held, tied-tree}
 use Rattle.page_tree.proofs.NodeBound.{node_bound}
 use Rattle.page_tree.proofs.laws.trees_account_for_their_store.Goals as goal
 
@@ -9,6 +9,6 @@ returns c =
       are_trees = λ nodes frames trees k tied few inside. tied-tree nodes frames trees k tied inside few;
       free = node_bound;
       held = λ nodes frames trees f tied held. holder-of_held nodes frames trees tied f held;
-      has_held = λ nodes frames trees f tied has. held-from_tree nodes frames trees tied has.k has.p f has.inside has.has;
+      has_held = λ nodes frames trees f tied has. held-frame nodes frames trees tied f has;
       elsewhere = elsewhere-is;
     }

@@ -9,7 +9,7 @@ index-requires c = omega (arith, c.requires.row, c.args.self.now.trees.ok)
 
 pub get-requires-clause-tree : goal.get-requires-clause-tree
 get-requires-clause-tree c =
-    kept-tree c.trees_account_for_their_store.ensures _ _ _ c.args.i _ c.args.self.now.kept c.requires.row
+    kept-tree _ _ _ c.args.i _ c.args.self.now.kept c.requires.row
     (get_or_read c.args.self.now.trees.items c.args.i _ c.requires.row c.index.ensures 0)
 
 pub returns : goal.returns

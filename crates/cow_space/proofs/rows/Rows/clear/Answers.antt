@@ -1,45 +1,42 @@
 use Rattle.std.proofs.Common.{ap, ◌∙◌, sym, inl, inr, ⊎_elim, arith, get_or-set_other}
-use Rattle.std.proofs.lemmas.List.{get_or_read, get_or-set_same}
+use Rattle.std.proofs.lemmas.List.{get_or-set_same}
 use Rattle.page_tree.specs.declared.cell.PageCell.TheVariants.{Absent}
 use Rattle.page_tree.specs.Steps.{root_short}
-use Rattle.cow_space.specs.Seen.{maps, frames_of, free_nodes, HasNoTree, HasOwnRoot, pool}
-use Rattle.cow_space.proofs.Trees.{rows-in, kept-tree, kept-free, kept-set, maps-range}
+use Rattle.cow_space.specs.RowSeen.{maps, frames_of, free_nodes, HasNoTree, HasOwnRoot, pool}
+use Rattle.cow_space.proofs.Trees.{kept-set, maps-range}
+use Rattle.cow_space.proofs.RowViews.{is-tree, nodes-left, tree-in, tree-read}
+use Rattle.page_tree.proofs.PageLemmas.{clear_short-le, root_short-le}
 use Rattle.cow_space.proofs.rows.Rows.clear.Goals as goal
 
 pub index_mut-requires : goal.index_mut-requires
-unfolding maps
 index_mut-requires g c =
-    omega (arith, rows-in _ _ c.args.self.now.trees.items c.args.i c.requires.row, c.args.self.now.trees.ok)
+    omega (arith, tree-in c.args.self.now c.args.i c.requires.row, c.args.self.now.trees.ok)
 
 pub clear_range-requires-clause-tree : goal.clear_range-requires-clause-tree
-unfolding maps
 clear_range-requires-clause-tree g c =
-    let inside = rows-in _ _ c.args.self.now.trees.items c.args.i c.requires.row in
-    kept-tree c.trees_account_for_their_store.ensures _ _ _ c.args.i _ c.args.self.now.kept inside
-    (get_or_read c.args.self.now.trees.items c.args.i _ inside c.index_mut.ensures.value 0)
+    is-tree c.args.self.now c.args.i _ c.requires.row c.index_mut.ensures.value
 
 pub clear_range-requires-clause-free : goal.clear_range-requires-clause-free
 clear_range-requires-clause-free g c =
-    let free = kept-free c.trees_account_for_their_store.ensures _ _ _ c.args.self.now.kept in
-    let takes = c.a_change_takes_few_nodes.ensures.clear_takes c.args.self.now.store.nodes c.index_mut.result.now c.args.range.from c.args.range.to in
-    let root = c.a_change_takes_few_nodes.ensures.root_takes c.args.self.now.store.nodes c.index_mut.result.now in
+    let free = nodes-left c.args.self.now in
+    let takes = clear_short-le c.args.self.now.store.nodes c.index_mut.result.now c.args.range.from c.args.range.to in
+    let root = root_short-le c.args.self.now.store.nodes c.index_mut.result.now in
     omega (arith, free, takes, root)
 
 pub invariant_of-self : goal.invariant_of-self
-unfolding maps
 invariant_of-self g c =
-    let inside = rows-in _ _ c.args.self.now.trees.items c.args.i c.requires.row in
+    let inside = tree-in c.args.self.now c.args.i c.requires.row in
     record {
-      kept = kept-set c.a_change_takes_few_nodes.ensures c.args.self.now.store.nodes _ c.args.self.now.store.frames _ c.args.self.now.trees.items c.args.i _ _ c.args.self.now.kept inside
-          (get_or_read c.args.self.now.trees.items c.args.i _ inside c.index_mut.ensures.value 0) c.clear_range.ensures.sound c.clear_range.ensures.trees c.clear_range.ensures.maps c.clear_range.ensures.frames;
+      kept = kept-set c.args.self.now.store.nodes _ c.args.self.now.store.frames _ c.args.self.now.trees.items c.args.i _ _ c.args.self.now.kept inside
+          (tree-read c.args.self.now c.args.i _ c.requires.row c.index_mut.ensures.value) c.clear_range.ensures.sound c.clear_range.ensures.trees c.clear_range.ensures.maps c.clear_range.ensures.frames;
     }
 
 pub returns-clause-maps : goal.returns-clause-maps
 unfolding maps
 returns-clause-maps g c =
-    let inside = rows-in _ _ c.args.self.now.trees.items c.args.i c.requires.row in
-    maps-range c.a_change_takes_few_nodes.ensures c.args.self.now.store.nodes c.clear_range.new.store.nodes c.args.self.now.store.frames c.clear_range.new.store.frames c.args.self.now.trees.items c.args.i _ c.clear_range.new.self c.args.self.now.kept inside
-    (get_or_read c.args.self.now.trees.items c.args.i _ inside c.index_mut.ensures.value 0) c.clear_range.ensures.sound c.clear_range.ensures.trees c.clear_range.ensures.maps c.clear_range.ensures.frames
+    let inside = tree-in c.args.self.now c.args.i c.requires.row in
+    maps-range c.args.self.now.store.nodes c.clear_range.new.store.nodes c.args.self.now.store.frames c.clear_range.new.store.frames c.args.self.now.trees.items c.args.i _ c.clear_range.new.self c.args.self.now.kept inside
+    (tree-read c.args.self.now c.args.i _ c.requires.row c.index_mut.ensures.value) c.clear_range.ensures.sound c.clear_range.ensures.trees c.clear_range.ensures.maps c.clear_range.ensures.frames
     c.args.range.from c.args.range.to (λ q. Absent) c.requires.inside c.clear_range.ensures.within c.clear_range.ensures.before c.clear_range.ensures.after
 
 pub returns-clause-frames : goal.returns-clause-frames
@@ -49,14 +46,14 @@ returns-clause-frames g c = c.clear_range.ensures.frames.size
 pub returns-clause-nodes : goal.returns-clause-nodes
 unfolding free_nodes
 returns-clause-nodes g c =
-    let takes = c.a_change_takes_few_nodes.ensures.clear_takes c.args.self.now.store.nodes c.index_mut.result.now c.args.range.from c.args.range.to in
-    let root = c.a_change_takes_few_nodes.ensures.root_takes c.args.self.now.store.nodes c.index_mut.result.now in
+    let takes = clear_short-le c.args.self.now.store.nodes c.index_mut.result.now c.args.range.from c.args.range.to in
+    let root = root_short-le c.args.self.now.store.nodes c.index_mut.result.now in
     omega (arith, takes, root, c.clear_range.ensures.free)
 
 pub returns-clause-own : goal.returns-clause-own
-unfolding HasOwnRoot HasNoTree maps
+unfolding HasOwnRoot HasNoTree
 returns-clause-own g c =
-    let inside = rows-in _ _ c.args.self.now.trees.items c.args.i c.requires.row in
+    let inside = tree-in c.args.self.now c.args.i c.requires.row in
     let here = get_or-set_same c.args.self.now.trees.items c.args.i c.clear_range.new.self 0 inside in
     ⊎_elim
     (λ none. inl (here ∙ none))
@@ -64,32 +61,29 @@ returns-clause-own g c =
     c.clear_range.ensures.alone
 
 pub returns-clause-nodes_own : goal.returns-clause-nodes_own
-unfolding free_nodes HasOwnRoot maps
+unfolding free_nodes HasOwnRoot
 returns-clause-nodes_own g c = λ own.
-    let inside = rows-in _ _ c.args.self.now.trees.items c.args.i c.requires.row in
-    let left_is = get_or_read c.args.self.now.trees.items c.args.i _ inside c.index_mut.ensures.value 0 in
-    let takes = c.a_change_takes_few_nodes.ensures.clear_takes c.args.self.now.store.nodes c.index_mut.result.now c.args.range.from c.args.range.to in
+    let left_is = tree-read c.args.self.now c.args.i _ c.requires.row c.index_mut.ensures.value in
+    let takes = clear_short-le c.args.self.now.store.nodes c.index_mut.result.now c.args.range.from c.args.range.to in
     let root = ap (root_short c.args.self.now.store.nodes) left_is ∙ own in
     omega (arith, takes, root, c.clear_range.ensures.free)
 
 pub returns-clause-given_up : goal.returns-clause-given_up
-unfolding free_nodes HasNoTree maps
+unfolding free_nodes HasNoTree
 returns-clause-given_up g c = λ none.
-    let inside = rows-in _ _ c.args.self.now.trees.items c.args.i c.requires.row in
+    let inside = tree-in c.args.self.now c.args.i c.requires.row in
     c.clear_range.ensures.given_up (sym (get_or-set_same c.args.self.now.trees.items c.args.i c.clear_range.new.self 0 inside) ∙ none)
 
 pub returns-clause-cost_own : goal.returns-clause-cost_own
-unfolding HasOwnRoot maps
+unfolding HasOwnRoot
 returns-clause-cost_own g c = λ own.
-    let inside = rows-in _ _ c.args.self.now.trees.items c.args.i c.requires.row in
-    let left_is = get_or_read c.args.self.now.trees.items c.args.i _ inside c.index_mut.ensures.value 0 in
+    let left_is = tree-read c.args.self.now c.args.i _ c.requires.row c.index_mut.ensures.value in
     c.clear_range.ensures.cost_own (ap (root_short c.args.self.now.store.nodes) left_is ∙ own)
 
 pub returns-clause-cost_empty : goal.returns-clause-cost_empty
-unfolding HasNoTree maps
+unfolding HasNoTree
 returns-clause-cost_empty g c = λ none.
-    let inside = rows-in _ _ c.args.self.now.trees.items c.args.i c.requires.row in
-    let left_is = get_or_read c.args.self.now.trees.items c.args.i _ inside c.index_mut.ensures.value 0 in
+    let left_is = tree-read c.args.self.now c.args.i _ c.requires.row c.index_mut.ensures.value in
     c.clear_range.ensures.cost_empty (left_is ∙ none)
 
 pub returns-clause-others : goal.returns-clause-others
@@ -97,11 +91,19 @@ unfolding HasNoTree
 returns-clause-others g c = λ j off none. get_or-set_other c.args.self.now.trees.items c.args.i j c.clear_range.new.self 0 off ∙ none
 
 pub returns-clause-all : goal.returns-clause-all
-unfolding HasNoTree maps
+unfolding HasNoTree
 returns-clause-all g c = λ first end.
-    let inside = rows-in _ _ c.args.self.now.trees.items c.args.i c.requires.row in
+    let inside = tree-in c.args.self.now c.args.i c.requires.row in
     get_or-set_same c.args.self.now.trees.items c.args.i c.clear_range.new.self 0 inside ∙ c.clear_range.ensures.all first end
 
 pub returns-clause-pool : goal.returns-clause-pool
 unfolding pool
 returns-clause-pool g c = λ e f. (c.clear_range.ensures.frames.stamps f e, c.clear_range.ensures.frames.bytes f e)
+
+pub returns-clause-cost_all : goal.returns-clause-cost_all
+returns-clause-cost_all g c = c.clear_range.ensures.cost_all
+
+pub returns-clause-cost_none : goal.returns-clause-cost_none
+unfolding HasNoTree
+returns-clause-cost_none g c = λ first end none.
+    c.clear_range.ensures.cost_none first end (tree-read c.args.self.now c.args.i _ c.requires.row c.index_mut.ensures.value ∙ none)

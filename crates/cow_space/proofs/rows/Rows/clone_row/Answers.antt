@@ -1,7 +1,7 @@
 use Rattle.std.proofs.Common.{length, sym, ap, ◌∙◌, arith, length-set, get_or-set_other}
 use Rattle.std.proofs.lemmas.List.{get_or_read}
 use Rattle.cow_space.specs.Maps.{no_pages}
-use Rattle.cow_space.specs.Seen.{maps, frames_of, free_nodes, HasNoTree, pool}
+use Rattle.cow_space.specs.RowSeen.{maps, frames_of, free_nodes, HasNoTree, pool}
 use Rattle.cow_space.proofs.Trees.{rows-in, length-maps, kept-tree, kept-few, kept-set, maps-clone}
 use Rattle.cow_space.proofs.rows.Rows.clone_row.Goals as goal
 
@@ -16,7 +16,7 @@ unfolding maps
 held_too-tree-requires-clause-tree g c =
     let size = ap length c.drop_row.ensures.maps ∙ length-set (maps c.args.self.now) c.args.to no_pages in
     let inside = rows-in c.drop_row.new.self.store.frames c.drop_row.new.self.store.nodes c.drop_row.new.self.trees.items c.args.from (omega (arith, size, c.requires.from)) in
-    kept-tree c.trees_account_for_their_store.ensures _ _ _ c.args.from _ c.drop_row.new.self.kept inside
+    kept-tree _ _ _ c.args.from _ c.drop_row.new.self.kept inside
     (get_or_read c.drop_row.new.self.trees.items c.args.from _ inside c.index.ensures 0)
 
 pub held_too-tree-requires-clause-few : goal.held_too-tree-requires-clause-few
@@ -34,7 +34,7 @@ invariant_of-self g c =
     let size = ap length c.drop_row.ensures.maps ∙ length-set (maps c.args.self.now) c.args.to no_pages in
     let inside = rows-in c.drop_row.new.self.store.frames c.drop_row.new.self.store.nodes c.drop_row.new.self.trees.items c.args.to (omega (arith, size, c.requires.to)) in
     record {
-      kept = kept-set c.a_change_takes_few_nodes.ensures c.drop_row.new.self.store.nodes c.held_too-tree.new.store.nodes c.drop_row.new.self.store.frames c.held_too-tree.new.store.frames c.drop_row.new.self.trees.items c.args.to 0 c.held_too-tree.result c.drop_row.new.self.kept inside
+      kept = kept-set c.drop_row.new.self.store.nodes c.held_too-tree.new.store.nodes c.drop_row.new.self.store.frames c.held_too-tree.new.store.frames c.drop_row.new.self.trees.items c.args.to 0 c.held_too-tree.result c.drop_row.new.self.kept inside
           (sym c.drop_row.ensures.empty) c.held_too-tree.ensures.sound c.held_too-tree.ensures.trees c.held_too-tree.ensures.maps c.held_too-tree.ensures.frames;
     }
 
@@ -45,7 +45,7 @@ returns-clause-maps g c =
     let trees = c.drop_row.new.self.trees.items in
     let to_in = rows-in c.drop_row.new.self.store.frames c.drop_row.new.self.store.nodes trees c.args.to (omega (arith, size, c.requires.to)) in
     let from_in = rows-in c.drop_row.new.self.store.frames c.drop_row.new.self.store.nodes trees c.args.from (omega (arith, size, c.requires.from)) in
-    maps-clone c.a_change_takes_few_nodes.ensures c.drop_row.new.self.store.nodes c.held_too-tree.new.store.nodes c.drop_row.new.self.store.frames c.held_too-tree.new.store.frames trees (maps c.args.self.now) c.args.to c.args.from c.index.result.now c.held_too-tree.result c.drop_row.new.self.kept to_in from_in c.requires.apart c.drop_row.ensures.empty
+    maps-clone c.drop_row.new.self.store.nodes c.held_too-tree.new.store.nodes c.drop_row.new.self.store.frames c.held_too-tree.new.store.frames trees (maps c.args.self.now) c.args.to c.args.from c.index.result.now c.held_too-tree.result c.drop_row.new.self.kept to_in from_in c.requires.apart c.drop_row.ensures.empty
     (get_or_read trees c.args.from _ from_in c.index.ensures 0) c.held_too-tree.ensures.same c.held_too-tree.ensures.sound c.held_too-tree.ensures.trees c.held_too-tree.ensures.maps c.held_too-tree.ensures.frames c.drop_row.ensures.maps
 
 pub returns-clause-frames : goal.returns-clause-frames

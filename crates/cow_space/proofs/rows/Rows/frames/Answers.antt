@@ -1,4 +1,4 @@
-use Rattle.cow_space.specs.Seen.{frames_of}
+use Rattle.cow_space.specs.RowSeen.{frames_of}
 use Rattle.cow_space.proofs.rows.Rows.frames.Goals as goal
 
 pub returns : goal.returns

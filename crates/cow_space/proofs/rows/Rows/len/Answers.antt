@@ -1,5 +1,5 @@
 use Rattle.std.proofs.Common.{arith}
-use Rattle.cow_space.specs.Seen.{maps}
+use Rattle.cow_space.specs.RowSeen.{maps}
 use Rattle.cow_space.proofs.Trees.{length-maps}
 use Rattle.cow_space.proofs.rows.Rows.len.Goals as goal
 

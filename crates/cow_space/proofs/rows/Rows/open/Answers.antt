@@ -1,7 +1,7 @@
 use Rattle.std.proofs.Common.{◌+◌, ◌*◌, length, ap, ◌∙◌, arith, get_or}
 use Rattle.std.proofs.lemmas.List.{length-replicate}
 use Rattle.node_pool.specs.Nodes.{empty_node}
-use Rattle.cow_space.specs.Seen.{maps, frames_of, HasNoTree}
+use Rattle.cow_space.specs.RowSeen.{maps, frames_of, HasNoTree}
 use Rattle.cow_space.proofs.Trees.{kept-new, maps-new, none-new}
 use Rattle.cow_space.proofs.rows.Rows.open.Goals as goal
 
@@ -15,7 +15,7 @@ invariant_of-result c =
 
 pub returns-clause-maps : goal.returns-clause-maps
 unfolding maps
-returns-clause-maps c = maps-new c.a_change_takes_few_nodes.ensures _ _ _ c.args.rows c.in_ok-trees.ensures
+returns-clause-maps c = maps-new _ _ _ c.args.rows c.in_ok-trees.ensures
 
 pub returns-clause-frames : goal.returns-clause-frames
 unfolding frames_of

@@ -1,49 +1,43 @@
 use Rattle.std.proofs.Common.{sym, ap, ◌∙◌, arith, Some, get_or-set_other}
-use Rattle.std.proofs.lemmas.List.{get_or_read}
-use Rattle.cow_space.specs.Cells.{cell_value}
-use Rattle.cow_space.specs.Seen.{maps, frames_of, free_nodes, HasNoTree}
-use Rattle.cow_space.proofs.Trees.{rows-in, row-page, kept-tree, kept-free, entry-frame}
+use Rattle.cow_space.specs.Trees.{cell_value}
+use Rattle.cow_space.specs.RowSeen.{maps, frames_of, free_nodes, HasNoTree}
+use Rattle.cow_space.proofs.Trees.{entry-frame}
 use Rattle.cow_space.proofs.UsedLemmas.{free-used, used-is}
 use Rattle.cow_space.proofs.WriteLemmas.{sound-take, held-taken, part-kept, part-maps, part-size, written-parting}
+use Rattle.cow_space.proofs.RowViews.{is-tree, nodes-left, row-value, tree-in, tree-read}
+use Rattle.page_tree.proofs.HolderLemmas.{held-frame}
+use Rattle.page_tree.proofs.PageLemmas.{page_short-le}
 use Rattle.cow_space.proofs.rows.Rows.part.Goals as goal
 
 pub cell-cell-requires-clause-row : goal.cell-cell-requires-clause-row
-unfolding maps
-cell-cell-requires-clause-row g c = rows-in _ _ _ c.args.i c.requires.row
+cell-cell-requires-clause-row g c = tree-in c.args.self.now c.args.i c.requires.row
 
 pub fill-frame-requires-clause-held : goal.fill-frame-requires-clause-held
-unfolding maps
 fill-frame-requires-clause-held g c = λ f is.
-    c.trees_account_for_their_store.ensures.has_held _ _ c.args.self.now.trees.items f c.args.self.now.kept.tied
-    (record { k = c.args.i; p = c.args.p; inside = rows-in _ _ _ c.args.i c.requires.row; below = c.requires.page; has = sym c.cell-cell.ensures ∙ entry-frame c.cell-cell.result f is })
+    held-frame _ _ c.args.self.now.trees.items c.args.self.now.kept.tied f
+    (record { k = c.args.i; p = c.args.p; inside = tree-in c.args.self.now c.args.i c.requires.row; below = c.requires.page; has = sym c.cell-cell.ensures ∙ entry-frame c.cell-cell.result f is })
 
 pub index_mut-requires : goal.index_mut-requires
-unfolding maps
-index_mut-requires g c = omega (arith, rows-in _ _ c.args.self.now.trees.items c.args.i c.requires.row, c.args.self.now.trees.ok)
+index_mut-requires g c = omega (arith, tree-in c.args.self.now c.args.i c.requires.row, c.args.self.now.trees.ok)
 
 pub set-requires-clause-sound : goal.set-requires-clause-sound
 set-requires-clause-sound g c = sound-take _ _ _ _ _ _ c.args.self.now.kept.tied.sound c.args.self.now.kept.tied.exact c.fill-frame.ensures
 
 pub set-requires-clause-tree : goal.set-requires-clause-tree
-unfolding maps
 set-requires-clause-tree g c =
-    let inside = rows-in _ _ c.args.self.now.trees.items c.args.i c.requires.row in
-    kept-tree c.trees_account_for_their_store.ensures _ _ _ c.args.i _ c.args.self.now.kept inside (get_or_read c.args.self.now.trees.items c.args.i _ inside c.index_mut.ensures.value 0)
+    is-tree c.args.self.now c.args.i _ c.requires.row c.index_mut.ensures.value
 
 pub set-requires-clause-held : goal.set-requires-clause-held
 set-requires-clause-held g c = λ f is. held-taken _ _ _ f _ _ c.fill-frame.ensures (omega (arith, is))
 
 pub set-requires-clause-free : goal.set-requires-clause-free
 set-requires-clause-free g c =
-    let free = kept-free c.trees_account_for_their_store.ensures _ _ _ c.args.self.now.kept in
-    let takes = c.a_change_takes_few_nodes.ensures.page_takes c.args.self.now.store.nodes c.index_mut.result.now c.args.p in
+    let free = nodes-left c.args.self.now in
+    let takes = page_short-le c.args.self.now.store.nodes c.index_mut.result.now c.args.p in
     omega (arith, free, takes)
 
 pub drop_hold-requires : goal.drop_hold-requires
-unfolding maps
 drop_hold-requires g c =
-    let inside = rows-in _ _ c.args.self.now.trees.items c.args.i c.requires.row in
-    let left_is = get_or_read c.args.self.now.trees.items c.args.i _ inside c.index_mut.ensures.value 0 in
     let held = c.set.ensures.frames.holds c.fill-frame.result.n in
     let exact = c.args.self.now.kept.tied.exact c.fill-frame.result.n in
     let one = held-taken _ _ _ c.fill-frame.result.n _ _ c.fill-frame.ensures (omega arith) in
@@ -52,42 +46,42 @@ drop_hold-requires g c =
 pub invariant_of-self : goal.invariant_of-self
 unfolding maps
 invariant_of-self g c =
-    let inside = rows-in _ _ c.args.self.now.trees.items c.args.i c.requires.row in
-    let left_is = get_or_read c.args.self.now.trees.items c.args.i _ inside c.index_mut.ensures.value 0 in
+    let inside = tree-in c.args.self.now c.args.i c.requires.row in
+    let left_is = tree-read c.args.self.now c.args.i _ c.requires.row c.index_mut.ensures.value in
     record {
-      kept = part-kept c.a_change_takes_few_nodes.ensures c.trees_account_for_their_store.ensures c.args.self.now.store.nodes c.set.new.store.nodes c.args.self.now.store.frames c.fill-frame.new.frames c.set.new.store.frames c.drop_hold.new.self c.args.self.now.trees.items c.args.i c.index_mut.result.now c.set.new.self c.args.p c.fill-frame.result.n c.args.tag _
+      kept = part-kept c.args.self.now.store.nodes c.set.new.store.nodes c.args.self.now.store.frames c.fill-frame.new.frames c.set.new.store.frames c.drop_hold.new.self c.args.self.now.trees.items c.args.i c.index_mut.result.now c.set.new.self c.args.p c.fill-frame.result.n c.args.tag _
           c.args.self.now.kept inside left_is c.fill-frame.ensures c.set.ensures.sound c.set.ensures.trees c.set.ensures.maps c.set.ensures.frames c.drop_hold.ensures c.requires.new;
     }
 
 pub returns-clause-written : goal.returns-clause-written
 unfolding maps
 returns-clause-written g c =
-    let inside = rows-in _ _ c.args.self.now.trees.items c.args.i c.requires.row in
-    let left_is = get_or_read c.args.self.now.trees.items c.args.i _ inside c.index_mut.ensures.value 0 in
-    part-maps c.a_change_takes_few_nodes.ensures c.trees_account_for_their_store.ensures c.args.self.now.store.nodes c.set.new.store.nodes c.args.self.now.store.frames c.fill-frame.new.frames c.set.new.store.frames c.drop_hold.new.self c.args.self.now.trees.items c.args.i c.index_mut.result.now c.set.new.self c.args.p c.fill-frame.result.n c.args.tag _
+    let inside = tree-in c.args.self.now c.args.i c.requires.row in
+    let left_is = tree-read c.args.self.now c.args.i _ c.requires.row c.index_mut.ensures.value in
+    part-maps c.args.self.now.store.nodes c.set.new.store.nodes c.args.self.now.store.frames c.fill-frame.new.frames c.set.new.store.frames c.drop_hold.new.self c.args.self.now.trees.items c.args.i c.index_mut.result.now c.set.new.self c.args.p c.fill-frame.result.n c.args.tag _
     c.args.self.now.kept inside left_is c.fill-frame.ensures c.set.ensures.sound c.set.ensures.trees c.set.ensures.maps c.set.ensures.frames c.drop_hold.ensures c.requires.new _
     (ap Some (written-parting _ c.args.self.now.store.frames c.args.i c.args.p (record { at = c.args.at; bytes = c.args.piece.now }) c.args.tag c.cell-cell.result
-    (row-page _ _ _ c.args.i c.args.p inside c.requires.page ∙ ap (cell_value c.args.self.now.store.frames) (sym c.cell-cell.ensures)) c.requires.parts))
+    (row-value c.args.self.now c.args.i c.args.p c.requires.row c.requires.page ∙ ap (cell_value c.args.self.now.store.frames) (sym c.cell-cell.ensures)) c.requires.parts))
     c.requires.page c.set.ensures.page c.set.ensures.pages
 
 pub returns-clause-frames : goal.returns-clause-frames
 unfolding frames_of maps
 returns-clause-frames g c =
-    let inside = rows-in _ _ c.args.self.now.trees.items c.args.i c.requires.row in
-    let left_is = get_or_read c.args.self.now.trees.items c.args.i _ inside c.index_mut.ensures.value 0 in
-    part-size c.a_change_takes_few_nodes.ensures c.trees_account_for_their_store.ensures c.args.self.now.store.nodes c.set.new.store.nodes c.args.self.now.store.frames c.fill-frame.new.frames c.set.new.store.frames c.drop_hold.new.self c.args.self.now.trees.items c.args.i c.index_mut.result.now c.set.new.self c.args.p c.fill-frame.result.n c.args.tag _
+    let inside = tree-in c.args.self.now c.args.i c.requires.row in
+    let left_is = tree-read c.args.self.now c.args.i _ c.requires.row c.index_mut.ensures.value in
+    part-size c.args.self.now.store.nodes c.set.new.store.nodes c.args.self.now.store.frames c.fill-frame.new.frames c.set.new.store.frames c.drop_hold.new.self c.args.self.now.trees.items c.args.i c.index_mut.result.now c.set.new.self c.args.p c.fill-frame.result.n c.args.tag _
     c.args.self.now.kept inside left_is c.fill-frame.ensures c.set.ensures.sound c.set.ensures.trees c.set.ensures.maps c.set.ensures.frames c.drop_hold.ensures
 
 pub returns-clause-nodes : goal.returns-clause-nodes
 unfolding free_nodes
 returns-clause-nodes g c =
-    let takes = c.a_change_takes_few_nodes.ensures.page_takes c.args.self.now.store.nodes c.index_mut.result.now c.args.p in
+    let takes = page_short-le c.args.self.now.store.nodes c.index_mut.result.now c.args.p in
     omega (arith, takes, c.set.ensures.free)
 
 pub fill-frame-requires-clause-free : goal.fill-frame-requires-clause-free
 unfolding maps frames_of
 fill-frame-requires-clause-free g c =
-    let used = used-is c.names_are_ordered.ensures.tags c.names_are_ordered.ensures.one_tag c.trees_account_for_their_store.ensures _ _ _ c.args.self.now.kept in
+    let used = used-is _ _ _ c.args.self.now.kept in
     omega (arith, used, free-used c.args.self.now.store.frames, c.requires.free)
 
 pub returns-clause-others : goal.returns-clause-others

@@ -1,69 +1,64 @@
 use Rattle.std.proofs.Common.{set, sym, ap, ◌∙◌, arith, subst, get_or-set_other}
-use Rattle.std.proofs.lemmas.List.{get_or_read, get_or-set_same}
+use Rattle.std.proofs.lemmas.List.{get_or-set_same}
 use Rattle.std.proofs.Math.ListN.{length-set}
 use Rattle.page_tree.specs.Steps.{root_short}
-use Rattle.cow_space.specs.Cells.{cells, values, tree_maps}
-use Rattle.cow_space.specs.Kept.{IsKept}
+use Rattle.cow_space.specs.Trees.{cells, values, tree_maps}
+use Rattle.cow_space.specs.RowKept.{IsKept}
 use Rattle.cow_space.specs.Maps.{put_range, row_of}
-use Rattle.cow_space.specs.Seen.{maps, frames_of, free_nodes, HasOwnRoot, HasNoTree, pool}
-use Rattle.cow_space.proofs.Lists.{set-twice}
-use Rattle.cow_space.proofs.Trees.{rows-in, other-read, kept-tree, kept-both, kept-free, kept-set, maps-range, row-at, cells-page}
+use Rattle.cow_space.specs.RowSeen.{maps, frames_of, free_nodes, HasOwnRoot, HasNoTree, pool}
+use Rattle.cow_space.proofs.Trees.{other-read, kept-tree, kept-both, kept-set, maps-range, row-at, cells-page}
+use Rattle.cow_space.proofs.RowViews.{nodes-left, tree-in, tree-read}
+use Rattle.page_tree.proofs.PageLemmas.{range_short-le, root_short-le}
 use Rattle.cow_space.proofs.rows.Rows.share_between.Goals as goal
+use Rattle.lwc_base.proofs.Small.{set-again}
 
 pub index_mut-requires : goal.index_mut-requires
-unfolding maps
 index_mut-requires g c =
-    omega (arith, rows-in _ _ c.args.self.now.trees.items c.args.to c.requires.to, c.args.self.now.trees.ok)
+    omega (arith, tree-in c.args.self.now c.args.to c.requires.to, c.args.self.now.trees.ok)
 
 pub index-requires : goal.index-requires
-unfolding maps
 index-requires g c =
-    omega (arith, rows-in _ _ c.args.self.now.trees.items c.args.from c.requires.from, c.args.self.now.trees.ok)
+    omega (arith, tree-in c.args.self.now c.args.from c.requires.from, c.args.self.now.trees.ok)
 
 pub share_range-requires-clause-tree : goal.share_range-requires-clause-tree
-unfolding maps
 share_range-requires-clause-tree g c =
-    let to_in = rows-in _ _ c.args.self.now.trees.items c.args.to c.requires.to in
-    kept-tree c.trees_account_for_their_store.ensures _ _ _ c.args.to _ c.args.self.now.kept to_in
-    (c.replace-tree.ensures.value ∙ get_or_read c.args.self.now.trees.items c.args.to _ to_in c.index_mut.ensures.value 0)
+    let to_in = tree-in c.args.self.now c.args.to c.requires.to in
+    kept-tree _ _ _ c.args.to _ c.args.self.now.kept to_in
+    (c.replace-tree.ensures.value ∙ tree-read c.args.self.now c.args.to _ c.requires.to c.index_mut.ensures.value)
 
 pub share_range-requires-clause-from : goal.share_range-requires-clause-from
-unfolding maps
 share_range-requires-clause-from g c =
-    let from_in = rows-in _ _ c.args.self.now.trees.items c.args.from c.requires.from in
-    kept-tree c.trees_account_for_their_store.ensures _ _ _ c.args.from _ c.args.self.now.kept from_in
+    let from_in = tree-in c.args.self.now c.args.from c.requires.from in
+    kept-tree _ _ _ c.args.from _ c.args.self.now.kept from_in
     (other-read c.args.self.now.trees.items c.args.to c.args.from c.replace-tree.new.dest _ c.requires.apart from_in c.index.ensures)
 
 pub share_range-requires-clause-both : goal.share_range-requires-clause-both
-unfolding maps
 share_range-requires-clause-both g c = λ n is is'.
-    let to_in = rows-in _ _ c.args.self.now.trees.items c.args.to c.requires.to in
-    let from_in = rows-in _ _ c.args.self.now.trees.items c.args.from c.requires.from in
+    let to_in = tree-in c.args.self.now c.args.to c.requires.to in
+    let from_in = tree-in c.args.self.now c.args.from c.requires.from in
     kept-both _ _ _ c.args.to c.args.from n _ _ c.args.self.now.kept to_in from_in c.requires.apart
-    (c.replace-tree.ensures.value ∙ get_or_read c.args.self.now.trees.items c.args.to _ to_in c.index_mut.ensures.value 0)
+    (c.replace-tree.ensures.value ∙ tree-read c.args.self.now c.args.to _ c.requires.to c.index_mut.ensures.value)
     (other-read c.args.self.now.trees.items c.args.to c.args.from c.replace-tree.new.dest _ c.requires.apart from_in c.index.ensures) is is'
 
 pub share_range-requires-clause-free : goal.share_range-requires-clause-free
 share_range-requires-clause-free g c =
-    let free = kept-free c.trees_account_for_their_store.ensures _ _ _ c.args.self.now.kept in
-    let takes = c.a_change_takes_few_nodes.ensures.range_takes c.args.self.now.store.nodes c.replace-tree.result c.args.range.from c.args.range.to in
-    let root = c.a_change_takes_few_nodes.ensures.root_takes c.args.self.now.store.nodes c.replace-tree.result in
+    let free = nodes-left c.args.self.now in
+    let takes = range_short-le c.args.self.now.store.nodes c.replace-tree.result c.args.range.from c.args.range.to in
+    let root = root_short-le c.args.self.now.store.nodes c.replace-tree.result in
     omega (arith, free, takes, root)
 
 pub index_mut-requires-2 : goal.index_mut-requires-2
-unfolding maps
 index_mut-requires-2 g c =
-    omega (arith, rows-in _ _ c.args.self.now.trees.items c.args.to c.requires.to, c.args.self.now.trees.ok)
+    omega (arith, tree-in c.args.self.now c.args.to c.requires.to, c.args.self.now.trees.ok)
 
 pub invariant_of-self : goal.invariant_of-self
-unfolding maps
 invariant_of-self g c =
     let trees = c.args.self.now.trees.items in
-    let to_in = rows-in _ _ trees c.args.to c.requires.to in
-    let left_is = c.replace-tree.ensures.value ∙ get_or_read trees c.args.to _ to_in c.index_mut.ensures.value 0 in
+    let to_in = tree-in c.args.self.now c.args.to c.requires.to in
+    let left_is = c.replace-tree.ensures.value ∙ tree-read c.args.self.now c.args.to _ c.requires.to c.index_mut.ensures.value in
     record {
-      kept = subst (λ ts. IsKept c.share_range.new.store.nodes c.share_range.new.store.frames ts) (sym (set-twice trees c.args.to c.replace-tree.new.dest c.share_range.new.self))
-          (kept-set c.a_change_takes_few_nodes.ensures c.args.self.now.store.nodes c.share_range.new.store.nodes c.args.self.now.store.frames c.share_range.new.store.frames trees c.args.to _ _ c.args.self.now.kept to_in left_is c.share_range.ensures.sound c.share_range.ensures.trees c.share_range.ensures.maps c.share_range.ensures.frames);
+      kept = subst (λ ts. IsKept c.share_range.new.store.nodes c.share_range.new.store.frames ts) (sym (set-again trees c.args.to c.replace-tree.new.dest c.share_range.new.self))
+          (kept-set c.args.self.now.store.nodes c.share_range.new.store.nodes c.args.self.now.store.frames c.share_range.new.store.frames trees c.args.to _ _ c.args.self.now.kept to_in left_is c.share_range.ensures.sound c.share_range.ensures.trees c.share_range.ensures.maps c.share_range.ensures.frames);
     }
 
 pub returns-clause-maps : goal.returns-clause-maps
@@ -74,12 +69,12 @@ returns-clause-maps g c =
     let new = c.share_range.new.store.nodes in
     let frames = c.args.self.now.store.frames in
     let frames' = c.share_range.new.store.frames in
-    let to_in = rows-in _ _ trees c.args.to c.requires.to in
-    let from_in = rows-in _ _ trees c.args.from c.requires.from in
-    let left_is = c.replace-tree.ensures.value ∙ get_or_read trees c.args.to _ to_in c.index_mut.ensures.value 0 in
+    let to_in = tree-in c.args.self.now c.args.to c.requires.to in
+    let from_in = tree-in c.args.self.now c.args.from c.requires.from in
+    let left_is = c.replace-tree.ensures.value ∙ tree-read c.args.self.now c.args.to _ c.requires.to c.index_mut.ensures.value in
     let other_is = other-read trees c.args.to c.args.from c.replace-tree.new.dest _ c.requires.apart from_in c.index.ensures in
-    ap (tree_maps frames' new) (set-twice trees c.args.to c.replace-tree.new.dest c.share_range.new.self)
-    ∙ maps-range c.a_change_takes_few_nodes.ensures old new frames frames' trees c.args.to _ _ c.args.self.now.kept to_in left_is c.share_range.ensures.sound c.share_range.ensures.trees c.share_range.ensures.maps c.share_range.ensures.frames
+    ap (tree_maps frames' new) (set-again trees c.args.to c.replace-tree.new.dest c.share_range.new.self)
+    ∙ maps-range old new frames frames' trees c.args.to _ _ c.args.self.now.kept to_in left_is c.share_range.ensures.sound c.share_range.ensures.trees c.share_range.ensures.maps c.share_range.ensures.frames
     c.args.range.from c.args.range.to (cells old c.index.result.now) c.requires.inside
     (λ q low high. c.share_range.ensures.within q low high ∙ sym (cells-page old c.index.result.now q (omega (arith, high, c.requires.inside))))
     c.share_range.ensures.before c.share_range.ensures.after
@@ -91,41 +86,38 @@ unfolding frames_of
 returns-clause-frames g c = c.share_range.ensures.frames.size
 
 pub returns-clause-own : goal.returns-clause-own
-unfolding HasOwnRoot maps
+unfolding HasOwnRoot
 returns-clause-own g c =
     let trees = c.args.self.now.trees.items in
-    let to_in = rows-in _ _ trees c.args.to c.requires.to in
+    let to_in = tree-in c.args.self.now c.args.to c.requires.to in
     ap (root_short c.share_range.new.store.nodes) (get_or-set_same (set trees c.args.to c.replace-tree.new.dest) c.args.to c.share_range.new.self 0 (omega (arith, to_in, length-set trees c.args.to c.replace-tree.new.dest)))
     ∙ c.share_range.ensures.alone
 
 pub returns-clause-nodes : goal.returns-clause-nodes
 unfolding free_nodes
 returns-clause-nodes g c =
-    let takes = c.a_change_takes_few_nodes.ensures.range_takes c.args.self.now.store.nodes c.replace-tree.result c.args.range.from c.args.range.to in
-    let root = c.a_change_takes_few_nodes.ensures.root_takes c.args.self.now.store.nodes c.replace-tree.result in
+    let takes = range_short-le c.args.self.now.store.nodes c.replace-tree.result c.args.range.from c.args.range.to in
+    let root = root_short-le c.args.self.now.store.nodes c.replace-tree.result in
     omega (arith, takes, root, c.share_range.ensures.free)
 
 pub returns-clause-nodes_own : goal.returns-clause-nodes_own
-unfolding free_nodes HasOwnRoot maps
+unfolding free_nodes HasOwnRoot
 returns-clause-nodes_own g c = λ own.
-    let to_in = rows-in _ _ c.args.self.now.trees.items c.args.to c.requires.to in
-    let left_is = c.replace-tree.ensures.value ∙ get_or_read c.args.self.now.trees.items c.args.to _ to_in c.index_mut.ensures.value 0 in
-    let takes = c.a_change_takes_few_nodes.ensures.range_takes c.args.self.now.store.nodes c.replace-tree.result c.args.range.from c.args.range.to in
+    let left_is = c.replace-tree.ensures.value ∙ tree-read c.args.self.now c.args.to _ c.requires.to c.index_mut.ensures.value in
+    let takes = range_short-le c.args.self.now.store.nodes c.replace-tree.result c.args.range.from c.args.range.to in
     let root = ap (root_short c.args.self.now.store.nodes) left_is ∙ own in
     omega (arith, takes, root, c.share_range.ensures.free)
 
 pub returns-clause-cost_own : goal.returns-clause-cost_own
-unfolding HasOwnRoot maps
+unfolding HasOwnRoot
 returns-clause-cost_own g c = λ own.
-    let to_in = rows-in _ _ c.args.self.now.trees.items c.args.to c.requires.to in
-    let left_is = c.replace-tree.ensures.value ∙ get_or_read c.args.self.now.trees.items c.args.to _ to_in c.index_mut.ensures.value 0 in
+    let left_is = c.replace-tree.ensures.value ∙ tree-read c.args.self.now c.args.to _ c.requires.to c.index_mut.ensures.value in
     c.share_range.ensures.cost_own (ap (root_short c.args.self.now.store.nodes) left_is ∙ own)
 
 pub returns-clause-cost_empty : goal.returns-clause-cost_empty
-unfolding HasNoTree maps
+unfolding HasNoTree
 returns-clause-cost_empty g c = λ none.
-    let to_in = rows-in _ _ c.args.self.now.trees.items c.args.to c.requires.to in
-    let left_is = c.replace-tree.ensures.value ∙ get_or_read c.args.self.now.trees.items c.args.to _ to_in c.index_mut.ensures.value 0 in
+    let left_is = c.replace-tree.ensures.value ∙ tree-read c.args.self.now c.args.to _ c.requires.to c.index_mut.ensures.value in
     c.share_range.ensures.cost_empty (left_is ∙ none)
 
 pub returns-clause-others : goal.returns-clause-others

@@ -1,5 +1,5 @@
 use Rattle.std.proofs.Common.{◌∙◌, arith}
-use Rattle.cow_space.specs.Seen.{maps, frames_of}
+use Rattle.cow_space.specs.RowSeen.{maps, frames_of}
 use Rattle.cow_space.proofs.UsedLemmas.{used-is}
 use Rattle.cow_space.proofs.rows.Rows.used.Goals as goal
 
@@ -7,7 +7,7 @@ pub returns-clause-used : goal.returns-clause-used
 unfolding maps
 returns-clause-used c =
     c.used.ensures.used
-    ∙ used-is c.names_are_ordered.ensures.tags c.names_are_ordered.ensures.one_tag c.trees_account_for_their_store.ensures _ _ _ c.args.self.now.kept
+    ∙ used-is _ _ _ c.args.self.now.kept
 
 pub returns-clause-within : goal.returns-clause-within
 unfolding frames_of

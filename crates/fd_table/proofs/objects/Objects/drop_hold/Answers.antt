@@ -1,11 +1,7 @@
-use Rattle.std.proofs.Common.{◌≡◌, ◌<◌, ℕ, ap, ◌∙◌, sym, subst, Option, Some, None, refl, get_or, IfSome}
+use Rattle.std.proofs.Common.{◌<◌, ap, ◌∙◌, sym, subst, get_or}
 use Rattle.fd_table.specs.Objects.{IsCounted, counted_less}
-use Rattle.fd_table.proofs.ObjectLemmas.{counted-drop, last-counted}
+use Rattle.fd_table.proofs.ObjectLemmas.{counted-drop, if-some, last-counted}
 use Rattle.fd_table.proofs.objects.Objects.drop_hold.Goals as goal
-
-if-some : (o : Option ℕ) (P : ℕ → Type 0) → ((t : ℕ) → o ≡ Some t → P t) → IfSome o P
-if-some None P all = tt
-if-some (Some t) P all = all t refl
 
 pub count_less-requires : goal.count_less-requires
 count_less-requires c =

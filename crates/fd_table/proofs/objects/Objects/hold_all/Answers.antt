@@ -1,48 +1,47 @@
-use Rattle.std.proofs.Common.{◌+◌, ◌-◌, ◌<◌, get_or, length, take, refl, arith, ap, ◌∙◌, subst, sym}
-use Rattle.fd_table.specs.Pools.{count_of}
-use Rattle.fd_table.specs.Objects.{HoldsMore}
-use Rattle.fd_table.proofs.ObjectLemmas.{more-none, more-skip, more-hold, times-some, times-next, held-in}
+use Rattle.std.proofs.Common.{rules, refl, sym, ◌∙◌, [], ◌++◌}
+use Rattle.fd_table.proofs.ObjectLemmas.{more-none}
+use Rattle.fd_table.proofs.ChunkLemmas.{chunk-held, chunk-fits, chunk-done, more-chunk, more-unnamed}
 use Rattle.fd_table.proofs.objects.Objects.hold_all.Goals as goal
-use Rattle.fd_table.proofs.objects.Objects.hold_all.Goals.{then-entry-gt0, else-entry-gt0}
 
-pub loop-entry-init : goal.loop-entry-init
-loop-entry-init c = record { pool = more-none _; places = refl }
+pub loop-chunk-init : goal.loop-chunk-init
+loop-chunk-init c = (search rules, tt, search rules, refl, ([], more-none _, search rules))
 
-pub hold-requires-clause-held : goal.hold-requires-clause-held
-hold-requires-clause-held c =
-    let k = c.loop-entry.entry-index in
-    let o = get_or c.args.entries.now k 0 - 1 in
-    let named = times-some o c.args.entries.now k (omega arith) (omega arith) in
-    let now = c.loop-entry.invariant.pool.counts o in
-    omega (arith, c.requires.held o named, now)
+pub hold_each-requires-clause-held : goal.hold_each-requires-clause-held
+hold_each-requires-clause-held c =
+    let before = c.loop-chunk.invariant.4 in
+    chunk-held _ _ before.0 _ _ _ _ before.1 before.2 (c.in-Some.ensures.steps.1.0) c.requires.held
 
-pub hold-requires-clause-fits : goal.hold-requires-clause-fits
-hold-requires-clause-fits c =
-    let k = c.loop-entry.entry-index in
-    let o = get_or c.args.entries.now k 0 - 1 in
-    let next = times-next o c.args.entries.now k (omega arith) (omega arith) in
-    let now = c.loop-entry.invariant.pool.counts o in
-    omega (arith, next, c.requires.fits o, now)
+pub hold_each-requires-clause-fits : goal.hold_each-requires-clause-fits
+hold_each-requires-clause-fits c =
+    let before = c.loop-chunk.invariant.4 in
+    chunk-fits _ _ before.0 _ _ _ _ _ before.1 before.2 (c.in-Some.ensures.steps.1.0) c.requires.fits
 
-pub loop-entry-preserved : goal.loop-entry-preserved
-loop-entry-preserved c =
-    let k = c.loop-entry.entry-index in
-    let entries = c.args.entries.now in
-    let o = get_or entries k 0 - 1 in
-    elim c.if-entry-gt0.branch [
-      | then-entry-gt0 w ↦
-          let named = times-some o entries k (omega arith) (omega arith) in
-          let now = c.loop-entry.invariant.pool.counts o in
-          let held : 0 < count_of c.loop-entry.self.pool o = omega (arith, c.requires.held o named, now) in
-          record {
-            pool = subst (λ s. HoldsMore c.args.self.now.pool s.pool (take (k + 1) entries)) (sym w.self-is)
-                (more-hold c.args.self.now.pool c.loop-entry.self.pool _ entries k o c.loop-entry.invariant.pool (omega arith) (omega arith) (held-in _ o held) w.hold.ensures.pool);
-            places = ap (λ s. length s.named.items) w.self-is ∙ w.hold.ensures.places ∙ c.loop-entry.invariant.places;
-          }
-      | else-entry-gt0 w ↦
-          record {
-            pool = subst (λ s. HoldsMore c.args.self.now.pool s.pool (take (k + 1) entries)) (sym w.self-is)
-                (more-skip c.args.self.now.pool c.loop-entry.self.pool entries k c.loop-entry.invariant.pool (omega arith) (omega arith));
-            places = ap (λ s. length s.named.items) w.self-is ∙ c.loop-entry.invariant.places;
-          }
-    ]
+pub loop-chunk-preserved-then-names_any : goal.loop-chunk-preserved-then-names_any
+loop-chunk-preserved-then-names_any c =
+    let before = c.loop-chunk.invariant.4 in
+    let steps = c.in-Some.ensures.steps in (
+      search rules,
+      tt,
+      steps.0 ∙ c.loop-chunk.invariant.2,
+      c.hold_each.ensures.places ∙ c.loop-chunk.invariant.3,
+      (
+        before.0 ++ c.in-Some.chunk.now,
+        more-chunk _ _ _ before.0 _ before.1 c.hold_each.ensures.pool,
+        chunk-done before.0 _ _ _ _ before.2 steps.1.0,
+      ),
+    )
+
+pub loop-chunk-preserved : goal.loop-chunk-preserved
+loop-chunk-preserved c =
+    let before = c.loop-chunk.invariant.4 in
+    let steps = c.in-Some.ensures.steps in (
+      search rules,
+      tt,
+      steps.0 ∙ c.loop-chunk.invariant.2,
+      c.loop-chunk.invariant.3,
+      (
+        before.0 ++ c.in-Some.chunk.now,
+        more-chunk _ _ _ before.0 _ before.1 (more-unnamed _ _ (sym c.names_any.ensures ∙ c.if-names_any.false)),
+        chunk-done before.0 _ _ _ _ before.2 steps.1.0,
+      ),
+    )

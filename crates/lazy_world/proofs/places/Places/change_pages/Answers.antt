@@ -5,15 +5,16 @@ use Rattle.lwc_base.specs.declared.limits.TheConstants.{MOST_PAGES, MOST_RANGES}
 use Rattle.range_map.specs.declared.segment.SegmentKind.{SegmentKind}
 use Rattle.range_map.specs.Kinds.{ranges}
 use Rattle.fd_table.specs.Seen as slots_seen
-use Rattle.page_cells.specs.Seen as pages_seen
-use Rattle.page_cells.specs.Cells as page_specs
-use Rattle.page_cells.specs.declared.stretches.Stretch.{Stretch}
-use Rattle.page_cells.specs.Changes.{IsStretch, changed_place}
-use Rattle.page_cells.specs.Tags.{used}
+use Rattle.cow_space.specs.Seen as pages_seen
+use Rattle.cow_space.specs.Cells as page_specs
+use Rattle.cow_space.specs.declared.stretches.Stretch.{Stretch}
+use Rattle.cow_space.specs.Changes.{IsStretch, changed_place}
+use Rattle.cow_space.specs.Tags.{used}
 use Rattle.lazy_world.specs.Cells.{rows_of}
 use Rattle.lazy_world.specs.Seen.{count, frame_count, free_nodes, rows, used_frames, pool}
-use Rattle.lazy_world.specs.declared.pieces.PageSources.TheVariants.{Stretches}
+use Rattle.lazy_world.specs.declared.pieces.PageOrigins.TheVariants.{Stretches}
 use Rattle.lazy_world.proofs.TakeLemmas.{kinds-given, row-given, stretches-given}
+use Rattle.cow_space.proofs.Taken.{changed-used}
 use Rattle.lazy_world.proofs.places.Places.change_pages.Goals as goal
 
 pub change-requires-clause-place : goal.change-requires-clause-place
@@ -74,7 +75,7 @@ unfolding rows rows_of count used_frames
 returns-clause-used g c empty =
     let w = c.args.self.now in
     ap used c.change.ensures.cells
-    ∙ c.copies_take_no_frame.ensures.changed (pages_seen.cells w.pages) c.args.i c.as_slice.result.now c.requires.place (λ e p. empty p e)
+    ∙ changed-used (pages_seen.cells w.pages) c.args.i c.requires.place (λ e p. empty p e) c.as_slice.result.now
     (subst (All (IsStretch (count w) c.args.i)) (sym c.as_slice.ensures.value) c.requires.given)
 
 pub returns-clause-pool : goal.returns-clause-pool

@@ -3,7 +3,7 @@ use Rattle.lwc_base.specs.declared.cell.Cell.TheVariants.{Own}
 use Rattle.lwc_base.specs.declared.key.TheConstants.{NOBODY}
 use Rattle.fd_table.specs.Seen as slots_seen
 use Rattle.fd_table.specs.Slots.{Slot, row_of}
-use Rattle.page_cells.specs.Seen as pages_seen
+use Rattle.cow_space.specs.Seen as pages_seen
 use Rattle.lazy_world.specs.Cells.{rows_of}
 use Rattle.lazy_world.specs.Kept.{IsNumbered}
 use Rattle.lazy_world.specs.Seen.{count, frame_count, rows}

@@ -1,12 +1,13 @@
 use Rattle.std.proofs.Common.{◌∙◌, ap, length, length-set, sym}
 use Rattle.fd_table.specs.Seen as slots_seen
-use Rattle.page_cells.specs.Cells.{place_of}
-use Rattle.page_cells.specs.Seen as pages_seen
-use Rattle.page_cells.specs.Tags.{used}
+use Rattle.cow_space.specs.Cells.{place_of}
+use Rattle.cow_space.specs.Seen as pages_seen
+use Rattle.cow_space.specs.Tags.{used}
 use Rattle.lazy_world.specs.Cells.{rows_of}
 use Rattle.lazy_world.specs.Seen.{count, frame_count, free_nodes, rows, used_frames, pool}
-use Rattle.lazy_world.specs.declared.pieces.PageSources.TheVariants.{AllOf}
+use Rattle.lazy_world.specs.declared.pieces.PageOrigins.TheVariants.{AllOf}
 use Rattle.lazy_world.proofs.TakeLemmas.{all-given, row-given}
+use Rattle.cow_space.proofs.Taken.{cloned-used}
 use Rattle.lazy_world.proofs.places.Places.copy_pages.Goals as goal
 
 pub clone_place-requires-clause-to : goal.clone_place-requires-clause-to
@@ -15,7 +16,7 @@ clone_place-requires-clause-to g c = c.requires.place
 
 pub clone_place-requires-clause-from : goal.clone_place-requires-clause-from
 unfolding count
-clone_place-requires-clause-from g c = c.requires.source
+clone_place-requires-clause-from g c = c.requires.origin
 
 pub invariant_of-self : goal.invariant_of-self
 invariant_of-self g c =
@@ -52,7 +53,7 @@ pub returns-clause-used : goal.returns-clause-used
 unfolding rows rows_of count used_frames
 returns-clause-used g c empty =
     ap used c.clone_place.ensures.cells
-    ∙ c.copies_take_no_frame.ensures.cloned (pages_seen.cells c.args.self.now.pages) c.args.i c.args.j c.requires.place c.requires.source (λ e p. empty p e)
+    ∙ cloned-used (pages_seen.cells c.args.self.now.pages) c.args.i c.requires.place (λ e p. empty p e) c.args.j c.requires.origin
 
 pub returns-clause-pool : goal.returns-clause-pool
 unfolding pool

@@ -1,84 +1,73 @@
-use Rattle.std.proofs.Common.{◌∙◌, ap, arith, length, length-set, set, subst, sym, List, ℕ}
+use Rattle.std.proofs.Common.{◌∙◌, ap, arith, length, length-set, refl, set, subst, sym, List, ℕ}
+use Rattle.lwc_base.specs.declared.key.Key.TheVariants.{Slot}
 use Rattle.fd_table.specs.Seen as slots_seen
-use Rattle.fd_table.specs.Slots.{Slot, row_of}
-use Rattle.page_cells.specs.Seen as pages_seen
-use Rattle.page_cells.specs.Tags.{used}
-use Rattle.lazy_world.specs.Cells.{rows_of}
+use Rattle.fd_table.specs.Slots as slots
+use Rattle.cow_space.specs.Seen as pages_seen
+use Rattle.lazy_world.specs.Cells.{Row, rows_of}
 use Rattle.lazy_world.specs.Kept.{IsNumbered}
 use Rattle.lazy_world.specs.Seen.{count, frame_count, free_nodes, rows, used_frames, pool}
 use Rattle.lazy_world.proofs.ClearLemmas.{no-slots, rows-copied}
-use Rattle.lazy_world.proofs.PlaceLemmas.{numbered-set}
+use Rattle.lazy_world.proofs.PlaceLemmas.{choose, numbered-set}
 use Rattle.lazy_world.proofs.places.Places.copy_place.Goals as goal
 
 pub clone_place-requires-clause-to : goal.clone_place-requires-clause-to
 unfolding count
-clone_place-requires-clause-to g c = c.requires.to
+clone_place-requires-clause-to g c = omega (arith, c.copy_pages.new.self.kept.slot_count, c.copy_pages.ensures.count, c.requires.to)
 
 pub clone_place-requires-clause-from : goal.clone_place-requires-clause-from
 unfolding count
-clone_place-requires-clause-from g c = c.requires.from
+clone_place-requires-clause-from g c = omega (arith, c.copy_pages.new.self.kept.slot_count, c.copy_pages.ensures.count, c.requires.from)
 
-pub clone_place-requires-2-clause-to : goal.clone_place-requires-2-clause-to
-unfolding count
-clone_place-requires-2-clause-to g c = omega (arith, c.args.self.now.kept.slot_count, c.requires.to)
-
-pub clone_place-requires-2-clause-from : goal.clone_place-requires-2-clause-from
-unfolding count
-clone_place-requires-2-clause-from g c = omega (arith, c.args.self.now.kept.slot_count, c.requires.from)
-
-pub clone_place-requires-2-clause-empty : goal.clone_place-requires-2-clause-empty
+pub clone_place-requires-clause-empty : goal.clone_place-requires-clause-empty
 unfolding rows rows_of
-clone_place-requires-2-clause-empty g c =
-    no-slots (slots_seen.slots c.args.self.now.slots) c.args.to (c.args.self.now.kept.targets c.args.to) c.requires.empty
+clone_place-requires-clause-empty g c =
+    let w = c.copy_pages.new.self in
+    no-slots (slots_seen.slots w.slots) c.args.to (w.kept.targets c.args.to)
+    (λ n. ap (λ (rows : ℕ → Row). rows c.args.to (Slot n)) c.copy_pages.ensures.rows ∙ ap (λ (row : Row). row (Slot n)) (choose c.args.to c.args.to _ _ refl) ∙ c.requires.empty n)
 
 pub index_mut-requires : goal.index_mut-requires
 unfolding count
-index_mut-requires g c = omega (arith, c.args.self.now.kept.uid_count, c.requires.to, c.args.self.now.uids.ok)
+index_mut-requires g c =
+    let w = c.copy_pages.new.self in omega (arith, w.kept.uid_count, c.copy_pages.ensures.count, c.requires.to, w.uids.ok)
 
 pub invariant_of-self : goal.invariant_of-self
 unfolding count
 invariant_of-self g c =
-    let w = c.args.self.now in
-    let same = ap length c.clone_place.ensures.cells ∙ length-set (pages_seen.cells w.pages) c.args.to _ in
+    let w = c.copy_pages.new.self in
     record {
       kept = record {
-        slot_count = ap length c.clone_place-2.ensures ∙ length-set (slots_seen.slots w.slots) c.args.to _ ∙ w.kept.slot_count ∙ sym same;
-        uid_count = length-set w.uids.items c.args.to _ ∙ w.kept.uid_count ∙ sym same;
-        targets = subst (λ (table : List (ℕ → Slot)). (i n : ℕ) → IsNumbered (row_of table i n)) (sym c.clone_place-2.ensures)
-            (numbered-set (slots_seen.slots w.slots) c.args.to _ (omega (arith, w.kept.slot_count, c.requires.to)) (w.kept.targets c.args.from) w.kept.targets);
+        slot_count = ap length c.clone_place.ensures ∙ length-set (slots_seen.slots w.slots) c.args.to _ ∙ w.kept.slot_count;
+        uid_count = length-set w.uids.items c.args.to _ ∙ w.kept.uid_count;
+        targets = subst (λ (table : List (ℕ → slots.Slot)). (i n : ℕ) → IsNumbered (slots.row_of table i n)) (sym c.clone_place.ensures)
+            (numbered-set (slots_seen.slots w.slots) c.args.to _ (omega (arith, w.kept.slot_count, c.copy_pages.ensures.count, c.requires.to)) (w.kept.targets c.args.from) w.kept.targets);
       };
     }
 
 pub returns-clause-rows : goal.returns-clause-rows
 unfolding rows count
 returns-clause-rows g c =
-    let w = c.args.self.now in
-    (λ e. rows_of (c.clone_place.ensures.cells e) (c.clone_place-2.ensures e) (set w.uids.items c.args.to (c.given_uid-uid.ensures e)))
-    ∙ rows-copied (pages_seen.cells w.pages) (slots_seen.slots w.slots) w.uids.items c.args.to c.args.from c.requires.to
-    (omega (arith, w.kept.slot_count, c.requires.to)) (omega (arith, w.kept.uid_count, c.requires.to))
+    let w = c.copy_pages.new.self in
+    ap (λ table. rows_of (pages_seen.cells w.pages) table (set w.uids.items c.args.to c.given_uid-uid.result)) c.clone_place.ensures
+    ∙ rows-copied (pages_seen.cells w.pages) (slots_seen.slots w.slots) w.uids.items c.args.to (rows c.args.self.now) c.args.from c.given_uid-uid.result
+    (omega (arith, w.kept.slot_count, c.copy_pages.ensures.count, c.requires.to)) (omega (arith, w.kept.uid_count, c.copy_pages.ensures.count, c.requires.to))
+    c.requires.apart c.given_uid-uid.ensures c.copy_pages.ensures.rows
 
 pub returns-clause-count : goal.returns-clause-count
 unfolding count
-returns-clause-count g c = ap length c.clone_place.ensures.cells ∙ length-set (pages_seen.cells c.args.self.now.pages) c.args.to _
+returns-clause-count g c = c.copy_pages.ensures.count
 
 pub returns-clause-frames : goal.returns-clause-frames
 unfolding frame_count
-returns-clause-frames g c = c.clone_place.ensures.frames
+returns-clause-frames g c = c.copy_pages.ensures.frames
 
 pub returns-clause-nodes : goal.returns-clause-nodes
 unfolding free_nodes
-returns-clause-nodes g c = c.clone_place.ensures.nodes
-
-pub returns-clause-cost : goal.returns-clause-cost
-unfolding rows rows_of
-returns-clause-cost g c = λ empty. c.clone_place.ensures.cost_empty (λ e p. empty p e)
+returns-clause-nodes g c = c.copy_pages.ensures.nodes
 
 pub returns-clause-used : goal.returns-clause-used
-unfolding rows rows_of count used_frames
-returns-clause-used g c empty =
-    ap used c.clone_place.ensures.cells
-    ∙ c.copies_take_no_frame.ensures.cloned (pages_seen.cells c.args.self.now.pages) c.args.to c.args.from c.requires.to c.requires.from (λ e p. empty p e)
+unfolding used_frames
+returns-clause-used g c = c.copy_pages.ensures.used
 
 pub returns-clause-pool : goal.returns-clause-pool
 unfolding pool
-returns-clause-pool g c = c.clone_place.ensures.pool
+returns-clause-pool g c = c.copy_pages.ensures.pool

@@ -1,7 +1,7 @@
 use Rattle.std.proofs.Common.{refl, arith, length, length-set, ◌∙◌, ap, sym, subst, ℕ, List, ◌<◌}
 use Rattle.fd_table.specs.Slots.{Slot, row_of}
 use Rattle.fd_table.specs.Seen as slots_seen
-use Rattle.page_cells.specs.Seen as pages_seen
+use Rattle.cow_space.specs.Seen as pages_seen
 use Rattle.lazy_world.specs.Cells.{rows_of}
 use Rattle.lazy_world.specs.Kept.{IsNumbered}
 use Rattle.lazy_world.specs.Seen.{count, frame_count, free_nodes, rows, used_frames, pool}
@@ -14,7 +14,7 @@ copy_slot-requires-clause-to c = omega (arith, c.args.self.now.kept.slot_count, 
 
 pub copy_slot-requires-clause-from : goal.copy_slot-requires-clause-from
 unfolding count
-copy_slot-requires-clause-from c = omega (arith, c.args.self.now.kept.slot_count, c.requires.source)
+copy_slot-requires-clause-from c = omega (arith, c.args.self.now.kept.slot_count, c.requires.origin)
 
 pub invariant_of-self : goal.invariant_of-self
 unfolding count

@@ -3,12 +3,12 @@ use Rattle.std.specs.Prelude.{All}
 use Rattle.lwc_base.specs.declared.limits.TheConstants.{MOST_PAGES}
 use Rattle.range_map.specs.Kinds.{ranges}
 use Rattle.fd_table.specs.Seen as slots_seen
-use Rattle.page_cells.specs.Cells.{kinds_of}
-use Rattle.page_cells.specs.Changes.{IsStretch, changed_place}
-use Rattle.page_cells.specs.Seen as pages_seen
-use Rattle.page_cells.specs.declared.stretches.Stretch.{Stretch}
+use Rattle.cow_space.specs.Cells.{kinds_of}
+use Rattle.cow_space.specs.Changes.{IsStretch, changed_place}
+use Rattle.cow_space.specs.Seen as pages_seen
+use Rattle.cow_space.specs.declared.stretches.Stretch.{Stretch}
 use Rattle.lazy_world.specs.Seen.{count, rows}
-use Rattle.lazy_world.specs.declared.pieces.PageSources.TheVariants.{Stretches}
+use Rattle.lazy_world.specs.declared.pieces.PageOrigins.TheVariants.{Stretches}
 use Rattle.lazy_world.proofs.TakeLemmas.{kinds-given, stretches-given}
 use Rattle.lazy_world.proofs.places.Places.count_changed.Goals as goal
 

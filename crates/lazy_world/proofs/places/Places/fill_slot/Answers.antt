@@ -1,10 +1,10 @@
 use Rattle.std.proofs.Common.{subst}
-use Rattle.page_cells.specs.Changes.{IsApart}
+use Rattle.cow_space.specs.Changes.{IsApart}
 use Rattle.lazy_world.specs.Seen.{count}
 use Rattle.lazy_world.proofs.places.Places.fill_slot.Goals as goal
 
-pub copy_slot-requires-clause-source : goal.copy_slot-requires-clause-source
-copy_slot-requires-clause-source c = (subst (IsApart (count c.args.self.now) c.args.i) c.in-CopyOf.is c.requires.given).0
+pub copy_slot-requires-clause-origin : goal.copy_slot-requires-clause-origin
+copy_slot-requires-clause-origin c = (subst (IsApart (count c.args.self.now) c.args.i) c.in-CopyOf.is c.requires.given).0
 
 pub copy_slot-requires-clause-apart : goal.copy_slot-requires-clause-apart
 copy_slot-requires-clause-apart c = (subst (IsApart (count c.args.self.now) c.args.i) c.in-CopyOf.is c.requires.given).1

@@ -1,5 +1,5 @@
 use Rattle.std.proofs.Common.{Some, ◌∙◌, ap, sym}
-use Rattle.page_cells.specs.Tags as places
+use Rattle.cow_space.specs.Tags as places
 use Rattle.lazy_world.specs.Seen.{count, pages}
 use Rattle.lazy_world.proofs.WrittenLemmas.{parts-common, parts-none}
 use Rattle.lazy_world.proofs.places.Places.is_parting.Goals as goal

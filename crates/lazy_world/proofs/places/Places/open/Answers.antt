@@ -1,12 +1,12 @@
 use Rattle.std.proofs.Common.{length, ◌∙◌, ap, sym, subst, ℕ, List}
 use Rattle.std.proofs.lemmas.List.{length-replicate}
 use Rattle.fd_table.specs.Slots.{Slot, no_slots, row_of}
-use Rattle.page_cells.specs.Cells.{no_pages}
+use Rattle.cow_space.specs.Cells.{no_pages}
 use Rattle.lwc_base.specs.declared.cell.Cell.TheVariants.{Own}
 use Rattle.lwc_base.specs.declared.key.TheConstants.{NOBODY}
 use Rattle.lazy_world.specs.Cells.{rows_of}
 use Rattle.lazy_world.specs.Kept.{IsNumbered}
-use Rattle.lazy_world.specs.Seen.{count, rows}
+use Rattle.lazy_world.specs.Seen.{count, rows, frame_count}
 use Rattle.lazy_world.proofs.PlaceLemmas.{rows-none, numbered-none}
 use Rattle.lazy_world.proofs.places.Places.open.Goals as goal
 
@@ -27,3 +27,7 @@ returns-clause-rows c =
 pub returns-clause-count : goal.returns-clause-count
 unfolding count
 returns-clause-count c = ap length c.in_ok-open.ensures.cells ∙ length-replicate c.args.places no_pages
+
+pub returns-clause-frames : goal.returns-clause-frames
+unfolding frame_count
+returns-clause-frames c = c.in_ok-open.ensures.frames

@@ -1,10 +1,10 @@
 use Rattle.std.proofs.Common.{refl, arith, length, length-set, ◌∙◌, ap, sym, subst, ℕ, List, ◌<◌}
 use Rattle.fd_table.specs.Slots.{Slot, row_of}
 use Rattle.fd_table.specs.Seen as slots_seen
-use Rattle.page_cells.specs.Seen as pages_seen
+use Rattle.cow_space.specs.Seen as pages_seen
 use Rattle.lazy_world.specs.Cells.{rows_of}
 use Rattle.lazy_world.specs.Kept.{IsNumbered, target_of}
-use Rattle.lazy_world.specs.Seen.{count, free_nodes, rows, used_frames, pool}
+use Rattle.lazy_world.specs.Seen.{count, free_nodes, rows, used_frames, pool, frame_count}
 use Rattle.lazy_world.proofs.PlaceLemmas.{slot-put, numbered-put, numbered-set}
 use Rattle.lazy_world.proofs.places.Places.put_slot.Goals as goal
 
@@ -38,3 +38,7 @@ put-requires-clause-named c empty = c.target_of-target.ensures.target ∙ ap tar
 pub returns-clause-store : goal.returns-clause-store
 unfolding free_nodes used_frames pool
 returns-clause-store c = record { nodes = refl; used = refl; pool = refl }
+
+pub returns-clause-frames : goal.returns-clause-frames
+unfolding frame_count
+returns-clause-frames c = refl

@@ -1,5 +1,5 @@
 use Rattle.std.proofs.Common.{refl, arith, length-set, ◌∙◌}
-use Rattle.lazy_world.specs.Seen.{count, free_nodes, rows, used_frames, pool}
+use Rattle.lazy_world.specs.Seen.{count, free_nodes, rows, used_frames, pool, frame_count}
 use Rattle.lazy_world.proofs.PlaceLemmas.{uid-put}
 use Rattle.lazy_world.proofs.places.Places.put_uid.Goals as goal
 
@@ -23,3 +23,7 @@ returns-clause-rows c = uid-put _ _ _ c.args.i c.args.cell (omega (arith, c.args
 pub returns-clause-store : goal.returns-clause-store
 unfolding free_nodes used_frames pool
 returns-clause-store c = record { nodes = refl; used = refl; pool = refl }
+
+pub returns-clause-frames : goal.returns-clause-frames
+unfolding frame_count
+returns-clause-frames c = refl

@@ -4,10 +4,10 @@ use Rattle.lwc_base.specs.declared.limits.TheConstants.{MOST_PAGES, MOST_RANGES}
 use Rattle.range_map.specs.declared.segment.SegmentKind.{SegmentKind}
 use Rattle.range_map.specs.Kinds.{ranges}
 use Rattle.fd_table.specs.Seen as slots_seen
-use Rattle.page_cells.specs.Cells.{kinds_of}
-use Rattle.page_cells.specs.Changes.{IsStretch, changed_place}
-use Rattle.page_cells.specs.Seen as pages_seen
-use Rattle.page_cells.specs.declared.stretches.Source.{Source}
+use Rattle.cow_space.specs.Cells.{kinds_of}
+use Rattle.cow_space.specs.Changes.{IsStretch, changed_place}
+use Rattle.cow_space.specs.Seen as pages_seen
+use Rattle.cow_space.specs.declared.stretches.Origin.{Origin}
 use Rattle.lazy_world.specs.Cells.{rows_of}
 use Rattle.lazy_world.specs.Seen.{count, frame_count, rows}
 use Rattle.lazy_world.proofs.MapLemmas.{is_stretch, kinds-row, row-set}
@@ -19,15 +19,15 @@ change-requires-clause-place g c = c.requires.place
 
 pub change-requires-clause-stretches : goal.change-requires-clause-stretches
 change-requires-clause-stretches g c =
-    subst (λ (src : Source). All (IsStretch (length (pages_seen.cells c.args.self.now.pages)) c.args.i) (record { range = c.args.range; source = src } ∷ [])) (sym c.source_of-source.ensures)
+    subst (λ (src : Origin). All (IsStretch (length (pages_seen.cells c.args.self.now.pages)) c.args.i) (record { range = c.args.range; origin = src } ∷ [])) (sym c.origin_of-origin.ensures)
     (is_stretch (length (pages_seen.cells c.args.self.now.pages)) c.args.i c.args.range.from c.args.range.to c.args.present c.requires.order c.requires.inside)
 
 pub change-requires-clause-ranges : goal.change-requires-clause-ranges
 unfolding rows
 change-requires-clause-ranges g c =
     let w = c.args.self.now in
-    subst (λ (src : Source). ranges MOST_PAGES (kinds_of (changed_place (pages_seen.cells w.pages) c.args.i (record { range = c.args.range; source = src } ∷ []))) ≤ MOST_RANGES)
-    (sym c.source_of-source.ensures)
+    subst (λ (src : Origin). ranges MOST_PAGES (kinds_of (changed_place (pages_seen.cells w.pages) c.args.i (record { range = c.args.range; origin = src } ∷ []))) ≤ MOST_RANGES)
+    (sym c.origin_of-origin.ensures)
     (subst (λ (kinds : ℕ → Option SegmentKind). ranges MOST_PAGES kinds ≤ MOST_RANGES)
     (sym (kinds-row (pages_seen.cells w.pages) (slots_seen.slots w.slots) w.uids.items c.args.i c.args.range.from c.args.range.to c.args.present)) c.requires.few)
 
@@ -43,7 +43,7 @@ returns-clause-rows g c =
     let w = c.args.self.now in
     ap (λ cells. rows_of cells (slots_seen.slots w.slots) w.uids.items)
     (c.change.ensures.cells
-    ∙ ap (λ (src : Source). set (pages_seen.cells w.pages) c.args.i (changed_place (pages_seen.cells w.pages) c.args.i (record { range = c.args.range; source = src } ∷ []))) c.source_of-source.ensures)
+    ∙ ap (λ (src : Origin). set (pages_seen.cells w.pages) c.args.i (changed_place (pages_seen.cells w.pages) c.args.i (record { range = c.args.range; origin = src } ∷ []))) c.origin_of-origin.ensures)
     ∙ row-set (pages_seen.cells w.pages) (slots_seen.slots w.slots) w.uids.items c.args.i c.args.range.from c.args.range.to c.args.present c.requires.place
 
 pub returns-clause-count : goal.returns-clause-count

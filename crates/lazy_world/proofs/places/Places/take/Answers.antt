@@ -1,20 +1,20 @@
 use Rattle.std.proofs.Common.{arith, subst, sym, ◌∙◌}
-use Rattle.lazy_world.specs.Plans.{CanGet}
+use Rattle.lazy_world.specs.Transfers.{CanGet}
 use Rattle.lazy_world.specs.Seen.{count, rows}
-use Rattle.lazy_world.specs.Sources.{slot_source}
+use Rattle.lazy_world.specs.Origins.{slot_origin}
 use Rattle.lazy_world.proofs.TakenLemmas.{all-taken}
 use Rattle.lazy_world.proofs.places.Places.take.Goals as goal
 
 pub take_slots-requires-clause-given : goal.take_slots-requires-clause-given
-take_slots-requires-clause-given g c n low = subst (λ count. CanGet count c.args.i (slot_source c.args.sources.now.slots n)) (sym c.take_pages.ensures.count) (c.requires.given.slots n low)
+take_slots-requires-clause-given g c n low = subst (λ count. CanGet count c.args.i (slot_origin c.args.origins.now.slots n)) (sym c.take_pages.ensures.count) (c.requires.given.slots n low)
 
 pub take_uid-requires-clause-given : goal.take_uid-requires-clause-given
-take_uid-requires-clause-given g c = subst (λ count. CanGet count c.args.i c.args.sources.now.uid) (sym (c.take_slots.ensures.count ∙ c.take_pages.ensures.count)) c.requires.given.uid
+take_uid-requires-clause-given g c = subst (λ count. CanGet count c.args.i c.args.origins.now.uid) (sym (c.take_slots.ensures.count ∙ c.take_pages.ensures.count)) c.requires.given.uid
 
 pub returns-clause-rows : goal.returns-clause-rows
 returns-clause-rows g c =
     let old = rows c.args.self.now in
-    all-taken (count c.args.self.now) old c.args.i c.args.sources.now c.requires.given (omega arith) (rows c.take_pages.new.self) (rows c.take_slots.new.self) (rows c.take_uid.new.self)
+    all-taken (count c.args.self.now) old c.args.i c.args.origins.now c.requires.given (omega arith) (rows c.take_pages.new.self) (rows c.take_slots.new.self) (rows c.take_uid.new.self)
     c.take_pages.ensures.rows c.take_slots.ensures.rows c.take_uid.ensures.rows
 
 pub returns-clause-nodes : goal.returns-clause-nodes

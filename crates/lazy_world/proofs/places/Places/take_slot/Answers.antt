@@ -3,7 +3,7 @@ use Rattle.lwc_base.specs.declared.cell.Cell.{Cell}
 use Rattle.lwc_base.specs.declared.key.Key.TheVariants.{Slot}
 use Rattle.lwc_base.specs.Keys.{with_key}
 use Rattle.lazy_world.specs.Cells.{put_row}
-use Rattle.lazy_world.specs.Plans.{CanGet, given_or}
+use Rattle.lazy_world.specs.Transfers.{CanGet, given_or}
 use Rattle.lazy_world.specs.Seen.{count, rows}
 use Rattle.lazy_world.proofs.TakeLemmas.{kept-key}
 use Rattle.lazy_world.proofs.places.Places.take_slot.Goals as goal

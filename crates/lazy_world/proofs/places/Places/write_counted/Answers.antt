@@ -1,6 +1,6 @@
 use Rattle.std.proofs.Common.{◌∙◌, ap}
 use Rattle.fd_table.specs.Seen as slots_seen
-use Rattle.page_cells.specs.Seen as pages_seen
+use Rattle.cow_space.specs.Seen as pages_seen
 use Rattle.lazy_world.specs.Cells.{rows_of}
 use Rattle.lazy_world.specs.Seen.{count, pages, rows}
 use Rattle.lazy_world.proofs.PlaceLemmas.{page-put}

@@ -33,7 +33,7 @@ returns-then-not-is_filled-clause-link c =
     sym
     (ap (link_from w c.args.slot) at
     ∙ ap (place_in w.contexts.map)
-    (sym (slot_of w c.in_ok-at.field-0 c.args.place c.args.slot c.are_placed.ensures.placed at)
+    (sym (slot_of w c.in_ok-at.field-0 c.args.place c.args.slot c.args.self.now.placed at)
     ∙ ap (value_of (seen w) (Slot c.args.slot))
     (no_slot (rows w.places c.args.place (Slot c.args.slot)) c.args.slot (ap not (sym c.is_filled.ensures ∙ c.if-not-is_filled.true)))))
 
@@ -43,5 +43,5 @@ returns-clause-link c =
     let w = c.args.self.now in
     let at : get_or w.contexts.places c.args.place None ≡ Some c.in_ok-at.field-0 = sym c.at.ensures ∙ c.in_ok-at.was in
     c.place_of.ensures.place
-    ∙ ap (place_by w.contexts.map) (c.linked.ensures ∙ ap context_of (slot_of w c.in_ok-at.field-0 c.args.place c.args.slot c.are_placed.ensures.placed at))
+    ∙ ap (place_by w.contexts.map) (c.linked.ensures ∙ ap context_of (slot_of w c.in_ok-at.field-0 c.args.place c.args.slot c.args.self.now.placed at))
     ∙ ap (link_from w c.args.slot) (sym at)

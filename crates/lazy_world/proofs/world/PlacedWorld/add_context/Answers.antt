@@ -1,29 +1,80 @@
-use Rattle.std.proofs.Common.{◌≡◌, ◌<◌, ◌+◌, ◌∙◌, ap, arith, length, subst, sym, None, get_or, refl, set, ℕ}
+use Rattle.std.proofs.Common.{◌≡◌, ◌<◌, ◌+◌, ◌∙◌, ap, arith, length, subst, sym, None, Some, get_or, replicate, set, ℕ}
 use Rattle.std.specs.FinMap as fm
-use Rattle.std.proofs.lemmas.List.{get_or_read}
+use Rattle.lwc_base.specs.declared.cell.Cell.{Cell}
+use Rattle.lwc_base.specs.declared.cell.Cell.TheVariants.{Own}
+use Rattle.lwc_base.specs.declared.key.Key.TheVariants.{Cred}
+use Rattle.lwc_base.specs.declared.regs.Regs.{Regs}
 use Rattle.lwc_base.specs.declared.name.Name.{Name}
-use Rattle.lwc_base.specs.World.{next_context}
+use Rattle.lwc_base.specs.Keys.{with_key}
+use Rattle.lwc_base.specs.World.{add_context, new_context, next_context}
+use Rattle.ctx_table.specs.Contexts.{first_free}
+use Rattle.ctx_table.specs.NameTables.{NameTable}
 use Rattle.lazy_world.specs.declared.counts.Counts.{Counts}
+use Rattle.lazy_world.specs.declared.places.Places.{Places}
+use Rattle.lazy_world.specs.declared.registers.Registers.{Registers}
 use Rattle.lazy_world.specs.declared.world.PlacedWorld.{PlacedWorld}
+use Rattle.lazy_world.specs.Cells.{put_row}
+use Rattle.lazy_world.specs.Seen.{rows}
 use Rattle.lazy_world.specs.Sound.{IsSound}
 use Rattle.lazy_world.specs.States.{Parts, counters_of, nothing_counted, world_of}
 use Rattle.lazy_world.specs.Worlds.{parts, seen}
-use Rattle.lazy_world.proofs.AddLemmas.{added-context, free_place, sound-context}
+use Rattle.ctx_table.proofs.Taken.{first_free-free}
+use Rattle.lwc_base.proofs.Facts.{stays_fresh}
+use Rattle.lazy_world.proofs.AddLemmas.{added-context, sound-context}
+use Rattle.lazy_world.proofs.CountLemmas.{counts-job, known-job, read-counts}
 use Rattle.lazy_world.proofs.WorldLemmas.{len-contexts, live-there}
 use Rattle.lazy_world.proofs.world.PlacedWorld.add_context.Goals as goal
 
+-- a job that makes its next context
+module _ (w : PlacedWorld) (job : ℕ) (known : job < (seen w).size.jobs) (n : Counts) (read : n ≡ get_or w.counts.items job n) where
+  abbrev name : Name
+  name = record { job = job; k = n.contexts }
+
+  name-is : name ≡ next_context (seen w) job
+  unfolding seen parts world_of
+  name-is = ap (λ (m : Counts). record { job = job; k = m.contexts }) (read-counts w job known n read)
+
+  -- which gets the first free place
+  module _ (p : ℕ) (within : p < length w.contexts.places) (first : p ≡ first_free w.contexts.places) (table : NameTable) (map : table.map ≡ fm.insert w.contexts.map name p) (places : table.places ≡ set w.contexts.places p (Some name))
+      (uid : ℕ) (entry : Regs) (q : Places) (rows_are : rows q ≡ put_row (rows w.places) (p) (with_key Cell Cred (Own uid) (rows w.places p))) (registers : Registers) (registers_are : registers ≡ record { entry = entry; saved = replicate 16 None }) where
+    abbrev more : Counts
+    more = record { contexts = n.contexts + 1; groups = n.groups; tags = n.tags }
+
+    abbrev later : Parts
+    later = record { size = w.size; rows = rows q; registers = set w.registers.items p registers; contexts = table; groups = w.groups; counts = set w.counts.items job more }
+
+    later-is : later ≡ record {
+      size = w.size;
+      rows = put_row (rows w.places) (p) (with_key Cell Cred (Own uid) (rows w.places p));
+      registers = set w.registers.items p (record { entry = entry; saved = replicate 16 None });
+      contexts = table;
+      groups = w.groups;
+      counts = set w.counts.items job more;
+    }
+    later-is = λ e. record { size = w.size; rows = rows_are e; registers = set w.registers.items p (registers_are e); contexts = table; groups = w.groups; counts = set w.counts.items job more }
+
+    free : get_or w.contexts.places p None ≡ None
+    free = ap (λ i. get_or w.contexts.places i None) first ∙ first_free-free w.contexts.places (subst (λ i. i < length w.contexts.places) first within)
+
+    counted : counters_of more ≡ record (counters_of (get_or w.counts.items job nothing_counted)) { contexts = (counters_of (get_or w.counts.items job nothing_counted)).contexts + 1 }
+    counted = ap (λ (m : Counts). counters_of (record { contexts = m.contexts + 1; groups = m.groups; tags = m.tags })) (read-counts w job known n read)
+
+    sound-later : IsSound later
+    unfolding seen parts
+    sound-later = subst IsSound (sym later-is) (sound-context (parts w) w.sound w.placed job name name-is (known-job w job known) p within free table map places uid entry more counted)
+
+    world-later : world_of later ≡ add_context (seen w) job (new_context uid entry)
+    unfolding seen parts
+    world-later = ap world_of later-is ∙ added-context (parts w) w.sound w.placed job name name-is (known-job w job known) p within free table map places uid entry more counted
+
 pub index-counts-requires : goal.index-counts-requires
-unfolding seen parts world_of
-index-counts-requires c = omega (arith, c.args.self.now.sound.sizes.counts, c.requires.known, c.args.self.now.counts.ok)
+index-counts-requires c = omega (arith, counts-job c.args.self.now c.args.job c.requires.known, c.args.self.now.counts.ok)
 
 pub insert-i-requires-clause-new : goal.insert-i-requires-clause-new
-unfolding seen parts world_of
+unfolding seen parts
 insert-i-requires-clause-new c =
-    let s = parts c.args.self.now in
-    let known : c.args.job < length s.counts = omega (arith, c.args.self.now.sound.sizes.counts, c.requires.known) in
-    let name : record { job = c.args.job; k = c.index-counts.result.now.contexts } ≡ next_context (world_of s) c.args.job =
-    ap (λ (n : Counts). record { job = c.args.job; k = n.contexts }) (get_or_read s.counts c.args.job _ known c.index-counts.ensures nothing_counted) in
-    sym (live-there s _) ∙ ap (fm.contains_key (world_of s).contexts) name ∙ c.facts.ensures.fresh.next_context_is_new (world_of s) c.args.job c.args.self.now.sound.fresh
+    sym (live-there (parts c.args.self.now) _) ∙ ap (fm.contains_key (seen c.args.self.now).contexts) (name-is c.args.self.now c.args.job c.requires.known c.index-counts.result.now c.index-counts.ensures)
+    ∙ stays_fresh.next_context_is_new (seen c.args.self.now) c.args.job c.args.self.now.sound.fresh
 
 pub insert-i-requires-clause-room : goal.insert-i-requires-clause-room
 unfolding seen parts world_of
@@ -33,82 +84,27 @@ insert-i-requires-clause-room c =
 pub overflow_add-counts : goal.overflow_add-counts
 unfolding seen parts world_of
 overflow_add-counts c =
-    let s = parts c.args.self.now in
-    let known : c.args.job < length s.counts = omega (arith, c.args.self.now.sound.sizes.counts, c.requires.known) in
-    let same : c.index-counts.result.now.contexts ≡ (get_or s.counts c.args.job nothing_counted).contexts =
-    ap (λ (n : Counts). n.contexts) (get_or_read s.counts c.args.job _ known c.index-counts.ensures nothing_counted) in
+    let same = ap (λ (n : Counts). n.contexts) (read-counts c.args.self.now c.args.job c.requires.known c.index-counts.result.now c.index-counts.ensures) in
     omega (arith, same, c.requires.few)
 
 pub index_mut-requires-2 : goal.index_mut-requires-2
-unfolding seen parts world_of
-index_mut-requires-2 c = omega (arith, c.args.self.now.sound.sizes.counts, c.requires.known, c.args.self.now.counts.ok)
+index_mut-requires-2 c = omega (arith, counts-job c.args.self.now c.args.job c.requires.known, c.args.self.now.counts.ok)
 
 pub invariant_of-self : goal.invariant_of-self
-unfolding seen parts world_of
-invariant_of-self c =
-    let s = parts c.args.self.now in
-    let n = c.index-counts.result.now in
-    let p = c.insert-i.result in
-    let known : c.args.job < length s.counts = omega (arith, c.args.self.now.sound.sizes.counts, c.requires.known) in
-    let is_n : n ≡ get_or s.counts c.args.job nothing_counted = get_or_read s.counts c.args.job n known c.index-counts.ensures nothing_counted in
-    let name : record { job = c.args.job; k = n.contexts } ≡ next_context (world_of s) c.args.job = ap (λ (m : Counts). record { job = c.args.job; k = m.contexts }) is_n in
-    record {
-      count = c.put.ensures.count ∙ c.args.self.now.count;
-      frames = c.put.ensures.frames ∙ c.args.self.now.frames;
-      sound = subst IsSound
-          (sym (λ e. record {
-            size = s.size;
-            rows = c.put.ensures.rows e;
-            registers = set s.registers p (c.new.ensures e);
-            contexts = c.insert-i.new.self;
-            groups = s.groups;
-            counts = set s.counts c.args.job (record { contexts = n.contexts + 1; groups = n.groups; tags = n.tags });
-          }))
-          (sound-context s c.args.self.now.sound c.facts.ensures c.are_placed.ensures.placed c.args.job (record { job = c.args.job; k = n.contexts }) name c.requires.known
-          p c.insert-i.ensures.within
-          (ap (λ q. get_or s.contexts.places q None) c.insert-i.ensures.place
-          ∙ free_place s.contexts.places (subst (λ q. q < length s.contexts.places) c.insert-i.ensures.place c.insert-i.ensures.within))
-          c.insert-i.new.self c.insert-i.ensures.map c.insert-i.ensures.places c.args.uid c.args.entry.now (record { contexts = n.contexts + 1; groups = n.groups; tags = n.tags })
-          (ap (λ (m : Counts). counters_of (record { contexts = m.contexts + 1; groups = m.groups; tags = m.tags })) is_n));
-    }
+invariant_of-self c = record {
+  placed = c.insert-i.ensures.placed;
+  placed_groups = c.args.self.now.placed_groups;
+  count = c.put.ensures.count ∙ c.args.self.now.count;
+  frames = c.put.ensures.frames ∙ c.args.self.now.frames;
+  sound = sound-later c.args.self.now c.args.job c.requires.known c.index-counts.result.now c.index-counts.ensures
+      c.insert-i.result c.insert-i.ensures.within c.insert-i.ensures.place c.insert-i.new.self c.insert-i.ensures.map c.insert-i.ensures.places c.args.uid c.args.entry.now c.put.new.self c.put.ensures.rows c.new.result c.new.ensures;
+}
 
 pub returns-clause-name : goal.returns-clause-name
-unfolding seen parts world_of
-returns-clause-name c =
-    let s = parts c.args.self.now in
-    let known : c.args.job < length s.counts = omega (arith, c.args.self.now.sound.sizes.counts, c.requires.known) in
-    ap (λ (m : Counts). record { job = c.args.job; k = m.contexts }) (get_or_read s.counts c.args.job _ known c.index-counts.ensures nothing_counted)
-
-known_job : (w : PlacedWorld) (job : ℕ) → job < (seen w).size.jobs → job < w.size.jobs
-unfolding seen parts world_of
-known_job w job known = known
-
-named_next : (s : Parts) (job : ℕ) → ◌≡◌ {A = Name} (record { job = job; k = (get_or s.counts job nothing_counted).contexts }) (next_context (world_of s) job)
-unfolding world_of
-named_next s job = refl
+returns-clause-name c = name-is c.args.self.now c.args.job c.requires.known c.index-counts.result.now c.index-counts.ensures
 
 pub returns-clause-world : goal.returns-clause-world
 unfolding seen parts
 returns-clause-world c =
-    let s = parts c.args.self.now in
-    let n = c.index-counts.result.now in
-    let p = c.insert-i.result in
-    let job_known : c.args.job < s.size.jobs = known_job c.args.self.now c.args.job c.requires.known in
-    let known : c.args.job < length s.counts = omega (arith, c.args.self.now.sound.sizes.counts, job_known) in
-    let is_n : n ≡ get_or s.counts c.args.job nothing_counted = get_or_read s.counts c.args.job n known c.index-counts.ensures nothing_counted in
-    ap world_of
-    (λ e. record {
-      size = s.size;
-      rows = c.put.ensures.rows e;
-      registers = set s.registers p (c.new.ensures e);
-      contexts = c.insert-i.new.self;
-      groups = s.groups;
-      counts = set s.counts c.args.job (record { contexts = n.contexts + 1; groups = n.groups; tags = n.tags });
-    })
-    ∙ added-context s c.args.self.now.sound c.facts.ensures c.are_placed.ensures.placed c.args.job (record { job = c.args.job; k = n.contexts })
-    (ap (λ (m : Counts). record { job = c.args.job; k = m.contexts }) is_n ∙ named_next s c.args.job) job_known
-    p c.insert-i.ensures.within
-    (ap (λ q. get_or s.contexts.places q None) c.insert-i.ensures.place
-    ∙ free_place s.contexts.places (subst (λ q. q < length s.contexts.places) c.insert-i.ensures.place c.insert-i.ensures.within))
-    c.insert-i.new.self c.insert-i.ensures.map c.insert-i.ensures.places c.args.uid c.args.entry.now (record { contexts = n.contexts + 1; groups = n.groups; tags = n.tags })
-    (ap (λ (m : Counts). counters_of (record { contexts = m.contexts + 1; groups = m.groups; tags = m.tags })) is_n)
+    world-later c.args.self.now c.args.job c.requires.known c.index-counts.result.now c.index-counts.ensures
+    c.insert-i.result c.insert-i.ensures.within c.insert-i.ensures.place c.insert-i.new.self c.insert-i.ensures.map c.insert-i.ensures.places c.args.uid c.args.entry.now c.put.new.self c.put.ensures.rows c.new.result c.new.ensures

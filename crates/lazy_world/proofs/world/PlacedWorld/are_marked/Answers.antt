@@ -7,4 +7,4 @@ pub returns : goal.returns
 returns c =
     let m = c.args.self.now.groups.map in
     let all : fm.len m ≡ c.loop-k.k = sym c.len-k-end.ensures ∙ omega arith in
-    λ yes. each_name c.facts.ensures.orders m c.args.marks.now c.loop-k.k c.loop-k.invariant all
+    λ yes. each_name m c.args.marks.now c.loop-k.k c.loop-k.invariant all

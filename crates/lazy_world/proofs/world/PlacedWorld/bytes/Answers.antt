@@ -5,8 +5,9 @@ use Rattle.lwc_base.specs.Memory.{load}
 use Rattle.lazy_world.specs.declared.world.PlacedWorld.{PlacedWorld}
 use Rattle.lazy_world.specs.States.{world_of}
 use Rattle.lazy_world.specs.Worlds.{parts, seen}
-use Rattle.lazy_world.proofs.MemoryLemmas.{byte-in, load-absent, load-present, present-touched}
+use Rattle.lazy_world.proofs.MemoryLemmas.{byte-in, present-touched}
 use Rattle.lazy_world.proofs.world.PlacedWorld.bytes.Goals as goal
+use Rattle.lwc_base.proofs.Small.{load-absent, load-present}
 
 few : (w : PlacedWorld) → (seen w).size.pages ≤ MOST_PAGES
 unfolding seen parts world_of

@@ -2,11 +2,11 @@ use Rattle.std.proofs.Common.{◌∙◌, None, ap, sym}
 use Rattle.lwc_base.specs.declared.cell.Cell.TheVariants.{Own}
 use Rattle.lwc_base.specs.declared.key.Key.TheVariants.{Page}
 use Rattle.lwc_base.specs.Modes.{mode, mode_or_copy}
-use Rattle.lazy_world.specs.Plans.{given_or}
+use Rattle.lazy_world.specs.Transfers.{given_or}
 use Rattle.lazy_world.specs.Seen.{rows}
 use Rattle.lazy_world.specs.States.{world_of}
 use Rattle.lazy_world.specs.Worlds.{parts, seen}
-use Rattle.lazy_world.proofs.CloneSources.{clone_gives}
+use Rattle.lazy_world.proofs.CloneOrigins.{clone_gives}
 use Rattle.lazy_world.proofs.CopyLemmas.{own-pages, page-same}
 use Rattle.lazy_world.proofs.world.PlacedWorld.clone_pages.Goals as goal
 
@@ -22,5 +22,5 @@ pub returns-clause-gives : goal.returns-clause-gives
 unfolding seen parts world_of
 returns-clause-gives c made old q =
     let w = c.args.self.now in
-    ap (given_or (rows w.places) (Page q) (Own None)) (c.clone_stretches.ensures.sources q)
+    ap (given_or (rows w.places) (Page q) (Own None)) (c.clone_stretches.ensures.origins q)
     ∙ clone_gives (parts w) w.sound.own made (mode c.args.spec.now (Page q)) c.args.from q (old (Page q)) (c.requires.settled q)

@@ -5,31 +5,31 @@ use Rattle.lwc_base.specs.World.{Context, context}
 use Rattle.range_map.specs.Kinds.{ranges}
 use Rattle.lazy_world.specs.Cells.{HasNoPages, HasOwnPages, Row, is_own, kinds_of, put_row}
 use Rattle.lazy_world.specs.Clones.{CopiesPages}
-use Rattle.lazy_world.specs.declared.pieces.PageSources.TheVariants.{AllOf}
-use Rattle.lazy_world.specs.Plans.{moves, planned_row}
+use Rattle.lazy_world.specs.declared.pieces.PageOrigins.TheVariants.{AllOf}
+use Rattle.lazy_world.specs.Transfers.{moves, transferred_row}
 use Rattle.lazy_world.specs.Seen.{rows}
 use Rattle.lazy_world.specs.Sound.{HasOldTags, HasOneHome, IsSound}
-use Rattle.lazy_world.specs.Sources.{most_nodes, most_steps}
+use Rattle.lazy_world.specs.Origins.{most_nodes, most_steps}
 use Rattle.lazy_world.specs.States.{context_at, world_of}
 use Rattle.lazy_world.specs.Worlds.{parts, seen}
-use Rattle.lazy_world.specs.declared.plan.Plan.TheVariants.{Clone}
-use Rattle.lazy_world.proofs.FollowLemmas.{followed-from, other-place, ranges-here, row-ranges, row-sound, row-world, sourced-homes, sourced-tags}
-use Rattle.lazy_world.proofs.PastLemmas.{planned-within}
+use Rattle.lazy_world.specs.declared.transfer.Transfer.TheVariants.{Clone}
+use Rattle.lazy_world.proofs.FollowLemmas.{followed-from, other-place, ranges-here, row-ranges, row-sound, row-world, origin-homes, origin-tags}
+use Rattle.lazy_world.proofs.PastLemmas.{transferred-within}
 use Rattle.lazy_world.proofs.world.PlacedWorld.clone_pieces.Goals as goal
 
-pub clone_sources-sources-requires-clause-apart : goal.clone_sources-sources-requires-clause-apart
+pub clone_origins-origins-requires-clause-apart : goal.clone_origins-origins-requires-clause-apart
 unfolding parts
-clone_sources-sources-requires-clause-apart g c =
-    other-place (parts c.args.self.now).contexts c.are_placed.ensures.placed c.args.c c.args.made c.place-from.result c.place-to.result c.place-from.ensures.found c.place-to.ensures.found c.requires.apart
+clone_origins-origins-requires-clause-apart g c =
+    other-place (parts c.args.self.now).contexts c.args.self.now.placed c.args.c c.args.made c.place-from.result c.place-to.result c.place-from.ensures.found c.place-to.ensures.found c.requires.apart
 
-pub clone_sources-sources-requires-clause-settled : goal.clone_sources-sources-requires-clause-settled
+pub clone_origins-origins-requires-clause-settled : goal.clone_origins-origins-requires-clause-settled
 unfolding rows parts
-clone_sources-sources-requires-clause-settled g c k =
+clone_origins-origins-requires-clause-settled g c k =
     sym (ap (λ (x : Context). moves c.args.spec.now k x.cell) c.place-from.ensures.context) ∙ c.requires.settled k
 
-pub clone_sources-sources-requires-clause-empty : goal.clone_sources-sources-requires-clause-empty
+pub clone_origins-origins-requires-clause-empty : goal.clone_origins-origins-requires-clause-empty
 unfolding rows parts
-clone_sources-sources-requires-clause-empty g c p =
+clone_origins-origins-requires-clause-empty g c p =
     sym (ap (λ (x : Context). x.cell (Page p)) c.place-to.ensures.context) ∙ c.requires.empty p
 
 pub take-requires-clause-few : goal.take-requires-clause-few
@@ -37,13 +37,12 @@ unfolding seen parts world_of
 take-requires-clause-few g c =
     let w = c.args.self.now in
     let s = parts w in
-    let row = planned_row (seen w) (Clone c.args.made) c.args.spec.now (rows w.places c.place-from.result) (rows w.places c.place-to.result) in
-    subst (λ (row : Row). ranges MOST_PAGES (kinds_of row) ≤ MOST_RANGES) (sym c.clone_sources-sources.ensures.row)
+    let row = transferred_row (seen w) (Clone c.args.made) c.args.spec.now (rows w.places c.place-from.result) (rows w.places c.place-to.result) in
+    subst (λ (row : Row). ranges MOST_PAGES (kinds_of row) ≤ MOST_RANGES) (sym c.clone_origins-origins.ensures.row)
     (subst (λ n. n ≤ MOST_RANGES)
-    (row-ranges s w.sound c.facts.ensures c.are_placed.ensures.placed c.args.made c.place-to.result c.place-to.ensures.found row _
+    (row-ranges s w.sound c.args.self.now.placed c.args.made c.place-to.result c.place-to.ensures.found row _
     (followed-from (seen w) (Clone c.args.made) c.args.spec.now c.args.c (context_at s c.place-from.result) (context_at s c.place-to.result) c.place-from.ensures.context)
-    c.ranges_are_those_of_the_context.ensures
-    (planned-within (seen w) s.size.pages c.args.spec.now c.requires.within (Clone c.args.made) (rows w.places c.place-from.result) (rows w.places c.place-to.result) (w.sound.past c.place-from.result) (w.sound.past c.place-to.result)))
+    (transferred-within (seen w) s.size.pages c.args.spec.now c.requires.within (Clone c.args.made) (rows w.places c.place-from.result) (rows w.places c.place-to.result) (w.sound.past c.place-from.result) (w.sound.past c.place-to.result)))
     c.requires.few)
 
 pub invariant_of-self : goal.invariant_of-self
@@ -51,17 +50,19 @@ unfolding seen parts world_of
 invariant_of-self g c =
     let w = c.args.self.now in
     let s = parts w in
-    let row = planned_row (seen w) (Clone c.args.made) c.args.spec.now (rows w.places c.place-from.result) (rows w.places c.place-to.result) in
+    let row = transferred_row (seen w) (Clone c.args.made) c.args.spec.now (rows w.places c.place-from.result) (rows w.places c.place-to.result) in
     record {
+      placed = w.placed;
+      placed_groups = w.placed_groups;
       count = c.take.ensures.count ∙ w.count;
       frames = c.take.ensures.frames ∙ w.frames;
-      sound = subst (λ rows. IsSound (record s { rows = rows })) (sym (c.take.ensures.rows ∙ ap (put_row (rows w.places) c.place-to.result) c.clone_sources-sources.ensures.row))
-          (row-sound s w.sound c.facts.ensures c.are_placed.ensures.placed c.args.made c.place-to.result c.place-to.ensures.found row _
+      sound = subst (λ rows. IsSound (record s { rows = rows })) (sym (c.take.ensures.rows ∙ ap (put_row (rows w.places) c.place-to.result) c.clone_origins-origins.ensures.row))
+          (row-sound s w.sound c.args.self.now.placed c.args.made c.place-to.result c.place-to.ensures.found row _
           (followed-from (seen w) (Clone c.args.made) c.args.spec.now c.args.c (context_at s c.place-from.result) (context_at s c.place-to.result) c.place-from.ensures.context)
-          (planned-within (seen w) s.size.pages c.args.spec.now c.requires.within (Clone c.args.made) (rows w.places c.place-from.result) (rows w.places c.place-to.result) (w.sound.past c.place-from.result) (w.sound.past c.place-to.result))
-          (subst (HasOldTags (seen w).next) c.clone_sources-sources.ensures.row (sourced-tags (seen w).next (rows w.places) c.place-to.result c.clone_sources-sources.result w.sound.tags))
+          (transferred-within (seen w) s.size.pages c.args.spec.now c.requires.within (Clone c.args.made) (rows w.places c.place-from.result) (rows w.places c.place-to.result) (w.sound.past c.place-from.result) (w.sound.past c.place-to.result))
+          (subst (HasOldTags (seen w).next) c.clone_origins-origins.ensures.row (origin-tags (seen w).next (rows w.places) c.place-to.result c.clone_origins-origins.result w.sound.tags))
           c.requires.fresh
-          (subst (λ row. HasOneHome (put_row (rows w.places) c.place-to.result row)) c.clone_sources-sources.ensures.row (sourced-homes (rows w.places) c.place-to.result c.clone_sources-sources.result w.sound.homes)));
+          (subst (λ row. HasOneHome (put_row (rows w.places) c.place-to.result row)) c.clone_origins-origins.ensures.row (origin-homes (rows w.places) c.place-to.result c.clone_origins-origins.result w.sound.homes)));
     }
 
 pub returns-clause-world : goal.returns-clause-world
@@ -69,9 +70,9 @@ unfolding seen parts world_of
 returns-clause-world g c =
     let w = c.args.self.now in
     let s = parts w in
-    let row = planned_row (seen w) (Clone c.args.made) c.args.spec.now (rows w.places c.place-from.result) (rows w.places c.place-to.result) in
-    ap (λ rows. world_of (record s { rows = rows })) (c.take.ensures.rows ∙ ap (put_row (rows w.places) c.place-to.result) c.clone_sources-sources.ensures.row)
-    ∙ row-world s w.sound c.facts.ensures c.are_placed.ensures.placed c.args.made c.place-to.result c.place-to.ensures.found row _
+    let row = transferred_row (seen w) (Clone c.args.made) c.args.spec.now (rows w.places c.place-from.result) (rows w.places c.place-to.result) in
+    ap (λ rows. world_of (record s { rows = rows })) (c.take.ensures.rows ∙ ap (put_row (rows w.places) c.place-to.result) c.clone_origins-origins.ensures.row)
+    ∙ row-world s w.sound c.args.self.now.placed c.args.made c.place-to.result c.place-to.ensures.found row _
     (followed-from (seen w) (Clone c.args.made) c.args.spec.now c.args.c (context_at s c.place-from.result) (context_at s c.place-to.result) c.place-from.ensures.context)
 
 pub returns-clause-cost : goal.returns-clause-cost
@@ -79,10 +80,10 @@ unfolding seen parts rows
 returns-clause-cost g c =
     let w = c.args.self.now in
     let s = parts w in
-    let bounded = c.clone_sources-sources.ensures.bounded in
-    let here = ranges-here s w.sound c.args.c c.place-from.result c.place-from.ensures.found c.ranges_are_those_of_the_context.ensures in
+    let bounded = c.clone_origins-origins.ensures.bounded in
+    let here = ranges-here s w.sound c.args.c c.place-from.result c.place-from.ensures.found in
     let empty : HasNoPages (s.rows c.place-to.result) = λ p. sym (ap (λ (x : Context). x.cell (Page p)) c.place-to.ensures.context) ∙ c.requires.empty p in
-    let whole : CopiesPages c.args.spec.now → HasOwnPages (context (seen w) c.args.c).cell → c.clone_sources-sources.result.pages ≡ AllOf c.place-from.result = λ copies own. bounded.whole copies (λ p. sym (ap (λ (x : Context). is_own (x.cell (Page p))) c.place-from.ensures.context) ∙ own p) in
+    let whole : CopiesPages c.args.spec.now → HasOwnPages (context (seen w) c.args.c).cell → c.clone_origins-origins.result.pages ≡ AllOf c.place-from.result = λ copies own. bounded.whole copies (λ p. sym (ap (λ (x : Context). is_own (x.cell (Page p))) c.place-from.ensures.context) ∙ own p) in
     record {
       used = c.take.ensures.used empty;
       pool = c.take.ensures.pool;

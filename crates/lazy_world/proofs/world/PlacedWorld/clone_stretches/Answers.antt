@@ -7,20 +7,20 @@ use Rattle.lwc_base.specs.Modes.{mode}
 use Rattle.range_map.specs.Kinds.{kind_at}
 use Rattle.range_map.specs.declared.segment.Segment.{Segment}
 use Rattle.range_map.specs.declared.segment.SegmentKind.TheVariants.{Own}
-use Rattle.page_cells.specs.declared.stretches.Source.{Source}
-use Rattle.page_cells.specs.declared.stretches.Stretch.{Stretch}
-use Rattle.page_cells.specs.Changes.{IsStretch}
-use Rattle.lazy_world.specs.Clones.{item_source, kind_source}
+use Rattle.cow_space.specs.declared.stretches.Origin.{Origin}
+use Rattle.cow_space.specs.declared.stretches.Stretch.{Stretch}
+use Rattle.cow_space.specs.Changes.{IsStretch}
+use Rattle.lazy_world.specs.Clones.{item_origin, kind_origin}
 use Rattle.lazy_world.specs.Seen.{count}
-use Rattle.lazy_world.specs.Sources.{source_at}
+use Rattle.lazy_world.specs.Origins.{origin_at}
 use Rattle.lazy_world.specs.Worlds.{parts}
-use Rattle.lazy_world.proofs.CloneSources.{or_none, segment_given, segment_pushed, stretch_of}
+use Rattle.lazy_world.proofs.CloneOrigins.{or_none, segment_given, segment_pushed, stretch_of}
 use Rattle.lazy_world.proofs.world.PlacedWorld.clone_stretches.Goals as goal
 
 pub loop-segment-init : goal.loop-segment-init
 unfolding kind_at
 loop-segment-init c = record {
-  sources = λ q. c.item_stretches-stretches.ensures.sources q ∙ sym (or_none (item_source c.args.from (mode c.args.spec.now (Page q))));
+  origins = λ q. c.item_stretches-stretches.ensures.origins q ∙ sym (or_none (item_origin c.args.from (mode c.args.spec.now (Page q))));
   few = omega (arith, c.item_stretches-stretches.ensures.few);
   given = λ to apart low. c.item_stretches-stretches.ensures.given (count c.args.self.now.places) to c.requires.from apart;
 }
@@ -40,23 +40,23 @@ loop-segment-preserved c =
     let inside = c.loop-segment-test.true in
     let segment = get_or segments i (record { from = 0; to = 0; kind = Own }) in
     let is : c.push.new.self.items ≡ stretches ++ stretch_of (parts w) c.args.from segment ∷ [] =
-    c.push.ensures.items ∙ ap (λ (source : Source). stretches ++ record { range = record { from = segment.from; to = segment.to }; source = source } ∷ []) c.kind_source.ensures in
+    c.push.ensures.items ∙ ap (λ (origin : Origin). stretches ++ record { range = record { from = segment.from; to = segment.to }; origin = origin } ∷ []) c.kind_origin.ensures in
     record {
-      sources = λ q. ap (λ (xs : List Stretch). source_at xs q) is
-          ∙ segment_pushed (parts w) c.args.from segments i _ inside q (item_source c.args.from (mode c.args.spec.now (Page q))) stretches (c.loop-segment.invariant.sources q);
+      origins = λ q. ap (λ (xs : List Stretch). origin_at xs q) is
+          ∙ segment_pushed (parts w) c.args.from segments i _ inside q (item_origin c.args.from (mode c.args.spec.now (Page q))) stretches (c.loop-segment.invariant.origins q);
       few = omega (arith, ap length is, length-append stretches (stretch_of (parts w) c.args.from segment ∷ []), c.loop-segment.invariant.few);
       given = λ to apart low. subst (All (IsStretch (count w.places) to)) (sym is)
-          (segment_given (parts w) c.args.from (count w.places) to c.are_placed.ensures.placed w.sound.sizes.groups w.count c.requires.from apart low stretches segment
+          (segment_given (parts w) c.args.from (count w.places) to c.args.self.now.placed_groups w.sound.sizes.groups w.count c.requires.from apart low stretches segment
           (c.segments-segment-items.ensures.each i _ inside) (c.loop-segment.invariant.given to apart low));
     }
 
-pub returns-clause-sources : goal.returns-clause-sources
+pub returns-clause-origins : goal.returns-clause-origins
 unfolding parts
-returns-clause-sources c q =
+returns-clause-origins c q =
     let w = c.args.self.now in
     let all = take_all c.loop-segment.segment-index c.segments-segment-items.result.now c.loop-segment-test.false in
-    c.loop-segment.invariant.sources q
-    ∙ ap (λ o. option_or (item_source c.args.from (mode c.args.spec.now (Page q))) (option_map (kind_source (parts w) c.args.from) o))
+    c.loop-segment.invariant.origins q
+    ∙ ap (λ o. option_or (item_origin c.args.from (mode c.args.spec.now (Page q))) (option_map (kind_origin (parts w) c.args.from) o))
     (ap (λ (xs : List Segment). kind_at xs q) all ∙ (λ e. c.segments-segment-items.ensures.kinds e q))
 
 pub returns-clause-few : goal.returns-clause-few

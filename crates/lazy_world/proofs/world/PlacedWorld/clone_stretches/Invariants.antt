@@ -4,17 +4,17 @@ use Rattle.std.specs.Option.{option_map, option_or}
 use Rattle.lwc_base.specs.declared.key.Key.TheVariants.{Page}
 use Rattle.lwc_base.specs.Modes.{mode}
 use Rattle.range_map.specs.Kinds.{kind_at}
-use Rattle.page_cells.specs.Changes.{IsStretch}
-use Rattle.lazy_world.specs.Clones.{item_source, kind_source}
+use Rattle.cow_space.specs.Changes.{IsStretch}
+use Rattle.lazy_world.specs.Clones.{item_origin, kind_origin}
 use Rattle.lazy_world.specs.Seen.{count}
-use Rattle.lazy_world.specs.Sources.{source_at}
+use Rattle.lazy_world.specs.Origins.{origin_at}
 use Rattle.lazy_world.specs.Worlds.{parts}
 use Rattle.lazy_world.proofs.world.PlacedWorld.clone_stretches.Given as goal
 
 abbrev pub invariant-loop-segment : goal.invariant-loop-segment
 invariant-loop-segment l = record {
-  sources : (q : ℕ) → source_at l.stretches.items q
-      ≡ option_or (item_source l.from (mode l.spec (Page q))) (option_map (kind_source (parts l.self) l.from) (kind_at (take l.segment-index l.segment-items) q));
+  origins : (q : ℕ) → origin_at l.stretches.items q
+      ≡ option_or (item_origin l.from (mode l.spec (Page q))) (option_map (kind_origin (parts l.self) l.from) (kind_at (take l.segment-index l.segment-items) q));
   few : length l.stretches.items ≤ length l.spec + l.segment-index;
   given : (to : ℕ) → l.from ≢ to → to < (parts l.self).size.contexts → All (IsStretch (count l.self.places) to) l.stretches.items;
 }

@@ -2,8 +2,8 @@ use Rattle.std.proofs.Common.{arith}
 use Rattle.lazy_world.specs.Memory.{byte_in}
 use Rattle.lazy_world.specs.Seen.{rows}
 use Rattle.lazy_world.specs.Worlds.{seen}
-use Rattle.lazy_world.proofs.MemoryLemmas.{filled_from}
 use Rattle.lazy_world.proofs.world.PlacedWorld.copy_to.Goals as goal
+use Rattle.lwc_base.proofs.Small.{filled_from}
 
 pub returns : goal.returns
 returns c =

@@ -15,10 +15,12 @@ unfolding parts
 invariant_of-self c =
     let s = parts c.args.self.now in
     record {
+      placed = c.remove-i.ensures.placed;
+      placed_groups = c.args.self.now.placed_groups;
       count = c.clear.ensures.count ∙ c.args.self.now.count;
       frames = c.clear.ensures.frames ∙ c.args.self.now.frames;
       sound = subst (λ rows. IsSound (record s { rows = rows; contexts = c.remove-i.new.self })) (sym c.clear.ensures.rows)
-          (sound-context s c.args.self.now.sound c.facts.ensures c.are_placed.ensures.placed c.args.c c.remove-i.result c.remove-i.ensures.place
+          (sound-context s c.args.self.now.sound c.args.self.now.placed c.args.c c.remove-i.result c.remove-i.ensures.place
           c.remove-i.new.self c.remove-i.ensures.map c.remove-i.ensures.places);
     }
 
@@ -27,5 +29,5 @@ unfolding seen parts
 returns-clause-world c =
     let s = parts c.args.self.now in
     ap (λ rows. world_of (record s { rows = rows; contexts = c.remove-i.new.self })) c.clear.ensures.rows
-    ∙ dropped-context s c.args.self.now.sound c.facts.ensures c.are_placed.ensures.placed c.args.c c.remove-i.result c.remove-i.ensures.place
+    ∙ dropped-context s c.args.self.now.sound c.args.self.now.placed c.args.c c.remove-i.result c.remove-i.ensures.place
     c.remove-i.new.self c.remove-i.ensures.map c.remove-i.ensures.places

@@ -17,8 +17,8 @@ pub mark-requires : goal.mark-requires
 mark-requires c =
     let w = c.args.self.now in
     subst (λ (places : List ℕ). All (λ place. place < MOST_CONTEXTS) places) (sym (c.as_slice.ensures.value ∙ c.places_of-places.ensures))
-    (places_within c.facts.ensures.orders w c.are_placed.ensures.placed c.args.roots.now
-    (λ d i at. let within = c.are_placed.ensures.placed.within d i at in omega (arith, within, w.sound.sizes.contexts, w.sound.sizes.size.contexts.1)) c.args.roots.now)
+    (places_within w c.args.self.now.placed c.args.roots.now
+    (λ d i at. let within = c.args.self.now.placed.within d i at in omega (arith, within, w.sound.sizes.contexts, w.sound.sizes.size.contexts.1)) c.args.roots.now)
 
 pub keep_contexts-requires : goal.keep_contexts-requires
 unfolding parts
@@ -30,17 +30,16 @@ returns c =
     let w = c.args.self.now in
     let roots = c.args.roots.now in
     let marks = c.as_slice-2.result.now in
-    let placed = c.are_placed.ensures.placed in
+    let placed = c.args.self.now.placed in
     c.keep_contexts.ensures
     ∙ (λ e. record (seen w) {
-      contexts = left_by-test c.facts.ensures.orders w.contexts.map (keeps marks w.size.contexts) (is_reached (seen w) roots) (seen w).contexts
+      contexts = left_by-test w.contexts.map (keeps marks w.size.contexts) (is_reached (seen w) roots) (seen w).contexts
           (λ d x is.
           let place = place_of_found (fm.get w.contexts.map d) (context_at (parts w)) x (sym (get-context (parts w) d) ∙ is) in
           let within = placed.within d place.0 place.1 in
           ap (keeps marks w.size.contexts) place.1
           ∙ keeps-all marks w.size.contexts place.0 (omega (arith, within, w.sound.sizes.contexts))
           ∙ ap (λ m. is_marked m place.0) c.as_slice-2.ensures.same
-          ∙ marked-reached c.facts.ensures.orders w placed roots c.reached_contexts_are_those_with_a_chain.ensures.reached c.reached_contexts_are_those_with_a_chain.ensures.chain
-          _ _ (c.as_slice.ensures.value ∙ c.places_of-places.ensures) c.mark.ensures d place.0 place.1
+          ∙ marked-reached w placed roots _ _ (c.as_slice.ensures.value ∙ c.places_of-places.ensures) c.mark.ensures d place.0 place.1
           (omega (arith, within, w.sound.sizes.contexts, w.sound.sizes.size.contexts.1))) e;
     })

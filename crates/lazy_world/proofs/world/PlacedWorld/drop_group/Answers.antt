@@ -15,10 +15,12 @@ unfolding parts
 invariant_of-self c =
     let s = parts c.args.self.now in
     record {
+      placed = c.args.self.now.placed;
+      placed_groups = c.remove-j.ensures.placed;
       count = c.clear.ensures.count ∙ c.args.self.now.count;
       frames = c.clear.ensures.frames ∙ c.args.self.now.frames;
       sound = subst (λ rows. IsSound (record s { rows = rows; groups = c.remove-j.new.self })) (sym c.clear.ensures.rows)
-          (sound-group s c.args.self.now.sound c.facts.ensures c.are_placed.ensures.placed c.are_placed-2.ensures.placed c.args.g c.remove-j.result c.remove-j.ensures.place
+          (sound-group s c.args.self.now.sound c.args.self.now.placed c.args.self.now.placed_groups c.args.g c.remove-j.result c.remove-j.ensures.place
           c.remove-j.new.self c.remove-j.ensures.map c.remove-j.ensures.places);
     }
 
@@ -27,5 +29,5 @@ unfolding seen parts
 returns-clause-world c =
     let s = parts c.args.self.now in
     ap (λ rows. world_of (record s { rows = rows; groups = c.remove-j.new.self })) c.clear.ensures.rows
-    ∙ dropped-group s c.args.self.now.sound c.facts.ensures c.are_placed.ensures.placed c.are_placed-2.ensures.placed c.args.g c.remove-j.result c.remove-j.ensures.place
+    ∙ dropped-group s c.args.self.now.sound c.args.self.now.placed c.args.self.now.placed_groups c.args.g c.remove-j.result c.remove-j.ensures.place
     c.remove-j.new.self c.remove-j.ensures.map c.remove-j.ensures.places

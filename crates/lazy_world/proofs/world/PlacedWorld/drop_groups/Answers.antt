@@ -20,7 +20,7 @@ unfolding seen parts
 returns-then-len-eq0 c =
     let w = c.args.self.now in
     λ e. record (seen w) {
-      groups = nothing_left c.facts.ensures.orders (seen w).groups (λ g. list_any (names_group (seen w).size.pages g) (fm.values (seen w).contexts))
+      groups = nothing_left (seen w).groups (λ g. list_any (names_group (seen w).size.pages g) (fm.values (seen w).contexts))
           (len-groups (parts w) ∙ sym c.len.ensures ∙ c.if-len-eq0.true) e;
     }
 
@@ -29,10 +29,10 @@ unfolding seen parts world_of
 returns c =
     let w = c.args.self.now in
     let marks = c.named_groups-marks.result in
-    let placed = c.are_placed-2.ensures.placed in
+    let placed = c.args.self.now.placed_groups in
     c.keep_groups.ensures
     ∙ (λ e. record (seen w) {
-      groups = left_by-test c.facts.ensures.orders w.groups.map (keeps marks w.size.groups)
+      groups = left_by-test w.groups.map (keeps marks w.size.groups)
           (λ g. list_any (names_group (seen w).size.pages g) (fm.values (seen w).contexts)) (seen w).groups
           (λ g x is.
           let place = place_of_found (fm.get w.groups.map g) (group_at (parts w)) x (sym (get-group (parts w) g) ∙ is) in
@@ -40,5 +40,5 @@ returns c =
           ap (keeps marks w.size.groups) place.1
           ∙ keeps-all marks w.size.groups place.0 (omega (arith, within, w.sound.sizes.groups))
           ∙ c.named_groups-marks.ensures.at place.0 g ((placed.at g place.0).0 place.1)
-          ∙ named-values (parts w) w.sound c.facts.ensures.orders c.are_placed.ensures.placed g) e;
+          ∙ named-values (parts w) w.sound c.args.self.now.placed g) e;
     })

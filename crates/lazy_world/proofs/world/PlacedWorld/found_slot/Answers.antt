@@ -1,6 +1,6 @@
 use Rattle.std.proofs.Common.{ap, ◌∙◌, Some}
 use Rattle.lwc_base.specs.declared.key.Key.TheVariants.{Slot}
-use Rattle.lazy_world.specs.Plans.{owner}
+use Rattle.lazy_world.specs.Transfers.{owner}
 use Rattle.lazy_world.specs.Seen.{rows}
 use Rattle.lazy_world.proofs.world.PlacedWorld.found_slot.Goals as goal
 

@@ -1,5 +1,5 @@
 use Rattle.std.proofs.Common.{◌∙◌}
-use Rattle.lazy_world.specs.Plans.{planned_row}
+use Rattle.lazy_world.specs.Transfers.{transferred_row}
 use Rattle.lazy_world.specs.Seen.{rows}
 use Rattle.lazy_world.specs.Worlds.{parts, seen}
 use Rattle.lazy_world.proofs.CopyLemmas.{all-own, cloned-same, marked-same, no-items}
@@ -9,7 +9,7 @@ pub returns-in-Mark : goal.returns-in-Mark
 returns-in-Mark c _ old =
     let w = c.args.self.now in
     let none = no-items c.items.result.now c.args.spec.now c.is_empty.result c.items.ensures.items c.is_empty.ensures c.if-is_empty.true in
-    (λ e. planned_row (seen w) (c.in-Mark.is e) (none e) (rows w.places c.args.from) old)
+    (λ e. transferred_row (seen w) (c.in-Mark.is e) (none e) (rows w.places c.args.from) old)
     ∙ marked-same (seen w) c.in-Mark.field-0 (rows w.places c.args.from) old
 
 pub returns-in-Clone : goal.returns-in-Clone
@@ -18,6 +18,6 @@ returns-in-Clone c here old =
     let w = c.args.self.now in
     let none = no-items c.items.result.now c.args.spec.now c.is_empty.result c.items.ensures.items c.is_empty.ensures c.if-is_empty.true in
     let own = c.is_all_own.ensures in
-    (λ e. planned_row (seen w) (c.in-Clone.is e) (none e) (rows w.places c.args.from) old)
+    (λ e. transferred_row (seen w) (c.in-Clone.is e) (none e) (rows w.places c.args.from) old)
     ∙ cloned-same (seen w) c.in-Clone.field-0 (rows w.places c.args.from) old
     (all-own w.size.pages (rows w.places c.args.from) w.sound.sizes.size.pages.1 (w.sound.past c.args.from) (own.slots here) (own.uid here) (own.pages here))

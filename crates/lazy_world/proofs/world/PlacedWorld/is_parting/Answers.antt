@@ -10,12 +10,12 @@ unfolding seen parts
 returns-in-Some c =
     let w = c.args.self.now in
     c.is_parting.ensures
-    ∙ parting-held c.facts.ensures c.places_have_the_tags_of_their_world.ensures (parts w) w.sound c.are_placed.ensures.placed c.are_placed-2.ensures.placed
+    ∙ parting-held (parts w) w.sound c.args.self.now.placed c.args.self.now.placed_groups
     (pages w.places) (row-page w.places) (count-pages w.places ∙ w.count) c.args.i c.args.p c.in-Some.j (sym c.holder.ensures.place ∙ c.in-Some.is)
 
 pub returns-in-None : goal.returns-in-None
 unfolding seen parts
 returns-in-None c =
     let w = c.args.self.now in
-    parting-lost c.facts.ensures c.places_have_the_tags_of_their_world.ensures (parts w) w.sound c.are_placed.ensures.placed c.are_placed-2.ensures.placed
+    parting-lost (parts w) w.sound c.args.self.now.placed c.args.self.now.placed_groups
     (pages w.places) (row-page w.places) (count-pages w.places ∙ w.count) c.args.i c.args.p (sym c.holder.ensures.place ∙ c.in-None.is)

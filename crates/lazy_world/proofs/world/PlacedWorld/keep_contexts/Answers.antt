@@ -11,8 +11,8 @@ pub loop-i-init : goal.loop-i-init
 loop-i-init c =
     let w = c.args.self.now in
     record {
-      map = left_by-same c.facts.ensures.orders w.contexts.map (keeps c.args.marks.now 0) w.contexts.map (λ d. keeps-first c.args.marks.now (fm.get w.contexts.map d));
-      world = λ e. record (seen w) { contexts = left_by-same c.facts.ensures.orders w.contexts.map (keeps c.args.marks.now 0) (seen w).contexts (λ d. keeps-first c.args.marks.now (fm.get w.contexts.map d)) e };
+      map = left_by-same w.contexts.map (keeps c.args.marks.now 0) w.contexts.map (λ d. keeps-first c.args.marks.now (fm.get w.contexts.map d));
+      world = λ e. record (seen w) { contexts = left_by-same w.contexts.map (keeps c.args.marks.now 0) (seen w).contexts (λ d. keeps-first c.args.marks.now (fm.get w.contexts.map d)) e };
     }
 
 pub bounds-marks-i : goal.bounds-marks-i
@@ -27,9 +27,9 @@ loop-i-preserved c =
     let next = c.loop-i.self.contexts.map in
     record {
       map = c.keep_context.ensures.map ∙ ap (left_by next (passes (is_marked marks n) n)) c.loop-i.invariant.map
-          ∙ left_by-more c.facts.ensures.orders w.contexts.map next (keeps marks n) (passes (is_marked marks n) n) (keeps marks (n + 1)) w.contexts.map c.loop-i.invariant.map (keeps-more marks n);
+          ∙ left_by-more w.contexts.map next (keeps marks n) (passes (is_marked marks n) n) (keeps marks (n + 1)) w.contexts.map c.loop-i.invariant.map (keeps-more marks n);
       world = c.keep_context.ensures.world ∙ ap (λ (v : World). record v { contexts = left_by next (passes (is_marked marks n) n) v.contexts }) c.loop-i.invariant.world
           ∙ (λ e. record (seen w) {
-            contexts = left_by-more c.facts.ensures.orders w.contexts.map next (keeps marks n) (passes (is_marked marks n) n) (keeps marks (n + 1)) (seen w).contexts c.loop-i.invariant.map (keeps-more marks n) e;
+            contexts = left_by-more w.contexts.map next (keeps marks n) (passes (is_marked marks n) n) (keeps marks (n + 1)) (seen w).contexts c.loop-i.invariant.map (keeps-more marks n) e;
           });
     }

@@ -48,5 +48,5 @@ returns-then-is_none c =
           adds-none w.groups.places (λ g. names_at (parts w) g c.args.i) c.args.marks.now
           (λ g. ap (names_from (parts w) g c.args.i) (sym c.at.ensures) ∙ names_nowhere (parts w) g c.args.i c.at.result missed)
       | then-is_none-via-else-is_none+then-are_marked b ↦
-          adds-nothing w.groups c.are_placed.ensures.placed (λ g. names_at (parts w) g c.args.i) c.args.marks.now (b.are_marked.ensures b.if-are_marked.true)
+          adds-nothing w.groups c.args.self.now.placed_groups (λ g. names_at (parts w) g c.args.i) c.args.marks.now (b.are_marked.ensures b.if-are_marked.true)
     ]

@@ -19,7 +19,7 @@ returns-then-moves_page c =
     let w = c.args.self.now in
     let here : (context (seen w) c.args.c).cell ≡ rows w.places c.place-i.result = ap (λ (x : Context). x.cell) c.place-i.ensures.context in
     let some = c.moves_page.ensures.some c.if-moves_page.true in
-    record { value = sym (needs-page (seen w) c.args.c c.args.spec.now (rows w.places c.place-i.result) here c.a_group_is_needed_where_a_value_moves.ensures.moves (w.sound.past c.place-i.result) some.0 some.1) }
+    record { value = sym (needs-page (seen w) c.args.c c.args.spec.now (rows w.places c.place-i.result) here (w.sound.past c.place-i.result) some.0 some.1) }
 
 pub returns-then-moves_slot : goal.returns-then-moves_slot
 unfolding seen parts world_of
@@ -27,7 +27,7 @@ returns-then-moves_slot c =
     let w = c.args.self.now in
     let here : (context (seen w) c.args.c).cell ≡ rows w.places c.place-i.result = ap (λ (x : Context). x.cell) c.place-i.ensures.context in
     let some = c.moves_slot.ensures.some c.if-moves_slot.true in
-    record { value = sym (needs-key (seen w) c.args.c c.args.spec.now (rows w.places c.place-i.result) here c.a_group_is_needed_where_a_value_moves.ensures.moves (Slot some.0) some.1 some.2) }
+    record { value = sym (needs-key (seen w) c.args.c c.args.spec.now (rows w.places c.place-i.result) here (Slot some.0) some.1 some.2) }
 
 pub returns : goal.returns
 unfolding seen parts world_of
@@ -35,15 +35,14 @@ returns c =
     let w = c.args.self.now in
     let row = rows w.places c.place-i.result in
     let here : (context (seen w) c.args.c).cell ≡ row = ap (λ (x : Context). x.cell) c.place-i.ensures.context in
-    let law = c.a_group_is_needed_where_a_value_moves.ensures in
     record {
       value = by_test c.moves_uid.result _ _ c.moves_uid.ensures
-          (λ is. needs-key (seen w) c.args.c c.args.spec.now row here law.moves Cred (omega arith) is)
-          (λ is. needs-none (seen w) c.args.c c.args.spec.now row here law.none w.sound.sizes.size.pages.1 (c.moves_page.ensures.none c.if-moves_page.false) (c.moves_slot.ensures.none c.if-moves_slot.false) is);
+          (λ is. needs-key (seen w) c.args.c c.args.spec.now row here Cred (omega arith) is)
+          (λ is. needs-none (seen w) c.args.c c.args.spec.now row here w.sound.sizes.size.pages.1 (c.moves_page.ensures.none c.if-moves_page.false) (c.moves_slot.ensures.none c.if-moves_slot.false) is);
     }
 
 pub returns-then-is_empty : goal.returns-then-is_empty
 returns-then-is_empty c =
     let w = seen c.args.self.now in
     let none = no-items c.items.result.now c.args.spec.now c.is_empty.result c.items.ensures.items c.is_empty.ensures c.if-is_empty.true in
-    record { value = sym (ap (needs_group w c.args.c) none ∙ none-needed w c.args.c c.a_group_is_needed_where_a_value_moves.ensures.none) }
+    record { value = sym (ap (needs_group w c.args.c) none ∙ none-needed w c.args.c) }

@@ -9,6 +9,8 @@ pub invariant_of-result : goal.invariant_of-result
 invariant_of-result c =
     let size = c.args.world_size.now in
     record {
+      placed = c.in_ok-open-2.ensures.placed;
+      placed_groups = c.in_ok-open-3.ensures.placed;
       count = c.in_ok-open.ensures.count;
       frames = c.in_ok-open.ensures.frames;
       sound = subst IsSound
@@ -16,11 +18,11 @@ invariant_of-result c =
             size = size;
             rows = c.in_ok-open.ensures.rows e;
             registers = c.in_ok-no_registers.field-0.items;
-            contexts = c.in_ok-open-2.ensures e;
-            groups = c.in_ok-open-3.ensures e;
+            contexts = c.in_ok-open-2.ensures.none e;
+            groups = c.in_ok-open-3.ensures.none e;
             counts = c.in_ok-nothing_counted.ensures e;
           }))
-          (sound-opened c.facts.ensures size c.requires c.in_ok-no_registers.field-0.items c.in_ok-no_registers.ensures);
+          (sound-opened size c.requires c.in_ok-no_registers.field-0.items c.in_ok-no_registers.ensures);
     }
 
 pub returns : goal.returns
@@ -32,8 +34,8 @@ returns c =
       size = size;
       rows = c.in_ok-open.ensures.rows e;
       registers = c.in_ok-no_registers.field-0.items;
-      contexts = c.in_ok-open-2.ensures e;
-      groups = c.in_ok-open-3.ensures e;
+      contexts = c.in_ok-open-2.ensures.none e;
+      groups = c.in_ok-open-3.ensures.none e;
       counts = c.in_ok-nothing_counted.ensures e;
     })
-    ∙ world-opened c.facts.ensures size c.requires c.in_ok-no_registers.field-0.items c.in_ok-no_registers.ensures
+    ∙ world-opened size c.requires c.in_ok-no_registers.field-0.items c.in_ok-no_registers.ensures

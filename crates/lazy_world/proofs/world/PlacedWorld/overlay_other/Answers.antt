@@ -7,6 +7,7 @@ use Rattle.lwc_base.specs.World.{is_live}
 use Rattle.lazy_world.specs.Worlds.{parts, seen}
 use Rattle.lazy_world.proofs.AfterLemmas.{left-ranges}
 use Rattle.lazy_world.proofs.OverlayLemmas.{overlaid-is}
+use Rattle.lwc_base.proofs.Facts.{changes, stays_fresh}
 use Rattle.lazy_world.proofs.world.PlacedWorld.overlay_other.Goals as goal
 
 pub share-requires-clause-few : goal.share-requires-clause-few
@@ -14,35 +15,35 @@ unfolding seen parts
 share-requires-clause-few g c =
     let w = seen c.args.self.now in
     subst (λ n. n ≤ MOST_RANGES)
-    (left-ranges c.facts.ensures w c.args.self.now.sound.fresh c.args.spec.now c.requires.within c.a_group_is_needed_where_a_value_moves.ensures.moves c.args.from c.requires.from c.args.job
+    (left-ranges w c.args.self.now.sound.fresh c.args.spec.now c.requires.within c.args.from c.requires.from c.args.job
     c.args.to (λ same. c.requires.apart (sym same)))
     c.requires.few.0
 
 pub follow-requires-clause-from : goal.follow-requires-clause-from
 follow-requires-clause-from g c =
     let w = seen c.args.self.now in
-    subst (λ v. is_live v c.args.from ≡ true) (sym c.share.ensures) ((c.facts.ensures.changes.shared w c.args.from c.args.job c.args.spec.now).live c.args.from ∙ c.requires.from)
+    subst (λ v. is_live v c.args.from ≡ true) (sym c.share.ensures) ((changes.shared w c.args.from c.args.job c.args.spec.now).live c.args.from ∙ c.requires.from)
 
 pub follow-requires-clause-to : goal.follow-requires-clause-to
 follow-requires-clause-to g c =
     let w = seen c.args.self.now in
-    subst (λ v. is_live v c.args.to ≡ true) (sym c.share.ensures) ((c.facts.ensures.changes.shared w c.args.from c.args.job c.args.spec.now).live c.args.to ∙ c.requires.to)
+    subst (λ v. is_live v c.args.to ≡ true) (sym c.share.ensures) ((changes.shared w c.args.from c.args.job c.args.spec.now).live c.args.to ∙ c.requires.to)
 
 pub follow-requires-clause-fresh : goal.follow-requires-clause-fresh
 unfolding seen parts
 follow-requires-clause-fresh g c =
     let w = seen c.args.self.now in
     subst IsFresh
-    (sym (overlaid-is c.facts.ensures w c.args.from c.args.to c.args.job c.args.spec.now c.requires.within c.requires.from c.a_group_is_needed_where_a_value_moves.ensures.moves
+    (sym (overlaid-is w c.args.from c.args.to c.args.job c.args.spec.now c.requires.within c.requires.from
     c.args.to (seen c.share.new.self) c.share.ensures))
-    (c.facts.ensures.fresh.overlaid w c.args.to c.args.from c.args.job c.args.spec.now c.requires.to c.requires.from c.args.self.now.sound.fresh)
+    (stays_fresh.overlaid w c.args.to c.args.from c.args.job c.args.spec.now c.requires.to c.requires.from c.args.self.now.sound.fresh)
 
 pub follow-requires-clause-few : goal.follow-requires-clause-few
 unfolding ranges_after_overlay
 follow-requires-clause-few g c =
     let w = seen c.args.self.now in
     subst (λ v. ranges_of v c.args.to ≤ MOST_RANGES)
-    (sym (overlaid-is c.facts.ensures w c.args.from c.args.to c.args.job c.args.spec.now c.requires.within c.requires.from c.a_group_is_needed_where_a_value_moves.ensures.moves
+    (sym (overlaid-is w c.args.from c.args.to c.args.job c.args.spec.now c.requires.within c.requires.from
     c.args.to (seen c.share.new.self) c.share.ensures))
     c.requires.few.1
 
@@ -50,5 +51,5 @@ pub returns : goal.returns
 returns g c =
     let w = seen c.args.self.now in
     c.follow.ensures
-    ∙ overlaid-is c.facts.ensures w c.args.from c.args.to c.args.job c.args.spec.now c.requires.within c.requires.from c.a_group_is_needed_where_a_value_moves.ensures.moves
+    ∙ overlaid-is w c.args.from c.args.to c.args.job c.args.spec.now c.requires.within c.requires.from
     c.args.to (seen c.share.new.self) c.share.ensures

@@ -8,6 +8,7 @@ use Rattle.lazy_world.specs.Sound.{IsSound}
 use Rattle.lazy_world.specs.States.{world_of}
 use Rattle.lazy_world.specs.Worlds.{parts, seen}
 use Rattle.lazy_world.proofs.KeyLemmas.{put-own, sound-own}
+use Rattle.lwc_base.proofs.Facts.{changes}
 use Rattle.lazy_world.proofs.world.PlacedWorld.put.Goals as goal
 
 pub invariant_of-self : goal.invariant_of-self
@@ -15,10 +16,12 @@ unfolding parts
 invariant_of-self c =
     let s = parts c.args.self.now in
     record {
+      placed = c.args.self.now.placed;
+      placed_groups = c.args.self.now.placed_groups;
       count = c.put.ensures.count ∙ c.args.self.now.count;
       frames = c.put.ensures.frames ∙ c.args.self.now.frames;
       sound = subst (λ rows. IsSound (record s { rows = rows })) (sym c.put.ensures.rows)
-          (sound-own s c.args.self.now.sound c.facts.ensures c.are_placed.ensures.placed c.args.c c.place-i.result c.place-i.ensures.found c.args.value c.requires.slot (sym c.group.ensures ∙ c.in-None.is));
+          (sound-own s c.args.self.now.sound c.args.self.now.placed c.args.c c.place-i.result c.place-i.ensures.found c.args.value c.requires.slot (sym c.group.ensures ∙ c.in-None.is));
     }
 
 pub returns-in-None : goal.returns-in-None
@@ -26,7 +29,7 @@ unfolding seen parts
 returns-in-None c =
     let s = parts c.args.self.now in
     ap (λ rows. world_of (record s { rows = rows })) c.put.ensures.rows
-    ∙ put-own s c.args.self.now.sound c.facts.ensures c.are_placed.ensures.placed c.args.c c.place-i.result c.place-i.ensures.found c.args.value c.requires.slot (sym c.group.ensures ∙ c.in-None.is)
+    ∙ put-own s c.args.self.now.sound c.args.self.now.placed c.args.c c.place-i.result c.place-i.ensures.found c.args.value c.requires.slot (sym c.group.ensures ∙ c.in-None.is)
 
 common_cell : {T : Type 0} (cell : Cell T) (g : Name) → group_in cell ≡ Some g → cell ≡ Common g
 common_cell (Own value) g is = cc
@@ -36,5 +39,5 @@ pub returns-in-Some : goal.returns-in-Some
 unfolding parts
 returns-in-Some c =
     c.put_common.ensures
-    ∙ sym (c.facts.ensures.changes.put_common (seen c.args.self.now) c.args.c (key_in c.args.value) c.in-Some.g (value_in c.args.value)
+    ∙ sym (changes.put_common (seen c.args.self.now) c.args.c (key_in c.args.value) c.in-Some.g (value_in c.args.value)
     (ap (λ (x : Context). x.cell (key_in c.args.value)) c.place-i.ensures.context ∙ common_cell _ c.in-Some.g (sym c.group.ensures ∙ c.in-Some.is)))

@@ -14,10 +14,12 @@ unfolding parts
 invariant_of-self c =
     let s = parts c.args.self.now in
     record {
+      placed = c.args.self.now.placed;
+      placed_groups = c.args.self.now.placed_groups;
       count = c.put.ensures.count ∙ c.args.self.now.count;
       frames = c.put.ensures.frames ∙ c.args.self.now.frames;
       sound = subst (λ rows. IsSound (record s { rows = rows })) (sym c.put.ensures.rows)
-          (sound-group s c.args.self.now.sound c.facts.ensures c.are_placed.ensures.placed c.are_placed-2.ensures.placed c.args.g c.in-Some.j (sym c.place.ensures.place ∙ c.in-Some.is) c.args.value c.requires);
+          (sound-group s c.args.self.now.sound c.args.self.now.placed c.args.self.now.placed_groups c.args.g c.in-Some.j (sym c.place.ensures.place ∙ c.in-Some.is) c.args.value c.requires);
     }
 
 pub returns-in-Some : goal.returns-in-Some
@@ -25,7 +27,7 @@ unfolding seen parts
 returns-in-Some c =
     let s = parts c.args.self.now in
     ap (λ rows. world_of (record s { rows = rows })) c.put.ensures.rows
-    ∙ put-group s c.args.self.now.sound c.facts.ensures c.are_placed.ensures.placed c.are_placed-2.ensures.placed c.args.g c.in-Some.j (sym c.place.ensures.place ∙ c.in-Some.is) c.args.value c.requires
+    ∙ put-group s c.args.self.now.sound c.args.self.now.placed c.args.self.now.placed_groups c.args.g c.in-Some.j (sym c.place.ensures.place ∙ c.in-Some.is) c.args.value c.requires
 
 pub returns-in-None : goal.returns-in-None
 unfolding seen parts

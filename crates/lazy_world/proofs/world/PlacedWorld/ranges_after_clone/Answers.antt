@@ -3,7 +3,7 @@ use Rattle.lwc_base.specs.declared.name.Name.{Name}
 use Rattle.lwc_base.specs.Ranges.{ranges_of}
 use Rattle.lazy_world.specs.Followed.{followed}
 use Rattle.lazy_world.specs.Worlds.{parts, seen}
-use Rattle.lazy_world.specs.declared.plan.Plan.TheVariants.{Mark, Clone}
+use Rattle.lazy_world.specs.declared.transfer.Transfer.TheVariants.{Mark, Clone}
 use Rattle.lazy_world.proofs.AfterLemmas.{after-clone}
 use Rattle.lazy_world.proofs.world.PlacedWorld.ranges_after_clone.Goals as goal
 
@@ -13,7 +13,7 @@ returns c =
     let w = seen c.args.self.now in
     record {
       value = λ job.
-          after-clone c.facts.ensures w c.args.self.now.sound.fresh c.args.spec.now c.requires.within c.a_group_is_needed_where_a_value_moves.ensures.moves c.args.c c.requires.live job
+          after-clone w c.args.self.now.sound.fresh c.args.spec.now c.requires.within c.args.c c.requires.live job
           c.ranges_after-left.result c.ranges_after-made.result
           (c.ranges_after-left.ensures ∙ ap (λ (g : Name). ranges_of (followed w (Mark g) c.args.spec.now c.args.c c.args.c) c.args.c) c.unnamed-g.ensures)
           (c.ranges_after-made.ensures ∙ ap (λ (g : Name). ranges_of (followed w (Clone g) c.args.spec.now c.args.c c.args.c) c.args.c) c.unnamed-g.ensures);

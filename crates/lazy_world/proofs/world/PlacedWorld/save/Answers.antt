@@ -15,9 +15,11 @@ invariant_of-self c =
     let s = parts c.args.self.now in
     let inside : c.place-i.result < length c.args.self.now.registers.items = omega (arith, c.place-i.ensures.low, c.args.self.now.sound.sizes.registers) in
     record {
+      placed = c.args.self.now.placed;
+      placed_groups = c.args.self.now.placed_groups;
       count = c.args.self.now.count;
       frames = c.args.self.now.frames;
-      sound = sound-saved s c.args.self.now.sound c.facts.ensures c.are_placed.ensures.placed c.args.c c.place-i.result c.place-i.ensures.found _
+      sound = sound-saved s c.args.self.now.sound c.args.self.now.placed c.args.c c.place-i.result c.place-i.ensures.found _
           (get_or_read s.registers c.place-i.result _ inside c.index_mut.ensures.value no_registers) c.args.t c.args.regs.now (search rules);
     }
 
@@ -27,6 +29,6 @@ returns c =
     let s = parts c.args.self.now in
     let inside : c.place-i.result < length c.args.self.now.registers.items = omega (arith, c.place-i.ensures.low, c.args.self.now.sound.sizes.registers) in
     record {
-      saved = saved-world s c.args.self.now.sound c.facts.ensures c.are_placed.ensures.placed c.args.c c.place-i.result c.place-i.ensures.found _
+      saved = saved-world s c.args.self.now.sound c.args.self.now.placed c.args.c c.place-i.result c.place-i.ensures.found _
           (get_or_read s.registers c.place-i.result _ inside c.index_mut.ensures.value no_registers) c.args.t c.args.regs.now (search rules);
     }

@@ -17,8 +17,8 @@ unfolding seen parts
 set_pages-requires-clause-few c =
     let s = parts c.args.self.now in
     subst (λ (n : ℕ). n ≤ MOST_RANGES)
-    (ranges-mapped s c.args.self.now.sound c.facts.ensures c.are_placed.ensures.placed c.args.c c.place-i.result c.place-i.ensures.found c.args.range.from c.args.range.to c.args.present
-    (below_pages s c.args.range.to c.requires.within) c.ranges_are_those_of_the_context.ensures)
+    (ranges-mapped s c.args.self.now.sound c.args.self.now.placed c.args.c c.place-i.result c.place-i.ensures.found c.args.range.from c.args.range.to c.args.present
+    (below_pages s c.args.range.to c.requires.within))
     c.requires.few
 
 pub invariant_of-self : goal.invariant_of-self
@@ -26,10 +26,12 @@ unfolding seen parts
 invariant_of-self c =
     let s = parts c.args.self.now in
     record {
+      placed = c.args.self.now.placed;
+      placed_groups = c.args.self.now.placed_groups;
       count = c.set_pages.ensures.count ∙ c.args.self.now.count;
       frames = c.set_pages.ensures.frames ∙ c.args.self.now.frames;
       sound = subst (λ rows. IsSound (record s { rows = rows })) (sym c.set_pages.ensures.rows)
-          (sound-mapped s c.args.self.now.sound c.facts.ensures c.are_placed.ensures.placed c.args.c c.place-i.result c.place-i.ensures.found c.args.range.from c.args.range.to c.args.present
+          (sound-mapped s c.args.self.now.sound c.args.self.now.placed c.args.c c.place-i.result c.place-i.ensures.found c.args.range.from c.args.range.to c.args.present
           (below_pages s c.args.range.to c.requires.within));
     }
 
@@ -38,5 +40,5 @@ unfolding seen parts
 returns c =
     let s = parts c.args.self.now in
     ap (λ rows. world_of (record s { rows = rows })) c.set_pages.ensures.rows
-    ∙ mapped-world s c.args.self.now.sound c.facts.ensures c.are_placed.ensures.placed c.args.c c.place-i.result c.place-i.ensures.found c.args.range.from c.args.range.to c.args.present
+    ∙ mapped-world s c.args.self.now.sound c.args.self.now.placed c.args.c c.place-i.result c.place-i.ensures.found c.args.range.from c.args.range.to c.args.present
     (below_pages s c.args.range.to c.requires.within)

@@ -10,7 +10,7 @@ unfolding seen parts
 returns-clause-used c =
     let w = c.args.self.now in
     c.used.ensures.used
-    ∙ sym (used-places c.facts.ensures.orders c.places_have_the_tags_of_their_world.ensures (parts w) w.sound c.are_placed.ensures.placed c.are_placed-2.ensures.placed
+    ∙ sym (used-places (parts w) w.sound c.args.self.now.placed c.args.self.now.placed_groups
     (pages w.places) (row-page w.places) (count-pages w.places ∙ w.count))
 
 pub returns-clause-within : goal.returns-clause-within

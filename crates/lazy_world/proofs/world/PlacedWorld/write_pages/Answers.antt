@@ -35,20 +35,18 @@ loop-p-preserved c =
     let v = seen c.write_page.new.self in
     let piece : Piece = record { at = c.args.at; bytes = c.args.piece.now } in
     let low : c.loop-p.p < c.args.pages.end = omega (arith, c.loop-p-test.true) in
-    let changes = c.facts.ensures.changes in
-    let one_key = c.a_put_changes_one_key.ensures.others in
-    let size = step-size changes one_key w v c.args.c c.args.job piece c.loop-p.p c.args.pages.end low c.write_page.ensures.stored c.write_page.ensures.others in
-    let tags = step-tags changes one_key w v c.args.c c.args.job piece c.loop-p.p c.args.pages.end low c.write_page.ensures.stored c.write_page.ensures.others in
+    let size = step-size w v c.args.c c.args.job piece c.loop-p.p c.args.pages.end low c.write_page.ensures.stored c.write_page.ensures.others in
+    let tags = step-tags w v c.args.c c.args.job piece c.loop-p.p c.args.pages.end low c.write_page.ensures.stored c.write_page.ensures.others in
     let few = taken-one (parts_at w c.args.c c.loop-p.p) in
-    let counts = step-count changes one_key w v c.args.c c.args.job piece c.loop-p.p c.args.pages.end low c.write_page.ensures.stored c.write_page.ensures.others in
+    let counts = step-count w v c.args.c c.args.job piece c.loop-p.p c.args.pages.end low c.write_page.ensures.stored c.write_page.ensures.others in
     record {
-      live = step-live changes one_key w v c.args.c c.args.job piece c.loop-p.p c.args.pages.end low c.write_page.ensures.stored c.write_page.ensures.others ∙ c.loop-p.invariant.live;
-      there = step-there changes one_key w v c.args.c c.args.job piece c.loop-p.p c.args.pages.end low c.write_page.ensures.stored c.write_page.ensures.others
+      live = step-live w v c.args.c c.args.job piece c.loop-p.p c.args.pages.end low c.write_page.ensures.stored c.write_page.ensures.others ∙ c.loop-p.invariant.live;
+      there = step-there w v c.args.c c.args.job piece c.loop-p.p c.args.pages.end low c.write_page.ensures.stored c.write_page.ensures.others
           (first-there w c.args.c c.loop-p.p c.args.pages.end low c.loop-p.invariant.there).1;
       size = size ∙ c.loop-p.invariant.size;
       tags = omega (arith, tags, few, c.loop-p.invariant.tags);
       enough = omega (arith, counts, c.write_page.ensures.used, c.loop-p.invariant.enough, ap (λ (s : WorldSize). s.frames) size);
-      stored = step-stored changes one_key w v c.args.c c.args.job piece c.loop-p.p c.args.pages.end low c.write_page.ensures.stored c.write_page.ensures.others ∙ c.loop-p.invariant.stored;
+      stored = step-stored w v c.args.c c.args.job piece c.loop-p.p c.args.pages.end low c.write_page.ensures.stored c.write_page.ensures.others ∙ c.loop-p.invariant.stored;
     }
 
 none : (p end : ℕ) → end ≤ p → end - p ≡ 0

@@ -1,0 +1,68 @@
+-- The places of page cells, by their rows and their kinds.
+use Rattle.std.proofs.Common.{◌≡◌, ◌≢◌, ℕ, ◌<◌, ◌≤◌, ⊎_elim, true, List, [], length, get_or, set, sym, ◌∙◌, ap, arith, subst, Option, None, Some}
+use Rattle.std.proofs.lemmas.Bool.{cases_lt}
+use Rattle.std.proofs.lemmas.List.{get_or_read}
+use Rattle.lwc_base.specs.declared.page.PageValue.{PageValue}
+use Rattle.range_map.specs.declared.segment.Segment.{Segment}
+use Rattle.range_map.specs.declared.segment.SegmentKind.{SegmentKind}
+use Rattle.range_map.specs.declared.segment.SegmentKind.TheVariants.{Own}
+use Rattle.range_map.specs.Kinds.{kind_at}
+use Rattle.cow_space.specs.declared.cells.PageCells.{PageCells}
+use Rattle.cow_space.specs.Cells.{IsOwnPage, all_cells, kinds_of, no_pages, place_cells, place_of, segments_of}
+use Rattle.cow_space.specs.Kept.{HasNoPage, IsKept, may_have}
+use Rattle.cow_space.specs.Maps.{row_of}
+use Rattle.cow_space.specs.RowSeen.{HasNoTree, maps}
+use Rattle.cow_space.specs.Seen.{cells}
+use Rattle.cow_space.proofs.Places.{at-place, by-place, kept-set, kind-cell, length-cells, set-cells}
+
+module _ (w : PageCells) where
+  pub row-count : length (cells w) ≡ length (maps w.rows)
+  unfolding cells
+  row-count = length-cells w.kinds.items (maps w.rows)
+
+  pub row-in : (i : ℕ) → i < length (cells w) → i < length (maps w.rows)
+  row-in i inside = omega (arith, inside, row-count)
+
+  pub kinds-in : (i : ℕ) → i < length (cells w) → i < length w.kinds.items
+  kinds-in i inside = omega (arith, inside, row-count, w.kept.places)
+
+  pub place-at : (i : ℕ) → place_of (cells w) i ≡ place_cells (segments_of w.kinds.items i) (row_of (maps w.rows) i)
+  unfolding cells
+  place-at i = at-place w.kinds.items (maps w.rows) i w.kept.places
+
+  -- what is read of the kinds is the segments of a place, and those give its kinds
+  pub read-segments : (i : ℕ) (segments : List Segment) → i < length (cells w) → segments ≡ get_or w.kinds.items i segments → segments ≡ segments_of w.kinds.items i
+  read-segments i segments inside is = get_or_read w.kinds.items i segments (kinds-in i inside) is []
+
+  pub place-kinds : (i : ℕ) → kind_at (segments_of w.kinds.items i) ≡ kinds_of (place_of (cells w) i)
+  place-kinds i = sym (ap kinds_of (place-at i) ∙ (λ k p. kind-cell (kind_at (segments_of w.kinds.items i) p) (row_of (maps w.rows) i p) k))
+
+  pub read-kinds : (i : ℕ) (segments : List Segment) → i < length (cells w) → segments ≡ get_or w.kinds.items i segments → kind_at segments ≡ kinds_of (place_of (cells w) i)
+  read-kinds i segments inside is = ap kind_at (read-segments i segments inside is) ∙ place-kinds i
+
+  -- a page that is the place's own is one by its segments, and none past the last one
+  pub own-segments : (i p : ℕ) → IsOwnPage (place_of (cells w) i p) → kind_at (segments_of w.kinds.items i) p ≡ Some Own
+  own-segments i p own = ap (λ (f : ℕ → Option SegmentKind). f p) (place-kinds i) ∙ own
+
+  pub own-page : (i p : ℕ) → IsOwnPage (place_of (cells w) i p) → p < 1024
+  own-page i p own =
+      ⊎_elim (λ low. low) (λ past. absurd (let none = sym (own-segments i p own) ∙ w.kept.within i p past in cc)) (cases_lt p 1024)
+
+  -- a place without pages has no tree
+  pub no-tree : (i : ℕ) → place_of (cells w) i ≡ no_pages → HasNoTree w.rows i
+  no-tree i empty = w.bare i (λ p. ap (λ (f : ℕ → Option SegmentKind). f p) (place-kinds i ∙ ap kinds_of empty))
+
+  -- a place has other segments and another row
+  module _ (i : ℕ) (segments : List Segment) (row : ℕ → Option PageValue) (rows : List (ℕ → Option PageValue)) (inside : i < length (cells w)) (are : rows ≡ set (maps w.rows) i row) where
+    pub cells-set : all_cells (set w.kinds.items i segments) rows ≡ set (cells w) i (place_cells segments row)
+    unfolding cells
+    cells-set = ap (all_cells (set w.kinds.items i segments)) are ∙ set-cells (maps w.rows) w.kinds.items i segments row w.kept (row-in i inside)
+
+    pub kept-still : ((p : ℕ) → may_have (kind_at segments p) (row p) ≡ true) → ((p : ℕ) → 1024 ≤ p → kind_at segments p ≡ None) → IsKept rows (set w.kinds.items i segments)
+    kept-still fit within =
+        subst (λ ms. IsKept ms (set w.kinds.items i segments)) (sym are) (kept-set (maps w.rows) w.kinds.items i segments row w.kept (row-in i inside) fit within)
+
+  pub bare-still : (i : ℕ) (segments : List Segment) (after : ℕ → Type 0) → i < length (cells w) → ((j : ℕ) → j ≢ i → HasNoTree w.rows j → after j) → (HasNoPage segments → after i) →
+      (j : ℕ) → HasNoPage (segments_of (set w.kinds.items i segments) j) → after j
+  bare-still i segments after inside others here =
+      by-place (maps w.rows) w.kinds.items i segments (row_of (maps w.rows) i) w.kept (row-in i inside) (λ j s _. HasNoPage s → after j) here (λ j off none. others j off (w.bare j none))

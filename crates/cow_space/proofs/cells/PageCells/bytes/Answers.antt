@@ -1,0 +1,11 @@
+use Rattle.std.proofs.Common.{refl, sym, ◌∙◌}
+use Rattle.cow_space.specs.Maps.{data_of}
+use Rattle.cow_space.proofs.OwnTags.{own-rows}
+use Rattle.cow_space.proofs.Views.{row-in}
+use Rattle.cow_space.proofs.cells.PageCells.bytes.Goals as goal
+
+pub bytes-requires-clause-row : goal.bytes-requires-clause-row
+bytes-requires-clause-row c = row-in c.args.self.now c.args.i c.requires.place
+
+pub returns : goal.returns
+returns c = c.bytes.ensures ∙ sym (own-rows c.args.self.now data_of refl c.args.i c.args.p)

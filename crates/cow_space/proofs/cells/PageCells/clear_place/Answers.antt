@@ -1,0 +1,37 @@
+use Rattle.std.proofs.Common.{[], set, ap, ◌∙◌, arith, refl, subst, sym}
+use Rattle.range_map.specs.Kinds.{kind_at}
+use Rattle.cow_space.specs.Cells.{all_cells}
+use Rattle.cow_space.specs.Kept.{IsKept}
+use Rattle.cow_space.specs.Maps as rows
+use Rattle.cow_space.specs.RowSeen.{HasNoTree, maps}
+use Rattle.cow_space.specs.Seen.{cells}
+use Rattle.cow_space.proofs.Places.{may-none, none-cells}
+use Rattle.cow_space.proofs.Views.{bare-still, cells-set, kept-still, kinds-in, no-tree, row-in}
+use Rattle.cow_space.proofs.cells.PageCells.clear_place.Goals as goal
+
+pub index_mut-requires : goal.index_mut-requires
+index_mut-requires g c = omega (arith, kinds-in c.args.self.now c.args.i c.requires.place, c.args.self.now.kinds.ok)
+
+pub drop_row-requires : goal.drop_row-requires
+drop_row-requires g c = record { row = row-in c.args.self.now c.args.i c.requires.place }
+
+pub returns-clause-cells : goal.returns-clause-cells
+unfolding cells
+returns-clause-cells g c =
+    let w = c.args.self.now in
+    ap (λ s. all_cells (set w.kinds.items c.args.i s) (maps c.drop_row.new.self)) c.empty.ensures
+    ∙ cells-set w c.args.i [] rows.no_pages (maps c.drop_row.new.self) c.requires.place c.drop_row.ensures.maps
+    ∙ ap (set (cells w) c.args.i) (none-cells rows.no_pages)
+
+pub invariant_of-self : goal.invariant_of-self
+unfolding kind_at
+invariant_of-self g c =
+    let w = c.args.self.now in
+    record {
+      kept = subst (λ s. IsKept (maps c.drop_row.new.self) (set w.kinds.items c.args.i s)) (sym c.empty.ensures)
+          (kept-still w c.args.i [] rows.no_pages (maps c.drop_row.new.self) c.requires.place c.drop_row.ensures.maps (λ p. may-none (kind_at [] p)) (λ p past. refl));
+      bare = bare-still w c.args.i c.empty.result (HasNoTree c.drop_row.new.self) c.requires.place c.drop_row.ensures.others (λ _. c.drop_row.ensures.empty);
+    }
+
+pub returns-clause-cost_empty : goal.returns-clause-cost_empty
+returns-clause-cost_empty g c empty = c.drop_row.ensures.cost_empty (no-tree c.args.self.now c.args.i empty)

@@ -1,0 +1,82 @@
+use Rattle.std.proofs.Common.{[], set, sym, ap, ◌∙◌, arith, subst}
+use Rattle.range_map.specs.Kinds.{kind_at, ranges}
+use Rattle.range_map.proofs.Ranges.{absent_ranges}
+use Rattle.cow_space.specs.Cells.{all_cells, place_cells, segments_of}
+use Rattle.cow_space.specs.Kept.{IsKept}
+use Rattle.cow_space.specs.Maps.{row_of}
+use Rattle.cow_space.specs.Maps as rows
+use Rattle.cow_space.specs.RowSeen.{HasNoTree, maps}
+use Rattle.cow_space.specs.Seen.{cells}
+use Rattle.cow_space.proofs.Places.{may-none, none-cells}
+use Rattle.cow_space.proofs.Views.{bare-still, cells-set, kept-still, kinds-in, no-tree, place-at, read-kinds, read-segments, row-in}
+use Rattle.cow_space.proofs.cells.PageCells.clone_place.Goals as goal
+
+pub index-requires : goal.index-requires
+index-requires g c = omega (arith, kinds-in c.args.self.now c.args.from c.requires.from, c.args.self.now.kinds.ok)
+
+pub index-requires-2 : goal.index-requires-2
+index-requires-2 g c = omega (arith, kinds-in c.args.self.now c.args.from c.requires.from, c.args.self.now.kinds.ok)
+
+pub index_mut-requires : goal.index_mut-requires
+index_mut-requires g c = omega (arith, kinds-in c.args.self.now c.args.to c.requires.to, c.args.self.now.kinds.ok)
+
+pub clone_row-requires-clause-to : goal.clone_row-requires-clause-to
+clone_row-requires-clause-to g c = row-in c.args.self.now c.args.to c.requires.to
+
+pub clone_row-requires-clause-from : goal.clone_row-requires-clause-from
+clone_row-requires-clause-from g c = row-in c.args.self.now c.args.from c.requires.from
+
+pub invariant_of-self : goal.invariant_of-self
+invariant_of-self g c =
+    let w = c.args.self.now in
+    let read = read-segments w c.args.from c.index.result.now c.requires.from c.index.ensures in
+    let copied = c.copy.ensures ∙ read-segments w c.args.from c.index-2.result.now c.requires.from c.index-2.ensures in
+    let some = c.has_page-some.ensures.some c.if-some.true in
+    let same = ap (λ s. ranges 1024 (kind_at s)) (read ∙ sym copied) in
+    record {
+      kept = subst (λ s. IsKept (maps c.clone_row.new.self) (set w.kinds.items c.args.to s)) (sym copied)
+          (kept-still w c.args.to (segments_of w.kinds.items c.args.from) (row_of (maps w.rows) c.args.from) (maps c.clone_row.new.self) c.requires.to c.clone_row.ensures.maps (w.kept.fit c.args.from) (w.kept.within c.args.from));
+      bare = bare-still w c.args.to c.copy.result (HasNoTree c.clone_row.new.self) c.requires.to c.clone_row.ensures.others
+          (λ none. absurd (omega (arith, some, same, absent_ranges (kind_at c.copy.result) none)));
+    }
+
+pub drop_row-requires : goal.drop_row-requires
+drop_row-requires g c = record { row = row-in c.args.self.now c.args.to c.requires.to }
+
+pub invariant_of-self-else-some : goal.invariant_of-self-else-some
+invariant_of-self-else-some g c =
+    let w = c.args.self.now in
+    let copied = c.copy.ensures ∙ read-segments w c.args.from c.index-2.result.now c.requires.from c.index-2.ensures in
+    record {
+      kept = kept-still w c.args.to c.copy.result rows.no_pages (maps c.drop_row.new.self) c.requires.to c.drop_row.ensures.maps (λ p. may-none (kind_at c.copy.result p)) (λ p past. ap (λ s. kind_at s p) copied ∙ w.kept.within c.args.from p past);
+      bare = bare-still w c.args.to c.copy.result (HasNoTree c.drop_row.new.self) c.requires.to c.drop_row.ensures.others (λ _. c.drop_row.ensures.empty);
+    }
+
+pub returns-then-some-clause-cells : goal.returns-then-some-clause-cells
+unfolding cells
+returns-then-some-clause-cells g c =
+    let w = c.args.self.now in
+    let copied = c.copy.ensures ∙ read-segments w c.args.from c.index-2.result.now c.requires.from c.index-2.ensures in
+    ap (λ s. all_cells (set w.kinds.items c.args.to s) (maps c.clone_row.new.self)) copied
+    ∙ cells-set w c.args.to (segments_of w.kinds.items c.args.from) (row_of (maps w.rows) c.args.from) (maps c.clone_row.new.self) c.requires.to c.clone_row.ensures.maps
+    ∙ ap (set (cells w) c.args.to) (sym (place-at w c.args.from))
+
+pub returns-then-some-clause-cost_empty : goal.returns-then-some-clause-cost_empty
+returns-then-some-clause-cost_empty g c empty =
+    let w = c.args.self.now in
+    omega (arith, c.clone_row.ensures.cost_empty (no-tree w c.args.to empty), c.has_page-some.ensures.some c.if-some.true, ap (ranges 1024) (read-kinds w c.args.from c.index.result.now c.requires.from c.index.ensures))
+
+pub returns-else-some-clause-cells : goal.returns-else-some-clause-cells
+unfolding cells
+returns-else-some-clause-cells g c =
+    let w = c.args.self.now in
+    let read = read-segments w c.args.from c.index.result.now c.requires.from c.index.ensures in
+    let copied = c.copy.ensures ∙ read-segments w c.args.from c.index-2.result.now c.requires.from c.index-2.ensures in
+    let none = sym read ∙ c.has_page-some.ensures.none c.if-some.false in
+    ap (λ s. all_cells (set w.kinds.items c.args.to s) (maps c.drop_row.new.self)) (copied ∙ none)
+    ∙ cells-set w c.args.to [] rows.no_pages (maps c.drop_row.new.self) c.requires.to c.drop_row.ensures.maps
+    ∙ ap (set (cells w) c.args.to)
+    (none-cells rows.no_pages ∙ sym (place-at w c.args.from ∙ ap (λ s. place_cells s (row_of (maps w.rows) c.args.from)) none ∙ none-cells (row_of (maps w.rows) c.args.from)))
+
+pub returns-else-some-clause-cost_empty : goal.returns-else-some-clause-cost_empty
+returns-else-some-clause-cost_empty g c empty = omega (arith, c.drop_row.ensures.cost_empty (no-tree c.args.self.now c.args.to empty))

@@ -1,0 +1,11 @@
+use Rattle.std.proofs.Common.{ℕ, ap, ◌∙◌, arith, Option}
+use Rattle.range_map.specs.declared.segment.SegmentKind.{SegmentKind}
+use Rattle.cow_space.proofs.Views.{kinds-in, read-kinds}
+use Rattle.cow_space.proofs.cells.PageCells.kind.Goals as goal
+
+pub index-requires : goal.index-requires
+index-requires c = omega (arith, kinds-in c.args.self.now c.args.i c.requires, c.args.self.now.kinds.ok)
+
+pub returns : goal.returns
+returns c =
+    c.kind_at.ensures.kind ∙ ap (λ (f : ℕ → Option SegmentKind). f c.args.p) (read-kinds c.args.self.now c.args.i _ c.requires c.index.ensures)

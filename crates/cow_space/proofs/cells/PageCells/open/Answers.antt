@@ -1,0 +1,24 @@
+use Rattle.std.proofs.Common.{[], replicate, sym, ◌∙◌, subst}
+use Rattle.cow_space.specs.RowSeen.{maps}
+use Rattle.cow_space.specs.Cells.{all_cells}
+use Rattle.cow_space.specs.Kept.{IsKept}
+use Rattle.cow_space.specs.Seen.{cells, frames_of}
+use Rattle.cow_space.proofs.Places.{none-all, none-kept}
+use Rattle.cow_space.proofs.cells.PageCells.open.Goals as goal
+
+pub invariant_of-result : goal.invariant_of-result
+invariant_of-result c =
+    record {
+      kept = subst (IsKept (maps c.in_ok-rows.rows)) (sym c.in_ok-kinds.ensures)
+          (subst (λ ms. IsKept ms (replicate c.args.places [])) (sym c.in_ok-rows.ensures.maps) (none-kept c.args.places));
+      bare = λ i _. c.in_ok-rows.ensures.empty i;
+    }
+
+pub returns-clause-cells : goal.returns-clause-cells
+unfolding cells
+returns-clause-cells c =
+    (λ x. all_cells (c.in_ok-kinds.ensures x) (c.in_ok-rows.ensures.maps x)) ∙ none-all c.args.places
+
+pub returns-clause-frames : goal.returns-clause-frames
+unfolding frames_of
+returns-clause-frames c = c.in_ok-rows.ensures.frames

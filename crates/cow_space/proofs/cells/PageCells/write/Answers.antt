@@ -1,0 +1,67 @@
+use Rattle.std.proofs.Common.{sym, ◌∙◌, arith}
+use Rattle.cow_space.specs.RowSeen.{HasNoTree, maps}
+use Rattle.cow_space.specs.Seen.{cells, frames_of}
+use Rattle.cow_space.proofs.OwnTags.{new-rows, parting-rows, used-rows}
+use Rattle.cow_space.proofs.Views.{own-page, row-in}
+use Rattle.cow_space.proofs.Written.{bare-written, cells-written, kept-written}
+use Rattle.cow_space.proofs.cells.PageCells.write.Goals as goal
+
+pub part-requires-clause-row : goal.part-requires-clause-row
+part-requires-clause-row g c = row-in c.args.self.now c.args.i c.requires.place
+
+pub part-requires-clause-page : goal.part-requires-clause-page
+part-requires-clause-page g c = own-page c.args.self.now c.args.i c.args.p c.requires.own
+
+pub part-requires-clause-new : goal.part-requires-clause-new
+part-requires-clause-new g c = new-rows c.args.self.now c.args.tag c.requires.new
+
+pub part-requires-clause-parts : goal.part-requires-clause-parts
+part-requires-clause-parts g c =
+    sym (parting-rows c.args.self.now c.args.i c.args.p) ∙ sym c.is_parting-parting.ensures ∙ c.if-parting.true
+
+pub part-requires-clause-free : goal.part-requires-clause-free
+unfolding frames_of
+part-requires-clause-free g c =
+    omega (arith, used-rows c.args.self.now, c.used.ensures.used, c.used.ensures.within, c.frames.ensures, c.if-used-frames.false)
+
+pub invariant_of-self : goal.invariant_of-self
+invariant_of-self g c =
+    let w = c.args.self.now in
+    record {
+      kept = kept-written w c.args.i c.args.p (record { at = c.args.at; bytes = c.args.piece.now }) c.args.tag (maps c.part.new.self) c.requires.place c.requires.own c.part.ensures.written;
+      bare = bare-written w c.args.i c.args.p (record { at = c.args.at; bytes = c.args.piece.now }) c.args.tag (maps c.part.new.self) c.requires.place c.requires.own c.part.ensures.written (HasNoTree c.part.new.self) c.part.ensures.others;
+    }
+
+pub write_in_place-requires-clause-row : goal.write_in_place-requires-clause-row
+write_in_place-requires-clause-row g c = row-in c.args.self.now c.args.i c.requires.place
+
+pub write_in_place-requires-clause-page : goal.write_in_place-requires-clause-page
+write_in_place-requires-clause-page g c = own-page c.args.self.now c.args.i c.args.p c.requires.own
+
+pub write_in_place-requires-clause-alone : goal.write_in_place-requires-clause-alone
+write_in_place-requires-clause-alone g c =
+    sym (parting-rows c.args.self.now c.args.i c.args.p) ∙ sym c.is_parting-parting.ensures ∙ c.if-parting.false
+
+pub invariant_of-self-else-parting : goal.invariant_of-self-else-parting
+invariant_of-self-else-parting g c =
+    let w = c.args.self.now in
+    record {
+      kept = kept-written w c.args.i c.args.p (record { at = c.args.at; bytes = c.args.piece.now }) c.args.tag (maps c.write_in_place.new.self) c.requires.place c.requires.own (c.write_in_place.ensures.written c.args.tag);
+      bare = λ j none. c.write_in_place.ensures.others j (w.bare j none);
+    }
+
+pub returns-else-used-frames-clause-written : goal.returns-else-used-frames-clause-written
+unfolding cells
+returns-else-used-frames-clause-written g c =
+    cells-written c.args.self.now c.args.i c.args.p (record { at = c.args.at; bytes = c.args.piece.now }) c.args.tag (maps c.part.new.self) c.requires.place c.requires.own c.part.ensures.written
+
+pub returns-else-parting-clause-full : goal.returns-else-parting-clause-full
+unfolding frames_of
+returns-else-parting-clause-full g c =
+    let alone = sym c.is_parting-parting.ensures ∙ c.if-parting.false in
+    grind (arith, alone, used-rows c.args.self.now, c.write_in_place.ensures.within)
+
+pub returns-else-parting-clause-written : goal.returns-else-parting-clause-written
+unfolding cells
+returns-else-parting-clause-written g c =
+    cells-written c.args.self.now c.args.i c.args.p (record { at = c.args.at; bytes = c.args.piece.now }) c.args.tag (maps c.write_in_place.new.self) c.requires.place c.requires.own (c.write_in_place.ensures.written c.args.tag)

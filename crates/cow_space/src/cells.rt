@@ -1,0 +1,138 @@
+ghost use Rattle.std.specs.Prelude.{◌≡◌, ℕ, [], IfOk, replicate};
+ghost use Rattle.cow_space.specs.RowSeen as rows_seen;
+ghost use Rattle.std.proofs.Props.{props};
+ghost use Rattle.cow_space.specs.Cells.{segments_of};
+ghost use Rattle.cow_space.specs.Kept.{HasNoPage, IsKept};
+ghost use Rattle.cow_space.specs.RowSeen.{no_tree-prop};
+
+use crate::rows::Rows;
+use lwc_base::OutOfMemory;
+use range_map::{RangeMap, Segment, SegmentKind};
+use std::alloc::Global;
+
+/// The cells of the pages of a fixed number of places, each a context's or a group's. A page that is the
+/// place's own has its bytes in a row, if it was written; one without reads as zeros. A place without pages
+/// holds no tree node. After `open` no call takes memory.
+#[derive(Drop)]
+pub struct PageCells {
+    pub(crate) rows: Rows,
+    pub(crate) kinds: Vec<RangeMap>,
+    ghost kept: { IsKept (rows_seen.maps rows) kinds.items },
+    ghost bare: { (i : ℕ) → HasNoPage (segments_of kinds.items i)
+        → rows_seen.HasNoTree rows i } by { Prim.hlevel (props, no_tree-prop) },
+}
+
+/// The kinds of this number of places without pages. The only error is out of memory.
+fn no_kinds(alloc: Global, places: u32) -> Result<Vec<RangeMap>, OutOfMemory>
+    ensures { IfOk result (λ kinds. kinds.items ≡ replicate places []) }
+{
+    let mut kinds = Vec::with_capacity(alloc, places as usize)?;
+    'places: for _ in 0..places {
+        kinds.push_reserved(RangeMap::empty());
+    }
+    Ok(kinds)
+}
+
+impl PageCells {
+    ghost use Rattle.std.specs.Prelude.{◌<◌, ◌≤◌, All, length, Some};
+    ghost use Rattle.std.specs.Option.{option_copied};
+    ghost use Rattle.lwc_base.specs.declared.limits.TheConstants.{MOST_PAGE_PLACES, MOST_PAGES, MOST_RANGES};
+    ghost use Rattle.range_map.specs.Kinds.{IsSegment, kind_at, ranges};
+    ghost use Rattle.cow_space.specs.Maps.{data_of};
+    ghost use Rattle.cow_space.specs.Cells.{IsOwnPage, kinds_of, no_pages, place_of};
+    ghost use Rattle.cow_space.specs.Seen.{cells, frames_of};
+    ghost use Rattle.cow_space.specs.Tags.{is_parting, own_values, used};
+
+    /// This number of places without pages, over this number of frames. The only error is out of memory.
+    pub fn open(alloc: Global, frames: u32, places: u32) -> Result<PageCells, OutOfMemory>
+        requires few_frames { frames ≤ 65536 }
+        requires few_places { places ≤ MOST_PAGE_PLACES }
+        ensures cells { IfOk result (λ opened. cells opened ≡ replicate places no_pages) }
+        ensures frames { IfOk result (λ opened. frames_of opened ≡ frames) }
+    {
+        let rows = Rows::open(alloc, frames, places)?;
+        let kinds = no_kinds(alloc, places)?;
+        Ok(PageCells { rows, kinds })
+    }
+
+    /// How many places there are.
+    pub fn len(&self) -> usize
+        ensures { result ≡ length (cells self.now) }
+    {
+        self.kinds.len()
+    }
+
+    /// The kind of a page of a place; `None` where it is absent.
+    pub fn kind(&self, i: usize, p: u16) -> Option<SegmentKind>
+        requires { i < length (cells self.now) }
+        ensures { result ≡ kinds_of (place_of (cells self.now) i) p }
+    {
+        self.kinds[i].kind_at(p)
+    }
+
+    /// A later page, or the end of all pages, up to which the pages of a place have the kind of this one.
+    pub fn next_edge(&self, i: usize, p: u16) -> u16
+        requires place { i < length (cells self.now) }
+        requires page { p < MOST_PAGES }
+        ensures past { p < result }
+        ensures within { result ≤ MOST_PAGES }
+        ensures alike { (q : ℕ) → p ≤ q → q < result
+            → kinds_of (place_of (cells self.now) i) q ≡ kinds_of (place_of (cells self.now) i) p }
+    {
+        self.kinds[i].next_edge(p)
+    }
+
+    /// The number of ranges of a place.
+    pub fn count(&self, i: usize) -> u32
+        requires { i < length (cells self.now) }
+        ensures ranges { result ≡ ranges MOST_PAGES (kinds_of (place_of (cells self.now) i)) }
+        ensures few { result ≤ MOST_RANGES }
+    {
+        self.kinds[i].count()
+    }
+
+    /// The segments of a place, one for each range.
+    pub fn segments(&self, i: usize) -> &[Segment]
+        requires { i < length (cells self.now) }
+        ensures kinds { kind_at result.now ≡ kinds_of (place_of (cells self.now) i) }
+        ensures count { length result.now ≡ ranges MOST_PAGES (kinds_of (place_of (cells self.now) i)) }
+        ensures few { length result.now ≤ MOST_RANGES }
+        ensures each { All IsSegment result.now }
+    {
+        self.kinds[i].segments()
+    }
+
+    /// The bytes of a page that is the place's own. A page that is absent, common or zeros has none.
+    pub fn bytes(&self, i: usize, p: u16) -> Option<&[u8]>
+        requires place { i < length (cells self.now) }
+        requires page { p < MOST_PAGES }
+        ensures { option_copied result ≡ data_of (own_values (place_of (cells self.now) i) p) }
+    {
+        self.rows.bytes(i, p)
+    }
+
+    /// Whether a page that is the place's own parts when it is written: it is zeros, or its tag is at another
+    /// page too.
+    pub fn is_parting(&self, i: usize, p: u16) -> bool
+        requires place { i < length (cells self.now) }
+        requires own { IsOwnPage (place_of (cells self.now) i p) }
+        ensures { result ≡ is_parting (cells self.now) i p }
+    {
+        self.rows.parts(i, p)
+    }
+
+    /// How many frames are in use: one for each different tag.
+    pub fn used(&self) -> u32
+        ensures used { result ≡ used (cells self.now) }
+        ensures within { result ≤ frames_of self.now }
+    {
+        self.rows.used()
+    }
+
+    /// How many frames there are, in use or free.
+    pub fn frames(&self) -> u32
+        ensures { result ≡ frames_of self.now }
+    {
+        self.rows.frames()
+    }
+}

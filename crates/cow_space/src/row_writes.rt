@@ -1,0 +1,115 @@
+ghost use Rattle.std.specs.Prelude.{◌≡◌, ◌≢◌, ℕ, ◌+◌, ◌<◌, ◌≤◌};
+ghost use Rattle.frame_pool.specs.Frame.{free_frames, frame_count, frame_bytes, refill_frame};
+ghost use Rattle.lwc_base.specs.Store.{bytes_after};
+ghost use Rattle.page_tree.specs.Pages.{entry_for};
+ghost use Rattle.cow_space.specs.Takes.{Takes, cell_bytes};
+
+use crate::rows::Rows;
+use frame_pool::{FrameNo, Pool};
+use lwc_base::{PAGE_BYTES, Tag};
+use page_tree::{PAGES, PageCell};
+use pool_base::Steps;
+use std::sync::ledger::Ledger;
+
+/// Puts what a piece at an address has of page p into the page's bytes.
+fn put_piece(page: &mut [u8; PAGE_BYTES], p: u16, at: u32, piece: &[u8])
+    ensures { page.new ≡ bytes_after (record { at = at; bytes = piece.now }) p page.old }
+{
+    let start = p as usize * PAGE_BYTES;
+    let at = at as usize;
+    let first = at.max(start);
+    let room = start + PAGE_BYTES - first.min(start + PAGE_BYTES);
+    let count = piece.len().saturating_sub(first - at).min(room);
+    'bytes: for k in 0..count {
+        page[first - start + k] = piece[first - at + k];
+    }
+}
+
+/// Takes a frame with the bytes of a cell once a piece is there.
+fn fill(frames: &mut Pool, cell: PageCell, p: u16, at: u32, piece: &[u8], tag: Tag) -> FrameNo
+    requires free { 0 < free_frames frames.old }
+    requires held { (f : ℕ) → entry_for cell ≡ f + 2 → 0 < frame_count frames.old f }
+    ensures { Takes frames.old frames.new result.n tag
+        (bytes_after (record { at = at; bytes = piece.now }) p (cell_bytes frames.old cell)) }
+{
+    let frame = copy_cell(frames, cell, tag);
+    write_frame(frames, frame, p, at, piece);
+    frame
+}
+
+/// Takes a frame with the bytes of a cell.
+fn copy_cell(frames: &mut Pool, cell: PageCell, tag: Tag) -> FrameNo
+    requires free { 0 < free_frames frames.old }
+    requires held { (f : ℕ) → entry_for cell ≡ f + 2 → 0 < frame_count frames.old f }
+    ensures { Takes frames.old frames.new result.n tag (cell_bytes frames.old cell) }
+{
+    let frame = frames.take(tag).unwrap();
+    if let PageCell::Frame(from) = cell {
+        frames.copy_to(from, frame);
+    }
+    frame
+}
+
+/// Puts what a piece has of page p into a frame that is held once.
+fn write_frame(frames: &mut Pool, frame: FrameNo, p: u16, at: u32, piece: &[u8])
+    requires once { frame_count frames.old frame.n ≡ 1 }
+    ensures { frames.new ≡ refill_frame frames.old frame.n
+        (bytes_after (record { at = at; bytes = piece.now }) p (frame_bytes frames.old frame.n)) }
+{
+    put_piece(frames.bytes_mut(frame), p, at, piece);
+}
+
+impl Rows {
+    ghost use Rattle.std.specs.Prelude.{true, false, length};
+    ghost use Rattle.lwc_base.specs.declared.name.Tag.{Tag};
+    ghost use Rattle.page_tree.specs.declared.store.TheConstants.{PAGES};
+    ghost use Rattle.cow_space.specs.Maps.{row_of};
+    ghost use Rattle.cow_space.specs.RowWrites.{write_page};
+    ghost use Rattle.cow_space.specs.RowSeen.{frames_of, free_nodes, maps, HasNoTree};
+    ghost use Rattle.cow_space.specs.Tags.{different, parts, row_tags, times};
+
+    /// Writes a page that parts: it gets a frame of its own under a new tag.
+    pub(crate) fn part<L: Ledger>(
+        &mut self,
+        i: usize,
+        p: u16,
+        at: u32,
+        piece: &[u8],
+        tag: Tag,
+        steps: &mut Steps<L>,
+    )
+        requires row { i < length (maps self.old) }
+        requires page { p < PAGES }
+        requires new { times tag (row_tags (maps self.old)) ≡ 0 }
+        requires parts { parts (row_tags (maps self.old)) (row_of (maps self.old) i p) ≡ true }
+        requires free { different (row_tags (maps self.old)) < frames_of self.old }
+        ensures written { maps self.new
+            ≡ write_page (maps self.old) i p (record { at = at; bytes = piece.now }) tag }
+        ensures frames { frames_of self.new ≡ frames_of self.old }
+        ensures others { (j : ℕ) → j ≢ i → HasNoTree self.old j → HasNoTree self.new j }
+        ensures nodes { free_nodes self.old ≤ free_nodes self.new + 2 }
+        ensures cost { steps.new ≤ steps.old + 36 }
+    {
+        let cell = self.cell(i, p);
+        let frame = fill(&mut self.store.frames, cell, p, at, piece, tag);
+        self.trees[i].set(&mut self.store, p, PageCell::Frame(frame), steps);
+        self.store.frames.drop_hold(frame);
+    }
+
+    /// Writes a page whose frame no other page has.
+    pub(crate) fn write_in_place(&mut self, i: usize, p: u16, at: u32, piece: &[u8])
+        requires row { i < length (maps self.old) }
+        requires page { p < PAGES }
+        requires alone { parts (row_tags (maps self.old)) (row_of (maps self.old) i p) ≡ false }
+        ensures written { (tag : Tag) → maps self.new
+            ≡ write_page (maps self.old) i p (record { at = at; bytes = piece.now }) tag }
+        ensures frames { frames_of self.new ≡ frames_of self.old }
+        ensures others { (j : ℕ) → HasNoTree self.old j → HasNoTree self.new j }
+        ensures nodes { free_nodes self.new ≡ free_nodes self.old }
+        ensures within { different (row_tags (maps self.old)) ≤ frames_of self.old }
+    {
+        if let PageCell::Frame(frame) = self.cell(i, p) {
+            write_frame(&mut self.store.frames, frame, p, at, piece);
+        }
+    }
+}

@@ -1,0 +1,256 @@
+-- Where the pages of a clone come from: by items first, and else by the segments of the context.
+use Rattle.std.proofs.Common.{◌≡◌, ◌≢◌, ℕ, ◌+◌, ◌<◌, ◌++◌, Bool, true, false, cond, List, [], ◌∷◌, arith, drop, get_or, length, take, refl, sym, ap, ◌∙◌, Option, Some, None}
+use Rattle.std.specs.Prelude.{◌&&◌, All, nat_le, nat_lt, unwrap_or}
+use Rattle.std.specs.FinMap as fm
+use Rattle.std.specs.List.{find}
+use Rattle.std.specs.Option.{option_map, option_or}
+use Rattle.std.proofs.lemmas.Bool.Decides.{nat_tests}
+use Rattle.std.proofs.lemmas.List.{get_or-take, get_or_default, length-take, take-append-drop, take_more}
+use Rattle.std.proofs.lemmas.List.Elements.{All-push}
+use Rattle.std.proofs.lemmas.List.Folds.{find-append}
+use Rattle.lwc_base.specs.declared.cell.Cell.{Cell}
+use Rattle.lwc_base.specs.declared.cell.Cell.TheVariants as cells
+use Rattle.lwc_base.specs.declared.item.Item.{Item}
+use Rattle.lwc_base.specs.declared.item.Mode.{Mode}
+use Rattle.lwc_base.specs.declared.item.Mode.TheVariants.{Copy, Share, Unmap}
+use Rattle.lwc_base.specs.declared.key.Key.{Key}
+use Rattle.lwc_base.specs.declared.key.Key.TheVariants.{Page}
+use Rattle.lwc_base.specs.declared.key.Kind.{Kind}
+use Rattle.lwc_base.specs.declared.key.Kind.TheVariants as kinds
+use Rattle.lwc_base.specs.declared.name.Name.{Name}
+use Rattle.lwc_base.specs.declared.page.PageValue.{PageValue}
+use Rattle.lwc_base.specs.Cells.{value_of}
+use Rattle.lwc_base.specs.Modes.{IsSpec, mode, mode_or_copy, names, overlaps, same_kind}
+use Rattle.lwc_base.specs.Sharing.{is_moved}
+use Rattle.lwc_base.specs.World.{Group, group}
+use Rattle.range_map.specs.Kinds.{IsSegment, is_between, kind_at, kind_of}
+use Rattle.range_map.specs.declared.segment.Segment.{Segment}
+use Rattle.range_map.specs.declared.segment.SegmentKind.{SegmentKind}
+use Rattle.range_map.specs.declared.segment.SegmentKind.TheVariants.{Own, Common}
+use Rattle.cow_space.specs.declared.stretches.Origin.{Origin}
+use Rattle.cow_space.specs.declared.stretches.Stretch.{Stretch}
+use Rattle.cow_space.specs.Changes.{IsApart, IsStretch}
+use Rattle.ctx_table.specs.NameTables.{ArePlaced}
+use Rattle.lazy_world.specs.Clones.{CopiesPages, item_origin, kind_origin, place_of_group}
+use Rattle.lazy_world.specs.Transfers.{CanGet, copied_origin, given, given_or, transferred_cell}
+use Rattle.lazy_world.specs.Sound.{IsAllOwn}
+use Rattle.lazy_world.specs.Origins.{origin_at}
+use Rattle.lazy_world.specs.States.{Parts, world_of}
+use Rattle.lazy_world.specs.declared.transfer.Transfer.TheVariants.{Clone}
+use Rattle.lazy_world.proofs.FoundLemmas.{held_own}
+use Rattle.lazy_world.proofs.PastLemmas.{find_none}
+use Rattle.lazy_world.proofs.WorldLemmas.{group-found, group-missed}
+
+-- the origins of stretches after others
+pub origin_append : (xs ys : List Stretch) (q : ℕ) → origin_at (xs ++ ys) q ≡ option_or (origin_at xs q) (origin_at ys q)
+origin_append xs ys q =
+    ap (option_map (λ (s : Stretch). s.origin)) (find-append (λ (s : Stretch). is_between s.range.from s.range.to q) xs ys)
+    ∙ at (find (λ (s : Stretch). is_between s.range.from s.range.to q) xs) (find (λ (s : Stretch). is_between s.range.from s.range.to q) ys)
+  where
+    at : (a b : Option Stretch) → option_map (λ (s : Stretch). s.origin) (option_or a b) ≡ option_or (option_map (λ s. s.origin) a) (option_map (λ s. s.origin) b)
+    at None b = refl
+    at (Some s) b = refl
+
+pub or_none : {X : Type 0} (o : Option X) → option_or o None ≡ o
+or_none None = refl
+or_none (Some x) = refl
+
+mode_append : (xs ys : List Item) (k : Key) → mode (xs ++ ys) k ≡ option_or (mode xs k) (mode ys k)
+unfolding mode
+mode_append xs ys k = ap (option_map (λ (x : Item). x.mode)) (find-append (λ x. names x k) xs ys) ∙ at (find (λ x. names x k) xs) (find (λ x. names x k) ys)
+  where
+    at : (a b : Option Item) → option_map (λ (x : Item). x.mode) (option_or a b) ≡ option_or (option_map (λ x. x.mode) a) (option_map (λ x. x.mode) b)
+    at None b = refl
+    at (Some x) b = refl
+
+-- an item that gives its pages no origin copies them
+pub copies_only : (from : ℕ) (m : Mode) → item_origin from (Some m) ≡ None → m ≡ Copy
+copies_only from Copy none = refl
+copies_only from Share none = cc
+copies_only from Unmap none = cc
+
+-- two items that name one page have a key in common
+both_name : (a b : Kind) (from to first end q : ℕ) → (same_kind a kinds.Page && nat_le from q && nat_lt q to) ≡ true → (same_kind b kinds.Page && nat_le first q && nat_lt q end) ≡ true →
+    (same_kind a b && nat_lt from end && nat_lt first to) ≡ false → ⊥
+both_name kinds.Page kinds.Page from to first end q here there apart = grind (arith, nat_tests)
+both_name kinds.Slot b from to first end q here there apart = cc
+both_name kinds.Cred b from to first end q here there apart = cc
+both_name kinds.Page kinds.Slot from to first end q here there apart = cc
+both_name kinds.Page kinds.Cred from to first end q here there apart = cc
+
+-- the origin that one stretch gives
+one_origin : (s : Stretch) (q : ℕ) (b : Bool) → is_between s.range.from s.range.to q ≡ b → origin_at (s ∷ []) q ≡ cond b (Some s.origin) None
+one_origin s q true on = ap (λ c. option_map (λ (s : Stretch). s.origin) (cond c (Some s) None)) on
+one_origin s q false off = ap (λ c. option_map (λ (s : Stretch). s.origin) (cond c (Some s) None)) off
+
+module _ (items : List Item) (pages : ℕ) (spec : IsSpec pages items) (i : ℕ) (d : Item) (inside : i < length items) (q : ℕ) where
+  abbrev item : Item
+  item = get_or items i d
+
+  off_page : (x : Item) (b : Bool) → names x (Page q) ≡ b → names item (Page q) ≡ true → overlaps x item ≡ false → names x (Page q) ≡ false
+  off_page x true there here apart = absurd (both_name x.kind item.kind x.from x.to item.from item.to q there here apart)
+  off_page x false there here apart = there
+
+  -- of the items before one that names a page none names it
+  none_before : names item (Page q) ≡ true → mode (take i items) (Page q) ≡ None
+  unfolding mode
+  none_before here =
+      ap (option_map (λ (x : Item). x.mode))
+      (find_none (λ x. names x (Page q)) (take i items)
+      (λ j e below.
+      let low : j < i = (let len = length-take i items in omega (arith, below, len)) in
+      let x = get_or items j e in
+      let apart : overlaps x item ≡ false = ap (overlaps x) (get_or_default items i d e inside) ∙ spec.apart j i e low inside in
+      ap (λ (y : Item). names y (Page q)) (get_or-take i items j e low) ∙ off_page x (names x (Page q)) refl here apart))
+
+  -- one more item decides for the pages that no item before it names
+  mode_more : mode (take (i + 1) items) (Page q) ≡ option_or (mode (take i items) (Page q)) (cond (names item (Page q)) (Some item.mode) None)
+  unfolding mode
+  mode_more =
+      ap (λ xs. option_map (λ (x : Item). x.mode) (find (λ x. names x (Page q)) xs)) (take_more items i d inside)
+      ∙ ap (option_map (λ (x : Item). x.mode)) (find-append (λ x. names x (Page q)) (take i items) (item ∷ []))
+      ∙ at (find (λ x. names x (Page q)) (take i items)) (names item (Page q))
+    where
+      at : (o : Option Item) (b : Bool) → option_map (λ (x : Item). x.mode) (option_or o (cond b (Some item) None)) ≡ option_or (option_map (λ x. x.mode) o) (cond b (Some item.mode) None)
+      at None true = refl
+      at None false = refl
+      at (Some x) b = refl
+
+  mode_named : names item (Page q) ≡ true → mode (take (i + 1) items) (Page q) ≡ Some item.mode
+  mode_named here = mode_more ∙ (λ x. option_or (none_before here x) (cond (here x) (Some item.mode) None))
+
+  mode_other : names item (Page q) ≡ false → mode (take (i + 1) items) (Page q) ≡ mode (take i items) (Page q)
+  mode_other off = mode_more ∙ ap (λ b. option_or (mode (take i items) (Page q)) (cond b (Some item.mode) None)) off ∙ or_none (mode (take i items) (Page q))
+
+  -- the item that names a page gives it its mode
+  mode_here : names item (Page q) ≡ true → mode items (Page q) ≡ Some item.mode
+  mode_here here =
+      ap (λ xs. mode xs (Page q)) (sym (take-append-drop (i + 1) items))
+      ∙ mode_append (take (i + 1) items) (drop (i + 1) items) (Page q)
+      ∙ ap (λ o. option_or o (mode (drop (i + 1) items) (Page q))) (mode_named here)
+
+  -- an item that copies its pages leaves all copied that were
+  pub still_copied : (names item (Page q) ≡ true → item.mode ≡ Copy) → mode_or_copy (take i items) (Page q) ≡ Copy → mode_or_copy (take (i + 1) items) (Page q) ≡ Copy
+  unfolding mode_or_copy
+  still_copied copies so_far = at (names item (Page q)) refl
+    where
+      at : (b : Bool) → names item (Page q) ≡ b → unwrap_or (mode (take (i + 1) items) (Page q)) Copy ≡ Copy
+      at true here = ap (λ o. unwrap_or o Copy) (mode_named here) ∙ copies here
+      at false off = ap (λ o. unwrap_or o Copy) (mode_other off) ∙ so_far
+
+  -- where all pages are copied, the item copies what it names
+  pub copied_here : CopiesPages items → names item (Page q) ≡ true → item.mode ≡ Copy
+  unfolding mode_or_copy
+  copied_here copies here = sym (ap (λ o. unwrap_or o Copy) (mode_here here)) ∙ copies q
+
+  module _ (from : ℕ) (stretches : List Stretch) (so_far : origin_at stretches q ≡ item_origin from (mode (take i items) (Page q))) where
+    -- an item whose pages are copied has no stretch
+    pub item_passed : (names item (Page q) ≡ true → item_origin from (Some item.mode) ≡ None) → origin_at stretches q ≡ item_origin from (mode (take (i + 1) items) (Page q))
+    item_passed copies = at (names item (Page q)) refl
+      where
+        at : (b : Bool) → names item (Page q) ≡ b → origin_at stretches q ≡ item_origin from (mode (take (i + 1) items) (Page q))
+        at true here = so_far ∙ ap (item_origin from) (none_before here) ∙ sym (ap (item_origin from) (mode_named here) ∙ copies here)
+        at false off = so_far ∙ sym (ap (item_origin from) (mode_other off))
+
+    -- another one has a stretch of its own
+    pub item_pushed : (s : Stretch) → is_between s.range.from s.range.to q ≡ names item (Page q) → Some s.origin ≡ item_origin from (Some item.mode) →
+        origin_at (stretches ++ s ∷ []) q ≡ item_origin from (mode (take (i + 1) items) (Page q))
+    item_pushed s same origin = origin_append stretches (s ∷ []) q ∙ at (names item (Page q)) refl
+      where
+        at : (b : Bool) → names item (Page q) ≡ b → option_or (origin_at stretches q) (origin_at (s ∷ []) q) ≡ item_origin from (mode (take (i + 1) items) (Page q))
+        at true here =
+            (λ x. option_or ((so_far ∙ ap (item_origin from) (none_before here)) x) (one_origin s q true (same ∙ here) x))
+            ∙ origin ∙ sym (ap (item_origin from) (mode_named here))
+        at false off =
+            ap (option_or (origin_at stretches q)) (one_origin s q false (same ∙ off))
+            ∙ or_none (origin_at stretches q) ∙ so_far ∙ sym (ap (item_origin from) (mode_other off))
+
+-- a place can get what an item gives of another one
+pub item_given : (from count to : ℕ) → from < count → from ≢ to → (m : Option Mode) → CanGet count to (item_origin from m)
+item_given from count to inside apart None = tt
+item_given from count to inside apart (Some Copy) = tt
+item_given from count to inside apart (Some Share) = (inside, apart)
+item_given from count to inside apart (Some Unmap) = tt
+
+module _ (s : Parts) (from : ℕ) where
+  -- the stretch of a segment
+  abbrev pub stretch_of : Segment → Stretch
+  stretch_of segment = record { range = record { from = segment.from; to = segment.to }; origin = kind_origin s from segment.kind }
+
+  module _ (segments : List Segment) (i : ℕ) (d : Segment) (inside : i < length segments) (q : ℕ) where
+    abbrev segment : Segment
+    segment = get_or segments i d
+
+    abbrev has : Bool
+    has = is_between segment.from segment.to q
+
+    kind_more : kind_at (take (i + 1) segments) q ≡ option_or (kind_at (take i segments) q) (cond has (Some segment.kind) None)
+    unfolding kind_at
+    kind_more =
+        ap (λ xs. option_map (λ (x : Segment). x.kind) (find (λ x. is_between x.from x.to q) xs)) (take_more segments i d inside)
+        ∙ ap (option_map (λ (x : Segment). x.kind)) (find-append (λ x. is_between x.from x.to q) (take i segments) (segment ∷ []))
+        ∙ at (find (λ x. is_between x.from x.to q) (take i segments)) has
+      where
+        at : (o : Option Segment) (b : Bool) → option_map (λ (x : Segment). x.kind) (option_or o (cond b (Some segment) None)) ≡ option_or (option_map (λ x. x.kind) o) (cond b (Some segment.kind) None)
+        at None true = refl
+        at None false = refl
+        at (Some x) b = refl
+
+    -- one more segment gives its origin to the pages that neither an item nor a segment before it has
+    pub segment_pushed : (first : Option Origin) (stretches : List Stretch) → origin_at stretches q ≡ option_or first (option_map (kind_origin s from) (kind_at (take i segments) q)) →
+        origin_at (stretches ++ stretch_of segment ∷ []) q ≡ option_or first (option_map (kind_origin s from) (kind_at (take (i + 1) segments) q))
+    segment_pushed first stretches so_far =
+        origin_append stretches (stretch_of segment ∷ []) q
+        ∙ (λ x. option_or (so_far x) (one_origin (stretch_of segment) q has refl x))
+        ∙ at first (kind_at (take i segments) q) has
+        ∙ sym (ap (λ o. option_or first (option_map (kind_origin s from) o)) kind_more)
+      where
+        at : (a : Option Origin) (o : Option SegmentKind) (b : Bool) → option_or (option_or a (option_map (kind_origin s from) o)) (cond b (Some (kind_origin s from segment.kind)) None)
+            ≡ option_or a (option_map (kind_origin s from) (option_or o (cond b (Some segment.kind) None)))
+        at (Some x) o b = refl
+        at None (Some k) b = refl
+        at None None true = refl
+        at None None false = refl
+
+  -- a place can get what a segment gives
+  module _ (count to : ℕ) (placed : ArePlaced s.groups) (long : length s.groups.places ≡ s.size.groups) (places : count ≡ s.size.contexts + s.size.groups) (inside : from < count) (apart : from ≢ to)
+      (low : to < s.size.contexts) where
+    group_given : (g : Name) (o : Option ℕ) → fm.get s.groups.map g ≡ o → IsApart count to (copied_origin (option_map (λ j. s.size.contexts + j) o))
+    group_given g None at = tt
+    group_given g (Some n) at =
+        let within = placed.within g n at in
+        (omega (arith, within, long, places), λ (there : s.size.contexts + n ≡ to). absurd (omega (arith, there, low)))
+
+    kind_given : (kind : SegmentKind) → IsApart count to (kind_origin s from kind)
+    kind_given Own = (inside, apart)
+    kind_given (Common g) = group_given g (fm.get s.groups.map g) refl
+
+    pub segment_given : (stretches : List Stretch) (segment : Segment) → IsSegment segment → All (IsStretch count to) stretches → All (IsStretch count to) (stretches ++ stretch_of segment ∷ [])
+    segment_given stretches segment is all =
+        All-push (IsStretch count to) stretches (stretch_of segment) all (record { order = omega (arith, is.some); inside = is.inside; given = kind_given segment.kind })
+
+-- a group's value is what its place has, if it is live
+pub group_copied : (s : Parts) → ((j : ℕ) → IsAllOwn (s.rows (s.size.contexts + j))) → (k : Key) (g : Name) → given s.rows k (copied_origin (place_of_group s g)) ≡ cells.Own ((group (world_of s) g).value k)
+group_copied s own k g = at (fm.get s.groups.map g) refl
+  where
+    at : (o : Option ℕ) → fm.get s.groups.map g ≡ o → given s.rows k (copied_origin (option_map (λ j. s.size.contexts + j) o)) ≡ cells.Own ((group (world_of s) g).value k)
+    at None missed = ap (λ (x : Group). cells.Own (x.value k)) (sym (group-missed s g missed))
+    at (Some j) found = held_own k (s.rows (s.size.contexts + j) k) (own j k) ∙ ap (λ (x : Group). cells.Own (x.value k)) (sym (group-found s g j found))
+
+-- the origins of a clone give what a clone gets, if nothing moves any more
+pub clone_gives : (s : Parts) → ((j : ℕ) → IsAllOwn (s.rows (s.size.contexts + j))) → (g : Name) (m : Option Mode) (from q : ℕ) (old : Cell (Option PageValue)) → is_moved (unwrap_or m Copy) (Page q) (s.rows from (Page q)) ≡ false →
+    given_or s.rows (Page q) (cells.Own None) (option_or (item_origin from m) (option_map (kind_origin s from) (kind_of (s.rows from (Page q)))))
+    ≡ transferred_cell (world_of s) (Clone g) m (Page q) (s.rows from (Page q)) old
+clone_gives s own g m from q old still = by m still
+  where
+    copied : (cell : Cell (Option PageValue)) → s.rows from (Page q) ≡ cell → given_or s.rows (Page q) (cells.Own None) (option_map (kind_origin s from) (kind_of cell)) ≡ cells.Own (value_of (world_of s) (Page q) cell)
+    copied (cells.Own None) is = refl
+    copied (cells.Own (Some value)) is = is
+    copied (cells.Common h) is = group_copied s own (Page q) h
+
+    by : (m : Option Mode) → is_moved (unwrap_or m Copy) (Page q) (s.rows from (Page q)) ≡ false →
+        given_or s.rows (Page q) (cells.Own None) (option_or (item_origin from m) (option_map (kind_origin s from) (kind_of (s.rows from (Page q))))) ≡ transferred_cell (world_of s) (Clone g) m (Page q) (s.rows from (Page q)) old
+    by None rests = copied (s.rows from (Page q)) refl
+    by (Some Copy) rests = copied (s.rows from (Page q)) refl
+    by (Some Share) rests = sym (ap (λ b. cond b (cells.Common g) (s.rows from (Page q))) rests)
+    by (Some Unmap) rests = refl

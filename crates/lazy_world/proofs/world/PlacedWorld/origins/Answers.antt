@@ -1,0 +1,19 @@
+use Rattle.std.proofs.Common.{arith, ap}
+use Rattle.lwc_base.specs.declared.key.Key.TheVariants.{Page}
+use Rattle.lazy_world.specs.Transfers.{given_or}
+use Rattle.lazy_world.specs.Seen.{count, rows}
+use Rattle.lazy_world.specs.declared.pieces.PageOrigins.TheVariants.{Stretches}
+use Rattle.lazy_world.specs.States.{world_of}
+use Rattle.lazy_world.specs.Worlds.{parts, seen}
+use Rattle.lazy_world.proofs.PastLemmas.{origin-transferred}
+use Rattle.lazy_world.proofs.world.PlacedWorld.origins.Goals as goal
+
+pub returns-clause-row : goal.returns-clause-row
+unfolding seen world_of parts
+returns-clause-row c =
+    let w = c.args.self.now in
+    origin-transferred (seen w) w.size.pages (count w.places) c.args.spec.now c.args.transfer (rows w.places) c.args.from c.args.to (record { pages = Stretches c.page_origins.result; slots = c.slot_origins.result; uid = c.uid_origin.result }) w.sound.sizes.size.pages.1 (omega arith)
+    c.requires.within (w.sound.past c.args.from) (w.sound.past c.args.to) c.page_origins.ensures.gives (λ q high. ap (given_or (rows w.places) (Page q) (rows w.places c.args.to (Page q))) (c.page_origins.ensures.past q high)) c.slot_origins.ensures c.uid_origin.ensures
+
+pub returns-clause-given : goal.returns-clause-given
+returns-clause-given c = record { pages = c.page_origins.ensures.given; slots = λ n low. (c.slot_origins.ensures n low).can; uid = c.uid_origin.ensures.can }

@@ -1,9 +1,0 @@
-pub mod Places
-pub mod OwnTags
-pub mod Changed
-pub mod KindChanges
-pub mod Written
-pub mod Taken
-pub mod WorldTags
-pub mod Elsewhere
-pub mod Zeroed

@@ -1,9 +1,0 @@
-pub mod Cells
-pub mod Changes
-pub mod Kept
-pub mod Laws
-pub mod Rows
-pub mod Seen
-pub mod Tags
-pub mod Worlds
-pub mod Writes
