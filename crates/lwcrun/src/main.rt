@@ -10,27 +10,7 @@ use std::io::{self, ErrorKind};
 use std::process::ExitCode;
 use std::rt::Env;
 
-#[cfg(test)]
-mod calling;
-#[cfg(test)]
-mod creating;
-#[cfg(test)]
-mod lines;
-#[cfg(test)]
-mod outside;
-#[cfg(test)]
-mod passes;
 mod progress;
-#[cfg(test)]
-mod replays;
-#[cfg(test)]
-mod running;
-#[cfg(test)]
-mod serving;
-#[cfg(test)]
-mod stepping;
-#[cfg(test)]
-mod switching;
 #[cfg(test)]
 mod tests;
 

@@ -25,7 +25,7 @@ pub struct Progress {
     start: Option<Instant>,
     turns: AtomicU64,
     requests: AtomicU64,
-    // The tenth of a second, counted from the start, in which the line was shown last; at first `QUIET_TENTHS`.
+    // The tenth of a second from the start in which the line was shown last; at first `QUIET_TENTHS`.
     tenth: AtomicU64,
     is_shown: AtomicBool,
 }

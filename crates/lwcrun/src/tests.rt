@@ -1,6 +1,13 @@
-//! Guests that are run whole, through the call behind the program, over files and sinks in memory.
+//! The call behind the program, over files and sinks in memory. `replay_cases` replays many more guests, over
+//! both worlds.
 
-use crate::replays::replayed;
+mod failures;
+mod lines;
+mod passes;
+mod replaying;
+mod running;
+mod stepping;
+
 use crate::words_or_none;
 use lwc_io::{Gate, MemoryFiles, MemorySink, NamedFile, OpenGate};
 use lwcrun_core::{ExitStatus, lwcrun};
@@ -27,30 +34,8 @@ pub const TWO_THREADS: [u64; 5] = [
     0x2500_0000_0000_0000,
 ];
 
-/// `LI r1, 5` / `DIVU r2, r1, r0` / `REMU r3, r1, r0` / `ADDI r4, r0, -1` / `SHL r5, r1, r4` / `HALT`.
-const ARITHMETIC: [u64; 6] = [
-    0x0101_0000_0500_0000,
-    0x0702_0100_0000_0000,
-    0x0803_0100_0000_0000,
-    0x1004_0000_ffff_ffff,
-    0x0c05_0104_0000_0000,
-    0x2500_0000_0000_0000,
-];
-
 /// `JMP 0`.
 const ENDLESS: [u64; 1] = [0x1100_0000_0000_0000];
-
-/// `SYS 11`, which no call has, and `HALT`.
-const NO_CALL: [u64; 2] = [0x2400_0000_0b00_0000, 0x2500_0000_0000_0000];
-
-/// `ADDI r1, r0, -1` / `JR r1`.
-const JUMPS_AWAY: [u64; 2] = [0x1001_0000_ffff_ffff, 0x1500_0100_0000_0000];
-
-/// `ADDI r4, r0, 4` / `LDW r6, r4, 0`: a word at no multiple of 8.
-const MISALIGNED: [u64; 2] = [0x1004_0000_0400_0000, 0x2106_0400_0000_0000];
-
-/// `LI r4, 4096` / `STB r4, r4, 0`: a byte of a page that is not there.
-const PAST_ITS_PAGE: [u64; 2] = [0x0104_0000_0010_0000, 0x2200_0404_0000_0000];
 
 /// A page of an image: its number, and its bytes as far as they are not the zeros at its end.
 pub type PageOf = (u32, &'static [u8]);
@@ -191,112 +176,37 @@ pub const STORED: &str =
     "thread 0 done 0 ctx 0.0 pc 3\nregs 0 0 7 7 0 0 0 0 0 0 0 0 0 0 0 0 0\ncontext 0.0 pages 1 slots 2 uid 0\n\
     groups 0\nconsole -\nused 1\npeak 1\nsteps 3\nschedule 000\n";
 
-#[test]
-fn guests_run_as_their_schedules_say(rt: HostRuntime) -> Result<(), Fail> {
-    let alloc = rt.alloc();
-    let store_load = image(alloc, &STORE_LOAD, &[ZEROS], &[0])?;
-    let two_threads = image(alloc, &TWO_THREADS, &[ZEROS], &[0, 3])?;
-    let arithmetic = image(alloc, &ARITHMETIC, &[], &[0])?;
-    let no_call = image(alloc, &NO_CALL, &[], &[0])?;
-    let jumps_away = image(alloc, &JUMPS_AWAY, &[], &[0])?;
-    let misaligned = image(alloc, &MISALIGNED, &[ZEROS], &[0])?;
-    let past_its_page = image(alloc, &PAST_ITS_PAGE, &[ZEROS], &[0])?;
-    let cases = [
-        (&store_load, "000", STORED),
-        (&store_load, "0 0\n0", STORED),
-        (
-            &store_load,
-            "",
-            "thread 0 running ctx 0.0 pc 0\nregs 0 0 0 0 0 0 0 0 0 0 0 0 0 0 0 0 0\n\
-            context 0.0 pages 1 slots 2 uid 0\ngroups 0\nconsole -\nused 1\npeak 1\nsteps 0\nschedule -\n",
-        ),
-        (
-            &two_threads,
-            "0101",
-            "thread 0 done 0 ctx 0.0 pc 2\nregs 0 0 0 0 0 0 7 0 0 0 0 0 0 0 0 0 0\n\
-            thread 1 done 0 ctx 0.0 pc 4\nregs 1 0 0 0 0 0 0 7 0 0 0 0 0 0 0 0 0\n\
-            context 0.0 pages 1 slots 2 uid 0\ngroups 0\nconsole -\nused 1\npeak 1\nsteps 4\nschedule 0101\n",
-        ),
-        (
-            &two_threads,
-            "1010",
-            "thread 0 done 0 ctx 0.0 pc 2\nregs 0 0 0 0 0 0 7 0 0 0 0 0 0 0 0 0 0\n\
-            thread 1 done 0 ctx 0.0 pc 4\nregs 1 0 0 0 0 0 0 0 0 0 0 0 0 0 0 0 0\n\
-            context 0.0 pages 1 slots 2 uid 0\ngroups 0\nconsole -\nused 1\npeak 1\nsteps 4\nschedule 1010\n",
-        ),
-        (
-            &arithmetic,
-            "0",
-            "thread 0 done 0 ctx 0.0 pc 5\n\
-            regs 0 0 5 18446744073709551615 5 18446744073709551615 9223372036854775808 0 0 0 0 0 0 0 0 0 0\n\
-            context 0.0 pages 0 slots 2 uid 0\ngroups 0\nconsole -\nused 0\npeak 0\nsteps 1\nschedule 0\n",
-        ),
-        (
-            &no_call,
-            "0",
-            "thread 0 running ctx 0.0 pc 1\nregs 0 18446744073709551614 0 0 0 0 0 0 0 0 0 0 0 0 0 0 0\n\
-            context 0.0 pages 0 slots 2 uid 0\ngroups 0\nconsole -\nused 0\npeak 0\nsteps 1\nschedule 0\n",
-        ),
-        (
-            &jumps_away,
-            "00",
-            "thread 0 fault 1 ctx 0.0 pc 18446744073709551615\n\
-            regs 0 0 18446744073709551615 0 0 0 0 0 0 0 0 0 0 0 0 0 0\n\
-            context 0.0 pages 0 slots 2 uid 0\ngroups 0\nconsole -\nused 0\npeak 0\nsteps 1\nschedule 0\n",
-        ),
-        (
-            &misaligned,
-            "0",
-            "thread 0 fault 2 ctx 0.0 pc 1\nregs 0 0 0 0 0 4 0 0 0 0 0 0 0 0 0 0 0\n\
-            context 0.0 pages 1 slots 2 uid 0\ngroups 0\nconsole -\nused 1\npeak 1\nsteps 1\nschedule 0\n",
-        ),
-        (
-            &past_its_page,
-            "0",
-            "thread 0 fault 3 ctx 0.0 pc 1\nregs 0 0 0 0 0 4096 0 0 0 0 0 0 0 0 0 0 0\n\
-            context 0.0 pages 1 slots 2 uid 0\ngroups 0\nconsole -\nused 1\npeak 1\nsteps 1\nschedule 0\n",
-        ),
-    ];
-    for (guest, schedule, report) in cases {
-        let text = replayed(&rt, guest, schedule.as_bytes(), b"", &REPLAY)?;
-        assert_eq!(rt; text.as_slice(), report.as_bytes(), "{report}");
-    }
-    Ok(())
-}
-
 /// The message of a line that is not accepted.
 pub const USAGE: &str =
     "lwcrun: usage: lwcrun replay IMAGE SCHEDULE [REQUESTS], run IMAGE, serve IMAGE REQUESTS, asm SOURCE, \
     dis IMAGE, gen NUMBER; --frames F --budget B --workers W\n";
 
 #[test]
-fn lines_set_frames_and_budget(rt: HostRuntime) -> Result<(), Fail> {
+fn guests_run_as_their_schedules_say(rt: HostRuntime) -> Result<(), Fail> {
     let alloc = rt.alloc();
+    let store_load = image(alloc, &STORE_LOAD, &[ZEROS], &[0])?;
+    for schedule in ["000", "0 0\n0"] {
+        let left = call(&rt, &store_load, schedule.as_bytes(), &REPLAY, SURE)?;
+        assert_eq!(rt; left.status, ExitStatus::Ok);
+        assert_eq!(rt; left.out.bytes(), STORED.as_bytes());
+    }
     let endless = image(alloc, &ENDLESS, &[], &[0])?;
     let words = ["replay", "guest", "schedule", "--budget", "3"];
-    let text = replayed(&rt, &endless, b"0000", b"", &words)?;
+    let left = call(&rt, &endless, b"0000", &words, SURE)?;
     assert_eq!(rt;
-        text.as_slice(),
+        left.out.bytes(),
         b"thread 0 fault 5 ctx 0.0 pc 0\nregs 0 0 0 0 0 0 0 0 0 0 0 0 0 0 0 0 0\n\
         context 0.0 pages 0 slots 2 uid 0\ngroups 0\nconsole -\nused 0\npeak 0\nsteps 3\nschedule 000\n"
             .as_slice()
     );
-    let two_pages = image(alloc, &STORE_LOAD, &[ZEROS, (1, &[])], &[0])?;
-    let words = ["replay", "guest", "schedule", "--frames", "2"];
-    let text = replayed(&rt, &two_pages, b"000", b"", &words)?;
-    assert_eq!(rt;
-        text.as_slice(),
-        b"thread 0 done 0 ctx 0.0 pc 3\nregs 0 0 7 7 0 0 0 0 0 0 0 0 0 0 0 0 0\n\
-        context 0.0 pages 2 slots 2 uid 0\ngroups 0\nconsole -\nused 2\npeak 2\nsteps 3\nschedule 000\n"
-            .as_slice()
-    );
-    let left = call(
-        &rt,
-        &two_pages,
-        b"000",
-        &["replay", "guest", "schedule", "--frames", "1"],
-        SURE,
-    )?;
+    Ok(())
+}
+
+#[test]
+fn an_image_larger_than_the_frames_is_refused(rt: HostRuntime) -> Result<(), Fail> {
+    let guest = image(rt.alloc(), &STORE_LOAD, &[ZEROS, (1, &[])], &[0])?;
+    let words = ["replay", "guest", "schedule", "--frames", "1"];
+    let left = call(&rt, &guest, b"000", &words, SURE)?;
     assert_eq!(rt; left.status, ExitStatus::ImageTooLarge);
     assert_eq!(rt;
         left.err.bytes(),

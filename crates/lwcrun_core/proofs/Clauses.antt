@@ -6,7 +6,6 @@ use Rattle.std.specs.Prelude.{nat_lt}
 use Rattle.std.specs.List.{range_with_len}
 use Rattle.byte_reading.specs.Outcomes.{Refusal}
 use Rattle.guest_asm.specs.Drafts.{assembled}
-use Rattle.guest_image.specs.Facts.{ReadingFacts}
 use Rattle.guest_image.specs.Limits.{IsImage}
 use Rattle.guest_image.specs.Reading.{image_at}
 use Rattle.guest_image.specs.Spelling.{spelling}
@@ -19,24 +18,30 @@ use Rattle.kernel_core.specs.Start.{Inputs, start, threads_for}
 use Rattle.kernel_core.specs.declared.settings.Job.TheVariants as jobs
 use Rattle.lwc_gen.specs.Generated.{generated}
 use Rattle.lwc_gen.specs.Summary.{recorded_reply, replies_of, summary_after, summary_line, totals_of}
-use Rattle.lwcrun_core.specs.Serving.{EachHasReply, RepliesAreAlone, reply_alone, summary_alone}
+use Rattle.lwcrun_core.specs.Serving.{EachHasReply, NoneIsShort, RepliesAreAlone, reply_alone, summary_alone}
+use Rattle.confinement.proofs.EachRun.{run_confined}
+use Rattle.guest_image.proofs.Answered.{reading_facts}
+use Rattle.lwc_gen.proofs.Served.{can_open}
+use Rattle.lwc_text.proofs.RequestLines.{file_is_read, is_file}
+use Rattle.lwc_text.proofs.Steps.{is_read, is_schedule}
+use Rattle.request_isolation.proofs.Isolated.{never_full, recorded_alone}
+use Rattle.request_isolation.proofs.Serves.{each_reply, requests_stay}
 use Rattle.request_isolation.specs.Needs.{HasFrames}
 use Rattle.request_isolation.specs.Replies.{HasReply}
 use Rattle.snapshot_host.specs.declared.finishing.Finished.{Finished}
 use Rattle.kernel_core.specs.declared.settings.Settings.{Settings}
 use Rattle.lwc_base.specs.declared.limits.TheConstants.{MOST_IMAGE_BYTES, MOST_REQUEST_FILE_BYTES, MOST_SCHEDULE_BYTES, MOST_SOURCE_BYTES, MOST_STEPS}
 use Rattle.lwc_io.specs.Outside.{Fetch, FilesView, appended}
-use Rattle.lwc_text.specs.Facts.{RequestFacts, ScheduleFacts}
 use Rattle.lwc_text.specs.Requests.{IsRequestFile, requests_at}
 use Rattle.lwc_text.specs.Schedules.{IsSchedule, schedule_at}
 use Rattle.lwcrun_core.specs.declared.ending.Rejection.{Rejection}
 use Rattle.lwcrun_core.specs.declared.ending.Rejection.TheVariants as rejections
 use Rattle.lwcrun_core.specs.declared.status.ExitStatus.{ExitStatus}
 use Rattle.lwcrun_core.specs.declared.status.ExitStatus.TheVariants as statuses
-use Rattle.lwcrun_core.specs.Calls.{AreContents, AreRequestsIn, CallEnded, FetchesNamed, FetchesPlan, FileFailed, Headline, IsFitting, IsNameIn, IsOrNoMemory, IsRejected, IsRunnable, IsUndisturbed, Names, NoFault, WroteHistory, WroteServe, status_by}
+use Rattle.lwcrun_core.specs.Calls.{AreContents, AreRequestsIn, CallEnded, FetchesNamed, FetchesPlan, FileFailed, Headline, IsFitting, IsNameIn, IsOrNoMemory, IsRejected, IsRunnable, IsUndisturbed, Names, NoFault, WroteServe, status_by}
 use Rattle.lwcrun_core.specs.Ends.{End, Outside, Ended, FetchFailed, IsUnhindered, IsUnwritten, NothingFailed, WriteFailed, end_by}
 use Rattle.lwcrun_core.specs.Ends as ends
-use Rattle.lwcrun_core.specs.Headline.{IsText, Work, after_image, after_schedule, after_server, asm_plan, dis_plan, gen_plan, inputs_of, plan_of, read_by, replay_plan, run_plan, serve_plan}
+use Rattle.lwcrun_core.specs.Headline.{IsText, Work, after_image, after_schedule, after_server, asm_plan, dis_plan, gen_plan, inputs_of, plan_of, read_by, replay_plan, run_plan, serve_plan, text_of}
 use Rattle.lwcrun_core.specs.Headline as works
 use Rattle.lwcrun_core.specs.Images.{bounded, bounded_requests_of, fitted, fitting_image_of, image_of, or_rejected, requests_of, schedule_of, serve_steps, source_of, then_tested}
 use Rattle.lwcrun_core.specs.Lines.{AreReplaySettings, AreServeSettings, Command, IsWithinLimits}
@@ -174,190 +179,196 @@ leads_by files grammar limit name next work known is (bytes, may, fits, leads) =
     let read = of_read files (grammar bytes) next work leads in
     (read.0, ap grammar same ∙ read.1, subst (All (λ b. b < 256)) (sym same) fits, read.2)
 
+-- what was written is the text of a complete history
+abbrev WroteSteps : Outside → Inputs → Type 0
+WroteSteps o inputs = (steps : List ℕ) × IsComplete (start inputs) steps × (o.out_after.taken ≡ appended o.out.taken (text_of inputs steps))
+
 -- the text of threads that went on by themselves is that of a complete history
-wrote : (o : Outside) (inputs : Inputs) (work : Work) (text : List ℕ) → work ≡ works.Running inputs → IsText work text → o.out_after.taken ≡ appended o.out.taken text → WroteHistory o inputs
+wrote : (o : Outside) (inputs : Inputs) (work : Work) (text : List ℕ) → work ≡ works.Running inputs → IsText work text → o.out_after.taken ≡ appended o.out.taken text → WroteSteps o inputs
 wrote o inputs work text is_work is taken =
     let h : IsText (works.Running inputs) text = (let P : Work → Type 0 = λ w. IsText w text in subst P is_work is) in
     (h.0, h.1, taken ∙ ap (appended o.out.taken) h.2)
 
-module _ (images : ReadingFacts) (schedules : ScheduleFacts) (files_of : RequestFacts) where
-  schedule_accepted : (threads : ℕ) (bytes steps : List ℕ) → IsSchedule threads bytes steps → schedule_of threads bytes ≡ Ok steps
-  schedule_accepted threads bytes steps is = schedule_read threads bytes steps (schedules.reads threads bytes steps is)
+schedule_accepted : (threads : ℕ) (bytes steps : List ℕ) → IsSchedule threads bytes steps → schedule_of threads bytes ≡ Ok steps
+schedule_accepted threads bytes steps is = schedule_read threads bytes steps (is_read threads bytes steps is)
 
-  requests_accepted : (bytes : List ℕ) (asked : List (List ℕ)) → IsRequestFile bytes asked → requests_of bytes ≡ Ok asked
-  requests_accepted bytes asked is = requests_read bytes asked (files_of.reads bytes asked is)
+requests_accepted : (bytes : List ℕ) (asked : List (List ℕ)) → IsRequestFile bytes asked → requests_of bytes ≡ Ok asked
+requests_accepted bytes asked is = requests_read bytes asked (file_is_read bytes asked is)
 
-  image_accepted : (bytes : List ℕ) (image : Image) → IsImage image → bytes ≡ spelling image → image_of bytes ≡ Ok image
-  image_accepted bytes image is spelled = image_read bytes image (ap image_at spelled ∙ images.reads image is)
+image_accepted : (bytes : List ℕ) (image : Image) → IsImage image → bytes ≡ spelling image → image_of bytes ≡ Ok image
+image_accepted bytes image is spelled = image_read bytes image (ap image_at spelled ∙ reading_facts.reads image is)
 
-  fitting_accepted : (settings : Settings) (bytes : List ℕ) (image : Image) → IsFitting settings bytes image → fitting_image_of settings.frames bytes ≡ Ok image
-  unfolding fitting_image_of
-  fitting_accepted settings bytes image is =
-      ap (λ r. then_tested r (fitted settings.frames)) (image_accepted bytes image is.image is.spelled) ∙ image_fits settings.frames image is.fits
+fitting_accepted : (settings : Settings) (bytes : List ℕ) (image : Image) → IsFitting settings bytes image → fitting_image_of settings.frames bytes ≡ Ok image
+unfolding fitting_image_of
+fitting_accepted settings bytes image is =
+    ap (λ r. then_tested r (fitted settings.frames)) (image_accepted bytes image is.image is.spelled) ∙ image_fits settings.frames image is.fits
 
-  image_found : (bytes : List ℕ) (image : Image) → All (λ b. b < 256) bytes → image_of bytes ≡ Ok image → IsImage image × (bytes ≡ spelling image)
-  unfolding image_of
-  image_found bytes image fits e = images.found bytes image fits (or_rejected_ok rejections.Image (image_at bytes) image e)
+image_found : (bytes : List ℕ) (image : Image) → All (λ b. b < 256) bytes → image_of bytes ≡ Ok image → IsImage image × (bytes ≡ spelling image)
+unfolding image_of
+image_found bytes image fits e = reading_facts.found bytes image fits (or_rejected_ok rejections.Image (image_at bytes) image e)
 
-  fitting_found : (settings : Settings) (bytes : List ℕ) (image : Image) → All (λ b. b < 256) bytes → fitting_image_of settings.frames bytes ≡ Ok image → IsFitting settings bytes image
-  unfolding fitting_image_of
-  fitting_found settings bytes image fits e =
-      let read = tested (image_of bytes) (fitted settings.frames) image e in
-      let small = fitted_found settings.frames read.0 image read.2 in
-      let spelled = image_found bytes image fits (read.1 ∙ ap (λ x. Ok x) small.0) in
-      record { image = spelled.0; spelled = spelled.1; fits = subst (λ (x : Image). length x.pages ≤ settings.frames) small.0 small.1 }
+fitting_found : (settings : Settings) (bytes : List ℕ) (image : Image) → All (λ b. b < 256) bytes → fitting_image_of settings.frames bytes ≡ Ok image → IsFitting settings bytes image
+unfolding fitting_image_of
+fitting_found settings bytes image fits e =
+    let read = tested (image_of bytes) (fitted settings.frames) image e in
+    let small = fitted_found settings.frames read.0 image read.2 in
+    let spelled = image_found bytes image fits (read.1 ∙ ap (λ x. Ok x) small.0) in
+    record { image = spelled.0; spelled = spelled.1; fits = subst (λ (x : Image). length x.pages ≤ settings.frames) small.0 small.1 }
 
-  schedule_found : (threads : ℕ) (bytes steps : List ℕ) → schedule_of threads bytes ≡ Ok steps → IsSchedule threads bytes steps
-  unfolding schedule_of
-  schedule_found threads bytes steps e = schedules.found threads bytes steps (or_rejected_ok rejections.Input (schedule_at threads bytes) steps e)
+schedule_found : (threads : ℕ) (bytes steps : List ℕ) → schedule_of threads bytes ≡ Ok steps → IsSchedule threads bytes steps
+unfolding schedule_of
+schedule_found threads bytes steps e = is_schedule threads bytes steps (or_rejected_ok rejections.Input (schedule_at threads bytes) steps e)
 
-  requests_found : (bytes : List ℕ) (asked : List (List ℕ)) → requests_of bytes ≡ Ok asked → IsRequestFile bytes asked
-  unfolding requests_of
-  requests_found bytes asked e = files_of.found bytes asked (or_rejected_ok rejections.Input (requests_at bytes) asked e)
+requests_found : (bytes : List ℕ) (asked : List (List ℕ)) → requests_of bytes ≡ Ok asked → IsRequestFile bytes asked
+unfolding requests_of
+requests_found bytes asked e = is_file bytes asked (or_rejected_ok rejections.Input (requests_at bytes) asked e)
 
-  -- where the plan of accepted files leads
+-- where the plan of accepted files leads
 
-  over_schedule : (bytes : List ℕ → List ℕ) (requests : Option (List ℕ)) (settings : Settings) (image : Image) (steps : List ℕ) (asked : List (List ℕ)) → AreRequestsIn requests bytes asked → outcome bytes (after_schedule requests settings image steps) ≡ Ok (works.Replaying (inputs_of image asked settings) steps)
-  unfolding after_schedule
-  over_schedule bytes None settings image steps asked none = ap (λ a. Ok (works.Replaying (inputs_of image a settings) steps)) (sym none)
-  over_schedule bytes (Some requests) settings image steps asked is = over bytes _ asked (replayed settings image steps) (requests_accepted (bytes requests) asked is)
+over_schedule : (bytes : List ℕ → List ℕ) (requests : Option (List ℕ)) (settings : Settings) (image : Image) (steps : List ℕ) (asked : List (List ℕ)) → AreRequestsIn requests bytes asked → outcome bytes (after_schedule requests settings image steps) ≡ Ok (works.Replaying (inputs_of image asked settings) steps)
+unfolding after_schedule
+over_schedule bytes None settings image steps asked none = ap (λ a. Ok (works.Replaying (inputs_of image a settings) steps)) (sym none)
+over_schedule bytes (Some requests) settings image steps asked is = over bytes _ asked (replayed settings image steps) (requests_accepted (bytes requests) asked is)
 
-  runs : (bytes : List ℕ → List ℕ) (command : Command) → IsRunnable command bytes → (work : Work) × (outcome bytes (plan_of command) ≡ Ok work)
-  unfolding replay_plan after_image run_plan serve_plan after_server asm_plan dis_plan gen_plan
-  runs bytes (commands.Replay image schedule requests settings) (x, steps, asked, h) = (
-    works.Replaying (inputs_of x asked settings) steps,
-    over bytes _ x (after_image schedule requests settings) (fitting_accepted settings (bytes image) x h.guest)
-        ∙ over bytes _ steps (after_schedule requests settings x) (schedule_accepted _ (bytes schedule) steps h.scheduled)
-        ∙ over_schedule bytes requests settings x steps asked h.requested,
-  )
-  runs bytes (commands.Run image settings) (x, h) =
-      (works.Running (inputs_of x [] settings), over bytes _ x (ran settings) (fitting_accepted settings (bytes image) x h))
-  runs bytes (commands.Serve image requests settings) (x, asked, h) = (
-    works.Running (inputs_of x asked settings),
-    over bytes _ x (after_server requests settings) (fitting_accepted settings (bytes image) x h.guest)
-        ∙ over bytes _ asked (served settings x) (requests_bounded settings (bytes requests) asked (files_of.reads (bytes requests) asked h.requested) h.few),
-  )
-  runs bytes (commands.Asm source) (x, is) = (works.Assembling x, over bytes _ x made (source_read (bytes source) x is))
-  runs bytes (commands.Dis image) (x, is, spelled) = (works.Disassembling x, over bytes _ x listed (image_accepted (bytes image) x is spelled))
-  runs bytes (commands.Gen number) runnable = (works.Generating number, refl)
-
--- what the requests of a serve may rely on
-pub record ServeFacts : Type 0 where
-  pub replied : (inputs : Inputs) (steps : List ℕ) (workers r : ℕ) → CanOpen inputs → inputs.settings.job ≡ jobs.Serve workers → IsComplete (start inputs) steps → r < length inputs.requests → HasReply (run (start inputs) steps) r
-  pub alone : (inputs : Inputs) (steps : List ℕ) (r : ℕ) (told : Finished) → CanOpen inputs → HasFrames inputs → reply_of (run (start inputs) steps) r ≡ Some told → reply_alone inputs r ≡ Some told
-  pub requests : (inputs : Inputs) (steps : List ℕ) (workers : ℕ) → CanOpen inputs → inputs.settings.job ≡ jobs.Serve workers → length (run (start inputs) steps).environment.channels.requests ≡ length inputs.requests
-  pub generated : (number : ℕ) → number ≤ 100 → CanOpen (generated number)
+runs : (bytes : List ℕ → List ℕ) (command : Command) → IsRunnable command bytes → (work : Work) × (outcome bytes (plan_of command) ≡ Ok work)
+unfolding replay_plan after_image run_plan serve_plan after_server asm_plan dis_plan gen_plan
+runs bytes (commands.Replay image schedule requests settings) (x, steps, asked, h) = (
+  works.Replaying (inputs_of x asked settings) steps,
+  over bytes _ x (after_image schedule requests settings) (fitting_accepted settings (bytes image) x h.guest)
+      ∙ over bytes _ steps (after_schedule requests settings x) (schedule_accepted _ (bytes schedule) steps h.scheduled)
+      ∙ over_schedule bytes requests settings x steps asked h.requested,
+)
+runs bytes (commands.Run image settings) (x, h) =
+    (works.Running (inputs_of x [] settings), over bytes _ x (ran settings) (fitting_accepted settings (bytes image) x h))
+runs bytes (commands.Serve image requests settings) (x, asked, h) = (
+  works.Running (inputs_of x asked settings),
+  over bytes _ x (after_server requests settings) (fitting_accepted settings (bytes image) x h.guest)
+      ∙ over bytes _ asked (served settings x) (requests_bounded settings (bytes requests) asked (file_is_read (bytes requests) asked h.requested) h.few),
+)
+runs bytes (commands.Asm source) (x, is) = (works.Assembling x, over bytes _ x made (source_read (bytes source) x is))
+runs bytes (commands.Dis image) (x, is, spelled) = (works.Disassembling x, over bytes _ x listed (image_accepted (bytes image) x is spelled))
+runs bytes (commands.Gen number) runnable = (works.Generating number, refl)
 
 mapped_alike : {A : Type 0} (f g : ℕ → A) (from n : ℕ) → ((r : ℕ) → r < from + n → f r ≡ g r) → map f (range_with_len from n) ≡ map g (range_with_len from n)
 mapped_alike f g from zero same = refl
 mapped_alike f g from (suc n) same =
     ap₂ (λ y ys. y ∷ ys) (same from (omega arith)) (mapped_alike f g (from + 1) n (λ r inside. same r (omega (arith, inside))))
 
-module _ (images : ReadingFacts) (schedules : ScheduleFacts) (files_of : RequestFacts) (serves : ServeFacts) where
-  -- requests in a file are within the limits
-  are_requests : (bytes : List ℕ) (asked : List (List ℕ)) → IsRequestFile bytes asked → AreRequests asked
-  are_requests bytes asked is = record { few = is.few; short = is.small }
+-- requests in a file are within the limits
+are_requests : (bytes : List ℕ) (asked : List (List ℕ)) → IsRequestFile bytes asked → AreRequests asked
+are_requests bytes asked is = record { few = is.few; short = is.small }
 
-  -- a serve of accepted files can be opened
-  serve_opens : (settings : Settings) (bytes requests : List ℕ) (image : Image) (asked : List (List ℕ)) → AreServeSettings settings → IsFitting settings bytes image → IsRequestFile requests asked → CanOpen (inputs_of image asked settings)
-  serve_opens settings bytes requests image asked within is file = record {
-    image = is.image;
-    settings = within.limits;
-    fits = is.fits;
-    requests = subst (λ job. MayHave job asked) (sym within.job) (are_requests requests asked file);
-  }
+-- a serve of accepted files can be opened
+serve_opens : (settings : Settings) (bytes requests : List ℕ) (image : Image) (asked : List (List ℕ)) → AreServeSettings settings → IsFitting settings bytes image → IsRequestFile requests asked → CanOpen (inputs_of image asked settings)
+serve_opens settings bytes requests image asked within is file = record {
+  image = is.image;
+  settings = within.limits;
+  fits = is.fits;
+  requests = subst (λ job. MayHave job asked) (sym within.job) (are_requests requests asked file);
+}
 
-  -- a replay of accepted files can be opened
-  replay_opens : (requests : Option (List ℕ)) (settings : Settings) (bytes : List ℕ → List ℕ) (spelled : List ℕ) (image : Image) (asked : List (List ℕ)) → AreReplaySettings requests settings → IsFitting settings spelled image → AreRequestsIn requests bytes asked → CanOpen (inputs_of image asked settings)
-  replay_opens None settings bytes spelled image asked within is none =
-      record { image = is.image; settings = within.limits; fits = is.fits; requests = subst (λ job. MayHave job asked) (sym within.job) none }
-  replay_opens (Some requests) settings bytes spelled image asked within is file = serve_opens settings spelled (bytes requests) image asked within is file
+-- a replay of accepted files can be opened
+replay_opens : (requests : Option (List ℕ)) (settings : Settings) (bytes : List ℕ → List ℕ) (spelled : List ℕ) (image : Image) (asked : List (List ℕ)) → AreReplaySettings requests settings → IsFitting settings spelled image → AreRequestsIn requests bytes asked → CanOpen (inputs_of image asked settings)
+replay_opens None settings bytes spelled image asked within is none =
+    record { image = is.image; settings = within.limits; fits = is.fits; requests = subst (λ job. MayHave job asked) (sym within.job) none }
+replay_opens (Some requests) settings bytes spelled image asked within is file = serve_opens settings spelled (bytes requests) image asked within is file
 
-  -- each request of a finished serve has a reply
-  each_replied : (inputs : Inputs) (steps : List ℕ) (workers : ℕ) → CanOpen inputs → inputs.settings.job ≡ jobs.Serve workers → IsComplete (start inputs) steps → EachHasReply inputs steps
-  each_replied inputs steps workers can job complete r inside = serves.replied inputs steps workers r can job complete inside
+-- each request of a finished serve has a reply
+each_replied : (inputs : Inputs) (steps : List ℕ) (workers : ℕ) → CanOpen inputs → inputs.settings.job ≡ jobs.Serve workers → IsComplete (start inputs) steps → EachHasReply inputs steps
+each_replied inputs steps workers can job complete r inside = each_reply inputs steps workers r can job complete inside
 
-  -- with enough frames each reply is that of its request alone
-  each_alone : (inputs : Inputs) (steps : List ℕ) → CanOpen inputs → RepliesAreAlone inputs steps
-  each_alone inputs steps can frames r told is = serves.alone inputs steps r told can frames is
+-- with enough frames each reply is that of its request alone
+each_alone : (inputs : Inputs) (steps : List ℕ) → CanOpen inputs → RepliesAreAlone inputs steps
+each_alone inputs steps can frames r told is = recorded_alone inputs can steps r told is frames
 
-  -- the text of a serve is that of a complete history in which the requests are served
-  wrote_serve : (o : Outside) (inputs : Inputs) (workers : ℕ) → CanOpen inputs → inputs.settings.job ≡ jobs.Serve workers → WroteHistory o inputs → WroteServe o inputs
-  wrote_serve o inputs workers can job h = (h.0, h.1, each_replied inputs h.0 workers can job h.1, each_alone inputs h.0 can, h.2)
+-- and no step finds too few
+none_short : (inputs : Inputs) (steps : List ℕ) → CanOpen inputs → NoneIsShort inputs steps
+none_short inputs steps can workers job frames before rest t is short = never_full inputs workers can job frames before t short
 
-  -- the summary of a generated serve is that of the replies that its requests get alone, with enough frames
-  summed_alone : (number : ℕ) (steps : List ℕ) → number ≤ 100 → IsComplete (start (generated number)) steps → HasFrames (generated number) → summary_after (generated number) number steps ≡ summary_alone number
-  unfolding replies_of
-  summed_alone number steps few complete frames =
-      let can = serves.generated number few in
-      let m = run (start (generated number)) steps in
-      let one : (r : ℕ) → r < 0 + length (generated number).requests → recorded_reply (reply_of m r) ≡ recorded_reply (reply_alone (generated number) r) =
-      (λ r inside.
-      let told = serves.replied (generated number) steps 8 r can refl complete (omega (arith, inside)) in
-      ap recorded_reply (told.recorded ∙ sym (serves.alone (generated number) steps r told.reply can frames told.recorded))) in
-      let count : length m.environment.channels.requests ≡ length (generated number).requests = serves.requests (generated number) steps 8 can refl in
-      ap (λ n. summary_line number (totals_of (map (λ r. recorded_reply (reply_of m r)) (range_with_len 0 n)))) count
-      ∙ ap (λ l. summary_line number (totals_of l)) (mapped_alike (λ r. recorded_reply (reply_of m r)) (λ r. recorded_reply (reply_alone (generated number) r)) 0 (length (generated number).requests) one)
+-- the text of a serve is that of a complete history in which the requests are served
+wrote_serve : (o : Outside) (inputs : Inputs) (workers : ℕ) → CanOpen inputs → inputs.settings.job ≡ jobs.Serve workers → WroteSteps o inputs → WroteServe o inputs
+wrote_serve o inputs workers can job h = (h.0, h.1, each_replied inputs h.0 workers can job h.1, each_alone inputs h.0 can, none_short inputs h.0 can, run_confined inputs can h.0, h.2)
 
-  -- what was written is the headline
+-- the summary of a generated serve is that of the replies that its requests get alone, with enough frames
+summed_alone : (number : ℕ) (steps : List ℕ) → number ≤ 100 → IsComplete (start (generated number)) steps → HasFrames (generated number) → summary_after (generated number) number steps ≡ summary_alone number
+unfolding replies_of
+summed_alone number steps few complete frames =
+    let can = can_open number few in
+    let m = run (start (generated number)) steps in
+    let one : (r : ℕ) → r < 0 + length (generated number).requests → recorded_reply (reply_of m r) ≡ recorded_reply (reply_alone (generated number) r) =
+    (λ r inside.
+    let told = each_reply (generated number) steps 8 r can refl complete (omega (arith, inside)) in
+    ap recorded_reply (told.recorded ∙ sym (recorded_alone (generated number) can steps r told.reply told.recorded frames))) in
+    let count : length m.environment.channels.requests ≡ length (generated number).requests = requests_stay (generated number) steps 8 can refl in
+    ap (λ n. summary_line number (totals_of (map (λ r. recorded_reply (reply_of m r)) (range_with_len 0 n)))) count
+    ∙ ap (λ l. summary_line number (totals_of l)) (mapped_alike (λ r. recorded_reply (reply_of m r)) (λ r. recorded_reply (reply_alone (generated number) r)) 0 (length (generated number).requests) one)
 
-  asked_of : (files : FileContents) (requests : Option (List ℕ)) (settings : Settings) (image : Image) (steps : List ℕ) (work : Work) (bytes : List ℕ → List ℕ) → ((q : List ℕ) → IsNameIn requests q → files q ≡ Some (bytes q)) → LeadsTo files (after_schedule requests settings image steps) (Ok work)
-      → (asked : List (List ℕ)) × AreRequestsIn requests bytes asked × (work ≡ works.Replaying (inputs_of image asked settings) steps)
-  unfolding after_schedule
-  asked_of files None settings image steps work bytes known e = ([], refl, work_is work _ e)
-  asked_of files (Some requests) settings image steps work bytes known h =
-      let read = leads_by files requests_of MOST_REQUEST_FILE_BYTES requests (replayed settings image steps) work (bytes requests) (known requests refl) h in
-      (read.0, requests_found images schedules files_of (bytes requests) read.0 read.1, work_is work _ read.3)
+-- what was written is the headline
 
-  headline_of : (o : Outside) (command : Command) (bytes : List ℕ → List ℕ) (work : Work) (text : List ℕ) → IsWithinLimits command → AreContents o.files.contents command bytes → LeadsTo o.files.contents (plan_of command) (Ok work) → IsText work text → o.out_after.taken ≡ appended o.out.taken text → Headline o command bytes
-  unfolding replay_plan after_image run_plan serve_plan after_server asm_plan dis_plan gen_plan bounded_requests_of
-  headline_of o (commands.Replay image schedule requests settings) bytes work text within known leads is taken =
-      let files = o.files.contents in
-      let read = leads_by files (fitting_image_of settings.frames) MOST_IMAGE_BYTES image (after_image schedule requests settings) work (bytes image) (known image (inl refl)) leads in
-      let steps = leads_by files (schedule_of (threads_for read.0 settings.job)) MOST_SCHEDULE_BYTES schedule (after_schedule requests settings read.0) work (bytes schedule) (known schedule (inr (inl refl))) read.3 in
-      let asked = asked_of files requests settings read.0 steps.0 work bytes (λ q named. known q (inr (inr named))) steps.3 in
-      let guest = fitting_found images schedules files_of settings (bytes image) read.0 read.2 read.1 in (
-        read.0,
-        steps.0,
-        asked.0,
-        record { guest = guest; scheduled = schedule_found images schedules files_of _ (bytes schedule) steps.0 steps.1; requested = asked.1 },
-        each_alone (inputs_of read.0 asked.0 settings) (kept (start (inputs_of read.0 asked.0 settings)) steps.0) (replay_opens requests settings bytes (bytes image) read.0 asked.0 within guest asked.1),
-        taken ∙ ap (appended o.out.taken) (let P : Work → Type 0 = λ w. IsText w text in subst P asked.2 is),
-      )
-  headline_of o (commands.Run image settings) bytes work text within known leads is taken =
-      let read = leads_by o.files.contents (fitting_image_of settings.frames) MOST_IMAGE_BYTES image (ran settings) work (bytes image) (known image refl) leads in
-      (read.0, fitting_found images schedules files_of settings (bytes image) read.0 read.2 read.1, wrote o _ work text (work_is work _ read.3) is taken)
-  headline_of o (commands.Serve image requests settings) bytes work text within known leads is taken =
-      let files = o.files.contents in
-      let read = leads_by files (fitting_image_of settings.frames) MOST_IMAGE_BYTES image (after_server requests settings) work (bytes image) (known image (inl refl)) leads in
-      let asked = leads_by files (bounded_requests_of settings) MOST_REQUEST_FILE_BYTES requests (served settings read.0) work (bytes requests) (known requests (inr refl)) read.3 in
-      let found = tested (requests_of (bytes requests)) (bounded settings (length (bytes requests))) asked.0 asked.1 in
-      let few = bounded_found settings (length (bytes requests)) found.0 asked.0 found.2 in
-      let guest = fitting_found images schedules files_of settings (bytes image) read.0 read.2 read.1 in
-      let file = requests_found images schedules files_of (bytes requests) asked.0 (found.1 ∙ ap (λ a. Ok a) few.0) in (
-        read.0,
-        asked.0,
-        record { guest = guest; requested = file; few = subst (λ (a : List (List ℕ)). serve_steps settings (length a) ≤ MOST_STEPS) few.0 few.1 },
-        wrote_serve o _ within.workers (serve_opens settings (bytes image) (bytes requests) read.0 asked.0 within guest file) within.job
-            (wrote o _ work text (work_is work _ asked.3) is taken),
-      )
-  headline_of o (commands.Asm source) bytes work text within known leads is taken =
-      let read = leads_by o.files.contents source_of MOST_SOURCE_BYTES source made work (bytes source) (known source refl) leads in (
-        read.0,
-        source_found (bytes source) read.0 read.1,
-        taken ∙ ap (appended o.out.taken) (let P : Work → Type 0 = λ w. IsText w text in subst P (work_is work _ read.3) is),
-      )
-  headline_of o (commands.Dis image) bytes work text within known leads is taken =
-      let read = leads_by o.files.contents image_of MOST_IMAGE_BYTES image listed work (bytes image) (known image refl) leads in
-      let spelled = image_found images schedules files_of (bytes image) read.0 read.2 read.1 in (
-        read.0,
-        spelled.0,
-        spelled.1,
-        taken ∙ ap (appended o.out.taken) (let P : Work → Type 0 = λ w. IsText w text in subst P (work_is work _ read.3) is),
-      )
-  headline_of o (commands.Gen number) bytes work text within known leads is taken =
-      let h : IsText (works.Generating number) text = (let P : Work → Type 0 = λ w. IsText w text in subst P (work_is work _ leads) is) in
-      (h.0, h.1, summed_alone number h.0 within.1 h.1, taken ∙ ap (appended o.out.taken) h.2)
+asked_of : (files : FileContents) (requests : Option (List ℕ)) (settings : Settings) (image : Image) (steps : List ℕ) (work : Work) (bytes : List ℕ → List ℕ) → ((q : List ℕ) → IsNameIn requests q → files q ≡ Some (bytes q)) → LeadsTo files (after_schedule requests settings image steps) (Ok work)
+    → (asked : List (List ℕ)) × AreRequestsIn requests bytes asked × (work ≡ works.Replaying (inputs_of image asked settings) steps)
+unfolding after_schedule
+asked_of files None settings image steps work bytes known e = ([], refl, work_is work _ e)
+asked_of files (Some requests) settings image steps work bytes known h =
+    let read = leads_by files requests_of MOST_REQUEST_FILE_BYTES requests (replayed settings image steps) work (bytes requests) (known requests refl) h in
+    (read.0, requests_found (bytes requests) read.0 read.1, work_is work _ read.3)
+
+headline_of : (o : Outside) (command : Command) (bytes : List ℕ → List ℕ) (work : Work) (text : List ℕ) → IsWithinLimits command → AreContents o.files.contents command bytes → LeadsTo o.files.contents (plan_of command) (Ok work) → IsText work text → o.out_after.taken ≡ appended o.out.taken text → Headline o command bytes
+unfolding replay_plan after_image run_plan serve_plan after_server asm_plan dis_plan gen_plan bounded_requests_of
+headline_of o (commands.Replay image schedule requests settings) bytes work text within known leads is taken =
+    let files = o.files.contents in
+    let read = leads_by files (fitting_image_of settings.frames) MOST_IMAGE_BYTES image (after_image schedule requests settings) work (bytes image) (known image (inl refl)) leads in
+    let steps = leads_by files (schedule_of (threads_for read.0 settings.job)) MOST_SCHEDULE_BYTES schedule (after_schedule requests settings read.0) work (bytes schedule) (known schedule (inr (inl refl))) read.3 in
+    let asked = asked_of files requests settings read.0 steps.0 work bytes (λ q named. known q (inr (inr named))) steps.3 in
+    let guest = fitting_found settings (bytes image) read.0 read.2 read.1 in
+    let inputs = inputs_of read.0 asked.0 settings in
+    let can = replay_opens requests settings bytes (bytes image) read.0 asked.0 within guest asked.1 in
+    let steps_kept = kept (start inputs) steps.0 in (
+      read.0,
+      steps.0,
+      asked.0,
+      record { guest = guest; scheduled = schedule_found _ (bytes schedule) steps.0 steps.1; requested = asked.1 },
+      each_alone inputs steps_kept can,
+      none_short inputs steps_kept can,
+      run_confined inputs can steps_kept,
+      taken ∙ ap (appended o.out.taken) (let P : Work → Type 0 = λ w. IsText w text in subst P asked.2 is),
+    )
+headline_of o (commands.Run image settings) bytes work text within known leads is taken =
+    let read = leads_by o.files.contents (fitting_image_of settings.frames) MOST_IMAGE_BYTES image (ran settings) work (bytes image) (known image refl) leads in
+    let guest = fitting_found settings (bytes image) read.0 read.2 read.1 in
+    let h = wrote o (inputs_of read.0 [] settings) work text (work_is work _ read.3) is taken in
+    (read.0, guest, (h.0, h.1, run_confined (inputs_of read.0 [] settings) (replay_opens None settings bytes (bytes image) read.0 [] within guest refl) h.0, h.2))
+headline_of o (commands.Serve image requests settings) bytes work text within known leads is taken =
+    let files = o.files.contents in
+    let read = leads_by files (fitting_image_of settings.frames) MOST_IMAGE_BYTES image (after_server requests settings) work (bytes image) (known image (inl refl)) leads in
+    let asked = leads_by files (bounded_requests_of settings) MOST_REQUEST_FILE_BYTES requests (served settings read.0) work (bytes requests) (known requests (inr refl)) read.3 in
+    let found = tested (requests_of (bytes requests)) (bounded settings (length (bytes requests))) asked.0 asked.1 in
+    let few = bounded_found settings (length (bytes requests)) found.0 asked.0 found.2 in
+    let guest = fitting_found settings (bytes image) read.0 read.2 read.1 in
+    let file = requests_found (bytes requests) asked.0 (found.1 ∙ ap (λ a. Ok a) few.0) in (
+      read.0,
+      asked.0,
+      record { guest = guest; requested = file; few = subst (λ (a : List (List ℕ)). serve_steps settings (length a) ≤ MOST_STEPS) few.0 few.1 },
+      wrote_serve o _ within.workers (serve_opens settings (bytes image) (bytes requests) read.0 asked.0 within guest file) within.job
+          (wrote o _ work text (work_is work _ asked.3) is taken),
+    )
+headline_of o (commands.Asm source) bytes work text within known leads is taken =
+    let read = leads_by o.files.contents source_of MOST_SOURCE_BYTES source made work (bytes source) (known source refl) leads in (
+      read.0,
+      source_found (bytes source) read.0 read.1,
+      taken ∙ ap (appended o.out.taken) (let P : Work → Type 0 = λ w. IsText w text in subst P (work_is work _ read.3) is),
+    )
+headline_of o (commands.Dis image) bytes work text within known leads is taken =
+    let read = leads_by o.files.contents image_of MOST_IMAGE_BYTES image listed work (bytes image) (known image refl) leads in
+    let spelled = image_found (bytes image) read.0 read.2 read.1 in (
+      read.0,
+      spelled.0,
+      spelled.1,
+      taken ∙ ap (appended o.out.taken) (let P : Work → Type 0 = λ w. IsText w text in subst P (work_is work _ read.3) is),
+    )
+headline_of o (commands.Gen number) bytes work text within known leads is taken =
+    let h : IsText (works.Generating number) text = (let P : Work → Type 0 = λ w. IsText w text in subst P (work_is work _ leads) is) in
+    (h.0, h.1, run_confined (generated number) (can_open number within.1) h.0, none_short (generated number) h.0 (can_open number within.1), summed_alone number h.0 within.1 h.1, taken ∙ ap (appended o.out.taken) h.2)
 
 -- a line that is not accepted reads no file and writes no text
 
@@ -444,17 +455,17 @@ module _ (o : Outside) (asked : Option Command) (result : ExitStatus) (e : End R
       by_end (inl m) = inr (answered ∙ ap status_of m)
       by_end (inr by) = inl (answered ∙ ap status_of by ∙ status_of-end_by (outcome bytes (plan_of command)))
 
-  pub complete : ReadingFacts → ScheduleFacts → RequestFacts → (command : Command) (bytes : List ℕ → List ℕ) → asked ≡ Some command → IsUndisturbed o command bytes → IsRunnable command bytes → IsOrNoMemory result statuses.Ok
-  complete images schedules files_of command bytes is calm runnable =
-      (let w = runs images schedules files_of bytes command runnable in
+  pub complete : (command : Command) (bytes : List ℕ → List ℕ) → asked ≡ Some command → IsUndisturbed o command bytes → IsRunnable command bytes → IsOrNoMemory result statuses.Ok
+  complete command bytes is calm runnable =
+      (let w = runs bytes command runnable in
       let P : Result Work Rejection → Type 0 = λ r. IsOrNoMemory result (status_by r) in
       subst P w.1 (ends_by command bytes is calm))
 
-  pub headline : ReadingFacts → ScheduleFacts → RequestFacts → ServeFacts → (command : Command) (bytes : List ℕ → List ℕ) → ((command : Command) → asked ≡ Some command → IsWithinLimits command) → result ≡ statuses.Ok → asked ≡ Some command → AreContents o.files.contents command bytes → Headline o command bytes
+  pub headline : (command : Command) (bytes : List ℕ → List ℕ) → ((command : Command) → asked ≡ Some command → IsWithinLimits command) → result ≡ statuses.Ok → asked ≡ Some command → AreContents o.files.contents command bytes → Headline o command bytes
   unfolding Ended
-  headline images schedules files_of serves command bytes within ok is known =
+  headline command bytes within ok is known =
       let done : Ended IsText o (plan_of command) ends.Done = subst (Ended IsText o (plan_of command)) (done_end e (sym answered ∙ ok)) (ended_asked command is) in
-      headline_of images schedules files_of serves o command bytes done.0 done.2.0 (within command is) known done.1 done.2.1 done.2.2
+      headline_of o command bytes done.0 done.2.0 (within command is) known done.1 done.2.1 done.2.2
 
   pub refused : (command : Command) (bytes : List ℕ → List ℕ) (rejection : Rejection) → asked ≡ Some command → AreContents o.files.contents command bytes → result ≡ status_of_rejection rejection → IsRejected command bytes result
   unfolding Ended

@@ -11,6 +11,7 @@ use Rattle.kernel_core.specs.Histories.{IsComplete}
 use Rattle.kernel_core.specs.Runs.{kept}
 use Rattle.kernel_core.specs.Start.{Inputs, start, threads_for}
 use Rattle.lwc_base.specs.declared.limits.TheConstants.{MOST_STEPS}
+use Rattle.confinement.specs.EachStep.{IsConfinedRun}
 use Rattle.request_isolation.specs.Needs.{HasFrames}
 use Rattle.lwc_gen.specs.Generated.{generated}
 use Rattle.lwc_gen.specs.Summary.{summary_after}
@@ -27,7 +28,7 @@ use Rattle.lwcrun_core.specs.Lines.{Command}
 use Rattle.lwcrun_core.specs.Lines as commands
 use Rattle.lwcrun_core.specs.Plans.{AreFetchesOf, FileContents, outcome}
 use Rattle.lwcrun_core.specs.Reading.{Fetched}
-use Rattle.lwcrun_core.specs.Serving.{EachHasReply, RepliesAreAlone, summary_alone}
+use Rattle.lwcrun_core.specs.Serving.{EachHasReply, NoneIsShort, RepliesAreAlone, summary_alone}
 use Rattle.lwcrun_core.specs.Statuses.{IsAnswered, status_of_rejection}
 
 -- what holds at each end of a call: what holds at that end of the command's plan; a line that is not accepted
@@ -128,35 +129,48 @@ pub record IsServe
   pub requested : IsRequestFile (bytes requests) asked
   pub few : serve_steps settings (length asked) ≤ MOST_STEPS
 
--- some complete history of these inputs was made, and its text was written
+-- some complete history of these inputs was made, each step of which is confined, and its text was written
 abbrev pub WroteHistory : Outside → Inputs → Type 0
 WroteHistory o inputs =
-    (steps : List ℕ) × IsComplete (start inputs) steps
+    (steps : List ℕ) × IsComplete (start inputs) steps × IsConfinedRun inputs steps
     × (o.out_after.taken ≡ appended o.out.taken (text_of inputs steps))
 
--- some complete history of this serve was made, in which each request has a reply, and the one that it gets by itself
--- where there are frames for that, and its text was written
+-- some complete history of this serve was made, each step of which is confined, and in which each request has
+-- a reply;
+-- where there are frames for that, it is the one that the request gets by itself, and no step finds too few;
+-- and the
+-- history's text was written
 abbrev pub WroteServe : Outside → Inputs → Type 0
 WroteServe o inputs =
     (steps : List ℕ) × IsComplete (start inputs) steps × EachHasReply inputs steps × RepliesAreAlone inputs steps
+    × NoneIsShort inputs steps × IsConfinedRun inputs steps
     × (o.out_after.taken ≡ appended o.out.taken (text_of inputs steps))
 
--- some complete history of the generated serve was made, and its summary was written, which is that of the replies that
+-- some complete history of the generated serve was made, and its summary was written, which is that of the
+-- replies that
 -- the requests get by themselves where there are frames for that
 abbrev pub WroteSummary : Outside → ℕ → Type 0
 WroteSummary o number =
-    (steps : List ℕ) × IsComplete (start (generated number)) steps
+    (steps : List ℕ) × IsComplete (start (generated number)) steps × IsConfinedRun (generated number) steps
+    × NoneIsShort (generated number) steps
     × (HasFrames (generated number) → summary_after (generated number) number steps ≡ summary_alone number)
     × (o.out_after.taken ≡ appended o.out.taken (summary_after (generated number) number steps))
 
--- the headline of a command over the contents of its files: they are accepted, and what was written is the
--- report of the steps that are kept of the schedule, or of the steps that running threads made; the bytes of the
--- source's image, or the source of the image; the summary of the steps of a generated serve
+-- the headline of a command over the contents of its files. They are accepted, and what was written is: the
+-- report of the
+-- steps that are kept of the schedule, or of those that running threads made; the bytes of the source's
+-- image, or the source
+-- of the image; the summary of the steps of a generated serve. Of the same steps: with enough frames each
+-- reply is the one
+-- that its request gets alone, and no step is short of them; each step is confined, and what is left alone is
+-- as it was made
 abbrev pub Headline : Outside → Command → (List ℕ → List ℕ) → Type 0
 Headline o (commands.Replay image schedule requests settings) bytes =
     (x : Image) × (steps : List ℕ) × (asked : List (List ℕ))
     × IsReplay bytes image schedule requests settings x steps asked
     × RepliesAreAlone (inputs_of x asked settings) (kept (start (inputs_of x asked settings)) steps)
+    × NoneIsShort (inputs_of x asked settings) (kept (start (inputs_of x asked settings)) steps)
+    × IsConfinedRun (inputs_of x asked settings) (kept (start (inputs_of x asked settings)) steps)
     × (o.out_after.taken ≡ appended o.out.taken (text_of (inputs_of x asked settings) steps))
 Headline o (commands.Run image settings) bytes =
     (x : Image) × IsFitting settings (bytes image) x × WroteHistory o (inputs_of x [] settings)

@@ -68,6 +68,7 @@ bounded settings end requests =
     if nat_lt MOST_STEPS (serve_steps settings (length requests)) then Err (rejections.Input TooMuchWork end)
     else Ok requests
 
--- the requests that bytes spell, where their serve takes no more steps than there may be, or why they are rejected
+-- the requests that bytes spell, where their serve takes no more steps than there may be, or why they are
+-- rejected
 unfoldable pub bounded_requests_of : Settings → List ℕ → Result (List (List ℕ)) Rejection
 bounded_requests_of settings bytes = then_tested (requests_of bytes) (bounded settings (length bytes))

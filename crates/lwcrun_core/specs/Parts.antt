@@ -9,7 +9,8 @@ pub data Found (A R : Type 0) : Type 0 where
   Value : A → Found A R
   Missing : End R → Found A R
 
--- what was found in a file is what the grammar gives for its contents, and no fetch failed; or one did, or memory
+-- what was found in a file is what the grammar gives for its contents, and no fetch failed; or one did, or
+-- memory
 -- ran out
 unfoldable pub ReadsBy : {A R : Type 0}
     → (List ℕ → Result A R) → FilesView → FilesView → List ℕ → Found A R → Type 0

@@ -1,5 +1,5 @@
 -- What the requests of a serve may rely on.
-use Rattle.std.specs.Prelude.{◌≡◌, ◌<◌, ℕ, List, Option, Some, length, map}
+use Rattle.std.specs.Prelude.{◌≡◌, ◌<◌, ◌++◌, ℕ, List, Option, Some, length, map}
 use Rattle.std.specs.List.{range_with_len}
 use Rattle.kernel_core.specs.Machine.{reply_of}
 use Rattle.kernel_core.specs.Runs.{run}
@@ -8,7 +8,8 @@ use Rattle.lwc_base.specs.Channels.{bytes_in}
 use Rattle.lwc_gen.specs.Generated.{generated}
 use Rattle.lwc_gen.specs.Summary.{recorded_reply, summary_line, totals_of}
 use Rattle.request_isolation.specs.Alone.{alone}
-use Rattle.request_isolation.specs.Needs.{HasFrames}
+use Rattle.kernel_core.specs.declared.settings.Job.TheVariants as jobs
+use Rattle.request_isolation.specs.Needs.{HasFrames, IsShort}
 use Rattle.request_isolation.specs.Replies.{HasReply}
 use Rattle.snapshot_host.specs.declared.finishing.Finished.{Finished}
 
@@ -20,12 +21,19 @@ EachHasReply inputs steps = (r : ℕ) → r < length inputs.requests → HasRepl
 abbrev pub reply_alone : Inputs → ℕ → Option Finished
 reply_alone inputs r = alone inputs.image inputs.settings.budget r (bytes_in inputs.requests r)
 
--- where there are frames for as many requests at once as there are workers, each reply is the one that its request gets
+-- where there are frames for as many requests at once as there are workers, each reply is the one that its
+-- request gets
 -- by itself
 abbrev pub RepliesAreAlone : Inputs → List ℕ → Type 0
 RepliesAreAlone inputs steps =
     HasFrames inputs → (r : ℕ) (told : Finished) → reply_of (run (start inputs) steps) r ≡ Some told →
     reply_alone inputs r ≡ Some told
+
+-- in a serve with such frames, no thread's next step finds too few, after each beginning of these steps
+abbrev pub NoneIsShort : Inputs → List ℕ → Type 0
+NoneIsShort inputs steps =
+    (workers : ℕ) → inputs.settings.job ≡ jobs.Serve workers → HasFrames inputs →
+    (before rest : List ℕ) (t : ℕ) → steps ≡ before ++ rest → IsShort (run (start inputs) before) t → ⊥
 
 -- the summary of the replies that generated requests get, each by itself
 abbrev pub summary_alone : ℕ → List ℕ

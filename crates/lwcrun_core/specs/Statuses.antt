@@ -69,13 +69,15 @@ message_of (ends.Unread name) = message (codes "cannot read " ++ name)
 message_of ends.Unwritten = message (codes "cannot write")
 message_of (ends.Refused rejection) = message (rejection_words rejection)
 
--- a sink took a text and nothing else, and no write failed; or one did, and it took the first bytes and nothing else
+-- a sink took a text and nothing else, and no write failed; or one did, and it took the first bytes and
+-- nothing else
 abbrev pub Takes : List ℕ → SinkView → SinkView → Type 0
 Takes text before after =
     ((after.taken ≡ appended before.taken text) × (after.faults ≡ before.faults))
     ⊎ (IsPartTaken before.taken after.taken text × CountsOneFault before.faults after.faults)
 
--- an end was answered by its exit status and its message; where there is none, nothing was done to the error output
+-- an end was answered by its exit status and its message; where there is none, nothing was done to the error
+-- output
 pub record IsAnswered (e : End Rejection) (status : ExitStatus) (err err_after : SinkView) : Type 0 where
   pub by : status ≡ status_of e
   pub message : Takes (message_of e) err err_after

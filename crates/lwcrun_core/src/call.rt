@@ -19,13 +19,7 @@ use crate::replaying::replay;
 use crate::running::{run, serve, serve_generated};
 use crate::sources::{asm, dis};
 use crate::status::ExitStatus;
-use guest_image::images_are_read_as_spelled;
-use lwc_gen::a_generated_server_can_be_served;
 use lwc_io::{Files, Gate, Sink};
-use lwc_text::{request_files_are_read_as_spelled, schedules_are_read_as_named};
-use request_isolation::laws::{
-    a_finished_serve_has_each_reply, each_reply_is_that_of_its_request_alone,
-};
 use std::alloc::Global;
 use std::sync::Wait;
 use std::thread::Threads;
@@ -57,7 +51,8 @@ pub fn lwcrun<R: Threads + Wait + Sync, F: Files, O: Sink, E: Sink, G: Gate>(
         (command_of (map string_bytes words.now)) result (E.seen err.old) (E.seen err.new) }
 
     // What was written at status 0, over known files: the report of the steps that are kept of the schedule,
-    // or that the threads made; an image or a source; the summary of a generated serve.
+    // or that the threads made, each of which is confined; an image or a source; the summary of a generated
+    // serve.
     ensures headline { (command : Command) (bytes : List ℕ → List ℕ) → result ≡ ExitStatus.Ok
         → command_of (map string_bytes words.now) ≡ Some command
         → AreContents (F.seen files.old).contents command bytes
@@ -112,12 +107,6 @@ pub fn lwcrun<R: Threads + Wait + Sync, F: Files, O: Sink, E: Sink, G: Gate>(
     ensures no_other_file { FetchesNamed (command_of (map string_bytes words.now))
         (F.seen files.old) (F.seen files.new) }
 {
-    images_are_read_as_spelled();
-    schedules_are_read_as_named();
-    request_files_are_read_as_spelled();
-    a_generated_server_can_be_served();
-    a_finished_serve_has_each_reply();
-    each_reply_is_that_of_its_request_alone();
     answer(rt, alloc, words, files, out, err, gate)
 }
 

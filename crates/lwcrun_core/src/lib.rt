@@ -15,12 +15,12 @@ mod replaying;
 mod running;
 mod sources;
 mod status;
-#[cfg(test)]
-mod tests;
 mod writing;
 
 pub use call::lwcrun;
+pub use ending::Ending;
 pub use limits::limits_are_as_documented;
 pub use line::{Line, LineFault, read_line};
+pub use replaying::replay;
 pub use running::open_process;
 pub use status::ExitStatus;

@@ -143,10 +143,23 @@ fn replay_text(
         text.items ≡ text_of (inputs_of image.now requests settings.now) schedule.now) }
 {
     let steps = schedule.len() as u32;
-    let mut kernel = match Kernel::<LazyWorld>::open(alloc, image, requests, steps, settings) {
-        Ok(kernel) => kernel,
-        Err(_) => return Err(OutOfMemory),
-    };
+    match Kernel::<LazyWorld>::open(alloc, image, requests, steps, settings) {
+        Ok(kernel) => report_of(alloc, kernel, schedule),
+        Err(_) => Err(OutOfMemory),
+    }
+}
+
+/// The report of the schedule's steps from the kernel's start.
+fn report_of<W: World>(
+    alloc: Global,
+    mut kernel: Kernel<W>,
+    schedule: &Schedule,
+) -> Result<Vec<u8>, OutOfMemory>
+    requires fresh { kernel.steps ≡ [] }
+    requires room { length schedule.now ≤ kernel.room }
+    requires threads { All (λ t. t < thread_count kernel.inputs) schedule.now }
+    ensures { IfOk result (λ text. text.items ≡ text_of kernel.inputs schedule.now) }
+{
     make_steps(&mut kernel, schedule)?;
     let text = report(alloc, &kernel)?;
     Ok(text)

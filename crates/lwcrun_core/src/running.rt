@@ -1,7 +1,6 @@
 ghost use Rattle.std.specs.Prelude.{◌≡◌, ◌<◌, ◌≤◌, ℕ, List, Err, IfErr, IfOk, length};
 ghost use Rattle.guest_image.specs.Limits.{IsImage};
 ghost use Rattle.lwc_base.specs.declared.limits.TheConstants.{MOST_STEPS};
-ghost use Rattle.kernel_core.specs.Histories.{IsComplete};
 ghost use Rattle.kernel_core.specs.Kernel.{CanOpen, MayHave};
 ghost use Rattle.kernel_core.specs.Machine.{work};
 ghost use Rattle.kernel_core.specs.Settings.{IsSettings};
@@ -14,17 +13,17 @@ ghost use Rattle.lwcrun_core.specs.Lines.{AreRunSettings, AreServeSettings};
 ghost use Rattle.lwcrun_core.specs.Plans.{AreFetchesOf};
 ghost use Rattle.lwcrun_core.specs.Reading.{Fetched};
 ghost use Rattle.lwcrun_core.specs.Views.{end_of, outside};
+ghost use Rattle.lwc_gen.specs.Generated.{generated};
 ghost use Rattle.process_core.specs.Running.{AreAllOf};
 
 use crate::ending::Ending;
 use crate::inputs::{bounded_requests_in, fitting_image_in, most_steps};
 use crate::writing::write_work;
 use guest_image::Image;
-use kernel_core::laws::{each_request_has_its_budget, each_thread_has_its_budget};
 use kernel_core::{Job, Kernel, OpenFault, Settings};
 use lazy_world::LazyWorld;
 use lwc_base::{OutOfMemory, Requests};
-use lwc_gen::{SETTINGS, a_generated_server_can_be_served, generate, summary};
+use lwc_gen::{SETTINGS, generate, summary};
 use lwc_io::{Files, Gate, Sink};
 use lwc_text::report;
 use process_core::{Process, ProcessPasses};
@@ -32,6 +31,7 @@ use std::alloc::Global;
 use std::sync::Wait;
 use std::thread::Threads;
 use thread_carrier::run_threads;
+use world_face::World;
 
 /// Reads the image of this name, runs its threads to their ends, and writes the report.
 pub fn run<'a, R: Threads + Wait + Sync, F: Files, O: Sink, G: Gate>(
@@ -51,7 +51,6 @@ pub fn run<'a, R: Threads + Wait + Sync, F: Files, O: Sink, G: Gate>(
     ensures fetches { Fetched (AreFetchesOf (F.seen files.old).contents (run_plan image.now settings.now))
         (F.seen files.old).fetches (F.seen files.new).fetches }
 {
-    each_thread_has_its_budget();
     match fitting_image_in(alloc, files, image, settings.frames) {
         Ok(image) => {
             let requests = Requests::of(Vec::new(alloc));
@@ -112,7 +111,6 @@ fn serve_image<'a, R: Threads + Wait + Sync, F: Files, O: Sink, G: Gate>(
         (AreFetchesOf (F.seen files.old).contents (after_server requests.now settings.now image.now))
         (F.seen files.old).fetches (F.seen files.new).fetches }
 {
-    each_request_has_its_budget();
     match bounded_requests_in(alloc, files, requests, settings) {
         Ok(requests) => write_work(
             out,
@@ -149,9 +147,29 @@ fn summary_text<R: Threads + Wait + Sync, G: Gate>(
     requires leave { G.leave gate.now }
     ensures { IfOk result (λ text. IsText (works.Generating number) text.items) }
 {
-    a_generated_server_can_be_served();
     let (image, requests) = generate(alloc, number)?;
-    let kernel = history(rt, alloc, gate, &image, requests, &SETTINGS)?;
+    match open_process(alloc, &image, requests, &SETTINGS) {
+        Ok((process, passes)) => summary_of(rt, alloc, gate, number, process, passes),
+        Err(_) => Err(OutOfMemory),
+    }
+}
+
+/// The summary of a generated serve, whose workers make their steps, each going on by itself to its end.
+fn summary_of<R: Threads + Wait + Sync, W: World, G: Gate>(
+    rt: &R,
+    alloc: Global,
+    gate: &G,
+    number: u32,
+    process: Process<W>,
+    passes: ProcessPasses<W>,
+) -> Result<Vec<u8>, OutOfMemory>
+    requires number { (1 ≤ number) × (number ≤ 100) }
+    requires generated { process.name ≡ generated number }
+    requires leave { G.leave gate.now }
+    requires all { AreAllOf process passes.items }
+    ensures { IfOk result (λ text. IsText (works.Generating number) text.items) }
+{
+    let kernel = run_threads(rt, alloc, process, passes, gate)?;
     let text = summary(alloc, number, &kernel)?;
     Ok(text)
 }
@@ -171,32 +189,27 @@ fn history_text<R: Threads + Wait + Sync, G: Gate>(
     ensures { IfOk result (λ text.
         IsText (works.Running (inputs_of image.now requests settings.now)) text.items) }
 {
-    let kernel = history(rt, alloc, gate, image, requests, settings)?;
-    let text = report(alloc, &kernel)?;
-    Ok(text)
+    match open_process(alloc, image, requests, settings) {
+        Ok((process, passes)) => report_of(rt, alloc, gate, process, passes),
+        Err(_) => Err(OutOfMemory),
+    }
 }
 
-/// The kernel with the steps that the threads make, each going on by itself to its end.
-fn history<R: Threads + Wait + Sync, G: Gate>(
+/// The report of the steps that the threads of a process make.
+fn report_of<R: Threads + Wait + Sync, W: World, G: Gate>(
     rt: &R,
     alloc: Global,
     gate: &G,
-    image: &Image,
-    requests: Requests,
-    settings: &Settings,
-) -> Result<Kernel<LazyWorld>, OutOfMemory>
-    requires can { CanOpen (inputs_of image.now requests settings.now) }
-    requires few { work (start (inputs_of image.now requests settings.now)) ≤ MOST_STEPS }
+    process: Process<W>,
+    passes: ProcessPasses<W>,
+) -> Result<Vec<u8>, OutOfMemory>
     requires leave { G.leave gate.now }
-    ensures inputs { IfOk result (λ after. after.inputs ≡ inputs_of image.now requests settings.now) }
-    ensures complete { IfOk result (λ after.
-        IsComplete (start (inputs_of image.now requests settings.now)) after.steps) }
+    requires all { AreAllOf process passes.items }
+    ensures { IfOk result (λ text. IsText (works.Running process.name) text.items) }
 {
-    let (process, passes) = match open_process(alloc, image, requests, settings) {
-        Ok(opened) => opened,
-        Err(_) => return Err(OutOfMemory),
-    };
-    run_threads(rt, alloc, process, passes, gate)
+    let kernel = run_threads(rt, alloc, process, passes, gate)?;
+    let text = report(alloc, &kernel)?;
+    Ok(text)
 }
 
 /// A process at the start of an image, with a pass for each of its threads, and with room for all steps
@@ -238,8 +251,6 @@ fn first_work(image: &Image, requests: &Requests, settings: &Settings) -> u32
     requires requests { MayHave settings.now.job requests.now }
     ensures { result ≡ work (start (inputs_of image.now requests.now settings.now)) }
 {
-    each_thread_has_its_budget();
-    each_request_has_its_budget();
     match settings.job {
         Job::Run => image.entries.len() as u32 * settings.budget,
         Job::Serve { .. } => most_steps(settings, requests.len()),

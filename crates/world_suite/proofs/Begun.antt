@@ -4,7 +4,7 @@ use Rattle.std.specs.Prelude.{if◌then◌else◌, not, nat_lt}
 use Rattle.std.specs.FinMap as fm
 use Rattle.lwc_base.specs.declared.name.Name.{Name}
 use Rattle.lwc_base.specs.declared.size.WorldSize.{WorldSize}
-use Rattle.lwc_base.specs.Facts.{AddsContext, ChangeFacts, CountFacts, FreshFacts, KeepsNames}
+use Rattle.lwc_base.specs.Facts.{AddsContext, KeepsNames}
 use Rattle.lwc_base.specs.Frames.{used}
 use Rattle.lwc_base.specs.Fresh.{IsFresh}
 use Rattle.lwc_base.specs.Mapping.{map_pages}
@@ -12,6 +12,7 @@ use Rattle.lwc_base.specs.Memory.{is_present}
 use Rattle.lwc_base.specs.Names.{name_cmp}
 use Rattle.lwc_base.specs.Store.{Piece, Absent, Full, Done, after_store, parting_count, store}
 use Rattle.lwc_base.specs.World.{World, Context, Counters, Group, is_live, next_context, add_context, empty_world}
+use Rattle.lwc_base.proofs.Facts.{changes, counts, stays_fresh}
 
 pub counts-empty : (size : WorldSize) (job : ℕ) → (empty_world size).next job ≡ record { contexts = 0; groups = 0; tags = 0 }
 unfolding empty_world
@@ -31,7 +32,7 @@ no_group-empty : (size : WorldSize) → fm.len (empty_world size).groups ≡ 0
 unfolding empty_world
 no_group-empty size = fm.len-empty name_cmp Group
 
-module _ (changes : ChangeFacts) (counts : CountFacts) (fresh : FreshFacts) (size : WorldSize) (opened made mapped : World) (c : Name) (x : Context) (from to : ℕ)
+module _ (size : WorldSize) (opened made mapped : World) (c : Name) (x : Context) (from to : ℕ)
     (is_opened : opened ≡ empty_world size) (is_made : made ≡ add_context opened 0 x) (is_named : c ≡ next_context opened 0)
     (is_mapped : mapped ≡ map_pages made c from to) where
   added : AddsContext opened 0 x made
@@ -60,7 +61,7 @@ module _ (changes : ChangeFacts) (counts : CountFacts) (fresh : FreshFacts) (siz
   pub one-begun : fm.len mapped.contexts ≡ 1
   one-begun =
       (counts.same_contexts made mapped 0 kept.live).1
-      ∙ (counts.context_added opened made 0 0 x (subst IsFresh (sym is_opened) (fresh.empty size)) added).1
+      ∙ (counts.context_added opened made 0 0 x (subst IsFresh (sym is_opened) (stays_fresh.empty size)) added).1
       ∙ ap (λ n. n + 1) (ap (λ (w : World). fm.len w.contexts) is_opened ∙ none-empty size)
 
   -- and no group

@@ -5,7 +5,6 @@ ghost use Rattle.lwc_base.specs.Modes.{IsSpec};
 ghost use Rattle.world_face.specs.Calls.{HasGroupPlace, HasPlace, IsLive};
 
 use lazy_world::LazyWorld;
-use lwc_base::laws::{changes_leave_the_rest, live_names_are_counted, names_stay_old};
 use lwc_base::{
     Cap, Descriptor, Item, Kind, Mode, Name, Range, Regs, Spec, StoreFault, Summary, WorldSize,
 };
@@ -25,9 +24,6 @@ fn begun<R: AllocGlobal + Abort, W: World>(rt: &R, frames: u32) -> Result<(W, Na
     ensures group_place { IfOk result (λ r. HasGroupPlace (W.seen r.0)) }
     ensures next { IfOk result (λ r. (W.seen r.0).next 1 ≡ record { contexts = 0; groups = 0; tags = 0 }) }
 {
-    changes_leave_the_rest();
-    live_names_are_counted();
-    names_stay_old();
     let size = WorldSize {
         frames,
         contexts: 2,
@@ -45,7 +41,6 @@ fn begun<R: AllocGlobal + Abort, W: World>(rt: &R, frames: u32) -> Result<(W, Na
 
 /// A store over the border of two pages parts both, and its bytes are read back.
 fn stores_over_a_border<R: AllocGlobal + Abort, W: World>(rt: &R) -> Result<(), Fail> {
-    changes_leave_the_rest();
     let (mut world, c) = begun::<R, W>(rt, 2)?;
     assert_eq!(rt; world.used(), 0);
     world.store(c, 4092, &[1, 2, 3, 4, 5, 6, 7, 8], 1)?;
@@ -104,8 +99,8 @@ fn shows_a_context<R: AllocGlobal + Abort, W: World>(rt: &R) -> Result<(), Fail>
 }
 
 /// What is put into slots, into the credential and among the saved registers is there.
+#[tactic(auto, using(lwc_base::proofs::Facts::changes))]
 fn puts_values<R: AllocGlobal + Abort, W: World>(rt: &R) -> Result<(), Fail> {
-    changes_leave_the_rest();
     let (mut world, c) = begun::<R, W>(rt, 2)?;
     assert_eq!(rt; world.lowest_empty(c), Some(0));
     world.set_slot(c, 0, Descriptor::Console);
@@ -124,8 +119,8 @@ fn puts_values<R: AllocGlobal + Abort, W: World>(rt: &R) -> Result<(), Fail> {
 }
 
 /// Pages are mapped and unmapped, and ranges are counted before.
+#[tactic(auto, using(lwc_base::proofs::Facts::changes))]
 fn maps_pages<R: AllocGlobal + Abort, W: World>(rt: &R) -> Result<(), Fail> {
-    changes_leave_the_rest();
     let (mut world, c) = begun::<R, W>(rt, 2)?;
     assert_eq!(rt;
         world.ranges_after_map(c, Range { from: 3, to: 4 }, true),
@@ -177,8 +172,8 @@ fn clones_a_context<R: AllocGlobal + Abort, W: World>(rt: &R) -> Result<(), Fail
 }
 
 /// An overlay onto the context itself shares a page that stays.
+#[tactic(auto, using(lwc_base::proofs::Facts::changes))]
 fn overlays_itself<R: AllocGlobal + Abort, W: World>(rt: &R) -> Result<(), Fail> {
-    changes_leave_the_rest();
     let (mut world, c) = begun::<R, W>(rt, 2)?;
     let spec = second_page();
     let counts = world.ranges_after_overlay(c, c, &spec);
@@ -192,8 +187,8 @@ fn overlays_itself<R: AllocGlobal + Abort, W: World>(rt: &R) -> Result<(), Fail>
 }
 
 /// A context that only its own slot names is dropped once it is no root.
+#[tactic(auto, using(lwc_base::proofs::Facts::changes))]
 fn reaps_a_context<R: AllocGlobal + Abort, W: World>(rt: &R) -> Result<(), Fail> {
-    changes_leave_the_rest();
     let (mut world, c) = begun::<R, W>(rt, 2)?;
     let cap = Cap {
         pages: [0; 16],

@@ -5,13 +5,7 @@ use Rattle.lwcrun_core.proofs.call.lwcrun.Goals as goal
 pub returns-clause-headline : goal.returns-clause-headline
 returns-clause-headline g c command bytes =
     let a = c.answer.ensures.answers in
-    headline _ _ _ a.0 a.1 a.2.by c.images_are_read_as_spelled.ensures c.schedules_are_read_as_named.ensures c.request_files_are_read_as_spelled.ensures
-    (record {
-      replied = c.a_finished_serve_has_each_reply.ensures.replied;
-      alone = c.each_reply_is_that_of_its_request_alone.ensures;
-      requests = c.a_finished_serve_has_each_reply.ensures.requests;
-      generated = λ number few. c.a_generated_server_can_be_served.ensures.opens number few;
-    }) command bytes (accepted_is_within _)
+    headline _ _ _ a.0 a.1 a.2.by command bytes (accepted_is_within _)
 
 pub returns-clause-usage_only : goal.returns-clause-usage_only
 returns-clause-usage_only g c = let a = c.answer.ensures.answers in usage_only _ _ _ a.0 a.1 a.2.by
@@ -32,7 +26,7 @@ pub returns-clause-ends : goal.returns-clause-ends
 returns-clause-ends g c = let a = c.answer.ensures.answers in ends_by _ _ _ a.0 a.1 a.2.by
 
 pub returns-clause-complete : goal.returns-clause-complete
-returns-clause-complete g c = let a = c.answer.ensures.answers in complete _ _ _ a.0 a.1 a.2.by c.images_are_read_as_spelled.ensures c.schedules_are_read_as_named.ensures c.request_files_are_read_as_spelled.ensures
+returns-clause-complete g c = let a = c.answer.ensures.answers in complete _ _ _ a.0 a.1 a.2.by
 
 pub returns-clause-nothing : goal.returns-clause-nothing
 returns-clause-nothing g c = let a = c.answer.ensures.answers in nothing _ _ _ a.0 a.1 a.2.by

@@ -1,19 +1,16 @@
-use Rattle.std.proofs.Common.{◌≡◌, ◌<◌, List, ℕ, All, length, ap, subst, sym, ◌∙◌}
+use Rattle.std.proofs.Common.{◌≡◌, ◌<◌, ℕ, List, All, IfOk, ap, subst, sym}
 use Rattle.kernel_core.specs.Kernel.{History}
-use Rattle.kernel_core.specs.Runs.{kept}
-use Rattle.kernel_core.specs.Start.{Inputs, start, thread_count}
-use Rattle.lwcrun_core.specs.Headline.{inputs_of}
-use Rattle.lwcrun_core.proofs.Replays.{text_is}
+use Rattle.kernel_core.specs.Start.{Inputs, thread_count}
+use Rattle.lwcrun_core.specs.Headline.{text_of}
 use Rattle.lwcrun_core.proofs.replaying.replay_text.Goals as goal
 
-pub make_steps-requires-clause-threads : goal.make_steps-requires-clause-threads
+pub report_of-requires-clause-threads : goal.report_of-requires-clause-threads
 unfolding thread_count
-make_steps-requires-clause-threads c _ =
+report_of-requires-clause-threads c _ =
     let opened = ap (λ (h : History). h.inputs) c.in-Ok.ensures.opened in
     subst (λ (i : Inputs). All (λ t. t < thread_count i) c.args.schedule.now) (sym opened) c.requires.threads
 
-pub returns : goal.returns
-returns c =
+pub returns-in-Ok : goal.returns-in-Ok
+returns-in-Ok c =
     let opened = ap (λ (h : History). h.inputs) c.in-Ok.ensures.opened in
-    text_is c.make_steps.new.kernel _ c.args.schedule.now _ (c.in_ok-make_steps.ensures.inputs ∙ opened)
-    (c.in_ok-make_steps.ensures.steps ∙ ap (λ (i : Inputs). kept (start i) c.args.schedule.now) opened) c.in_ok-text.ensures.exact
+    subst (λ (i : Inputs). IfOk c.report_of.result (λ text. text.items ≡ text_of i c.args.schedule.now)) opened c.report_of.ensures

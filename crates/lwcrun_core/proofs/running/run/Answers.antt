@@ -3,6 +3,7 @@ use Rattle.std.proofs.Math.Nat.{mul-le-mul_left, mul-le-mul_right}
 use Rattle.lwc_base.specs.declared.limits.TheConstants.{MOST_BUDGET, MOST_THREADS}
 use Rattle.lwcrun_core.specs.Headline.{IsText, inputs_of, run_plan}
 use Rattle.lwcrun_core.specs.Headline as works
+use Rattle.kernel_core.proofs.Others.{work_at_start}
 use Rattle.lwcrun_core.proofs.Fetches.{nothing_fetched}
 use Rattle.lwcrun_core.proofs.Follows.{fetches_on, fetches_stop, reads_on, stops_reading}
 use Rattle.lwcrun_core.proofs.running.run.Goals as goal
@@ -12,7 +13,7 @@ history_text-requires-clause-few g c κs within =
     let budget = c.args.settings.now.budget in
     let threads : length c.in-Ok.image.entries * budget ≤ MOST_THREADS * budget = mul-le-mul_right budget c.in-Ok.ensures.limits.thread_count in
     let steps : MOST_THREADS * budget ≤ MOST_THREADS * MOST_BUDGET = mul-le-mul_left MOST_THREADS c.requires.settings.limits.budget.1 in
-    let work = c.each_thread_has_its_budget.ensures (inputs_of c.in-Ok.image c.of-requests.result c.args.settings.now) c.requires.settings.job in
+    let work = work_at_start (inputs_of c.in-Ok.image c.of-requests.result c.args.settings.now) c.requires.settings.job in
     omega (arith, work, threads, steps)
 
 pub returns-in-Ok-clause-ended : goal.returns-in-Ok-clause-ended

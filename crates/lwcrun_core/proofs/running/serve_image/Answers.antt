@@ -1,6 +1,7 @@
 use Rattle.std.proofs.Common.{◌≡◌, refl, ap, arith}
 use Rattle.lwcrun_core.specs.Headline.{IsText, after_server, inputs_of}
 use Rattle.lwcrun_core.specs.Images.{worker_count}
+use Rattle.kernel_core.proofs.Others.{work_at_serve}
 use Rattle.lwcrun_core.proofs.Fetches.{nothing_fetched}
 use Rattle.lwcrun_core.proofs.Follows.{fetches_on, fetches_stop, reads_on, stops_reading}
 use Rattle.lwcrun_core.proofs.running.serve_image.Goals as goal
@@ -8,7 +9,7 @@ use Rattle.lwcrun_core.proofs.running.serve_image.Goals as goal
 pub history_text-requires-clause-few : goal.history_text-requires-clause-few
 history_text-requires-clause-few g c κs within =
     let workers : worker_count c.args.settings.now.job ≡ c.requires.settings.workers = ap worker_count c.requires.settings.job in
-    let work = c.each_request_has_its_budget.ensures (inputs_of c.args.image.now c.in-Ok.requests c.args.settings.now) c.requires.settings.workers c.requires.settings.job in
+    let work = work_at_serve (inputs_of c.args.image.now c.in-Ok.requests c.args.settings.now) c.requires.settings.workers c.requires.settings.job in
     omega (arith, work, workers, c.in-Ok.ensures.few)
 
 pub returns-in-Ok-clause-ended : goal.returns-in-Ok-clause-ended

@@ -22,28 +22,37 @@ first-requires-clause-may g c =
       tags = omega (arith, ap (λ (n : Counters). n.tags) none);
     }
 
+pub ranges_after_map-requires-clause-live : goal.ranges_after_map-requires-clause-live
+ranges_after_map-requires-clause-live g c = live-made _ _ _ _ _ _ 0 2 c.in_ok-world.ensures.opened c.in_ok-c.ensures.made c.in_ok-c.ensures.name refl
+
+pub map-requires-clause-live : goal.map-requires-clause-live
+map-requires-clause-live g c = live-made _ _ _ _ _ _ 0 2 c.in_ok-world.ensures.opened c.in_ok-c.ensures.made c.in_ok-c.ensures.name refl
+
+pub returns-clause-live : goal.returns-clause-live
+returns-clause-live g c = live-begun _ _ _ _ _ _ 0 2 c.in_ok-world.ensures.opened c.in_ok-c.ensures.made c.in_ok-c.ensures.name c.in_ok-map.ensures.mapped
+
 pub ranges_after_map-requires-clause-within : goal.ranges_after_map-requires-clause-within
 ranges_after_map-requires-clause-within g c =
-    let many = ap (λ (s : WorldSize). s.pages) (size-made c.changes_leave_the_rest.ensures c.live_names_are_counted.ensures c.names_stay_old.ensures _ _ _ _ _ _ 0 2 c.in_ok-world.ensures.opened c.in_ok-c.ensures.made c.in_ok-c.ensures.name refl) in
+    let many = ap (λ (s : WorldSize). s.pages) (size-made _ _ _ _ _ _ 0 2 c.in_ok-world.ensures.opened c.in_ok-c.ensures.made c.in_ok-c.ensures.name refl) in
     omega (arith, many)
 
 pub map-requires-clause-within : goal.map-requires-clause-within
 map-requires-clause-within g c =
-    let many = ap (λ (s : WorldSize). s.pages) (size-made c.changes_leave_the_rest.ensures c.live_names_are_counted.ensures c.names_stay_old.ensures _ _ _ _ _ _ 0 2 c.in_ok-world.ensures.opened c.in_ok-c.ensures.made c.in_ok-c.ensures.name refl) in
+    let many = ap (λ (s : WorldSize). s.pages) (size-made _ _ _ _ _ _ 0 2 c.in_ok-world.ensures.opened c.in_ok-c.ensures.made c.in_ok-c.ensures.name refl) in
     omega (arith, many)
 
 pub returns-clause-size : goal.returns-clause-size
-returns-clause-size g c = size-begun c.changes_leave_the_rest.ensures c.live_names_are_counted.ensures c.names_stay_old.ensures _ _ _ _ _ _ 0 2 c.in_ok-world.ensures.opened c.in_ok-c.ensures.made c.in_ok-c.ensures.name c.in_ok-map.ensures.mapped
+returns-clause-size g c = size-begun _ _ _ _ _ _ 0 2 c.in_ok-world.ensures.opened c.in_ok-c.ensures.made c.in_ok-c.ensures.name c.in_ok-map.ensures.mapped
 
 pub returns-clause-next : goal.returns-clause-next
-returns-clause-next g c = next-begun c.changes_leave_the_rest.ensures c.live_names_are_counted.ensures c.names_stay_old.ensures _ _ _ _ _ _ 0 2 c.in_ok-world.ensures.opened c.in_ok-c.ensures.made c.in_ok-c.ensures.name c.in_ok-map.ensures.mapped
+returns-clause-next g c = next-begun _ _ _ _ _ _ 0 2 c.in_ok-world.ensures.opened c.in_ok-c.ensures.made c.in_ok-c.ensures.name c.in_ok-map.ensures.mapped
 
 pub returns-clause-place : goal.returns-clause-place
 returns-clause-place g c =
-    let one = one-begun c.changes_leave_the_rest.ensures c.live_names_are_counted.ensures c.names_stay_old.ensures _ _ _ _ _ _ 0 2 c.in_ok-world.ensures.opened c.in_ok-c.ensures.made c.in_ok-c.ensures.name c.in_ok-map.ensures.mapped in
-    omega (arith, one, ap (λ (s : WorldSize). s.contexts) (size-begun c.changes_leave_the_rest.ensures c.live_names_are_counted.ensures c.names_stay_old.ensures _ _ _ _ _ _ 0 2 c.in_ok-world.ensures.opened c.in_ok-c.ensures.made c.in_ok-c.ensures.name c.in_ok-map.ensures.mapped))
+    let one = one-begun _ _ _ _ _ _ 0 2 c.in_ok-world.ensures.opened c.in_ok-c.ensures.made c.in_ok-c.ensures.name c.in_ok-map.ensures.mapped in
+    omega (arith, one, ap (λ (s : WorldSize). s.contexts) (size-begun _ _ _ _ _ _ 0 2 c.in_ok-world.ensures.opened c.in_ok-c.ensures.made c.in_ok-c.ensures.name c.in_ok-map.ensures.mapped))
 
 pub returns-clause-group_place : goal.returns-clause-group_place
 returns-clause-group_place g c =
-    let none = no_group-begun c.changes_leave_the_rest.ensures c.live_names_are_counted.ensures c.names_stay_old.ensures _ _ _ _ _ _ 0 2 c.in_ok-world.ensures.opened c.in_ok-c.ensures.made c.in_ok-c.ensures.name c.in_ok-map.ensures.mapped in
-    omega (arith, none, ap (λ (s : WorldSize). s.groups) (size-begun c.changes_leave_the_rest.ensures c.live_names_are_counted.ensures c.names_stay_old.ensures _ _ _ _ _ _ 0 2 c.in_ok-world.ensures.opened c.in_ok-c.ensures.made c.in_ok-c.ensures.name c.in_ok-map.ensures.mapped))
+    let none = no_group-begun _ _ _ _ _ _ 0 2 c.in_ok-world.ensures.opened c.in_ok-c.ensures.made c.in_ok-c.ensures.name c.in_ok-map.ensures.mapped in
+    omega (arith, none, ap (λ (s : WorldSize). s.groups) (size-begun _ _ _ _ _ _ 0 2 c.in_ok-world.ensures.opened c.in_ok-c.ensures.made c.in_ok-c.ensures.name c.in_ok-map.ensures.mapped))

@@ -1,6 +1,6 @@
 use Rattle.std.proofs.Common.{◌≡◌, rules, Some}
 use Rattle.std.specs.Prelude.{slice_get}
-use Rattle.lwcrun.proofs.passes.two_passes.Goals as goal
+use Rattle.lwcrun.proofs.tests.passes.two_passes.Goals as goal
 
 pub returns-clause-ours : goal.returns-clause-ours
 returns-clause-ours c =

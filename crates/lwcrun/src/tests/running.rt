@@ -1,18 +1,55 @@
 //! The modes that start threads: runs, serves, and a serve that is generated.
 
-use crate::replays::{assembled, replayed};
-use crate::serving::{COUNTER_HANDLER, FOUR_REQUESTS, FOUR_SERVED};
-use crate::tests::{Left, SURE, TWO_THREADS, ZEROS, call_over, image};
+use crate::tests::{Left, REPLAY, SURE, TWO_THREADS, ZEROS, call, call_over, image};
 use guest_asm::assemble;
+use guest_image::write_image;
 use lwc_gen::HANDLER;
 use lwc_io::{Gate, OpenGate};
 use lwcrun_core::ExitStatus;
-use std::alloc::AllocError;
+use std::alloc::{AllocError, Global};
 use std::hint::spin_loop;
 use std::sync::Wait;
 use std::sync::atomic::{AtomicBool, AtomicU64, Ordering};
 use std::test::Fail;
 use std::thread::Threads;
+
+/// Reads one byte, which has to be 0, raises a counter in its page, and replies with it.
+const COUNTER_HANDLER: &str = ".entry 0
+.page 0 -
+LI r2, 8
+LI r3, 1
+SYS 4
+LDB r5, r4, 8
+JNZ r5, bad
+LDW r6, r4, 0
+ADDI r6, r6, 1
+STW r6, r4, 0
+LI r1, 1
+LI r2, 0
+LI r3, 1
+SYS 5
+HALT
+bad: LDW r6, r4, 1
+";
+
+/// Four requests, of which the third faults.
+const FOUR_REQUESTS: &str = "00\n00\n01\n00\n";
+
+/// What one worker makes of the four requests: each begins with the image's page, also after one that faults.
+const FOUR_SERVED: &str = "thread 0 done 0 ctx 0.1 pc 0
+regs 0 0 0 0 0 0 0 0 0 0 0 0 0 0 0 0 0
+context 0.1 pages 1 slots 0 uid 0
+groups 0
+reply 0 done 0 01
+reply 1 done 0 01
+reply 2 fault 2 -
+reply 3 done 0 01
+console -
+used 1
+peak 2
+steps 26
+schedule 00000000000000000000000000
+";
 
 /// How often a thread that is held looks.
 const LOOKS: u32 = 1_000_000_000;
@@ -100,6 +137,12 @@ impl Gate for CountingGate {
             count.fetch_add(1, Ordering::SeqCst);
         }
     }
+}
+
+/// The bytes of the image that a source makes.
+fn assembled(alloc: Global, source: &str) -> Result<Vec<u8>, Fail> {
+    let image = assemble(alloc, source.as_bytes())?;
+    Ok(write_image(alloc, &image)?)
 }
 
 /// Calls the program on the words of a line, which blanks part, over the files `guest` and `requests`.
@@ -190,18 +233,26 @@ fn replays_of_printed_schedules_give_the_same_texts(rt: HostRuntime) -> Result<(
     let alloc = rt.alloc();
     let two_threads = image(alloc, &TWO_THREADS, &[ZEROS], &[0, 3])?;
     let left = call_line(&rt, &two_threads, "", "run guest", &OpenGate)?;
-    let words = ["replay", "guest", "schedule"];
-    let schedule = last_word(left.out.bytes());
-    let text = replayed(&rt, &two_threads, schedule, b"", &words)?;
-    assert_eq!(rt; left.out.bytes(), text.as_slice());
+    let again = call(
+        &rt,
+        &two_threads,
+        last_word(left.out.bytes()),
+        &REPLAY,
+        SURE,
+    )?;
+    assert_eq!(rt; left.out.bytes(), again.out.bytes());
 
     let guest = assembled(alloc, COUNTER_HANDLER)?;
     let line = "serve guest requests --workers 4";
     let left = call_line(&rt, &guest, FOUR_REQUESTS, line, &OpenGate)?;
+    let files = [
+        ("guest", guest.as_slice()),
+        ("schedule", last_word(left.out.bytes())),
+        ("requests", FOUR_REQUESTS.as_bytes()),
+    ];
     let words = ["replay", "guest", "schedule", "requests", "--workers", "4"];
-    let schedule = last_word(left.out.bytes());
-    let text = replayed(&rt, &guest, schedule, FOUR_REQUESTS.as_bytes(), &words)?;
-    assert_eq!(rt; left.out.bytes(), text.as_slice());
+    let again = call_over(&rt, &files, &words, SURE, &OpenGate)?;
+    assert_eq!(rt; left.out.bytes(), again.out.bytes());
     Ok(())
 }
 

@@ -1,9 +1,10 @@
-use crate::ending::Ending;
-use crate::replaying::replay;
+//! A replay in a function without a handle of the runtime.
+
 use guest_asm::assemble;
 use guest_image::write_image;
 use kernel_core::{Job, Settings};
 use lwc_io::{MemoryFiles, MemorySink, NamedFile};
+use lwcrun_core::{Ending, replay};
 use std::alloc::Global;
 use std::test::Fail;
 

@@ -2,7 +2,7 @@ use Rattle.std.proofs.Common.{◌≡◌, ◌<◌, ◌++◌, ◌∷◌, [], ◌�
 use Rattle.std.specs.Prelude.{All, Contains}
 use Rattle.kernel_core.specs.Start.{thread_count}
 use Rattle.process_core.specs.Running.{AreAllOf, Carried, IsPassOf}
-use Rattle.lwcrun.proofs.passes.close_both.Goals as goal
+use Rattle.lwcrun.proofs.tests.passes.close_both.Goals as goal
 
 pub close-requires-after_bounds : goal.close-requires-after_bounds
 close-requires-after_bounds c κs =

@@ -4,9 +4,9 @@ use crate::tests::{STORE_LOAD, ZEROS, image};
 use guest_image::read_image;
 use guest_machine::{advance, advance_is_determined};
 use kernel_core::{Job, Kernel, Settings};
+use lazy_world::LazyWorld;
 use lwc_base::{Regs, Sequence};
 use std::test::Fail;
-use whole_world::WholeWorld;
 
 #[test]
 fn a_kernel_uses_only_an_advance_of_its_thread(rt: HostRuntime) -> Result<(), Fail> {
@@ -19,7 +19,7 @@ fn a_kernel_uses_only_an_advance_of_its_thread(rt: HostRuntime) -> Result<(), Fa
         job: Job::Run,
     };
     let requests = Sequence::of(Vec::new(alloc));
-    let mut kernel = Kernel::<WholeWorld>::open(alloc, &image, requests, 3, &settings)?;
+    let mut kernel = Kernel::<LazyWorld>::open(alloc, &image, requests, 3, &settings)?;
     assert_eq!(rt;
         (kernel.room(), kernel.work(), kernel.text().len()),
         (3, 10000, 4)

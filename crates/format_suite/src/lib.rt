@@ -1,0 +1,13 @@
+//! Tests of what is read and written: instructions, the machine that runs them, images, sources and listings.
+#![tactic(auto)]
+
+#[cfg(test)]
+mod images;
+#[cfg(test)]
+mod instructions;
+#[cfg(test)]
+mod listings;
+#[cfg(test)]
+mod machine;
+#[cfg(test)]
+mod sources;

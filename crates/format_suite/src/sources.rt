@@ -1,0 +1,164 @@
+use byte_reading::ReadError;
+use guest_asm::*;
+use guest_image::{ImageRule, write_image};
+use std::test::Fail;
+
+#[test]
+fn bytes_of_store_load(rt: HostRuntime) -> Result<(), Fail> {
+    let source = b".page 0 -\nLI r1, 7\nSTW r1, r0, 0\nLDW r2, r0, 0\nHALT\n.entry 0\n";
+    let image = assemble(rt.alloc(), source)?;
+    let bytes = write_image(rt.alloc(), &image)?;
+    let mut expected = hex::decode(
+        rt.alloc(),
+        "4c57433104000000010000000000000000000000010000000000000001010000070000002300000100000000\
+         210200000000000025000000000000000000000000000000",
+    )?;
+    expected.resize(4164, 0)?;
+    assert_eq!(rt; bytes.as_slice(), expected.as_slice());
+    Ok(())
+}
+
+/// Guests, a place in the text of each, and the bytes of the instruction there.
+#[test]
+fn labels_of_guests(rt: HostRuntime) -> Result<(), Fail> {
+    let rows = [
+        // zero_page
+        (
+            b".entry 0\nLI r1, 0\nLI r2, 1\nSYS 6\nLDW r3, r4, 0\nSTW r2, r4, 0\nHALT\n".as_slice(),
+            5,
+            [37, 0, 0, 0, 0, 0, 0, 0],
+        ),
+        // create_switch
+        (
+            b".entry 0\n.page 0 -\nSYS 16\nLI r5, 1\nSTW r5, r4, 0\nLI r6, 2\nEQ r6, r0, r6\n\
+              JZ r6, end\nMOV r1, r0\nLI r2, 9\nSYS 17\nend: HALT\n"
+                .as_slice(),
+            5,
+            [18, 0, 6, 0, 9, 0, 0, 0],
+        ),
+        // shared_pages
+        (
+            b".entry 0\n.page 0 05\n.page 1 00000000010000000000000001000000\nLI r1, 4096\n\
+              LI r2, 1\nSYS 16\nLI r8, 2\nEQ r9, r0, r8\nJZ r9, ina\nLI r2, 0\nSYS 16\nLI r8, 3\n\
+              EQ r9, r0, r8\nJZ r9, inb\nLI r1, 2\nSYS 17\nLI r1, 3\nSYS 17\nHALT\nina: LI r5, 6\n\
+              STB r5, r4, 0\nSYS 17\nHALT\ninb: LDB r7, r4, 0\nHALT\n"
+                .as_slice(),
+            10,
+            [18, 0, 9, 0, 20, 0, 0, 0],
+        ),
+        // overlay_back
+        (
+            b".entry 0\n.page 0 01000000000000000200000003000000\nSYS 16\nLI r8, 2\n\
+              EQ r9, r0, r8\nJZ r9, child\nMOV r1, r0\nSYS 17\nLI r1, 2\nLI r2, 0\nLI r3, 1\n\
+              SYS 19\nLI r1, 2\nLI r2, 7\nSYS 17\nHALT\nchild: SYS 17\nHALT\n"
+                .as_slice(),
+            3,
+            [18, 0, 9, 0, 14, 0, 0, 0],
+        ),
+        // rollback
+        (
+            b".entry 0\n.page 0 -\ntop: LI r2, 0\nSYS 16\nLI r8, 0\nADDI r8, r8, -1\n\
+              EQ r9, r0, r8\nJZ r9, work\nMOV r10, r2\nSYS 2\nJMP top\nwork: MOV r11, r0\n\
+              LDW r5, r4, 0\nADDI r5, r5, 1\nSTW r5, r4, 0\nLI r1, 1\nLI r2, 0\nLI r3, 8\nSYS 5\n\
+              ADDI r10, r10, 1\nLI r8, 3\nLTU r9, r10, r8\nJZ r9, end\nMOV r1, r11\nMOV r2, r10\n\
+              SYS 17\nend: HALT\n"
+                .as_slice(),
+            3,
+            [16, 8, 8, 0, 255, 255, 255, 255],
+        ),
+        // many_ranges
+        (
+            b".entry 0\nLI r1, 0\nLI r2, 65\nSYS 6\nLI r5, 0\nLI r6, 0\nLIH r7, 1\nLI r8, 1\n\
+              loop: STW r7, r6, 0\nADDI r9, r8, 1\nLI r10, 32\nSHL r9, r9, r10\nADD r9, r9, r8\n\
+              STW r9, r6, 8\nADDI r6, r6, 16\nADDI r8, r8, 2\nADDI r5, r5, 1\nLI r10, 32\n\
+              LTU r10, r5, r10\nJNZ r10, loop\nLI r1, 0\nLI r2, 32\nSYS 16\nHALT\n"
+                .as_slice(),
+            18,
+            [19, 0, 10, 0, 7, 0, 0, 0],
+        ),
+        // cycle
+        (
+            b".entry 0\n.page 0 -\nSYS 16\nLI r8, 2\nEQ r9, r0, r8\nJZ r9, ina\nMOV r1, r0\n\
+              SYS 17\nSYS 2\nLI r1, 2\nSYS 2\nHALT\nina: LI r2, 0\nSYS 16\nLI r8, 3\n\
+              EQ r9, r0, r8\nJZ r9, inb\nMOV r1, r0\nSYS 17\nHALT\ninb: STW r8, r4, 0\nLI r1, 2\n\
+              SYS 17\nHALT\n"
+                .as_slice(),
+            14,
+            [18, 0, 9, 0, 18, 0, 0, 0],
+        ),
+        // counter_handler
+        (
+            b".entry 0\n.page 0 -\nLI r2, 8\nLI r3, 1\nSYS 4\nLDB r5, r4, 8\nJNZ r5, bad\n\
+              LDW r6, r4, 0\nADDI r6, r6, 1\nSTW r6, r4, 0\nLI r1, 1\nLI r2, 0\nLI r3, 1\nSYS 5\n\
+              HALT\nbad: LDW r6, r4, 1\n"
+                .as_slice(),
+            4,
+            [19, 0, 5, 0, 13, 0, 0, 0],
+        ),
+    ];
+    for (source, place, instruction) in rows {
+        let image = assemble(rt.alloc(), source)?;
+        let bytes = write_image(rt.alloc(), &image)?;
+        let at = 28 + 8 * place;
+        assert_eq!(rt;
+            bytes.as_slice().get(at..at + 8),
+            Some(instruction.as_slice())
+        );
+    }
+    Ok(())
+}
+
+#[test]
+fn refusals(rt: HostRuntime) -> Result<(), Fail> {
+    let rows = [
+        (b"HALT 1".as_slice(), SourceRule::BadLine, 0),
+        (b"HALT\n halt\n", SourceRule::BadLine, 5),
+        (b"HALT\r\r\n", SourceRule::BadLine, 0),
+        (b"HALT ; \r\n.uid 1\n.uid x", SourceRule::BadLine, 16),
+        (b"HALT\nLI r16, 1\n", SourceRule::BadOperand, 5),
+        (b"LI r1, 007", SourceRule::BadOperand, 0),
+        (b"LI r1, -0", SourceRule::BadOperand, 0),
+        (b"MOV r1, a", SourceRule::BadOperand, 0),
+        (b"a:\nb:\na: HALT\n.entry c", SourceRule::BadLabel, 6),
+        (b"a: HALT\nJMP r1\n.entry b", SourceRule::BadLabel, 8),
+        (b"HALT\n", SourceRule::Image(ImageRule::BadCount), 20),
+        (
+            b"JMP end\n.entry 0\nend:",
+            SourceRule::Image(ImageRule::BadTarget),
+            28,
+        ),
+    ];
+    for (source, rule, at) in rows {
+        let refused = ReadError::Refused { rule, at };
+        assert_eq!(rt;
+            assemble(rt.alloc(), source).err(),
+            Some(refused),
+            "{rule:?} {at}"
+        );
+    }
+    Ok(())
+}
+
+#[test]
+fn sources_and_images_that_are_too_long(rt: HostRuntime) -> Result<(), Fail> {
+    let line = b".page 0 -\n".as_slice();
+    let mut pages = Vec::new(rt.alloc());
+    for _ in 0..2100 {
+        pages.extend_from_slice(line)?;
+    }
+    let blanks = vec![in rt.alloc(); b' '; 16_777_217]?;
+    let rows = [
+        (
+            pages.as_slice(),
+            SourceRule::Image(ImageRule::TooLong),
+            8_388_608,
+        ),
+        (blanks.as_slice(), SourceRule::TooLong, 16_777_216),
+    ];
+    for (source, rule, at) in rows {
+        let refused = ReadError::Refused { rule, at };
+        assert_eq!(rt; assemble(rt.alloc(), source).err(), Some(refused));
+        assert_eq!(rt; rule.name(), "TooLong");
+    }
+    Ok(())
+}

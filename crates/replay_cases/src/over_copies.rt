@@ -1,0 +1,73 @@
+ghost use Rattle.guest_image.specs.Limits.{IsImage};
+ghost use Rattle.kernel_core.specs.Kernel.{MayHave};
+ghost use Rattle.kernel_core.specs.Settings.{IsSettings};
+
+use crate::case::Case;
+use crate::line_of;
+use guest_image::{Image, read_image};
+use kernel_core::{Kernel, OpenFault, Settings};
+use lwc_base::{OutOfMemory, Requests};
+use lwc_text::{read_requests, report};
+use lwcrun_core::{Line, read_line};
+use std::alloc::{AllocError, Global};
+use whole_world::WholeWorld;
+
+/// The report of a case over a world by whole copies, or no byte if it asks for no replay, or its files are
+/// refused.
+pub fn text_over_copies(alloc: Global, guest: &[u8], case: &Case) -> Result<Vec<u8>, AllocError> {
+    let Ok(image) = read_image(alloc, guest) else {
+        return Ok(Vec::new(alloc));
+    };
+    let schedule = case.schedule.as_bytes();
+    match read_line(alloc, line_of(alloc, case.line.as_str())?.as_slice()) {
+        Ok(
+            Line::Replay {
+                requests: None,
+                settings,
+                ..
+            },
+        ) => {
+            let requests = Requests::of(Vec::new(alloc));
+            Ok(steps_over_copies(alloc, &image, requests, &settings, schedule)?)
+        }
+        Ok(
+            Line::Replay {
+                requests: Some(_),
+                settings,
+                ..
+            },
+        ) => {
+            let Ok(requests) = read_requests(alloc, case.requests.as_bytes()) else {
+                return Ok(Vec::new(alloc));
+            };
+            Ok(steps_over_copies(alloc, &image, requests, &settings, schedule)?)
+        }
+        _ => Ok(Vec::new(alloc)),
+    }
+}
+
+/// The report of the schedule's steps over a world by whole copies. Digits that name no thread are left out.
+fn steps_over_copies(
+    alloc: Global,
+    image: &Image,
+    requests: Requests,
+    settings: &Settings,
+    schedule: &[u8],
+) -> Result<Vec<u8>, AllocError>
+    requires image { IsImage image.now }
+    requires settings { IsSettings settings.now }
+    requires requests { MayHave settings.now.job requests }
+{
+    let Ok(mut kernel) = Kernel::<WholeWorld>::open(alloc, image, requests, 1000, settings) else {
+        return Ok(Vec::new(alloc));
+    };
+    for digit in schedule {
+        let t = u32::from(digit.wrapping_sub(b'0'));
+        if t < kernel.thread_count() && 0 < kernel.room() {
+            if kernel.step(t, None).is_err() {
+                return Ok(Vec::new(alloc));
+            }
+        }
+    }
+    report(alloc, &kernel).or_else(|_| Ok(Vec::new(alloc)))
+}

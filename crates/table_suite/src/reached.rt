@@ -1,0 +1,35 @@
+ghost use Rattle.std.specs.Prelude.{◌≡◌, ◌<◌, ◌+◌, ◌-◌, ◌%◌, ◌&&◌, ◌==◌, if◌then◌else◌, ℕ, None, Some, nat_lt};
+
+use reach::links::Links;
+use reach::marks::{Marks, mark};
+use std::test::Fail;
+
+/// Places 0 and 1 link to each other by their last slots, and so do 2 and 3.
+struct Cycles;
+
+impl Links for Cycles {
+    ghost use Rattle.std.specs.Prelude.{◌+◌, ◌-◌, ◌%◌, ◌&&◌, ◌==◌, if◌then◌else◌, None, Some, nat_lt};
+
+    ghost link_of = { λ _ place slot. if nat_lt place 4 && slot == 63
+        then Some (if place % 2 == 0 then place + 1 else place - 1) else None };
+
+    fn link(&self, place: usize, slot: u8) -> Option<usize> {
+        if place < 4 && slot == 63 {
+            Some(if place % 2 == 0 { place + 1 } else { place - 1 })
+        } else {
+            None
+        }
+    }
+}
+
+#[test]
+fn a_cycle_is_reached_from_a_root_in_it(rt: HostRuntime) -> Result<(), Fail> {
+    let mut marks = Marks::new();
+    mark(&Cycles, &[1], &mut marks);
+    assert!(rt; marks.marked(0) && marks.marked(1));
+    assert!(rt; !marks.marked(2) && !marks.marked(3) && !marks.marked(528));
+    mark(&Cycles, &[3, 528], &mut marks);
+    assert!(rt; !marks.marked(0) && !marks.marked(1));
+    assert!(rt; marks.marked(2) && marks.marked(3) && marks.marked(528));
+    Ok(())
+}
