@@ -2,8 +2,7 @@
 use Rattle.std.specs.Prelude.{◌≡◌, ◌↔◌, ℕ, ◌+◌, ◌<◌, ◌≤◌, min, List, [], ◌∷◌, ◌++◌, length, take, drop, Option, None, Some, option_map, Result, Ok, Err, IfSome}
 
 -- a fetch: of the file of that name, from the offset `at` on, of at most `most` bytes; it gave this number of
--- them, 0 at
--- the file's end, and none where it failed
+-- them, 0 at the file's end, and none where it failed
 pub record Fetch : Type 0 where
   pub name : List ℕ
   pub at : ℕ

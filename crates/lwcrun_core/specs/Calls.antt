@@ -136,10 +136,8 @@ WroteHistory o inputs =
     × (o.out_after.taken ≡ appended o.out.taken (text_of inputs steps))
 
 -- some complete history of this serve was made, each step of which is confined, and in which each request has
--- a reply;
--- where there are frames for that, it is the one that the request gets by itself, and no step finds too few;
--- and the
--- history's text was written
+-- a reply; where there are frames for that, it is the one that the request gets by itself, and no step finds
+-- too few; and the history's text was written
 abbrev pub WroteServe : Outside → Inputs → Type 0
 WroteServe o inputs =
     (steps : List ℕ) × IsComplete (start inputs) steps × EachHasReply inputs steps × RepliesAreAlone inputs steps
@@ -147,8 +145,7 @@ WroteServe o inputs =
     × (o.out_after.taken ≡ appended o.out.taken (text_of inputs steps))
 
 -- some complete history of the generated serve was made, and its summary was written, which is that of the
--- replies that
--- the requests get by themselves where there are frames for that
+-- replies that the requests get by themselves where there are frames for that
 abbrev pub WroteSummary : Outside → ℕ → Type 0
 WroteSummary o number =
     (steps : List ℕ) × IsComplete (start (generated number)) steps × IsConfinedRun (generated number) steps
@@ -157,13 +154,10 @@ WroteSummary o number =
     × (o.out_after.taken ≡ appended o.out.taken (summary_after (generated number) number steps))
 
 -- the headline of a command over the contents of its files. They are accepted, and what was written is: the
--- report of the
--- steps that are kept of the schedule, or of those that running threads made; the bytes of the source's
--- image, or the source
--- of the image; the summary of the steps of a generated serve. Of the same steps: with enough frames each
--- reply is the one
--- that its request gets alone, and no step is short of them; each step is confined, and what is left alone is
--- as it was made
+-- report of the steps that are kept of the schedule, or of those that running threads made; the bytes of the
+-- source's image, or the source of the image; the summary of the steps of a generated serve. Of the same
+-- steps: with enough frames each reply is the one that its request gets alone, and no step is short of them;
+-- each step is confined, and what is left alone is as it was made
 abbrev pub Headline : Outside → Command → (List ℕ → List ℕ) → Type 0
 Headline o (commands.Replay image schedule requests settings) bytes =
     (x : Image) × (steps : List ℕ) × (asked : List (List ℕ))

@@ -18,8 +18,7 @@ use Rattle.lwcrun_core.specs.Lines as commands
 use Rattle.lwcrun_core.specs.Plans.{Plan, Read, Write, accepted}
 
 -- what is done when all inputs are accepted: the steps of a schedule; all steps of threads that go on by
--- themselves; the
--- bytes of an image, or its source; all steps of a generated serve
+-- themselves; the bytes of an image, or its source; all steps of a generated serve
 pub data Work : Type 0 where
   Replaying : Inputs → List ℕ → Work
   Running : Inputs → Work

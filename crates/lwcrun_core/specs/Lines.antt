@@ -12,10 +12,8 @@ use Rattle.lwcrun_core.specs.Arguments.{Arguments, arguments_of}
 use Rattle.lwcrun_core.specs.Numbers.{number_within}
 
 -- what is asked for, each file by its name: an image under a schedule, a serve where there are requests; the
--- run of an
--- image; the serve of requests by an image; the image of a source; the source of an image; the serve that is
--- generated
--- from a number
+-- run of an image; the serve of requests by an image; the image of a source; the source of an image; the
+-- serve that is generated from a number
 pub data Command : Type 0 where
   Replay : List ℕ → List ℕ → Option (List ℕ) → Settings → Command
   Run : List ℕ → Settings → Command

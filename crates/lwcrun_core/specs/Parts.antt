@@ -10,8 +10,7 @@ pub data Found (A R : Type 0) : Type 0 where
   Missing : End R → Found A R
 
 -- what was found in a file is what the grammar gives for its contents, and no fetch failed; or one did, or
--- memory
--- ran out
+-- memory ran out
 unfoldable pub ReadsBy : {A R : Type 0}
     → (List ℕ → Result A R) → FilesView → FilesView → List ℕ → Found A R → Type 0
 ReadsBy grammar files after name (Value x) =

@@ -31,8 +31,7 @@ Reads files (Refuse refusal) asked = ⊥
 Reads files (Write work) asked = ⊥
 
 -- over contents that the files may have, these are fetches of the plan: each file that it reads is read
--- onward, once, and
--- to the end before what follows it; what the plan does not come to is not fetched
+-- onward, once, and to the end before what follows it; what the plan does not come to is not fetched
 abbrev pub AreFetchesOf : {R W : Type 0} → FileContents → Plan R W → List Fetch → Type 0
 AreFetchesOf files (Read name limit next) fetches =
     ReadsOnward name limit fetches

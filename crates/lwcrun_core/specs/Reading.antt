@@ -16,8 +16,7 @@ abbrev pub GaveBefore : ℕ → Fetch → Type 0
 GaveBefore at f = (n : ℕ) × (f.given ≡ Some n) × (0 < n) × (f.at + n ≤ at)
 
 -- these fetches read one file onward: each asks for a byte or more, none for more than one byte past the
--- limit, and each
--- before the last one gave some bytes, all of them before the fetches after it
+-- limit, and each before the last one gave some bytes, all of them before the fetches after it
 pub record ReadsOnward (name : List ℕ) (limit : ℕ) (fetches : List Fetch) : Type 0 where
   pub named : All (λ f. f.name ≡ name) fetches
   pub within : All (λ f. (0 < f.most) × (f.at + f.most ≤ limit + 1)) fetches

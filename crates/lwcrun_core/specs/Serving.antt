@@ -22,8 +22,7 @@ abbrev pub reply_alone : Inputs → ℕ → Option Finished
 reply_alone inputs r = alone inputs.image inputs.settings.budget r (bytes_in inputs.requests r)
 
 -- where there are frames for as many requests at once as there are workers, each reply is the one that its
--- request gets
--- by itself
+-- request gets by itself
 abbrev pub RepliesAreAlone : Inputs → List ℕ → Type 0
 RepliesAreAlone inputs steps =
     HasFrames inputs → (r : ℕ) (told : Finished) → reply_of (run (start inputs) steps) r ≡ Some told →

@@ -1,7 +1,6 @@
 -- The rule of the lock: what its two words, its slot and the views of its seats have in common at every
--- moment.
--- It speaks of one past: that of the state in the slot where no seat is at its turn, and else the list of the
--- seat at its turn.
+-- moment. It speaks of one past: that of the state in the slot where no seat is at its turn, and else the
+-- list of the seat at its turn.
 use Rattle.std.specs.Prelude.{◌≡◌, ◌≢◌, ◌⊎◌, ◌+◌, ◌^◌, ◌<◌, ◌≤◌, ℕ, List, [], ◌∷◌, length, All, AllPairs, sum_by, Option, Some}
 use mathlib.Core.Option as maybe
 use mathlib.Core.Option.{some, none}
@@ -43,8 +42,8 @@ module _ {N : Type 0} where
     pub spent : (view : View N) × Sits views j.number view × (view.stage ≡ Spent)
 
   -- a seat that is not spent: its number is its place, it knows the past and noted no turn that was not, its
-  -- ticket was drawn and is yet to be served, at its turn it is the next and has seen all;
-  -- the first seat knows how many were made, and those that it joined have numbers that differ
+  -- ticket was drawn and is yet to be served, at its turn it is the next and has seen all; the first seat
+  -- knows how many were made, and those that it joined have numbers that differ
   pub record Fits (name : N) (next : ℕ) (past : List ℕ) (views : List (View N)) (seat : ℕ) (view : View N) : Type 0 where
     pub named : view.name ≡ Some name
     pub number : view.number ≡ seat

@@ -1,12 +1,11 @@
 -- The kinds of step, each by what it does to the view of the seat that steps and to the slot that it holds.
 --
---   draw ticket   adds 1 to `next`          a seat without a ticket
---   look          loads `serving`           any seat that is not at its turn
---   move out      exchange in the slot      a seat at its turn, which holds the slot
---   move in       exchange in the slot      the same seat
---   pass on       adds 1 to `serving`       the same seat, with the state back in the slot
---   split seat    loads `next`              the seat with number 0, where fewer than 16 seats were made
---   join seat     loads `next`              the seat with number 0, and another; neither has a ticket
+--   draw ticket   adds 1 to `next`          a seat without a ticket   look          loads `serving`
+-- any seat that is not at its turn   move out      exchange in the slot      a seat at its turn, which holds
+-- the slot   move in       exchange in the slot      the same seat   pass on       adds 1 to `serving`
+-- the same seat, with the state back in the slot   split seat    loads `next`              the seat with
+-- number 0, where fewer than 16 seats were made   join seat     loads `next`              the seat with
+-- number 0, and another; neither has a ticket
 use Rattle.std.specs.Prelude.{◌≡◌, ◌≢◌, ◌+◌, ◌≤◌, ℕ, List, [], ◌∷◌, ◌++◌, length, Option, Some, None}
 use Rattle.atomic_table.specs.Table.{Me, Step}
 use Rattle.turnstile.specs.declared.views.Joined.{Joined}
