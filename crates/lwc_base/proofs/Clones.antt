@@ -1,10 +1,10 @@
 -- The cells of a context and of its clone, what they read, and what they have apart and in common.
-use Rattle.std.proofs.Common.{◌≡◌, ◌≢◌, ℕ, sym, ap, subst, ◌∙◌, true, false, List, arith, rules}
+use Rattle.std.proofs.Common.{◌≡◌, ◌≢◌, ℕ, refl, sym, ap, subst, ◌∙◌, true, false, List, arith, rules}
 use Rattle.std.proofs.lemmas.Bool.Decides.{nat_tests}
 use Rattle.lwc_base.specs.declared.cell.Cell.TheVariants.{Own, Common}
 use Rattle.lwc_base.specs.declared.item.Item.{Item}
 use Rattle.lwc_base.specs.declared.item.Mode.{Mode}
-use Rattle.lwc_base.specs.declared.item.Mode.TheVariants.{Copy, Share, Unmap}
+use Rattle.lwc_base.specs.declared.item.Mode.TheVariants.{Copy, Share, Unmap, CopyRead}
 use Rattle.lwc_base.specs.declared.key.Key.{Key}
 use Rattle.lwc_base.specs.declared.name.Name.{Name}
 use Rattle.lwc_base.specs.Cells.{value_at}
@@ -12,7 +12,7 @@ use Rattle.lwc_base.specs.Clones.{IsClone, AreApart, HaveInCommon}
 use Rattle.lwc_base.specs.Facts.{AddsContext, SharesValues}
 use Rattle.lwc_base.specs.Holders.{IsGroup}
 use Rattle.lwc_base.specs.Keys.{ValueOf, is_there, nothing}
-use Rattle.lwc_base.specs.Modes.{IsKey, mode_or_copy}
+use Rattle.lwc_base.specs.Modes.{IsKey, copies, mode_or_copy}
 use Rattle.lwc_base.specs.Sharing.{is_moved, with_shared, share, cloned_cell, cloned_context, clone_context}
 use Rattle.lwc_base.specs.World.{World, Context, Group, context, is_live, next_context, next_group}
 use Rattle.lwc_base.proofs.Common.{value_at-same, value_at-cell}
@@ -52,6 +52,13 @@ module _ (w : World) (c : Name) (job : ℕ) (items : List Item) where
   unfolding with_shared
   named-after a k g names = let shares = shares-share w c job items in grind (arith, cases_name)
 
+-- a cell of a mode that copies
+pub cloned-copied : (w : World) (c : Name) (k : Key) (mode : Mode) → copies mode ≡ true → cloned_cell w c k mode ≡ Own (value_at w c k)
+cloned-copied w c k Copy is = refl
+cloned-copied w c k Share is = grind arith
+cloned-copied w c k Unmap is = grind arith
+cloned-copied w c k CopyRead is = refl
+
 module _ (w v : World) (c d : Name) (items : List Item) (made : IsClone w v c d items) where
   abbrev between : World
   between = share w c made.job items
@@ -78,8 +85,8 @@ module _ (w v : World) (c d : Name) (items : List Item) (made : IsClone w v c d 
   cell-new k mode is = search (rules, adds, next_context-share)
 
   -- the cells of the clone
-  pub clone-copied : (k : Key) → mode_or_copy items k ≡ Copy → (context v d).cell k ≡ Own (value_at w c k)
-  clone-copied k is = cell-new k Copy is ∙ ap Own (value_at-share w c made.job items made.fresh c k)
+  pub clone-copied : (k : Key) → copies (mode_or_copy items k) ≡ true → (context v d).cell k ≡ Own (value_at w c k)
+  clone-copied k is = cell-new k (mode_or_copy items k) refl ∙ cloned-copied between c k (mode_or_copy items k) is ∙ ap Own (value_at-share w c made.job items made.fresh c k)
 
   pub clone-left_out : (k : Key) → mode_or_copy items k ≡ Unmap → (context v d).cell k ≡ Own (nothing k)
   clone-left_out k is = cell-new k Unmap is
@@ -114,14 +121,14 @@ module _ (w v : World) (c d : Name) (items : List Item) (made : IsClone w v c d 
       value_at-same v between e k (ap (λ (x : Context). x.cell k) (as_shared e live)) (λ g _. ap (λ (x : Group). x.value k) (group-same between v g adds.groups))
       ∙ value_at-share w c made.job items made.fresh e k
 
-  pub clone-reads_copied : (k : Key) → mode_or_copy items k ≡ Copy → value_at v d k ≡ value_at w c k
+  pub clone-reads_copied : (k : Key) → copies (mode_or_copy items k) ≡ true → value_at v d k ≡ value_at w c k
   clone-reads_copied k is = value_at-cell v d k (Own (value_at w c k)) (clone-copied k is)
 
   pub clone-reads_nothing : (k : Key) → mode_or_copy items k ≡ Unmap → value_at v d k ≡ nothing k
   clone-reads_nothing k is = value_at-cell v d k (Own (nothing k)) (clone-left_out k is)
 
   -- a cell of its own is apart from each other context
-  pub clone-copied_apart : (k : Key) → mode_or_copy items k ≡ Copy → (e : Name) → is_live w e ≡ true → AreApart v e d k
+  pub clone-copied_apart : (k : Key) → copies (mode_or_copy items k) ≡ true → (e : Name) → is_live w e ≡ true → AreApart v e d k
   clone-copied_apart k is e live = let own = clone-copied k is in record { differ = (differs e live).0; no_group = λ g _ common. grind arith }
 
   pub clone-left_out_apart : (k : Key) → mode_or_copy items k ≡ Unmap → (e : Name) → is_live w e ≡ true → AreApart v e d k

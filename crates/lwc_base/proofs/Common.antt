@@ -13,7 +13,7 @@ use Rattle.lwc_base.specs.Cells.{value_of, value_at, put_at, put_page, with_cell
 use Rattle.lwc_base.specs.Clones.{AreApart, HaveInCommon, IsOutside}
 use Rattle.lwc_base.specs.Facts.{ChangesContext, ChangesGroup}
 use Rattle.lwc_base.specs.Keys.{ValueOf, is_there, with_key}
-use Rattle.lwc_base.specs.Mapping.{on_pages, map_pages, unmap_pages}
+use Rattle.lwc_base.specs.Mapping.{on_pages, with_pages, map_pages, unmap_pages}
 use Rattle.lwc_base.specs.Memory.{touched}
 use Rattle.lwc_base.specs.Sound.{HasItsGroups, HasValue, live_groups}
 use Rattle.lwc_base.specs.Holders.{InCell, IsGroup}
@@ -188,7 +188,7 @@ common-after_store w c job piece a b k = common-same w _ a b k (names_same-after
 -- a range of pages of one context gets another cell of its own
 module _ (w : World) (c : Name) (from to : ℕ) (value : Option PageValue) (a b : Name) (k : Key) where
   abbrev paged : Context → Context
-  paged x = record x { cell = on_pages from to (Own value) x.cell }
+  paged = with_pages from to value
 
   apart-pages : AreApart w a b k → AreApart (change_context w c paged) a b k
   apart-pages apart = record {

@@ -7,7 +7,7 @@ use Rattle.lwc_base.specs.declared.cell.Cell.{Cell}
 use Rattle.lwc_base.specs.declared.cell.Cell.TheVariants.{Own, Common}
 use Rattle.lwc_base.specs.declared.item.Item.{Item}
 use Rattle.lwc_base.specs.declared.item.Mode.{Mode}
-use Rattle.lwc_base.specs.declared.item.Mode.TheVariants.{Copy, Share, Unmap}
+use Rattle.lwc_base.specs.declared.item.Mode.TheVariants.{Copy, Share, Unmap, CopyRead}
 use Rattle.lwc_base.specs.declared.key.Key.{Key}
 use Rattle.lwc_base.specs.declared.key.Key.TheVariants.{Page}
 use Rattle.lwc_base.specs.declared.name.Name.{Name}
@@ -17,7 +17,7 @@ use Rattle.lwc_base.specs.declared.size.WorldSize.{WorldSize}
 use Rattle.lwc_base.specs.Cells.{value_of, value_at, put_at, put_page, with_cell, with_value}
 use Rattle.lwc_base.specs.Holders.{Rules, everywhere, InCell, InContext, InGroup, IsGroup, Keeps}
 use Rattle.lwc_base.specs.Keys.{ValueOf, nothing}
-use Rattle.lwc_base.specs.Mapping.{on_pages}
+use Rattle.lwc_base.specs.Mapping.{with_pages}
 use Rattle.lwc_base.specs.Memory.{touched}
 use Rattle.lwc_base.specs.Modes.{mode, mode_or_copy}
 use Rattle.lwc_base.specs.Overlay.{overlaid_cell, with_overlay}
@@ -104,7 +104,7 @@ module _ (rules : Rules) where
 
   -- pages of a range of the context's own become another value, as zeros or absent ones
   pub keeps-on_pages : (w : World) (c : Name) (from to : ℕ) (value : Option PageValue) → ((p : ℕ) → p < to → rules.value c.job (Page p) value) →
-      Keeps rules w → Keeps rules (change_context w c (λ x. record x { cell = on_pages from to (Own value) x.cell }))
+      Keeps rules w → Keeps rules (change_context w c (with_pages from to value))
   keeps-on_pages w c from to value fits keeps =
       keeps-change_context w c _ (λ live k. on_pages-cases from to (Own value) (context w c).cell (InCell rules c.job) fits k (keeps.contexts c live k)) keeps
 
@@ -155,6 +155,7 @@ module _ (rules : Rules) (w : World) (c : Name) (job : ℕ) (items : List Item) 
   in_cloned_cell out k Copy = lets.value k _ (value_at-keeps rules w c live none out keeps k)
   in_cloned_cell out k Share = in_lets k ((context w c).cell k) (keeps.contexts c live k)
   in_cloned_cell out k Unmap = none job k
+  in_cloned_cell out k CopyRead = lets.value k _ (value_at-keeps rules w c live none out keeps k)
 
   -- the cells of a context that is made from the context
   pub in_clone : (entry : Regs) → ((k : Key) (g : Name) (value : ValueOf k) → rules.group c.job k g → rules.value g.job k value → rules.value c.job k value) →

@@ -28,5 +28,6 @@ pub mod Stored
 pub mod Tables
 pub mod StoredBytes
 pub mod Tags
+pub mod Rights
 pub mod Room
 pub mod Small

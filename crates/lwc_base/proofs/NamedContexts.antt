@@ -1,6 +1,5 @@
 -- Each context that a slot of a live context has a descriptor of is live, after each change.
 use Rattle.std.proofs.Common.{rules, ◌≡◌, ◌⊎◌, ℕ, ◌<◌, ap, sym, ◌∙◌, true, List, Option, None, Some, arith}
-use Rattle.lwc_base.specs.declared.cell.Cell.TheVariants.{Own}
 use Rattle.lwc_base.specs.declared.descriptor.Descriptor.{Descriptor}
 use Rattle.lwc_base.specs.declared.descriptor.Descriptor.TheVariants.{Empty}
 use Rattle.lwc_base.specs.declared.descriptor.TheConstants.{SLOTS}
@@ -14,12 +13,12 @@ use Rattle.lwc_base.specs.Cells.{put_slot, put_uid, slot_at}
 use Rattle.lwc_base.specs.Facts.{KeepsNames}
 use Rattle.lwc_base.specs.Fresh.{IsFresh}
 use Rattle.lwc_base.specs.Life.{HasItsContexts, Link, is_of, reap}
-use Rattle.lwc_base.specs.Mapping.{map_pages, on_pages, unmap_pages}
+use Rattle.lwc_base.specs.Mapping.{map_pages, unmap_pages, with_pages}
 use Rattle.lwc_base.specs.Overlay.{overlay}
 use Rattle.lwc_base.specs.Saved.{save}
 use Rattle.lwc_base.specs.Sharing.{clone_context, share}
 use Rattle.lwc_base.specs.Store.{Piece, after_store}
-use Rattle.lwc_base.specs.World.{World, Context, Group, change_context, is_live, next_context}
+use Rattle.lwc_base.specs.World.{World, Group, change_context, is_live, next_context}
 use Rattle.lwc_base.proofs.Common.{put-other_key, value_at-same}
 use Rattle.lwc_base.proofs.Lookups.{changes-change_context}
 use Rattle.lwc_base.proofs.Orders.{cases_name}
@@ -60,9 +59,9 @@ contexts-save w c t regs = contexts-same w _ (saves w c t regs).names.live (λ d
 
 -- pages of a context become zeros or absent, and its slots read as before
 contexts-on_pages : (w : World) (c : Name) (from to : ℕ) (value : Option PageValue) → HasItsContexts w →
-    HasItsContexts (change_context w c (λ x. record x { cell = on_pages from to (Own value) x.cell }))
+    HasItsContexts (change_context w c (with_pages from to value))
 contexts-on_pages w c from to value =
-    let changes = changes-change_context w c (λ (x : Context). record x { cell = on_pages from to (Own value) x.cell }) in
+    let changes = changes-change_context w c (with_pages from to value) in
     contexts-same w _ changes.names.live (λ d n. value_at-same _ w d (Slot n) (grind (arith, cases_name, changes.others d)) (λ g _. ap (λ (x : Group). x.value (Slot n)) (changes.groups g)))
 
 pub contexts-map_pages : (w : World) (c : Name) (from to : ℕ) → HasItsContexts w → HasItsContexts (map_pages w c from to)

@@ -4,7 +4,7 @@ use Rattle.lwc_base.specs.declared.cell.Cell.{Cell}
 use Rattle.lwc_base.specs.declared.cell.Cell.TheVariants.{Own, Common}
 use Rattle.lwc_base.specs.declared.item.Item.{Item}
 use Rattle.lwc_base.specs.declared.item.Mode.{Mode}
-use Rattle.lwc_base.specs.declared.item.Mode.TheVariants.{Copy, Share}
+use Rattle.lwc_base.specs.declared.item.Mode.TheVariants.{Share}
 use Rattle.lwc_base.specs.declared.key.Key.{Key}
 use Rattle.lwc_base.specs.declared.name.Name.{Name}
 use Rattle.lwc_base.specs.Cells.{value_at, value_of}
@@ -12,11 +12,11 @@ use Rattle.lwc_base.specs.Clones.{AreApart, HaveInCommon}
 use Rattle.lwc_base.specs.Facts.{ChangesContext, SharesValues}
 use Rattle.lwc_base.specs.Holders.{IsGroup}
 use Rattle.lwc_base.specs.Keys.{ValueOf, is_there}
-use Rattle.lwc_base.specs.Modes.{IsKey, mode, mode_or_copy}
+use Rattle.lwc_base.specs.Modes.{IsKey, copies, mode, mode_or_copy}
 use Rattle.lwc_base.specs.Overlay.{IsOverlay, overlaid_cell, overlay, with_overlay}
 use Rattle.lwc_base.specs.Sharing.{cloned_cell, is_moved, share}
 use Rattle.lwc_base.specs.World.{World, Context, context, is_live, next_group}
-use Rattle.lwc_base.proofs.Clones.{cell-moves, named-after}
+use Rattle.lwc_base.proofs.Clones.{cell-moves, cloned-copied, named-after}
 use Rattle.lwc_base.proofs.Common.{group_of_cell, value_at-cell, value_at-same}
 use Rattle.lwc_base.proofs.Lookups.{changes-change_context}
 use Rattle.lwc_base.proofs.Needs.{needed-key}
@@ -54,14 +54,14 @@ module _ (w v : World) (c d : Name) (items : List Item) (made : IsOverlay w v c 
   cell-by : (k : Key) (m : Mode) → mode items k ≡ Some m → (context v c).cell k ≡ cloned_cell between d k m
   cell-by k m is = cell-overlaid k ∙ ap (λ m. overlaid_cell between d k m ((context between c).cell k)) is
 
-  pub overlay-copied : (k : Key) → mode items k ≡ Some Copy → (context v c).cell k ≡ Own (value_at w d k)
-  overlay-copied k is = cell-by k Copy is ∙ ap Own (shared_value d k)
+  pub overlay-copied : (k : Key) (m : Mode) → mode items k ≡ Some m → copies m ≡ true → (context v c).cell k ≡ Own (value_at w d k)
+  overlay-copied k m is copied = cell-by k m is ∙ cloned-copied between d k m copied ∙ ap Own (shared_value d k)
 
-  pub overlay-apart : (k : Key) → mode items k ≡ Some Copy → (e : Name) → is_live w e ≡ true → e ≢ c → AreApart v e c k
-  overlay-apart k is e live other = let own = overlay-copied k is in record { differ = other; no_group = λ g one two. grind arith }
+  pub overlay-apart : (k : Key) (m : Mode) → mode items k ≡ Some m → copies m ≡ true → (e : Name) → is_live w e ≡ true → e ≢ c → AreApart v e c k
+  overlay-apart k m is copied e live other = let own = overlay-copied k m is copied in record { differ = other; no_group = λ g one two. grind arith }
 
-  pub overlay-copied_value : (k : Key) → mode items k ≡ Some Copy → value_at v c k ≡ value_at w d k
-  overlay-copied_value k is = value_at-cell v c k _ (overlay-copied k is)
+  pub overlay-copied_value : (k : Key) (m : Mode) → mode items k ≡ Some m → copies m ≡ true → value_at v c k ≡ value_at w d k
+  overlay-copied_value k m is copied = value_at-cell v c k _ (overlay-copied k m is copied)
 
   pub overlay-shared_value : (k : Key) → mode items k ≡ Some Share → value_at v c k ≡ value_at w d k
   unfolding value_at

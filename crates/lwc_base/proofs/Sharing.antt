@@ -5,7 +5,7 @@ use Rattle.lwc_base.specs.declared.cell.Cell.{Cell}
 use Rattle.lwc_base.specs.declared.cell.Cell.TheVariants.{Own, Common}
 use Rattle.lwc_base.specs.declared.item.Item.{Item}
 use Rattle.lwc_base.specs.declared.item.Mode.{Mode}
-use Rattle.lwc_base.specs.declared.item.Mode.TheVariants.{Copy, Share, Unmap}
+use Rattle.lwc_base.specs.declared.item.Mode.TheVariants.{Copy, Share, Unmap, CopyRead}
 use Rattle.lwc_base.specs.declared.key.Key.{Key}
 use Rattle.lwc_base.specs.declared.key.Key.TheVariants.{Page, Slot, Cred}
 use Rattle.lwc_base.specs.declared.name.Name.{Name}
@@ -67,6 +67,7 @@ module _ (w : World) (c : Name) (job : ℕ) (items : List Item) where
         | Share ↦ λ is. inr (same, refl)
         | Copy ↦ λ is. inl (left_by (λ x. x.cell k) (ap (λ m. shared_cell (next_group w job) m k ((context w c).cell k)) is) d)
         | Unmap ↦ λ is. inl (left_by (λ x. x.cell k) (ap (λ m. shared_cell (next_group w job) m k ((context w c).cell k)) is) d)
+        | CopyRead ↦ λ is. inl (left_by (λ x. x.cell k) (ap (λ m. shared_cell (next_group w job) m k ((context w c).cell k)) is) d)
       ] refl)
       (λ other. inl (ap (λ x. x.cell k) (shares-share.others d other)))
 

@@ -18,7 +18,6 @@ use Rattle.lwc_base.specs.Frames.{tag_of}
 use Rattle.lwc_base.specs.Memory.{byte_at, is_present, load}
 use Rattle.lwc_base.specs.Names.{name_cmp}
 use Rattle.lwc_base.specs.Pages.{zero_bytes, zero_page}
-use Rattle.lwc_base.specs.Store.{Absent, Full, Stored}
 use Rattle.lwc_base.specs.World.{World}
 use Rattle.lwc_base.proofs.Orders.{name_cmp-IsAntisymmetric}
 
@@ -137,20 +136,6 @@ zero_in_zeros (suc count) (suc j) = zero_in_zeros count j
 pub zeros_at : (j : ℕ) → ◌≡◌ {A = ℕ} (get_or zero_page j 0) 0
 unfolding zero_page zero_bytes
 zeros_at j = zero_in_zeros PAGE_BYTES j
-
-pub answer-absent : (present full : Bool) (done : Stored) → present ≡ false → (if not present then Absent else (if full then Full else done)) ≡ Absent
-answer-absent true full done absent = absurd (false≢true (sym absent))
-answer-absent false full done absent = refl
-
-pub answer-full : (present full : Bool) (done : Stored) → present ≡ true → full ≡ true → (if not present then Absent else (if full then Full else done)) ≡ Full
-answer-full true true done there short = refl
-answer-full true false done there short = absurd (false≢true short)
-answer-full false full done there short = absurd (false≢true there)
-
-pub answer-done : (present full : Bool) (done : Stored) → present ≡ true → full ≡ false → (if not present then Absent else (if full then Full else done)) ≡ done
-answer-done true true done there room = absurd (false≢true (sym room))
-answer-done true false done there room = refl
-answer-done false full done there room = absurd (false≢true there)
 
 pub equal_of : (r : Ordering) → is_eq r ≡ true → r ≡ Equal
 equal_of Less e = cc

@@ -11,6 +11,7 @@ use Rattle.lwc_base.specs.declared.page.PageValue.TheVariants.{Zero}
 use Rattle.lwc_base.specs.declared.page.TheConstants.{PAGE_BYTES}
 use Rattle.lwc_base.specs.Frames.{used}
 use Rattle.lwc_base.specs.Memory.{touched, is_present}
+use Rattle.lwc_base.specs.Rights.{is_writable}
 use Rattle.lwc_base.specs.Pages.{zero_bytes, zero_page}
 use Rattle.lwc_base.specs.Store.{Piece, Done, after_store, byte_after, bytes_after, parting_count, store}
 use Rattle.lwc_base.specs.World.{World}
@@ -19,11 +20,12 @@ use Rattle.lwc_base.specs.World.{World}
 pub record IsDone (w : World) (c : Name) (job : ℕ) (piece : Piece) (v : World) : Type 0 where
   pub after : v ≡ after_store w c job piece
   pub present : is_present w c piece.at (length piece.bytes) ≡ true
+  pub writable : is_writable w c piece.at (length piece.bytes) ≡ true
   pub room : used w + parting_count w c piece ≤ w.size.frames
 
 pub is_done : (w : World) (c : Name) (job : ℕ) (piece : Piece) (v : World) → store w c job piece ≡ Done v → IsDone w c job piece v
 unfolding store
-is_done w c job piece v done = record { after = grind arith; present = grind arith; room = grind (arith, nat_tests) }
+is_done w c job piece v done = record { after = grind arith; present = grind arith; writable = grind arith; room = grind (arith, nat_tests) }
 
 pub length-zero_page : length zero_page ≡ PAGE_BYTES
 unfolding zero_page zero_bytes

@@ -1,7 +1,7 @@
 -- The numbers of faults and of refusals.
 use Rattle.std.specs.Prelude.{ℕ}
 use Rattle.lwc_base.specs.declared.fault.Fault.{Fault}
-use Rattle.lwc_base.specs.declared.fault.Fault.TheVariants.{BadPc, BadLoad, BadStore, NoFrame, Budget}
+use Rattle.lwc_base.specs.declared.fault.Fault.TheVariants.{BadPc, BadLoad, BadStore, NoFrame, Budget, ReadOnly}
 use Rattle.lwc_base.specs.declared.refusal.Refusal.{Refusal}
 use Rattle.lwc_base.specs.declared.refusal.Refusal.TheVariants as refusals
 
@@ -12,6 +12,7 @@ fault_number BadLoad = 2
 fault_number BadStore = 3
 fault_number NoFrame = 4
 fault_number Budget = 5
+fault_number ReadOnly = 6
 
 -- the number of a refusal
 abbrev pub refusal_number : Refusal → ℕ
@@ -34,3 +35,4 @@ refusal_number refusals.TooManyGroups = 17
 refusal_number refusals.TooManyRanges = 18
 refusal_number refusals.ReplyFull = 19
 refusal_number refusals.TooLong = 20
+refusal_number refusals.ReadOnly = 21

@@ -19,6 +19,7 @@ pub mod Pages
 pub mod Ranges
 pub mod Refusals
 pub mod Registers
+pub mod Rights
 pub mod Runs
 pub mod Saved
 pub mod Sharing

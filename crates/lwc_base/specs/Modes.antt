@@ -5,7 +5,7 @@ use Rattle.std.specs.Option.{option_map}
 use Rattle.lwc_base.specs.declared.descriptor.TheConstants.{SLOTS}
 use Rattle.lwc_base.specs.declared.item.Item.{Item}
 use Rattle.lwc_base.specs.declared.item.Mode.{Mode}
-use Rattle.lwc_base.specs.declared.item.Mode.TheVariants.{Copy}
+use Rattle.lwc_base.specs.declared.item.Mode.TheVariants.{Copy, CopyRead}
 use Rattle.lwc_base.specs.declared.key.Key.{Key}
 use Rattle.lwc_base.specs.declared.key.Key.TheVariants as key
 use Rattle.lwc_base.specs.declared.key.Kind.{Kind}
@@ -49,6 +49,12 @@ mode items k = option_map (λ item. item.mode) (find (λ item. names item k) ite
 -- the mode of a key in a new context: copy where no item names it
 unfoldable pub mode_or_copy : List Item → Key → Mode
 mode_or_copy items k = unwrap_or (mode items k) Copy
+
+-- whether a mode copies a value
+abbrev pub copies : Mode → Bool
+copies Copy = true
+copies CopyRead = true
+copies _ = false
 
 -- a key is one of those that there are, with this number of pages
 abbrev pub IsKey : ℕ → Key → Type 0

@@ -4,12 +4,14 @@ use Rattle.lwc_base.specs.declared.cell.Cell.{Cell}
 use Rattle.lwc_base.specs.declared.item.Item.{Item}
 use Rattle.lwc_base.specs.declared.item.Mode.{Mode}
 use Rattle.lwc_base.specs.declared.key.Key.{Key}
+use Rattle.lwc_base.specs.declared.key.Key.TheVariants.{Page}
 use Rattle.lwc_base.specs.declared.name.Name.{Name}
+use Rattle.lwc_base.specs.declared.right.Right.{Right}
 use Rattle.lwc_base.specs.Fresh.{IsFresh}
 use Rattle.lwc_base.specs.Keys.{ValueOf}
 use Rattle.lwc_base.specs.Modes.{mode}
 use Rattle.lwc_base.specs.Ranges.{ranges_of}
-use Rattle.lwc_base.specs.Sharing.{cloned_cell, share}
+use Rattle.lwc_base.specs.Sharing.{cloned_cell, cloned_right, share}
 use Rattle.lwc_base.specs.Sound.{HasItsGroups}
 use Rattle.lwc_base.specs.World.{World, Context, change_context, is_live}
 
@@ -19,9 +21,17 @@ abbrev pub overlaid_cell : World → Name → (k : Key) → Option Mode → Cell
 overlaid_cell w d k None cell = cell
 overlaid_cell w d k (Some m) cell = cloned_cell w d k m
 
+-- the right of a page after an overlay, by the same rule
+abbrev pub overlaid_right : World → Name → ℕ → Option Mode → Right → Right
+overlaid_right w d p None right = right
+overlaid_right w d p (Some m) right = cloned_right w d p m
+
 -- a context that has taken over from another one what items name
 abbrev pub with_overlay : World → Name → List Item → Context → Context
-with_overlay w d items x = record x { cell = λ k. overlaid_cell w d k (mode items k) (x.cell k) }
+with_overlay w d items x = record x {
+  cell = λ k. overlaid_cell w d k (mode items k) (x.cell k);
+  right = λ p. overlaid_right w d p (mode items (Page p)) (x.right p);
+}
 
 -- a context takes over from another one what items name: first the values under share move, for a job
 unfoldable pub overlay : World → Name → Name → ℕ → List Item → World

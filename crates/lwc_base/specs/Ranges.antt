@@ -1,5 +1,5 @@
--- The ranges of a context: its longest runs of present pages that are all its own, or all common of one
--- group.
+-- The ranges of a context: its longest runs of present pages of one right that are all its own, or all
+-- common of one group.
 use Rattle.std.specs.Prelude.{ℕ, zero, suc, ◌&&◌, Bool, true, false, not, Option, Some, count_by, is_some}
 use Rattle.std.specs.List.{range_with_len}
 use Rattle.std.specs.Ordering.{is_eq}
@@ -9,6 +9,7 @@ use Rattle.lwc_base.specs.declared.key.Key.TheVariants.{Page}
 use Rattle.lwc_base.specs.declared.page.PageValue.{PageValue}
 use Rattle.lwc_base.specs.declared.name.Name.{Name}
 use Rattle.lwc_base.specs.Names.{name_cmp}
+use Rattle.lwc_base.specs.Rights.{same_right}
 use Rattle.lwc_base.specs.World.{World, Context, context}
 
 -- whether two cells of pages are of one kind: present and the context's own, or common of one group
@@ -28,7 +29,7 @@ has_page x p = is_page (x.cell (Page p))
 
 -- whether two pages of a context can be in one range
 abbrev pub are_alike : Context → ℕ → ℕ → Bool
-are_alike x p q = are_of_one_kind (x.cell (Page p)) (x.cell (Page q))
+are_alike x p q = are_of_one_kind (x.cell (Page p)) (x.cell (Page q)) && same_right (x.right p) (x.right q)
 
 -- whether a page of a context continues the range of the page before it; no page is before the first
 abbrev pub continues_range : Context → ℕ → Bool

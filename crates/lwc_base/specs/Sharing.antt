@@ -6,15 +6,18 @@ use Rattle.lwc_base.specs.declared.cell.Cell.TheVariants.{Own, Common}
 use Rattle.lwc_base.specs.declared.descriptor.TheConstants.{SLOTS}
 use Rattle.lwc_base.specs.declared.item.Item.{Item}
 use Rattle.lwc_base.specs.declared.item.Mode.{Mode}
-use Rattle.lwc_base.specs.declared.item.Mode.TheVariants.{Copy, Share, Unmap}
+use Rattle.lwc_base.specs.declared.item.Mode.TheVariants.{Copy, Share, Unmap, CopyRead}
 use Rattle.lwc_base.specs.declared.key.Key.{Key}
 use Rattle.lwc_base.specs.declared.key.Key.TheVariants.{Page, Slot, Cred}
 use Rattle.lwc_base.specs.declared.name.Name.{Name}
 use Rattle.lwc_base.specs.declared.regs.Regs.{Regs}
+use Rattle.lwc_base.specs.declared.right.Right.{Right}
+use Rattle.lwc_base.specs.declared.right.Right.TheVariants.{Write}
 use Rattle.lwc_base.specs.Cells.{value_at}
 use Rattle.lwc_base.specs.Keys.{ValueOf, nothing, is_there}
 use Rattle.lwc_base.specs.Modes.{mode_or_copy}
-use Rattle.lwc_base.specs.Ranges.{ranges, ranges_of}
+use Rattle.lwc_base.specs.Ranges.{has_page, ranges, ranges_of}
+use Rattle.lwc_base.specs.Rights.{read_right, right_at}
 use Rattle.lwc_base.specs.World.{World, Context, Group, context, change_context, add_context, add_group, next_group}
 
 -- whether a cell is the context's own and a value is there
@@ -27,6 +30,7 @@ abbrev pub is_moved : Mode → (k : Key) → Cell (ValueOf k) → Bool
 is_moved Copy k cell = false
 is_moved Share k cell = has_own k cell
 is_moved Unmap k cell = false
+is_moved CopyRead k cell = false
 
 -- the value that a group gets under a key: the context's own under share, and else nothing
 abbrev pub moved_value : Mode → (k : Key) → Cell (ValueOf k) → ValueOf k
@@ -68,11 +72,23 @@ abbrev pub cloned_cell : World → Name → (k : Key) → Mode → Cell (ValueOf
 cloned_cell w c k Copy = Own (value_at w c k)
 cloned_cell w c k Share = (context w c).cell k
 cloned_cell w c k Unmap = Own (nothing k)
+cloned_cell w c k CopyRead = Own (value_at w c k)
+
+-- the right of a page of a new context by its mode: the same, or Read where it is copied to be read alone
+abbrev pub cloned_right : World → Name → ℕ → Mode → Right
+cloned_right w c p Copy = right_at w c p
+cloned_right w c p Share = right_at w c p
+cloned_right w c p Unmap = Write
+cloned_right w c p CopyRead = read_right (has_page (context w c) p)
 
 -- a new context by a list of items, with the registers that it begins with; it has no saved registers
 unfoldable pub cloned_context : World → Name → List Item → Regs → Context
-cloned_context w c items entry =
-    record { cell = λ k. cloned_cell w c k (mode_or_copy items k); entry = entry; saved = λ t. None }
+cloned_context w c items entry = record {
+  cell = λ k. cloned_cell w c k (mode_or_copy items k);
+  right = λ p. cloned_right w c p (mode_or_copy items (Page p));
+  entry = entry;
+  saved = λ t. None;
+}
 
 -- a job makes a new context from another: first the values under share move, then the new context is added
 unfoldable pub clone_context : World → Name → ℕ → List Item → Regs → World

@@ -53,8 +53,7 @@ abbrev pub common_keys : World → Rules
 common_keys w = everywhere (λ k g. IsKey w.size.pages k) (λ k value. Unit {0})
 
 -- names are old, groups have what cells name them for, which they do under keys that there are, and each tag
--- is
--- under one page number
+-- is under one page number
 pub record IsSound (w : World) : Type 0 where
   pub fresh : IsFresh w
   pub groups : HasItsGroups w

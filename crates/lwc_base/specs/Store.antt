@@ -10,6 +10,7 @@ use Rattle.lwc_base.specs.Cells.{page_at, put_page}
 use Rattle.lwc_base.specs.Frames.{is_parting, used}
 use Rattle.lwc_base.specs.Memory.{touched, is_present}
 use Rattle.lwc_base.specs.Pages.{bytes_of}
+use Rattle.lwc_base.specs.Rights.{is_writable}
 use Rattle.lwc_base.specs.World.{World, change_counters}
 
 -- bytes that are stored: what they are, and the address of the first
@@ -51,9 +52,10 @@ abbrev pub put_pages : World → Name → List (ℕ × PageValue) → World
 put_pages w c [] = w
 put_pages w c (v ∷ vs) = put_pages (put_page w c v.0 v.1) c vs
 
--- how a store ends: a touched page is absent, there are too few frames, or it is done
+-- how a store ends: a touched page is absent or has the right Read, there are too few frames, or it is done
 pub data Stored : Type 0 where
   Absent : Stored
+  ReadOnly : Stored
   Full : Stored
   Done : World → Stored
 
@@ -73,5 +75,6 @@ after_store w c job piece =
 unfoldable pub store : World → Name → ℕ → Piece → Stored
 store w c job piece =
     if not (is_present w c piece.at (length piece.bytes)) then Absent
+    else (if not (is_writable w c piece.at (length piece.bytes)) then ReadOnly
     else (if nat_lt w.size.frames (used w + parting_count w c piece) then Full
-    else Done (after_store w c job piece))
+    else Done (after_store w c job piece)))

@@ -8,14 +8,18 @@ use Rattle.lwc_base.specs.declared.key.Key.{Key}
 use Rattle.lwc_base.specs.declared.key.Key.TheVariants.{Page, Slot, Cred}
 use Rattle.lwc_base.specs.declared.name.Name.{Name}
 use Rattle.lwc_base.specs.declared.regs.Regs.{Regs}
+use Rattle.lwc_base.specs.declared.right.Right.{Right}
+use Rattle.lwc_base.specs.declared.right.Right.TheVariants.{Write}
 use Rattle.lwc_base.specs.declared.size.WorldSize.{WorldSize}
 use Rattle.lwc_base.specs.Keys.{ValueOf, nothing}
 use Rattle.lwc_base.specs.Names.{name_cmp}
 use Rattle.lwc_base.specs.Registers.{fresh_registers}
 
--- a context: the cell under each key, the registers it begins with, and those that it keeps for some threads
+-- a context: the cell under each key, the right of each page, the registers it begins with, and those that it
+-- keeps for some threads; an absent page has the right Write
 pub record Context : Type 0 where
   pub cell : (k : Key) → Cell (ValueOf k)
+  pub right : ℕ → Right
   pub entry : Regs
   pub saved : ℕ → Option Regs
 
@@ -44,7 +48,8 @@ new_value uid Cred = uid
 
 -- a context as it is made: each cell is its own, with no page, empty slots, and the uid
 abbrev pub new_context : ℕ → Regs → Context
-new_context uid entry = record { cell = λ k. Own (new_value uid k); entry = entry; saved = λ t. None }
+new_context uid entry =
+    record { cell = λ k. Own (new_value uid k); right = λ p. Write; entry = entry; saved = λ t. None }
 
 -- a group with nothing in it
 abbrev pub new_group : Group

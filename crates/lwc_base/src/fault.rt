@@ -15,10 +15,12 @@ pub enum Fault {
     NoFrame,
     /// The steps that the thread was given have been made.
     Budget,
+    /// A byte that was to be stored is in a page that has the right Read.
+    ReadOnly,
 }
 
 impl Fault {
-    /// The number that a report prints, 1 to 5 (`fault_number`).
+    /// The number that a report prints, 1 to 6 (`fault_number`).
     pub fn number(self) -> u64
         ensures { result ≡ fault_number self }
     {
@@ -28,6 +30,7 @@ impl Fault {
             Fault::BadStore => 3,
             Fault::NoFrame => 4,
             Fault::Budget => 5,
+            Fault::ReadOnly => 6,
         }
     }
 }

@@ -10,6 +10,8 @@ pub enum Mode {
     Share,
     /// The key is left out.
     Unmap,
+    /// The value is copied, and a page may not be stored to there.
+    CopyRead,
 }
 
 /// The keys of one kind from `from` up to and without `to`, and their mode.

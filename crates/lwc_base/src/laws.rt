@@ -10,6 +10,7 @@ pub mod life;
 pub mod modes;
 pub mod overlaying;
 pub mod ranges;
+pub mod rights;
 pub mod saved;
 pub mod slots;
 pub mod soundness;
@@ -40,6 +41,11 @@ pub use life::{
 pub use modes::an_item_gives_its_mode;
 pub use overlaying::{an_overlay_changes_what_it_names, an_overlay_copies_or_shares};
 pub use ranges::one_run_is_one_range;
+pub use rights::{
+    a_clone_has_rights_by_its_modes, a_page_that_is_mapped_may_be_stored_to,
+    an_overlay_takes_rights_over, only_what_may_be_written_is_stored_to,
+    rights_stay_with_their_context,
+};
 pub use saved::saving_changes_saved_registers_alone;
 pub use slots::the_lowest_empty_slot_is_empty;
 pub use soundness::sound_worlds_stay_sound;

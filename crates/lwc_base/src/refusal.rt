@@ -42,10 +42,12 @@ pub enum Refusal {
     ReplyFull,
     /// The length is above 4096.
     TooLong,
+    /// A page that bytes would be stored to has the right Read.
+    ReadOnly,
 }
 
 impl Refusal {
-    /// The number that a refused call answers with, 2 to 20: the call sets r0 to 2^64 less it
+    /// The number that a refused call answers with, 2 to 21: the call sets r0 to 2^64 less it
     /// (`refusal_number`).
     pub fn number(self) -> u64
         ensures { result ≡ refusal_number self }
@@ -70,6 +72,7 @@ impl Refusal {
             Refusal::TooManyRanges => 18,
             Refusal::ReplyFull => 19,
             Refusal::TooLong => 20,
+            Refusal::ReadOnly => 21,
         }
     }
 }

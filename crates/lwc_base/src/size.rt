@@ -21,6 +21,8 @@ pub struct Summary {
 pub enum StoreFault {
     /// A touched page is absent.
     BadAddress,
+    /// A touched page has the right Read.
+    ReadOnly,
     /// Too few frames are free.
     NoFrame,
     OutOfMemory,

@@ -12,11 +12,11 @@ use Rattle.byteorder.specs.Endian.{little_number}
 use Rattle.byteorder.specs.Numbers.{little_number-reads_back, little_from-append, little_from-lt}
 use Rattle.lwc_base.specs.declared.item.Item.{Item}
 use Rattle.lwc_base.specs.declared.item.Mode.{Mode}
-use Rattle.lwc_base.specs.declared.item.Mode.TheVariants.{Copy, Share, Unmap}
+use Rattle.lwc_base.specs.declared.item.Mode.TheVariants.{Copy, Share, Unmap, CopyRead}
 use Rattle.lwc_base.specs.declared.key.Kind.{Kind}
 use Rattle.lwc_base.specs.declared.key.Kind.TheVariants.{Page, Slot, Cred}
 use Rattle.res_spec.specs.declared.items.SpecCall.{SpecCall}
-use Rattle.res_spec.specs.Items.{Spelled, all_taken, item_of, item_with, items_in, kind_of_number, mode_of_number, number_at, spelled, spelled_at, taken, takes}
+use Rattle.res_spec.specs.Items.{Spelled, all_taken, item_of, item_of_kind, item_with, items_in, kind_of_number, mode_of_number, number_at, spelled, spelled_at, taken, takes}
 use Rattle.res_spec.specs.Spelling.{kind_number, mode_number, number, spelling, Spells}
 
 abbrev pub AreBytes : List ℕ → Type 0
@@ -33,6 +33,7 @@ mode_back : (m : Mode) → mode_of_number (mode_number m) ≡ Some m
 mode_back Copy = refl
 mode_back Share = refl
 mode_back Unmap = refl
+mode_back CopyRead = refl
 
 kind_forth : (n : ℕ) (k : Kind) → kind_of_number n ≡ Some k → kind_number k ≡ n
 kind_forth zero k e = let is : Page ≡ k = cc in ap kind_number (sym is)
@@ -44,49 +45,52 @@ mode_forth : (n : ℕ) (m : Mode) → mode_of_number n ≡ Some m → mode_numbe
 mode_forth zero m e = let is : Copy ≡ m = cc in ap mode_number (sym is)
 mode_forth (suc zero) m e = let is : Share ≡ m = cc in ap mode_number (sym is)
 mode_forth (suc (suc zero)) m e = let is : Unmap ≡ m = cc in ap mode_number (sym is)
-mode_forth (suc (suc (suc n))) m e = absurd cc
+mode_forth (suc (suc (suc zero))) m e = let is : CopyRead ≡ m = cc in ap mode_number (sym is)
+mode_forth (suc (suc (suc (suc n)))) m e = absurd cc
 
 -- the numbers of an item
 abbrev spelled_of : Item → Spelled
 spelled_of item = record { kind = kind_number item.kind; mode = mode_number item.mode; from = item.from; to = item.to }
 
-is_item : (call : SpecCall) (item : Item) → takes call item.mode ≡ true → item_of call (spelled_of item) ≡ Some item
+is_item : (call : SpecCall) (item : Item) → takes call item.kind item.mode ≡ true → item_of call (spelled_of item) ≡ Some item
 is_item call item takes_it = rw (kind_back item.kind, mode_back item.mode, takes_it) refl
 
-taken_is : (call : SpecCall) (o : Option Mode) (m : Mode) → taken call o ≡ Some m → (o ≡ Some m) × (takes call m ≡ true)
-taken_is call None m e = absurd cc
-taken_is call (Some n) m e = by_test (takes call n) refl e
+taken_is : (call : SpecCall) (k : Kind) (o : Option Mode) (m : Mode) → taken call k o ≡ Some m → (o ≡ Some m) × (takes call k m ≡ true)
+taken_is call k None m e = absurd cc
+taken_is call k (Some n) m e = by_test (takes call k n) refl e
   where
-    by_test : (b : Bool) → takes call n ≡ b → cond b (Some n) None ≡ Some m → (Some n ≡ Some m) × (takes call m ≡ true)
-    by_test true is e = (e, let same : n ≡ m = cc in subst (λ (x : Mode). takes call x ≡ true) same is)
+    by_test : (b : Bool) → takes call k n ≡ b → cond b (Some n) None ≡ Some m → (Some n ≡ Some m) × (takes call k m ≡ true)
+    by_test true is e = (e, let same : n ≡ m = cc in subst (λ (x : Mode). takes call k x ≡ true) same is)
     by_test false is e = absurd cc
 
 -- what it means that numbers make an item
 record Makes (call : SpecCall) (s : Spelled) (item : Item) : Type 0 where
   numbers : s ≡ spelled_of item
-  takes_it : takes call item.mode ≡ true
+  takes_it : takes call item.kind item.mode ≡ true
 
-parts_of : (s : Spelled) (k : Option Kind) (m : Option Mode) (item : Item) → item_with s k m ≡ Some item → (k ≡ Some item.kind) × (m ≡ Some item.mode) × (s.from ≡ item.from) × (s.to ≡ item.to)
-parts_of s None None item e = absurd cc
-parts_of s None (Some m) item e = absurd cc
-parts_of s (Some k) None item e = absurd cc
-parts_of s (Some k) (Some m) item e =
+parts_of : (s : Spelled) (k : Kind) (m : Option Mode) (item : Item) → item_with s k m ≡ Some item → (k ≡ item.kind) × (m ≡ Some item.mode) × (s.from ≡ item.from) × (s.to ≡ item.to)
+parts_of s k None item e = absurd cc
+parts_of s k (Some m) item e =
     let is = some_is (record { kind = k; mode = m; from = s.from; to = s.to }) item e in
-    (ap (λ (i : Item). Some i.kind) is, ap (λ (i : Item). Some i.mode) is, ap (λ (i : Item). i.from) is, ap (λ (i : Item). i.to) is)
+    (ap (λ (i : Item). i.kind) is, ap (λ (i : Item). Some i.mode) is, ap (λ (i : Item). i.from) is, ap (λ (i : Item). i.to) is)
   where
     some_is : (a b : Item) → Some a ≡ Some b → a ≡ b
     some_is a b e = cc
 
 makes : (call : SpecCall) (s : Spelled) (item : Item) → item_of call s ≡ Some item → Makes call s item
-makes call s item e =
-    let p = parts_of s (kind_of_number s.kind) (taken call (mode_of_number s.mode)) item e in
-    let t = taken_is call (mode_of_number s.mode) item.mode p.1 in
-    let kind : s.kind ≡ kind_number item.kind = sym (kind_forth s.kind item.kind p.0) in
-    let mode : s.mode ≡ mode_number item.mode = sym (mode_forth s.mode item.mode t.0) in
-    record { numbers = same kind mode p.2 p.3; takes_it = t.1 }
+makes call s item e = of_kind (kind_of_number s.kind) refl e
   where
     same : s.kind ≡ kind_number item.kind → s.mode ≡ mode_number item.mode → s.from ≡ item.from → s.to ≡ item.to → s ≡ spelled_of item
     same a b c d = let whole : record { kind = s.kind; mode = s.mode; from = s.from; to = s.to } ≡ spelled_of item = rw (a, b, c, d) refl in whole
+
+    of_kind : (k : Option Kind) → kind_of_number s.kind ≡ k → item_of_kind call s k ≡ Some item → Makes call s item
+    of_kind None is e = absurd cc
+    of_kind (Some k) is e =
+        let p = parts_of s k (taken call k (mode_of_number s.mode)) item e in
+        let t = taken_is call k (mode_of_number s.mode) item.mode p.1 in
+        let kind : s.kind ≡ kind_number item.kind = sym (kind_forth s.kind item.kind (is ∙ ap (λ (k : Kind). Some k) p.0)) in
+        let mode : s.mode ≡ mode_number item.mode = sym (mode_forth s.mode item.mode t.0) in
+        record { numbers = same kind mode p.2 p.3; takes_it = subst (λ (k : Kind). takes call k item.mode ≡ true) p.0 t.1 }
 
 -- ---- bytes and numbers
 
@@ -171,6 +175,7 @@ first_item item rest from_fits to_fits =
     small_mode Copy = omega arith
     small_mode Share = omega arith
     small_mode Unmap = omega arith
+    small_mode CopyRead = omega arith
 
 spelled_items : (items : List Item) → All (λ item. (item.from < 2 ^ 32) × (item.to < 2 ^ 32)) items → spelled (flat_map spelling items) ≡ map spelled_of items
 unfolding spelled
@@ -182,18 +187,18 @@ spelled_items (item ∷ items) fits =
     ∙ ap (λ (s : Spelled). s ∷ spelled (flat_map spelling items)) (first_item item (flat_map spelling items) one.0 one.1)
     ∙ ap (λ (l : List Spelled). spelled_of item ∷ l) (spelled_items items (All-tail (λ item. (item.from < 2 ^ 32) × (item.to < 2 ^ 32)) item items fits))
 
-kept_items : (call : SpecCall) (items : List Item) → All (λ item. IsTrue (takes call item.mode)) items → filter_map (item_of call) (map spelled_of items) ≡ items
+kept_items : (call : SpecCall) (items : List Item) → All (λ item. IsTrue (takes call item.kind item.mode)) items → filter_map (item_of call) (map spelled_of items) ≡ items
 kept_items call [] are = refl
 kept_items call (item ∷ items) are =
-    let one = is_item call item (All-head (λ item. IsTrue (takes call item.mode)) item items are) in
-    let others = kept_items call items (All-tail (λ item. IsTrue (takes call item.mode)) item items are) in
+    let one = is_item call item (All-head (λ item. IsTrue (takes call item.kind item.mode)) item items are) in
+    let others = kept_items call items (All-tail (λ item. IsTrue (takes call item.kind item.mode)) item items are) in
     rw (one, others) refl
 
-each_taken : (call : SpecCall) (items : List Item) → All (λ item. IsTrue (takes call item.mode)) items → list_all (λ s. is_some (item_of call s)) (map spelled_of items) ≡ true
+each_taken : (call : SpecCall) (items : List Item) → All (λ item. IsTrue (takes call item.kind item.mode)) items → list_all (λ s. is_some (item_of call s)) (map spelled_of items) ≡ true
 each_taken call [] are = refl
 each_taken call (item ∷ items) are =
-    let one = is_item call item (All-head (λ item. IsTrue (takes call item.mode)) item items are) in
-    let others = each_taken call items (All-tail (λ item. IsTrue (takes call item.mode)) item items are) in
+    let one = is_item call item (All-head (λ item. IsTrue (takes call item.kind item.mode)) item items are) in
+    let others = each_taken call items (All-tail (λ item. IsTrue (takes call item.kind item.mode)) item items are) in
     rw (one, others) refl
 
 -- items that are spelled are those that are read
@@ -224,7 +229,7 @@ spelled_so first rest item len fits is =
 module _ (call : SpecCall) where
   -- the items of bytes, where each is one that the call takes
   record Read (bytes : List ℕ) (items : List Item) : Type 0 where
-    modes : All (λ item. IsTrue (takes call item.mode)) items
+    modes : All (λ item. IsTrue (takes call item.kind item.mode)) items
     numbers : All (λ item. (item.from < 2 ^ 32) × (item.to < 2 ^ 32)) items
     spelled : bytes ≡ flat_map spelling items
 
@@ -243,14 +248,14 @@ module _ (call : SpecCall) where
       let from_fits : item.from < 2 ^ 32 = subst (λ (n : ℕ). n < 2 ^ 32) from_is (number_fits (first ++ rest) 8 fits) in
       let to_fits : item.to < 2 ^ 32 = subst (λ (n : ℕ). n < 2 ^ 32) to_is (number_fits (first ++ rest) 12 fits) in
       record {
-        modes = All-cons (λ item. IsTrue (takes call item.mode)) item items m.takes_it r.modes;
+        modes = All-cons (λ item. IsTrue (takes call item.kind item.mode)) item items m.takes_it r.modes;
         numbers = All-cons (λ item. (item.from < 2 ^ 32) × (item.to < 2 ^ 32)) item items (from_fits, to_fits) r.numbers;
         spelled = spelled_so first rest item len fits m.numbers ∙ ap (λ (l : List ℕ). spelling item ++ l) r.spelled ∙ sym (flat_map-cons spelling item items);
       }
 
   all_read : (n : ℕ) (bytes : List ℕ) → length bytes ≡ n * 16 → AreBytes bytes → list_all (λ s. is_some (item_of call s)) (spelled bytes) ≡ true → Read bytes (filter_map (item_of call) (spelled bytes))
   unfolding spelled
-  all_read zero [] len fits all = record { modes = All-nil (λ item. IsTrue (takes call item.mode)); numbers = All-nil (λ item. (item.from < 2 ^ 32) × (item.to < 2 ^ 32)); spelled = refl }
+  all_read zero [] len fits all = record { modes = All-nil (λ item. IsTrue (takes call item.kind item.mode)); numbers = All-nil (λ item. (item.from < 2 ^ 32) × (item.to < 2 ^ 32)); spelled = refl }
   all_read zero (b ∷ bytes) len fits all = absurd (omega arith)
   all_read (suc n) bytes len fits all =
       let first = take 16 bytes in

@@ -6,7 +6,7 @@ use Rattle.lwc_base.specs.Modes.{limit, overlaps}
 use Rattle.lwc_base.specs.Refusals.{first_refusal}
 use Rattle.lwc_base.specs.declared.item.Item.{Item}
 use Rattle.lwc_base.specs.declared.item.Mode.{Mode}
-use Rattle.lwc_base.specs.declared.item.Mode.TheVariants.{Copy, Share, Unmap}
+use Rattle.lwc_base.specs.declared.item.Mode.TheVariants.{Copy, Share, Unmap, CopyRead}
 use Rattle.lwc_base.specs.declared.key.Kind.{Kind}
 use Rattle.lwc_base.specs.declared.key.Kind.TheVariants as kind
 use Rattle.res_spec.specs.declared.items.SpecCall.{SpecCall}
@@ -43,31 +43,46 @@ spelled bytes = map (λ i. spelled_at bytes (i * ITEM_BYTES)) (range_with_len 0 
 abbrev pub kind_of_number : ℕ → Option Kind
 kind_of_number n = slice_get (kind.Page ∷ kind.Slot ∷ kind.Cred ∷ []) n
 
--- the mode of a number: 0 is copy, 1 share, 2 unmap
+-- the mode of a number: 0 is copy, 1 share, 2 unmap, 3 copy read-only
 abbrev pub mode_of_number : ℕ → Option Mode
-mode_of_number n = slice_get (Copy ∷ Share ∷ Unmap ∷ []) n
+mode_of_number n = slice_get (Copy ∷ Share ∷ Unmap ∷ CopyRead ∷ []) n
+
+-- whether keys of a kind may have a mode: only pages are copied read-only
+abbrev pub suits : Kind → Mode → Bool
+suits kind.Page mode = true
+suits kind CopyRead = false
+suits kind mode = true
 
 -- whether a call takes a mode: making a context takes all, an overlay all but unmap, a restriction copy alone
-abbrev pub takes : SpecCall → Mode → Bool
-takes Create mode = true
-takes Overlay Unmap = false
-takes Overlay mode = true
-takes Restrict Copy = true
-takes Restrict mode = false
+abbrev pub takes_mode : SpecCall → Mode → Bool
+takes_mode Create mode = true
+takes_mode Overlay Unmap = false
+takes_mode Overlay mode = true
+takes_mode Restrict Copy = true
+takes_mode Restrict mode = false
 
--- a mode, where the call takes it
-abbrev pub taken : SpecCall → Option Mode → Option Mode
-taken call None = None
-taken call (Some mode) = if takes call mode then Some mode else None
+-- whether a call takes a mode for keys of a kind
+abbrev pub takes : SpecCall → Kind → Mode → Bool
+takes call kind mode = suits kind mode && takes_mode call mode
 
--- the item of a kind and a mode, where there are both
-abbrev pub item_with : Spelled → Option Kind → Option Mode → Option Item
-item_with s (Some kind) (Some mode) = Some (record { kind = kind; mode = mode; from = s.from; to = s.to })
-item_with s _ _ = None
+-- a mode, where the call takes it for keys of the kind
+abbrev pub taken : SpecCall → Kind → Option Mode → Option Mode
+taken call kind None = None
+taken call kind (Some mode) = if takes call kind mode then Some mode else None
+
+-- the item of a kind and a mode, where there is a mode
+abbrev pub item_with : Spelled → Kind → Option Mode → Option Item
+item_with s kind (Some mode) = Some (record { kind = kind; mode = mode; from = s.from; to = s.to })
+item_with s kind None = None
+
+-- the item that is spelled, where the call takes its mode for its kind
+abbrev pub item_of_kind : SpecCall → Spelled → Option Kind → Option Item
+item_of_kind call s (Some kind) = item_with s kind (taken call kind (mode_of_number s.mode))
+item_of_kind call s None = None
 
 -- the item that is spelled, where the call takes its kind and its mode
 abbrev pub item_of : SpecCall → Spelled → Option Item
-item_of call s = item_with s (kind_of_number s.kind) (taken call (mode_of_number s.mode))
+item_of call s = item_of_kind call s (kind_of_number s.kind)
 
 -- whether a call takes the kind and the mode of each item that is spelled
 unfoldable pub all_taken : SpecCall → List ℕ → Bool

@@ -5,7 +5,7 @@ use Rattle.std.specs.List.{AllPairs, flat_map}
 use Rattle.lwc_base.specs.Modes.{AreApart, IsItem}
 use Rattle.lwc_base.specs.declared.item.Item.{Item}
 use Rattle.lwc_base.specs.declared.item.Mode.{Mode}
-use Rattle.lwc_base.specs.declared.item.Mode.TheVariants.{Copy, Share, Unmap}
+use Rattle.lwc_base.specs.declared.item.Mode.TheVariants.{Copy, Share, Unmap, CopyRead}
 use Rattle.lwc_base.specs.declared.key.Kind.{Kind}
 use Rattle.lwc_base.specs.declared.key.Kind.TheVariants.{Page, Slot, Cred}
 use Rattle.res_spec.specs.declared.items.SpecCall.{SpecCall}
@@ -22,6 +22,7 @@ abbrev pub mode_number : Mode → ℕ
 mode_number Copy = 0
 mode_number Share = 1
 mode_number Unmap = 2
+mode_number CopyRead = 3
 
 -- four bytes, the lowest first
 abbrev pub number : ℕ → List ℕ
@@ -32,13 +33,13 @@ abbrev pub spelling : Item → List ℕ
 spelling item =
     number (kind_number item.kind) ++ (number (mode_number item.mode) ++ (number item.from ++ number item.to))
 
--- the bytes are the spelling of these items, each of a mode that the call takes
+-- the bytes are the spelling of these items, each of a mode that the call takes for its kind
 pub record Spells (call : SpecCall) (items : List Item) (bytes : List ℕ) : Type 0 where
-  pub modes : All (λ item. IsTrue (takes call item.mode)) items
+  pub modes : All (λ item. IsTrue (takes call item.kind item.mode)) items
   pub numbers : All (λ item. (item.from < 2 ^ 32) × (item.to < 2 ^ 32)) items
   pub spelled : bytes ≡ flat_map spelling items
 
--- no items of a kind and a mode that the call takes are spelled
+-- no items of kinds and modes that the call takes are spelled
 unfoldable pub IsBadMode : SpecCall → List ℕ → Type 0
 IsBadMode call bytes = (items : List Item) → Spells call items bytes → ⊥
 

@@ -51,7 +51,7 @@ pub fn read_items(bytes: &[u8], call: SpecCall, pages: u32) -> Result<Spec, Spec
     ensures found { IfOk result (λ spec. Spells call spec bytes.now) }
     ensures only { (items : List Item) → Spells call items bytes.now → IsSpec pages items
         → result ≡ Ok items }
-    // No items of a kind and a mode that the call takes are spelled so.
+    // No items of kinds and modes that the call takes are spelled so.
     ensures bad_mode { (result ≡ Err BadMode) ↔ IsBadMode call bytes.now }
     // Items are spelled, and not each of them names a key and none past the limit of its kind.
     ensures bad_range { (result ≡ Err BadRange) ↔ IsBadRange call pages bytes.now }
@@ -118,13 +118,28 @@ fn mode_of_number(number: u32) -> Option<Mode>
         0 => Some(Mode::Copy),
         1 => Some(Mode::Share),
         2 => Some(Mode::Unmap),
+        3 => Some(Mode::CopyRead),
         _ => None,
     }
 }
 
+/// Whether keys of a kind may have a mode: only pages are copied read-only.
+fn suits(kind: Kind, mode: Mode) -> bool
+    ensures { result ≡ spec.suits kind mode }
+{
+    mode != Mode::CopyRead || kind == Kind::Page
+}
+
+/// Whether a call takes a mode for keys of a kind.
+fn takes(call: SpecCall, kind: Kind, mode: Mode) -> bool
+    ensures { result ≡ spec.takes call kind mode }
+{
+    suits(kind, mode) && takes_mode(call, mode)
+}
+
 /// Whether a call takes a mode.
-fn takes(call: SpecCall, mode: Mode) -> bool
-    ensures { result ≡ spec.takes call mode }
+fn takes_mode(call: SpecCall, mode: Mode) -> bool
+    ensures { result ≡ spec.takes_mode call mode }
 {
     match call {
         SpecCall::Create => true,
@@ -139,7 +154,7 @@ fn item_at(call: SpecCall, bytes: &[u8], at: usize) -> Option<Item>
     ensures { result ≡ spec.item_of call (spec.spelled_at bytes.now at) }
 {
     let kind = kind_of_number(number_at(bytes, at))?;
-    let mode = mode_of_number(number_at(bytes, at + 4)).filter(|mode| takes(call, *mode))?;
+    let mode = mode_of_number(number_at(bytes, at + 4)).filter(|mode| takes(call, kind, *mode))?;
     Some(Item {
         kind,
         mode,

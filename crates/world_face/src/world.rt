@@ -55,8 +55,8 @@ pub trait World: Sized + Drop + Send + Sync {
         ensures err { OnErr result (seen self.new ≡ seen self.old) }
         ensures ample { roomy ≡ true → IsOk result };
 
-    /// Makes each page of the range a page of zeros of the context's own, whatever it was. The only error
-    /// is out of memory.
+    /// Makes each page of the range a page of zeros of the context's own with the right Write, whatever it
+    /// was. The only error is out of memory.
     fn map(&mut self, c: Name, range: Range) -> Result<(), OutOfMemory>
         requires live { IsLive (seen self.old) c }
         requires some { range.from < range.to }
@@ -89,8 +89,8 @@ pub trait World: Sized + Drop + Send + Sync {
     ///
     /// # Errors
     ///
-    /// `BadAddress` if a touched page is absent; else `NoFrame` if the frames in use and the pages that
-    /// part are more than the frames; or `OutOfMemory`.
+    /// `BadAddress` if a touched page is absent; else `ReadOnly` if one has the right Read; else `NoFrame` if
+    /// the frames in use and the pages that part are more than the frames; or `OutOfMemory`.
     fn store(&mut self, c: Name, at: u32, piece: &[u8], job: u32) -> Result<(), StoreFault>
         requires live { IsLive (seen self.old) c }
         requires within { at + length piece.now ≤ (seen self.old).size.pages * PAGE_BYTES }
@@ -100,6 +100,8 @@ pub trait World: Sized + Drop + Send + Sync {
             stores.Done (seen self.new)) }
         ensures bad_address { (result ≡ Err StoreFault.BadAddress) ↔
             (store (seen self.old) c job (record { at = at; bytes = piece.now }) ≡ stores.Absent) }
+        ensures read_only { (result ≡ Err StoreFault.ReadOnly) ↔
+            (store (seen self.old) c job (record { at = at; bytes = piece.now }) ≡ stores.ReadOnly) }
         ensures no_frame { (result ≡ Err StoreFault.NoFrame) ↔
             (store (seen self.old) c job (record { at = at; bytes = piece.now }) ≡ stores.Full) }
         ensures err { OnErr result (seen self.new ≡ seen self.old) }
@@ -152,8 +154,9 @@ pub trait World: Sized + Drop + Send + Sync {
     /// Makes a new context of a job from another one. Values of mode share that are the other's own move
     /// into one new group, and both contexts have them in common from then on; what was common already
     /// stays so. Values of mode copy and values that no item names are copied, and those of mode unmap are
-    /// left out. The new context begins with these registers and has no saved ones. Answers its name. The
-    /// only error is out of memory.
+    /// left out. Pages keep their rights; those of mode copy read-only are copied with the right Read. The
+    /// new context begins with these registers and has no saved ones. Answers its name. The only error is
+    /// out of memory.
     fn clone_context(
         &mut self,
         c: Name,
@@ -176,7 +179,8 @@ pub trait World: Sized + Drop + Send + Sync {
     /// Takes over what the items name from the context `from` into the context `to`, for a job; both may be
     /// the same. First the values of mode share that are `from`'s own move into one new group. Then `to` gets
     /// a copy of each value of mode copy, has each value of mode share in common with `from`, and nothing
-    /// under a key of mode unmap. An absent page of `from` becomes absent in `to`. The only error is out of
+    /// under a key of mode unmap. A page has the right that it has in `from`, and the right Read where its
+    /// mode is copy read-only. An absent page of `from` becomes absent in `to`. The only error is out of
     /// memory.
     fn overlay(&mut self, to: Name, from: Name, spec: &Spec, job: u32) -> Result<(), OutOfMemory>
         requires to { IsLive (seen self.old) to }

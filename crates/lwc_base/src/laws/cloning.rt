@@ -3,12 +3,12 @@ ghost use Rattle.lwc_base.specs.Cells.{value_at};
 ghost use Rattle.lwc_base.specs.Clones.{AreApart, HaveInCommon, IsClone};
 ghost use Rattle.lwc_base.specs.Fresh.{IsFresh};
 ghost use Rattle.lwc_base.specs.Keys.{ValueOf, is_there, nothing};
-ghost use Rattle.lwc_base.specs.Modes.{IsKey, mode_or_copy};
+ghost use Rattle.lwc_base.specs.Modes.{IsKey, copies, mode_or_copy};
 ghost use Rattle.lwc_base.specs.Sharing.{has_own, is_moved, needs_group, share};
 ghost use Rattle.lwc_base.specs.World.{World, context, group, is_live, next_group};
 ghost use Rattle.lwc_base.specs.declared.cell.Cell.TheVariants.{Common, Own};
 ghost use Rattle.lwc_base.specs.declared.item.Item.{Item};
-ghost use Rattle.lwc_base.specs.declared.item.Mode.TheVariants.{Copy, Share, Unmap};
+ghost use Rattle.lwc_base.specs.declared.item.Mode.TheVariants.{Share, Unmap};
 ghost use Rattle.lwc_base.specs.declared.key.Key.{Key};
 ghost use Rattle.lwc_base.specs.declared.name.Name.{Name};
 
@@ -29,11 +29,12 @@ pub fn cloning_changes_no_value()
 /// other context.
 pub fn what_is_copied_is_apart()
     ensures own { (w v : World) (c d : Name) (items : List Item) → IsClone w v c d items →
-        (k : Key) → mode_or_copy items k ≡ Copy → (context v d).cell k ≡ Own (value_at w c k) }
+        (k : Key) → copies (mode_or_copy items k) ≡ true → (context v d).cell k ≡ Own (value_at w c k) }
     ensures same { (w v : World) (c d : Name) (items : List Item) → IsClone w v c d items →
-        (k : Key) → mode_or_copy items k ≡ Copy → value_at v d k ≡ value_at w c k }
+        (k : Key) → copies (mode_or_copy items k) ≡ true → value_at v d k ≡ value_at w c k }
     ensures apart { (w v : World) (c d : Name) (items : List Item) → IsClone w v c d items →
-        (k : Key) → mode_or_copy items k ≡ Copy → (e : Name) → is_live w e ≡ true → AreApart v e d k }
+        (k : Key) → copies (mode_or_copy items k) ≡ true → (e : Name) → is_live w e ≡ true →
+        AreApart v e d k }
 {}
 
 /// What is left out is absent in the clone, empty, or nobody's, and apart from each other context.
