@@ -15,6 +15,7 @@ use Rattle.lwc_base.proofs.Orders.{cases_name}
 use Rattle.lwc_base.proofs.Lookups.{changes-change_context, changes-change_group}
 use Rattle.lwc_base.proofs.Keys.{cases_key}
 use Rattle.lwc_base.proofs.Puts.{after_put_at, names-put_at}
+use Rattle.lwc_base.proofs.Rights.{rights-put_at, rights-save}
 use Rattle.lwc_base.proofs.Saving.{save-value, saves}
 use Rattle.lwc_base.proofs.Common.{put-apart, put-other_cell, put-other_key, put-others}
 
@@ -45,6 +46,7 @@ saving w c t regs =
       names = saved.names;
       values = save-value w c t regs;
       cells = λ e k. left_of_each (λ x. x.cell k) w (save w c t regs) c _ saved (λ x. refl) e;
+      rights = rights-save w c t regs;
       entries = λ e. left_of_each (λ x. x.entry) w (save w c t regs) c _ saved (λ x. refl) e;
       saved = λ e s differ.
           cases_name e c
@@ -67,6 +69,7 @@ module _ (w : World) (c : Name) (q : Key) (value : ValueOf q) where
     values = values_by_put;
     cells = λ e k untouched. put-other_cell w c q value e k (λ same is. (untouched is).differ (sym same));
     others = put-others w c q value;
+    rights = rights-put_at w c q value;
     entries = left_by_put (λ x. x.entry) w c q value (λ x. refl);
     saved = λ e t. left_by_put (λ x. x.saved t) w c q value (λ x. refl) e;
   }

@@ -18,6 +18,7 @@ pub record ChangesKey (w v : World) (d : Name) (changed : Key) : Type 0 where
   pub values : (e : Name) (k : Key) → IsUntouched w d changed e k → value_at v e k ≡ value_at w e k
   pub cells : (e : Name) (k : Key) → IsUntouched w d changed e k → (context v e).cell k ≡ (context w e).cell k
   pub others : (e : Name) → e ≢ d → context v e ≡ context w e
+  pub rights : (e : Name) → (context v e).right ≡ (context w e).right
   pub entries : (e : Name) → (context v e).entry ≡ (context w e).entry
   pub saved : (e : Name) (t : ℕ) → (context v e).saved t ≡ (context w e).saved t
 
@@ -26,5 +27,6 @@ pub record ChangesSaved (w v : World) (c : Name) (t : ℕ) : Type 0 where
   pub names : KeepsNames w v
   pub values : (e : Name) (k : Key) → value_at v e k ≡ value_at w e k
   pub cells : (e : Name) (k : Key) → (context v e).cell k ≡ (context w e).cell k
+  pub rights : (e : Name) → (context v e).right ≡ (context w e).right
   pub entries : (e : Name) → (context v e).entry ≡ (context w e).entry
   pub saved : (e : Name) (s : ℕ) → (e ≡ c → s ≢ t) → (context v e).saved s ≡ (context w e).saved s

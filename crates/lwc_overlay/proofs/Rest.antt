@@ -21,6 +21,7 @@ use Rattle.lwc_base.proofs.Facts.{changes}
 use Rattle.lwc_base.proofs.ItemModes.{mode-shared}
 use Rattle.lwc_base.proofs.Orders.{cases_name}
 use Rattle.lwc_base.proofs.Overlays.{overlay-others, overlay-unnamed}
+use Rattle.lwc_base.proofs.Rights.{rights-share}
 use Rattle.lwc_base.proofs.Sharing.{share-cell, share-entry, share-saved}
 
 module _ (w : World) (c d : Name) (job : ℕ) (items : List Item) (taker : is_live w c ≡ true) (giver : is_live w d ≡ true) where
@@ -57,6 +58,9 @@ module _ (w : World) (c d : Name) (job : ℕ) (items : List Item) (taker : is_li
     cells = λ e k taken moved.
         left_by_overlay (λ x. x.cell k) e (λ same x. let none = taken same in grind arith)
         ∙ unmoved e k moved;
+    rights = λ e p taken.
+        left_by_overlay (λ x. x.right p) e (λ same x. let none = taken same in grind arith)
+        ∙ ap (λ f. f p) (rights-share w d job items e);
     entries = λ e. left_by_overlay (λ x. x.entry) e (λ same x. refl) ∙ share-entry w d job items e;
     saved = λ e t. left_by_overlay (λ x. x.saved t) e (λ same x. refl) ∙ share-saved w d job items e t;
   }

@@ -8,6 +8,7 @@ use Rattle.lwc_base.specs.declared.descriptor.Descriptor.TheVariants.{Ctx}
 use Rattle.lwc_base.specs.declared.item.Item.{Item}
 use Rattle.lwc_base.specs.declared.item.Mode.TheVariants.{Share}
 use Rattle.lwc_base.specs.declared.key.Key.{Key}
+use Rattle.lwc_base.specs.declared.key.Key.TheVariants.{Page}
 use Rattle.lwc_base.specs.declared.limits.TheConstants.{MOST_GROUPS_OF_JOB}
 use Rattle.lwc_base.specs.declared.name.Name.{Name}
 use Rattle.lwc_base.specs.declared.refusal.Refusal.{Refusal}
@@ -19,6 +20,7 @@ use Rattle.lwc_base.specs.Modes.{IsSpec, mode}
 use Rattle.lwc_base.specs.Overlay as base
 use Rattle.lwc_base.specs.Overlay.{ranges_after_overlay}
 use Rattle.lwc_base.specs.Refusals.{first_refusal}
+use Rattle.lwc_base.specs.Rights.{right_at}
 use Rattle.lwc_base.specs.Sharing.{needs_group}
 use Rattle.lwc_base.specs.World.{World, context, groups_of, is_live}
 use Rattle.lwc_overlay.specs.Named.{items_of, link, refusals_before}
@@ -74,5 +76,6 @@ pub record LeavesRest (w v : World) (c d : Name) (items : List Item) : Type 0 wh
   pub others : (e : Name) (k : Key) → is_live w e ≡ true → e ≢ c → value_at v e k ≡ value_at w e k
   pub cells : (e : Name) (k : Key) → (e ≡ c → mode items k ≡ None) → (e ≡ d → mode items k ≢ Some Share) →
       (context v e).cell k ≡ (context w e).cell k
+  pub rights : (e : Name) (p : ℕ) → (e ≡ c → mode items (Page p) ≡ None) → right_at v e p ≡ right_at w e p
   pub entries : (e : Name) → (context v e).entry ≡ (context w e).entry
   pub saved : (e : Name) (t : ℕ) → (context v e).saved t ≡ (context w e).saved t

@@ -21,6 +21,7 @@ leaves_rest w u v c d t n saved put = record {
   names = let first = saved.names in let second = put.names in search rules;
   values = λ e k untouched. put.values e k (λ is. apart_before w u c d e t k saved (untouched is)) ∙ saved.values e k;
   cells = λ e k untouched. put.cells e k (λ is. apart_before w u c d e t k saved (untouched is)) ∙ saved.cells e k;
+  rights = λ e. put.rights e ∙ saved.rights e;
   entries = λ e. put.entries e ∙ saved.entries e;
   saved = λ e s differ. put.saved e s ∙ saved.saved e s differ;
 }

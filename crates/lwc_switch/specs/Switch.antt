@@ -86,5 +86,6 @@ pub record LeavesRest (w v : World) (c d : Name) (t slot : ℕ) : Type 0 where
   pub names : KeepsNames w v
   pub values : (e : Name) (k : Key) → IsUntouched w d (Slot slot) e k → value_at v e k ≡ value_at w e k
   pub cells : (e : Name) (k : Key) → IsUntouched w d (Slot slot) e k → (context v e).cell k ≡ (context w e).cell k
+  pub rights : (e : Name) → (context v e).right ≡ (context w e).right
   pub entries : (e : Name) → (context v e).entry ≡ (context w e).entry
   pub saved : (e : Name) (s : ℕ) → (e ≡ c → s ≢ t) → (context v e).saved s ≡ (context w e).saved s

@@ -22,7 +22,7 @@ use Rattle.lwc_base.specs.declared.name.Name.{Name}
 use Rattle.lwc_base.specs.declared.refusal.Refusal.{Refusal}
 use Rattle.lwc_base.specs.declared.refusal.Refusal.TheVariants.{BadCall}
 use Rattle.lwc_syscall.specs.Changes.{IsKnown, IsPlainChange, Mapped, Nothing, Read, SlotPut, UidPut, Written}
-use Rattle.lwc_syscall.specs.Plain.{Outcome, answering, becoming, close_refusals, closing, copy_refusals, copying, ended, is_absent, is_full, left, map_refusals, mapping, moved, open_refusals, opening, placed, plain, read_on, read_refusals, reading, refused_or, store_at, uid_refusals, world_after, write_refusals, writing, written}
+use Rattle.lwc_syscall.specs.Plain.{Outcome, answering, becoming, close_refusals, closing, copy_refusals, copying, ended, is_absent, is_read_only, is_full, left, map_refusals, mapping, moved, open_refusals, opening, placed, plain, read_on, read_refusals, reading, refused_or, store_at, uid_refusals, world_after, write_refusals, writing, written}
 use Rattle.lwc_syscall.specs.declared.answer.CallAnswer.TheVariants.{Exit, Refused}
 use Rattle.lwc_syscall.specs.declared.calls.Three.{Three}
 use Rattle.lwc_base.proofs.InRange.{files-slot_at}
@@ -135,15 +135,16 @@ module _ (w : World) (io : Channels) (three : Three) (job : ℕ) (ready : Ready 
   on-known (Ctx name cap) count few known = known
 
   -- what a read does once its bytes are stored
-  done-does : (stored : Stored) (piece : Piece) (n : ℕ) (value : Descriptor) → is_absent stored ≡ false → is_full stored ≡ false →
+  done-does : (stored : Stored) (piece : Piece) (n : ℕ) (value : Descriptor) → is_absent stored ≡ false → is_read_only stored ≡ false → is_full stored ≡ false →
       (stored ≡ stores.Done w) ⊎ ((stored ≡ stores.Absent) ⊎ (stored ≡ store w three.memory job piece)) → length piece.bytes ≤ MOST_BYTES_OF_CALL → n < SLOTS → IsKnown w io three.slots value →
       IsPlainChange w io three job (put_slot (world_after w stored) three.slots n value) io
-  done-does stores.Absent piece n value there room by short within known = absurd (grind arith)
-  done-does stores.Full piece n value there room by short within known = absurd (grind arith)
-  done-does (stores.Done v) piece n value there room (inl same) short within known =
+  done-does stores.Absent piece n value there writable room by short within known = absurd (grind arith)
+  done-does stores.ReadOnly piece n value there writable room by short within known = absurd (grind arith)
+  done-does stores.Full piece n value there writable room by short within known = absurd (grind arith)
+  done-does (stores.Done v) piece n value there writable room (inl same) short within known =
       let is : w ≡ v = grind arith in subst (λ (u : World). IsPlainChange w io three job (put_slot u three.slots n value) io) is (SlotPut n value within known)
-  done-does (stores.Done v) piece n value there room (inr (inl same)) short within known = absurd (grind arith)
-  done-does (stores.Done v) piece n value there room (inr (inr is)) short within known = Read v piece n value short (sym is) within known
+  done-does (stores.Done v) piece n value there writable room (inr (inl same)) short within known = absurd (grind arith)
+  done-does (stores.Done v) piece n value there writable room (inr (inr is)) short within known = Read v piece n value short (sym is) within known
 
   reading-does : (n at count : ℕ) → Does w io three job (reading w io three job n at count)
   unfolding reading
@@ -157,7 +158,7 @@ module _ (w : World) (io : Channels) (three : Three) (job : ℕ) (ready : Ready 
       let few : length bytes ≤ count = omega (arith, length-take count (unwrap_or (left io value) [])) in
       let within : length bytes ≤ length (unwrap_or (left io value) []) = omega (arith, length-take count (unwrap_or (left io value) [])) in
       let short : count ≤ MOST_BYTES_OF_CALL = grind (arith, nat_tests) in
-      done-does stored (record { at = at; bytes = bytes }) n (read_on (length bytes) value) (grind arith) (grind arith) (stored-cases w three.memory job at bytes) (omega arith) (found-slot n (grind arith))
+      done-does stored (record { at = at; bytes = bytes }) n (read_on (length bytes) value) (grind arith) (grind arith) (grind arith) (stored-cases w three.memory job at bytes) (omega arith) (found-slot n (grind arith))
       (on-known value (length bytes) within (found-known n)))
 
   pub plain-does : (call : ℕ) (args : List ℕ) → Does w io three job (plain w io three job call args)

@@ -7,3 +7,4 @@ pub mod Refused
 pub mod Syscalls
 pub mod Links
 pub mod Only
+pub mod ReadOnly

@@ -21,7 +21,7 @@ use Rattle.lwc_base.specs.declared.refusal.Refusal.TheVariants.{BadCall}
 use Rattle.lwc_base.specs.declared.regs.Regs.{Regs}
 use Rattle.lwc_syscall.proofs.Does.{ended-cases, stored-cases}
 use Rattle.lwc_syscall.specs.Changes.{CutsNone, LosesNone, Put, Same, StoredPut, cuts_none, leaves_world}
-use Rattle.lwc_syscall.specs.Plain.{Outcome, answering, becoming, closing, copy_refusals, copying, ended, is_absent, is_full, left, mapping, moved, open_refusals, opening, placed, plain, read_on, read_refusals, reading, store_at, world_after, write_refusals, writing, written}
+use Rattle.lwc_syscall.specs.Plain.{Outcome, answering, becoming, closing, copy_refusals, copying, ended, is_absent, is_read_only, is_full, left, mapping, moved, open_refusals, opening, placed, plain, read_on, read_refusals, reading, store_at, world_after, write_refusals, writing, written}
 use Rattle.lwc_syscall.specs.Syscall.{inner_args, inner_call, lw_syscall, refusals, three_of}
 use Rattle.lwc_syscall.specs.declared.answer.CallAnswer.TheVariants.{Exit, Refused}
 use Rattle.lwc_syscall.specs.declared.calls.Three.{Three}
@@ -74,15 +74,16 @@ module _ (w : World) (io : Channels) (three : Three) (job : ℕ) where
       ended-cases (λ o. CutsNone w three job o.world) w io rows (placed w io three.slots value) (λ _. Same)
       (λ passed. Put (unwrap_or (lowest_empty w three.slots) 0) value (loses-none _ _ (lowest-of-none (lowest_empty w three.slots) refl (some passed))))
 
-  done-cuts : (stored : Stored) (piece : Piece) (n : ℕ) (value : Descriptor) → is_absent stored ≡ false → is_full stored ≡ false →
+  done-cuts : (stored : Stored) (piece : Piece) (n : ℕ) (value : Descriptor) → is_absent stored ≡ false → is_read_only stored ≡ false → is_full stored ≡ false →
       (stored ≡ stores.Done w) ⊎ ((stored ≡ stores.Absent) ⊎ (stored ≡ store w three.memory job piece)) → ((d : Name) → is_of d (slot_at w three.slots n) ≡ false) →
       CutsNone w three job (put_slot (world_after w stored) three.slots n value)
-  done-cuts stores.Absent piece n value there room by none = absurd (grind arith)
-  done-cuts stores.Full piece n value there room by none = absurd (grind arith)
-  done-cuts (stores.Done v) piece n value there room (inl same) none =
+  done-cuts stores.Absent piece n value there writable room by none = absurd (grind arith)
+  done-cuts stores.ReadOnly piece n value there writable room by none = absurd (grind arith)
+  done-cuts stores.Full piece n value there writable room by none = absurd (grind arith)
+  done-cuts (stores.Done v) piece n value there writable room (inl same) none =
       let is : w ≡ v = grind arith in subst (λ (u : World). CutsNone w three job (put_slot u three.slots n value)) is (Put n value (loses-none _ _ none))
-  done-cuts (stores.Done v) piece n value there room (inr (inl same)) none = absurd (grind arith)
-  done-cuts (stores.Done v) piece n value there room (inr (inr is)) none =
+  done-cuts (stores.Done v) piece n value there writable room (inr (inl same)) none = absurd (grind arith)
+  done-cuts (stores.Done v) piece n value there writable room (inr (inr is)) none =
       StoredPut v piece n value (sym is) (loses-none _ _ (λ d. ap (is_of d) (done-leaves w v three.memory job piece three.slots n (sym is)) ∙ none d))
 
   -- what is found under a number is of no context where the slot is of none
@@ -98,7 +99,7 @@ module _ (w : World) (io : Channels) (three : Three) (job : ℕ) where
       let stored = store_at w three.memory job at bytes in
       ended-cases (λ o. CutsNone w three job o.world) w io (read_refusals io value count stored)
       (answering (length bytes) (put_slot (world_after w stored) three.slots n (read_on (length bytes) value)) io) (λ _. Same)
-      (λ passed. done-cuts stored (record { at = at; bytes = bytes }) n (read_on (length bytes) value) (grind arith) (grind arith) (stored-cases w three.memory job at bytes)
+      (λ passed. done-cuts stored (record { at = at; bytes = bytes }) n (read_on (length bytes) value) (grind arith) (grind arith) (grind arith) (stored-cases w three.memory job at bytes)
       (λ d. found-of-none n d (grind arith) (read-of-none io d value (grind arith))))
 
   writing-leaves : (n at count : ℕ) → (writing w io three n at count).world ≡ w

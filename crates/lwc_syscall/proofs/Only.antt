@@ -1,5 +1,5 @@
 -- What plain calls leave as it was.
-use Rattle.std.proofs.Common.{◌≡◌, ◌⊎◌, inl, inr, ◌∙◌, ◌+◌, ℕ, Bool, true, false, List, [], ◌∷◌, None, Some, ap, refl, length, subst, sym, arith}
+use Rattle.std.proofs.Common.{◌≡◌, ◌≢◌, ◌⊎◌, inl, inr, ◌∙◌, ◌+◌, ℕ, Bool, true, false, List, [], ◌∷◌, None, Some, ap, refl, length, subst, sym, arith}
 use Rattle.std.proofs.lemmas.Bool.Decides.{nat_tests}
 use Rattle.std.specs.Prelude.{◌==◌, ◌&&◌, if◌then◌else◌, is_none, map, nat_le, nat_lt, slice_index, unwrap_or}
 use Rattle.guest_call.specs.Changes.{IsUntouched}
@@ -27,9 +27,10 @@ use Rattle.lwc_base.specs.declared.page.PageValue.{PageValue}
 use Rattle.lwc_base.specs.declared.refusal.Refusal.{Refusal}
 use Rattle.lwc_base.specs.declared.refusal.Refusal.TheVariants.{BadCall}
 use Rattle.lwc_base.specs.declared.regs.Regs.{Regs}
+use Rattle.lwc_base.specs.declared.right.Right.TheVariants.{Write}
 use Rattle.lwc_syscall.proofs.Does.{ended-cases, stored-cases}
 use Rattle.lwc_syscall.specs.Changes.{ChangesOnly, has_page, holder, may_change, read_pages}
-use Rattle.lwc_syscall.specs.Plain.{Outcome, answering, becoming, close_refusals, closing, copy_refusals, copying, ended, is_absent, is_full, map_refusals, mapping, moved, open_refusals, opening, placed, plain, read_on, read_refusals, reading, store_at, uid_refusals, world_after, write_refusals, writing, written}
+use Rattle.lwc_syscall.specs.Plain.{Outcome, answering, becoming, close_refusals, closing, copy_refusals, copying, ended, is_absent, is_read_only, is_full, map_refusals, mapping, moved, open_refusals, opening, placed, plain, read_on, read_refusals, reading, store_at, uid_refusals, world_after, write_refusals, writing, written}
 use Rattle.lwc_syscall.specs.Syscall.{inner_args, inner_call, lw_syscall, refusals, three_of}
 use Rattle.lwc_syscall.specs.declared.answer.CallAnswer.TheVariants.{Exit, Refused}
 use Rattle.lwc_syscall.specs.declared.calls.Three.{Three}
@@ -60,7 +61,7 @@ PagesIn keys pages = (p : ℕ) → has_page pages p ≡ true → keys (Page p) �
 
 module _ (w : World) (three : Three) (keys : Key → Bool) where
   same : Leaves w w three keys
-  same = record { only = record { values = λ e k out. refl; cells = λ e k out. refl; entries = λ e. refl; saved = λ e t. refl }; apart = λ a b k is. is }
+  same = record { only = record { values = λ e k out. refl; cells = λ e k out. refl; rights = λ e p out. refl; entries = λ e. refl; saved = λ e t. refl }; apart = λ a b k is. is }
 
   -- one more put under one of the keys
   put_on : (v : World) (q : Key) (value : ValueOf q) → keys q ≡ true → Leaves w v three keys → Leaves w (put_at v (holder three q) q value) three keys
@@ -72,6 +73,7 @@ module _ (w : World) (three : Three) (keys : Key → Bool) where
         only = record {
           values = λ e k untouched. put.values e k (out e k untouched) ∙ left.only.values e k untouched;
           cells = λ e k untouched. put.cells e k (out e k untouched) ∙ left.only.cells e k untouched;
+          rights = λ e p untouched. ap (λ f. f p) (put.rights e) ∙ left.only.rights e p untouched;
           entries = λ e. put.entries e ∙ left.only.entries e;
           saved = λ e t. put.saved e t ∙ left.only.saved e t;
         };
@@ -92,7 +94,7 @@ module _ (w : World) (three : Three) (keys : Key → Bool) where
   counters_on : (v : World) (job : ℕ) (f : Counters → Counters) → Leaves w v three keys → Leaves w (change_counters v job f) three keys
   unfolding change_counters value_at context group
   counters_on v job f left = record {
-    only = record { values = left.only.values; cells = left.only.cells; entries = left.only.entries; saved = left.only.saved };
+    only = record { values = left.only.values; cells = left.only.cells; rights = left.only.rights; entries = left.only.entries; saved = left.only.saved };
     apart = λ a b k is. let was = left.apart a b k is in record { differ = was.differ; no_group = was.no_group };
   }
 
@@ -109,6 +111,7 @@ module _ (w : World) (three : Three) (keys : Key → Bool) where
   -- a context in which cells of pages of a range have changed
   record TurnsPages (from to : ℕ) (change : Context → Context) : Type 0 where
     cell : (x : Context) (k : Key) → ((p : ℕ) → k ≡ Page p → (nat_le from p && nat_lt p to) ≡ false) → (change x).cell k ≡ x.cell k
+    right : (x : Context) (p : ℕ) → (nat_le from p && nat_lt p to) ≡ false → (change x).right p ≡ x.right p
     entry : (x : Context) → (change x).entry ≡ x.entry
     saved : (x : Context) (t : ℕ) → (change x).saved t ≡ x.saved t
 
@@ -119,6 +122,7 @@ module _ (w : World) (three : Three) (keys : Key → Bool) where
       | Slot n ↦ λ out. refl
       | Cred ↦ λ out. refl
     ] out;
+    right = λ x p out. ap (λ b. if b then Write else x.right p) out;
     entry = λ x. refl;
     saved = λ x t. refl;
   }
@@ -130,6 +134,7 @@ module _ (w : World) (three : Three) (keys : Key → Bool) where
       | Slot n ↦ λ out. refl
       | Cred ↦ λ out. refl
     ] out;
+    right = λ x p out. ap (λ b. if b then Write else x.right p) out;
     entry = λ x. refl;
     saved = λ x t. refl;
   }
@@ -166,8 +171,15 @@ module _ (w : World) (three : Three) (keys : Key → Bool) where
       | Common g ↦ λ is. let h = changed.groups g in grind arith
     ] refl
 
+    unnamed : (e : Name) (p : ℕ) → (keys (Page p) ≡ true → e ≢ three.memory) → e ≡ three.memory → (nat_le from p && nat_lt p to) ≡ false
+    unnamed e p out is =
+        elim (nat_le from p && nat_lt p to) as (λ b. (nat_le from p && nat_lt p to) ≡ b → b ≡ false) [
+          | false ↦ λ none. refl
+          | true ↦ λ some. absurd (out (within p some) is)
+        ] refl
+
     mapped_on : ChangesOnly w v three keys
-    mapped_on = record { values = values_on; cells = cells_on; entries = λ e. each (λ x. x.entry) e (λ is. turns.entry); saved = λ e t. each (λ x. x.saved t) e (λ is x. turns.saved x t) }
+    mapped_on = record { values = values_on; cells = cells_on; rights = λ e p out. each (λ x. x.right p) e (λ is x. turns.right x p (unnamed e p out is)); entries = λ e. each (λ x. x.entry) e (λ is. turns.entry); saved = λ e t. each (λ x. x.saved t) e (λ is x. turns.saved x t) }
 
 module _ (w : World) (io : Channels) (three : Three) (job : ℕ) (call : ℕ) (args : List ℕ) where
   abbrev keys : Key → Bool
@@ -231,15 +243,16 @@ module _ (w : World) (io : Channels) (three : Three) (job : ℕ) (call : ℕ) (a
   unfolding may_change
   slot_in is = grind (arith, nat_tests)
 
-  done_only : (stored : Stored) (piece : Piece) (value : Descriptor) → is_absent stored ≡ false → is_full stored ≡ false →
+  done_only : (stored : Stored) (piece : Piece) (value : Descriptor) → is_absent stored ≡ false → is_read_only stored ≡ false → is_full stored ≡ false →
       (stored ≡ stores.Done w) ⊎ ((stored ≡ stores.Absent) ⊎ (stored ≡ store w three.memory job piece)) → keys (Slot (arg 0)) ≡ true → PagesIn keys (touched piece.at (length piece.bytes)) →
       ChangesOnly w (put_slot (world_after w stored) three.slots (arg 0) value) three keys
-  done_only stores.Absent piece value there room by slot pages = absurd (grind arith)
-  done_only stores.Full piece value there room by slot pages = absurd (grind arith)
-  done_only (stores.Done v) piece value there room (inl is) slot pages =
+  done_only stores.Absent piece value there writable room by slot pages = absurd (grind arith)
+  done_only stores.ReadOnly piece value there writable room by slot pages = absurd (grind arith)
+  done_only stores.Full piece value there writable room by slot pages = absurd (grind arith)
+  done_only (stores.Done v) piece value there writable room (inl is) slot pages =
       let one : w ≡ v = grind arith in subst (λ (u : World). ChangesOnly w (put_slot u three.slots (arg 0) value) three keys) one (slot_on (arg 0) value slot)
-  done_only (stores.Done v) piece value there room (inr (inl is)) slot pages = absurd (grind arith)
-  done_only (stores.Done v) piece value there room (inr (inr is)) slot pages =
+  done_only (stores.Done v) piece value there writable room (inr (inl is)) slot pages = absurd (grind arith)
+  done_only (stores.Done v) piece value there writable room (inr (inr is)) slot pages =
       (put_on w three keys v (Slot (arg 0)) value slot (store_on w three keys job piece pages v (sym is))).only
 
   reading_only : call ≡ 4 → Only (reading w io three job (arg 0) (arg 1) (arg 2))
@@ -250,7 +263,7 @@ module _ (w : World) (io : Channels) (three : Three) (job : ℕ) (call : ℕ) (a
       let stored = store_at w three.memory job (arg 1) bytes in
       ended-cases Only w io (read_refusals io value (arg 2) stored)
       (answering (length bytes) (put_slot (world_after w stored) three.slots (arg 0) (read_on (length bytes) value)) io) (λ _. none)
-      (λ passed. done_only stored (record { at = arg 1; bytes = bytes }) (read_on (length bytes) value) (grind arith) (grind arith) (stored-cases w three.memory job (arg 1) bytes) (slot_in is) (pages_in is))
+      (λ passed. done_only stored (record { at = arg 1; bytes = bytes }) (read_on (length bytes) value) (grind arith) (grind arith) (grind arith) (stored-cases w three.memory job (arg 1) bytes) (slot_in is) (pages_in is))
 
   pub plain_only : Only (plain w io three job call args)
   unfolding plain

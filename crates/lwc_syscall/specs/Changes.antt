@@ -1,5 +1,5 @@
 -- What plain calls do to the world and the channels.
-use Rattle.std.specs.Prelude.{◌≡◌, ◌<◌, ◌≤◌, ℕ, ◌+◌, ◌==◌, ◌&&◌, ◌||◌, Bool, List, true, false, length, nat_le, nat_lt, slice_index}
+use Rattle.std.specs.Prelude.{◌≡◌, ◌≢◌, ◌<◌, ◌≤◌, ℕ, ◌+◌, ◌==◌, ◌&&◌, ◌||◌, Bool, List, Option, true, false, length, nat_le, nat_lt, slice_index}
 use Rattle.std.specs.FinMap as fm
 use Rattle.std.specs.List.{list_any}
 use Rattle.std.specs.Option.{option_map_or}
@@ -11,10 +11,12 @@ use Rattle.lwc_base.specs.Jobs.{IsOwnName, NamesKeepToJobs}
 use Rattle.lwc_base.specs.Life.{HasItsContexts, is_of}
 use Rattle.lwc_base.specs.Mapping.{mapped_or_not}
 use Rattle.lwc_base.specs.Memory.{touched}
+use Rattle.lwc_base.specs.Rights.{right_at}
 use Rattle.lwc_base.specs.Slots.{lowest_empty}
 use Rattle.lwc_base.specs.Sound.{IsSound}
 use Rattle.lwc_base.specs.Store.{Done, Piece, store}
 use Rattle.lwc_base.specs.World.{World, context, is_live}
+use Rattle.lwc_base.specs.declared.cell.Cell.TheVariants.{Own}
 use Rattle.lwc_base.specs.declared.descriptor.Cap.{Cap}
 use Rattle.lwc_base.specs.declared.descriptor.Descriptor.{Descriptor}
 use Rattle.lwc_base.specs.declared.descriptor.Descriptor.TheVariants.{Ctx}
@@ -23,14 +25,16 @@ use Rattle.lwc_base.specs.declared.key.Key.{Key}
 use Rattle.lwc_base.specs.declared.key.Key.TheVariants.{Page, Slot, Cred}
 use Rattle.lwc_base.specs.declared.limits.TheConstants.{MOST_BYTES_OF_CALL}
 use Rattle.lwc_base.specs.declared.name.Name.{Name}
+use Rattle.lwc_base.specs.declared.page.PageValue.{PageValue}
 use Rattle.lwc_base.specs.declared.refusal.Refusal.{Refusal}
+use Rattle.lwc_base.specs.declared.right.Right.TheVariants.{Read as MayRead}
 use Rattle.lwc_syscall.specs.declared.calls.Three.{Three}
 use Rattle.lwc_syscall.specs.Plain.{Outcome, moved, written}
 use Rattle.lwc_syscall.specs.declared.answer.CallAnswer.TheVariants.{Refused}
 
 -- a descriptor that may be in a slot of a context: it is in range, each context that it is of is live, it is
--- of the
--- context's own job where names keep to their jobs, and one of a context was in a slot of this one as it is
+-- of the context's own job where names keep to their jobs, and one of a context was in a slot of this one as
+-- it is
 pub record IsKnown (w : World) (io : Channels) (c : Name) (value : Descriptor) : Type 0 where
   pub in_range : IsInRange io value
   pub named : (d : Name) → is_of d value ≡ true → is_live w d ≡ true
@@ -75,13 +79,17 @@ read_pages w io three args =
     touched (slice_index args 1)
     (length (moved io (descriptor_for w three.slots (slice_index args 0)) (slice_index args 2)))
 
+-- whether a plain call is a map or an unmap that has a page in its range
+abbrev pub maps_page : ℕ → List ℕ → ℕ → Bool
+maps_page call args p = (call == 6 || call == 7) && nat_le (slice_index args 0) p && nat_lt p (slice_index args 1)
+
 -- whether a plain call may change what is under a key: a page that a read touches or that is in the range of
--- a map or
--- unmap, the slot that an open or a dup fills or that a close or a read names, and the uid by a setuid
+-- a map or unmap, the slot that an open or a dup fills or that a close or a read names, and the uid by a
+-- setuid
 unfoldable pub may_change : World → Channels → Three → ℕ → List ℕ → Key → Bool
 may_change w io three call args (Page p) =
     call == 4 && has_page (read_pages w io three args) p
-    || (call == 6 || call == 7) && nat_le (slice_index args 0) p && nat_lt p (slice_index args 1)
+    || maps_page call args p
 may_change w io three call args (Slot n) =
     (call == 1 || call == 3) && option_map_or (λ m. m == n) (lowest_empty w three.slots) false
     || (call == 2 || call == 4) && n == slice_index args 0
@@ -94,8 +102,19 @@ pub record ChangesOnly (w v : World) (three : Three) (keys : Key → Bool) : Typ
       value_at v e k ≡ value_at w e k
   pub cells : (e : Name) (k : Key) → (keys k ≡ true → AreApart w (holder three k) e k) →
       (context v e).cell k ≡ (context w e).cell k
+  pub rights : (e : Name) (p : ℕ) → (keys (Page p) ≡ true → e ≢ three.memory) → right_at v e p ≡ right_at w e p
   pub entries : (e : Name) → (context v e).entry ≡ (context w e).entry
   pub saved : (e : Name) (t : ℕ) → (context v e).saved t ≡ (context w e).saved t
+
+-- each page of a context's own that has the right Read stays as it is, but for those that are left out
+abbrev pub KeepsReadOnly : World → World → (Name → ℕ → Type 0) → Type 0
+KeepsReadOnly w v IsLeftOut =
+    (e : Name) (p : ℕ) (value : Option PageValue) → (IsLeftOut e p → ⊥) →
+    (context w e).cell (Page p) ≡ Own value → right_at w e p ≡ MayRead → ((context v e).cell (Page p) ≡ Own value) × (right_at v e p ≡ MayRead)
+
+-- the memory of three contexts is this one, and a call maps or unmaps this page of it
+abbrev pub IsMapped : Three → ℕ → List ℕ → Name → ℕ → Type 0
+IsMapped three call args e p = (e ≡ three.memory) × (maps_page call args p ≡ true)
 
 -- what runs keep: the world is sound, and has the contexts and files that its slots name
 pub record IsWell (w : World) (io : Channels) : Type 0 where

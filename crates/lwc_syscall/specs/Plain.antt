@@ -19,7 +19,7 @@ use Rattle.lwc_base.specs.declared.limits.TheConstants.{MOST_BYTES_OF_CALL, MOST
 use Rattle.lwc_base.specs.declared.name.Name.{Name}
 use Rattle.lwc_base.specs.declared.page.TheConstants.{PAGE_BYTES}
 use Rattle.lwc_base.specs.declared.refusal.Refusal.{Refusal}
-use Rattle.lwc_base.specs.declared.refusal.Refusal.TheVariants.{BadCall, BadFd, WrongKind, BadAddress, BadRange, NoSlot, NoFrame, NotPermitted, NoFile, TooManyRanges, ReplyFull, TooLong}
+use Rattle.lwc_base.specs.declared.refusal.Refusal.TheVariants.{BadCall, BadFd, WrongKind, BadAddress, BadRange, NoSlot, NoFrame, NotPermitted, NoFile, TooManyRanges, ReplyFull, TooLong, ReadOnly}
 use Rattle.lwc_syscall.specs.declared.answer.CallAnswer.{CallAnswer}
 use Rattle.lwc_syscall.specs.declared.answer.CallAnswer.TheVariants.{Value, Exit, Refused}
 use Rattle.lwc_syscall.specs.declared.calls.Three.{Three}
@@ -115,6 +115,11 @@ abbrev pub is_absent : Stored → Bool
 is_absent stores.Absent = true
 is_absent _ = false
 
+-- whether a store finds a page that has the right Read
+abbrev pub is_read_only : Stored → Bool
+is_read_only stores.ReadOnly = true
+is_read_only _ = false
+
 -- whether a store finds too few frames
 abbrev pub is_full : Stored → Bool
 is_full stores.Full = true
@@ -132,6 +137,7 @@ read_refusals io value count stored =
     ∷ (is_none (left io value), WrongKind)
     ∷ (nat_lt MOST_BYTES_OF_CALL count, TooLong)
     ∷ (is_absent stored, BadAddress)
+    ∷ (is_read_only stored, ReadOnly)
     ∷ (is_full stored, NoFrame)
     ∷ []
 

@@ -51,6 +51,7 @@ pub fn read<W: World>(
     match store_at(world, three.memory, at, bytes, job) {
         Ok(()) => {}
         Err(StoreFault::BadAddress) => return Ok(CallAnswer::Refused(Refusal::BadAddress)),
+        Err(StoreFault::ReadOnly) => return Ok(CallAnswer::Refused(Refusal::ReadOnly)),
         Err(StoreFault::NoFrame) => return Ok(CallAnswer::Refused(Refusal::NoFrame)),
         Err(StoreFault::OutOfMemory) => return Err(OutOfMemory),
     }
@@ -101,8 +102,8 @@ fn read_on(value: Descriptor, count: usize) -> Descriptor
 ///
 /// # Errors
 ///
-/// `BadAddress` if one of them is past the last page or in an absent page; else `NoFrame` if too few frames
-/// are free; or `OutOfMemory`.
+/// `BadAddress` if one of them is past the last page or in an absent page; else `ReadOnly` if one is in a
+/// page that has the right Read; else `NoFrame` if too few frames are free; or `OutOfMemory`.
 #[tactic(auto, using(lwc_base::proofs::Facts::changes), unfolding(crate::specs::Plain::store_at, lwc_base::specs::Store::store))]
 fn store_at<W: World>(
     world: &mut W,
@@ -118,6 +119,8 @@ fn store_at<W: World>(
         ≡ stores.Done (W.seen world.new)) }
     ensures bad_address { (result ≡ Err StoreFault.BadAddress) ↔
         (spec.store_at (W.seen world.old) c job at bytes.now ≡ stores.Absent) }
+    ensures read_only { (result ≡ Err StoreFault.ReadOnly) ↔
+        (spec.store_at (W.seen world.old) c job at bytes.now ≡ stores.ReadOnly) }
     ensures no_frame { (result ≡ Err StoreFault.NoFrame) ↔
         (spec.store_at (W.seen world.old) c job at bytes.now ≡ stores.Full) }
     ensures err { OnErr result (W.seen world.new ≡ W.seen world.old) }

@@ -9,7 +9,8 @@ ghost use Rattle.lwc_base.specs.Modes.{IsKey};
 ghost use Rattle.lwc_base.specs.Refusals.{first_refusal};
 ghost use Rattle.lwc_base.specs.World.{World, is_live};
 ghost use Rattle.lwc_syscall.specs.Changes.{ChangesIfDone, ChangesOnly, CutsNone, IsPlainChange, IsWell};
-ghost use Rattle.lwc_syscall.specs.Changes.{KeepsNumbers, cuts_none, holder, leaves_world, may_change};
+ghost use Rattle.lwc_syscall.specs.Changes.{IsMapped, KeepsNumbers, KeepsReadOnly, cuts_none, holder};
+ghost use Rattle.lwc_syscall.specs.Changes.{leaves_world, may_change};
 ghost use Rattle.lwc_base.specs.declared.key.Key.{Key};
 ghost use Rattle.lwc_base.specs.declared.name.Name.{Name};
 ghost use Rattle.lwc_base.specs.declared.regs.Regs.{Regs};
@@ -35,6 +36,16 @@ pub fn a_plain_call_changes_what_it_may()
     ensures syscall { (w : World) (io : Channels) (c : Name) (job : ℕ) (regs : Regs) →
         ChangesOnly w (lw_syscall w io c job regs).world (three_of w c regs)
         (may_change w io (three_of w c regs) (inner_call regs) (inner_args regs)) }
+{}
+
+/// A plain call leaves each page of a context's own that has the right Read as it is, with its right, but for
+/// those that it maps or unmaps.
+pub fn a_plain_call_leaves_what_is_read_only()
+    ensures plain { (w : World) (io : Channels) (three : Three) (job call : ℕ) (args : List ℕ) →
+        KeepsReadOnly w (plain w io three job call args).world (IsMapped three call args) }
+    ensures syscall { (w : World) (io : Channels) (c : Name) (job : ℕ) (regs : Regs) →
+        KeepsReadOnly w (lw_syscall w io c job regs).world
+        (IsMapped (three_of w c regs) (inner_call regs) (inner_args regs)) }
 {}
 
 /// What a call over chosen contexts may change is the caller's, or of the context that the slot names and

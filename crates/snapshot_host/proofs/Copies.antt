@@ -30,7 +30,7 @@ copied k = refl
 
 -- a copy by no item
 abbrev pub copy_of : World → Name → Regs → Context
-copy_of w home entry = record { cell = λ k. Own (value_at w home k); entry = entry; saved = λ t. None }
+copy_of w home entry = record { cell = λ k. Own (value_at w home k); right = (context w home).right; entry = entry; saved = λ t. None }
 
 pub is_copy : (w : World) (home : Name) (entry : Regs) → cloned_context w home [] entry ≡ copy_of w home entry
 unfolding cloned_context mode_or_copy mode
@@ -76,7 +76,7 @@ both_cells w home r Cred = refl
 both_put : (w : World) (home : Name) (r : ℕ) →
     with_cell (Slot 0) (Own (Request r 0)) (with_cell (Slot 1) (Own (Reply r)) (copy_of w home (context w home).entry)) ≡ begun_context w home r
 unfolding begun_context
-both_put w home r = λ i. record { cell = λ k. both_cells w home r k i; entry = (context w home).entry; saved = λ t. None }
+both_put w home r = λ i. record { cell = λ k. both_cells w home r k i; right = (context w home).right; entry = (context w home).entry; saved = λ t. None }
 
 cloned : (w : World) (home : Name) (job : ℕ) (entry : Regs) → share w home job [] ≡ w → clone_context w home job [] entry ≡ add_context w job (copy_of w home entry)
 unfolding clone_context

@@ -2,6 +2,7 @@
 use Rattle.std.proofs.Common.{◌≡◌, ℕ, zero, suc, ◌≤◌, refl, ◌∙◌, Bool, true, false, cond, not, ◌&&◌, Option, Some, None, List, [], ◌∷◌, arith}
 use Rattle.std.specs.Prelude.{count_by, is_some}
 use Rattle.std.specs.List.{range_with_len}
+use Rattle.std.proofs.lemmas.Bool.{and_from, and_parts}
 use Rattle.std.proofs.lemmas.List.Sums.{sum_by-cons}
 use Rattle.lwc_base.specs.Cells.{value_at, value_of}
 use Rattle.lwc_base.specs.Holders.{InCell}
@@ -58,8 +59,9 @@ module _ (w : World) (home : Name) (groups : HasItsGroups w) (live : is_live w h
   unfolding value_at
   still_continues zero h = absurd cc
   still_continues (suc p) h =
-      let both = are_pages ((context w home).cell (Page p)) ((context w home).cell (Page (suc p))) h in
-      own_alike _ _ (page_here p ∙ both.0) (page_here (suc p) ∙ both.1)
+      let parts = and_parts _ _ h in
+      let both = are_pages ((context w home).cell (Page p)) ((context w home).cell (Page (suc p))) parts.0 in
+      and_from _ _ (own_alike _ _ (page_here p ∙ both.0) (page_here (suc p) ∙ both.1)) parts.1
 
   begins_by : (a b c d : Bool) → a ≡ b → (d ≡ true → c ≡ true) → (a && not c) ≡ true → (b && not d) ≡ true
   begins_by true true false false same less h = refl

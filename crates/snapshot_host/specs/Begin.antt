@@ -20,10 +20,12 @@ begun_value w home r (Slot n) =
     if n == 0 then Request r 0 else (if n == 1 then Reply r else slot_at w home n)
 begun_value w home r Cred = uid_at w home
 
--- that context: each cell is its own, it begins as the home does, and it has no saved registers
+-- that context: each cell is its own, pages have the home's rights, it begins as the home does, and it has no saved
+-- registers
 unfoldable pub begun_context : World → Name → ℕ → Context
 begun_context w home r = record {
   cell = λ k. Own (begun_value w home r k);
+  right = (context w home).right;
   entry = (context w home).entry;
   saved = λ t. None;
 }
