@@ -1,17 +1,20 @@
 -- The cells of a new context, from the world as it is before what is under share has moved.
-use Rattle.std.proofs.Common.{◌≡◌, ◌≢◌, ℕ, ◌≤◌, refl, sym, ap, subst, ◌∙◌, true, List, Option, None, Some}
-use Rattle.std.specs.Prelude.{unwrap_or}
+use Rattle.std.proofs.Common.{◌≡◌, ◌≢◌, ◌⊎◌, ⊎_elim, ℕ, ◌+◌, ◌≤◌, arith, refl, sym, ap, subst, ◌∙◌, true, cond, eqb, ltb, List, Option, None, Some}
+use Rattle.std.specs.Prelude.{nat_lt, unwrap_or}
+use Rattle.std.proofs.lemmas.Bool.Decides.{nat_tests}
 use Rattle.std.specs.FinMap as fm
 use Rattle.lwc_base.specs.declared.cell.Cell.{Cell}
 use Rattle.lwc_base.specs.declared.cell.Cell.TheVariants.{Own}
 use Rattle.lwc_base.specs.declared.descriptor.TheConstants.{SLOTS}
 use Rattle.lwc_base.specs.declared.item.Item.{Item}
 use Rattle.lwc_base.specs.declared.item.Mode.{Mode}
-use Rattle.lwc_base.specs.declared.item.Mode.TheVariants.{Copy, Share, Unmap}
+use Rattle.lwc_base.specs.declared.item.Mode.TheVariants.{Copy, CopyRead, Share, Unmap}
 use Rattle.lwc_base.specs.declared.key.Key.{Key}
 use Rattle.lwc_base.specs.declared.key.Key.TheVariants.{Page, Slot, Cred}
 use Rattle.lwc_base.specs.declared.name.Name.{Name}
 use Rattle.lwc_base.specs.declared.regs.Regs.{Regs}
+use Rattle.lwc_base.specs.declared.right.Right.{Right}
+use Rattle.lwc_base.specs.declared.right.Right.TheVariants.{Write}
 use Rattle.lwc_base.specs.declared.key.Kind.TheVariants as kind
 use Rattle.lwc_base.specs.declared.key.TheConstants.{NOBODY}
 use Rattle.lwc_base.specs.Cells.{value_at, value_of, with_cell}
@@ -19,11 +22,14 @@ use Rattle.lwc_base.specs.Fresh.{IsFresh, named_groups}
 use Rattle.lwc_base.specs.Holders.{InContext}
 use Rattle.lwc_base.specs.Keys.{ValueOf, nothing}
 use Rattle.lwc_base.specs.Modes.{IsSpec, kind_of, limit, mode, mode_or_copy, number_of}
-use Rattle.lwc_base.specs.Sharing.{shared_cell, cloned_context, clone_context, cloned_cell, with_shared, share}
+use Rattle.lwc_base.specs.Ranges.{is_page}
+use Rattle.lwc_base.specs.Rights.{read_right, right_at}
+use Rattle.lwc_base.specs.Sharing.{cloned_right, shared_cell, cloned_context, clone_context, cloned_cell, with_shared, share}
 use Rattle.lwc_base.specs.World.{World, Context, add_context, context, is_live, new_context, next_context, next_group}
-use Rattle.whole_world.specs.Sharing.{clone_cells, is_below, with_cells}
-use Rattle.whole_world.proofs.Moves.{with_cells-all, with_cells-next, with_cells-none}
-use Rattle.whole_world.proofs.SharedCells.{context-shared}
+use Rattle.whole_world.specs.Rows.{with_right}
+use Rattle.whole_world.specs.Sharing.{clone_cells, clone_rights, is_below, with_cells, with_rights}
+use Rattle.whole_world.proofs.Moves.{in_all, with_cells-all, with_cells-next, with_cells-none}
+use Rattle.whole_world.proofs.SharedCells.{cloned_right-shared, context-shared}
 use Rattle.whole_world.proofs.Unnamed.{unnamed_past}
 use Rattle.lwc_base.proofs.Facts.{changes, counts, stays_fresh}
 use Rattle.lwc_base.proofs.Sharing.{value_at-share}
@@ -43,8 +49,10 @@ module _ (w : World) (c : Name) (job : ℕ) (items : List Item) (fresh : IsFresh
   abbrev new : Name
   new = next_group w job
 
-  pub key_copied : (k : Key) → mode_of k ≡ Copy → Own (value_at w c k) ≡ cells k
-  key_copied k is = sym (ap (cloned_cell shared c k) is ∙ ap Own (value_at-share w c job items fresh c k))
+  pub key_copied : (k : Key) (m : Mode) → mode_of k ≡ m → (m ≡ Copy) ⊎ (m ≡ CopyRead) → Own (value_at w c k) ≡ cells k
+  key_copied k m is copies =
+      sym (⊎_elim (λ (copy : m ≡ Copy). ap (cloned_cell shared c k) (is ∙ copy)) (λ (read : m ≡ CopyRead). ap (cloned_cell shared c k) (is ∙ read)) copies
+      ∙ ap Own (value_at-share w c job items fresh c k))
 
   -- a key under share is one in a clone too
   share_mode : (o : Option Mode) → unwrap_or o rest ≡ Share → unwrap_or o Copy ≡ Share
@@ -66,6 +74,7 @@ module _ (w : World) (c : Name) (job : ℕ) (items : List Item) (fresh : IsFresh
     rest_past k past Copy other = ap Own (value_at-share w c job items fresh c k) ∙ ap (λ cell. Own (value_of w k cell)) (past_keys k past)
     rest_past k past Share other = absurd (other refl)
     rest_past k past Unmap other = refl
+    rest_past k past CopyRead other = ap Own (value_at-share w c job items fresh c k) ∙ ap (λ cell. Own (value_of w k cell)) (past_keys k past)
 
     key_past : (k : Key) → limit w.size.pages (kind_of k) ≤ number_of k → cells k ≡ Own (nothing k)
     key_past k past = ap (λ o. cloned_cell shared c k (unwrap_or o rest)) (unnamed_past w.size.pages k items spec past) ∙ rest_past k past rest not_shared
@@ -85,9 +94,40 @@ module _ (w : World) (c : Name) (job : ℕ) (items : List Item) (fresh : IsFresh
         fresh_cell (Slot n) = refl
         fresh_cell Cred = refl
 
+    module _ (past_rights : (p : ℕ) → w.size.pages ≤ p → right_at w c p ≡ Write) where
+      abbrev rights : ℕ → Right
+      rights p = cloned_right w c p (mode_of (Page p))
+
+      new_right : (p : ℕ) → w.size.pages ≤ p → (m : Mode) → cloned_right w c p m ≡ Write
+      new_right p past Copy = past_rights p past
+      new_right p past Share = past_rights p past
+      new_right p past Unmap = refl
+      new_right p past CopyRead = ap (λ (cell : Cell (ValueOf (Page p))). read_right (is_page cell)) (past_keys (Page p) past)
+
+      right_there : (p : ℕ) → cond (nat_lt p w.size.pages) (rights p) Write ≡ clone_rights w c job items rest p
+      right_there p =
+          in_all w.size.pages (Page p) (rights p) Write
+          (λ past. ap (λ o. cloned_right w c p (unwrap_or o rest)) (unnamed_past w.size.pages (Page p) items spec past) ∙ new_right p past rest)
+          ∙ sym (cloned_right-shared w c job items live spec p (mode_of (Page p)))
+
+      -- and the row that has the rights too
+      pub rights-made : (x y : Context) (entry : Regs) → x ≡ record (new_context NOBODY entry) { cell = cells } → y ≡ with_rights w.size.pages rights x →
+          y ≡ record (new_context NOBODY entry) { cell = cells; right = clone_rights w c job items rest }
+      rights-made x y entry made righted =
+          righted ∙ ap (with_rights w.size.pages rights) made ∙ (λ i. record (new_context NOBODY entry) { cell = cells; right = λ p. right_there p i })
+
+-- one right more is given
+pub with_rights-next : (n : ℕ) (rights : ℕ → Right) (x y z : Context) (right : Right) → y ≡ with_rights n rights x → right ≡ rights n → z ≡ with_right n right y →
+    z ≡ with_rights (n + 1) rights x
+with_rights-next n rights x y z right before is put =
+    put ∙ (λ i. with_right n (is i) (before i)) ∙ (λ i. record x { right = λ p. next rights x.right n p i })
+  where
+    next : (f old : ℕ → Right) (n p : ℕ) → cond (eqb p n) (f n) (cond (ltb p n) (f p) (old p)) ≡ cond (ltb p (n + 1)) (f p) (old p)
+    next f old n p = grind (arith, nat_tests)
+
 -- where keys that no item names are copied, it is a clone
 pub context-copied : (w : World) (c : Name) (job : ℕ) (items : List Item) (entry : Regs) (x : Context) →
-    x ≡ record (new_context NOBODY entry) { cell = clone_cells w c job items Copy } → x ≡ cloned_context (share w c job items) c items entry
+    x ≡ record (new_context NOBODY entry) { cell = clone_cells w c job items Copy; right = clone_rights w c job items Copy } → x ≡ cloned_context (share w c job items) c items entry
 unfolding cloned_context mode_or_copy
 context-copied w c job items entry x is = is
 

@@ -5,7 +5,7 @@ use Rattle.lwc_base.specs.declared.cell.Cell.{Cell}
 use Rattle.lwc_base.specs.declared.cell.Cell.TheVariants as cell
 use Rattle.lwc_base.specs.declared.descriptor.Descriptor.{Descriptor}
 use Rattle.lwc_base.specs.declared.item.Mode.{Mode}
-use Rattle.lwc_base.specs.declared.item.Mode.TheVariants.{Copy, Share, Unmap}
+use Rattle.lwc_base.specs.declared.item.Mode.TheVariants.{Copy, CopyRead, Share, Unmap}
 use Rattle.lwc_base.specs.declared.key.Key.{Key}
 use Rattle.lwc_base.specs.declared.key.Key.TheVariants.{Page, Slot, Cred}
 use Rattle.lwc_base.specs.declared.page.PageValue.{PageValue}
@@ -42,6 +42,7 @@ pub own-moved : (mode : Mode) (k : Key) (c : Cell (ValueOf k)) → is_moved mode
 own-moved Copy k c is = cc
 own-moved Share k c is = is
 own-moved Unmap k c is = cc
+own-moved CopyRead k c is = cc
 
 -- the cell at the place of a page is the page's
 pub cell-page : (row : ContextRow) (p : ℕ) (c : Cell (Option PageValue)) → p < vec_len row.pages → c ≡ get_or row.pages.items p c → c ≡ (context_of row).cell (Page p)
@@ -57,6 +58,7 @@ moved_own : (mode : Mode) (k : Key) (value : ValueOf k) (h : Group) → is_moved
 moved_own Copy k value h moves = cc
 moved_own Share k value h moves = sym (ap (λ b. cond b (with_value k value h) h) moves)
 moved_own Unmap k value h moves = cc
+moved_own CopyRead k value h moves = cc
 
 -- a group that is given the value under a key takes it
 pub group-takes : (mode : Mode) (x : Context) (h j : Group) (v : KeyValue) (k : Key) → key_in v ≡ k → x.cell (key_in v) ≡ cell.Own (value_in v) →

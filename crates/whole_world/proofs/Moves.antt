@@ -8,7 +8,7 @@ use Rattle.lwc_base.specs.declared.cell.Cell.TheVariants.{Own, Common}
 use Rattle.lwc_base.specs.declared.descriptor.TheConstants.{SLOTS}
 use Rattle.lwc_base.specs.declared.item.Item.{Item}
 use Rattle.lwc_base.specs.declared.item.Mode.{Mode}
-use Rattle.lwc_base.specs.declared.item.Mode.TheVariants.{Copy, Share, Unmap}
+use Rattle.lwc_base.specs.declared.item.Mode.TheVariants.{Copy, CopyRead, Share, Unmap}
 use Rattle.lwc_base.specs.declared.key.Key.{Key}
 use Rattle.lwc_base.specs.declared.key.Key.TheVariants.{Page, Slot, Cred}
 use Rattle.lwc_base.specs.declared.key.Kind.{Kind}
@@ -73,7 +73,7 @@ with_cells-next kind n cells x y z before put =
     ∙ (λ i. record x { cell = λ k. with_key-next Cell kind n cells x.cell k i })
 
 -- what holds below the limit of each kind holds of all keys, where it does past it
-in_all : {A : Type 0} (pages : ℕ) (k : Key) (after old : A) → (limit pages (kind_of k) ≤ number_of k → after ≡ old) →
+pub in_all : {A : Type 0} (pages : ℕ) (k : Key) (after old : A) → (limit pages (kind_of k) ≤ number_of k → after ≡ old) →
     cond (nat_lt (number_of k) (limit pages (kind_of k))) after old ≡ after
 in_all pages k after old same =
     ⊎_elim (λ (h : number_of k < limit pages (kind_of k)). ap (λ b. cond b after old) (below (limit pages (kind_of k)) (number_of k) h))
@@ -157,6 +157,7 @@ not_below n = grind (arith, nat_tests)
 moved_or_nothing : (mode : Mode) (k : Key) (cell : Cell (ValueOf k)) → cond (is_moved mode k cell) (moved_value mode k cell) (nothing k) ≡ moved_value mode k cell
 moved_or_nothing Copy k cell = refl
 moved_or_nothing Unmap k cell = refl
+moved_or_nothing CopyRead k cell = refl
 moved_or_nothing Share k (Common g) = refl
 moved_or_nothing Share (Page p) (Own None) = refl
 moved_or_nothing Share (Page p) (Own (Some value)) = refl

@@ -13,6 +13,7 @@ use Rattle.lwc_base.specs.declared.key.Key.{Key}
 use Rattle.lwc_base.specs.declared.key.Key.TheVariants.{Page}
 use Rattle.lwc_base.specs.declared.name.Name.{Name}
 use Rattle.lwc_base.specs.declared.regs.Regs.{Regs}
+use Rattle.lwc_base.specs.declared.right.Right.{Right}
 use Rattle.lwc_base.specs.declared.key.TheConstants.{NOBODY}
 use Rattle.lwc_base.specs.Capabilities.{is_named}
 use Rattle.lwc_base.specs.Cells.{page_at}
@@ -21,13 +22,15 @@ use Rattle.lwc_base.specs.Holders.{Rules, InCell, InContext}
 use Rattle.lwc_base.specs.Keys.{ValueOf}
 use Rattle.lwc_base.specs.Modes.{IsSpec, mode, mode_or_copy}
 use Rattle.lwc_base.specs.Names.{name_cmp}
-use Rattle.lwc_base.specs.Overlay.{overlaid_cell, overlay, ranges_after_overlay, with_overlay}
+use Rattle.lwc_base.specs.Overlay.{overlaid_cell, overlaid_right, overlay, ranges_after_overlay, with_overlay}
 use Rattle.lwc_base.specs.Ranges.{ranges, ranges_of}
-use Rattle.lwc_base.specs.Sharing.{cloned_cell, cloned_context, share}
+use Rattle.lwc_base.specs.Rights.{right_at}
+use Rattle.lwc_base.specs.Sharing.{cloned_cell, cloned_context, cloned_right, share}
 use Rattle.lwc_base.specs.World.{World, Context, Counters, change_context, context, is_live, new_context, next_group}
-use Rattle.whole_world.specs.Holders.{count_of_ranges, holder_after_clone, holder_after_overlay, holder_of, moved_holder, overlaid_holder, page_holder}
-use Rattle.whole_world.specs.Sharing.{clone_cells, with_cells}
+use Rattle.whole_world.specs.Holders.{count_of_ranges, holder_after_overlay, holder_of, moved_holder, overlaid_holder, page_holder, side_after_clone, side_after_overlay}
+use Rattle.whole_world.specs.Sharing.{clone_cells, clone_rights, with_taken}
 use Rattle.whole_world.proofs.Runs.{not_new, page-cloned, page-shared, ranges-holders, ranges-shared, seen_from, seen_from-shared}
+use Rattle.whole_world.proofs.SharedCells.{cloned_right-shared, right-shared}
 use Rattle.lwc_base.proofs.Facts.{changes, orders, stays_fresh}
 use Rattle.lwc_base.proofs.Orders.{same_name}
 
@@ -35,6 +38,11 @@ cell_over : (s : World) (d : Name) (k : Key) (m : Option Mode) (mine : Cell (Val
     cond (is_some m) (cloned_cell s d k (unwrap_or m Unmap)) mine ≡ overlaid_cell s d k m mine
 cell_over s d k None mine = refl
 cell_over s d k (Some m) mine = refl
+
+right_over : (s : World) (d : Name) (p : ℕ) (m : Option Mode) (mine : Right) →
+    cond (is_some m) (cloned_right s d p (unwrap_or m Unmap)) mine ≡ overlaid_right s d p m mine
+right_over s d p None mine = refl
+right_over s d p (Some m) mine = refl
 
 -- names that do not compare as equal are different
 pub names_differ : (c d : Name) → (eqb c.job d.job && eqb c.k d.k) ≡ false → c ≢ d
@@ -44,7 +52,7 @@ names_differ c d differ same = false≢true (sym differ ∙ ap (λ (e : Name). e
     itself m n = grind (arith, nat_tests)
 
 -- a context keeps rules if it takes cells that keep them
-pub in_taken : (rules : Rules) (job : ℕ) (test : Key → Bool) (y x : Context) → InContext rules job y → InContext rules job x → InContext rules job (with_cells test y.cell x)
+pub in_taken : (rules : Rules) (job : ℕ) (test : Key → Bool) (y x : Context) → InContext rules job y → InContext rules job x → InContext rules job (with_taken test y x)
 in_taken rules job test y x theirs mine k =
     elim (test k) as (λ b. InCell rules job k (cond b (y.cell k) (x.cell k))) [ true ↦ theirs k | false ↦ mine k ]
 
@@ -52,7 +60,7 @@ module _ (w s : World) (c d : Name) (job : ℕ) (items : List Item) (is_shared :
   pub live-shared : is_live w c ≡ true → is_live s c ≡ true
   live-shared live = ap (λ v. is_live v c) is_shared ∙ (changes.shared w d job items).live c ∙ live
 
-  module _ (row : Context) (entry : Regs) (is_row : row ≡ record (new_context NOBODY entry) { cell = clone_cells w d job items Unmap }) where
+  module _ (row : Context) (entry : Regs) (is_row : row ≡ record (new_context NOBODY entry) { cell = clone_cells w d job items Unmap; right = clone_rights w d job items Unmap }) where
     old_cell : (next : ℕ → Counters) → InContext (named_groups next) c.job (cloned_context (share w d job items) d items entry) →
         (k : Key) (m : Option Mode) → mode items k ≡ m → InCell (named_groups next) c.job k (cloned_cell (share w d job items) d k (unwrap_or m Unmap))
     unfolding cloned_context mode_or_copy
@@ -71,16 +79,19 @@ module _ (w s : World) (c d : Name) (job : ℕ) (items : List Item) (is_shared :
         k (mode items k) refl))
 
     -- what takes the cells that items name out of it has taken them over
-    context_over : (x : Context) → with_cells (is_named items) row.cell x ≡ with_overlay (share w d job items) d items x
+    context_over : (x : Context) → with_taken (is_named items) row x ≡ with_overlay (share w d job items) d items x
     context_over x =
-        ap (λ (r : Context). with_cells (is_named items) r.cell x) is_row
-        ∙ (λ i. record x { cell = λ k. cell_over (share w d job items) d k (mode items k) (x.cell k) i })
+        ap (λ (r : Context). with_taken (is_named items) r x) is_row
+        ∙ (λ i. record x {
+          cell = λ k. cell_over (share w d job items) d k (mode items k) (x.cell k) i;
+          right = λ p. right_over (share w d job items) d p (mode items (Page p)) (x.right p) i;
+        })
 
     -- and the world is overlaid
-    pub world-over : (v : World) → v ≡ change_context s c (with_cells (is_named items) row.cell) → v ≡ overlay w c d job items
+    pub world-over : (v : World) → v ≡ change_context s c (with_taken (is_named items) row) → v ≡ overlay w c d job items
     unfolding overlay
     world-over v is =
-        is ∙ (λ i. change_context (is_shared i) c (with_cells (is_named items) row.cell))
+        is ∙ (λ i. change_context (is_shared i) c (with_taken (is_named items) row))
         ∙ ap (change_context (share w d job items) c) (λ i x. context_over x i)
 
 module _ (w : World) (c d : Name) (fresh : IsFresh w) (job : ℕ) (items : List Item) (live_c : is_live w c ≡ true) (live_d : is_live w d ≡ true)
@@ -113,16 +124,28 @@ module _ (w : World) (c d : Name) (fresh : IsFresh w) (job : ℕ) (items : List 
   page_over p None is = page_unnamed p is _ refl
   page_over p (Some m) is = page-cloned w d fresh job items live_d spec p m (ap (λ o. unwrap_or o Copy) is)
 
+  right_unnamed : (p : ℕ) (b : Bool) → is_eq (name_cmp c d) ≡ b → right_at s c p ≡ right_at w c p
+  right_unnamed p true same =
+      subst (λ (e : Name). right_at s e p ≡ right_at w e p) (sym (same_name c d same)) (right-shared w d job items live_d spec p)
+  right_unnamed p false differ =
+      let other : c ≢ d = λ same. false≢true (sym differ ∙ ap (λ e. is_eq (name_cmp c e)) (sym same) ∙ (eq_by_cmp_equiv orders.names).refl c) in
+      ap (λ (x : Context). x.right p) ((changes.shared w d job items).others c other)
+
+  -- its pages have the rights that they have by their modes
+  rights_over : (p : ℕ) (m : Option Mode) → overlaid_right s d p m (right_at s c p) ≡ overlaid_right w d p m (right_at w c p)
+  rights_over p None = right_unnamed p _ refl
+  rights_over p (Some m) = cloned_right-shared w d job items live_d spec p m
+
   -- the ranges of the context that gets it
-  pub ranges-over : ranges_of (overlay w c d job items) c ≡ count_of_ranges w.size.pages (holder_after_overlay w c d items)
-  unfolding overlay ranges_of holder_after_overlay page_holder
+  pub ranges-over : ranges_of (overlay w c d job items) c ≡ count_of_ranges w.size.pages (side_after_overlay w c d items)
+  unfolding overlay ranges_of side_after_overlay holder_after_overlay page_holder
   ranges-over =
       let changed = changes.context_changed s c (with_overlay s d items) in
       (λ i. ranges ((changed.names.size ∙ (changes.shared w d job items).size) i).pages (changed.changed ((changes.shared w d job items).live c ∙ live_c) i))
-      ∙ ranges-holders new (with_overlay s d items (context s c)) (holder_after_overlay w c d items) (λ p. page_over p _ refl) w.size.pages
+      ∙ ranges-holders new (with_overlay s d items (context s c)) (side_after_overlay w c d items) (λ p. page_over p _ refl) (λ p. rights_over p (mode items (Page p))) w.size.pages
 
   -- and of another one that it is taken from
-  ranges_left : c ≢ d → ranges_of (overlay w c d job items) d ≡ count_of_ranges w.size.pages (holder_after_clone w d items)
+  ranges_left : c ≢ d → ranges_of (overlay w c d job items) d ≡ count_of_ranges w.size.pages (side_after_clone w d items)
   unfolding overlay ranges_of
   ranges_left differ =
       let changed = changes.context_changed s c (with_overlay s d items) in
@@ -130,14 +153,14 @@ module _ (w : World) (c d : Name) (fresh : IsFresh w) (job : ℕ) (items : List 
       ∙ ranges-shared w d fresh job items live_d spec
 
   -- both
-  pub ranges-same : (n : ℕ) → c ≡ d → n ≡ count_of_ranges w.size.pages (holder_after_overlay w c d items) →
+  pub ranges-same : (n : ℕ) → c ≡ d → n ≡ count_of_ranges w.size.pages (side_after_overlay w c d items) →
       ◌≡◌ {A = ℕ × ℕ} (n, n) (ranges_after_overlay w c d job items)
   unfolding ranges_after_overlay
   ranges-same n same taken =
       let is : n ≡ ranges_of (overlay w c d job items) c = taken ∙ sym ranges-over in
       λ i. ((is ∙ ap (ranges_of (overlay w c d job items)) same) i, is i)
 
-  pub ranges-differ : (a b : ℕ) → c ≢ d → a ≡ count_of_ranges w.size.pages (holder_after_clone w d items) → b ≡ count_of_ranges w.size.pages (holder_after_overlay w c d items) →
+  pub ranges-differ : (a b : ℕ) → c ≢ d → a ≡ count_of_ranges w.size.pages (side_after_clone w d items) → b ≡ count_of_ranges w.size.pages (side_after_overlay w c d items) →
       ◌≡◌ {A = ℕ × ℕ} (a, b) (ranges_after_overlay w c d job items)
   unfolding ranges_after_overlay
   ranges-differ a b differ left taken = λ i. ((left ∙ sym (ranges_left differ)) i, (taken ∙ sym ranges-over) i)

@@ -1,15 +1,11 @@
 -- What a list has at each place after one of its places is written.
-use Rattle.std.proofs.Common.{◌≡◌, ℕ, zero, suc, ◌+◌, ◌<◌, ◌≤◌, ◌≢◌, List, [], ◌∷◌, length, get_or, refl, ap, subst, ◌∙◌, map, add-zero, below_more, arith, Bool, eqb, cond}
-use Rattle.std.specs.Prelude.{replicate, count_by}
+use Rattle.std.proofs.Common.{◌≡◌, ℕ, zero, suc, ◌+◌, ◌<◌, ◌≤◌, ◌≢◌, List, length, get_or, refl, ap, ◌∙◌, map, below_more, arith, eqb, cond}
+use Rattle.std.specs.Prelude.{replicate}
 use Rattle.std.specs.List.{range_with_len}
-use Rattle.std.proofs.lemmas.List.FromFn.{length-range_with_len}
-use Rattle.std.proofs.lemmas.List.Sums.{count_by-le-length}
 use Rattle.std.proofs.Math.ListN.{set}
-use Rattle.lwc_base.specs.declared.page.TheConstants.{PAGE_BYTES}
-use Rattle.lwc_base.specs.Pages.{zero_bytes, zero_page}
 use Rattle.std.proofs.lemmas.Grind.{common_steps}
 use Rattle.std.proofs.lemmas.List.{get_or-set_same, get_or-set_other}
-use Rattle.lwc_base.proofs.Small.{filled_from, zero_in_zeros}
+use Rattle.lwc_base.proofs.Small.{filled_from}
 
 -- the written value there, and the old ones elsewhere
 pub place_after_set : {A : Type 0} (xs : List A) (i : ℕ) (v : A) (j : ℕ) (d : A) → i < length xs → get_or (set xs i v) j d ≡ cond (eqb j i) v (get_or xs j d)

@@ -1,5 +1,5 @@
 -- The places that a search marks are those of the contexts that are reached.
-use Rattle.std.proofs.Common.{◌≡◌, ◌⊎◌, inl, inr, ◌↔◌, ℕ, zero, suc, ◌<◌, arith, List, [], ◌∷◌, length, refl, sym, ap, subst, ◌∙◌, Bool, true, false, Option, Some, None, map}
+use Rattle.std.proofs.Common.{◌≡◌, inl, inr, ◌↔◌, ℕ, ◌<◌, arith, List, [], ◌∷◌, length, refl, sym, ap, subst, ◌∙◌, Bool, true, Option, Some, None, map}
 use Rattle.std.specs.Prelude.{All, slice_get}
 use Rattle.std.specs.List.{Contains, cons_option, filter, filter_map, items_where_true, position}
 use Rattle.std.specs.Option.{option_map}

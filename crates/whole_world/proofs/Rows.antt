@@ -15,15 +15,17 @@ use Rattle.lwc_base.specs.declared.key.Key.TheVariants.{Page, Slot, Cred}
 use Rattle.lwc_base.specs.declared.key.TheConstants.{NOBODY}
 use Rattle.lwc_base.specs.declared.page.PageValue.{PageValue}
 use Rattle.lwc_base.specs.declared.regs.Regs.{Regs}
+use Rattle.lwc_base.specs.declared.right.Right.{Right}
+use Rattle.lwc_base.specs.declared.right.Right.TheVariants.{Write}
 use Rattle.lwc_base.specs.Cells.{with_cell, with_value}
 use Rattle.lwc_base.specs.Keys.{nothing, with_key}
-use Rattle.lwc_base.specs.Mapping.{on_pages}
+use Rattle.lwc_base.specs.Mapping.{on_pages, writable_in}
 use Rattle.lwc_base.specs.Modes.{kind_of, limit, number_of}
 use Rattle.lwc_base.specs.Saved.{with_saved}
 use Rattle.lwc_base.specs.World.{Context, new_context, new_group, new_value}
 use Rattle.whole_world.specs.declared.context_row.ContextRow.{ContextRow}
 use Rattle.whole_world.specs.declared.group_row.GroupRow.{GroupRow}
-use Rattle.whole_world.specs.Rows.{cell_of, context_of, group_of, value_of}
+use Rattle.whole_world.specs.Rows.{cell_of, context_of, group_of, value_of, with_right}
 use Rattle.whole_world.specs.Sound.{IsWhole}
 use Rattle.whole_world.proofs.Places.{place_after_set, place_of_replicate}
 
@@ -70,11 +72,19 @@ module _ (row : ContextRow) where
       λ k. elim k as (λ k. cell_of (record row { saved = set row.saved t (Some regs) }) k ≡ cell_of row k) [ Page p ↦ refl | Slot n ↦ refl | Cred ↦ refl ] in
       λ i. record (context_of row) { cell = λ k. at k i; saved = λ s. place_after_set row.saved t (Some regs) s None within i }
 
-  -- a context as it is made
-  pub context-new : (count slots threads uid : ℕ) → row.pages.items ≡ replicate count (Own None) → row.slots.items ≡ replicate slots (Own Empty) →
-      row.saved ≡ replicate threads None → row.uid ≡ Own uid → context_of row ≡ new_context uid row.entry
+  -- another right of a page
+  pub context-right : (p : ℕ) (right : Right) → p < vec_len row.rights → context_of (record row { rights = with_item row.rights p right }) ≡ with_right p right (context_of row)
   unfolding context_of cell_of
-  context-new count slots threads uid absent empty unsaved is =
+  context-right p right within =
+      let at : (k : Key) → cell_of (record row { rights = with_item row.rights p right }) k ≡ cell_of row k =
+      λ k. elim k as (λ k. cell_of (record row { rights = with_item row.rights p right }) k ≡ cell_of row k) [ Page q ↦ refl | Slot n ↦ refl | Cred ↦ refl ] in
+      λ i. record (context_of row) { cell = λ k. at k i; right = λ q. place_after_set row.rights.items p right q Write (omega (arith, row.rights.ok.0)) i }
+
+  -- a context as it is made
+  pub context-new : (count slots threads uid : ℕ) → row.pages.items ≡ replicate count (Own None) → row.rights.items ≡ replicate count Write →
+      row.slots.items ≡ replicate slots (Own Empty) → row.saved ≡ replicate threads None → row.uid ≡ Own uid → context_of row ≡ new_context uid row.entry
+  unfolding context_of cell_of
+  context-new count slots threads uid absent writable empty unsaved is =
       let at : (k : Key) → cell_of row k ≡ Own (new_value uid k) =
       λ k. elim k as (λ k. cell_of row k ≡ Own (new_value uid k)) [
         | Page p ↦ ap (λ l. get_or l p (Own None)) absent ∙ place_of_replicate count (Own None) p
@@ -82,7 +92,8 @@ module _ (row : ContextRow) where
         | Cred ↦ is
       ] in
       let none : (t : ℕ) → get_or row.saved t None ≡ None = λ t. ap (λ l. get_or l t None) unsaved ∙ place_of_replicate threads None t in
-      λ i. record (context_of row) { cell = λ k. at k i; saved = λ t. none t i }
+      let all : (p : ℕ) → get_or row.rights.items p Write ≡ Write = λ p. ap (λ l. get_or l p Write) writable ∙ place_of_replicate count Write p in
+      λ i. record (context_of row) { cell = λ k. at k i; right = λ p. all p i; saved = λ t. none t i }
 
   -- nothing is past the keys of a row
   pub cell-past : (count : ℕ) (k : Key) → IsWhole count row → limit count (kind_of k) ≤ number_of k → (context_of row).cell k ≡ Own (nothing k)
@@ -90,6 +101,11 @@ module _ (row : ContextRow) where
   cell-past count (Page p) whole h = let e : vec_len row.pages ≡ count = whole.pages in grind (arith, common_steps)
   cell-past count (Slot n) whole h = let e : vec_len row.slots ≡ SLOTS = whole.slots in grind (arith, common_steps)
   cell-past count Cred whole h = absurd (omega arith)
+
+  -- and the rights past its pages are those of new ones
+  pub right-past : (count p : ℕ) → IsWhole count row → count ≤ p → (context_of row).right p ≡ Write
+  unfolding context_of
+  right-past count p whole h = let e : vec_len row.rights ≡ count = whole.rights in grind (arith, common_steps)
 
 module _ (row : GroupRow) where
   -- another value of a page
@@ -139,18 +155,19 @@ module _ (row : GroupRow) where
       λ i. record { value = λ k. at k i }
 
 -- no page is another yet
-pub on_pages-none : (from : ℕ) (cell : Cell (Option PageValue)) (x : Context) → x ≡ record x { cell = on_pages from from cell x.cell }
+pub on_pages-none : (from : ℕ) (cell : Cell (Option PageValue)) (x : Context) → x ≡ record x { cell = on_pages from from cell x.cell; right = writable_in from from x.right }
 on_pages-none from cell x =
     let at : (k : Key) → x.cell k ≡ on_pages from from cell x.cell k =
     λ k. elim k as (λ k. x.cell k ≡ on_pages from from cell x.cell k) [ Page q ↦ outside from q cell (x.cell (Page q)) | Slot n ↦ refl | Cred ↦ refl ] in
-    λ i. record x { cell = λ k. at k i }
+    λ i. record x { cell = λ k. at k i; right = λ q. outside from q Write (x.right q) i }
   where
     outside : {A : Type 0} (a q : ℕ) (new old : A) → old ≡ cond (leb a q && ltb q a) new old
     outside a q new old = grind (arith, nat_tests)
 
 -- one page more is
-pub on_pages-more : (from p : ℕ) (cell : Cell (Option PageValue)) (x y z : Context) → from ≤ p → y ≡ record x { cell = on_pages from p cell x.cell } →
-    z ≡ with_cell (Page p) cell y → z ≡ record x { cell = on_pages from (p + 1) cell x.cell }
+pub on_pages-more : (from p : ℕ) (cell : Cell (Option PageValue)) (x y z : Context) → from ≤ p →
+    y ≡ record x { cell = on_pages from p cell x.cell; right = writable_in from p x.right } →
+    z ≡ with_right p Write (with_cell (Page p) cell y) → z ≡ record x { cell = on_pages from (p + 1) cell x.cell; right = writable_in from (p + 1) x.right }
 on_pages-more from p cell x y z begun before put =
     let at : (k : Key) → with_key Cell (Page p) cell (on_pages from p cell x.cell) k ≡ on_pages from (p + 1) cell x.cell k =
     λ k. elim k as (λ k. with_key Cell (Page p) cell (on_pages from p cell x.cell) k ≡ on_pages from (p + 1) cell x.cell k) [
@@ -158,7 +175,8 @@ on_pages-more from p cell x y z begun before put =
       | Slot n ↦ refl
       | Cred ↦ refl
     ] in
-    put ∙ ap (with_cell (Page p) cell) before ∙ (λ i. record x { cell = λ k. at k i })
+    put ∙ ap (λ (u : Context). with_right p Write (with_cell (Page p) cell u)) before
+    ∙ (λ i. record x { cell = λ k. at k i; right = λ q. next from p q Write (x.right q) begun i })
   where
     next : {A : Type 0} (a b q : ℕ) (new old : A) → a ≤ b → cond (eqb q b) new (cond (leb a q && ltb q b) new old) ≡ cond (leb a q && ltb q (b + 1)) new old
     next a b q new old low = grind (arith, nat_tests)

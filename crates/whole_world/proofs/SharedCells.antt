@@ -1,16 +1,19 @@
 -- The cells of a context once what is under share has moved out of it.
-use Rattle.std.proofs.Common.{◌≡◌, ℕ, ◌≤◌, ap, refl, sym, ◌∙◌, Bool, true, false, cond, List, ⊎_elim}
+use Rattle.std.proofs.Common.{◌≡◌, ℕ, ◌≤◌, ap, refl, sym, ◌∙◌, Bool, true, false, cond, List, None, Some, ⊎_elim}
 use Rattle.std.proofs.lemmas.Bool.{cases_lt, false≢true}
 use Rattle.lwc_base.specs.declared.cell.Cell.TheVariants.{Common, Own}
 use Rattle.lwc_base.specs.declared.item.Item.{Item}
 use Rattle.lwc_base.specs.declared.key.Key.{Key}
+use Rattle.lwc_base.specs.declared.key.Key.TheVariants.{Page}
 use Rattle.lwc_base.specs.declared.name.Name.{Name}
 use Rattle.lwc_base.specs.declared.cell.Cell.{Cell}
 use Rattle.lwc_base.specs.declared.item.Mode.{Mode}
-use Rattle.lwc_base.specs.declared.item.Mode.TheVariants.{Copy, Share, Unmap}
+use Rattle.lwc_base.specs.declared.item.Mode.TheVariants.{Copy, CopyRead, Share, Unmap}
 use Rattle.lwc_base.specs.Keys.{ValueOf, is_there}
 use Rattle.lwc_base.specs.Modes.{IsKey, IsSpec, kind_of, limit, mode_or_copy, number_of}
-use Rattle.lwc_base.specs.Sharing.{with_shared, is_moved, needs_group, share}
+use Rattle.lwc_base.specs.Ranges.{has_page, is_page}
+use Rattle.lwc_base.specs.Rights.{read_right, right_at}
+use Rattle.lwc_base.specs.Sharing.{cloned_right, with_shared, is_moved, needs_group, share, shared_cell}
 use Rattle.lwc_base.specs.World.{World, Context, context, is_live, next_group}
 use Rattle.whole_world.proofs.Unnamed.{copied_past}
 use Rattle.lwc_base.proofs.Facts.{changes}
@@ -27,6 +30,7 @@ module _ (w : World) (c : Name) (job : ℕ) (items : List Item) (live : is_live 
       is_moved mode k cell ≡ false
   none_moves none k within Copy cell is cell_is = refl
   none_moves none k within Unmap cell is cell_is = refl
+  none_moves none k within CopyRead cell is cell_is = refl
   none_moves none k within Share (Common g) is cell_is = refl
   none_moves none k within Share (Own value) is cell_is =
       none_there (is_there k value) (λ there. false≢true (sym none ∙ needed-own w c items k value within is cell_is there))
@@ -48,3 +52,28 @@ module _ (w : World) (c : Name) (job : ℕ) (items : List Item) (live : is_live 
   -- whether or not values move, the context is as if they had
   pub context-shared : context (share w c job items) c ≡ with_shared (next_group w job) items here
   context-shared = left_or_not _ refl
+
+  -- its pages keep their rights
+  pub right-shared : (p : ℕ) → right_at (share w c job items) c p ≡ right_at w c p
+  unfolding with_shared
+  right-shared p = ap (λ (x : Context). x.right p) context-shared
+
+  still_page : (g : Name) (p : ℕ) (mode : Mode) (cell : Cell (ValueOf (Page p))) → is_page (shared_cell g mode (Page p) cell) ≡ is_page cell
+  still_page g p Copy cell = refl
+  still_page g p Unmap cell = refl
+  still_page g p CopyRead cell = refl
+  still_page g p Share (Common h) = refl
+  still_page g p Share (Own None) = refl
+  still_page g p Share (Own (Some value)) = refl
+
+  -- and stay where they are
+  has-shared : (p : ℕ) → has_page (context (share w c job items) c) p ≡ has_page here p
+  unfolding with_shared
+  has-shared p = ap (λ (x : Context). has_page x p) context-shared ∙ still_page (next_group w job) p (mode_or_copy items (Page p)) (here.cell (Page p))
+
+  -- so a new context gets the same rights
+  pub cloned_right-shared : (p : ℕ) (mode : Mode) → cloned_right (share w c job items) c p mode ≡ cloned_right w c p mode
+  cloned_right-shared p Copy = right-shared p
+  cloned_right-shared p Share = right-shared p
+  cloned_right-shared p Unmap = refl
+  cloned_right-shared p CopyRead = ap read_right (has-shared p)

@@ -1,6 +1,6 @@
 -- Loads and stores: how they end, what is stored, and what is counted.
-use Rattle.std.proofs.Common.{◌≡◌, ℕ, cond, eqb, suc, ◌+◌, ◌-◌, ◌<◌, List, [], ◌∷◌, ◌++◌, Some, None, refl, sym, ap, ◌∙◌, append_assoc, Bool, true, false, arith, length, map, ◌≤◌}
-use Rattle.std.proofs.lemmas.Bool.{eqb-true, false≢true, lt-ltb, le-ltb}
+use Rattle.std.proofs.Common.{◌≡◌, ℕ, cond, eqb, ◌+◌, ◌-◌, ◌<◌, List, [], ◌∷◌, ◌++◌, refl, sym, ap, ◌∙◌, append_assoc, Bool, true, false, length, ◌≤◌}
+use Rattle.std.proofs.lemmas.Bool.{eqb-true, lt-ltb, le-ltb}
 use Rattle.std.specs.Prelude.{if◌then◌else◌, not, count_by, is_some, nat_lt}
 use Rattle.std.specs.List.{range_with_len, list_all}
 use Rattle.lwc_base.specs.declared.limits.TheConstants.{MOST_PAGES}
@@ -8,14 +8,15 @@ use Rattle.lwc_base.specs.declared.name.Name.{Name}
 use Rattle.lwc_base.specs.declared.page.PageValue.{PageValue}
 use Rattle.lwc_base.specs.Cells.{page_at}
 use Rattle.lwc_base.specs.Frames.{is_parting, used}
-use Rattle.lwc_base.specs.Memory.{byte_at, load, touched, is_present}
+use Rattle.lwc_base.specs.Memory.{touched, is_present}
 use Rattle.lwc_base.specs.Pages.{bytes_of}
-use Rattle.lwc_base.specs.Store.{Piece, Stored, Absent, Full, Done, bytes_after, stored_pages, put_pages, stored_value, page_value_at, parting_count, after_store, store}
+use Rattle.lwc_base.specs.Rights.{is_writable, may_write, right_at}
+use Rattle.lwc_base.specs.Store.{Piece, Stored, Absent, ReadOnly, Full, Done, bytes_after, stored_pages, put_pages, stored_value, page_value_at, parting_count, after_store, store}
 use Rattle.lwc_base.specs.World.{World, Counters, change_counters}
 use Rattle.whole_world.specs.States.{world_of}
 use Rattle.whole_world.specs.Worlds.{seen}
 use Rattle.whole_world.specs.declared.world.WholeWorld.{WholeWorld}
-use Rattle.lwc_base.proofs.Small.{answer-absent, answer-done, answer-full, load_where, none_where, steps_left}
+use Rattle.lwc_base.proofs.Small.{steps_left}
 
 -- a world has few pages
 pub few_pages-seen : (w : WholeWorld) → (seen w).size.pages ≤ MOST_PAGES
@@ -49,28 +50,51 @@ plan_more w c job piece k next p end front parting value old within parts stands
     ∙ (λ i. front ++ ((p, value_is i) ∷ stored_pages w c job piece (next_is i) ps))
     ∙ ap (λ n. front ++ stored_pages w c job piece k (range_with_len p n)) (steps_left p end within)
 
--- a store where a touched page is absent
-pub store-absent : (w : World) (c : Name) (job : ℕ) (piece : Piece) → is_present w c piece.at (length piece.bytes) ≡ false → store w c job piece ≡ Absent
-unfolding store
-store-absent w c job piece absent = answer-absent (is_present w c piece.at (length piece.bytes)) (nat_lt w.size.frames (used w + parting_count w c piece)) (Done (after_store w c job piece)) absent
+module _ (w : World) (c : Name) (job : ℕ) (piece : Piece) where
+  abbrev present : Bool
+  present = is_present w c piece.at (length piece.bytes)
 
--- a store that finds too few frames
-pub store-full : (w : World) (c : Name) (job : ℕ) (piece : Piece) → is_present w c piece.at (length piece.bytes) ≡ true →
-    w.size.frames < used w + parting_count w c piece → store w c job piece ≡ Full
-unfolding store
-store-full w c job piece there short = answer-full (is_present w c piece.at (length piece.bytes)) (nat_lt w.size.frames (used w + parting_count w c piece)) (Done (after_store w c job piece)) there (lt-ltb w.size.frames (used w + parting_count w c piece) short)
+  abbrev writable : Bool
+  writable = is_writable w c piece.at (length piece.bytes)
 
--- a store that is done
-pub store-done : (w : World) (c : Name) (job : ℕ) (piece : Piece) → is_present w c piece.at (length piece.bytes) ≡ true →
-    used w + parting_count w c piece ≤ w.size.frames → store w c job piece ≡ Done (after_store w c job piece)
-unfolding store
-store-done w c job piece there room = answer-done (is_present w c piece.at (length piece.bytes)) (nat_lt w.size.frames (used w + parting_count w c piece)) (Done (after_store w c job piece)) there (le-ltb w.size.frames (used w + parting_count w c piece) room)
+  abbrev short_of : Bool
+  short_of = nat_lt w.size.frames (used w + parting_count w c piece)
+
+  -- how a store ends, by what is tested of it
+  abbrev answer : Bool → Bool → Bool → Stored
+  answer there may short = if not there then Absent else (if not may then ReadOnly else (if short then Full else Done (after_store w c job piece)))
+
+  -- a store where a touched page is absent
+  pub store-absent : present ≡ false → store w c job piece ≡ Absent
+  unfolding store
+  store-absent absent = λ i. answer (absent i) writable short_of
+
+  -- a store where a touched page has the right Read
+  pub store-read_only : present ≡ true → writable ≡ false → store w c job piece ≡ ReadOnly
+  unfolding store
+  store-read_only there kept = λ i. answer (there i) (kept i) short_of
+
+  -- a store that finds too few frames
+  pub store-full : present ≡ true → writable ≡ true → w.size.frames < used w + parting_count w c piece → store w c job piece ≡ Full
+  unfolding store
+  store-full there may short = λ i. answer (there i) (may i) (lt-ltb w.size.frames (used w + parting_count w c piece) short i)
+
+  -- a store that is done
+  pub store-done : present ≡ true → writable ≡ true → used w + parting_count w c piece ≤ w.size.frames → store w c job piece ≡ Done (after_store w c job piece)
+  unfolding store
+  store-done there may room = λ i. answer (there i) (may i) (le-ltb w.size.frames (used w + parting_count w c piece) room i)
 
 -- whether the touched pages are present, told of the list of them
 pub is_present-touched : (w : World) (c : Name) (at count : ℕ) (ps : List ℕ) (b : Bool) → ps ≡ touched at count →
     b ≡ list_all (λ p. is_some (page_at w c p)) ps → is_present w c at count ≡ b
 unfolding is_present
 is_present-touched w c at count ps b touches is = sym (is ∙ ap (list_all (λ p. is_some (page_at w c p))) touches)
+
+-- whether bytes may be stored to all of them, told of the list of them
+pub is_writable-touched : (w : World) (c : Name) (at count : ℕ) (ps : List ℕ) (b : Bool) → ps ≡ touched at count →
+    b ≡ list_all (λ p. may_write (right_at w c p)) ps → is_writable w c at count ≡ b
+unfolding is_writable
+is_writable-touched w c at count ps b touches is = sym (is ∙ ap (list_all (λ p. may_write (right_at w c p))) touches)
 
 -- how many of the touched pages part, told of the list of them
 pub parting_count-touched : (w : World) (c : Name) (piece : Piece) (ps : List ℕ) (n : ℕ) → ps ≡ touched piece.at (length piece.bytes) →

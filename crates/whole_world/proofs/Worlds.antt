@@ -13,6 +13,7 @@ use Rattle.lwc_base.specs.declared.descriptor.TheConstants.{SLOTS}
 use Rattle.lwc_base.specs.declared.key.Key.{Key}
 use Rattle.lwc_base.specs.declared.key.Key.TheVariants.{Page, Slot, Cred}
 use Rattle.lwc_base.specs.declared.name.Name.{Name}
+use Rattle.lwc_base.specs.declared.right.Right.TheVariants.{Write}
 use Rattle.lwc_base.specs.declared.size.WorldSize.{WorldSize}
 use Rattle.lwc_base.specs.Fresh.{IsFresh, IsNamedContext, IsNamedGroup, Rises, named_groups}
 use Rattle.lwc_base.specs.Holders.{InContext}
@@ -33,7 +34,7 @@ use Rattle.whole_world.specs.Tables.{has_name}
 use Rattle.whole_world.specs.States.{counters_of, nothing_counted, world_of}
 use Rattle.whole_world.specs.Worlds.{seen}
 use Rattle.whole_world.proofs.Places.{place_after_set}
-use Rattle.whole_world.proofs.Rows.{cell-past}
+use Rattle.whole_world.proofs.Rows.{cell-past, right-past}
 use Rattle.whole_world.proofs.Tables.{found-at, found-holds, map-get, map-keys, map-len, map-put, map-values, nothing-at, put-at, put-holds, put-sorted}
 use Rattle.lwc_base.proofs.Facts.{orders, stays_fresh}
 
@@ -117,6 +118,15 @@ module _ (size : WorldSize) (contexts : List (Name × ContextRow)) (groups : Lis
   -- nothing is past the keys that there are
   pub live_key-past : (c : Name) (k : Key) → is_live now c ≡ true → limit size.pages (kind_of k) ≤ number_of k → (context now c).cell k ≡ Own (nothing k)
   live_key-past c k = key_past c k _ refl
+
+  right_past : (c : Name) (p : ℕ) (found : Option ContextRow) → fm.find name_cmp c contexts ≡ found → is_live now c ≡ true → size.pages ≤ p → (context now c).right p ≡ Write
+  right_past c p None none live past = absurd (false≢true (sym (dead-missed c none) ∙ live))
+  right_past c p (Some row) is live past =
+      ap (λ (x : Context). x.right p) (context-found c row is) ∙ right-past row size.pages p (whole-found c row is) past
+
+  -- and the rights past the pages that there are are those of new ones
+  pub live_right-past : (c : Name) (p : ℕ) → is_live now c ≡ true → size.pages ≤ p → (context now c).right p ≡ Write
+  live_right-past c p = right_past c p _ refl
 
   -- there are as many contexts as rows, and as many groups
   pub len-contexts : fm.len now.contexts ≡ length contexts
@@ -336,7 +346,7 @@ fresh-seen w = w.sound.fresh
 
 -- a row with as many pages and slots is as whole
 pub still_whole : (count : ℕ) (old new : ContextRow) → IsWhole count old → HasSizeOf old new → IsWhole count new
-still_whole count old new whole size = record { pages = size.pages ∙ whole.pages; slots = size.slots ∙ whole.slots }
+still_whole count old new whole size = record { pages = size.pages ∙ whole.pages; rights = size.rights ∙ whole.rights; slots = size.slots ∙ whole.slots }
 
 pub still_whole_group : (count : ℕ) (old new : GroupRow) → IsWholeGroup count old → HasGroupSizeOf old new → IsWholeGroup count new
 still_whole_group count old new whole size = record { pages = size.pages ∙ whole.pages; slots = size.slots ∙ whole.slots }

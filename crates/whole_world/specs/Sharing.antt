@@ -8,9 +8,10 @@ use Rattle.lwc_base.specs.declared.key.Key.TheVariants as key
 use Rattle.lwc_base.specs.declared.key.Kind.{Kind}
 use Rattle.lwc_base.specs.declared.key.Kind.TheVariants as kind
 use Rattle.lwc_base.specs.declared.name.Name.{Name}
+use Rattle.lwc_base.specs.declared.right.Right.{Right}
 use Rattle.lwc_base.specs.Keys.{ValueOf}
 use Rattle.lwc_base.specs.Modes.{kind_of, mode, mode_or_copy, number_of, same_kind}
-use Rattle.lwc_base.specs.Sharing.{cloned_cell, is_moved, moved_value, share, shared_cell}
+use Rattle.lwc_base.specs.Sharing.{cloned_cell, cloned_right, is_moved, moved_value, share, shared_cell}
 use Rattle.lwc_base.specs.World.{World, Context, Group}
 
 -- the key of a kind that has a number
@@ -31,6 +32,22 @@ with_cells done cells x = record x { cell = λ k. if done k then cells k else x.
 -- none does
 abbrev pub clone_cells : World → Name → ℕ → List Item → Mode → (k : Key) → Cell (ValueOf k)
 clone_cells w c job items rest k = cloned_cell (share w c job items) c k (unwrap_or (mode items k) rest)
+
+-- the rights that it gets, by the same rule
+abbrev pub clone_rights : World → Name → ℕ → List Item → Mode → ℕ → Right
+clone_rights w c job items rest p =
+    cloned_right (share w c job items) c p (unwrap_or (mode items (key.Page p)) rest)
+
+-- the context with other rights of the pages below a number
+abbrev pub with_rights : ℕ → (ℕ → Right) → Context → Context
+with_rights n rights x = record x { right = λ p. if nat_lt p n then rights p else x.right p }
+
+-- the context with the cells of another one under the keys that pass a test, and the rights of these pages
+abbrev pub with_taken : (Key → Bool) → Context → Context → Context
+with_taken test y x = record x {
+  cell = λ k. if test k then y.cell k else x.cell k;
+  right = λ p. if test (key.Page p) then y.right p else x.right p;
+}
 
 -- a context that has given a group what moves under the keys that pass a test
 abbrev pub gave : (Key → Bool) → Name → List Item → Context → Context

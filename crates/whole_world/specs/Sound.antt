@@ -20,9 +20,10 @@ use Rattle.whole_world.specs.declared.counts.Counts.{Counts}
 use Rattle.whole_world.specs.declared.group_row.GroupRow.{GroupRow}
 use Rattle.whole_world.specs.States.{world_of}
 
--- a row of a context has this number of pages, and all slots
+-- a row of a context has this number of pages, each with a right, and all slots
 pub record IsWhole (count : ℕ) (row : ContextRow) : Type 0 where
   pub pages : vec_len row.pages ≡ count
+  pub rights : vec_len row.rights ≡ count
   pub slots : vec_len row.slots ≡ SLOTS
 
 -- a row of a group has this number of pages, and all slots
@@ -41,9 +42,10 @@ abbrev pub HasSlot : ℕ → Key → Type 0
 HasSlot slots (Slot n) = n < slots
 HasSlot slots k = ⊤
 
--- a row of a context has as many pages and slots as it had
+-- a row of a context has as many pages, rights and slots as it had
 pub record HasSizeOf (old new : ContextRow) : Type 0 where
   pub pages : vec_len new.pages ≡ vec_len old.pages
+  pub rights : vec_len new.rights ≡ vec_len old.rights
   pub slots : vec_len new.slots ≡ vec_len old.slots
 
 -- a row of a group has as many

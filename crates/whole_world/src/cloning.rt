@@ -11,7 +11,9 @@ use crate::context_row::ContextRow;
 use crate::holder::Holder;
 use crate::key_value::KeyValue;
 use crate::world::WholeWorld;
-use lwc_base::{Key, Mode, NOBODY, Name, OutOfMemory, PageBytes, PageValue, Regs, SLOTS, Spec};
+use lwc_base::{
+    Key, Mode, NOBODY, Name, OutOfMemory, PageBytes, PageValue, Regs, Right, SLOTS, Spec,
+};
 use res_spec::mode_of;
 use std::alloc::Global;
 
@@ -37,9 +39,13 @@ fn mode_or(spec: &Spec, key: Key, rest: Mode) -> Mode
 
 impl WholeWorld {
     ghost use Rattle.lwc_base.specs.declared.key.TheConstants.{NOBODY};
-    ghost use Rattle.lwc_base.specs.World.{is_live, new_context};
+    ghost use Rattle.lwc_base.specs.declared.key.Key.TheVariants.{Page};
+    ghost use Rattle.lwc_base.specs.Ranges.{has_page};
+    ghost use Rattle.lwc_base.specs.Rights.{read_right};
+    ghost use Rattle.lwc_base.specs.Sharing.{cloned_right};
+    ghost use Rattle.lwc_base.specs.World.{context, is_live, new_context};
     ghost use Rattle.whole_world.specs.Rows.{context_of};
-    ghost use Rattle.whole_world.specs.Sharing.{clone_cells, is_below, with_cells};
+    ghost use Rattle.whole_world.specs.Sharing.{clone_cells, clone_rights, is_below, with_cells, with_rights};
     ghost use Rattle.whole_world.specs.Sound.{HasSizeOf, HasSlot, IsWhole};
     ghost use Rattle.whole_world.specs.Worlds.{seen};
 
@@ -61,13 +67,54 @@ impl WholeWorld {
         ensures context { IfOk result (λ row. context_of row
             ≡ record (new_context NOBODY entry.now) {
               cell = clone_cells (seen self.now) c job spec.now rest;
+              right = clone_rights (seen self.now) c job spec.now rest;
             }) }
     {
         let mut row = ContextRow::new(self.alloc, self.page_count(), NOBODY, entry)?;
         self.clone_pages(c, spec, job, rest, &mut row)?;
         self.clone_slots(c, spec, job, rest, &mut row)?;
         self.clone_key(c, spec, job, rest, Key::Cred, &mut row)?;
+        self.clone_rights(c, spec, rest, &mut row);
         Ok(row)
+    }
+
+    /// Gives each page of the new context its right.
+    fn clone_rights(&self, c: Name, spec: &Spec, rest: Mode, row: &mut ContextRow)
+        requires live { IsTrue (is_live (seen self.now) c) }
+        requires whole { IsWhole (seen self.now).size.pages row.old }
+        ensures whole { IsWhole (seen self.now).size.pages row.new }
+        ensures context { context_of row.new ≡ with_rights (seen self.now).size.pages
+            (λ p. cloned_right (seen self.now) c p (unwrap_or (mode spec.now (Page p)) rest))
+            (context_of row.old) }
+    {
+        for p in 0..self.page_count() {
+            let mode = mode_or(spec, Key::Page(p), rest);
+            row.set_right(p, self.cloned_right(c, p, mode));
+        }
+    }
+
+    /// The right that a page of a new context gets by its mode.
+    pub(crate) fn cloned_right(&self, c: Name, p: u16, mode: Mode) -> Right
+        requires { IsTrue (is_live (seen self.now) c) }
+        ensures { result ≡ cloned_right (seen self.now) c p mode }
+    {
+        match mode {
+            Mode::Copy | Mode::Share => self.right(c, p),
+            Mode::Unmap => Right::Write,
+            Mode::CopyRead => self.read_right(c, p),
+        }
+    }
+
+    /// The right of a page that is copied to be read alone: Read where it is present.
+    fn read_right(&self, c: Name, p: u16) -> Right
+        requires { IsTrue (is_live (seen self.now) c) }
+        ensures { result ≡ read_right (has_page (context (seen self.now) c) p) }
+    {
+        if self.row(c).has_page(p) {
+            Right::Read
+        } else {
+            Right::Write
+        }
     }
 
     /// Gives each page of the new context its cell. The only error is out of memory.
@@ -140,7 +187,7 @@ impl WholeWorld {
             (clone_cells (seen self.now) c job spec.now rest key) (context_of row.old)) }
     {
         match mode_or(spec, key, rest) {
-            Mode::Copy => row.put(self.copied_value(c, key)?),
+            Mode::Copy | Mode::CopyRead => row.put(self.copied_value(c, key)?),
             Mode::Share => match self.row(c).holder(key) {
                 Holder::Own => row.join(key, self.next_group(job)),
                 Holder::Group(g) => row.join(key, g),

@@ -9,24 +9,27 @@ ghost use Rattle.lwc_base.specs.declared.page.PageValue.TheVariants.{Zero};
 ghost use Rattle.lwc_base.specs.Cells.{with_cell};
 ghost use Rattle.lwc_base.specs.declared.limits.TheConstants.{MOST_THREADS};
 ghost use Rattle.lwc_base.specs.Saved.{with_saved};
+ghost use Rattle.lwc_base.specs.declared.right.Right.TheVariants.{Write};
+ghost use Rattle.lwc_base.specs.Ranges.{has_page};
 ghost use Rattle.lwc_base.specs.Sharing.{has_own, is_moved};
 ghost use Rattle.lwc_base.specs.World.{new_context};
 ghost use Rattle.whole_world.specs.Holders.{holder, holder_of};
 ghost use Rattle.whole_world.specs.declared.holder.Holder.TheVariants as holders;
 ghost use Rattle.whole_world.specs.KeyValues.{key_in, value_in};
-ghost use Rattle.whole_world.specs.Rows.{context_of, with_pages};
+ghost use Rattle.whole_world.specs.Rows.{context_of, with_pages, with_right};
 ghost use Rattle.whole_world.specs.Sound.{HasKey, HasSlot, HasSizeOf, IsWhole};
 
 use crate::holder::Holder;
 use crate::key_value::KeyValue;
-use lwc_base::{Cell, Descriptor, Key, Mode, Name, OutOfMemory, PageValue, Regs, SLOTS};
+use lwc_base::{Cell, Descriptor, Key, Mode, Name, OutOfMemory, PageValue, Regs, Right, SLOTS};
 use std::alloc::Global;
 
-/// What a context has: under each key its cell, the registers that it begins with, and those that it keeps
-/// for each thread.
+/// What a context has: under each key its cell, the right of each page, the registers that it begins with,
+/// and those that it keeps for each thread.
 #[derive(Drop)]
 pub struct ContextRow {
     pub pages: Vec<Cell<Option<PageValue>>>,
+    pub rights: Vec<Right>,
     pub slots: Vec<Cell<Descriptor>>,
     pub uid: Cell<u32>,
     pub entry: Regs,
@@ -42,6 +45,7 @@ impl ContextRow {
     {
         Ok(ContextRow {
             pages: absent_pages(alloc, pages)?,
+            rights: writable_pages(alloc, pages)?,
             slots: empty_slots(alloc)?,
             uid: Cell::Own(uid),
             entry: *entry,
@@ -59,6 +63,30 @@ impl ContextRow {
             Some(&self.pages[p])
         } else {
             None
+        }
+    }
+
+    /// The right of a page; Write past the last page.
+    #[tactic(auto, unfolding(crate::specs::Rows::context_of))]
+    pub fn right(&self, p: u16) -> Right
+        ensures { result ≡ (context_of self.now).right p }
+    {
+        let p = p as usize;
+        if p < self.rights.len() {
+            self.rights[p]
+        } else {
+            Right::Write
+        }
+    }
+
+    /// Whether there is a page.
+    pub fn has_page(&self, p: u16) -> bool
+        ensures { result ≡ has_page (context_of self.now) p }
+    {
+        match self.page(p) {
+            Some(Cell::Own(value)) => value.is_some(),
+            Some(Cell::Common(_)) => true,
+            None => false,
         }
     }
 
@@ -109,7 +137,7 @@ impl ContextRow {
     {
         match mode {
             Mode::Share => self.holder(key).is_own(),
-            Mode::Copy | Mode::Unmap => false,
+            Mode::Copy | Mode::Unmap | Mode::CopyRead => false,
         }
     }
 
@@ -174,16 +202,27 @@ impl ContextRow {
         self.saved[t as usize] = Some(*regs);
     }
 
-    /// Makes each page of a range present, as zeros of the context's own, or absent.
+    /// Makes each page of a range present, as zeros of the context's own, or absent, with the right Write.
     pub fn set_pages(&mut self, from: u16, to: u16, present: bool)
         requires order { from ≤ to }
         requires pages { to ≤ vec_len self.old.pages }
+        requires rights { to ≤ vec_len self.old.rights }
         ensures size { HasSizeOf self.old self.new }
         ensures context { context_of self.new ≡ with_pages from to present (context_of self.old) }
     {
         for p in from..to {
             self.put(KeyValue::Page(p, zeros_if(present)));
+            self.set_right(p, Right::Write);
         }
+    }
+
+    /// Gives a page another right.
+    pub fn set_right(&mut self, p: u16, right: Right)
+        requires { p < vec_len self.old.rights }
+        ensures size { HasSizeOf self.old self.new }
+        ensures context { context_of self.new ≡ with_right p right (context_of self.old) }
+    {
+        self.rights[p as usize] = right;
     }
 }
 
@@ -226,6 +265,18 @@ fn absent_pages(alloc: Global, count: u16) -> Result<Vec<Cell<Option<PageValue>>
         pages.push(Cell::Own(None))?;
     }
     Ok(pages)
+}
+
+/// The rights of pages to all of which bytes may be stored. The only error is out of memory.
+fn writable_pages(alloc: Global, count: u16) -> Result<Vec<Right>, OutOfMemory>
+    ensures writable { IfOk result (λ rights. rights.items ≡ replicate count Write) }
+    ensures many { IfOk result (λ rights. vec_len rights ≡ count) }
+{
+    let mut rights = Vec::with_capacity(alloc, count as usize)?;
+    for _ in 0..count {
+        rights.push(Right::Write)?;
+    }
+    Ok(rights)
 }
 
 /// The cells of empty slots. The only error is out of memory.

@@ -1,8 +1,8 @@
 ghost use Rattle.std.specs.Prelude.{◌≡◌};
-ghost use Rattle.whole_world.specs.Holders.{same_holder};
+ghost use Rattle.whole_world.specs.Holders.{is_somebody, same_holder};
 ghost use Rattle.whole_world.specs.declared.holder.Holder.TheVariants.{Own};
 
-use lwc_base::Name;
+use lwc_base::{Name, Right};
 
 /// Who has the value under a key.
 #[derive(Clone, Copy, Debug, PartialEq, Eq)]
@@ -24,4 +24,18 @@ impl Holder {
     {
         matches!(self, Holder::Own)
     }
+
+    /// Whether anybody has it.
+    pub fn is_somebody(self) -> bool
+        ensures { result ≡ is_somebody self }
+    {
+        !matches!(self, Holder::Nobody)
+    }
+}
+
+/// Who has the value of a page of a context, and the right of the page.
+#[derive(Clone, Copy, Debug, PartialEq, Eq)]
+pub struct Side {
+    pub holder: Holder,
+    pub right: Right,
 }

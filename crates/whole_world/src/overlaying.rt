@@ -1,15 +1,14 @@
 ghost use Rattle.std.specs.Prelude.{◌≡◌, if◌then◌else◌, ◌<◌, ◌≤◌, ℕ, IsTrue, slice_index_or, vec_len};
-ghost use Rattle.lwc_base.specs.declared.cell.Cell.{Cell};
 ghost use Rattle.lwc_base.specs.declared.limits.TheConstants.{MOST_PAGES};
 ghost use Rattle.lwc_base.specs.Capabilities.{is_named};
 ghost use Rattle.lwc_base.specs.Modes.{limit};
 ghost use Rattle.whole_world.specs.Rows.{context_of};
-ghost use Rattle.whole_world.specs.Sharing.{key_of, with_cells};
+ghost use Rattle.whole_world.specs.Sharing.{key_of, with_taken};
 ghost use Rattle.whole_world.specs.Sound.{HasSizeOf, IsWhole};
 
 use crate::context_row::ContextRow;
 use crate::world::WholeWorld;
-use lwc_base::{Cell, Key, Kind, Name, Spec};
+use lwc_base::{Key, Kind, Name, Spec};
 use res_spec::mode_of;
 
 /// The key of a kind that has a number.
@@ -24,14 +23,14 @@ fn key_of(kind: Kind, n: usize) -> Key
     }
 }
 
-/// Takes the cells of the keys of a kind that a spec names, out of as many other cells.
-fn take_cells<T>(mine: &mut Vec<Cell<T>>, mut theirs: Vec<Cell<T>>, kind: Kind, spec: &Spec)
+/// Takes what there is for the keys of a kind that a spec names, out of as much else.
+fn take_cells<T>(mine: &mut Vec<T>, mut theirs: Vec<T>, kind: Kind, spec: &Spec)
 where
     T: Drop,
     requires many { vec_len mine.old ≡ vec_len theirs }
     requires few { vec_len mine.old ≤ limit MOST_PAGES kind }
     ensures many { vec_len mine.new ≡ vec_len mine.old }
-    ensures cells { (n : ℕ) (d : Cell T) → slice_index_or mine.new.items n d
+    ensures cells { (n : ℕ) (d : T) → slice_index_or mine.new.items n d
         ≡ (if is_named spec.now (key_of kind n) then slice_index_or theirs.items n d
         else slice_index_or mine.old.items n d) }
 {
@@ -43,16 +42,17 @@ where
 }
 
 impl ContextRow {
-    /// Takes the cells of the keys that a spec names out of another row.
+    /// Takes the cells of the keys that a spec names, and the rights of its pages, out of another row.
     pub fn take_named(&mut self, pages: u16, spec: &Spec, other: ContextRow)
         requires pages { pages ≤ MOST_PAGES }
         requires whole { IsWhole pages self.old }
         requires other { IsWhole pages other }
         ensures size { HasSizeOf self.old self.new }
         ensures context { context_of self.new
-            ≡ with_cells (is_named spec.now) (context_of other).cell (context_of self.old) }
+            ≡ with_taken (is_named spec.now) (context_of other) (context_of self.old) }
     {
         take_cells(&mut self.pages, other.pages, Kind::Page, spec);
+        take_cells(&mut self.rights, other.rights, Kind::Page, spec);
         take_cells(&mut self.slots, other.slots, Kind::Slot, spec);
         if mode_of(spec, Key::Cred).is_some() {
             self.uid = other.uid;
@@ -66,13 +66,13 @@ impl WholeWorld {
     ghost use Rattle.lwc_base.specs.World.{change_context, is_live};
     ghost use Rattle.whole_world.specs.Worlds.{seen};
 
-    /// A context takes the cells of the keys that a spec names out of a row.
+    /// A context takes the cells of the keys that a spec names, and the rights of its pages, out of a row.
     pub(crate) fn take_over(&mut self, c: Name, spec: &Spec, row: ContextRow)
         requires live { IsTrue (is_live (seen self.old) c) }
         requires whole { IsWhole (seen self.old).size.pages row }
         requires old_groups { InContext (named_groups (seen self.old).next) c.job (context_of row) }
         ensures { seen self.new ≡ change_context (seen self.old) c
-            (with_cells (is_named spec.now) (context_of row).cell) }
+            (with_taken (is_named spec.now) (context_of row)) }
     {
         let pages = self.page_count();
         match self.contexts.position(c) {

@@ -1,11 +1,11 @@
 ghost use Rattle.std.specs.Prelude.{◌≡◌, if◌then◌else◌, ℕ, ◌<◌, ◌≤◌, IsTrue};
-ghost use Rattle.whole_world.specs.Holders.{begins_after, count_of_ranges, moved_holder};
-ghost use Rattle.whole_world.specs.declared.holder.Holder as holders;
+ghost use Rattle.whole_world.specs.Holders.{begins_after, begins_here, count_of_ranges, moved_holder};
+ghost use Rattle.whole_world.specs.declared.holder.Side as sides;
 ghost use Rattle.whole_world.specs.declared.holder.Holder.TheVariants.{Nobody, Own};
 
-use crate::holder::Holder;
+use crate::holder::{Holder, Side};
 use crate::world::WholeWorld;
-use lwc_base::{Key, Mode, Name, Range, Spec};
+use lwc_base::{Key, Mode, Name, Range, Right, Spec};
 use res_spec::{mode_of, mode_or_copy};
 
 /// Who has a value once a clone has moved the context's own values of mode share.
@@ -14,7 +14,7 @@ fn moved_holder(mode: Mode, holder: Holder) -> Holder
 {
     match (mode, holder) {
         (Mode::Share, Holder::Own) => Holder::NewGroup,
-        (_, other) => other,
+        (Mode::Copy | Mode::Share | Mode::Unmap | Mode::CopyRead, other) => other,
     }
 }
 
@@ -25,20 +25,31 @@ fn own_if(present: bool) -> Holder
     if present { Holder::Own } else { Holder::Nobody }
 }
 
-/// The number of ranges of this number of pages, by who has the value of each.
-fn count_ranges<F: Fn(u16) -> Holder>(pages: u16, holder: F) -> u32
-    requires { F.IsAlwaysCallable holder }
-    ensures { (each : ℕ → holders.Holder) → ((p : ℕ) (h : holders.Holder)
-        → p < pages → F.post holder p h → h ≡ each p) → result ≡ count_of_ranges pages each }
+/// The number of ranges of this number of pages, by who has the value of each, and its right.
+fn count_ranges<F: Fn(u16) -> Side>(pages: u16, side: F) -> u32
+    requires { F.IsAlwaysCallable side }
+    ensures { (each : ℕ → sides.Side) → ((p : ℕ) (s : sides.Side)
+        → p < pages → F.post side p s → s ≡ each p) → result ≡ count_of_ranges pages each }
 {
-    let mut before = Holder::Nobody;
+    let mut before = Side {
+        holder: Holder::Nobody,
+        right: Right::Write,
+    };
     let mut count = 0;
     for p in 0..pages {
-        let here = holder(p);
-        count += u32::from(begins_after(before, here));
+        let here = side(p);
+        count += u32::from(begins_here(before, here));
         before = here;
     }
     count
+}
+
+/// Whether a range begins at a page, after another one.
+fn begins_here(before: Side, here: Side) -> bool
+    ensures { result ≡ begins_here before here }
+{
+    begins_after(before.holder, here.holder)
+        || (here.holder.is_somebody() && before.right != here.right)
 }
 
 /// Whether a range begins at a page of one holder, after a page of another.
@@ -49,14 +60,18 @@ fn begins_after(before: Holder, here: Holder) -> bool
 }
 
 impl WholeWorld {
-    ghost use Rattle.lwc_base.specs.Mapping.{mapped_or_not};
-    ghost use Rattle.lwc_base.specs.Modes.{IsSpec};
-    ghost use Rattle.lwc_base.specs.Overlay.{ranges_after_overlay};
+    ghost use Rattle.lwc_base.specs.declared.key.Key.TheVariants.{Page};
+    ghost use Rattle.lwc_base.specs.Mapping.{mapped_or_not, writable_in};
+    ghost use Rattle.lwc_base.specs.Modes.{IsSpec, mode};
+    ghost use Rattle.lwc_base.specs.Overlay.{overlaid_right, ranges_after_overlay};
     ghost use Rattle.lwc_base.specs.Ranges.{ranges_of};
+    ghost use Rattle.lwc_base.specs.Rights.{right_at};
     ghost use Rattle.lwc_base.specs.Sharing.{ranges_after_clone};
-    ghost use Rattle.lwc_base.specs.World.{is_live};
+    ghost use Rattle.lwc_base.specs.World.{context, is_live};
     ghost use Rattle.whole_world.specs.Holders.{holder_after_clone, holder_after_map, holder_after_overlay};
     ghost use Rattle.whole_world.specs.Holders.{holder_in_clone, page_holder};
+    ghost use Rattle.whole_world.specs.Holders.{side_after_clone, side_after_map, side_after_overlay};
+    ghost use Rattle.whole_world.specs.Holders.{side_in_clone};
     ghost use Rattle.whole_world.specs.Worlds.{seen};
 
     /// The numbers of ranges that the context and the new one would have after a clone, in this order.
@@ -67,8 +82,8 @@ impl WholeWorld {
     {
         let pages = self.page_count();
         (
-            count_ranges(pages, |p| self.holder_after_clone(c, spec, p)),
-            count_ranges(pages, |p| self.holder_in_clone(c, spec, p)),
+            count_ranges(pages, |p| self.side_after_clone(c, spec, p)),
+            count_ranges(pages, |p| self.side_in_clone(c, spec, p)),
         )
     }
 
@@ -80,11 +95,11 @@ impl WholeWorld {
         ensures { (job : ℕ) → result ≡ ranges_after_overlay (seen self.now) to from job spec.now }
     {
         let pages = self.page_count();
-        let taken = count_ranges(pages, |p| self.holder_after_overlay(to, from, spec, p));
+        let taken = count_ranges(pages, |p| self.side_after_overlay(to, from, spec, p));
         if to == from {
             return (taken, taken);
         }
-        let left = count_ranges(pages, |p| self.holder_after_clone(from, spec, p));
+        let left = count_ranges(pages, |p| self.side_after_clone(from, spec, p));
         (left, taken)
     }
 
@@ -94,7 +109,7 @@ impl WholeWorld {
         ensures { result ≡ ranges_of (mapped_or_not (seen self.now) c range.from range.to present) c }
     {
         count_ranges(self.page_count(), |p| {
-            self.holder_after_map(c, range, present, p)
+            self.side_after_map(c, range, present, p)
         })
     }
 
@@ -124,7 +139,7 @@ impl WholeWorld {
         ensures { result ≡ holder_in_clone (seen self.now) c spec.now p }
     {
         match mode_or_copy(spec, Key::Page(p)) {
-            Mode::Copy => own_if(self.is_present(c, p)),
+            Mode::Copy | Mode::CopyRead => own_if(self.is_present(c, p)),
             Mode::Share => moved_holder(Mode::Share, self.page_holder(c, p)),
             Mode::Unmap => Holder::Nobody,
         }
@@ -138,7 +153,7 @@ impl WholeWorld {
         ensures { result ≡ holder_after_overlay (seen self.now) to from spec.now p }
     {
         match mode_of(spec, Key::Page(p)) {
-            Some(Mode::Copy) => own_if(self.is_present(from, p)),
+            Some(Mode::Copy | Mode::CopyRead) => own_if(self.is_present(from, p)),
             Some(Mode::Share) => moved_holder(Mode::Share, self.page_holder(from, p)),
             Some(Mode::Unmap) => Holder::Nobody,
             None => self.page_holder(to, p),
@@ -155,6 +170,79 @@ impl WholeWorld {
             own_if(present)
         } else {
             self.page_holder(c, p)
+        }
+    }
+    /// A page of the context after it has been cloned.
+    #[tactic(auto, unfolding(crate::specs::Holders::side_after_clone))]
+    fn side_after_clone(&self, c: Name, spec: &Spec, p: u16) -> Side
+        requires { IsTrue (is_live (seen self.now) c) }
+        ensures { result ≡ side_after_clone (seen self.now) c spec.now p }
+    {
+        Side {
+            holder: self.holder_after_clone(c, spec, p),
+            right: self.right(c, p),
+        }
+    }
+
+    /// A page of the clone.
+    #[tactic(auto, unfolding(crate::specs::Holders::side_in_clone))]
+    fn side_in_clone(&self, c: Name, spec: &Spec, p: u16) -> Side
+        requires { IsTrue (is_live (seen self.now) c) }
+        ensures { result ≡ side_in_clone (seen self.now) c spec.now p }
+    {
+        Side {
+            holder: self.holder_in_clone(c, spec, p),
+            right: self.cloned_right(c, p, mode_or_copy(spec, Key::Page(p))),
+        }
+    }
+
+    /// A page of the context `to` once it has taken over from the context `from`.
+    #[tactic(auto, unfolding(crate::specs::Holders::side_after_overlay))]
+    fn side_after_overlay(&self, to: Name, from: Name, spec: &Spec, p: u16) -> Side
+        requires to { IsTrue (is_live (seen self.now) to) }
+        requires from { IsTrue (is_live (seen self.now) from) }
+        ensures { result ≡ side_after_overlay (seen self.now) to from spec.now p }
+    {
+        Side {
+            holder: self.holder_after_overlay(to, from, spec, p),
+            right: self.overlaid_right(to, from, spec, p),
+        }
+    }
+
+    /// The right of a page of the context `to` once it has taken over from the context `from`.
+    fn overlaid_right(&self, to: Name, from: Name, spec: &Spec, p: u16) -> Right
+        requires to { IsTrue (is_live (seen self.now) to) }
+        requires from { IsTrue (is_live (seen self.now) from) }
+        ensures { result ≡ overlaid_right (seen self.now) from p (mode spec.now (Page p))
+            (right_at (seen self.now) to p) }
+    {
+        match mode_of(spec, Key::Page(p)) {
+            Some(mode) => self.cloned_right(from, p, mode),
+            None => self.right(to, p),
+        }
+    }
+
+    /// A page of the context after the pages of a range are made present or absent.
+    #[tactic(auto, unfolding(crate::specs::Holders::side_after_map))]
+    fn side_after_map(&self, c: Name, range: Range, present: bool, p: u16) -> Side
+        requires { IsTrue (is_live (seen self.now) c) }
+        ensures { result ≡ side_after_map (seen self.now) c range.from range.to present p }
+    {
+        Side {
+            holder: self.holder_after_map(c, range, present, p),
+            right: self.right_after_map(c, range, p),
+        }
+    }
+
+    /// The right of a page of the context after the pages of a range are made present or absent.
+    fn right_after_map(&self, c: Name, range: Range, p: u16) -> Right
+        requires { IsTrue (is_live (seen self.now) c) }
+        ensures { result ≡ writable_in range.from range.to (context (seen self.now) c).right p }
+    {
+        if range.from <= p && p < range.to {
+            Right::Write
+        } else {
+            self.right(c, p)
         }
     }
 }

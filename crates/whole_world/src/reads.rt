@@ -8,12 +8,13 @@ use crate::context_row::ContextRow;
 use crate::group_row::GroupRow;
 use crate::touched::Touched;
 use crate::world::WholeWorld;
-use lwc_base::{Cell, Descriptor, NOBODY, Name, PAGE_BYTES, PageValue, SLOTS};
+use lwc_base::{Cell, Descriptor, NOBODY, Name, PAGE_BYTES, PageValue, Right, SLOTS};
 
 impl WholeWorld {
     ghost use Rattle.std.specs.List.{list_all, range_with_len};
     ghost use Rattle.lwc_base.specs.Cells.{page_at, slot_at, uid_at};
     ghost use Rattle.lwc_base.specs.Memory.{byte_at};
+    ghost use Rattle.lwc_base.specs.Rights.{may_write, right_at};
     ghost use Rattle.lwc_base.specs.Summaries.{is_empty};
     ghost use Rattle.lwc_base.specs.World.{context, group, is_live, new_group};
     ghost use Rattle.whole_world.specs.Rows.{context_of, group_of};
@@ -133,6 +134,31 @@ impl WholeWorld {
             (range_with_len pages.first (pages.end - pages.first)) }
     {
         (pages.first..pages.end).all(|p| self.is_present(c, p))
+    }
+
+    /// The right of a page.
+    pub(crate) fn right(&self, c: Name, p: u16) -> Right
+        requires { IsTrue (is_live (seen self.now) c) }
+        ensures { result ≡ right_at (seen self.now) c p }
+    {
+        self.row(c).right(p)
+    }
+
+    /// Whether bytes may be stored to a page.
+    fn may_write(&self, c: Name, p: u16) -> bool
+        requires { IsTrue (is_live (seen self.now) c) }
+        ensures { result ≡ may_write (right_at (seen self.now) c p) }
+    {
+        matches!(self.right(c, p), Right::Write)
+    }
+
+    /// Whether bytes may be stored to all of some pages.
+    pub(crate) fn are_writable(&self, c: Name, pages: Touched) -> bool
+        requires { IsTrue (is_live (seen self.now) c) }
+        ensures { result ≡ list_all (λ p. may_write (right_at (seen self.now) c p))
+            (range_with_len pages.first (pages.end - pages.first)) }
+    {
+        (pages.first..pages.end).all(|p| self.may_write(c, p))
     }
 
     /// Whether a slot of a context is empty.

@@ -79,6 +79,9 @@ impl World for WholeWorld {
         if !self.are_present(c, pages) {
             return Err(StoreFault::BadAddress);
         }
+        if !self.are_writable(c, pages) {
+            return Err(StoreFault::ReadOnly);
+        }
         let parting = self.parting_count(c, pages);
         if (self.size.frames as usize) < self.used() as usize + parting {
             return Err(StoreFault::NoFrame);

@@ -72,7 +72,7 @@ impl WholeWorld {
         }
     }
 
-    /// Makes each page of a range present, as zeros of the context's own, or absent.
+    /// Makes each page of a range present, as zeros of the context's own, or absent, with the right Write.
     pub(crate) fn set_pages(&mut self, c: Name, range: Range, present: bool)
         requires order { range.from ≤ range.to }
         requires pages { range.to ≤ (seen self.old).size.pages }

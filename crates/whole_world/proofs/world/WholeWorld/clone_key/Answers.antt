@@ -20,8 +20,8 @@ returns-in_ok-copied_value-in-Copy-clause-context c =
     c.put.ensures.context
     ∙ put-cell (context_of c.args.row.now) c.in_ok-copied_value-in-Copy.field-0 c.args.key (clone_cells (seen c.args.self.now) c.args.c c.args.job c.args.spec.now c.args.rest) c.in_ok-copied_value-in-Copy.ensures.key
     (ap Own c.in_ok-copied_value-in-Copy.ensures.value
-    ∙ key_copied (seen c.args.self.now) c.args.c c.args.job c.args.spec.now (fresh-seen c.args.self.now) c.requires.live c.requires.within c.args.rest c.requires.rest _
-    (ap (λ k. unwrap_or (mode c.args.spec.now k) c.args.rest) c.in_ok-copied_value-in-Copy.ensures.key ∙ sym c.mode_or.ensures ∙ c.in-Copy.is))
+    ∙ key_copied (seen c.args.self.now) c.args.c c.args.job c.args.spec.now (fresh-seen c.args.self.now) c.requires.live c.requires.within c.args.rest c.requires.rest _ _
+    (ap (λ k. unwrap_or (mode c.args.spec.now k) c.args.rest) c.in_ok-copied_value-in-Copy.ensures.key ∙ sym c.mode_or.ensures) c.in-Copy.is)
 
 pub returns-in-Own-clause-context : goal.returns-in-Own-clause-context
 returns-in-Own-clause-context c =

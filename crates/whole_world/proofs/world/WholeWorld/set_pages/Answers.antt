@@ -11,6 +11,12 @@ set_pages-requires-clause-pages c =
     let whole = whole-at _ _ _ _ c.args.self.now.sound c.args.c c.in-Some.i _ (sym c.position.ensures ∙ c.in-Some.is) c.index_mut.ensures.value in
     omega (arith, whole.pages, c.requires.pages)
 
+pub set_pages-requires-clause-rights : goal.set_pages-requires-clause-rights
+unfolding seen world_of
+set_pages-requires-clause-rights c =
+    let whole = whole-at _ _ _ _ c.args.self.now.sound c.args.c c.in-Some.i _ (sym c.position.ensures ∙ c.in-Some.is) c.index_mut.ensures.value in
+    omega (arith, whole.rights, c.requires.pages)
+
 pub invariant_of-self : goal.invariant_of-self
 invariant_of-self c =
     let found = sym c.position.ensures ∙ c.in-Some.is in

@@ -4,7 +4,7 @@ use Rattle.lwc_base.specs.Capabilities.{is_named}
 use Rattle.lwc_base.specs.Fresh.{named_groups}
 use Rattle.lwc_base.specs.World.{context}
 use Rattle.whole_world.specs.Rows.{context_of}
-use Rattle.whole_world.specs.Sharing.{with_cells}
+use Rattle.whole_world.specs.Sharing.{with_taken}
 use Rattle.whole_world.specs.Sound.{IsWhole}
 use Rattle.whole_world.specs.States.{world_of}
 use Rattle.whole_world.specs.Worlds.{seen}
@@ -30,10 +30,10 @@ invariant_of-self c =
     let found = sym c.position.ensures ∙ c.in-Some.is in
     let world = c.args.self.now.sound in
     record {
-      sound = sound-at _ _ _ _ world c.args.c c.in-Some.i _ found c.index_mut.ensures.value c.take_named.new.self (with_cells (is_named c.args.spec.now) (context_of c.args.row).cell)
+      sound = sound-at _ _ _ _ world c.args.c c.in-Some.i _ found c.index_mut.ensures.value c.take_named.new.self (with_taken (is_named c.args.spec.now) (context_of c.args.row))
           c.take_named.ensures.context
           (still_whole _ _ _ (whole-at _ _ _ _ world c.args.c c.in-Some.i _ found c.index_mut.ensures.value) c.take_named.ensures.size)
-          (stays_fresh.context_changed _ c.args.c (with_cells (is_named c.args.spec.now) (context_of c.args.row).cell)
+          (stays_fresh.context_changed _ c.args.c (with_taken (is_named c.args.spec.now) (context_of c.args.row))
           (λ live old. in_taken (named_groups (seen c.args.self.now).next) c.args.c.job (is_named c.args.spec.now) (context_of c.args.row) (context (seen c.args.self.now) c.args.c) c.requires.old_groups old) world.fresh);
     }
 
