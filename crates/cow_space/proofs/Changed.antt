@@ -1,4 +1,4 @@
--- A place once stretches of its pages have changed: its row, and its cells.
+-- A place once stretches of its pages have changed: its row, its cells and its rights.
 use Rattle.std.proofs.Common.{◌≡◌, ◌≢◌, ℕ, suc, ◌+◌, ◌<◌, ◌≤◌, ⊎_elim, Bool, true, false, cond, leb, ltb, List, [], ◌∷◌, length, get_or, set, drop, refl, sym, ◌∙◌, ap, arith, subst, get_or-set_other, Option, None, Some}
 use Rattle.std.specs.Prelude.{All}
 use Rattle.std.specs.List.{find}
@@ -6,25 +6,29 @@ use Rattle.std.specs.Option.{MatchOption, option_map}
 use Rattle.std.proofs.lemmas.Bool.{cases_lt, and_parts, ltb-true}
 use Rattle.std.proofs.lemmas.List.{get_or-set_same, set-get_or}
 use Rattle.lwc_base.specs.declared.page.PageValue.{PageValue}
+use Rattle.lwc_base.specs.declared.right.Right.{Right}
+use Rattle.lwc_base.specs.declared.right.Right.TheVariants.{Read}
 use Rattle.range_map.specs.declared.segment.Change.{Change}
+use Rattle.range_map.specs.declared.segment.PageState.{PageState}
 use Rattle.range_map.specs.declared.segment.Segment.{Segment}
 use Rattle.range_map.specs.declared.segment.SegmentKind.{SegmentKind}
-use Rattle.range_map.specs.Kinds.{is_between, kind_after, kind_at, kind_by, kind_of, ranges}
+use Rattle.range_map.specs.Kinds.{is_between, kind_at, kind_of, ranges, state_after, state_at, state_by, state_of}
 use Rattle.range_map.proofs.Ranges.{ranges_same}
 use Rattle.cow_space.specs.Maps.{no_pages, put_range, row_of, share_range}
 use Rattle.cow_space.specs.declared.stretches.Origin.{Origin}
 use Rattle.cow_space.specs.declared.stretches.Origin.TheVariants.{Absent, Zeros, Common, CopyOf}
+use Rattle.cow_space.specs.declared.stretches.ReadRange.{ReadRange}
 use Rattle.cow_space.specs.declared.stretches.Stretch.{Stretch}
 use Rattle.cow_space.specs.declared.cells.PageCells.{PageCells}
 use Rattle.cow_space.specs.RowSeen.{HasNoTree, maps}
-use Rattle.cow_space.specs.Seen.{cells}
-use Rattle.cow_space.specs.Cells.{Place, cell_of, kinds_of, place_cells, place_of}
-use Rattle.cow_space.specs.Changes.{IsApart, IsStretch, cell_by, changed_place, origin_cell, stretch_at}
+use Rattle.cow_space.specs.Seen.{cells, rights}
+use Rattle.cow_space.specs.Cells.{Place, cell_of, kinds_of, place_cells, place_of, place_rights, right_in, rights_of, segments_of, states_of}
+use Rattle.cow_space.specs.Changes.{IsApart, IsStretch, cell_by, changed_place, changed_rights, changed_states, have_page, origin_cell, right_by, stretch_at}
 use Rattle.cow_space.specs.Kept.{HasNoPage, may_have}
 use Rattle.cow_space.specs.Rows.{changed_row, origin_value, value_by}
 use Rattle.cow_space.proofs.Lists.{cond-of, drop-all, drop-one}
 use Rattle.cow_space.proofs.Places.{none-cells}
-use Rattle.cow_space.proofs.Views.{place-at, place-kinds, read-kinds}
+use Rattle.cow_space.proofs.Views.{place-at, place-kinds, read-states}
 use Rattle.lwc_base.proofs.Small.{set-again}
 
 -- the row, stretch by stretch from the last one
@@ -91,36 +95,42 @@ find-holds test P (x ∷ xs) all = by (test x) refl (find-holds test P xs (λ k 
     by true passes later = (all 0 x (omega arith), passes)
     by false off later = later
 
--- where a stretch is found its origin gives the kind, and elsewhere the kind stays
-pub kept-kind : (cells : List Place) (i q : ℕ) (stretches : List Stretch) → stretch_at stretches q ≡ None → kinds_of (changed_place cells i stretches) q ≡ kinds_of (place_of cells i) q
+-- a state that is given once more
+steady : (kind : Option SegmentKind) (right : Right) → state_of kind (right_in (state_of kind right)) ≡ state_of kind right
+steady None right = refl
+steady (Some kind) right = refl
+
+kind-in : (kind : Option SegmentKind) (right : Right) → option_map (λ s. s.kind) (state_of kind right) ≡ kind
+kind-in None right = refl
+kind-in (Some kind) right = refl
+
+no-state : (state : Option PageState) → option_map (λ s. s.kind) state ≡ None → state ≡ None
+no-state None is = refl
+no-state (Some s) is = absurd cc
+
+-- where no stretch is found the kind stays
+kept-kind : (cells : List Place) (i q : ℕ) (stretches : List Stretch) → stretch_at stretches q ≡ None → kinds_of (changed_place cells i stretches) q ≡ kinds_of (place_of cells i) q
 unfolding changed_place
 kept-kind cells i q stretches none = ap (λ o. kind_of (cell_by cells q (place_of cells i q) o)) none
 
-pub given-kind : (cells : List Place) (i q : ℕ) (stretches : List Stretch) (origin : Origin) → option_map (λ s. s.origin) (stretch_at stretches q) ≡ Some origin →
-    kinds_of (changed_place cells i stretches) q ≡ kind_of (origin_cell cells origin q)
-unfolding changed_place
-given-kind cells i q stretches origin is = by (stretch_at stretches q) is
-  where
-    by : (o : Option Stretch) → option_map (λ s. s.origin) o ≡ Some origin → kind_of (cell_by cells q (place_of cells i q) o) ≡ kind_of (origin_cell cells origin q)
-    by None is = absurd cc
-    by (Some s) is = let same : s.origin ≡ origin = cc in ap (λ t. kind_of (origin_cell cells t q)) same
+-- the state of a page by the stretch that was found, and whether it may only be read
+module _ (cells : List Place) (rights : List (ℕ → Right)) (i q : ℕ) (stretches : List Stretch) (reads : List ReadRange) where
+  abbrev state-by : Option Stretch → Bool → Option PageState
+  state-by o read = state_of (kind_of (cell_by cells q (place_of cells i q) o)) (cond read Read (right_by rights q (rights_of rights i q) o))
 
--- where no origin is found, no stretch is
-pub no-origin : (o : Option Stretch) → option_map (λ s. s.origin) o ≡ None → o ≡ None
-no-origin None is = refl
-no-origin (Some s) is = absurd cc
+  pub found-state : (o : Option Stretch) (read : Bool) → stretch_at stretches q ≡ o → have_page reads q ≡ read → changed_states cells rights i stretches reads q ≡ state-by o read
+  unfolding changed_place changed_rights
+  found-state o read found has =
+      steady (kind_of (cell_by cells q (place_of cells i q) (stretch_at stretches q))) (cond (have_page reads q) Read (right_by rights q (rights_of rights i q) (stretch_at stretches q)))
+      ∙ (λ x. state-by (found x) (has x))
 
--- an origin that was found is another place, or none
-pub origin-inside : (count i q : ℕ) (stretches : List Stretch) (origin : Origin) → All (IsStretch count i) stretches → option_map (λ s. s.origin) (stretch_at stretches q) ≡ Some origin →
-    (j : ℕ) → origin ≡ CopyOf j → j < count
-origin-inside count i q stretches origin are is j from =
-    by (stretch_at stretches q) (find-holds (λ (s : Stretch). is_between s.range.from s.range.to q) (IsStretch count i) stretches are) is
-  where
-    by : (o : Option Stretch) → MatchOption o (Unit {0}) (λ s. IsStretch count i s × (is_between s.range.from s.range.to q ≡ true)) → option_map (λ s. s.origin) o ≡ Some origin → j < count
-    by None holds is = absurd cc
-    by (Some s) holds is =
-        let same : s.origin ≡ CopyOf j = cc in
-        (subst (IsApart count i) same holds.0.given).0
+-- the origin of a stretch that was found is another place, or none
+pub origin-inside : (count i q : ℕ) (stretches : List Stretch) (stretch : Stretch) → All (IsStretch count i) stretches → stretch_at stretches q ≡ Some stretch →
+    (j : ℕ) → stretch.origin ≡ CopyOf j → j < count
+origin-inside count i q stretches stretch are is j from =
+    let holds = subst (λ o. MatchOption o (Unit {0}) (λ s. IsStretch count i s × (is_between s.range.from s.range.to q ≡ true))) is
+    (find-holds (λ (s : Stretch). is_between s.range.from s.range.to q) (IsStretch count i) stretches are) in
+    (subst (IsApart count i) from holds.0.given).0
 
 -- no stretches have no page, and no segments have none
 no-stretch : (stretches : List Stretch) (p : ℕ) → length stretches ≡ 0 → stretch_at stretches p ≡ None
@@ -128,7 +138,7 @@ no-stretch [] p empty = refl
 no-stretch (s ∷ stretches) p empty = absurd (omega (arith, empty))
 
 nothing : HasNoPage []
-unfolding kind_at
+unfolding state_at
 nothing p = refl
 
 module _ (w : PageCells) (i : ℕ) (stretches : List Stretch) where
@@ -160,42 +170,52 @@ module _ (w : PageCells) (i : ℕ) (stretches : List Stretch) where
   fit-by p None = fit-again i p
   fit-by p (Some s) = fit-origin s.origin p
 
-  -- the kinds after the changes are those of the place after the stretches
-  module _ (changes : List Change) (segments : List Segment) (made : (p : ℕ) → p < 1024 → kind_by (kinds_of (place_of (cells w) i) p) (find (λ c. is_between c.from c.to p) changes) ≡ kinds_of (changed_place (cells w) i stretches) p)
+  -- the states after the changes are those of the place after the stretches
+  module _ (reads : List ReadRange) (changes : List Change) (segments : List Segment) (made : (p : ℕ) → p < 1024 → state_by (states_of (place_of (cells w) i) (rights_of (rights w) i) p) (find (λ c. is_between c.from c.to p) changes) ≡ changed_states (cells w) (rights w) i stretches reads p)
       (inside : i < length (cells w)) (is : segments ≡ get_or w.kinds.items i segments) where
-    kinds-after : (p : ℕ) → p < 1024 → kind_after changes segments p ≡ kinds_of (changed_place (cells w) i stretches) p
-    unfolding kind_after
-    kinds-after p low = ap (λ (f : ℕ → Option SegmentKind). kind_by (f p) (find (λ (c : Change). is_between c.from c.to p) changes)) (read-kinds w i segments inside is) ∙ made p low
+    states-after : (p : ℕ) → p < 1024 → state_after changes segments p ≡ changed_states (cells w) (rights w) i stretches reads p
+    unfolding state_after
+    states-after p low = ap (λ (f : ℕ → Option PageState). state_by (f p) (find (λ (c : Change). is_between c.from c.to p) changes)) (read-states w i segments inside is) ∙ made p low
 
-    pub ranges-after : ranges 1024 (kind_after changes segments) ≡ ranges 1024 (kinds_of (changed_place (cells w) i stretches))
-    ranges-after = ranges_same (kind_after changes segments) (kinds_of (changed_place (cells w) i stretches)) 1024 kinds-after
+    pub ranges-after : ranges 1024 (state_after changes segments) ≡ ranges 1024 (changed_states (cells w) (rights w) i stretches reads)
+    ranges-after = ranges_same (state_after changes segments) (changed_states (cells w) (rights w) i stretches reads) 1024 states-after
 
     -- no stretch has a page past the last one
     none-past : (p : ℕ) (o : Option Stretch) → 1024 ≤ p → MatchOption o (Unit {0}) (λ s. IsStretch (length (cells w)) i s × (is_between s.range.from s.range.to p ≡ true)) → o ≡ None
     none-past p None past holds = refl
     none-past p (Some s) past holds = absurd (let below = ltb-true p s.range.to ((and_parts (leb s.range.from p) (ltb p s.range.to) holds.1).1) in let end = holds.0.inside in omega (arith, past, below, end))
 
-    pub kinds-now : (now : List Segment) → All (IsStretch (length (cells w)) i) stretches → ((p : ℕ) → p < 1024 → kind_at now p ≡ kind_after changes segments p) → ((p : ℕ) → 1024 ≤ p → kind_at now p ≡ None) →
-        (p : ℕ) → kind_at now p ≡ kinds_of (changed_place (cells w) i stretches) p
-    kinds-now now are made_now within p =
+    pub states-now : (now : List Segment) → All (IsStretch (length (cells w)) i) stretches → ((p : ℕ) → p < 1024 → state_at now p ≡ state_after changes segments p) → ((p : ℕ) → 1024 ≤ p → state_at now p ≡ None) →
+        (p : ℕ) → state_at now p ≡ changed_states (cells w) (rights w) i stretches reads p
+    states-now now are made_now within p =
         ⊎_elim
-        (λ low. made_now p low ∙ kinds-after p low)
+        (λ low. made_now p low ∙ states-after p low)
         (λ past. within p past
-        ∙ sym (kept-kind (cells w) i p stretches (none-past p (stretch_at stretches p) past (find-holds (λ (s : Stretch). is_between s.range.from s.range.to p) (IsStretch (length (cells w)) i) stretches are))
+        ∙ sym (ap (λ kind. state_of kind (changed_rights (cells w) (rights w) i stretches reads p))
+        (kept-kind (cells w) i p stretches (none-past p (stretch_at stretches p) past (find-holds (λ (s : Stretch). is_between s.range.from s.range.to p) (IsStretch (length (cells w)) i) stretches are))
         ∙ ap (λ (f : ℕ → Option SegmentKind). f p) (sym (place-kinds w i))
-        ∙ w.kept.within i p past))
+        ∙ ap (option_map (λ (s : PageState). s.kind)) (w.kept.within i p past))))
         (cases_lt p 1024)
 
-  module _ (segments : List Segment) (all : (p : ℕ) → kind_at segments p ≡ kinds_of (changed_place (cells w) i stretches) p) where
+  module _ (reads : List ReadRange) (segments : List Segment) (all : (p : ℕ) → state_at segments p ≡ changed_states (cells w) (rights w) i stretches reads p) where
+    kind-now : (p : ℕ) → kind_at segments p ≡ kinds_of (changed_place (cells w) i stretches) p
+    kind-now p =
+        ap (option_map (λ (s : PageState). s.kind)) (all p) ∙ kind-in (kinds_of (changed_place (cells w) i stretches) p) (changed_rights (cells w) (rights w) i stretches reads p)
+
     pub cells-changed : place_cells segments (changed_row (maps w.rows) i stretches) ≡ changed_place (cells w) i stretches
     unfolding changed_place changed_row
     cells-changed = λ x p.
-        (ap (λ k. cell_of k (value_by (maps w.rows) p (row_of (maps w.rows) i p) (stretch_at stretches p))) (all p) ∙ cell-by p (stretch_at stretches p)) x
+        (ap (λ k. cell_of k (value_by (maps w.rows) p (row_of (maps w.rows) i p) (stretch_at stretches p))) (kind-now p) ∙ cell-by p (stretch_at stretches p)) x
+
+    pub rights-changed : place_rights segments ≡ changed_rights (cells w) (rights w) i stretches reads
+    unfolding changed_rights
+    rights-changed = λ x p.
+        (ap right_in (all p) ∙ ap right_in (steady (kinds_of (changed_place (cells w) i stretches) p) (cond (have_page reads p) Read (right_by (rights w) p (rights_of (rights w) i p) (stretch_at stretches p))))) x
 
     pub fit-changed : (p : ℕ) → may_have (kind_at segments p) (changed_row (maps w.rows) i stretches p) ≡ true
     unfolding changed_place changed_row
     fit-changed p =
-        ap (λ k. may_have k (value_by (maps w.rows) p (row_of (maps w.rows) i p) (stretch_at stretches p))) (all p) ∙ fit-by p (stretch_at stretches p)
+        ap (λ k. may_have k (value_by (maps w.rows) p (row_of (maps w.rows) i p) (stretch_at stretches p))) (kind-now p) ∙ fit-by p (stretch_at stretches p)
 
     -- where no page is left, the place has no pages, and without stretches it had none before
     pub none-left : segments ≡ [] → place_cells segments no_pages ≡ changed_place (cells w) i stretches
@@ -204,4 +224,8 @@ module _ (w : PageCells) (i : ℕ) (stretches : List Stretch) where
     pub none-before : segments ≡ [] → length stretches ≡ 0 → HasNoTree w.rows i
     none-before none empty =
         w.bare i (λ p.
-        ap (λ (f : ℕ → Option SegmentKind). f p) (place-kinds w i) ∙ sym (kept-kind (cells w) i p stretches (no-stretch stretches p empty)) ∙ sym (all p) ∙ (ap (λ s. kind_at s p) none ∙ nothing p))
+        no-state (state_at (segments_of w.kinds.items i) p)
+        (ap (λ (f : ℕ → Option SegmentKind). f p) (place-kinds w i)
+        ∙ sym (kept-kind (cells w) i p stretches (no-stretch stretches p empty))
+        ∙ sym (kind-now p)
+        ∙ ap (option_map (λ (s : PageState). s.kind)) (ap (λ s. state_at s p) none ∙ nothing p)))

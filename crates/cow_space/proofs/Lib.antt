@@ -9,7 +9,7 @@ pub mod TagLemmas
 pub mod Taken
 pub mod Trees
 pub mod UsedLemmas
-mod Views
+pub mod Views
 pub mod WorldTags
 pub mod WriteLemmas
 mod Written

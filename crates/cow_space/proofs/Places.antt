@@ -1,17 +1,20 @@
--- The cells of places of which one changes, and what ties rows to kinds.
-use Rattle.std.proofs.Common.{◌≡◌, ◌≢◌, ℕ, ◌<◌, ◌≤◌, ⊎_elim, true, List, [], length, set, map, replicate, refl, sym, ◌∙◌, ap, arith, subst, length-set, get_or-set_other, Option, None, Some}
+-- The cells and the rights of places of which one changes, and what ties rows to kinds.
+use Rattle.std.proofs.Common.{◌≡◌, ◌≢◌, ℕ, zero, suc, ◌<◌, ◌≤◌, ⊎_elim, true, List, [], ◌∷◌, get_or, length, set, map, replicate, refl, sym, ◌∙◌, ap, arith, subst, length-set, get_or-set_other, Option, None, Some}
 use Rattle.std.specs.List.{range_with_len}
+use Rattle.std.specs.Option.{option_map}
 use Rattle.std.proofs.lemmas.Bool.{cases_eq, cases_lt}
-use Rattle.std.proofs.lemmas.List.{ext_get_or, get_or-map, get_or-set_same, get_or_past, length-map, length-replicate}
+use Rattle.std.proofs.lemmas.List.{ext_get_or, get_or-map, get_or-set_same, get_or_past, length-map, length-replicate, map-set}
+use Rattle.std.proofs.Math.ListN.{get_or-map as get_or-map_all}
 use Rattle.std.proofs.lemmas.List.FromFn.{get_or-range_with_len, length-range_with_len}
 use Rattle.lwc_base.specs.declared.page.PageValue.{PageValue}
+use Rattle.range_map.specs.declared.segment.PageState.{PageState}
 use Rattle.range_map.specs.declared.segment.Segment.{Segment}
 use Rattle.range_map.specs.declared.segment.SegmentKind.{SegmentKind}
 use Rattle.range_map.specs.declared.segment.SegmentKind.TheVariants.{Own, Common}
-use Rattle.range_map.specs.Kinds.{kind_at, kind_of}
+use Rattle.range_map.specs.Kinds.{kind_at, kind_of, state_at, state_of}
 use Rattle.cow_space.specs.Maps as rows
 use Rattle.cow_space.specs.Maps.{row_of}
-use Rattle.cow_space.specs.Cells.{Place, all_cells, cell_of, no_pages, place_cells, place_of, segments_of}
+use Rattle.cow_space.specs.Cells.{Place, all_cells, all_rights, all_write, cell_of, no_pages, place_cells, place_of, place_rights, right_in, rights_of, segments_of}
 use Rattle.cow_space.specs.Kept.{IsKept, may_have}
 use Rattle.lwc_base.proofs.Small.{at-new}
 
@@ -21,7 +24,7 @@ length-cells kinds maps = length-map (range_with_len 0 (length maps)) (λ i. pla
 
 -- no segments are no pages
 pub none-cells : (row : ℕ → Option PageValue) → place_cells [] row ≡ no_pages
-unfolding kind_at
+unfolding state_at
 none-cells row = refl
 
 -- the cells of a place
@@ -43,6 +46,26 @@ pub kind-cell : (kind : Option SegmentKind) (value : Option PageValue) → kind_
 kind-cell None value = refl
 kind-cell (Some Own) value = refl
 kind-cell (Some (Common g)) value = refl
+
+-- a state that is seen by its cell and its right
+pub state-again : (state : Option PageState) (value : Option PageValue) → state_of (kind_of (cell_of (option_map (λ s. s.kind) state) value)) (right_in state) ≡ state
+state-again None value = refl
+state-again (Some s) value = ap (λ kind. state_of kind s.right) (kind-cell (Some s.kind) value)
+
+-- no segments have the right Write at each page
+pub none-write : place_rights [] ≡ all_write
+unfolding state_at
+none-write = refl
+
+-- the rights of a place
+pub at-rights : (kinds : List (List Segment)) (i : ℕ) → rights_of (all_rights kinds) i ≡ place_rights (segments_of kinds i)
+unfolding all_rights
+at-rights kinds i = ap (get_or (map place_rights kinds) i) (sym none-write) ∙ get_or-map_all place_rights kinds i []
+
+-- the rights once one place has other segments
+pub set-rights : (kinds : List (List Segment)) (i : ℕ) (segments : List Segment) → all_rights (set kinds i segments) ≡ set (all_rights kinds) i (place_rights segments)
+unfolding all_rights
+set-rights kinds i segments = map-set place_rights kinds i segments
 
 -- no value fits each kind
 pub may-none : (kind : Option SegmentKind) → may_have kind None ≡ true
@@ -80,24 +103,24 @@ module _ (maps : List (ℕ → Option PageValue)) (kinds : List (List Segment)) 
       (λ k off. sym (get_or-set_other (all_cells kinds maps) i k (place_cells segments row) no_pages off ∙ at-place kinds maps k kept.places)) j)
 
   -- rows fit the kinds still, where the new row fits the new segments
-  pub kept-set : ((p : ℕ) → may_have (kind_at segments p) (row p) ≡ true) → ((p : ℕ) → 1024 ≤ p → kind_at segments p ≡ None) → IsKept (set maps i row) (set kinds i segments)
+  pub kept-set : ((p : ℕ) → may_have (kind_at segments p) (row p) ≡ true) → ((p : ℕ) → 1024 ≤ p → state_at segments p ≡ None) → IsKept (set maps i row) (set kinds i segments)
   kept-set fit within =
       record {
         places = same-length;
         fit = by-place (λ _ s r. (p : ℕ) → may_have (kind_at s p) (r p) ≡ true) fit (λ j _. kept.fit j);
-        within = by-place (λ _ s _. (p : ℕ) → 1024 ≤ p → kind_at s p ≡ None) within (λ j _. kept.within j);
+        within = by-place (λ _ s _. (p : ℕ) → 1024 ≤ p → state_at s p ≡ None) within (λ j _. kept.within j);
       }
 
 -- places without pages
 pub none-kept : (n : ℕ) → IsKept (replicate n rows.no_pages) (replicate n [])
-unfolding kind_at
+unfolding state_at
 none-kept n =
     record {
       places = length-replicate n [] ∙ sym (length-replicate n rows.no_pages);
       fit = λ i p.
           subst (λ s. may_have (kind_at s p) (row_of (replicate n rows.no_pages) i p) ≡ true) (sym (at-new n i []))
           (subst (λ (r : ℕ → Option PageValue). may_have (kind_at [] p) (r p) ≡ true) (sym (at-new n i rows.no_pages)) refl);
-      within = λ i p past. ap (λ s. kind_at s p) (at-new n i []);
+      within = λ i p past. ap (λ s. state_at s p) (at-new n i []);
     }
 
 pub none-all : (n : ℕ) → all_cells (replicate n []) (replicate n rows.no_pages) ≡ replicate n no_pages
@@ -109,3 +132,8 @@ none-all n =
     ∙ ap (λ s. place_cells s (row_of (replicate n rows.no_pages) i)) (at-new n i [])
     ∙ none-cells (row_of (replicate n rows.no_pages) i)
     ∙ sym (at-new n i no_pages))
+
+pub none-rights : (n : ℕ) → all_rights (replicate n []) ≡ replicate n all_write
+unfolding all_rights
+none-rights zero = refl
+none-rights (suc n) = λ k. none-write k ∷ none-rights n k

@@ -1,6 +1,6 @@
 -- A store that is tied to trees of which one changes: what is kept, and what the trees stand for.
-use Rattle.std.proofs.Common.{◌≡◌, ◌≢◌, ℕ, zero, suc, ◌+◌, ◌*◌, ◌<◌, ◌≤◌, ⊎_elim, true, cond, eqb, ltb, leb, ◌&&◌, List, [], ◌∷◌, length, get_or, set, map, replicate, refl, sym, ◌∙◌, ap, arith, subst, length-set, get_or-set_other, Option, None, Some}
-use Rattle.std.proofs.lemmas.Bool.{cases_eq, cases_lt, lt-ltb, le-ltb, cond-true, cond-false}
+use Rattle.std.proofs.Common.{◌≡◌, ◌≢◌, ℕ, zero, suc, ◌+◌, ◌*◌, ◌<◌, ◌≤◌, ⊎_elim, true, cond, eqb, ltb, leb, ◌&&◌, List, [], length, get_or, set, map, replicate, refl, sym, ◌∙◌, ap, arith, subst, length-set, get_or-set_other, Option, None, Some}
+use Rattle.std.proofs.lemmas.Bool.{cases_lt, lt-ltb, le-ltb, cond-true, cond-false}
 use Rattle.std.proofs.lemmas.Bool.Decides.{nat_tests}
 use Rattle.std.proofs.lemmas.List.{map-set, get_or-map, length-map, length-replicate, get_or-replicate, get_or_past, get_or_read}
 use Rattle.std.proofs.lemmas.List.Sums.{sum_by-set, get_or-le-sum_by, sum_by-cons}
@@ -21,7 +21,7 @@ use Rattle.cow_space.specs.RowKept.{IsStamped, IsKept}
 use Rattle.frame_pool.specs.declared.pool.FrameNo.{FrameNo}
 use Rattle.cow_space.specs.Tags.{parts}
 use Rattle.cow_space.specs.Maps.{data_of, no_pages, row_of, put_page, put_range}
-use Rattle.cow_space.proofs.Lists.{one_if, one-yes, one-no, cond-of, map-set_changed, two_terms}
+use Rattle.cow_space.proofs.Lists.{one-yes, one-no, cond-of, map-set_changed, two_terms}
 use Rattle.page_tree.proofs.HolderLemmas.{having-le, tied-tree}
 use Rattle.page_tree.proofs.NodeBound.{node_bound}
 use Rattle.page_tree.proofs.PageLemmas.{page-none}

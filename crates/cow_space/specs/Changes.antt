@@ -1,16 +1,20 @@
--- The cells of a place once stretches of its pages have changed.
-use Rattle.std.specs.Prelude.{◌≢◌, ◌<◌, ◌≤◌, ℕ, List, Option, None, Some}
-use Rattle.std.specs.List.{find}
+-- The cells and the rights of a place once stretches of its pages have changed.
+use Rattle.std.specs.Prelude.{◌≢◌, ◌<◌, ◌≤◌, if◌then◌else◌, ℕ, Bool, List, Option, None, Some, unwrap_or}
+use Rattle.std.specs.List.{find, list_any}
 use Rattle.lwc_base.specs.declared.cell.Cell.{Cell}
 use Rattle.lwc_base.specs.declared.cell.Cell.TheVariants as cell
 use Rattle.lwc_base.specs.declared.limits.TheConstants.{MOST_PAGES}
 use Rattle.lwc_base.specs.declared.page.PageValue.{PageValue}
 use Rattle.lwc_base.specs.declared.page.PageValue.TheVariants as value
-use Rattle.range_map.specs.Kinds.{is_between}
+use Rattle.lwc_base.specs.declared.right.Right.{Right}
+use Rattle.lwc_base.specs.declared.right.Right.TheVariants.{Write, Read}
+use Rattle.range_map.specs.Kinds.{is_between, kind_of, state_of}
+use Rattle.range_map.specs.declared.segment.PageState.{PageState}
 use Rattle.cow_space.specs.declared.stretches.Origin.{Origin}
 use Rattle.cow_space.specs.declared.stretches.Origin.TheVariants.{Absent, Zeros, Common, CopyOf}
+use Rattle.cow_space.specs.declared.stretches.ReadRange.{ReadRange}
 use Rattle.cow_space.specs.declared.stretches.Stretch.{Stretch}
-use Rattle.cow_space.specs.Cells.{Place, place_of}
+use Rattle.cow_space.specs.Cells.{Place, place_of, right_in, rights_of, states_of}
 
 -- the cell that a page gets of an origin
 abbrev pub origin_cell : List Place → Origin → ℕ → Cell (Option PageValue)
@@ -31,6 +35,35 @@ stretch_at stretches p = find (λ s. is_between s.range.from s.range.to p) stret
 -- the cells of a place after stretches
 unfoldable pub changed_place : List Place → ℕ → List Stretch → Place
 changed_place cells i stretches p = cell_by cells p (place_of cells i p) (stretch_at stretches p)
+
+-- the right that an origin has at a page: only another place has one of its own
+abbrev pub origin_right : List (ℕ → Right) → Origin → ℕ → Right
+origin_right rights Absent p = Write
+origin_right rights Zeros p = Write
+origin_right rights (Common g) p = Write
+origin_right rights (CopyOf j) p = rights_of rights j p
+
+-- the right by the stretch that was found: what it says, or else its origin has; before where none was found
+abbrev pub right_by : List (ℕ → Right) → ℕ → Right → Option Stretch → Right
+right_by rights p before None = before
+right_by rights p before (Some stretch) = unwrap_or stretch.right (origin_right rights stretch.origin p)
+
+-- whether ranges have a page
+abbrev pub have_page : List ReadRange → ℕ → Bool
+have_page ranges p = list_any (λ r. is_between r.from r.to p) ranges
+
+-- the rights of a place after stretches: Read in some ranges, and Write where a page is absent then
+unfoldable pub changed_rights : List Place → List (ℕ → Right) → ℕ → List Stretch → List ReadRange
+    → ℕ → Right
+changed_rights cells rights i stretches reads p =
+    right_in (state_of (kind_of (changed_place cells i stretches p))
+    (if have_page reads p then Read else right_by rights p (rights_of rights i p) (stretch_at stretches p)))
+
+-- the states of the pages of a place after stretches
+abbrev pub changed_states : List Place → List (ℕ → Right) → ℕ → List Stretch → List ReadRange
+    → ℕ → Option PageState
+changed_states cells rights i stretches reads =
+    states_of (changed_place cells i stretches) (changed_rights cells rights i stretches reads)
 
 -- an origin is another one of this number of places, or no place
 abbrev pub IsApart : ℕ → ℕ → Origin → Type 0

@@ -5,7 +5,7 @@ use Rattle.lwc_base.specs.declared.page.PageValue.{PageValue}
 use Rattle.range_map.specs.declared.segment.Segment.{Segment}
 use Rattle.range_map.specs.declared.segment.SegmentKind.{SegmentKind}
 use Rattle.range_map.specs.declared.segment.SegmentKind.TheVariants.{Own}
-use Rattle.range_map.specs.Kinds.{kind_at}
+use Rattle.range_map.specs.Kinds.{kind_at, state_at}
 use Rattle.cow_space.specs.Maps.{row_of}
 use Rattle.cow_space.specs.Cells.{segments_of}
 
@@ -16,10 +16,10 @@ may_have _ value = not (is_some value)
 
 -- no page is present by these segments
 abbrev pub HasNoPage : List Segment → Type 0
-HasNoPage segments = (p : ℕ) → kind_at segments p ≡ None
+HasNoPage segments = (p : ℕ) → state_at segments p ≡ None
 
 -- each place has a row that fits the kinds of its pages, and no page past the last one
 pub record IsKept (maps : List (ℕ → Option PageValue)) (kinds : List (List Segment)) : Type 0 where
   pub places : length kinds ≡ length maps
   pub fit : (i p : ℕ) → may_have (kind_at (segments_of kinds i) p) (row_of maps i p) ≡ true
-  pub within : (i p : ℕ) → MOST_PAGES ≤ p → kind_at (segments_of kinds i) p ≡ None
+  pub within : (i p : ℕ) → MOST_PAGES ≤ p → state_at (segments_of kinds i) p ≡ None

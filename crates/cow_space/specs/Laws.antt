@@ -20,8 +20,7 @@ pub record CopyLaws : Type 0 where
       All (IsStretch (length cells) i) stretches → used (slice_set cells i (changed_place cells i stretches)) ≡ used cells
 
 -- a write takes a frame if the page parts, and none otherwise; it leaves the kinds of pages, and any other
--- new tag
--- stays new; another page of any place is as before, and parts as before if it is under another tag
+-- new tag stays new; another page of any place is as before, and parts as before if it is under another tag
 pub record WriteLaws : Type 0 where
   pub taken : (cells : List Place) (i p : ℕ) (piece : Piece) (tag : Tag) → i < length cells → p < MOST_PAGES → IsNewTag cells tag →
       used (write_page cells i p piece tag) ≡ used cells + taken_by cells i p

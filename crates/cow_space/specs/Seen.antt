@@ -1,13 +1,18 @@
 -- What the pages of places are seen as.
 use Rattle.std.specs.Prelude.{ℕ, List}
 use Rattle.lwc_base.specs.declared.name.Tag.{Tag}
+use Rattle.lwc_base.specs.declared.right.Right.{Right}
 use Rattle.cow_space.specs.RowSeen as rows
 use Rattle.cow_space.specs.declared.cells.PageCells.{PageCells}
-use Rattle.cow_space.specs.Cells.{Place, all_cells}
+use Rattle.cow_space.specs.Cells.{Place, all_cells, all_rights}
 
 -- the cells of each place
 unfoldable pub cells : PageCells → List Place
 cells w = all_cells w.kinds.items (rows.maps w.rows)
+
+-- the rights of each place; an absent page has Write
+unfoldable pub rights : PageCells → List (ℕ → Right)
+rights w = all_rights w.kinds.items
 
 -- how many frames there are
 unfoldable pub frames_of : PageCells → ℕ

@@ -22,8 +22,7 @@ pub record HoldAllTags (cells : List Place) (numbers : List ℕ) : Type 0 where
   pub rest : (i : ℕ) → (Contains numbers i → ⊥) → tags_of_place (place_of cells i) ≡ []
 
 -- a context, or a group, has the tags of the place with its cells; a world whose tags are those of different
--- places
--- uses as many frames as the places do, and the same pages part
+-- places uses as many frames as the places do, and the same pages part
 pub record WorldLaws : Type 0 where
   pub context : (pages : ℕ) (x : Context) (place : Place) → pages ≤ MOST_PAGES →
       ((p : ℕ) → p < pages → place p ≡ x.cell (Page p)) → ((p : ℕ) → pages ≤ p → place p ≡ cell.Own None) →

@@ -6,13 +6,13 @@ ghost use Rattle.cow_space.specs.Kept.{HasNoPage, IsKept};
 ghost use Rattle.cow_space.specs.RowSeen.{no_tree-prop};
 
 use crate::rows::Rows;
-use lwc_base::OutOfMemory;
-use range_map::{RangeMap, Segment, SegmentKind};
+use lwc_base::{OutOfMemory, Right};
+use range_map::{PageState, RangeMap, Segment, SegmentKind};
 use std::alloc::Global;
 
-/// The cells of the pages of a fixed number of places, each a context's or a group's. A page that is the
-/// place's own has its bytes in a row, if it was written; one without reads as zeros. A place without pages
-/// holds no tree node. After `open` no call takes memory.
+/// The cells and the rights of the pages of a fixed number of places, each a context's or a group's. A page
+/// that is the place's own has its bytes in a row, if it was written; one without reads as zeros. A place
+/// without pages holds no tree node. After `open` no call takes memory.
 #[derive(Drop)]
 pub struct PageCells {
     pub(crate) rows: Rows,
@@ -37,10 +37,18 @@ impl PageCells {
     ghost use Rattle.std.specs.Prelude.{◌<◌, ◌≤◌, All, length, Some};
     ghost use Rattle.std.specs.Option.{option_copied};
     ghost use Rattle.lwc_base.specs.declared.limits.TheConstants.{MOST_PAGE_PLACES, MOST_PAGES, MOST_RANGES};
-    ghost use Rattle.range_map.specs.Kinds.{IsSegment, kind_at, ranges};
+    ghost use Rattle.range_map.specs.Kinds.{IsSegment, ranges, state_at};
     ghost use Rattle.cow_space.specs.Maps.{data_of};
-    ghost use Rattle.cow_space.specs.Cells.{IsOwnPage, kinds_of, no_pages, place_of};
-    ghost use Rattle.cow_space.specs.Seen.{cells, frames_of};
+    ghost use Rattle.cow_space.specs.Cells.{
+      IsOwnPage,
+      all_write,
+      kinds_of,
+      no_pages,
+      place_of,
+      rights_of,
+      states_of,
+    };
+    ghost use Rattle.cow_space.specs.Seen.{cells, frames_of, rights};
     ghost use Rattle.cow_space.specs.Tags.{is_parting, own_values, used};
 
     /// This number of places without pages, over this number of frames. The only error is out of memory.
@@ -48,6 +56,7 @@ impl PageCells {
         requires few_frames { frames ≤ 65536 }
         requires few_places { places ≤ MOST_PAGE_PLACES }
         ensures cells { IfOk result (λ opened. cells opened ≡ replicate places no_pages) }
+        ensures rights { IfOk result (λ opened. rights opened ≡ replicate places all_write) }
         ensures frames { IfOk result (λ opened. frames_of opened ≡ frames) }
     {
         let rows = Rows::open(alloc, frames, places)?;
@@ -70,14 +79,32 @@ impl PageCells {
         self.kinds[i].kind_at(p)
     }
 
-    /// A later page, or the end of all pages, up to which the pages of a place have the kind of this one.
+    /// The right of a page of a place; `Write` where it is absent.
+    pub fn right(&self, i: usize, p: u16) -> Right
+        requires { i < length (cells self.now) }
+        ensures { result ≡ rights_of (rights self.now) i p }
+    {
+        self.kinds[i].right_at(p).unwrap_or(Right::Write)
+    }
+
+    /// The kind and the right of a page of a place; `None` where it is absent.
+    pub fn state(&self, i: usize, p: u16) -> Option<PageState>
+        requires { i < length (cells self.now) }
+        ensures { result ≡ states_of (place_of (cells self.now) i) (rights_of (rights self.now) i) p }
+    {
+        self.kinds[i].state_at(p)
+    }
+
+    /// A later page, or the end of all pages, up to which the pages of a place have the kind and the right of
+    /// this one.
     pub fn next_edge(&self, i: usize, p: u16) -> u16
         requires place { i < length (cells self.now) }
         requires page { p < MOST_PAGES }
         ensures past { p < result }
         ensures within { result ≤ MOST_PAGES }
         ensures alike { (q : ℕ) → p ≤ q → q < result
-            → kinds_of (place_of (cells self.now) i) q ≡ kinds_of (place_of (cells self.now) i) p }
+            → states_of (place_of (cells self.now) i) (rights_of (rights self.now) i) q
+            ≡ states_of (place_of (cells self.now) i) (rights_of (rights self.now) i) p }
     {
         self.kinds[i].next_edge(p)
     }
@@ -85,7 +112,8 @@ impl PageCells {
     /// The number of ranges of a place.
     pub fn count(&self, i: usize) -> u32
         requires { i < length (cells self.now) }
-        ensures ranges { result ≡ ranges MOST_PAGES (kinds_of (place_of (cells self.now) i)) }
+        ensures ranges { result
+            ≡ ranges MOST_PAGES (states_of (place_of (cells self.now) i) (rights_of (rights self.now) i)) }
         ensures few { result ≤ MOST_RANGES }
     {
         self.kinds[i].count()
@@ -94,8 +122,10 @@ impl PageCells {
     /// The segments of a place, one for each range.
     pub fn segments(&self, i: usize) -> &[Segment]
         requires { i < length (cells self.now) }
-        ensures kinds { kind_at result.now ≡ kinds_of (place_of (cells self.now) i) }
-        ensures count { length result.now ≡ ranges MOST_PAGES (kinds_of (place_of (cells self.now) i)) }
+        ensures states { state_at result.now
+            ≡ states_of (place_of (cells self.now) i) (rights_of (rights self.now) i) }
+        ensures count { length result.now
+            ≡ ranges MOST_PAGES (states_of (place_of (cells self.now) i) (rights_of (rights self.now) i)) }
         ensures few { length result.now ≤ MOST_RANGES }
         ensures each { All IsSegment result.now }
     {

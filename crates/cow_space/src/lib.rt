@@ -14,7 +14,7 @@ pub mod writes;
 
 pub use cells::PageCells;
 pub use rows::Rows;
-pub use stretches::{Origin, Stretch};
+pub use stretches::{Origin, ReadRange, Stretch};
 pub use writes::NoFrame;
 
 #[cfg(test)]

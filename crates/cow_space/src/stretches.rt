@@ -2,15 +2,15 @@ ghost use Rattle.std.specs.Prelude.{◌≡◌, ◌≢◌, ◌<◌, ◌≤◌, �
 ghost use Rattle.lwc_base.specs.declared.limits.TheConstants.{MOST_PAGES, MOST_RANGES};
 ghost use Rattle.range_map.specs.Kinds.{ranges};
 ghost use Rattle.cow_space.specs.RowSeen as rows_seen;
-ghost use Rattle.cow_space.specs.Cells.{kinds_of, no_pages, place_of};
-ghost use Rattle.cow_space.specs.Changes.{IsStretch, changed_place};
+ghost use Rattle.cow_space.specs.Cells.{all_write, no_pages, place_of, rights_of, states_of};
+ghost use Rattle.cow_space.specs.Changes.{IsStretch, changed_place, changed_rights, changed_states};
 ghost use Rattle.cow_space.specs.Rows.{changed_row};
-ghost use Rattle.cow_space.specs.Seen.{cells, frames_of, free_nodes, pool};
+ghost use Rattle.cow_space.specs.Seen.{cells, frames_of, free_nodes, pool, rights};
 
 use crate::cells::PageCells;
 use crate::kinds::{change_kinds, has_page};
 use crate::rows::Rows;
-use lwc_base::{Name, Range};
+use lwc_base::{Name, Range, Right};
 use pool_base::Steps;
 use range_map::RangeMap;
 use std::sync::ledger::Ledger;
@@ -29,11 +29,13 @@ pub enum Origin {
     CopyOf(usize),
 }
 
-/// The pages of a range, and what they get.
+/// The pages of a range, what they get, and the right of those that are present then: without one the right
+/// that the place that is copied has there, and `Write` if none is copied.
 #[derive(Clone, Copy, Debug, PartialEq, Eq)]
 pub struct Stretch {
     pub range: Range,
     pub origin: Origin,
+    pub right: Option<Right>,
 }
 
 impl Default for Stretch {
@@ -42,8 +44,16 @@ impl Default for Stretch {
         Stretch {
             range: Range { from: 0, to: 0 },
             origin: Origin::Absent,
+            right: None,
         }
     }
+}
+
+/// The pages from `from` up to and without `to`, which may only be read.
+#[derive(Clone, Copy, Debug, Default, PartialEq, Eq)]
+pub struct ReadRange {
+    pub from: u16,
+    pub to: u16,
 }
 
 /// Puts what stretches copy into a row, and clears the other pages that they have, the last stretch first.
@@ -70,27 +80,37 @@ fn fill_row<L: Ledger>(rows: &mut Rows, i: usize, stretches: &[Stretch], steps: 
 }
 
 impl PageCells {
-    /// The number of ranges that a place would have after stretches. Of two stretches that have a page, the
-    /// first counts.
-    pub fn count_after(&self, i: usize, stretches: &[Stretch]) -> u32
+    /// The number of ranges that a place would have after `change`.
+    pub fn count_after(&self, i: usize, stretches: &[Stretch], reads: &[ReadRange]) -> u32
         requires place { i < length (cells self.now) }
         requires stretches { All (IsStretch (length (cells self.now)) i) stretches.now }
-        ensures { result ≡ ranges MOST_PAGES (kinds_of (changed_place (cells self.now) i stretches.now)) }
+        ensures { result ≡ ranges MOST_PAGES
+            (changed_states (cells self.now) (rights self.now) i stretches.now reads.now) }
     {
-        let changes = self.kind_changes(i, stretches);
+        let changes = self.kind_changes(i, stretches, reads);
         self.kinds[i].count_after(changes.as_slice())
     }
 
-    /// Gives the pages of each stretch of a place what its origin says, and leaves all other pages. Of two
-    /// stretches that have a page, the first counts. No frame is written.
+    /// Gives the pages of each stretch of a place what its origin and its right say, and leaves all other
+    /// pages. Of two stretches that have a page, the first counts. The pages of `reads` that are present then
+    /// get the right `Read`, whether a stretch has them or not. No frame is written.
     #[tactic(auto, unfolding(crate::specs::Seen::frames_of, crate::specs::Seen::pool, crate::specs::Seen::free_nodes))]
-    pub fn change<L: Ledger>(&mut self, i: usize, stretches: &[Stretch], steps: &mut Steps<L>)
+    pub fn change<L: Ledger>(
+        &mut self,
+        i: usize,
+        stretches: &[Stretch],
+        reads: &[ReadRange],
+        steps: &mut Steps<L>,
+    )
         requires place { i < length (cells self.old) }
         requires stretches { All (IsStretch (length (cells self.old)) i) stretches.now }
-        requires ranges { ranges MOST_PAGES (kinds_of (changed_place (cells self.old) i stretches.now))
-            ≤ MOST_RANGES }
+        requires ranges { ranges MOST_PAGES
+            (changed_states (cells self.old) (rights self.old) i stretches.now reads.now) ≤ MOST_RANGES }
         ensures cells { cells self.new
             ≡ slice_set (cells self.old) i (changed_place (cells self.old) i stretches.now) }
+        ensures rights { rights self.new
+            ≡ slice_set (rights self.old) i
+            (changed_rights (cells self.old) (rights self.old) i stretches.now reads.now) }
         ensures frames { frames_of self.new ≡ frames_of self.old }
         ensures pool { pool self.new ≡ pool self.old }
         ensures nodes { free_nodes self.old
@@ -100,7 +120,7 @@ impl PageCells {
         ensures cost_empty { place_of (cells self.old) i ≡ no_pages
             → steps.new ≤ steps.old + 64 * length stretches.now }
     {
-        let changes = self.kind_changes(i, stretches);
+        let changes = self.kind_changes(i, stretches, reads);
         if change_kinds(&mut self.kinds[i], changes.as_slice()) {
             fill_row(&mut self.rows, i, stretches, steps);
         } else {
@@ -108,20 +128,22 @@ impl PageCells {
         }
     }
 
-    /// Makes all pages of a place those of another, by one hold of the root of their tree. No frame is
-    /// written.
+    /// Makes all pages of a place those of another, and their rights, by one hold of the root of their tree.
+    /// No frame is written.
     #[tactic(auto, unfolding(crate::specs::Seen::frames_of, crate::specs::Seen::pool, crate::specs::Seen::free_nodes))]
     pub fn clone_place<L: Ledger>(&mut self, to: usize, from: usize, steps: &mut Steps<L>)
         requires to { to < length (cells self.old) }
         requires from { from < length (cells self.old) }
         requires apart { from ≢ to }
         ensures cells { cells self.new ≡ slice_set (cells self.old) to (place_of (cells self.old) from) }
+        ensures rights { rights self.new ≡ slice_set (rights self.old) to (rights_of (rights self.old) from) }
         ensures frames { frames_of self.new ≡ frames_of self.old }
         ensures pool { pool self.new ≡ pool self.old }
         ensures nodes { free_nodes self.old ≤ free_nodes self.new }
         ensures cost { steps.new ≤ steps.old + 34 }
         ensures cost_empty { place_of (cells self.old) to ≡ no_pages
-            → steps.new ≤ steps.old + min 1 (ranges MOST_PAGES (kinds_of (place_of (cells self.old) from))) }
+            → steps.new ≤ steps.old + min 1 (ranges MOST_PAGES
+            (states_of (place_of (cells self.old) from) (rights_of (rights self.old) from))) }
     {
         let some = has_page(&self.kinds[from]);
         self.kinds[to] = self.kinds[from].copy();
@@ -137,6 +159,7 @@ impl PageCells {
     pub fn clear_place<L: Ledger>(&mut self, i: usize, steps: &mut Steps<L>)
         requires place { i < length (cells self.old) }
         ensures cells { cells self.new ≡ slice_set (cells self.old) i no_pages }
+        ensures rights { rights self.new ≡ slice_set (rights self.old) i all_write }
         ensures frames { frames_of self.new ≡ frames_of self.old }
         ensures pool { pool self.new ≡ pool self.old }
         ensures nodes { free_nodes self.old ≤ free_nodes self.new }

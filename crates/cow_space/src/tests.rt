@@ -1,4 +1,4 @@
-ghost use Rattle.std.specs.Prelude.{◌≡◌, ◌≢◌, ℕ, ◌+◌, ◌<◌, ◌≤◌, All, IfOk, length, slice_set};
+ghost use Rattle.std.specs.Prelude.{◌≡◌, ◌≢◌, ℕ, ◌+◌, ◌<◌, ◌≤◌, All, IfOk, None, length, slice_set};
 ghost use Rattle.cow_space.specs.Changes.{IsStretch, changed_place};
 ghost use Rattle.cow_space.specs.Seen.{cells};
 
@@ -14,11 +14,12 @@ use std::test::Fail;
 
 /// A stretch of pages from one up to and without another.
 fn stretch(from: u16, to: u16, origin: Origin) -> Stretch
-    ensures { result ≡ record { range = record { from = from; to = to }; origin = origin } }
+    ensures { result ≡ record { range = record { from = from; to = to }; origin = origin; right = None } }
 {
     Stretch {
         range: Range { from, to },
         origin,
+        right: None,
     }
 }
 
@@ -35,9 +36,9 @@ fn change<L: Ledger>(
     ensures { cells places.new
         ≡ slice_set (cells places.old) i (changed_place (cells places.old) i stretches.now) }
 {
-    let count = places.count_after(i, stretches);
+    let count = places.count_after(i, stretches, &[]);
     assert!(rt; count <= MOST_RANGES);
-    places.change(i, stretches, steps);
+    places.change(i, stretches, &[], steps);
 }
 
 /// Three places, of which the first has pages 2 to 7, and bytes at page 5.

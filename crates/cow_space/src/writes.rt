@@ -12,18 +12,18 @@ pub struct NoFrame;
 impl PageCells {
     ghost use Rattle.std.specs.Prelude.{◌≡◌, ◌↔◌, ◌+◌, ◌<◌, ◌≤◌, IfOk, IsErr, OnErr, length};
     ghost use Rattle.cow_space.specs.Cells.{IsOwnPage, place_of};
-    ghost use Rattle.cow_space.specs.Seen.{cells, frames_of, free_nodes};
+    ghost use Rattle.cow_space.specs.Seen.{cells, frames_of, free_nodes, rights};
     ghost use Rattle.cow_space.specs.Tags.{IsNewTag, is_parting, taken_by, used};
     ghost use Rattle.cow_space.specs.Writes.{write_page};
 
     /// Writes what a piece at an address has of page p of a place, whose own it is, under a new tag if
-    /// the page parts, and tells whether it did. No other page of any place changes.
+    /// the page parts, and tells whether it did. No other page of any place changes, and no right does.
     ///
     /// # Errors
     ///
     /// `NoFrame` exactly where the frames in use and the one that the page takes are more than there are.
     /// Nothing changes then.
-    #[tactic(auto, unfolding(crate::specs::Seen::frames_of, crate::specs::Seen::free_nodes))]
+    #[tactic(auto, unfolding(crate::specs::Seen::rights, crate::specs::Seen::frames_of, crate::specs::Seen::free_nodes))]
     pub fn write<L: Ledger>(
         &mut self,
         i: usize,
@@ -42,6 +42,7 @@ impl PageCells {
         ensures written { IfOk result (λ parted. cells self.new
             ≡ write_page (cells self.old) i p (record { at = at; bytes = piece.now }) tag) }
         ensures parted { IfOk result (λ parted. parted ≡ is_parting (cells self.old) i p) }
+        ensures rights { rights self.new ≡ rights self.old }
         ensures frames { frames_of self.new ≡ frames_of self.old }
         ensures nodes { free_nodes self.old ≤ free_nodes self.new + 2 }
         ensures cost { steps.new ≤ steps.old + 36 }

@@ -15,10 +15,11 @@ use Rattle.lwc_base.specs.declared.name.Tag.{Tag}
 use Rattle.lwc_base.specs.declared.page.PageValue.{PageValue}
 use Rattle.lwc_base.specs.declared.page.PageValue.TheVariants.{Data}
 use Rattle.lwc_base.specs.declared.regs.Regs.{Regs}
+use Rattle.lwc_base.specs.declared.right.Right.TheVariants.{Write}
 use Rattle.lwc_base.specs.Fresh.{IsFresh}
 use Rattle.lwc_base.specs.Keys.{with_key}
 use Rattle.lwc_base.specs.Summaries.{is_empty}
-use Rattle.lwc_base.specs.World.{World, Counters, add_context, change_counters, new_context, new_value, next_context}
+use Rattle.lwc_base.specs.World.{World, Counters, add_context, change_counters, group, new_context, new_value, next_context}
 use Rattle.ctx_table.specs.NameTables.{ArePlaced, NameTable}
 use Rattle.lazy_world.specs.declared.counts.Counts.{Counts}
 use Rattle.lazy_world.specs.declared.registers.Registers.{Registers}
@@ -27,9 +28,10 @@ use Rattle.lazy_world.specs.Mapped.{mapped}
 use Rattle.lazy_world.specs.Sound.{HasOldTags, IsAllOwn, IsEmpty, IsSound, IsWithin}
 use Rattle.lazy_world.specs.States.{Parts, context_at, context_of, counters_of, group_at, group_of, no_registers, nothing_counted, registers_at, world_of}
 use Rattle.lazy_world.proofs.MappedLemmas.{mapped-insert, mapped-same}
+use Rattle.lazy_world.proofs.PageLemmas.{pages-row, pages-same}
 use Rattle.lazy_world.proofs.PlaceLemmas.{choose, pass, set_at}
 use Rattle.lazy_world.proofs.SoundLemmas.{each_row, homes-row}
-use Rattle.lwc_base.proofs.Facts.{stays_fresh}
+use Rattle.lwc_base.proofs.Facts.{changes, stays_fresh}
 use Rattle.lwc_base.proofs.Small.{at-new}
 
 -- a cell with nothing in it
@@ -72,6 +74,9 @@ still_empty row uid empty Cred = refl
 pub no_tag : (row : Row) → IsEmpty row → (p : ℕ) (tag : Tag) (bytes : List ℕ) → row (Page p) ≡ Own (Some (Data tag bytes)) → ⊥
 no_tag row empty p tag bytes is = let none = sym is ∙ no_page (row (Page p)) p (empty (Page p)) in cc
 
+pub no_common : (row : Row) → IsEmpty row → (p : ℕ) (g : Name) → row (Page p) ≡ Common g → ⊥
+no_common row empty p g is = let none = sym is ∙ no_page (row (Page p)) p (empty (Page p)) in cc
+
 pub no_tags : (next : ℕ → Counters) (row : Row) → IsEmpty row → HasOldTags next row
 no_tags next row empty p tag bytes is = absurd (no_tag row empty p tag bytes is)
 
@@ -106,7 +111,8 @@ module _ (s : Parts) (sound : IsSound s) where
   module _ (placed : ArePlaced s.contexts) (job : ℕ) (c : Name) (named : c ≡ next_context now job) (known : job < s.size.jobs)
       (p : ℕ) (inside : p < length s.contexts.places) (is_free : get_or s.contexts.places p None ≡ None)
       (table : NameTable) (map : table.map ≡ fm.insert s.contexts.map c p) (places : table.places ≡ set s.contexts.places p (Some c))
-      (uid : ℕ) (entry : Regs) (n : Counts) (counted : counters_of n ≡ record (counters_of (get_or s.counts job nothing_counted)) { contexts = (counters_of (get_or s.counts job nothing_counted)).contexts + 1 }) where
+      (uid : ℕ) (entry : Regs) (n : Counts) (counted : counters_of n ≡ record (counters_of (get_or s.counts job nothing_counted)) { contexts = (counters_of (get_or s.counts job nothing_counted)).contexts + 1 })
+      (bare : (q : ℕ) → s.rights p q ≡ Write) where
     abbrev registers : Registers
     registers = record { entry = entry; saved = replicate 16 None }
 
@@ -124,15 +130,15 @@ module _ (s : Parts) (sound : IsSound s) where
 
     here : context_at later p ≡ new_context uid entry
     here =
-        ap (λ r. context_of r (registers_at (set s.registers p registers) p)) (choose p p row (s.rows p) refl)
-        ∙ ap (context_of row) (get_or-set_same s.registers p registers no_registers (omega (arith, low, sound.sizes.registers)))
-        ∙ (λ e. record { cell = new_row (s.rows p) uid empty e; entry = entry; saved = λ t. at-new 16 t None e })
+        ap (λ r. context_of r (s.rights p) (registers_at (set s.registers p registers) p)) (choose p p row (s.rows p) refl)
+        ∙ ap (context_of row (s.rights p)) (get_or-set_same s.registers p registers no_registers (omega (arith, low, sound.sizes.registers)))
+        ∙ (λ e. record { cell = new_row (s.rows p) uid empty e; right = λ q. bare q e; entry = entry; saved = λ t. at-new 16 t None e })
 
     elsewhere : (d : Name) (q : ℕ) → fm.get s.contexts.map d ≡ Some q → context_at later q ≡ context_at s q
     elsewhere d q at_q =
         let other : q ≡ p → ⊥ = λ same. some_name d (get_or s.contexts.places q None) ((placed.at d q).0 at_q) (ap (λ i. get_or s.contexts.places i None) same ∙ is_free) in
-        ap (λ r. context_of r (registers_at (set s.registers p registers) q)) (pass p q row (s.rows q) other)
-        ∙ ap (context_of (s.rows q)) (get_or-set_other s.registers p q registers no_registers other)
+        ap (λ r. context_of r (s.rights q) (registers_at (set s.registers p registers) q)) (pass p q row (s.rows q) other)
+        ∙ ap (context_of (s.rows q) (s.rights q)) (get_or-set_other s.registers p q registers no_registers other)
 
     behind : (j : ℕ) → s.size.contexts + j ≡ p → ⊥
     behind j same = absurd (omega (arith, same, low))
@@ -154,6 +160,9 @@ module _ (s : Parts) (sound : IsSound s) where
           next = λ j. cond (eqb j job) (record (now.next j) { contexts = (now.next j).contexts + 1 }) (now.next j);
           size = s.size;
         }) named
+
+    same_groups : (g : Name) → group (world_of later) g ≡ group now g
+    same_groups g = ap (λ (u : World). group u g) added-context ∙ changes.same_groups now (add_context now job (new_context uid entry)) g (changes.context_added now job (new_context uid entry)).groups
 
     tags_kept : (b : Bool) (m : Counters) → (cond b (record m { contexts = m.contexts + 1 }) m).tags ≡ m.tags
     tags_kept true m = refl
@@ -183,4 +192,5 @@ module _ (s : Parts) (sound : IsSound s) where
               (λ other q tag bytes is. subst (λ m. tag.k < m) (sym (next tag.job)) (sound.tags j q tag bytes is));
           fresh = subst IsFresh (sym added-context) (stays_fresh.context_added now job (new_context uid entry) (λ k. tt) sound.fresh);
           homes = homes-row s.rows p row sound.homes (λ q tag bytes is. absurd (no_tag row (still_empty (s.rows p) uid empty) q tag bytes is));
+          pages = pages-row s later p row sound.pages refl (pages-same now (world_of later) same_groups) (λ q g is. absurd (no_common row (still_empty (s.rows p) uid empty) q g is));
         }

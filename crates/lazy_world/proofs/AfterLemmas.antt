@@ -5,25 +5,38 @@ use Rattle.lwc_base.specs.declared.cell.Cell.{Cell}
 use Rattle.lwc_base.specs.declared.cell.Cell.TheVariants as cells
 use Rattle.lwc_base.specs.declared.item.Item.{Item}
 use Rattle.lwc_base.specs.declared.item.Mode.{Mode}
-use Rattle.lwc_base.specs.declared.item.Mode.TheVariants.{Copy, Share, Unmap}
+use Rattle.lwc_base.specs.declared.item.Mode.TheVariants.{Copy, Share, Unmap, CopyRead}
 use Rattle.lwc_base.specs.declared.key.Key.{Key}
 use Rattle.lwc_base.specs.declared.key.Key.TheVariants.{Page}
 use Rattle.lwc_base.specs.declared.name.Name.{Name}
+use Rattle.lwc_base.specs.declared.page.PageValue.{PageValue}
+use Rattle.lwc_base.specs.declared.right.Right.{Right}
 use Rattle.lwc_base.specs.Cells.{value_at, value_of}
 use Rattle.lwc_base.specs.Fresh.{IsFresh}
 use Rattle.lwc_base.specs.Keys.{ValueOf}
 use Rattle.lwc_base.specs.Modes.{IsSpec, mode, mode_or_copy}
+use Rattle.lwc_base.specs.Overlay as base
 use Rattle.lwc_base.specs.Overlay.{overlaid_cell, overlay, ranges_after_overlay}
-use Rattle.lwc_base.specs.Ranges.{ranges, ranges_of}
-use Rattle.lwc_base.specs.Sharing.{cloned_cell, cloned_context, needs_group, ranges_after_clone, share, shared_cell, with_shared}
+use Rattle.lwc_base.specs.Ranges.{is_page, ranges, ranges_of}
+use Rattle.lwc_base.specs.Sharing.{cloned_cell, cloned_context, cloned_right, needs_group, ranges_after_clone, share, shared_cell, with_shared}
 use Rattle.lwc_base.specs.World.{World, Context, context, group, is_live, next_group}
 use Rattle.lazy_world.specs.Followed.{followed, with_transferred}
-use Rattle.lazy_world.specs.Transfers.{transferred_cell, taken_cell}
+use Rattle.lazy_world.specs.Transfers.{overlaid_right, transferred_cell, taken_cell, taken_right}
 use Rattle.lazy_world.specs.declared.transfer.Transfer.{Transfer}
 use Rattle.lazy_world.specs.declared.transfer.Transfer.TheVariants.{Mark, Clone, Overlay}
-use Rattle.lazy_world.proofs.CloneLemmas.{none-moves}
-use Rattle.lazy_world.proofs.RenameLemmas.{is_new, transferred-away, transferred-new, transferred-old, ranges-cells, renamed-ranges, with_name}
+use Rattle.lazy_world.proofs.CloneLemmas.{none-moves, right_taken}
+use Rattle.lazy_world.proofs.RenameLemmas.{is_new, right-named, transferred-away, transferred-new, transferred-old, ranges-cells, renamed-ranges, with_name}
 use Rattle.lwc_base.proofs.Facts.{changes, stays_fresh}
+use Rattle.lwc_base.proofs.Rights.{rights-share}
+
+-- a page is there as before once values have moved
+page-shared : (g : Name) (m : Mode) (p : ℕ) (cell : Cell (Option PageValue)) → is_page (shared_cell g m (Page p) cell) ≡ is_page cell
+page-shared g Copy p cell = refl
+page-shared g Share p (cells.Own None) = refl
+page-shared g Share p (cells.Own (Some v)) = refl
+page-shared g Share p (cells.Common h) = refl
+page-shared g Unmap p cell = refl
+page-shared g CopyRead p cell = refl
 
 module _ (w : World) (fresh : IsFresh w) (items : List Item) (spec : IsSpec w.size.pages items) where
   -- no cell has the next name of a job
@@ -32,7 +45,7 @@ module _ (w : World) (fresh : IsFresh w) (items : List Item) (spec : IsSpec w.si
 
   module _ (transfer : Transfer) (d c : Name) where
     abbrev by_name : Name → Context
-    by_name g = with_transferred w (with_name transfer g) items (context w d).cell (context w c)
+    by_name g = with_transferred w (with_name transfer g) items (context w d) (context w c)
 
     renamed : (i j : ℕ) → ranges w.size.pages (by_name (next_group w i)) ≡ ranges w.size.pages (by_name (next_group w j))
     renamed i j =
@@ -43,13 +56,14 @@ module _ (w : World) (fresh : IsFresh w) (items : List Item) (spec : IsSpec w.si
         (λ p is. transferred-old w (Page p) ((context w d).cell (Page p)) ((context w c).cell (Page p)) (next_group w i) transfer (mode items (Page p)) (next_group w j) is)
         (λ p is. transferred-away w (Page p) ((context w d).cell (Page p)) ((context w c).cell (Page p)) (next_group w i) (no-name i d (Page p)) (no-name i c (Page p)) transfer (mode items (Page p)) is)
         (λ p is. transferred-away w (Page p) ((context w d).cell (Page p)) ((context w c).cell (Page p)) (next_group w j) (no-name j d (Page p)) (no-name j c (Page p)) transfer (mode items (Page p)) is)
+        (λ p. right-named transfer (next_group w i) (next_group w j) (mode items (Page p)) p ((context w d).cell (Page p)) ((context w d).right p) ((context w c).right p))
         w.size.pages
 
     -- the ranges of a context that has followed a transfer, whichever name is new
     pub followed-ranges : is_live w c ≡ true → (i j : ℕ) → ranges_of (followed w (with_name transfer (next_group w i)) items d c) c ≡ ranges w.size.pages (by_name (next_group w j))
     unfolding ranges_of
     followed-ranges live i j =
-        let changed = changes.context_changed w c (with_transferred w (with_name transfer (next_group w i)) items (context w d).cell) in
+        let changed = changes.context_changed w c (with_transferred w (with_name transfer (next_group w i)) items (context w d)) in
         ap (λ n. ranges n.pages (context (followed w (with_name transfer (next_group w i)) items d c) c)) changed.names.size
         ∙ ap (ranges w.size.pages) (changed.changed live)
         ∙ renamed i j
@@ -92,10 +106,25 @@ module _ (w : World) (fresh : IsFresh w) (items : List Item) (spec : IsSpec w.si
       taken-shared k Copy is = ap cells.Own (same_value k (row k) refl ∙ ap (value_of s k) (sym (by_mode k Copy is)))
       taken-shared k Share is = sym (by_mode k Share is)
       taken-shared k Unmap is = refl
+      taken-shared k CopyRead is = ap cells.Own (same_value k (row k) refl ∙ ap (value_of s k) (sym (by_mode k CopyRead is)))
 
       pub overlaid-shared : (k : Key) (old : Cell (ValueOf k)) (o : Option Mode) → mode items k ≡ o → transferred_cell u (Overlay g) o k (row k) old ≡ overlaid_cell s d k o old
       overlaid-shared k old None is = refl
       overlaid-shared k old (Some n) is = taken-shared k n (ap (λ o. unwrap_or o Copy) is)
+
+    -- a right by its mode is that of a clone, in the world in which values have moved
+    right_same : (p : ℕ) → (context w d).right p ≡ (context s d).right p
+    right_same p = sym (ap (λ (r : ℕ → Right). r p) (rights-share w d job items d))
+
+    page_same : (p : ℕ) → is_page (row (Page p)) ≡ is_page ((context s d).cell (Page p))
+    page_same p = sym (ap is_page (shared-cell (Page p)) ∙ page-shared g (m (Page p)) p (row (Page p)))
+
+    pub right-shared : (p : ℕ) (n : Mode) → taken_right n (is_page (row (Page p))) ((context w d).right p) ≡ cloned_right s d p n
+    right-shared p n = (λ e. taken_right n (page_same p e) (right_same p e)) ∙ right_taken s d p n
+
+    pub right-overlaid : (p : ℕ) (old : Right) (o : Option Mode) → overlaid_right o (is_page (row (Page p))) ((context w d).right p) old ≡ base.overlaid_right s d p o old
+    right-overlaid p old None = refl
+    right-overlaid p old (Some n) = right-shared p n
 
     same_groups : (h : Name) → (h ≡ g → ⊥) → group w h ≡ group s h
     same_groups h other = sym ((changes.shared w d job items).groups h other)
@@ -104,14 +133,14 @@ module _ (w : World) (fresh : IsFresh w) (items : List Item) (spec : IsSpec w.si
     unfolding ranges_of
     mark-ranges =
         followed-ranges (Mark g) d d live 0 job
-        ∙ ranges-cells w.size.pages (by_name (Mark g) d d g) (context s d) (λ k. sym (shared-cell k))
+        ∙ ranges-cells w.size.pages (by_name (Mark g) d d g) (context s d) (λ k. sym (shared-cell k)) right_same
         ∙ ap (λ n. ranges n.pages (context s d)) (sym (changes.shared w d job items).size)
 
     pub clone-ranges : ranges_of (followed w (Clone (next_group w 0)) items d d) d ≡ (ranges_after_clone w d job items).1
     unfolding ranges_after_clone cloned_context mode_or_copy
     clone-ranges =
         followed-ranges (Clone g) d d live 0 job
-        ∙ ranges-cells w.size.pages (by_name (Clone g) d d g) (cloned_context s d items (context s d).entry) (λ k. taken-shared w same_groups k (m k) refl)
+        ∙ ranges-cells w.size.pages (by_name (Clone g) d d g) (cloned_context s d items (context s d).entry) (λ k. taken-shared w same_groups k (m k) refl) (λ p. right-shared p (m (Page p)))
         ∙ ap (λ n. ranges n.pages (cloned_context s d items (context s d).entry)) (sym (changes.shared w d job items).size)
 
     pub after-clone : (a b : ℕ) → a ≡ ranges_of (followed w (Mark (next_group w 0)) items d d) d → b ≡ ranges_of (followed w (Clone (next_group w 0)) items d d) d →
@@ -136,11 +165,17 @@ module _ (w : World) (fresh : IsFresh w) (items : List Item) (spec : IsSpec w.si
           ∙ stays k (mode items k) refl
           ∙ sym (ap (λ (x : Context). x.cell k) ((changes.overlaid w c d job items).changed ((changes.shared w d job items).live c ∙ live_c)))
 
+      overlaid_rights : (p : ℕ) → overlaid_right (mode items (Page p)) (is_page (row (Page p))) ((context w d).right p) ((context w c).right p) ≡ (context v c).right p
+      overlaid_rights p =
+          right-overlaid p ((context w c).right p) (mode items (Page p))
+          ∙ ap (λ (r : ℕ → Right). base.overlaid_right s d p (mode items (Page p)) (r p)) (sym (rights-share w d job items c))
+          ∙ sym (ap (λ (x : Context). x.right p) ((changes.overlaid w c d job items).changed ((changes.shared w d job items).live c ∙ live_c)))
+
       pub overlay-ranges : (i : ℕ) → ranges_of (followed w (Overlay (next_group w i)) items d c) c ≡ (ranges_after_overlay w c d job items).1
       unfolding ranges_after_overlay ranges_of
       overlay-ranges i =
           followed-ranges (Overlay g) d c live_c i job
-          ∙ ranges-cells w.size.pages (by_name (Overlay g) d c g) (context v c) overlaid
+          ∙ ranges-cells w.size.pages (by_name (Overlay g) d c g) (context v c) overlaid overlaid_rights
           ∙ ap (λ n. ranges n.pages (context v c)) (sym ((changes.overlaid w c d job items).names.size ∙ (changes.shared w d job items).size))
 
     -- an overlay leaves another context as it is after sharing

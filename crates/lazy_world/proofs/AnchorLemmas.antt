@@ -1,5 +1,5 @@
 -- What contexts are reached from, once the world has changed.
-use Rattle.std.proofs.Common.{◌≡◌, ◌≢◌, ◌⊎◌, inl, inr, ℕ, List, [], ◌∷◌, refl, sym, ap, subst, ◌∙◌, Bool, true, false, cond, Option, Some, None}
+use Rattle.std.proofs.Common.{◌≡◌, ◌≢◌, ◌⊎◌, inl, inr, ℕ, List, [], ◌∷◌, refl, sym, ap, subst, ◌∙◌, Bool, true, false, Option, Some, None}
 use Rattle.std.specs.Prelude.{Err, Ok, OnErr, OnOk, Result}
 use Rattle.std.specs.Ordering.{eq_by_cmp}
 use Rattle.std.proofs.lemmas.Bool.{false≢true}
@@ -18,10 +18,11 @@ use Rattle.lwc_base.specs.Mapping.{map_pages, unmap_pages}
 use Rattle.lwc_base.specs.Names.{name_cmp}
 use Rattle.lwc_base.specs.Saved.{save}
 use Rattle.lwc_base.specs.Sharing.{clone_context, cloned_context, share}
-use Rattle.lwc_base.specs.Store.{Absent, Done, Full, Piece, after_store, store}
+use Rattle.lwc_base.specs.Store.{Done, Piece, store}
 use Rattle.lwc_base.specs.World.{World, Context, Group, context, is_live, next_context}
 use Rattle.lazy_world.specs.Anchors.{AreReached, with_anchor}
 use Rattle.lazy_world.proofs.LooseLemmas.{links-by, links-slot}
+use Rattle.lwc_base.proofs.Stored.{is_done}
 use Rattle.lwc_base.proofs.Facts.{changes, stays_fresh}
 use Rattle.lwc_base.proofs.Life.{or_cases, or_left, or_right, reached_by_way, way_of_reached}
 use Rattle.lwc_base.proofs.Common.{put-other_key}
@@ -114,14 +115,8 @@ module _ (w : World) (names : List Name) (reached : AreReached w names) where
   reached-uid c uid = same-slots (put_uid w c uid) (changes.put w c Cred uid).live (λ d n. put-other_key w c Cred uid d (Slot n) (λ is. cc))
 
   pub reached-store : (v : World) (c : Name) (job : ℕ) (piece : Piece) → store w c job piece ≡ Done v → AreReached v names
-  unfolding store
   reached-store v c job piece done =
-      same-slots v (λ d. ap (λ u. is_live u d) (is-after _ _ done) ∙ (changes.stored w c job piece).live d) (λ d n. store-other_keys w v c job piece done d (Slot n) (λ p is. cc))
-    where
-      is-after : (a b : Bool) → cond a Absent (cond b Full (Done (after_store w c job piece))) ≡ Done v → v ≡ after_store w c job piece
-      is-after true b is = cc
-      is-after false true is = cc
-      is-after false false is = cc
+      same-slots v (λ d. ap (λ u. is_live u d) (is_done w c job piece v done).after ∙ (changes.stored w c job piece).live d) (λ d n. store-other_keys w v c job piece done d (Slot n) (λ p is. cc))
 
   -- so are they after a store that is refused
   pub reached-stored : {T E : Type 0} → (v : World) (c : Name) (job : ℕ) (piece : Piece) (r : Result T E) → OnOk r (store w c job piece ≡ Done v) → OnErr r (v ≡ w) → AreReached v names

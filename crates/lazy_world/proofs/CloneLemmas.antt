@@ -6,7 +6,7 @@ use Rattle.lwc_base.specs.declared.cell.Cell.{Cell}
 use Rattle.lwc_base.specs.declared.cell.Cell.TheVariants as cells
 use Rattle.lwc_base.specs.declared.item.Item.{Item}
 use Rattle.lwc_base.specs.declared.item.Mode.{Mode}
-use Rattle.lwc_base.specs.declared.item.Mode.TheVariants.{Copy, Share, Unmap}
+use Rattle.lwc_base.specs.declared.item.Mode.TheVariants.{Copy, Share, Unmap, CopyRead}
 use Rattle.lwc_base.specs.declared.key.Key.{Key}
 use Rattle.lwc_base.specs.declared.key.Key.TheVariants.{Page, Slot, Cred}
 use Rattle.lwc_base.specs.declared.limits.TheConstants.{MOST_RANGES}
@@ -16,12 +16,12 @@ use Rattle.lwc_base.specs.Cells.{value_at, value_of}
 use Rattle.lwc_base.specs.Fresh.{IsFresh}
 use Rattle.lwc_base.specs.Keys.{ValueOf}
 use Rattle.lwc_base.specs.Modes.{IsKey, IsSpec, kind_of, limit, mode, mode_or_copy, number_of}
-use Rattle.lwc_base.specs.Ranges.{begins_range, ranges, ranges_of}
-use Rattle.lwc_base.specs.Sharing.{clone_context, cloned_cell, cloned_context, is_moved, needs_group, ranges_after_clone, share, with_shared}
+use Rattle.lwc_base.specs.Ranges.{begins_range, is_page, ranges, ranges_of}
+use Rattle.lwc_base.specs.Sharing.{clone_context, cloned_cell, cloned_context, cloned_right, is_moved, needs_group, ranges_after_clone, share, with_shared}
 use Rattle.lwc_base.specs.World.{World, Context, add_context, change_context, change_counters, changed_context, context, is_live, new_context, next_context, next_group}
 use Rattle.lazy_world.specs.Cells.{is_nothing}
 use Rattle.lazy_world.specs.Followed.{followed, with_transferred}
-use Rattle.lazy_world.specs.Transfers.{taken_cell}
+use Rattle.lazy_world.specs.Transfers.{taken_cell, taken_right}
 use Rattle.lazy_world.specs.declared.transfer.Transfer.TheVariants.{Clone}
 use Rattle.lazy_world.proofs.NeedLemmas.{needs-key}
 use Rattle.lazy_world.proofs.PastLemmas.{mode-past}
@@ -38,6 +38,14 @@ common_stays : (m : Mode) (k : Key) (g : Name) → is_moved m k (cells.Common g)
 common_stays Copy k g = refl
 common_stays Share k g = refl
 common_stays Unmap k g = refl
+common_stays CopyRead k g = refl
+
+-- a right by its mode is that of a clone
+pub right_taken : (s : World) (c : Name) (p : ℕ) (n : Mode) → taken_right n (is_page ((context s c).cell (Page p))) ((context s c).right p) ≡ cloned_right s c p n
+right_taken s c p Copy = refl
+right_taken s c p Share = refl
+right_taken s c p Unmap = refl
+right_taken s c p CopyRead = refl
 
 module _ (w : World) (c : Name) (job : ℕ) (items : List Item) (spec : IsSpec w.size.pages items) (live : is_live w c ≡ true) where
   abbrev s : World
@@ -86,6 +94,7 @@ module _ (w : World) (c : Name) (job : ℕ) (items : List Item) (spec : IsSpec w
     taken-cloned k Copy still = ap cells.Own (same_value k ((context s c).cell k))
     taken-cloned k Share still = ap (λ b. cond b (cells.Common g) ((context s c).cell k)) still
     taken-cloned k Unmap still = refl
+    taken-cloned k CopyRead still = ap cells.Own (same_value k ((context s c).cell k))
 
   module _ (fresh : IsFresh w) (uid : ℕ) (entry : Regs) where
     abbrev made : Name
@@ -116,9 +125,14 @@ module _ (w : World) (c : Name) (job : ℕ) (items : List Item) (spec : IsSpec w
         ap (λ (x : Context). taken_cell added g (m k) k (x.cell k)) same_context
         ∙ taken-cloned added g (changes.context_added s job (new_context uid entry)).groups k (m k) (settled k)
 
-    as_cloned : (g : Name) → with_transferred added (Clone g) items (context added c).cell (new_context uid entry) ≡ cloned_context s c items entry
+    cloned_rights : (p : ℕ) → taken_right (m (Page p)) (is_page ((context added c).cell (Page p))) ((context added c).right p) ≡ cloned_right s c p (mode_or_copy items (Page p))
+    unfolding mode_or_copy
+    cloned_rights p =
+        ap (λ (x : Context). taken_right (m (Page p)) (is_page (x.cell (Page p))) (x.right p)) same_context ∙ right_taken s c p (m (Page p))
+
+    as_cloned : (g : Name) → with_transferred added (Clone g) items (context added c) (new_context uid entry) ≡ cloned_context s c items entry
     unfolding cloned_context
-    as_cloned g = λ e. record { cell = λ k. cloned_cells g k e; entry = entry; saved = λ t. None }
+    as_cloned g = λ e. record { cell = λ k. cloned_cells g k e; right = λ p. cloned_rights p e; entry = entry; saved = λ t. None }
 
     changed_again : (f : Context → Context) → change_context added made f ≡ add_context s job (f (new_context uid entry))
     unfolding change_context add_context change_counters
@@ -128,7 +142,7 @@ module _ (w : World) (c : Name) (job : ℕ) (items : List Item) (spec : IsSpec w
 
     pub cloned-world : (g : Name) → followed added (Clone g) items c made ≡ clone_context w c job items entry
     unfolding clone_context
-    cloned-world g = changed_again (with_transferred added (Clone g) items (context added c).cell) ∙ ap (add_context s job) (as_cloned g)
+    cloned-world g = changed_again (with_transferred added (Clone g) items (context added c)) ∙ ap (add_context s job) (as_cloned g)
 
     pub cloned-is : (g : Name) (v : World) (n : Name) → v ≡ added → n ≡ made → followed v (Clone g) items c n ≡ clone_context w c job items entry
     cloned-is g v n is named = (λ e. followed (is e) (Clone g) items c (named e)) ∙ cloned-world g

@@ -1,18 +1,18 @@
 -- Where the pages of a clone come from: by items first, and else by the segments of the context.
 use Rattle.std.proofs.Common.{◌≡◌, ◌≢◌, ℕ, ◌+◌, ◌<◌, ◌++◌, Bool, true, false, cond, List, [], ◌∷◌, arith, drop, get_or, length, take, refl, sym, ap, ◌∙◌, Option, Some, None}
-use Rattle.std.specs.Prelude.{◌&&◌, All, nat_le, nat_lt, unwrap_or}
+use Rattle.std.specs.Prelude.{◌&&◌, ◌||◌, All, nat_le, nat_lt, unwrap_or}
 use Rattle.std.specs.FinMap as fm
 use Rattle.std.specs.List.{find}
 use Rattle.std.specs.Option.{option_map, option_or}
 use Rattle.std.proofs.lemmas.Bool.Decides.{nat_tests}
 use Rattle.std.proofs.lemmas.List.{get_or-take, get_or_default, length-take, take-append-drop, take_more}
 use Rattle.std.proofs.lemmas.List.Elements.{All-push}
-use Rattle.std.proofs.lemmas.List.Folds.{find-append}
+use Rattle.std.proofs.lemmas.List.Folds.{find-append, list_any-append}
 use Rattle.lwc_base.specs.declared.cell.Cell.{Cell}
 use Rattle.lwc_base.specs.declared.cell.Cell.TheVariants as cells
 use Rattle.lwc_base.specs.declared.item.Item.{Item}
 use Rattle.lwc_base.specs.declared.item.Mode.{Mode}
-use Rattle.lwc_base.specs.declared.item.Mode.TheVariants.{Copy, Share, Unmap}
+use Rattle.lwc_base.specs.declared.item.Mode.TheVariants.{Copy, Share, Unmap, CopyRead}
 use Rattle.lwc_base.specs.declared.key.Key.{Key}
 use Rattle.lwc_base.specs.declared.key.Key.TheVariants.{Page}
 use Rattle.lwc_base.specs.declared.key.Kind.{Kind}
@@ -23,31 +23,33 @@ use Rattle.lwc_base.specs.Cells.{value_of}
 use Rattle.lwc_base.specs.Modes.{IsSpec, mode, mode_or_copy, names, overlaps, same_kind}
 use Rattle.lwc_base.specs.Sharing.{is_moved}
 use Rattle.lwc_base.specs.World.{Group, group}
-use Rattle.range_map.specs.Kinds.{IsSegment, is_between, kind_at, kind_of}
+use Rattle.range_map.specs.Kinds.{IsSegment, is_between, kind_of, state_at, state_in, state_of}
+use Rattle.range_map.specs.declared.segment.PageState.{PageState}
 use Rattle.range_map.specs.declared.segment.Segment.{Segment}
 use Rattle.range_map.specs.declared.segment.SegmentKind.{SegmentKind}
 use Rattle.range_map.specs.declared.segment.SegmentKind.TheVariants.{Own, Common}
-use Rattle.cow_space.specs.declared.stretches.Origin.{Origin}
+use Rattle.cow_space.specs.declared.stretches.ReadRange.{ReadRange}
 use Rattle.cow_space.specs.declared.stretches.Stretch.{Stretch}
-use Rattle.cow_space.specs.Changes.{IsApart, IsStretch}
+use Rattle.cow_space.specs.Changes.{IsApart, IsStretch, have_page}
 use Rattle.ctx_table.specs.NameTables.{ArePlaced}
-use Rattle.lazy_world.specs.Clones.{CopiesPages, item_origin, kind_origin, place_of_group}
-use Rattle.lazy_world.specs.Transfers.{CanGet, copied_origin, given, given_or, transferred_cell}
+use Rattle.lazy_world.specs.Clones.{CopiesPages, item_gift, kind_origin, place_of_group, state_gift}
+use Rattle.lazy_world.specs.Cells.{states_of}
+use Rattle.lazy_world.specs.Transfers.{CanGet, copied_origin, given, given_or, is_read, transferred_cell}
 use Rattle.lazy_world.specs.Sound.{IsAllOwn}
-use Rattle.lazy_world.specs.Origins.{origin_at}
+use Rattle.lazy_world.specs.Origins.{Gift, gift_at, gift_of}
 use Rattle.lazy_world.specs.States.{Parts, world_of}
 use Rattle.lazy_world.specs.declared.transfer.Transfer.TheVariants.{Clone}
 use Rattle.lazy_world.proofs.FoundLemmas.{held_own}
 use Rattle.lazy_world.proofs.PastLemmas.{find_none}
 use Rattle.lazy_world.proofs.WorldLemmas.{group-found, group-missed}
 
--- the origins of stretches after others
-pub origin_append : (xs ys : List Stretch) (q : ℕ) → origin_at (xs ++ ys) q ≡ option_or (origin_at xs q) (origin_at ys q)
-origin_append xs ys q =
-    ap (option_map (λ (s : Stretch). s.origin)) (find-append (λ (s : Stretch). is_between s.range.from s.range.to q) xs ys)
+-- what stretches after others give
+pub gift_append : (xs ys : List Stretch) (q : ℕ) → gift_at (xs ++ ys) q ≡ option_or (gift_at xs q) (gift_at ys q)
+gift_append xs ys q =
+    ap (option_map gift_of) (find-append (λ (s : Stretch). is_between s.range.from s.range.to q) xs ys)
     ∙ at (find (λ (s : Stretch). is_between s.range.from s.range.to q) xs) (find (λ (s : Stretch). is_between s.range.from s.range.to q) ys)
   where
-    at : (a b : Option Stretch) → option_map (λ (s : Stretch). s.origin) (option_or a b) ≡ option_or (option_map (λ s. s.origin) a) (option_map (λ s. s.origin) b)
+    at : (a b : Option Stretch) → option_map gift_of (option_or a b) ≡ option_or (option_map gift_of a) (option_map gift_of b)
     at None b = refl
     at (Some s) b = refl
 
@@ -63,12 +65,6 @@ mode_append xs ys k = ap (option_map (λ (x : Item). x.mode)) (find-append (λ x
     at None b = refl
     at (Some x) b = refl
 
--- an item that gives its pages no origin copies them
-pub copies_only : (from : ℕ) (m : Mode) → item_origin from (Some m) ≡ None → m ≡ Copy
-copies_only from Copy none = refl
-copies_only from Share none = cc
-copies_only from Unmap none = cc
-
 -- two items that name one page have a key in common
 both_name : (a b : Kind) (from to first end q : ℕ) → (same_kind a kinds.Page && nat_le from q && nat_lt q to) ≡ true → (same_kind b kinds.Page && nat_le first q && nat_lt q end) ≡ true →
     (same_kind a b && nat_lt from end && nat_lt first to) ≡ false → ⊥
@@ -78,10 +74,10 @@ both_name kinds.Cred b from to first end q here there apart = cc
 both_name kinds.Page kinds.Slot from to first end q here there apart = cc
 both_name kinds.Page kinds.Cred from to first end q here there apart = cc
 
--- the origin that one stretch gives
-one_origin : (s : Stretch) (q : ℕ) (b : Bool) → is_between s.range.from s.range.to q ≡ b → origin_at (s ∷ []) q ≡ cond b (Some s.origin) None
-one_origin s q true on = ap (λ c. option_map (λ (s : Stretch). s.origin) (cond c (Some s) None)) on
-one_origin s q false off = ap (λ c. option_map (λ (s : Stretch). s.origin) (cond c (Some s) None)) off
+-- what one stretch gives
+one_gift : (s : Stretch) (q : ℕ) (b : Bool) → is_between s.range.from s.range.to q ≡ b → gift_at (s ∷ []) q ≡ cond b (Some (gift_of s)) None
+one_gift s q true on = ap (λ c. option_map gift_of (cond c (Some s) None)) on
+one_gift s q false off = ap (λ c. option_map gift_of (cond c (Some s) None)) off
 
 module _ (items : List Item) (pages : ℕ) (spec : IsSpec pages items) (i : ℕ) (d : Item) (inside : i < length items) (q : ℕ) where
   abbrev item : Item
@@ -143,39 +139,65 @@ module _ (items : List Item) (pages : ℕ) (spec : IsSpec pages items) (i : ℕ)
   unfolding mode_or_copy
   copied_here copies here = sym (ap (λ o. unwrap_or o Copy) (mode_here here)) ∙ copies q
 
-  module _ (from : ℕ) (stretches : List Stretch) (so_far : origin_at stretches q ≡ item_origin from (mode (take i items) (Page q))) where
+  module _ (from : ℕ) (stretches : List Stretch) (so_far : gift_at stretches q ≡ item_gift from (mode (take i items) (Page q))) where
     -- an item whose pages are copied has no stretch
-    pub item_passed : (names item (Page q) ≡ true → item_origin from (Some item.mode) ≡ None) → origin_at stretches q ≡ item_origin from (mode (take (i + 1) items) (Page q))
+    pub item_passed : (names item (Page q) ≡ true → item_gift from (Some item.mode) ≡ None) → gift_at stretches q ≡ item_gift from (mode (take (i + 1) items) (Page q))
     item_passed copies = at (names item (Page q)) refl
       where
-        at : (b : Bool) → names item (Page q) ≡ b → origin_at stretches q ≡ item_origin from (mode (take (i + 1) items) (Page q))
-        at true here = so_far ∙ ap (item_origin from) (none_before here) ∙ sym (ap (item_origin from) (mode_named here) ∙ copies here)
-        at false off = so_far ∙ sym (ap (item_origin from) (mode_other off))
+        at : (b : Bool) → names item (Page q) ≡ b → gift_at stretches q ≡ item_gift from (mode (take (i + 1) items) (Page q))
+        at true here = so_far ∙ ap (item_gift from) (none_before here) ∙ sym (ap (item_gift from) (mode_named here) ∙ copies here)
+        at false off = so_far ∙ sym (ap (item_gift from) (mode_other off))
 
     -- another one has a stretch of its own
-    pub item_pushed : (s : Stretch) → is_between s.range.from s.range.to q ≡ names item (Page q) → Some s.origin ≡ item_origin from (Some item.mode) →
-        origin_at (stretches ++ s ∷ []) q ≡ item_origin from (mode (take (i + 1) items) (Page q))
-    item_pushed s same origin = origin_append stretches (s ∷ []) q ∙ at (names item (Page q)) refl
+    pub item_pushed : (s : Stretch) → is_between s.range.from s.range.to q ≡ names item (Page q) → Some (gift_of s) ≡ item_gift from (Some item.mode) →
+        gift_at (stretches ++ s ∷ []) q ≡ item_gift from (mode (take (i + 1) items) (Page q))
+    item_pushed s same gift = gift_append stretches (s ∷ []) q ∙ at (names item (Page q)) refl
       where
-        at : (b : Bool) → names item (Page q) ≡ b → option_or (origin_at stretches q) (origin_at (s ∷ []) q) ≡ item_origin from (mode (take (i + 1) items) (Page q))
+        at : (b : Bool) → names item (Page q) ≡ b → option_or (gift_at stretches q) (gift_at (s ∷ []) q) ≡ item_gift from (mode (take (i + 1) items) (Page q))
         at true here =
-            (λ x. option_or ((so_far ∙ ap (item_origin from) (none_before here)) x) (one_origin s q true (same ∙ here) x))
-            ∙ origin ∙ sym (ap (item_origin from) (mode_named here))
+            (λ x. option_or ((so_far ∙ ap (item_gift from) (none_before here)) x) (one_gift s q true (same ∙ here) x))
+            ∙ gift ∙ sym (ap (item_gift from) (mode_named here))
         at false off =
-            ap (option_or (origin_at stretches q)) (one_origin s q false (same ∙ off))
-            ∙ or_none (origin_at stretches q) ∙ so_far ∙ sym (ap (item_origin from) (mode_other off))
+            ap (option_or (gift_at stretches q)) (one_gift s q false (same ∙ off))
+            ∙ or_none (gift_at stretches q) ∙ so_far ∙ sym (ap (item_gift from) (mode_other off))
+
+  -- of pages that may only be read, with one item more
+  module _ (ranges : List ReadRange) (so_far : have_page ranges q ≡ is_read (mode (take i items) (Page q))) where
+    none_read : names item (Page q) ≡ true → have_page ranges q ≡ false
+    none_read here = so_far ∙ ap is_read (none_before here)
+
+    pub read_passed : (names item (Page q) ≡ true → is_read (Some item.mode) ≡ false) → have_page ranges q ≡ is_read (mode (take (i + 1) items) (Page q))
+    read_passed other = at (names item (Page q)) refl
+      where
+        at : (b : Bool) → names item (Page q) ≡ b → have_page ranges q ≡ is_read (mode (take (i + 1) items) (Page q))
+        at true here = none_read here ∙ sym (ap is_read (mode_named here) ∙ other here)
+        at false off = so_far ∙ sym (ap is_read (mode_other off))
+
+    pub read_pushed : (r : ReadRange) → is_between r.from r.to q ≡ names item (Page q) → is_read (Some item.mode) ≡ true → have_page (ranges ++ r ∷ []) q ≡ is_read (mode (take (i + 1) items) (Page q))
+    read_pushed r same read =
+        list_any-append (λ (x : ReadRange). is_between x.from x.to q) ranges (r ∷ [])
+        ∙ ap (λ b. have_page ranges q || (b || false)) same ∙ at (names item (Page q)) refl
+      where
+        or_false : (b : Bool) → (b || (false || false)) ≡ b
+        or_false true = refl
+        or_false false = refl
+
+        at : (b : Bool) → names item (Page q) ≡ b → (have_page ranges q || (names item (Page q) || false)) ≡ is_read (mode (take (i + 1) items) (Page q))
+        at true here = (λ e. none_read here e || (here e || false)) ∙ sym (ap is_read (mode_named here) ∙ read)
+        at false off = ap (λ b. have_page ranges q || (b || false)) off ∙ or_false (have_page ranges q) ∙ so_far ∙ sym (ap is_read (mode_other off))
 
 -- a place can get what an item gives of another one
-pub item_given : (from count to : ℕ) → from < count → from ≢ to → (m : Option Mode) → CanGet count to (item_origin from m)
+pub item_given : (from count to : ℕ) → from < count → from ≢ to → (m : Option Mode) → CanGet count to (option_map (λ gift. gift.0) (item_gift from m))
 item_given from count to inside apart None = tt
 item_given from count to inside apart (Some Copy) = tt
 item_given from count to inside apart (Some Share) = (inside, apart)
 item_given from count to inside apart (Some Unmap) = tt
+item_given from count to inside apart (Some CopyRead) = tt
 
 module _ (s : Parts) (from : ℕ) where
   -- the stretch of a segment
   abbrev pub stretch_of : Segment → Stretch
-  stretch_of segment = record { range = record { from = segment.from; to = segment.to }; origin = kind_origin s from segment.kind }
+  stretch_of segment = record { range = record { from = segment.from; to = segment.to }; origin = kind_origin s from segment.kind; right = Some segment.right }
 
   module _ (segments : List Segment) (i : ℕ) (d : Segment) (inside : i < length segments) (q : ℕ) where
     abbrev segment : Segment
@@ -184,29 +206,29 @@ module _ (s : Parts) (from : ℕ) where
     abbrev has : Bool
     has = is_between segment.from segment.to q
 
-    kind_more : kind_at (take (i + 1) segments) q ≡ option_or (kind_at (take i segments) q) (cond has (Some segment.kind) None)
-    unfolding kind_at
-    kind_more =
-        ap (λ xs. option_map (λ (x : Segment). x.kind) (find (λ x. is_between x.from x.to q) xs)) (take_more segments i d inside)
-        ∙ ap (option_map (λ (x : Segment). x.kind)) (find-append (λ x. is_between x.from x.to q) (take i segments) (segment ∷ []))
+    state_more : state_at (take (i + 1) segments) q ≡ option_or (state_at (take i segments) q) (cond has (Some (state_in segment)) None)
+    unfolding state_at
+    state_more =
+        ap (λ xs. option_map state_in (find (λ x. is_between x.from x.to q) xs)) (take_more segments i d inside)
+        ∙ ap (option_map state_in) (find-append (λ x. is_between x.from x.to q) (take i segments) (segment ∷ []))
         ∙ at (find (λ x. is_between x.from x.to q) (take i segments)) has
       where
-        at : (o : Option Segment) (b : Bool) → option_map (λ (x : Segment). x.kind) (option_or o (cond b (Some segment) None)) ≡ option_or (option_map (λ x. x.kind) o) (cond b (Some segment.kind) None)
+        at : (o : Option Segment) (b : Bool) → option_map state_in (option_or o (cond b (Some segment) None)) ≡ option_or (option_map state_in o) (cond b (Some (state_in segment)) None)
         at None true = refl
         at None false = refl
         at (Some x) b = refl
 
-    -- one more segment gives its origin to the pages that neither an item nor a segment before it has
-    pub segment_pushed : (first : Option Origin) (stretches : List Stretch) → origin_at stretches q ≡ option_or first (option_map (kind_origin s from) (kind_at (take i segments) q)) →
-        origin_at (stretches ++ stretch_of segment ∷ []) q ≡ option_or first (option_map (kind_origin s from) (kind_at (take (i + 1) segments) q))
+    -- one more segment gives what it says to the pages that neither an item nor a segment before it has
+    pub segment_pushed : (first : Option Gift) (stretches : List Stretch) → gift_at stretches q ≡ option_or first (option_map (state_gift s from) (state_at (take i segments) q)) →
+        gift_at (stretches ++ stretch_of segment ∷ []) q ≡ option_or first (option_map (state_gift s from) (state_at (take (i + 1) segments) q))
     segment_pushed first stretches so_far =
-        origin_append stretches (stretch_of segment ∷ []) q
-        ∙ (λ x. option_or (so_far x) (one_origin (stretch_of segment) q has refl x))
-        ∙ at first (kind_at (take i segments) q) has
-        ∙ sym (ap (λ o. option_or first (option_map (kind_origin s from) o)) kind_more)
+        gift_append stretches (stretch_of segment ∷ []) q
+        ∙ (λ x. option_or (so_far x) (one_gift (stretch_of segment) q has refl x))
+        ∙ at first (state_at (take i segments) q) has
+        ∙ sym (ap (λ o. option_or first (option_map (state_gift s from) o)) state_more)
       where
-        at : (a : Option Origin) (o : Option SegmentKind) (b : Bool) → option_or (option_or a (option_map (kind_origin s from) o)) (cond b (Some (kind_origin s from segment.kind)) None)
-            ≡ option_or a (option_map (kind_origin s from) (option_or o (cond b (Some segment.kind) None)))
+        at : (a : Option Gift) (o : Option PageState) (b : Bool) → option_or (option_or a (option_map (state_gift s from) o)) (cond b (Some (gift_of (stretch_of segment))) None)
+            ≡ option_or a (option_map (state_gift s from) (option_or o (cond b (Some (state_in segment)) None)))
         at (Some x) o b = refl
         at None (Some k) b = refl
         at None None true = refl
@@ -239,18 +261,20 @@ group_copied s own k g = at (fm.get s.groups.map g) refl
 
 -- the origins of a clone give what a clone gets, if nothing moves any more
 pub clone_gives : (s : Parts) → ((j : ℕ) → IsAllOwn (s.rows (s.size.contexts + j))) → (g : Name) (m : Option Mode) (from q : ℕ) (old : Cell (Option PageValue)) → is_moved (unwrap_or m Copy) (Page q) (s.rows from (Page q)) ≡ false →
-    given_or s.rows (Page q) (cells.Own None) (option_or (item_origin from m) (option_map (kind_origin s from) (kind_of (s.rows from (Page q)))))
+    given_or s.rows (Page q) (cells.Own None) (option_map (λ gift. gift.0) (option_or (item_gift from m) (option_map (state_gift s from) (states_of (s.rows from) (s.rights from) q))))
     ≡ transferred_cell (world_of s) (Clone g) m (Page q) (s.rows from (Page q)) old
 clone_gives s own g m from q old still = by m still
   where
-    copied : (cell : Cell (Option PageValue)) → s.rows from (Page q) ≡ cell → given_or s.rows (Page q) (cells.Own None) (option_map (kind_origin s from) (kind_of cell)) ≡ cells.Own (value_of (world_of s) (Page q) cell)
+    copied : (cell : Cell (Option PageValue)) → s.rows from (Page q) ≡ cell →
+        given_or s.rows (Page q) (cells.Own None) (option_map (λ gift. gift.0) (option_map (state_gift s from) (state_of (kind_of cell) (s.rights from q)))) ≡ cells.Own (value_of (world_of s) (Page q) cell)
     copied (cells.Own None) is = refl
     copied (cells.Own (Some value)) is = is
     copied (cells.Common h) is = group_copied s own (Page q) h
 
     by : (m : Option Mode) → is_moved (unwrap_or m Copy) (Page q) (s.rows from (Page q)) ≡ false →
-        given_or s.rows (Page q) (cells.Own None) (option_or (item_origin from m) (option_map (kind_origin s from) (kind_of (s.rows from (Page q))))) ≡ transferred_cell (world_of s) (Clone g) m (Page q) (s.rows from (Page q)) old
+        given_or s.rows (Page q) (cells.Own None) (option_map (λ gift. gift.0) (option_or (item_gift from m) (option_map (state_gift s from) (states_of (s.rows from) (s.rights from) q)))) ≡ transferred_cell (world_of s) (Clone g) m (Page q) (s.rows from (Page q)) old
     by None rests = copied (s.rows from (Page q)) refl
     by (Some Copy) rests = copied (s.rows from (Page q)) refl
     by (Some Share) rests = sym (ap (λ b. cond b (cells.Common g) (s.rows from (Page q))) rests)
     by (Some Unmap) rests = refl
+    by (Some CopyRead) rests = copied (s.rows from (Page q)) refl

@@ -16,6 +16,7 @@ use Rattle.lwc_base.specs.declared.key.Key.TheVariants.{Page, Slot, Cred}
 use Rattle.lwc_base.specs.declared.limits.TheConstants.{MOST_PAGES}
 use Rattle.lwc_base.specs.declared.name.Name.{Name}
 use Rattle.lwc_base.specs.declared.page.PageValue.{PageValue}
+use Rattle.lwc_base.specs.declared.right.Right.{Right}
 use Rattle.lwc_base.specs.Capabilities.{has_bit}
 use Rattle.lwc_base.specs.Cells.{value_of}
 use Rattle.lwc_base.specs.Keys.{ValueOf}
@@ -24,7 +25,7 @@ use Rattle.lwc_base.specs.Summaries.{is_empty}
 use Rattle.lwc_base.specs.Sharing.{needs_group}
 use Rattle.lwc_base.specs.World.{World}
 use Rattle.lazy_world.specs.Cells.{HasOwnPages, Row, is_nothing, is_own}
-use Rattle.lazy_world.specs.Transfers.{transferred_cell, transferred_row, taken_cell}
+use Rattle.lazy_world.specs.Transfers.{transferred_cell, transferred_rights, transferred_row, taken_cell}
 use Rattle.lazy_world.specs.Sound.{IsAllOwn, IsWithin}
 use Rattle.lazy_world.specs.declared.transfer.Transfer.TheVariants.{Mark, Clone}
 use Rattle.lwc_base.proofs.Needs.{not_needed}
@@ -64,6 +65,14 @@ marked-same w g row old = λ e k. row k
 pub cloned-same : (w : World) (g : Name) (row old : Row) → IsAllOwn row → transferred_row w (Clone g) [] row old ≡ row
 unfolding mode
 cloned-same w g row old own = λ e k. own-same w k (row k) (own k) e
+
+-- with the rights that there are
+pub marked-rights : (g : Name) (row : Row) (right old : ℕ → Right) → transferred_rights (Mark g) [] row right old ≡ right
+marked-rights g row right old = λ e p. right p
+
+pub cloned-rights : (g : Name) (row : Row) (right old : ℕ → Right) → transferred_rights (Clone g) [] row right old ≡ right
+unfolding mode
+cloned-rights g row right old = λ e p. right p
 
 -- a copy of a page that is the row's own is the same
 pub page-same : (w : World) (g : Name) (m : Option Mode) (q : ℕ) (cell old : Cell (Option PageValue)) → unwrap_or m Copy ≡ Copy → is_own cell ≡ true → transferred_cell w (Clone g) m (Page q) cell old ≡ cell

@@ -1,10 +1,6 @@
 -- How many of a range are counted, and what jobs have counted.
-use Rattle.std.proofs.Common.{◌≡◌, ◌<◌, ◌≤◌, ℕ, Bool, arith, get_or, length, subst}
-use Rattle.std.specs.Prelude.{count_by}
-use Rattle.std.specs.List.{range_with_len}
+use Rattle.std.proofs.Common.{◌≡◌, ◌<◌, ℕ, arith, get_or, length}
 use Rattle.std.proofs.lemmas.List.{get_or_read}
-use Rattle.std.proofs.lemmas.List.FromFn.{length-range_with_len}
-use Rattle.std.proofs.lemmas.List.Sums.{count_by-le-length}
 use Rattle.lazy_world.specs.declared.counts.Counts.{Counts}
 use Rattle.lazy_world.specs.declared.world.PlacedWorld.{PlacedWorld}
 use Rattle.lazy_world.specs.States.{nothing_counted, world_of}

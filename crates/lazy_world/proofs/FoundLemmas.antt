@@ -4,8 +4,8 @@ use Rattle.std.specs.Prelude.{IfNone, IfSome}
 use Rattle.lwc_base.specs.declared.cell.Cell.{Cell}
 use Rattle.lwc_base.specs.declared.cell.Cell.TheVariants as cells
 use Rattle.lwc_base.specs.declared.key.Key.{Key}
-use Rattle.lwc_base.specs.declared.key.Key.TheVariants.{Page, Slot, Cred}
 use Rattle.lwc_base.specs.declared.name.Name.{Name}
+use Rattle.lwc_base.specs.declared.right.Right.{Right}
 use Rattle.lwc_base.specs.Keys.{ValueOf}
 use Rattle.lwc_base.specs.World.{World, group, new_group}
 use Rattle.range_map.specs.declared.segment.SegmentKind.{SegmentKind}
@@ -52,9 +52,9 @@ module _ (w : World) (contexts count : ℕ) (rows : ℕ → Row) (k : Key) (g : 
       holder-own j is behind inside (ap (λ i. is_own (rows i k)) (sym at) ∙ own (j - contexts) k)
 
 module _ (w : World) (contexts count : ℕ) (rows : ℕ → Row) (k : Key) (cell : Cell (ValueOf k)) where
-  pub found-common : (kind : Option SegmentKind) (g : Name) (holder : Option ℕ) → kind ≡ kind_in k cell → kind ≡ Some (Common g) → IsHolder w contexts count rows k g holder →
-      IsFound w contexts count rows k cell (record { kind = kind; holder = holder })
-  found-common kind g holder is common holds = record {
+  pub found-common : (kind : Option SegmentKind) (g : Name) (holder : Option ℕ) (right : Option Right) → kind ≡ kind_in k cell → kind ≡ Some (Common g) → IsHolder w contexts count rows k g holder →
+      IsFound w contexts count rows k cell (record { kind = kind; holder = holder; right = right })
+  found-common kind g holder right is common holds = record {
     kind = is;
     value = λ h at.
         let kind_h : Some (Common h) ≡ Some (Common g) = sym (kind_common k h) ∙ ap (kind_in k) (sym at) ∙ sym is ∙ common in
@@ -64,8 +64,8 @@ module _ (w : World) (contexts count : ℕ) (rows : ℕ → Row) (k : Key) (cell
     inside = holds.inside;
   }
 
-  pub found-alone : (kind : Option SegmentKind) → kind ≡ kind_in k cell → ((g : Name) → kind ≡ Some (Common g) → ⊥) → IsFound w contexts count rows k cell (record { kind = kind; holder = None })
-  found-alone kind is alone = record {
+  pub found-alone : (kind : Option SegmentKind) (right : Option Right) → kind ≡ kind_in k cell → ((g : Name) → kind ≡ Some (Common g) → ⊥) → IsFound w contexts count rows k cell (record { kind = kind; holder = None; right = right })
+  found-alone kind right is alone = record {
     kind = is;
     value = λ h at. absurd (alone h (is ∙ ap (kind_in k) at ∙ kind_common k h));
     behind = λ i same. absurd (let e = same in cc);

@@ -1,5 +1,6 @@
 -- A group that is added at a free place, and one that gets what moves.
 use Rattle.std.proofs.Common.{◌≡◌, ℕ, ◌+◌, ◌<◌, List, arith, length, length-set, refl, sym, ap, subst, ◌∙◌, Bool, true, false, cond, eqb, Some, None, get_or, get_or-set_other, set}
+use Rattle.std.specs.Prelude.{is_some}
 use Rattle.std.specs.FinMap as fm
 use Rattle.lwc_base.specs.declared.cell.Cell.{Cell}
 use Rattle.lwc_base.specs.declared.cell.Cell.TheVariants.{Own}
@@ -8,11 +9,12 @@ use Rattle.lwc_base.specs.declared.key.Key.{Key}
 use Rattle.lwc_base.specs.declared.key.Key.TheVariants.{Page, Slot, Cred}
 use Rattle.lwc_base.specs.declared.key.TheConstants.{NOBODY}
 use Rattle.lwc_base.specs.declared.name.Name.{Name}
+use Rattle.lwc_base.specs.declared.right.Right.{Right}
 use Rattle.lwc_base.specs.Fresh.{IsFresh}
 use Rattle.lwc_base.specs.Keys.{with_key}
 use Rattle.lwc_base.specs.Modes.{mode_or_copy}
 use Rattle.lwc_base.specs.Sharing.{moved_values}
-use Rattle.lwc_base.specs.World.{World, Context, Counters, add_group, change_counters, change_group, context, new_group, new_value, next_group}
+use Rattle.lwc_base.specs.World.{World, Context, Counters, Group, add_group, change_counters, change_group, context, group, new_group, new_value, next_group}
 use Rattle.ctx_table.specs.NameTables.{ArePlaced, NameTable}
 use Rattle.lazy_world.specs.declared.counts.Counts.{Counts}
 use Rattle.lazy_world.specs.declared.key_value.KeyValue.TheVariants as values
@@ -22,9 +24,10 @@ use Rattle.lazy_world.specs.Mapped.{mapped}
 use Rattle.lazy_world.specs.Transfers.{transferred_row}
 use Rattle.lazy_world.specs.Sound.{HasOldTags, HasOneHome, IsAllOwn, IsEmpty, IsSound, IsWithin}
 use Rattle.lazy_world.specs.States.{Parts, context_at, context_of, counters_of, group_at, group_of, held, nothing_counted, registers_at, world_of}
-use Rattle.lazy_world.proofs.AddLemmas.{counted-at, new_row, no_tag, no_tags, some_name, still_empty}
+use Rattle.lazy_world.proofs.AddLemmas.{counted-at, new_row, no_common, no_tag, no_tags, some_name, still_empty}
 use Rattle.lazy_world.proofs.KeyLemmas.{own-put}
 use Rattle.lazy_world.proofs.MappedLemmas.{mapped-insert, mapped-same}
+use Rattle.lazy_world.proofs.PageLemmas.{no_group, pages-group, pages-new_group, pages-row}
 use Rattle.lazy_world.proofs.PlaceLemmas.{choose, pass}
 use Rattle.lazy_world.proofs.SoundLemmas.{each_row, homes-row, sound-row}
 use Rattle.lazy_world.proofs.WorldLemmas.{change_group-row}
@@ -73,7 +76,7 @@ module _ (s : Parts) (sound : IsSound s) (placed : ArePlaced s.contexts) (placed
     added-group =
         let contexts : mapped (context_at later) s.contexts.map ≡ mapped (context_at s) s.contexts.map =
         mapped-same (context_at s) s.contexts.map (context_at later)
-        (λ d q at_q. ap (λ r. context_of r (registers_at s.registers q)) (pass at q row (s.rows q) (behind p d q at_q))) in
+        (λ d q at_q. ap (λ r. context_of r (s.rights q) (registers_at s.registers q)) (pass at q row (s.rows q) (behind p d q at_q))) in
         let groups : mapped (group_at later) table.map ≡ fm.insert now.groups g new_group =
         ap (mapped (group_at later)) map ∙ mapped-insert (group_at later) s.groups.map g p
         ∙ (λ e. fm.insert (mapped-same (group_at s) s.groups.map (group_at later) elsewhere e) g (here e)) in
@@ -115,15 +118,18 @@ module _ (s : Parts) (sound : IsSound s) (placed : ArePlaced s.contexts) (placed
               (λ other q tag bytes is. subst (λ m. tag.k < m) (sym (next tag.job)) (sound.tags j q tag bytes is));
           fresh = subst IsFresh (sym added-group) (stays_fresh.group_added now job new_group sound.fresh);
           homes = homes-row s.rows at row sound.homes (λ q tag bytes is. absurd (no_tag row (still_empty (s.rows at) NOBODY empty) q tag bytes is));
+          pages = pages-row s later at row sound.pages refl (pages-new_group now (world_of later) job new_group sound.fresh added-group)
+              (λ q h is. absurd (no_common row (still_empty (s.rows at) NOBODY empty) q h is));
         }
 
   -- a group gets what moves
-  module _ (g : Name) (j : ℕ) (found : fm.get s.groups.map g ≡ Some j) (items : List Item) (c : Name) (from : ℕ) (is : context now c ≡ context_at s from) where
+  module _ (g : Name) (j : ℕ) (found : fm.get s.groups.map g ≡ Some j) (items : List Item) (c : Name) (from : ℕ) (is : context now c ≡ context_at s from)
+      (rights : ℕ → ℕ → Right) (others : (q : ℕ) → (q ≡ s.size.contexts + j → ⊥) → rights q ≡ s.rights q) where
     abbrev moved_row : Row
     moved_row = transferred_row now Move items (s.rows from) (s.rows (s.size.contexts + j))
 
     abbrev filled : Parts
-    filled = record s { rows = put_row s.rows (s.size.contexts + j) moved_row }
+    filled = record s { rows = put_row s.rows (s.size.contexts + j) moved_row; rights = rights }
 
     same_values : (x : Context) → group_of (transferred_row now Move items x.cell (s.rows (s.size.contexts + j))) ≡ moved_values items x
     unfolding moved_values mode_or_copy
@@ -132,14 +138,17 @@ module _ (s : Parts) (sound : IsSound s) (placed : ArePlaced s.contexts) (placed
     pub filled-world : world_of filled ≡ change_group now g (λ x. moved_values items (context now c))
     filled-world =
         change_group-row s placed_groups g j found (λ d q at_q. let low = placed.within d q at_q in omega (arith, low, sound.sizes.contexts))
-        moved_row (λ x. moved_values items (context now c)) (same_values (context_at s from) ∙ ap (moved_values items) (sym is))
+        moved_row rights (λ x. moved_values items (context now c)) others (same_values (context_at s from) ∙ ap (moved_values items) (sym is))
 
-    pub filled-sound : IsWithin s.size.pages moved_row → HasOldTags now.next moved_row → HasOneHome filled.rows → IsSound filled
-    filled-sound within tags homes =
-        sound-row s sound (s.size.contexts + j) moved_row within
+    pub filled-sound : group now g ≡ new_group → IsWithin s.size.pages moved_row → HasOldTags now.next moved_row → HasOneHome filled.rows → IsSound filled
+    filled-sound none within tags homes =
+        let keeps = pages-group now (world_of filled) g (λ x. moved_values items (context now c)) filled-world
+        (λ p there. absurd (let both = sym (ap (λ (x : Group). is_some (x.value (Page p))) none) ∙ there in cc)) in
+        sound-row s sound (s.size.contexts + j) moved_row rights within
         (λ q same k. refl)
         (λ low none. absurd (omega (arith, low)))
         (λ q same none. absurd (let q_is : q ≡ j = omega (arith, same) in let both = sym ((placed_groups.at g j).0 found) ∙ ap (λ r. get_or s.groups.places r None) (sym q_is) ∙ none in cc))
         tags
         (subst IsFresh (sym filled-world) (stays_fresh.group_changed now g (λ x. moved_values items (context now c)) sound.fresh))
         homes
+        (pages-row s filled (s.size.contexts + j) moved_row sound.pages refl keeps (λ p h names. absurd (no_group _ h names)))

@@ -1,5 +1,6 @@
 -- A value that is put under a key that is no page.
 use Rattle.std.proofs.Common.{◌≡◌, ℕ, ◌+◌, ◌<◌, ◌≤◌, arith, refl, sym, ap, subst, ◌∙◌, Bool, true, false, cond, eqb, Some, None, get_or}
+use Rattle.std.specs.Prelude.{is_some}
 use Rattle.std.specs.FinMap as fm
 use Rattle.std.proofs.lemmas.Bool.Decides.{nat_tests}
 use Rattle.lwc_base.specs.declared.cell.Cell.{Cell}
@@ -11,7 +12,7 @@ use Rattle.lwc_base.specs.declared.name.Name.{Name}
 use Rattle.lwc_base.specs.Cells.{put_at, with_cell, with_value}
 use Rattle.lwc_base.specs.Fresh.{IsFresh}
 use Rattle.lwc_base.specs.Keys.{ValueOf, is_there, with_key}
-use Rattle.lwc_base.specs.World.{World, Context, Counters, change_context, change_group}
+use Rattle.lwc_base.specs.World.{World, Context, Counters, Group, change_context, change_group, group}
 use Rattle.ctx_table.specs.NameTables.{ArePlaced}
 use Rattle.lazy_world.specs.declared.key_value.KeyValue.{KeyValue}
 use Rattle.lazy_world.specs.declared.key_value.KeyValue.TheVariants.{Slot, Cred}
@@ -19,6 +20,7 @@ use Rattle.lazy_world.specs.Cells.{Row, is_nothing, is_own, put_row}
 use Rattle.lazy_world.specs.KeyValues.{HasSlot, group_in, key_in, value_in}
 use Rattle.lazy_world.specs.Sound.{HasOldTags, IsAllOwn, IsSound, IsWithin}
 use Rattle.lazy_world.specs.States.{Parts, group_of, held, world_of}
+use Rattle.lazy_world.proofs.PageLemmas.{pages-context, pages-group, pages-row}
 use Rattle.lazy_world.proofs.SoundLemmas.{homes-row, sound-row}
 use Rattle.lazy_world.proofs.WorldLemmas.{change_context-row, change_group-row, context-found}
 use Rattle.lwc_base.proofs.Facts.{changes, stays_fresh}
@@ -54,6 +56,10 @@ own-put (Cred uid) row own key.Cred = refl
 page-put : (v : KeyValue) (row : Row) (p : ℕ) → put_value v row (key.Page p) ≡ row (key.Page p)
 page-put (Slot n d) row p = refl
 page-put (Cred uid) row p = refl
+
+page-value : (v : KeyValue) (x : Group) (p : ℕ) → (with_value (key_in v) (value_in v) x).value (key.Page p) ≡ x.value (key.Page p)
+page-value (Slot n d) x p = refl
+page-value (Cred uid) x p = refl
 
 pub tags-put : (v : KeyValue) (next : ℕ → Counters) (row : Row) → HasOldTags next row → HasOldTags next (put_value v row)
 tags-put (Slot n d) next row old = old
@@ -99,18 +105,20 @@ module _ (s : Parts) (sound : IsSound s) where
 
     pub put-own : world_of later ≡ put_at now c (key_in v) (value_in v)
     put-own =
-        change_context-row s placed c i found (put_value v (s.rows i)) (with_cell (key_in v) (Own (value_in v))) inside refl
+        change_context-row s placed c i found (put_value v (s.rows i)) s.rights (with_cell (key_in v) (Own (value_in v))) inside (λ q other. refl) refl
         ∙ sym (put_as (s.rows i (key_in v)) refl)
 
     pub sound-own : IsSound later
     sound-own =
-        sound-row s sound i (put_value v (s.rows i)) (within-put v s.size.pages (s.rows i) has (sound.past i))
+        let keeps = pages-context now (world_of later) c (with_cell (key_in v) (Own (value_in v))) (put-own ∙ put_as (s.rows i (key_in v)) refl) in
+        sound-row s sound i (put_value v (s.rows i)) s.rights (within-put v s.size.pages (s.rows i) has (sound.past i))
         (λ j same. absurd (omega (arith, same, inside)))
         (λ low none. absurd (let both = sym ((placed.at c i).0 found) ∙ none in cc))
         (λ j same none. absurd (omega (arith, same, inside)))
         (tags-put v now.next (s.rows i) (sound.tags i))
         (subst IsFresh (sym put-own) (stays_fresh.put now c (key_in v) (value_in v) sound.fresh))
         (homes-row s.rows i (put_value v (s.rows i)) sound.homes (λ p tag bytes is. record { place = i; bytes = bytes; is = sym (page-put v (s.rows i) p) ∙ is }))
+        (pages-row s later i (put_value v (s.rows i)) sound.pages refl keeps (λ p g is. keeps g p (sound.pages i p g (sym (page-put v (s.rows i) p) ∙ is))))
 
   -- a group's value changes
   module _ (placed : ArePlaced s.contexts) (placed_groups : ArePlaced s.groups) (g : Name) (j : ℕ) (found : fm.get s.groups.map g ≡ Some j) (v : KeyValue) (has : HasSlot v) where
@@ -120,11 +128,12 @@ module _ (s : Parts) (sound : IsSound s) where
     pub put-group : world_of later_group ≡ change_group now g (with_value (key_in v) (value_in v))
     put-group =
         change_group-row s placed_groups g j found (λ d q at_q. let low = placed.within d q at_q in omega (arith, low, sound.sizes.contexts))
-        (put_value v (s.rows (s.size.contexts + j))) (with_value (key_in v) (value_in v)) (group-put v (s.rows (s.size.contexts + j)))
+        (put_value v (s.rows (s.size.contexts + j))) s.rights (with_value (key_in v) (value_in v)) (λ q other. refl) (group-put v (s.rows (s.size.contexts + j)))
 
     pub sound-group : IsSound later_group
     sound-group =
-        sound-row s sound (s.size.contexts + j) (put_value v (s.rows (s.size.contexts + j)))
+        let keeps = pages-group now (world_of later_group) g (with_value (key_in v) (value_in v)) put-group (λ p there. ap is_some (page-value v (group now g) p) ∙ there) in
+        sound-row s sound (s.size.contexts + j) (put_value v (s.rows (s.size.contexts + j))) s.rights
         (within-put v s.size.pages (s.rows (s.size.contexts + j)) has (sound.past (s.size.contexts + j)))
         (λ q same. own-put v (s.rows (s.size.contexts + j)) (sound.own j))
         (λ low none. absurd (omega (arith, low)))
@@ -133,3 +142,5 @@ module _ (s : Parts) (sound : IsSound s) where
         (subst IsFresh (sym put-group) (stays_fresh.group_changed now g (with_value (key_in v) (value_in v)) sound.fresh))
         (homes-row s.rows (s.size.contexts + j) (put_value v (s.rows (s.size.contexts + j))) sound.homes
         (λ p tag bytes is. record { place = s.size.contexts + j; bytes = bytes; is = sym (page-put v (s.rows (s.size.contexts + j)) p) ∙ is }))
+        (pages-row s later_group (s.size.contexts + j) (put_value v (s.rows (s.size.contexts + j))) sound.pages refl keeps
+        (λ p h is. keeps h p (sound.pages (s.size.contexts + j) p h (sym (page-put v (s.rows (s.size.contexts + j)) p) ∙ is))))

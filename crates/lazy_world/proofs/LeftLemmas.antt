@@ -2,7 +2,6 @@
 use Rattle.std.proofs.Common.{◌≡◌, ⊎_elim, ℕ, ◌+◌, ◌<◌, List, arith, refl, sym, ap, ◌∙◌, Bool, true, false, cond, eqb, Option, Some, None, get_or}
 use Rattle.std.specs.Prelude.{◌&&◌, ◌||◌, nat_le, not}
 use Rattle.std.specs.Ordering.{eq_by_cmp}
-use Rattle.std.specs.declared.cmp.Ordering.TheVariants.{Equal}
 use Rattle.std.specs.FinMap as fm
 use Rattle.std.proofs.lemmas.Bool.{cases_eq}
 use Rattle.std.proofs.lemmas.Bool.Decides.{nat_tests}
@@ -74,6 +73,14 @@ pub get-left_by : {X : Type 0} (places : fm.FinMap name_cmp ℕ) (test : Option 
     fm.get (left_by places test m) c ≡ cond (test (fm.get places c)) (fm.get m c) None
 unfolding left_by
 get-left_by places test m c = fm.get-retain_keys m (λ d. test (fm.get places d)) c (alike (λ d. test (fm.get places d)) c)
+
+-- what is left was there
+pub left-found : {X : Type 0} (places : fm.FinMap name_cmp ℕ) (test : Option ℕ → Bool) (m : fm.FinMap name_cmp X) (c : Name) (x : X) → fm.get (left_by places test m) c ≡ Some x → fm.get m c ≡ Some x
+left-found {X} places test m c x is = at (test (fm.get places c)) (sym (get-left_by places test m c) ∙ is)
+  where
+    at : (b : Bool) → cond b (fm.get m c) None ≡ Some x → fm.get m c ≡ Some x
+    at true there = there
+    at false there = absurd (let none = there in cc)
 
 -- a test that all names pass leaves all
 pub left_by-same : {X : Type 0} (places : fm.FinMap name_cmp ℕ) (test : Option ℕ → Bool) (m : fm.FinMap name_cmp X) →

@@ -1,3 +1,4 @@
+mod AbsentLemmas
 mod AddLemmas
 mod AfterLemmas
 mod AnchorLemmas
@@ -9,6 +10,7 @@ mod CountLemmas
 mod DropLemmas
 mod EdgeLemmas
 mod EmptyLemmas
+mod FitLemmas
 mod FollowLemmas
 mod FoundLemmas
 mod GatherLemmas
@@ -28,11 +30,13 @@ mod MovedLemmas
 mod NeedLemmas
 mod OpenLemmas
 mod OverlayLemmas
+mod PageLemmas
 mod PastLemmas
 mod PlaceLemmas
 pub mod TransferLemmas
 mod ReachLemmas
 mod RenameLemmas
+mod RightLemmas
 mod SaveLemmas
 mod ShareLemmas
 mod SmallLemmas
@@ -41,6 +45,7 @@ mod OriginLemmas
 mod SpotLemmas
 mod StepLemmas
 mod StoreLemmas
+mod StretchLemmas
 mod TakeLemmas
 mod TakenLemmas
 mod UsedLemmas

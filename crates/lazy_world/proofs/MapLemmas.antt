@@ -14,21 +14,24 @@ use Rattle.lwc_base.specs.declared.page.PageValue.{PageValue}
 use Rattle.lwc_base.specs.declared.page.PageValue.TheVariants.{Data}
 use Rattle.lwc_base.specs.declared.limits.TheConstants.{MOST_PAGES}
 use Rattle.lwc_base.specs.Fresh.{IsFresh}
-use Rattle.lwc_base.specs.Mapping.{map_pages, mapped_or_not, unmap_pages, with_zeros, without_pages}
+use Rattle.lwc_base.specs.declared.right.Right.{Right}
+use Rattle.lwc_base.specs.declared.right.Right.TheVariants.{Write}
+use Rattle.lwc_base.specs.Mapping.{map_pages, mapped_or_not, unmap_pages, with_zeros, without_pages, writable_in}
 use Rattle.lwc_base.specs.Ranges as base
 use Rattle.lwc_base.specs.Ranges.{ranges_of}
 use Rattle.lwc_base.specs.World.{Context, Counters, change_context}
-use Rattle.range_map.specs.Kinds.{is_between, kind_of, ranges}
+use Rattle.range_map.specs.Kinds.{is_between, kind_of, ranges, state_of}
 use Rattle.cow_space.specs.declared.stretches.Stretch.{Stretch}
 use Rattle.cow_space.specs.Cells.{Place, place_of}
-use Rattle.cow_space.specs.Cells as page_specs
-use Rattle.cow_space.specs.Changes.{IsStretch, cell_by, changed_place}
+use Rattle.cow_space.specs.Cells.{right_in, rights_of}
+use Rattle.cow_space.specs.Changes.{IsStretch, cell_by, changed_place, changed_rights, changed_states, right_by}
 use Rattle.ctx_table.specs.NameTables.{ArePlaced}
 use Rattle.fd_table.specs.Slots as slots
-use Rattle.lazy_world.specs.Cells.{Row, is_nothing, kinds_of, on_place, page_cell, put_row, rows_of, set_pages, origin_of}
+use Rattle.lazy_world.specs.Cells.{Row, is_nothing, on_place, page_cell, put_rights, put_row, rows_of, set_pages, states_of, origin_of}
 use Rattle.lazy_world.specs.Sound.{HasOldTags, IsSound, IsWithin}
-use Rattle.lazy_world.specs.States.{Parts, context_at, world_of}
-use Rattle.lazy_world.proofs.PlaceLemmas.{choose, pages-put}
+use Rattle.lazy_world.specs.States.{Parts, context_at, context_of, registers_at, world_of}
+use Rattle.lazy_world.proofs.PageLemmas.{pages-context, pages-row}
+use Rattle.lazy_world.proofs.PlaceLemmas.{choose, pages-put, pass}
 use Rattle.lazy_world.proofs.SoundLemmas.{homes-row, sound-row}
 use Rattle.lazy_world.proofs.WorldLemmas.{change_context-row, context-found}
 use Rattle.lwc_base.proofs.Facts.{stays_fresh}
@@ -36,7 +39,7 @@ use Rattle.range_map.proofs.Ranges.{ranges_of_context}
 
 -- the stretch of a range
 abbrev pub stretch_of : ℕ → ℕ → Bool → Stretch
-stretch_of from to present = record { range = record { from = from; to = to }; origin = origin_of present }
+stretch_of from to present = record { range = record { from = from; to = to }; origin = origin_of present; right = None }
 
 pub is_stretch : (count i from to : ℕ) (present : Bool) → from ≤ to → to ≤ MOST_PAGES → All (IsStretch count i) (stretch_of from to present ∷ [])
 is_stretch count i from to true order inside = All-cons (IsStretch count i) (stretch_of from to true) [] (record { order = order; inside = inside; given = tt }) (All-nil (IsStretch count i))
@@ -56,10 +59,28 @@ module _ (cells : List Place) (table : List (ℕ → slots.Slot)) (uids : List (
   abbrev old : ℕ → Row
   old = rows_of cells table uids
 
-  -- the kinds of the place afterwards
-  pub kinds-row : page_specs.kinds_of (changed_place cells i (stretch_of from to present ∷ [])) ≡ kinds_of (set_pages from to present (old i))
-  unfolding rows_of
-  kinds-row = λ e p. kind_of (place-set cells i from to present p e)
+  -- the rights of the place afterwards, if what is absent had the right Write
+  module _ (rights : List (ℕ → Right)) (absent : (p : ℕ) → place_of cells i p ≡ Own None → rights_of rights i p ≡ Write) where
+    pub rights-row : changed_rights cells rights i (stretch_of from to present ∷ []) [] ≡ writable_in from to (rights_of rights i)
+    unfolding changed_rights changed_place
+    rights-row = λ e p. at p (is_between from to p) present e
+      where
+        kept : (p : ℕ) (cell : Cell (Option PageValue)) → place_of cells i p ≡ cell → right_in (state_of (kind_of cell) (rights_of rights i p)) ≡ rights_of rights i p
+        kept p (Own None) is = sym (absent p is)
+        kept p (Own (Some value)) is = refl
+        kept p (Common g) is = refl
+
+        at : (p : ℕ) (b present : Bool) →
+            right_in (state_of (kind_of (cell_by cells p (place_of cells i p) (cond b (Some (stretch_of from to present)) None))) (right_by rights p (rights_of rights i p) (cond b (Some (stretch_of from to present)) None)))
+            ≡ cond b Write (rights_of rights i p)
+        at p true true = refl
+        at p true false = refl
+        at p false present = kept p (place_of cells i p) refl
+
+    -- and its states
+    pub states-row : changed_states cells rights i (stretch_of from to present ∷ []) [] ≡ states_of (set_pages from to present (old i)) (writable_in from to (rights_of rights i))
+    unfolding rows_of
+    states-row = λ e p. state_of (kind_of (place-set cells i from to present p e)) (rights-row e p)
 
   -- and its row
   pub row-set : i < length cells → rows_of (set cells i (changed_place cells i (stretch_of from to present ∷ []))) table uids ≡ put_row old i (set_pages from to present (old i))
@@ -95,10 +116,18 @@ module _ (from to : ℕ) (present : Bool) where
   pub tags-set : (next : ℕ → Counters) (row : Row) → HasOldTags next row → HasOldTags next (set_pages from to present row)
   tags-set next row old p tag bytes is = old p tag bytes (page-set row p tag bytes is)
 
-pub no_kind : (p : ℕ) (cell : Cell (Option PageValue)) → is_nothing (Page p) cell ≡ true → kind_of cell ≡ None
-no_kind p (Own None) is = refl
-no_kind p (Own (Some value)) is = cc
-no_kind p (Common g) is = cc
+  pub names-set : (row : Row) (p : ℕ) (g : Name) → set_pages from to present row (Page p) ≡ Common g → row (Page p) ≡ Common g
+  names-set row p g is = at (nat_le from p && nat_lt p to) present is
+    where
+      at : (b present : Bool) → cond b (page_cell present) (row (Page p)) ≡ Common g → row (Page p) ≡ Common g
+      at true true is = absurd (let none = is in cc)
+      at true false is = absurd (let none = is in cc)
+      at false present is = is
+
+pub no_state : (p : ℕ) (cell : Cell (Option PageValue)) (right : Right) → is_nothing (Page p) cell ≡ true → state_of (kind_of cell) right ≡ None
+no_state p (Own None) right is = refl
+no_state p (Own (Some value)) right is = cc
+no_state p (Common g) right is = cc
 
 pub few_pages : (t : Parts) → t.size.pages ≤ MOST_PAGES → (world_of t).size.pages ≤ MOST_PAGES
 unfolding world_of
@@ -111,7 +140,7 @@ past_of t p past = past
 module _ (s : Parts) (sound : IsSound s) (placed : ArePlaced s.contexts) (c : Name) (i : ℕ) (found : fm.get s.contexts.map c ≡ Some i)
     (from to : ℕ) (present : Bool) (below : to ≤ s.size.pages) where
   abbrev later : Parts
-  later = record s { rows = put_row s.rows i (set_pages from to present (s.rows i)) }
+  later = record s { rows = put_row s.rows i (set_pages from to present (s.rows i)); rights = put_rights s.rights i (writable_in from to (s.rights i)) }
 
   inside : i < s.size.contexts
   inside = let low = placed.within c i found in omega (arith, low, sound.sizes.contexts)
@@ -125,14 +154,16 @@ module _ (s : Parts) (sound : IsSound s) (placed : ArePlaced s.contexts) (c : Na
   as_change true = refl
   as_change false = refl
 
-  change_is : (present : Bool) (x : Context) → record x { cell = set_pages from to present x.cell } ≡ change present x
+  change_is : (present : Bool) (x : Context) → record x { cell = set_pages from to present x.cell; right = writable_in from to x.right } ≡ change present x
   unfolding change
   change_is true x = refl
   change_is false x = refl
 
   pub mapped-world : world_of later ≡ mapped_or_not (world_of s) c from to present
   mapped-world =
-      change_context-row s placed c i found (set_pages from to present (s.rows i)) (change present) inside (change_is present (context_at s i))
+      change_context-row s placed c i found (set_pages from to present (s.rows i)) (put_rights s.rights i (writable_in from to (s.rights i))) (change present) inside
+      (λ q other. pass i q (writable_in from to (s.rights i)) (s.rights q) other)
+      (ap (λ r. context_of (set_pages from to present (s.rows i)) r (registers_at s.registers i)) (choose i i (writable_in from to (s.rights i)) (s.rights i) refl) ∙ change_is present (context_at s i))
       ∙ as_change present
 
   fresh : (present : Bool) → IsFresh (mapped_or_not (world_of s) c from to present)
@@ -141,23 +172,25 @@ module _ (s : Parts) (sound : IsSound s) (placed : ArePlaced s.contexts) (c : Na
 
   pub sound-mapped : IsSound later
   sound-mapped =
-      sound-row s sound i (set_pages from to present (s.rows i)) (within-set from to present s.size.pages (s.rows i) below (sound.past i))
+      let keeps = pages-context (world_of s) (world_of later) c (change present) (mapped-world ∙ sym (as_change present)) in
+      sound-row s sound i (set_pages from to present (s.rows i)) (put_rights s.rights i (writable_in from to (s.rights i))) (within-set from to present s.size.pages (s.rows i) below (sound.past i))
       (λ j same. absurd (omega (arith, same, inside)))
       (λ low none. absurd (let both = sym ((placed.at c i).0 found) ∙ none in cc))
       (λ j same none. absurd (omega (arith, same, inside)))
       (tags-set from to present (world_of s).next (s.rows i) (sound.tags i))
       (subst IsFresh (sym mapped-world) (fresh present))
       (homes-row s.rows i (set_pages from to present (s.rows i)) sound.homes (λ p tag bytes is. record { place = i; bytes = bytes; is = page-set from to present (s.rows i) p tag bytes is }))
+      (pages-row s later i (set_pages from to present (s.rows i)) sound.pages refl keeps (λ p g is. keeps g p (sound.pages i p g (names-set from to present (s.rows i) p g is))))
 
   -- the ranges of the context afterwards
-  pub ranges-mapped : ranges_of (mapped_or_not (world_of s) c from to present) c ≡ ranges MOST_PAGES (kinds_of (set_pages from to present (s.rows i)))
+  pub ranges-mapped : ranges_of (mapped_or_not (world_of s) c from to present) c ≡ ranges MOST_PAGES (states_of (set_pages from to present (s.rows i)) (writable_in from to (s.rights i)))
   unfolding ranges_of
   ranges-mapped =
       ap (λ w. ranges_of w c) (sym mapped-world)
       ∙ ap (base.ranges (world_of later).size.pages) (context-found later c i found)
-      ∙ ranges_of_context (world_of later).size.pages (context_at later i) (kinds_of (set_pages from to present (s.rows i))) (few_pages later sound.sizes.size.pages.1)
-      (λ p low. ap (λ (row : Row). kind_of (row (Page p))) (choose i i (set_pages from to present (s.rows i)) (s.rows i) refl))
-      (λ p past low. no_kind p (set_pages from to present (s.rows i) (Page p)) (within-set from to present s.size.pages (s.rows i) below (sound.past i) (Page p) (past_of later p past)))
+      ∙ ranges_of_context (world_of later).size.pages (context_at later i) (states_of (set_pages from to present (s.rows i)) (writable_in from to (s.rights i))) (few_pages later sound.sizes.size.pages.1)
+      (λ p low e. state_of (kind_of (choose i i (set_pages from to present (s.rows i)) (s.rows i) refl e (Page p))) (choose i i (writable_in from to (s.rights i)) (s.rights i) refl e p))
+      (λ p past low. no_state p (set_pages from to present (s.rows i) (Page p)) (writable_in from to (s.rights i) p) (within-set from to present s.size.pages (s.rows i) below (sound.past i) (Page p) (past_of later p past)))
 
 pub below_pages : (s : Parts) (to : ℕ) → to ≤ (world_of s).size.pages → to ≤ s.size.pages
 unfolding world_of

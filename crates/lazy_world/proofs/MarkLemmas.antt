@@ -7,7 +7,10 @@ use Rattle.lwc_base.specs.declared.cell.Cell.{Cell}
 use Rattle.lwc_base.specs.declared.descriptor.Descriptor.{Descriptor}
 use Rattle.lwc_base.specs.declared.page.PageValue.{PageValue}
 use Rattle.lwc_base.specs.Names.{name_cmp}
-use Rattle.range_map.specs.Kinds.{kind_of}
+use Rattle.std.specs.Option.{option_map}
+use Rattle.lwc_base.specs.declared.right.Right.{Right}
+use Rattle.range_map.specs.Kinds.{kind_of, state_of}
+use Rattle.range_map.specs.declared.segment.PageState.{PageState}
 use Rattle.range_map.specs.declared.segment.SegmentKind.{SegmentKind}
 use Rattle.range_map.specs.declared.segment.SegmentKind.TheVariants as kind
 use Rattle.fd_table.specs.Slots.{is_common}
@@ -66,9 +69,17 @@ in-kind g (Own None) = refl
 in-kind g (Own (Some value)) = refl
 in-kind g (Common h) = refl
 
--- cells of pages of one kind name the same group
-pub in-alike : (g : Name) (a b : Cell (Option PageValue)) → kind_of a ≡ kind_of b → is_in g a ≡ is_in g b
-in-alike g a b same = in-kind g a ∙ ap (named_kind g) same ∙ sym (in-kind g b)
+-- the kind of a state
+pub kind-of-state : (kind : Option SegmentKind) (right : Right) → option_map (λ s. s.kind) (state_of kind right) ≡ kind
+kind-of-state None right = refl
+kind-of-state (Some kind) right = refl
+
+pub kinds-alike : (a b : Cell (Option PageValue)) (r q : Right) → state_of (kind_of a) r ≡ state_of (kind_of b) q → kind_of a ≡ kind_of b
+kinds-alike a b r q same = sym (kind-of-state (kind_of a) r) ∙ ap (option_map (λ (s : PageState). s.kind)) same ∙ kind-of-state (kind_of b) q
+
+-- cells of pages of one state name the same group
+pub in-alike : (g : Name) (a b : Cell (Option PageValue)) (r q : Right) → state_of (kind_of a) r ≡ state_of (kind_of b) q → is_in g a ≡ is_in g b
+in-alike g a b r q same = in-kind g a ∙ ap (named_kind g) (kinds-alike a b r q same) ∙ sym (in-kind g b)
 
 -- a cell that is not common names none
 pub in-own : (g : Name) (cell : Cell Descriptor) → is_common cell ≡ false → is_in g cell ≡ false

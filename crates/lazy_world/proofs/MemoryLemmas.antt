@@ -1,20 +1,18 @@
 -- Bytes of memory: what is read, and whether it is there.
-use Rattle.std.proofs.Common.{◌≡◌, ℕ, zero, suc, ◌+◌, ◌<◌, List, [], ◌∷◌, arith, length, map, get_or, replicate, refl, sym, ap, ◌∙◌, Bool, true, false, Option, Some, None}
-use Rattle.std.specs.Prelude.{if◌then◌else◌, is_some, slice_index}
-use Rattle.std.specs.List.{list_all, range_with_len}
+use Rattle.std.proofs.Common.{◌≡◌, ℕ, List, refl, sym, ap, ◌∙◌, Bool, Option, Some, None}
+use Rattle.std.specs.Prelude.{is_some, slice_index}
+use Rattle.std.specs.List.{list_all}
 use Rattle.std.specs.Option.{option_map_or}
-use Rattle.std.proofs.lemmas.Bool.{false≢true}
 use Rattle.lwc_base.specs.declared.name.Name.{Name}
 use Rattle.lwc_base.specs.declared.page.PageValue.{PageValue}
 use Rattle.lwc_base.specs.declared.page.PageValue.TheVariants.{Zero, Data}
-use Rattle.lwc_base.specs.declared.page.TheConstants.{PAGE_BYTES}
 use Rattle.lwc_base.specs.Cells.{page_at, value_at}
-use Rattle.lwc_base.specs.Memory.{byte_at, is_present, load, touched}
-use Rattle.lwc_base.specs.Pages.{bytes_of, zero_bytes, zero_page}
+use Rattle.lwc_base.specs.Memory.{byte_at, is_present, touched}
+use Rattle.lwc_base.specs.Pages.{bytes_of}
 use Rattle.lwc_base.specs.World.{Context, World, context}
 use Rattle.cow_space.specs.Maps.{data_of}
 use Rattle.lazy_world.specs.Memory.{byte_in, page_in}
-use Rattle.lwc_base.proofs.Small.{load_where, none_where, zero_in_zeros, zeros_at}
+use Rattle.lwc_base.proofs.Small.{zeros_at}
 
 -- a byte of a page without bytes is 0
 pub byte-none : (o : Option PageValue) (k : ℕ) → None ≡ data_of o → 0 ≡ option_map_or (λ value. slice_index (bytes_of value) k) o 0

@@ -2,7 +2,7 @@
 use Rattle.std.proofs.Common.{◌≡◌, refl, sym, ap, ◌∙◌, true, false}
 use Rattle.lwc_base.specs.declared.cell.Cell.{Cell}
 use Rattle.lwc_base.specs.declared.item.Mode.{Mode}
-use Rattle.lwc_base.specs.declared.item.Mode.TheVariants.{Copy, Share, Unmap}
+use Rattle.lwc_base.specs.declared.item.Mode.TheVariants.{Copy, Share, Unmap, CopyRead}
 use Rattle.lwc_base.specs.declared.key.Key.{Key}
 use Rattle.lwc_base.specs.Keys.{ValueOf}
 use Rattle.lwc_base.specs.Sharing.{has_own, is_moved}
@@ -12,11 +12,13 @@ pub moves-share : (m : Mode) (k : Key) (cell : Cell (ValueOf k)) → is_moved m 
 moves-share Copy k cell is = cc
 moves-share Share k cell is = refl
 moves-share Unmap k cell is = cc
+moves-share CopyRead k cell is = cc
 
 pub moves-own : (m : Mode) (k : Key) (cell : Cell (ValueOf k)) → is_moved m k cell ≡ true → has_own k cell ≡ true
 moves-own Copy k cell is = cc
 moves-own Share k cell is = is
 moves-own Unmap k cell is = cc
+moves-own CopyRead k cell is = cc
 
 pub stays : (m : Mode) (k : Key) (cell : Cell (ValueOf k)) → is_moved m k cell ≡ false → m ≡ Share → has_own k cell ≡ false
 stays m k cell is share = ap (λ n. is_moved n k cell) (sym share) ∙ is

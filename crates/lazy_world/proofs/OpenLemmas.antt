@@ -8,11 +8,12 @@ use Rattle.lwc_base.specs.Fresh.{IsFresh}
 use Rattle.lwc_base.specs.World.{empty_world}
 use Rattle.world_face.specs.Calls.{IsSize}
 use Rattle.lazy_world.specs.declared.registers.Registers.{Registers}
+use Rattle.cow_space.specs.Cells.{all_write}
 use Rattle.lazy_world.specs.Cells.{no_row}
 use Rattle.ctx_table.specs.NameTables.{NameTable}
 use Rattle.lazy_world.specs.Sound.{IsEmpty, IsSound}
 use Rattle.lazy_world.specs.States.{Parts, context_at, counters_of, group_at, nothing_counted, world_of}
-use Rattle.lazy_world.proofs.AddLemmas.{no_tag, no_tags}
+use Rattle.lazy_world.proofs.AddLemmas.{no_common, no_tag, no_tags}
 use Rattle.lazy_world.proofs.MappedLemmas.{mapped-empty}
 use Rattle.lwc_base.proofs.Facts.{stays_fresh}
 use Rattle.lwc_base.proofs.Small.{at-new}
@@ -31,6 +32,7 @@ module _ (size : WorldSize) (is_size : IsSize size) (registers : List Registers)
   opened = record {
     size = size;
     rows = λ i. no_row;
+    rights = λ i. all_write;
     registers = registers;
     contexts = no_names size.contexts;
     groups = no_names size.groups;
@@ -62,4 +64,5 @@ module _ (size : WorldSize) (is_size : IsSize size) (registers : List Registers)
     tags = λ i. no_tags (world_of opened).next no_row nothing_there;
     fresh = subst IsFresh (sym world-opened) (stays_fresh.empty size);
     homes = λ i j p q tag a b at_p at_q. absurd (no_tag no_row nothing_there p tag a at_p);
+    pages = λ i p g is. absurd (no_common no_row nothing_there p g is);
   }

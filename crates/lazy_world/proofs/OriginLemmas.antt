@@ -1,65 +1,60 @@
--- Stretches that give the pages below a page their cells.
-use Rattle.std.proofs.Common.{◌≡◌, ℕ, ◌<◌, ◌≤◌, ◌++◌, ⊎_elim, true, false, List, [], ◌∷◌, length, length-append, arith, leb, ltb, refl, ap, ◌∙◌, Option, Some, None}
+-- Stretches that give the pages below a page what they are to get.
+use Rattle.std.proofs.Common.{◌≡◌, ℕ, ◌<◌, ◌≤◌, ◌++◌, ⊎_elim, true, false, List, [], ◌∷◌, length, length-append, arith, leb, ltb, refl, sym, subst, ◌∙◌, Option, Some, None}
 use Rattle.std.specs.Prelude.{All}
 use Rattle.std.specs.List.{find}
 use Rattle.std.specs.Option.{option_map, option_or}
 use Rattle.std.proofs.lemmas.Bool.{cases_lt, and_left, and_right, le-ltb, lt-leb}
 use Rattle.std.proofs.lemmas.List.Elements.{All-append}
 use Rattle.std.proofs.lemmas.List.Folds.{find-append}
-use Rattle.lwc_base.specs.declared.cell.Cell.{Cell}
-use Rattle.lwc_base.specs.declared.key.Key.TheVariants.{Page}
 use Rattle.lwc_base.specs.declared.limits.TheConstants.{MOST_PAGES}
-use Rattle.lwc_base.specs.declared.page.PageValue.{PageValue}
 use Rattle.range_map.specs.Kinds.{is_between}
 use Rattle.cow_space.specs.declared.stretches.Stretch.{Stretch}
 use Rattle.cow_space.specs.Changes.{IsApart, IsStretch}
-use Rattle.lazy_world.specs.Cells.{Row}
-use Rattle.lazy_world.specs.Transfers.{given_or}
-use Rattle.lazy_world.specs.Origins.{origin_at}
+use Rattle.lazy_world.specs.Origins.{Gift, gift_at, gift_of}
 use Rattle.range_map.proofs.Built.{all_one, between}
 
 -- a further stretch leaves the pages that it has not
-push_off : (stretches : List Stretch) (s : Stretch) (q : ℕ) → is_between s.range.from s.range.to q ≡ false → origin_at (stretches ++ s ∷ []) q ≡ origin_at stretches q
+push_off : (stretches : List Stretch) (s : Stretch) (q : ℕ) → is_between s.range.from s.range.to q ≡ false → gift_at (stretches ++ s ∷ []) q ≡ gift_at stretches q
 push_off stretches s q off =
     rw (find-append (λ (s : Stretch). is_between s.range.from s.range.to q) stretches (s ∷ []), off) (or_none (find (λ s. is_between s.range.from s.range.to q) stretches))
   where
-    or_none : (o : Option Stretch) → option_map (λ (s : Stretch). s.origin) (option_or o None) ≡ option_map (λ s. s.origin) o
+    or_none : (o : Option Stretch) → option_map gift_of (option_or o None) ≡ option_map gift_of o
     or_none None = refl
     or_none (Some t) = refl
 
--- a further stretch gives its origin to pages without one
-push_on : (stretches : List Stretch) (s : Stretch) (q : ℕ) → is_between s.range.from s.range.to q ≡ true → origin_at stretches q ≡ None → origin_at (stretches ++ s ∷ []) q ≡ Some s.origin
+-- a further stretch gives what it says to pages without one
+push_on : (stretches : List Stretch) (s : Stretch) (q : ℕ) → is_between s.range.from s.range.to q ≡ true → gift_at stretches q ≡ None → gift_at (stretches ++ s ∷ []) q ≡ Some (gift_of s)
 push_on stretches s q on none =
     rw (find-append (λ (s : Stretch). is_between s.range.from s.range.to q) stretches (s ∷ []), on) (or_some (find (λ s. is_between s.range.from s.range.to q) stretches) none)
   where
-    or_some : (o : Option Stretch) → option_map (λ (s : Stretch). s.origin) o ≡ None → option_map (λ s. s.origin) (option_or o (Some s)) ≡ Some s.origin
+    or_some : (o : Option Stretch) → option_map gift_of o ≡ None → option_map gift_of (option_or o (Some s)) ≡ Some (gift_of s)
     or_some None is = refl
     or_some (Some t) is = absurd (let e = is in cc)
 
--- stretches give the pages below one the cells that are wanted, and no other page any
-pub record HasGiven (count : ℕ) (rows : ℕ → Row) (i : ℕ) (wanted : ℕ → Cell (Option PageValue)) (p : ℕ) (stretches : List Stretch) : Type 0 where
+-- stretches give the pages below one what fits them, and no other page any
+pub record HasGiven (count i : ℕ) (fits : ℕ → Option Gift → Type 0) (p : ℕ) (stretches : List Stretch) : Type 0 where
   pub each : All (IsStretch count i) stretches
   pub few : length stretches ≤ p
-  pub done : (q : ℕ) → q < p → given_or rows (Page q) (rows i (Page q)) (origin_at stretches q) ≡ wanted q
-  pub rest : (q : ℕ) → p ≤ q → origin_at stretches q ≡ None
+  pub done : (q : ℕ) → q < p → fits q (gift_at stretches q)
+  pub rest : (q : ℕ) → p ≤ q → gift_at stretches q ≡ None
 
-module _ (count : ℕ) (rows : ℕ → Row) (i : ℕ) (wanted : ℕ → Cell (Option PageValue)) where
-  pub none_given : HasGiven count rows i wanted 0 []
+module _ (count i : ℕ) (fits : ℕ → Option Gift → Type 0) where
+  pub none_given : HasGiven count i fits 0 []
   none_given = record { each = λ k d inside. absurd (omega arith); few = omega arith; done = λ q low. absurd (omega arith); rest = λ q low. refl }
 
-  module _ (p e : ℕ) (stretches : List Stretch) (past : p < e) (has : HasGiven count rows i wanted p stretches) where
+  module _ (p e : ℕ) (stretches : List Stretch) (past : p < e) (has : HasGiven count i fits p stretches) where
     -- pages that stay need no stretch
-    pub given_kept : ((q : ℕ) → p ≤ q → q < e → rows i (Page q) ≡ wanted q) → HasGiven count rows i wanted e stretches
+    pub given_kept : ((q : ℕ) → p ≤ q → q < e → fits q None) → HasGiven count i fits e stretches
     given_kept same = record {
       each = has.each;
       few = omega (arith, has.few, past);
-      done = λ q high. ⊎_elim (λ low. has.done q low) (λ low. ap (given_or rows (Page q) (rows i (Page q))) (has.rest q low) ∙ same q low high) (cases_lt q p);
+      done = λ q high. ⊎_elim (λ low. has.done q low) (λ low. subst (fits q) (sym (has.rest q low)) (same q low high)) (cases_lt q p);
       rest = λ q low. has.rest q (omega arith);
     }
 
     -- pages that get something are a further stretch
-    pub given_more : (s : Stretch) → s.range.from ≡ p → s.range.to ≡ e → e ≤ MOST_PAGES → ((q : ℕ) → p ≤ q → q < e → given_or rows (Page q) (rows i (Page q)) (Some s.origin) ≡ wanted q) →
-        IsApart count i s.origin → HasGiven count rows i wanted e (stretches ++ s ∷ [])
+    pub given_more : (s : Stretch) → s.range.from ≡ p → s.range.to ≡ e → e ≤ MOST_PAGES → ((q : ℕ) → p ≤ q → q < e → fits q (Some (gift_of s))) → IsApart count i s.origin →
+        HasGiven count i fits e (stretches ++ s ∷ [])
     given_more s from to inside gives can = record {
       each = All-append (IsStretch count i) stretches (s ∷ []) has.each (all_one (IsStretch count i) s (record {
         order = omega (arith, from, to, past);
@@ -68,8 +63,8 @@ module _ (count : ℕ) (rows : ℕ → Row) (i : ℕ) (wanted : ℕ → Cell (Op
       }));
       few = omega (arith, length-append stretches (s ∷ []), has.few, past);
       done = λ q high. ⊎_elim
-          (λ low. ap (given_or rows (Page q) (rows i (Page q))) (push_off stretches s q (and_left (leb s.range.from q) (ltb q s.range.to) (lt-leb s.range.from q (omega arith)))) ∙ has.done q low)
-          (λ low. ap (given_or rows (Page q) (rows i (Page q))) (push_on stretches s q (between s.range.from s.range.to q (omega arith) (omega arith)) (has.rest q low)) ∙ gives q low high)
+          (λ low. subst (fits q) (sym (push_off stretches s q (and_left (leb s.range.from q) (ltb q s.range.to) (lt-leb s.range.from q (omega arith))))) (has.done q low))
+          (λ low. subst (fits q) (sym (push_on stretches s q (between s.range.from s.range.to q (omega arith) (omega arith)) (has.rest q low))) (gives q low high))
           (cases_lt q p);
       rest = λ q low. push_off stretches s q (and_right (leb s.range.from q) (ltb q s.range.to) (le-ltb q s.range.to (omega arith))) ∙ has.rest q (omega arith);
     }

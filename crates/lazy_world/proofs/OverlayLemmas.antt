@@ -6,16 +6,18 @@ use Rattle.lwc_base.specs.declared.item.Item.{Item}
 use Rattle.lwc_base.specs.declared.item.Mode.{Mode}
 use Rattle.lwc_base.specs.declared.item.Mode.TheVariants.{Copy}
 use Rattle.lwc_base.specs.declared.key.Key.{Key}
+use Rattle.lwc_base.specs.declared.key.Key.TheVariants.{Page}
 use Rattle.lwc_base.specs.declared.name.Name.{Name}
+use Rattle.lwc_base.specs.declared.right.Right.{Right}
 use Rattle.lwc_base.specs.Keys.{ValueOf}
 use Rattle.lwc_base.specs.Modes.{IsSpec, mode}
-use Rattle.lwc_base.specs.Overlay.{overlaid_cell, overlay, with_overlay}
+use Rattle.lwc_base.specs.Overlay.{overlaid_cell, overlaid_right, overlay, with_overlay}
 use Rattle.lwc_base.specs.Sharing.{is_moved, share}
 use Rattle.lwc_base.specs.World.{World, context, is_live}
 use Rattle.lazy_world.specs.Followed.{followed, with_transferred}
-use Rattle.lazy_world.specs.Transfers.{transferred_cell}
+use Rattle.lazy_world.specs.Transfers.{transferred_cell, transferred_right}
 use Rattle.lazy_world.specs.declared.transfer.Transfer.TheVariants.{Overlay}
-use Rattle.lazy_world.proofs.CloneLemmas.{settled, taken-cloned}
+use Rattle.lazy_world.proofs.CloneLemmas.{right_taken, settled, taken-cloned}
 use Rattle.lazy_world.proofs.FollowLemmas.{change-agree}
 
 module _ (w : World) (d c : Name) (job : ℕ) (items : List Item) (spec : IsSpec w.size.pages items) (live : is_live w d ≡ true) where
@@ -29,12 +31,19 @@ module _ (w : World) (d c : Name) (job : ℕ) (items : List Item) (spec : IsSpec
         taken-cloned w d job items spec live s g refl k n
         (ap (λ o. is_moved (unwrap_or o Copy) k ((context s d).cell k)) (sym is) ∙ settled w d job items spec live k)
 
+    right_overlaid : (p : ℕ) (old : Right) (o : Option Mode) → transferred_right (Overlay g) o p ((context s d).cell (Page p)) ((context s d).right p) old ≡ overlaid_right s d p o old
+    right_overlaid p old None = refl
+    right_overlaid p old (Some n) = right_taken s d p n
+
     -- what a context takes over from one whose values have moved
     overlaid-world : followed s (Overlay g) items d c ≡ overlay w c d job items
     unfolding overlay
     overlaid-world =
-        change-agree s c (with_transferred s (Overlay g) items (context s d).cell) (with_overlay s d items)
-        (λ e. record (context s c) { cell = λ k. as_overlaid k ((context s c).cell k) (mode items k) refl e })
+        change-agree s c (with_transferred s (Overlay g) items (context s d)) (with_overlay s d items)
+        (λ e. record (context s c) {
+          cell = λ k. as_overlaid k ((context s c).cell k) (mode items k) refl e;
+          right = λ p. right_overlaid p ((context s c).right p) (mode items (Page p)) e;
+        })
 
     pub overlaid-is : (v : World) → v ≡ s → followed v (Overlay g) items d c ≡ overlay w c d job items
     overlaid-is v is = ap (λ u. followed u (Overlay g) items d c) is ∙ overlaid-world

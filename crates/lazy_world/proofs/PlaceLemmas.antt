@@ -8,11 +8,12 @@ use Rattle.lwc_base.specs.declared.cell.Cell.TheVariants.{Own}
 use Rattle.lwc_base.specs.declared.key.Key.TheVariants.{Page, Slot, Cred}
 use Rattle.lwc_base.specs.declared.key.TheConstants.{NOBODY}
 use Rattle.lwc_base.specs.declared.page.PageValue.{PageValue}
+use Rattle.lwc_base.specs.declared.right.Right.{Right}
 use Rattle.lwc_base.specs.Keys.{with_key}
 use Rattle.fd_table.specs.Slots as slots
 use Rattle.cow_space.specs.Maps.{put_page}
-use Rattle.cow_space.specs.Cells.{Place, no_pages, place_of}
-use Rattle.lazy_world.specs.Cells.{Row, no_row, on_place, put_row, rows_of}
+use Rattle.cow_space.specs.Cells.{Place, all_write, no_pages, place_of, rights_of}
+use Rattle.lazy_world.specs.Cells.{Row, no_row, on_place, put_rights, put_row, rows_of}
 use Rattle.lazy_world.specs.Kept.{IsNumbered}
 use Rattle.lwc_base.proofs.Small.{at-new}
 
@@ -35,6 +36,14 @@ set_at xs i j x d inside =
     (λ same. ap (λ k. get_or (set xs i x) k d) same ∙ get_or-set_same xs i x d inside ∙ sym (choose i j x (get_or xs j d) same))
     (λ other. get_or-set_other xs i j x d other ∙ sym (pass i j x (get_or xs j d) other))
     (cases_eq j i)
+
+-- the rights of a place change
+pub rights-set : (rights : List (ℕ → Right)) (i : ℕ) (right : ℕ → Right) → i < length rights → rights_of (set rights i right) ≡ put_rights (rights_of rights) i right
+rights-set rights i right inside = λ e j. set_at rights i j right all_write inside e
+
+-- no place has rights
+pub rights-none : (n : ℕ) → rights_of (replicate n all_write) ≡ (λ i. all_write)
+rights-none n = λ e i. at-new n i all_write e
 
 -- nothing is at any place
 pub rows-none : (n : ℕ) → rows_of (replicate n no_pages) (replicate n slots.no_slots) (replicate n (Own NOBODY)) ≡ (λ i. no_row)

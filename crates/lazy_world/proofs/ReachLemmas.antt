@@ -1,5 +1,5 @@
 -- The places that a search marks are those of the contexts that are reached.
-use Rattle.std.proofs.Common.{◌≡◌, ◌⊎◌, inl, inr, ◌↔◌, ℕ, zero, suc, ◌<◌, arith, List, [], ◌∷◌, refl, sym, ap, subst, ◌∙◌, Bool, true, false, Option, Some, None, get_or}
+use Rattle.std.proofs.Common.{◌≡◌, inl, inr, ◌↔◌, ℕ, ◌<◌, arith, List, [], ◌∷◌, refl, sym, ap, subst, ◌∙◌, Bool, true, Option, Some, None, get_or}
 use Rattle.std.specs.Prelude.{All, is_some}
 use Rattle.std.specs.List.{Contains, cons_option, filter_map}
 use Rattle.std.specs.Ordering.{eq_by_cmp, is_eq}

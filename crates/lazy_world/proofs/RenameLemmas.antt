@@ -9,26 +9,28 @@ use Rattle.std.proofs.lemmas.Bool.Decides.{nat_tests}
 use Rattle.lwc_base.specs.declared.cell.Cell.{Cell}
 use Rattle.lwc_base.specs.declared.cell.Cell.TheVariants as cells
 use Rattle.lwc_base.specs.declared.item.Mode.{Mode}
-use Rattle.lwc_base.specs.declared.item.Mode.TheVariants.{Copy, Share, Unmap}
+use Rattle.lwc_base.specs.declared.item.Mode.TheVariants.{Copy, Share, Unmap, CopyRead}
 use Rattle.lwc_base.specs.declared.key.Key.{Key}
 use Rattle.lwc_base.specs.declared.key.Key.TheVariants.{Page}
 use Rattle.lwc_base.specs.declared.name.Name.{Name}
 use Rattle.lwc_base.specs.declared.page.PageValue.{PageValue}
+use Rattle.lwc_base.specs.declared.right.Right.{Right}
 use Rattle.lwc_base.specs.Keys.{ValueOf}
 use Rattle.lwc_base.specs.Names.{name_cmp}
 use Rattle.lwc_base.specs.Ranges.{are_of_one_kind, begins_range, is_page, ranges}
+use Rattle.lwc_base.specs.Rights.{same_right}
 use Rattle.lwc_base.specs.Sharing.{is_moved}
 use Rattle.lwc_base.specs.World.{World, Context}
-use Rattle.lazy_world.specs.Transfers.{transferred_cell, taken_cell}
+use Rattle.lazy_world.specs.Transfers.{transferred_cell, transferred_right, taken_cell}
 use Rattle.lazy_world.specs.declared.transfer.Transfer.{Transfer}
 use Rattle.lazy_world.specs.declared.transfer.Transfer.TheVariants.{Mark, Move, Clone, Overlay}
 use Rattle.lwc_base.proofs.Facts.{orders}
 use Rattle.lwc_base.proofs.Orders.{same_name}
 
--- ranges depend on the cells of a context alone
-pub ranges-cells : (pages : ℕ) (x y : Context) → ((k : Key) → x.cell k ≡ y.cell k) → ranges pages x ≡ ranges pages y
+-- ranges depend on the cells and the rights of a context alone
+pub ranges-cells : (pages : ℕ) (x y : Context) → ((k : Key) → x.cell k ≡ y.cell k) → ((p : ℕ) → x.right p ≡ y.right p) → ranges pages x ≡ ranges pages y
 unfolding ranges begins_range
-ranges-cells pages x y same = ap (λ (row : (k : Key) → Cell (ValueOf k)). ranges pages (record { cell = row; entry = x.entry; saved = x.saved })) (λ e k. same k e)
+ranges-cells pages x y same rights = λ e. ranges pages (record { cell = λ k. same k e; right = λ p. rights p e; entry = x.entry; saved = x.saved })
 
 own_kind : (g : Name) → are_of_one_kind (cells.Common g) (cells.Common g) ≡ true
 own_kind g = (eq_by_cmp_equiv orders.names).refl g
@@ -53,7 +55,8 @@ apart_right g (cells.Common h) other = back_name g h other (is_eq (name_cmp h g)
 module _ (x y : Context) (g h : Name) (moved : ℕ → Bool)
     (on_x : (p : ℕ) → moved p ≡ true → x.cell (Page p) ≡ cells.Common g) (on_y : (p : ℕ) → moved p ≡ true → y.cell (Page p) ≡ cells.Common h)
     (off : (p : ℕ) → moved p ≡ false → x.cell (Page p) ≡ y.cell (Page p))
-    (away_x : (p : ℕ) → moved p ≡ false → x.cell (Page p) ≡ cells.Common g → ⊥) (away_y : (p : ℕ) → moved p ≡ false → y.cell (Page p) ≡ cells.Common h → ⊥) where
+    (away_x : (p : ℕ) → moved p ≡ false → x.cell (Page p) ≡ cells.Common g → ⊥) (away_y : (p : ℕ) → moved p ≡ false → y.cell (Page p) ≡ cells.Common h → ⊥)
+    (rights : (p : ℕ) → x.right p ≡ y.right p) where
   same_page : (p : ℕ) (b : Bool) → moved p ≡ b → is_page (x.cell (Page p)) ≡ is_page (y.cell (Page p))
   same_page p true is = ap is_page (on_x p is) ∙ sym (ap is_page (on_y p is))
   same_page p false is = ap is_page (off p is)
@@ -72,7 +75,7 @@ module _ (x y : Context) (g h : Name) (moved : ℕ → Bool)
   same_begin : (p : ℕ) → begins_range x p ≡ begins_range y p
   unfolding begins_range
   same_begin zero = ap (λ b. b && not false) (same_page zero (moved zero) refl)
-  same_begin (suc p) = λ e. same_page (suc p) (moved (suc p)) refl e && not (same_kind p (suc p) (moved p) (moved (suc p)) refl refl e)
+  same_begin (suc p) = λ e. same_page (suc p) (moved (suc p)) refl e && not (same_kind p (suc p) (moved p) (moved (suc p)) refl refl e && same_right (rights p e) (rights (suc p) e))
 
   pub renamed-ranges : (pages : ℕ) → ranges pages x ≡ ranges pages y
   unfolding ranges
@@ -85,6 +88,14 @@ with_name Move h = Move
 with_name (Clone g) h = Clone h
 with_name (Overlay g) h = Overlay h
 
+-- rights go by no name
+pub right-named : (transfer : Transfer) (g h : Name) (m : Option Mode) (p : ℕ) (cell : Cell (Option PageValue)) (right old : Right) →
+    transferred_right (with_name transfer g) m p cell right old ≡ transferred_right (with_name transfer h) m p cell right old
+right-named (Mark n) g h m p cell right old = refl
+right-named Move g h m p cell right old = refl
+right-named (Clone n) g h m p cell right old = refl
+right-named (Overlay n) g h m p cell right old = refl
+
 -- whether a cell by a transfer becomes common of the new group
 abbrev pub is_new : Transfer → Option Mode → (k : Key) → Cell (ValueOf k) → Bool
 is_new Move m k cell = false
@@ -95,6 +106,7 @@ module _ (w : World) (k : Key) (cell old : Cell (ValueOf k)) (h : Name) where
   taken_new Copy is = absurd (let e = is in cc)
   taken_new Share is = ap (λ b. cond b (cells.Common h) cell) is
   taken_new Unmap is = absurd (let e = is in cc)
+  taken_new CopyRead is = absurd (let e = is in cc)
 
   pub transferred-new : (transfer : Transfer) (m : Option Mode) → is_new transfer m k cell ≡ true → transferred_cell w (with_name transfer h) m k cell old ≡ cells.Common h
   transferred-new (Mark g) m is = ap (λ b. cond b (cells.Common h) cell) is
@@ -107,6 +119,7 @@ module _ (w : World) (k : Key) (cell old : Cell (ValueOf k)) (h : Name) where
   taken_old Copy g is = refl
   taken_old Share g is = ap (λ b. cond b (cells.Common h) cell) is ∙ sym (ap (λ b. cond b (cells.Common g) cell) is)
   taken_old Unmap g is = refl
+  taken_old CopyRead g is = refl
 
   pub transferred-old : (transfer : Transfer) (m : Option Mode) (g : Name) → is_new transfer m k cell ≡ false → transferred_cell w (with_name transfer h) m k cell old ≡ transferred_cell w (with_name transfer g) m k cell old
   transferred-old (Mark n) m g is = ap (λ b. cond b (cells.Common h) cell) is ∙ sym (ap (λ b. cond b (cells.Common g) cell) is)
@@ -123,6 +136,7 @@ module _ (w : World) (k : Key) (cell old : Cell (ValueOf k)) (h : Name) where
     taken_away Copy is e = no_own _ e
     taken_away Share is e = here (sym (ap (λ b. cond b (cells.Common h) cell) is) ∙ e)
     taken_away Unmap is e = no_own _ e
+    taken_away CopyRead is e = no_own _ e
 
     pub transferred-away : (transfer : Transfer) (m : Option Mode) → is_new transfer m k cell ≡ false → transferred_cell w (with_name transfer h) m k cell old ≡ cells.Common h → ⊥
     transferred-away (Mark n) m is e = here (sym (ap (λ b. cond b (cells.Common h) cell) is) ∙ e)

@@ -4,10 +4,12 @@ use Rattle.std.proofs.lemmas.Bool.{cases_eq}
 use Rattle.lwc_base.specs.declared.cell.Cell.TheVariants.{Own}
 use Rattle.lwc_base.specs.declared.key.Key.TheVariants.{Page}
 use Rattle.lwc_base.specs.declared.name.Tag.{Tag}
+use Rattle.lwc_base.specs.declared.right.Right.{Right}
 use Rattle.lwc_base.specs.declared.page.PageValue.TheVariants.{Data}
 use Rattle.lwc_base.specs.Fresh.{IsFresh}
+use Rattle.lwc_base.specs.World.{group}
 use Rattle.lazy_world.specs.Cells.{Row, put_row}
-use Rattle.lazy_world.specs.Sound.{HasOldTags, HasOneHome, IsAllOwn, IsEmpty, IsSound, IsWithin}
+use Rattle.lazy_world.specs.Sound.{HasItsPages, HasOldTags, HasOneHome, IsAllOwn, IsEmpty, IsSound, IsWithin}
 use Rattle.lazy_world.specs.States.{Parts, world_of}
 use Rattle.lazy_world.proofs.PlaceLemmas.{choose, pass}
 
@@ -43,16 +45,16 @@ homes-row rows i row homes old m n p q tag a b at_p at_q =
 
 module _ (s : Parts) (sound : IsSound s) where
   -- a row changes
-  module _ (i : ℕ) (row : Row) where
+  module _ (i : ℕ) (row : Row) (rights : ℕ → ℕ → Right) where
     abbrev later : Parts
-    later = record s { rows = put_row s.rows i row }
+    later = record s { rows = put_row s.rows i row; rights = rights }
 
     pub sound-row : IsWithin s.size.pages row → ((j : ℕ) → s.size.contexts + j ≡ i → IsAllOwn row) →
         (i < s.size.contexts → get_or s.contexts.places i None ≡ None → IsEmpty row) →
         ((j : ℕ) → s.size.contexts + j ≡ i → get_or s.groups.places j None ≡ None → IsEmpty row) →
-        HasOldTags (world_of s).next row → IsFresh (world_of later) → HasOneHome later.rows → IsSound later
+        HasOldTags (world_of s).next row → IsFresh (world_of later) → HasOneHome later.rows → HasItsPages later → IsSound later
     unfolding world_of
-    sound-row within own free free_groups tags fresh homes = record {
+    sound-row within own free free_groups tags fresh homes pages = record {
       sizes = record { size = sound.sizes.size; registers = sound.sizes.registers; contexts = sound.sizes.contexts; groups = sound.sizes.groups; counts = sound.sizes.counts };
       past = λ j. each_row s.rows i row (IsWithin s.size.pages) j (λ same. within) (λ other. sound.past j);
       own = λ j. each_row s.rows i row IsAllOwn (s.size.contexts + j) (λ same. own j same) (λ other. sound.own j);
@@ -62,11 +64,12 @@ module _ (s : Parts) (sound : IsSound s) where
       tags = λ j. each_row s.rows i row (HasOldTags (world_of s).next) j (λ same. tags) (λ other. sound.tags j);
       fresh = fresh;
       homes = homes;
+      pages = pages;
     }
 
   -- registers change
   pub sound-registers : (i : ℕ) (registers : _) → IsFresh (world_of (record s { registers = set s.registers i registers })) → IsSound (record s { registers = set s.registers i registers })
-  unfolding world_of
+  unfolding world_of group
   sound-registers i registers fresh = record {
     sizes = record {
       size = sound.sizes.size;
@@ -82,4 +85,5 @@ module _ (s : Parts) (sound : IsSound s) where
     tags = sound.tags;
     fresh = fresh;
     homes = sound.homes;
+    pages = sound.pages;
   }

@@ -15,7 +15,7 @@ use Rattle.lwc_base.specs.declared.page.PageValue.TheVariants.{Data}
 use Rattle.lwc_base.specs.Cells.{put_page, with_cell, with_value}
 use Rattle.lwc_base.specs.Fresh.{IsFresh}
 use Rattle.lwc_base.specs.Keys.{with_key}
-use Rattle.lwc_base.specs.World.{World, Context, Counters, change_counters}
+use Rattle.lwc_base.specs.World.{World, Context, Counters, change_counters, group}
 use Rattle.ctx_table.specs.NameTables.{ArePlaced}
 use Rattle.lazy_world.specs.declared.counts.Counts.{Counts}
 use Rattle.lazy_world.specs.Cells.{Row, is_nothing, is_own, put_row}
@@ -23,6 +23,7 @@ use Rattle.lazy_world.specs.Memory.{holder, holder_of}
 use Rattle.lazy_world.specs.Sound.{HasOldTags, HasOneHome, IsAllOwn, IsSound, IsWithin}
 use Rattle.lazy_world.specs.States.{Parts, counters_of, group_of, held, nothing_counted, world_of}
 use Rattle.lazy_world.proofs.AddLemmas.{counted-at}
+use Rattle.lazy_world.proofs.PageLemmas.{no_group, pages-put_page, pages-row}
 use Rattle.lazy_world.proofs.PlaceLemmas.{choose, pass}
 use Rattle.lazy_world.proofs.SoundLemmas.{IsTagged, sound-row}
 use Rattle.lazy_world.proofs.WorldLemmas.{change_context-row, change_group-row, context-found}
@@ -66,6 +67,14 @@ group-page p v row = λ e. record { value = λ k. at k e }
     at (Page q) = chosen_held q (eqb q p) v (row (Page q))
     at (Slot n) = refl
     at Cred = refl
+
+-- a page that is common of a group was so before
+common-page : (p q : ℕ) (v : PageValue) (row : Row) (g : Name) → with_page p v row (Page q) ≡ Common g → row (Page q) ≡ Common g
+common-page p q v row g is = at (eqb q p) is
+  where
+    at : (b : Bool) → cond b (Own (Some v)) (row (Page q)) ≡ Common g → row (Page q) ≡ Common g
+    at true is = absurd (no_group (Some v) g is)
+    at false is = is
 
 some-value : (a b : PageValue) → Own (Some a) ≡ Own (Some b) → a ≡ b
 some-value a b is = cc
@@ -131,12 +140,12 @@ module _ (s : Parts) (sound : IsSound s) where
         ⊎_elim
         (λ mine.
         ap (λ k. world_of (record s { rows = put_row s.rows k (with_page p v (s.rows k)) })) mine.0
-        ∙ change_context-row s placed c i found (with_page p v (s.rows i)) (with_cell (Page p) (Own (Some v))) inside refl
+        ∙ change_context-row s placed c i found (with_page p v (s.rows i)) s.rights (with_cell (Page p) (Own (Some v))) inside (λ q other. refl) refl
         ∙ sym (changes.put_own now c (Page p) (Some mine.1.0) (Some v) (ap (λ (x : Context). x.cell (Page p)) (context-found s c i found) ∙ mine.1.1) refl))
         (λ theirs.
         ap (λ k. world_of (record s { rows = put_row s.rows k (with_page p v (s.rows k)) })) theirs.4
         ∙ change_group-row s placed_groups theirs.0 theirs.1 theirs.3 (λ d q at_q. let low = placed.within d q at_q in omega (arith, low, sound.sizes.contexts))
-        (with_page p v (s.rows (s.size.contexts + theirs.1))) (with_value (Page p) (Some v)) (group-page p v (s.rows (s.size.contexts + theirs.1)))
+        (with_page p v (s.rows (s.size.contexts + theirs.1))) s.rights (with_value (Page p) (Some v)) (λ q other. refl) (group-page p v (s.rows (s.size.contexts + theirs.1)))
         ∙ sym (changes.put_common now c (Page p) theirs.0 (Some v) (ap (λ (x : Context). x.cell (Page p)) (context-found s c i found) ∙ theirs.2)))
         spot
 
@@ -159,13 +168,15 @@ module _ (s : Parts) (sound : IsSound s) where
 
     pub sound-spot : ((t : Tag) (bytes : List ℕ) → v ≡ Data t bytes → t.k < (now.next t.job).tags) → KeepsHome s.rows p v → IsSound later
     sound-spot tags keeps =
-        sound-row s sound j (with_page p v (s.rows j)) (within-page p v s.size.pages (s.rows j) page-low (sound.past j))
+        let pages = pages-put_page now (world_of later) c p v put-spot in
+        sound-row s sound j (with_page p v (s.rows j)) s.rights (within-page p v s.size.pages (s.rows j) page-low (sound.past j))
         (λ q is. own-page p v (s.rows j) (subst (λ k. IsAllOwn (s.rows k)) is (sound.own q)))
         (λ low none. absurd (taken-place low none))
         (λ q is none. absurd (taken-group q is none))
         (old-tags tags)
         (subst IsFresh (sym put-spot) (stays_fresh.put now c (Page p) (Some v) sound.fresh))
         (homes-page s.rows j p v sound.homes keeps)
+        (pages-row s later j (with_page p v (s.rows j)) sound.pages refl pages (λ q g is. pages g q (sound.pages j q g (common-page p q v (s.rows j) g is))))
 
   -- a job takes tags
   module _ (job : ℕ) (known : job < s.size.jobs) (n : Counts) (taken : ℕ)
@@ -185,7 +196,7 @@ module _ (s : Parts) (sound : IsSound s) where
     rises false m = omega arith
 
     pub sound-counted : IsSound more
-    unfolding world_of
+    unfolding world_of group
     sound-counted = record {
       sizes = record {
         size = sound.sizes.size;
@@ -206,4 +217,5 @@ module _ (s : Parts) (sound : IsSound s) where
       fresh = subst IsFresh (sym counted-world)
           (stays_fresh.counted now job (λ m. record m { tags = m.tags + taken }) (record { contexts = omega arith; groups = omega arith; tags = omega arith }) sound.fresh);
       homes = sound.homes;
+      pages = sound.pages;
     }

@@ -15,13 +15,13 @@ use Rattle.lwc_base.specs.Cells.{page_at, put_at, put_in, put_page, value_at}
 use Rattle.lwc_base.specs.Frames.{is_parting, used}
 use Rattle.lwc_base.specs.Memory.{is_present, touched}
 use Rattle.lwc_base.specs.Pages.{bytes_of}
-use Rattle.lwc_base.specs.Store.{Piece, Stored, Absent, Full, Done, after_store, bytes_after, page_value_at, parting_count, stored_pages, put_pages, store, stored_value}
+use Rattle.lwc_base.specs.Rights.{is_writable, may_write}
+use Rattle.lwc_base.specs.Store.{Piece, Stored, Absent, ReadOnly, Full, Done, after_store, bytes_after, page_value_at, parting_count, stored_pages, put_pages, store, stored_value}
 use Rattle.lwc_base.specs.World.{World, Context, Counters, Group, change_context, change_counters, change_group, changed_context, changed_group, context, group}
 use Rattle.lazy_world.specs.Memory.{page_in}
 use Rattle.lazy_world.specs.Stores.{parts_at, store_pages, taken_at, value_after}
 use Rattle.lazy_world.proofs.MemoryLemmas.{page-in}
 use Rattle.lwc_base.proofs.Facts.{changes}
-use Rattle.lwc_base.proofs.Small.{answer-absent, answer-done, answer-full}
 
 -- the number of one page
 pub count-one : (f : ℕ → Bool) (p : ℕ) (ps : List ℕ) → count_by f (p ∷ ps) ≡ cond (f p) 1 0 + count_by f ps
@@ -162,13 +162,35 @@ store-more w v c job piece p ps is values parts =
 
 -- how a store ends
 
+abbrev ended : Bool → Bool → Bool → Stored → Stored
+ended present writable full done = if not present then Absent else (if not writable then ReadOnly else (if full then Full else done))
+
+ends_absent : (present writable full : Bool) (done : Stored) → present ≡ false → ended present writable full done ≡ Absent
+ends_absent present writable full done absent = ap (λ b. ended b writable full done) absent
+
+ends_read : (present writable full : Bool) (done : Stored) → present ≡ true → writable ≡ false → ended present writable full done ≡ ReadOnly
+ends_read present writable full done there read = λ e. ended (there e) (read e) full done
+
+ends_full : (present writable full : Bool) (done : Stored) → present ≡ true → writable ≡ true → full ≡ true → ended present writable full done ≡ Full
+ends_full present writable full done there may short = λ e. ended (there e) (may e) (short e) done
+
+ends_done : (present writable full : Bool) (done : Stored) → present ≡ true → writable ≡ true → full ≡ false → ended present writable full done ≡ done
+ends_done present writable full done there may room = λ e. ended (there e) (may e) (room e) done
+
 module _ (w : World) (c : Name) (job : ℕ) (piece : Piece) where
   -- a touched page is absent
   pub store-absent : is_present w c piece.at (length piece.bytes) ≡ false → store w c job piece ≡ Absent
   unfolding store
-  store-absent absent = answer-absent (is_present w c piece.at (length piece.bytes)) (nat_lt w.size.frames (used w + parting_count w c piece)) (Done (after_store w c job piece)) absent
+  store-absent absent =
+      ends_absent (is_present w c piece.at (length piece.bytes)) (is_writable w c piece.at (length piece.bytes)) (nat_lt w.size.frames (used w + parting_count w c piece)) (Done (after_store w c job piece)) absent
 
-  module _ (there : is_present w c piece.at (length piece.bytes) ≡ true) (ps : List ℕ) (touches : ps ≡ touched piece.at (length piece.bytes)) where
+  -- a touched page may only be read
+  pub store-read_only : is_present w c piece.at (length piece.bytes) ≡ true → is_writable w c piece.at (length piece.bytes) ≡ false → store w c job piece ≡ ReadOnly
+  unfolding store
+  store-read_only there read =
+      ends_read (is_present w c piece.at (length piece.bytes)) (is_writable w c piece.at (length piece.bytes)) (nat_lt w.size.frames (used w + parting_count w c piece)) (Done (after_store w c job piece)) there read
+
+  module _ (there : is_present w c piece.at (length piece.bytes) ≡ true) (may : is_writable w c piece.at (length piece.bytes) ≡ true) (ps : List ℕ) (touches : ps ≡ touched piece.at (length piece.bytes)) where
     parting-touched : parting_count w c piece ≡ count_by (parts_at w c) ps
     unfolding parting_count
     parting-touched = ap (count_by (parts_at w c)) (sym touches)
@@ -177,17 +199,23 @@ module _ (w : World) (c : Name) (job : ℕ) (piece : Piece) where
     pub store-full : w.size.frames < used w + count_by (parts_at w c) ps → store w c job piece ≡ Full
     unfolding store
     store-full short =
-        answer-full (is_present w c piece.at (length piece.bytes)) (nat_lt w.size.frames (used w + parting_count w c piece)) (Done (after_store w c job piece)) there
+        ends_full (is_present w c piece.at (length piece.bytes)) (is_writable w c piece.at (length piece.bytes)) (nat_lt w.size.frames (used w + parting_count w c piece)) (Done (after_store w c job piece)) there may
         (lt-ltb w.size.frames (used w + parting_count w c piece) (omega (arith, short, parting-touched)))
 
     -- it is done
     pub store-done : used w + count_by (parts_at w c) ps ≤ w.size.frames → store w c job piece ≡ Done (store_pages w c job piece ps)
     unfolding store after_store store_pages
     store-done room =
-        answer-done (is_present w c piece.at (length piece.bytes)) (nat_lt w.size.frames (used w + parting_count w c piece)) (Done (after_store w c job piece)) there
+        ends_done (is_present w c piece.at (length piece.bytes)) (is_writable w c piece.at (length piece.bytes)) (nat_lt w.size.frames (used w + parting_count w c piece)) (Done (after_store w c job piece)) there may
         (le-ltb w.size.frames (used w + parting_count w c piece) (omega (arith, room, parting-touched)))
         ∙ ap Done
         (λ e. change_counters (put_pages w c (stored_pages w c job piece (w.next job).tags (sym touches e))) job (λ n. record n { tags = n.tags + parting-touched e }))
+
+-- whether touched pages may be stored to, by the rights of the context
+pub writable-touched : (w : World) (c : Name) (x : Context) (at count : ℕ) (ps : List ℕ) (answer : Bool) → context w c ≡ x → ps ≡ touched at count → answer ≡ list_all (λ p. may_write (x.right p)) ps →
+    is_writable w c at count ≡ answer
+unfolding is_writable
+writable-touched w c x at count ps answer is touches told = (λ e. list_all (λ p. may_write ((is e).right p)) (sym touches e)) ∙ sym told
 
 -- what is counted, and what is there, by the cells of the context
 module _ (w : World) (c : Name) (x : Context) (ps : List ℕ) (cells : context w c ≡ x) where

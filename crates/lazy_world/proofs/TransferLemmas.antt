@@ -5,7 +5,7 @@ use Rattle.std.proofs.lemmas.Bool.{cases_eq}
 use Rattle.lwc_base.specs.declared.cell.Cell.{Cell}
 use Rattle.lwc_base.specs.declared.cell.Cell.TheVariants as cells
 use Rattle.lwc_base.specs.declared.item.Mode.{Mode}
-use Rattle.lwc_base.specs.declared.item.Mode.TheVariants.{Copy, Share, Unmap}
+use Rattle.lwc_base.specs.declared.item.Mode.TheVariants.{Copy, Share, Unmap, CopyRead}
 use Rattle.lwc_base.specs.declared.key.Key.{Key}
 use Rattle.lwc_base.specs.declared.key.Key.TheVariants.{Page, Slot, Cred}
 use Rattle.lwc_base.specs.declared.name.Name.{Name}
@@ -51,6 +51,7 @@ moved_same None k cell = refl
 moved_same (Some Copy) k cell = refl
 moved_same (Some Share) k cell = shared_own k cell
 moved_same (Some Unmap) k cell = refl
+moved_same (Some CopyRead) k cell = refl
 
 module _ (w : World) (contexts count : ℕ) (rows : ℕ → Row) (k : Key) (from to : ℕ) (found : Found) where
   abbrev got : Option Origin → Cell (ValueOf k)
@@ -93,6 +94,7 @@ module _ (w : World) (contexts count : ℕ) (rows : ℕ → Row) (k : Key) (from
     taken-gives Copy = copy-gives
     taken-gives Share = share-gives
     taken-gives Unmap = refl
+    taken-gives CopyRead = copy-gives
 
     mark-gives : (g : Name) (m : Option Mode) → from ≡ to → got (origin_of (Mark g) m found from to) ≡ transferred_cell w (Mark g) m k cell (rows to k)
     mark-gives g m same =
@@ -113,6 +115,7 @@ module _ (w : World) (contexts count : ℕ) (rows : ℕ → Row) (k : Key) (from
         at None c here = refl
         at (Some Copy) c here = refl
         at (Some Unmap) c here = refl
+        at (Some CopyRead) c here = refl
         at (Some Share) (cells.Own v) here =
             ⊎_elim
             (λ none. ap (λ kind. given rows k (cond (moved_origin (Some Share) kind) (origins.CopyOf from) origins.Absent)) none.0 ∙ ap cells.Own (sym none.1))
@@ -165,6 +168,7 @@ module _ (contexts count from to : ℕ) (inside : from < count) where
     taken-apart low g Copy = shown-apart (copied_origin found.holder) found.kind (held-apart low found.holder behind within)
     taken-apart low g Share = share-apart g found.kind
     taken-apart low g Unmap = tt
+    taken-apart low g CopyRead = shown-apart (copied_origin found.holder) found.kind (held-apart low found.holder behind within)
 
     pub transfer-can : (transfer : Transfer) (m : Option Mode) → IsFor contexts from to transfer → CanGet count to (origin_of transfer m found from to)
     transfer-can (Mark g) m for = marked (moved_origin m found.kind) g

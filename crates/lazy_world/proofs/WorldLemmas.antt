@@ -5,6 +5,7 @@ use Rattle.std.specs.Option.{option_map}
 use Rattle.std.specs.FinMap as fm
 use Rattle.std.proofs.lemmas.List.{get_or-set_same}
 use Rattle.lwc_base.specs.declared.name.Name.{Name}
+use Rattle.lwc_base.specs.declared.right.Right.{Right}
 use Rattle.lwc_base.specs.Registers.{fresh_registers}
 use Rattle.lwc_base.specs.World.{World, Context, Group, change_context, changed_context, change_group, changed_group, context, group, is_live, new_context, new_group}
 use Rattle.ctx_table.specs.NameTables.{ArePlaced, NameTable}
@@ -101,38 +102,41 @@ module _ (s : Parts) where
         ∙ ap (λ x. record now { contexts = fm.insert now.contexts c x }) is
         ∙ sym (ap (changed_context now c change) (get-context c ∙ ap (option_map (context_at s)) found))
 
-    pub change_context-row : (row : Row) (change : Context → Context) → i < s.size.contexts → context_of row (registers_at s.registers i) ≡ change (context_at s i) →
-        world_of (record s { rows = put_row s.rows i row }) ≡ change_context now c change
-    change_context-row row change inside is =
-        changed (record s { rows = put_row s.rows i row }) refl refl refl refl
-        (λ d q at_q other. ap (λ r. context_of r (registers_at s.registers q)) (row_there s.rows i q row (λ same. other (one_name s.contexts placed c d i q found at_q same))))
+    pub change_context-row : (row : Row) (rights : ℕ → ℕ → Right) (change : Context → Context) → i < s.size.contexts → ((q : ℕ) → (q ≡ i → ⊥) → rights q ≡ s.rights q) →
+        context_of row (rights i) (registers_at s.registers i) ≡ change (context_at s i) → world_of (record s { rows = put_row s.rows i row; rights = rights }) ≡ change_context now c change
+    change_context-row row rights change inside others is =
+        changed (record s { rows = put_row s.rows i row; rights = rights }) refl refl refl refl
+        (λ d q at_q other.
+        let far : q ≡ i → ⊥ = λ same. other (one_name s.contexts placed c d i q found at_q same) in
+        λ e. context_of (row_there s.rows i q row far e) (others q far e) (registers_at s.registers q))
         (λ d q at_q. ap group_of (row_there s.rows i (s.size.contexts + q) row (λ (same : s.size.contexts + q ≡ i). absurd (omega (arith, same, inside)))))
         change
-        (ap (λ r. context_of r (registers_at s.registers i)) (row_here s.rows i i row refl) ∙ is)
+        (ap (λ r. context_of r (rights i) (registers_at s.registers i)) (row_here s.rows i i row refl) ∙ is)
 
     -- other registers there
     pub change_context-registers : (registers : Registers) (change : Context → Context) → i < length s.registers →
-        context_of (s.rows i) registers ≡ change (context_at s i) →
+        context_of (s.rows i) (s.rights i) registers ≡ change (context_at s i) →
         world_of (record s { registers = set s.registers i registers }) ≡ change_context now c change
     change_context-registers registers change inside is =
         changed (record s { registers = set s.registers i registers }) refl refl refl refl
-        (λ d q at_q other. ap (context_of (s.rows q)) (get_or-set_other s.registers i q registers no_registers (λ same. other (one_name s.contexts placed c d i q found at_q same))))
+        (λ d q at_q other. ap (context_of (s.rows q) (s.rights q)) (get_or-set_other s.registers i q registers no_registers (λ same. other (one_name s.contexts placed c d i q found at_q same))))
         (λ d q at_q. refl)
         change
-        (ap (context_of (s.rows i)) (get_or-set_same s.registers i registers no_registers inside) ∙ is)
+        (ap (context_of (s.rows i) (s.rights i)) (get_or-set_same s.registers i registers no_registers inside) ∙ is)
 
   -- another row at the place of a live group
   module _ (placed : ArePlaced s.groups) (g : Name) (j : ℕ) (found : fm.get s.groups.map g ≡ Some j) (inside : (d : Name) (q : ℕ) → fm.get s.contexts.map d ≡ Some q → q < s.size.contexts) where
-    pub change_group-row : (row : Row) (change : Group → Group) → group_of row ≡ change (group_at s j) →
-        world_of (record s { rows = put_row s.rows (s.size.contexts + j) row }) ≡ change_group now g change
+    pub change_group-row : (row : Row) (rights : ℕ → ℕ → Right) (change : Group → Group) → ((q : ℕ) → (q ≡ s.size.contexts + j → ⊥) → rights q ≡ s.rights q) → group_of row ≡ change (group_at s j) →
+        world_of (record s { rows = put_row s.rows (s.size.contexts + j) row; rights = rights }) ≡ change_group now g change
     unfolding world_of change_group
-    change_group-row row change is =
-        let t : Parts = record s { rows = put_row s.rows (s.size.contexts + j) row } in
+    change_group-row row rights change others is =
+        let t : Parts = record s { rows = put_row s.rows (s.size.contexts + j) row; rights = rights } in
         let here : group_at t j ≡ change (group_at s j) = ap group_of (row_here s.rows (s.size.contexts + j) (s.size.contexts + j) row refl) ∙ is in
         let contexts : mapped (context_at t) s.contexts.map ≡ mapped (context_at s) s.contexts.map =
         mapped-same (context_at s) s.contexts.map (context_at t)
-        (λ d q at_q. ap (λ r. context_of r (registers_at s.registers q))
-        (row_there s.rows (s.size.contexts + j) q row (λ (same : q ≡ s.size.contexts + j). absurd (let low = inside d q at_q in omega (arith, same, low))))) in
+        (λ d q at_q.
+        let far : q ≡ s.size.contexts + j → ⊥ = λ same. absurd (let low = inside d q at_q in omega (arith, same, low)) in
+        λ e. context_of (row_there s.rows (s.size.contexts + j) q row far e) (others q far e) (registers_at s.registers q)) in
         let groups : mapped (group_at t) s.groups.map ≡ fm.insert (mapped (group_at s) s.groups.map) g (group_at t j) =
         mapped-change (group_at s) s.groups.map (group_at t) g j found
         (λ d q at_q other. ap group_of

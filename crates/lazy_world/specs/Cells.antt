@@ -9,9 +9,10 @@ use Rattle.lwc_base.specs.declared.page.PageValue.{PageValue}
 use Rattle.lwc_base.specs.declared.page.PageValue.TheVariants.{Zero}
 use Rattle.lwc_base.specs.Keys.{ValueOf, nothing}
 use Rattle.lwc_base.specs.Mapping.{on_pages}
+use Rattle.lwc_base.specs.declared.right.Right.{Right}
 use Rattle.lwc_base.specs.Ranges.{is_page}
-use Rattle.range_map.specs.Kinds.{kind_of}
-use Rattle.range_map.specs.declared.segment.SegmentKind.{SegmentKind}
+use Rattle.range_map.specs.Kinds.{kind_of, state_of}
+use Rattle.range_map.specs.declared.segment.PageState.{PageState}
 use Rattle.fd_table.specs.Slots as slots
 use Rattle.cow_space.specs.declared.stretches.Origin.{Origin}
 use Rattle.cow_space.specs.declared.stretches.Origin.TheVariants.{Absent, Zeros}
@@ -43,9 +44,13 @@ page_cell present = Own (if present then Some Zero else None)
 abbrev pub set_pages : ℕ → ℕ → Bool → Row → Row
 set_pages from to present row = on_pages from to (page_cell present) row
 
--- the kinds of the pages of a row
-abbrev pub kinds_of : Row → ℕ → Option SegmentKind
-kinds_of row p = kind_of (row (Page p))
+-- rights of places, with others at a place
+abbrev pub put_rights : (ℕ → ℕ → Right) → ℕ → (ℕ → Right) → ℕ → ℕ → Right
+put_rights rights i right j = if j == i then right else rights j
+
+-- the states of the pages of a row that have these rights
+abbrev pub states_of : Row → (ℕ → Right) → ℕ → Option PageState
+states_of row right p = state_of (kind_of (row (Page p))) (right p)
 
 -- a row with all pages of a place
 abbrev pub on_place : Place → Row → Row

@@ -4,12 +4,14 @@ use Rattle.std.specs.FinMap as fm
 use Rattle.std.specs.Option.{option_map, option_or}
 use Rattle.lwc_base.specs.declared.item.Item.{Item}
 use Rattle.lwc_base.specs.declared.item.Mode.{Mode}
-use Rattle.lwc_base.specs.declared.item.Mode.TheVariants.{Copy, Share, Unmap}
+use Rattle.lwc_base.specs.declared.item.Mode.TheVariants.{Copy, Share, Unmap, CopyRead}
 use Rattle.lwc_base.specs.declared.key.Key.TheVariants.{Page}
 use Rattle.lwc_base.specs.declared.name.Name.{Name}
+use Rattle.lwc_base.specs.declared.right.Right.{Right}
 use Rattle.lwc_base.specs.Modes.{mode, mode_or_copy}
 use Rattle.lwc_base.specs.declared.limits.TheConstants.{MOST_PAGES}
 use Rattle.range_map.specs.Kinds.{ranges}
+use Rattle.range_map.specs.declared.segment.PageState.{PageState}
 use Rattle.range_map.specs.declared.segment.SegmentKind.{SegmentKind}
 use Rattle.range_map.specs.declared.segment.SegmentKind.TheVariants.{Own, Common}
 use Rattle.cow_space.specs.declared.stretches.Origin.{Origin}
@@ -17,10 +19,10 @@ use Rattle.cow_space.specs.declared.stretches.Origin.TheVariants.{Absent, CopyOf
 use Rattle.lwc_base.specs.Ranges.{ranges_of}
 use Rattle.lwc_base.specs.World.{context}
 use Rattle.lazy_world.specs.declared.world.PlacedWorld.{PlacedWorld}
-use Rattle.lazy_world.specs.Cells.{HasOwnPages, Row, kinds_of}
+use Rattle.lazy_world.specs.Cells.{HasOwnPages, Row, states_of}
 use Rattle.lazy_world.specs.Transfers.{copied_origin}
 use Rattle.lazy_world.specs.Seen.{free_nodes, pool, used_frames}
-use Rattle.lazy_world.specs.Origins.{most_nodes, most_steps}
+use Rattle.lazy_world.specs.Origins.{Gift, most_nodes, most_steps}
 use Rattle.lazy_world.specs.declared.pieces.PageOrigins.{PageOrigins}
 use Rattle.lazy_world.specs.declared.pieces.PageOrigins.TheVariants.{AllOf}
 use Rattle.lazy_world.specs.States.{Parts}
@@ -32,43 +34,52 @@ place_of_group s g = option_map (λ j. s.size.contexts + j) (fm.get s.groups.map
 
 -- what the pages of an item get: shared ones what the context has, once its values have moved; those left out
 -- become absent; of copies an item says nothing
-abbrev pub item_origin : ℕ → Option Mode → Option Origin
-item_origin from (Some Share) = Some (CopyOf from)
-item_origin from (Some Unmap) = Some Absent
-item_origin from _ = None
+abbrev pub item_gift : ℕ → Option Mode → Option Gift
+item_gift from None = None
+item_gift from (Some Copy) = None
+item_gift from (Some Share) = Some (CopyOf from, None)
+item_gift from (Some Unmap) = Some (Absent, None)
+item_gift from (Some CopyRead) = None
 
 -- where copies of pages of a kind come from: from the context itself, or from their group
 abbrev pub kind_origin : Parts → ℕ → SegmentKind → Origin
 kind_origin s from Own = CopyOf from
 kind_origin s from (Common g) = copied_origin (place_of_group s g)
 
--- where a page of a clone of the context at a place comes from; none where the page stays absent
-abbrev pub clone_origin : Parts → List Item → ℕ → ℕ → Option Origin
-clone_origin s items from q =
-    option_or (item_origin from (mode items (Page q)))
-    (option_map (kind_origin s from) (kinds_of (s.rows from) q))
+-- what copies of pages of a state get
+abbrev pub state_gift : Parts → ℕ → PageState → Gift
+state_gift s from state = (kind_origin s from state.kind, Some state.right)
 
--- items share no page and leave none out
+-- what a page of a clone of the context at a place gets; none where the page stays absent
+abbrev pub clone_gift : Parts → List Item → ℕ → ℕ → Option Gift
+clone_gift s items from q =
+    option_or (item_gift from (mode items (Page q)))
+    (option_map (state_gift s from) (states_of (s.rows from) (s.rights from) q))
+
+-- items share no page, leave none out, and copy none read-only
 abbrev pub CopiesPages : List Item → Type 0
 CopiesPages items = (p : ℕ) → mode_or_copy items (Page p) ≡ Copy
 
 -- the pages of a clone of a place take at most 64 node steps and 2 free nodes for each range of the place and
--- each
--- item, and one free node besides; those that are all copied and all the place's own are taken whole
-pub record AreBounded (rows : ℕ → Row) (from : ℕ) (items : List Item) (pages : PageOrigins) : Type 0 where
-  pub nodes : most_nodes pages ≤ 1 + 2 * (ranges MOST_PAGES (kinds_of (rows from)) + length items)
-  pub steps : most_steps rows pages ≤ 64 * (ranges MOST_PAGES (kinds_of (rows from)) + length items)
+-- each item, and one free node besides; those that are all copied and all the place's own are taken whole
+pub record AreBounded (rows : ℕ → Row) (rights : ℕ → ℕ → Right) (from : ℕ) (items : List Item)
+    (pages : PageOrigins) : Type 0 where
+  pub nodes : most_nodes pages
+      ≤ 1 + 2 * (ranges MOST_PAGES (states_of (rows from) (rights from)) + length items)
+  pub steps : most_steps rows rights pages
+      ≤ 64 * (ranges MOST_PAGES (states_of (rows from) (rights from)) + length items)
   pub whole : CopiesPages items → HasOwnPages (rows from) → pages ≡ AllOf from
 
 -- what a clone of a context takes: the frames in use are as many as before, and each frame keeps its stamp
--- and its
--- bytes; for each range of the context and each item at most 64 node steps and 2 free nodes, and one free
--- node besides;
--- where all pages are copied and all are the context's own, at most one node step and no free node
+-- and its bytes; for each range of the context and each item at most 64 node steps and 2 free nodes, and one
+-- free node besides; where all pages are copied and all are the context's own, at most one node step and no
+-- free node
 pub record CloneCost (old new : PlacedWorld) (before after : ℕ) (c : Name) (items : List Item) : Type 0 where
   pub used : used_frames new.places ≡ used_frames old.places
   pub pool : pool new.places ≡ pool old.places
   pub nodes : free_nodes old.places ≤ free_nodes new.places + (1 + 2 * (ranges_of (seen old) c + length items))
   pub steps : after ≤ before + 64 * (ranges_of (seen old) c + length items)
-  pub whole_nodes : CopiesPages items → HasOwnPages (context (seen old) c).cell → free_nodes old.places ≤ free_nodes new.places
-  pub whole_steps : CopiesPages items → HasOwnPages (context (seen old) c).cell → after ≤ before + min 1 (ranges_of (seen old) c)
+  pub whole_nodes : CopiesPages items → HasOwnPages (context (seen old) c).cell
+      → free_nodes old.places ≤ free_nodes new.places
+  pub whole_steps : CopiesPages items → HasOwnPages (context (seen old) c).cell
+      → after ≤ before + min 1 (ranges_of (seen old) c)

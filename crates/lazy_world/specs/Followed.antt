@@ -1,10 +1,10 @@
--- A world in which a context has got cells by a transfer.
-use Rattle.std.specs.Prelude.{◌≡◌, List, ⊤}
+-- A world in which a context has got cells and rights by a transfer.
+use Rattle.std.specs.Prelude.{◌≡◌, ℕ, List, ⊤, is_some, true}
 use Rattle.lwc_base.specs.declared.item.Item.{Item}
 use Rattle.lwc_base.specs.declared.name.Name.{Name}
-use Rattle.lwc_base.specs.World.{World, Context, change_context, context}
-use Rattle.lazy_world.specs.Cells.{Row}
-use Rattle.lazy_world.specs.Transfers.{transferred_row}
+use Rattle.lwc_base.specs.declared.key.Key.TheVariants.{Page}
+use Rattle.lwc_base.specs.World.{World, Context, change_context, context, group}
+use Rattle.lazy_world.specs.Transfers.{moves, transferred_rights, transferred_row}
 use Rattle.lazy_world.specs.declared.transfer.Transfer.{Transfer}
 use Rattle.lazy_world.specs.declared.transfer.Transfer.TheVariants.{Mark, Move, Clone, Overlay}
 
@@ -15,10 +15,25 @@ IsOfContexts Move d c = ⊥
 IsOfContexts (Clone g) d c = ⊤
 IsOfContexts (Overlay g) d c = ⊤
 
--- a context that gets cells of a row by a transfer
-abbrev pub with_transferred : World → Transfer → List Item → Row → Context → Context
-with_transferred w transfer items row x = record x { cell = transferred_row w transfer items row x.cell }
+-- a group has each page that items move out of a context
+abbrev pub HasMoved : World → List Item → Context → Name → Type 0
+HasMoved w items x g =
+    (p : ℕ) → moves items (Page p) x.cell ≡ true → is_some ((group w g).value (Page p)) ≡ true
 
--- a context gets cells of another one by a transfer
+-- the group that a transfer makes pages common of has what moves
+abbrev pub IsReady : World → Transfer → List Item → Context → Type 0
+IsReady w (Mark g) items x = HasMoved w items x g
+IsReady w Move items x = ⊤
+IsReady w (Clone g) items x = HasMoved w items x g
+IsReady w (Overlay g) items x = HasMoved w items x g
+
+-- a context that gets cells and rights of another one by a transfer
+abbrev pub with_transferred : World → Transfer → List Item → Context → Context → Context
+with_transferred w transfer items giver x = record x {
+  cell = transferred_row w transfer items giver.cell x.cell;
+  right = transferred_rights transfer items giver.cell giver.right x.right;
+}
+
+-- a context gets cells and rights of another one by a transfer
 abbrev pub followed : World → Transfer → List Item → Name → Name → World
-followed w transfer items d c = change_context w c (with_transferred w transfer items (context w d).cell)
+followed w transfer items d c = change_context w c (with_transferred w transfer items (context w d))

@@ -1,43 +1,88 @@
--- The row of a place that gets the cells that origins give.
-use Rattle.std.specs.Prelude.{if◌then◌else◌, nat_lt, ℕ, ◌<◌, ◌+◌, ◌*◌, List, Option, None, Some, slice_index_or, All, length, min}
+-- The row and the rights of a place that gets what origins give.
+use Rattle.std.specs.Prelude.{if◌then◌else◌, nat_lt, ℕ, Bool, unwrap_or, ◌<◌, ◌+◌, ◌*◌, List, Option, None, Some, slice_index_or, All, length, min}
 use Rattle.std.specs.Option.{option_map}
+use Rattle.lwc_base.specs.declared.cell.Cell.{Cell}
 use Rattle.lwc_base.specs.declared.key.Key.TheVariants.{Page, Slot, Cred}
+use Rattle.lwc_base.specs.declared.page.PageValue.{PageValue}
 use Rattle.lwc_base.specs.declared.descriptor.TheConstants.{SLOTS}
 use Rattle.lwc_base.specs.declared.limits.TheConstants.{MOST_PAGES}
-use Rattle.range_map.specs.Kinds.{ranges}
+use Rattle.lwc_base.specs.declared.right.Right.{Right}
+use Rattle.lwc_base.specs.declared.right.Right.TheVariants.{Write, Read}
+use Rattle.range_map.specs.Kinds.{kind_of, ranges, state_of}
+use Rattle.range_map.specs.declared.segment.PageState.{PageState}
 use Rattle.cow_space.specs.declared.stretches.Origin.{Origin}
-use Rattle.cow_space.specs.declared.stretches.Origin.TheVariants.{CopyOf}
+use Rattle.cow_space.specs.declared.stretches.Origin.TheVariants.{Absent, Zeros, Common, CopyOf}
 use Rattle.cow_space.specs.declared.stretches.Stretch.{Stretch}
-use Rattle.cow_space.specs.Changes.{IsApart, IsStretch, stretch_at}
+use Rattle.cow_space.specs.Cells.{right_in}
+use Rattle.cow_space.specs.Changes.{IsApart, IsStretch, have_page, stretch_at}
 use Rattle.lazy_world.specs.declared.pieces.PageOrigins.{PageOrigins}
 use Rattle.lazy_world.specs.declared.pieces.PageOrigins.TheVariants.{AllOf, Stretches}
 use Rattle.lazy_world.specs.declared.pieces.Origins.{Origins}
-use Rattle.lazy_world.specs.Cells.{Row, kinds_of}
+use Rattle.lazy_world.specs.Cells.{Row, states_of}
 use Rattle.lazy_world.specs.Transfers.{CanGet, given_or}
+
+-- what pages get: an origin, and a right if it is not the origin's
+abbrev pub Gift : Type 0
+Gift = Origin × Option Right
+
+-- what the pages of a stretch get
+abbrev pub gift_of : Stretch → Gift
+gift_of stretch = (stretch.origin, stretch.right)
+
+-- what a page gets, if a stretch has it
+abbrev pub gift_at : List Stretch → ℕ → Option Gift
+gift_at stretches p = option_map gift_of (stretch_at stretches p)
 
 -- the origin of a page, if a stretch has it
 abbrev pub origin_at : List Stretch → ℕ → Option Origin
-origin_at stretches p = option_map (λ stretch. stretch.origin) (stretch_at stretches p)
+origin_at stretches p = option_map (λ gift. gift.0) (gift_at stretches p)
 
 -- the origin of a page
 abbrev pub page_origin : PageOrigins → ℕ → Option Origin
 page_origin (AllOf j) p = Some (CopyOf j)
-page_origin (Stretches stretches) p = origin_at stretches.items p
+page_origin (Stretches stretches reads) p = origin_at stretches.items p
+
+-- the right that an origin has at a page: only another place has one of its own
+abbrev pub origin_right : (ℕ → ℕ → Right) → Origin → ℕ → Right
+origin_right rights Absent p = Write
+origin_right rights Zeros p = Write
+origin_right rights (Common g) p = Write
+origin_right rights (CopyOf j) p = rights j p
+
+-- the right that a page gets, or the old one where it gets nothing
+abbrev pub gift_right : (ℕ → ℕ → Right) → ℕ → Right → Option Gift → Right
+gift_right rights p old None = old
+gift_right rights p old (Some gift) = unwrap_or gift.1 (origin_right rights gift.0 p)
+
+-- the right of a page of this cell: Write where it is absent, and Read where it may only be read
+abbrev pub shown_right : Cell (Option PageValue) → Bool → Right → Right
+shown_right cell read right = right_in (state_of (kind_of cell) (if read then Read else right))
 
 -- a row with the pages that origins give
 abbrev pub with_pages : (ℕ → Row) → PageOrigins → Row → Row
 with_pages rows pages row (Page p) = given_or rows (Page p) (row (Page p)) (page_origin pages p)
 with_pages rows pages row k = row k
 
+-- rights with those of the pages that origins give the place i
+abbrev pub with_rights : (ℕ → Row) → (ℕ → ℕ → Right) → ℕ → PageOrigins → ℕ → Right
+with_rights rows rights i (AllOf j) p = rights j p
+with_rights rows rights i (Stretches stretches reads) p =
+    shown_right (given_or rows (Page p) (rows i (Page p)) (origin_at stretches.items p))
+    (have_page reads.items p) (gift_right rights p (rights i p) (gift_at stretches.items p))
+
+-- the states of the pages of the place i with those that origins give
+abbrev pub with_states : (ℕ → Row) → (ℕ → ℕ → Right) → ℕ → PageOrigins → ℕ → Option PageState
+with_states rows rights i pages = states_of (with_pages rows pages (rows i)) (with_rights rows rights i pages)
+
 -- the most free nodes that pages take
 abbrev pub most_nodes : PageOrigins → ℕ
 most_nodes (AllOf j) = 0
-most_nodes (Stretches stretches) = 1 + 2 * length stretches.items
+most_nodes (Stretches stretches reads) = 1 + 2 * length stretches.items
 
 -- the most node steps that pages take of a place that had none
-abbrev pub most_steps : (ℕ → Row) → PageOrigins → ℕ
-most_steps rows (AllOf j) = min 1 (ranges MOST_PAGES (kinds_of (rows j)))
-most_steps rows (Stretches stretches) = 64 * length stretches.items
+abbrev pub most_steps : (ℕ → Row) → (ℕ → ℕ → Right) → PageOrigins → ℕ
+most_steps rows rights (AllOf j) = min 1 (ranges MOST_PAGES (states_of (rows j) (rights j)))
+most_steps rows rights (Stretches stretches reads) = 64 * length stretches.items
 
 -- the origin of a slot
 abbrev pub slot_origin : List (Option Origin) → ℕ → Option Origin
@@ -54,10 +99,14 @@ origin_row rows i s (Page p) = given_or rows (Page p) (rows i (Page p)) (page_or
 origin_row rows i s (Slot n) = given_or rows (Slot n) (rows i (Slot n)) (slot_origin s.slots n)
 origin_row rows i s Cred = given_or rows Cred (rows i Cred) s.uid
 
+-- the states of the pages of the place i with what origins give
+abbrev pub origin_states : (ℕ → Row) → (ℕ → ℕ → Right) → ℕ → Origins → ℕ → Option PageState
+origin_states rows rights i s = states_of (origin_row rows i s) (with_rights rows rights i s.pages)
+
 -- origins can give a place pages
 abbrev pub ArePagesGiven : ℕ → ℕ → PageOrigins → Type 0
 ArePagesGiven count i (AllOf j) = IsApart count i (CopyOf j)
-ArePagesGiven count i (Stretches stretches) = All (IsStretch count i) stretches.items
+ArePagesGiven count i (Stretches stretches reads) = All (IsStretch count i) stretches.items
 
 -- origins can give a place what they name
 pub record AreGiven (count i : ℕ) (s : Origins) : Type 0 where

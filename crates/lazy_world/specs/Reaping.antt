@@ -1,9 +1,11 @@
 -- A reap at places: which place links to which, which groups are marked, and what is left of a map of names.
-use Rattle.std.specs.Prelude.{◌≡◌, ℕ, ◌==◌, ◌||◌, Bool, true, false, not, List, Option, None, Some, nat_le, slice_index_or}
+use Rattle.std.specs.Prelude.{◌≡◌, ◌≢◌, ℕ, ◌==◌, ◌||◌, Bool, true, false, not, List, Option, None, Some, nat_le, slice_index_or}
 use Rattle.std.specs.Ordering.{is_eq}
 use Rattle.std.specs.FinMap as fm
 use Rattle.fd_table.specs.Slots.{context_of}
+use Rattle.lwc_base.specs.declared.cell.Cell.TheVariants.{Common}
 use Rattle.lwc_base.specs.declared.descriptor.Descriptor.{Descriptor}
+use Rattle.lwc_base.specs.declared.key.Key.TheVariants.{Page}
 use Rattle.lwc_base.specs.declared.name.Name.{Name}
 use Rattle.lwc_base.specs.Cells.{slot_at}
 use Rattle.lwc_base.specs.Life.{names_group}
@@ -48,6 +50,15 @@ names_from s g i (Some c) = names_group s.size.pages g (context_at s i)
 -- whether a cell of the context at a place names a group
 abbrev pub names_at : Parts → Name → ℕ → Bool
 names_at s g i = names_from s g i (slice_index_or s.contexts.places i None)
+
+-- no page of a place is common of a group
+abbrev pub NamesNone : Parts → Name → Type 0
+NamesNone s g = (i p : ℕ) → s.rows i (Page p) ≢ Common g
+
+-- no page of a place is common of a group whose place has no mark
+abbrev pub NamesMarked : Parts → List Bool → Type 0
+NamesMarked s marks =
+    (j : ℕ) (g : Name) → slice_index_or s.groups.places j None ≡ Some g → is_marked marks j ≡ false → NamesNone s g
 
 -- whether what is at a place stays, where only what is at place i may go
 abbrev pub passes : Bool → ℕ → Option ℕ → Bool

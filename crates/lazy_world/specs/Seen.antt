@@ -1,8 +1,9 @@
 -- What places are seen as.
 use Rattle.std.specs.Prelude.{◌≡◌, ℕ, List, length}
 use Rattle.lwc_base.specs.declared.name.Tag.{Tag}
+use Rattle.lwc_base.specs.declared.right.Right.{Right}
 use Rattle.fd_table.specs.Seen as slots_seen
-use Rattle.cow_space.specs.Cells.{Place}
+use Rattle.cow_space.specs.Cells.{Place, rights_of}
 use Rattle.cow_space.specs.Seen as pages_seen
 use Rattle.cow_space.specs.Tags.{used}
 use Rattle.lazy_world.specs.declared.places.Places.{Places}
@@ -11,6 +12,10 @@ use Rattle.lazy_world.specs.Cells.{Row, rows_of}
 -- the cells at each place
 unfoldable pub rows : Places → ℕ → Row
 rows w = rows_of (pages_seen.cells w.pages) (slots_seen.slots w.slots) w.uids.items
+
+-- the rights of the pages of each place
+unfoldable pub rights : Places → ℕ → ℕ → Right
+rights w = rights_of (pages_seen.rights w.pages)
 
 -- the cells of the pages of each place
 unfoldable pub pages : Places → List Place
@@ -36,8 +41,10 @@ used_frames w = used (pages_seen.cells w.pages)
 unfoldable pub pool : Places → ℕ → Tag × List ℕ
 pool w = pages_seen.pool w.pages
 
--- as many tree nodes are free as before, as many frames are in use, and each frame is as it was
+-- the pages keep their rights, as many tree nodes are free as before, as many frames are in use, and each
+-- frame is as it was
 pub record KeepsStore (old new : Places) : Type 0 where
+  pub rights : rights new ≡ rights old
   pub nodes : free_nodes new ≡ free_nodes old
   pub used : used_frames new ≡ used_frames old
   pub pool : pool new ≡ pool old

@@ -1,17 +1,18 @@
 -- What a world by shared pages keeps true of itself.
-use Rattle.std.specs.Prelude.{◌≡◌, ℕ, ◌+◌, ◌<◌, ◌≤◌, List, None, Some, length, slice_index_or, true}
+use Rattle.std.specs.Prelude.{◌≡◌, ℕ, ◌+◌, ◌<◌, ◌≤◌, List, None, Some, is_some, length, slice_index_or, true}
 use Rattle.std.specs.Coded.{Unit-prop, le_prop}
 use Rattle.lwc_base.specs.declared.cell.Cell.{Cell}
 use Rattle.lwc_base.specs.declared.cell.Cell.TheVariants.{Common, Own}
 use Rattle.lwc_base.specs.declared.key.Key.{Key}
 use Rattle.lwc_base.specs.declared.key.Key.TheVariants.{Page}
+use Rattle.lwc_base.specs.declared.name.Name.{Name}
 use Rattle.lwc_base.specs.declared.name.Tag.{Tag}
 use Rattle.lwc_base.specs.declared.page.PageValue.TheVariants.{Data}
 use Rattle.lwc_base.specs.Fresh.{IsFresh, named_groups}
 use Rattle.lwc_base.specs.Holders.{InCell}
 use Rattle.lwc_base.specs.Keys.{ValueOf}
 use Rattle.lwc_base.specs.Modes.{kind_of, limit, number_of}
-use Rattle.lwc_base.specs.World.{Counters}
+use Rattle.lwc_base.specs.World.{Counters, group}
 use Rattle.world_face.specs.Calls.{IsSize}
 use Rattle.lazy_world.specs.Cells.{Row, is_nothing, is_own}
 use Rattle.lazy_world.specs.States.{Parts, world_of}
@@ -44,9 +45,13 @@ HasOldTags next row = (p : ℕ) (tag : Tag) (bytes : List ℕ) → row (Page p) 
 abbrev pub HasOneHome : (ℕ → Row) → Type 0
 HasOneHome rows = (i j p q : ℕ) (tag : Tag) (a b : List ℕ) → rows i (Page p) ≡ Own (Some (Data tag a)) → rows j (Page q) ≡ Own (Some (Data tag b)) → p ≡ q
 
+-- each page that a cell names a group for is there in the group
+abbrev pub HasItsPages : Parts → Type 0
+HasItsPages s =
+    (i p : ℕ) (g : Name) → s.rows i (Page p) ≡ Common g → is_some ((group (world_of s) g).value (Page p)) ≡ true
+
 -- sizes are within the limits, free places are empty, groups' cells are their own, all names and tags are
--- old, and
--- each tag stands under one page number
+-- old, each tag stands under one page number, and groups have the pages that cells name them for
 pub record IsSound (s : Parts) : Type 0 where
   pub sizes : HasSize s
   pub past : (i : ℕ) → IsWithin s.size.pages (s.rows i)
@@ -56,6 +61,7 @@ pub record IsSound (s : Parts) : Type 0 where
   pub tags : (i : ℕ) → HasOldTags (world_of s).next (s.rows i)
   pub fresh : IsFresh (world_of s)
   pub homes : HasOneHome s.rows
+  pub pages : HasItsPages s
 
 -- a cell keeps to the groups that have been named in at most one way
 pub named_cell-prop : (next : ℕ → Counters) (job : ℕ) (k : Key) (cell : Cell (ValueOf k)) → IsProp (InCell (named_groups next) job k cell)

@@ -3,6 +3,7 @@ use Rattle.std.specs.Prelude.{ℕ, ◌+◌, List, [], None, slice_index_or}
 use Rattle.lwc_base.specs.declared.cell.Cell.{Cell}
 use Rattle.lwc_base.specs.declared.cell.Cell.TheVariants.{Own, Common}
 use Rattle.lwc_base.specs.declared.key.Key.{Key}
+use Rattle.lwc_base.specs.declared.right.Right.{Right}
 use Rattle.lwc_base.specs.declared.size.WorldSize.{WorldSize}
 use Rattle.lwc_base.specs.Keys.{ValueOf, nothing}
 use Rattle.lwc_base.specs.Registers.{fresh_registers}
@@ -18,6 +19,7 @@ use Rattle.lazy_world.specs.Mapped.{mapped}
 pub record Parts : Type 0 where
   pub size : WorldSize
   pub rows : ℕ → Row
+  pub rights : ℕ → ℕ → Right
   pub registers : List Registers
   pub contexts : NameTable
   pub groups : NameTable
@@ -27,10 +29,14 @@ pub record Parts : Type 0 where
 abbrev pub no_registers : Registers
 no_registers = record { entry = fresh_registers 0; saved = [] }
 
--- the context of these cells and registers
-abbrev pub context_of : Row → Registers → Context
-context_of row registers =
-    record { cell = row; entry = registers.entry; saved = λ t. slice_index_or registers.saved t None }
+-- the context of these cells, rights and registers
+abbrev pub context_of : Row → (ℕ → Right) → Registers → Context
+context_of row right registers = record {
+  cell = row;
+  right = right;
+  entry = registers.entry;
+  saved = λ t. slice_index_or registers.saved t None;
+}
 
 -- the value of a cell that is a group's own
 abbrev pub held : (k : Key) → Cell (ValueOf k) → ValueOf k
@@ -47,7 +53,7 @@ registers_at registers i = slice_index_or registers i no_registers
 
 -- the context at a place of contexts
 abbrev pub context_at : Parts → ℕ → Context
-context_at s i = context_of (s.rows i) (registers_at s.registers i)
+context_at s i = context_of (s.rows i) (s.rights i) (registers_at s.registers i)
 
 -- the group at a place of groups
 abbrev pub group_at : Parts → ℕ → Group

@@ -1,17 +1,21 @@
--- What places get of the cells of a context, and from where.
+-- What places get of the cells and rights of a context, and from where.
 use Rattle.std.specs.Prelude.{◌≡◌, ◌≢◌, ℕ, ◌<◌, ◌≤◌, ◌==◌, if◌then◌else◌, Bool, true, false, List, Option, None, Some, unwrap_or}
 use Rattle.lwc_base.specs.declared.cell.Cell.{Cell}
 use Rattle.lwc_base.specs.declared.cell.Cell.TheVariants as cells
 use Rattle.lwc_base.specs.declared.item.Item.{Item}
 use Rattle.lwc_base.specs.declared.item.Mode.{Mode}
-use Rattle.lwc_base.specs.declared.item.Mode.TheVariants.{Copy, Share, Unmap}
+use Rattle.lwc_base.specs.declared.item.Mode.TheVariants.{Copy, Share, Unmap, CopyRead}
 use Rattle.lwc_base.specs.declared.key.Key.{Key}
 use Rattle.lwc_base.specs.declared.key.Key.TheVariants.{Page, Slot, Cred}
 use Rattle.lwc_base.specs.declared.name.Name.{Name}
 use Rattle.lwc_base.specs.declared.page.PageValue.TheVariants.{Zero}
+use Rattle.lwc_base.specs.declared.right.Right.{Right}
+use Rattle.lwc_base.specs.declared.right.Right.TheVariants.{Write}
 use Rattle.lwc_base.specs.Cells.{value_of}
 use Rattle.lwc_base.specs.Keys.{ValueOf, nothing}
 use Rattle.lwc_base.specs.Modes.{mode}
+use Rattle.lwc_base.specs.Ranges.{is_page}
+use Rattle.lwc_base.specs.Rights.{read_right}
 use Rattle.lwc_base.specs.Sharing.{is_moved, moved_value, shared_cell}
 use Rattle.lwc_base.specs.World.{World, group}
 use Rattle.range_map.specs.Kinds as kinds
@@ -41,6 +45,7 @@ abbrev pub taken_cell : World → Name → Mode → (k : Key) → Cell (ValueOf 
 taken_cell w g Copy k cell = cells.Own (value_of w k cell)
 taken_cell w g Share k cell = shared_cell g Share k cell
 taken_cell w g Unmap k cell = cells.Own (nothing k)
+taken_cell w g CopyRead k cell = cells.Own (value_of w k cell)
 
 -- the cell of a value that is taken over; where no item names the key the old one stays
 abbrev pub overlaid_cell : World → Name → Option Mode → (k : Key) → Cell (ValueOf k) → Cell (ValueOf k) → Cell (ValueOf k)
@@ -57,6 +62,49 @@ transferred_cell w (transfers.Overlay g) m k cell old = overlaid_cell w g m k ce
 -- the row that a place gets
 abbrev pub transferred_row : World → Transfer → List Item → Row → Row → Row
 transferred_row w transfer items row old k = transferred_cell w transfer (mode items k) k (row k) (old k)
+
+-- the right of a page by its mode: the same, Read where it is copied to be read alone, or that of an absent
+-- page
+abbrev pub taken_right : Mode → Bool → Right → Right
+taken_right Copy present right = right
+taken_right Share present right = right
+taken_right Unmap present right = Write
+taken_right CopyRead present right = read_right present
+
+-- the right of a page that is taken over; where no item names the page the old one stays
+abbrev pub overlaid_right : Option Mode → Bool → Right → Right → Right
+overlaid_right None present right old = old
+overlaid_right (Some m) present right old = taken_right m present right
+
+-- the right that a page of a place gets by a transfer, of a context's page, and where it has an old one; that
+-- of a group's page says nothing
+abbrev pub transferred_right : Transfer → Option Mode → (p : ℕ) → Cell (ValueOf (Page p)) → Right → Right →
+    Right
+transferred_right (transfers.Mark g) m p cell right old = right
+transferred_right transfers.Move m p cell right old =
+    if is_moved (unwrap_or m Copy) (Page p) cell then right else Write
+transferred_right (transfers.Clone g) m p cell right old = taken_right (unwrap_or m Copy) (is_page cell) right
+transferred_right (transfers.Overlay g) m p cell right old = overlaid_right m (is_page cell) right old
+
+-- the rights that a place gets
+abbrev pub transferred_rights : Transfer → List Item → Row → (ℕ → Right) → (ℕ → Right) → ℕ → Right
+transferred_rights transfer items row right old p =
+    transferred_right transfer (mode items (Page p)) p (row (Page p)) (right p) (old p)
+
+-- whether a mode copies pages that may only be read
+abbrev pub is_read : Option Mode → Bool
+is_read None = false
+is_read (Some Copy) = false
+is_read (Some Share) = false
+is_read (Some Unmap) = false
+is_read (Some CopyRead) = true
+
+-- whether a transfer makes a page of a mode one that may only be read
+abbrev pub reads : Transfer → Option Mode → Bool
+reads (transfers.Mark g) m = false
+reads transfers.Move m = false
+reads (transfers.Clone g) m = is_read m
+reads (transfers.Overlay g) m = is_read m
 
 -- whether the value of a row under a key moves by items
 abbrev pub moves : List Item → Key → Row → Bool
@@ -93,6 +141,7 @@ abbrev pub taken_origin : Name → Mode → Found → ℕ → ℕ → Option Ori
 taken_origin g Copy found from to = shown_origin (copied_origin found.holder) found.kind from to
 taken_origin g Share found from to = Some (share_origin g found.kind)
 taken_origin g Unmap found from to = Some origins.Absent
+taken_origin g CopyRead found from to = shown_origin (copied_origin found.holder) found.kind from to
 
 -- where a value comes from that is taken over
 abbrev pub overlaid_origin : Name → Option Mode → Found → ℕ → ℕ → Option Origin

@@ -1,6 +1,7 @@
 ghost use Rattle.std.specs.Prelude.{◌≡◌, ◌≢◌, ◌<◌, ◌≤◌, ◌+◌, ◌*◌, ℕ, All, false, length, true};
 ghost use Rattle.std.specs.Prelude.{IfNone, IfSome, None, Some};
 ghost use Rattle.lwc_base.specs.declared.cell.Cell.TheVariants.{Own};
+ghost use Rattle.lwc_base.specs.declared.item.Mode.TheVariants.{Copy};
 ghost use Rattle.lwc_base.specs.declared.key.Key.{Key};
 ghost use Rattle.lwc_base.specs.declared.key.Key.TheVariants.{Page};
 ghost use Rattle.lwc_base.specs.declared.limits.TheConstants.{MOST_PAGES, MOST_RANGES};
@@ -10,17 +11,19 @@ ghost use Rattle.lwc_base.specs.World.{next_context};
 ghost use Rattle.range_map.specs.Kinds.{is_between, ranges};
 ghost use Rattle.cow_space.specs.Changes.{IsStretch};
 ghost use Rattle.world_face.specs.Calls.{AreFew, HasGroupPlace, HasPlace, IsLive, MayName};
-ghost use Rattle.lazy_world.specs.Cells.{HasNoPages, Row, kinds_of};
+ghost use Rattle.lwc_base.specs.declared.right.Right.{Right};
+ghost use Rattle.lazy_world.specs.Cells.{HasNoPages, Row, states_of};
 ghost use Rattle.lazy_world.specs.Clones.{AreBounded, CloneCost, CopiesPages};
-ghost use Rattle.lazy_world.specs.Clones.{clone_origin, item_origin, kind_origin};
-ghost use Rattle.lazy_world.specs.Transfers.{given_or, moves, transferred_row};
-ghost use Rattle.lazy_world.specs.Seen.{count, rows};
+ghost use Rattle.lazy_world.specs.Clones.{clone_gift, item_gift, kind_origin};
+ghost use Rattle.lazy_world.specs.Transfers.{given_or, moves, transferred_rights, transferred_row};
+ghost use Rattle.lazy_world.specs.Seen.{count, rights, rows};
 ghost use Rattle.lazy_world.specs.Sound.{IsEmpty};
-ghost use Rattle.lazy_world.specs.Origins.{AreGiven, ArePagesGiven, page_origin, origin_at, origin_row};
+ghost use Rattle.lazy_world.specs.Origins.{AreGiven, ArePagesGiven, gift_at, gift_of, origin_row};
+ghost use Rattle.lazy_world.specs.Origins.{page_origin, with_rights};
 ghost use Rattle.lazy_world.specs.declared.transfer.Transfer.TheVariants.{Clone};
 
 use crate::pieces::{Origins, PageOrigins};
-use crate::transfer::Transfer;
+use crate::transfer::{Transfer, read_pages};
 use crate::world::PlacedWorld;
 use arrayvec::ArrayVec;
 use cow_space::{Origin, Stretch};
@@ -35,28 +38,32 @@ use std::sync::ledger::{Blank, Ledger};
 fn item_stretch(item: &Item, from: usize) -> Option<Stretch>
     requires { IsItem MOST_PAGES item.now }
     ensures none { IfNone result ((q : ℕ) → names item.now (Page q) ≡ true
-        → item_origin from (Some item.now.mode) ≡ None) }
+        → item_gift from (Some item.now.mode) ≡ None) }
     ensures pages { IfSome result (λ s. (q : ℕ)
         → is_between s.range.from s.range.to q ≡ names item.now (Page q)) }
     ensures some { IfSome result (λ s. s.range.from < s.range.to) }
     ensures inside { IfSome result (λ s. s.range.to ≤ MOST_PAGES) }
-    ensures origin { IfSome result (λ s. Some s.origin ≡ item_origin from (Some item.now.mode)) }
+    ensures gift { IfSome result (λ s. Some (gift_of s) ≡ item_gift from (Some item.now.mode)) }
 {
     let origin = match (item.kind, item.mode) {
         (Kind::Page, Mode::Share) => Origin::CopyOf(from),
         (Kind::Page, Mode::Unmap) => Origin::Absent,
-        _ => return None,
+        (Kind::Page, Mode::Copy | Mode::CopyRead) | (Kind::Slot | Kind::Cred, _) => return None,
     };
     let range = Range {
         from: item.from as u16,
         to: item.to as u16,
     };
-    Some(Stretch { range, origin })
+    Some(Stretch {
+        range,
+        origin,
+        right: None,
+    })
 }
 
 /// The stretches of the pages of items in a clone of the place `from`.
 fn item_stretches(spec: &Spec, from: usize) -> ArrayVec<Stretch, MOST_PAGE_RUNS>
-    ensures origins { (q : ℕ) → origin_at result.items q ≡ item_origin from (mode spec.now (Page q)) }
+    ensures gifts { (q : ℕ) → gift_at result.items q ≡ item_gift from (mode spec.now (Page q)) }
     ensures few { length result.items ≤ length spec.now }
     ensures given { (count to : ℕ) → from < count → from ≢ to → All (IsStretch count to) result.items }
 {
@@ -70,13 +77,24 @@ fn item_stretches(spec: &Spec, from: usize) -> ArrayVec<Stretch, MOST_PAGE_RUNS>
     stretches
 }
 
-/// Whether a clone copies each page: items share no page and leave none out.
+/// Whether an item names pages in another mode than copy.
+fn changes_pages(item: &Item) -> bool
+    requires { IsItem MOST_PAGES item.now }
+    ensures copied { result ≡ false → (q : ℕ) → names item.now (Page q) ≡ true → item.now.mode ≡ Copy }
+    ensures named { result ≡ true → names item.now (Page item.now.from) ≡ true }
+    ensures other { result ≡ true → item.now.mode ≢ Copy }
+{
+    item.kind == Kind::Page && item.mode != Mode::Copy
+}
+
+/// Whether a clone copies each page with its right: items share no page, leave none out, and copy none
+/// read-only.
 fn copies_pages(spec: &Spec) -> bool
     ensures copied { result ≡ true → CopiesPages spec.now }
     ensures all { CopiesPages spec.now → result ≡ true }
 {
     for item in spec.items() {
-        if let Some(_) = item_stretch(item, 0) {
+        if changes_pages(item) {
             return false;
         }
     }
@@ -88,7 +106,7 @@ impl PlacedWorld {
     ghost use Rattle.lwc_base.specs.Ranges.{ranges_of};
     ghost use Rattle.lwc_base.specs.World.{context};
     ghost use Rattle.lazy_world.specs.Followed.{followed};
-    ghost use Rattle.lazy_world.specs.Worlds.{parts, transferred, seen};
+    ghost use Rattle.lazy_world.specs.Worlds.{parts, right_transferred, transferred, seen};
 
     /// Where copies of pages of a kind come from, if they are those of the place `from`.
     fn kind_origin(&self, kind: SegmentKind, from: usize) -> Origin
@@ -108,9 +126,10 @@ impl PlacedWorld {
     fn clone_stretches(&self, spec: &Spec, from: usize) -> ArrayVec<Stretch, MOST_PAGE_RUNS>
         requires from { from < count self.now.places }
         requires within { IsSpec (seen self.now).size.pages spec.now }
-        ensures origins { (q : ℕ) → origin_at result.items q ≡ clone_origin (parts self.now) spec.now from q }
+        ensures gifts { (q : ℕ) → gift_at result.items q ≡ clone_gift (parts self.now) spec.now from q }
         ensures few { length result.items
-            ≤ ranges MOST_PAGES (kinds_of (rows self.now.places from)) + length spec.now }
+            ≤ ranges MOST_PAGES (states_of (rows self.now.places from) (rights self.now.places from))
+            + length spec.now }
         ensures given { (to : ℕ) → from ≢ to → to < (parts self.now).size.contexts
             → All (IsStretch (count self.now.places) to) result.items }
     {
@@ -122,6 +141,7 @@ impl PlacedWorld {
                     to: segment.to,
                 },
                 origin: self.kind_origin(segment.kind, from),
+                right: Some(segment.right),
             });
         }
         stretches
@@ -136,14 +156,17 @@ impl PlacedWorld {
         ensures gives { (made : Name) (old : Row) (q : ℕ)
             → given_or (rows self.now.places) (Page q) (Own None) (page_origin result q)
             ≡ transferred_row (seen self.now) (Clone made) spec.now (rows self.now.places from) old (Page q) }
+        ensures rights { (made : Name) (to : ℕ) → HasNoPages (rows self.now.places to)
+            → with_rights (rows self.now.places) (rights self.now.places) to result
+            ≡ right_transferred self.now (Clone made) spec.now from to }
         ensures given { (to : ℕ) → from ≢ to → to < (parts self.now).size.contexts
             → ArePagesGiven (count self.now.places) to result }
-        ensures bounded { AreBounded (rows self.now.places) from spec.now result }
+        ensures bounded { AreBounded (rows self.now.places) (rights self.now.places) from spec.now result }
     {
         if copies_pages(spec) && self.places.has_own_pages(from) {
             return PageOrigins::AllOf(from);
         }
-        PageOrigins::Stretches(self.clone_stretches(spec, from))
+        PageOrigins::Stretches(self.clone_stretches(spec, from), read_pages(spec))
     }
 
     /// Where the place `to`, which has no pages, gets the cells of a clone of the place `from`, where nothing
@@ -157,8 +180,11 @@ impl PlacedWorld {
         requires empty { HasNoPages (rows self.now.places to) }
         ensures row { origin_row (rows self.now.places) to result
             ≡ transferred self.now (Clone made) spec.now from to }
+        ensures rights { with_rights (rows self.now.places) (rights self.now.places) to result.pages
+            ≡ right_transferred self.now (Clone made) spec.now from to }
         ensures given { AreGiven (count self.now.places) to result }
-        ensures bounded { AreBounded (rows self.now.places) from spec.now result.pages }
+        ensures bounded { AreBounded (rows self.now.places) (rights self.now.places) from spec.now
+            result.pages }
     {
         let transfer = Transfer::Clone(made);
         Origins {
@@ -253,7 +279,8 @@ impl PlacedWorld {
     /// Makes a new context of a job from another one. Values of mode share that are the other's own move
     /// into one new group, and both contexts have them in common from then on; what was common already
     /// stays so. Values of mode copy and values that no item names are copied, and those of mode unmap are
-    /// left out. The new context begins with these registers and has no saved ones. Answers its name.
+    /// left out. Pages keep their rights; those of mode copy read-only are copied with the right Read. The
+    /// new context begins with these registers and has no saved ones. Answers its name.
     pub(crate) fn clone_context(&mut self, c: Name, spec: &Spec, job: u32, entry: &Regs) -> Name
         requires live { IsLive (seen self.old) c }
         requires within { IsSpec (seen self.old).size.pages spec.now }

@@ -5,9 +5,11 @@ ghost use Rattle.lwc_base.specs.declared.descriptor.TheConstants.{SLOTS};
 ghost use Rattle.lwc_base.specs.declared.key.Key.TheVariants.{Page, Slot, Cred};
 ghost use Rattle.lwc_base.specs.declared.limits.TheConstants.{MOST_PAGES};
 ghost use Rattle.range_map.specs.Kinds.{ranges};
-ghost use Rattle.lazy_world.specs.Cells.{HasNoPages, HasOwnPages, Row, is_own, kinds_of, put_row};
-ghost use Rattle.lazy_world.specs.Transfers.{transferred_row};
-ghost use Rattle.lazy_world.specs.Seen.{count, frame_count, free_nodes, pool, rows, used_frames};
+ghost use Rattle.lwc_base.specs.declared.right.Right.{Right};
+ghost use Rattle.lazy_world.specs.Cells.{HasNoPages, HasOwnPages, Row, is_own, put_rights, put_row};
+ghost use Rattle.lazy_world.specs.Cells.{states_of};
+ghost use Rattle.lazy_world.specs.Transfers.{transferred_rights, transferred_row};
+ghost use Rattle.lazy_world.specs.Seen.{count, frame_count, free_nodes, pool, rights, rows, used_frames};
 
 use crate::places::Places;
 use crate::transfer::Transfer;
@@ -27,13 +29,15 @@ impl Places {
         requires apart { from ≢ to }
         requires empty { (n : ℕ) → rows self.old to (Slot n) ≡ Own Empty }
         ensures rows { rows self.new ≡ put_row (rows self.old) to (rows self.old from) }
+        ensures rights { rights self.new ≡ put_rights (rights self.old) to (rights self.old from) }
         ensures count { count self.new ≡ count self.old }
         ensures frames { frame_count self.new ≡ frame_count self.old }
         ensures nodes { free_nodes self.old ≤ free_nodes self.new }
         ensures used { HasNoPages (rows self.old to) → used_frames self.new ≡ used_frames self.old }
         ensures pool { pool self.new ≡ pool self.old }
         ensures cost { HasNoPages (rows self.old to)
-            → steps.new ≤ steps.old + min 1 (ranges MOST_PAGES (kinds_of (rows self.old from))) }
+            → steps.new ≤ steps.old
+            + min 1 (ranges MOST_PAGES (states_of (rows self.old from) (rights self.old from))) }
     {
         let uid = self.given_uid(Origin::CopyOf(from));
         self.copy_pages(to, from, steps);
@@ -99,9 +103,12 @@ impl PlacedWorld {
     /// is the place's own.
     pub(crate) fn gives_same(&self, transfer: Transfer, spec: &Spec, from: usize) -> bool
         requires { from < count self.now.places }
-        ensures { result ≡ true → (old : Row)
+        ensures row { result ≡ true → (old : Row)
             → transferred_row (seen self.now) transfer spec.now (rows self.now.places from) old
             ≡ rows self.now.places from }
+        ensures rights { result ≡ true → (old : ℕ → Right)
+            → transferred_rights transfer spec.now (rows self.now.places from) (rights self.now.places from)
+            old ≡ rights self.now.places from }
     {
         spec.items().is_empty()
             && match transfer {
@@ -120,6 +127,9 @@ impl PlacedWorld {
         ensures row { result ≡ true → (old : Row)
             → transferred_row (seen self.now) transfer spec.now (rows self.now.places from) old
             ≡ rows self.now.places from }
+        ensures rights { result ≡ true → (old : ℕ → Right)
+            → transferred_rights transfer spec.now (rows self.now.places from) (rights self.now.places from)
+            old ≡ rights self.now.places from }
     {
         from != to && self.places.has_no_slot(to) && self.gives_same(transfer, spec, from)
     }

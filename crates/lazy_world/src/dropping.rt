@@ -1,9 +1,11 @@
-ghost use Rattle.std.specs.Prelude.{◌≡◌, ◌<◌, ◌≤◌, length, true};
+ghost use Rattle.std.specs.Prelude.{◌≡◌, ◌<◌, ◌≤◌, None, Some, false, length, slice_index_or, true};
 ghost use Rattle.std.specs.FinMap as fm;
 ghost use Rattle.world_face.specs.Calls.{IsLive};
-ghost use Rattle.lazy_world.specs.Cells.{no_row, put_row};
-ghost use Rattle.lazy_world.specs.Reaping.{keeps, left_by, passes};
-ghost use Rattle.lazy_world.specs.Seen.{count, frame_count, rows};
+ghost use Rattle.cow_space.specs.Cells.{all_write};
+ghost use Rattle.lwc_base.specs.declared.name.Name.{Name};
+ghost use Rattle.lazy_world.specs.Cells.{no_row, put_rights, put_row};
+ghost use Rattle.lazy_world.specs.Reaping.{NamesMarked, NamesNone, keeps, left_by, passes};
+ghost use Rattle.lazy_world.specs.Seen.{count, frame_count, rights, rows};
 ghost use Rattle.lazy_world.specs.Worlds.{parts, seen};
 
 use crate::places::Places;
@@ -21,6 +23,7 @@ impl Places {
         requires parts { blank.parts ≡ L.parts }
         requires some { 0 < blank.parts }
         ensures rows { rows self.new ≡ put_row (rows self.old) i no_row }
+        ensures rights { rights self.new ≡ put_rights (rights self.old) i all_write }
         ensures count { count self.new ≡ count self.old }
         ensures frames { frame_count self.new ≡ frame_count self.old }
     {
@@ -34,6 +37,7 @@ impl Places {
     pub fn clear(&mut self, i: usize)
         requires place { i < count self.old }
         ensures rows { rows self.new ≡ put_row (rows self.old) i no_row }
+        ensures rights { rights self.new ≡ put_rights (rights self.old) i all_write }
         ensures count { count self.new ≡ count self.old }
         ensures frames { frame_count self.new ≡ frame_count self.old }
     {
@@ -83,9 +87,10 @@ impl PlacedWorld {
         self.places.clear(i);
     }
 
-    /// Drops each group at a place without a mark.
+    /// Drops each group at a place without a mark; no page is common of it.
     pub(crate) fn keep_groups(&mut self, marks: &[bool])
-        requires { (parts self.old).size.groups ≤ length marks.now }
+        requires many { (parts self.old).size.groups ≤ length marks.now }
+        requires unnamed { NamesMarked (parts self.old) marks.now }
         ensures { seen self.new ≡ record (seen self.old) {
           groups = left_by self.old.groups.map (keeps marks.now self.old.size.groups) (seen self.old).groups;
         } }
@@ -97,6 +102,9 @@ impl PlacedWorld {
 
     /// Drops the group at a place, if there is one and it does not stay.
     fn keep_group(&mut self, j: usize, stays: bool)
+        requires { stays ≡ false → (g : Name) → slice_index_or self.old.groups.places j None ≡ Some g
+            → NamesNone (parts self.old) g }
+        ensures names { (g : Name) → NamesNone (parts self.old) g → NamesNone (parts self.new) g }
         ensures map { self.new.groups.map ≡ left_by self.old.groups.map (passes stays j) self.old.groups.map }
         ensures world { seen self.new ≡ record (seen self.old) {
           groups = left_by self.old.groups.map (passes stays j) (seen self.old).groups;
@@ -110,9 +118,11 @@ impl PlacedWorld {
         }
     }
 
-    /// Drops a group, with all values that it has.
+    /// Drops a group that no page is common of, with all values that it has.
     fn drop_group(&mut self, g: Name)
-        requires { fm.contains_key (seen self.old).groups g ≡ true }
+        requires there { fm.contains_key (seen self.old).groups g ≡ true }
+        requires unnamed { NamesNone (parts self.old) g }
+        ensures names { (h : Name) → NamesNone (parts self.old) h → NamesNone (parts self.new) h }
         ensures map { self.new.groups.map ≡ fm.remove self.old.groups.map g }
         ensures world { seen self.new ≡ record (seen self.old) {
           groups = fm.remove (seen self.old).groups g;

@@ -1,8 +1,9 @@
-ghost use Rattle.std.specs.Prelude.{◌≡◌, ◌<◌, ◌≤◌, [], ◌∷◌};
+ghost use Rattle.std.specs.Prelude.{◌≡◌, ◌<◌, ◌≤◌, None};
 ghost use Rattle.lwc_base.specs.declared.limits.TheConstants.{MOST_PAGES, MOST_RANGES};
 ghost use Rattle.range_map.specs.Kinds.{ranges};
-ghost use Rattle.lazy_world.specs.Cells.{kinds_of, put_row, set_pages, origin_of};
-ghost use Rattle.lazy_world.specs.Seen.{count, frame_count, rows};
+ghost use Rattle.lwc_base.specs.Mapping.{writable_in};
+ghost use Rattle.lazy_world.specs.Cells.{origin_of, put_rights, put_row, set_pages, states_of};
+ghost use Rattle.lazy_world.specs.Seen.{count, frame_count, rights, rows};
 
 use crate::places::Places;
 use crate::world::PlacedWorld;
@@ -12,14 +13,19 @@ use pool_base::Steps;
 use std::marker::Brand;
 use std::sync::ledger::{Blank, Ledger};
 
-/// What pages get that become zeros or absent.
-fn origin_of(present: bool) -> Origin
-    ensures { result ≡ origin_of present }
+/// The stretch of pages that become zeros that may be stored to, or absent.
+fn stretch_of(range: Range, present: bool) -> Stretch
+    ensures { result ≡ record { range = range; origin = origin_of present; right = None } }
 {
-    if present {
+    let origin = if present {
         Origin::Zeros
     } else {
         Origin::Absent
+    };
+    Stretch {
+        range,
+        origin,
+        right: None,
     }
 }
 
@@ -29,31 +35,36 @@ impl Places {
         requires place { i < count self.old }
         requires order { range.from ≤ range.to }
         requires inside { range.to ≤ MOST_PAGES }
-        requires few { ranges MOST_PAGES (kinds_of (set_pages range.from range.to present (rows self.old i)))
-            ≤ MOST_RANGES }
+        requires few { ranges MOST_PAGES
+            (states_of (set_pages range.from range.to present (rows self.old i))
+            (writable_in range.from range.to (rights self.old i))) ≤ MOST_RANGES }
         requires name { blank.name ≡ L.name }
         requires parts { blank.parts ≡ L.parts }
         requires some { 0 < blank.parts }
         ensures rows { rows self.new
             ≡ put_row (rows self.old) i (set_pages range.from range.to present (rows self.old i)) }
+        ensures rights { rights self.new
+            ≡ put_rights (rights self.old) i (writable_in range.from range.to (rights self.old i)) }
         ensures count { count self.new ≡ count self.old }
         ensures frames { frame_count self.new ≡ frame_count self.old }
     {
         let mut steps = Steps::<L>::new(blank);
-        let origin = origin_of(present);
-        self.pages
-            .change(i, &[Stretch { range, origin }], &mut steps);
+        let stretch = stretch_of(range, present);
+        self.pages.change(i, &[stretch], &[], &mut steps);
     }
 
-    /// Makes each page of a range a page of zeros of the place's own, or absent.
+    /// Makes each page of a range a page of zeros of the place's own with the right `Write`, or absent.
     pub fn set_pages(&mut self, i: usize, range: Range, present: bool)
         requires place { i < count self.old }
         requires order { range.from ≤ range.to }
         requires inside { range.to ≤ MOST_PAGES }
-        requires few { ranges MOST_PAGES (kinds_of (set_pages range.from range.to present (rows self.old i)))
-            ≤ MOST_RANGES }
+        requires few { ranges MOST_PAGES
+            (states_of (set_pages range.from range.to present (rows self.old i))
+            (writable_in range.from range.to (rights self.old i))) ≤ MOST_RANGES }
         ensures rows { rows self.new
             ≡ put_row (rows self.old) i (set_pages range.from range.to present (rows self.old i)) }
+        ensures rights { rights self.new
+            ≡ put_rights (rights self.old) i (writable_in range.from range.to (rights self.old i)) }
         ensures count { count self.new ≡ count self.old }
         ensures frames { frame_count self.new ≡ frame_count self.old }
     {
@@ -66,10 +77,11 @@ impl Places {
         requires order { range.from ≤ range.to }
         requires inside { range.to ≤ MOST_PAGES }
         ensures { result ≡ ranges MOST_PAGES
-            (kinds_of (set_pages range.from range.to present (rows self.now i))) }
+            (states_of (set_pages range.from range.to present (rows self.now i))
+            (writable_in range.from range.to (rights self.now i))) }
     {
-        let origin = origin_of(present);
-        self.pages.count_after(i, &[Stretch { range, origin }])
+        let stretch = stretch_of(range, present);
+        self.pages.count_after(i, &[stretch], &[])
     }
 }
 
@@ -79,7 +91,8 @@ impl PlacedWorld {
     ghost use Rattle.world_face.specs.Calls.{IsLive};
     ghost use Rattle.lazy_world.specs.Worlds.{seen};
 
-    /// Makes each page of the range a page of zeros of the context's own, or absent, whatever it was.
+    /// Makes each page of the range a page of zeros of the context's own with the right `Write`, or absent,
+    /// whatever it was.
     fn set_pages(&mut self, c: Name, range: Range, present: bool)
         requires live { IsLive (seen self.old) c }
         requires some { range.from < range.to }
@@ -92,7 +105,8 @@ impl PlacedWorld {
         self.places.set_pages(i, range, present);
     }
 
-    /// Makes each page of the range a page of zeros of the context's own, whatever it was.
+    /// Makes each page of the range a page of zeros of the context's own with the right `Write`, whatever it
+    /// was.
     pub(crate) fn map(&mut self, c: Name, range: Range)
         requires live { IsLive (seen self.old) c }
         requires some { range.from < range.to }

@@ -1,15 +1,16 @@
 use crate::places::Places;
 use arrayvec::ArrayVec;
-use cow_space::{Origin, Stretch};
-use lwc_base::{Cell, Descriptor, MOST_PAGE_RUNS, NOBODY, SLOTS};
+use cow_space::{Origin, ReadRange, Stretch};
+use lwc_base::{Cell, Descriptor, MOST_ITEMS, MOST_PAGE_RUNS, NOBODY, SLOTS};
 use pool_base::Steps;
 use std::sync::ledger::Ledger;
 
-/// Where a place gets its pages: all that another place has, or by stretches. Pages of no stretch stay.
+/// Where a place gets its pages: all that another place has, or by stretches. Pages of no stretch stay. Those
+/// of the ranges may only be read then.
 #[derive(Drop)]
 pub enum PageOrigins {
     AllOf(usize),
-    Stretches(ArrayVec<Stretch, MOST_PAGE_RUNS>),
+    Stretches(ArrayVec<Stretch, MOST_PAGE_RUNS>, ArrayVec<ReadRange, MOST_ITEMS>),
 }
 
 /// Where a place gets its cells: its pages, each of its slots, and its credential. Those without an origin
@@ -31,46 +32,53 @@ impl Places {
     ghost use Rattle.range_map.specs.Kinds.{ranges};
     ghost use Rattle.cow_space.specs.Changes.{IsStretch};
     ghost use Rattle.cow_space.specs.declared.stretches.Origin.TheVariants.{CopyOf};
-    ghost use Rattle.lazy_world.specs.Cells.{HasNoPages, kinds_of, put_row};
+    ghost use Rattle.lazy_world.specs.Cells.{HasNoPages, put_rights, put_row, states_of};
     ghost use Rattle.lazy_world.specs.Transfers.{CanGet, given, given_or};
     ghost use Rattle.lazy_world.specs.Origins.{AreGiven, ArePagesGiven, most_nodes, most_steps, slot_origin};
-    ghost use Rattle.lazy_world.specs.Origins.{origin_row, with_pages, with_slots};
+    ghost use Rattle.lazy_world.specs.Origins.{origin_row, origin_states, with_pages, with_rights};
+    ghost use Rattle.lazy_world.specs.Origins.{with_slots, with_states};
     ghost use Rattle.lazy_world.specs.declared.pieces.PageOrigins.TheVariants.{AllOf, Stretches};
-    ghost use Rattle.lazy_world.specs.Seen.{KeepsStore, count, frame_count, free_nodes, pool, rows};
-    ghost use Rattle.lazy_world.specs.Seen.{used_frames};
+    ghost use Rattle.lazy_world.specs.Seen.{KeepsStore, count, frame_count, free_nodes, pool, rights};
+    ghost use Rattle.lazy_world.specs.Seen.{rows, used_frames};
 
-    /// Gives a place all pages of another one, by a hold of the root of their tree.
+    /// Gives a place all pages of another one, and their rights, by a hold of the root of their tree.
     pub(crate) fn copy_pages<L: Ledger>(&mut self, i: usize, j: usize, steps: &mut Steps<L>)
         requires place { i < count self.old }
         requires origin { j < count self.old }
         requires apart { j ≢ i }
         ensures rows { rows self.new
             ≡ put_row (rows self.old) i (with_pages (rows self.old) (AllOf j) (rows self.old i)) }
+        ensures rights { rights self.new ≡ put_rights (rights self.old) i (rights self.old j) }
         ensures count { count self.new ≡ count self.old }
         ensures frames { frame_count self.new ≡ frame_count self.old }
         ensures nodes { free_nodes self.old ≤ free_nodes self.new }
         ensures used { HasNoPages (rows self.old i) → used_frames self.new ≡ used_frames self.old }
         ensures pool { pool self.new ≡ pool self.old }
         ensures cost { HasNoPages (rows self.old i)
-            → steps.new ≤ steps.old + min 1 (ranges MOST_PAGES (kinds_of (rows self.old j))) }
+            → steps.new ≤ steps.old
+            + min 1 (ranges MOST_PAGES (states_of (rows self.old j) (rights self.old j))) }
     {
         self.pages.clone_place(i, j, steps);
     }
 
-    /// Makes the pages of each stretch of a place what their origin says.
+    /// Makes the pages of each stretch of a place what their origin says, and those of the ranges such as may
+    /// only be read.
     fn change_pages<L: Ledger>(
         &mut self,
         i: usize,
         stretches: &ArrayVec<Stretch, MOST_PAGE_RUNS>,
+        reads: &ArrayVec<ReadRange, MOST_ITEMS>,
         steps: &mut Steps<L>,
     )
         requires place { i < count self.old }
         requires given { All (IsStretch (count self.old) i) stretches.now.items }
         requires ranges { ranges MOST_PAGES
-            (kinds_of (with_pages (rows self.old) (Stretches stretches.now) (rows self.old i)))
+            (with_states (rows self.old) (rights self.old) i (Stretches stretches.now reads.now))
             ≤ MOST_RANGES }
         ensures rows { rows self.new ≡ put_row (rows self.old) i
-            (with_pages (rows self.old) (Stretches stretches.now) (rows self.old i)) }
+            (with_pages (rows self.old) (Stretches stretches.now reads.now) (rows self.old i)) }
+        ensures rights { rights self.new ≡ put_rights (rights self.old) i
+            (with_rights (rows self.old) (rights self.old) i (Stretches stretches.now reads.now)) }
         ensures count { count self.new ≡ count self.old }
         ensures frames { frame_count self.new ≡ frame_count self.old }
         ensures nodes { free_nodes self.old ≤ free_nodes self.new + (1 + 2 * length stretches.now.items) }
@@ -79,28 +87,33 @@ impl Places {
         ensures cost { HasNoPages (rows self.old i)
             → steps.new ≤ steps.old + 64 * length stretches.now.items }
     {
-        self.pages.change(i, stretches.as_slice(), steps);
+        self.pages
+            .change(i, stretches.as_slice(), reads.as_slice(), steps);
     }
 
     /// Makes the pages of a place what their origins say.
     fn take_pages<L: Ledger>(&mut self, i: usize, pages: &PageOrigins, steps: &mut Steps<L>)
         requires place { i < count self.old }
         requires given { ArePagesGiven (count self.old) i pages.now }
-        requires ranges { ranges MOST_PAGES
-            (kinds_of (with_pages (rows self.old) pages.now (rows self.old i))) ≤ MOST_RANGES }
+        requires ranges { ranges MOST_PAGES (with_states (rows self.old) (rights self.old) i pages.now)
+            ≤ MOST_RANGES }
         ensures rows { rows self.new
             ≡ put_row (rows self.old) i (with_pages (rows self.old) pages.now (rows self.old i)) }
+        ensures rights { rights self.new
+            ≡ put_rights (rights self.old) i (with_rights (rows self.old) (rights self.old) i pages.now) }
         ensures count { count self.new ≡ count self.old }
         ensures frames { frame_count self.new ≡ frame_count self.old }
         ensures nodes { free_nodes self.old ≤ free_nodes self.new + most_nodes pages.now }
         ensures used { HasNoPages (rows self.old i) → used_frames self.new ≡ used_frames self.old }
         ensures pool { pool self.new ≡ pool self.old }
         ensures cost { HasNoPages (rows self.old i)
-            → steps.new ≤ steps.old + most_steps (rows self.old) pages.now }
+            → steps.new ≤ steps.old + most_steps (rows self.old) (rights self.old) pages.now }
     {
         match pages {
             PageOrigins::AllOf(j) => self.copy_pages(i, *j, steps),
-            PageOrigins::Stretches(stretches) => self.change_pages(i, stretches, steps),
+            PageOrigins::Stretches(stretches, reads) => {
+                self.change_pages(i, stretches, reads, steps)
+            }
         }
     }
 
@@ -207,16 +220,18 @@ impl Places {
     pub fn take<L: Ledger>(&mut self, i: usize, origins: &Origins, steps: &mut Steps<L>)
         requires place { i < count self.old }
         requires given { AreGiven (count self.old) i origins.now }
-        requires few { ranges MOST_PAGES (kinds_of (origin_row (rows self.old) i origins.now))
+        requires few { ranges MOST_PAGES (origin_states (rows self.old) (rights self.old) i origins.now)
             ≤ MOST_RANGES }
         ensures rows { rows self.new ≡ put_row (rows self.old) i (origin_row (rows self.old) i origins.now) }
+        ensures rights { rights self.new ≡ put_rights (rights self.old) i
+            (with_rights (rows self.old) (rights self.old) i origins.now.pages) }
         ensures count { count self.new ≡ count self.old }
         ensures frames { frame_count self.new ≡ frame_count self.old }
         ensures nodes { free_nodes self.old ≤ free_nodes self.new + most_nodes origins.now.pages }
         ensures used { HasNoPages (rows self.old i) → used_frames self.new ≡ used_frames self.old }
         ensures pool { pool self.new ≡ pool self.old }
         ensures cost { HasNoPages (rows self.old i)
-            → steps.new ≤ steps.old + most_steps (rows self.old) origins.now.pages }
+            → steps.new ≤ steps.old + most_steps (rows self.old) (rights self.old) origins.now.pages }
     {
         self.take_pages(i, &origins.pages, steps);
         self.take_slots(i, &origins.slots);

@@ -1,4 +1,4 @@
-#![tactic(auto, unfolding(crate::specs::Seen::rows, crate::specs::Seen::count, crate::specs::Cells::rows_of))]
+#![tactic(auto, unfolding(crate::specs::Seen::rows, crate::specs::Seen::rights, crate::specs::Seen::count, crate::specs::Cells::rows_of))]
 
 ghost use Rattle.std.specs.Prelude.{◌≡◌, ◌<◌, IfOk, replicate};
 ghost use Rattle.lwc_base.specs.declared.cell.Cell.TheVariants.{Own};
@@ -11,8 +11,8 @@ ghost use Rattle.lazy_world.specs.Kept.{IsKept, number_of};
 use crate::key_value::KeyValue;
 use cow_space::PageCells;
 use fd_table::{NUMBERS, Slots};
-use lwc_base::{Cell, Descriptor, NOBODY, Name, OutOfMemory};
-use range_map::{Segment, SegmentKind};
+use lwc_base::{Cell, Descriptor, NOBODY, Name, OutOfMemory, Right};
+use range_map::{PageState, Segment, SegmentKind};
 use std::alloc::Global;
 
 /// The cells of a fixed number of places: of each the pages, the slots and the credential.
@@ -54,15 +54,16 @@ impl Places {
     ghost use Rattle.lwc_base.specs.Keys.{with_key};
     ghost use Rattle.lwc_base.specs.declared.cell.Cell.{Cell};
     ghost use Rattle.cow_space.specs.Maps.{data_of};
-    ghost use Rattle.range_map.specs.Kinds.{IsSegment, kind_at, kind_of, ranges};
+    ghost use Rattle.range_map.specs.Kinds.{IsSegment, kind_of, ranges, state_at};
+    ghost use Rattle.cow_space.specs.Cells.{all_write};
     ghost use Rattle.lwc_base.specs.Capabilities.{has_bit};
     ghost use Rattle.fd_table.specs.declared.slots.TheConstants.{NUMBERS};
     ghost use Rattle.fd_table.specs.Slots.{context_in, is_common, is_filled};
-    ghost use Rattle.lazy_world.specs.Cells.{kinds_of, no_row, put_row};
+    ghost use Rattle.lazy_world.specs.Cells.{no_row, put_row, states_of};
     ghost use Rattle.lazy_world.specs.Kept.{target_of};
     ghost use Rattle.lwc_base.specs.declared.limits.TheConstants.{MOST_PAGE_PLACES};
     ghost use Rattle.lazy_world.specs.KeyValues.{HasSlot, group_in, key_in, value_in};
-    ghost use Rattle.lazy_world.specs.Seen.{KeepsStore, count, frame_count, rows};
+    ghost use Rattle.lazy_world.specs.Seen.{KeepsStore, count, frame_count, rights, rows};
 
     /// This number of places with nothing in them, over this number of frames. The only error is out of
     /// memory.
@@ -70,6 +71,7 @@ impl Places {
         requires frames { frames ≤ 65536 }
         requires places { places ≤ MOST_PAGE_PLACES }
         ensures rows { IfOk result (λ opened. rows opened ≡ λ i. no_row) }
+        ensures rights { IfOk result (λ opened. rights opened ≡ λ i. all_write) }
         ensures count { IfOk result (λ opened. count opened ≡ places) }
         ensures frames { IfOk result (λ opened. frame_count opened ≡ frames) }
     {
@@ -88,14 +90,32 @@ impl Places {
         self.pages.kind(i, p)
     }
 
-    /// A later page, or the end of all pages, up to which the pages of a place have the kind of this one.
+    /// The right of a page of a place; `Write` where it is absent.
+    pub fn right(&self, i: usize, p: u16) -> Right
+        requires { i < count self.now }
+        ensures { result ≡ rights self.now i p }
+    {
+        self.pages.right(i, p)
+    }
+
+    /// The kind and the right of a page of a place; `None` where it is absent.
+    pub fn state(&self, i: usize, p: u16) -> Option<PageState>
+        requires { i < count self.now }
+        ensures { result ≡ states_of (rows self.now i) (rights self.now i) p }
+    {
+        self.pages.state(i, p)
+    }
+
+    /// A later page, or the end of all pages, up to which the pages of a place have the kind and the right of
+    /// this one.
     pub fn next_edge(&self, i: usize, p: u16) -> u16
         requires place { i < count self.now }
         requires page { p < MOST_PAGES }
         ensures past { p < result }
         ensures within { result ≤ MOST_PAGES }
         ensures alike { (q : ℕ) → p ≤ q → q < result
-            → kinds_of (rows self.now i) q ≡ kinds_of (rows self.now i) p }
+            → states_of (rows self.now i) (rights self.now i) q
+            ≡ states_of (rows self.now i) (rights self.now i) p }
     {
         self.pages.next_edge(i, p)
     }
@@ -103,8 +123,9 @@ impl Places {
     /// The segments of a place, one for each range.
     pub fn segments(&self, i: usize) -> &[Segment]
         requires { i < count self.now }
-        ensures kinds { kind_at result.now ≡ kinds_of (rows self.now i) }
-        ensures count { length result.now ≡ ranges MOST_PAGES (kinds_of (rows self.now i)) }
+        ensures states { state_at result.now ≡ states_of (rows self.now i) (rights self.now i) }
+        ensures count { length result.now
+            ≡ ranges MOST_PAGES (states_of (rows self.now i) (rights self.now i)) }
         ensures few { length result.now ≤ MOST_RANGES }
         ensures each { All IsSegment result.now }
     {
@@ -239,6 +260,7 @@ impl Places {
         requires slot { HasSlot value }
         ensures rows { rows self.new ≡ put_row (rows self.old) i
             (with_key Cell (key_in value) (Own (value_in value)) (rows self.old i)) }
+        ensures rights { rights self.new ≡ rights self.old }
         ensures count { count self.new ≡ count self.old }
         ensures frames { frame_count self.new ≡ frame_count self.old }
     {

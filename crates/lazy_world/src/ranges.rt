@@ -1,4 +1,5 @@
-ghost use Rattle.std.specs.Prelude.{◌≡◌, ◌<◌, ◌≤◌, ℕ, All, None};
+ghost use Rattle.std.specs.Prelude.{◌≡◌, ◌<◌, ◌≤◌, ℕ, All, IfSome, None};
+ghost use Rattle.std.specs.Option.{option_map};
 ghost use Rattle.lwc_base.specs.declared.descriptor.TheConstants.{SLOTS};
 ghost use Rattle.lwc_base.specs.declared.key.Key.TheVariants.{Page, Slot, Cred};
 ghost use Rattle.lwc_base.specs.declared.limits.TheConstants.{MOST_PAGES};
@@ -13,8 +14,8 @@ use crate::transfer::{Found, Transfer};
 use crate::world::PlacedWorld;
 use arrayvec::ArrayVec;
 use cow_space::{Origin, Stretch};
-use lwc_base::{Cell, Item, Key, Kind, MOST_PAGE_RUNS, MOST_PAGES, Range, SLOTS, Spec};
-use range_map::{SegmentKind, sooner_edge};
+use lwc_base::{Cell, Item, Key, Kind, MOST_PAGE_RUNS, MOST_PAGES, Range, Right, SLOTS, Spec};
+use range_map::{PageState, SegmentKind, sooner_edge};
 use res_spec::mode_of;
 
 /// Where an item of pages first begins or ends past a page, if that is before the edge.
@@ -55,24 +56,62 @@ fn owner<T>(cell: &Cell<T>) -> SegmentKind
     }
 }
 
+/// The stretch of a range that gets something of an origin, if there is one.
+fn stretch_of(origin: Option<Origin>, range: Range, right: Option<Right>) -> Option<Stretch>
+    ensures { result ≡ option_map (λ o. record { range = range; origin = o; right = right }) origin }
+{
+    match origin {
+        Some(origin) => Some(Stretch {
+            range,
+            origin,
+            right,
+        }),
+        None => None,
+    }
+}
+
 impl PlacedWorld {
     ghost use Rattle.cow_space.specs.Changes.{IsStretch};
-    ghost use Rattle.lazy_world.specs.Transfers.{CanGet, Gives, IsFor, IsFound, given_or};
-    ghost use Rattle.lazy_world.specs.Seen.{count, rows};
-    ghost use Rattle.lazy_world.specs.Origins.{AreGiven, slot_origin, origin_at, origin_row};
-    ghost use Rattle.lazy_world.specs.Worlds.{parts, transferred, seen};
+    ghost use Rattle.lwc_base.specs.declared.right.Right.{Right};
+    ghost use Rattle.range_map.specs.Kinds.{kind_of, state_of};
+    ghost use Rattle.lazy_world.specs.Cells.{states_of};
+    ghost use Rattle.lazy_world.specs.Transfers.{CanGet, Gives, IsFor, IsFound, given_or, reads};
+    ghost use Rattle.lazy_world.specs.Seen.{count, rights, rows};
+    ghost use Rattle.lazy_world.specs.Origins.{AreGiven, gift_at, gift_of, gift_right, origin_at, origin_row};
+    ghost use Rattle.lazy_world.specs.Origins.{shown_right, slot_origin, with_rights};
+    ghost use Rattle.lazy_world.specs.Worlds.{parts, right_transferred, transferred, seen};
 
-    /// What is found under a key where the cell is of a kind.
-    fn found(&self, kind: Option<SegmentKind>) -> Found
-        ensures { (k : Key) (cell : Cell (ValueOf k)) → kind ≡ kind_in k cell → IsFound (seen self.now)
-            (parts self.now).size.contexts (count self.now.places) (rows self.now.places) k cell result }
+    /// What is found under a key where the cell is of a kind; a page has a right.
+    fn found(&self, kind: Option<SegmentKind>, right: Option<Right>) -> Found
+        ensures found { (k : Key) (cell : Cell (ValueOf k)) → kind ≡ kind_in k cell
+            → IsFound (seen self.now) (parts self.now).size.contexts (count self.now.places)
+            (rows self.now.places) k cell result }
+        ensures right { result.right ≡ right }
     {
         let holder = match kind {
             None => None,
             Some(SegmentKind::Own) => None,
             Some(SegmentKind::Common(g)) => self.group_place(g),
         };
-        Found { kind, holder }
+        Found {
+            kind,
+            holder,
+            right,
+        }
+    }
+
+    /// What is found at a page of a state.
+    fn found_state(&self, state: Option<PageState>) -> Found
+        ensures found { (p : ℕ) (cell : Cell (ValueOf (Page p))) (right : Right)
+            → state ≡ state_of (kind_of cell) right → IsFound (seen self.now)
+            (parts self.now).size.contexts (count self.now.places) (rows self.now.places) (Page p) cell
+            result }
+        ensures right { result.right ≡ option_map (λ s. s.right) state }
+    {
+        match state {
+            Some(state) => self.found(Some(state.kind), Some(state.right)),
+            None => self.found(None, None),
+        }
     }
 
     /// What is found at a page of a place, and a later page up to which the same is found.
@@ -84,40 +123,49 @@ impl PlacedWorld {
         ensures found { (q : ℕ) → p ≤ q → q < result.1 → IsFound (seen self.now)
             (parts self.now).size.contexts (count self.now.places) (rows self.now.places) (Page q)
             (rows self.now.places i (Page q)) result.0 }
+        ensures right { (q : ℕ) → p ≤ q → q < result.1 → result.0.right
+            ≡ option_map (λ s. s.right) (states_of (rows self.now.places i) (rights self.now.places i) q) }
     {
-        let found = self.found(self.places.kind(i, p));
+        let found = self.found_state(self.places.state(i, p));
         (found, self.places.next_edge(i, p))
     }
 
-    /// The origin of a page by a transfer, and a later page up to which the pages have this origin.
-    fn page_origin(
+    /// The stretch by a transfer of a page and of all up to a later one; none where these pages stay.
+    fn page_stretch(
         &self,
         transfer: Transfer,
         spec: &Spec,
         from: usize,
         to: usize,
         p: u16,
-    ) -> (Option<Origin>, u16)
+    ) -> (Option<Stretch>, u16)
         requires from { from < count self.now.places }
         requires transfer { IsFor (parts self.now).size.contexts from to transfer }
         requires page { p < MOST_PAGES }
         ensures past { p < result.1 }
         ensures within { result.1 ≤ MOST_PAGES }
+        ensures from { IfSome result.0 (λ s. s.range.from ≡ p) }
+        ensures to { IfSome result.0 (λ s. s.range.to ≡ result.1) }
         ensures gives { (q : ℕ) → p ≤ q → q < result.1
-            → given_or (rows self.now.places) (Page q) (rows self.now.places to (Page q)) result.0
-            ≡ transferred self.now transfer spec.now from to (Page q) }
-        ensures can { CanGet (count self.now.places) to result.0 }
+            → given_or (rows self.now.places) (Page q) (rows self.now.places to (Page q))
+            (option_map (λ s. s.origin) result.0) ≡ transferred self.now transfer spec.now from to (Page q) }
+        ensures rights { (q : ℕ) → p ≤ q → q < result.1
+            → shown_right (transferred self.now transfer spec.now from to (Page q))
+            (reads transfer (mode spec.now (Page q)))
+            (gift_right (rights self.now.places) q (rights self.now.places to q)
+            (option_map gift_of result.0))
+            ≡ right_transferred self.now transfer spec.now from to q }
+        ensures can { CanGet (count self.now.places) to (option_map (λ s. s.origin) result.0) }
     {
         let (found, edge) = self.found_page(from, p);
-        let edge = mode_edge(spec, p, edge);
-        (
-            transfer.origin(mode_of(spec, Key::Page(p)), found, from, to),
-            edge,
-        )
+        let end = mode_edge(spec, p, edge);
+        let origin = transfer.origin(mode_of(spec, Key::Page(p)), found, from, to);
+        let range = Range { from: p, to: end };
+        (stretch_of(origin, range, found.right), end)
     }
 
     /// The stretches that give a place its pages by a transfer.
-    fn page_origins(
+    fn page_stretches(
         &self,
         transfer: Transfer,
         spec: &Spec,
@@ -129,18 +177,20 @@ impl PlacedWorld {
         ensures gives { (q : ℕ) → q < MOST_PAGES
             → given_or (rows self.now.places) (Page q) (rows self.now.places to (Page q))
             (origin_at result.items q) ≡ transferred self.now transfer spec.now from to (Page q) }
-        ensures past { (q : ℕ) → MOST_PAGES ≤ q → origin_at result.items q ≡ None }
+        ensures rights { (q : ℕ) → q < MOST_PAGES
+            → shown_right (transferred self.now transfer spec.now from to (Page q))
+            (reads transfer (mode spec.now (Page q)))
+            (gift_right (rights self.now.places) q (rights self.now.places to q) (gift_at result.items q))
+            ≡ right_transferred self.now transfer spec.now from to q }
+        ensures past { (q : ℕ) → MOST_PAGES ≤ q → gift_at result.items q ≡ None }
         ensures given { All (IsStretch (count self.now.places) to) result.items }
     {
         let mut stretches = ArrayVec::new();
         let mut p = 0u16;
         'pages: while u32::from(p) < MOST_PAGES {
-            let (origin, end) = self.page_origin(transfer, spec, from, to, p);
-            if let Some(origin) = origin {
-                stretches.push(Stretch {
-                    range: Range { from: p, to: end },
-                    origin,
-                });
+            let (stretch, end) = self.page_stretch(transfer, spec, from, to, p);
+            if let Some(stretch) = stretch {
+                stretches.push(stretch);
             }
             p = end;
         }
@@ -154,7 +204,7 @@ impl PlacedWorld {
         ensures { IsFound (seen self.now) (parts self.now).size.contexts (count self.now.places)
             (rows self.now.places) (Slot n) (rows self.now.places i (Slot n)) result }
     {
-        self.found(Some(owner(&self.places.slot(i, n))))
+        self.found(Some(owner(&self.places.slot(i, n))), None)
     }
 
     /// What is found under the credential of a place.
@@ -163,7 +213,7 @@ impl PlacedWorld {
         ensures { IsFound (seen self.now) (parts self.now).size.contexts (count self.now.places)
             (rows self.now.places) Cred (rows self.now.places i Cred) result }
     {
-        self.found(Some(owner(self.places.uid(i))))
+        self.found(Some(owner(self.places.uid(i))), None)
     }
 
     /// The origin of a slot by a transfer.
@@ -222,16 +272,21 @@ impl PlacedWorld {
         transfer.origin(mode_of(spec, Key::Cred), found, from, to)
     }
 
-    /// Where the place `to` gets its cells by a transfer from what the place `from` has.
+    /// Where the place `to` gets its cells and rights by a transfer from what the place `from` has.
     pub(crate) fn origins(&self, transfer: Transfer, spec: &Spec, from: usize, to: usize) -> Origins
         requires from { from < count self.now.places }
         requires transfer { IsFor (parts self.now).size.contexts from to transfer }
         requires within { IsSpec (seen self.now).size.pages spec.now }
         ensures row { origin_row (rows self.now.places) to result ≡ transferred self.now transfer spec.now from to }
+        ensures rights { with_rights (rows self.now.places) (rights self.now.places) to result.pages
+            ≡ right_transferred self.now transfer spec.now from to }
         ensures given { AreGiven (count self.now.places) to result }
     {
         Origins {
-            pages: PageOrigins::Stretches(self.page_origins(transfer, spec, from, to)),
+            pages: PageOrigins::Stretches(
+                self.page_stretches(transfer, spec, from, to),
+                transfer.reads(spec),
+            ),
             slots: self.slot_origins(transfer, spec, from, to),
             uid: self.uid_origin(transfer, spec, from, to),
         }

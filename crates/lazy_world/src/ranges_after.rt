@@ -1,52 +1,58 @@
-#![tactic(auto, unfolding(crate::specs::Seen::rows, crate::specs::Seen::count, crate::specs::Cells::rows_of))]
+#![tactic(auto, unfolding(crate::specs::Seen::rows, crate::specs::Seen::rights, crate::specs::Seen::count, crate::specs::Cells::rows_of))]
 
 ghost use Rattle.std.specs.Prelude.{◌≡◌, ◌<◌, ◌≤◌, ℕ, All};
 ghost use Rattle.lwc_base.specs.declared.limits.TheConstants.{MOST_PAGES};
 ghost use Rattle.lwc_base.specs.Modes.{IsSpec};
 ghost use Rattle.range_map.specs.Kinds.{ranges};
 ghost use Rattle.cow_space.specs.Changes.{IsStretch};
-ghost use Rattle.lazy_world.specs.Cells.{kinds_of};
-ghost use Rattle.lazy_world.specs.Origins.{ArePagesGiven, with_pages};
+ghost use Rattle.lazy_world.specs.Cells.{states_of};
+ghost use Rattle.lazy_world.specs.Origins.{ArePagesGiven, with_states};
 ghost use Rattle.lazy_world.specs.declared.pieces.PageOrigins.TheVariants.{Stretches};
-ghost use Rattle.lazy_world.specs.Seen.{count, rows};
+ghost use Rattle.lazy_world.specs.Seen.{count, rights, rows};
 
 use crate::pieces::PageOrigins;
 use crate::places::Places;
 use crate::transfer::Transfer;
 use crate::world::PlacedWorld;
 use arrayvec::ArrayVec;
-use cow_space::Stretch;
-use lwc_base::{MOST_PAGE_RUNS, Name, Spec};
+use cow_space::{ReadRange, Stretch};
+use lwc_base::{MOST_ITEMS, MOST_PAGE_RUNS, Name, Spec};
 
 impl Places {
     /// The number of ranges of a place.
     fn range_count(&self, i: usize) -> u32
         requires { i < count self.now }
-        ensures { result ≡ ranges MOST_PAGES (kinds_of (rows self.now i)) }
+        ensures { result ≡ ranges MOST_PAGES (states_of (rows self.now i) (rights self.now i)) }
     {
         self.pages.count(i)
     }
 
-    /// The number of ranges of a place once the pages of each stretch were what their origin says.
-    fn count_changed(&self, i: usize, stretches: &ArrayVec<Stretch, MOST_PAGE_RUNS>) -> u32
+    /// The number of ranges of a place once the pages of each stretch were what their origin says, and those
+    /// of the ranges such as may only be read.
+    fn count_changed(
+        &self,
+        i: usize,
+        stretches: &ArrayVec<Stretch, MOST_PAGE_RUNS>,
+        reads: &ArrayVec<ReadRange, MOST_ITEMS>,
+    ) -> u32
         requires place { i < count self.now }
         requires given { All (IsStretch (count self.now) i) stretches.now.items }
         ensures { result ≡ ranges MOST_PAGES
-            (kinds_of (with_pages (rows self.now) (Stretches stretches.now) (rows self.now i))) }
+            (with_states (rows self.now) (rights self.now) i (Stretches stretches.now reads.now)) }
     {
-        self.pages.count_after(i, stretches.as_slice())
+        self.pages
+            .count_after(i, stretches.as_slice(), reads.as_slice())
     }
 
     /// The number of ranges of a place once it had the pages that origins give it.
     fn count_with(&self, i: usize, pages: &PageOrigins) -> u32
         requires place { i < count self.now }
         requires given { ArePagesGiven (count self.now) i pages.now }
-        ensures { result ≡ ranges MOST_PAGES
-            (kinds_of (with_pages (rows self.now) pages.now (rows self.now i))) }
+        ensures { result ≡ ranges MOST_PAGES (with_states (rows self.now) (rights self.now) i pages.now) }
     {
         match pages {
             PageOrigins::AllOf(j) => self.range_count(*j),
-            PageOrigins::Stretches(stretches) => self.count_changed(i, stretches),
+            PageOrigins::Stretches(stretches, reads) => self.count_changed(i, stretches, reads),
         }
     }
 }
@@ -59,7 +65,7 @@ impl PlacedWorld {
     ghost use Rattle.world_face.specs.Calls.{IsLive};
     ghost use Rattle.lazy_world.specs.Followed.{IsOfContexts, followed};
     ghost use Rattle.lazy_world.specs.Transfers.{IsFor};
-    ghost use Rattle.lazy_world.specs.Worlds.{parts, transferred, seen};
+    ghost use Rattle.lazy_world.specs.Worlds.{parts, right_transferred, transferred, seen};
 
     /// The name of the next group of job 0, which no cell has.
     fn unnamed(&self) -> Name
@@ -79,7 +85,9 @@ impl PlacedWorld {
         requires to { to < count self.now.places }
         requires transfer { IsFor (parts self.now).size.contexts from to transfer }
         requires within { IsSpec (seen self.now).size.pages spec.now }
-        ensures { result ≡ ranges MOST_PAGES (kinds_of (transferred self.now transfer spec.now from to)) }
+        ensures { result ≡ ranges MOST_PAGES
+            (states_of (transferred self.now transfer spec.now from to)
+            (right_transferred self.now transfer spec.now from to)) }
     {
         let origins = self.origins(transfer, spec, from, to);
         self.places.count_with(to, &origins.pages)

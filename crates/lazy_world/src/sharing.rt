@@ -16,15 +16,16 @@ use std::sync::ledger::Ledger;
 
 impl PlacedWorld {
     ghost use Rattle.lwc_base.specs.Sharing.{moved_values, needs_group, share};
-    ghost use Rattle.lwc_base.specs.World.{add_group, change_group, context, new_group, next_group};
+    ghost use Rattle.lwc_base.specs.World.{add_group, change_group, context, group, new_group, next_group};
     ghost use Rattle.range_map.specs.Kinds.{ranges};
     ghost use Rattle.lwc_base.specs.Fresh.{IsFresh};
     ghost use Rattle.lwc_base.specs.Ranges.{ranges_of};
     ghost use Rattle.world_face.specs.Calls.{HasGroupPlace, IsLive, MayName};
-    ghost use Rattle.lazy_world.specs.Cells.{kinds_of, no_row};
-    ghost use Rattle.lazy_world.specs.Transfers.{transferred_row};
+    ghost use Rattle.cow_space.specs.Cells.{all_write};
+    ghost use Rattle.lazy_world.specs.Cells.{no_row, states_of};
+    ghost use Rattle.lazy_world.specs.Transfers.{transferred_rights, transferred_row};
     ghost use Rattle.lazy_world.specs.declared.transfer.Transfer.TheVariants.{Move};
-    ghost use Rattle.lazy_world.specs.Followed.{IsOfContexts, followed};
+    ghost use Rattle.lazy_world.specs.Followed.{IsOfContexts, IsReady, followed};
     ghost use Rattle.lazy_world.specs.Seen.{count, rows};
     ghost use Rattle.lazy_world.specs.Worlds.{parts, seen};
 
@@ -105,6 +106,7 @@ impl PlacedWorld {
         requires to { IsLive (seen self.old) c }
         requires transfer { IsOfContexts transfer d c }
         requires within { IsSpec (seen self.old).size.pages spec.now }
+        requires ready { IsReady (seen self.old) transfer spec.now (context (seen self.old) d) }
         requires fresh { IsFresh (followed (seen self.old) transfer spec.now d c) }
         requires few { ranges_of (followed (seen self.old) transfer spec.now d c) c ≤ MOST_RANGES }
         ensures { seen self.new ≡ followed (seen self.old) transfer spec.now d c }
@@ -128,6 +130,7 @@ impl PlacedWorld {
         requires to { IsLive (seen self.old) c }
         requires transfer { IsOfContexts transfer d c }
         requires within { IsSpec (seen self.old).size.pages spec.now }
+        requires ready { IsReady (seen self.old) transfer spec.now (context (seen self.old) d) }
         requires fresh { IsFresh (followed (seen self.old) transfer spec.now d c) }
         requires few { ranges_of (followed (seen self.old) transfer spec.now d c) c ≤ MOST_RANGES }
         ensures { seen self.new ≡ followed (seen self.old) transfer spec.now d c }
@@ -164,7 +167,7 @@ impl PlacedWorld {
         name
     }
 
-    /// A group gets the values of a context that items move, and nothing else.
+    /// A group without values gets those of a context that items move, and nothing else.
     pub(crate) fn fill_group<L: Ledger>(
         &mut self,
         g: Name,
@@ -174,8 +177,11 @@ impl PlacedWorld {
     )
         requires live { IsLive (seen self.old) c }
         requires within { IsSpec (seen self.old).size.pages spec.now }
-        requires few { ranges MOST_PAGES (kinds_of (transferred_row (seen self.old) Move spec.now
-            (context (seen self.old) c).cell no_row)) ≤ MOST_RANGES }
+        requires empty { group (seen self.old) g ≡ new_group }
+        requires few { ranges MOST_PAGES (states_of
+            (transferred_row (seen self.old) Move spec.now (context (seen self.old) c).cell no_row)
+            (transferred_rights Move spec.now (context (seen self.old) c).cell
+            (context (seen self.old) c).right all_write)) ≤ MOST_RANGES }
         ensures { seen self.new ≡ change_group (seen self.old) g
             (λ x. moved_values spec.now (context (seen self.old) c)) }
     {

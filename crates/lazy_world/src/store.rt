@@ -10,13 +10,13 @@ ghost use Rattle.cow_space.specs.Cells.{IsOwnPage, place_of};
 ghost use Rattle.cow_space.specs.Tags as places;
 ghost use Rattle.cow_space.specs.Writes.{write_page, written_value};
 ghost use Rattle.lazy_world.specs.Cells.{put_row};
-ghost use Rattle.lazy_world.specs.Seen.{count, frame_count, pages, rows};
+ghost use Rattle.lazy_world.specs.Seen.{count, frame_count, pages, rights, rows};
 
 use crate::counts::Counts;
 use crate::places::Places;
 use crate::touched::{Touched, touched_pages};
 use crate::world::PlacedWorld;
-use lwc_base::{Name, StoreFault, Tag};
+use lwc_base::{Name, Right, StoreFault, Tag};
 use pool_base::Steps;
 use range_map::SegmentKind;
 use std::marker::Brand;
@@ -71,6 +71,7 @@ impl Places {
         ensures rows { rows self.new ≡ put_row (rows self.old) i (with_key Cell (Page p)
             (Own (Some (written_value (pages self.old) i p (record { at = at; bytes = piece.now }) tag)))
             (rows self.old i)) }
+        ensures rights { rights self.new ≡ rights self.old }
         ensures parted { result ≡ places.is_parting (pages self.old) i p }
         ensures count { count self.new ≡ count self.old }
         ensures frames { frame_count self.new ≡ frame_count self.old }
@@ -95,6 +96,7 @@ impl Places {
         ensures rows { rows self.new ≡ put_row (rows self.old) i (with_key Cell (Page p)
             (Own (Some (written_value (pages self.old) i p (record { at = at; bytes = piece.now }) tag)))
             (rows self.old i)) }
+        ensures rights { rights self.new ≡ rights self.old }
         ensures parted { result ≡ places.is_parting (pages self.old) i p }
         ensures count { count self.new ≡ count self.old }
         ensures frames { frame_count self.new ≡ frame_count self.old }
@@ -107,6 +109,7 @@ impl PlacedWorld {
     ghost use Rattle.std.specs.List.{list_all, range_with_len};
     ghost use Rattle.lwc_base.specs.Cells.{page_at};
     ghost use Rattle.lwc_base.specs.Frames.{is_parting, used};
+    ghost use Rattle.lwc_base.specs.Rights.{may_write};
     ghost use Rattle.lwc_base.specs.Store.{store};
     ghost use Rattle.lwc_base.specs.Store as stores;
     ghost use Rattle.world_face.specs.Calls.{IsLive, MayName};
@@ -147,6 +150,26 @@ impl PlacedWorld {
         (pages.first..pages.end)
             .filter(|p| self.is_parting(i, *p))
             .count()
+    }
+
+    /// Whether bytes may be stored to a page of the context at a place.
+    fn is_writable(&self, i: usize, p: u16) -> bool
+        requires { i < count self.now.places }
+        ensures { result ≡ may_write (rights self.now.places i p) }
+    {
+        match self.places.right(i, p) {
+            Right::Write => true,
+            Right::Read => false,
+        }
+    }
+
+    /// Whether bytes may be stored to each of some pages of the context at a place.
+    fn are_writable(&self, i: usize, pages: Touched) -> bool
+        requires { i < count self.now.places }
+        ensures { result ≡ list_all (λ p. may_write (rights self.now.places i p))
+            (range_with_len pages.first (pages.end - pages.first)) }
+    {
+        (pages.first..pages.end).all(|p| self.is_writable(i, p))
     }
 
     /// Writes what a piece has of a present page of the context, under the job's next tag if the page parts.
@@ -200,8 +223,8 @@ impl PlacedWorld {
     ///
     /// # Errors
     ///
-    /// `BadAddress` if a touched page is absent; else `NoFrame` if the frames in use and the pages that
-    /// part are more than the frames. Never `OutOfMemory`.
+    /// `BadAddress` if a touched page is absent; else `ReadOnly` if one has the right Read; else `NoFrame` if
+    /// the frames in use and the pages that part are more than the frames. Never `OutOfMemory`.
     pub(crate) fn store(
         &mut self,
         c: Name,
@@ -217,6 +240,8 @@ impl PlacedWorld {
             stores.Done (seen self.new)) }
         ensures bad_address { (result ≡ Err StoreFault.BadAddress) ↔
             (store (seen self.old) c job (record { at = at; bytes = piece.now }) ≡ stores.Absent) }
+        ensures read_only { (result ≡ Err StoreFault.ReadOnly) ↔
+            (store (seen self.old) c job (record { at = at; bytes = piece.now }) ≡ stores.ReadOnly) }
         ensures no_frame { (result ≡ Err StoreFault.NoFrame) ↔
             (store (seen self.old) c job (record { at = at; bytes = piece.now }) ≡ stores.Full) }
         ensures err { OnErr result (seen self.new ≡ seen self.old) }
@@ -226,6 +251,9 @@ impl PlacedWorld {
         let pages = touched_pages(at as usize, piece.len());
         if !self.are_present(i, pages) {
             return Err(StoreFault::BadAddress);
+        }
+        if !self.are_writable(i, pages) {
+            return Err(StoreFault::ReadOnly);
         }
         if (self.size.frames as usize) < self.used() as usize + self.parting_count(i, pages) {
             return Err(StoreFault::NoFrame);

@@ -1,8 +1,15 @@
-ghost use Rattle.std.specs.Prelude.{◌≡◌};
-ghost use Rattle.lazy_world.specs.Transfers.{copied_origin, moved_origin, other_origin, taken_origin, origin_of};
+ghost use Rattle.std.specs.Prelude.{◌≡◌, ℕ, IfNone, IfSome, Some, false, true};
+ghost use Rattle.cow_space.specs.Changes.{have_page};
+ghost use Rattle.lwc_base.specs.declared.key.Key.TheVariants.{Page};
+ghost use Rattle.lwc_base.specs.declared.limits.TheConstants.{MOST_PAGES};
+ghost use Rattle.lwc_base.specs.Modes.{IsItem, mode, names};
+ghost use Rattle.range_map.specs.Kinds.{is_between};
+ghost use Rattle.lazy_world.specs.Transfers.{copied_origin, is_read, moved_origin, other_origin, reads};
+ghost use Rattle.lazy_world.specs.Transfers.{taken_origin, origin_of};
 
-use cow_space::Origin;
-use lwc_base::{Mode, Name};
+use arrayvec::ArrayVec;
+use cow_space::{Origin, ReadRange};
+use lwc_base::{Item, Kind, MOST_ITEMS, Mode, Name, Right, Spec};
 use range_map::SegmentKind;
 
 /// What a place gets of the cells of a context, by the modes of their keys.
@@ -20,11 +27,44 @@ pub enum Transfer {
     Overlay(Name),
 }
 
-/// Who has the value of a cell, and the place of the group that has it, if that group is live.
+/// Who has the value of a cell, the place of the group that has it, if that group is live, and the right of a
+/// page that is present.
 #[derive(Clone, Copy, Debug, PartialEq, Eq)]
 pub struct Found {
     pub kind: Option<SegmentKind>,
     pub holder: Option<usize>,
+    pub right: Option<Right>,
+}
+
+/// The pages of an item that are copied and may only be read then, if it says so of pages.
+fn read_range(item: &Item) -> Option<ReadRange>
+    requires { IsItem MOST_PAGES item.now }
+    ensures none { IfNone result ((q : ℕ) → names item.now (Page q) ≡ true
+        → is_read (Some item.now.mode) ≡ false) }
+    ensures pages { IfSome result (λ r. (q : ℕ) → is_between r.from r.to q ≡ names item.now (Page q)) }
+    ensures read { IfSome result (λ r. is_read (Some item.now.mode) ≡ true) }
+{
+    match (item.kind, item.mode) {
+        (Kind::Page, Mode::CopyRead) => Some(ReadRange {
+            from: item.from as u16,
+            to: item.to as u16,
+        }),
+        (Kind::Page, Mode::Copy | Mode::Share | Mode::Unmap) | (Kind::Slot | Kind::Cred, _) => None,
+    }
+}
+
+/// The pages that items copy and that may only be read then.
+pub(crate) fn read_pages(spec: &Spec) -> ArrayVec<ReadRange, MOST_ITEMS>
+    ensures { (q : ℕ) → have_page result.items q ≡ is_read (mode spec.now (Page q)) }
+{
+    let mut pages = ArrayVec::new();
+    for item in spec.items() {
+        let Some(range) = read_range(item) else {
+            continue;
+        };
+        pages.push(range);
+    }
+    pages
 }
 
 /// A copy from another place; what is at the place already stays.
@@ -63,7 +103,7 @@ impl Found {
     {
         match mode {
             Mode::Unmap => Some(Origin::Absent),
-            Mode::Copy => match self.kind {
+            Mode::Copy | Mode::CopyRead => match self.kind {
                 None => Some(Origin::Absent),
                 Some(SegmentKind::Own) => other(from, to),
                 Some(SegmentKind::Common(_)) => Some(copied(self.holder)),
@@ -78,6 +118,16 @@ impl Found {
 }
 
 impl Transfer {
+    /// The pages that may only be read in the place that gets something.
+    pub fn reads(self, spec: &Spec) -> ArrayVec<ReadRange, MOST_ITEMS>
+        ensures { (q : ℕ) → have_page result.items q ≡ reads self (mode spec.now (Page q)) }
+    {
+        match self {
+            Transfer::Mark(_) | Transfer::Move => ArrayVec::new(),
+            Transfer::Clone(_) | Transfer::Overlay(_) => read_pages(spec),
+        }
+    }
+
     /// What the place `to` gets under a key of a mode, where this is found at the place `from`; `None`
     /// where it keeps what it has.
     pub fn origin(self, mode: Option<Mode>, found: Found, from: usize, to: usize) -> Option<Origin>

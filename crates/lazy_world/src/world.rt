@@ -1,7 +1,7 @@
 ghost use Rattle.std.specs.Prelude.{◌≡◌, ◌+◌, IfOk, length, replicate};
 ghost use Rattle.std.proofs.Props.{props};
 ghost use Rattle.ctx_table.specs.NameTables.{ArePlaced};
-ghost use Rattle.lazy_world.specs.Seen.{count, frame_count, rows};
+ghost use Rattle.lazy_world.specs.Seen.{count, frame_count, rights, rows};
 ghost use Rattle.lazy_world.specs.Sound.{IsSound, named_cell-prop};
 ghost use Rattle.lazy_world.specs.States.{no_registers, nothing_counted};
 
@@ -30,6 +30,7 @@ pub struct PlacedWorld {
     ghost sound: { IsSound (record {
       size = size;
       rows = rows places;
+      rights = rights places;
       registers = registers.items;
       contexts = contexts;
       groups = groups;

@@ -1,10 +1,10 @@
--- The pages of a stretch have one kind.
+-- The pages of a stretch have one state.
 use Rattle.std.proofs.Common.{◌≡◌, ℕ, suc, ◌+◌, get_or, length, take, ◌<◌, ◌≤◌, Bool, List, [], ◌∷◌, ◌&&◌, arith, cond, leb, ltb, refl, sym, ◌∙◌, ⊎_elim, Some}
 use Rattle.std.specs.Prelude.{All}
 use Rattle.std.specs.List.{find}
 use Rattle.std.proofs.lemmas.Bool.{cases_lt, lt-ltb, le-ltb, le-leb, lt-leb}
 use Rattle.std.proofs.lemmas.List.Elements.{All-more}
-use Rattle.range_map.specs.Kinds.{is_between, kind_at, kind_after}
+use Rattle.range_map.specs.Kinds.{is_between, state_at, state_after}
 use Rattle.range_map.specs.declared.segment.Change.{Change}
 use Rattle.range_map.specs.declared.segment.Segment.{Segment}
 
@@ -55,11 +55,11 @@ pub find_alike : {X : Type 0} (from to : X → ℕ) (p edge q : ℕ) (xs : List 
 find_alike from to p edge q xs none low high =
     find_same (λ x. is_between (from x) (to x) q) (λ x. is_between (from x) (to x) p) xs (λ k d inside. (none k d inside).alike q low high)
 
--- the pages of a stretch have one kind after the changes
+-- the pages of a stretch have one state after the changes
 pub stretch_alike : (changes : List Change) (segments : List Segment) (p edge q : ℕ) →
     All (λ s. HasNoEdge p edge s.from s.to) segments → All (λ c. HasNoEdge p edge c.from c.to) changes →
-    p ≤ q → q < edge → kind_after changes segments q ≡ kind_after changes segments p
-unfolding kind_after kind_at
+    p ≤ q → q < edge → state_after changes segments q ≡ state_after changes segments p
+unfolding state_after state_at
 stretch_alike changes segments p edge q none clear low high =
     let of_segments = find_alike (λ s. s.from) (λ s. s.to) p edge q segments none low high in
     let of_changes = find_alike (λ c. c.from) (λ c. c.to) p edge q changes clear low high in

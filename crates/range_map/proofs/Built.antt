@@ -8,24 +8,24 @@ use Rattle.std.specs.Option.{option_map, option_or}
 use Rattle.std.proofs.lemmas.Bool.{cases_lt, and_from, and_left, and_right, lt-ltb, le-ltb, le-leb, lt-leb}
 use Rattle.std.proofs.lemmas.List.Folds.{find-append}
 use Rattle.lwc_base.specs.declared.limits.TheConstants.{MOST_PAGES}
-use Rattle.range_map.specs.Kinds.{IsBefore, IsCanonical, IsSegment, begins_range, is_between, kind_at, ranges}
+use Rattle.range_map.specs.Kinds.{IsBefore, IsCanonical, IsSegment, begins_range, is_between, state_at, state_in, ranges}
 use Rattle.range_map.specs.declared.segment.Segment.{Segment}
-use Rattle.range_map.specs.declared.segment.SegmentKind.{SegmentKind}
+use Rattle.range_map.specs.declared.segment.PageState.{PageState}
 use Rattle.range_map.proofs.Ranges.{absent_ranges, kinds_parted, one_more, ranges_same}
 
--- a segment ends at or before a page, with the kind of its last page
-pub record EndsBelow (p : ℕ) (kinds : ℕ → Option SegmentKind) (s : Segment) : Type 0 where
+-- a segment ends at or before a page, with the state of its last page
+pub record EndsBelow (p : ℕ) (kinds : ℕ → Option PageState) (s : Segment) : Type 0 where
   pub some : s.from < s.to
   pub below : s.to ≤ p
-  pub kind : kinds (s.to - 1) ≡ Some s.kind
+  pub kind : kinds (s.to - 1) ≡ Some (state_in s)
 
--- segments have these kinds of the pages below one, one for each range, and no other page
-pub record HasRunsBelow (p : ℕ) (kinds : ℕ → Option SegmentKind) (segments : List Segment) : Type 0 where
+-- segments have these states of the pages below one, one for each range, and no other page
+pub record HasRunsBelow (p : ℕ) (kinds : ℕ → Option PageState) (segments : List Segment) : Type 0 where
   pub each : All (EndsBelow p kinds) segments
   pub apart : AllPairs IsBefore segments
   pub counted : length segments ≡ ranges p kinds
-  pub done : (q : ℕ) → q < p → kind_at segments q ≡ kinds q
-  pub rest : (q : ℕ) → p ≤ q → kind_at segments q ≡ None
+  pub done : (q : ℕ) → q < p → state_at segments q ≡ kinds q
+  pub rest : (q : ℕ) → p ≤ q → state_at segments q ≡ None
 
 -- a further element that does not pass leaves what is found
 pub find_off : {X : Type 0} (test : X → Bool) (xs : List X) (x : X) → test x ≡ false → find test (xs ++ x ∷ []) ≡ find test xs
@@ -45,15 +45,15 @@ map_none f None is = refl
 map_none f (Some x) is = absurd cc
 
 -- a further segment leaves the pages that it has not
-push_off : (segments : List Segment) (s : Segment) (q : ℕ) → is_between s.from s.to q ≡ false → kind_at (segments ++ s ∷ []) q ≡ kind_at segments q
-unfolding kind_at
-push_off segments s q off = ap (option_map (λ (t : Segment). t.kind)) (find_off (λ t. is_between t.from t.to q) segments s off)
+push_off : (segments : List Segment) (s : Segment) (q : ℕ) → is_between s.from s.to q ≡ false → state_at (segments ++ s ∷ []) q ≡ state_at segments q
+unfolding state_at
+push_off segments s q off = ap (option_map state_in) (find_off (λ t. is_between t.from t.to q) segments s off)
 
--- a further segment gives its kind to absent pages
-push_on : (segments : List Segment) (s : Segment) (q : ℕ) → is_between s.from s.to q ≡ true → kind_at segments q ≡ None → kind_at (segments ++ s ∷ []) q ≡ Some s.kind
-unfolding kind_at
+-- a further segment gives its state to absent pages
+push_on : (segments : List Segment) (s : Segment) (q : ℕ) → is_between s.from s.to q ≡ true → state_at segments q ≡ None → state_at (segments ++ s ∷ []) q ≡ Some (state_in s)
+unfolding state_at
 push_on segments s q on none =
-    ap (option_map (λ (t : Segment). t.kind)) (find_on (λ t. is_between t.from t.to q) segments s on (map_none (λ t. t.kind) (find (λ t. is_between t.from t.to q) segments) none))
+    ap (option_map state_in) (find_on (λ t. is_between t.from t.to q) segments s on (map_none state_in (find (λ t. is_between t.from t.to q) segments) none))
 
 pub all_one : {X : Type 0} (P : X → Type 0) (x : X) → P x → All P (x ∷ [])
 all_one P x holds zero d inside = holds
@@ -67,7 +67,7 @@ pub not_between : (from to q : ℕ) → (q < from) ⊎ (to ≤ q) → is_between
 not_between from to q off =
     ⊎_elim (λ low. and_left (leb from q) (ltb q to) (lt-leb from q low)) (λ high. and_right (leb from q) (ltb q to) (le-ltb q to high)) off
 
-module _ (kinds : ℕ → Option SegmentKind) (p e : ℕ) (segments : List Segment) (past : p < e) (alike : (q : ℕ) → p ≤ q → q < e → kinds q ≡ kinds p)
+module _ (kinds : ℕ → Option PageState) (p e : ℕ) (segments : List Segment) (past : p < e) (alike : (q : ℕ) → p ≤ q → q < e → kinds q ≡ kinds p)
     (begins : begins_range kinds p ≡ is_some (kinds p)) (built : HasRunsBelow p kinds segments) where
   ends_later : All (EndsBelow e kinds) segments
   ends_later k d inside = let before = built.each k d inside in record { some = before.some; below = omega (arith, before.below, past); kind = before.kind }
@@ -83,7 +83,7 @@ module _ (kinds : ℕ → Option SegmentKind) (p e : ℕ) (segments : List Segme
   }
 
   -- a run of present pages is a further segment
-  pub run_present : (s : Segment) → s.from ≡ p → s.to ≡ e → kinds p ≡ Some s.kind → HasRunsBelow e kinds (segments ++ s ∷ [])
+  pub run_present : (s : Segment) → s.from ≡ p → s.to ≡ e → kinds p ≡ Some (state_in s) → HasRunsBelow e kinds (segments ++ s ∷ [])
   run_present s from to some = record {
     each = All-append (EndsBelow e kinds) segments (s ∷ []) ends_later (all_one (EndsBelow e kinds) s (record {
       some = omega (arith, from, to, past);
@@ -94,7 +94,7 @@ module _ (kinds : ℕ → Option SegmentKind) (p e : ℕ) (segments : List Segme
         let before = built.each k d inside in
         record {
           ordered = omega (arith, before.below, from);
-          parted = λ meets. kinds_parted kinds p ((get_or segments k d).to - 1) _ s.kind (omega (arith, before.some, meets, from)) before.kind some begins;
+          parted = λ meets. kinds_parted kinds p ((get_or segments k d).to - 1) _ (state_in s) (omega (arith, before.some, meets, from)) before.kind some begins;
         });
     counted = length-append segments (s ∷ []) ∙ ap (λ n. n + 1) built.counted ∙ sym (one_more kinds p (e - p - 1) e (omega arith) alike begins ∙ rw some refl);
     done = λ q high. ⊎_elim
@@ -105,23 +105,23 @@ module _ (kinds : ℕ → Option SegmentKind) (p e : ℕ) (segments : List Segme
   }
 
 -- segments of the runs of all pages are canonical
-pub all_built : (kinds : ℕ → Option SegmentKind) (segments : List Segment) → HasRunsBelow MOST_PAGES kinds segments → IsCanonical segments
+pub all_built : (kinds : ℕ → Option PageState) (segments : List Segment) → HasRunsBelow MOST_PAGES kinds segments → IsCanonical segments
 all_built kinds segments built = record {
   some = λ k d inside. (built.each k d inside).some;
   apart = built.apart;
   within = built.rest;
-  counted = built.counted ∙ sym (ranges_same (kind_at segments) kinds MOST_PAGES built.done);
+  counted = built.counted ∙ sym (ranges_same (state_at segments) kinds MOST_PAGES built.done);
 }
 
 -- no segments have the runs below the first page
-pub none_built : (kinds : ℕ → Option SegmentKind) → HasRunsBelow 0 kinds []
-unfolding ranges kind_at
+pub none_built : (kinds : ℕ → Option PageState) → HasRunsBelow 0 kinds []
+unfolding ranges state_at
 none_built kinds = record { each = λ k d inside. absurd (omega arith); apart = λ i j d before inside. absurd (omega arith); counted = refl; done = λ q low. absurd (omega arith); rest = λ q low. refl }
 
 -- no segments are canonical
 pub none_canonical : IsCanonical []
-unfolding kind_at
-none_canonical = record { some = λ k d inside. absurd (omega arith); apart = λ i j d before inside. absurd (omega arith); within = λ p low. refl; counted = sym (absent_ranges (kind_at []) (λ p. refl)) }
+unfolding state_at
+none_canonical = record { some = λ k d inside. absurd (omega arith); apart = λ i j d before inside. absurd (omega arith); within = λ p low. refl; counted = sym (absent_ranges (state_at []) (λ p. refl)) }
 
 -- where nothing is found, no element passes
 find_none : {X : Type 0} (test : X → Bool) (xs : List X) (k : ℕ) (d : X) → k < length xs → find test xs ≡ None → test (get_or xs k d) ≡ false
@@ -139,7 +139,7 @@ find_none test (x ∷ xs) (suc k) d inside none = find_none test xs k d (omega a
 
 -- no page of canonical segments is past the last one
 pub segments_inside : (segments : List Segment) → IsCanonical segments → All IsSegment segments
-unfolding kind_at
+unfolding state_at
 segments_inside segments canonical k d inside = record { some = some; inside = ⊎_elim (λ past. absurd (beyond past)) (λ within. within) (cases_lt MOST_PAGES s.to) }
   where
     s : Segment
@@ -150,6 +150,6 @@ segments_inside segments canonical k d inside = record { some = some; inside = �
 
     beyond : MOST_PAGES < s.to → ⊥
     beyond past =
-        let off = find_none (λ t. is_between t.from t.to (s.to - 1)) segments k d inside (map_none (λ t. t.kind) (find (λ t. is_between t.from t.to (s.to - 1)) segments) (canonical.within (s.to - 1) (omega arith))) in
+        let off = find_none (λ t. is_between t.from t.to (s.to - 1)) segments k d inside (map_none state_in (find (λ t. is_between t.from t.to (s.to - 1)) segments) (canonical.within (s.to - 1) (omega arith))) in
         let on = between s.from s.to (s.to - 1) (omega arith) (omega arith) in
         cc

@@ -1,4 +1,5 @@
-//! Which pages of a context are present, and whether each is its own or common of a group, by segments.
+//! Which pages of a context are present, whether each is its own or common of a group, and its right, by
+//! segments.
 #![tactic(auto)]
 
 pub mod laws;
@@ -6,7 +7,7 @@ pub mod map;
 pub mod segment;
 pub(crate) mod stretches;
 
-pub use laws::{ranges_are_those_of_the_context, ranges_go_by_kinds};
+pub use laws::{ranges_are_those_of_the_context, ranges_go_by_states};
 pub use map::{RangeMap, TooManyRanges};
-pub use segment::{Change, Segment, SegmentKind};
+pub use segment::{Change, PageState, Segment, SegmentKind};
 pub use stretches::sooner_edge;

@@ -3,17 +3,18 @@ ghost use Rattle.lwc_base.specs.declared.limits.TheConstants.{MOST_PAGES, MOST_R
 ghost use Rattle.range_map.specs.Kinds as spec;
 ghost use Rattle.range_map.specs.Kinds.{IsCanonical, IsSegment, ranges};
 
-use crate::segment::{Change, Segment, SegmentKind};
+use crate::segment::{Change, PageState, Segment, SegmentKind};
 use crate::stretches;
 use arrayvec::ArrayVec;
-use lwc_base::{MOST_PAGES, MOST_RANGES};
+use lwc_base::{MOST_PAGES, MOST_RANGES, Right};
 use std::marker::Model;
 
 /// A change would leave a context with more than 64 ranges.
 #[derive(Clone, Copy, Debug, PartialEq, Eq)]
 pub struct TooManyRanges;
 
-/// The kinds of a context's pages, as one segment for each range. It is seen as the list of its segments.
+/// The kinds and the rights of a context's pages, as one segment for each range. It is seen as the list of
+/// its segments.
 #[derive(Drop)]
 pub struct RangeMap {
     segments: ArrayVec<Segment, 64>,
@@ -41,7 +42,7 @@ impl RangeMap {
         }
     }
 
-    /// The same kinds once more.
+    /// The same once more.
     pub fn copy(&self) -> RangeMap
         ensures { result ≡ self.now }
     {
@@ -62,27 +63,43 @@ impl RangeMap {
         self.segments.as_slice()
     }
 
-    /// The kind of a page; `None` where it is absent, as are all past the last one.
+    /// The state of a page; `None` where it is absent, as are all past the last one.
+    pub fn state_at(&self, p: u16) -> Option<PageState>
+        ensures state { result ≡ spec.state_at self.now p }
+        ensures past { MOST_PAGES ≤ p → result ≡ None }
+    {
+        stretches::state_at(self.segments.as_slice(), p)
+    }
+
+    /// The kind of a page; `None` where it is absent.
     pub fn kind_at(&self, p: u16) -> Option<SegmentKind>
         ensures kind { result ≡ spec.kind_at self.now p }
         ensures past { MOST_PAGES ≤ p → result ≡ None }
     {
-        stretches::kind_at(self.segments.as_slice(), p)
+        self.state_at(p).map(|state| state.kind)
     }
 
-    /// A later page, or the end of all pages, up to which the pages have the kind of this one.
+    /// The right of a page; `None` where it is absent.
+    pub fn right_at(&self, p: u16) -> Option<Right>
+        ensures right { result ≡ spec.right_at self.now p }
+        ensures past { MOST_PAGES ≤ p → result ≡ None }
+    {
+        self.state_at(p).map(|state| state.right)
+    }
+
+    /// A later page, or the end of all pages, up to which the pages have the state of this one.
     pub fn next_edge(&self, p: u16) -> u16
         requires { p < MOST_PAGES }
         ensures past { p < result }
         ensures within { result ≤ MOST_PAGES }
-        ensures alike { (q : ℕ) → p ≤ q → q < result → spec.kind_at self.now q ≡ spec.kind_at self.now p }
+        ensures alike { (q : ℕ) → p ≤ q → q < result → spec.state_at self.now q ≡ spec.state_at self.now p }
     {
         stretches::next_edge(self.segments.as_slice(), &[], p)
     }
 
     /// The number of ranges, which is at most 64.
     pub fn count(&self) -> u32
-        ensures ranges { result ≡ ranges MOST_PAGES (spec.kind_at self.now) }
+        ensures ranges { result ≡ ranges MOST_PAGES (spec.state_at self.now) }
         ensures few { result ≤ MOST_RANGES }
     {
         self.segments.len() as u32
@@ -91,13 +108,13 @@ impl RangeMap {
     /// The number of ranges that there would be after the changes. Of two changes that have a page, the
     /// first counts.
     pub fn count_after(&self, changes: &[Change]) -> u32
-        ensures { result ≡ ranges MOST_PAGES (spec.kind_after changes.now self.now) }
+        ensures { result ≡ ranges MOST_PAGES (spec.state_after changes.now self.now) }
     {
         let segments = self.segments.as_slice();
         let mut count = 0u32;
         let mut p = 0u16;
         'page_runs: while u32::from(p) < MOST_PAGES {
-            if stretches::kind_after(segments, changes, p).is_some() {
+            if stretches::state_after(segments, changes, p).is_some() {
                 count += 1;
             }
             p = stretches::run_end(segments, changes, p);
@@ -105,19 +122,19 @@ impl RangeMap {
         count
     }
 
-    /// Gives the pages of each change its kind, and leaves all other pages. Of two changes that have a
-    /// page, the first counts.
+    /// Gives the pages of each change its kind and its right, and leaves all other pages. Of two changes that
+    /// have a page, the first counts.
     ///
     /// # Errors
     ///
     /// `TooManyRanges` exactly where there would be more than 64 ranges; nothing is changed then.
     pub fn replace(&mut self, changes: &[Change]) -> Result<(), TooManyRanges>
         ensures ok { OnOk result ((p : ℕ) → p < MOST_PAGES
-            → spec.kind_at self.new p ≡ spec.kind_after changes.now self.old p) }
-        ensures past { OnOk result ((p : ℕ) → MOST_PAGES ≤ p → spec.kind_at self.new p ≡ None) }
+            → spec.state_at self.new p ≡ spec.state_after changes.now self.old p) }
+        ensures past { OnOk result ((p : ℕ) → MOST_PAGES ≤ p → spec.state_at self.new p ≡ None) }
         ensures err { OnErr result (self.new ≡ self.old) }
         ensures refused { is_err result
-            ≡ nat_lt MOST_RANGES (ranges MOST_PAGES (spec.kind_after changes.now self.old)) }
+            ≡ nat_lt MOST_RANGES (ranges MOST_PAGES (spec.state_after changes.now self.old)) }
     {
         if self.count_after(changes) > MOST_RANGES {
             return Err(TooManyRanges);
@@ -129,20 +146,21 @@ impl RangeMap {
 
 /// A segment for each range of the pages after the changes.
 fn segments_after(segments: &[Segment], changes: &[Change]) -> ArrayVec<Segment, 64>
-    requires { ranges MOST_PAGES (spec.kind_after changes.now segments.now) ≤ MOST_RANGES }
+    requires { ranges MOST_PAGES (spec.state_after changes.now segments.now) ≤ MOST_RANGES }
     ensures canonical { IsCanonical result.items }
-    ensures kinds { (p : ℕ) → p < MOST_PAGES
-        → spec.kind_at result.items p ≡ spec.kind_after changes.now segments.now p }
+    ensures states { (p : ℕ) → p < MOST_PAGES
+        → spec.state_at result.items p ≡ spec.state_after changes.now segments.now p }
 {
     let mut after = ArrayVec::new();
     let mut p = 0u16;
     'page_runs: while u32::from(p) < MOST_PAGES {
         let end = stretches::run_end(segments, changes, p);
-        if let Some(kind) = stretches::kind_after(segments, changes, p) {
+        if let Some(state) = stretches::state_after(segments, changes, p) {
             after.push(Segment {
                 from: p,
                 to: end,
-                kind,
+                kind: state.kind,
+                right: state.right,
             });
         }
         p = end;

@@ -1,4 +1,7 @@
-use lwc_base::Name;
+ghost use Rattle.std.specs.Prelude.{◌≡◌};
+ghost use Rattle.range_map.specs.Kinds.{given, state_in};
+
+use lwc_base::{Name, Right};
 
 /// What a present page is: the context's own, or common of the group of this name.
 #[derive(Clone, Copy, Debug, Default, PartialEq, Eq)]
@@ -8,18 +11,55 @@ pub enum SegmentKind {
     Common(Name),
 }
 
-/// The pages from `from` up to and without `to`, which are all of one kind.
+/// A present page's kind and its right.
+#[derive(Clone, Copy, Debug, PartialEq, Eq)]
+pub struct PageState {
+    pub kind: SegmentKind,
+    pub right: Right,
+}
+
+/// The pages from `from` up to and without `to`, which are all of one kind and of one right.
 #[derive(Clone, Copy, Debug, Default, PartialEq, Eq)]
 pub struct Segment {
     pub from: u16,
     pub to: u16,
     pub kind: SegmentKind,
+    pub right: Right,
 }
 
-/// The kind that the pages from `from` up to and without `to` are to have; with `None` they become absent.
+/// The kind and the right that the pages from `from` up to and without `to` are to have; with no kind they
+/// become absent.
 #[derive(Clone, Copy, Debug, Default, PartialEq, Eq)]
 pub struct Change {
     pub from: u16,
     pub to: u16,
     pub kind: Option<SegmentKind>,
+    pub right: Right,
+}
+
+impl Segment {
+    /// The state of each of its pages.
+    pub(crate) fn state(&self) -> PageState
+        ensures { result ≡ state_in self.now }
+    {
+        PageState {
+            kind: self.kind,
+            right: self.right,
+        }
+    }
+}
+
+impl Change {
+    /// The state that its pages get; `None` where they become absent.
+    pub(crate) fn state(&self) -> Option<PageState>
+        ensures { result ≡ given self.now }
+    {
+        match self.kind {
+            Some(kind) => Some(PageState {
+                kind,
+                right: self.right,
+            }),
+            None => None,
+        }
+    }
 }

@@ -5,28 +5,28 @@ ghost use Rattle.lwc_base.specs.declared.limits.TheConstants.{MOST_PAGES};
 ghost use Rattle.range_map.specs.Kinds as spec;
 ghost use Rattle.range_map.specs.Kinds.{begins_range, is_between};
 
-use crate::segment::{Change, Segment, SegmentKind};
+use crate::segment::{Change, PageState, Segment};
 use lwc_base::MOST_PAGES;
 
-/// The kind of a page; `None` where it is absent.
-#[tactic(auto, unfolding(crate::specs::Kinds::kind_at))]
-pub(crate) fn kind_at(segments: &[Segment], p: u16) -> Option<SegmentKind>
-    ensures { result ≡ spec.kind_at segments.now p }
+/// The state of a page; `None` where it is absent.
+#[tactic(auto, unfolding(crate::specs::Kinds::state_at))]
+pub(crate) fn state_at(segments: &[Segment], p: u16) -> Option<PageState>
+    ensures { result ≡ spec.state_at segments.now p }
 {
     segments
         .iter()
         .find(|segment| segment.from <= p && p < segment.to)
-        .map(|segment| segment.kind)
+        .map(|segment| segment.state())
 }
 
-/// The kind of a page after the changes: that of the first change that has it, or the kind before.
-#[tactic(auto, unfolding(crate::specs::Kinds::kind_after))]
-pub(crate) fn kind_after(segments: &[Segment], changes: &[Change], p: u16) -> Option<SegmentKind>
-    ensures { result ≡ spec.kind_after changes.now segments.now p }
+/// The state of a page after the changes: that of the first change that has it, or the state before.
+#[tactic(auto, unfolding(crate::specs::Kinds::state_after))]
+pub(crate) fn state_after(segments: &[Segment], changes: &[Change], p: u16) -> Option<PageState>
+    ensures { result ≡ spec.state_after changes.now segments.now p }
 {
     match change_at(changes, p) {
-        Some(change) => change.kind,
-        None => kind_at(segments, p),
+        Some(change) => change.state(),
+        None => state_at(segments, p),
     }
 }
 
@@ -39,20 +39,20 @@ fn change_at(changes: &[Change], p: u16) -> Option<&Change>
         .find(|change| change.from <= p && p < change.to)
 }
 
-/// The first page past a page at which the kind after the changes is another one; the end of all pages
+/// The first page past a page at which the state after the changes is another one; the end of all pages
 /// where there is none.
 pub(crate) fn run_end(segments: &[Segment], changes: &[Change], p: u16) -> u16
     requires { p < MOST_PAGES }
     ensures past { p < result }
     ensures within { result ≤ MOST_PAGES }
     ensures alike { (q : ℕ) → p ≤ q → q < result
-        → spec.kind_after changes.now segments.now q ≡ spec.kind_after changes.now segments.now p }
-    ensures begins { result < MOST_PAGES → begins_range (spec.kind_after changes.now segments.now) result
-        ≡ is_some (spec.kind_after changes.now segments.now result) }
+        → spec.state_after changes.now segments.now q ≡ spec.state_after changes.now segments.now p }
+    ensures begins { result < MOST_PAGES → begins_range (spec.state_after changes.now segments.now) result
+        ≡ is_some (spec.state_after changes.now segments.now result) }
 {
-    let kind = kind_after(segments, changes, p);
+    let state = state_after(segments, changes, p);
     let mut end = next_edge(segments, changes, p);
-    'stretches: while u32::from(end) < MOST_PAGES && kind == kind_after(segments, changes, end) {
+    'stretches: while u32::from(end) < MOST_PAGES && state == state_after(segments, changes, end) {
         end = next_edge(segments, changes, end);
     }
     end
@@ -64,7 +64,7 @@ pub(crate) fn next_edge(segments: &[Segment], changes: &[Change], p: u16) -> u16
     ensures past { p < result }
     ensures within { result ≤ MOST_PAGES }
     ensures alike { (q : ℕ) → p ≤ q → q < result
-        → spec.kind_after changes.now segments.now q ≡ spec.kind_after changes.now segments.now p }
+        → spec.state_after changes.now segments.now q ≡ spec.state_after changes.now segments.now p }
 {
     let mut edge = MOST_PAGES as u16;
     for segment in segments {

@@ -1,4 +1,4 @@
-use Rattle.std.proofs.Common.{◌≡◌, ℕ, ◌+◌, ◌-◌, ◌*◌, ◌<◌, ◌≤◌, ◌⊎◌, inl, inr, ⊎_elim, min, length, get_or, drop, set, refl, ap, ◌∙◌, arith, subst}
+use Rattle.std.proofs.Common.{◌≡◌, ℕ, ◌+◌, ◌-◌, ◌*◌, ◌<◌, ◌≤◌, ◌⊎◌, inl, inr, ⊎_elim, min, length, get_or, drop, set, refl, ap, ◌∙◌, arith, subst, None}
 use Rattle.cow_space.specs.RowSeen.{maps}
 use Rattle.cow_space.specs.declared.stretches.Origin.TheVariants.{Absent, CopyOf}
 use Rattle.cow_space.specs.declared.stretches.Stretch.{Stretch}
@@ -23,22 +23,22 @@ stretches-init g c =
     }
 
 -- the nodes that one more stretch takes: the root is among them for the first one, or where the one before left no tree
-few-nodes : (j k n old mid new : ℕ) (None Own : Type 0) → j ≤ n → j ≡ k + 1 → (j < n → (None × (old ≤ mid + 2 * (n - j))) ⊎ Own) →
+few-nodes : (j k n old mid new : ℕ) (Bare Own : Type 0) → j ≤ n → j ≡ k + 1 → (j < n → (Bare × (old ≤ mid + 2 * (n - j))) ⊎ Own) →
     old ≤ mid + (min 1 (n - j) + 2 * (n - j)) → mid ≤ new + 3 → (Own → mid ≤ new + 2) → old ≤ new + (min 1 (n - k) + 2 * (n - k))
-few-nodes j k n old mid new None Own le next own so_far takes takes_own = grind (arith, own, takes_own)
+few-nodes j k n old mid new Bare Own le next own so_far takes takes_own = grind (arith, own, takes_own)
 
 -- the node steps of one more stretch: the first one may copy the root
-few-steps : (j k n old mid new : ℕ) (None Own Fewer : Type 0) → j ≤ n → j ≡ k + 1 → (j < n → (None × Fewer) ⊎ Own) →
-    mid ≤ old + (34 * min 1 (n - j) + 64 * (n - j)) → new ≤ mid + 98 → (None → new ≤ mid + 35) → (Own → new ≤ mid + 64) → new ≤ old + (34 * min 1 (n - k) + 64 * (n - k))
-few-steps j k n old mid new None Own Fewer le next own so_far takes takes_none takes_own = grind (arith, own, takes_none, takes_own)
+few-steps : (j k n old mid new : ℕ) (Bare Own Fewer : Type 0) → j ≤ n → j ≡ k + 1 → (j < n → (Bare × Fewer) ⊎ Own) →
+    mid ≤ old + (34 * min 1 (n - j) + 64 * (n - j)) → new ≤ mid + 98 → (Bare → new ≤ mid + 35) → (Own → new ≤ mid + 64) → new ≤ old + (34 * min 1 (n - k) + 64 * (n - k))
+few-steps j k n old mid new Bare Own Fewer le next own so_far takes takes_none takes_own = grind (arith, own, takes_none, takes_own)
 
 -- and those where the row had no tree
-few-steps_empty : (j k n old mid new : ℕ) (None Own Fewer : Type 0) → j ≤ n → j ≡ k + 1 → (j ≡ n → None) → (j < n → (None × Fewer) ⊎ Own) →
-    mid ≤ old + 64 * (n - j) → (None → new ≤ mid + 35) → (Own → new ≤ mid + 64) → new ≤ old + 64 * (n - k)
-few-steps_empty j k n old mid new None Own Fewer le next begins own so_far takes_none takes_own = grind (arith, begins, own, takes_none, takes_own)
+few-steps_empty : (j k n old mid new : ℕ) (Bare Own Fewer : Type 0) → j ≤ n → j ≡ k + 1 → (j ≡ n → Bare) → (j < n → (Bare × Fewer) ⊎ Own) →
+    mid ≤ old + 64 * (n - j) → (Bare → new ≤ mid + 35) → (Own → new ≤ mid + 64) → new ≤ old + 64 * (n - k)
+few-steps_empty j k n old mid new Bare Own Fewer le next begins own so_far takes_none takes_own = grind (arith, begins, own, takes_none, takes_own)
 
 none : Stretch
-none = record { range = record { from = 0; to = 0 }; origin = Absent }
+none = record { range = record { from = 0; to = 0 }; origin = Absent; right = None }
 
 pub stretches-preserved-in-CopyOf : goal.stretches-preserved-in-CopyOf
 unfolding none

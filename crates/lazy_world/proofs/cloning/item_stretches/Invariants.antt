@@ -3,13 +3,13 @@ use Rattle.std.specs.Prelude.{All}
 use Rattle.lwc_base.specs.declared.key.Key.TheVariants.{Page}
 use Rattle.lwc_base.specs.Modes.{mode}
 use Rattle.cow_space.specs.Changes.{IsStretch}
-use Rattle.lazy_world.specs.Clones.{item_origin}
-use Rattle.lazy_world.specs.Origins.{origin_at}
+use Rattle.lazy_world.specs.Clones.{item_gift}
+use Rattle.lazy_world.specs.Origins.{gift_at}
 use Rattle.lazy_world.proofs.cloning.item_stretches.Given as goal
 
 abbrev pub invariant-loop-item : goal.invariant-loop-item
 invariant-loop-item l = record {
-  origins : (q : ℕ) → origin_at l.stretches.items q ≡ item_origin l.from (mode (take l.item-index l.item-items) (Page q));
+  gifts : (q : ℕ) → gift_at l.stretches.items q ≡ item_gift l.from (mode (take l.item-index l.item-items) (Page q));
   few : length l.stretches.items ≤ l.item-index;
   given : (count to : ℕ) → l.from < count → l.from ≢ to → All (IsStretch count to) l.stretches.items;
 }

@@ -1,13 +1,13 @@
 use Rattle.std.proofs.Common.{◌≡◌, ◌<◌, ◌-◌, ◌∙◌, arith, subst, sym, Some, refl}
 use Rattle.lwc_base.specs.declared.limits.TheConstants.{MOST_PAGES}
-use Rattle.range_map.specs.Kinds.{kind_after}
+use Rattle.range_map.specs.Kinds.{state_after}
 use Rattle.range_map.proofs.Built.{HasRunsBelow, all_built, none_built, run_absent, run_present}
 use Rattle.range_map.proofs.Ranges.{first_begins, one_more, ranges_grow}
 use Rattle.range_map.proofs.map.segments_after.Goals as goal
 
 pub page_runs-init : goal.page_runs-init
 page_runs-init c =
-    let kinds = kind_after c.args.changes.now c.args.segments.now in
+    let kinds = state_after c.args.changes.now c.args.segments.now in
     record {
       inside = omega arith;
       begins = λ inside. first_begins kinds;
@@ -16,10 +16,10 @@ page_runs-init c =
 
 pub push-requires : goal.push-requires
 push-requires c =
-    let kinds = kind_after c.args.changes.now c.args.segments.now in
+    let kinds = state_after c.args.changes.now c.args.segments.now in
     let end = c.run_end-end.ensures in
     let inside : c.page_runs.p < MOST_PAGES = omega (arith, c.page_runs-test.true, c.from.ensures) in
-    let some : kinds c.page_runs.p ≡ Some c.in-Some.kind = sym c.kind_after.ensures ∙ c.in-Some.is in
+    let some : kinds c.page_runs.p ≡ Some c.in-Some.state = sym c.state_after.ensures ∙ c.in-Some.is in
     let more = one_more kinds c.page_runs.p (c.run_end-end.result - c.page_runs.p - 1) c.run_end-end.result (omega (arith, end.past)) end.alike (c.page_runs.invariant.begins inside) in
     let all = ranges_grow kinds c.run_end-end.result (MOST_PAGES - c.run_end-end.result) MOST_PAGES (omega (arith, end.within)) in
     let counted = c.page_runs.invariant.built.counted in
@@ -27,10 +27,10 @@ push-requires c =
 
 pub page_runs-preserved-in-Some : goal.page_runs-preserved-in-Some
 page_runs-preserved-in-Some c =
-    let kinds = kind_after c.args.changes.now c.args.segments.now in
+    let kinds = state_after c.args.changes.now c.args.segments.now in
     let end = c.run_end-end.ensures in
     let inside : c.page_runs.p < MOST_PAGES = omega (arith, c.page_runs-test.true, c.from.ensures) in
-    let some : kinds c.page_runs.p ≡ Some c.in-Some.kind = sym c.kind_after.ensures ∙ c.in-Some.is in
+    let some : kinds c.page_runs.p ≡ Some c.in-Some.state = sym c.state_after.ensures ∙ c.in-Some.is in
     record {
       inside = end.within;
       begins = end.begins;
@@ -40,18 +40,18 @@ page_runs-preserved-in-Some c =
 
 pub page_runs-preserved : goal.page_runs-preserved
 page_runs-preserved c =
-    let kinds = kind_after c.args.changes.now c.args.segments.now in
+    let kinds = state_after c.args.changes.now c.args.segments.now in
     let end = c.run_end-end.ensures in
     let inside : c.page_runs.p < MOST_PAGES = omega (arith, c.page_runs-test.true, c.from.ensures) in
     record {
       inside = end.within;
       begins = end.begins;
       built = run_absent kinds c.page_runs.p c.run_end-end.result c.page_runs.after.items end.past end.alike (c.page_runs.invariant.begins inside) c.page_runs.invariant.built
-          (sym c.kind_after.ensures ∙ c.in_default.is);
+          (sym c.state_after.ensures ∙ c.in_default.is);
     }
 
 pub returns-clause-canonical : goal.returns-clause-canonical
 returns-clause-canonical c =
-    let kinds = kind_after c.args.changes.now c.args.segments.now in
+    let kinds = state_after c.args.changes.now c.args.segments.now in
     let last : c.page_runs.p ≡ MOST_PAGES = omega (arith, c.page_runs-test.false, c.from.ensures, c.page_runs.invariant.inside) in
     all_built kinds c.page_runs.after.items (subst (λ p. HasRunsBelow p kinds c.page_runs.after.items) last c.page_runs.invariant.built)

@@ -1,13 +1,13 @@
 use Rattle.std.proofs.Common.{◌≡◌, ◌<◌, ◌≤◌, ◌-◌, ℕ}
 use Rattle.lwc_base.specs.declared.limits.TheConstants.{MOST_PAGES}
-use Rattle.range_map.specs.Kinds.{kind_after}
+use Rattle.range_map.specs.Kinds.{state_after}
 use Rattle.range_map.proofs.stretches.run_end.Given as goal
 
 abbrev pub invariant-stretches : goal.invariant-stretches
 invariant-stretches l = record {
   past : l.p < l.end;
   within : l.end ≤ MOST_PAGES;
-  alike : (q : ℕ) → l.p ≤ q → q < l.end → kind_after l.changes l.segments q ≡ kind_after l.changes l.segments l.p;
+  alike : (q : ℕ) → l.p ≤ q → q < l.end → state_after l.changes l.segments q ≡ state_after l.changes l.segments l.p;
 }
 
 abbrev pub decreases-stretches : goal.decreases-stretches

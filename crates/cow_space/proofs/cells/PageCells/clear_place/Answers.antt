@@ -1,12 +1,12 @@
 use Rattle.std.proofs.Common.{[], set, ap, ◌∙◌, arith, refl, subst, sym}
-use Rattle.range_map.specs.Kinds.{kind_at}
-use Rattle.cow_space.specs.Cells.{all_cells}
+use Rattle.range_map.specs.Kinds.{kind_at, state_at}
+use Rattle.cow_space.specs.Cells.{all_cells, all_rights}
 use Rattle.cow_space.specs.Kept.{IsKept}
 use Rattle.cow_space.specs.Maps as rows
 use Rattle.cow_space.specs.RowSeen.{HasNoTree, maps}
-use Rattle.cow_space.specs.Seen.{cells}
-use Rattle.cow_space.proofs.Places.{may-none, none-cells}
-use Rattle.cow_space.proofs.Views.{bare-still, cells-set, kept-still, kinds-in, no-tree, row-in}
+use Rattle.cow_space.specs.Seen.{cells, rights}
+use Rattle.cow_space.proofs.Places.{may-none, none-cells, none-write}
+use Rattle.cow_space.proofs.Views.{bare-still, cells-set, kept-still, kinds-in, no-tree, rights-set, row-in}
 use Rattle.cow_space.proofs.cells.PageCells.clear_place.Goals as goal
 
 pub index_mut-requires : goal.index_mut-requires
@@ -23,8 +23,14 @@ returns-clause-cells g c =
     ∙ cells-set w c.args.i [] rows.no_pages (maps c.drop_row.new.self) c.requires.place c.drop_row.ensures.maps
     ∙ ap (set (cells w) c.args.i) (none-cells rows.no_pages)
 
+pub returns-clause-rights : goal.returns-clause-rights
+unfolding rights
+returns-clause-rights g c =
+    let w = c.args.self.now in
+    ap (λ s. all_rights (set w.kinds.items c.args.i s)) c.empty.ensures ∙ rights-set w c.args.i [] ∙ ap (set (rights w) c.args.i) none-write
+
 pub invariant_of-self : goal.invariant_of-self
-unfolding kind_at
+unfolding state_at
 invariant_of-self g c =
     let w = c.args.self.now in
     record {

@@ -1,14 +1,14 @@
 use Rattle.std.proofs.Common.{[], set, sym, ap, ◌∙◌, arith, subst}
-use Rattle.range_map.specs.Kinds.{kind_at, ranges}
+use Rattle.range_map.specs.Kinds.{kind_at, ranges, state_at}
 use Rattle.range_map.proofs.Ranges.{absent_ranges}
-use Rattle.cow_space.specs.Cells.{all_cells, place_cells, segments_of}
+use Rattle.cow_space.specs.Cells.{all_cells, all_rights, place_cells, segments_of}
 use Rattle.cow_space.specs.Kept.{IsKept}
 use Rattle.cow_space.specs.Maps.{row_of}
 use Rattle.cow_space.specs.Maps as rows
 use Rattle.cow_space.specs.RowSeen.{HasNoTree, maps}
-use Rattle.cow_space.specs.Seen.{cells}
+use Rattle.cow_space.specs.Seen.{cells, rights}
 use Rattle.cow_space.proofs.Places.{may-none, none-cells}
-use Rattle.cow_space.proofs.Views.{bare-still, cells-set, kept-still, kinds-in, no-tree, place-at, read-kinds, read-segments, row-in}
+use Rattle.cow_space.proofs.Views.{bare-still, cells-set, kept-still, kinds-in, no-tree, place-at, read-segments, read-states, rights-at, rights-set, row-in}
 use Rattle.cow_space.proofs.cells.PageCells.clone_place.Goals as goal
 
 pub index-requires : goal.index-requires
@@ -32,12 +32,12 @@ invariant_of-self g c =
     let read = read-segments w c.args.from c.index.result.now c.requires.from c.index.ensures in
     let copied = c.copy.ensures ∙ read-segments w c.args.from c.index-2.result.now c.requires.from c.index-2.ensures in
     let some = c.has_page-some.ensures.some c.if-some.true in
-    let same = ap (λ s. ranges 1024 (kind_at s)) (read ∙ sym copied) in
+    let same = ap (λ s. ranges 1024 (state_at s)) (read ∙ sym copied) in
     record {
       kept = subst (λ s. IsKept (maps c.clone_row.new.self) (set w.kinds.items c.args.to s)) (sym copied)
           (kept-still w c.args.to (segments_of w.kinds.items c.args.from) (row_of (maps w.rows) c.args.from) (maps c.clone_row.new.self) c.requires.to c.clone_row.ensures.maps (w.kept.fit c.args.from) (w.kept.within c.args.from));
       bare = bare-still w c.args.to c.copy.result (HasNoTree c.clone_row.new.self) c.requires.to c.clone_row.ensures.others
-          (λ none. absurd (omega (arith, some, same, absent_ranges (kind_at c.copy.result) none)));
+          (λ none. absurd (omega (arith, some, same, absent_ranges (state_at c.copy.result) none)));
     }
 
 pub drop_row-requires : goal.drop_row-requires
@@ -48,7 +48,7 @@ invariant_of-self-else-some g c =
     let w = c.args.self.now in
     let copied = c.copy.ensures ∙ read-segments w c.args.from c.index-2.result.now c.requires.from c.index-2.ensures in
     record {
-      kept = kept-still w c.args.to c.copy.result rows.no_pages (maps c.drop_row.new.self) c.requires.to c.drop_row.ensures.maps (λ p. may-none (kind_at c.copy.result p)) (λ p past. ap (λ s. kind_at s p) copied ∙ w.kept.within c.args.from p past);
+      kept = kept-still w c.args.to c.copy.result rows.no_pages (maps c.drop_row.new.self) c.requires.to c.drop_row.ensures.maps (λ p. may-none (kind_at c.copy.result p)) (λ p past. ap (λ s. state_at s p) copied ∙ w.kept.within c.args.from p past);
       bare = bare-still w c.args.to c.copy.result (HasNoTree c.drop_row.new.self) c.requires.to c.drop_row.ensures.others (λ _. c.drop_row.ensures.empty);
     }
 
@@ -61,10 +61,19 @@ returns-then-some-clause-cells g c =
     ∙ cells-set w c.args.to (segments_of w.kinds.items c.args.from) (row_of (maps w.rows) c.args.from) (maps c.clone_row.new.self) c.requires.to c.clone_row.ensures.maps
     ∙ ap (set (cells w) c.args.to) (sym (place-at w c.args.from))
 
+pub returns-then-some-clause-rights : goal.returns-then-some-clause-rights
+unfolding rights
+returns-then-some-clause-rights g c =
+    let w = c.args.self.now in
+    let copied = c.copy.ensures ∙ read-segments w c.args.from c.index-2.result.now c.requires.from c.index-2.ensures in
+    ap (λ s. all_rights (set w.kinds.items c.args.to s)) copied
+    ∙ rights-set w c.args.to (segments_of w.kinds.items c.args.from)
+    ∙ ap (set (rights w) c.args.to) (sym (rights-at w c.args.from))
+
 pub returns-then-some-clause-cost_empty : goal.returns-then-some-clause-cost_empty
 returns-then-some-clause-cost_empty g c empty =
     let w = c.args.self.now in
-    omega (arith, c.clone_row.ensures.cost_empty (no-tree w c.args.to empty), c.has_page-some.ensures.some c.if-some.true, ap (ranges 1024) (read-kinds w c.args.from c.index.result.now c.requires.from c.index.ensures))
+    omega (arith, c.clone_row.ensures.cost_empty (no-tree w c.args.to empty), c.has_page-some.ensures.some c.if-some.true, ap (ranges 1024) (read-states w c.args.from c.index.result.now c.requires.from c.index.ensures))
 
 pub returns-else-some-clause-cells : goal.returns-else-some-clause-cells
 unfolding cells
@@ -77,6 +86,15 @@ returns-else-some-clause-cells g c =
     ∙ cells-set w c.args.to [] rows.no_pages (maps c.drop_row.new.self) c.requires.to c.drop_row.ensures.maps
     ∙ ap (set (cells w) c.args.to)
     (none-cells rows.no_pages ∙ sym (place-at w c.args.from ∙ ap (λ s. place_cells s (row_of (maps w.rows) c.args.from)) none ∙ none-cells (row_of (maps w.rows) c.args.from)))
+
+pub returns-else-some-clause-rights : goal.returns-else-some-clause-rights
+unfolding rights
+returns-else-some-clause-rights g c =
+    let w = c.args.self.now in
+    let copied = c.copy.ensures ∙ read-segments w c.args.from c.index-2.result.now c.requires.from c.index-2.ensures in
+    ap (λ s. all_rights (set w.kinds.items c.args.to s)) copied
+    ∙ rights-set w c.args.to (segments_of w.kinds.items c.args.from)
+    ∙ ap (set (rights w) c.args.to) (sym (rights-at w c.args.from))
 
 pub returns-else-some-clause-cost_empty : goal.returns-else-some-clause-cost_empty
 returns-else-some-clause-cost_empty g c empty = omega (arith, c.drop_row.ensures.cost_empty (no-tree c.args.self.now c.args.to empty))

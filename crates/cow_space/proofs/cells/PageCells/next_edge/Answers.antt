@@ -1,6 +1,6 @@
 use Rattle.std.proofs.Common.{◌≡◌, ℕ, subst, arith, Option}
-use Rattle.range_map.specs.declared.segment.SegmentKind.{SegmentKind}
-use Rattle.cow_space.proofs.Views.{kinds-in, read-kinds}
+use Rattle.range_map.specs.declared.segment.PageState.{PageState}
+use Rattle.cow_space.proofs.Views.{kinds-in, read-states}
 use Rattle.cow_space.proofs.cells.PageCells.next_edge.Goals as goal
 
 pub index-requires : goal.index-requires
@@ -8,4 +8,4 @@ index-requires c = omega (arith, kinds-in c.args.self.now c.args.i c.requires.pl
 
 pub returns-clause-alike : goal.returns-clause-alike
 returns-clause-alike c q low high =
-    subst (λ (f : ℕ → Option SegmentKind). f q ≡ f c.args.p) (read-kinds c.args.self.now c.args.i _ c.requires.place c.index.ensures) (c.next_edge.ensures.alike q low high)
+    subst (λ (f : ℕ → Option PageState). f q ≡ f c.args.p) (read-states c.args.self.now c.args.i _ c.requires.place c.index.ensures) (c.next_edge.ensures.alike q low high)

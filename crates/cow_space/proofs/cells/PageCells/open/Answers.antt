@@ -1,9 +1,9 @@
-use Rattle.std.proofs.Common.{[], replicate, sym, ◌∙◌, subst}
+use Rattle.std.proofs.Common.{[], replicate, sym, ap, ◌∙◌, subst}
 use Rattle.cow_space.specs.RowSeen.{maps}
-use Rattle.cow_space.specs.Cells.{all_cells}
+use Rattle.cow_space.specs.Cells.{all_cells, all_rights}
 use Rattle.cow_space.specs.Kept.{IsKept}
-use Rattle.cow_space.specs.Seen.{cells, frames_of}
-use Rattle.cow_space.proofs.Places.{none-all, none-kept}
+use Rattle.cow_space.specs.Seen.{cells, frames_of, rights}
+use Rattle.cow_space.proofs.Places.{none-all, none-kept, none-rights}
 use Rattle.cow_space.proofs.cells.PageCells.open.Goals as goal
 
 pub invariant_of-result : goal.invariant_of-result
@@ -18,6 +18,10 @@ pub returns-clause-cells : goal.returns-clause-cells
 unfolding cells
 returns-clause-cells c =
     (λ x. all_cells (c.in_ok-kinds.ensures x) (c.in_ok-rows.ensures.maps x)) ∙ none-all c.args.places
+
+pub returns-clause-rights : goal.returns-clause-rights
+unfolding rights
+returns-clause-rights c = ap all_rights c.in_ok-kinds.ensures ∙ none-rights c.args.places
 
 pub returns-clause-frames : goal.returns-clause-frames
 unfolding frames_of

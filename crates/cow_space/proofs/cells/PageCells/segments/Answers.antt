@@ -1,14 +1,14 @@
 use Rattle.std.proofs.Common.{ap, ◌∙◌, arith, length}
-use Rattle.range_map.specs.Kinds.{kind_at, ranges}
-use Rattle.cow_space.proofs.Views.{kinds-in, read-kinds}
+use Rattle.range_map.specs.Kinds.{ranges, state_at}
+use Rattle.cow_space.proofs.Views.{kinds-in, read-states}
 use Rattle.cow_space.proofs.cells.PageCells.segments.Goals as goal
 
 pub index-requires : goal.index-requires
 index-requires c = omega (arith, kinds-in c.args.self.now c.args.i c.requires, c.args.self.now.kinds.ok)
 
-pub returns-clause-kinds : goal.returns-clause-kinds
-returns-clause-kinds c = ap kind_at c.segments.ensures.items ∙ read-kinds c.args.self.now c.args.i _ c.requires c.index.ensures
+pub returns-clause-states : goal.returns-clause-states
+returns-clause-states c = ap state_at c.segments.ensures.items ∙ read-states c.args.self.now c.args.i _ c.requires c.index.ensures
 
 pub returns-clause-count : goal.returns-clause-count
 returns-clause-count c =
-    ap length c.segments.ensures.items ∙ c.segments.ensures.canonical.counted ∙ ap (ranges 1024) (read-kinds c.args.self.now c.args.i _ c.requires c.index.ensures)
+    ap length c.segments.ensures.items ∙ c.segments.ensures.canonical.counted ∙ ap (ranges 1024) (read-states c.args.self.now c.args.i _ c.requires c.index.ensures)

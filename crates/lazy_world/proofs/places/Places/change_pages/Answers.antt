@@ -1,20 +1,21 @@
-use Rattle.std.proofs.Common.{arith, ◌≤◌, ◌∙◌, ap, length, length-set, set, subst, sym, ℕ, List, Option}
+use Rattle.std.proofs.Common.{arith, ◌≤◌, ◌∙◌, ap, length, length-set, set, subst, sym, ℕ, List}
 use Rattle.std.specs.Prelude.{All}
 use Rattle.std.proofs.Math.Nat.{min-le_left}
 use Rattle.lwc_base.specs.declared.limits.TheConstants.{MOST_PAGES, MOST_RANGES}
-use Rattle.range_map.specs.declared.segment.SegmentKind.{SegmentKind}
 use Rattle.range_map.specs.Kinds.{ranges}
 use Rattle.fd_table.specs.Seen as slots_seen
 use Rattle.cow_space.specs.Seen as pages_seen
-use Rattle.cow_space.specs.Cells as page_specs
+use Rattle.cow_space.specs.Cells.{rights_of}
 use Rattle.cow_space.specs.declared.stretches.Stretch.{Stretch}
-use Rattle.cow_space.specs.Changes.{IsStretch, changed_place}
+use Rattle.cow_space.specs.Changes.{IsStretch, changed_place, changed_rights, changed_states}
 use Rattle.cow_space.specs.Tags.{used}
-use Rattle.lazy_world.specs.Cells.{rows_of}
-use Rattle.lazy_world.specs.Seen.{count, frame_count, free_nodes, rows, used_frames, pool}
+use Rattle.lazy_world.specs.Cells.{put_rights, rows_of}
+use Rattle.lazy_world.specs.Seen.{count, frame_count, free_nodes, rights, rows, used_frames, pool}
 use Rattle.lazy_world.specs.declared.pieces.PageOrigins.TheVariants.{Stretches}
-use Rattle.lazy_world.proofs.TakeLemmas.{kinds-given, row-given, stretches-given}
+use Rattle.lazy_world.proofs.TakeLemmas.{rights-given, row-given, states-given, stretches-given}
 use Rattle.cow_space.proofs.Taken.{changed-used}
+use Rattle.lazy_world.proofs.PlaceLemmas.{rights-set}
+use Rattle.lazy_world.proofs.AbsentLemmas.{rights-in}
 use Rattle.lazy_world.proofs.places.Places.change_pages.Goals as goal
 
 pub change-requires-clause-place : goal.change-requires-clause-place
@@ -26,15 +27,15 @@ unfolding count
 change-requires-clause-stretches g c = subst (All (IsStretch (count c.args.self.now) c.args.i)) (sym c.as_slice.ensures.value) c.requires.given
 
 pub change-requires-clause-ranges : goal.change-requires-clause-ranges
-unfolding rows count
+unfolding rows rights count
 change-requires-clause-ranges g c =
     let w = c.args.self.now in
     let cells = pages_seen.cells w.pages in
     let table = slots_seen.slots w.slots in
-    let stretches = c.args.stretches.now in
-    subst (λ (list : List Stretch). ranges MOST_PAGES (page_specs.kinds_of (changed_place cells c.args.i list)) ≤ MOST_RANGES) (sym c.as_slice.ensures.value)
-    (subst (λ (kinds : ℕ → Option SegmentKind). ranges MOST_PAGES kinds ≤ MOST_RANGES)
-    (kinds-given cells table w.uids.items c.args.i (Stretches stretches) (changed_place cells c.args.i stretches.items) (stretches-given cells table w.uids.items c.args.i stretches.items)) c.requires.ranges)
+    subst (λ (n : ℕ). n ≤ MOST_RANGES)
+    (sym (ap (ranges MOST_PAGES)
+    ((λ e. changed_states cells (pages_seen.rights w.pages) c.args.i (c.as_slice.ensures.value e) (c.as_slice-2.ensures.value e))
+    ∙ states-given cells table w.uids.items c.args.i (pages_seen.rights w.pages) c.args.stretches.now c.args.reads.now))) c.requires.ranges
 
 pub invariant_of-self : goal.invariant_of-self
 invariant_of-self g c =
@@ -51,7 +52,20 @@ returns-clause-rows g c =
     let stretches = c.args.stretches.now in
     ap (λ cells. rows_of cells table w.uids.items) c.change.ensures.cells
     ∙ ap (λ (list : List Stretch). rows_of (set cells c.args.i (changed_place cells c.args.i list)) table w.uids.items) c.as_slice.ensures.value
-    ∙ row-given cells table w.uids.items c.args.i (Stretches stretches) (changed_place cells c.args.i stretches.items) (stretches-given cells table w.uids.items c.args.i stretches.items) c.requires.place
+    ∙ row-given cells table w.uids.items c.args.i (Stretches stretches c.args.reads.now) (changed_place cells c.args.i stretches.items) (stretches-given cells table w.uids.items c.args.i stretches.items) c.requires.place
+
+pub returns-clause-rights : goal.returns-clause-rights
+unfolding rows rights count
+returns-clause-rights g c =
+    let w = c.args.self.now in
+    let cells = pages_seen.cells w.pages in
+    let table = slots_seen.slots w.slots in
+    let olds = pages_seen.rights w.pages in
+    ap rights_of c.change.ensures.rights
+    ∙ rights-set olds c.args.i _ (rights-in w.pages c.args.i c.requires.place)
+    ∙ ap (put_rights (rights_of olds) c.args.i)
+    ((λ e. changed_rights cells olds c.args.i (c.as_slice.ensures.value e) (c.as_slice-2.ensures.value e))
+    ∙ (λ e p. rights-given cells table w.uids.items c.args.i olds c.args.stretches.now.items c.args.reads.now.items p e))
 
 pub returns-clause-count : goal.returns-clause-count
 unfolding count

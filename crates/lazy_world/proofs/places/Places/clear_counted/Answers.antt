@@ -3,12 +3,14 @@ use Rattle.lwc_base.specs.declared.cell.Cell.TheVariants.{Own}
 use Rattle.lwc_base.specs.declared.key.TheConstants.{NOBODY}
 use Rattle.fd_table.specs.Seen as slots_seen
 use Rattle.fd_table.specs.Slots.{Slot, row_of}
+use Rattle.cow_space.specs.Cells.{all_write, rights_of}
 use Rattle.cow_space.specs.Seen as pages_seen
 use Rattle.lazy_world.specs.Cells.{rows_of}
 use Rattle.lazy_world.specs.Kept.{IsNumbered}
-use Rattle.lazy_world.specs.Seen.{count, frame_count, rows}
+use Rattle.lazy_world.specs.Seen.{count, frame_count, rights, rows}
 use Rattle.lazy_world.proofs.ClearLemmas.{rows-cleared}
-use Rattle.lazy_world.proofs.PlaceLemmas.{numbered-set}
+use Rattle.lazy_world.proofs.AbsentLemmas.{rights-in}
+use Rattle.lazy_world.proofs.PlaceLemmas.{numbered-set, rights-set}
 use Rattle.lazy_world.proofs.places.Places.clear_counted.Goals as goal
 
 pub clear_place-requires : goal.clear_place-requires
@@ -30,6 +32,11 @@ returns-clause-rows g c =
     (λ e. rows_of (c.clear_place.ensures.cells e) (c.clear_place-2.ensures e) (set w.uids.items c.args.i (Own NOBODY)))
     ∙ rows-cleared (pages_seen.cells w.pages) (slots_seen.slots w.slots) w.uids.items c.args.i c.requires.place
     (omega (arith, w.kept.slot_count, c.requires.place)) (omega (arith, w.kept.uid_count, c.requires.place))
+
+pub returns-clause-rights : goal.returns-clause-rights
+unfolding rights count
+returns-clause-rights g c =
+    let w = c.args.self.now in ap rights_of c.clear_place.ensures.rights ∙ rights-set (pages_seen.rights w.pages) c.args.i all_write (rights-in w.pages c.args.i c.requires.place)
 
 pub returns-clause-count : goal.returns-clause-count
 unfolding count

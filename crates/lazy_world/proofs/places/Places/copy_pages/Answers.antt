@@ -1,13 +1,15 @@
 use Rattle.std.proofs.Common.{◌∙◌, ap, length, length-set, sym}
 use Rattle.fd_table.specs.Seen as slots_seen
-use Rattle.cow_space.specs.Cells.{place_of}
+use Rattle.cow_space.specs.Cells.{place_of, rights_of}
 use Rattle.cow_space.specs.Seen as pages_seen
 use Rattle.cow_space.specs.Tags.{used}
 use Rattle.lazy_world.specs.Cells.{rows_of}
-use Rattle.lazy_world.specs.Seen.{count, frame_count, free_nodes, rows, used_frames, pool}
+use Rattle.lazy_world.specs.Seen.{count, frame_count, free_nodes, rights, rows, used_frames, pool}
 use Rattle.lazy_world.specs.declared.pieces.PageOrigins.TheVariants.{AllOf}
 use Rattle.lazy_world.proofs.TakeLemmas.{all-given, row-given}
 use Rattle.cow_space.proofs.Taken.{cloned-used}
+use Rattle.lazy_world.proofs.PlaceLemmas.{rights-set}
+use Rattle.lazy_world.proofs.AbsentLemmas.{rights-in}
 use Rattle.lazy_world.proofs.places.Places.copy_pages.Goals as goal
 
 pub clone_place-requires-clause-to : goal.clone_place-requires-clause-to
@@ -33,6 +35,11 @@ returns-clause-rows g c =
     ap (λ cells. rows_of cells table w.uids.items) c.clone_place.ensures.cells
     ∙ row-given cells table w.uids.items c.args.i (AllOf c.args.j) (place_of cells c.args.j) (all-given cells table w.uids.items c.args.i c.args.j) c.requires.place
 
+pub returns-clause-rights : goal.returns-clause-rights
+unfolding rights count
+returns-clause-rights g c =
+    let w = c.args.self.now in ap rights_of c.clone_place.ensures.rights ∙ rights-set (pages_seen.rights w.pages) c.args.i _ (rights-in w.pages c.args.i c.requires.place)
+
 pub returns-clause-count : goal.returns-clause-count
 unfolding count
 returns-clause-count g c = ap length c.clone_place.ensures.cells ∙ length-set (pages_seen.cells c.args.self.now.pages) c.args.i _
@@ -46,7 +53,7 @@ unfolding free_nodes
 returns-clause-nodes g c = c.clone_place.ensures.nodes
 
 pub returns-clause-cost : goal.returns-clause-cost
-unfolding rows rows_of
+unfolding rows rows_of rights
 returns-clause-cost g c = λ empty. c.clone_place.ensures.cost_empty (λ e p. empty p e)
 
 pub returns-clause-used : goal.returns-clause-used

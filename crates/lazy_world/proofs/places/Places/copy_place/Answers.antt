@@ -5,7 +5,7 @@ use Rattle.fd_table.specs.Slots as slots
 use Rattle.cow_space.specs.Seen as pages_seen
 use Rattle.lazy_world.specs.Cells.{Row, rows_of}
 use Rattle.lazy_world.specs.Kept.{IsNumbered}
-use Rattle.lazy_world.specs.Seen.{count, frame_count, free_nodes, rows, used_frames, pool}
+use Rattle.lazy_world.specs.Seen.{count, frame_count, free_nodes, rights, rows, used_frames, pool}
 use Rattle.lazy_world.proofs.ClearLemmas.{no-slots, rows-copied}
 use Rattle.lazy_world.proofs.PlaceLemmas.{choose, numbered-set}
 use Rattle.lazy_world.proofs.places.Places.copy_place.Goals as goal
@@ -51,6 +51,10 @@ returns-clause-rows g c =
     ∙ rows-copied (pages_seen.cells w.pages) (slots_seen.slots w.slots) w.uids.items c.args.to (rows c.args.self.now) c.args.from c.given_uid-uid.result
     (omega (arith, w.kept.slot_count, c.copy_pages.ensures.count, c.requires.to)) (omega (arith, w.kept.uid_count, c.copy_pages.ensures.count, c.requires.to))
     c.requires.apart c.given_uid-uid.ensures c.copy_pages.ensures.rows
+
+pub returns-clause-rights : goal.returns-clause-rights
+unfolding rights
+returns-clause-rights g c = c.copy_pages.ensures.rights
 
 pub returns-clause-count : goal.returns-clause-count
 unfolding count

@@ -1,13 +1,13 @@
 use Rattle.std.proofs.Common.{length, ◌∙◌, ap, sym, subst, ℕ, List}
 use Rattle.std.proofs.lemmas.List.{length-replicate}
 use Rattle.fd_table.specs.Slots.{Slot, no_slots, row_of}
-use Rattle.cow_space.specs.Cells.{no_pages}
+use Rattle.cow_space.specs.Cells.{no_pages, rights_of}
 use Rattle.lwc_base.specs.declared.cell.Cell.TheVariants.{Own}
 use Rattle.lwc_base.specs.declared.key.TheConstants.{NOBODY}
 use Rattle.lazy_world.specs.Cells.{rows_of}
 use Rattle.lazy_world.specs.Kept.{IsNumbered}
-use Rattle.lazy_world.specs.Seen.{count, rows, frame_count}
-use Rattle.lazy_world.proofs.PlaceLemmas.{rows-none, numbered-none}
+use Rattle.lazy_world.specs.Seen.{count, frame_count, rights, rows}
+use Rattle.lazy_world.proofs.PlaceLemmas.{numbered-none, rights-none, rows-none}
 use Rattle.lazy_world.proofs.places.Places.open.Goals as goal
 
 pub invariant_of-result : goal.invariant_of-result
@@ -23,6 +23,10 @@ pub returns-clause-rows : goal.returns-clause-rows
 unfolding rows
 returns-clause-rows c =
     (λ i. rows_of (c.in_ok-open.ensures.cells i) (c.in_ok-open-2.ensures i) (c.in_ok-no_uids.ensures i)) ∙ rows-none c.args.places
+
+pub returns-clause-rights : goal.returns-clause-rights
+unfolding rights
+returns-clause-rights c = ap rights_of c.in_ok-open.ensures.rights ∙ rights-none c.args.places
 
 pub returns-clause-count : goal.returns-clause-count
 unfolding count

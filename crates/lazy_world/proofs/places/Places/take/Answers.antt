@@ -17,6 +17,9 @@ returns-clause-rows g c =
     all-taken (count c.args.self.now) old c.args.i c.args.origins.now c.requires.given (omega arith) (rows c.take_pages.new.self) (rows c.take_slots.new.self) (rows c.take_uid.new.self)
     c.take_pages.ensures.rows c.take_slots.ensures.rows c.take_uid.ensures.rows
 
+pub returns-clause-rights : goal.returns-clause-rights
+returns-clause-rights g c = c.take_uid.ensures.store.rights ∙ c.take_slots.ensures.store.rights ∙ c.take_pages.ensures.rights
+
 pub returns-clause-nodes : goal.returns-clause-nodes
 returns-clause-nodes g c =
     omega (arith, c.take_pages.ensures.nodes, c.take_slots.ensures.store.nodes, c.take_uid.ensures.store.nodes)

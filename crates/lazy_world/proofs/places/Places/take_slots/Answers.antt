@@ -6,7 +6,7 @@ use Rattle.lazy_world.proofs.TakeLemmas.{slot-taken, slots-none}
 use Rattle.lazy_world.proofs.places.Places.take_slots.Goals as goal
 
 pub loop-n-init : goal.loop-n-init
-loop-n-init c = record { rows = slots-none (count c.args.self.now) (rows c.args.self.now) c.args.i c.args.origins.now c.requires.given; count = refl; frames = refl; store = record { nodes = refl; used = refl; pool = refl } }
+loop-n-init c = record { rows = slots-none (count c.args.self.now) (rows c.args.self.now) c.args.i c.args.origins.now c.requires.given; count = refl; frames = refl; store = record { rights = refl; nodes = refl; used = refl; pool = refl } }
 
 pub take_slot-requires-clause-given : goal.take_slot-requires-clause-given
 take_slot-requires-clause-given c =
@@ -19,6 +19,7 @@ loop-n-preserved c = record {
   count = c.take_slot.ensures.count ∙ c.loop-n.invariant.count;
   frames = c.take_slot.ensures.frames ∙ c.loop-n.invariant.frames;
   store = record {
+    rights = c.take_slot.ensures.store.rights ∙ c.loop-n.invariant.store.rights;
     nodes = c.take_slot.ensures.store.nodes ∙ c.loop-n.invariant.store.nodes;
     used = c.take_slot.ensures.store.used ∙ c.loop-n.invariant.store.used;
     pool = c.take_slot.ensures.store.pool ∙ c.loop-n.invariant.store.pool;

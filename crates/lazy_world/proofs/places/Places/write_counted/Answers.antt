@@ -1,8 +1,9 @@
 use Rattle.std.proofs.Common.{◌∙◌, ap}
 use Rattle.fd_table.specs.Seen as slots_seen
+use Rattle.cow_space.specs.Cells.{rights_of}
 use Rattle.cow_space.specs.Seen as pages_seen
 use Rattle.lazy_world.specs.Cells.{rows_of}
-use Rattle.lazy_world.specs.Seen.{count, pages, rows}
+use Rattle.lazy_world.specs.Seen.{count, pages, rights, rows}
 use Rattle.lazy_world.proofs.PlaceLemmas.{page-put}
 use Rattle.lazy_world.proofs.places.Places.write_counted.Goals as goal
 
@@ -12,3 +13,7 @@ returns-clause-rows g c =
     let w = c.args.self.now in
     ap (λ cells. rows_of cells (slots_seen.slots w.slots) w.uids.items) c.in-Ok.ensures.written
     ∙ page-put (pages_seen.cells w.pages) (slots_seen.slots w.slots) w.uids.items c.args.i c.args.p _ c.requires.place
+
+pub returns-clause-rights : goal.returns-clause-rights
+unfolding rights
+returns-clause-rights g c = ap rights_of c.in-Ok.ensures.rights

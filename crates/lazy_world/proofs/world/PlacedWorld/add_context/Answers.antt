@@ -2,9 +2,10 @@ use Rattle.std.proofs.Common.{◌≡◌, ◌<◌, ◌+◌, ◌∙◌, ap, arith,
 use Rattle.std.specs.FinMap as fm
 use Rattle.lwc_base.specs.declared.cell.Cell.{Cell}
 use Rattle.lwc_base.specs.declared.cell.Cell.TheVariants.{Own}
-use Rattle.lwc_base.specs.declared.key.Key.TheVariants.{Cred}
+use Rattle.lwc_base.specs.declared.key.Key.TheVariants.{Page, Cred}
 use Rattle.lwc_base.specs.declared.regs.Regs.{Regs}
 use Rattle.lwc_base.specs.declared.name.Name.{Name}
+use Rattle.lwc_base.specs.declared.right.Right.TheVariants.{Write}
 use Rattle.lwc_base.specs.Keys.{with_key}
 use Rattle.lwc_base.specs.World.{add_context, new_context, next_context}
 use Rattle.ctx_table.specs.Contexts.{first_free}
@@ -14,13 +15,14 @@ use Rattle.lazy_world.specs.declared.places.Places.{Places}
 use Rattle.lazy_world.specs.declared.registers.Registers.{Registers}
 use Rattle.lazy_world.specs.declared.world.PlacedWorld.{PlacedWorld}
 use Rattle.lazy_world.specs.Cells.{put_row}
-use Rattle.lazy_world.specs.Seen.{rows}
+use Rattle.lazy_world.specs.Seen.{rights, rows}
 use Rattle.lazy_world.specs.Sound.{IsSound}
 use Rattle.lazy_world.specs.States.{Parts, counters_of, nothing_counted, world_of}
 use Rattle.lazy_world.specs.Worlds.{parts, seen}
 use Rattle.ctx_table.proofs.Taken.{first_free-free}
 use Rattle.lwc_base.proofs.Facts.{stays_fresh}
-use Rattle.lazy_world.proofs.AddLemmas.{added-context, sound-context}
+use Rattle.lazy_world.proofs.AbsentLemmas.{no-right}
+use Rattle.lazy_world.proofs.AddLemmas.{added-context, no_page, sound-context}
 use Rattle.lazy_world.proofs.CountLemmas.{counts-job, known-job, read-counts}
 use Rattle.lazy_world.proofs.WorldLemmas.{len-contexts, live-there}
 use Rattle.lazy_world.proofs.world.PlacedWorld.add_context.Goals as goal
@@ -36,22 +38,23 @@ module _ (w : PlacedWorld) (job : ℕ) (known : job < (seen w).size.jobs) (n : C
 
   -- which gets the first free place
   module _ (p : ℕ) (within : p < length w.contexts.places) (first : p ≡ first_free w.contexts.places) (table : NameTable) (map : table.map ≡ fm.insert w.contexts.map name p) (places : table.places ≡ set w.contexts.places p (Some name))
-      (uid : ℕ) (entry : Regs) (q : Places) (rows_are : rows q ≡ put_row (rows w.places) (p) (with_key Cell Cred (Own uid) (rows w.places p))) (registers : Registers) (registers_are : registers ≡ record { entry = entry; saved = replicate 16 None }) where
+      (uid : ℕ) (entry : Regs) (q : Places) (rows_are : rows q ≡ put_row (rows w.places) (p) (with_key Cell Cred (Own uid) (rows w.places p))) (rights_are : rights q ≡ rights w.places) (registers : Registers) (registers_are : registers ≡ record { entry = entry; saved = replicate 16 None }) where
     abbrev more : Counts
     more = record { contexts = n.contexts + 1; groups = n.groups; tags = n.tags }
 
     abbrev later : Parts
-    later = record { size = w.size; rows = rows q; registers = set w.registers.items p registers; contexts = table; groups = w.groups; counts = set w.counts.items job more }
+    later = record { size = w.size; rows = rows q; rights = rights q; registers = set w.registers.items p registers; contexts = table; groups = w.groups; counts = set w.counts.items job more }
 
     later-is : later ≡ record {
       size = w.size;
       rows = put_row (rows w.places) (p) (with_key Cell Cred (Own uid) (rows w.places p));
+      rights = rights w.places;
       registers = set w.registers.items p (record { entry = entry; saved = replicate 16 None });
       contexts = table;
       groups = w.groups;
       counts = set w.counts.items job more;
     }
-    later-is = λ e. record { size = w.size; rows = rows_are e; registers = set w.registers.items p (registers_are e); contexts = table; groups = w.groups; counts = set w.counts.items job more }
+    later-is = λ e. record { size = w.size; rows = rows_are e; rights = rights_are e; registers = set w.registers.items p (registers_are e); contexts = table; groups = w.groups; counts = set w.counts.items job more }
 
     free : get_or w.contexts.places p None ≡ None
     free = ap (λ i. get_or w.contexts.places i None) first ∙ first_free-free w.contexts.places (subst (λ i. i < length w.contexts.places) first within)
@@ -59,13 +62,16 @@ module _ (w : PlacedWorld) (job : ℕ) (known : job < (seen w).size.jobs) (n : C
     counted : counters_of more ≡ record (counters_of (get_or w.counts.items job nothing_counted)) { contexts = (counters_of (get_or w.counts.items job nothing_counted)).contexts + 1 }
     counted = ap (λ (m : Counts). counters_of (record { contexts = m.contexts + 1; groups = m.groups; tags = m.tags })) (read-counts w job known n read)
 
+    bare : (k : ℕ) → rights w.places p k ≡ Write
+    bare k = no-right w.places p k (no_page (rows w.places p (Page k)) k (w.sound.free p (omega (arith, within, w.sound.sizes.contexts)) free (Page k)))
+
     sound-later : IsSound later
     unfolding seen parts
-    sound-later = subst IsSound (sym later-is) (sound-context (parts w) w.sound w.placed job name name-is (known-job w job known) p within free table map places uid entry more counted)
+    sound-later = subst IsSound (sym later-is) (sound-context (parts w) w.sound w.placed job name name-is (known-job w job known) p within free table map places uid entry more counted bare)
 
     world-later : world_of later ≡ add_context (seen w) job (new_context uid entry)
     unfolding seen parts
-    world-later = ap world_of later-is ∙ added-context (parts w) w.sound w.placed job name name-is (known-job w job known) p within free table map places uid entry more counted
+    world-later = ap world_of later-is ∙ added-context (parts w) w.sound w.placed job name name-is (known-job w job known) p within free table map places uid entry more counted bare
 
 pub index-counts-requires : goal.index-counts-requires
 index-counts-requires c = omega (arith, counts-job c.args.self.now c.args.job c.requires.known, c.args.self.now.counts.ok)
@@ -97,7 +103,7 @@ invariant_of-self c = record {
   count = c.put.ensures.count ∙ c.args.self.now.count;
   frames = c.put.ensures.frames ∙ c.args.self.now.frames;
   sound = sound-later c.args.self.now c.args.job c.requires.known c.index-counts.result.now c.index-counts.ensures
-      c.insert-i.result c.insert-i.ensures.within c.insert-i.ensures.place c.insert-i.new.self c.insert-i.ensures.map c.insert-i.ensures.places c.args.uid c.args.entry.now c.put.new.self c.put.ensures.rows c.new.result c.new.ensures;
+      c.insert-i.result c.insert-i.ensures.within c.insert-i.ensures.place c.insert-i.new.self c.insert-i.ensures.map c.insert-i.ensures.places c.args.uid c.args.entry.now c.put.new.self c.put.ensures.rows c.put.ensures.rights c.new.result c.new.ensures;
 }
 
 pub returns-clause-name : goal.returns-clause-name
@@ -107,4 +113,4 @@ pub returns-clause-world : goal.returns-clause-world
 unfolding seen parts
 returns-clause-world c =
     world-later c.args.self.now c.args.job c.requires.known c.index-counts.result.now c.index-counts.ensures
-    c.insert-i.result c.insert-i.ensures.within c.insert-i.ensures.place c.insert-i.new.self c.insert-i.ensures.map c.insert-i.ensures.places c.args.uid c.args.entry.now c.put.new.self c.put.ensures.rows c.new.result c.new.ensures
+    c.insert-i.result c.insert-i.ensures.within c.insert-i.ensures.place c.insert-i.new.self c.insert-i.ensures.map c.insert-i.ensures.places c.args.uid c.args.entry.now c.put.new.self c.put.ensures.rows c.put.ensures.rights c.new.result c.new.ensures

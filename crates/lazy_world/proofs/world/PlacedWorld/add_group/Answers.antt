@@ -13,7 +13,7 @@ use Rattle.lazy_world.specs.declared.counts.Counts.{Counts}
 use Rattle.lazy_world.specs.declared.places.Places.{Places}
 use Rattle.lazy_world.specs.declared.world.PlacedWorld.{PlacedWorld}
 use Rattle.lazy_world.specs.Cells.{put_row}
-use Rattle.lazy_world.specs.Seen.{rows}
+use Rattle.lazy_world.specs.Seen.{rights, rows}
 use Rattle.lazy_world.specs.Sound.{IsSound}
 use Rattle.lazy_world.specs.States.{Parts, counters_of, nothing_counted, world_of}
 use Rattle.lazy_world.specs.Worlds.{parts, seen}
@@ -35,22 +35,23 @@ module _ (w : PlacedWorld) (job : ℕ) (known : job < (seen w).size.jobs) (n : C
 
   -- which gets the first free place
   module _ (p : ℕ) (within : p < length w.groups.places) (first : p ≡ first_free w.groups.places) (table : NameTable) (map : table.map ≡ fm.insert w.groups.map name p) (places : table.places ≡ set w.groups.places p (Some name))
-      (q : Places) (rows_are : rows q ≡ put_row (rows w.places) (w.size.contexts + p) (with_key Cell Cred (Own NOBODY) (rows w.places (w.size.contexts + p)))) where
+      (q : Places) (rows_are : rows q ≡ put_row (rows w.places) (w.size.contexts + p) (with_key Cell Cred (Own NOBODY) (rows w.places (w.size.contexts + p)))) (rights_are : rights q ≡ rights w.places) where
     abbrev more : Counts
     more = record { contexts = n.contexts; groups = n.groups + 1; tags = n.tags }
 
     abbrev later : Parts
-    later = record { size = w.size; rows = rows q; registers = w.registers.items; contexts = w.contexts; groups = table; counts = set w.counts.items job more }
+    later = record { size = w.size; rows = rows q; rights = rights q; registers = w.registers.items; contexts = w.contexts; groups = table; counts = set w.counts.items job more }
 
     later-is : later ≡ record {
       size = w.size;
       rows = put_row (rows w.places) (w.size.contexts + p) (with_key Cell Cred (Own NOBODY) (rows w.places (w.size.contexts + p)));
+      rights = rights w.places;
       registers = w.registers.items;
       contexts = w.contexts;
       groups = table;
       counts = set w.counts.items job more;
     }
-    later-is = λ e. record { size = w.size; rows = rows_are e; registers = w.registers.items; contexts = w.contexts; groups = table; counts = set w.counts.items job more }
+    later-is = λ e. record { size = w.size; rows = rows_are e; rights = rights_are e; registers = w.registers.items; contexts = w.contexts; groups = table; counts = set w.counts.items job more }
 
     free : get_or w.groups.places p None ≡ None
     free = ap (λ i. get_or w.groups.places i None) first ∙ first_free-free w.groups.places (subst (λ i. i < length w.groups.places) first within)
@@ -96,7 +97,7 @@ invariant_of-self c = record {
   count = c.put_uid.ensures.count ∙ c.args.self.now.count;
   frames = c.put_uid.ensures.frames ∙ c.args.self.now.frames;
   sound = sound-later c.args.self.now c.args.job c.requires.known c.index-counts.result.now c.index-counts.ensures
-      c.insert-j.result c.insert-j.ensures.within c.insert-j.ensures.place c.insert-j.new.self c.insert-j.ensures.map c.insert-j.ensures.places c.put_uid.new.self c.put_uid.ensures.rows;
+      c.insert-j.result c.insert-j.ensures.within c.insert-j.ensures.place c.insert-j.new.self c.insert-j.ensures.map c.insert-j.ensures.places c.put_uid.new.self c.put_uid.ensures.rows c.put_uid.ensures.store.rights;
 }
 
 pub returns-clause-name : goal.returns-clause-name
@@ -106,4 +107,4 @@ pub returns-clause-world : goal.returns-clause-world
 unfolding seen parts
 returns-clause-world c =
     world-later c.args.self.now c.args.job c.requires.known c.index-counts.result.now c.index-counts.ensures
-    c.insert-j.result c.insert-j.ensures.within c.insert-j.ensures.place c.insert-j.new.self c.insert-j.ensures.map c.insert-j.ensures.places c.put_uid.new.self c.put_uid.ensures.rows
+    c.insert-j.result c.insert-j.ensures.within c.insert-j.ensures.place c.insert-j.new.self c.insert-j.ensures.map c.insert-j.ensures.places c.put_uid.new.self c.put_uid.ensures.rows c.put_uid.ensures.store.rights

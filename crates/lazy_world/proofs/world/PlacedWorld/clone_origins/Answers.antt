@@ -25,6 +25,9 @@ returns-clause-row c =
     ∙ transferred-past (seen w) w.size.pages items c.requires.within (Clone c.args.made) (rows w.places from) (rows w.places c.args.to) (w.sound.past from) (w.sound.past c.args.to) (Page q) (omega (arith, few, high)))
     c.slot_origins.ensures c.uid_origin.ensures
 
+pub returns-clause-rights : goal.returns-clause-rights
+returns-clause-rights c = c.clone_pages.ensures.rights c.args.made c.args.to c.requires.empty
+
 pub returns-clause-given : goal.returns-clause-given
 returns-clause-given c = record {
   pages = c.clone_pages.ensures.given c.args.to c.requires.apart c.requires.to;

@@ -1,20 +1,20 @@
-use Rattle.std.proofs.Common.{arith, ◌≡◌, ◌≤◌, ◌∙◌, ap, min, sym, subst}
+use Rattle.std.proofs.Common.{arith, ◌≡◌, ◌≤◌, ◌∙◌, ℕ, ap, min, sym, subst}
 use Rattle.lwc_base.specs.declared.limits.TheConstants.{MOST_PAGES, MOST_RANGES}
 use Rattle.lwc_base.specs.declared.key.Key.TheVariants.{Page}
 use Rattle.lwc_base.specs.World.{Context, context}
 use Rattle.range_map.specs.Kinds.{ranges}
-use Rattle.lazy_world.specs.Cells.{HasNoPages, HasOwnPages, Row, is_own, kinds_of, put_row}
+use Rattle.lazy_world.specs.Cells.{HasNoPages, HasOwnPages, is_own, put_rights, put_row, states_of}
 use Rattle.lazy_world.specs.Clones.{CopiesPages}
 use Rattle.lazy_world.specs.declared.pieces.PageOrigins.TheVariants.{AllOf}
-use Rattle.lazy_world.specs.Transfers.{moves, transferred_row}
-use Rattle.lazy_world.specs.Seen.{rows}
-use Rattle.lazy_world.specs.Sound.{HasOldTags, HasOneHome, IsSound}
+use Rattle.lazy_world.specs.Transfers.{moves}
+use Rattle.lazy_world.specs.Seen.{rights, rows}
+use Rattle.lazy_world.specs.Sound.{HasOldTags, HasOneHome}
 use Rattle.lazy_world.specs.Origins.{most_nodes, most_steps}
-use Rattle.lazy_world.specs.States.{context_at, world_of}
+use Rattle.lazy_world.specs.States.{world_of}
 use Rattle.lazy_world.specs.Worlds.{parts, seen}
 use Rattle.lazy_world.specs.declared.transfer.Transfer.TheVariants.{Clone}
-use Rattle.lazy_world.proofs.FollowLemmas.{followed-from, other-place, ranges-here, row-ranges, row-sound, row-world, origin-homes, origin-tags}
-use Rattle.lazy_world.proofs.PastLemmas.{transferred-within}
+use Rattle.lazy_world.proofs.FollowLemmas.{followed-few, followed-sound, followed-world, other-place, ranges-here, origin-homes, origin-tags}
+use Rattle.lazy_world.proofs.ShareLemmas.{none-moved}
 use Rattle.lazy_world.proofs.world.PlacedWorld.clone_pieces.Goals as goal
 
 pub clone_origins-origins-requires-clause-apart : goal.clone_origins-origins-requires-clause-apart
@@ -36,47 +36,41 @@ pub take-requires-clause-few : goal.take-requires-clause-few
 unfolding seen parts world_of
 take-requires-clause-few g c =
     let w = c.args.self.now in
-    let s = parts w in
-    let row = transferred_row (seen w) (Clone c.args.made) c.args.spec.now (rows w.places c.place-from.result) (rows w.places c.place-to.result) in
-    subst (λ (row : Row). ranges MOST_PAGES (kinds_of row) ≤ MOST_RANGES) (sym c.clone_origins-origins.ensures.row)
-    (subst (λ n. n ≤ MOST_RANGES)
-    (row-ranges s w.sound c.args.self.now.placed c.args.made c.place-to.result c.place-to.ensures.found row _
-    (followed-from (seen w) (Clone c.args.made) c.args.spec.now c.args.c (context_at s c.place-from.result) (context_at s c.place-to.result) c.place-from.ensures.context)
-    (transferred-within (seen w) s.size.pages c.args.spec.now c.requires.within (Clone c.args.made) (rows w.places c.place-from.result) (rows w.places c.place-to.result) (w.sound.past c.place-from.result) (w.sound.past c.place-to.result)))
-    c.requires.few)
+    let origins = c.clone_origins-origins.ensures in
+    subst (λ (n : ℕ). n ≤ MOST_RANGES)
+    (followed-few (parts w) w.sound w.placed (Clone c.args.made) c.args.spec.now c.requires.within c.args.c c.args.made c.place-from.result c.place-to.result c.place-from.ensures.context c.place-to.ensures.found
+    ∙ sym (λ e. ranges MOST_PAGES (states_of (origins.row e) (origins.rights e)))) c.requires.few
 
 pub invariant_of-self : goal.invariant_of-self
 unfolding seen parts world_of
 invariant_of-self g c =
     let w = c.args.self.now in
-    let s = parts w in
-    let row = transferred_row (seen w) (Clone c.args.made) c.args.spec.now (rows w.places c.place-from.result) (rows w.places c.place-to.result) in
+    let to = c.place-to.result in
+    let origins = c.clone_origins-origins.ensures in
     record {
       placed = w.placed;
       placed_groups = w.placed_groups;
       count = c.take.ensures.count ∙ w.count;
       frames = c.take.ensures.frames ∙ w.frames;
-      sound = subst (λ rows. IsSound (record s { rows = rows })) (sym (c.take.ensures.rows ∙ ap (put_row (rows w.places) c.place-to.result) c.clone_origins-origins.ensures.row))
-          (row-sound s w.sound c.args.self.now.placed c.args.made c.place-to.result c.place-to.ensures.found row _
-          (followed-from (seen w) (Clone c.args.made) c.args.spec.now c.args.c (context_at s c.place-from.result) (context_at s c.place-to.result) c.place-from.ensures.context)
-          (transferred-within (seen w) s.size.pages c.args.spec.now c.requires.within (Clone c.args.made) (rows w.places c.place-from.result) (rows w.places c.place-to.result) (w.sound.past c.place-from.result) (w.sound.past c.place-to.result))
-          (subst (HasOldTags (seen w).next) c.clone_origins-origins.ensures.row (origin-tags (seen w).next (rows w.places) c.place-to.result c.clone_origins-origins.result w.sound.tags))
+      sound = followed-sound (parts w) w.sound w.placed (Clone c.args.made) c.args.spec.now c.requires.within c.args.c c.args.made c.place-from.result to c.place-from.ensures.context c.place-to.ensures.found
+          _ _ (c.take.ensures.rows ∙ ap (put_row (rows w.places) to) origins.row) (c.take.ensures.rights ∙ ap (put_rights (rights w.places) to) origins.rights)
+          (none-moved (seen w) c.args.spec.now (context (seen w) c.args.c) c.args.made (λ p. c.requires.settled (Page p)))
+          (subst (HasOldTags (seen w).next) origins.row (origin-tags (seen w).next (rows w.places) to c.clone_origins-origins.result w.sound.tags))
           c.requires.fresh
-          (subst (λ row. HasOneHome (put_row (rows w.places) c.place-to.result row)) c.clone_origins-origins.ensures.row (origin-homes (rows w.places) c.place-to.result c.clone_origins-origins.result w.sound.homes)));
+          (subst (λ row. HasOneHome (put_row (rows w.places) to row)) origins.row (origin-homes (rows w.places) to c.clone_origins-origins.result w.sound.homes));
     }
 
 pub returns-clause-world : goal.returns-clause-world
 unfolding seen parts world_of
 returns-clause-world g c =
     let w = c.args.self.now in
-    let s = parts w in
-    let row = transferred_row (seen w) (Clone c.args.made) c.args.spec.now (rows w.places c.place-from.result) (rows w.places c.place-to.result) in
-    ap (λ rows. world_of (record s { rows = rows })) (c.take.ensures.rows ∙ ap (put_row (rows w.places) c.place-to.result) c.clone_origins-origins.ensures.row)
-    ∙ row-world s w.sound c.args.self.now.placed c.args.made c.place-to.result c.place-to.ensures.found row _
-    (followed-from (seen w) (Clone c.args.made) c.args.spec.now c.args.c (context_at s c.place-from.result) (context_at s c.place-to.result) c.place-from.ensures.context)
+    let to = c.place-to.result in
+    let origins = c.clone_origins-origins.ensures in
+    followed-world (parts w) w.sound w.placed (Clone c.args.made) c.args.spec.now c.requires.within c.args.c c.args.made c.place-from.result to c.place-from.ensures.context c.place-to.ensures.found
+    _ _ (c.take.ensures.rows ∙ ap (put_row (rows w.places) to) origins.row) (c.take.ensures.rights ∙ ap (put_rights (rights w.places) to) origins.rights)
 
 pub returns-clause-cost : goal.returns-clause-cost
-unfolding seen parts rows
+unfolding seen parts rows rights
 returns-clause-cost g c =
     let w = c.args.self.now in
     let s = parts w in
@@ -90,5 +84,5 @@ returns-clause-cost g c =
       nodes = omega (arith, c.take.ensures.nodes, bounded.nodes, here);
       steps = omega (arith, c.take.ensures.cost empty, bounded.steps, here);
       whole_nodes = λ copies own. omega (arith, c.take.ensures.nodes, ap most_nodes (whole copies own));
-      whole_steps = λ copies own. omega (arith, c.take.ensures.cost empty, ap (most_steps (rows w.places)) (whole copies own) ∙ ap (min 1) (sym here));
+      whole_steps = λ copies own. omega (arith, c.take.ensures.cost empty, ap (most_steps (rows w.places) (rights w.places)) (whole copies own) ∙ ap (min 1) (sym here));
     }

@@ -1,26 +1,27 @@
-use Rattle.std.proofs.Common.{◌≡◌, get_or, ◌∙◌, ◌++◌, ◌∷◌, [], arith, ap, length, length-append, subst, sym, List}
+use Rattle.std.proofs.Common.{◌≡◌, Some, get_or, ◌∙◌, ◌++◌, ◌∷◌, [], arith, ap, length, length-append, subst, sym, List}
 use Rattle.std.specs.Prelude.{All}
 use Rattle.std.specs.Option.{option_map, option_or}
 use Rattle.std.proofs.lemmas.List.{take_all}
 use Rattle.lwc_base.specs.declared.key.Key.TheVariants.{Page}
 use Rattle.lwc_base.specs.Modes.{mode}
-use Rattle.range_map.specs.Kinds.{kind_at}
+use Rattle.lwc_base.specs.declared.right.Right.TheVariants.{Write}
+use Rattle.range_map.specs.Kinds.{state_at}
 use Rattle.range_map.specs.declared.segment.Segment.{Segment}
 use Rattle.range_map.specs.declared.segment.SegmentKind.TheVariants.{Own}
 use Rattle.cow_space.specs.declared.stretches.Origin.{Origin}
 use Rattle.cow_space.specs.declared.stretches.Stretch.{Stretch}
 use Rattle.cow_space.specs.Changes.{IsStretch}
-use Rattle.lazy_world.specs.Clones.{item_origin, kind_origin}
+use Rattle.lazy_world.specs.Clones.{item_gift, state_gift}
 use Rattle.lazy_world.specs.Seen.{count}
-use Rattle.lazy_world.specs.Origins.{origin_at}
+use Rattle.lazy_world.specs.Origins.{gift_at}
 use Rattle.lazy_world.specs.Worlds.{parts}
 use Rattle.lazy_world.proofs.CloneOrigins.{or_none, segment_given, segment_pushed, stretch_of}
 use Rattle.lazy_world.proofs.world.PlacedWorld.clone_stretches.Goals as goal
 
 pub loop-segment-init : goal.loop-segment-init
-unfolding kind_at
+unfolding state_at
 loop-segment-init c = record {
-  origins = λ q. c.item_stretches-stretches.ensures.origins q ∙ sym (or_none (item_origin c.args.from (mode c.args.spec.now (Page q))));
+  gifts = λ q. c.item_stretches-stretches.ensures.gifts q ∙ sym (or_none (item_gift c.args.from (mode c.args.spec.now (Page q))));
   few = omega (arith, c.item_stretches-stretches.ensures.few);
   given = λ to apart low. c.item_stretches-stretches.ensures.given (count c.args.self.now.places) to c.requires.from apart;
 }
@@ -38,26 +39,26 @@ loop-segment-preserved c =
     let segments = c.segments-segment-items.result.now in
     let i = c.loop-segment.segment-index in
     let inside = c.loop-segment-test.true in
-    let segment = get_or segments i (record { from = 0; to = 0; kind = Own }) in
+    let segment = get_or segments i (record { from = 0; to = 0; kind = Own; right = Write }) in
     let is : c.push.new.self.items ≡ stretches ++ stretch_of (parts w) c.args.from segment ∷ [] =
-    c.push.ensures.items ∙ ap (λ (origin : Origin). stretches ++ record { range = record { from = segment.from; to = segment.to }; origin = origin } ∷ []) c.kind_origin.ensures in
+    c.push.ensures.items ∙ ap (λ (origin : Origin). stretches ++ record { range = record { from = segment.from; to = segment.to }; origin = origin; right = Some segment.right } ∷ []) c.kind_origin.ensures in
     record {
-      origins = λ q. ap (λ (xs : List Stretch). origin_at xs q) is
-          ∙ segment_pushed (parts w) c.args.from segments i _ inside q (item_origin c.args.from (mode c.args.spec.now (Page q))) stretches (c.loop-segment.invariant.origins q);
+      gifts = λ q. ap (λ (xs : List Stretch). gift_at xs q) is
+          ∙ segment_pushed (parts w) c.args.from segments i _ inside q (item_gift c.args.from (mode c.args.spec.now (Page q))) stretches (c.loop-segment.invariant.gifts q);
       few = omega (arith, ap length is, length-append stretches (stretch_of (parts w) c.args.from segment ∷ []), c.loop-segment.invariant.few);
       given = λ to apart low. subst (All (IsStretch (count w.places) to)) (sym is)
           (segment_given (parts w) c.args.from (count w.places) to c.args.self.now.placed_groups w.sound.sizes.groups w.count c.requires.from apart low stretches segment
           (c.segments-segment-items.ensures.each i _ inside) (c.loop-segment.invariant.given to apart low));
     }
 
-pub returns-clause-origins : goal.returns-clause-origins
+pub returns-clause-gifts : goal.returns-clause-gifts
 unfolding parts
-returns-clause-origins c q =
+returns-clause-gifts c q =
     let w = c.args.self.now in
     let all = take_all c.loop-segment.segment-index c.segments-segment-items.result.now c.loop-segment-test.false in
-    c.loop-segment.invariant.origins q
-    ∙ ap (λ o. option_or (item_origin c.args.from (mode c.args.spec.now (Page q))) (option_map (kind_origin (parts w) c.args.from) o))
-    (ap (λ (xs : List Segment). kind_at xs q) all ∙ (λ e. c.segments-segment-items.ensures.kinds e q))
+    c.loop-segment.invariant.gifts q
+    ∙ ap (λ o. option_or (item_gift c.args.from (mode c.args.spec.now (Page q))) (option_map (state_gift (parts w) c.args.from) o))
+    (ap (λ (xs : List Segment). state_at xs q) all ∙ (λ e. c.segments-segment-items.ensures.states e q))
 
 pub returns-clause-few : goal.returns-clause-few
 returns-clause-few c = omega (arith, c.loop-segment.invariant.few, c.loop-segment.auto.segment-index-end, c.segments-segment-items.ensures.count)

@@ -3,18 +3,18 @@ use Rattle.std.specs.Prelude.{All}
 use Rattle.std.specs.Option.{option_map, option_or}
 use Rattle.lwc_base.specs.declared.key.Key.TheVariants.{Page}
 use Rattle.lwc_base.specs.Modes.{mode}
-use Rattle.range_map.specs.Kinds.{kind_at}
+use Rattle.range_map.specs.Kinds.{state_at}
 use Rattle.cow_space.specs.Changes.{IsStretch}
-use Rattle.lazy_world.specs.Clones.{item_origin, kind_origin}
+use Rattle.lazy_world.specs.Clones.{item_gift, state_gift}
 use Rattle.lazy_world.specs.Seen.{count}
-use Rattle.lazy_world.specs.Origins.{origin_at}
+use Rattle.lazy_world.specs.Origins.{gift_at}
 use Rattle.lazy_world.specs.Worlds.{parts}
 use Rattle.lazy_world.proofs.world.PlacedWorld.clone_stretches.Given as goal
 
 abbrev pub invariant-loop-segment : goal.invariant-loop-segment
 invariant-loop-segment l = record {
-  origins : (q : ℕ) → origin_at l.stretches.items q
-      ≡ option_or (item_origin l.from (mode l.spec (Page q))) (option_map (kind_origin (parts l.self) l.from) (kind_at (take l.segment-index l.segment-items) q));
+  gifts : (q : ℕ) → gift_at l.stretches.items q
+      ≡ option_or (item_gift l.from (mode l.spec (Page q))) (option_map (state_gift (parts l.self) l.from) (state_at (take l.segment-index l.segment-items) q));
   few : length l.stretches.items ≤ length l.spec + l.segment-index;
   given : (to : ℕ) → l.from ≢ to → to < (parts l.self).size.contexts → All (IsStretch (count l.self.places) to) l.stretches.items;
 }

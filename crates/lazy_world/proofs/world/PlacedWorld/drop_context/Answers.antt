@@ -1,4 +1,4 @@
-use Rattle.std.proofs.Common.{◌∙◌, ap, subst, sym}
+use Rattle.std.proofs.Common.{◌∙◌, subst, sym}
 use Rattle.lazy_world.specs.Sound.{IsSound}
 use Rattle.lazy_world.specs.States.{world_of}
 use Rattle.lazy_world.specs.Worlds.{parts, seen}
@@ -19,7 +19,7 @@ invariant_of-self c =
       placed_groups = c.args.self.now.placed_groups;
       count = c.clear.ensures.count ∙ c.args.self.now.count;
       frames = c.clear.ensures.frames ∙ c.args.self.now.frames;
-      sound = subst (λ rows. IsSound (record s { rows = rows; contexts = c.remove-i.new.self })) (sym c.clear.ensures.rows)
+      sound = subst IsSound (sym (λ e. record s { rows = c.clear.ensures.rows e; rights = c.clear.ensures.rights e; contexts = c.remove-i.new.self }))
           (sound-context s c.args.self.now.sound c.args.self.now.placed c.args.c c.remove-i.result c.remove-i.ensures.place
           c.remove-i.new.self c.remove-i.ensures.map c.remove-i.ensures.places);
     }
@@ -28,6 +28,6 @@ pub returns-clause-world : goal.returns-clause-world
 unfolding seen parts
 returns-clause-world c =
     let s = parts c.args.self.now in
-    ap (λ rows. world_of (record s { rows = rows; contexts = c.remove-i.new.self })) c.clear.ensures.rows
+    (λ e. world_of (record s { rows = c.clear.ensures.rows e; rights = c.clear.ensures.rights e; contexts = c.remove-i.new.self }))
     ∙ dropped-context s c.args.self.now.sound c.args.self.now.placed c.args.c c.remove-i.result c.remove-i.ensures.place
     c.remove-i.new.self c.remove-i.ensures.map c.remove-i.ensures.places

@@ -6,14 +6,19 @@ use Rattle.lazy_world.specs.Reaping.{keeps}
 use Rattle.lazy_world.specs.States.{group_at, world_of}
 use Rattle.lazy_world.specs.Worlds.{parts, seen}
 use Rattle.lazy_world.proofs.LeftLemmas.{keeps-all, left_by-test, nothing_left}
-use Rattle.lazy_world.proofs.ValueLemmas.{named-values}
+use Rattle.lazy_world.proofs.ValueLemmas.{named-values, none-named}
 use Rattle.lazy_world.proofs.SmallLemmas.{place_of_found}
 use Rattle.lazy_world.proofs.WorldLemmas.{get-group, len-groups}
 use Rattle.lazy_world.proofs.world.PlacedWorld.drop_groups.Goals as goal
 
-pub keep_groups-requires : goal.keep_groups-requires
+pub keep_groups-requires-clause-many : goal.keep_groups-requires-clause-many
 unfolding parts
-keep_groups-requires c = omega (arith, c.args.self.now.sound.sizes.size.groups.1)
+keep_groups-requires-clause-many c = omega (arith, c.args.self.now.sound.sizes.size.groups.1)
+
+pub keep_groups-requires-clause-unnamed : goal.keep_groups-requires-clause-unnamed
+unfolding parts
+keep_groups-requires-clause-unnamed c j g there unmarked =
+    let w = c.args.self.now in none-named (parts w) w.sound g (sym (c.named_groups-marks.ensures.at j g there) ∙ unmarked)
 
 pub returns-then-len-eq0 : goal.returns-then-len-eq0
 unfolding seen parts

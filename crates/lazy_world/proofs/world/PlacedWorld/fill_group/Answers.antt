@@ -1,10 +1,13 @@
-use Rattle.std.proofs.Common.{◌+◌, ◌≤◌, ◌∙◌, ap, arith, sym, subst}
+use Rattle.std.proofs.Common.{◌≡◌, ◌+◌, ◌≤◌, ◌∙◌, ℕ, ap, arith, sym, subst}
 use Rattle.lwc_base.specs.declared.limits.TheConstants.{MOST_PAGES, MOST_RANGES}
 use Rattle.lwc_base.specs.World.{Context}
 use Rattle.range_map.specs.Kinds.{ranges}
-use Rattle.lazy_world.specs.Cells.{Row, kinds_of, no_row, put_row}
-use Rattle.lazy_world.specs.Transfers.{transferred_row}
-use Rattle.lazy_world.specs.Seen.{rows}
+use Rattle.lazy_world.specs.Cells.{no_row, put_rights, put_row, states_of}
+use Rattle.cow_space.specs.Cells.{all_write}
+use Rattle.lwc_base.specs.declared.right.Right.{Right}
+use Rattle.lazy_world.specs.Transfers.{transferred_rights, transferred_row}
+use Rattle.lazy_world.specs.Seen.{rights, rows}
+use Rattle.lazy_world.specs.declared.world.PlacedWorld.{PlacedWorld}
 use Rattle.lazy_world.specs.Sound.{HasOldTags, HasOneHome, IsSound}
 use Rattle.lazy_world.specs.States.{world_of}
 use Rattle.lazy_world.specs.Worlds.{parts, seen}
@@ -12,6 +15,7 @@ use Rattle.lazy_world.specs.declared.transfer.Transfer.TheVariants.{Move}
 use Rattle.lazy_world.proofs.FollowLemmas.{origin-homes, origin-tags}
 use Rattle.lazy_world.proofs.GroupLemmas.{filled-sound, filled-world}
 use Rattle.lazy_world.proofs.PastLemmas.{transferred-within}
+use Rattle.lazy_world.proofs.PlaceLemmas.{pass}
 use Rattle.lazy_world.proofs.WorldLemmas.{change_group-missed}
 use Rattle.lazy_world.proofs.world.PlacedWorld.fill_group.Goals as goal
 
@@ -26,8 +30,13 @@ pub take-requires-clause-few : goal.take-requires-clause-few
 unfolding seen parts
 take-requires-clause-few g c =
     let w = c.args.self.now in
-    subst (λ (row : Row). ranges MOST_PAGES (kinds_of row) ≤ MOST_RANGES) (sym c.origins-origins.ensures.row)
-    (subst (λ (x : Context). ranges MOST_PAGES (kinds_of (transferred_row (seen w) Move c.args.spec.now x.cell no_row)) ≤ MOST_RANGES) c.place-from.ensures.context c.requires.few)
+    let origins = c.origins-origins.ensures in
+    subst (λ (n : ℕ). n ≤ MOST_RANGES)
+    (ap (λ (x : Context). ranges MOST_PAGES (states_of (transferred_row (seen w) Move c.args.spec.now x.cell no_row) (transferred_rights Move c.args.spec.now x.cell x.right all_write))) c.place-from.ensures.context
+    ∙ sym (λ e. ranges MOST_PAGES (states_of (origins.row e) (origins.rights e)))) c.requires.few
+
+others_kept : (w : PlacedWorld) (to : ℕ) (right : ℕ → Right) (after : ℕ → ℕ → Right) → after ≡ put_rights (rights w.places) to right → (q : ℕ) → (q ≡ to → ⊥) → after q ≡ rights w.places q
+others_kept w to right after is q other = (λ e. is e q) ∙ pass to q right (rights w.places q) other
 
 pub invariant_of-self : goal.invariant_of-self
 unfolding seen parts world_of
@@ -40,8 +49,9 @@ invariant_of-self g c =
       placed_groups = w.placed_groups;
       count = c.take.ensures.count ∙ w.count;
       frames = c.take.ensures.frames ∙ w.frames;
-      sound = subst (λ rows. IsSound (record s { rows = rows })) (sym (c.take.ensures.rows ∙ ap (put_row (rows w.places) to) c.origins-origins.ensures.row))
-          (filled-sound s w.sound c.args.self.now.placed c.args.self.now.placed_groups c.args.g c.in-Some.j (sym c.place.ensures.place ∙ c.in-Some.is) c.args.spec.now c.args.c c.place-from.result c.place-from.ensures.context
+      sound = subst (λ rows. IsSound (record s { rows = rows; rights = rights c.take.new.self })) (sym (c.take.ensures.rows ∙ ap (put_row (rows w.places) to) c.origins-origins.ensures.row))
+          (filled-sound s w.sound w.placed w.placed_groups c.args.g c.in-Some.j (sym c.place.ensures.place ∙ c.in-Some.is) c.args.spec.now c.args.c c.place-from.result c.place-from.ensures.context
+          (rights c.take.new.self) (others_kept w to _ _ c.take.ensures.rights) c.requires.empty
           (transferred-within (seen w) s.size.pages c.args.spec.now c.requires.within Move (rows w.places c.place-from.result) (rows w.places to) (w.sound.past c.place-from.result) (w.sound.past to))
           (subst (HasOldTags (seen w).next) c.origins-origins.ensures.row (origin-tags (seen w).next (rows w.places) to c.origins-origins.result w.sound.tags))
           (subst (λ row. HasOneHome (put_row (rows w.places) to row)) c.origins-origins.ensures.row (origin-homes (rows w.places) to c.origins-origins.result w.sound.homes)));
@@ -53,8 +63,9 @@ returns-in-Some g c =
     let w = c.args.self.now in
     let s = parts w in
     let to = w.size.contexts + c.in-Some.j in
-    ap (λ rows. world_of (record s { rows = rows })) (c.take.ensures.rows ∙ ap (put_row (rows w.places) to) c.origins-origins.ensures.row)
-    ∙ filled-world s w.sound c.args.self.now.placed c.args.self.now.placed_groups c.args.g c.in-Some.j (sym c.place.ensures.place ∙ c.in-Some.is) c.args.spec.now c.args.c c.place-from.result c.place-from.ensures.context
+    ap (λ rows. world_of (record s { rows = rows; rights = rights c.take.new.self })) (c.take.ensures.rows ∙ ap (put_row (rows w.places) to) c.origins-origins.ensures.row)
+    ∙ filled-world s w.sound w.placed w.placed_groups c.args.g c.in-Some.j (sym c.place.ensures.place ∙ c.in-Some.is) c.args.spec.now c.args.c c.place-from.result c.place-from.ensures.context
+    (rights c.take.new.self) (others_kept w to _ _ c.take.ensures.rights)
 
 pub returns-in-None : goal.returns-in-None
 unfolding seen parts

@@ -1,8 +1,15 @@
-use Rattle.std.proofs.Common.{sym, ◌∙◌}
+use Rattle.std.proofs.Common.{ap, sym, ◌∙◌}
+use Rattle.std.specs.Option.{option_map}
 use Rattle.lwc_base.specs.declared.key.Key.TheVariants.{Page}
-use Rattle.lazy_world.specs.Seen.{rows}
+use Rattle.range_map.specs.declared.segment.PageState.{PageState}
+use Rattle.lazy_world.specs.Seen.{rights, rows}
 use Rattle.lazy_world.proofs.world.PlacedWorld.found_page.Goals as goal
 
 pub returns-clause-found : goal.returns-clause-found
 returns-clause-found c q low high =
-    c.found-found.ensures (Page q) (rows c.args.self.now.places c.args.i (Page q)) (c.kind.ensures ∙ sym (c.next_edge.ensures.alike q low high))
+    let w = c.args.self.now in
+    c.found_state-found.ensures.found q (rows w.places c.args.i (Page q)) (rights w.places c.args.i q) (c.state.ensures ∙ sym (c.next_edge.ensures.alike q low high))
+
+pub returns-clause-right : goal.returns-clause-right
+returns-clause-right c q low high =
+    c.found_state-found.ensures.right ∙ ap (option_map (λ (s : PageState). s.right)) (c.state.ensures ∙ sym (c.next_edge.ensures.alike q low high))

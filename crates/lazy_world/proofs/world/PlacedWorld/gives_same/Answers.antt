@@ -1,23 +1,37 @@
 use Rattle.std.proofs.Common.{◌∙◌}
-use Rattle.lazy_world.specs.Transfers.{transferred_row}
-use Rattle.lazy_world.specs.Seen.{rows}
+use Rattle.lazy_world.specs.Transfers.{transferred_rights, transferred_row}
+use Rattle.lazy_world.specs.Seen.{rights, rows}
 use Rattle.lazy_world.specs.Worlds.{parts, seen}
-use Rattle.lazy_world.proofs.CopyLemmas.{all-own, cloned-same, marked-same, no-items}
+use Rattle.lazy_world.proofs.CopyLemmas.{all-own, cloned-rights, cloned-same, marked-rights, marked-same, no-items}
 use Rattle.lazy_world.proofs.world.PlacedWorld.gives_same.Goals as goal
 
-pub returns-in-Mark : goal.returns-in-Mark
-returns-in-Mark c _ old =
+pub returns-in-Mark-clause-row : goal.returns-in-Mark-clause-row
+returns-in-Mark-clause-row c _ old =
     let w = c.args.self.now in
     let none = no-items c.items.result.now c.args.spec.now c.is_empty.result c.items.ensures.items c.is_empty.ensures c.if-is_empty.true in
     (λ e. transferred_row (seen w) (c.in-Mark.is e) (none e) (rows w.places c.args.from) old)
     ∙ marked-same (seen w) c.in-Mark.field-0 (rows w.places c.args.from) old
 
-pub returns-in-Clone : goal.returns-in-Clone
+pub returns-in-Clone-clause-row : goal.returns-in-Clone-clause-row
 unfolding parts
-returns-in-Clone c here old =
+returns-in-Clone-clause-row c here old =
     let w = c.args.self.now in
     let none = no-items c.items.result.now c.args.spec.now c.is_empty.result c.items.ensures.items c.is_empty.ensures c.if-is_empty.true in
     let own = c.is_all_own.ensures in
     (λ e. transferred_row (seen w) (c.in-Clone.is e) (none e) (rows w.places c.args.from) old)
     ∙ cloned-same (seen w) c.in-Clone.field-0 (rows w.places c.args.from) old
     (all-own w.size.pages (rows w.places c.args.from) w.sound.sizes.size.pages.1 (w.sound.past c.args.from) (own.slots here) (own.uid here) (own.pages here))
+
+pub returns-in-Mark-clause-rights : goal.returns-in-Mark-clause-rights
+returns-in-Mark-clause-rights c _ old =
+    let w = c.args.self.now in
+    let none = no-items c.items.result.now c.args.spec.now c.is_empty.result c.items.ensures.items c.is_empty.ensures c.if-is_empty.true in
+    (λ e. transferred_rights (c.in-Mark.is e) (none e) (rows w.places c.args.from) (rights w.places c.args.from) old)
+    ∙ marked-rights c.in-Mark.field-0 (rows w.places c.args.from) (rights w.places c.args.from) old
+
+pub returns-in-Clone-clause-rights : goal.returns-in-Clone-clause-rights
+returns-in-Clone-clause-rights c here old =
+    let w = c.args.self.now in
+    let none = no-items c.items.result.now c.args.spec.now c.is_empty.result c.items.ensures.items c.is_empty.ensures c.if-is_empty.true in
+    (λ e. transferred_rights (c.in-Clone.is e) (none e) (rows w.places c.args.from) (rights w.places c.args.from) old)
+    ∙ cloned-rights c.in-Clone.field-0 (rows w.places c.args.from) (rights w.places c.args.from) old

@@ -13,9 +13,12 @@ returns-then-stays-clause-world c =
     let w = c.args.self.now in
     λ e. record (seen w) { groups = left_by-stays w.groups.map c.args.j c.args.stays c.if-stays.true (seen w).groups e }
 
-pub drop_group-requires : goal.drop_group-requires
+pub drop_group-requires-clause-unnamed : goal.drop_group-requires-clause-unnamed
+drop_group-requires-clause-unnamed c = c.requires c.if-stays.false c.in-Some.g (sym c.at.ensures ∙ c.in-Some.is)
+
+pub drop_group-requires-clause-there : goal.drop_group-requires-clause-there
 unfolding seen parts
-drop_group-requires c =
+drop_group-requires-clause-there c =
     let w = c.args.self.now in
     group-there (parts w) c.in-Some.g ∙ ap is_some ((w.placed_groups.at c.in-Some.g c.args.j).1 (sym c.at.ensures ∙ c.in-Some.is))
 

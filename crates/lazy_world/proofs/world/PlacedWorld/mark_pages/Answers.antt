@@ -4,7 +4,7 @@ use Rattle.std.specs.List.{list_any, range_with_len}
 use Rattle.lwc_base.specs.declared.key.Key.TheVariants.{Page}
 use Rattle.lwc_base.specs.Life.{is_in}
 use Rattle.lazy_world.specs.Reaping.{AddsMarks, is_name}
-use Rattle.lazy_world.specs.Seen.{rows}
+use Rattle.lazy_world.specs.Seen.{rights, rows}
 use Rattle.lazy_world.specs.States.{world_of}
 use Rattle.lazy_world.specs.Worlds.{parts, seen}
 use Rattle.lazy_world.proofs.MarkLemmas.{adds-more, adds-none, any_run, in-alike, name_of_cell}
@@ -16,6 +16,7 @@ page_runs-init c = record { low = omega arith; marked = adds-none c.args.self.no
 pub page_runs-preserved : goal.page_runs-preserved
 page_runs-preserved c =
     let row = rows c.args.self.now.places c.args.i in
+    let right = rights c.args.self.now.places c.args.i in
     let p = c.page_runs.p in
     let e = c.min-p.result in
     record {
@@ -25,7 +26,7 @@ page_runs-preserved c =
           ap (λ b. list_any (λ k. is_in g (row (Page k))) (range_with_len 0 p) || b)
           (ap (λ o. is_name o g) c.page_group.ensures ∙ name_of_cell (row (Page p)) g)
           ∙ any_run (λ k. is_in g (row (Page k))) p (e - suc p) e (omega (arith, c.min-p.ensures, c.next_edge.ensures.past, c.page_runs-test.true))
-          (λ k low high. in-alike g (row (Page k)) (row (Page p)) (c.next_edge.ensures.alike k low (omega (arith, c.min-p.ensures, high)))));
+          (λ k low high. in-alike g (row (Page k)) (row (Page p)) (right k) (right p) (c.next_edge.ensures.alike k low (omega (arith, c.min-p.ensures, high)))));
     }
 
 pub returns : goal.returns

@@ -17,6 +17,7 @@ invariant_of-result c =
           (sym (λ e. record {
             size = size;
             rows = c.in_ok-open.ensures.rows e;
+            rights = c.in_ok-open.ensures.rights e;
             registers = c.in_ok-no_registers.field-0.items;
             contexts = c.in_ok-open-2.ensures.none e;
             groups = c.in_ok-open-3.ensures.none e;
@@ -33,6 +34,7 @@ returns c =
     (λ e. record {
       size = size;
       rows = c.in_ok-open.ensures.rows e;
+      rights = c.in_ok-open.ensures.rights e;
       registers = c.in_ok-no_registers.field-0.items;
       contexts = c.in_ok-open-2.ensures.none e;
       groups = c.in_ok-open-3.ensures.none e;

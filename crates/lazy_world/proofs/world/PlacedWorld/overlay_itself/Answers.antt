@@ -3,12 +3,15 @@ use Rattle.lwc_base.specs.declared.limits.TheConstants.{MOST_RANGES}
 use Rattle.lwc_base.specs.Fresh.{IsFresh}
 use Rattle.lwc_base.specs.Overlay.{ranges_after_overlay}
 use Rattle.lwc_base.specs.Ranges.{ranges_of}
+use Rattle.lwc_base.specs.declared.key.Key.TheVariants.{Page}
+use Rattle.lwc_base.specs.World.{context}
 use Rattle.lazy_world.specs.States.{world_of}
 use Rattle.lazy_world.specs.Worlds.{parts, seen}
 use Rattle.lazy_world.proofs.ItselfLemmas.{itself-few, itself-is}
 use Rattle.lazy_world.proofs.MovedLemmas.{live-past}
 use Rattle.lazy_world.proofs.OverlayLemmas.{overlaid-is}
-use Rattle.lazy_world.proofs.ShareLemmas.{added-context}
+use Rattle.lazy_world.proofs.CloneLemmas.{none-moves}
+use Rattle.lazy_world.proofs.ShareLemmas.{added-context, added-empty, moved-has, none-moved}
 use Rattle.lwc_base.proofs.Facts.{changes, stays_fresh}
 use Rattle.lazy_world.proofs.world.PlacedWorld.overlay_itself.Goals as goal
 
@@ -19,6 +22,21 @@ fill_group-requires-clause-few g c =
     itself-few (seen w) w.sound.fresh c.args.spec.now c.requires.within c.args.c c.requires.live c.args.job
     w.sound.sizes.size.pages.1 (live-past (parts w) w.sound c.args.c c.requires.live) c.requires.few.1 (seen c.add_group-g.new.self)
     (added-context (seen w) c.args.c c.args.job c.args.spec.now (seen c.add_group-g.new.self) c.add_group-g.ensures.world)
+
+pub fill_group-requires-clause-empty : goal.fill_group-requires-clause-empty
+fill_group-requires-clause-empty g c =
+    added-empty (seen c.args.self.now) c.args.c c.args.job c.args.spec.now c.add_group-g.result (seen c.add_group-g.new.self) c.add_group-g.ensures.name c.add_group-g.ensures.world
+
+pub follow-requires-clause-ready : goal.follow-requires-clause-ready
+follow-requires-clause-ready g c =
+    moved-has (seen c.args.self.now) c.args.c c.args.job c.args.spec.now c.add_group-g.result (seen c.add_group-g.new.self) (seen c.fill_group.new.self)
+    c.add_group-g.ensures.name c.add_group-g.ensures.world c.fill_group.ensures
+
+pub follow-requires-else-needs_group-clause-ready : goal.follow-requires-else-needs_group-clause-ready
+follow-requires-else-needs_group-clause-ready g c =
+    let w = seen c.args.self.now in
+    none-moved w c.args.spec.now (context w c.args.c) c.args.c
+    (λ p. none-moves w c.args.c c.args.job c.args.spec.now c.requires.within c.requires.live (sym c.needs_group.ensures.value ∙ c.if-needs_group.false) (Page p))
 
 pub follow-requires-clause-fresh : goal.follow-requires-clause-fresh
 unfolding seen parts

@@ -1,12 +1,16 @@
-use Rattle.std.proofs.Common.{◌≡◌, ◌≤◌, ◌∙◌, subst, sym, true}
+use Rattle.std.proofs.Common.{◌≡◌, ◌≤◌, ◌∙◌, ap, subst, sym, true}
 use Rattle.lwc_base.specs.declared.limits.TheConstants.{MOST_RANGES}
 use Rattle.lwc_base.specs.Fresh.{IsFresh}
 use Rattle.lwc_base.specs.Overlay.{ranges_after_overlay}
 use Rattle.lwc_base.specs.Ranges.{ranges_of}
-use Rattle.lwc_base.specs.World.{is_live}
+use Rattle.lwc_base.specs.declared.key.Key.TheVariants.{Page}
+use Rattle.lwc_base.specs.World.{World, context, is_live}
+use Rattle.lazy_world.specs.Transfers.{moves}
 use Rattle.lazy_world.specs.Worlds.{parts, seen}
 use Rattle.lazy_world.proofs.AfterLemmas.{left-ranges}
+use Rattle.lazy_world.proofs.CloneLemmas.{settled}
 use Rattle.lazy_world.proofs.OverlayLemmas.{overlaid-is}
+use Rattle.lazy_world.proofs.ShareLemmas.{none-moved}
 use Rattle.lwc_base.proofs.Facts.{changes, stays_fresh}
 use Rattle.lazy_world.proofs.world.PlacedWorld.overlay_other.Goals as goal
 
@@ -28,6 +32,14 @@ pub follow-requires-clause-to : goal.follow-requires-clause-to
 follow-requires-clause-to g c =
     let w = seen c.args.self.now in
     subst (λ v. is_live v c.args.to ≡ true) (sym c.share.ensures) ((changes.shared w c.args.from c.args.job c.args.spec.now).live c.args.to ∙ c.requires.to)
+
+pub follow-requires-clause-ready : goal.follow-requires-clause-ready
+follow-requires-clause-ready g c =
+    let w = seen c.args.self.now in
+    none-moved (seen c.share.new.self) c.args.spec.now (context (seen c.share.new.self) c.args.from) c.args.to
+    (λ p.
+    ap (λ (v : World). moves c.args.spec.now (Page p) (context v c.args.from).cell) c.share.ensures
+    ∙ settled w c.args.from c.args.job c.args.spec.now c.requires.within c.requires.from (Page p))
 
 pub follow-requires-clause-fresh : goal.follow-requires-clause-fresh
 unfolding seen parts

@@ -1,4 +1,4 @@
-use Rattle.std.proofs.Common.{◌≤◌, ◌∙◌, ap, arith, subst, sym, ℕ}
+use Rattle.std.proofs.Common.{◌≤◌, ◌∙◌, arith, subst, sym, ℕ}
 use Rattle.lwc_base.specs.declared.limits.TheConstants.{MOST_RANGES}
 use Rattle.lazy_world.specs.Sound.{IsSound}
 use Rattle.lazy_world.specs.States.{world_of}
@@ -30,7 +30,7 @@ invariant_of-self c =
       placed_groups = c.args.self.now.placed_groups;
       count = c.set_pages.ensures.count ∙ c.args.self.now.count;
       frames = c.set_pages.ensures.frames ∙ c.args.self.now.frames;
-      sound = subst (λ rows. IsSound (record s { rows = rows })) (sym c.set_pages.ensures.rows)
+      sound = subst IsSound (sym (λ e. record s { rows = c.set_pages.ensures.rows e; rights = c.set_pages.ensures.rights e }))
           (sound-mapped s c.args.self.now.sound c.args.self.now.placed c.args.c c.place-i.result c.place-i.ensures.found c.args.range.from c.args.range.to c.args.present
           (below_pages s c.args.range.to c.requires.within));
     }
@@ -39,6 +39,6 @@ pub returns : goal.returns
 unfolding seen parts
 returns c =
     let s = parts c.args.self.now in
-    ap (λ rows. world_of (record s { rows = rows })) c.set_pages.ensures.rows
+    (λ e. world_of (record s { rows = c.set_pages.ensures.rows e; rights = c.set_pages.ensures.rights e }))
     ∙ mapped-world s c.args.self.now.sound c.args.self.now.placed c.args.c c.place-i.result c.place-i.ensures.found c.args.range.from c.args.range.to c.args.present
     (below_pages s c.args.range.to c.requires.within)

@@ -5,7 +5,7 @@ use Rattle.lwc_base.specs.Ranges.{ranges_of}
 use Rattle.lazy_world.specs.States.{world_of}
 use Rattle.lazy_world.specs.Worlds.{parts, seen}
 use Rattle.lazy_world.proofs.MovedLemmas.{live-past, moved-few}
-use Rattle.lazy_world.proofs.ShareLemmas.{added-context, followed-is}
+use Rattle.lazy_world.proofs.ShareLemmas.{added-context, added-empty, followed-is, moved-has}
 use Rattle.lwc_base.proofs.Facts.{changes, stays_fresh}
 use Rattle.lazy_world.proofs.world.PlacedWorld.share.Goals as goal
 
@@ -17,6 +17,15 @@ fill_group-requires-clause-few g c =
     moved-few (seen w) w.sound.fresh c.args.c c.args.job c.args.spec.now w.sound.sizes.size.pages.1 (live-past (parts w) w.sound c.args.c c.requires.live) c.requires.within c.requires.live
     needs c.requires.few (seen c.add_group-g.new.self)
     (added-context (seen w) c.args.c c.args.job c.args.spec.now (seen c.add_group-g.new.self) c.add_group-g.ensures.world)
+
+pub fill_group-requires-clause-empty : goal.fill_group-requires-clause-empty
+fill_group-requires-clause-empty g c =
+    added-empty (seen c.args.self.now) c.args.c c.args.job c.args.spec.now c.add_group-g.result (seen c.add_group-g.new.self) c.add_group-g.ensures.name c.add_group-g.ensures.world
+
+pub follow-requires-clause-ready : goal.follow-requires-clause-ready
+follow-requires-clause-ready g c =
+    moved-has (seen c.args.self.now) c.args.c c.args.job c.args.spec.now c.add_group-g.result (seen c.add_group-g.new.self) (seen c.fill_group.new.self)
+    c.add_group-g.ensures.name c.add_group-g.ensures.world c.fill_group.ensures
 
 pub follow-requires-clause-fresh : goal.follow-requires-clause-fresh
 unfolding seen parts

@@ -1,12 +1,12 @@
 use Rattle.std.proofs.Common.{◌≡◌, ◌-◌, ◌≤◌, ◌∙◌, ap, arith, refl, sym}
 use Rattle.std.specs.List.{range_with_len}
 use Rattle.lwc_base.specs.declared.limits.TheConstants.{MOST_PAGES}
-use Rattle.lwc_base.specs.Store.{Absent, Done, Full, store}
+use Rattle.lwc_base.specs.Store.{Absent, Done, Full, ReadOnly, store}
 use Rattle.lazy_world.specs.declared.world.PlacedWorld.{PlacedWorld}
 use Rattle.lazy_world.specs.States.{context_at, world_of}
 use Rattle.lazy_world.specs.Worlds.{parts, seen}
 use Rattle.lazy_world.proofs.MemoryLemmas.{present-touched}
-use Rattle.lazy_world.proofs.StoreLemmas.{all-in, parting-in, store-absent, store-done, store-full}
+use Rattle.lazy_world.proofs.StoreLemmas.{all-in, parting-in, store-absent, store-done, store-full, store-read_only, writable-touched}
 use Rattle.lazy_world.proofs.world.PlacedWorld.store.Goals as goal
 
 few : (w : PlacedWorld) → (seen w).size.pages ≤ MOST_PAGES
@@ -31,16 +31,38 @@ returns-then-not-are_present-clause-bad_address c = (λ _. is_absent c, λ _. re
 pub returns-then-not-are_present-clause-no_frame : goal.returns-then-not-are_present-clause-no_frame
 returns-then-not-are_present-clause-no_frame c = (λ same. cc, λ full. let absent = is_absent c in cc)
 
+pub returns-then-not-are_present-clause-read_only : goal.returns-then-not-are_present-clause-read_only
+returns-then-not-are_present-clause-read_only c = (λ same. cc, λ read. let absent = is_absent c in cc)
+
+is_read : (c : goal.Then-not-are_writable) → store (seen c.args.self.now) c.args.c c.args.job (record { at = c.args.at; bytes = c.args.piece.now }) ≡ ReadOnly
+unfolding parts
+is_read c =
+    let there = present-touched _ _ _ _ _ _ _ c.place-i.ensures.context c.touched_pages-pages.ensures.pages c.are_present.ensures ∙ c.if-not-are_present.false in
+    store-read_only _ _ _ _ there (writable-touched _ _ (context_at (parts c.args.self.now) c.place-i.result) _ _ _ _ c.place-i.ensures.context c.touched_pages-pages.ensures.pages c.are_writable.ensures ∙ c.if-not-are_writable.true)
+
+pub returns-then-not-are_writable-clause-bad_address : goal.returns-then-not-are_writable-clause-bad_address
+returns-then-not-are_writable-clause-bad_address c = (λ same. cc, λ absent. let read = is_read c in cc)
+
+pub returns-then-not-are_writable-clause-read_only : goal.returns-then-not-are_writable-clause-read_only
+returns-then-not-are_writable-clause-read_only c = (λ _. is_read c, λ _. refl)
+
+pub returns-then-not-are_writable-clause-no_frame : goal.returns-then-not-are_writable-clause-no_frame
+returns-then-not-are_writable-clause-no_frame c = (λ same. cc, λ full. let read = is_read c in cc)
+
 is_full : (c : goal.Then-self-used) → store (seen c.args.self.now) c.args.c c.args.job (record { at = c.args.at; bytes = c.args.piece.now }) ≡ Full
 unfolding parts
 is_full c =
     let w = seen c.args.self.now in
     let there = present-touched _ _ _ _ _ _ _ c.place-i.ensures.context c.touched_pages-pages.ensures.pages c.are_present.ensures ∙ c.if-not-are_present.false in
     let many = c.parting_count.ensures.parting ∙ parting-in w c.args.c (context_at (parts c.args.self.now) c.place-i.result) (range_with_len c.touched_pages-pages.result.first (c.touched_pages-pages.result.end - c.touched_pages-pages.result.first)) c.place-i.ensures.context in
-    store-full w c.args.c c.args.job (record { at = c.args.at; bytes = c.args.piece.now }) there (range_with_len c.touched_pages-pages.result.first (c.touched_pages-pages.result.end - c.touched_pages-pages.result.first)) c.touched_pages-pages.ensures.pages (omega (arith, many, frames-are c.args.self.now, c.used.ensures.used, c.if-self-used.true))
+    let may = writable-touched w c.args.c (context_at (parts c.args.self.now) c.place-i.result) _ _ _ _ c.place-i.ensures.context c.touched_pages-pages.ensures.pages c.are_writable.ensures ∙ c.if-not-are_writable.false in
+    store-full w c.args.c c.args.job (record { at = c.args.at; bytes = c.args.piece.now }) there may (range_with_len c.touched_pages-pages.result.first (c.touched_pages-pages.result.end - c.touched_pages-pages.result.first)) c.touched_pages-pages.ensures.pages (omega (arith, many, frames-are c.args.self.now, c.used.ensures.used, c.if-self-used.true))
 
 pub returns-then-self-used-clause-bad_address : goal.returns-then-self-used-clause-bad_address
 returns-then-self-used-clause-bad_address c = (λ same. cc, λ absent. let full = is_full c in cc)
+
+pub returns-then-self-used-clause-read_only : goal.returns-then-self-used-clause-read_only
+returns-then-self-used-clause-read_only c = (λ same. cc, λ read. let full = is_full c in cc)
 
 pub returns-then-self-used-clause-no_frame : goal.returns-then-self-used-clause-no_frame
 returns-then-self-used-clause-no_frame c = (λ _. is_full c, λ _. refl)
@@ -61,11 +83,15 @@ returns-clause-done c =
     let w = seen c.args.self.now in
     let there = present-touched _ _ _ _ _ _ _ c.place-i.ensures.context c.touched_pages-pages.ensures.pages c.are_present.ensures ∙ c.if-not-are_present.false in
     let many = c.parting_count.ensures.parting ∙ parting-in w c.args.c (context_at (parts c.args.self.now) c.place-i.result) (range_with_len c.touched_pages-pages.result.first (c.touched_pages-pages.result.end - c.touched_pages-pages.result.first)) c.place-i.ensures.context in
-    store-done w c.args.c c.args.job (record { at = c.args.at; bytes = c.args.piece.now }) there (range_with_len c.touched_pages-pages.result.first (c.touched_pages-pages.result.end - c.touched_pages-pages.result.first)) c.touched_pages-pages.ensures.pages (omega (arith, many, frames-are c.args.self.now, c.used.ensures.used, c.if-self-used.false))
+    let may = writable-touched w c.args.c (context_at (parts c.args.self.now) c.place-i.result) _ _ _ _ c.place-i.ensures.context c.touched_pages-pages.ensures.pages c.are_writable.ensures ∙ c.if-not-are_writable.false in
+    store-done w c.args.c c.args.job (record { at = c.args.at; bytes = c.args.piece.now }) there may (range_with_len c.touched_pages-pages.result.first (c.touched_pages-pages.result.end - c.touched_pages-pages.result.first)) c.touched_pages-pages.ensures.pages (omega (arith, many, frames-are c.args.self.now, c.used.ensures.used, c.if-self-used.false))
     ∙ ap Done (sym c.write_pages.ensures)
 
 pub returns-clause-bad_address : goal.returns-clause-bad_address
 returns-clause-bad_address c = (λ same. cc, λ absent. let done = returns-clause-done c in cc)
+
+pub returns-clause-read_only : goal.returns-clause-read_only
+returns-clause-read_only c = (λ same. cc, λ read. let done = returns-clause-done c in cc)
 
 pub returns-clause-no_frame : goal.returns-clause-no_frame
 returns-clause-no_frame c = (λ same. cc, λ full. let done = returns-clause-done c in cc)

@@ -16,7 +16,7 @@ use Rattle.lazy_world.specs.declared.places.Places.{Places}
 use Rattle.lazy_world.specs.declared.world.PlacedWorld.{PlacedWorld}
 use Rattle.lazy_world.specs.Cells.{Row, put_row}
 use Rattle.lazy_world.specs.Memory.{holder}
-use Rattle.lazy_world.specs.Seen.{count, frame_count, pages, rows}
+use Rattle.lazy_world.specs.Seen.{count, frame_count, pages, rights, rows}
 use Rattle.lazy_world.specs.Sound.{IsSound}
 use Rattle.lazy_world.specs.States.{Parts, counters_of, nothing_counted, world_of}
 use Rattle.lazy_world.specs.Stores.{parts_at, store_pages, taken_at}
@@ -67,7 +67,7 @@ module _ (w : PlacedWorld) (c : Name) (i p j job : ℕ) (found : fm.get (parts w
   -- the world once the page is written and its tag is counted
   module _ (q : Places) (piece : Piece) (parted : Bool) (taken : ℕ) (inside : j < count w.places) (is_parted : parted ≡ places.is_parting (pages w.places) j p) (is_taken : taken ≡ bool_byte parted)
       (pages_are : pages q ≡ write_page (pages w.places) j p piece (tag_with job now.tags))
-      (rows_are : rows q ≡ put_row (rows w.places) j (with_page p (written_value (pages w.places) j p piece (tag_with job now.tags)) (rows w.places j))) where
+      (rows_are : rows q ≡ put_row (rows w.places) j (with_page p (written_value (pages w.places) j p piece (tag_with job now.tags)) (rows w.places j))) (rights_are : rights q ≡ rights w.places) where
     abbrev n : Counts
     n = record { contexts = now.contexts; groups = now.groups; tags = now.tags + taken }
 
@@ -76,6 +76,13 @@ module _ (w : PlacedWorld) (c : Name) (i p j job : ℕ) (found : fm.get (parts w
 
     abbrev later : (ℕ → Row) → Parts
     later rows = record (parts w) { counts = set w.counts.items job n; rows = rows }
+
+    abbrev after : Parts
+    after = record (parts w) { counts = set w.counts.items job n; rows = rows q; rights = rights q }
+
+    after_is : after ≡ later (rows q)
+    unfolding parts
+    after_is = λ e. record (parts w) { counts = set w.counts.items job n; rows = rows q; rights = rights_are e }
 
     rows_now : rows q ≡ written (tag_with job ((seen w).next job).tags)
     rows_now = rows_are ∙ ap written is_tag
@@ -88,16 +95,16 @@ module _ (w : PlacedWorld) (c : Name) (i p j job : ℕ) (found : fm.get (parts w
     inside_pages : j < length (pages w.places)
     inside_pages = subst (λ m. j < m) (sym (count-pages w.places)) inside
 
-    pub sound : IsSound (later (rows q))
+    pub sound : IsSound after
     unfolding seen parts
     sound =
-        subst (λ (r : ℕ → Row). IsSound (later r)) (sym rows_now)
+        subst IsSound (sym (after_is ∙ ap later rows_now))
         (sound-later (parts w) w.sound w.placed w.placed_groups (pages w.places) (row-page w.places) (count-pages w.places ∙ w.count) c i found p j there is_there job (known-job w job known) inside_pages piece n counted)
 
-    pub stored : world_of (later (rows q)) ≡ store_pages (seen w) c job piece (p ∷ [])
+    pub stored : world_of after ≡ store_pages (seen w) c job piece (p ∷ [])
     unfolding seen parts
     stored =
-        ap (λ (r : ℕ → Row). world_of (later r)) rows_now
+        ap world_of (after_is ∙ ap later rows_now)
         ∙ world-later (parts w) w.sound w.placed w.placed_groups (pages w.places) (row-page w.places) (count-pages w.places ∙ w.count) c i found p j there is_there job (known-job w job known) inside_pages piece n counted
 
     pages_now : pages q ≡ write_page (pages w.places) j p piece (tag_with job ((seen w).next job).tags)
@@ -106,16 +113,16 @@ module _ (w : PlacedWorld) (c : Name) (i p j job : ℕ) (found : fm.get (parts w
     tie : (m k : ℕ) → written (tag_with job ((seen w).next job).tags) m (Page k) ≡ place_of (pages q) m k
     tie m k = ap (λ (r : ℕ → Row). r m (Page k)) (sym rows_now) ∙ row-page q m k
 
-    pub in_use : used (world_of (later (rows q))) ≡ used (seen w) + taken_at (seen w) c p
+    pub in_use : used (world_of after) ≡ used (seen w) + taken_at (seen w) c p
     unfolding seen parts
     in_use =
-        ap (λ (r : ℕ → Row). used (world_of (later r))) rows_now
+        ap (λ (t : Parts). used (world_of t)) (after_is ∙ ap later rows_now)
         ∙ used-later (parts w) w.sound w.placed w.placed_groups (pages w.places) (row-page w.places) (count-pages w.places ∙ w.count) c i found p j there is_there job (known-job w job known) inside_pages piece n counted (pages q) pages_now tie
 
-    pub others : (k : ℕ) → k ≢ p → parts_at (world_of (later (rows q))) c k ≡ parts_at (seen w) c k
+    pub others : (k : ℕ) → k ≢ p → parts_at (world_of after) c k ≡ parts_at (seen w) c k
     unfolding seen parts
     others k off =
-        ap (λ (r : ℕ → Row). parts_at (world_of (later r)) c k) rows_now
+        ap (λ (t : Parts). parts_at (world_of t) c k) (after_is ∙ ap later rows_now)
         ∙ others-later (parts w) w.sound w.placed w.placed_groups (pages w.places) (row-page w.places) (count-pages w.places ∙ w.count) c i found p j there is_there job (known-job w job known) inside_pages piece n counted (pages q) pages_now tie k off
 
 pub unreachable-requires : goal.unreachable-requires
@@ -170,23 +177,23 @@ invariant_of-self c =
       count = c.write-parted.ensures.count ∙ w.count;
       frames = c.write-parted.ensures.frames ∙ w.frames;
       sound = sound c.args.self.now c.args.c c.place-i.result c.args.p c.in-Some.j c.args.job c.place-i.ensures.found (sym c.holder.ensures.place ∙ c.in-Some.is) c.requires.there c.requires.known c.index-counts.result.now c.index-counts.ensures
-          c.write-parted.new.self (record { at = c.args.at; bytes = c.args.piece.now }) c.write-parted.result c.from.result c.in-Some.ensures.inside c.write-parted.ensures.parted c.from.ensures c.write-parted.ensures.pages c.write-parted.ensures.rows;
+          c.write-parted.new.self (record { at = c.args.at; bytes = c.args.piece.now }) c.write-parted.result c.from.result c.in-Some.ensures.inside c.write-parted.ensures.parted c.from.ensures c.write-parted.ensures.pages c.write-parted.ensures.rows c.write-parted.ensures.rights;
     }
 
 pub returns-clause-stored : goal.returns-clause-stored
 unfolding seen parts
 returns-clause-stored c =
     stored c.args.self.now c.args.c c.place-i.result c.args.p c.in-Some.j c.args.job c.place-i.ensures.found (sym c.holder.ensures.place ∙ c.in-Some.is) c.requires.there c.requires.known c.index-counts.result.now c.index-counts.ensures
-    c.write-parted.new.self (record { at = c.args.at; bytes = c.args.piece.now }) c.write-parted.result c.from.result c.in-Some.ensures.inside c.write-parted.ensures.parted c.from.ensures c.write-parted.ensures.pages c.write-parted.ensures.rows
+    c.write-parted.new.self (record { at = c.args.at; bytes = c.args.piece.now }) c.write-parted.result c.from.result c.in-Some.ensures.inside c.write-parted.ensures.parted c.from.ensures c.write-parted.ensures.pages c.write-parted.ensures.rows c.write-parted.ensures.rights
 
 pub returns-clause-used : goal.returns-clause-used
 unfolding seen parts
 returns-clause-used c =
     in_use c.args.self.now c.args.c c.place-i.result c.args.p c.in-Some.j c.args.job c.place-i.ensures.found (sym c.holder.ensures.place ∙ c.in-Some.is) c.requires.there c.requires.known c.index-counts.result.now c.index-counts.ensures
-    c.write-parted.new.self (record { at = c.args.at; bytes = c.args.piece.now }) c.write-parted.result c.from.result c.in-Some.ensures.inside c.write-parted.ensures.parted c.from.ensures c.write-parted.ensures.pages c.write-parted.ensures.rows
+    c.write-parted.new.self (record { at = c.args.at; bytes = c.args.piece.now }) c.write-parted.result c.from.result c.in-Some.ensures.inside c.write-parted.ensures.parted c.from.ensures c.write-parted.ensures.pages c.write-parted.ensures.rows c.write-parted.ensures.rights
 
 pub returns-clause-others : goal.returns-clause-others
 unfolding seen parts
 returns-clause-others c =
     others c.args.self.now c.args.c c.place-i.result c.args.p c.in-Some.j c.args.job c.place-i.ensures.found (sym c.holder.ensures.place ∙ c.in-Some.is) c.requires.there c.requires.known c.index-counts.result.now c.index-counts.ensures
-    c.write-parted.new.self (record { at = c.args.at; bytes = c.args.piece.now }) c.write-parted.result c.from.result c.in-Some.ensures.inside c.write-parted.ensures.parted c.from.ensures c.write-parted.ensures.pages c.write-parted.ensures.rows
+    c.write-parted.new.self (record { at = c.args.at; bytes = c.args.piece.now }) c.write-parted.result c.from.result c.in-Some.ensures.inside c.write-parted.ensures.parted c.from.ensures c.write-parted.ensures.pages c.write-parted.ensures.rows c.write-parted.ensures.rights
