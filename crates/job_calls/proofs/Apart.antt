@@ -176,7 +176,7 @@ module _ (home : Home) where
     read_leaves : (n at : ℕ) (bytes : List ℕ) → LeavesOthers home own w (world_after w (store_at w three.memory own at bytes))
     read_leaves n at bytes =
         let same : LeavesOthers home own w w = record { kept = keeps; hidden = λ job t other. refl } in
-        store_at_cases (λ stored. LeavesOthers home own w (world_after w stored)) w three.memory own at bytes same same same (store_leaves (record { at = at; bytes = bytes }))
+        store_at_cases (λ stored. LeavesOthers home own w (world_after w stored)) w three.memory own at bytes same same same same (store_leaves (record { at = at; bytes = bytes }))
 
     reading_leaves : (n at count : ℕ) → Leaves (calls.reading w io three own n at count)
     unfolding Leaves calls.reading

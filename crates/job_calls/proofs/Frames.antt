@@ -9,13 +9,15 @@ use Rattle.job_calls.specs.Ends.{read_piece}
 use Rattle.lwc_base.specs.Channels.{Channels}
 use Rattle.lwc_base.specs.Frames.{used}
 use Rattle.lwc_base.specs.Memory.{bytes_for, is_present}
+use Rattle.lwc_base.specs.Rights.{is_writable}
 use Rattle.lwc_base.specs.Refusals.{first_refusal}
-use Rattle.lwc_base.specs.Store.{Absent, Done, Full, Piece, after_store, parting_count, store}
+use Rattle.lwc_base.specs.Store.{Absent, Done, Full, ReadOnly, Piece, after_store, parting_count, store}
 use Rattle.lwc_base.specs.World.{World}
 use Rattle.lwc_base.specs.declared.name.Name.{Name}
 use Rattle.lwc_base.specs.declared.page.TheConstants.{PAGE_BYTES}
 use Rattle.lwc_base.specs.declared.refusal.Refusal.{Refusal}
 use Rattle.lwc_base.specs.declared.refusal.Refusal.TheVariants.{BadAddress, BadFd, NoFrame, TooLong, WrongKind}
+use Rattle.lwc_base.specs.declared.refusal.Refusal.TheVariants as refusal
 use Rattle.lwc_base.specs.declared.regs.Regs.{Regs}
 use Rattle.lwc_syscall.specs.Plain.{Outcome, is_full, plain, refused_or, store_at}
 use Rattle.lwc_syscall.specs.Plain as calls
@@ -39,25 +41,29 @@ refused_is : (refusal : Refusal) → Refused refusal ≡ Refused NoFrame → ref
 refused_is refusal is = cc
 
 -- the last row of a read's table is the one that holds
-last_row : (e f g x y : Bool) → first_refusal ((e, BadFd) ∷ (f, WrongKind) ∷ (g, TooLong) ∷ (x, BadAddress) ∷ (y, NoFrame) ∷ []) ≡ Some NoFrame → y ≡ true
-last_row true f g x y is = cc
-last_row false true g x y is = cc
-last_row false false true x y is = cc
-last_row false false false true y is = cc
-last_row false false false false true is = refl
-last_row false false false false false is = cc
+last_row : (e f g x y z : Bool) → first_refusal ((e, BadFd) ∷ (f, WrongKind) ∷ (g, TooLong) ∷ (x, BadAddress) ∷ (y, refusal.ReadOnly) ∷ (z, NoFrame) ∷ []) ≡ Some NoFrame →
+    z ≡ true
+last_row true f g x y z is = cc
+last_row false true g x y z is = cc
+last_row false false true x y z is = cc
+last_row false false false true y z is = cc
+last_row false false false false true z is = cc
+last_row false false false false false true is = refl
+last_row false false false false false false is = cc
 
 module _ (w : World) (m : Name) (job : ℕ) where
   -- a store finds too few frames where more are needed than there are
   store_full : (piece : Piece) → is_full (store w m job piece) ≡ true → w.size.frames < used w + parting_count w m piece
   unfolding store
-  store_full piece = by_tests (is_present w m piece.at (length piece.bytes)) (nat_lt w.size.frames (used w + parting_count w m piece)) refl
+  store_full piece =
+      by_tests (is_present w m piece.at (length piece.bytes)) (is_writable w m piece.at (length piece.bytes)) (nat_lt w.size.frames (used w + parting_count w m piece)) refl
     where
-      by_tests : (p q : Bool) → nat_lt w.size.frames (used w + parting_count w m piece) ≡ q → is_full (cond (not p) Absent (cond q Full (Done (after_store w m job piece)))) ≡ true →
-          w.size.frames < used w + parting_count w m piece
-      by_tests true true few is = grind (arith, nat_tests)
-      by_tests true false enough is = cc
-      by_tests false q few is = cc
+      by_tests : (p r q : Bool) → nat_lt w.size.frames (used w + parting_count w m piece) ≡ q →
+          is_full (cond (not p) Absent (cond (not r) ReadOnly (cond q Full (Done (after_store w m job piece))))) ≡ true → w.size.frames < used w + parting_count w m piece
+      by_tests true true true few is = grind (arith, nat_tests)
+      by_tests true true false enough is = cc
+      by_tests true false q few is = cc
+      by_tests false r q few is = cc
 
   store_at_full : (from : ℕ) (bytes : List ℕ) → is_full (store_at w m job from bytes) ≡ true → w.size.frames < used w + parting_count w m (record { at = from; bytes = bytes })
   unfolding store_at
@@ -88,7 +94,7 @@ module _ (w : World) (io : Channels) (three : Three) (job call : ℕ) (args : Li
       (λ refusal first is. (
         four,
         store_at_full w three.memory job (slice_index args 1) (calls.moved io value (slice_index args 2))
-            (last_row _ _ _ _ (is_full stored) (first ∙ ap Some (refused_is refusal is))),
+            (last_row _ _ _ _ _ (is_full stored) (first ∙ ap Some (refused_is refusal is))),
       ))
       (λ first is. cc)
 

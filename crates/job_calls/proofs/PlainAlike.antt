@@ -15,8 +15,9 @@ use Rattle.lwc_base.specs.Cells.{put_slot}
 use Rattle.lwc_base.specs.Channels.{Channels, may_open, may_set}
 use Rattle.lwc_base.specs.Mapping.{mapped_or_not}
 use Rattle.lwc_base.specs.Memory.{bytes_for, is_present}
+use Rattle.lwc_base.specs.Rights.{is_writable}
 use Rattle.lwc_base.specs.Refusals.{first_refusal}
-use Rattle.lwc_base.specs.Store.{Absent, Done, Full, Piece, Stored, after_store, store}
+use Rattle.lwc_base.specs.Store.{Absent, Done, Full, ReadOnly, Piece, Stored, after_store, store}
 use Rattle.lwc_base.specs.Summaries.{is_empty}
 use Rattle.lwc_base.specs.World.{World}
 use Rattle.lwc_base.specs.declared.descriptor.Descriptor.{Descriptor}
@@ -28,6 +29,7 @@ use Rattle.lwc_base.specs.declared.name.Name.{Name}
 use Rattle.lwc_base.specs.declared.page.TheConstants.{PAGE_BYTES}
 use Rattle.lwc_base.specs.declared.refusal.Refusal.{Refusal}
 use Rattle.lwc_base.specs.declared.refusal.Refusal.TheVariants.{BadAddress, BadCall, BadFd, BadMode, BadRange, NoFile, NoFrame, NoSlot, NotCovered, NotPermitted, ReplyFull, TooLong, TooManyRanges, WrongKind}
+use Rattle.lwc_base.specs.declared.refusal.Refusal.TheVariants as refusal
 use Rattle.lwc_base.specs.declared.regs.Regs.{Regs}
 use Rattle.lwc_syscall.specs.Plain.{Outcome, answering, left, moved, placed, plain, read_on, refused_or, store_at, world_after, written}
 use Rattle.lwc_syscall.specs.Plain as calls
@@ -39,6 +41,7 @@ use Rattle.job_view.proofs.Together.{answers-alike, changes-alike}
 -- two stores end alike, or one of them finds too few frames
 data StoresAlike (home : Home) (job t s : ℕ) : Stored → Stored → Type 0 where
   Both_absent : StoresAlike home job t s Absent Absent
+  Both_read_only : StoresAlike home job t s ReadOnly ReadOnly
   Both_done : (a b : World) → LooksAlike home job t s a b → StoresAlike home job t s (Done a) (Done b)
   First_full : (b : Stored) → StoresAlike home job t s Full b
   Second_full : (a : Stored) → StoresAlike home job t s a Full
@@ -88,20 +91,26 @@ module _ (home : Home) (r t s : ℕ) (three : Three) (w v : World) (io other : C
   unfolding store
   store_alike piece =
       by_presence (is_present w three.memory piece.at (length piece.bytes)) (is_present v three.memory piece.at (length piece.bytes))
-      ((asks three.memory of.memory).present piece.at (length piece.bytes)) (nat_lt w.size.frames _) (nat_lt v.size.frames _)
+      ((asks three.memory of.memory).present piece.at (length piece.bytes))
+      (is_writable w three.memory piece.at (length piece.bytes)) (is_writable v three.memory piece.at (length piece.bytes))
+      ((asks three.memory of.memory).writable piece.at (length piece.bytes)) (nat_lt w.size.frames _) (nat_lt v.size.frames _)
     where
       stored : LooksAlike home (r + 1) t s (after_store w three.memory (r + 1) piece) (after_store v three.memory (r + 1) piece)
       stored = subst (λ j. LooksAlike home j t s (after_store w three.memory j piece) (after_store v three.memory j piece)) of.memory
           ((changes-alike home t s three.memory w v (here three.memory of.memory w v alike)).store piece)
 
-      by_presence : (p q : Bool) → p ≡ q → (m n : Bool) →
-          StoresAlike home (r + 1) t s (cond (not p) Absent (cond m Full (Done (after_store w three.memory (r + 1) piece)))) (cond (not q) Absent (cond n Full (Done (after_store v three.memory (r + 1) piece))))
-      by_presence false false is m n = Both_absent
-      by_presence true true is true n = First_full _
-      by_presence true true is false true = Second_full _
-      by_presence true true is false false = Both_done _ _ stored
-      by_presence true false is m n = cc
-      by_presence false true is m n = cc
+      by_presence : (p q : Bool) → p ≡ q → (x y : Bool) → x ≡ y → (m n : Bool) →
+          StoresAlike home (r + 1) t s (cond (not p) Absent (cond (not x) ReadOnly (cond m Full (Done (after_store w three.memory (r + 1) piece)))))
+          (cond (not q) Absent (cond (not y) ReadOnly (cond n Full (Done (after_store v three.memory (r + 1) piece)))))
+      by_presence false false is x y same m n = Both_absent
+      by_presence true true is false false same m n = Both_read_only
+      by_presence true true is true true same true n = First_full _
+      by_presence true true is true true same false true = Second_full _
+      by_presence true true is true true same false false = Both_done _ _ stored
+      by_presence true true is true false same m n = cc
+      by_presence true true is false true same m n = cc
+      by_presence true false is x y same m n = cc
+      by_presence false true is x y same m n = cc
 
   store_at_alike : (from : ℕ) (bytes : List ℕ) → StoresAlike home (r + 1) t s (store_at w three.memory (r + 1) from bytes) (store_at v three.memory (r + 1) from bytes)
   unfolding store_at
@@ -120,7 +129,8 @@ module _ (home : Home) (r t s : ℕ) (three : Three) (w v : World) (io other : C
   -- how a read ends, by what is left to read and by how its store ends
   abbrev read_rows : Descriptor → Option (List ℕ) → ℕ → Stored → List (Bool × Refusal)
   read_rows value rest count stored =
-      (is_empty value, BadFd) ∷ (is_none rest, WrongKind) ∷ (nat_lt MOST_BYTES_OF_CALL count, TooLong) ∷ (calls.is_absent stored, BadAddress) ∷ (calls.is_full stored, NoFrame) ∷ []
+      (is_empty value, BadFd) ∷ (is_none rest, WrongKind) ∷ (nat_lt MOST_BYTES_OF_CALL count, TooLong) ∷ (calls.is_absent stored, BadAddress) ∷ (calls.is_read_only stored, refusal.ReadOnly)
+      ∷ (calls.is_full stored, NoFrame) ∷ []
 
   abbrev read_done : World → Channels → ℕ → ℕ → Descriptor → Stored → Outcome
   read_done u chans n moves value stored = answering moves (put_slot (world_after u stored) three.slots n (read_on moves value)) chans
@@ -132,32 +142,35 @@ module _ (home : Home) (r t s : ℕ) (three : Three) (w v : World) (io other : C
   EndAlike a b = HasFrames a → HasFrames b → OutcomesAlike home r t s a b
 
   -- where the first store finds too few frames, or the second, a refusal before that is the same
-  first_full : (a b : Outcome) (e f g x y : Bool) →
-      EndAlike (refused_or w io a (first_refusal ((e, BadFd) ∷ (f, WrongKind) ∷ (g, TooLong) ∷ (false, BadAddress) ∷ (true, NoFrame) ∷ [])))
-      (refused_or v other b (first_refusal ((e, BadFd) ∷ (f, WrongKind) ∷ (g, TooLong) ∷ (x, BadAddress) ∷ (y, NoFrame) ∷ [])))
-  first_full a b true f g x y one two = record { answer = refl; worlds = alike; channels = same }
-  first_full a b false true g x y one two = record { answer = refl; worlds = alike; channels = same }
-  first_full a b false false true x y one two = record { answer = refl; worlds = alike; channels = same }
-  first_full a b false false false x y one two = absurd (one refl)
+  first_full : (a b : Outcome) (e f g x y z : Bool) →
+      EndAlike (refused_or w io a (first_refusal ((e, BadFd) ∷ (f, WrongKind) ∷ (g, TooLong) ∷ (false, BadAddress) ∷ (false, refusal.ReadOnly) ∷ (true, NoFrame) ∷ [])))
+      (refused_or v other b (first_refusal ((e, BadFd) ∷ (f, WrongKind) ∷ (g, TooLong) ∷ (x, BadAddress) ∷ (y, refusal.ReadOnly) ∷ (z, NoFrame) ∷ [])))
+  first_full a b true f g x y z one two = record { answer = refl; worlds = alike; channels = same }
+  first_full a b false true g x y z one two = record { answer = refl; worlds = alike; channels = same }
+  first_full a b false false true x y z one two = record { answer = refl; worlds = alike; channels = same }
+  first_full a b false false false x y z one two = absurd (one refl)
 
-  second_full : (a b : Outcome) (e f g x y : Bool) →
-      EndAlike (refused_or w io a (first_refusal ((e, BadFd) ∷ (f, WrongKind) ∷ (g, TooLong) ∷ (x, BadAddress) ∷ (y, NoFrame) ∷ [])))
-      (refused_or v other b (first_refusal ((e, BadFd) ∷ (f, WrongKind) ∷ (g, TooLong) ∷ (false, BadAddress) ∷ (true, NoFrame) ∷ [])))
-  second_full a b true f g x y one two = record { answer = refl; worlds = alike; channels = same }
-  second_full a b false true g x y one two = record { answer = refl; worlds = alike; channels = same }
-  second_full a b false false true x y one two = record { answer = refl; worlds = alike; channels = same }
-  second_full a b false false false x y one two = absurd (two refl)
+  second_full : (a b : Outcome) (e f g x y z : Bool) →
+      EndAlike (refused_or w io a (first_refusal ((e, BadFd) ∷ (f, WrongKind) ∷ (g, TooLong) ∷ (x, BadAddress) ∷ (y, refusal.ReadOnly) ∷ (z, NoFrame) ∷ [])))
+      (refused_or v other b (first_refusal ((e, BadFd) ∷ (f, WrongKind) ∷ (g, TooLong) ∷ (false, BadAddress) ∷ (false, refusal.ReadOnly) ∷ (true, NoFrame) ∷ [])))
+  second_full a b true f g x y z one two = record { answer = refl; worlds = alike; channels = same }
+  second_full a b false true g x y z one two = record { answer = refl; worlds = alike; channels = same }
+  second_full a b false false true x y z one two = record { answer = refl; worlds = alike; channels = same }
+  second_full a b false false false x y z one two = absurd (two refl)
 
   by_stores : (n moves : ℕ) (value : Descriptor) (rest : Option (List ℕ)) (count : ℕ) (a b : Stored) → IsSlotOf three.slots.job value → StoresAlike home (r + 1) t s a b →
       EndAlike (read_end w io n moves value rest count a) (read_end v other n moves value rest count b)
   by_stores n moves value rest count _ _ fits Both_absent =
       by_first (read_done w io n moves value Absent) (read_done v other n moves value Absent) (first_refusal (read_rows value rest count Absent)) _ refl
       (λ one two. record { answer = refl; worlds = put_alike w v alike n n _ _ refl refl (read_fits three.slots.job moves value fits); channels = same })
+  by_stores n moves value rest count _ _ fits Both_read_only =
+      by_first (read_done w io n moves value ReadOnly) (read_done v other n moves value ReadOnly) (first_refusal (read_rows value rest count ReadOnly)) _ refl
+      (λ one two. record { answer = refl; worlds = put_alike w v alike n n _ _ refl refl (read_fits three.slots.job moves value fits); channels = same })
   by_stores n moves value rest count _ _ fits (Both_done a b done) =
       by_first (read_done w io n moves value (Done a)) (read_done v other n moves value (Done b)) (first_refusal (read_rows value rest count (Done a))) _ refl
       (λ one two. record { answer = refl; worlds = put_alike a b done n n _ _ refl refl (read_fits three.slots.job moves value fits); channels = same })
-  by_stores n moves value rest count _ _ fits (First_full b) = first_full _ _ (is_empty value) (is_none rest) (nat_lt MOST_BYTES_OF_CALL count) (calls.is_absent b) (calls.is_full b)
-  by_stores n moves value rest count _ _ fits (Second_full a) = second_full _ _ (is_empty value) (is_none rest) (nat_lt MOST_BYTES_OF_CALL count) (calls.is_absent a) (calls.is_full a)
+  by_stores n moves value rest count _ _ fits (First_full b) = first_full _ _ (is_empty value) (is_none rest) (nat_lt MOST_BYTES_OF_CALL count) (calls.is_absent b) (calls.is_read_only b) (calls.is_full b)
+  by_stores n moves value rest count _ _ fits (Second_full a) = second_full _ _ (is_empty value) (is_none rest) (nat_lt MOST_BYTES_OF_CALL count) (calls.is_absent a) (calls.is_read_only a) (calls.is_full a)
 
   reads_alike : (n from count : ℕ) → EndAlike (calls.reading w io three (r + 1) n from count) (calls.reading v other three (r + 1) n from count)
   unfolding calls.reading

@@ -7,7 +7,8 @@ use Rattle.lwc_base.specs.Cells.{uid_at}
 use Rattle.lwc_base.specs.Channels.{Channels}
 use Rattle.lwc_base.specs.Frames.{used}
 use Rattle.lwc_base.specs.Memory.{is_present}
-use Rattle.lwc_base.specs.Store.{Absent, Done, Full, Piece, Stored, after_store, parting_count, store}
+use Rattle.lwc_base.specs.Rights.{is_writable}
+use Rattle.lwc_base.specs.Store.{Absent, Done, Full, ReadOnly, Piece, Stored, after_store, parting_count, store}
 use Rattle.lwc_base.specs.World.{World}
 use Rattle.lwc_base.specs.declared.name.Name.{Name}
 use Rattle.lwc_base.specs.declared.page.TheConstants.{PAGE_BYTES}
@@ -75,16 +76,17 @@ by_choice P true x y first second = first
 by_choice P false x y first second = second
 
 -- what is so of each way in which a store may end is so of its end
-pub store_cases : (P : Stored → Type 0) (w : World) (m : Name) (job : ℕ) (piece : Piece) → P Absent → P Full → P (Done (after_store w m job piece)) → P (store w m job piece)
+pub store_cases : (P : Stored → Type 0) (w : World) (m : Name) (job : ℕ) (piece : Piece) → P Absent → P ReadOnly → P Full → P (Done (after_store w m job piece)) → P (store w m job piece)
 unfolding store
-store_cases P w m job piece absent full done =
+store_cases P w m job piece absent read full done =
     by_choice P (not (is_present w m piece.at (length piece.bytes))) Absent _ absent
-    (by_choice P (nat_lt w.size.frames (used w + parting_count w m piece)) Full (Done (after_store w m job piece)) full done)
+    (by_choice P (not (is_writable w m piece.at (length piece.bytes))) ReadOnly _ read
+    (by_choice P (nat_lt w.size.frames (used w + parting_count w m piece)) Full (Done (after_store w m job piece)) full done))
 
-pub store_at_cases : (P : Stored → Type 0) (w : World) (m : Name) (job from : ℕ) (bytes : List ℕ) → P (Done w) → P Absent → P Full →
+pub store_at_cases : (P : Stored → Type 0) (w : World) (m : Name) (job from : ℕ) (bytes : List ℕ) → P (Done w) → P Absent → P ReadOnly → P Full →
     P (Done (after_store w m job (record { at = from; bytes = bytes }))) → P (store_at w m job from bytes)
 unfolding store_at
-store_at_cases P w m job from bytes none absent full done =
+store_at_cases P w m job from bytes none absent read full done =
     let piece : Piece = record { at = from; bytes = bytes } in
     by_choice P (eqb (length bytes) 0) (Done w) _ none
-    (by_choice P (nat_le (from + length bytes) (w.size.pages * PAGE_BYTES)) (store w m job piece) Absent (store_cases P w m job piece absent full done) absent)
+    (by_choice P (nat_le (from + length bytes) (w.size.pages * PAGE_BYTES)) (store w m job piece) Absent (store_cases P w m job piece absent read full done) absent)

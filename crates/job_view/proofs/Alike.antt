@@ -4,7 +4,7 @@ use Rattle.std.proofs.lemmas.Bool.{eq-eqb}
 use Rattle.std.specs.List.{AllByRecursion}
 use Rattle.std.specs.Prelude.{count_by, unwrap_or}
 use Rattle.job_view.proofs.Keeping.{context-in, keeps-put_pages, keeps-share, stored_pages_fit}
-use Rattle.job_view.proofs.Reading.{cell-alike, needs-alike, value-alike}
+use Rattle.job_view.proofs.Reading.{cell-alike, needs-alike, rights-alike, value-alike}
 use Rattle.job_view.proofs.Tables.{at}
 use Rattle.job_view.proofs.Views.{KeepsAlike, alike-add_context, alike-add_group, alike-change_context, alike-change_counters, alike-change_group, next-alike}
 use Rattle.job_view.specs.ByJob.{Home, IsPageOf, by_job}
@@ -16,23 +16,26 @@ use Rattle.lwc_base.specs.Keys.{ValueOf, is_there}
 use Rattle.lwc_base.specs.Mapping.{map_pages, mapped_or_not, unmap_pages, with_zeros, without_pages}
 use Rattle.lwc_base.specs.Memory.{touched}
 use Rattle.lwc_base.specs.Modes.{mode, mode_or_copy}
-use Rattle.lwc_base.specs.Overlay.{overlaid_cell, overlay, with_overlay}
+use Rattle.lwc_base.specs.Overlay.{overlaid_cell, overlaid_right, overlay, with_overlay}
 use Rattle.lwc_base.specs.Pages.{bytes_of}
 use Rattle.lwc_base.specs.Saved.{save, with_saved}
-use Rattle.lwc_base.specs.Sharing.{clone_context, cloned_cell, cloned_context, moved_value, moved_values, needs_group, share, with_shared}
+use Rattle.lwc_base.specs.Sharing.{clone_context, cloned_cell, cloned_context, cloned_right, moved_value, moved_values, needs_group, share, with_shared}
 use Rattle.lwc_base.specs.Store.{Piece, after_store, bytes_after, page_value_at, parting_count, stored_pages, put_pages, stored_value}
 use Rattle.lwc_base.specs.World.{World, Context, Counters, add_group, change_context, change_counters, context, next_group}
 use Rattle.lwc_base.specs.declared.cell.Cell.{Cell}
 use Rattle.lwc_base.specs.declared.cell.Cell.TheVariants.{Own, Common}
 use Rattle.lwc_base.specs.declared.item.Item.{Item}
 use Rattle.lwc_base.specs.declared.item.Mode.{Mode}
-use Rattle.lwc_base.specs.declared.item.Mode.TheVariants.{Copy, Share, Unmap}
+use Rattle.lwc_base.specs.declared.item.Mode.TheVariants.{Copy, Share, Unmap, CopyRead}
 use Rattle.lwc_base.specs.declared.key.Key.{Key}
 use Rattle.lwc_base.specs.declared.key.Key.TheVariants.{Page}
 use Rattle.lwc_base.specs.declared.name.Name.{Name}
 use Rattle.lwc_base.specs.declared.page.PageValue.{PageValue}
 use Rattle.lwc_base.specs.declared.page.PageValue.TheVariants.{Zero}
 use Rattle.lwc_base.specs.declared.regs.Regs.{Regs}
+use Rattle.lwc_base.specs.declared.right.Right.{Right}
+use Rattle.lwc_base.specs.Ranges.{is_page}
+use Rattle.lwc_base.specs.Rights.{read_right}
 
 module _ (home : Home) (t s : ℕ) where
   -- a put under a key
@@ -95,7 +98,7 @@ module _ (home : Home) (t s : ℕ) where
     saved_alike : (regs : Regs) → KeepsAlike t s (with_saved t regs) (with_saved s regs)
     saved_alike regs x y e =
         let one : eqb t t ≡ eqb s s = eq-eqb t t refl ∙ sym (eq-eqb s s refl) in
-        λ i. record { cell = (e i).cell; entry = (e i).entry; saved = λ u. cond (one i) (Some regs) ((e i).saved 0) }
+        λ i. record { cell = (e i).cell; right = (e i).right; entry = (e i).entry; saved = λ u. cond (one i) (Some regs) ((e i).saved 0) }
 
     pub alike-save : (regs : Regs) → view c.job t (save w c t regs) ≡ view c.job s (save v c s regs)
     unfolding save
@@ -131,10 +134,17 @@ module _ (home : Home) (t s : ℕ) where
     cloned_cell-alike k Copy = ap Own (value-alike t s c w v alike home keeps k)
     cloned_cell-alike k Share = cell-alike t s c w v alike k
     cloned_cell-alike k Unmap = refl
+    cloned_cell-alike k CopyRead = ap Own (value-alike t s c w v alike home keeps k)
+
+    cloned_right-alike : (p : ℕ) (mode : Mode) → cloned_right w c p mode ≡ cloned_right v c p mode
+    cloned_right-alike p Copy = λ i. rights-alike t s c w v alike i p
+    cloned_right-alike p Share = λ i. rights-alike t s c w v alike i p
+    cloned_right-alike p Unmap = refl
+    cloned_right-alike p CopyRead = λ i. read_right (is_page (cell-alike t s c w v alike (Page p) i))
 
     pub cloned-alike : (items : List Item) (entry : Regs) → cloned_context w c items entry ≡ cloned_context v c items entry
     unfolding cloned_context
-    cloned-alike items entry = λ i. record { cell = λ k. cloned_cell-alike k (mode_or_copy items k) i; entry = entry; saved = λ u. None }
+    cloned-alike items entry = λ i. record { cell = λ k. cloned_cell-alike k (mode_or_copy items k) i; right = λ p. cloned_right-alike p (mode_or_copy items (Page p)) i; entry = entry; saved = λ u. None }
 
     none_saved : (items : List Item) (entry : Regs) → seen_by t (cloned_context w c items entry) ≡ seen_by s (cloned_context w c items entry)
     unfolding cloned_context
@@ -144,9 +154,14 @@ module _ (home : Home) (t s : ℕ) where
     overlaid-alike k None x y same = same
     overlaid-alike k (Some m) x y same = cloned_cell-alike k m
 
+    overlaid_right-alike : (p : ℕ) (mode : Option Mode) (x y : Right) → x ≡ y → overlaid_right w c p mode x ≡ overlaid_right v c p mode y
+    overlaid_right-alike p None x y same = same
+    overlaid_right-alike p (Some m) x y same = cloned_right-alike p m
+
     pub with_overlay-alike : (items : List Item) → KeepsAlike t s (with_overlay w c items) (with_overlay v c items)
     with_overlay-alike items x y e = λ i. record {
       cell = λ k. overlaid-alike k (mode items k) _ _ (ap (λ (z : Context). z.cell k) e) i;
+      right = λ p. overlaid_right-alike p (mode items (Page p)) _ _ (ap (λ (z : Context). z.right p) e) i;
       entry = (e i).entry;
       saved = (e i).saved;
     }

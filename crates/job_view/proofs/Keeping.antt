@@ -26,7 +26,7 @@ use Rattle.lwc_base.specs.declared.cell.Cell.{Cell}
 use Rattle.lwc_base.specs.declared.cell.Cell.TheVariants.{Own, Common}
 use Rattle.lwc_base.specs.declared.item.Item.{Item}
 use Rattle.lwc_base.specs.declared.item.Mode.{Mode}
-use Rattle.lwc_base.specs.declared.item.Mode.TheVariants.{Copy, Share, Unmap}
+use Rattle.lwc_base.specs.declared.item.Mode.TheVariants.{Copy, Share, Unmap, CopyRead}
 use Rattle.lwc_base.specs.declared.key.Key.{Key}
 use Rattle.lwc_base.specs.declared.key.Key.TheVariants.{Page, Slot, Cred}
 use Rattle.lwc_base.specs.declared.name.Name.{Name}
@@ -187,6 +187,7 @@ module _ (home : Home) where
     cloned_fits k Copy = value_at-in w keeps c k
     cloned_fits k Share = context-in w keeps c k
     cloned_fits k Unmap = nothing_fits c.job k
+    cloned_fits k CopyRead = value_at-in w keeps c k
 
     cloned_in : (items : List Item) (entry : Regs) → InContext (by_job home) c.job (cloned_context w c items entry)
     unfolding cloned_context

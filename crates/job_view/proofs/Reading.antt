@@ -13,6 +13,7 @@ use Rattle.lwc_base.specs.Cells.{value_at, value_of}
 use Rattle.lwc_base.specs.Holders.{InCell, Keeps}
 use Rattle.lwc_base.specs.Keys.{ValueOf}
 use Rattle.lwc_base.specs.Memory.{byte_at, bytes_for, is_present, load, touched}
+use Rattle.lwc_base.specs.Rights.{is_writable, may_write}
 use Rattle.lwc_base.specs.Modes.{mode_or_copy}
 use Rattle.lwc_base.specs.Pages.{bytes_of}
 use Rattle.lwc_base.specs.Ranges.{begins_range, ranges, ranges_of}
@@ -63,6 +64,13 @@ module _ (t s : ℕ) (c : Name) (w v : World) (alike : view c.job t w ≡ view c
 
   pub cell-alike : (k : Key) → (context w c).cell k ≡ (context v c).cell k
   cell-alike k = ap (λ (x : Context). x.cell k) context-alike
+
+  pub rights-alike : (context w c).right ≡ (context v c).right
+  rights-alike = ap (λ (x : Context). x.right) context-alike
+
+  pub writable-alike : (from count : ℕ) → is_writable w c from count ≡ is_writable v c from count
+  unfolding is_writable
+  writable-alike from count = λ i. list_all (λ p. may_write (rights-alike i p)) (touched from count)
 
   pub enters-alike : entered (context w c) t ≡ entered (context v c) s
   enters-alike = ap (λ (x : Context). entered x 0) context-alike

@@ -6,7 +6,7 @@ use Rattle.std.specs.FinMap as fm
 use Rattle.job_view.proofs.Alike.{alike-after_store, alike-clone, alike-mapped, alike-overlay, alike-put_at, alike-save, alike-share, cloned-alike, count-alike}
 use Rattle.job_view.proofs.Entries.{keys_of_job}
 use Rattle.job_view.proofs.Keeping.{add-keeps, changes-keep, keeps-share}
-use Rattle.job_view.proofs.Reading.{bytes-alike, context-alike, enters-alike, live-alike, lowest-alike, needs-alike, present-alike, ranges_of-alike, value-alike}
+use Rattle.job_view.proofs.Reading.{bytes-alike, context-alike, enters-alike, live-alike, lowest-alike, needs-alike, present-alike, ranges_of-alike, value-alike, writable-alike}
 use Rattle.job_view.proofs.Reaping.{alike-reap}
 use Rattle.job_view.proofs.Tables.{at}
 use Rattle.job_view.proofs.Tags.{parts-alike}
@@ -81,6 +81,7 @@ module _ (home : Home) where
       cloned = cloned_ranges;
       overlaid = overlaid_ranges;
       present = present-alike t s c w v alike.seen home alike.first.kept;
+      writable = writable-alike t s c w v alike.seen;
       parting = count-alike home t s c w v alike.first.kept alike.seen (parts-alike home t s c w v alike);
     }
 

@@ -9,6 +9,7 @@ use Rattle.lwc_base.specs.Cells.{put_at, value_at}
 use Rattle.lwc_base.specs.Keys.{ValueOf}
 use Rattle.lwc_base.specs.Mapping.{mapped_or_not}
 use Rattle.lwc_base.specs.Memory.{bytes_for, is_present}
+use Rattle.lwc_base.specs.Rights.{is_writable}
 use Rattle.lwc_base.specs.Overlay.{overlay, ranges_after_overlay}
 use Rattle.lwc_base.specs.Ranges.{ranges_of}
 use Rattle.lwc_base.specs.Saved.{entered, save}
@@ -37,6 +38,7 @@ pub record AnswersAlike (t s : ℕ) (c : Name) (w v : World) : Type 0 where
   pub overlaid : (d : Name) (items : List Item) → d.job ≡ c.job →
       ranges_after_overlay w c d c.job items ≡ ranges_after_overlay v c d c.job items
   pub present : (at count : ℕ) → is_present w c at count ≡ is_present v c at count
+  pub writable : (at count : ℕ) → is_writable w c at count ≡ is_writable v c at count
   pub parting : (piece : Piece) → parting_count w c piece ≡ parting_count v c piece
 
 -- each change of a context that its job makes leaves two worlds alike to the job

@@ -22,7 +22,8 @@ use Rattle.lwc_base.specs.Mapping.{map_pages, with_zeros}
 use Rattle.lwc_base.specs.Names.{name_cmp}
 use Rattle.lwc_base.specs.Ranges.{ranges, ranges_of}
 use Rattle.lwc_base.specs.Registers.{fresh_registers}
-use Rattle.lwc_base.specs.Store.{Absent, Done, Full, store}
+use Rattle.lwc_base.specs.declared.right.Right.TheVariants.{Write}
+use Rattle.lwc_base.specs.Store.{Absent, Done, Full, ReadOnly, store}
 use Rattle.lwc_base.specs.World.{World, Context, add_context, empty_world, is_live, new_context, new_value}
 use Rattle.lwc_base.specs.declared.cell.Cell.TheVariants.{Own}
 use Rattle.lwc_base.specs.declared.descriptor.Descriptor.{Descriptor}
@@ -243,9 +244,18 @@ module _ (image : Image) (is : IsImage image) where
     cell_with_page (Slot n) = refl
     cell_with_page Cred = refl
 
+    -- each page has the right Write
+    right_by : (b : Bool) → cond b Write Write ≡ Write
+    right_by true = refl
+    right_by false = refl
+
+    right_is : (q : ℕ) → mapped.right q ≡ Write
+    unfolding mapped had first_context
+    right_is q = right_by (leb x.number q && ltb q (x.number + 1))
+
     context_with_page : with_cell (Page x.number) (Own (Some (Data (image_tag k) x.bytes))) mapped ≡ first_context image (take (k + 1) image.pages) 0
     unfolding mapped had first_context
-    context_with_page = λ i. record (first_context image (take (k + 1) image.pages) 0) { cell = λ key. cell_with_page key i }
+    context_with_page = λ i. record (first_context image (take (k + 1) image.pages) 0) { cell = λ key. cell_with_page key i; right = λ q. right_by (leb x.number q && ltb q (x.number + 1)) i }
 
     found_by : (found : Option (ℕ × PageImage)) → is_some (page_of found) ≡ is_some found
     unfolding page_of
@@ -275,7 +285,7 @@ module _ (image : Image) (is : IsImage image) where
 
     few_ranges_in : ranges 1024 mapped ≤ 64
     few_ranges_in =
-        omega (arith, ranges-own mapped (page_numbers (take (k + 1) image.pages)) value value_is value-there 1024, ranges-take None (k + 1) image.pages, is.pages.ranges)
+        omega (arith, ranges-own mapped (page_numbers (take (k + 1) image.pages)) value value_is right_is value-there 1024, ranges-take None (k + 1) image.pages, is.pages.ranges)
 
     tagged_by : (b : Bool) (v : Option PageValue) → length (tag_of (cond b (Some Zero) v)) ≤ num (is_some v)
     tagged_by true v = omega arith
@@ -313,7 +323,7 @@ module _ (image : Image) (is : IsImage image) where
       unfolding world_so_far
       page_stored =
           ap (λ u. store u first_name 0 (page_piece x.number x.bytes)) is_mapped
-          ∙ store-first frames k x.number mapped x.bytes whole zeros (frame_left frames fits)
+          ∙ store-first frames k x.number mapped x.bytes whole zeros (right_is x.number) (frame_left frames fits)
           ∙ ap (λ y. Done (world_with frames (k + 1) y)) context_with_page
 
       -- the store as the code makes it is done
@@ -326,6 +336,9 @@ module _ (image : Image) (is : IsImage image) where
 
         pub not_absent : store v first_name 0 (record { at = at; bytes = stored_bytes }) ≡ Absent → ⊥
         not_absent absent = let made = code_stored in cc
+
+        pub not_read_only : store v first_name 0 (record { at = at; bytes = stored_bytes }) ≡ ReadOnly → ⊥
+        not_read_only read = let made = code_stored in cc
 
         pub not_full : store v first_name 0 (record { at = at; bytes = stored_bytes }) ≡ Full → ⊥
         not_full full = let made = code_stored in cc

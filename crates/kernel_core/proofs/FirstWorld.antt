@@ -17,7 +17,9 @@ use Rattle.lwc_base.specs.Memory.{is_present, touched}
 use Rattle.lwc_base.specs.Names.{name_cmp, tag_cmp}
 use Rattle.lwc_base.specs.Pages.{bytes_of, zero_bytes, zero_page}
 use Rattle.lwc_base.specs.Registers.{fresh_registers}
-use Rattle.lwc_base.specs.Store.{Absent, Done, Full, Piece, after_store, byte_after, bytes_after, page_value_at, parting_count, stored_pages, put_pages, store, stored_value}
+use Rattle.lwc_base.specs.declared.right.Right.TheVariants.{Write}
+use Rattle.lwc_base.specs.Rights.{is_writable, may_write, right_at}
+use Rattle.lwc_base.specs.Store.{Absent, Done, Full, ReadOnly, Piece, after_store, byte_after, bytes_after, page_value_at, parting_count, stored_pages, put_pages, store, stored_value}
 use Rattle.lwc_base.specs.World.{World, Context, Group, add_context, change_context, change_counters, changed_context, context, empty_world, is_live, new_context}
 use Rattle.lwc_base.specs.declared.cell.Cell.TheVariants.{Own}
 use Rattle.lwc_base.specs.declared.key.Key.{Key}
@@ -127,18 +129,12 @@ one_more_tag : (frames tags : ℕ) (x : Context) (more : ℕ) → more ≡ 1 →
 unfolding world_with change_counters
 one_more_tag frames tags x more one = λ i. record (world_with frames tags x) { next = λ j. counted_more (eqb j 0) tags more one i }
 
-done_after : (absent full : Bool) (after v : World) → cond absent Absent (cond full Full (Done after)) ≡ Done v → v ≡ after
-done_after true full after v done = cc
-done_after false true after v done = cc
-done_after false false after v done = cc
-
-is_done : (absent full : Bool) (after : World) → absent ≡ false → full ≡ false → cond absent Absent (cond full Full (Done after)) ≡ Done after
-is_done true full after present free = cc
-is_done false true after present free = cc
-is_done false false after present free = refl
+is_done : (absent read full : Bool) (after : World) → absent ≡ false → read ≡ false → full ≡ false →
+    cond absent Absent (cond read ReadOnly (cond full Full (Done after))) ≡ Done after
+is_done absent read full after present writable free = grind arith
 
 -- a page of zeros of the one context, for which a frame is free, and the whole page that is stored over it
-module _ (frames tags p : ℕ) (x : Context) (bytes : List ℕ) (whole : length bytes ≡ 4096) (zeros : x.cell (Page p) ≡ Own (Some Zero))
+module _ (frames tags p : ℕ) (x : Context) (bytes : List ℕ) (whole : length bytes ≡ 4096) (zeros : x.cell (Page p) ≡ Own (Some Zero)) (right : x.right p ≡ Write)
     (free : used (world_with frames tags x) < frames) where
   w : World
   w = world_with frames tags x
@@ -165,6 +161,12 @@ module _ (frames tags p : ℕ) (x : Context) (bytes : List ℕ) (whole : length 
       ap (λ l. not (list_all (λ q. is_some (page_at w first_name q)) l)) (touched_page p (length bytes) whole)
       ∙ ap (λ o. not (is_some o && true)) page-zeros
 
+  writable-one : not (is_writable w first_name (p * 4096) (length bytes)) ≡ false
+  unfolding is_writable w
+  writable-one =
+      ap (λ l. not (list_all (λ q. may_write (right_at (world_with frames tags x) first_name q)) l)) (touched_page p (length bytes) whole)
+      ∙ ap (λ r. not (may_write r && true)) (ap (λ (y : Context). y.right p) (context-first frames tags x) ∙ right)
+
   stored_pages-one : stored_pages w first_name 0 (page_piece p bytes) tags (p ∷ []) ≡ (p, Data (record { job = 0; k = tags }) bytes) ∷ []
   unfolding is_parting
   stored_pages-one =
@@ -190,7 +192,7 @@ module _ (frames tags p : ℕ) (x : Context) (bytes : List ℕ) (whole : length 
   pub store-first : store (world_with frames tags x) first_name 0 (page_piece p bytes)
       ≡ Done (world_with frames (tags + 1) (with_cell (Page p) (Own (Some (Data (record { job = 0; k = tags }) bytes))) x))
   unfolding store w stored world_with
-  store-first = is_done _ _ _ present-one frame_free ∙ ap Done after_store-one
+  store-first = is_done _ _ _ _ present-one writable-one frame_free ∙ ap Done after_store-one
 
 set_by_suc : (b : Bool) (n m : ℕ) → n ≤ m → cond b n (n + 1) ≤ suc m
 set_by_suc true n m h = omega arith

@@ -2,8 +2,7 @@
 use Rattle.std.proofs.Common.{◌≡◌, ◌⊎◌, inl, inr, ℕ, zero, suc, ◌+◌, ◌≤◌, ◌<◌, refl, sym, ap, subst, ◌∙◌, Bool, true, false, cond, eqb, ltb, Option, Some, None, List, [], ◌||◌, length, arith}
 use Rattle.std.specs.FinMap as fm
 use Rattle.std.specs.List.{list_any, range_with_len}
-use Rattle.std.specs.Ordering.{eq_by_cmp, is_eq}
-use Rattle.std.proofs.lemmas.Cmp.{tied_itself}
+use Rattle.std.specs.Ordering.{eq_by_cmp}
 use Rattle.std.specs.Prelude.{All, is_some, map, replicate, unwrap_or}
 use Rattle.std.proofs.lemmas.List.{length-map, length-replicate}
 use Rattle.std.proofs.lemmas.List.Elements.{All-map, All-nil}
@@ -40,10 +39,10 @@ use Rattle.kernel_core.specs.Start.{Inputs, counted, first_context, first_entry,
 use Rattle.lwc_base.specs.Cells.{put_slot, slot_at, value_at, value_of, with_cell}
 use Rattle.lwc_base.specs.Keys.{with_key}
 use Rattle.lwc_base.specs.Life.{HasItsContexts, IsReaped, Link, Reaches, Root, is_among, is_of, is_reached, links, names_group, reap}
-use Rattle.lwc_base.specs.Modes.{IsSpec, mode, mode_or_copy}
+use Rattle.lwc_base.specs.Modes.{IsSpec}
 use Rattle.lwc_base.specs.Names.{name_cmp}
 use Rattle.lwc_base.specs.Sharing.{clone_context, cloned_context, share}
-use Rattle.lwc_base.specs.World.{World, Context, Group, add_context, change_context, change_counters, changed_context, context, groups_of, is_live, live_of, new_context, next_context}
+use Rattle.lwc_base.specs.World.{World, Context, Group, add_context, change_counters, context, groups_of, is_live, live_of, new_context, next_context}
 use Rattle.lwc_base.specs.declared.cell.Cell.{Cell}
 use Rattle.lwc_base.specs.declared.cell.Cell.TheVariants.{Own}
 use Rattle.lwc_base.specs.declared.descriptor.Descriptor.{Descriptor}
@@ -52,6 +51,7 @@ use Rattle.lwc_base.specs.declared.key.Key.{Key}
 use Rattle.lwc_base.specs.declared.key.Key.TheVariants.{Page, Slot, Cred}
 use Rattle.lwc_base.specs.Registers.{fresh_registers}
 use Rattle.lwc_base.specs.declared.name.Name.{Name}
+use Rattle.lwc_base.specs.declared.right.Right.TheVariants.{Write}
 use Rattle.lwc_base.specs.declared.regs.Regs.{Regs}
 use Rattle.lwc_base.proofs.Clones.{next_context-share}
 use Rattle.lwc_base.proofs.Facts.{changes, orders}
@@ -60,7 +60,7 @@ use Rattle.lwc_base.proofs.Life.{or_cases, or_right, reached_by_way, way_of_reac
 use Rattle.lwc_base.proofs.Orders.{name-itself, same_name}
 use Rattle.lwc_base.proofs.Puts.{names-put_at}
 use Rattle.lwc_base.proofs.Sound.{sound-clone_context, sound-put_slot, sound-reap}
-use Rattle.snapshot_host.proofs.Copies.{changed_added, chosen_twice, insert-twice, is_copy, no_group, put_added, shares_nothing}
+use Rattle.snapshot_host.proofs.Copies.{copy_of, is_copy, no_group, put_added, shares_nothing}
 use Rattle.snapshot_host.proofs.CopyRanges.{ranges_copied}
 use Rattle.lwc_base.specs.declared.limits.TheConstants.{MOST_BUDGET, MOST_REQUESTS}
 
@@ -70,10 +70,6 @@ only_first image = fm.insert fm.empty first_name (first_context image image.page
 
 abbrev so_far : Image → ℕ → ℕ → World
 so_far = homes_so_far
-
--- a copy by no item
-abbrev copy_of : World → Name → Regs → Context
-copy_of w home entry = record { cell = λ k. Own (value_at w home k); entry = entry; saved = λ t. None }
 
 -- no homes yet
 pub none_yet : (image : Image) (frames : ℕ) → so_far image frames 0 ≡ start_world image frames
@@ -213,9 +209,13 @@ module _ (image : Image) (frames k : ℕ) where
   unfolding first_context
   entry_is = ap (λ (x : Context). x.entry) first_there
 
+  right_is : (p : ℕ) → (context (so_far image frames k) first_name).right p ≡ Write
+  unfolding first_context
+  right_is p = ap (λ (x : Context). x.right p) first_there
+
   home_made : with_cell (Slot 0) (Own Empty) (with_cell (Slot 1) (Own Empty) (copy_of (so_far image frames k) first_name (context (so_far image frames k) first_name).entry)) ≡ home_context image
   unfolding home_context
-  home_made = λ i. record { cell = λ q. emptied q i; entry = entry_is i; saved = λ t. None }
+  home_made = λ i. record { cell = λ q. emptied q i; right = λ p. right_is p i; entry = entry_is i; saved = λ t. None }
 
   cloned : (entry : Regs) → share (so_far image frames k) first_name 0 [] ≡ so_far image frames k → clone_context (so_far image frames k) first_name 0 [] entry ≡ add_context (so_far image frames k) 0 (copy_of (so_far image frames k) first_name entry)
   unfolding clone_context

@@ -31,12 +31,12 @@ module _ (image : Image) (is : IsImage image) where
   pub few_ranges_in_first : ranges 1024 (first_context image image.pages 64) ≤ 64
   unfolding first_context
   few_ranges_in_first =
-      omega (arith, ranges-own (first_context image image.pages 64) (page_numbers image.pages) (first_page image.pages) (λ q. refl) home_page-there 1024, is.pages.ranges)
+      omega (arith, ranges-own (first_context image image.pages 64) (page_numbers image.pages) (first_page image.pages) (λ q. refl) (λ q. refl) home_page-there 1024, is.pages.ranges)
 
   few_ranges_in_home : ranges 1024 (home_context image) ≤ 64
   unfolding home_context
   few_ranges_in_home =
-      omega (arith, ranges-own (home_context image) (page_numbers image.pages) (first_page image.pages) (λ q. refl) home_page-there 1024, is.pages.ranges)
+      omega (arith, ranges-own (home_context image) (page_numbers image.pages) (first_page image.pages) (λ q. refl) (λ q. refl) home_page-there 1024, is.pages.ranges)
 
 -- a home has few ranges
 pub few_home_ranges : (inputs : Inputs) (w : World) (home : Name) → IsImage inputs.image → w.size ≡ world_size inputs.settings.frames → context w home ≡ home_context inputs.image → ranges_of w home ≤ 64

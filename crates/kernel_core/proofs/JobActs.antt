@@ -13,7 +13,7 @@ use Rattle.kernel_core.specs.Machine.{Environment}
 use Rattle.kernel_core.specs.Step.{Outcome, advance_outcome, args_of, beside, call_outcome, create_outcome, faulted, guest_calls, is_aligned, loaded, next_outcome, overlay_outcome, plain_outcome, plainly, restrict_outcome, shared_outcome, store_outcome, stored_outcome, switch_outcome, switched, syscall_outcome, unchanged, with_regs, with_status, with_world, word_outcome}
 use Rattle.kernel_core.specs.declared.calling.TheConstants.{LW_CREATE, LW_OVERLAY, LW_RESTRICT, LW_SWITCH, LW_SYSCALL}
 use Rattle.kernel_core.specs.declared.thread.Thread.{Thread}
-use Rattle.lwc_base.specs.Store.{Absent, Done, Full, Piece, Stored, store}
+use Rattle.lwc_base.specs.Store.{Absent, Done, Full, ReadOnly, Piece, Stored, store}
 use Rattle.lwc_base.specs.Jobs.{NamesKeepToJobs}
 use Rattle.lwc_base.specs.World.{World, is_live}
 use Rattle.lwc_base.specs.declared.answer.Answer.{Answer}
@@ -51,6 +51,7 @@ module _ (e : Environment) (x : Thread) (names : NamesKeepToJobs e.world) (well 
 
   local_stored : (piece : Piece) (s : Stored) → store e.world x.context x.job piece ≡ s → IsLocal e x (stored_outcome e x s)
   local_stored piece Absent is = same_context (faulted x fault.BadStore) refl
+  local_stored piece ReadOnly is = same_context (faulted x fault.ReadOnly) refl
   local_stored piece Full is = same_context (faulted x fault.NoFrame) refl
   local_stored piece (Done v) is = record { stays = stays_store x.context x.job e.world v piece ours is names; here = ours }
 

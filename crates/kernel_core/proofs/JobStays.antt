@@ -3,7 +3,7 @@ use Rattle.std.proofs.Common.{◌≡◌, ◌≢◌, ℕ, ◌+◌, refl, sym, ap,
 use Rattle.std.specs.Ordering.{eq_by_cmp}
 use Rattle.std.proofs.lemmas.Bool.{false≢true}
 use Rattle.std.proofs.lemmas.Bool.Decides.{nat_tests}
-use Rattle.kernel_core.proofs.Worlds.{StaysInJob, done_after}
+use Rattle.kernel_core.proofs.Worlds.{StaysInJob}
 use Rattle.guest_call.specs.Guest.{descriptor_for, link_of}
 use Rattle.lwc_base.specs.Cells.{put_at, put_in, put_slot, slot_at, with_cell, with_value}
 use Rattle.lwc_base.specs.Channels.{Channels}
@@ -55,6 +55,7 @@ use Rattle.lwc_base.proofs.Orders.{name-itself, same_name}
 use Rattle.lwc_base.proofs.Puts.{names-put_at, takes-after_store}
 use Rattle.lwc_base.proofs.Saving.{saves}
 use Rattle.lwc_base.proofs.Sharing.{context-same, shares-share}
+use Rattle.lwc_base.proofs.Stored.{is_done}
 use Rattle.lwc_overlay.proofs.Accepted.{restriction, taken}
 use Rattle.lwc_switch.proofs.Accepted.{accepted}
 use Rattle.lwc_syscall.proofs.Does.{does-one_thing}
@@ -74,12 +75,6 @@ is_other j job other = other_by (eqb j job) j job refl other
 
 leaves_same : (c : Name) (job : ℕ) (w : World) → Leaves c job w w
 leaves_same c job w = record { contexts = λ d other. refl; next = λ j other. refl }
-
-then_leaves : (c : Name) (job : ℕ) (u v w : World) → Leaves c job u v → Leaves c job v w → Leaves c job u w
-then_leaves c job u v w first second = record {
-  contexts = λ d other. second.contexts d other ∙ first.contexts d other;
-  next = λ j other. second.next j other ∙ first.next j other;
-}
 
 leaves_changed : (c : Name) (job : ℕ) (w v : World) (f : Context → Context) → ChangesContext w c f v → Leaves c job w v
 leaves_changed c job w v f changes = record { contexts = changes.others; next = λ j other. ap (λ (n : ℕ → Counters). n j) changes.names.next }
@@ -120,8 +115,7 @@ leaves_stored c job w piece =
         context-same (put_pages w c values) (after_store w c job piece) d refl ∙ pages_others c w values d other
 
 leaves_store : (c : Name) (job : ℕ) (w v : World) (piece : Piece) → store w c job piece ≡ Done v → Leaves c job w v
-unfolding store
-leaves_store c job w v piece done = subst (Leaves c job w) (done_after _ _ _ v done) (leaves_stored c job w piece)
+leaves_store c job w v piece done = subst (Leaves c job w) (sym (is_done w c job piece v done).after) (leaves_stored c job w piece)
 
 -- values that move into a group
 leaves_shared : (c : Name) (job : ℕ) (w : World) (items : List Item) → Leaves c job w (share w c job items)
@@ -160,11 +154,9 @@ stays_put c job w n value ours own keeps =
     in_job c job w (put_slot w c n value) ours (jobs-put_slot w c n value (subst (λ (j : ℕ). IsOwnName j value) (sym ours) own) keeps) (leaves_put c job w (Slot n) value)
 
 pub stays_store : (c : Name) (job : ℕ) (w v : World) (piece : Piece) → c.job ≡ job → store w c job piece ≡ Done v → NamesKeepToJobs w → StaysInJob job w v
-unfolding store
-stays_store c job w v piece ours done keeps = in_job c job w v ours (kept_store done) (leaves_store c job w v piece done)
-  where
-    kept_store : store w c job piece ≡ Done v → NamesKeepToJobs v
-    kept_store is = subst NamesKeepToJobs (done_after _ _ _ v is) (jobs-after_store w c job piece keeps)
+stays_store c job w v piece ours done keeps =
+    let kept = subst NamesKeepToJobs (sym (is_done w c job piece v done).after) (jobs-after_store w c job piece keeps) in
+    in_job c job w v ours kept (leaves_store c job w v piece done)
 
 -- what a plain call does over contexts of the job
 pub stays_plain : (three : Three) (job : ℕ) (w : World) (io : Channels) (v : World) (after : Channels) → three.memory.job ≡ job → three.slots.job ≡ job → three.cred.job ≡ job → IsPlainChange w io three job v after → NamesKeepToJobs w → StaysInJob job w v

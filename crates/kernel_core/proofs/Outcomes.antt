@@ -17,7 +17,7 @@ use Rattle.kernel_core.specs.declared.calling.TheConstants.{LW_CREATE, LW_OVERLA
 use Rattle.kernel_core.specs.declared.thread.Thread.{Thread}
 use Rattle.lwc_base.specs.Life.{is_of}
 use Rattle.lwc_base.specs.Refusals.{first_refusal}
-use Rattle.lwc_base.specs.Store.{Absent, Done, Full, Piece, Stored, store}
+use Rattle.lwc_base.specs.Store.{Absent, Done, Full, ReadOnly, Piece, Stored, store}
 use Rattle.lwc_base.specs.World.{World, is_live}
 use Rattle.lwc_base.specs.declared.answer.Answer.{Answer}
 use Rattle.lwc_base.specs.declared.answer.Answer.TheVariants as answers
@@ -100,6 +100,7 @@ acts_chosen e x false first second p q = q
 acts_stored : (e : Environment) (x : Thread) (s : Stored) → ((v : World) → s ≡ Done v → IsWell e.world e.channels → is_live e.world x.context ≡ true → Changes x.job e (with_world e v)) →
     Acts e x (stored_outcome e x s)
 acts_stored e x Absent changes = acts_faulted e x fault.BadStore
+acts_stored e x ReadOnly changes = acts_faulted e x fault.ReadOnly
 acts_stored e x Full changes = acts_faulted e x fault.NoFrame
 acts_stored e x (Done v) changes = record {
   job = refl;

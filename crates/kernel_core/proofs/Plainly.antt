@@ -1,7 +1,6 @@
 -- What a plain call keeps, by its number and its answer.
 use Rattle.std.proofs.Common.{◌≡◌, ℕ, refl, sym, subst, Bool, true, false, cond, List}
 use Rattle.kernel_core.proofs.Reaping.{leaves_same}
-use Rattle.kernel_core.proofs.Worlds.{done_after}
 use Rattle.kernel_core.specs.Changes.{Keeps, LeavesNothing, change_by_end, change_by_number}
 use Rattle.kernel_core.specs.Step.{plainly}
 use Rattle.kernel_core.specs.declared.acting.Change.{Change}
@@ -16,11 +15,11 @@ use Rattle.lwc_syscall.specs.Changes.{CutsNone, Put, Same, StoredPut, cuts_none,
 use Rattle.lwc_syscall.specs.declared.answer.CallAnswer.{CallAnswer}
 use Rattle.lwc_syscall.specs.declared.answer.CallAnswer.TheVariants as ends
 use Rattle.lwc_syscall.specs.declared.calls.Three.{Three}
+use Rattle.lwc_base.proofs.Stored.{is_done}
 use Rattle.lwc_base.proofs.StillReaped.{reaped-after_store, reaped-put_slot}
 
 stored_reaped : (w v : World) (names : List Name) (c : Name) (job : ℕ) (piece : Piece) → store w c job piece ≡ Done v → IsReaped w names → IsReaped v names
-unfolding store
-stored_reaped w v names c job piece done reaped = subst (λ (u : World). IsReaped u names) (done_after _ _ _ v done) (reaped-after_store w names c job piece reaped)
+stored_reaped w v names c job piece done reaped = subst (λ (u : World). IsReaped u names) (sym (is_done w c job piece v done).after) (reaped-after_store w names c job piece reaped)
 
 -- what cuts no link leaves nothing to drop
 pub cuts_leaves : (w : World) (c : Name) (three : Three) (job : ℕ) (v : World) → CutsNone w three job v → LeavesNothing w c v c

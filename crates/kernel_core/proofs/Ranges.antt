@@ -8,7 +8,9 @@ use Rattle.guest_image.specs.Limits.{page_numbers}
 use Rattle.guest_image.specs.Numbers.{begins, ranges_after}
 use Rattle.guest_image.specs.declared.image.PageImage.{PageImage}
 use Rattle.lwc_base.specs.Frames.{own_value, tag_of, tags_of_context}
-use Rattle.lwc_base.specs.Ranges.{are_of_one_kind, begins_range, continues_range, has_page, is_page, ranges}
+use Rattle.lwc_base.specs.declared.right.Right.TheVariants.{Write}
+use Rattle.lwc_base.specs.Rights.{same_right}
+use Rattle.lwc_base.specs.Ranges.{are_alike, are_of_one_kind, begins_range, continues_range, has_page, is_page, ranges}
 use Rattle.lwc_base.specs.World.{Context}
 use Rattle.lwc_base.specs.declared.cell.Cell.TheVariants.{Own}
 use Rattle.lwc_base.specs.declared.key.Key.TheVariants.{Page}
@@ -88,7 +90,8 @@ module _ (test : ℕ → Bool) (a n : ℕ) where
       )
 
 -- a context whose pages are its own, and which has just the pages of these numbers
-module _ (x : Context) (numbers : List ℕ) (value : ℕ → Option PageValue) (own : (p : ℕ) → x.cell (Page p) ≡ Own (value p)) (present : (p : ℕ) → is_some (value p) ≡ has numbers p) where
+module _ (x : Context) (numbers : List ℕ) (value : ℕ → Option PageValue) (own : (p : ℕ) → x.cell (Page p) ≡ Own (value p))
+    (writable : (p : ℕ) → x.right p ≡ Write) (present : (p : ℕ) → is_some (value p) ≡ has numbers p) where
   page-there : (p : ℕ) → has_page x p ≡ has numbers p
   page-there p = ap is_page (own p) ∙ present p
 
@@ -101,8 +104,9 @@ module _ (x : Context) (numbers : List ℕ) (value : ℕ → Option PageValue) (
   no_range_after : (m : ℕ) → has numbers m ≡ true → has numbers (suc m) ≡ true → begins_range x (suc m) ≡ false
   unfolding begins_range
   no_range_after m before here =
-      let like : are_of_one_kind (x.cell (Page m)) (x.cell (Page (suc m))) ≡ true =
-      (λ i. are_of_one_kind (own m i) (own (suc m) i)) ∙ alike_by (value m) (value (suc m)) (present m ∙ before) (present (suc m) ∙ here) in
+      let like : are_alike x m (suc m) ≡ true =
+      (λ i. are_of_one_kind (own m i) (own (suc m) i) && same_right (writable m i) (writable (suc m) i))
+      ∙ ap (λ b. b && true) (alike_by (value m) (value (suc m)) (present m ∙ before) (present (suc m) ∙ here)) in
       ap (λ b. has_page x (suc m) && not b) like ∙ and_false (has_page x (suc m))
 
   begun_by : (before : Option ℕ) (m : ℕ) (b : Bool) → begins before m ≡ b → ((k : ℕ) → before ≡ Some k → has numbers k ≡ true) → has numbers m ≡ true →

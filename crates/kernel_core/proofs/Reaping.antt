@@ -6,7 +6,6 @@ use Rattle.std.specs.List.{range_with_len}
 use Rattle.std.proofs.lemmas.List.FromFn.{length-map-range_with_len}
 use Rattle.std.proofs.lemmas.List.{append_assoc, length-map}
 use Rattle.std.proofs.lemmas.List.Elements.{All-cons, All-map, All-nil, All-weaker}
-use Rattle.kernel_core.proofs.Worlds.{done_after}
 use Rattle.kernel_core.specs.Changes.{Keeps, LeavesNothing, change_by}
 use Rattle.kernel_core.specs.Ready.{IsWithinLimits}
 use Rattle.kernel_core.specs.Machine.{Serve, home_of, homes, homes_of}
@@ -38,6 +37,7 @@ use Rattle.lwc_base.proofs.Facts.{counts}
 use Rattle.lwc_base.proofs.Orders.{name-itself, same_name}
 use Rattle.lwc_base.proofs.Reaped.{kept-by_way, live-was_live, was_group-reap}
 use Rattle.lwc_base.proofs.Slots.{lowest_is_empty_slot}
+use Rattle.lwc_base.proofs.Stored.{is_done}
 use Rattle.lwc_base.proofs.StillReaped.{reaped-after_store, reaped-created, reaped-put_slot, reaped-switched}
 use Rattle.lwc_create.proofs.Allowed.{slot_there}
 use Rattle.lwc_base.proofs.Life.{or_cases, or_right}
@@ -112,9 +112,8 @@ leaves_same w v c stays contexts t found reaped = subst (IsReaped v) (sym (set-s
 
 -- a store that is done
 pub leaves_stored : (w v : World) (c : Name) (job : ℕ) (piece : Piece) → store w c job piece ≡ Done v → LeavesNothing w c v c
-unfolding store
 leaves_stored w v c job piece done =
-    subst (λ (u : World). LeavesNothing w c u c) (done_after _ _ _ v done) (leaves_same w (after_store w c job piece) c (λ contexts. reaped-after_store w contexts c job piece))
+    subst (λ (u : World). LeavesNothing w c u c) (sym (is_done w c job piece v done).after) (leaves_same w (after_store w c job piece) c (λ contexts. reaped-after_store w contexts c job piece))
 
 -- the end of a call that made a context
 created_by : (w v : World) (c : Name) (job : ℕ) (regs after : Regs) (slot : ℕ) (refusal : Option Refusal) → create.ended w c job regs slot refusal ≡ (answers.Done after, v) →

@@ -7,12 +7,11 @@ use Rattle.std.proofs.lemmas.List.Sums.{count_by-le-length}
 use Rattle.std.proofs.lemmas.List.FromFn.{length-range_with_len}
 use Rattle.kernel_core.specs.Ready.{IsWithinLimits}
 use Rattle.lwc_base.specs.Cells.{put_slot}
-use Rattle.lwc_base.specs.Channels.{Channels, HasItsFiles, IsInRange}
+use Rattle.lwc_base.specs.Channels.{Channels, HasItsFiles}
 use Rattle.lwc_base.specs.Facts.{AddsContext, KeepsNames, SharesValues, TakesTags}
 use Rattle.lwc_base.specs.Frames.{is_parting}
 use Rattle.lwc_base.specs.Fresh.{IsFresh}
 use Rattle.lwc_base.specs.Holders.{IsGroup}
-use Rattle.lwc_base.specs.Life.{HasItsContexts, is_of}
 use Rattle.lwc_base.specs.Jobs.{NamesKeepToJobs}
 use Rattle.lwc_base.specs.Memory.{touched}
 use Rattle.lwc_base.specs.Modes.{IsSpec}
@@ -20,7 +19,7 @@ use Rattle.lwc_base.specs.Overlay.{overlay}
 use Rattle.lwc_base.specs.Saved.{save}
 use Rattle.lwc_base.specs.Sharing.{clone_context, needs_group, share}
 use Rattle.lwc_base.specs.Sound.{IsSound}
-use Rattle.lwc_base.specs.Store.{Absent, Done, Full, Piece, after_store, page_value_at, parting_count, store}
+use Rattle.lwc_base.specs.Store.{Done, Piece, after_store, page_value_at, parting_count, store}
 use Rattle.lwc_base.specs.World.{World, Context, Counters, context, groups_of, is_live, live_of, next_context, next_group}
 use Rattle.lwc_base.specs.declared.descriptor.Cap.{Cap}
 use Rattle.lwc_base.specs.declared.descriptor.Descriptor.{Descriptor}
@@ -31,13 +30,13 @@ use Rattle.lwc_base.specs.declared.regs.Regs.{Regs}
 use Rattle.lwc_syscall.specs.Changes.{IsWell, KeepsNumbers}
 use Rattle.lwc_base.proofs.Clones.{next_context-share}
 use Rattle.lwc_base.proofs.Facts.{changes, counts}
-use Rattle.lwc_base.proofs.InRange.{files-after_store, files-clone, files-put_slot, files-save}
-use Rattle.lwc_base.proofs.NamedContexts.{contexts-after_store, contexts-clone, contexts-put_slot, contexts-save}
+use Rattle.lwc_base.proofs.InRange.{files-after_store, files-clone, files-save}
+use Rattle.lwc_base.proofs.NamedContexts.{contexts-clone, contexts-save}
 use Rattle.lwc_base.proofs.Puts.{names-put_at, takes-after_store}
-use Rattle.lwc_base.proofs.Room.{sound-store}
 use Rattle.lwc_base.proofs.Saving.{saves}
 use Rattle.lwc_base.proofs.Sharing.{shares-share}
-use Rattle.lwc_base.proofs.Sound.{sound-clone_context, sound-put_slot, sound-save, sound-share}
+use Rattle.lwc_base.proofs.Sound.{sound-clone_context, sound-save, sound-share}
+use Rattle.lwc_base.proofs.Stored.{is_done}
 use Rattle.lwc_base.proofs.Orders.{cases_name, same_name}
 use Rattle.lwc_syscall.proofs.Kept.{well-slot}
 
@@ -152,11 +151,6 @@ few_parting w c piece short =
     let pages = at_most_two (eqb count 0) (piece.at / 4096) ((piece.at + count - 1) / 4096 + 1 - piece.at / 4096) (omega arith) in
     omega (arith, count_by-le-length (λ p. is_parting w (page_value_at w c p)) (touched piece.at count), pages)
 
-pub done_after : (absent full : Bool) (after v : World) → cond absent Absent (cond full Full (Done after)) ≡ Done v → after ≡ v
-done_after true full after v done = cc
-done_after false true after v done = cc
-done_after false false after v done = cc
-
 live_as_before : (w v : World) → ((c : Name) → is_live v c ≡ is_live w c) → (j : ℕ) → live_of v j ≡ live_of w j
 live_as_before w v same j = (counts.same_contexts w v j same).0
 
@@ -191,8 +185,7 @@ grows_after_store w c job piece short =
 
 -- a store that is done
 pub grows_store : (w v : World) (c : Name) (job : ℕ) (piece : Piece) → length piece.bytes ≤ 4096 → store w c job piece ≡ Done v → Grows job 2 w v
-unfolding store
-grows_store w v c job piece short done = subst (Grows job 2 w) (done_after _ _ _ v done) (grows_after_store w c job piece short)
+grows_store w v c job piece short done = subst (Grows job 2 w) (sym (is_done w c job piece v done).after) (grows_after_store w c job piece short)
 
 -- numbers that are kept
 pub grows_numbers : (job : ℕ) (w v : World) → KeepsNumbers w v → Grows job 2 w v
@@ -202,8 +195,7 @@ grows_numbers job w v numbers =
 
 -- a store puts no descriptor
 pub files_store : (w v : World) (io : Channels) (c : Name) (job : ℕ) (piece : Piece) → store w c job piece ≡ Done v → HasItsFiles io w → HasItsFiles io v
-unfolding store
-files_store w v io c job piece done files = subst (HasItsFiles io) (done_after _ _ _ v done) (files-after_store io w c job piece files)
+files_store w v io c job piece done files = subst (HasItsFiles io) (sym (is_done w c job piece v done).after) (files-after_store io w c job piece files)
 
 grows_context : (job : ℕ) (w v : World) (x : Context) → IsFresh w → AddsContext w job x v → live_of w job < 32 → Grows job 1 w v
 grows_context job w v x fresh adds fewer = record {

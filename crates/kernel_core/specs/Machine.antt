@@ -17,8 +17,7 @@ pub record Environment : Type 0 where
   pub channels : Channels
 
 -- a serve: the number of workers, the steps that each request may take, the number of the next request, and
--- what is
--- recorded of each request that is finished
+-- what is recorded of each request that is finished
 pub record Serve : Type 0 where
   pub workers : ℕ
   pub budget : ℕ
@@ -57,8 +56,7 @@ unfoldable pub is_ended : Machine → ℕ → Bool
 is_ended m t = option_map_or (λ x. has_ended x.status) (slice_get m.threads t) true
 
 -- the number of steps that a thread may still make, beside this number more to finish: its budget while it
--- runs, and
--- 1 while it is idle
+-- runs, and 1 while it is idle
 abbrev pub steps_left : ℕ → ℕ → ThreadStatus → ℕ
 steps_left more budget Running = budget + more
 steps_left more budget Idle = 1

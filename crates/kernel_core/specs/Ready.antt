@@ -26,8 +26,7 @@ use Rattle.snapshot_host.specs.Begin.{IsNewJob}
 use Rattle.world_face.specs.Calls.{AreFew, HasPlace, IsLive, MayName}
 
 -- a thread may act in a world: the world is sound and has the contexts that its slots name, the thread's
--- context
--- is live, and its job may name and place what it makes
+-- context is live, and its job may name and place what it makes
 pub record CanAct (w : World) (x : Thread) : Type 0 where
   pub sound : IsSound w
   pub named : HasItsContexts w
@@ -102,8 +101,7 @@ pub record IsWorker (s : Serve) (x : Thread) : Type 0 where
   pub job : HasItsJob s x.status x.job
 
 -- a serve is as its next requests need it: its homes are as at the start, names keep to their jobs, and jobs
--- that are
--- not begun have counted nothing
+-- that are not begun have counted nothing
 pub record IsReadyServe (inputs : Inputs) (m : Machine) (s : Serve) : Type 0 where
   pub workers : s.workers ≤ MOST_THREADS
   pub count : length m.threads ≡ s.workers

@@ -64,8 +64,7 @@ pub record ComesToRefusal (m : Machine) (t : ℕ) (x : Thread) (i : Instr) (refu
   pub refused : refusal_of i.imm t m.environment (advanced_thread m x) ≡ Some refusal
 
 -- the thread once this call is refused: after its private instructions it has another r0, pc and budget, and
--- ends if
--- that is used up
+-- ends if that is used up
 abbrev pub thread_refused : Machine → Thread → Refusal → Thread
 thread_refused m x refusal = with_steps (x.budget - 1) (refused (advanced_thread m x) refusal)
 

@@ -25,6 +25,7 @@ use Rattle.lwc_base.specs.declared.name.Name.{Name}
 use Rattle.lwc_base.specs.declared.name.Tag.{Tag}
 use Rattle.lwc_base.specs.declared.page.PageValue.{PageValue}
 use Rattle.lwc_base.specs.declared.page.PageValue.TheVariants.{Data}
+use Rattle.lwc_base.specs.declared.right.Right.TheVariants.{Write}
 use Rattle.lwc_base.specs.declared.size.WorldSize.{WorldSize}
 use Rattle.lwc_base.specs.Channels.{opened}
 use Rattle.lwc_base.specs.Keys.{ValueOf}
@@ -75,6 +76,7 @@ first_entry image = slice_index image.entries 0
 unfoldable pub first_context : Image → List PageImage → ℕ → Context
 first_context image pages slots = record {
   cell = λ k. Own (first_value image pages slots k);
+  right = λ p. Write;
   entry = fresh_registers (first_entry image);
   saved = λ t. None;
 }
@@ -133,6 +135,7 @@ home_value image k = first_value image image.pages SLOTS k
 unfoldable pub home_context : Image → Context
 home_context image = record {
   cell = λ k. Own (home_value image k);
+  right = λ p. Write;
   entry = fresh_registers (first_entry image);
   saved = λ t. None;
 }
@@ -143,8 +146,7 @@ with_homes contexts home zero = contexts
 with_homes contexts home (suc t) = fm.insert (with_homes contexts home t) (home_of t) home
 
 -- the world of these contexts, where job 0 has named the first context and this number of homes, and taken a
--- tag for
--- each page
+-- tag for each page
 unfoldable pub world_of : Image → ℕ → ℕ → fm.FinMap name_cmp Context → World
 world_of image frames workers contexts = record {
   contexts = contexts;

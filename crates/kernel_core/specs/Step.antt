@@ -114,6 +114,7 @@ loaded x d (Some value) = with_regs x (with_result x.regs d value)
 -- the outcome of a store instruction, by how the store ends
 abbrev pub stored_outcome : Environment → Thread → Stored → Outcome
 stored_outcome e x stores.Absent = unchanged e (faulted x fault.BadStore)
+stored_outcome e x stores.ReadOnly = unchanged e (faulted x fault.ReadOnly)
 stored_outcome e x stores.Full = unchanged e (faulted x fault.NoFrame)
 stored_outcome e x (stores.Done w) = unchanged (with_world e w) (with_regs x (next_instruction x.regs))
 

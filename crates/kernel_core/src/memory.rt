@@ -122,6 +122,10 @@ fn store_bytes<W: World>(
             thread.fail(Fault::BadStore);
             Ok(Change::Thread)
         }
+        Err(StoreFault::ReadOnly) => {
+            thread.fail(Fault::ReadOnly);
+            Ok(Change::Thread)
+        }
         Err(StoreFault::NoFrame) => {
             thread.fail(Fault::NoFrame);
             Ok(Change::Thread)

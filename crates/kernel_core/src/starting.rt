@@ -272,14 +272,16 @@ fn put_page<W: World>(world: &mut W, image: &Image, k: usize) -> Result<(), OutO
     }
 }
 
-/// The only error of a store of a page that is present and has a frame.
+/// The only error of a store of a page that is present, may be stored to and has a frame.
 fn out_of_memory(fault: StoreFault) -> OutOfMemory
     requires present { fault ≢ StoreFault.BadAddress }
+    requires writable { fault ≢ StoreFault.ReadOnly }
     requires frame { fault ≢ StoreFault.NoFrame }
 {
     match fault {
         StoreFault::OutOfMemory => OutOfMemory,
         StoreFault::BadAddress => unreachable!(),
+        StoreFault::ReadOnly => unreachable!(),
         StoreFault::NoFrame => unreachable!(),
     }
 }

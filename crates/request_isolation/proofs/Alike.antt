@@ -19,7 +19,8 @@ use Rattle.kernel_core.specs.declared.calling.TheConstants.{LW_CREATE, LW_OVERLA
 use Rattle.kernel_core.specs.declared.thread.Thread.{Thread}
 use Rattle.lwc_base.specs.Frames.{used}
 use Rattle.lwc_base.specs.Memory.{is_present}
-use Rattle.lwc_base.specs.Store.{Absent, Done, Full, Piece, Stored, after_store, parting_count, store}
+use Rattle.lwc_base.specs.Rights.{is_writable}
+use Rattle.lwc_base.specs.Store.{Absent, Done, Full, Piece, ReadOnly, Stored, after_store, parting_count, store}
 use Rattle.lwc_base.specs.World.{World}
 use Rattle.lwc_base.specs.declared.fault.Fault.TheVariants as fault
 use Rattle.lwc_base.specs.declared.page.TheConstants.{PAGE_BYTES}
@@ -69,18 +70,21 @@ module _ (home : Home) (r t s : ℕ) (e f : Environment) (x : Thread) (here : x.
   alike_word : (at : ℕ) → word_for e.world x.context at ≡ word_for f.world x.context at
   alike_word at = ap (λ (o : Option (List ℕ)). cond (is_aligned at) (option_map (from_le_bytes w64) o) None) (asked.bytes at 8)
 
-  stored_by : Bool → Bool → World → Stored
-  stored_by present full v = cond (not present) Absent (cond full Full (Done v))
+  stored_by : Bool → Bool → Bool → World → Stored
+  stored_by present writable full v = cond (not present) Absent (cond (not writable) ReadOnly (cond full Full (Done v)))
 
-  alike_stored : (p q : Bool) → p ≡ q → (a b : Bool) (w v : World) → stored_by p a w ≢ Full → stored_by q b v ≢ Full → LooksAlike home x.context.job t s w v →
-      ActsAlike home r t s (stored_outcome e x (stored_by p a w)) (stored_outcome f x (stored_by q b v))
+  alike_stored : (p q : Bool) → p ≡ q → (m n : Bool) → m ≡ n → (a b : Bool) (w v : World) → stored_by p m a w ≢ Full → stored_by q n b v ≢ Full → LooksAlike home x.context.job t s w v →
+      ActsAlike home r t s (stored_outcome e x (stored_by p m a w)) (stored_outcome f x (stored_by q n b v))
   unfolding stored_by
-  alike_stored false false is a b w v first second worlds = alike_thread (faulted x fault.BadStore)
-  alike_stored true true is false false w v first second worlds = alike_world _ _ w v refl worlds
-  alike_stored true true is true b w v first second worlds = absurd (first refl)
-  alike_stored true true is false true w v first second worlds = absurd (second refl)
-  alike_stored true false is a b w v first second worlds = cc
-  alike_stored false true is a b w v first second worlds = cc
+  alike_stored false false is m n may a b w v first second worlds = alike_thread (faulted x fault.BadStore)
+  alike_stored true true is false false may a b w v first second worlds = alike_thread (faulted x fault.ReadOnly)
+  alike_stored true true is true true may false false w v first second worlds = alike_world _ _ w v refl worlds
+  alike_stored true true is true true may true b w v first second worlds = absurd (first refl)
+  alike_stored true true is true true may false true w v first second worlds = absurd (second refl)
+  alike_stored true true is true false may a b w v first second worlds = cc
+  alike_stored true true is false true may a b w v first second worlds = cc
+  alike_stored true false is m n may a b w v first second worlds = cc
+  alike_stored false true is m n may a b w v first second worlds = cc
 
   alike_within : (a b : Bool) → a ≡ b → (stored also : Stored) → (a ≡ true → b ≡ true → ActsAlike home r t s (stored_outcome e x stored) (stored_outcome f x also)) →
       ActsAlike home r t s (cond a (stored_outcome e x stored) (unchanged e (faulted x fault.BadStore))) (cond b (stored_outcome f x also) (unchanged f (faulted x fault.BadStore)))
@@ -95,6 +99,7 @@ module _ (home : Home) (r t s : ℕ) (e f : Environment) (x : Thread) (here : x.
       alike_within (leb (piece.at + length piece.bytes) (e.world.size.pages * PAGE_BYTES)) (leb (piece.at + length piece.bytes) (f.world.size.pages * PAGE_BYTES))
       (ap (λ (n : ℕ). leb (piece.at + length piece.bytes) (n * PAGE_BYTES)) asked.pages) (store e.world x.context x.job piece) (store f.world x.context x.job piece)
       (λ one two. alike_stored (is_present e.world x.context piece.at (length piece.bytes)) (is_present f.world x.context piece.at (length piece.bytes)) (asked.present piece.at (length piece.bytes))
+      (is_writable e.world x.context piece.at (length piece.bytes)) (is_writable f.world x.context piece.at (length piece.bytes)) (asked.writable piece.at (length piece.bytes))
       (ltb e.world.size.frames (used e.world + parting_count e.world x.context piece)) (ltb f.world.size.frames (used f.world + parting_count f.world x.context piece))
       (after_store e.world x.context x.job piece) (after_store f.world x.context x.job piece) (λ full. first (one, full)) (λ full. second (two, full))
       (subst (λ (j : ℕ). LooksAlike home x.context.job t s (after_store e.world x.context j piece) (after_store f.world x.context j piece)) own_job

@@ -1,5 +1,5 @@
 -- What an act of a request leaves to the others: each job keeps what is its own, and other jobs see nothing of it.
-use Rattle.std.proofs.Common.{◌≡◌, ◌≢◌, ℕ, ◌+◌, refl, sym, ap, subst, ◌∙◌, Bool, true, false, cond, eqb, not, ltb, Option, Some, None, List, length}
+use Rattle.std.proofs.Common.{◌≡◌, ◌≢◌, ℕ, ◌+◌, refl, sym, ap, subst, ◌∙◌, Bool, true, false, cond, eqb, Option, Some, None, List}
 use Rattle.std.specs.Int.{w64, to_le_bytes}
 use Rattle.guest_isa.specs.declared.instr.Instr.{Instr}
 use Rattle.guest_isa.specs.declared.op.Op.{Op}
@@ -14,10 +14,9 @@ use Rattle.kernel_core.specs.Machine.{Environment}
 use Rattle.kernel_core.specs.Step.{Outcome, advance_outcome, call_outcome, ended_outcome, faulted, guest_calls, is_aligned, loaded, next_outcome, plainly, shared_outcome, store_outcome, stored_outcome, switched, three_times, unchanged, with_regs, with_world, word_outcome}
 use Rattle.kernel_core.specs.declared.calling.TheConstants.{LW_CREATE, LW_OVERLAY, LW_RESTRICT, LW_SWITCH, LW_SYSCALL}
 use Rattle.kernel_core.specs.declared.thread.Thread.{Thread}
-use Rattle.lwc_base.specs.Memory.{is_present}
-use Rattle.lwc_base.specs.Frames.{used}
-use Rattle.lwc_base.specs.Store.{Absent, Done, Full, Piece, Stored, after_store, parting_count, store}
+use Rattle.lwc_base.specs.Store.{Absent, Done, Full, Piece, ReadOnly, Stored, after_store, store}
 use Rattle.lwc_base.specs.World.{World}
+use Rattle.lwc_base.proofs.Stored.{is_done}
 use Rattle.lwc_base.specs.declared.answer.Answer.{Answer}
 use Rattle.lwc_base.specs.declared.answer.Answer.TheVariants as answers
 use Rattle.lwc_base.specs.declared.answer.Moved.{Moved}
@@ -72,21 +71,16 @@ module _ (home : Home) (e : Environment) (x : Thread) (here : x.context.job ≡ 
   acts_loaded d None = acts_thread _ refl
   acts_loaded d (Some value) = acts_thread _ refl
 
-  store_done : (present full : Bool) (u v : World) → cond (not present) Absent (cond full Full (Done u)) ≡ Done v → u ≡ v
-  store_done false full u v is = cc
-  store_done true true u v is = cc
-  store_done true false u v is = cc
-
   apart_store : (piece : Piece) (v : World) → store e.world x.context x.job piece ≡ Done v → Apart home x.job e (with_world e v)
-  unfolding store
   apart_store piece v is =
-      let after : after_store e.world x.context x.job piece ≡ v = store_done (is_present e.world x.context piece.at (length piece.bytes)) (ltb e.world.size.frames (used e.world + parting_count e.world x.context piece)) _ v is in
+      let after : after_store e.world x.context x.job piece ≡ v = sym (is_done e.world x.context x.job piece v is).after in
       let own : after_store e.world x.context x.context.job piece ≡ v = ap (λ (j : ℕ). after_store e.world x.context j piece) here ∙ after in
       subst (λ (u : World). Apart home x.job e (with_world e u)) own
       (apart_world _ (leaves_stored home x.context e.world not_nobody jobs piece))
 
   acts_stored : (s : Stored) → ((v : World) → s ≡ Done v → Apart home x.job e (with_world e v)) → ActsApart home x.job e (stored_outcome e x s)
   acts_stored Absent done = acts_thread _ refl
+  acts_stored ReadOnly done = acts_thread _ refl
   acts_stored Full done = acts_thread _ refl
   acts_stored (Done v) done = record { apart = done v refl; here = here }
 

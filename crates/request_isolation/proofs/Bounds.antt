@@ -1,5 +1,5 @@
 -- The frames in use, by the tags of each job.
-use Rattle.std.proofs.Common.{◌≡◌, ◌≢◌, inl, inr, ℕ, zero, suc, ◌+◌, ◌*◌, ◌≤◌, ◌<◌, refl, sym, ap, ◌∙◌, Bool, true, false, cond, eqb, ◌||◌, List, [], ◌∷◌, length, arith, Option, Some, None}
+use Rattle.std.proofs.Common.{◌≡◌, ◌≢◌, inl, inr, ℕ, zero, suc, ◌+◌, ◌*◌, ◌≤◌, ◌<◌, refl, sym, ap, ◌∙◌, Bool, true, false, cond, eqb, ◌||◌, List, [], ◌∷◌, length, arith}
 use Rattle.std.specs.Prelude.{not}
 use Rattle.std.specs.List.{filter, flat_map, list_any, range_with_len, sum_by}
 use Rattle.std.specs.Ordering.{eq_by_cmp}
@@ -15,8 +15,6 @@ use Rattle.lwc_base.specs.Names.{tag_cmp}
 use Rattle.lwc_base.specs.World.{Context, Group, World}
 use Rattle.lwc_base.specs.declared.key.Key.TheVariants.{Page}
 use Rattle.lwc_base.specs.declared.name.Name.{Name}
-use Rattle.lwc_base.specs.declared.page.PageValue.{PageValue}
-use Rattle.lwc_base.specs.declared.page.PageValue.TheVariants.{Zero, Data}
 use Rattle.lwc_base.specs.declared.name.Tag.{Tag}
 use Rattle.request_isolation.proofs.Taking.{names_of}
 use Rattle.request_isolation.proofs.Counting.{OfJobs, any_filter, distinct, distinct-split, distinct_of_jobs, few_distinct, first_distinct, first_tags, in_first, no_fewer}

@@ -32,7 +32,8 @@ use Rattle.lwc_base.specs.Names.{name_cmp}
 use Rattle.lwc_base.specs.Refusals.{first_refusal}
 use Rattle.lwc_base.specs.Registers.{fresh_registers}
 use Rattle.lwc_base.specs.Sound.{IsSound, IsSoundPage, IsSoundValue, live_groups, sound_pages}
-use Rattle.lwc_base.specs.Store.{Absent, Done, Full, Piece, Stored, after_store, parting_count, store}
+use Rattle.lwc_base.specs.Rights.{is_writable}
+use Rattle.lwc_base.specs.Store.{Absent, Done, Full, Piece, ReadOnly, Stored, after_store, parting_count, store}
 use Rattle.lwc_base.specs.World.{Context, Group, World, change_context, change_group, context, group, is_live, new_context}
 use Rattle.lwc_base.specs.declared.cell.Cell.{Cell}
 use Rattle.lwc_base.specs.declared.cell.Cell.TheVariants.{Own, Common}
@@ -47,6 +48,7 @@ use Rattle.lwc_base.specs.declared.name.Tag.{Tag}
 use Rattle.lwc_base.specs.declared.regs.Regs.{Regs}
 use Rattle.lwc_base.specs.declared.page.TheConstants.{PAGE_BYTES}
 use Rattle.lwc_base.specs.declared.refusal.Refusal.{Refusal}
+use Rattle.lwc_base.specs.declared.refusal.Refusal.TheVariants as refusal
 use Rattle.lwc_base.specs.declared.refusal.Refusal.TheVariants.{BadAddress, BadCall, BadFd, BadMode, NoFrame, NotCovered, TooLong, WrongKind}
 use Rattle.lwc_base.specs.declared.page.PageValue.{PageValue}
 use Rattle.lwc_base.specs.declared.page.PageValue.TheVariants.{Zero, Data}
@@ -67,16 +69,14 @@ use Rattle.lwc_base.proofs.Orders.{name-itself, same_name}
 use Rattle.kernel_core.proofs.Worlds.{few_parting}
 
 -- a store that finds too few frames
-store_full : (v : World) (present full : Bool) → cond (not present) Absent (cond full Full (Done v)) ≡ Full → (present ≡ true) × (full ≡ true)
-store_full v true true is = (refl, refl)
-store_full v true false is = cc
-store_full v false full is = cc
+record IsFullStore (w : World) (c : Name) (piece : Piece) : Type 0 where
+  present : is_present w c piece.at (length piece.bytes) ≡ true
+  writable : is_writable w c piece.at (length piece.bytes) ≡ true
+  few : w.size.frames < used w + parting_count w c piece
 
-full_parts : (w : World) (c : Name) (job : ℕ) (piece : Piece) → store w c job piece ≡ Full → (is_present w c piece.at (length piece.bytes) ≡ true) × (w.size.frames < used w + parting_count w c piece)
+full_parts : (w : World) (c : Name) (job : ℕ) (piece : Piece) → store w c job piece ≡ Full → IsFullStore w c piece
 unfolding store
-full_parts w c job piece is =
-    let parts = store_full (after_store w c job piece) (is_present w c piece.at (length piece.bytes)) (ltb w.size.frames (used w + parting_count w c piece)) is in
-    (parts.0, (let full = parts.1 in grind (arith, nat_tests)))
+full_parts w c job piece is = record { present = grind arith; writable = grind arith; few = grind (arith, nat_tests) }
 
 -- the world with more frames
 abbrev pub more : World → World
@@ -93,6 +93,10 @@ parting_more w c piece = refl
 present_more : (w : World) (c : Name) (at count : ℕ) → is_present (more w) c at count ≡ is_present w c at count
 unfolding is_present value_at context group
 present_more w c at count = refl
+
+writable_more : (w : World) (c : Name) (at count : ℕ) → is_writable (more w) c at count ≡ is_writable w c at count
+unfolding is_writable context
+writable_more w c at count = refl
 
 named_more : (w : World) (job : ℕ) (k : Key) (cell : Cell (ValueOf k)) → InCell (live_groups w) job k cell → InCell (live_groups (more w)) job k cell
 unfolding group
@@ -149,10 +153,9 @@ live_present w c at count some is = by_test (eqb count 0) refl is
 
 -- the store in a world with more frames
 module _ (w : World) (sound : IsSound w) (c : Name) (job : ℕ) (piece : Piece) (is : store w c job piece ≡ Full) (some : 1 ≤ length piece.bytes) (short : length piece.bytes ≤ 4096) where
-  done_by : (present full : Bool) (v : World) → present ≡ true → full ≡ false → cond (not present) Absent (cond full Full (Done v)) ≡ Done v
-  done_by true false v a b = refl
-  done_by true true v a b = cc
-  done_by false full v a b = cc
+  done_by : (present writable full : Bool) (v : World) → present ≡ true → writable ≡ true → full ≡ false →
+      cond (not present) Absent (cond (not writable) ReadOnly (cond full Full (Done v))) ≡ Done v
+  done_by present writable full v a b c = grind arith
 
   pub store_more : store (more w) c job piece ≡ Done (after_store (more w) c job piece)
   unfolding store
@@ -160,11 +163,13 @@ module _ (w : World) (sound : IsSound w) (c : Name) (job : ℕ) (piece : Piece) 
       let few = few_parting w c piece short in
       let same = used_more w in
       let parts = parting_more w c piece in
-      done_by _ _ _ (present_more w c piece.at (length piece.bytes) ∙ (full_parts w c job piece is).0) (let low : used (more w) + parting_count (more w) c piece ≤ used w + 2 = omega (arith, few, same, parts) in grind (arith, nat_tests))
+      let full = full_parts w c job piece is in
+      done_by _ _ _ _ (present_more w c piece.at (length piece.bytes) ∙ full.present) (writable_more w c piece.at (length piece.bytes) ∙ full.writable)
+      (let low : used (more w) + parting_count (more w) c piece ≤ used w + 2 = omega (arith, few, same, parts) in grind (arith, nat_tests))
 
   pub taken_more : used w + parting_count w c piece ≤ used (after_store (more w) c job piece)
   taken_more =
-      let live = live_present w c piece.at (length piece.bytes) some (full_parts w c job piece is).0 in
+      let live = live_present w c piece.at (length piece.bytes) some (full_parts w c job piece is).present in
       let taken = store-used (more w) (after_store (more w) c job piece) c job piece store_more (sound_more w sound) live in
       omega (arith, taken, used_more w, parting_more w c piece)
 
@@ -238,14 +243,15 @@ used_put v s n d =
         let keeps = kept_put v s n d in AtGroup g (keeps.groups g live) p (subst (λ (k : ℕ). p < k) (sym keeps.pages) small) bytes (keeps.value g p ∙ is)
 
 -- why an act is refused at its last row
-last_row : (a b c d f : Bool) → first_refusal ((a, BadFd) ∷ (b, WrongKind) ∷ (c, TooLong) ∷ (d, BadAddress) ∷ (f, NoFrame) ∷ []) ≡ Some NoFrame →
+last_row : (a b c d g f : Bool) → first_refusal ((a, BadFd) ∷ (b, WrongKind) ∷ (c, TooLong) ∷ (d, BadAddress) ∷ (g, refusal.ReadOnly) ∷ (f, NoFrame) ∷ []) ≡ Some NoFrame →
     (a ≡ false) × (b ≡ false) × (c ≡ false) × (d ≡ false) × (f ≡ true)
-last_row true b c d f is = cc
-last_row false true c d f is = cc
-last_row false false true d f is = cc
-last_row false false false true f is = cc
-last_row false false false false true is = (refl, refl, refl, refl, refl)
-last_row false false false false false is = cc
+last_row true b c d g f is = cc
+last_row false true c d g f is = cc
+last_row false false true d g f is = cc
+last_row false false false true g f is = cc
+last_row false false false false true f is = cc
+last_row false false false false false true is = (refl, refl, refl, refl, refl)
+last_row false false false false false false is = cc
 
 refused_row : (w : World) (io : Channels) (value : ℕ) (v : World) (after : Channels) (first : Option Refusal) → (refused_or w io (calls.answering value v after) first).answer ≡ Refused NoFrame → first ≡ Some NoFrame
 refused_row w io value v after None is = cc
@@ -253,6 +259,7 @@ refused_row w io value v after (Some r) is = let same : r ≡ NoFrame = cc in ap
 
 full_is : (s : Stored) → calls.is_full s ≡ true → s ≡ Full
 full_is Absent is = cc
+full_is ReadOnly is = cc
 full_is Full is = refl
 full_is (Done v) is = cc
 
@@ -283,7 +290,7 @@ full_read w io three job n at count is =
     let bytes = calls.moved io value count in
     let stored = store_at w three.memory job at bytes in
     let row = refused_row w io (length bytes) _ io (first_refusal (read_refusals io value count stored)) is in
-    let rows = last_row (is_empty value) (is_none (calls.left io value)) (ltb 4096 count) (calls.is_absent stored) (calls.is_full stored) row in
+    let rows = last_row (is_empty value) (is_none (calls.left io value)) (ltb 4096 count) (calls.is_absent stored) (calls.is_read_only stored) (calls.is_full stored) row in
     let parts = at_parts w (eqb (length bytes) 0) (leb (at + length bytes) (w.size.pages * PAGE_BYTES)) (store w three.memory job (record { at = at; bytes = bytes })) (full_is stored rows.4) in
     let few = few_taken count (unwrap_or (calls.left io value) []) in
     record {
@@ -296,13 +303,15 @@ full_read w io three job n at count is =
       rows = (rows.0, rows.1, rows.2);
     }
 
-rows_none : (a b c d f : Bool) → a ≡ false → b ≡ false → c ≡ false → d ≡ false → f ≡ false → first_refusal ((a, BadFd) ∷ (b, WrongKind) ∷ (c, TooLong) ∷ (d, BadAddress) ∷ (f, NoFrame) ∷ []) ≡ None
-rows_none false false false false false a b c d f = refl
-rows_none true b c d f one two three four five = cc
-rows_none false true c d f one two three four five = cc
-rows_none false false true d f one two three four five = cc
-rows_none false false false true f one two three four five = cc
-rows_none false false false false true one two three four five = cc
+rows_none : (a b c d g f : Bool) → a ≡ false → b ≡ false → c ≡ false → d ≡ false → g ≡ false → f ≡ false →
+    first_refusal ((a, BadFd) ∷ (b, WrongKind) ∷ (c, TooLong) ∷ (d, BadAddress) ∷ (g, refusal.ReadOnly) ∷ (f, NoFrame) ∷ []) ≡ None
+rows_none false false false false false false a b c d g f = refl
+rows_none true b c d g f one two three four five six = cc
+rows_none false true c d g f one two three four five six = cc
+rows_none false false true d g f one two three four five six = cc
+rows_none false false false true g f one two three four five six = cc
+rows_none false false false false true f one two three four five six = cc
+rows_none false false false false false true one two three four five six = cc
 
 descriptor_more : (w : World) (s : Name) (n : ℕ) → descriptor_for (more w) s n ≡ descriptor_for w s n
 unfolding descriptor_for value_at context group
@@ -328,8 +337,10 @@ read_more w io three job n at count sound read =
     ∙ at_done (more w) (eqb (length read.bytes) 0) (leb (at + length read.bytes) (w.size.pages * PAGE_BYTES)) v (store (more w) three.memory job (record { at = at; bytes = read.bytes }))
     (let some = read.some in grind (arith, nat_tests)) read.within (store_more w sound three.memory job (record { at = at; bytes = read.bytes }) read.full read.some read.short) in
     let none : first_refusal (read_refusals io value count (store_at (more w) three.memory job at bytes)) ≡ None =
-    rows_none (is_empty value) (is_none (calls.left io value)) (ltb 4096 count) (calls.is_absent (store_at (more w) three.memory job at bytes)) (calls.is_full (store_at (more w) three.memory job at bytes))
-    (ap is_empty same_value ∙ read.rows.0) (ap (λ (d : Descriptor). is_none (calls.left io d)) same_value ∙ read.rows.1) read.rows.2 (ap calls.is_absent stored) (ap calls.is_full stored) in
+    rows_none (is_empty value) (is_none (calls.left io value)) (ltb 4096 count) (calls.is_absent (store_at (more w) three.memory job at bytes))
+    (calls.is_read_only (store_at (more w) three.memory job at bytes)) (calls.is_full (store_at (more w) three.memory job at bytes))
+    (ap is_empty same_value ∙ read.rows.0) (ap (λ (d : Descriptor). is_none (calls.left io d)) same_value ∙ read.rows.1) read.rows.2
+    (ap calls.is_absent stored) (ap calls.is_read_only stored) (ap calls.is_full stored) in
     let put = put_slot (calls.world_after (more w) (store_at (more w) three.memory job at bytes)) three.slots n (calls.read_on (length bytes) value) in
     let world : (reading (more w) io three job n at count).world ≡ put = ap (λ (o : Option Refusal). (refused_or (more w) io (calls.answering (length bytes) put io) o).world) none in
     let after : calls.world_after (more w) (store_at (more w) three.memory job at bytes) ≡ v = ap (calls.world_after (more w)) stored in
@@ -351,6 +362,7 @@ module _ (home : Home) (e : Environment) (y : Thread) (t : ℕ) (jobs : KeepsJob
       (cond within (stored_outcome (beside (more e.world) e.channels) y s) (kernel.unchanged (beside (more e.world) e.channels) (kernel.faulted y fault.BadStore))).environment.world ≡ v
   stored_world true v (Done u) a is = let same : u ≡ v = cc in same
   stored_world true v Absent a is = cc
+  stored_world true v ReadOnly a is = cc
   stored_world true v Full a is = cc
   stored_world false v s a is = cc
 
@@ -374,7 +386,7 @@ module _ (home : Home) (e : Environment) (y : Thread) (t : ℕ) (jobs : KeepsJob
       let parts = full_parts e.world three.memory y.job (record { at = arg 1; bytes = read.bytes }) read.full in (
         record { at = arg 1; bytes = read.bytes },
         read.short,
-        parts.1,
+        parts.few,
         λ sound. subst (λ (k : ℕ). used e.world + parting_count e.world three.memory (record { at = arg 1; bytes = read.bytes }) ≤ used (plain (more e.world) e.channels three y.job k args).world) (sym four)
             (read_more e.world e.channels three y.job (arg 0) (arg 1) (arg 2) sound read),
       )
@@ -459,14 +471,14 @@ module _ (home : Home) (e : Environment) (y : Thread) (t : ℕ) (jobs : KeepsJob
   unfolding shared_outcome
   full_by i Stb is =
       let piece : Piece = record { at = address y.regs i; bytes = slice_index y.regs.r i.rb % 256 ∷ [] } in
-      (y.context, piece, refl, omega arith, (full_parts e.world y.context y.job piece is.1).1, λ sound. full_piece sound piece (omega arith) (omega arith) is)
+      (y.context, piece, refl, omega arith, (full_parts e.world y.context y.job piece is.1).few, λ sound. full_piece sound piece (omega arith) (omega arith) is)
   full_by i Stw is =
       let piece : Piece = record { at = address y.regs i; bytes = to_le_bytes w64 (slice_index y.regs.r i.rb) } in (
         y.context,
         piece,
         refl,
         omega arith,
-        (full_parts e.world y.context y.job piece is.1.1).1,
+        (full_parts e.world y.context y.job piece is.1.1).few,
         λ sound. (let most = full_piece sound piece (omega arith) (omega arith) is.1 in let aligned = ap (λ b. (cond b (store_outcome (beside (more e.world) e.channels) y piece) (kernel.unchanged (beside (more e.world) e.channels) (kernel.faulted y fault.BadStore))).environment.world) is.0 in
             omega (arith, most, ap used aligned)),
       )

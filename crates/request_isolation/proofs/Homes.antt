@@ -30,6 +30,7 @@ use Rattle.lwc_base.specs.declared.name.Name.{Name}
 use Rattle.lwc_base.specs.declared.name.Tag.{Tag}
 use Rattle.lwc_base.specs.declared.page.PageValue.{PageValue}
 use Rattle.lwc_base.specs.declared.page.PageValue.TheVariants.{Zero, Data}
+use Rattle.lwc_base.specs.declared.right.Right.TheVariants.{Write}
 use Rattle.snapshot_host.specs.Begin.{begun_context, begun_value}
 use Rattle.kernel_core.proofs.HomeStart.{at_home, get-homes, home_at, is_home}
 
@@ -81,7 +82,7 @@ begun_home image r (Slot n) = cond (eqb n 0) (Request r 0) (cond (eqb n 1) (Repl
 begun_home image r Cred = home_value image Cred
 
 first_begun : Image → ℕ → Context
-first_begun image r = record { cell = λ k. Own (begun_home image r k); entry = fresh_registers (first_entry image); saved = λ t. None }
+first_begun image r = record { cell = λ k. Own (begun_home image r k); right = λ p. Write; entry = fresh_registers (first_entry image); saved = λ t. None }
 
 begun_in_home : (image : Image) (r : ℕ) → InContext (by_job (home_for image)) (r + 1) (first_begun image r)
 unfolding begun_home first_begun
@@ -103,6 +104,10 @@ module _ (image : Image) (w : World) (t : ℕ) (is : IsHomeOf image w t) where
   unfolding home_context
   entry_of_home = ap (λ (x : Context). x.entry) is
 
+  right_of_home : (context w (home_of t)).right ≡ λ p. Write
+  unfolding home_context
+  right_of_home = ap (λ (x : Context). x.right) is
+
   begun_value_is : (r : ℕ) (k : Key) → begun_value w (home_of t) r k ≡ begun_home image r k
   unfolding begun_home
   begun_value_is r (Page p) = value_of_home (Page p)
@@ -111,7 +116,7 @@ module _ (image : Image) (w : World) (t : ℕ) (is : IsHomeOf image w t) where
 
   begun_is : (r : ℕ) → begun_context w (home_of t) r ≡ first_begun image r
   unfolding begun_context first_begun
-  begun_is r i = record { cell = λ k. Own (begun_value_is r k i); entry = entry_of_home i; saved = λ s. None }
+  begun_is r i = record { cell = λ k. Own (begun_value_is r k i); right = right_of_home i; entry = entry_of_home i; saved = λ s. None }
 
   -- a request begins in what its job may have
   pub begun_in : (r : ℕ) → InContext (by_job (home_for image)) (r + 1) (begun_context w (home_of t) r)

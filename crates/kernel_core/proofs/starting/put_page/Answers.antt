@@ -1,5 +1,5 @@
 use Rattle.std.proofs.Common.{◌*◌, Err, ap, arith, length, refl}
-use Rattle.kernel_core.proofs.Building.{few_ranges, first_world, mapped_world, not_absent, not_full, number_below, page_put}
+use Rattle.kernel_core.proofs.Building.{few_ranges, first_world, mapped_world, not_absent, not_full, not_read_only, number_below, page_put}
 use Rattle.kernel_core.proofs.starting.put_page.Goals as goal
 
 pub map-requires-clause-live : goal.map-requires-clause-live
@@ -38,6 +38,11 @@ pub out_of_memory-requires-clause-present : goal.out_of_memory-requires-clause-p
 out_of_memory-requires-clause-present g c absent =
     not_absent _ c.requires.image _ _ c.get-page.ensures _ c.requires.frames _ _ c.requires.before c.in_ok-map.ensures.mapped
     _ _ (ap (λ n. n * 4096) c.from.ensures) c.as_slice.ensures.bytes (c.in-Err.ensures.bad_address.0 (ap Err absent))
+
+pub out_of_memory-requires-clause-writable : goal.out_of_memory-requires-clause-writable
+out_of_memory-requires-clause-writable g c read =
+    not_read_only _ c.requires.image _ _ c.get-page.ensures _ c.requires.frames _ _ c.requires.before c.in_ok-map.ensures.mapped
+    _ _ (ap (λ n. n * 4096) c.from.ensures) c.as_slice.ensures.bytes (c.in-Err.ensures.read_only.0 (ap Err read))
 
 pub out_of_memory-requires-clause-frame : goal.out_of_memory-requires-clause-frame
 out_of_memory-requires-clause-frame g c full =
