@@ -21,6 +21,8 @@ use Rattle.lwc_base.specs.Cells.{slot_at, value_of}
 use Rattle.lwc_base.specs.Channels.{HasItsFiles}
 use Rattle.lwc_base.specs.Life.{HasItsContexts}
 use Rattle.lwc_base.specs.Modes.{IsKey, kind_of, mode}
+use Rattle.lwc_base.specs.Saved.{save}
+use Rattle.lwc_base.specs.Sharing.{clone_context, share}
 use Rattle.lwc_base.specs.Slots.{lowest_empty}
 use Rattle.lwc_base.specs.Sound.{IsSound}
 use Rattle.lwc_base.specs.Store.{Done, Piece, store}
@@ -38,29 +40,36 @@ use Rattle.lwc_syscall.specs.Syscall as syscalls
 use Rattle.lwc_syscall.specs.Syscall.{inner_args, inner_call, link, mask_in, taken_from, three_of}
 use Rattle.res_spec.specs.declared.items.SpecCall.TheVariants as call
 use Rattle.snapshot_host.specs.Begin.{begin, begun_context}
-use Rattle.confinement.proofs.Making.{add_on, clone_on, overlay_on}
+use Rattle.confinement.proofs.Making.{add_on, clone_on, named_old, overlay_on, share_on}
 use Rattle.confinement.proofs.Plainly.{plain_on}
-use Rattle.confinement.proofs.Stages.{Confines, Rights, Stage, none, put_on, save_on, store_on}
+use Rattle.confinement.proofs.ReadOnly.{LeavesToRead, left_added, left_overlaid, left_plain, left_same, left_saved, left_shared, left_slot, left_stored}
+use Rattle.confinement.proofs.Stages.{Confines, Allowance, Stage, none, put_on, save_on, store_on}
 use Rattle.confinement.specs.Confined.{ComesFrom, IsPart, Made, OfTheCaller, Restricted, Stood}
-use Rattle.confinement.specs.May.{IsGiven, MakesCall, MayChange, OfItsOwn, OfTheChosen, OfTheGiver, OfTheTarget, regs_at, world_of}
+use Rattle.confinement.specs.May.{ByGiving, ByMaking, ByMapping, ByMappingFor, ByTakingOver, IsGiven, MakesCall, MayChange, MayReplace, MayShare, OfItsOwn, OfTheChosen, OfTheGiver, OfTheTarget, regs_at, world_of}
 use Rattle.guest_call.proofs.Targets.{in_slot}
 use Rattle.lwc_base.proofs.Caps.{covers-all, restricted-has}
 use Rattle.lwc_base.proofs.Facts.{changes}
 use Rattle.lwc_base.proofs.ItemModes.{mode-shared}
 use Rattle.lwc_syscall.proofs.Covered.{holder-covered}
 use Rattle.lwc_syscall.proofs.Does.{does-one_thing}
+use Rattle.lwc_syscall.proofs.ReadOnly.{plain_keeps}
 use Rattle.lwc_base.specs.declared.fault.ThreadStatus.TheVariants.{Idle}
 use Rattle.kernel_core.specs.Machine.{home_of}
 use Rattle.confinement.specs.Confined.{OutOfItsHome, OutOfItsOwn, OutOfTheChosen, OutOfTheGiver}
 use Rattle.lwc_base.specs.Capabilities.{is_named}
 
 -- what a step of a thread may do
-abbrev pub rights : Machine → ℕ → Rights
-rights m t = record {
+abbrev pub allowance : Machine → ℕ → Allowance
+allowance m t = record {
   change = MayChange m t;
   saving = λ e s. (s ≡ t) × (x : Thread) × (slice_get m.threads t ≡ Some x) × (x.context ≡ e);
   capability = ComesFrom m t;
 }
+
+-- a world that a step of a thread may come to
+pub record IsAllowed (m : Machine) (t : ℕ) (v : World) : Type 0 where
+  pub confines : Confines (allowance m t) (world_of m) v
+  pub read_only : LeavesToRead (world_of m) v (MayShare m t) (MayReplace m t)
 
 module _ (m : Machine) (t : ℕ) (x : Thread) (found : slice_get m.threads t ≡ Some x) (sound : IsSound (world_of m)) (live : is_live (world_of m) x.context ≡ true) where
   abbrev w : World
@@ -72,11 +81,17 @@ module _ (m : Machine) (t : ℕ) (x : Thread) (found : slice_get m.threads t ≡
   abbrev regs : Regs
   regs = regs_at m x
 
-  abbrev r : Rights
-  r = rights m t
+  abbrev r : Allowance
+  r = allowance m t
 
   abbrev Allowed : World → Type 0
-  Allowed v = Confines r w v
+  Allowed v = IsAllowed m t v
+
+  abbrev Shares : Name → ℕ → Type 0
+  Shares = MayShare m t
+
+  abbrev Replaces : Name → ℕ → Type 0
+  Replaces = MayReplace m t
 
   own : (k : Key) → MayChange m t c k
   own k = OfItsOwn x k found
@@ -92,34 +107,56 @@ module _ (m : Machine) (t : ℕ) (x : Thread) (found : slice_get m.threads t ≡
   start = none r w sound.groups
 
   pub same : Allowed w
-  same = start.confines
+  same = record { confines = start.confines; read_only = left_same w Shares Replaces }
 
   pub stored : (piece : Piece) (v : World) → store w c x.job piece ≡ Done v → Allowed v
-  stored piece v is = (store_on r w sound.groups c x.job piece v start live (λ p key. own (Page p)) is).confines
+  stored piece v is = record {
+    confines = (store_on r w sound.groups c x.job piece v start live (λ p key. own (Page p)) is).confines;
+    read_only = left_stored w Shares Replaces c x.job piece v is;
+  }
 
   pub created : MakesCall m t x LW_CREATE → (slot : ℕ) → Allowed (create.created w c x.job regs slot)
   created calls slot =
-      let cloned = clone_on r w sound.groups sound.fresh c x.job (create.items_of w c regs) live (λ k key shared. own k) (after_call regs no_caller) sound.groups stood in
-      (put_on r w sound.groups _ cloned c (Slot slot) (Ctx (next_context w x.job) (full_cap w.size.pages)) live (λ key. own (Slot slot))
-      (λ d cap is.
-      let name : d ≡ next_context w x.job = cc in
-      let full : cap ≡ full_cap w.size.pages = cc in
-      Made x calls name full)).confines
+      let items = create.items_of w c regs in
+      let entry = after_call regs no_caller in
+      let cloned = clone_on r w sound.groups sound.fresh c x.job items live (λ k key shared. own k) entry sound.groups stood in
+      record {
+        confines =
+            (put_on r w sound.groups _ cloned c (Slot slot) (Ctx (next_context w x.job) (full_cap w.size.pages)) live (λ key. own (Slot slot))
+            (λ d cap is.
+            let name : d ≡ next_context w x.job = cc in
+            let full : cap ≡ full_cap w.size.pages = cc in
+            Made x calls name full)).confines;
+        read_only =
+            left_slot w Shares Replaces (clone_context w c x.job items entry) c slot (Ctx (next_context w x.job) (full_cap w.size.pages))
+            (left_added w Shares Replaces (share w c x.job items) x.job _ (clone_context w c x.job items entry) (changes.cloned w c x.job items entry)
+            (λ e here. named_old r w sound.groups sound.fresh (share w c x.job items) (shared_on items) x.job e (sound.fresh.contexts e here))
+            (left_shared w Shares Replaces sound.fresh c x.job items (λ p named. ByMaking x p calls named)));
+      }
+    where
+      shared_on : (items : List Item) → Confines r w (share w c x.job items)
+      shared_on items = share_on r w sound.groups sound.fresh c x.job items live (λ k key shared. own k)
 
   pub switched : MakesCall m t x LW_SWITCH → (d : Name) (cap : Cap) → IsGiven m x d cap → is_live w d ≡ true → (slot : ℕ) → lowest_empty w d ≡ Some slot →
       Allowed (switching.switched w c t regs d slot)
-  switched calls d cap given there slot lowest =
-      (put_on r w sound.groups _ (save_on r w sound.groups start c t (with_answer regs 0) live own_saving) d (Slot slot) (Ctx c empty_cap) there
-      (λ key. OfTheTarget x d cap slot calls given lowest) (λ e other is. let same : e ≡ c = cc in let none : other ≡ empty_cap = cc in OfTheCaller x calls same none)).confines
+  switched calls d cap given there slot lowest = record {
+    confines =
+        (put_on r w sound.groups _ (save_on r w sound.groups start c t (with_answer regs 0) live own_saving) d (Slot slot) (Ctx c empty_cap) there
+        (λ key. OfTheTarget x d cap slot calls given lowest) (λ e other is. let same : e ≡ c = cc in let none : other ≡ empty_cap = cc in OfTheCaller x calls same none)).confines;
+    read_only = left_slot w Shares Replaces (save w c t (with_answer regs 0)) d slot (Ctx c empty_cap) (left_saved w Shares Replaces c t (with_answer regs 0));
+  }
 
   pub restricts : MakesCall m t x LW_RESTRICT → (v : World) → IsRestriction w v c regs → Allowed v
   restricts calls v is =
-      subst Allowed (sym is.made)
-      (put_on r w sound.groups w start c (Slot (slice_index regs.r 1)) (Ctx is.giver (restricted is.cap items)) live (λ key. own (Slot (slice_index regs.r 1)))
-      (λ d cap same.
-      let name : is.giver ≡ d = cc in
-      let part : restricted is.cap items ≡ cap = cc in
-      Restricted x is.cap calls (is.had ∙ ap (λ (n : Name). Ctx n is.cap) name) (subst (λ (q : Cap). IsPart q is.cap) part less_keys))).confines
+      subst Allowed (sym is.made) (record {
+        confines =
+            (put_on r w sound.groups w start c (Slot (slice_index regs.r 1)) (Ctx is.giver (restricted is.cap items)) live (λ key. own (Slot (slice_index regs.r 1)))
+            (λ d cap same.
+            let name : is.giver ≡ d = cc in
+            let part : restricted is.cap items ≡ cap = cc in
+            Restricted x is.cap calls (is.had ∙ ap (λ (n : Name). Ctx n is.cap) name) (subst (λ (q : Cap). IsPart q is.cap) part less_keys))).confines;
+        read_only = left_slot w Shares Replaces w c (slice_index regs.r 1) (Ctx is.giver (restricted is.cap items)) (left_same w Shares Replaces);
+      })
     where
       items : List Item
       items = items_of w c call.Restrict regs
@@ -129,12 +166,15 @@ module _ (m : Machine) (t : ℕ) (x : Thread) (found : slice_get m.threads t ≡
 
   pub overlaid : MakesCall m t x LW_OVERLAY → (v : World) → IsTaken w v c x.job regs → Allowed v
   overlaid calls v is =
-      subst Allowed (sym is.made)
-      (overlay_on r w sound.groups sound.fresh is.giver x.job items is.live
-      (λ k key shared.
-      let named : mode items k ≡ Some Share = mode-shared items k shared in
-      OfTheGiver x is.giver is.cap k calls is.had (covered k key (ap is_some named)) named) c live own
-      (λ d n cap how slot named had. Stood is.giver n (OutOfTheGiver x is.giver is.cap n calls is.had (covered (Slot n) slot (ap is_some named))) slot had))
+      subst Allowed (sym is.made) (record {
+        confines =
+            (overlay_on r w sound.groups sound.fresh is.giver x.job items is.live
+            (λ k key shared.
+            let named : mode items k ≡ Some Share = mode-shared items k shared in
+            OfTheGiver x is.giver is.cap k calls is.had (covered k key (ap is_some named)) named) c live own
+            (λ d n cap how slot named had. Stood is.giver n (OutOfTheGiver x is.giver is.cap n calls is.had (covered (Slot n) slot (ap is_some named))) slot had));
+        read_only = left_overlaid w Shares Replaces sound.fresh c is.giver x.job items (λ p named. ByGiving x is.giver is.cap p calls is.had named) live (λ p how named. ByTakingOver x p how calls named);
+      })
     where
       items : List Item
       items = items_of w c call.Overlay regs
@@ -148,11 +188,16 @@ module _ (m : Machine) (t : ℕ) (x : Thread) (found : slice_get m.threads t ≡
   one_holder (Slot n) = refl
   one_holder Cred = refl
 
-  pub plainly : HasItsContexts w → HasItsFiles m.environment.channels w → (number : ℕ) → Allowed (plain w m.environment.channels (three_times c) x.job number (args_of regs)).world
-  plainly named files number =
-      plain_on r w sound.groups m.environment.channels (three_times c) x.job
-      (record { memory = live; slots = live; cred = live; each = λ k key. subst (λ (n : Name). MayChange m t n k) (sym (one_holder k)) (own k); had = stood }) _ _
-      (does-one_thing w m.environment.channels (three_times c) x.job number (args_of regs) named files live)
+  pub plainly : HasItsContexts w → HasItsFiles m.environment.channels w → (number : ℕ) → MakesCall m t x number →
+      Allowed (plain w m.environment.channels (three_times c) x.job number (args_of regs)).world
+  plainly named files number calls = record {
+    confines =
+        plain_on r w sound.groups m.environment.channels (three_times c) x.job
+        (record { memory = live; slots = live; cred = live; each = λ k key. subst (λ (n : Name). MayChange m t n k) (sym (one_holder k)) (own k); had = stood }) _ _
+        (does-one_thing w m.environment.channels (three_times c) x.job number (args_of regs) named files live);
+    read_only = left_plain w Shares Replaces _ (three_times c) number (args_of regs) (λ p maps. ByMapping x number p calls maps)
+        (plain_keeps w m.environment.channels (three_times c) x.job number (args_of regs));
+  }
 
   -- of three contexts that a mask chooses
   chosen_holder : (k : Key) → holder (three_of w c regs) k ≡ cond (is_chosen (mask_in regs) (kind_of k)) (link w c regs).0 c
@@ -183,16 +228,20 @@ module _ (m : Machine) (t : ℕ) (x : Thread) (found : slice_get m.threads t ≡
 
     pub chosen : HasItsContexts w → HasItsFiles m.environment.channels w →
         Allowed (plain w m.environment.channels (three_of w c regs) x.job (inner_call regs) (inner_args regs)).world
-    chosen named files =
-        plain_on r w sound.groups m.environment.channels (three_of w c regs) x.job
-        (record {
-          memory = allowed.live kinds.Page;
-          slots = allowed.live kinds.Slot;
-          cred = allowed.live kinds.Cred;
-          each = λ k key. by_choice k key (is_chosen (mask_in regs) (kind_of k)) refl;
-          had = λ d n cap slot is. copied n slot (is_chosen (mask_in regs) kinds.Slot) refl d cap is;
-        }) _ _
-        (does-one_thing w m.environment.channels (three_of w c regs) x.job (inner_call regs) (inner_args regs) named files (allowed.live kinds.Slot))
+    chosen named files = record {
+      confines =
+          plain_on r w sound.groups m.environment.channels (three_of w c regs) x.job
+          (record {
+            memory = allowed.live kinds.Page;
+            slots = allowed.live kinds.Slot;
+            cred = allowed.live kinds.Cred;
+            each = λ k key. by_choice k key (is_chosen (mask_in regs) (kind_of k)) refl;
+            had = λ d n cap slot is. copied n slot (is_chosen (mask_in regs) kinds.Slot) refl d cap is;
+          }) _ _
+          (does-one_thing w m.environment.channels (three_of w c regs) x.job (inner_call regs) (inner_args regs) named files (allowed.live kinds.Slot));
+      read_only = left_plain w Shares Replaces _ (three_of w c regs) (inner_call regs) (inner_args regs) (λ p maps. ByMappingFor x p calls maps)
+          (plain_keeps w m.environment.channels (three_of w c regs) x.job (inner_call regs) (inner_args regs));
+    }
 
   -- a request begins in a copy of the thread's home, which is live
   module _ (idle : x.status ≡ Idle) (q : ℕ) where
@@ -207,6 +256,10 @@ module _ (m : Machine) (t : ℕ) (x : Thread) (found : slice_get m.threads t ≡
 
     pub begins : Allowed (begin w (home_of t) q)
     unfolding begin
-    begins =
-        add_on r w sound.groups sound.fresh w start.confines (q + 1) (begun_context w (home_of t) q) (add_context w (q + 1) (begun_context w (home_of t) q))
-        (changes.context_added w (q + 1) (begun_context w (home_of t) q)) begun_cap
+    begins = record {
+      confines =
+          add_on r w sound.groups sound.fresh w start.confines (q + 1) (begun_context w (home_of t) q) (add_context w (q + 1) (begun_context w (home_of t) q))
+          (changes.context_added w (q + 1) (begun_context w (home_of t) q)) begun_cap;
+      read_only = left_added w Shares Replaces w (q + 1) _ _ (changes.context_added w (q + 1) (begun_context w (home_of t) q))
+          (λ e here. named_old r w sound.groups sound.fresh w start.confines (q + 1) e (sound.fresh.contexts e here)) (left_same w Shares Replaces);
+    }

@@ -19,13 +19,15 @@ use Rattle.lwc_base.specs.declared.descriptor.Descriptor.TheVariants.{Console, C
 use Rattle.lwc_base.specs.declared.fault.ThreadStatus.{ThreadStatus}
 use Rattle.lwc_base.specs.declared.fault.ThreadStatus.TheVariants.{Idle, Running, Done, Faulted}
 use Rattle.lwc_base.specs.declared.key.Key.{Key}
-use Rattle.lwc_base.specs.declared.key.Key.TheVariants.{Slot}
+use Rattle.lwc_base.specs.declared.key.Key.TheVariants.{Page, Slot}
 use Rattle.lwc_base.specs.declared.name.Name.{Name}
+use Rattle.lwc_base.specs.declared.right.Right.{Right}
 use Rattle.lwc_base.specs.Capabilities.{empty_cap, has_key}
 use Rattle.lwc_base.specs.Cells.{put_slot, slot_at, value_at}
 use Rattle.lwc_base.specs.Clones.{AreApart}
 use Rattle.lwc_base.specs.Life as life
 use Rattle.lwc_base.specs.Modes.{IsKey}
+use Rattle.lwc_base.specs.Rights.{right_at}
 use Rattle.lwc_base.specs.Saved.{save}
 use Rattle.lwc_base.specs.Summaries.{is_empty}
 use Rattle.lwc_base.specs.Slots.{lowest_empty}
@@ -33,13 +35,14 @@ use Rattle.lwc_base.specs.World.{World, context, is_live}
 use Rattle.guest_call.specs.Changes.{ChangesSaved}
 use Rattle.guest_call.specs.Guest.{with_answer}
 use Rattle.lwc_overlay.specs.OverlayCall.{IsTaken}
-use Rattle.confinement.proofs.Acts.{begins, rights, same}
+use Rattle.confinement.proofs.Acts.{IsAllowed, allowance, begins, same}
+use Rattle.confinement.proofs.ReadOnly.{left_same}
 use Rattle.confinement.proofs.Decide.{same_then, apart_or_one, key_or_not, name_or_not}
-use Rattle.confinement.proofs.Stages.{Confines, Rights, none}
+use Rattle.confinement.proofs.Stages.{Allowance, none}
 use Rattle.confinement.proofs.Steps.{Went, at_overlay, at_switch, call_world, outcome_of, running_world, step_reaps}
 use Rattle.confinement.proofs.Taking.{giver_stays}
 use Rattle.confinement.specs.Confined.{Enters, IsConfined, IsLiveInBoth}
-use Rattle.confinement.specs.May.{IsGiven, MakesCall, regs_at, world_of}
+use Rattle.confinement.specs.May.{IsGiven, MakesCall, MayReplace, MayShare, regs_at, world_of}
 use Rattle.confinement.specs.One.{IsOneValue}
 use Rattle.guest_call.proofs.Changes.{putting, saving}
 use Rattle.lwc_base.proofs.Common.{put-apart, put-itself, put-other_cell, put-other_key}
@@ -70,7 +73,7 @@ leaves_reaped v names = record {
 -- a step comes to a world of what might be changed
 pub record Leads (m : Machine) (t : ℕ) : Type 0 where
   pub acted : World
-  pub confines : Confines (rights m t) (world_of m) acted
+  pub allowed : IsAllowed m t acted
   pub leaves : Leaves acted (world_of (step m t))
 
 -- the thread of a number is ready
@@ -83,13 +86,13 @@ module _ (inputs : Inputs) (steps : ℕ) (m : Machine) (t : ℕ) (ready : IsRead
   abbrev w : World
   w = world_of m
 
-  abbrev r : Rights
-  r = rights m t
+  abbrev r : Allowance
+  r = allowance m t
 
   nothing : (after : World) → after ≡ w → world_of (step m t) ≡ after → Leads m t
   nothing after is reached = record {
     acted = w;
-    confines = (none r w ready.sound.groups).confines;
+    allowed = record { confines = (none r w ready.sound.groups).confines; read_only = left_same w (MayShare m t) (MayReplace m t) };
     leaves = subst (λ (v : World). Leaves w v) (sym (reached ∙ is)) (leaves_all w);
   }
 
@@ -106,20 +109,20 @@ module _ (inputs : Inputs) (steps : ℕ) (m : Machine) (t : ℕ) (ready : IsRead
     running is =
         let reaps = step_reaps m t x found is in record {
           acted = (outcome_of m t x).environment.world;
-          confines = running_world m t x found ready.sound ready.named ready.files here.live is;
+          allowed = running_world m t x found ready.sound ready.named ready.files here.live is;
           leaves = subst (λ (v : World). Leaves (outcome_of m t x).environment.world v) (sym reaps.1) (leaves_reaped (outcome_of m t x).environment.world reaps.0);
         }
 
     -- what is left where a step that begins or finds no request has made a world
-    after_reap : (after : AfterStep) → Confines r w after.environment.world → step m t ≡ after_outcome m t (Some after) → Leads m t
-    after_reap after confines is =
+    after_reap : (after : AfterStep) → IsAllowed m t after.environment.world → step m t ≡ after_outcome m t (Some after) → Leads m t
+    after_reap after allowed is =
         let names : List Name = roots (slice_set m.threads t after.thread) after.serve in record {
           acted = after.environment.world;
-          confines = confines;
+          allowed = allowed;
           leaves = subst (λ (v : World). Leaves after.environment.world v) (sym (ap world_of is)) (leaves_reaped after.environment.world names);
         }
 
-    unchanged_world : Confines r w w
+    unchanged_world : IsAllowed m t w
     unchanged_world = same m t x found ready.sound here.live
 
     idle_by : x.status ≡ Idle → (o : Option Serve) → m.serve ≡ o → step m t ≡ after_outcome m t (Some (woken t o m.environment x)) → Leads m t
@@ -223,6 +226,10 @@ module _ (inputs : Inputs) (steps : ℕ) (m : Machine) (t : ℕ) (ready : IsRead
       | inr other ↦ inl (put-other_key saved d (Slot slot) (Ctx x.context empty_cap) e k other ∙ saves.values e k)
     ]
 
+    enter_right : (e : Name) (p : ℕ) → right_at v e p ≡ right_at w e p
+    enter_right e p =
+        ap (λ (f : ℕ → Right). f p) ((putting saved d (Slot slot) (Ctx x.context empty_cap)).rights e) ∙ ap (λ (f : ℕ → Right). f p) (saves.rights e)
+
     -- where the slot's cell is common it stays so
     pub shared_stays : (g : Name) → (context w d).cell (Slot slot) ≡ Common g → (context v d).cell (Slot slot) ≡ Common g
     shared_stays g is =
@@ -240,6 +247,7 @@ module _ (inputs : Inputs) (steps : ℕ) (m : Machine) (t : ℕ) (ready : IsRead
       empty = subst (λ (n : Name). slot_at w n slot ≡ Empty) target_is (empty_slot (slot_at w went.0 slot) went.3.empty);
       descriptor = λ both. reached.values d (Slot slot) went.3.within both.1 ∙ put_there;
       cells = λ e k both key. same_then _ _ _ (ap (λ y. y.cell k) (reached.contexts e both.1)) (enter_cell e k);
+      rights = λ e p both. ap (λ y. y.right p) (reached.contexts e both.1) ∙ enter_right e p;
       values = λ e k both key. same_then _ _ _ (reached.values e k (key_there k key) both.1) (enter_value e k);
     }
 
@@ -284,7 +292,7 @@ module _ (inputs : Inputs) (steps : ℕ) (m : Machine) (t : ℕ) (ready : IsRead
         subst (λ (u : World). is_live u x.context ≡ true → value_at u x.context k ≡ value_at w x.context k) (sym reaps.1) (λ live. left.values x.context k there live ∙ acted) both.1
 
   acted_size : (x : Thread) → (calls : MakesCall m t x LW_OVERLAY) → (outcome_of m t x).environment.world.size ≡ w.size
-  acted_size x calls = (running_world m t x calls.found ready.sound ready.named ready.files (ready_thread inputs steps t m x ready calls.found).live calls.running).size
+  acted_size x calls = (running_world m t x calls.found ready.sound ready.named ready.files (ready_thread inputs steps t m x ready calls.found).live calls.running).confines.size
 
   same_or : {A P : Type 0} (a b c : A) → a ≡ b → (b ≡ c) ⊎ P → (a ≡ c) ⊎ P
   same_or a b c first (inl second) = inl (first ∙ second)
@@ -293,18 +301,30 @@ module _ (inputs : Inputs) (steps : ℕ) (m : Machine) (t : ℕ) (ready : IsRead
   pub confined : IsConfined m t (step m t)
   confined =
       let led = leads in
-      let key_at : (k : Key) → IsKey w.size.pages k → IsKey led.acted.size.pages k = λ k key. subst (λ (s : _). IsKey s.pages k) (sym led.confines.size) key in
+      let key_at : (k : Key) → IsKey w.size.pages k → IsKey led.acted.size.pages k = λ k key. subst (λ (s : _). IsKey s.pages k) (sym led.allowed.confines.size) key in
       record {
-        cells = λ e k both key. same_or _ _ _ (ap (λ y. y.cell k) (led.leaves.contexts e both.1)) (led.confines.cells e k both.0 key);
+        cells = λ e k both key. same_or _ _ _ (ap (λ y. y.cell k) (led.leaves.contexts e both.1)) (led.allowed.confines.cells e k both.0 key);
         values = λ e k both key. same_or _ _ _ (led.leaves.values e k (key_at k key) both.1)
-            (elim (led.confines.values e k both.0 key) [
+            (elim (led.allowed.confines.values e k both.0 key) [
               | inl still ↦ inl still
               | inr seen ↦ inr (record { changed = seen.0; may = seen.1; one = seen.2 })
             ]);
-        entries = λ e both. ap (λ y. y.entry) (led.leaves.contexts e both.1) ∙ led.confines.entries e both.0;
-        saved = λ e s both. same_or _ _ _ (ap (λ y. y.saved s) (led.leaves.contexts e both.1)) (led.confines.saved e s both.0);
+        entries = λ e both. ap (λ y. y.entry) (led.leaves.contexts e both.1) ∙ led.allowed.confines.entries e both.0;
+        saved = λ e s both. same_or _ _ _ (ap (λ y. y.saved s) (led.leaves.contexts e both.1)) (led.allowed.confines.saved e s both.0);
         capabilities = λ e d n cap live slot is.
-            led.confines.capabilities e d n cap (led.leaves.live e live) slot (sym (led.leaves.values e (Slot n) slot live) ∙ is);
+            led.allowed.confines.capabilities e d n cap (led.leaves.live e live) slot (sym (led.leaves.values e (Slot n) slot live) ∙ is);
+        rights = λ e p both key. same_or _ _ _ (ap (λ y. y.right p) (led.leaves.contexts e both.1)) (led.allowed.confines.rights e p both.0 key);
+        read_only = λ e p value both key own read. elim (led.allowed.read_only e p value both.0 own read) [
+          | inr may ↦ inr may
+          | inl left ↦ inl (record {
+            right = ap (λ y. y.right p) (led.leaves.contexts e both.1) ∙ left.right;
+            cell = elim left.cell [
+              | inl same ↦ inl (ap (λ y. y.cell (Page p)) (led.leaves.contexts e both.1) ∙ same)
+              | inr common ↦ inr (common.0, ap (λ y. y.cell (Page p)) (led.leaves.contexts e both.1) ∙ common.1, common.2)
+            ];
+            value = led.leaves.values e (Page p) (key_at (Page p) key) both.1 ∙ left.value;
+          })
+        ];
         switch = enters;
         overlay = λ x d cap k calls given both key.
             giver_keeps x d cap calls given k both (subst (λ (s : _). IsKey s.pages k) (sym (acted_size x calls)) key);

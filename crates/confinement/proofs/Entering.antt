@@ -14,9 +14,11 @@ use Rattle.lwc_base.specs.declared.key.Key.{Key}
 use Rattle.lwc_base.specs.declared.key.Key.TheVariants.{Slot}
 use Rattle.lwc_base.specs.declared.name.Name.{Name}
 use Rattle.lwc_base.specs.declared.regs.Regs.{Regs}
+use Rattle.lwc_base.specs.declared.right.Right.{Right}
 use Rattle.lwc_base.specs.Capabilities.{empty_cap}
 use Rattle.lwc_base.specs.Cells.{put_slot, slot_at}
 use Rattle.lwc_base.specs.Saved.{entered, save}
+use Rattle.lwc_base.specs.Rights.{right_at}
 use Rattle.lwc_base.specs.Slots.{lowest_empty}
 use Rattle.lwc_base.specs.World.{World, Context, context}
 use Rattle.lwc_switch.specs.Switch.{arriving, going_on}
@@ -106,6 +108,7 @@ module _ (inputs : Inputs) (steps : ℕ) (m : Machine) (t : ℕ) (ready : IsRead
     there = ap (λ (z : Thread). z.context) thread_is ∙ there;
     regs = ap (λ (z : Thread). z.regs) thread_is ∙ arrives;
     cells = λ k key differ. ap (λ (u : World). (context u c).cell k) world_is ∙ (cell_at k differ ∙ is.cells k key);
+    rights = λ p key. ap (λ (u : World). right_at u c p) world_is ∙ (ap (λ (f : ℕ → Right). f p) (puts.rights c) ∙ (ap (λ (z : Context). z.right p) kept ∙ is.rights p key));
     descriptor = ap (λ (u : World). slot_at u c slot) world_is ∙ put_there inputs steps m t ready x c cap calls given;
     entry = ap (λ (u : World). (context u c).entry) world_is ∙ (puts.entries c ∙ (ap (λ (z : Context). z.entry) kept ∙ is.entry));
     saved = λ s. ap (λ (u : World). (context u c).saved s) world_is ∙ (puts.saved c s ∙ (ap (λ (z : Context). z.saved s) kept ∙ is.saved s));

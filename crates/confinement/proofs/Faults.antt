@@ -24,7 +24,7 @@ use Rattle.lwc_base.specs.declared.fault.ThreadStatus.TheVariants as status
 use Rattle.lwc_base.specs.declared.name.Name.{Name}
 use Rattle.lwc_base.specs.Cells.{value_at}
 use Rattle.lwc_base.specs.Modes.{IsKey}
-use Rattle.lwc_base.specs.Store.{Absent, Done, Full, Piece, Stored, store}
+use Rattle.lwc_base.specs.Store.{Absent, Done, Full, ReadOnly, Piece, Stored, store}
 use Rattle.lwc_base.specs.World.{World, context, is_live}
 use Rattle.lwc_syscall.specs.declared.answer.CallAnswer.{CallAnswer}
 use Rattle.lwc_syscall.specs.declared.answer.CallAnswer.TheVariants as ends
@@ -61,6 +61,7 @@ module _ (e : Environment) (y : Thread) (runs : y.status ≡ status.Running) whe
 
   stored_harmless : (s : Stored) → IsHarmless e (stored_outcome e y s)
   stored_harmless Absent = inl refl
+  stored_harmless ReadOnly = inl refl
   stored_harmless Full = inl refl
   stored_harmless (Done v) = inr (no_fault _ (inl runs))
 

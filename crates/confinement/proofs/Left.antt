@@ -12,12 +12,15 @@ use Rattle.lwc_base.specs.declared.descriptor.Cap.{Cap}
 use Rattle.lwc_base.specs.declared.descriptor.Descriptor.TheVariants.{Ctx}
 use Rattle.lwc_base.specs.declared.descriptor.TheConstants.{SLOTS}
 use Rattle.lwc_base.specs.declared.key.Key.{Key}
+use Rattle.lwc_base.specs.declared.key.Key.TheVariants.{Page}
+use Rattle.lwc_base.specs.declared.key.Kind.TheVariants as kinds
 use Rattle.lwc_base.specs.declared.limits.TheConstants.{MOST_PAGES}
 use Rattle.lwc_base.specs.declared.name.Name.{Name}
 use Rattle.lwc_base.specs.Capabilities.{empty_cap, has_key}
 use Rattle.access_cap.proofs.Keys.{zeros_have_none}
 use Rattle.lwc_base.specs.Cells.{slot_at, value_at}
 use Rattle.lwc_base.specs.Modes.{IsKey, kind_of}
+use Rattle.lwc_base.specs.Rights.{right_at}
 use Rattle.lwc_base.specs.World.{World, context, is_live, next_context}
 use Rattle.lwc_syscall.specs.Syscall.{mask_in}
 use Rattle.confinement.specs.Confined.{ComesFrom, IsConfined, IsLiveInBoth, Made, OfTheCaller, Restricted, Stood}
@@ -77,13 +80,9 @@ module _ (m : Machine) (t : ℕ) (after : Machine) (confined : IsConfined m t af
     | inr stands ↦ absurd (differ stands.0)
   ]
 
-  -- an overlay leaves the cells of its giver under keys that the capability lacks
-  pub not_covered : (x : Thread) (d : Name) (held : Cap) (k : Key) → MakesCall m t x LW_OVERLAY → IsGiven m x d held → x.context ≢ d → has_key held k ≡ false → IsLiveInBoth w v d → IsKey w.size.pages k →
-      (context v d).cell k ≡ (context w d).cell k
-  not_covered x d held k calls given differ lacks both key = elim (confined.cells d k both key) [
-    | inl same ↦ same
-    | inr may ↦ absurd (by_pair d k refl refl may)
-  ]
+  -- an overlay may change nothing of its giver under a key that the capability lacks
+  not_covered : (x : Thread) (d : Name) (held : Cap) (k : Key) → MakesCall m t x LW_OVERLAY → IsGiven m x d held → x.context ≢ d → has_key held k ≡ false → MayChange m t d k → ⊥
+  not_covered x d held k calls given differ lacks = by_pair d k refl refl
     where
       one_thread : (y : Thread) → slice_get m.threads t ≡ Some y → y ≡ x
       one_thread y found = let same : Some y ≡ Some x = sym found ∙ calls.found in cc
@@ -108,13 +107,9 @@ module _ (m : Machine) (t : ℕ) (after : Machine) (confined : IsConfined m t af
           let no : true ≡ false = sym has_it ∙ lacks in cc
       by_pair a _ is key_is (OfTheChosen y e c l other given has chosen) = no_other y LW_SYSCALL other (λ no. absurd (omega (arith, no)))
 
-  -- a call over chosen contexts leaves the other context's cells of kinds that are not chosen
-  pub not_chosen : (x : Thread) (d : Name) (k : Key) → MakesCall m t x LW_SYSCALL → x.context ≢ d → is_chosen (mask_in (regs_at m x)) (kind_of k) ≡ false → IsLiveInBoth w v d → IsKey w.size.pages k →
-      (context v d).cell k ≡ (context w d).cell k
-  not_chosen x d k calls differ other both key = elim (confined.cells d k both key) [
-    | inl same ↦ same
-    | inr may ↦ absurd (by_pair d k refl refl may)
-  ]
+  -- nor a call over chosen contexts of the other one, under a key of a kind that is not chosen
+  not_chosen : (x : Thread) (d : Name) (k : Key) → MakesCall m t x LW_SYSCALL → x.context ≢ d → is_chosen (mask_in (regs_at m x)) (kind_of k) ≡ false → MayChange m t d k → ⊥
+  not_chosen x d k calls differ other = by_pair d k refl refl
     where
       one_thread : (y : Thread) → slice_get m.threads t ≡ Some y → y ≡ x
       one_thread y found = let same : Some y ≡ Some x = sym found ∙ calls.found in cc
@@ -133,3 +128,32 @@ module _ (m : Machine) (t : ℕ) (after : Machine) (confined : IsConfined m t af
           let there : is_chosen (mask_in (regs_at m x)) (kind_of k) ≡ true =
           subst (λ (i : Key). is_chosen (mask_in (regs_at m x)) (kind_of i) ≡ true) key_is (subst (λ (z : Thread). is_chosen (mask_in (regs_at m z)) (kind_of l) ≡ true) (one_thread y makes.found) chosen) in
           let no : true ≡ false = sym there ∙ other in cc
+
+  -- where a step may not change a key of a context, the cell stays, and the right of a page
+  cell_stays : (d : Name) (k : Key) → IsLiveInBoth w v d → IsKey w.size.pages k → (MayChange m t d k → ⊥) → (context v d).cell k ≡ (context w d).cell k
+  cell_stays d k both key never = elim (confined.cells d k both key) [
+    | inl same ↦ same
+    | inr may ↦ absurd (never may)
+  ]
+
+  right_stays : (d : Name) (p : ℕ) → IsLiveInBoth w v d → IsKey w.size.pages (Page p) → (MayChange m t d (Page p) → ⊥) → right_at v d p ≡ right_at w d p
+  right_stays d p both key never = elim (confined.rights d p both key) [
+    | inl same ↦ same
+    | inr may ↦ absurd (never may)
+  ]
+
+  pub uncovered_cell : (x : Thread) (d : Name) (held : Cap) (k : Key) → MakesCall m t x LW_OVERLAY → IsGiven m x d held → x.context ≢ d → has_key held k ≡ false → IsLiveInBoth w v d → IsKey w.size.pages k →
+      (context v d).cell k ≡ (context w d).cell k
+  uncovered_cell x d held k calls given differ lacks both key = cell_stays d k both key (not_covered x d held k calls given differ lacks)
+
+  pub uncovered_right : (x : Thread) (d : Name) (held : Cap) (p : ℕ) → MakesCall m t x LW_OVERLAY → IsGiven m x d held → x.context ≢ d → has_key held (Page p) ≡ false → IsLiveInBoth w v d →
+      IsKey w.size.pages (Page p) → right_at v d p ≡ right_at w d p
+  uncovered_right x d held p calls given differ lacks both key = right_stays d p both key (not_covered x d held (Page p) calls given differ lacks)
+
+  pub unchosen_cell : (x : Thread) (d : Name) (k : Key) → MakesCall m t x LW_SYSCALL → x.context ≢ d → is_chosen (mask_in (regs_at m x)) (kind_of k) ≡ false → IsLiveInBoth w v d → IsKey w.size.pages k →
+      (context v d).cell k ≡ (context w d).cell k
+  unchosen_cell x d k calls differ other both key = cell_stays d k both key (not_chosen x d k calls differ other)
+
+  pub unchosen_right : (x : Thread) (d : Name) (p : ℕ) → MakesCall m t x LW_SYSCALL → x.context ≢ d → is_chosen (mask_in (regs_at m x)) kinds.Page ≡ false → IsLiveInBoth w v d →
+      IsKey w.size.pages (Page p) → right_at v d p ≡ right_at w d p
+  unchosen_right x d p calls differ other both key = right_stays d p both key (not_chosen x d (Page p) calls differ other)

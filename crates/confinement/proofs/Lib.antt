@@ -2,6 +2,7 @@ pub mod Decide
 pub mod Stages
 pub mod Making
 pub mod Plainly
+pub mod ReadOnly
 pub mod Acts
 pub mod Steps
 pub mod Taking

@@ -8,11 +8,12 @@ use Rattle.lwc_base.specs.declared.descriptor.Descriptor.TheVariants.{Ctx}
 use Rattle.lwc_base.specs.declared.descriptor.TheConstants.{SLOTS}
 use Rattle.lwc_base.specs.declared.item.Item.{Item}
 use Rattle.lwc_base.specs.declared.item.Mode.{Mode}
-use Rattle.lwc_base.specs.declared.item.Mode.TheVariants.{Copy, Share, Unmap}
+use Rattle.lwc_base.specs.declared.item.Mode.TheVariants.{Copy, Share, Unmap, CopyRead}
 use Rattle.lwc_base.specs.declared.key.Key.{Key}
-use Rattle.lwc_base.specs.declared.key.Key.TheVariants.{Slot}
+use Rattle.lwc_base.specs.declared.key.Key.TheVariants.{Page, Slot}
 use Rattle.lwc_base.specs.declared.name.Name.{Name}
 use Rattle.lwc_base.specs.declared.regs.Regs.{Regs}
+use Rattle.lwc_base.specs.declared.right.Right.{Right}
 use Rattle.lwc_base.specs.Cells.{slot_at, value_at, value_of}
 use Rattle.lwc_base.specs.Facts.{AddsContext, SharesValues}
 use Rattle.lwc_base.specs.Fresh.{IsFresh, IsNamedContext}
@@ -22,18 +23,19 @@ use Rattle.lwc_base.specs.Sharing.{clone_context, cloned_cell, cloned_context, n
 use Rattle.lwc_base.specs.Sound.{HasItsGroups}
 use Rattle.lwc_base.specs.World.{World, Context, Counters, context, group, is_live, next_context}
 use Rattle.confinement.proofs.Decide.{same_then, value_same, name_or_not}
-use Rattle.confinement.proofs.Stages.{Confines, Had, Rights, Stage, context_on}
+use Rattle.confinement.proofs.Stages.{Confines, Had, Allowance, Stage, context_on}
 use Rattle.lwc_base.proofs.Clones.{clone-keeps_apart}
 use Rattle.lwc_base.proofs.Facts.{changes}
+use Rattle.lwc_base.proofs.Rights.{rights-share}
 use Rattle.lwc_base.proofs.Sharing.{group-same, share-cell, share-entry, share-saved, value_at-share}
 
-module _ (r : Rights) (w : World) (groups : HasItsGroups w) (fresh : IsFresh w) where
+module _ (r : Allowance) (w : World) (groups : HasItsGroups w) (fresh : IsFresh w) where
   -- a live context has been named
   named_live : (e : Name) → is_live w e ≡ true → IsNamedContext w.next e
   named_live e live = fresh.contexts e live
 
   -- a context that has been named is no later next one
-  named_old : (u : World) → Confines r w u → (job : ℕ) (e : Name) → IsNamedContext w.next e → e ≢ next_context u job
+  pub named_old : (u : World) → Confines r w u → (job : ℕ) (e : Name) → IsNamedContext w.next e → e ≢ next_context u job
   named_old u was job e named same =
       let later : (w.next e.job).contexts ≤ (u.next e.job).contexts = was.counted e.job in
       let job_is : e.job ≡ job = ap (λ (n : Name). n.job) same in
@@ -73,6 +75,7 @@ module _ (r : Rights) (w : World) (groups : HasItsGroups w) (fresh : IsFresh w) 
     pub add_on : Confines r w v
     add_on = record {
       cells = λ e k here key. same_then _ _ _ (ap (λ (y : Context). y.cell k) (other_same e here)) (was.cells e k here key);
+      rights = λ e p here key. same_then _ _ _ (ap (λ (y : Context). y.right p) (other_same e here)) (was.rights e p here key);
       values = λ e k here key. same_then _ _ _ (value_same u v e k (ap (λ (y : Context). y.cell k) (other_same e here)) same_groups) (was.values e k here key);
       entries = λ e here. ap (λ (y : Context). y.entry) (other_same e here) ∙ was.entries e here;
       saved = λ e s here. same_then _ _ _ (ap (λ (y : Context). y.saved s) (other_same e here)) (was.saved e s here);
@@ -105,6 +108,7 @@ module _ (r : Rights) (w : World) (groups : HasItsGroups w) (fresh : IsFresh w) 
         | inl still ↦ inl still
         | inr moves ↦ inr (subst (λ (n : Name). r.change n k) (sym moves.0) (allowed k key moves.1))
       ];
+      rights = λ e p here key. inl (ap (λ (f : ℕ → Right). f p) (rights-share w c job items e));
       values = λ e k here key. inl (value_at-share w c job items fresh e k);
       entries = λ e here. share-entry w c job items e;
       saved = λ e t here. inl (share-saved w c job items e t);
@@ -121,6 +125,7 @@ module _ (r : Rights) (w : World) (groups : HasItsGroups w) (fresh : IsFresh w) 
     cloned_cap Copy d n cap is = sym (value_at-share w c job items fresh c (Slot n)) ∙ is
     cloned_cap Share d n cap is = sym (value_at-share w c job items fresh c (Slot n)) ∙ is
     cloned_cap Unmap d n cap is = absurd cc
+    cloned_cap CopyRead d n cap is = sym (value_at-share w c job items fresh c (Slot n)) ∙ is
 
     -- a clone is made by whom the context's capabilities may be left
     module _ (entry : Regs) (has_groups : HasItsGroups w) (from : (d : Name) (n : ℕ) (cap : Cap) → n < SLOTS → slot_at w c n ≡ Ctx d cap → r.capability d cap) where
@@ -149,6 +154,7 @@ module _ (r : Rights) (w : World) (groups : HasItsGroups w) (fresh : IsFresh w) 
           context_on r w groups s share_on to (with_overlay s c items) (overlay w to c job items) (changes.overlaid w to c job items) taker
           (record {
             cell = λ k key. inr (each k);
+            right = λ p key. inr (each (Page p));
             entry = refl;
             saved = λ t. inl refl;
             capability = λ d n cap slot is. taken_cap (mode items (Slot n)) d n cap slot refl is;

@@ -14,17 +14,17 @@ use Rattle.lwc_base.specs.Sound.{HasItsGroups}
 use Rattle.lwc_base.specs.World.{World, is_live}
 use Rattle.lwc_syscall.specs.Changes.{IsKnown, IsPlainChange, Mapped, Nothing, Read, SlotPut, UidPut, Written, holder}
 use Rattle.lwc_syscall.specs.declared.calls.Three.{Three}
-use Rattle.confinement.proofs.Stages.{Confines, Rights, mapped_on, none, put_on, store_on}
+use Rattle.confinement.proofs.Stages.{Confines, Allowance, mapped_on, none, put_on, store_on}
 
 -- what may be changed of three contexts, each of which is live
-pub record OfThree (r : Rights) (w : World) (three : Three) : Type 0 where
+pub record OfThree (r : Allowance) (w : World) (three : Three) : Type 0 where
   pub memory : is_live w three.memory ≡ true
   pub slots : is_live w three.slots ≡ true
   pub cred : is_live w three.cred ≡ true
   pub each : (k : Key) → IsKey w.size.pages k → r.change (holder three k) k
   pub had : (d : Name) (n : ℕ) (cap : Cap) → n < SLOTS → slot_at w three.slots n ≡ Ctx d cap → r.capability d cap
 
-module _ (r : Rights) (w : World) (groups : HasItsGroups w) (io : Channels) (three : Three) (job : ℕ) (of : OfThree r w three) where
+module _ (r : Allowance) (w : World) (groups : HasItsGroups w) (io : Channels) (three : Three) (job : ℕ) (of : OfThree r w three) where
   -- a descriptor that is put stood in a slot
   known_from : (value : Descriptor) → IsKnown w io three.slots value → (d : Name) (cap : Cap) → value ≡ Ctx d cap → r.capability d cap
   known_from value known d cap is = let stood = known.stood d cap is in of.had d stood.0 cap stood.1 stood.2

@@ -17,7 +17,7 @@ use Rattle.lwc_base.specs.declared.fault.ThreadStatus.{ThreadStatus}
 use Rattle.lwc_base.specs.declared.fault.ThreadStatus.TheVariants.{Idle, Running}
 use Rattle.lwc_base.specs.declared.item.Item.{Item}
 use Rattle.lwc_base.specs.declared.key.Key.{Key}
-use Rattle.lwc_base.specs.declared.key.Key.TheVariants.{Cred, Slot}
+use Rattle.lwc_base.specs.declared.key.Key.TheVariants.{Cred, Page, Slot}
 use Rattle.lwc_base.specs.declared.name.Name.{Name}
 use Rattle.lwc_base.specs.declared.regs.Regs.{Regs}
 use Rattle.lwc_base.specs.Capabilities.{full_cap}
@@ -25,6 +25,7 @@ use Rattle.lwc_base.specs.Facts.{AddsContext}
 use Rattle.lwc_base.specs.Fresh.{IsNamedContext}
 use Rattle.lwc_base.specs.Modes.{IsKey}
 use Rattle.lwc_base.specs.Sharing.{clone_context, cloned_context, share}
+use Rattle.lwc_base.specs.Rights.{right_at}
 use Rattle.lwc_base.specs.Slots.{lowest_empty}
 use Rattle.lwc_base.specs.World.{World, Context, Counters, context, is_live, next_context}
 use Rattle.lwc_create.specs.Create as create
@@ -54,6 +55,7 @@ reached_next inputs m t reached = record {
 -- nothing of a context has changed
 record IsSame (w v : World) (c : Name) : Type 0 where
   cells : (k : Key) → IsKey w.size.pages k → (context v c).cell k ≡ (context w c).cell k
+  rights : (p : ℕ) → IsKey w.size.pages (Page p) → right_at v c p ≡ right_at w c p
   entry : (context v c).entry ≡ (context w c).entry
   saved : (t : ℕ) → (context v c).saved t ≡ (context w c).saved t
 
@@ -70,13 +72,13 @@ module _ (inputs : Inputs) (can : CanOpen inputs) where
   lived (t ∷ ts) m reached c named live =
       let led = leads_at m t reached in
       let counted : ((world_of m).next c.job).contexts ≤ ((world_of (step m t)).next c.job).contexts =
-      subst (λ (next : _). ((world_of m).next c.job).contexts ≤ (next c.job).contexts) (sym led.leaves.next) (led.confines.counted c.job) in
+      subst (λ (next : _). ((world_of m).next c.job).contexts ≤ (next c.job).contexts) (sym led.leaves.next) (led.allowed.confines.counted c.job) in
       let later : IsNamedContext (world_of (step m t)).next c = omega (arith, named, counted) in
-      led.confines.live c (led.leaves.live c (lived ts (step m t) (reached_next inputs m t reached) c later live)) named
+      led.allowed.confines.live c (led.leaves.live c (lived ts (step m t) (reached_next inputs m t reached) c later live)) named
 
   -- a context that no step may change
   left_alone : (ts : List ℕ) (m : Machine) → IsReached inputs m → (c : Name) → is_live (world_of m) c ≡ true → is_live (world_of (run m ts)) c ≡ true → LeaveIt m ts c → IsSame (world_of m) (world_of (run m ts)) c
-  left_alone [] m reached c live after left = record { cells = λ k key. refl; entry = refl; saved = λ t. refl }
+  left_alone [] m reached c live after left = record { cells = λ k key. refl; rights = λ p key. refl; entry = refl; saved = λ t. refl }
   left_alone (t ∷ ts) m reached c live after left =
       let next = reached_next inputs m t reached in
       let ready = ready_at m reached in
@@ -84,13 +86,15 @@ module _ (inputs : Inputs) (can : CanOpen inputs) where
       let step_is : IsConfined m t (step m t) = confined inputs (length reached.steps) m t ready in
       let named : IsNamedContext (world_of m).next c = ready.sound.fresh.contexts c live in
       let counted : ((world_of m).next c.job).contexts ≤ ((world_of (step m t)).next c.job).contexts =
-      subst (λ (next : _). ((world_of m).next c.job).contexts ≤ (next c.job).contexts) (sym led.leaves.next) (led.confines.counted c.job) in
+      subst (λ (next : _). ((world_of m).next c.job).contexts ≤ (next c.job).contexts) (sym led.leaves.next) (led.allowed.confines.counted c.job) in
       let still : is_live (world_of (step m t)) c ≡ true = lived ts (step m t) next c (omega (arith, named, counted)) after in
       let rest = left_alone ts (step m t) next c still after left.1 in
-      let size : (world_of (step m t)).size ≡ (world_of m).size = led.leaves.size ∙ led.confines.size in
+      let size : (world_of (step m t)).size ≡ (world_of m).size = led.leaves.size ∙ led.allowed.confines.size in
       record {
         cells = λ k key. rest.cells k (subst (λ (s : _). IsKey s.pages k) (sym size) key)
             ∙ elim (step_is.cells c k (live, still) key) [ inl same ↦ same | inr may ↦ absurd (left.0 k may) ];
+        rights = λ p key. rest.rights p (subst (λ (s : _). IsKey s.pages (Page p)) (sym size) key)
+            ∙ elim (step_is.rights c p (live, still) key) [ inl same ↦ same | inr may ↦ absurd (left.0 (Page p) may) ];
         entry = rest.entry ∙ step_is.entries c (live, still);
         saved = λ s. rest.saved s ∙ elim (step_is.saved c s (live, still)) [
           | inl same ↦ same
@@ -151,7 +155,7 @@ module _ (inputs : Inputs) (can : CanOpen inputs) where
       IsAsMade (world_of (step m t)) (world_of (run (step m t) since)) c
   as_made m reached t c made since untouched =
       let same = left_alone since (step m t) (reached_next inputs m t reached) c untouched.before untouched.after untouched.left in
-      record { cells = same.cells; entry = same.entry; saved = λ s. same.saved s ∙ fresh_saved m reached t c made untouched.before s }
+      record { cells = same.cells; rights = same.rights; entry = same.entry; saved = λ s. same.saved s ∙ fresh_saved m reached t c made untouched.before s }
 
   -- no step moves a thread into a context that is left alone
   not_entered : (m : Machine) → IsReached inputs m → (t : ℕ) (c : Name) → is_live (world_of m) c ≡ true → 1 ≤ c.job → NotIn m c → ((k : Key) → MayChange m t c k → ⊥) → NotIn (step m t) c
@@ -196,7 +200,7 @@ module _ (inputs : Inputs) (can : CanOpen inputs) where
       named_next m t reached c named =
           let led = leads_at m t reached in
           let counted : ((world_of m).next c.job).contexts ≤ ((world_of (step m t)).next c.job).contexts =
-          subst (λ (next : _). ((world_of m).next c.job).contexts ≤ (next c.job).contexts) (sym led.leaves.next) (led.confines.counted c.job) in
+          subst (λ (next : _). ((world_of m).next c.job).contexts ≤ (next c.job).contexts) (sym led.leaves.next) (led.allowed.confines.counted c.job) in
           omega (arith, named, counted)
 
   -- none stands in a context that has just been made

@@ -13,6 +13,7 @@ use Rattle.lwc_base.specs.declared.key.Key.TheVariants.{Page, Slot, Cred}
 use Rattle.lwc_base.specs.declared.name.Name.{Name}
 use Rattle.lwc_base.specs.declared.page.PageValue.{PageValue}
 use Rattle.lwc_base.specs.declared.regs.Regs.{Regs}
+use Rattle.lwc_base.specs.declared.right.Right.{Right}
 use Rattle.lwc_base.specs.Cells.{put_at, put_page, slot_at, value_at, value_of}
 use Rattle.lwc_base.specs.Clones.{AreApart}
 use Rattle.lwc_base.specs.Facts.{ChangesContext}
@@ -21,6 +22,7 @@ use Rattle.lwc_base.specs.Keys.{ValueOf}
 use Rattle.lwc_base.specs.Mapping.{mapped_or_not, with_zeros, without_pages}
 use Rattle.lwc_base.specs.Memory.{touched}
 use Rattle.lwc_base.specs.Modes.{IsKey}
+use Rattle.lwc_base.specs.Rights.{right_at}
 use Rattle.lwc_base.specs.Saved.{save, with_saved}
 use Rattle.lwc_base.specs.Sound.{HasItsGroups}
 use Rattle.lwc_base.specs.Store.{Piece, after_store, page_value_at, parting_count, stored_pages, put_pages, store}
@@ -34,28 +36,29 @@ use Rattle.lwc_base.proofs.Facts.{changes}
 
 -- what an act may do: which key of which context it may change, of which context it may save a thread's registers, and which
 -- capability for which context it may leave
-pub record Rights : Type 1 where
+pub record Allowance : Type 1 where
   pub change : Name → Key → Type 0
   pub saving : Name → ℕ → Type 0
   pub capability : Name → Cap → Type 0
 
 -- a value that may be put under a key
-abbrev pub IsAllowed : Rights → (k : Key) → ValueOf k → Type 0
+abbrev pub IsAllowed : Allowance → (k : Key) → ValueOf k → Type 0
 IsAllowed r (Page p) value = Unit {0}
 IsAllowed r (Slot n) value = (d : Name) (cap : Cap) → value ≡ Ctx d cap → r.capability d cap
 IsAllowed r Cred value = Unit {0}
 
 -- a pair that may be changed has the key and this context, or one that has it in common
-abbrev pub Seen : Rights → World → Name → Key → Type 0
+abbrev pub Seen : Allowance → World → Name → Key → Type 0
 Seen r w e k = (a : Name) × r.change a k × IsOneValue w a e k
 
 -- a descriptor of a context stood in the slot before, or its capability may be left
-abbrev pub Had : Rights → World → Name → ℕ → Name → Cap → Type 0
+abbrev pub Had : Allowance → World → Name → ℕ → Name → Cap → Type 0
 Had r w e n d cap = (slot_at w e n ≡ Ctx d cap) ⊎ r.capability d cap
 
 -- what has changed might be changed
-pub record Confines (r : Rights) (w v : World) : Type 0 where
+pub record Confines (r : Allowance) (w v : World) : Type 0 where
   pub cells : (e : Name) (k : Key) → is_live w e ≡ true → IsKey w.size.pages k → ((context v e).cell k ≡ (context w e).cell k) ⊎ r.change e k
+  pub rights : (e : Name) (p : ℕ) → is_live w e ≡ true → IsKey w.size.pages (Page p) → (right_at v e p ≡ right_at w e p) ⊎ r.change e (Page p)
   pub values : (e : Name) (k : Key) → is_live w e ≡ true → IsKey w.size.pages k → (value_at v e k ≡ value_at w e k) ⊎ Seen r w e k
   pub entries : (e : Name) → is_live w e ≡ true → (context v e).entry ≡ (context w e).entry
   pub saved : (e : Name) (s : ℕ) → is_live w e ≡ true → ((context v e).saved s ≡ (context w e).saved s) ⊎ r.saving e s
@@ -66,16 +69,17 @@ pub record Confines (r : Rights) (w v : World) : Type 0 where
   pub size : v.size ≡ w.size
 
 -- and contexts that were apart still are
-pub record Stage (r : Rights) (w v : World) : Type 0 where
+pub record Stage (r : Allowance) (w v : World) : Type 0 where
   pub confines : Confines r w v
   pub apart : (a b : Name) (k : Key) → is_live w a ≡ true → is_live w b ≡ true → AreApart w a b k → AreApart v a b k
 
-module _ (r : Rights) (w : World) (groups : HasItsGroups w) where
+module _ (r : Allowance) (w : World) (groups : HasItsGroups w) where
   -- nothing has changed
   pub none : Stage r w w
   none = record {
     confines = record {
       cells = λ e k here key. inl refl;
+      rights = λ e p here key. inl refl;
       values = λ e k here key. inl refl;
       entries = λ e here. refl;
       saved = λ e s here. inl refl;
@@ -124,6 +128,7 @@ module _ (r : Rights) (w : World) (groups : HasItsGroups w) where
             ]
             | inr other ↦ same_then _ _ _ (put-other_cell u c q value e k (λ is. other)) (was.cells e k here key)
           ];
+          rights = λ e p here key. same_then _ _ _ (ap (λ (f : ℕ → Right). f p) (put.rights e)) (was.rights e p here key);
           values = λ e k here key. elim (key_or_not k q) [
             | inl same ↦ subst (λ (l : Key). (value_at (put_at u c q value) e l ≡ value_at w e l) ⊎ Seen r w e l) (sym same)
                 (at_key u stage c q value live allowed e here (subst (IsKey w.size.pages) same key))
@@ -156,6 +161,7 @@ module _ (r : Rights) (w : World) (groups : HasItsGroups w) where
       record {
         confines = record {
           cells = was.cells;
+          rights = was.rights;
           values = was.values;
           entries = was.entries;
           saved = was.saved;
@@ -185,6 +191,7 @@ module _ (r : Rights) (w : World) (groups : HasItsGroups w) where
   -- a context that may be changed is another one
   pub record Turns (c : Name) (x y : Context) (u : World) : Type 0 where
     pub cell : (k : Key) → IsKey w.size.pages k → (y.cell k ≡ x.cell k) ⊎ r.change c k
+    pub right : (p : ℕ) → IsKey w.size.pages (Page p) → (y.right p ≡ x.right p) ⊎ r.change c (Page p)
     pub entry : y.entry ≡ x.entry
     pub saved : (s : ℕ) → (y.saved s ≡ x.saved s) ⊎ r.saving c s
     pub capability : (d : Name) (n : ℕ) (cap : Cap) → n < SLOTS → value_of u (Slot n) (y.cell (Slot n)) ≡ Ctx d cap → Had r w c n d cap
@@ -230,6 +237,14 @@ module _ (r : Rights) (w : World) (groups : HasItsGroups w) where
             | inl same ↦ same_then _ _ _ same (was.cells e k here key)
             | inr may ↦ inr (subst (λ (n : Name). r.change n k) (sym may.0) may.1)
           ];
+          rights = λ e p here key. elim (name_or_not e c) [
+            | inl same ↦ subst (λ (n : Name). (right_at v n p ≡ right_at w n p) ⊎ r.change n (Page p)) (sym same)
+                (elim (turns.right p key) [
+                  | inl still ↦ same_then _ _ _ (ap (λ (x : Context). x.right p) now ∙ still) (was.rights c p live key)
+                  | inr may ↦ inr may
+                ])
+            | inr differ ↦ same_then _ _ _ (ap (λ (x : Context). x.right p) (changed.others e differ)) (was.rights e p here key)
+          ];
           values = λ e k here key. elim (cell_on e k key) [
             | inl same ↦ same_then _ _ _ (read_same e k same) (was.values e k here key)
             | inr may ↦ inr (c, may.1, inl (sym may.0))
@@ -265,6 +280,7 @@ module _ (r : Rights) (w : World) (groups : HasItsGroups w) where
       | Slot n ↦ λ key. inl refl
       | Cred ↦ λ key. inl refl
     ] key;
+    right = λ p key. inr (allowed p key);
     entry = refl;
     saved = λ s. inl refl;
     capability = had u stage c live;
@@ -277,6 +293,7 @@ module _ (r : Rights) (w : World) (groups : HasItsGroups w) where
       | Slot n ↦ λ key. inl refl
       | Cred ↦ λ key. inl refl
     ] key;
+    right = λ p key. inr (allowed p key);
     entry = refl;
     saved = λ s. inl refl;
     capability = had u stage c live;
@@ -290,6 +307,7 @@ module _ (r : Rights) (w : World) (groups : HasItsGroups w) where
   save_turn : (c : Name) (t : ℕ) (regs : Regs) → Stage r w w → is_live w c ≡ true → r.saving c t → Turns c (context w c) (with_saved t regs (context w c)) w
   save_turn c t regs start live allowed = record {
     cell = λ k key. inl refl;
+    right = λ p key. inl refl;
     entry = refl;
     saved = λ s. elim (number_or_not s t) [
       | inl same ↦ inr (subst (r.saving c) (sym same) allowed)

@@ -24,7 +24,7 @@ use Rattle.lwc_base.specs.declared.descriptor.Cap.{Cap}
 use Rattle.lwc_base.specs.declared.fault.ThreadStatus.{ThreadStatus}
 use Rattle.lwc_base.specs.declared.fault.ThreadStatus.TheVariants as status
 use Rattle.lwc_base.specs.declared.name.Name.{Name}
-use Rattle.lwc_base.specs.Store.{Absent, Done, Full, Piece, Stored, store}
+use Rattle.lwc_base.specs.Store.{Absent, Done, Full, ReadOnly, Piece, Stored, store}
 use Rattle.lwc_base.specs.World.{World, is_live}
 use Rattle.lwc_switch.specs.Switch.{switch}
 use Rattle.lwc_syscall.specs.declared.answer.CallAnswer.{CallAnswer}
@@ -57,6 +57,7 @@ loaded_stands y d (Some value) = refl
 
 stored_stands : (e : Environment) (y : Thread) (s : Stored) → (stored_outcome e y s).thread.context ≡ y.context
 stored_stands e y Absent = refl
+stored_stands e y ReadOnly = refl
 stored_stands e y Full = refl
 stored_stands e y (Done v) = refl
 

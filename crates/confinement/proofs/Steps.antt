@@ -30,7 +30,7 @@ use Rattle.lwc_base.specs.Life.{HasItsContexts}
 use Rattle.lwc_base.specs.Refusals.{first_refusal}
 use Rattle.lwc_base.specs.Slots.{lowest_empty}
 use Rattle.lwc_base.specs.Sound.{IsSound}
-use Rattle.lwc_base.specs.Store.{Absent, Done, Full, Piece, Stored, store}
+use Rattle.lwc_base.specs.Store.{Absent, Done, Full, Piece, ReadOnly, Stored, store}
 use Rattle.lwc_base.specs.World.{World, is_live}
 use Rattle.lwc_create.specs.Create as create
 use Rattle.lwc_overlay.specs.OverlayCall as overlaying
@@ -42,8 +42,7 @@ use Rattle.lwc_syscall.specs.Plain as plains
 use Rattle.lwc_syscall.specs.Plain.{plain, refused_or}
 use Rattle.lwc_syscall.specs.Syscall as syscalls
 use Rattle.lwc_syscall.specs.Syscall.{inner_args, inner_call, lw_syscall, three_of}
-use Rattle.confinement.proofs.Acts.{chosen, created, overlaid, plainly, restricts, rights, same, stored, switched}
-use Rattle.confinement.proofs.Stages.{Confines}
+use Rattle.confinement.proofs.Acts.{IsAllowed, chosen, created, overlaid, plainly, restricts, same, stored, switched}
 use Rattle.confinement.specs.May.{MakesCall, regs_at, world_of}
 use Rattle.kernel_core.proofs.Refusing.{call_refused}
 use Rattle.lwc_overlay.proofs.Accepted.{restriction, taken}
@@ -127,7 +126,7 @@ module _ (m : Machine) (t : ℕ) (x : Thread) (found : slice_get m.threads t ≡
   y = advanced_thread m x
 
   abbrev Allowed : World → Type 0
-  Allowed v = Confines (rights m t) w v
+  Allowed v = IsAllowed m t v
 
   abbrev world_by : ℕ → World
   world_by number = (guest_calls number t m.environment y).environment.world
@@ -177,7 +176,7 @@ module _ (m : Machine) (t : ℕ) (x : Thread) (found : slice_get m.threads t ≡
       (λ not_restrict. by_number LW_OVERLAY (λ is. let c = at is in overlaid m t x found sound live c _ (at_overlay c))
       (λ not_overlay. by_number LW_SYSCALL (λ is.
       let c = at is in let inner = at_syscall c in subst Allowed (sym inner.1) (chosen m t x found sound live c inner.0 named files))
-      (λ not_syscall. subst Allowed (sym (plain_world not_create not_switch not_restrict not_overlay not_syscall)) (plainly m t x found sound live named files number))))))
+      (λ not_syscall. subst Allowed (sym (plain_world not_create not_switch not_restrict not_overlay not_syscall)) (plainly m t x found sound live named files number calls))))))
     where
       at : {k : ℕ} → number ≡ k → MakesCall m t x k
       at {k} is = subst (MakesCall m t x) is calls
@@ -203,6 +202,7 @@ module _ (m : Machine) (t : ℕ) (x : Thread) (found : slice_get m.threads t ≡
 
   stored_world : (piece : Piece) (s : Stored) → store w x.context x.job piece ≡ s → Allowed (stored_outcome m.environment y s).environment.world
   stored_world piece Absent is = unchanged_world
+  stored_world piece ReadOnly is = unchanged_world
   stored_world piece Full is = unchanged_world
   stored_world piece (Done v) is = stored m t x found sound live piece v is
 

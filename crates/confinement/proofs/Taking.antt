@@ -4,7 +4,7 @@ use Rattle.std.specs.Prelude.{slice_index}
 use Rattle.call_items.proofs.Taken.{mode-taken}
 use Rattle.lwc_base.proofs.Overlays.{overlay-copied_value, overlay-others, overlay-shared_value, overlay-unnamed}
 use Rattle.lwc_base.specs.declared.item.Mode.{Mode}
-use Rattle.lwc_base.specs.declared.item.Mode.TheVariants.{Copy, Share, Unmap}
+use Rattle.lwc_base.specs.declared.item.Mode.TheVariants.{Copy, Share, Unmap, CopyRead}
 use Rattle.lwc_base.specs.declared.key.Key.{Key}
 use Rattle.lwc_base.specs.declared.name.Name.{Name}
 use Rattle.lwc_base.specs.declared.regs.Regs.{Regs}
@@ -24,8 +24,9 @@ module _ (w v : World) (c d : Name) (regs : Regs) (is : IsOverlay w v c d (items
   -- where a context takes over from itself, it reads the same too
   itself : (k : Key) → c ≡ d → (o : Option Mode) → mode (items_of w c Overlay regs) k ≡ o → value_at v c k ≡ value_at w c k
   itself k same None named = overlay-unnamed w v c d _ is k named
-  itself k same (Some Copy) named = overlay-copied_value w v c d _ is k named ∙ ap (λ (n : Name). value_at w n k) (sym same)
+  itself k same (Some Copy) named = overlay-copied_value w v c d _ is k Copy named refl ∙ ap (λ (n : Name). value_at w n k) (sym same)
   itself k same (Some Share) named = overlay-shared_value w v c d _ is k named ∙ ap (λ (n : Name). value_at w n k) (sym same)
+  itself k same (Some CopyRead) named = overlay-copied_value w v c d _ is k CopyRead named refl ∙ ap (λ (n : Name). value_at w n k) (sym same)
   itself k same (Some Unmap) named = absurd (not_left_out w c regs k named)
 
   pub giver_stays : (k : Key) → value_at v d k ≡ value_at w d k

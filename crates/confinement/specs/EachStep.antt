@@ -25,8 +25,7 @@ abbrev pub machine_since : Inputs → List ℕ → ℕ → List ℕ → Machine
 machine_since inputs before t since = run (machine_made inputs before t) since
 
 -- of a history: each step is confined; a context that a step makes by the call for it, and that is untouched
--- for some steps,
--- is then as it was made; and a thread that enters it by the next step goes on as it was made
+-- for some steps, is then as it was made; and a thread that enters it by the next step goes on as it was made
 pub record IsConfinedRun (inputs : Inputs) (steps : List ℕ) : Type 0 where
   pub each : (before rest : List ℕ) (t : ℕ) → steps ≡ before ++ t ∷ rest →
       IsConfined (machine_after inputs before) t (machine_made inputs before t)

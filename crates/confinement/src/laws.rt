@@ -21,11 +21,14 @@ ghost use Rattle.lwc_base.specs.Life.{HasItsContexts};
 ghost use Rattle.lwc_base.specs.Capabilities.{has_key};
 ghost use Rattle.lwc_base.specs.Cells.{slot_at, value_at};
 ghost use Rattle.lwc_base.specs.Modes.{IsKey, kind_of};
+ghost use Rattle.lwc_base.specs.Rights.{right_at};
 ghost use Rattle.lwc_base.specs.World.{context, is_live};
 ghost use Rattle.lwc_base.specs.declared.descriptor.Cap.{Cap};
 ghost use Rattle.lwc_base.specs.declared.descriptor.Descriptor.TheVariants.{Ctx};
 ghost use Rattle.lwc_base.specs.declared.descriptor.TheConstants.{SLOTS};
 ghost use Rattle.lwc_base.specs.declared.key.Key.{Key};
+ghost use Rattle.lwc_base.specs.declared.key.Key.TheVariants.{Page};
+ghost use Rattle.lwc_base.specs.declared.key.Kind.TheVariants as kinds;
 ghost use Rattle.lwc_base.specs.declared.limits.TheConstants.{MOST_PAGES};
 ghost use Rattle.lwc_syscall.specs.Syscall.{mask_in};
 ghost use Rattle.lwc_base.specs.declared.name.Name.{Name};
@@ -74,7 +77,7 @@ pub fn what_may_change_is_touched()
 /// another context changes no value but those that its own context has, alone or in common with others.
 /// Registers that are kept for other threads stay. An overlay leaves its giver under keys that the
 /// capability lacks, and a call over chosen contexts leaves the other context's keys of kinds that are not
-/// chosen. Where no slot had a capability with a key for a context, none has one afterwards.
+/// chosen, each cell with the right of a page. Where no slot had a capability with a key for a context, none has one afterwards.
 pub fn a_confined_step_leaves_the_rest()
     ensures values { (m after : Machine) (t : ℕ) (x : Thread) (e : Name) (k : Key) → IsConfined m t after →
         slice_get m.threads t ≡ Some x → MakesNoneOfThree m t → IsLiveInBoth (world_of m) (world_of after) e →
@@ -88,10 +91,20 @@ pub fn a_confined_step_leaves_the_rest()
         has_key cap k ≡ false → IsLiveInBoth (world_of m) (world_of after) d →
         IsKey (world_of m).size.pages k →
         (context (world_of after) d).cell k ≡ (context (world_of m) d).cell k }
+    ensures giver_rights { (m after : Machine) (t : ℕ) (x : Thread) (d : Name) (cap : Cap) (p : ℕ) →
+        IsConfined m t after → MakesCall m t x LW_OVERLAY → IsGiven m x d cap → x.context ≢ d →
+        has_key cap (Page p) ≡ false → IsLiveInBoth (world_of m) (world_of after) d →
+        IsKey (world_of m).size.pages (Page p) →
+        right_at (world_of after) d p ≡ right_at (world_of m) d p }
     ensures kinds { (m after : Machine) (t : ℕ) (x : Thread) (d : Name) (k : Key) → IsConfined m t after →
         MakesCall m t x LW_SYSCALL → x.context ≢ d → is_chosen (mask_in (regs_at m x)) (kind_of k) ≡ false →
         IsLiveInBoth (world_of m) (world_of after) d → IsKey (world_of m).size.pages k →
         (context (world_of after) d).cell k ≡ (context (world_of m) d).cell k }
+    ensures kinds_rights { (m after : Machine) (t : ℕ) (x : Thread) (d : Name) (p : ℕ) →
+        IsConfined m t after → MakesCall m t x LW_SYSCALL → x.context ≢ d →
+        is_chosen (mask_in (regs_at m x)) kinds.Page ≡ false →
+        IsLiveInBoth (world_of m) (world_of after) d → IsKey (world_of m).size.pages (Page p) →
+        right_at (world_of after) d p ≡ right_at (world_of m) d p }
     ensures keys { (m after : Machine) (t : ℕ) (e d : Name) (n : ℕ) (cap : Cap) (k : Key) →
         IsConfined m t after → is_live (world_of after) e ≡ true → n < SLOTS →
         slot_at (world_of after) e n ≡ Ctx d cap → IsKey MOST_PAGES k →
