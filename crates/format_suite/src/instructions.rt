@@ -118,7 +118,7 @@ fn signed_immediates(rt: HostRuntime) {
 }
 
 #[test]
-#[tactic(auto, unfolding(crate::specs::Instructions::is_instruction))]
+#[tactic(auto, unfolding(guest_isa::specs::Instructions::is_instruction))]
 fn a_text_is_its_instructions(rt: HostRuntime) -> Result<(), Fail> {
     let jump = Instr {
         op: Op::Jmp,

@@ -47,10 +47,25 @@ fn kinds_modes_and_ranges_are_tested(rt: HostRuntime) -> Result<(), Fail> {
 }
 
 #[test]
+fn only_pages_are_copied_read_only(rt: HostRuntime) -> Result<(), Fail> {
+    let cases = [
+        (SpecCall::Create, [0, 3, 0, 1024], None),
+        (SpecCall::Overlay, [0, 3, 0, 1024], None),
+        (SpecCall::Restrict, [0, 3, 0, 1], Some(SpecFault::BadMode)),
+        (SpecCall::Create, [1, 3, 0, 1], Some(SpecFault::BadMode)),
+        (SpecCall::Overlay, [2, 3, 0, 1], Some(SpecFault::BadMode)),
+    ];
+    for (call, numbers, fault) in cases {
+        assert_eq!(rt; fault_of(call, &numbers), fault);
+    }
+    Ok(())
+}
+
+#[test]
 fn items_are_tested_together(rt: HostRuntime) -> Result<(), Fail> {
     let apart = [0, 0, 0, 2, 1, 0, 1, 3];
     let over = [0, 0, 0, 2, 0, 1, 1, 3];
-    let empty_then_bad = [0, 0, 5, 5, 0, 3, 0, 1];
+    let empty_then_bad = [0, 0, 5, 5, 0, 4, 0, 1];
     let over_and_past = [0, 0, 0, 2, 0, 0, 1, 1025];
     assert_eq!(rt; fault_of(SpecCall::Create, &apart), None);
     assert_eq!(rt; fault_of(SpecCall::Create, &over), Some(SpecFault::Overlap));

@@ -1,10 +1,15 @@
-use lwc_base::Name;
+use lwc_base::{Name, Right};
 use range_map::{Change, RangeMap, SegmentKind, TooManyRanges};
 use std::test::Fail;
 
-/// The change of the pages from one up to and without another.
+/// The change of the pages from one up to and without another, with the right Write.
 fn change(from: u16, to: u16, kind: Option<SegmentKind>) -> Change {
-    Change { from, to, kind }
+    Change {
+        from,
+        to,
+        kind,
+        right: Right::Write,
+    }
 }
 
 #[test]
@@ -75,5 +80,39 @@ fn a_65th_range_is_refused(rt: HostRuntime) -> Result<(), Fail> {
     assert_eq!(rt; (map.count(), map.kind_at(1000)), (64, None));
     assert_eq!(rt; map.replace(&[change(1, 2, own)]), Ok(()));
     assert_eq!(rt; (map.count(), map.kind_at(126)), (63, own));
+    Ok(())
+}
+
+#[test]
+fn pages_of_two_rights_are_two_ranges(rt: HostRuntime) -> Result<(), Fail> {
+    let own = Some(SegmentKind::Own);
+    let read = Change {
+        from: 4,
+        to: 6,
+        kind: own,
+        right: Right::Read,
+    };
+    let gone = Change { kind: None, ..read };
+    let mut map = RangeMap::empty();
+    assert_eq!(rt; map.replace(&[change(0, 8, own)]), Ok(()));
+    assert_eq!(rt; map.count_after(&[read]), 3);
+    assert_eq!(rt; map.replace(&[read]), Ok(()));
+    assert_eq!(rt;
+        [
+            map.right_at(3),
+            map.right_at(4),
+            map.right_at(6),
+            map.right_at(8)
+        ],
+        [
+            Some(Right::Write),
+            Some(Right::Read),
+            Some(Right::Write),
+            None
+        ]
+    );
+    assert_eq!(rt; (map.count(), map.kind_at(5)), (3, own));
+    assert_eq!(rt; map.replace(&[gone]), Ok(()));
+    assert_eq!(rt; (map.count(), map.right_at(4)), (2, None));
     Ok(())
 }

@@ -1,16 +1,12 @@
--- What a world has in which a context has been made and its first pages mapped, and what a store leaves.
-use Rattle.std.proofs.Common.{◌≡◌, Bool, true, false, length, ℕ, ◌+◌, refl, subst, sym, ap, ◌∙◌}
-use Rattle.std.specs.Prelude.{if◌then◌else◌, not, nat_lt}
+-- What a world has in which a context has been made and its first pages mapped.
+use Rattle.std.proofs.Common.{◌≡◌, true, ℕ, ◌+◌, refl, subst, sym, ap, ◌∙◌}
 use Rattle.std.specs.FinMap as fm
 use Rattle.lwc_base.specs.declared.name.Name.{Name}
 use Rattle.lwc_base.specs.declared.size.WorldSize.{WorldSize}
 use Rattle.lwc_base.specs.Facts.{AddsContext, KeepsNames}
-use Rattle.lwc_base.specs.Frames.{used}
 use Rattle.lwc_base.specs.Fresh.{IsFresh}
 use Rattle.lwc_base.specs.Mapping.{map_pages}
-use Rattle.lwc_base.specs.Memory.{is_present}
 use Rattle.lwc_base.specs.Names.{name_cmp}
-use Rattle.lwc_base.specs.Store.{Piece, Absent, Full, Done, after_store, parting_count, store}
 use Rattle.lwc_base.specs.World.{World, Context, Counters, Group, is_live, next_context, add_context, empty_world}
 use Rattle.lwc_base.proofs.Facts.{changes, counts, stays_fresh}
 
@@ -69,13 +65,3 @@ module _ (size : WorldSize) (opened made mapped : World) (c : Name) (x : Context
   no_group-begun =
       (counts.same_groups made mapped 0 kept.groups).1 ∙ ap (fm.len {R = name_cmp}) added.groups
       ∙ ap (λ (w : World). fm.len w.groups) is_opened ∙ no_group-empty size
-
-done_of : (present full : Bool) (w v : World) → (if not present then Absent else (if full then Full else Done w)) ≡ Done v → v ≡ w
-done_of true true w v is = cc
-done_of true false w v is = cc
-done_of false full w v is = cc
-
--- a store that is done leaves this world
-pub stored : (w v : World) (c : Name) (job : ℕ) (piece : Piece) → store w c job piece ≡ Done v → v ≡ after_store w c job piece
-unfolding store
-stored w v c job piece done = done_of (is_present w c piece.at (length piece.bytes)) (nat_lt w.size.frames (used w + parting_count w c piece)) (after_store w c job piece) v done

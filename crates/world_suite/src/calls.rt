@@ -141,14 +141,14 @@ fn maps_pages<R: AllocGlobal + Abort, W: World>(rt: &R) -> Result<(), Fail> {
     Ok(())
 }
 
-/// The specifier that shares the second page.
-fn second_page() -> Spec
+/// The specifier of one item, which gives the second page a mode.
+fn second_page(mode: Mode) -> Spec
     ensures { IsSpec 4 result }
 {
     let mut spec = Spec::empty();
     spec.push(Item {
         kind: Kind::Page,
-        mode: Mode::Share,
+        mode,
         from: 1,
         to: 2,
     });
@@ -158,7 +158,7 @@ fn second_page() -> Spec
 /// A clone that shares a page makes a group.
 fn clones_a_context<R: AllocGlobal + Abort, W: World>(rt: &R) -> Result<(), Fail> {
     let (mut world, c) = begun::<R, W>(rt, 2)?;
-    let spec = second_page();
+    let spec = second_page(Mode::Share);
     let counts = world.ranges_after_clone(c, &spec);
     assert!(rt; counts.0 == 2 && counts.1 == 2);
     assert!(rt; world.needs_group(c, &spec));
@@ -171,11 +171,35 @@ fn clones_a_context<R: AllocGlobal + Abort, W: World>(rt: &R) -> Result<(), Fail
     Ok(())
 }
 
+/// A page that is copied read-only may be stored to where it was, and not in the copy. A store over it and a
+/// page that may be stored to changes neither.
+#[tactic(auto, using(lwc_base::proofs::Facts::changes))]
+fn copies_read_only<R: AllocGlobal + Abort, W: World>(rt: &R) -> Result<(), Fail> {
+    let (mut world, c) = begun::<R, W>(rt, 2)?;
+    let spec = second_page(Mode::CopyRead);
+    let counts = world.ranges_after_clone(c, &spec);
+    assert!(rt; counts.0 == 1 && counts.1 == 2);
+    assert!(rt; !world.needs_group(c, &spec));
+    let made = world.clone_context(c, &spec, 1, &Regs::fresh(5))?;
+    assert_eq!(rt;
+        world.store(made, 4094, &[1, 2, 3, 4], 1),
+        Err(StoreFault::ReadOnly)
+    );
+    assert_eq!(rt; world.used(), 0);
+    assert_eq!(rt;
+        world.store(made, 8191, &[1, 2], 1),
+        Err(StoreFault::BadAddress)
+    );
+    world.store(c, 4096, &[1], 1)?;
+    assert_eq!(rt; world.used(), 1);
+    Ok(())
+}
+
 /// An overlay onto the context itself shares a page that stays.
 #[tactic(auto, using(lwc_base::proofs::Facts::changes))]
 fn overlays_itself<R: AllocGlobal + Abort, W: World>(rt: &R) -> Result<(), Fail> {
     let (mut world, c) = begun::<R, W>(rt, 2)?;
-    let spec = second_page();
+    let spec = second_page(Mode::Share);
     let counts = world.ranges_after_overlay(c, c, &spec);
     assert!(rt; counts.0 == 2 && counts.1 == 2);
     world.overlay(c, c, &spec, 1)?;
@@ -231,6 +255,12 @@ fn values_are_shared(rt: HostRuntime) -> Result<(), Fail> {
     clones_a_context::<HostRuntime, LazyWorld>(&rt)?;
     overlays_itself::<HostRuntime, WholeWorld>(&rt)?;
     overlays_itself::<HostRuntime, LazyWorld>(&rt)
+}
+
+#[test]
+fn pages_are_copied_read_only(rt: HostRuntime) -> Result<(), Fail> {
+    copies_read_only::<HostRuntime, WholeWorld>(&rt)?;
+    copies_read_only::<HostRuntime, LazyWorld>(&rt)
 }
 
 #[test]
