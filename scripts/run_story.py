@@ -12,8 +12,8 @@ ALL_SLOTS = set(range(64))
 WORD = 2**64
 REFUSALS = {2: "BadCall", 3: "BadFd", 4: "WrongKind", 5: "BadAddress", 6: "BadRange", 7: "BadMode", 8: "Overlap", 9: "TooManyItems",
             10: "NotCovered", 11: "TooManyContexts", 12: "NoSlot", 13: "NoSlotThere", 14: "NoFrame", 15: "NotPermitted", 16: "NoFile",
-            17: "TooManyGroups", 18: "TooManyRanges", 19: "ReplyFull", 20: "TooLong"}
-FAULTS = {1: "BadPc", 2: "BadLoad", 3: "BadStore", 4: "NoFrame", 5: "Budget"}
+            17: "TooManyGroups", 18: "TooManyRanges", 19: "ReplyFull", 20: "TooLong", 21: "ReadOnly"}
+FAULTS = {1: "BadPc", 2: "BadLoad", 3: "BadStore", 4: "NoFrame", 5: "Budget", 6: "ReadOnly"}
 CALLS = {1: "open", 2: "close", 3: "dup", 4: "read", 5: "write", 6: "map", 7: "unmap", 8: "getuid", 9: "setuid", 10: "exit",
          16: "make a context", 17: "switch", 18: "take keys from a capability", 19: "take over from a context",
          20: "call on behalf of a context"}
