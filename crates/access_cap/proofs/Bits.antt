@@ -68,7 +68,7 @@ item-has item k n b low high kind number within fits before inside =
     let is = has_bit-without high low b fits within in grind (arith, nat_tests)
 
 -- items name a key if one of them does
-is_named-any : (items : List Item) (k : Key) → is_named items k ≡ list_any (λ item. names item k) items
+pub is_named-any : (items : List Item) (k : Key) → is_named items k ≡ list_any (λ item. names item k) items
 unfolding mode
 is_named-any [] k = refl
 is_named-any (x ∷ xs) k = let rest = is_named-any xs k in grind arith

@@ -1,20 +1,14 @@
 -- A capability that has each key of another covers what that one stands for.
-use Rattle.std.proofs.Common.{◌≡◌, ◌∙◌, ◌↔◌, ap, sym, ℕ, ◌<◌, ◌≤◌, Bool, true, false, not, ◌&&◌, arith}
+use Rattle.std.proofs.Common.{◌≡◌, ◌∙◌, ◌↔◌, sym, ℕ, ◌≤◌, Bool, true, false, not, ◌&&◌, arith}
 use Rattle.std.specs.Prelude.{nat_lt}
-use Rattle.std.specs.List.{list_any, range_with_len}
-use Rattle.std.proofs.lemmas.Bool.{and_from, and_parts, both_ways, lt-ltb, ltb-true, not_from_false, or_from, or_left, or_right, true_from_ne_false}
-use Rattle.std.proofs.lemmas.List.Folds.{list_any_at, list_any_none}
-use Rattle.std.proofs.lemmas.List.FromFn.{get_or-range_with_len, length-range_with_len}
+use Rattle.std.proofs.lemmas.Bool.{and_from, and_parts, both_ways, lt-ltb, ltb-true, not_from_false, true_from_ne_false}
 use Rattle.access_cap.proofs.Keys.{HasKeysOf, within_most}
 use Rattle.lwc_base.specs.Capabilities.{has_key}
 use Rattle.lwc_base.specs.declared.descriptor.Cap.{Cap}
-use Rattle.lwc_base.specs.declared.descriptor.TheConstants.{SLOTS}
 use Rattle.lwc_base.specs.declared.key.Key.{Key}
-use Rattle.lwc_base.specs.declared.key.Key.TheVariants.{Page, Slot, Cred}
 use Rattle.lwc_base.specs.declared.limits.TheConstants.{MOST_PAGES}
 use Rattle.lwc_base.specs.Modes.{IsKey, kind_of, limit, number_of}
 use Rattle.lwc_base.specs.Sharing.{any_key}
-use Rattle.lwc_base.proofs.Caps.{some_below}
 use Rattle.lwc_base.proofs.Needs.{any_key-none, any_key-some}
 
 -- a test is another's opposite where each way is shown from one side

@@ -22,13 +22,13 @@ use Rattle.lwc_base.proofs.Caps.{cap_of-valid, restricted-has, same_keys}
 
 -- the words below a place are what each has to be
 pub record HasWords (is_word : ℕ → ℕ → Type 0) (i : ℕ) (words : List ℕ) : Type 0 where
-  pub whole : length words ≡ 16
+  pub whole : length words ≡ 256
   pub below : (k : ℕ) → k < i → is_word k (get_or words k 0)
 
-pub no_words : (is_word : ℕ → ℕ → Type 0) → HasWords is_word 0 (replicate 16 0)
+pub no_words : (is_word : ℕ → ℕ → Type 0) → HasWords is_word 0 (replicate 256 0)
 no_words is_word = record { whole = refl; below = λ k below. absurd (omega (arith, below)) }
 
-module _ (is_word : ℕ → ℕ → Type 0) (i word : ℕ) (words : List ℕ) (within : i < 16) (is : is_word i word) (has : HasWords is_word i words) where
+module _ (is_word : ℕ → ℕ → Type 0) (i word : ℕ) (words : List ℕ) (within : i < 256) (is : is_word i word) (has : HasWords is_word i words) where
   word_below : (k : ℕ) → (k ≡ i) ⊎ (k < i) → is_word k (get_or (set words i word) k 0)
   word_below k (inl same) = subst (is_word k) (sym (get_or-set_at words i k word 0 same (omega (arith, within, has.whole)))) (subst (λ (n : ℕ). is_word n word) (sym same) is)
   word_below k (inr below) = subst (is_word k) (sym (get_or-set_other words i k word 0 (λ same. omega (arith, same, below)))) (has.below k below)
@@ -39,29 +39,29 @@ module _ (is_word : ℕ → ℕ → Type 0) (i word : ℕ) (words : List ℕ) (w
     below = λ k below. word_below k (eq-or-lt_of_le (omega (arith, below)));
   }
 
-pub all_words : (is_word : ℕ → ℕ → Type 0) (i : ℕ) (words : List ℕ) → 16 ≤ i → i ≤ 16 → HasWords is_word i words → HasWords is_word 16 words
+pub all_words : (is_word : ℕ → ℕ → Type 0) (i : ℕ) (words : List ℕ) → 256 ≤ i → i ≤ 256 → HasWords is_word i words → HasWords is_word 256 words
 all_words is_word i words end most has = record { whole = has.whole; below = λ k below. has.below k (omega (arith, below, end)) }
 
 -- the words of a full capability, and no other, are its words
-pub is_full : (pages i : ℕ) (words : List ℕ) → 16 ≤ i → i ≤ 16 → HasWords (λ k word. word ≡ full_word pages k) i words →
+pub is_full : (pages i : ℕ) (words : List ℕ) → 256 ≤ i → i ≤ 256 → HasWords (λ k word. word ≡ full_word pages k) i words →
     record { pages = words; slots = 18446744073709551615; cred = true } ≡ full_cap pages
 unfolding full_cap
 is_full pages i words end most has =
     ap (λ (l : List ℕ). record { pages = l; slots = 18446744073709551615; cred = true })
-    (same_number_lists words (map (full_word pages) (range_with_len 0 16)) has.whole
-    (λ k within. has.below k (omega (arith, within, has.whole, end)) ∙ sym (get_or-map-range_with_len (full_word pages) 0 16 k k 0 (omega (arith, within, has.whole)) (omega arith))))
+    (same_number_lists words (map (full_word pages) (range_with_len 0 256)) has.whole
+    (λ k within. has.below k (omega (arith, within, has.whole, end)) ∙ sym (get_or-map-range_with_len (full_word pages) 0 256 k k 0 (omega (arith, within, has.whole)) (omega arith))))
 
 -- the full capability has the keys of this number of pages, of the slots and of the credential
-pub full_has : (pages : ℕ) (cap : Cap) → pages ≤ MOST_PAGES → cap ≡ full_cap pages →
+pub full_has : (pages : ℕ) (cap : Cap) → cap ≡ full_cap pages →
     (key : Key) → IsKey MOST_PAGES key → has_key cap key ≡ nat_lt (number_of key) (limit pages (kind_of key))
 unfolding has_key full_cap
-full_has pages cap few is (Page p) inside =
+full_has pages cap is (Page p) inside =
     ap (λ (x : Cap). has_bit (get_or x.pages (p / 64) 0) (p % 64)) is
     ∙ low_word-has pages (p / 64) (p % 64) (min 64 (pages - 64 * (p / 64))) _ refl
-    (get_or-map-range_with_len (full_word pages) 0 16 (p / 64) (p / 64) 0 (omega arith) (omega arith)) (omega arith)
+    (get_or-map-range_with_len (full_word pages) 0 256 (p / 64) (p / 64) 0 (omega arith) (omega arith)) (omega arith)
     ∙ ap (λ (q : ℕ). nat_lt q pages) (omega arith)
-full_has pages cap few is (Slot n) inside = ap (λ (x : Cap). has_bit x.slots n) is ∙ low_word-has 64 0 n 64 _ refl refl inside ∙ ap (λ (m : ℕ). nat_lt m 64) (omega arith)
-full_has pages cap few is Cred inside = ap (λ (x : Cap). x.cred) is
+full_has pages cap is (Slot n) inside = ap (λ (x : Cap). has_bit x.slots n) is ∙ low_word-has 64 0 n 64 _ refl refl inside ∙ ap (λ (m : ℕ). nat_lt m 64) (omega arith)
+full_has pages cap is Cred inside = ap (λ (x : Cap). x.cred) is
 
 pub within_most : (pages : ℕ) → pages ≤ MOST_PAGES → (key : Key) → IsKey pages key → IsKey MOST_PAGES key
 within_most pages few (Page p) within = omega arith
@@ -75,9 +75,9 @@ zero_at (suc count) zero = refl
 zero_at (suc count) (suc i) = zero_at count i
 
 -- a capability of zeros has no key
-pub zeros_have_none : (cap : Cap) → cap.pages ≡ replicate 16 0 → cap.slots ≡ 0 → cap.cred ≡ false → (key : Key) → has_key cap key ≡ false
+pub zeros_have_none : (cap : Cap) → cap.pages ≡ replicate 256 0 → cap.slots ≡ 0 → cap.cred ≡ false → (key : Key) → has_key cap key ≡ false
 unfolding has_key
-zeros_have_none cap words slots cred (Page p) = has_bit-zero (get_or cap.pages (p / 64) 0) (p % 64) (rw words (zero_at 16 (p / 64)))
+zeros_have_none cap words slots cred (Page p) = has_bit-zero (get_or cap.pages (p / 64) 0) (p % 64) (rw words (zero_at 256 (p / 64)))
 zeros_have_none cap words slots cred (Slot n) = has_bit-zero cap.slots n slots
 zeros_have_none cap words slots cred Cred = cred
 
@@ -98,7 +98,7 @@ pub record IsMeetWord (cap : Cap) (items : List Item) (i word : ℕ) : Type 0 wh
 
 -- the words of such a capability
 pub record IsMeet (cap : Cap) (items : List Item) (part : Cap) : Type 0 where
-  pub words : HasWords (IsMeetWord cap items) 16 part.pages
+  pub words : HasWords (IsMeetWord cap items) 256 part.pages
   pub fits : part.slots < 2 ^ 64
   pub slots : (n : ℕ) → n < 64 → has_bit part.slots n ≡ (has_bit cap.slots n && is_named items (Slot n))
   pub cred : part.cred ≡ (cap.cred && is_named items Cred)
@@ -125,7 +125,7 @@ meet_has cap part items is Cred within = is.cred
 -- it is the restriction, since capabilities are sets of keys
 is_cap : (cap part : Cap) (items : List Item) → IsMeet cap items part → IsCap part
 is_cap cap part items is =
-    let fits = λ (k : ℕ) (within : k < 16). (is.words.below k within).fits in
+    let fits = λ (k : ℕ) (within : k < 256). (is.words.below k within).fits in
     record { words = is.words.whole; pages = λ k d within. rw (get_or_default part.pages k d 0 within) (fits k (omega (arith, is.words.whole))); slots = is.fits }
 
 pub meet_is : (cap part : Cap) (items named : List Item) → items ≡ named → IsMeet cap items part → part ≡ restricted cap named
@@ -154,7 +154,7 @@ HasBitsOf word part = (b : ℕ) → b < 64 → has_bit part b ≡ true → has_b
 
 -- a capability has each key of another if its words have each bit, and else it lacks one
 module _ (cap part : Cap) where
-  keys_of_words : ((i : ℕ) → i < 16 → HasBitsOf (get_or cap.pages i 0) (get_or part.pages i 0)) → HasBitsOf cap.slots part.slots → (part.cred ≡ true → cap.cred ≡ true) →
+  keys_of_words : ((i : ℕ) → i < 256 → HasBitsOf (get_or cap.pages i 0) (get_or part.pages i 0)) → HasBitsOf cap.slots part.slots → (part.cred ≡ true → cap.cred ≡ true) →
       HasKeysOf cap part
   unfolding has_key
   keys_of_words words slots cred (Page p) within has = words (p / 64) (omega arith) (p % 64) (omega arith) has
@@ -165,7 +165,7 @@ module _ (cap part : Cap) where
   unfolding has_key
   at_page all p i b word bit within = rw (word, bit) at (all (Page p) within)
 
-  pub word_of_keys : (i : ℕ) → i < 16 → HasKeysOf cap part → HasBitsOf (get_or cap.pages i 0) (get_or part.pages i 0)
+  pub word_of_keys : (i : ℕ) → i < 256 → HasKeysOf cap part → HasBitsOf (get_or cap.pages i 0) (get_or part.pages i 0)
   word_of_keys i within all b inside has = at_page all (64 * i + b) i b (omega arith) (omega arith) (omega arith) has
 
   pub slots_of_keys : HasKeysOf cap part → HasBitsOf cap.slots part.slots
@@ -176,7 +176,7 @@ module _ (cap part : Cap) where
   unfolding has_key
   cred_of_keys all has = all Cred (omega arith) has
 
-  pub includes_from : (t : Bool) → ((i : ℕ) → i < 16 → HasBitsOf (get_or cap.pages i 0) (get_or part.pages i 0)) → HasBitsOf cap.slots part.slots →
+  pub includes_from : (t : Bool) → ((i : ℕ) → i < 256 → HasBitsOf (get_or cap.pages i 0) (get_or part.pages i 0)) → HasBitsOf cap.slots part.slots →
       ((t ≡ true) ↔ (part.cred ≡ true → cap.cred ≡ true)) → (t ≡ true) ↔ HasKeysOf cap part
   includes_from t words slots cred = ((λ is. keys_of_words words slots (cred.0 is)), (λ all. cred.1 (cred_of_keys all)))
 

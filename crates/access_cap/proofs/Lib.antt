@@ -1,3 +1,4 @@
 pub mod Bits
 pub mod Covered
 pub mod Keys
+pub mod Lent

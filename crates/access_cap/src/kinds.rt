@@ -89,7 +89,7 @@ fn of_kinds(mask: Mask, pages: u32) -> Cap
         pages: if mask.contains(Mask::MEMORY) {
             all.pages
         } else {
-            [0; 16]
+            [0; 256]
         },
         slots: if mask.contains(Mask::SLOTS) {
             all.slots

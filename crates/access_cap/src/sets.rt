@@ -14,8 +14,8 @@ pub fn meet(cap: &Cap, spec: &Spec) -> Cap
     ensures { result ≡ restricted cap.now spec.now }
 {
     let items = spec.items();
-    let mut words = [0; 16];
-    'words: for i in 0..16usize {
+    let mut words = [0; 256];
+    'words: for i in 0..256usize {
         words[i] = cap.pages[i] & named_word(items, Kind::Page, i);
     }
     Cap {
@@ -39,7 +39,7 @@ pub fn includes(cap: &Cap, part: &Cap) -> bool
     ensures { (result ≡ true) ↔ ((k : Key) → IsKey MOST_PAGES k →
         has_key part.now k ≡ true → has_key cap.now k ≡ true) }
 {
-    'parts: for i in 0..16usize {
+    'parts: for i in 0..256usize {
         if !has_bits_of(cap.pages[i], part.pages[i]) {
             return false;
         }

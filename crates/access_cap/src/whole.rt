@@ -7,16 +7,15 @@ ghost use Rattle.lwc_base.specs.declared.key.Key.{Key};
 use crate::words::low_word;
 use lwc_base::Cap;
 
-/// The capability of every key of a context with this number of pages, at most 1024 (`full_cap`).
+/// The capability of every key of a context with this number of pages (`full_cap`).
 #[tactic(auto, unfolding(lwc_base::specs::Capabilities::full_cap))]
 pub fn full(pages: u32) -> Cap
-    requires { pages ≤ MOST_PAGES }
     ensures full { result ≡ full_cap pages }
     ensures keys { (key : Key) → IsKey MOST_PAGES key →
         has_key result key ≡ nat_lt (number_of key) (limit pages (kind_of key)) }
 {
-    let mut words = [0; 16];
-    'words: for i in 0..16usize {
+    let mut words = [0; 256];
+    'words: for i in 0..256usize {
         words[i] = low_word(pages, i);
     }
     Cap {
@@ -33,7 +32,7 @@ pub fn empty() -> Cap
     ensures none { (key : Key) → has_key result key ≡ false }
 {
     Cap {
-        pages: [0; 16],
+        pages: [0; 256],
         slots: 0,
         cred: false,
     }

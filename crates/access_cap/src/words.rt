@@ -8,7 +8,7 @@ use lwc_base::{Item, Kind};
 
 /// The word of the 64 numbers from 64 i on: a bit for each that is below `end`.
 pub fn low_word(end: u32, i: usize) -> u64
-    requires { i < 16 }
+    requires { i < 256 }
     ensures word { result ≡ spec.full_word end i }
     ensures has { (b : ℕ) → b < 64 → has_bit result b ≡ nat_lt (64 * i + b) end }
 {
@@ -22,7 +22,7 @@ pub fn low_word(end: u32, i: usize) -> u64
 
 /// The word of the 64 keys of a kind from number 64 i on: a bit for each that an item names.
 fn item_word(item: &Item, kind: Kind, i: usize) -> u64
-    requires { i < 16 }
+    requires { i < 256 }
     ensures { (k : Key) (b : ℕ) → kind_of k ≡ kind → number_of k ≡ 64 * i + b → b < 64 →
         has_bit result b ≡ names item.now k }
 {
@@ -35,7 +35,7 @@ fn item_word(item: &Item, kind: Kind, i: usize) -> u64
 
 /// The word of the 64 keys of a kind from number 64 i on: a bit for each that items name.
 pub fn named_word(items: &[Item], kind: Kind, i: usize) -> u64
-    requires { i < 16 }
+    requires { i < 256 }
     ensures { (k : Key) (b : ℕ) → kind_of k ≡ kind → number_of k ≡ 64 * i + b → b < 64 →
         has_bit result b ≡ is_named items.now k }
 {

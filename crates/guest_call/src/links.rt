@@ -1,22 +1,23 @@
 ghost use Rattle.std.specs.Prelude.{◌≡◌, ◌<◌, ◌++◌, Bool, List, Some, IfErr, IfOk};
 ghost use Rattle.guest_call.specs.Guest.{descriptor_for, link_of, slot_refusals};
+ghost use Rattle.lwc_base.specs.Lending.{descriptor_of, keys_of};
 ghost use Rattle.lwc_base.specs.Life.{HasItsContexts};
 ghost use Rattle.lwc_base.specs.Refusals.{first_refusal};
 ghost use Rattle.lwc_base.specs.declared.descriptor.TheConstants.{SLOTS};
 ghost use Rattle.lwc_base.specs.declared.refusal.Refusal.{Refusal};
 ghost use Rattle.world_face.specs.Calls.{IsLive};
 
-use lwc_base::{Cap, Descriptor, Name, Refusal, SLOTS};
+use lwc_base::{Grant, Lent, Name, Refusal, SLOTS};
 use world_face::World;
 
-/// The context that the slot of a number has a descriptor of, with the capability. It is live.
+/// The context that the slot of a number has a descriptor of, with the keys of its capability. It is live.
 ///
 /// # Errors
 ///
 /// `BadFd` if no slot has the number or the slot is empty, else `WrongKind` if its descriptor is of no
 /// context (`slot_refusals`). Rows that follow these two in a call's table decide only where neither holds.
 #[tactic(auto, unfolding(crate::specs::Guest::slot_refusals))]
-pub fn context_for<W: World>(world: &W, c: Name, n: u64) -> Result<(Name, Cap), Refusal>
+pub fn context_for<W: World>(world: &W, c: Name, n: u64) -> Result<(Name, Grant<'_>), Refusal>
     requires live { IsLive (W.seen world.now) c }
     requires named { HasItsContexts (W.seen world.now) }
     ensures refused { IfErr result (λ refusal. (rows : List (Bool × Refusal)) →
@@ -24,25 +25,26 @@ pub fn context_for<W: World>(world: &W, c: Name, n: u64) -> Result<(Name, Cap), 
     ensures passed { IfOk result (λ link. (rows : List (Bool × Refusal)) →
         first_refusal (slot_refusals (W.seen world.now) c n ++ rows) ≡ first_refusal rows) }
     ensures within { IfOk result (λ link. n < SLOTS) }
-    ensures link { IfOk result (λ link. link_of (descriptor_for (W.seen world.now) c n) ≡ Some link) }
+    ensures link { IfOk result (λ link.
+        link_of (descriptor_for (W.seen world.now) c n) ≡ Some (link.0, keys_of link.1)) }
     ensures target { IfOk result (λ link. IsLive (W.seen world.now) link.0) }
 {
     match descriptor_for(world, c, n) {
-        Descriptor::Empty => Err(Refusal::BadFd),
-        Descriptor::Ctx { name, cap } => Ok((name, cap)),
+        Lent::Empty => Err(Refusal::BadFd),
+        Lent::Ctx { name, keys } => Ok((name, keys)),
         _ => Err(Refusal::WrongKind),
     }
 }
 
-/// What is in the slot of a number; nothing where no slot has that number.
+/// What is in the slot of a number, lent; nothing where no slot has that number.
 #[tactic(auto, unfolding(crate::specs::Guest::descriptor_for))]
-pub fn descriptor_for<W: World>(world: &W, c: Name, n: u64) -> Descriptor
+pub fn descriptor_for<W: World>(world: &W, c: Name, n: u64) -> Lent<'_>
     requires live { IsLive (W.seen world.now) c }
-    ensures { result ≡ descriptor_for (W.seen world.now) c n }
+    ensures { descriptor_of result ≡ descriptor_for (W.seen world.now) c n }
 {
     if n < u64::from(SLOTS) {
         world.slot(c, n as u8)
     } else {
-        Descriptor::Empty
+        Lent::Empty
     }
 }

@@ -14,7 +14,7 @@ use Rattle.lwc_base.specs.Names.{name_cmp}
 use Rattle.lwc_base.specs.declared.name.Name.{Name}
 use Rattle.lwc_base.proofs.Facts.{orders}
 use Rattle.lwc_base.proofs.Orders.{same_name}
-use Rattle.lwc_base.proofs.Reaped.{not_tied}
+use Rattle.lwc_base.proofs.Reaped.{none_below}
 
 -- whether a name is of a job
 abbrev pub of_job : ℕ → Name → Bool
@@ -36,10 +36,6 @@ count-flat_map test h (x ∷ xs) =
     ∙ sym (sum_by-cons (λ x. count_by test (h x)) x xs)
 
 module _ {X : Type 0} where
-  none_below : (q : Name) (es : List (Name × X)) → T (below_all name_cmp q es) → find name_cmp q es ≡ None
-  none_below q [] h = refl
-  none_below q (e ∷ es) h = ap (λ b. cond b (Some e.1) (find name_cmp q es)) (not_tied (name_cmp q e.0) (head_of _ _ h)) ∙ none_below q es (tail_of _ _ h)
-
   -- what holds of each value that is found holds of each entry
   each_in : (P : Name → X → Type 0) (es : List (Name × X)) → T (is_sorted name_cmp es) → ((q : Name) (x : X) → find name_cmp q es ≡ Some x → P q x) →
       AllByRecursion (λ e. P e.0 e.1) es

@@ -1,13 +1,12 @@
 -- What is dropped of a job's contexts and groups is the same in two worlds that look alike to it, where it has the same roots.
-use Rattle.std.proofs.Common.{◌≡◌, inl, inr, ℕ, refl, sym, ap, subst, ◌∙◌, Bool, true, false, cond, ◌||◌, Option, Some, None, List, [], ◌∷◌, map}
+use Rattle.std.proofs.Common.{◌≡◌, ℕ, refl, sym, ap, subst, ◌∙◌, Bool, true, false, cond, ◌||◌, Option, Some, None, List, [], ◌∷◌, map}
 use Rattle.std.proofs.lemmas.Bool.{false≢true}
 use Rattle.std.specs.Prelude.{is_some, unwrap_or}
-use Rattle.std.specs.List.{AllByRecursion, list_any, range_with_len}
+use Rattle.std.specs.List.{list_any, range_with_len}
 use Rattle.std.specs.Option.{option_map}
 use Rattle.std.specs.Ordering.{eq_by_cmp}
 use Rattle.std.specs.FinMap as fm
 use Rattle.std.specs.FinMap.Entries.{find}
-use Rattle.job_view.proofs.Entries.{each_entry}
 use Rattle.job_view.proofs.Keeping.{value_at-in}
 use Rattle.job_view.proofs.Reading.{live-alike, value-alike}
 use Rattle.job_view.proofs.Tables.{at}
@@ -31,21 +30,11 @@ use Rattle.lwc_base.specs.declared.key.Key.TheVariants.{Slot}
 use Rattle.lwc_base.specs.declared.name.Name.{Name}
 use Rattle.lwc_base.proofs.Facts.{orders}
 use Rattle.lwc_base.proofs.Orders.{same_name}
-use Rattle.lwc_base.proofs.Life.{or_cases, or_right, reached_by_way, way_of_reached}
-use Rattle.lwc_base.proofs.Reaped.{number_in, some_key}
+use Rattle.lwc_base.proofs.Life.{or_right, reached_by_way, way_of_reached}
+use Rattle.lwc_base.proofs.Reaped.{number_in, some_key, some_value}
 use Rattle.lwc_base.proofs.Small.{same_bool}
 
 module _ {X : Type 0} where
-  some_entry : (P : Name → X → Type 0) (test : X → Bool) (es : List (Name × X)) → AllByRecursion (λ e. P e.0 e.1) es → list_any test (map (λ (e : Name × X). e.1) es) ≡ true →
-      (q : Name) × (x : X) × P q x × (test x ≡ true)
-  some_entry P test [] all e = absurd (false≢true e)
-  some_entry P test (e ∷ es) all passes =
-      elim (or_cases (test e.1) (list_any test (map (λ (f : Name × X). f.1) es)) passes) [ inl here ↦ (e.0, e.1, all.0, here) | inr later ↦ some_entry P test es all.1 later ]
-
-  -- a test passes at some value of a table
-  some_value : (test : X → Bool) (m : fm.FinMap name_cmp X) → list_any test (fm.values m) ≡ true → (q : Name) × (x : X) × (fm.get m q ≡ Some x) × (test x ≡ true)
-  some_value test m passes = some_entry (λ q x. fm.get m q ≡ Some x) test (fm.entries m) (each_entry (λ q x. fm.get m q ≡ Some x) m (λ q x is. is)) passes
-
   any_entry : (test : X → Bool) (q : Name) (x : X) (es : List (Name × X)) → find name_cmp q es ≡ Some x → test x ≡ true → list_any test (map (λ (e : Name × X). e.1) es) ≡ true
   any_entry test q x [] there passes = cc
   any_entry test q x (e ∷ es) there passes = by_first (any_entry test q x es) (eq_by_cmp name_cmp q e.0) there

@@ -71,15 +71,15 @@ words_of-fit count width test k d within =
 pub cap_of-has : (test : Key → Bool) (k : Key) → IsKey MOST_PAGES k → has_key (cap_of test) k ≡ test k
 unfolding has_key cap_of
 cap_of-has test (Page p) within =
-    words_of-has 16 64 (p / 64) (p % 64) (λ i b. test (Page (64 * i + b))) (omega arith) (omega arith) ∙ ap (λ (q : ℕ). test (Page q)) (omega arith)
+    words_of-has 256 64 (p / 64) (p % 64) (λ i b. test (Page (64 * i + b))) (omega arith) (omega arith) ∙ ap (λ (q : ℕ). test (Page q)) (omega arith)
 cap_of-has test (Slot n) within = bits_of-has 64 n (λ m. test (Slot m)) within
 cap_of-has test Cred within = refl
 
 pub cap_of-valid : (test : Key → Bool) → IsCap (cap_of test)
 unfolding cap_of
 cap_of-valid test = record {
-  words = length-map-range_with_len (λ i. bits_of 64 (λ b. test (Page (64 * i + b)))) 0 16;
-  pages = words_of-fit 16 64 (λ i b. test (Page (64 * i + b)));
+  words = length-map-range_with_len (λ i. bits_of 64 (λ b. test (Page (64 * i + b)))) 0 256;
+  pages = words_of-fit 256 64 (λ i b. test (Page (64 * i + b)));
   slots = bits_of-lt 64 (λ n. test (Slot n));
 }
 

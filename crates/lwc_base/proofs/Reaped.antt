@@ -224,7 +224,7 @@ OfSome P None = Unit {0}
 OfSome P (Some x) = P x
 
 module _ {X : Type 0} where
-  none_below : (x : Name) (es : List (Name × X)) → T (below_all name_cmp x es) → find name_cmp x es ≡ None
+  pub none_below : (x : Name) (es : List (Name × X)) → T (below_all name_cmp x es) → find name_cmp x es ≡ None
   none_below x [] h = refl
   none_below x (e ∷ es) h = ap (λ b. cond b (Some e.1) (find name_cmp x es)) (not_tied (name_cmp x e.0) (head_of _ _ h)) ∙ none_below x es (tail_of _ _ h)
 
@@ -251,7 +251,7 @@ module _ {X : Type 0} where
       elim (or_cases (test e.1) (list_any test (map (λ (f : Name × X). f.1) es)) passes) [ inl here ↦ (e.0, e.1, all.0, here) | inr later ↦ some_entry P test es all.1 later ]
 
   -- a test passes at some value of a map
-  some_value : (test : X → Bool) (m : fm.FinMap name_cmp X) → list_any test (fm.values m) ≡ true → (q : Name) × (x : X) × (fm.get m q ≡ Some x) × (test x ≡ true)
+  pub some_value : (test : X → Bool) (m : fm.FinMap name_cmp X) → list_any test (fm.values m) ≡ true → (q : Name) × (x : X) × (fm.get m q ≡ Some x) × (test x ≡ true)
   some_value test m passes =
       some_entry (λ q x. fm.get m q ≡ Some x) test (fm.entries m)
       (each_entry (λ q x. fm.get m q ≡ Some x) (fm.entries m) (fm.entries_sorted m) (λ q. subst (λ o. OfSome (λ x. fm.get m q ≡ Some x) o) (fm.get-entries m q) (itself (fm.get m q)))) passes

@@ -142,7 +142,7 @@ module _ (t : Tag) where
         after_put_at Changed w c (Page p) (Some value) (λ mine is absent. let here = value_at-cell w c (Page p) (Own mine) is in grind (arith, here)) (λ mine is _. own_changed mine is) group_changed
 
 -- whether a tag is in a list
-among : (t : Tag) (ts : List Tag) → list_any (eq_by_cmp tag_cmp t) ts ≡ ltb 0 (times t ts)
+pub among : (t : Tag) (ts : List Tag) → list_any (eq_by_cmp tag_cmp t) ts ≡ ltb 0 (times t ts)
 among t [] = refl
 among t (u ∷ us) = grind (arith, nat_tests, among t us, same_tag, tag-itself t, sum_by-cons (λ (s : Tag). cond (is_eq (tag_cmp s t)) 1 0) u us)
 

@@ -20,16 +20,16 @@ has_key cap Cred = cap.cred
 
 -- the capability of no key
 unfoldable pub empty_cap : Cap
-empty_cap = record { pages = replicate 16 0; slots = 0; cred = false }
+empty_cap = record { pages = replicate 256 0; slots = 0; cred = false }
 
 -- word i of the pages of a full capability: a bit for each of the 64 pages from 64 i on that there are
 abbrev pub full_word : ℕ → ℕ → ℕ
 full_word pages i = 2 ^ min 64 (pages - 64 * i) - 1
 
--- the capability of every key: this number of pages, at most 1024, all slots and the credential
+-- the capability of every key: this number of pages, at most 16384, all slots and the credential
 unfoldable pub full_cap : ℕ → Cap
 full_cap pages =
-    record { pages = map (full_word pages) (range_with_len 0 16); slots = 2 ^ 64 - 1; cred = true }
+    record { pages = map (full_word pages) (range_with_len 0 256); slots = 2 ^ 64 - 1; cred = true }
 
 -- the number that has the bits below n that pass a test, and no other
 abbrev pub bits_of : ℕ → (ℕ → Bool) → ℕ
@@ -39,7 +39,7 @@ bits_of (suc n) test = bits_of n test + (if test n then 2 ^ n else 0)
 -- the capability of the keys that pass a test
 unfoldable pub cap_of : (Key → Bool) → Cap
 cap_of test = record {
-  pages = map (λ i. bits_of 64 (λ b. test (Page (64 * i + b)))) (range_with_len 0 16);
+  pages = map (λ i. bits_of 64 (λ b. test (Page (64 * i + b)))) (range_with_len 0 256);
   slots = bits_of 64 (λ n. test (Slot n));
   cred = test Cred;
 }
@@ -58,6 +58,6 @@ covers pages cap items = not (any_key pages (λ k. is_named items k && not (has_
 
 -- the words of a capability are numbers of 64 bits
 pub record IsCap (cap : Cap) : Type 0 where
-  pub words : length cap.pages ≡ 16
+  pub words : length cap.pages ≡ 256
   pub pages : All (λ word. word < 2 ^ 64) cap.pages
   pub slots : cap.slots < 2 ^ 64

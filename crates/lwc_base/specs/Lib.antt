@@ -9,6 +9,7 @@ pub mod Fresh
 pub mod Holders
 pub mod Jobs
 pub mod Keys
+pub mod Lending
 pub mod Life
 pub mod Mapping
 pub mod Memory

@@ -1,5 +1,8 @@
-/// The most pages of a context; the number of each is below it.
-pub const MOST_PAGES: u32 = 1024;
+/// The most pages of a context, which one of an image of form 2 has; the number of each is below it.
+pub const MOST_PAGES: u32 = 16384;
+
+/// The pages of a context of an image of form 1.
+pub const PAGES_OF_FORM_ONE: u32 = 1024;
 
 /// The most ranges of a context: runs of consecutive pages that are all its own, or all common of one group.
 pub const MOST_RANGES: u32 = 64;
@@ -37,16 +40,15 @@ pub const MOST_BUDGET: u32 = 100000;
 /// The most steps of a whole run.
 pub const MOST_STEPS: u32 = 16000000;
 
-/// The most places of pages, contexts and groups alike. Each has a tree of at most 33 nodes, a change takes a
-/// few more, and a store has at most 65536.
-pub const MOST_PAGE_PLACES: u32 = 1983;
+/// The most places of pages, contexts and groups alike. Each has a tree of at most 529 nodes, a change takes at
+/// most 1058 more, and a store has at most 1048576.
+pub const MOST_PAGE_PLACES: u32 = 1980;
 
 /// The most places of slots, contexts and groups alike.
 pub const MOST_SLOT_PLACES: u32 = 65536;
 
-/// The most runs of pages that one change of a place names, and the most changes of kinds that they make: one
-/// for each page.
-pub const MOST_PAGE_RUNS: usize = 1024;
+/// The most runs of pages that one change of a place names: one for each edge of an item or a segment.
+pub const MOST_PAGE_RUNS: usize = 512;
 
 /// The most roots that a world remembers between two reaps.
 pub const MOST_KEPT_ROOTS: usize = 64;
@@ -79,13 +81,16 @@ pub const MOST_CONSOLE_BYTES: usize = 65536;
 pub const MOST_IMAGE_SLOTS: u32 = 62;
 
 /// The most bytes of an image.
-pub const MOST_IMAGE_BYTES: usize = 8388608;
+pub const MOST_IMAGE_BYTES: usize = 75497472;
+
+/// The most bytes of an image of form 1.
+pub const MOST_BYTES_OF_FORM_ONE: usize = 8388608;
 
 /// The most bytes of a schedule.
 pub const MOST_SCHEDULE_BYTES: usize = 16777216;
 
 /// The most bytes of a source.
-pub const MOST_SOURCE_BYTES: usize = 16777216;
+pub const MOST_SOURCE_BYTES: usize = 167772160;
 
 /// The most bytes of a file of requests.
 pub const MOST_REQUEST_FILE_BYTES: usize = 8390656;

@@ -5,13 +5,13 @@ use Rattle.std.proofs.lemmas.List.Sums.{sum_by-cons}
 use Rattle.std.proofs.lemmas.Bool.{cases_eq, cases_lt, eq-eqb, ne_eqb}
 
 -- 1 where a test passes, else 0
-abbrev one_if : Bool → ℕ
+abbrev pub one_if : Bool → ℕ
 one_if b = cond b 1 0
 
-one_if-yes : (m n : ℕ) → m ≡ n → one_if (eqb m n) ≡ 1
+pub one_if-yes : (m n : ℕ) → m ≡ n → one_if (eqb m n) ≡ 1
 one_if-yes m n is = ap (λ b. one_if b) (eq-eqb m n is)
 
-one_if-no : (m n : ℕ) → m ≢ n → one_if (eqb m n) ≡ 0
+pub one_if-no : (m n : ℕ) → m ≢ n → one_if (eqb m n) ≡ 0
 one_if-no m n off = ap (λ b. one_if b) (ne_eqb m n off)
 
 -- f 0 + f 1 + .. up to and without f n

@@ -8,6 +8,7 @@ ghost use Rattle.lwc_base.specs.Life.{reap};
 ghost use Rattle.lwc_base.specs.Mapping.{map_pages, mapped_or_not, unmap_pages};
 ghost use Rattle.lwc_base.specs.Modes.{IsSpec};
 ghost use Rattle.lwc_base.specs.Memory.{load};
+ghost use Rattle.lwc_base.specs.Lending.{descriptor_of};
 ghost use Rattle.lwc_base.specs.Overlay.{overlay, ranges_after_overlay};
 ghost use Rattle.lwc_base.specs.Ranges.{ranges_of};
 ghost use Rattle.lwc_base.specs.Saved.{save};
@@ -16,13 +17,12 @@ ghost use Rattle.lwc_base.specs.Slots.{lowest_empty};
 ghost use Rattle.lwc_base.specs.Store.{store};
 ghost use Rattle.lwc_base.specs.Store as stores;
 ghost use Rattle.lwc_base.specs.Summaries.{summary_of};
-ghost use Rattle.lwc_base.specs.declared.descriptor.Descriptor.{Descriptor};
 ghost use Rattle.lwc_base.specs.declared.descriptor.TheConstants.{SLOTS};
 ghost use Rattle.lwc_base.specs.declared.limits.TheConstants.{MOST_PAGES, MOST_RANGES, MOST_ROOTS, MOST_THREADS};
 ghost use Rattle.lwc_base.specs.declared.page.TheConstants.{PAGE_BYTES};
 ghost use Rattle.world_face.specs.Calls.{AreFew, HasGroupPlace, HasPlace, IsSize, IsLive, MayName};
 
-use lwc_base::{Descriptor, Name, OutOfMemory, Range, Regs, Spec, StoreFault, Summary, WorldSize};
+use lwc_base::{Lent, Name, OutOfMemory, Range, Regs, Spec, StoreFault, Summary, WorldSize};
 use std::alloc::Global;
 
 /// A world of contexts and groups. However it is represented, it stands for the value `seen`; each call
@@ -39,7 +39,8 @@ pub trait World: Sized + Drop + Send + Sync {
         requires { IsSize world_size.now }
         ensures opened { IfOk result (λ w. seen w ≡ empty_world world_size.now) };
 
-    /// The number of pages that a context may have, at most `MOST_PAGES`.
+    /// The number of pages that a context may have, at most `MOST_PAGES`: 1024 for an image of form 1, 16384
+    /// for form 2.
     fn pages(&self) -> u32
         ensures pages { result ≡ (seen self.now).size.pages }
         ensures few { (seen self.now).size.pages ≤ MOST_PAGES };
@@ -107,17 +108,24 @@ pub trait World: Sized + Drop + Send + Sync {
         ensures err { OnErr result (seen self.new ≡ seen self.old) }
         ensures ample { roomy ≡ true → result ≢ Err StoreFault.OutOfMemory };
 
-    /// The descriptor in a slot of the context.
-    fn slot(&self, c: Name, n: u8) -> Descriptor
+    /// The descriptor in a slot of the context, lent.
+    fn slot(&self, c: Name, n: u8) -> Lent<'_>
         requires live { IsLive (seen self.now) c }
         requires within { n < SLOTS }
-        ensures value { result ≡ slot_at (seen self.now) c n };
+        ensures value { descriptor_of result ≡ slot_at (seen self.now) c n };
 
     /// Puts another descriptor into a slot of the context.
-    fn set_slot(&mut self, c: Name, n: u8, value: Descriptor)
+    fn set_slot(&mut self, c: Name, n: u8, value: Lent<'_>)
         requires live { IsLive (seen self.old) c }
         requires within { n < SLOTS }
-        ensures put { seen self.new ≡ put_slot (seen self.old) c n value };
+        ensures put { seen self.new ≡ put_slot (seen self.old) c n (descriptor_of value.entry) };
+
+    /// Puts the descriptor in the slot `from` of the context into its slot `to` too.
+    fn dup_slot(&mut self, c: Name, from: u8, to: u8)
+        requires live { IsLive (seen self.old) c }
+        requires from { from < SLOTS }
+        requires to { to < SLOTS }
+        ensures put { seen self.new ≡ put_slot (seen self.old) c to (slot_at (seen self.old) c from) };
 
     /// The lowest empty slot of the context; `None` if no slot is empty.
     fn lowest_empty(&self, c: Name) -> Option<u8>

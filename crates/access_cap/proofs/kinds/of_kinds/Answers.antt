@@ -12,7 +12,7 @@ returns c (Page p) most =
     let bit = λ (words : List ℕ). has_bit (get_or words (p / 64) 0) (p % 64) in
     let pages : bit c.if-contains.result ≡ (bit c.full-all.result.pages && c.contains.result) = elim c.if-contains.branch [
       | then-contains w ↦ kept _ _ _ (ap bit w.result-is) w.if-contains.true
-      | else-contains w ↦ left_out _ _ _ (ap bit w.result-is ∙ has_bit-zero _ _ (zero_at 16 (p / 64))) w.if-contains.false
+      | else-contains w ↦ left_out _ _ _ (ap bit w.result-is ∙ has_bit-zero _ _ (zero_at 256 (p / 64))) w.if-contains.false
     ] in
     pages ∙ both_same _ _ _ _ (c.full-all.ensures.keys (Page p) most) (c.contains.ensures tt ∙ masked_bit c.args.mask.0 0 1 refl (omega arith))
 returns c (Slot n) most =

@@ -11,4 +11,4 @@ pub returns-clause-full : goal.returns-clause-full
 returns-clause-full c = is_full c.args.pages _ _ c.words-test.false c.words.auto.i-end c.words.invariant
 
 pub returns-clause-keys : goal.returns-clause-keys
-returns-clause-keys c = full_has c.args.pages _ c.requires (is_full c.args.pages _ _ c.words-test.false c.words.auto.i-end c.words.invariant)
+returns-clause-keys c = full_has c.args.pages _ (is_full c.args.pages _ _ c.words-test.false c.words.auto.i-end c.words.invariant)
