@@ -2,14 +2,12 @@
 use Rattle.std.proofs.Common.{◌≡◌, ℕ, zero, suc, ◌+◌, ◌≤◌, ⊎_elim, eqb, List, [], length, get_or, replicate, refl, subst, sym, ◌∙◌, ap, arith}
 use Rattle.std.proofs.lemmas.List.{length-replicate, get_or-replicate, get_or_past}
 use Rattle.std.proofs.lemmas.List.Sums.{sum_by-cons}
-use Rattle.std.proofs.lemmas.Bool.{cases_lt}
+use Rattle.std.proofs.lemmas.Bool.{cases_lt, cond-false, ne_eqb}
 use Rattle.lwc_base.specs.declared.name.Tag.{Tag}
 use Rattle.frame_pool.specs.Frame.{Frame, zero_frame, no_frame, frame_count}
 use Rattle.node_pool.specs.Nodes.{Node, empty_node, no_node, node_at, count_of, level_of, entry_of, free_of}
-use Rattle.page_tree.specs.Sound.{IsSound, naming, one_if}
+use Rattle.page_tree.specs.Sound.{IsSound, is_inner, is_leaf, leading_to, naming, one_if}
 use Rattle.page_tree.specs.Tied.{IsTied}
-use Rattle.page_tree.proofs.KeepsLemmas.{trees-none}
-use Rattle.page_tree.proofs.TwoLevels.{sound-two}
 use Rattle.page_tree.proofs.UsesLemmas.{uses-none}
 
 abbrev blank : List ℕ
@@ -51,29 +49,33 @@ module _ (n m : ℕ) (tag : Tag) where
       (cases_lt f m)
 
   no-naming : (f : ℕ) → naming nodes f ≡ 0
-  no-naming f = uses-none 1 nodes (f + 2) (λ k i l _. absurd (omega (arith, l, no-level k)))
+  no-naming f = uses-none is_leaf nodes (f + 2) (λ k i _ is. let z = no-entry k i in absurd (omega (arith, z, is)))
 
-  pub IsSound-new : n ≤ 65536 → m ≤ 65536 → IsSound nodes frames
+  no-leading : (k : ℕ) → leading_to nodes k ≡ 0
+  no-leading x = uses-none is_inner nodes (x + 1) (λ k i _ is. let z = no-entry k i in absurd (omega (arith, z, is)))
+
+  pub IsSound-new : n ≤ 1048576 → m ≤ 65536 → IsSound nodes frames
   IsSound-new few few' =
-      sound-two (record {
+      record {
         few = omega (arith, few, length-replicate n (empty_node 0 0));
         few_frames = omega (arith, few', length-replicate m (zero_frame 0 tag));
         shape = λ k lt. ap (λ node. length node.entries) (get_or-replicate n k (empty_node 0 0) no_node (omega (arith, lt, length-replicate n (empty_node 0 0)))) ∙ length-replicate {A = ℕ} 32 0;
         clean = λ k i _. no-entry k i;
         levels = λ k held. absurd (omega (arith, held, no-count k));
+        narrow = λ k i _ _. no-entry k i;
         held = λ k i y l _. absurd (omega (arith, l, no-level k));
-        leaves = λ k i y l _. absurd (omega (arith, l, no-level k));
-        counted = λ k l. absurd (omega (arith, l, no-level k));
-        placed = λ k y i j l _ _ _. absurd (omega (arith, l, no-level k));
+        below = λ k i y l _. absurd (omega (arith, l, no-level k));
+        led = λ k. omega (arith, no-leading k);
+        counted = λ k _. no-count k ∙ sym (no-leading k);
         framed = λ f. omega (arith, no-naming f);
         near = λ f. omega (arith, no-holds f);
-      })
+      }
 
-  pub IsTied-new : n ≤ 65536 → m ≤ 65536 → IsTied nodes frames []
+  pub IsTied-new : n ≤ 1048576 → m ≤ 65536 → IsTied nodes frames []
   IsTied-new few few' =
       record {
         sound = IsSound-new few few';
-        rooted = λ k. trees-none nodes k (λ is. absurd (omega (arith, is, no-level k)));
+        rooted = λ k. cond-false (eqb (level_of nodes k) 3) (count_of nodes k) 0 (ne_eqb (level_of nodes k) 3 (λ is. absurd (omega (arith, is, no-level k))));
         exact = λ f. no-holds f ∙ sym (no-naming f);
       }
 

@@ -1,10 +1,10 @@
 -- What a change of one tree leaves as it was.
 use Rattle.std.specs.Prelude.{◌≡◌, ℕ, zero, suc, ◌+◌, ◌<◌, ◌⊎◌, List, length}
 use Rattle.frame_pool.specs.Frame.{Frame, frame_count, frame_stamp, frame_bytes}
-use Rattle.node_pool.specs.Nodes.{Node, count_of}
+use Rattle.node_pool.specs.Nodes.{Node}
 use Rattle.page_tree.specs.declared.store.TheConstants.{ROOT_LEVEL}
 use Rattle.page_tree.specs.Pages.{entries_of, link_of, page}
-use Rattle.page_tree.specs.Sound.{naming, trees_at, is_root, IsSound}
+use Rattle.page_tree.specs.Sound.{naming, trees_at, is_root}
 
 -- a node is what a link leads to, or lies below that, within this number of levels
 abbrev pub IsBelow : List Node → ℕ → ℕ → ℕ → Type 0
@@ -26,11 +26,6 @@ pub record KeepsTrees (old new : List Node) (left came : ℕ) : Type 0 where
 abbrev pub KeepsMaps : List Node → List Node → ℕ → Type 0
 KeepsMaps old new left = (t p : ℕ) → is_root left t < trees_at old t → page new (t + 1) p ≡ page old (t + 1) p
 
--- each node that is held, and more than once or not reached from the tree, keeps its entries
-abbrev pub KeepsShared : List Node → List Node → ℕ → Type 0
-KeepsShared old new tree =
-    (n : ℕ) → 0 < count_of old n → (1 < count_of old n) ⊎ (¬ IsReached old tree n) → entries_of new n ≡ entries_of old n
-
 -- there are as many frames, a free one stays free, and each has its bytes and its stamp and is held more or
 -- less by just as much as more or fewer entries name it
 pub record KeepsFrames (old new : List Node) (frames frames' : List Frame) : Type 0 where
@@ -39,9 +34,3 @@ pub record KeepsFrames (old new : List Node) (frames frames' : List Frame) : Typ
   pub holds : (f : ℕ) → frame_count frames' f + naming old f ≡ frame_count frames f + naming new f
   pub stamps : (f : ℕ) → frame_stamp frames' f ≡ frame_stamp frames f
   pub bytes : (f : ℕ) → frame_bytes frames' f ≡ frame_bytes frames f
-
--- a change of one tree that keeps the store sound, the other trees, and the frames
-pub record Keeps (old new : List Node) (frames frames' : List Frame) (left came : ℕ) : Type 0 where
-  pub sound : IsSound new frames'
-  pub trees : KeepsTrees old new left came
-  pub frames_kept : KeepsFrames old new frames frames'

@@ -1,5 +1,7 @@
 pub mod Changes
+pub mod Costs
 pub mod Laws
+pub mod Open
 pub mod Pages
 pub mod Short
 pub mod Sound

@@ -1,5 +1,5 @@
 -- A tree as a map from pages to cells.
-use Rattle.std.specs.Prelude.{ℕ, zero, suc, ◌+◌, ◌-◌, ◌*◌, ◌/◌, ◌%◌, ◌^◌, ◌==◌, ◌&&◌, if◌then◌else◌, Bool, not, max, min, nat_le, nat_lt, List}
+use Rattle.std.specs.Prelude.{ℕ, zero, suc, ◌+◌, ◌-◌, ◌/◌, ◌%◌, ◌^◌, ◌==◌, if◌then◌else◌, List}
 use Rattle.node_pool.specs.declared.pool.TheConstants.{NODE_ENTRIES}
 use Rattle.node_pool.specs.Nodes.{Node, node_at, entry_of}
 use Rattle.page_tree.specs.declared.cell.PageCell.{PageCell}
@@ -32,19 +32,3 @@ entry_below nodes (suc level) link p = entry_below nodes level (link_of nodes li
 -- what a tree has for a page
 unfoldable pub page : List Node → ℕ → ℕ → PageCell
 page nodes tree p = cell_of (entry_below nodes ROOT_LEVEL tree p)
-
--- one entry of one leaf of a tree whose leaves are right below its root
-unfoldable pub cell_at : List Node → ℕ → ℕ → ℕ → ℕ
-cell_at nodes tree i j = link_of nodes (link_of nodes tree i) j
-
--- whether a range of pages has pages of a leaf
-abbrev pub meets_leaf : ℕ → ℕ → ℕ → Bool
-meets_leaf from to i = nat_lt (max from (i * NODE_ENTRIES)) (min to (i * NODE_ENTRIES + NODE_ENTRIES))
-
--- whether a range of pages has all pages of a leaf
-abbrev pub covers_leaf : ℕ → ℕ → ℕ → Bool
-covers_leaf from to i = nat_le from (i * NODE_ENTRIES) && nat_le (i * NODE_ENTRIES + NODE_ENTRIES) to
-
--- whether a range of pages has some pages of a leaf, and not all
-abbrev pub is_cut : ℕ → ℕ → ℕ → Bool
-is_cut from to i = meets_leaf from to i && not (covers_leaf from to i)

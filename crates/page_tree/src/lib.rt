@@ -4,13 +4,12 @@
 
 pub mod cell;
 pub mod laws;
-mod pages;
-mod path;
-mod root;
-mod share;
+mod node;
+mod range;
 pub mod store;
 pub mod tree;
+mod way;
 
 pub use cell::PageCell;
-pub use store::{LEAF_LEVEL, PAGES, ROOT_LEVEL, Store};
+pub use store::{LEAF_LEVEL, PAGES, ROOT_ENTRIES, ROOT_LEVEL, Store, TREE_NODES};
 pub use tree::PageTree;

@@ -1,19 +1,17 @@
-ghost use Rattle.std.specs.Prelude.{◌≡◌, ◌≢◌, ℕ, ◌+◌, ◌/◌, ◌^◌, ◌<◌, ◌≤◌, ◌⊎◌, ◌↔◌, true};
+ghost use Rattle.std.specs.Prelude.{◌≡◌, ◌≢◌, ℕ, ◌+◌, ◌^◌, ◌<◌, ◌≤◌, ◌⊎◌, ◌↔◌, true};
 ghost use Rattle.frame_pool.specs.Frame.{frame_count};
-ghost use Rattle.node_pool.specs.declared.pool.TheConstants.{NODE_ENTRIES};
 ghost use Rattle.node_pool.specs.Nodes.{free_of};
 ghost use Rattle.page_tree.specs.declared.cell.PageCell.TheVariants.{Absent};
-ghost use Rattle.page_tree.specs.declared.store.TheConstants.{PAGES};
-ghost use Rattle.page_tree.specs.Changes.{KeepsFrames, KeepsMaps, KeepsShared, KeepsTrees};
-ghost use Rattle.page_tree.specs.Pages.{entry_for, is_cut, page};
-ghost use Rattle.page_tree.specs.Short.{page_short, range_short, clear_short};
+ghost use Rattle.page_tree.specs.declared.store.TheConstants.{PAGES, TREE_NODES};
+ghost use Rattle.page_tree.specs.Changes.{KeepsFrames, KeepsMaps, KeepsTrees};
+ghost use Rattle.page_tree.specs.Pages.{entry_for, page};
+ghost use Rattle.page_tree.specs.Open.{IsOpen, entries_passed};
+ghost use Rattle.page_tree.specs.Short.{clear_short, edge_short, page_short, range_short, root_short};
 ghost use Rattle.page_tree.specs.Sound.{IsSound, IsTree, trees_at};
-ghost use Rattle.page_tree.specs.Steps.{root_short};
 
-use crate::cell::PageCell;
-use crate::store::{PAGES, Store};
+use crate::cell::{PageCell, cell_from};
+use crate::store::{PAGES, ROOT_LEVEL, Store, node_of};
 use lwc_base::Range;
-use node_pool::{NODE_ENTRIES, NodeNo};
 use pool_base::Steps;
 use std::marker::Model;
 use std::sync::ledger::Ledger;
@@ -23,16 +21,15 @@ use std::sync::ledger::Ledger;
 /// pages to cells.
 #[derive(Drop)]
 pub struct PageTree {
-    root: Option<NodeNo>,
+    root: u32,
 }
 
 impl Model for PageTree {
     ghost use Rattle.std.specs.Prelude.{ℕ};
-    ghost use Rattle.page_tree.specs.Steps.{tree_of};
 
     ghost Value = { ℕ };
 
-    ghost view = { λ tree. tree_of tree.root };
+    ghost view = { λ tree. tree.root };
 }
 
 impl PageTree {
@@ -40,7 +37,7 @@ impl PageTree {
     pub fn empty() -> PageTree
         ensures { result ≡ 0 }
     {
-        PageTree { root: None }
+        PageTree { root: 0 }
     }
 
     /// Another tree with all pages of this one: its root is held once more, and no node is taken.
@@ -58,9 +55,10 @@ impl PageTree {
         ensures free { free_of store.old.nodes ≤ free_of store.new.nodes }
         ensures cost { steps.new ≤ steps.old + 1 }
     {
-        if let Some(root) = self.root {
-            store.hold_root(root, steps);
+        if self.root == 0 {
+            return PageTree { root: 0 };
         }
+        store.hold(node_of(self.root), ROOT_LEVEL, steps);
         PageTree { root: self.root }
     }
 
@@ -71,8 +69,7 @@ impl PageTree {
         requires page { p < PAGES }
         ensures { result ≡ page store.now.nodes self.now p }
     {
-        let p = p as usize;
-        store.cell(self.root, p / NODE_ENTRIES, p % NODE_ENTRIES)
+        cell_from(store.entry_at(self.root, ROOT_LEVEL, p as usize))
     }
 
     /// Whether nobody else holds the nodes on the way to a page, and all of them are there.
@@ -82,11 +79,20 @@ impl PageTree {
         requires page { p < PAGES }
         ensures { (result ≡ true) ↔ (page_short store.now.nodes self.now p ≡ 0) }
     {
-        match self.root {
-            None => false,
-            Some(root) => store.nodes.count(root) == 1
-                && store.owns_leaf(root, p as usize / NODE_ENTRIES),
-        }
+        store.look_at(self.root, ROOT_LEVEL, p as usize, true).1
+    }
+
+    /// What the tree has for a page, and whether nobody else holds the nodes on the way there, and all of
+    /// them are there.
+    pub fn look(&self, store: &Store, p: u16) -> (PageCell, bool)
+        requires sound { IsSound store.now.nodes store.now.frames }
+        requires tree { IsTree store.now.nodes self.now }
+        requires page { p < PAGES }
+        ensures cell { result.0 ≡ page store.now.nodes self.now p }
+        ensures alone { (result.1 ≡ true) ↔ (page_short store.now.nodes self.now p ≡ 0) }
+    {
+        let (entry, alone) = store.look_at(self.root, ROOT_LEVEL, p as usize, true);
+        (cell_from(entry), alone)
     }
 
     /// Makes a page of the tree that cell. Its frame is held once more, and that of the old cell once less.
@@ -105,8 +111,6 @@ impl PageTree {
 
         ensures page { page store.new.nodes self.new p ≡ cell }
         ensures alone { page_short store.new.nodes self.new p ≡ 0 }
-        ensures short { (q : ℕ)
-            → page_short store.new.nodes self.new q ≤ page_short store.old.nodes self.old q }
         ensures pages { (q : ℕ) → q ≢ p → q < PAGES
             → page store.new.nodes self.new q ≡ page store.old.nodes self.old q }
 
@@ -114,22 +118,15 @@ impl PageTree {
         ensures tree { IsTree store.new.nodes self.new }
         ensures trees { KeepsTrees store.old.nodes store.new.nodes self.old self.new }
         ensures maps { KeepsMaps store.old.nodes store.new.nodes self.old }
-        ensures shared { KeepsShared store.old.nodes store.new.nodes self.old }
         ensures frames { KeepsFrames store.old.nodes store.new.nodes store.old.frames store.new.frames }
         ensures free { free_of store.old.nodes
             ≤ free_of store.new.nodes + page_short store.old.nodes self.old p }
-        ensures cost { steps.new ≤ steps.old + 36 }
+        ensures grows { page store.old.nodes self.old p ≡ cell
+            → (f : ℕ) → frame_count store.old.frames f ≤ frame_count store.new.frames f }
+        ensures cost { steps.new ≤ steps.old + 54 }
     {
-        let p = p as usize;
-        let path = store.own_path(self.root, p / NODE_ENTRIES, steps);
-        store.write(
-            path.root,
-            p / NODE_ENTRIES,
-            path.leaf,
-            p % NODE_ENTRIES,
-            cell,
-        );
-        self.root = Some(path.root);
+        let root = store.set_at(self.root, ROOT_LEVEL, p as usize, cell, steps);
+        self.root = root.n + 1;
     }
 
     /// Lets nobody else hold the nodes on the way to a page. No page changes.
@@ -140,8 +137,6 @@ impl PageTree {
         requires free { page_short store.old.nodes self.old p ≤ free_of store.old.nodes }
 
         ensures alone { page_short store.new.nodes self.new p ≡ 0 }
-        ensures short { (q : ℕ)
-            → page_short store.new.nodes self.new q ≤ page_short store.old.nodes self.old q }
         ensures pages { (q : ℕ) → q < PAGES
             → page store.new.nodes self.new q ≡ page store.old.nodes self.old q }
 
@@ -149,18 +144,18 @@ impl PageTree {
         ensures tree { IsTree store.new.nodes self.new }
         ensures trees { KeepsTrees store.old.nodes store.new.nodes self.old self.new }
         ensures maps { KeepsMaps store.old.nodes store.new.nodes self.old }
-        ensures shared { KeepsShared store.old.nodes store.new.nodes self.old }
         ensures frames { KeepsFrames store.old.nodes store.new.nodes store.old.frames store.new.frames }
         ensures free { free_of store.old.nodes
             ≤ free_of store.new.nodes + page_short store.old.nodes self.old p }
         ensures grows { (f : ℕ) → frame_count store.old.frames f ≤ frame_count store.new.frames f }
-        ensures cost { steps.new ≤ steps.old + 36 }
+        ensures cost { steps.new ≤ steps.old + 54 }
     {
-        let path = store.own_path(self.root, p as usize / NODE_ENTRIES, steps);
-        self.root = Some(path.root);
+        let cell = self.get(store, p);
+        self.set(store, p, cell, steps);
     }
 
-    /// Makes the pages of a range those of another tree. Whole leaves are shared, and take no node.
+    /// Makes the pages of a range those of another tree. Whole nodes are shared, and take no node. A walk
+    /// that gives a tree its pages in rising order takes few steps: nothing that it put is given up again.
     pub fn share_range<L: Ledger>(
         &mut self,
         from: &PageTree,
@@ -178,12 +173,6 @@ impl PageTree {
         requires free { range_short store.old.nodes self.old range.from range.to ≤ free_of store.old.nodes }
 
         ensures alone { root_short store.new.nodes self.new ≡ 0 }
-        ensures short_before { (q : ℕ) → q < range.from →
-            page_short store.new.nodes self.new q ≤ page_short store.old.nodes self.old q }
-        ensures short_after { (q : ℕ) → range.to ≤ q → q < PAGES →
-            page_short store.new.nodes self.new q ≤ page_short store.old.nodes self.old q }
-        ensures cut { (q : ℕ) → is_cut range.from range.to (q / NODE_ENTRIES) ≡ true →
-            page_short store.new.nodes self.new q ≡ 0 }
         ensures within { (q : ℕ) → range.from ≤ q → q < range.to →
             page store.new.nodes self.new q ≡ page store.old.nodes from.now q }
         ensures before { (q : ℕ) → q < range.from
@@ -195,21 +184,30 @@ impl PageTree {
         ensures tree { IsTree store.new.nodes self.new }
         ensures trees { KeepsTrees store.old.nodes store.new.nodes self.old self.new }
         ensures maps { KeepsMaps store.old.nodes store.new.nodes self.old }
-        ensures shared { KeepsShared store.old.nodes store.new.nodes self.old }
         ensures frames { KeepsFrames store.old.nodes store.new.nodes store.old.frames store.new.frames }
         ensures free { free_of store.old.nodes
             ≤ free_of store.new.nodes + range_short store.old.nodes self.old range.from range.to }
-        ensures cost { steps.new ≤ steps.old + 98 }
-        ensures cost_own { root_short store.old.nodes self.old ≡ 0 → steps.new ≤ steps.old + 64 }
-        ensures cost_empty { self.old ≡ 0 → steps.new ≤ steps.old + 35 }
+        ensures cost { steps.new ≤ steps.old + 766 }
+
+        // A tree that gets its pages in rising order takes a node for each cut, and a step for each entry.
+        ensures open { IsOpen store.old.nodes self.old range.from → range.from < range.to
+            → IsOpen store.new.nodes self.new range.to }
+        ensures edge_open { IsOpen store.old.nodes self.old range.from → range.from < range.to
+            → edge_short store.new.nodes self.new range.to ≡ 0 }
+        ensures free_open { IsOpen store.old.nodes self.old range.from
+            → free_of store.old.nodes
+            ≤ free_of store.new.nodes + edge_short store.old.nodes self.old range.from + 2 }
+        ensures cost_open { IsOpen store.old.nodes self.old range.from
+            → steps.new + entries_passed range.from ≤ steps.old + entries_passed range.to + 36 }
     {
         let first = range.from as usize;
         let end = range.to as usize;
-        self.root = Some(store.share_pages(self.root, first, end, from.root, steps));
+        let root = store.share_at(self.root, ROOT_LEVEL, first, end, from.root, steps);
+        self.root = root.n + 1;
     }
 
     /// Makes the pages of a range absent. Where these are all pages, the root is given up, and no node is
-    /// taken.
+    /// taken. An empty tree stays empty.
     pub fn clear_range<L: Ledger>(&mut self, store: &mut Store, range: Range, steps: &mut Steps<L>)
         requires sound { IsSound store.old.nodes store.old.frames }
         requires tree { IsTree store.old.nodes self.old }
@@ -219,13 +217,6 @@ impl PageTree {
 
         ensures all { range.from ≡ 0 → range.to ≡ PAGES → self.new ≡ 0 }
         ensures alone { (self.new ≡ 0) ⊎ (root_short store.new.nodes self.new ≡ 0) }
-        ensures given_up { self.new ≡ 0 → free_of store.old.nodes ≤ free_of store.new.nodes }
-        ensures short_before { (q : ℕ) → q < range.from →
-            page_short store.new.nodes self.new q ≤ page_short store.old.nodes self.old q }
-        ensures short_after { (q : ℕ) → range.to ≤ q → q < PAGES →
-            page_short store.new.nodes self.new q ≤ page_short store.old.nodes self.old q }
-        ensures cut { (q : ℕ) → is_cut range.from range.to (q / NODE_ENTRIES) ≡ true →
-            page_short store.new.nodes self.new q ≡ 0 }
         ensures within { (q : ℕ) → range.from ≤ q → q < range.to → page store.new.nodes self.new q ≡ Absent }
         ensures before { (q : ℕ) → q < range.from
             → page store.new.nodes self.new q ≡ page store.old.nodes self.old q }
@@ -236,25 +227,32 @@ impl PageTree {
         ensures tree { IsTree store.new.nodes self.new }
         ensures trees { KeepsTrees store.old.nodes store.new.nodes self.old self.new }
         ensures maps { KeepsMaps store.old.nodes store.new.nodes self.old }
-        ensures shared { KeepsShared store.old.nodes store.new.nodes self.old }
         ensures frames { KeepsFrames store.old.nodes store.new.nodes store.old.frames store.new.frames }
         ensures free { free_of store.old.nodes
             ≤ free_of store.new.nodes + clear_short store.old.nodes self.old range.from range.to }
-        ensures cost { steps.new ≤ steps.old + 98 }
-        ensures cost_own { root_short store.old.nodes self.old ≡ 0 → steps.new ≤ steps.old + 64 }
-        ensures cost_empty { self.old ≡ 0 → steps.new ≤ steps.old + 35 }
-        ensures cost_all { range.from ≡ 0 → range.to ≡ PAGES → steps.new ≤ steps.old + 33 }
-        ensures cost_none { range.from ≡ 0 → range.to ≡ PAGES → self.old ≡ 0 → steps.new ≡ steps.old }
+        ensures given_up { self.new ≡ 0 → free_of store.old.nodes ≤ free_of store.new.nodes }
+        ensures none { self.old ≡ 0 → self.new ≡ 0 }
+        ensures cost { steps.new ≤ steps.old + 766 }
+        ensures cost_none { self.old ≡ 0 → steps.new ≡ steps.old }
+        ensures cost_all { range.from ≡ 0 → range.to ≡ PAGES → steps.new ≤ steps.old + TREE_NODES }
+
+        // A tree that gets its pages in rising order, as for `share_range`.
+        ensures open { IsOpen store.old.nodes self.old range.from → range.from < range.to
+            → IsOpen store.new.nodes self.new range.to }
+        ensures free_open { IsOpen store.old.nodes self.old range.from → range.from < range.to
+            → free_of store.old.nodes + edge_short store.new.nodes self.new range.to
+            ≤ free_of store.new.nodes + edge_short store.old.nodes self.old range.from + 2 }
+        ensures cost_open { IsOpen store.old.nodes self.old range.from
+            → steps.new + entries_passed range.from ≤ steps.old + entries_passed range.to + 36 }
     {
         let first = range.from as usize;
         let end = range.to as usize;
         if first == 0 && end == PAGES {
-            if let Some(root) = self.root {
-                store.give_up(root, steps);
-                self.root = None;
-            }
-        } else {
-            self.root = Some(store.share_pages(self.root, first, end, None, steps));
+            store.release(self.root, ROOT_LEVEL, steps);
+            self.root = 0;
+        } else if self.root != 0 {
+            let root = store.share_at(self.root, ROOT_LEVEL, first, end, 0, steps);
+            self.root = root.n + 1;
         }
     }
 }

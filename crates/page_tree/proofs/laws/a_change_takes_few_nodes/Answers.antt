@@ -1,5 +1,7 @@
 use Rattle.std.proofs.Common.{refl}
-use Rattle.page_tree.proofs.PageLemmas.{page-none, page_short-le, range_short-le, root_short-le, clear_short-le}
+use Rattle.page_tree.proofs.LinkLemmas.{root_short-le}
+use Rattle.page_tree.proofs.PageLemmas.{clear_short-le, page_short-le, range_short-le}
+use Rattle.page_tree.proofs.TreeLemmas.{page-none}
 use Rattle.page_tree.proofs.laws.a_change_takes_few_nodes.Goals as goal
 
 pub returns : goal.returns

@@ -1,60 +1,100 @@
-use Rattle.std.proofs.Common.{◌∙◌, inl, inr, sym, ap, arith}
-use Rattle.page_tree.proofs.PageLemmas.{page-none, pages-within, pages-before, pages-after, short-outside, short-cut, cut-not_all}
-use Rattle.page_tree.proofs.PageLemmas.{pages-other}
-use Rattle.page_tree.specs.Steps.{tree_of}
-use Rattle.page_tree.proofs.EntriesLemmas.{kept-entries}
-use Rattle.page_tree.proofs.ShortLemmas.{root_short-own}
+use Rattle.std.proofs.Common.{◌+◌, ap, inl, inr, refl, sym, ◌∙◌, arith}
+use Rattle.page_tree.specs.Pages.{page}
+use Rattle.page_tree.specs.Short.{edge_short, open_cuts}
+use Rattle.page_tree.proofs.LinkLemmas.{root_short-none, root_short-once}
+use Rattle.page_tree.proofs.OpenLemmas.{edge_short-first, edge_short-inner, edges-later, open-first, open-none, passed-later}
+use Rattle.page_tree.proofs.OpenRange.{open-takes}
+use Rattle.page_tree.proofs.TreeLemmas.{tree-loose, own-tree, beside-none, no-tree, page-none, moves-given, KeepsTrees-moved, KeepsMaps-moved, page-same}
 use Rattle.page_tree.proofs.tree.PageTree.clear_range.Goals as goal
 
-pub returns-in-Some-clause-within : goal.returns-in-Some-clause-within
-returns-in-Some-clause-within g c = λ q _ _. page-none _ q
+pub release-requires-clause-loose : goal.release-requires-clause-loose
+release-requires-clause-loose g c = rw c.self.view_is (tree-loose _ _ _ c.requires.sound c.requires.tree)
 
-pub returns-in_default-clause-within : goal.returns-in_default-clause-within
-returns-in_default-clause-within g c = λ q _ _. rw (← c.self.view_is, c.in_default.is) (page-none _ q)
+pub share_at-root-requires-clause-loose : goal.share_at-root-requires-clause-loose
+share_at-root-requires-clause-loose g c = rw c.self.view_is (tree-loose _ _ _ c.requires.sound c.requires.tree)
 
-pub returns-else-first-eq0-clause-within : goal.returns-else-first-eq0-clause-within
-returns-else-first-eq0-clause-within g c = λ q low high.
-    pages-within _ _ _ _ _ _ _ _ _ _ q c.share_pages.ensures.shares low high ∙ page-none _ q
+pub share_at-root-requires-clause-from : goal.share_at-root-requires-clause-from
+share_at-root-requires-clause-from g c = beside-none _ _
 
-pub returns-else-first-eq0-clause-before : goal.returns-else-first-eq0-clause-before
-returns-else-first-eq0-clause-before g c = λ q low.
-    rw (← c.self.view_is) (pages-before _ _ _ _ _ _ _ _ _ _ q c.share_pages.ensures.shares low)
+pub returns-then-end-eq-PAGES-clause-trees : goal.returns-then-end-eq-PAGES-clause-trees
+returns-then-end-eq-PAGES-clause-trees g c = rw (← c.self.view_is) (KeepsTrees-moved _ _ _ _ _ _ c.requires.sound c.release.ensures.sound (moves-given _ _ _ _ _ c.release.ensures.moves))
 
-pub returns-else-first-eq0-clause-after : goal.returns-else-first-eq0-clause-after
-returns-else-first-eq0-clause-after g c = λ q high lt.
-    rw (← c.self.view_is) (pages-after _ _ _ _ _ _ _ _ _ _ q c.share_pages.ensures.shares high lt)
+pub returns-then-end-eq-PAGES-clause-maps : goal.returns-then-end-eq-PAGES-clause-maps
+returns-then-end-eq-PAGES-clause-maps g c = rw (← c.self.view_is) (KeepsMaps-moved _ _ _ _ _ _ c.requires.sound c.release.ensures.sound (moves-given _ _ _ _ _ c.release.ensures.moves))
 
-pub returns-else-first-eq0-clause-maps : goal.returns-else-first-eq0-clause-maps
-returns-else-first-eq0-clause-maps g c = rw (← c.self.view_is) (λ t p other. pages-other _ _ _ _ t p c.share_pages.ensures.shares.keeps.trees other)
+pub returns-then-end-eq-PAGES-clause-frames : goal.returns-then-end-eq-PAGES-clause-frames
+returns-then-end-eq-PAGES-clause-frames g c = c.release.ensures.moves.framed
 
-pub returns-else-first-eq0-clause-shared : goal.returns-else-first-eq0-clause-shared
-returns-else-first-eq0-clause-shared g c = rw (← c.self.view_is) (kept-entries _ _ _ _ _ c.requires.sound c.share_pages.ensures.shares.keeps.trees)
+pub returns-then-self-ne0-clause-trees : goal.returns-then-self-ne0-clause-trees
+returns-then-self-ne0-clause-trees g c = rw (← c.self.view_is) (KeepsTrees-moved _ _ _ _ _ _ c.requires.sound c.share_at-root.ensures.sound c.share_at-root.ensures.moves)
 
-pub returns-in-Some-clause-maps : goal.returns-in-Some-clause-maps
-returns-in-Some-clause-maps g c = rw (← c.self.view_is, c.in-Some.is) (λ t p other. pages-other _ _ _ _ t p c.give_up.ensures.keeps.trees other)
+pub returns-then-self-ne0-clause-maps : goal.returns-then-self-ne0-clause-maps
+returns-then-self-ne0-clause-maps g c = rw (← c.self.view_is) (KeepsMaps-moved _ _ _ _ _ _ c.requires.sound c.share_at-root.ensures.sound c.share_at-root.ensures.moves)
 
-pub returns-in-Some-clause-shared : goal.returns-in-Some-clause-shared
-returns-in-Some-clause-shared g c = rw (← c.self.view_is, c.in-Some.is) (kept-entries _ _ _ _ _ c.requires.sound c.give_up.ensures.keeps.trees)
+pub returns-then-self-ne0-clause-frames : goal.returns-then-self-ne0-clause-frames
+returns-then-self-ne0-clause-frames g c = c.share_at-root.ensures.moves.framed
 
-pub returns-else-first-eq0-clause-short_before : goal.returns-else-first-eq0-clause-short_before
-returns-else-first-eq0-clause-short_before g c = λ q low.
-    rw (← c.self.view_is) (short-outside _ _ _ _ _ _ _ _ _ _ q c.share_pages.ensures.shares (inl low))
+pub returns-then-self-ne0-clause-tree : goal.returns-then-self-ne0-clause-tree
+returns-then-self-ne0-clause-tree g c = own-tree _ _ c.share_at-root.ensures.own
 
-pub returns-else-first-eq0-clause-short_after : goal.returns-else-first-eq0-clause-short_after
-returns-else-first-eq0-clause-short_after g c = λ q high _.
-    rw (← c.self.view_is) (short-outside _ _ _ _ _ _ _ _ _ _ q c.share_pages.ensures.shares (inr high))
+pub returns-then-end-eq-PAGES-clause-tree : goal.returns-then-end-eq-PAGES-clause-tree
+returns-then-end-eq-PAGES-clause-tree g c = no-tree _
 
-pub returns-else-first-eq0-clause-cut : goal.returns-else-first-eq0-clause-cut
-returns-else-first-eq0-clause-cut g c = λ q cut. short-cut _ _ _ _ _ _ _ _ _ _ q c.share_pages.ensures.shares cut
+pub returns-then-self-ne0-clause-alone : goal.returns-then-self-ne0-clause-alone
+returns-then-self-ne0-clause-alone g c = inr (root_short-once _ _ c.share_at-root.ensures.own.once)
 
-pub returns-in-Some-clause-cut : goal.returns-in-Some-clause-cut
-returns-in-Some-clause-cut g c = λ q cut. absurd (cut-not_all c.args.range.from c.args.range.to q (omega arith) (omega arith) cut)
+pub returns-then-self-ne0-clause-within : goal.returns-then-self-ne0-clause-within
+returns-then-self-ne0-clause-within g c = λ q low high. page-same _ _ _ _ q (c.share_at-root.ensures.within q low high) ∙ page-none _ q
 
-pub returns-in_default-clause-cut : goal.returns-in_default-clause-cut
-returns-in_default-clause-cut g c = λ q cut. absurd (cut-not_all c.args.range.from c.args.range.to q (omega arith) (omega arith) cut)
+pub returns-then-end-eq-PAGES-clause-within : goal.returns-then-end-eq-PAGES-clause-within
+returns-then-end-eq-PAGES-clause-within g c = λ q low high. page-none _ q
 
-pub returns-else-first-eq0-clause-alone : goal.returns-else-first-eq0-clause-alone
-returns-else-first-eq0-clause-alone g c = inr (root_short-own _ _ c.share_pages.ensures.shares.own)
+pub returns-then-self-ne0-clause-before : goal.returns-then-self-ne0-clause-before
+returns-then-self-ne0-clause-before g c = λ q low. rw (← c.self.view_is) (page-same _ _ _ _ q (c.share_at-root.ensures.outside q (omega (arith, low, c.requires.order, c.requires.inside)) (inl low)))
 
-pub returns-in_default-clause-alone : goal.returns-in_default-clause-alone
-returns-in_default-clause-alone g c = inl (sym c.self.view_is ∙ ap tree_of c.in_default.is)
+pub returns-then-self-ne0-clause-after : goal.returns-then-self-ne0-clause-after
+returns-then-self-ne0-clause-after g c = λ q high lt. rw (← c.self.view_is) (page-same _ _ _ _ q (c.share_at-root.ensures.outside q (omega (arith, lt)) (inr high)))
+
+pub returns-else-self-ne0-clause-within : goal.returns-else-self-ne0-clause-within
+returns-else-self-ne0-clause-within g c = λ q low high. ap (λ tree. page c.args.store.now.nodes tree q) (sym c.self.view_is ∙ c.if-self-ne0.false) ∙ page-none _ q
+
+pub returns-then-self-ne0-clause-open : goal.returns-then-self-ne0-clause-open
+returns-then-self-ne0-clause-open g c = λ is_open lt. c.share_at-root.ensures.open (rw c.self.view_is is_open) lt
+
+pub returns-then-self-ne0-clause-free_open : goal.returns-then-self-ne0-clause-free_open
+returns-then-self-ne0-clause-free_open g c = λ is_open lt.
+    let takes = c.share_at-root.ensures.free_open (rw c.self.view_is is_open) in
+    let same = ap (λ tree. open_cuts c.args.store.now.nodes 3 tree c.args.range.from c.args.range.to) c.self.view_is in
+    let most = open-takes c.args.store.now.nodes c.args.self.now c.args.range.from c.args.range.to is_open in
+    let edge = edge_short-inner c.share_at-root.new.self.nodes (c.share_at-root.result.n + 1) c.args.range.to (omega (arith, lt)) ∙ c.share_at-root.ensures.edge (rw c.self.view_is is_open) lt in
+    omega (arith, takes, same, most, edge)
+
+pub returns-then-self-ne0-clause-cost_open : goal.returns-then-self-ne0-clause-cost_open
+returns-then-self-ne0-clause-cost_open g c = λ is_open. c.share_at-root.ensures.cost_open (rw c.self.view_is is_open)
+
+pub returns-else-self-ne0-clause-open : goal.returns-else-self-ne0-clause-open
+returns-else-self-ne0-clause-open g c = λ is_open lt. open-none c.args.store.now.nodes 3 c.args.self.now c.args.range.to (sym c.self.view_is ∙ c.if-self-ne0.false)
+
+pub returns-else-self-ne0-clause-free_open : goal.returns-else-self-ne0-clause-free_open
+returns-else-self-ne0-clause-free_open g c = λ is_open lt. let later = edges-later c.args.store.now.nodes c.args.self.now c.args.range.from c.args.range.to in omega (arith, later)
+
+pub returns-else-self-ne0-clause-cost_open : goal.returns-else-self-ne0-clause-cost_open
+returns-else-self-ne0-clause-cost_open g c = λ is_open. let more = passed-later c.args.range.from c.args.range.to c.requires.order in omega (arith, more)
+
+pub returns-then-end-eq-PAGES-clause-open : goal.returns-then-end-eq-PAGES-clause-open
+returns-then-end-eq-PAGES-clause-open g c = λ is_open lt. open-none c.release.new.self.nodes 3 0 c.args.range.to refl
+
+pub returns-then-end-eq-PAGES-clause-free_open : goal.returns-then-end-eq-PAGES-clause-free_open
+returns-then-end-eq-PAGES-clause-free_open g c = λ is_open lt.
+    let none = open-first c.args.store.now.nodes 3 c.args.self.now c.args.range.from (omega (arith, c.if-first-eq0.true)) is_open in
+    let old = ap (λ tree. edge_short c.args.store.now.nodes tree c.args.range.from) none ∙ edge_short-first c.args.store.now.nodes 0 c.args.range.from (omega (arith, c.if-first-eq0.true)) ∙ root_short-none c.args.store.now.nodes in
+    let new = edge_short-first c.release.new.self.nodes 0 0 refl ∙ root_short-none c.release.new.self.nodes in
+    let later = edges-later c.release.new.self.nodes 0 0 c.args.range.to in
+    omega (arith, old, new, later, c.release.ensures.free)
+
+pub returns-then-end-eq-PAGES-clause-cost_open : goal.returns-then-end-eq-PAGES-clause-cost_open
+returns-then-end-eq-PAGES-clause-cost_open g c = λ is_open.
+    let none = open-first c.args.store.now.nodes 3 c.args.self.now c.args.range.from (omega (arith, c.if-first-eq0.true)) is_open in
+    let same = c.release.ensures.none (c.self.view_is ∙ none) in
+    let more = passed-later c.args.range.from c.args.range.to c.requires.order in
+    omega (arith, same, more)

@@ -1,11 +1,18 @@
-use Rattle.std.proofs.Common.{refl}
-use Rattle.page_tree.proofs.PageLemmas.{pages-other}
-use Rattle.page_tree.proofs.tree.PageTree.held_too.Goals.{in-Some, in_default}
+use Rattle.std.proofs.Common.{◌+◌, subst, ◌∙◌}
+use Rattle.page_tree.specs.Changes.{KeepsTrees}
+use Rattle.page_tree.proofs.TreeLemmas.{held-tree, moves-come, KeepsTrees-moved, KeepsMaps-moved}
 use Rattle.page_tree.proofs.tree.PageTree.held_too.Goals as goal
 
+pub returns-clause-trees : goal.returns-clause-trees
+returns-clause-trees g c =
+    rw c.self.view_is (subst (λ r. KeepsTrees c.args.store.now.nodes c.hold.new.self.nodes 0 r) (c.node_of.ensures ∙ c.self.view_is)
+    (KeepsTrees-moved _ _ _ _ 0 (c.node_of.result.n + 1) c.requires.sound c.hold.ensures.sound (moves-come _ _ _ _ _ c.hold.ensures.moves)))
+
 pub returns-clause-maps : goal.returns-clause-maps
-returns-clause-maps g c =
-    elim c.match-self.branch [
-      | in-Some w ↦ rw w.store-is (λ t p other. pages-other _ _ _ _ t p w.hold_root.ensures.keeps.trees other)
-      | in_default w ↦ rw w.store-is (λ t p other. refl)
-    ]
+returns-clause-maps g c = KeepsMaps-moved _ _ _ _ 0 (c.node_of.result.n + 1) c.requires.sound c.hold.ensures.sound (moves-come _ _ _ _ _ c.hold.ensures.moves)
+
+pub returns-clause-tree : goal.returns-clause-tree
+returns-clause-tree g c =
+    rw c.self.view_is (held-tree c.args.store.now.nodes c.hold.new.self.nodes c.args.self.now c.requires.tree c.requires.few
+    (subst (λ r. KeepsTrees c.args.store.now.nodes c.hold.new.self.nodes 0 r) (c.node_of.ensures ∙ c.self.view_is)
+    (KeepsTrees-moved _ _ _ _ 0 (c.node_of.result.n + 1) c.requires.sound c.hold.ensures.sound (moves-come _ _ _ _ _ c.hold.ensures.moves))))

@@ -1,21 +1,15 @@
-use Rattle.page_tree.proofs.PageLemmas.{pages-path, short-path, short-kept_path}
-use Rattle.page_tree.proofs.PageLemmas.{pages-other}
-use Rattle.page_tree.proofs.EntriesLemmas.{kept-entries}
+use Rattle.std.proofs.Common.{⊎_elim, ap, sym, ◌∙◌}
+use Rattle.std.proofs.lemmas.Bool.{cases_eq}
+use Rattle.page_tree.specs.Pages.{page}
+use Rattle.page_tree.proofs.TreeLemmas.{page-held}
 use Rattle.page_tree.proofs.tree.PageTree.unshare_path.Goals as goal
 
-pub returns-clause-alone : goal.returns-clause-alone
-returns-clause-alone g c = short-path _ _ _ _ c.own_path-path.ensures.owns.own c.own_path-path.ensures.owns.owns
+pub set-requires-clause-held : goal.set-requires-clause-held
+set-requires-clause-held g c = λ f is. page-held _ _ _ c.args.p f _ c.requires.sound c.requires.tree c.get-cell.ensures is
 
 pub returns-clause-pages : goal.returns-clause-pages
 returns-clause-pages g c = λ q lt.
-    rw (← c.self.view_is) (pages-path _ _ _ _ _ _ _ _ q c.own_path-path.ensures.owns lt)
-
-pub returns-clause-maps : goal.returns-clause-maps
-returns-clause-maps g c = rw (← c.self.view_is) (λ t p other. pages-other _ _ _ _ t p c.own_path-path.ensures.owns.keeps.trees other)
-
-pub returns-clause-shared : goal.returns-clause-shared
-returns-clause-shared g c = rw (← c.self.view_is) (kept-entries _ _ _ _ _ c.requires.sound c.own_path-path.ensures.owns.keeps.trees)
-
-pub returns-clause-short : goal.returns-clause-short
-returns-clause-short g c = λ q.
-    rw (← c.self.view_is) (short-kept_path _ _ _ _ _ _ _ _ q c.own_path-path.ensures.owns)
+    ⊎_elim
+    (λ here. ap (page c.set.new.store.nodes c.set.new.self) here ∙ c.set.ensures.page ∙ c.get-cell.ensures ∙ ap (page c.args.store.now.nodes c.args.self.now) (sym here))
+    (λ off. c.set.ensures.pages q off lt)
+    (cases_eq q c.args.p)

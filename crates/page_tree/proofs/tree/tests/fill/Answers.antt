@@ -1,5 +1,5 @@
-use Rattle.std.proofs.Common.{arith, refl, ◌∙◌}
-use Rattle.page_tree.proofs.PageLemmas.{page_short-le}
+use Rattle.std.proofs.Common.{◌*◌, arith, refl, ◌∙◌}
+use Rattle.page_tree.proofs.PageLemmas.{page_short-le, root-alone}
 use Rattle.page_tree.proofs.tree.tests.fill.Goals as goal
 
 pub pages-init : goal.pages-init
@@ -16,14 +16,14 @@ set-requires-clause-held g c = λ f is. absurd (c.cell_at_page-cell.ensures f is
 
 pub set-requires-clause-free : goal.set-requires-clause-free
 set-requires-clause-free g c =
-    omega (arith, c.pages.invariant.room, c.requires.room, page_short-le c.pages.store.nodes c.pages.tree c.pages.p)
+    omega (arith, c.pages.invariant.room, c.requires.room, page_short-le c.pages.store.nodes c.pages.tree (c.pages.k * 97))
 
 pub pages-preserved : goal.pages-preserved
 pages-preserved g c =
     record {
       sound = c.set.ensures.sound;
       tree = c.set.ensures.tree;
-      alone = λ _. omega (arith, c.set.ensures.alone);
-      room = omega (arith, c.pages.invariant.room, c.set.ensures.free, page_short-le c.pages.store.nodes c.pages.tree c.pages.p);
+      alone = λ _. root-alone c.set.new.store.nodes c.set.new.self (c.pages.k * 97) c.set.ensures.alone;
+      room = omega (arith, c.pages.invariant.room, c.set.ensures.free, page_short-le c.pages.store.nodes c.pages.tree (c.pages.k * 97));
       size = c.set.ensures.trees.size ∙ c.pages.invariant.size;
     }

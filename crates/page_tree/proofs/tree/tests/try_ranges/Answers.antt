@@ -1,7 +1,10 @@
-use Rattle.std.proofs.Common.{arith, refl, ap, sym, ◌∙◌}
-use Rattle.page_tree.specs.Steps.{root_short}
-use Rattle.page_tree.proofs.KeepsLemmas.{trees-le}
-use Rattle.page_tree.proofs.PageLemmas.{short-once}
+use Rattle.std.proofs.Common.{ℕ, ◌≡◌, ◌+◌, ◌≤◌, ⊎_elim, List, arith, refl, ap, sym, ◌∙◌}
+use Rattle.std.proofs.lemmas.Bool.{cases_eq}
+use Rattle.page_tree.specs.Short.{root_short}
+use Rattle.page_tree.specs.Sound.{trees_at}
+use Rattle.node_pool.specs.Nodes.{Node, count_of, level_of}
+use Rattle.page_tree.proofs.LinkLemmas.{root_short-cases}
+use Rattle.page_tree.proofs.TreeLemmas.{trees-is, trees-none}
 use Rattle.page_tree.proofs.tree.tests.try_ranges.Goals as goal
 
 pub table-init : goal.table-init
@@ -19,8 +22,19 @@ try_range-requires-clause-tree g c = λ n is.
 pub try_range-requires-clause-few : goal.try_range-requires-clause-few
 try_range-requires-clause-few g c = λ n is.
     let same = c.table.invariant.trees n in
-    let once = short-once c.fill.new.store.nodes n (ap (λ t. root_short c.fill.new.store.nodes t) (sym is) ∙ c.fill.ensures.alone) in
-    omega (arith, same, once, trees-le c.fill.new.store.nodes n)
+    let once = trees-once c.fill.new.store.nodes n (ap (λ t. root_short c.fill.new.store.nodes t) (sym is) ∙ c.fill.ensures.alone) in
+    omega (arith, same, once)
+  where
+    -- a root that need not be taken is that of one tree
+    trees-once : (nodes : List Node) (n : ℕ) → root_short nodes (n + 1) ≡ 0 → trees_at nodes n ≤ 1
+    trees-once nodes n own =
+        ⊎_elim
+        (λ alone.
+        let same : n ≡ alone.1.0 = omega (arith, alone.1.1.0) in
+        let once = ap (count_of nodes) same in
+        ⊎_elim (λ root. let trees = trees-is nodes n root in omega (arith, trees, once, alone.1.1.1)) (λ off. let none = trees-none nodes n off in omega (arith, none)) (cases_eq (level_of nodes n) 3))
+        (λ short. absurd (omega (arith, short, own)))
+        (root_short-cases nodes (n + 1))
 
 pub try_range-requires-clause-room : goal.try_range-requires-clause-room
 try_range-requires-clause-room g c =

@@ -8,5 +8,5 @@ invariant-table g l =
     record {
       sound : IsSound l.store.nodes l.store.frames;
       trees : (n : ℕ) → trees_at l.store.nodes n ≡ trees_at l.initial.store.nodes n;
-      room : free_of l.initial.store.nodes ≤ free_of l.store.nodes + 9 * l.from-index;
+      room : free_of l.initial.store.nodes ≤ free_of l.store.nodes + 15 * l.from-index;
     }

@@ -1,0 +1,147 @@
+use Rattle.std.proofs.Common.{◌≡◌, ◌+◌, ◌-◌, ◌<◌, ◌≤◌, ⊎_elim, ap, refl, sym, subst, ◌∙◌, arith}
+use Rattle.std.proofs.lemmas.Bool.{cases_eq}
+use Rattle.node_pool.specs.Nodes.{entry_of, count_of}
+use Rattle.page_tree.specs.Sound.{is_root}
+use Rattle.page_tree.specs.Steps.{IsOwned, KeepsLone, Moves, none_shared}
+use Rattle.page_tree.proofs.EnterLemmas.{count-entered, there-entered}
+use Rattle.page_tree.proofs.UsesLemmas.{inside-count}
+use Rattle.page_tree.proofs.MoveLemmas.{Moves-refl, Moves-trans}
+use Rattle.page_tree.proofs.NodeLemmas.{own-loose, IsSound-put, Moves-put, peers-put, there-put, entry-cell}
+use Rattle.page_tree.specs.Costs.{entries_in, most_nodes}
+use Rattle.page_tree.proofs.LoneLemmas.{lone-given, lone-same, lone-trans}
+use Rattle.page_tree.proofs.LoneNodes.{lone-put, rest-put}
+use Rattle.page_tree.proofs.RangeShort.{range-none}
+use Rattle.page_tree.proofs.CostLemmas.{more-steps, unused}
+use Rattle.page_tree.proofs.store.Store.+parts.Goals.{empty-then-entry-ne0, empty-else-entry-ne0}
+use Rattle.page_tree.proofs.store.Store.+parts.Goals as goal
+
+pub empty-count-requires : goal.empty-count-requires
+empty-count-requires g t c = inside-count _ c.args.node.n (let l = (c.requires.loose c.args.node.n refl).1 in omega (arith, l))
+
+pub empty-entry-requires-clause-node : goal.empty-entry-requires-clause-node
+empty-entry-requires-clause-node g t c = inside-count _ c.args.node.n (let once = c.entries.invariant.own.once in omega (arith, once))
+
+pub empty-entries-init : goal.empty-entries-init
+empty-entries-init g t c =
+    record {
+      sound = c.requires.sound;
+      own = own-loose _ c.args.level c.args.node.n c.requires.loose (sym c.count.ensures ∙ c.if-count-eq1.true);
+      moves = Moves-refl _ _ _ _;
+      done = λ k lt. absurd (omega (arith, lt));
+      free = omega arith;
+      lone = lone-same _ _ _ _ (λ x. refl);
+      cost = omega arith;
+    }
+
+pub empty-returns-else-count-eq1-clause-lone : goal.empty-returns-else-count-eq1-clause-lone
+empty-returns-else-count-eq1-clause-lone g t c = lone-same _ _ _ _ (λ x. refl)
+
+pub empty-entries-preserved : goal.empty-entries-preserved
+empty-entries-preserved g t c =
+    let inv = c.entries.invariant in
+    let narrow : c.args.level ≡ 3 → 16 ≤ c.entries.i → c.entry.result ≡ 0 = λ top past. c.entry.ensures ∙ inv.sound.narrow c.args.node.n c.entries.i (inv.own.level_is ∙ top) past in
+    elim c.if-entry-ne0.branch [
+      | empty-then-entry-ne0 w ↦
+          let put = w.put.ensures in
+          rw (w.self-is, w.steps-is) (record {
+            sound = put.sound;
+            own = put.own;
+            moves = Moves-trans _ _ _ _ _ _ _ _ _ _ _ c.requires.sound inv.moves put.moves;
+            done = λ k lt. ⊎_elim (λ is. ap (entry_of w.put.new.self.nodes c.args.node.n) is ∙ put.here) (λ off. put.others k off ∙ inv.done k (omega (arith, lt, off))) (cases_eq k c.entries.i);
+            free = omega (arith, inv.free, put.free);
+            lone = lone-trans _ _ _ _ _ _ _ (is_root (c.args.node.n + 1)) (is_root (c.args.node.n + 1)) none_shared _ c.requires.sound inv.moves inv.lone put.lone (λ t m _ _ shared. absurd (omega (arith, shared.1)));
+            cost = more-steps c.entries.i (entries_in c.args.level) (most_nodes (c.args.level - 1)) c.args.steps.now c.entries.steps w.put.new.steps inv.cost (put.cost_none refl) (λ past. absurd (w.if-entry-ne0.true (unused c.args.level c.entries.i c.entry.result narrow (omega (arith, c.entries-test.true)) past)));
+          })
+      | empty-else-entry-ne0 w ↦
+          rw (w.self-is, w.steps-is) (record {
+            sound = inv.sound;
+            own = inv.own;
+            moves = inv.moves;
+            done = λ k lt. ⊎_elim (λ is. ap (entry_of c.entries.self.nodes c.args.node.n) is ∙ sym c.entry.ensures ∙ w.if-entry-ne0.false) (λ off. inv.done k (omega (arith, lt, off))) (cases_eq k c.entries.i);
+            free = inv.free;
+            lone = inv.lone;
+            cost = more-steps c.entries.i (entries_in c.args.level) (most_nodes (c.args.level - 1)) c.args.steps.now c.entries.steps c.entries.steps inv.cost (omega arith) (λ past. refl);
+          })
+    ]
+
+pub release-returns-then-link-ne0-clause-moves : goal.release-returns-then-link-ne0-clause-moves
+release-returns-then-link-ne0-clause-moves g t c =
+    subst (λ e. Moves c.args.level c.args.self.now.nodes c.give_up.new.self.nodes c.args.self.now.frames c.give_up.new.self.frames (is_root e) (λ n. 0)) c.node_of-node.ensures
+    (Moves-trans _ _ _ _ _ _ _ _ _ _ _ c.requires.sound c.empty.ensures.moves c.give_up.ensures.moves)
+
+pub put-returns-else-level-eq-LEAF_LEVEL-clause-moves : goal.put-returns-else-level-eq-LEAF_LEVEL-clause-moves
+put-returns-else-level-eq-LEAF_LEVEL-clause-moves g t c =
+    let up : 1 < c.args.level = omega (arith, c.requires.low, c.if-level-eq-LEAF_LEVEL.false) in
+    let swap = c.swap-old.ensures in
+    Moves-put c.args.level _ _ _ _ _ _ _ _ c.args.node.n c.args.i c.args.link up c.requires.place c.requires.sound c.requires.own (λ m is. (c.requires.held up m is).0)
+    c.hold_link.ensures.sound c.hold_link.ensures.moves (rw swap.was at swap.moves) swap.nodes swap.own swap.sound (rw swap.was at swap.loose) c.release.ensures.sound (rw swap.was at c.release.ensures.moves)
+
+pub put-returns-else-level-eq-LEAF_LEVEL-clause-sound : goal.put-returns-else-level-eq-LEAF_LEVEL-clause-sound
+put-returns-else-level-eq-LEAF_LEVEL-clause-sound g t c =
+    let up : 1 < c.args.level = omega (arith, c.requires.low, c.if-level-eq-LEAF_LEVEL.false) in
+    let swap = c.swap-old.ensures in
+    IsSound-put c.args.level _ _ _ _ _ _ _ _ c.args.node.n c.args.i c.args.link up c.requires.place c.requires.sound c.requires.own (λ m is. (c.requires.held up m is).0)
+    c.hold_link.ensures.sound c.hold_link.ensures.moves (rw swap.was at swap.moves) swap.nodes swap.own swap.sound (rw swap.was at swap.loose) c.release.ensures.sound (rw swap.was at c.release.ensures.moves)
+
+pub put-returns-else-level-eq-LEAF_LEVEL-clause-peers : goal.put-returns-else-level-eq-LEAF_LEVEL-clause-peers
+put-returns-else-level-eq-LEAF_LEVEL-clause-peers g t c =
+    let up : 1 < c.args.level = omega (arith, c.requires.low, c.if-level-eq-LEAF_LEVEL.false) in
+    let swap = c.swap-old.ensures in
+    peers-put c.args.level _ _ _ _ _ _ _ _ c.args.node.n c.args.i c.args.link up c.requires.place c.requires.sound c.requires.own (λ m is. (c.requires.held up m is).0)
+    c.hold_link.ensures.sound c.hold_link.ensures.moves (rw swap.was at swap.moves) swap.nodes swap.own swap.sound (rw swap.was at swap.loose) c.release.ensures.sound (rw swap.was at c.release.ensures.moves)
+
+pub put-returns-else-level-eq-LEAF_LEVEL-clause-there : goal.put-returns-else-level-eq-LEAF_LEVEL-clause-there
+put-returns-else-level-eq-LEAF_LEVEL-clause-there g t c =
+    let up : 1 < c.args.level = omega (arith, c.requires.low, c.if-level-eq-LEAF_LEVEL.false) in
+    let swap = c.swap-old.ensures in
+    there-put c.args.level _ _ _ _ _ _ _ _ c.args.node.n c.args.i c.args.link up c.requires.place c.requires.sound c.requires.own (λ m is. (c.requires.held up m is).0)
+    c.hold_link.ensures.sound c.hold_link.ensures.moves (rw swap.was at swap.moves) swap.nodes swap.own swap.sound (rw swap.was at swap.loose) c.release.ensures.sound (rw swap.was at c.release.ensures.moves)
+
+pub put-returns-then-level-eq-LEAF_LEVEL-clause-there : goal.put-returns-then-level-eq-LEAF_LEVEL-clause-there
+put-returns-then-level-eq-LEAF_LEVEL-clause-there g t c = λ k q off.
+    let leaf : c.args.level - 1 ≡ 0 = omega (arith, c.if-level-eq-LEAF_LEVEL.true) in
+    let old = c.args.self.now.nodes in
+    let new = c.write.new.self.nodes in
+    let n = c.args.node.n in
+    let one : c.args.level ≡ 1 = c.if-level-eq-LEAF_LEVEL.true in
+    let same : entry_of new n k ≡ entry_of old n k = ap (λ ns. entry_of ns n k) c.write.ensures.nodes ∙ there-entered c.args.level 1 old _ c.requires.sound n c.args.i _ (subst (λ l. IsOwned old l n) one c.requires.own) c.requires.place k off in
+    entry-cell new (c.args.level - 1) (entry_of new n k) q leaf ∙ same ∙ sym (entry-cell old (c.args.level - 1) (entry_of old n k) q leaf)
+
+pub put-returns-else-level-eq-LEAF_LEVEL-clause-lone : goal.put-returns-else-level-eq-LEAF_LEVEL-clause-lone
+put-returns-else-level-eq-LEAF_LEVEL-clause-lone g t c =
+    let up : 1 < c.args.level = omega (arith, c.requires.low, c.if-level-eq-LEAF_LEVEL.false) in
+    let swap = c.swap-old.ensures in
+    lone-put c.args.level _ _ _ _ _ _ _ _ c.args.node.n c.args.i c.args.link up c.requires.place c.requires.sound c.requires.own (c.requires.held up)
+    c.hold_link.ensures.sound c.hold_link.ensures.moves (rw swap.was at swap.moves) swap.nodes swap.own swap.sound (rw swap.was at swap.loose) c.release.ensures.sound (rw swap.was at c.release.ensures.moves)
+    c.hold_link.ensures.lone (rw swap.was at c.release.ensures.lone)
+
+pub put-returns-else-level-eq-LEAF_LEVEL-clause-rest : goal.put-returns-else-level-eq-LEAF_LEVEL-clause-rest
+put-returns-else-level-eq-LEAF_LEVEL-clause-rest g t c =
+    let up : 1 < c.args.level = omega (arith, c.requires.low, c.if-level-eq-LEAF_LEVEL.false) in
+    let swap = c.swap-old.ensures in
+    λ k from to off apart. rest-put c.args.level _ _ _ _ _ _ _ _ c.args.node.n c.args.i c.args.link up c.requires.place c.requires.sound c.requires.own (c.requires.held up)
+    c.hold_link.ensures.sound c.hold_link.ensures.moves (rw swap.was at swap.moves) swap.nodes swap.own swap.sound (rw swap.was at swap.loose) c.release.ensures.sound (rw swap.was at c.release.ensures.moves)
+    c.hold_link.ensures.lone (rw swap.was at c.release.ensures.lone) k off apart from to
+
+pub put-returns-then-level-eq-LEAF_LEVEL-clause-lone : goal.put-returns-then-level-eq-LEAF_LEVEL-clause-lone
+put-returns-then-level-eq-LEAF_LEVEL-clause-lone g t c =
+    let old = c.args.self.now.nodes in
+    let n = c.args.node.n in
+    lone-same old c.write.new.self.nodes (is_root (n + 1)) _
+    (λ x. ap (λ ns. count_of ns x) c.write.ensures.nodes ∙ count-entered c.args.level 1 old _ c.requires.sound n c.args.i _ (subst (λ l. IsOwned old l n) c.if-level-eq-LEAF_LEVEL.true c.requires.own) c.requires.place x)
+
+pub put-returns-then-level-eq-LEAF_LEVEL-clause-rest : goal.put-returns-then-level-eq-LEAF_LEVEL-clause-rest
+put-returns-then-level-eq-LEAF_LEVEL-clause-rest g t c = λ k from to off apart.
+    let leaf : c.args.level - 1 ≡ 0 = omega (arith, c.if-level-eq-LEAF_LEVEL.true) in
+    let a = range-none c.write.new.self.nodes (c.args.level - 1) (entry_of c.write.new.self.nodes c.args.node.n k) from to leaf in
+    omega (arith, a)
+
+pub release-returns-then-link-ne0-clause-lone : goal.release-returns-then-link-ne0-clause-lone
+release-returns-then-link-ne0-clause-lone g t c =
+    subst (λ e. KeepsLone c.args.self.now.nodes c.give_up.new.self.nodes (is_root e) none_shared) c.node_of-node.ensures
+    (lone-trans c.args.level c.args.level c.args.self.now.nodes c.empty.new.self.nodes c.give_up.new.self.nodes _ _ (is_root (c.node_of-node.result.n + 1)) (is_root (c.node_of-node.result.n + 1)) none_shared none_shared c.requires.sound c.empty.ensures.moves c.empty.ensures.lone
+    (lone-given c.args.level c.args.level c.empty.new.self.nodes c.give_up.new.self.nodes _ c.node_of-node.result.n c.empty.ensures.sound c.empty.ensures.loose c.give_up.ensures.others)
+    (λ t' m _ _ shared. absurd shared))
+
+pub release-returns-else-link-ne0-clause-lone : goal.release-returns-else-link-ne0-clause-lone
+release-returns-else-link-ne0-clause-lone g t c = lone-same _ _ _ _ (λ x. refl)

@@ -1,0 +1,27 @@
+use Rattle.std.proofs.Common.{◌≡◌, ◌+◌, ◌-◌, ◌*◌, ◌<◌, ◌≤◌, ℕ, min}
+use Rattle.node_pool.specs.Nodes.{entry_of, free_of}
+use Rattle.page_tree.specs.Costs.{entries_in, most_nodes}
+use Rattle.page_tree.specs.Sound.{IsSoundTo, is_root}
+use Rattle.page_tree.specs.Steps.{IsOwned, KeepsLone, Moves, none_shared}
+use Rattle.page_tree.proofs.store.Store.+parts.Given as goal
+
+abbrev pub decreases-put : goal.decreases-put
+decreases-put g l = 3 * l.level
+
+abbrev pub decreases-empty : goal.decreases-empty
+decreases-empty g l = 3 * l.level + 1
+
+abbrev pub decreases-release : goal.decreases-release
+decreases-release g l = 3 * l.level + 2
+
+abbrev pub invariant-empty-entries : goal.invariant-empty-entries
+invariant-empty-entries g l =
+    record {
+      sound : IsSoundTo l.level l.self.nodes l.self.frames;
+      own : IsOwned l.self.nodes l.level l.node.n;
+      moves : Moves l.level l.initial.self.nodes l.self.nodes l.initial.self.frames l.self.frames (is_root (l.node.n + 1)) (is_root (l.node.n + 1));
+      done : (k : ℕ) → k < l.i → entry_of l.self.nodes l.node.n k ≡ 0;
+      free : free_of l.initial.self.nodes ≤ free_of l.self.nodes;
+      lone : KeepsLone l.initial.self.nodes l.self.nodes (is_root (l.node.n + 1)) none_shared;
+      cost : l.steps ≤ l.initial.steps + min l.i (entries_in l.level) * most_nodes (l.level - 1);
+    }

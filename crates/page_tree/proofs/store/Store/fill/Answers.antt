@@ -1,0 +1,107 @@
+use Rattle.std.proofs.Common.{◌≡◌, ◌+◌, ◌≤◌, ◌<◌, ⊎_elim, ap, refl, sym, get_or, ◌∙◌, arith}
+use Rattle.std.proofs.lemmas.Bool.{cases_eq}
+use Rattle.node_pool.specs.Nodes.{entry_of, level_of}
+use Rattle.page_tree.proofs.UsesLemmas.{inside-count}
+use Rattle.page_tree.proofs.EnterLemmas.{named-held}
+use Rattle.page_tree.proofs.MoveLemmas.{Moves-refl, Moves-trans}
+use Rattle.page_tree.specs.Costs.{entries_in}
+use Rattle.page_tree.specs.Sound.{is_root}
+use Rattle.page_tree.specs.Steps.{none_shared}
+use Rattle.page_tree.proofs.LoneLemmas.{lone-leader, lone-same, lone-trans}
+use Rattle.page_tree.proofs.CostLemmas.{more-steps, unused}
+use Rattle.page_tree.proofs.store.Store.fill.Goals.{then-link-ne0, else-link-ne0}
+use Rattle.page_tree.proofs.store.Store.fill.Goals as goal
+
+pub entry-link-requires-clause-node : goal.entry-link-requires-clause-node
+entry-link-requires-clause-node g c =
+    let loose = c.requires.loose c.args.node.n refl in
+    let in_old = inside-count c.args.self.now.nodes c.args.node.n (omega (arith, loose.1)) in
+    omega (arith, in_old, c.entries.invariant.moves.size)
+
+pub put-requires-clause-cell : goal.put-requires-clause-cell
+put-requires-clause-cell g c = λ leaf f is.
+    let inv = c.entries.invariant in
+    let loose = c.requires.loose c.args.node.n refl in
+    let l = ap (λ y. y.level) inv.peer in
+    named-held c.args.level c.entries.self.nodes c.entries.self.frames c.args.node.n c.entries.i f inv.sound (omega (arith, l, loose.0, leaf)) (sym c.entry-link.ensures ∙ is)
+
+pub put-requires-clause-held : goal.put-requires-clause-held
+put-requires-clause-held g c = λ up m is.
+    let inv = c.entries.invariant in
+    let loose = c.requires.loose c.args.node.n refl in
+    let l = ap (λ y. y.level) inv.peer in
+    let high : 1 < level_of c.entries.self.nodes c.args.node.n = omega (arith, l, loose.0, up) in
+    let e = sym c.entry-link.ensures ∙ is in
+    let next = inv.sound.below c.args.node.n c.entries.i m high e in
+    (omega (arith, next, l, loose.0), inv.sound.held c.args.node.n c.entries.i m high e)
+
+pub entries-init : goal.entries-init
+entries-init g c =
+    record {
+      sound = c.requires.sound;
+      own = c.requires.own;
+      moves = Moves-refl _ _ _ _;
+      done = λ k lt. absurd (omega (arith, lt));
+      rest = λ k _. c.requires.empty k;
+      peer = refl;
+      free = omega arith;
+      grows = λ f. omega arith;
+      lone = lone-same _ _ _ _ (λ x. refl);
+      cost = omega arith;
+      cost_leaf = λ _. refl;
+    }
+
+pub entries-preserved : goal.entries-preserved
+entries-preserved g c =
+    let inv = c.entries.invariant in
+    let loose = c.requires.loose c.args.node.n refl in
+    let none = inv.rest c.entries.i (omega arith) in
+    let count_is = ap (λ y. y.count) inv.peer in
+    let level_is = ap (λ y. y.level) inv.peer in
+    let there = c.entry-link.ensures ∙ ap (λ y. get_or y.entries c.entries.i 0) inv.peer in
+    let narrow : c.args.level ≡ 3 → 16 ≤ c.entries.i → c.entry-link.result ≡ 0 = λ top past. c.entry-link.ensures ∙ inv.sound.narrow c.args.node.n c.entries.i (level_is ∙ loose.0 ∙ top) past in
+    elim c.if-link-ne0.branch [
+      | then-link-ne0 w ↦
+          let put = w.put.ensures in
+          let grows = put.grows none in
+          let cost = put.cost_absent none in
+          rw (w.self-is, w.steps-is) (record {
+            sound = put.sound;
+            own = put.own;
+            moves = Moves-trans _ _ _ _ _ _ _ _ _ _ _ c.requires.sound inv.moves put.moves;
+            done = λ k lt.
+                ⊎_elim
+                (λ is. ap (entry_of w.put.new.self.nodes c.args.copy.n) is ∙ put.here ∙ there ∙ ap (entry_of c.args.self.now.nodes c.args.node.n) (sym is))
+                (λ away. put.others k away ∙ inv.done k (omega (arith, lt, away)))
+                (cases_eq k c.entries.i);
+            rest = λ k past. put.others k (λ is. absurd (omega (arith, is, past))) ∙ inv.rest k (omega (arith, past));
+            peer = put.peers c.args.node.n c.requires.apart (omega (arith, count_is, loose.1)) (omega (arith, level_is, loose.0)) ∙ inv.peer;
+            free = omega (arith, inv.free, put.free);
+            grows = λ f. let a = inv.grows f in let b = grows f in omega (arith, a, b);
+            lone = lone-trans _ _ _ c.entries.self.nodes _ _ _ (is_root (c.args.copy.n + 1)) (is_root (c.args.copy.n + 1)) none_shared _ c.requires.sound inv.moves inv.lone put.lone
+                (λ t m other way shared. c.requires.shared (sym count_is ∙ lone-leader c.args.level c.entries.self.nodes _ (is_root (c.args.copy.n + 1)) t c.args.node.n c.entries.i m inv.sound other way (omega (arith, level_is, loose.0, shared.0)) (sym c.entry-link.ensures ∙ shared.1)));
+            cost = more-steps c.entries.i (entries_in c.args.level) 1 c.args.steps.now c.entries.steps w.put.new.steps inv.cost (omega (arith, cost)) (λ past. absurd (w.if-link-ne0.true (unused c.args.level c.entries.i c.entry-link.result narrow (omega (arith, c.entries-test.true)) past)));
+            cost_leaf = λ leaf. let a = inv.cost_leaf leaf in let b = put.cost_leaf leaf in omega (arith, a, b);
+          })
+      | else-link-ne0 w ↦
+          rw (w.self-is, w.steps-is) (record {
+            sound = inv.sound;
+            own = inv.own;
+            moves = inv.moves;
+            done = λ k lt.
+                ⊎_elim
+                (λ is. ap (entry_of c.entries.self.nodes c.args.copy.n) is ∙ none ∙ sym w.if-link-ne0.false ∙ there ∙ ap (entry_of c.args.self.now.nodes c.args.node.n) (sym is))
+                (λ away. inv.done k (omega (arith, lt, away)))
+                (cases_eq k c.entries.i);
+            rest = λ k past. inv.rest k (omega (arith, past));
+            peer = inv.peer;
+            free = inv.free;
+            grows = inv.grows;
+            lone = inv.lone;
+            cost = more-steps c.entries.i (entries_in c.args.level) 1 c.args.steps.now c.entries.steps c.entries.steps inv.cost (omega arith) (λ past. refl);
+            cost_leaf = inv.cost_leaf;
+          })
+    ]
+
+pub returns-clause-cost : goal.returns-clause-cost
+returns-clause-cost g c = omega (arith, c.entries.invariant.cost)

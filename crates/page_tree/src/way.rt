@@ -1,0 +1,123 @@
+ghost use Rattle.std.specs.Prelude.{◌≡◌, ◌≢◌, ℕ, ◌+◌, ◌-◌, ◌*◌, ◌^◌, ◌<◌, ◌≤◌, ◌↔◌, true};
+ghost use Rattle.frame_pool.specs.Frame.{frame_count};
+ghost use Rattle.node_pool.specs.declared.pool.TheConstants.{NODE_ENTRIES};
+ghost use Rattle.node_pool.specs.Nodes.{count_of, level_of, entry_of, free_of};
+ghost use Rattle.page_tree.specs.declared.store.TheConstants.{LEAF_LEVEL, PAGES, ROOT_ENTRIES, ROOT_LEVEL};
+ghost use Rattle.page_tree.specs.Costs.{way_steps};
+ghost use Rattle.page_tree.specs.Pages.{entry_below, entry_for, link_of};
+ghost use Rattle.page_tree.specs.Short.{root_short, short_below};
+ghost use Rattle.page_tree.specs.Sound.{IsSoundTo, is_root};
+ghost use Rattle.page_tree.specs.Steps.{IsLoose, IsOwned, Moves};
+
+use crate::cell::PageCell;
+use crate::store::{LEAF_LEVEL, Store, node_of};
+use node_pool::{NODE_ENTRIES, NodeNo};
+use pool_base::Steps;
+use std::sync::ledger::Ledger;
+
+/// How many pages an entry of a node of a level leads to.
+pub(crate) fn width(level: u8) -> usize
+    requires low { LEAF_LEVEL ≤ level }
+    requires high { level ≤ ROOT_LEVEL }
+    ensures { result ≡ NODE_ENTRIES ^ (level - 1) }
+{
+    match level {
+        LEAF_LEVEL => 1,
+        2 => NODE_ENTRIES,
+        _ => NODE_ENTRIES * NODE_ENTRIES,
+    }
+}
+
+impl Store {
+    /// The entry for a page on the way down from a link at a level.
+    pub(crate) fn entry_at(&self, link: u32, level: u8, p: usize) -> u32
+        requires low { LEAF_LEVEL ≤ level }
+        requires high { level ≤ ROOT_LEVEL }
+        requires sound { IsSoundTo level self.now.nodes self.now.frames }
+        requires held { (n : ℕ) → link ≡ n + 1
+            → (level_of self.now.nodes n ≡ level) × (0 < count_of self.now.nodes n) }
+        requires page { p < NODE_ENTRIES ^ level }
+        ensures { result ≡ entry_below self.now.nodes level link p }
+    {
+        if link == 0 {
+            return 0;
+        }
+        let width = width(level);
+        let entry = self.nodes.entry(node_of(link), p / width);
+        if level == LEAF_LEVEL {
+            entry
+        } else {
+            self.entry_at(entry, level - 1, p % width)
+        }
+    }
+
+    /// The entry for a page on the way down from a link at a level; and whether all nodes on the way are there, and
+    /// held once, if the way to the link is `alone`.
+    pub(crate) fn look_at(&self, link: u32, level: u8, p: usize, alone: bool) -> (u32, bool)
+        requires low { LEAF_LEVEL ≤ level }
+        requires high { level ≤ ROOT_LEVEL }
+        requires sound { IsSoundTo level self.now.nodes self.now.frames }
+        requires held { (n : ℕ) → link ≡ n + 1
+            → (level_of self.now.nodes n ≡ level) × (0 < count_of self.now.nodes n) }
+        requires page { p < NODE_ENTRIES ^ level }
+        ensures entry { result.0 ≡ entry_below self.now.nodes level link p }
+        ensures alone { (result.1 ≡ true)
+            ↔ ((alone ≡ true) × (short_below self.now.nodes level link p ≡ 0)) }
+    {
+        if link == 0 {
+            return (0, false);
+        }
+        let node = node_of(link);
+        let once = self.nodes.count(node) == 1;
+        let alone = alone && once;
+        let width = width(level);
+        let entry = self.nodes.entry(node, p / width);
+        if level == LEAF_LEVEL {
+            return (entry, alone);
+        }
+        self.look_at(entry, level - 1, p % width, alone)
+    }
+
+    /// Lets a link at a level, which is given up, have a cell for a page.
+    pub(crate) fn set_at<L: Ledger>(
+        &mut self,
+        link: u32,
+        level: u8,
+        p: usize,
+        cell: PageCell,
+        steps: &mut Steps<L>,
+    ) -> NodeNo
+        requires low { LEAF_LEVEL ≤ level }
+        requires high { level ≤ ROOT_LEVEL }
+        requires sound { IsSoundTo level self.old.nodes self.old.frames }
+        requires loose { IsLoose self.old.nodes level link }
+        requires page { p < NODE_ENTRIES ^ level }
+        requires inside { level ≡ ROOT_LEVEL → p < PAGES }
+        requires held { (f : ℕ) → entry_for cell ≡ f + 2 → 0 < frame_count self.old.frames f }
+        requires free { short_below self.old.nodes level link p ≤ free_of self.old.nodes }
+        ensures sound { IsSoundTo level self.new.nodes self.new.frames }
+        ensures own { IsOwned self.new.nodes level result.n }
+        ensures moves { Moves level self.old.nodes self.new.nodes self.old.frames self.new.frames
+            (is_root link) (is_root (result.n + 1)) }
+        ensures page { entry_below self.new.nodes level (result.n + 1) p ≡ entry_for cell }
+        ensures pages { (q : ℕ) → q < NODE_ENTRIES ^ level → q ≢ p →
+            entry_below self.new.nodes level (result.n + 1) q ≡ entry_below self.old.nodes level link q }
+        ensures alone { short_below self.new.nodes level (result.n + 1) p ≡ 0 }
+        ensures free { free_of self.old.nodes
+            ≤ free_of self.new.nodes + short_below self.old.nodes level link p }
+        ensures grows { entry_for cell ≡ entry_below self.old.nodes level link p
+            → (f : ℕ) → frame_count self.old.frames f ≤ frame_count self.new.frames f }
+        ensures cost { steps.new ≤ steps.old + way_steps level }
+    {
+        let node = self.own(link, level, steps);
+        if level == LEAF_LEVEL {
+            self.write(node, p, cell);
+        } else {
+            let width = width(level);
+            let child = self.swap(node, p / width, 0, level);
+            let child = self.set_at(child, level - 1, p % width, cell, steps);
+            self.swap(node, p / width, child.n + 1, level);
+        }
+        node
+    }
+}
