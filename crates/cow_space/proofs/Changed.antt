@@ -1,20 +1,16 @@
 -- A place once stretches of its pages have changed: its row, its cells and its rights.
-use Rattle.std.proofs.Common.{◌≡◌, ◌≢◌, ℕ, suc, ◌+◌, ◌<◌, ◌≤◌, ⊎_elim, Bool, true, false, cond, leb, ltb, List, [], ◌∷◌, length, get_or, set, drop, refl, sym, ◌∙◌, ap, arith, subst, get_or-set_other, Option, None, Some}
+use Rattle.std.proofs.Common.{◌≡◌, ℕ, suc, ◌<◌, ◌≤◌, ⊎_elim, Bool, true, false, cond, leb, ltb, List, [], ◌∷◌, length, refl, sym, ◌∙◌, ap, arith, subst, Option, None, Some}
 use Rattle.std.specs.Prelude.{All}
 use Rattle.std.specs.List.{find}
 use Rattle.std.specs.Option.{MatchOption, option_map}
 use Rattle.std.proofs.lemmas.Bool.{cases_lt, and_parts, ltb-true}
-use Rattle.std.proofs.lemmas.List.{get_or-set_same, set-get_or}
-use Rattle.lwc_base.specs.declared.page.PageValue.{PageValue}
 use Rattle.lwc_base.specs.declared.right.Right.{Right}
 use Rattle.lwc_base.specs.declared.right.Right.TheVariants.{Read}
-use Rattle.range_map.specs.declared.segment.Change.{Change}
 use Rattle.range_map.specs.declared.segment.PageState.{PageState}
 use Rattle.range_map.specs.declared.segment.Segment.{Segment}
 use Rattle.range_map.specs.declared.segment.SegmentKind.{SegmentKind}
-use Rattle.range_map.specs.Kinds.{is_between, kind_at, kind_of, ranges, state_after, state_at, state_by, state_of}
-use Rattle.range_map.proofs.Ranges.{ranges_same}
-use Rattle.cow_space.specs.Maps.{no_pages, put_range, row_of, share_range}
+use Rattle.range_map.specs.Kinds.{is_between, kind_at, kind_of, state_at, state_of}
+use Rattle.cow_space.specs.Maps.{no_pages, row_of}
 use Rattle.cow_space.specs.declared.stretches.Origin.{Origin}
 use Rattle.cow_space.specs.declared.stretches.Origin.TheVariants.{Absent, Zeros, Common, CopyOf}
 use Rattle.cow_space.specs.declared.stretches.ReadRange.{ReadRange}
@@ -22,69 +18,13 @@ use Rattle.cow_space.specs.declared.stretches.Stretch.{Stretch}
 use Rattle.cow_space.specs.declared.cells.PageCells.{PageCells}
 use Rattle.cow_space.specs.RowSeen.{HasNoTree, maps}
 use Rattle.cow_space.specs.Seen.{cells, rights}
-use Rattle.cow_space.specs.Cells.{Place, cell_of, kinds_of, place_cells, place_of, place_rights, right_in, rights_of, segments_of, states_of}
+use Rattle.cow_space.specs.Cells.{Place, cell_of, kinds_of, place_cells, place_of, place_rights, right_in, rights_of, segments_of}
 use Rattle.cow_space.specs.Changes.{IsApart, IsStretch, cell_by, changed_place, changed_rights, changed_states, have_page, origin_cell, right_by, stretch_at}
 use Rattle.cow_space.specs.Kept.{HasNoPage, may_have}
 use Rattle.cow_space.specs.Rows.{changed_row, origin_value, value_by}
-use Rattle.cow_space.proofs.Lists.{cond-of, drop-all, drop-one}
 use Rattle.cow_space.proofs.Places.{none-cells}
-use Rattle.cow_space.proofs.Views.{place-at, place-kinds, read-states}
-use Rattle.lwc_base.proofs.Small.{set-again}
-
--- the row, stretch by stretch from the last one
-
-pub row-begin : (maps : List (ℕ → Option PageValue)) (i k : ℕ) (stretches : List Stretch) → length stretches ≤ k → maps ≡ set maps i (changed_row maps i (drop k stretches))
-unfolding changed_row
-row-begin maps i k stretches end =
-    sym (ap (λ ss. set maps i (changed_row maps i ss)) (drop-all stretches k end) ∙ set-get_or maps i no_pages)
-
-row-one : (maps : List (ℕ → Option PageValue)) (i : ℕ) (stretch : Stretch) (stretches : List Stretch) →
-    changed_row maps i (stretch ∷ stretches) ≡ put_range (changed_row maps i stretches) stretch.range.from stretch.range.to (origin_value maps stretch.origin)
-unfolding changed_row
-row-one maps i stretch stretches = λ x p.
-    cond-of (value_by maps p (row_of maps i p)) (is_between stretch.range.from stretch.range.to p) (Some stretch) (stretch_at stretches p) x
-
-module _ (maps before after : List (ℕ → Option PageValue)) (i k : ℕ) (stretches : List Stretch) (stretch none : Stretch) (inside : i < length maps) (more : k < length stretches) (is : stretch ≡ get_or stretches k none)
-    (filled : before ≡ set maps i (changed_row maps i (drop (k + 1) stretches))) where
-  rest : ℕ → Option PageValue
-  rest = changed_row maps i (drop (k + 1) stretches)
-
-  row_now : row_of before i ≡ rest
-  unfolding rest
-  row_now = ap (λ ms. row_of ms i) filled ∙ get_or-set_same maps i (changed_row maps i (drop (k + 1) stretches)) no_pages inside
-
-  put-again : (row : ℕ → Option PageValue) → set before i row ≡ set maps i row
-  put-again row = ap (λ ms. set ms i row) filled ∙ set-again maps i (changed_row maps i (drop (k + 1) stretches)) row
-
-  row-all : put_range rest stretch.range.from stretch.range.to (origin_value maps stretch.origin) ≡ changed_row maps i (drop k stretches)
-  unfolding rest
-  row-all = sym (ap (changed_row maps i) (drop-one stretches k none more ∙ ap (λ s. s ∷ drop (k + 1) stretches) (sym is)) ∙ row-one maps i stretch (drop (k + 1) stretches))
-
-  -- the row has a stretch of another row
-  pub row-copy : (j : ℕ) → stretch.origin ≡ CopyOf j → j ≢ i → after ≡ share_range before i j stretch.range.from stretch.range.to → after ≡ set maps i (changed_row maps i (drop k stretches))
-  row-copy j origin apart shared =
-      shared
-      ∙ put-again (put_range (row_of before i) stretch.range.from stretch.range.to (row_of before j))
-      ∙ (λ x. set maps i (put_range (row_now x) stretch.range.from stretch.range.to (other x)))
-      ∙ ap (set maps i) (ap (λ s. put_range rest stretch.range.from stretch.range.to (origin_value maps s)) (sym origin) ∙ row-all)
-    where
-      other : row_of before j ≡ row_of maps j
-      other = ap (λ ms. row_of ms j) filled ∙ get_or-set_other maps i j (changed_row maps i (drop (k + 1) stretches)) no_pages apart
-
-  -- the row has no value in a stretch
-  pub row-clear : origin_value maps stretch.origin ≡ no_pages → after ≡ set before i (put_range (row_of before i) stretch.range.from stretch.range.to no_pages) → after ≡ set maps i (changed_row maps i (drop k stretches))
-  row-clear origin cleared =
-      cleared
-      ∙ put-again (put_range (row_of before i) stretch.range.from stretch.range.to no_pages)
-      ∙ (λ x. set maps i (put_range (row_now x) stretch.range.from stretch.range.to no_pages))
-      ∙ ap (set maps i) (ap (put_range rest stretch.range.from stretch.range.to) (sym origin) ∙ row-all)
-
--- an origin that copies nothing gives no value
-pub no-value : (maps : List (ℕ → Option PageValue)) (origin : Origin) → ((j : ℕ) → origin ≡ CopyOf j → ⊥) → origin_value maps origin ≡ no_pages
-no-value maps Absent none = refl
-no-value maps Zeros none = refl
-no-value maps (Common g) none = refl
-no-value maps (CopyOf j) none = absurd (none j refl)
+use Rattle.cow_space.proofs.Views.{place-at, place-kinds}
+use Rattle.lwc_base.specs.declared.limits.TheConstants.{MOST_PAGES}
 
 -- what is found passes the test, and has what all have
 pub find-holds : {X : Type 0} (test : X → Bool) (P : X → Type 0) (xs : List X) → All P xs → MatchOption (find test xs) (Unit {0}) (λ x. P x × (test x ≡ true))
@@ -133,9 +73,17 @@ origin-inside count i q stretches stretch are is j from =
     (subst (IsApart count i) from holds.0.given).0
 
 -- no stretches have no page, and no segments have none
-no-stretch : (stretches : List Stretch) (p : ℕ) → length stretches ≡ 0 → stretch_at stretches p ≡ None
+pub no-stretch : (stretches : List Stretch) (p : ℕ) → length stretches ≡ 0 → stretch_at stretches p ≡ None
 no-stretch [] p empty = refl
 no-stretch (s ∷ stretches) p empty = absurd (omega (arith, empty))
+
+-- no stretch has a page past the last one
+pub past-stretch : (count i p : ℕ) (stretches : List Stretch) → MOST_PAGES ≤ p → All (IsStretch count i) stretches → stretch_at stretches p ≡ None
+past-stretch count i p stretches past are = by (stretch_at stretches p) (find-holds (λ (s : Stretch). is_between s.range.from s.range.to p) (IsStretch count i) stretches are)
+  where
+    by : (o : Option Stretch) → MatchOption o (Unit {0}) (λ s. IsStretch count i s × (is_between s.range.from s.range.to p ≡ true)) → o ≡ None
+    by None holds = refl
+    by (Some s) holds = absurd (let below = ltb-true p s.range.to ((and_parts (leb s.range.from p) (ltb p s.range.to) holds.1).1) in let end = holds.0.inside in omega (arith, past, below, end))
 
 nothing : HasNoPage []
 unfolding state_at
@@ -170,32 +118,19 @@ module _ (w : PageCells) (i : ℕ) (stretches : List Stretch) where
   fit-by p None = fit-again i p
   fit-by p (Some s) = fit-origin s.origin p
 
-  -- the states after the changes are those of the place after the stretches
-  module _ (reads : List ReadRange) (changes : List Change) (segments : List Segment) (made : (p : ℕ) → p < 1024 → state_by (states_of (place_of (cells w) i) (rights_of (rights w) i) p) (find (λ c. is_between c.from c.to p) changes) ≡ changed_states (cells w) (rights w) i stretches reads p)
-      (inside : i < length (cells w)) (is : segments ≡ get_or w.kinds.items i segments) where
-    states-after : (p : ℕ) → p < 1024 → state_after changes segments p ≡ changed_states (cells w) (rights w) i stretches reads p
-    unfolding state_after
-    states-after p low = ap (λ (f : ℕ → Option PageState). state_by (f p) (find (λ (c : Change). is_between c.from c.to p) changes)) (read-states w i segments inside is) ∙ made p low
-
-    pub ranges-after : ranges 1024 (state_after changes segments) ≡ ranges 1024 (changed_states (cells w) (rights w) i stretches reads)
-    ranges-after = ranges_same (state_after changes segments) (changed_states (cells w) (rights w) i stretches reads) 1024 states-after
-
-    -- no stretch has a page past the last one
-    none-past : (p : ℕ) (o : Option Stretch) → 1024 ≤ p → MatchOption o (Unit {0}) (λ s. IsStretch (length (cells w)) i s × (is_between s.range.from s.range.to p ≡ true)) → o ≡ None
-    none-past p None past holds = refl
-    none-past p (Some s) past holds = absurd (let below = ltb-true p s.range.to ((and_parts (leb s.range.from p) (ltb p s.range.to) holds.1).1) in let end = holds.0.inside in omega (arith, past, below, end))
-
-    pub states-now : (now : List Segment) → All (IsStretch (length (cells w)) i) stretches → ((p : ℕ) → p < 1024 → state_at now p ≡ state_after changes segments p) → ((p : ℕ) → 1024 ≤ p → state_at now p ≡ None) →
-        (p : ℕ) → state_at now p ≡ changed_states (cells w) (rights w) i stretches reads p
-    states-now now are made_now within p =
-        ⊎_elim
-        (λ low. made_now p low ∙ states-after p low)
-        (λ past. within p past
-        ∙ sym (ap (λ kind. state_of kind (changed_rights (cells w) (rights w) i stretches reads p))
-        (kept-kind (cells w) i p stretches (none-past p (stretch_at stretches p) past (find-holds (λ (s : Stretch). is_between s.range.from s.range.to p) (IsStretch (length (cells w)) i) stretches are))
-        ∙ ap (λ (f : ℕ → Option SegmentKind). f p) (sym (place-kinds w i))
-        ∙ ap (option_map (λ (s : PageState). s.kind)) (w.kept.within i p past))))
-        (cases_lt p 1024)
+  -- the states of segments that are those of the place after the stretches up to the last page, are so past it
+  pub states-now : (reads : List ReadRange) (now : List Segment) → All (IsStretch (length (cells w)) i) stretches →
+      ((p : ℕ) → p < MOST_PAGES → state_at now p ≡ changed_states (cells w) (rights w) i stretches reads p) → ((p : ℕ) → MOST_PAGES ≤ p → state_at now p ≡ None) →
+      (p : ℕ) → state_at now p ≡ changed_states (cells w) (rights w) i stretches reads p
+  states-now reads now are made_now within p =
+      ⊎_elim
+      (λ low. made_now p low)
+      (λ past. within p past
+      ∙ sym (ap (λ kind. state_of kind (changed_rights (cells w) (rights w) i stretches reads p))
+      (kept-kind (cells w) i p stretches (past-stretch (length (cells w)) i p stretches past are)
+      ∙ ap (λ (f : ℕ → Option SegmentKind). f p) (sym (place-kinds w i))
+      ∙ ap (option_map (λ (s : PageState). s.kind)) (w.kept.within i p past))))
+      (cases_lt p MOST_PAGES)
 
   module _ (reads : List ReadRange) (segments : List Segment) (all : (p : ℕ) → state_at segments p ≡ changed_states (cells w) (rights w) i stretches reads p) where
     kind-now : (p : ℕ) → kind_at segments p ≡ kinds_of (changed_place (cells w) i stretches) p

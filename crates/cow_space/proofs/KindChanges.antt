@@ -1,17 +1,18 @@
--- Changes that make the wanted states of the pages below a page.
-use Rattle.std.proofs.Common.{◌≡◌, ℕ, suc, ◌+◌, ◌<◌, ◌≤◌, ⊎_elim, ◌||◌, cond, List, [], ◌∷◌, ◌++◌, get_or, length, length-append, take, sym, ◌∙◌, ap, arith, refl, Option, None, Some}
-use Rattle.std.specs.Prelude.{All}
-use Rattle.std.specs.List.{find}
-use Rattle.std.specs.Option.{option_or}
+-- Segments that have the wanted states of the pages below a page.
+use Rattle.std.proofs.Common.{◌≡◌, ℕ, suc, ◌+◌, ◌-◌, ◌<◌, ◌≤◌, inl, inr, ⊎_elim, ◌||◌, ◌&&◌, cond, not, List, [], ◌∷◌, get_or, length, take, sym, ◌∙◌, ap, arith, refl, Option, None, Some}
+use Rattle.std.specs.Prelude.{All, is_some}
+use Rattle.std.specs.Option.{option_eq, option_or}
 use Rattle.std.proofs.lemmas.Bool.{cases_lt}
-use Rattle.std.proofs.lemmas.Bool.Decides.{nat_tests}
 use Rattle.std.proofs.lemmas.List.{take_more}
 use Rattle.std.proofs.lemmas.List.Folds.{find-append}
-use Rattle.range_map.specs.declared.segment.Change.{Change}
+use Rattle.lwc_base.specs.declared.limits.TheConstants.{MOST_PAGES}
 use Rattle.range_map.specs.declared.segment.PageState.{PageState}
-use Rattle.range_map.specs.Kinds.{given, is_between, state_by}
+use Rattle.range_map.specs.declared.segment.Segment.{Segment}
+use Rattle.range_map.specs.contracts.segment.PageStatePartialEq.TheImpl.{eq-value}
+use Rattle.range_map.specs.Kinds.{is_between, put_state, ranges, state_at}
 use Rattle.range_map.proofs.Alike.{HasNoEdge}
-use Rattle.range_map.proofs.Built.{find_off, find_on}
+use Rattle.range_map.proofs.Built.{between, not_between}
+use Rattle.range_map.proofs.Ranges.{absent_tail, begins_where, one_piece, ranges_grow, ranges_same}
 use Rattle.cow_space.specs.declared.stretches.ReadRange.{ReadRange}
 use Rattle.cow_space.specs.declared.stretches.Stretch.{Stretch}
 use Rattle.cow_space.specs.Changes.{have_page, stretch_at}
@@ -34,31 +35,46 @@ have-alike p edge q (r ∷ ranges) none low high =
     let tail = have-alike p edge q ranges (λ k d inside. none (suc k) d (omega arith)) low high in
     λ x. head x || tail x
 
--- no more changes than pages below one, of which they make the wanted states; they have no other page
-pub record MakeBelow (p : ℕ) (before after : ℕ → Option PageState) (changes : List Change) : Type 0 where
-  pub few : length changes ≤ p
-  pub done : (q : ℕ) → q < p → state_by (before q) (find (λ c. is_between c.from c.to q) changes) ≡ after q
-  pub rest : (q : ℕ) → p ≤ q → find (λ c. is_between c.from c.to q) changes ≡ None
+-- pages below one have the wanted states, and no other page is present
+pub record HaveBelow (p : ℕ) (after : ℕ → Option PageState) (segments : List Segment) : Type 0 where
+  pub done : (q : ℕ) → q < p → state_at segments q ≡ after q
+  pub rest : (q : ℕ) → p ≤ q → state_at segments q ≡ None
 
-pub none-made : (before after : ℕ → Option PageState) → MakeBelow 0 before after []
-none-made before after = record { few = omega arith; done = λ q low. absurd (omega arith); rest = λ q low. refl }
+pub none-below : (after : ℕ → Option PageState) → HaveBelow 0 after []
+unfolding state_at
+none-below after = record { done = λ q low. absurd (omega (arith, low)); rest = λ q _. refl }
 
-module _ (before after : ℕ → Option PageState) (p e : ℕ) (changes : List Change) (past : p < e) (made : MakeBelow p before after changes) where
-  -- pages that keep their states take no change
-  pub no-change : ((q : ℕ) → p ≤ q → q < e → after q ≡ before q) → MakeBelow e before after changes
-  no-change same = record {
-    few = omega (arith, made.few);
-    done = λ q high. ⊎_elim (λ low. made.done q low) (λ low. ap (state_by (before q)) (made.rest q low) ∙ sym (same q low high)) (cases_lt q p);
-    rest = λ q low. made.rest q (omega arith);
+module _ (after : ℕ → Option PageState) (p e : ℕ) (segments : List Segment) (past : p < e) (within : e ≤ MOST_PAGES) (have : HaveBelow p after segments) where
+  -- further pages are absent
+  pub more-absent : ((q : ℕ) → p ≤ q → q < e → after q ≡ None) → HaveBelow e after segments
+  more-absent none = record {
+    done = λ q high. ⊎_elim (λ low. have.done q low) (λ low. have.rest q low ∙ sym (none q low high)) (cases_lt q p);
+    rest = λ q low. have.rest q (omega (arith, low, past));
   }
 
-  -- pages that get one state take one
-  pub one-change : (change : Change) → change.from ≡ p → change.to ≡ e → ((q : ℕ) → p ≤ q → q < e → after q ≡ given change) → MakeBelow e before after (changes ++ change ∷ [])
-  one-change change from to gets = record {
-    few = omega (arith, length-append changes (change ∷ []), made.few);
-    done = λ q high. ⊎_elim
-        (λ low. ap (state_by (before q)) (find_off (λ c. is_between c.from c.to q) changes change (grind (arith, nat_tests, from, to, low, past))) ∙ made.done q low)
-        (λ low. ap (state_by (before q)) (find_on (λ c. is_between c.from c.to q) changes change (grind (arith, nat_tests, from, to, low, high)) (made.rest q low)) ∙ sym (gets q low high))
-        (cases_lt q p);
-    rest = λ q low. find_off (λ c. is_between c.from c.to q) changes change (grind (arith, nat_tests, from, to, low, past)) ∙ made.rest q (omega arith);
-  }
+  -- further pages are of one state: with it they have no more ranges than all pages
+  module _ (state : PageState) (gets : (q : ℕ) → p ≤ q → q < e → after q ≡ Some state) where
+    below : (q : ℕ) → q < e → put_state (state_at segments) p e state q ≡ after q
+    below q high = ⊎_elim
+        (λ low. ap (λ b. cond b (Some state) (state_at segments q)) (not_between p e q (inl low)) ∙ have.done q low)
+        (λ low. ap (λ b. cond b (Some state) (state_at segments q)) (between p e q low high) ∙ sym (gets q low high))
+        (cases_lt q p)
+
+    past-none : (q : ℕ) → e ≤ q → put_state (state_at segments) p e state q ≡ None
+    past-none q low = ap (λ b. cond b (Some state) (state_at segments q)) (not_between p e q (inr low)) ∙ have.rest q (omega (arith, low, past))
+
+    pub more-few : ranges MOST_PAGES (put_state (state_at segments) p e state) ≤ ranges MOST_PAGES after
+    more-few =
+        let short = absent_tail (put_state (state_at segments) p e state) e (MOST_PAGES - e) MOST_PAGES (omega (arith, within)) (λ q low _. past-none q low) in
+        let same = ranges_same (put_state (state_at segments) p e state) after e below in
+        omega (arith, short, same, ranges_grow after e (MOST_PAGES - e) MOST_PAGES (omega (arith, within)))
+
+    pub more-present : (now : List Segment) → ((q : ℕ) → state_at now q ≡ put_state (state_at segments) p e state q) → HaveBelow e after now
+    more-present now is = record { done = λ q high. is q ∙ below q high; rest = λ q low. is q ∙ past-none q low }
+
+-- the ranges of further pages of one state: one begins where the page before has another state
+pub piece-counts : (after : ℕ → Option PageState) (p e : ℕ) (last state : Option PageState) → p < e → (p ≡ 0 → last ≡ None) → ((k : ℕ) → p ≡ suc k → last ≡ after k) →
+    ((q : ℕ) → p ≤ q → q < e → after q ≡ state) → ranges e after ≡ ranges p after + cond (is_some state && not (option_eq eq-value.it last state)) 1 0
+piece-counts after p e last state past first later gets =
+    one_piece after p (e - p - 1) e (omega (arith, past)) (λ q low high. gets q low high ∙ sym (gets p (omega arith) past))
+    ∙ ap (λ b. ranges p after + cond b 1 0) (begins_where after p last first later ∙ ap (λ s. is_some s && not (option_eq eq-value.it last s)) (gets p (omega arith) past))

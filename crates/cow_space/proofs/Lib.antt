@@ -1,4 +1,6 @@
 mod Changed
+mod Edges
+mod Filled
 pub mod KindChanges
 pub mod Lists
 mod OwnTags

@@ -1,21 +1,10 @@
 -- Lists in which one element changes, and functions of their elements.
-use Rattle.std.proofs.Common.{◌≡◌, ◌≢◌, ℕ, zero, suc, ◌+◌, ◌<◌, ◌≤◌, Bool, true, false, cond, eqb, List, [], ◌∷◌, ◌++◌, length, get_or, set, map, drop, replicate, refl, sym, ◌∙◌, ap, arith}
+use Rattle.std.proofs.Common.{◌≡◌, ◌≢◌, ℕ, zero, suc, ◌+◌, ◌<◌, ◌≤◌, Bool, true, false, cond, List, [], ◌∷◌, ◌++◌, length, get_or, set, map, replicate, refl, sym, ◌∙◌, ap, arith}
 use Rattle.std.specs.List.{sum_by}
-use Rattle.std.proofs.lemmas.Bool.{eq-eqb, ne_eqb}
 use Rattle.std.proofs.lemmas.List.{map-set}
 use Rattle.std.proofs.lemmas.List.Sums.{get_or-le-sum_by, sum_by-cons}
 use Rattle.pool_base.proofs.Totals.{total, total-same}
 use Rattle.lwc_base.proofs.Small.{set-map_same}
-
--- 1 where a test passes, else 0
-abbrev pub one_if : Bool → ℕ
-one_if b = cond b 1 0
-
-pub one-yes : (m n : ℕ) → m ≡ n → one_if (eqb m n) ≡ 1
-one-yes m n is = ap one_if (eq-eqb m n is)
-
-pub one-no : (m n : ℕ) → m ≢ n → one_if (eqb m n) ≡ 0
-one-no m n off = ap one_if (ne_eqb m n off)
 
 pub cond-of : {X Y : Type 0} (f : X → Y) (b : Bool) (x y : X) → f (cond b x y) ≡ cond b (f x) (f y)
 cond-of f true x y = refl
@@ -42,20 +31,6 @@ replicate_push zero x = refl
 replicate_push (suc n) x =
     let more : suc n + 1 ≡ suc (n + 1) = omega arith in
     ap (λ xs. x ∷ xs) (replicate_push n x) ∙ ap (λ k. replicate k x) (sym more)
-
--- what is left of a list begins with the element at that place
-pub drop-one : {X : Type 0} (xs : List X) (k : ℕ) (d : X) → k < length xs → drop k xs ≡ get_or xs k d ∷ drop (k + 1) xs
-drop-one [] k d lt = absurd (omega (arith, lt))
-drop-one (x ∷ xs) zero d lt = refl
-drop-one (x ∷ xs) (suc k) d lt =
-    let more : suc k + 1 ≡ suc (k + 1) = omega arith in
-    drop-one xs k d (omega (arith, lt)) ∙ ap (λ n. get_or xs k d ∷ drop n (x ∷ xs)) (sym more)
-
-pub drop-all : {X : Type 0} (xs : List X) (k : ℕ) → length xs ≤ k → drop k xs ≡ []
-drop-all [] zero le = refl
-drop-all [] (suc k) le = refl
-drop-all (x ∷ xs) zero le = absurd (omega (arith, le))
-drop-all (x ∷ xs) (suc k) le = drop-all xs k (omega (arith, le))
 
 -- a sum of which one term changes
 pub total-change : (f g : ℕ → ℕ) (n p : ℕ) → p < n → ((q : ℕ) → q ≢ p → f q ≡ g q) → total f n + g p ≡ total g n + f p

@@ -18,6 +18,7 @@ use Rattle.cow_space.specs.Kept.{may_have}
 use Rattle.cow_space.specs.Tags.{IsNewTag, different, is_parting, own_values, parts, row_tags, tags, tags_of_map, tags_of_place, times, used}
 use Rattle.cow_space.proofs.Taken.{new-times}
 use Rattle.cow_space.proofs.Views.{place-at, row-count}
+use Rattle.page_tree.specs.declared.store.TheConstants.{PAGES}
 
 flat_map-same : {X Y A : Type 0} (f : X → List A) (g : Y → List A) (xs : List X) (ys : List Y) (d : X) (e : Y) → length xs ≡ length ys → ((i : ℕ) → i < length xs → f (get_or xs i d) ≡ g (get_or ys i e)) → flat_map f xs ≡ flat_map g ys
 flat_map-same f g [] [] d e long same = refl
@@ -46,7 +47,7 @@ module _ (w : PageCells) where
   unfolding tags row_tags tags_of_place tags_of_map
   tags-rows =
       flat_map-same tags_of_place tags_of_map (cells w) (maps w.rows) no_pages rows.no_pages (row-count w)
-      (λ i _ k. flat_map (λ p. own-rows tag_of refl i p k) (range_with_len 0 1024))
+      (λ i _ k. flat_map (λ p. own-rows tag_of refl i p k) (range_with_len 0 PAGES))
 
   pub used-rows : used (cells w) ≡ different (row_tags (maps w.rows))
   unfolding used

@@ -17,6 +17,7 @@ use Rattle.cow_space.specs.Maps.{row_of}
 use Rattle.cow_space.specs.Cells.{Place, all_cells, all_rights, all_write, cell_of, no_pages, place_cells, place_of, place_rights, right_in, rights_of, segments_of}
 use Rattle.cow_space.specs.Kept.{IsKept, may_have}
 use Rattle.lwc_base.proofs.Small.{at-new}
+use Rattle.lwc_base.specs.declared.limits.TheConstants.{MOST_PAGES}
 
 pub length-cells : (kinds : List (List Segment)) (maps : List (ℕ → Option PageValue)) → length (all_cells kinds maps) ≡ length maps
 unfolding all_cells
@@ -103,12 +104,12 @@ module _ (maps : List (ℕ → Option PageValue)) (kinds : List (List Segment)) 
       (λ k off. sym (get_or-set_other (all_cells kinds maps) i k (place_cells segments row) no_pages off ∙ at-place kinds maps k kept.places)) j)
 
   -- rows fit the kinds still, where the new row fits the new segments
-  pub kept-set : ((p : ℕ) → may_have (kind_at segments p) (row p) ≡ true) → ((p : ℕ) → 1024 ≤ p → state_at segments p ≡ None) → IsKept (set maps i row) (set kinds i segments)
+  pub kept-set : ((p : ℕ) → may_have (kind_at segments p) (row p) ≡ true) → ((p : ℕ) → MOST_PAGES ≤ p → state_at segments p ≡ None) → IsKept (set maps i row) (set kinds i segments)
   kept-set fit within =
       record {
         places = same-length;
         fit = by-place (λ _ s r. (p : ℕ) → may_have (kind_at s p) (r p) ≡ true) fit (λ j _. kept.fit j);
-        within = by-place (λ _ s _. (p : ℕ) → 1024 ≤ p → state_at s p ≡ None) within (λ j _. kept.within j);
+        within = by-place (λ _ s _. (p : ℕ) → MOST_PAGES ≤ p → state_at s p ≡ None) within (λ j _. kept.within j);
       }
 
 -- places without pages

@@ -1,7 +1,7 @@
 -- Lists of tags: how often each is there, and how many different ones there are.
-use Rattle.std.proofs.Common.{◌≡◌, ℕ, ◌+◌, ◌<◌, ◌≤◌, cond, ltb, List, [], ◌∷◌, length, get_or, refl, sym, ◌∙◌, ap, arith, subst, Option, None, Some}
-use Rattle.std.specs.List.{flat_map, list_any, range_with_len, sum_by}
-use Rattle.std.specs.Ordering.{eq_by_cmp, is_eq}
+use Rattle.std.proofs.Common.{◌≡◌, ℕ, ◌+◌, ◌<◌, ◌≤◌, cond, List, [], ◌∷◌, length, get_or, refl, sym, ◌∙◌, ap, arith, subst, Option, None, Some}
+use Rattle.std.specs.List.{flat_map, range_with_len, sum_by}
+use Rattle.std.specs.Ordering.{is_eq}
 use Rattle.std.specs.FinSet as set
 use Rattle.std.proofs.lemmas.Bool.Decides.{nat_tests}
 use Rattle.std.proofs.lemmas.List.FromFn.{get_or-range_with_len, length-range_with_len}
@@ -13,19 +13,15 @@ use Rattle.lwc_base.specs.declared.page.PageValue.TheVariants.{Zero, Data}
 use Rattle.lwc_base.specs.Frames.{tag_of}
 use Rattle.lwc_base.specs.Names.{tag_cmp}
 use Rattle.lwc_base.proofs.Orders.{same_tag, tag-itself, tag_cmp-IsAntisymmetric, tag_cmp-total}
+use Rattle.lwc_base.proofs.Tags.{among}
 use Rattle.cow_space.specs.Maps.{no_pages, row_of}
 use Rattle.cow_space.specs.Tags.{different, row_tags, tags_of_map, times}
 use Rattle.lwc_base.proofs.Small.{sum-some}
-
--- whether a tag is in a list
-among : (t : Tag) (ts : List Tag) → list_any (eq_by_cmp tag_cmp t) ts ≡ ltb 0 (times t ts)
-unfolding times
-among t [] = refl
-among t (u ∷ us) = grind (arith, nat_tests, among t us, same_tag, tag-itself t, sum_by-cons (λ (s : Tag). cond (is_eq (tag_cmp s t)) 1 0) u us)
+use Rattle.page_tree.specs.declared.store.TheConstants.{PAGES}
 
 -- lists with the same tags have as many different ones
 pub different-same : (xs ys : List Tag) → ((t : Tag) → 0 < times t ys → 0 < times t xs) → ((t : Tag) → 0 < times t xs → 0 < times t ys) → different ys ≡ different xs
-unfolding different
+unfolding different times
 different-same xs ys there back =
     ap set.len (set.same_set tag_cmp-total tag_cmp-IsAntisymmetric (set.from_list {R = tag_cmp} ys) (set.from_list xs)
     (λ t. grind (arith, nat_tests, set.contains-from_list tag_cmp-total ys t, set.contains-from_list tag_cmp-total xs t, among t ys, among t xs, there t, back t)))
@@ -36,7 +32,7 @@ different-none = set.len-empty tag_cmp
 
 -- and one more where a new tag is there too
 pub different-more : (t : Tag) (ts : List Tag) → times t ts ≡ 0 → different (t ∷ ts) ≡ different ts + 1
-unfolding different
+unfolding different times
 different-more t ts new =
     grind (arith, nat_tests, set.len-insert tag_cmp-total (set.from_list {R = tag_cmp} ts) t, set.contains-from_list tag_cmp-total ts t, among t ts, new)
 
@@ -70,22 +66,22 @@ pub times-is : (t : Tag) (bytes : List ℕ) (v : Option PageValue) → v ≡ Som
 unfolding times
 times-is t bytes v is = grind (arith, tag-itself t)
 
-pub times-map : (t : Tag) (m : ℕ → Option PageValue) → times t (tags_of_map m) ≡ total (λ p. times t (tag_of (m p))) 1024
+pub times-map : (t : Tag) (m : ℕ → Option PageValue) → times t (tags_of_map m) ≡ total (λ p. times t (tag_of (m p))) PAGES
 unfolding tags_of_map
 times-map t m =
-    times-flat_map t (λ p. tag_of (m p)) (range_with_len 0 1024)
-    ∙ total-list (λ p. times t (tag_of (m p))) (range_with_len 0 1024) 0
-    ∙ ap (λ n. total (λ k. times t (tag_of (m (get_or (range_with_len 0 1024) k 0)))) n) (length-range_with_len 0 1024)
-    ∙ total-same (λ k. times t (tag_of (m (get_or (range_with_len 0 1024) k 0)))) (λ p. times t (tag_of (m p))) 1024 (λ p lt. ap (λ k. times t (tag_of (m k))) (get_or-range_with_len 0 1024 p 0 lt ∙ omega arith))
+    times-flat_map t (λ p. tag_of (m p)) (range_with_len 0 PAGES)
+    ∙ total-list (λ p. times t (tag_of (m p))) (range_with_len 0 PAGES) 0
+    ∙ ap (λ n. total (λ k. times t (tag_of (m (get_or (range_with_len 0 PAGES) k 0)))) n) (length-range_with_len 0 PAGES)
+    ∙ total-same (λ k. times t (tag_of (m (get_or (range_with_len 0 PAGES) k 0)))) (λ p. times t (tag_of (m p))) PAGES (λ p lt. ap (λ k. times t (tag_of (m k))) (get_or-range_with_len 0 PAGES p 0 lt ∙ omega arith))
 
 -- a map that has a tag has it at a page
-pub map-has : (t : Tag) (m : ℕ → Option PageValue) → 0 < times t (tags_of_map m) → (p : ℕ) × ((p < 1024) × ((bytes : List ℕ) × (m p ≡ Some (Data t bytes))))
+pub map-has : (t : Tag) (m : ℕ → Option PageValue) → 0 < times t (tags_of_map m) → (p : ℕ) × ((p < PAGES) × ((bytes : List ℕ) × (m p ≡ Some (Data t bytes))))
 map-has t m some =
-    let at = total-some (λ p. times t (tag_of (m p))) 1024 (subst (λ n. 0 < n) (times-map t m) some) in
+    let at = total-some (λ p. times t (tag_of (m p))) PAGES (subst (λ n. 0 < n) (times-map t m) some) in
     (at.0, (at.1.0, times-from t (m at.0) at.1.1))
 
-pub page-le : (t : Tag) (m : ℕ → Option PageValue) (p : ℕ) → p < 1024 → times t (tag_of (m p)) ≤ times t (tags_of_map m)
-page-le t m p lt = subst (λ n. times t (tag_of (m p)) ≤ n) (sym (times-map t m)) (total-at (λ q. times t (tag_of (m q))) 1024 p lt)
+pub page-le : (t : Tag) (m : ℕ → Option PageValue) (p : ℕ) → p < PAGES → times t (tag_of (m p)) ≤ times t (tags_of_map m)
+page-le t m p lt = subst (λ n. times t (tag_of (m p)) ≤ n) (sym (times-map t m)) (total-at (λ q. times t (tag_of (m q))) PAGES p lt)
 
 -- how often it is at the pages of rows
 
@@ -95,18 +91,18 @@ pub record HasTag (maps : List (ℕ → Option PageValue)) (tag : Tag) : Type 0 
   pub p : ℕ
   pub bytes : List ℕ
   pub inside : k < length maps
-  pub below : p < 1024
+  pub below : p < PAGES
   pub is : row_of maps k p ≡ Some (Data tag bytes)
 
 module _ (maps : List (ℕ → Option PageValue)) (t : Tag) where
   abbrev times_at : ℕ → ℕ → ℕ
   times_at k p = times t (tag_of (row_of maps k p))
 
-  times-rows : times t (row_tags maps) ≡ total2 times_at (length maps) 1024
+  times-rows : times t (row_tags maps) ≡ total2 times_at (length maps) PAGES
   unfolding row_tags
   times-rows =
       times-flat_map t tags_of_map maps ∙ total-list (λ m. times t (tags_of_map m)) maps no_pages
-      ∙ total-same (λ k. times t (tags_of_map (row_of maps k))) (λ k. total (times_at k) 1024) (length maps) (λ k _. times-map t (row_of maps k))
+      ∙ total-same (λ k. times t (tags_of_map (row_of maps k))) (λ k. total (times_at k) PAGES) (length maps) (λ k _. times-map t (row_of maps k))
 
   -- the tags of the rows are those that a row has at a page
   pub tag-some : HasTag maps t → 0 < times t (row_tags maps)
@@ -128,15 +124,15 @@ module _ (maps : List (ℕ → Option PageValue)) (t : Tag) where
       record { k = row.0; p = page.0; bytes = page.1.1.0; inside = row.1.0; below = page.1.0; is = page.1.1.1 }
 
   -- a tag that is at two pages is in the list more than once
-  pub two-times : (i p : ℕ) (bytes : List ℕ) → i < length maps → p < 1024 → row_of maps i p ≡ Some (Data t bytes) → (other : HasTag maps t) → IsElsewhere i p other.k other.p → 1 < times t (row_tags maps)
+  pub two-times : (i p : ℕ) (bytes : List ℕ) → i < length maps → p < PAGES → row_of maps i p ≡ Some (Data t bytes) → (other : HasTag maps t) → IsElsewhere i p other.k other.p → 1 < times t (row_tags maps)
   two-times i p bytes i_in p_in is other apart =
       let one = times-is t bytes (row_of maps i p) is in
       let two = times-is t other.bytes (row_of maps other.k other.p) other.is in
-      omega (arith, times-rows, total2-two times_at (length maps) 1024 i p other.k other.p i_in p_in other.inside other.below apart (omega (arith, one)) (omega (arith, two)))
+      omega (arith, times-rows, total2-two times_at (length maps) PAGES i p other.k other.p i_in p_in other.inside other.below apart (omega (arith, one)) (omega (arith, two)))
 
   -- a tag that is in the list more than once is at another page too
-  pub other-time : (i p : ℕ) → i < length maps → p < 1024 → 1 < times t (row_tags maps) → (other : HasTag maps t) × IsElsewhere i p other.k other.p
+  pub other-time : (i p : ℕ) → i < length maps → p < PAGES → 1 < times t (row_tags maps) → (other : HasTag maps t) × IsElsewhere i p other.k other.p
   other-time i p i_in p_in more =
-      let off = total2-other times_at (length maps) 1024 i p i_in p_in (times-le t (row_of maps i p)) (omega (arith, times-rows, more)) in
+      let off = total2-other times_at (length maps) PAGES i p i_in p_in (times-le t (row_of maps i p)) (omega (arith, times-rows, more)) in
       let found = times-from t (row_of maps off.c off.d) off.some in
       (record { k = off.c; p = off.d; bytes = found.0; inside = off.c_in; below = off.d_in; is = found.1 }, off.apart)

@@ -28,6 +28,7 @@ use Rattle.cow_space.proofs.Changed.{find-holds}
 use Rattle.cow_space.proofs.Lists.{total-change}
 use Rattle.cow_space.proofs.TagLemmas.{different-more, different-same, map-has, page-le, times-cons, times-flat_map, times-from, times-is, times-le, times-map}
 use Rattle.lwc_base.proofs.Small.{sum-some}
+use Rattle.page_tree.specs.declared.store.TheConstants.{PAGES}
 
 pub own-cell : (c : Cell (Option PageValue)) (v : PageValue) → own_value c ≡ Some v → c ≡ cell.Own (Some v)
 own-cell (cell.Own o) v is = ap (λ x. cell.Own x) is
@@ -35,7 +36,7 @@ own-cell (cell.Common g) v is = absurd cc
 
 -- how often a tag is at places
 
-unfolding-place : (t : Tag) (place : Place) → times t (tags_of_place place) ≡ total (λ p. times t (tag_of (own_value (place p)))) 1024
+unfolding-place : (t : Tag) (place : Place) → times t (tags_of_place place) ≡ total (λ p. times t (tag_of (own_value (place p)))) PAGES
 unfolding tags_of_place
 unfolding-place t place = times-map t (own_values place)
 
@@ -46,11 +47,11 @@ set-times cells i place t inside =
     omega (arith, times-flat_map t tags_of_place (set cells i place), times-flat_map t tags_of_place cells, sum_by-set (λ (x : Place). times t (tags_of_place x)) cells i place no_pages inside)
 
 -- one page is another now
-put-times : (place : Place) (p : ℕ) (c : Cell (Option PageValue)) (t : Tag) → p < 1024 →
+put-times : (place : Place) (p : ℕ) (c : Cell (Option PageValue)) (t : Tag) → p < PAGES →
     times t (tags_of_place (put_page place p c)) + times t (tag_of (own_value (place p))) ≡ times t (tags_of_place place) + times t (tag_of (own_value c))
 put-times place p c t lt =
     let at : put_page place p c p ≡ c = cond-true (eqb p p) c (place p) (eq-eqb p p refl) in
-    let change = total-change (λ q. times t (tag_of (own_value (put_page place p c q)))) (λ q. times t (tag_of (own_value (place q)))) 1024 p lt
+    let change = total-change (λ q. times t (tag_of (own_value (put_page place p c q)))) (λ q. times t (tag_of (own_value (place q)))) PAGES p lt
     (λ q off. ap (λ x. times t (tag_of (own_value x))) (cond-false (eqb q p) c (place q) (ne_eqb q p off))) in
     ap (λ n. n + times t (tag_of (own_value (place p)))) (unfolding-place t (put_page place p c)) ∙ change ∙ (λ e. sym (unfolding-place t place) e + times t (tag_of (own_value (at e))))
 
@@ -60,7 +61,7 @@ place-le cells j t low = omega (arith, times-flat_map t tags_of_place cells, get
 
 pub none-times : (t : Tag) → times t (tags_of_place no_pages) ≡ 0
 unfolding times
-none-times t = unfolding-place t no_pages ∙ total-zero 1024
+none-times t = unfolding-place t no_pages ∙ total-zero PAGES
 
 -- a tag of places is at a page of one
 tag-at : (cells : List Place) (t : Tag) → 0 < times t (tags cells) → (k : ℕ) × ((p : ℕ) × ((bytes : List ℕ) × (place_of cells k p ≡ cell.Own (Some (Data t bytes)))))
@@ -145,11 +146,11 @@ module _ (cells : List Place) (i p : ℕ) (piece : Piece) (tag : Tag) (inside : 
       (spot-cases i p k q)
 
   -- how often a tag is at the places now
-  now-times : (t : Tag) → p < 1024 → times t (tags now) + times t (tag_of (own_values (place_of cells i) p)) ≡ times t (tags cells) + times t (tag_of (Some written))
+  now-times : (t : Tag) → p < PAGES → times t (tags now) + times t (tag_of (own_values (place_of cells i) p)) ≡ times t (tags cells) + times t (tag_of (Some written))
   now-times t below =
       omega (arith, set-times cells i (put_page (place_of cells i) p (cell.Own (Some written))) t inside, put-times (place_of cells i) p (cell.Own (Some written)) t below)
 
-  pub write-taken : p < 1024 → IsNewTag cells tag → used now ≡ used cells + taken_by cells i p
+  pub write-taken : p < PAGES → IsNewTag cells tag → used now ≡ used cells + taken_by cells i p
   unfolding used is_parting
   write-taken below new = ⊎_elim parted alone (cases_Bool (parts (tags cells) (own_values (place_of cells i) p)))
     where
@@ -200,11 +201,11 @@ module _ (cells : List Place) (i p : ℕ) (piece : Piece) (tag : Tag) (inside : 
           (λ past.
           let same : times t (tags_of_place (put_page (place_of cells i) p (cell.Own (Some written)))) ≡ times t (tags_of_place (place_of cells i)) =
           unfolding-place t (put_page (place_of cells i) p (cell.Own (Some written)))
-          ∙ total-same (λ r. times t (tag_of (own_value (put_page (place_of cells i) p (cell.Own (Some written)) r)))) (λ r. times t (tag_of (own_value (place_of cells i r)))) 1024
+          ∙ total-same (λ r. times t (tag_of (own_value (put_page (place_of cells i) p (cell.Own (Some written)) r)))) (λ r. times t (tag_of (own_value (place_of cells i r)))) PAGES
           (λ r low. ap (λ x. times t (tag_of (own_value x))) (cond-false (eqb r p) (cell.Own (Some written)) (place_of cells i r) (ne_eqb r p (λ is. absurd (omega (arith, is, low, past))))))
           ∙ sym (unfolding-place t (place_of cells i)) in
           omega (arith, set-times cells i (put_page (place_of cells i) p (cell.Own (Some written))) t inside, same))
-          (cases_lt p 1024)
+          (cases_lt p PAGES)
 
       by : (v : Option PageValue) → own_value (place_of cells j q) ≡ v → parts (tags now) v ≡ parts (tags cells) v
       by None is = refl
@@ -233,18 +234,18 @@ module _ (cells : List Place) (to : ℕ) (inside : to < length cells) (none : pl
   cloned-used from low = copied-used (place_of cells from) (λ t some. omega (arith, some, place-le cells from t low))
 
   -- a value with bytes that a page has or is given is at a page of a place
-  in-place : (j p : ℕ) (t : Tag) (bytes : List ℕ) → j < length cells → p < 1024 → own_value (place_of cells j p) ≡ Some (Data t bytes) → 0 < times t (tags cells)
+  in-place : (j p : ℕ) (t : Tag) (bytes : List ℕ) → j < length cells → p < PAGES → own_value (place_of cells j p) ≡ Some (Data t bytes) → 0 < times t (tags cells)
   unfolding tags_of_place
   in-place j p t bytes low below is =
       omega (arith, place-le cells j t low, page-le t (own_values (place_of cells j)) p below, times-is t bytes (own_value (place_of cells j p)) is)
 
-  by-origin : (origin : Origin) (p : ℕ) (t : Tag) (bytes : List ℕ) → p < 1024 → IsApart (length cells) to origin → own_value (origin_cell cells origin p) ≡ Some (Data t bytes) → 0 < times t (tags cells)
+  by-origin : (origin : Origin) (p : ℕ) (t : Tag) (bytes : List ℕ) → p < PAGES → IsApart (length cells) to origin → own_value (origin_cell cells origin p) ≡ Some (Data t bytes) → 0 < times t (tags cells)
   by-origin Absent p t bytes below apart is = absurd cc
   by-origin Zeros p t bytes below apart is = absurd cc
   by-origin (Common g) p t bytes below apart is = absurd cc
   by-origin (CopyOf j) p t bytes below apart is = in-place j p t bytes apart.0 below is
 
-  by-stretch : (o : Option Stretch) (p : ℕ) (t : Tag) (bytes : List ℕ) → p < 1024 → MatchOption o (Unit {0}) (λ s. IsStretch (length cells) to s × (is_between s.range.from s.range.to p ≡ true)) →
+  by-stretch : (o : Option Stretch) (p : ℕ) (t : Tag) (bytes : List ℕ) → p < PAGES → MatchOption o (Unit {0}) (λ s. IsStretch (length cells) to s × (is_between s.range.from s.range.to p ≡ true)) →
       own_value (cell_by cells p (place_of cells to p) o) ≡ Some (Data t bytes) → 0 < times t (tags cells)
   by-stretch None p t bytes below holds is = in-place to p t bytes inside below is
   by-stretch (Some s) p t bytes below holds is = by-origin s.origin p t bytes below holds.0.given is

@@ -21,12 +21,15 @@ use Rattle.cow_space.specs.RowKept.{IsStamped, IsKept}
 use Rattle.frame_pool.specs.declared.pool.FrameNo.{FrameNo}
 use Rattle.cow_space.specs.Tags.{parts}
 use Rattle.cow_space.specs.Maps.{data_of, no_pages, row_of, put_page, put_range}
-use Rattle.cow_space.proofs.Lists.{one-yes, one-no, cond-of, map-set_changed, two_terms}
+use Rattle.pool_base.proofs.Totals.{one_if-no, one_if-yes}
+use Rattle.cow_space.proofs.Lists.{cond-of, map-set_changed, two_terms}
 use Rattle.page_tree.proofs.HolderLemmas.{having-le, tied-tree}
 use Rattle.page_tree.proofs.NodeBound.{node_bound}
-use Rattle.page_tree.proofs.PageLemmas.{page-none}
-use Rattle.page_tree.proofs.KeepsLemmas.{zero_or_more}
+use Rattle.page_tree.proofs.TreeLemmas.{page-none}
+use Rattle.page_tree.proofs.LinkLemmas.{zero_or_more}
 use Rattle.lwc_base.proofs.Small.{map-replicate, set-again}
+use Rattle.page_tree.specs.declared.store.TheConstants.{PAGES, TREE_NODES}
+use Rattle.cow_space.specs.declared.rows.TheConstants.{FREE_NODES}
 
 -- held frames have stamps of their own still, where free ones stay free
 pub stamped-kept : (old new : List Node) (frames frames' : List Frame) → KeepsFrames old new frames frames' → IsStamped frames → IsStamped frames'
@@ -39,7 +42,7 @@ stamped-kept old new frames frames' keeps stamped = λ f g f_held g_held is.
 pub few-trees : (nodes : List Node) (frames : List Frame) (trees : List ℕ) → IsKept nodes frames trees → length trees ≤ 65536
 few-trees nodes frames trees kept = let few = kept.tied.sound.few in omega (arith, kept.room, few)
 
-pub kept-free : (nodes : List Node) (frames : List Frame) (trees : List ℕ) → IsKept nodes frames trees → 66 ≤ free_of nodes
+pub kept-free : (nodes : List Node) (frames : List Frame) (trees : List ℕ) → IsKept nodes frames trees → FREE_NODES ≤ free_of nodes
 kept-free nodes frames trees kept = let bound = node_bound nodes frames trees kept.tied in omega (arith, bound, kept.room)
 
 pub kept-tree : (nodes : List Node) (frames : List Frame) (trees : List ℕ) (i tree : ℕ) → IsKept nodes frames trees → i < length trees → tree ≡ get_or trees i 0 → IsTree nodes tree
@@ -50,50 +53,50 @@ kept-tree nodes frames trees i tree kept lt is =
 pub kept-both : (nodes : List Node) (frames : List Frame) (trees : List ℕ) (i j n left other : ℕ) → IsKept nodes frames trees → i < length trees → j < length trees → j ≢ i → left ≡ get_or trees i 0 → other ≡ get_or trees j 0 → left ≡ n + 1 → other ≡ n + 1 → 1 < trees_at nodes n
 kept-both nodes frames trees i j n left other kept i_in j_in apart at at' is is' =
     let rooted = kept.tied.rooted n in
-    let one = one-yes (get_or trees i 0) (n + 1) (sym at ∙ is) in
-    let two = one-yes (get_or trees j 0) (n + 1) (sym at' ∙ is') in
+    let one = one_if-yes (get_or trees i 0) (n + 1) (sym at ∙ is) in
+    let two = one_if-yes (get_or trees j 0) (n + 1) (sym at' ∙ is') in
     let both = two_terms (λ tree. is_root tree n) trees i j 0 i_in j_in apart in
     omega (arith, rooted, one, two, both)
 
 -- the cells of trees
 
-pub cells-page : (nodes : List Node) (tree p : ℕ) → p < 1024 → cells nodes tree p ≡ page nodes tree p
+pub cells-page : (nodes : List Node) (tree p : ℕ) → p < PAGES → cells nodes tree p ≡ page nodes tree p
 unfolding cells
-cells-page nodes tree p lt = cond-true (ltb p 1024) (page nodes tree p) Absent (lt-ltb p 1024 lt)
+cells-page nodes tree p lt = cond-true (ltb p PAGES) (page nodes tree p) Absent (lt-ltb p PAGES lt)
 
-pub cells-past : (nodes : List Node) (tree p : ℕ) → 1024 ≤ p → cells nodes tree p ≡ Absent
+pub cells-past : (nodes : List Node) (tree p : ℕ) → PAGES ≤ p → cells nodes tree p ≡ Absent
 unfolding cells
-cells-past nodes tree p le = cond-false (ltb p 1024) (page nodes tree p) Absent (le-ltb p 1024 le)
+cells-past nodes tree p le = cond-false (ltb p PAGES) (page nodes tree p) Absent (le-ltb p PAGES le)
 
 -- the empty tree has nothing
 pub cells-empty : (nodes : List Node) → cells nodes 0 ≡ (λ p. Absent)
 cells-empty nodes = λ i p. at p i
   where
     at : (p : ℕ) → cells nodes 0 p ≡ Absent
-    at p = ⊎_elim (λ lt. cells-page nodes 0 p lt ∙ page-none nodes p) (λ le. cells-past nodes 0 p le) (cases_lt p 1024)
+    at p = ⊎_elim (λ lt. cells-page nodes 0 p lt ∙ page-none nodes p) (λ le. cells-past nodes 0 p le) (cases_lt p PAGES)
 
 -- two trees have the same cells where they have the same pages
-pub cells-same : (old new : List Node) (tree tree' : ℕ) → ((p : ℕ) → p < 1024 → page new tree' p ≡ page old tree p) → cells new tree' ≡ cells old tree
+pub cells-same : (old new : List Node) (tree tree' : ℕ) → ((p : ℕ) → p < PAGES → page new tree' p ≡ page old tree p) → cells new tree' ≡ cells old tree
 unfolding cells
 cells-same old new tree tree' same = λ i p. at p i
   where
-    at : (p : ℕ) → cond (ltb p 1024) (page new tree' p) Absent ≡ cond (ltb p 1024) (page old tree p) Absent
+    at : (p : ℕ) → cond (ltb p PAGES) (page new tree' p) Absent ≡ cond (ltb p PAGES) (page old tree p) Absent
     at p = grind (arith, nat_tests, same p)
 
 -- a page is another now
-pub cells-put : (old new : List Node) (left came p : ℕ) (c : PageCell) → p < 1024 → page new came p ≡ c → ((q : ℕ) → q ≢ p → q < 1024 → page new came q ≡ page old left q) → cells new came ≡ put_page (cells old left) p c
+pub cells-put : (old new : List Node) (left came p : ℕ) (c : PageCell) → p < PAGES → page new came p ≡ c → ((q : ℕ) → q ≢ p → q < PAGES → page new came q ≡ page old left q) → cells new came ≡ put_page (cells old left) p c
 unfolding cells
 cells-put old new left came p c lt here there = λ i q. at q i
   where
-    at : (q : ℕ) → cond (ltb q 1024) (page new came q) Absent ≡ cond (eqb q p) c (cond (ltb q 1024) (page old left q) Absent)
+    at : (q : ℕ) → cond (ltb q PAGES) (page new came q) Absent ≡ cond (eqb q p) c (cond (ltb q PAGES) (page old left q) Absent)
     at q = grind (arith, nat_tests, lt, here, there q)
 
 -- a range of pages is another tree's now
-pub cells-share : (old new : List Node) (left came from to : ℕ) (other : ℕ → PageCell) → to ≤ 1024 → ((q : ℕ) → from ≤ q → q < to → page new came q ≡ other q) → ((q : ℕ) → q < from → page new came q ≡ page old left q) → ((q : ℕ) → to ≤ q → q < 1024 → page new came q ≡ page old left q) → cells new came ≡ put_range (cells old left) from to other
+pub cells-share : (old new : List Node) (left came from to : ℕ) (other : ℕ → PageCell) → to ≤ PAGES → ((q : ℕ) → from ≤ q → q < to → page new came q ≡ other q) → ((q : ℕ) → q < from → page new came q ≡ page old left q) → ((q : ℕ) → to ≤ q → q < PAGES → page new came q ≡ page old left q) → cells new came ≡ put_range (cells old left) from to other
 unfolding cells
 cells-share old new left came from to other most within before after = λ i q. at q i
   where
-    at : (q : ℕ) → cond (ltb q 1024) (page new came q) Absent ≡ cond (leb from q && ltb q to) (other q) (cond (ltb q 1024) (page old left q) Absent)
+    at : (q : ℕ) → cond (ltb q PAGES) (page new came q) Absent ≡ cond (leb from q && ltb q to) (other q) (cond (ltb q PAGES) (page old left q) Absent)
     at q = grind (arith, nat_tests, most, within q, before q, after q)
 
 -- a tree that is one of the trees beside the one that left stands for the same
@@ -136,22 +139,22 @@ row-at frames nodes trees i lt =
     get_or-map (values frames) (all_cells nodes trees) i (λ p. Absent) no_pages (omega (arith, lt, length-map trees (cells nodes))) ∙ ap (values frames) (cells-at nodes trees i lt)
 
 -- the value of a page of a row
-pub row-page : (frames : List Frame) (nodes : List Node) (trees : List ℕ) (i p : ℕ) → i < length trees → p < 1024 → row_of (tree_maps frames nodes trees) i p ≡ cell_value frames (page nodes (get_or trees i 0) p)
+pub row-page : (frames : List Frame) (nodes : List Node) (trees : List ℕ) (i p : ℕ) → i < length trees → p < PAGES → row_of (tree_maps frames nodes trees) i p ≡ cell_value frames (page nodes (get_or trees i 0) p)
 row-page frames nodes trees i p lt below =
     ap (λ (m : ℕ → Option PageValue). m p) (row-at frames nodes trees i lt) ∙ ap (cell_value frames) (cells-page nodes (get_or trees i 0) p below)
 
 -- a row has no value past the last page, so one whose pages are all gone has none
-pub row-none : (frames : List Frame) (nodes : List Node) (trees : List ℕ) (i : ℕ) → i < length trees → put_range (row_of (tree_maps frames nodes trees) i) 0 1024 no_pages ≡ no_pages
+pub row-none : (frames : List Frame) (nodes : List Node) (trees : List ℕ) (i : ℕ) → i < length trees → put_range (row_of (tree_maps frames nodes trees) i) 0 PAGES no_pages ≡ no_pages
 row-none frames nodes trees i lt = λ x q. at q x
   where
-    at : (q : ℕ) → put_range (row_of (tree_maps frames nodes trees) i) 0 1024 no_pages q ≡ None
+    at : (q : ℕ) → put_range (row_of (tree_maps frames nodes trees) i) 0 PAGES no_pages q ≡ None
     at q =
         ⊎_elim
         (λ below. grind (arith, nat_tests, below))
         (λ past.
         let row = ap (λ (m : ℕ → Option PageValue). m q) (row-at frames nodes trees i lt) ∙ ap (cell_value frames) (cells-past nodes (get_or trees i 0) q past) in
         grind (arith, nat_tests, past, row))
-        (cases_lt q 1024)
+        (cases_lt q PAGES)
 
 -- a cell without a frame has no bytes, and parts
 pub data-none : (frames : List Frame) (c : PageCell) → ((f : FrameNo) → c ≡ cell.Frame f → ⊥) → data_of (cell_value frames c) ≡ None
@@ -175,7 +178,7 @@ having-set trees i left came i_in left_is n =
 pub other-tree : (old new : List Node) (frames : List Frame) (trees : List ℕ) (i left : ℕ) → IsKept old frames trees → i < length trees → left ≡ get_or trees i 0 → KeepsMaps old new left → (j : ℕ) → j < length trees → j ≢ i → cells new (get_or trees j 0) ≡ cells old (get_or trees j 0)
 other-tree old new frames trees i left kept i_in left_is maps j j_in off =
     cells-other old new frames trees left (get_or trees j 0) kept.tied maps (λ n root.
-    let one = one-yes (get_or trees j 0) (n + 1) root in
+    let one = one_if-yes (get_or trees j 0) (n + 1) root in
     let two = two_terms (λ tree. is_root tree n) trees i j 0 i_in j_in off in
     let here = ap (λ t. is_root t n) left_is in
     omega (arith, one, two, here))
@@ -206,7 +209,7 @@ module _ (old new : List Node) (frames frames' : List Frame) (trees : List ℕ) 
       ∙ map-set (values frames) (all_cells old trees) i f
 
   -- a range of its pages is that of another map
-  pub maps-range : (from to : ℕ) (other : ℕ → PageCell) → to ≤ 1024 → ((q : ℕ) → from ≤ q → q < to → page new came q ≡ other q) → ((q : ℕ) → q < from → page new came q ≡ page old left q) → ((q : ℕ) → to ≤ q → q < 1024 → page new came q ≡ page old left q) →
+  pub maps-range : (from to : ℕ) (other : ℕ → PageCell) → to ≤ PAGES → ((q : ℕ) → from ≤ q → q < to → page new came q ≡ other q) → ((q : ℕ) → q < from → page new came q ≡ page old left q) → ((q : ℕ) → to ≤ q → q < PAGES → page new came q ≡ page old left q) →
       tree_maps frames' new (set trees i came) ≡ set (tree_maps frames old trees) i (put_range (row_of (tree_maps frames old trees) i) from to (values frames other))
   maps-range from to other most within before after =
       maps-set (put_range (cells old left) from to other) (cells-share old new left came from to other most within before after)
@@ -234,9 +237,9 @@ module _ (old new : List Node) (frames frames' : List Frame) (trees : List ℕ) 
   cells-held =
       ap (cells new) (same ∙ tree_is)
       ∙ cells-other old new frames trees 0 (get_or trees from 0) kept.tied kept_maps (λ n is.
-      let one = one-yes (get_or trees from 0) (n + 1) is in
+      let one = one_if-yes (get_or trees from 0) (n + 1) is in
       let some = get_or-le-sum_by (λ t. is_root t n) trees from 0 from_in in
-      let zero = one-no 0 (n + 1) (λ e. absurd (omega (arith, e))) in
+      let zero = one_if-no 0 (n + 1) (λ e. absurd (omega (arith, e))) in
       omega (arith, one, some, zero))
 
   pub maps-clone : tree_maps frames' new (set trees to came) ≡ set maps to (row_of maps from)
@@ -260,10 +263,10 @@ having-none : (k n : ℕ) → having (replicate k 0) n ≡ 0
 having-none zero n = refl
 having-none (suc k) n =
     let tail = having-none k n in
-    let head = one-no 0 (n + 1) (λ is. absurd (omega (arith, is))) in
+    let head = one_if-no 0 (n + 1) (λ is. absurd (omega (arith, is))) in
     omega (arith, sum_by-cons (λ tree. is_root tree n) 0 (replicate k 0), head, tail)
 
-pub kept-new : (n m k : ℕ) (tag : Tag) (nodes : List Node) (frames : List Frame) (trees : List ℕ) → IsTied nodes frames [] → length nodes ≡ n → frames ≡ replicate m (zero_frame 0 tag) → trees ≡ replicate k 0 → 33 * k + 66 ≤ n → IsKept nodes frames trees
+pub kept-new : (n m k : ℕ) (tag : Tag) (nodes : List Node) (frames : List Frame) (trees : List ℕ) → IsTied nodes frames [] → length nodes ≡ n → frames ≡ replicate m (zero_frame 0 tag) → trees ≡ replicate k 0 → TREE_NODES * k + FREE_NODES ≤ n → IsKept nodes frames trees
 kept-new n m k tag nodes frames trees tied size new empty room =
     record {
       tied = record {

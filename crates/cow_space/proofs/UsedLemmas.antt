@@ -22,10 +22,11 @@ use Rattle.cow_space.specs.Trees.{cell_value, tree_maps}
 use Rattle.cow_space.specs.RowKept.{IsStamped, IsKept}
 use Rattle.cow_space.specs.Maps.{row_of}
 use Rattle.cow_space.specs.Tags.{different, parts, row_tags, times}
-use Rattle.cow_space.proofs.Lists.{one_if}
+use Rattle.pool_base.proofs.Totals.{one_if}
 use Rattle.cow_space.proofs.TagLemmas.{HasTag, different-more, different-none, different-same, other-time, some-tag, tag-some, times-flat_map, two-times}
 use Rattle.cow_space.proofs.Trees.{length-maps, rows-in, row-page}
 use Rattle.lwc_base.proofs.Small.{sum-some}
+use Rattle.page_tree.specs.declared.store.TheConstants.{PAGES}
 
 -- a cell with bytes has a frame
 pub cell-data : (frames : List Frame) (c : PageCell) (tag : Tag) (bytes : List ℕ) → cell_value frames c ≡ Some (Data tag bytes) → (f : ℕ) × ((c ≡ cell.Frame (record { n = f })) × (frame_stamp frames f ≡ tag))
@@ -140,7 +141,7 @@ module _ (nodes : List Node) (frames : List Frame) (trees : List ℕ) (kept : Is
       (λ t some. held-stamp frames t (tag-held nodes frames trees kept t (some-tag maps t some)))
 
   -- the tag of a page with a frame is at another page too exactly where the frame is
-  module _ (i p f : ℕ) (i_in : i < length trees) (p_in : p < 1024) (is : page_of nodes trees i p ≡ cell.Frame (record { n = f })) where
+  module _ (i p f : ℕ) (i_in : i < length trees) (p_in : p < PAGES) (is : page_of nodes trees i p ≡ cell.Frame (record { n = f })) where
     pub value-is : row_of maps i p ≡ Some (Data (frame_stamp frames f) (frame_bytes frames f))
     value-is = row-page frames nodes trees i p i_in p_in ∙ ap (cell_value frames) is
 

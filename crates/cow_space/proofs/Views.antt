@@ -19,6 +19,7 @@ use Rattle.cow_space.specs.Maps.{row_of}
 use Rattle.cow_space.specs.RowSeen.{HasNoTree, maps}
 use Rattle.cow_space.specs.Seen.{cells, rights}
 use Rattle.cow_space.proofs.Places.{at-place, at-rights, by-place, kept-set, kind-cell, length-cells, set-cells, set-rights, state-again}
+use Rattle.lwc_base.specs.declared.limits.TheConstants.{MOST_PAGES}
 
 module _ (w : PageCells) where
   pub row-count : length (cells w) ≡ length (maps w.rows)
@@ -73,9 +74,9 @@ module _ (w : PageCells) where
   pub own-segments : (i p : ℕ) → IsOwnPage (place_of (cells w) i p) → kind_at (segments_of w.kinds.items i) p ≡ Some Own
   own-segments i p own = ap (λ (f : ℕ → Option SegmentKind). f p) (place-kinds i) ∙ own
 
-  pub own-page : (i p : ℕ) → IsOwnPage (place_of (cells w) i p) → p < 1024
+  pub own-page : (i p : ℕ) → IsOwnPage (place_of (cells w) i p) → p < MOST_PAGES
   own-page i p own =
-      ⊎_elim (λ low. low) (λ past. absurd (let none = sym (own-segments i p own) ∙ ap (option_map (λ (s : PageState). s.kind)) (w.kept.within i p past) in cc)) (cases_lt p 1024)
+      ⊎_elim (λ low. low) (λ past. absurd (let none = sym (own-segments i p own) ∙ ap (option_map (λ (s : PageState). s.kind)) (w.kept.within i p past) in cc)) (cases_lt p MOST_PAGES)
 
   -- a place without pages has no tree
   pub no-tree : (i : ℕ) → place_of (cells w) i ≡ no_pages → HasNoTree w.rows i
@@ -88,7 +89,7 @@ module _ (w : PageCells) where
     unfolding cells
     cells-set = ap (all_cells (set w.kinds.items i segments)) are ∙ set-cells (maps w.rows) w.kinds.items i segments row w.kept (row-in i inside)
 
-    pub kept-still : ((p : ℕ) → may_have (kind_at segments p) (row p) ≡ true) → ((p : ℕ) → 1024 ≤ p → state_at segments p ≡ None) → IsKept rows (set w.kinds.items i segments)
+    pub kept-still : ((p : ℕ) → may_have (kind_at segments p) (row p) ≡ true) → ((p : ℕ) → MOST_PAGES ≤ p → state_at segments p ≡ None) → IsKept rows (set w.kinds.items i segments)
     kept-still fit within =
         subst (λ ms. IsKept ms (set w.kinds.items i segments)) (sym are) (kept-set (maps w.rows) w.kinds.items i segments row w.kept (row-in i inside) fit within)
 

@@ -18,6 +18,7 @@ use Rattle.cow_space.specs.Tags.{different, is_parting, parts, tags, tags_of_map
 use Rattle.cow_space.specs.Worlds.{HoldAllTags, tags_at}
 use Rattle.cow_space.proofs.TagLemmas.{different-same, times-flat_map}
 use Rattle.cow_space.proofs.Taken.{none-times}
+use Rattle.lwc_base.specs.declared.limits.TheConstants.{MOST_PAGES}
 
 -- pages past the last one add nothing
 
@@ -33,17 +34,17 @@ flat-more f g a (suc n) (suc m) le same none =
     let tail = flat-more f g (a + 1) n m (omega (arith, le)) (λ p low high. same p (omega (arith, low)) (omega (arith, high))) (λ p past. none p (omega (arith, past))) in
     λ i. head i ++ tail i
 
-pub context-tags : (pages : ℕ) (x : Context) (place : Place) → pages ≤ 1024 → ((p : ℕ) → p < pages → place p ≡ x.cell (Page p)) → ((p : ℕ) → pages ≤ p → place p ≡ cell.Own None) → worlds.tags_of_context pages x ≡ tags_of_place place
+pub context-tags : (pages : ℕ) (x : Context) (place : Place) → pages ≤ MOST_PAGES → ((p : ℕ) → p < pages → place p ≡ x.cell (Page p)) → ((p : ℕ) → pages ≤ p → place p ≡ cell.Own None) → worlds.tags_of_context pages x ≡ tags_of_place place
 unfolding worlds.tags_of_context tags_of_place tags_of_map
 context-tags pages x place few same none =
-    flat-more (λ p. tag_of (own_value (x.cell (Page p)))) (λ p. tag_of (own_value (place p))) 0 pages 1024 few
+    flat-more (λ p. tag_of (own_value (x.cell (Page p)))) (λ p. tag_of (own_value (place p))) 0 pages MOST_PAGES few
     (λ p _ high. ap (λ c. tag_of (own_value c)) (sym (same p (omega (arith, high)))))
     (λ p past. ap (λ c. tag_of (own_value c)) (none p (omega (arith, past))))
 
-pub group-tags : (pages : ℕ) (x : Group) (place : Place) → pages ≤ 1024 → ((p : ℕ) → p < pages → place p ≡ cell.Own (x.value (Page p))) → ((p : ℕ) → pages ≤ p → place p ≡ cell.Own None) → worlds.tags_of_group pages x ≡ tags_of_place place
+pub group-tags : (pages : ℕ) (x : Group) (place : Place) → pages ≤ MOST_PAGES → ((p : ℕ) → p < pages → place p ≡ cell.Own (x.value (Page p))) → ((p : ℕ) → pages ≤ p → place p ≡ cell.Own None) → worlds.tags_of_group pages x ≡ tags_of_place place
 unfolding worlds.tags_of_group tags_of_place tags_of_map
 group-tags pages x place few same none =
-    flat-more (λ p. tag_of (x.value (Page p))) (λ p. tag_of (own_value (place p))) 0 pages 1024 few
+    flat-more (λ p. tag_of (x.value (Page p))) (λ p. tag_of (own_value (place p))) 0 pages MOST_PAGES few
     (λ p _ high. ap (λ c. tag_of (own_value c)) (sym (same p (omega (arith, high)))))
     (λ p past. ap (λ c. tag_of (own_value c)) (none p (omega (arith, past))))
 

@@ -31,6 +31,7 @@ use Rattle.cow_space.proofs.TagLemmas.{tag-some}
 use Rattle.cow_space.proofs.UsedLemmas.{held-tag, inside-frame, parting-shared, parting-alone}
 use Rattle.page_tree.proofs.HolderLemmas.{held-frame}
 use Rattle.page_tree.proofs.ElsewhereLemmas.{elsewhere-is}
+use Rattle.page_tree.specs.declared.store.TheConstants.{PAGES}
 
 -- a store stays sound with other frames that are held near enough to as often as entries name them
 sound-frames : (nodes : List Node) (frames frames' : List Frame) → IsSound nodes frames → length frames' ≡ length frames → ((f : ℕ) → naming nodes f ≤ frame_count frames' f) → ((f : ℕ) → frame_count frames' f < naming nodes f + 2 ^ 31) → IsSound nodes frames'
@@ -44,7 +45,8 @@ sound-frames nodes frames frames' sound size framed near =
       held = sound.held;
       below = sound.below;
       counted = sound.counted;
-      placed = sound.placed;
+      narrow = sound.narrow;
+      led = sound.led;
       framed = framed;
       near = near;
     }
@@ -62,13 +64,13 @@ fused frames nodes (t ∷ trees) = ap (λ ms. values frames (cells nodes t) ∷ 
 
 -- one page of one row has another value, and all others have theirs
 module _ (old new : List Node) (frames frames' : List Frame) (trees : List ℕ) (i came p : ℕ) (c : PageCell) (v : Option PageValue) (i_in : i < length trees) (here : cells new came ≡ put_page (cells old (get_or trees i 0)) p c) (others : (j : ℕ) → j < length trees → j ≢ i → cells new (get_or trees j 0) ≡ cells old (get_or trees j 0)) (is : cell_value frames' c ≡ v)
-    (elsewhere : (k q g : ℕ) → k < length trees → q < 1024 → IsElsewhere i p k q → page_of old trees k q ≡ cell.Frame (record { n = g }) → (frame_stamp frames' g ≡ frame_stamp frames g) × (frame_bytes frames' g ≡ frame_bytes frames g)) where
+    (elsewhere : (k q g : ℕ) → k < length trees → q < PAGES → IsElsewhere i p k q → page_of old trees k q ≡ cell.Frame (record { n = g }) → (frame_stamp frames' g ≡ frame_stamp frames g) × (frame_bytes frames' g ≡ frame_bytes frames g)) where
   value-elsewhere : (k q : ℕ) → k < length trees → IsElsewhere i p k q → cell_value frames' (cells old (get_or trees k 0) q) ≡ cell_value frames (cells old (get_or trees k 0) q)
   value-elsewhere k q lt off =
       ⊎_elim
       (λ below. value-same frames frames' (cells old (get_or trees k 0) q) (λ g has. elsewhere k q g lt below off (sym (cells-page old (get_or trees k 0) q below) ∙ has)))
       (λ past. let none = cells-past old (get_or trees k 0) q past in ap (cell_value frames') none ∙ sym (ap (cell_value frames) none))
-      (cases_lt q 1024)
+      (cases_lt q PAGES)
 
   own-value : (q : ℕ) → cell_value frames' (cond (eqb q p) c (cells old (get_or trees i 0) q)) ≡ cond (eqb q p) v (cell_value frames (cells old (get_or trees i 0) q))
   own-value q = grind (arith, nat_tests, is, (λ (off : q ≢ p). value-elsewhere i q i_in (inr (refl, off))))
@@ -199,7 +201,7 @@ module _ (old new : List Node) (first second third fourth : List Frame) (trees :
           room = omega (arith, kept.room, keeps.size, length-set trees i came);
         }
 
-    pub part-maps : (v : Option PageValue) → Some (value.Data tag bytes) ≡ v → p < 1024 → page new came p ≡ cell.Frame (record { n = n }) → ((q : ℕ) → q ≢ p → q < 1024 → page new came q ≡ page old left q) →
+    pub part-maps : (v : Option PageValue) → Some (value.Data tag bytes) ≡ v → p < PAGES → page new came p ≡ cell.Frame (record { n = n }) → ((q : ℕ) → q ≢ p → q < PAGES → page new came q ≡ page old left q) →
         tree_maps fourth new (set trees i came) ≡ set (tree_maps first old trees) i (put_page (row_of (tree_maps first old trees) i) p v)
     part-maps v is p_in here there =
         maps-put old new first fourth trees i came p (cell.Frame (record { n = n })) v i_in
@@ -225,7 +227,7 @@ put-same m p c is = λ i q. at q i
     at : (q : ℕ) → cond (eqb q p) c (m q) ≡ m q
     at q = grind (arith, nat_tests, is)
 
-module _ (nodes : List Node) (frames frames' : List Frame) (trees : List ℕ) (i p f : ℕ) (kept : IsKept nodes frames trees) (i_in : i < length trees) (p_in : p < 1024) (is : page_of nodes trees i p ≡ cell.Frame (record { n = f })) (alone : parts (row_tags (tree_maps frames nodes trees)) (row_of (tree_maps frames nodes trees) i p) ≡ false) where
+module _ (nodes : List Node) (frames frames' : List Frame) (trees : List ℕ) (i p f : ℕ) (kept : IsKept nodes frames trees) (i_in : i < length trees) (p_in : p < PAGES) (is : page_of nodes trees i p ≡ cell.Frame (record { n = f })) (alone : parts (row_tags (tree_maps frames nodes trees)) (row_of (tree_maps frames nodes trees) i p) ≡ false) where
   way-alone : page_short nodes (get_or trees i 0) p ≡ 0
   way-alone =
       ⊎_elim (λ none. none)

@@ -1,5 +1,5 @@
 -- The cells and the rights of a place once stretches of its pages have changed.
-use Rattle.std.specs.Prelude.{◌≢◌, ◌<◌, ◌≤◌, if◌then◌else◌, ℕ, Bool, List, Option, None, Some, unwrap_or}
+use Rattle.std.specs.Prelude.{◌==◌, ◌||◌, ◌≢◌, ◌<◌, ◌≤◌, if◌then◌else◌, ℕ, Bool, List, Option, None, Some, unwrap_or}
 use Rattle.std.specs.List.{find, list_any}
 use Rattle.lwc_base.specs.declared.cell.Cell.{Cell}
 use Rattle.lwc_base.specs.declared.cell.Cell.TheVariants as cell
@@ -31,6 +31,10 @@ cell_by cells p before (Some stretch) = origin_cell cells stretch.origin p
 -- the first of stretches that has a page
 abbrev pub stretch_at : List Stretch → ℕ → Option Stretch
 stretch_at stretches p = find (λ s. is_between s.range.from s.range.to p) stretches
+
+-- whether a stretch begins or ends at a page
+abbrev pub is_edge : List Stretch → ℕ → Bool
+is_edge stretches p = list_any (λ s. (s.range.from == p) || (s.range.to == p)) stretches
 
 -- the cells of a place after stretches
 unfoldable pub changed_place : List Place → ℕ → List Stretch → Place

@@ -2,7 +2,9 @@
 use Rattle.std.specs.Prelude.{◌≡◌, ℕ, ◌+◌, ◌*◌, ◌<◌, ◌≤◌, List, length}
 use Rattle.frame_pool.specs.Frame.{Frame, frame_count, frame_stamp}
 use Rattle.node_pool.specs.Nodes.{Node}
+use Rattle.page_tree.specs.declared.store.TheConstants.{TREE_NODES}
 use Rattle.page_tree.specs.Tied.{IsTied}
+use Rattle.cow_space.specs.declared.rows.TheConstants.{FREE_NODES}
 
 -- no two held frames have one stamp
 abbrev pub IsStamped : List Frame → Type 0
@@ -13,4 +15,4 @@ IsStamped frames = (f g : ℕ) → 0 < frame_count frames f → 0 < frame_count 
 pub record IsKept (nodes : List Node) (frames : List Frame) (trees : List ℕ) : Type 0 where
   pub tied : IsTied nodes frames trees
   pub stamped : IsStamped frames
-  pub room : 33 * length trees + 66 ≤ length nodes
+  pub room : TREE_NODES * length trees + FREE_NODES ≤ length nodes

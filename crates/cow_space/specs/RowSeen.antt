@@ -5,7 +5,9 @@ use Rattle.lwc_base.specs.declared.page.PageValue.{PageValue}
 use Rattle.frame_pool.specs.Frame.{frame_bytes, frame_stamp}
 use Rattle.std.proofs.Math.Nat.{ℕ_set}
 use Rattle.node_pool.specs.Nodes.{free_of}
-use Rattle.page_tree.specs.Steps.{root_short}
+use Rattle.page_tree.specs.Open as tree
+use Rattle.page_tree.specs.Short.{root_short}
+use Rattle.page_tree.specs.Short as tree_short
 use Rattle.cow_space.specs.declared.rows.Rows.{Rows}
 use Rattle.cow_space.specs.Trees.{tree_maps}
 
@@ -32,6 +34,14 @@ HasOwnRoot w i = root_short w.store.nodes (slice_index w.trees.items i) ≡ 0
 -- a row has no tree: it holds no node
 unfoldable pub HasNoTree : Rows → ℕ → Type 0
 HasNoTree w i = slice_index w.trees.items i ≡ 0
+
+-- a row has no page from one on, and shares no node on the way there with another
+unfoldable pub IsOpen : Rows → ℕ → ℕ → Type 0
+IsOpen w i p = tree.IsOpen w.store.nodes (slice_index w.trees.items i) p
+
+-- how many nodes a range of a row that begins or ends at a page takes there
+unfoldable pub edge_short : Rows → ℕ → ℕ → ℕ
+edge_short w i p = tree_short.edge_short w.store.nodes (slice_index w.trees.items i) p
 
 -- in at most one way
 pub no_tree-prop : (w : Rows) (i : ℕ) → IsProp (HasNoTree w i)

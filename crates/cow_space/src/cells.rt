@@ -34,9 +34,11 @@ fn no_kinds(alloc: Global, places: u32) -> Result<Vec<RangeMap>, OutOfMemory>
 }
 
 impl PageCells {
-    ghost use Rattle.std.specs.Prelude.{◌<◌, ◌≤◌, All, length, Some};
+    ghost use Rattle.std.specs.Prelude.{◌+◌, ◌*◌, ◌<◌, ◌≤◌, ◌≢◌, All, length, Some};
     ghost use Rattle.std.specs.Option.{option_copied};
     ghost use Rattle.lwc_base.specs.declared.limits.TheConstants.{MOST_PAGE_PLACES, MOST_PAGES, MOST_RANGES};
+    ghost use Rattle.page_tree.specs.declared.store.TheConstants.{TREE_NODES};
+    ghost use Rattle.cow_space.specs.declared.rows.TheConstants.{FREE_NODES};
     ghost use Rattle.range_map.specs.Kinds.{IsSegment, ranges, state_at};
     ghost use Rattle.cow_space.specs.Maps.{data_of};
     ghost use Rattle.cow_space.specs.Cells.{
@@ -48,7 +50,7 @@ impl PageCells {
       rights_of,
       states_of,
     };
-    ghost use Rattle.cow_space.specs.Seen.{cells, frames_of, rights};
+    ghost use Rattle.cow_space.specs.Seen.{cells, frames_of, free_nodes, rights};
     ghost use Rattle.cow_space.specs.Tags.{is_parting, own_values, used};
 
     /// This number of places without pages, over this number of frames. The only error is out of memory.
@@ -58,6 +60,7 @@ impl PageCells {
         ensures cells { IfOk result (λ opened. cells opened ≡ replicate places no_pages) }
         ensures rights { IfOk result (λ opened. rights opened ≡ replicate places all_write) }
         ensures frames { IfOk result (λ opened. frames_of opened ≡ frames) }
+        ensures nodes { IfOk result (λ opened. free_nodes opened ≡ TREE_NODES * places + FREE_NODES) }
     {
         let rows = Rows::open(alloc, frames, places)?;
         let kinds = no_kinds(alloc, places)?;
@@ -95,8 +98,8 @@ impl PageCells {
         self.kinds[i].state_at(p)
     }
 
-    /// A later page, or the end of all pages, up to which the pages of a place have the kind and the right of
-    /// this one.
+    /// The first page after one that has another kind or another right, or the end of all pages. There are at most
+    /// 64 ranges, so that a walk from edge to edge is short.
     pub fn next_edge(&self, i: usize, p: u16) -> u16
         requires place { i < length (cells self.now) }
         requires page { p < MOST_PAGES }
@@ -105,6 +108,11 @@ impl PageCells {
         ensures alike { (q : ℕ) → p ≤ q → q < result
             → states_of (place_of (cells self.now) i) (rights_of (rights self.now) i) q
             ≡ states_of (place_of (cells self.now) i) (rights_of (rights self.now) i) p }
+        ensures other { result < MOST_PAGES
+            → states_of (place_of (cells self.now) i) (rights_of (rights self.now) i) result
+            ≢ states_of (place_of (cells self.now) i) (rights_of (rights self.now) i) p }
+        ensures few { ranges MOST_PAGES (states_of (place_of (cells self.now) i) (rights_of (rights self.now) i))
+            ≤ MOST_RANGES }
     {
         self.kinds[i].next_edge(p)
     }

@@ -13,12 +13,13 @@ const ALL_PAGES: Range = Range {
 
 impl Rows {
     ghost use Rattle.std.specs.Prelude.{◌≡◌, ◌≢◌, ℕ, ◌+◌, ◌<◌, ◌≤◌, ◌⊎◌, length, slice_set};
-    ghost use Rattle.page_tree.specs.declared.store.TheConstants.{PAGES};
+    ghost use Rattle.page_tree.specs.declared.store.TheConstants.{PAGES, TREE_NODES};
+    ghost use Rattle.page_tree.specs.Open.{entries_passed};
     ghost use Rattle.cow_space.specs.Maps.{no_pages, put_range, row_of, share_range};
-    ghost use Rattle.cow_space.specs.RowSeen.{frames_of, free_nodes, maps, pool, HasNoTree, HasOwnRoot};
+    ghost use Rattle.cow_space.specs.RowSeen.{HasNoTree, HasOwnRoot, IsOpen, edge_short, frames_of, free_nodes, maps, pool};
 
-    /// Makes the pages of a range of one row those of another. No frame is taken or written, and at most the
-    /// root and two leaves are taken.
+    /// Makes the pages of a range of one row those of another. No frame is taken or written. A row that gets its
+    /// pages in rising order takes few nodes and steps.
     pub fn share_between<L: Ledger>(
         &mut self,
         to: usize,
@@ -36,11 +37,15 @@ impl Rows {
         ensures pool { pool self.new ≡ pool self.old }
         ensures others { (j : ℕ) → j ≢ to → HasNoTree self.old j → HasNoTree self.new j }
         ensures own { HasOwnRoot self.new to }
-        ensures nodes { free_nodes self.old ≤ free_nodes self.new + 3 }
-        ensures nodes_own { HasOwnRoot self.old to → free_nodes self.old ≤ free_nodes self.new + 2 }
-        ensures cost { steps.new ≤ steps.old + 98 }
-        ensures cost_own { HasOwnRoot self.old to → steps.new ≤ steps.old + 64 }
-        ensures cost_empty { HasNoTree self.old to → steps.new ≤ steps.old + 35 }
+        ensures nodes { free_nodes self.old ≤ free_nodes self.new + 5 }
+        ensures nodes_own { HasOwnRoot self.old to → free_nodes self.old ≤ free_nodes self.new + 4 }
+        ensures cost { steps.new ≤ steps.old + 766 }
+        ensures opened { IsOpen self.old to range.from → range.from < range.to → IsOpen self.new to range.to }
+        ensures nodes_open { IsOpen self.old to range.from → range.from < range.to
+            → free_nodes self.old + edge_short self.new to range.to
+            ≤ free_nodes self.new + edge_short self.old to range.from + 2 }
+        ensures cost_open { IsOpen self.old to range.from
+            → steps.new + entries_passed range.from ≤ steps.old + entries_passed range.to + 36 }
     {
         let mut tree = replace(&mut self.trees[to], PageTree::empty());
         tree.share_range(&self.trees[from], &mut self.store, range, steps);
@@ -60,15 +65,18 @@ impl Rows {
         ensures others { (j : ℕ) → j ≢ i → HasNoTree self.old j → HasNoTree self.new j }
         ensures own { (HasNoTree self.new i) ⊎ (HasOwnRoot self.new i) }
         ensures all { range.from ≡ 0 → range.to ≡ PAGES → HasNoTree self.new i }
-        ensures nodes { free_nodes self.old ≤ free_nodes self.new + 3 }
-        ensures nodes_own { HasOwnRoot self.old i → free_nodes self.old ≤ free_nodes self.new + 2 }
+        ensures nodes { free_nodes self.old ≤ free_nodes self.new + 5 }
+        ensures nodes_own { HasOwnRoot self.old i → free_nodes self.old ≤ free_nodes self.new + 4 }
         ensures given_up { HasNoTree self.new i → free_nodes self.old ≤ free_nodes self.new }
-        ensures cost { steps.new ≤ steps.old + 98 }
-        ensures cost_own { HasOwnRoot self.old i → steps.new ≤ steps.old + 64 }
-        ensures cost_empty { HasNoTree self.old i → steps.new ≤ steps.old + 35 }
-        ensures cost_all { range.from ≡ 0 → range.to ≡ PAGES → steps.new ≤ steps.old + 33 }
-        ensures cost_none { range.from ≡ 0 → range.to ≡ PAGES → HasNoTree self.old i
-            → steps.new ≡ steps.old }
+        ensures cost { steps.new ≤ steps.old + 766 }
+        ensures opened { IsOpen self.old i range.from → range.from < range.to → IsOpen self.new i range.to }
+        ensures nodes_open { IsOpen self.old i range.from → range.from < range.to
+            → free_nodes self.old + edge_short self.new i range.to
+            ≤ free_nodes self.new + edge_short self.old i range.from + 2 }
+        ensures cost_open { IsOpen self.old i range.from
+            → steps.new + entries_passed range.from ≤ steps.old + entries_passed range.to + 36 }
+        ensures cost_all { range.from ≡ 0 → range.to ≡ PAGES → steps.new ≤ steps.old + TREE_NODES }
+        ensures cost_none { HasNoTree self.old i → steps.new ≡ steps.old }
     {
         self.trees[i].clear_range(&mut self.store, range, steps);
     }
@@ -82,7 +90,7 @@ impl Rows {
         ensures others { (j : ℕ) → j ≢ i → HasNoTree self.old j → HasNoTree self.new j }
         ensures nodes { free_nodes self.old ≤ free_nodes self.new }
         ensures empty { HasNoTree self.new i }
-        ensures cost { steps.new ≤ steps.old + 33 }
+        ensures cost { steps.new ≤ steps.old + TREE_NODES }
         ensures cost_empty { HasNoTree self.old i → steps.new ≡ steps.old }
     {
         self.clear(i, ALL_PAGES, steps);
@@ -99,7 +107,7 @@ impl Rows {
         ensures pool { pool self.new ≡ pool self.old }
         ensures others { (j : ℕ) → j ≢ to → HasNoTree self.old j → HasNoTree self.new j }
         ensures nodes { free_nodes self.old ≤ free_nodes self.new }
-        ensures cost { steps.new ≤ steps.old + 34 }
+        ensures cost { steps.new ≤ steps.old + (1 + TREE_NODES) }
         ensures cost_empty { HasNoTree self.old to → steps.new ≤ steps.old + 1 }
     {
         self.drop_row(to, steps);

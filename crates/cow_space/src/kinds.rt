@@ -1,25 +1,22 @@
 ghost use Rattle.std.specs.Prelude.{◌≡◌, ◌<◌, ◌≤◌, if◌then◌else◌, ℕ, true, false, [], None, All, length};
 ghost use Rattle.std.specs.Prelude.{unwrap_or};
-ghost use Rattle.std.specs.List.{find};
 ghost use Rattle.std.specs.Option.{option_copied};
 ghost use Rattle.lwc_base.specs.declared.limits.TheConstants.{MOST_PAGES, MOST_RANGES};
 ghost use Rattle.lwc_base.specs.declared.right.Right.TheVariants.{Read};
-ghost use Rattle.range_map.specs.Kinds.{given, is_between, kind_of, ranges, state_after, state_at};
-ghost use Rattle.range_map.specs.Kinds.{state_by, state_of};
+ghost use Rattle.range_map.specs.Kinds.{given, kind_of, ranges, state_at, state_of};
 ghost use Rattle.cow_space.specs.Cells.{place_of, rights_of, states_of};
 ghost use Rattle.cow_space.specs.Changes as spec;
-ghost use Rattle.cow_space.specs.Changes.{IsStretch, changed_states, origin_cell, origin_right};
+ghost use Rattle.cow_space.specs.Changes.{IsStretch, changed_states, is_edge, origin_cell, origin_right};
 ghost use Rattle.cow_space.specs.declared.stretches.Origin.TheVariants.{CopyOf};
 ghost use Rattle.cow_space.specs.Seen.{cells, rights};
 
 use crate::cells::PageCells;
 use crate::stretches::{Origin, ReadRange, Stretch};
-use arrayvec::ArrayVec;
-use lwc_base::{MOST_PAGE_RUNS, MOST_PAGES, Right};
+use lwc_base::{MOST_PAGES, Right};
 use range_map::{Change, RangeMap, SegmentKind, sooner_edge};
 
 /// The first stretch that has a page.
-fn stretch_at(stretches: &[Stretch], p: u16) -> Option<&Stretch>
+pub(crate) fn stretch_at(stretches: &[Stretch], p: u16) -> Option<&Stretch>
     ensures { option_copied result ≡ spec.stretch_at stretches.now p }
 {
     stretches
@@ -27,13 +24,14 @@ fn stretch_at(stretches: &[Stretch], p: u16) -> Option<&Stretch>
         .find(|stretch| stretch.range.from <= p && p < stretch.range.to)
 }
 
-/// A later page, or the end of all pages, up to which the same stretch is the first that has the pages.
-fn stretch_edge(stretches: &[Stretch], p: u16) -> u16
+/// Where the first stretch after a page begins or ends, or the end of all pages.
+pub(crate) fn stretch_edge(stretches: &[Stretch], p: u16) -> u16
     requires { p < MOST_PAGES }
     ensures past { p < result }
     ensures within { result ≤ MOST_PAGES }
     ensures alike { (q : ℕ) → p ≤ q → q < result
         → spec.stretch_at stretches.now q ≡ spec.stretch_at stretches.now p }
+    ensures edge { result < MOST_PAGES → is_edge stretches.now result ≡ true }
 {
     let mut edge = MOST_PAGES as u16;
     for stretch in stretches {
@@ -70,18 +68,6 @@ pub(crate) fn has_page(kinds: &RangeMap) -> bool
     ensures some { result ≡ true → 0 < ranges MOST_PAGES (state_at kinds.now) }
 {
     !kinds.segments().is_empty()
-}
-
-/// Makes changes of kinds and rights that leave few enough ranges, and tells whether a page is left.
-pub(crate) fn change_kinds(kinds: &mut RangeMap, changes: &[Change]) -> bool
-    requires { ranges MOST_PAGES (state_after changes.now kinds.old) ≤ MOST_RANGES }
-    ensures states { (p : ℕ) → p < MOST_PAGES → state_at kinds.new p ≡ state_after changes.now kinds.old p }
-    ensures past { (p : ℕ) → MOST_PAGES ≤ p → state_at kinds.new p ≡ None }
-    ensures none { result ≡ false → kinds.new ≡ [] }
-    ensures some { result ≡ true → 0 < ranges MOST_PAGES (state_at kinds.new) }
-{
-    kinds.replace(changes).unwrap();
-    has_page(kinds)
 }
 
 impl PageCells {
@@ -132,8 +118,9 @@ impl PageCells {
         }
     }
 
-    /// The change that gives a page and later ones, up to an edge at the most, the right `Read` alone.
-    fn change_to_read(&self, i: usize, p: u16, edge: u16) -> Change
+    /// The change that leaves the kind of a page and of later ones, up to an edge at the most; they all get the
+    /// right `Read`, or each keeps its own.
+    fn change_left(&self, i: usize, read: bool, p: u16, edge: u16) -> Change
         requires place { i < length (cells self.now) }
         requires page { p < edge }
         requires within { edge ≤ MOST_PAGES }
@@ -141,52 +128,70 @@ impl PageCells {
         ensures past { p < result.to }
         ensures within { result.to ≤ edge }
         ensures state { (q : ℕ) → p ≤ q → q < result.to
-            → state_of (kind_of (place_of (cells self.now) i q)) Read ≡ given result }
+            → state_of (kind_of (place_of (cells self.now) i q))
+            (if read then Read else rights_of (rights self.now) i q)
+            ≡ given result }
     {
+        let right = if read { Right::Read } else { self.right(i, p) };
         Change {
             from: p,
             to: self.next_edge(i, p).min(edge),
             kind: self.kind(i, p),
-            right: Right::Read,
+            right,
         }
     }
 
-    /// The changes of kinds and rights that stretches make of a place, and ranges that may only be read then.
-    pub(crate) fn kind_changes(
+    /// The kind and the right that a page of a place, and all up to a later one, have after stretches and ranges
+    /// that may only be read.
+    pub(crate) fn piece_at(
         &self,
         i: usize,
         stretches: &[Stretch],
         reads: &[ReadRange],
-    ) -> ArrayVec<Change, MOST_PAGE_RUNS>
+        p: u16,
+    ) -> Change
         requires place { i < length (cells self.now) }
         requires stretches { All (IsStretch (length (cells self.now)) i) stretches.now }
-        ensures { (p : ℕ) → p < MOST_PAGES
-            → state_by (states_of (place_of (cells self.now) i) (rights_of (rights self.now) i) p)
-            (find (λ c. is_between c.from c.to p) result.items)
-            ≡ changed_states (cells self.now) (rights self.now) i stretches.now reads.now p }
+        requires page { p < MOST_PAGES }
+        ensures from { result.from ≡ p }
+        ensures past { p < result.to }
+        ensures within { result.to ≤ MOST_PAGES }
+        ensures state { (q : ℕ) → p ≤ q → q < result.to
+            → changed_states (cells self.now) (rights self.now) i stretches.now reads.now q ≡ given result }
     {
-        let mut changes = ArrayVec::new();
+        let edge = range_edge(reads, p, stretch_edge(stretches, p));
+        let read = have_page(reads, p);
+        match stretch_at(stretches, p) {
+            Some(stretch) => self.change_given(stretch, read, p, edge),
+            None => self.change_left(i, read, p, edge),
+        }
+    }
+
+    /// The kinds and the rights of a place after stretches, and ranges that may only be read.
+    pub(crate) fn kinds_after(
+        &self,
+        i: usize,
+        stretches: &[Stretch],
+        reads: &[ReadRange],
+    ) -> RangeMap
+        requires place { i < length (cells self.now) }
+        requires stretches { All (IsStretch (length (cells self.now)) i) stretches.now }
+        requires ranges { ranges MOST_PAGES
+            (changed_states (cells self.now) (rights self.now) i stretches.now reads.now) ≤ MOST_RANGES }
+        ensures states { (p : ℕ) → p < MOST_PAGES
+            → state_at result p
+            ≡ changed_states (cells self.now) (rights self.now) i stretches.now reads.now p }
+        ensures past { (p : ℕ) → MOST_PAGES ≤ p → state_at result p ≡ None }
+    {
+        let mut kinds = RangeMap::empty();
         let mut p = 0u16;
         'pieces: while u32::from(p) < MOST_PAGES {
-            let edge = range_edge(reads, p, stretch_edge(stretches, p));
-            let read = have_page(reads, p);
-            match stretch_at(stretches, p) {
-                Some(stretch) => {
-                    let change = self.change_given(stretch, read, p, edge);
-                    changes.push(change);
-                    p = change.to;
-                }
-                None => {
-                    if read {
-                        let change = self.change_to_read(i, p, edge);
-                        changes.push(change);
-                        p = change.to;
-                    } else {
-                        p = edge;
-                    }
-                }
+            let piece = self.piece_at(i, stretches, reads, p);
+            if let Some(state) = piece.state() {
+                kinds.append(p, piece.to, state);
             }
+            p = piece.to;
         }
-        changes
+        kinds
     }
 }

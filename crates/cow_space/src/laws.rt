@@ -1,5 +1,9 @@
 //! Laws of the pages of places: functions with empty bodies, each with a contract that is the law.
 
+ghost use Rattle.std.specs.Prelude.{◌≡◌, ◌+◌, ◌*◌};
+ghost use Rattle.lwc_base.specs.declared.limits.TheConstants.{MOST_CONTEXTS, MOST_GROUPS};
+ghost use Rattle.page_tree.specs.declared.store.TheConstants.{TREE_NODES};
+ghost use Rattle.cow_space.specs.declared.rows.TheConstants.{FREE_NODES};
 ghost use Rattle.cow_space.specs.Laws.{CopyLaws, WriteLaws};
 ghost use Rattle.cow_space.specs.Worlds.{WorldLaws};
 
@@ -19,4 +23,12 @@ pub fn page_writes_take_few_frames()
 /// and no other place has a tag.
 pub fn places_have_the_tags_of_their_world()
     ensures { WorldLaws }
+{}
+
+/// A tree has at most this number of nodes, a call finds nodes for two trees free, and a world opens with nodes
+/// for a tree in each context and group, and for a call.
+pub fn nodes_are_as_documented()
+    ensures tree { TREE_NODES ≡ 529 }
+    ensures free { FREE_NODES ≡ 1058 }
+    ensures opened { TREE_NODES * (MOST_CONTEXTS + MOST_GROUPS) + FREE_NODES ≡ 822595 }
 {}

@@ -87,8 +87,8 @@ impl Rows {
             ≡ write_page (maps self.old) i p (record { at = at; bytes = piece.now }) tag }
         ensures frames { frames_of self.new ≡ frames_of self.old }
         ensures others { (j : ℕ) → j ≢ i → HasNoTree self.old j → HasNoTree self.new j }
-        ensures nodes { free_nodes self.old ≤ free_nodes self.new + 2 }
-        ensures cost { steps.new ≤ steps.old + 36 }
+        ensures nodes { free_nodes self.old ≤ free_nodes self.new + 3 }
+        ensures cost { steps.new ≤ steps.old + 54 }
     {
         let cell = self.cell(i, p);
         let frame = fill(&mut self.store.frames, cell, p, at, piece, tag);

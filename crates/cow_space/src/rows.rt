@@ -2,8 +2,11 @@ ghost use Rattle.std.specs.Prelude.{◌≡◌, ℕ, IfOk, replicate};
 ghost use Rattle.cow_space.specs.RowKept.{IsKept};
 
 use lwc_base::OutOfMemory;
-use page_tree::{PAGES, PageCell, PageTree, Store};
+use page_tree::{PAGES, PageCell, PageTree, Store, TREE_NODES};
 use std::alloc::Global;
+
+/// The free nodes that each call finds: it changes at most two trees.
+pub const FREE_NODES: u32 = 2 * TREE_NODES;
 
 /// A fixed number of rows, each a map from pages to values. A page with bytes has a frame under a tag, and
 /// pages that were copied share it until one of them is written. After `open` no call takes memory, and none
@@ -27,13 +30,13 @@ fn empty_trees(alloc: Global, rows: u32) -> Result<Vec<PageTree>, OutOfMemory>
 }
 
 impl Rows {
-    ghost use Rattle.std.specs.Prelude.{◌≡◌, ℕ, ◌<◌, ◌≤◌, ◌↔◌, true, IfOk, length, replicate, slice_index};
+    ghost use Rattle.std.specs.Prelude.{◌≡◌, ℕ, ◌+◌, ◌*◌, ◌<◌, ◌≤◌, ◌↔◌, true, IfOk, length, replicate, slice_index};
     ghost use Rattle.std.specs.Option.{option_copied};
-    ghost use Rattle.page_tree.specs.declared.store.TheConstants.{PAGES};
+    ghost use Rattle.page_tree.specs.declared.store.TheConstants.{PAGES, TREE_NODES};
     ghost use Rattle.page_tree.specs.Pages.{page};
     ghost use Rattle.lwc_base.specs.declared.limits.TheConstants.{MOST_PAGE_PLACES};
     ghost use Rattle.cow_space.specs.Maps.{data_of, no_pages, row_of};
-    ghost use Rattle.cow_space.specs.RowSeen.{frames_of, maps, HasNoTree};
+    ghost use Rattle.cow_space.specs.RowSeen.{frames_of, free_nodes, maps, HasNoTree};
     ghost use Rattle.cow_space.specs.Tags.{different, parts, row_tags};
 
     /// This number of rows without pages, over this number of frames. The only error is out of memory.
@@ -42,9 +45,10 @@ impl Rows {
         requires few_rows { rows ≤ MOST_PAGE_PLACES }
         ensures maps { IfOk result (λ opened. maps opened ≡ replicate rows no_pages) }
         ensures frames { IfOk result (λ opened. frames_of opened ≡ frames) }
+        ensures nodes { IfOk result (λ opened. free_nodes opened ≡ TREE_NODES * rows + FREE_NODES) }
         ensures empty { IfOk result (λ opened. (i : ℕ) → HasNoTree opened i) }
     {
-        let store = Store::open(alloc, frames, 33 * rows + 66)?;
+        let store = Store::open(alloc, frames, TREE_NODES * rows + FREE_NODES)?;
         let trees = empty_trees(alloc, rows)?;
         Ok(Rows { store, trees })
     }
@@ -76,9 +80,9 @@ impl Rows {
         requires page { p < PAGES }
         ensures { result ≡ parts (row_tags (maps self.now)) (row_of (maps self.now) i p) }
     {
-        match self.cell(i, p) {
-            PageCell::Frame(frame) => !self.trees[i].is_alone(&self.store, p)
-                || self.store.frames.count(frame) > 1,
+        let (cell, alone) = self.trees[i].look(&self.store, p);
+        match cell {
+            PageCell::Frame(frame) => !alone || self.store.frames.count(frame) > 1,
             _ => true,
         }
     }

@@ -1,16 +1,19 @@
-ghost use Rattle.std.specs.Prelude.{◌≡◌, ◌≢◌, ◌<◌, ◌≤◌, ◌+◌, ◌*◌, ℕ, All, length, min, slice_set};
+ghost use Rattle.std.specs.Prelude.{◌≡◌, ◌≢◌, ◌<◌, ◌≤◌, ◌+◌, ◌*◌, ◌⊎◌, ℕ, All, length, min, slice_set};
+ghost use Rattle.page_tree.specs.declared.store.TheConstants.{PAGES, TREE_NODES};
+ghost use Rattle.page_tree.specs.Open.{entries_passed};
 ghost use Rattle.lwc_base.specs.declared.limits.TheConstants.{MOST_PAGES, MOST_RANGES};
 ghost use Rattle.range_map.specs.Kinds.{ranges};
 ghost use Rattle.cow_space.specs.RowSeen as rows_seen;
 ghost use Rattle.cow_space.specs.Cells.{all_write, no_pages, place_of, rights_of, states_of};
-ghost use Rattle.cow_space.specs.Changes.{IsStretch, changed_place, changed_rights, changed_states};
-ghost use Rattle.cow_space.specs.Rows.{changed_row};
+ghost use Rattle.cow_space.specs.Changes.{IsApart, IsStretch, changed_place, changed_rights, changed_states};
+ghost use Rattle.cow_space.specs.Maps.{put_range, row_of};
+ghost use Rattle.cow_space.specs.Rows.{changed_row, origin_value};
 ghost use Rattle.cow_space.specs.Seen.{cells, frames_of, free_nodes, pool, rights};
 
 use crate::cells::PageCells;
-use crate::kinds::{change_kinds, has_page};
+use crate::kinds::{has_page, stretch_at, stretch_edge};
 use crate::rows::Rows;
-use lwc_base::{Name, Range, Right};
+use lwc_base::{MOST_PAGES, Name, Range, Right};
 use pool_base::Steps;
 use range_map::RangeMap;
 use std::sync::ledger::Ledger;
@@ -56,7 +59,46 @@ pub struct ReadRange {
     pub to: u16,
 }
 
-/// Puts what stretches copy into a row, and clears the other pages that they have, the last stretch first.
+/// Puts what an origin copies into a range of a row, and clears it if it copies nothing.
+fn fill_range<L: Ledger>(
+    rows: &mut Rows,
+    i: usize,
+    origin: Origin,
+    range: Range,
+    steps: &mut Steps<L>,
+)
+    requires row { i < length (rows_seen.maps rows.old) }
+    requires given { IsApart (length (rows_seen.maps rows.old)) i origin }
+    requires order { range.from < range.to }
+    requires inside { range.to ≤ PAGES }
+    ensures maps { rows_seen.maps rows.new
+        ≡ slice_set (rows_seen.maps rows.old) i
+        (put_range (row_of (rows_seen.maps rows.old) i) range.from range.to
+        (origin_value (rows_seen.maps rows.old) origin)) }
+    ensures frames { rows_seen.frames_of rows.new ≡ rows_seen.frames_of rows.old }
+    ensures pool { rows_seen.pool rows.new ≡ rows_seen.pool rows.old }
+    ensures others { (j : ℕ) → j ≢ i → rows_seen.HasNoTree rows.old j → rows_seen.HasNoTree rows.new j }
+    ensures own { (rows_seen.free_nodes rows.old ≤ rows_seen.free_nodes rows.new)
+        ⊎ (rows_seen.HasOwnRoot rows.new i) }
+    ensures nodes { rows_seen.free_nodes rows.old ≤ rows_seen.free_nodes rows.new + 5 }
+    ensures nodes_own { rows_seen.HasOwnRoot rows.old i
+        → rows_seen.free_nodes rows.old ≤ rows_seen.free_nodes rows.new + 4 }
+    ensures nodes_open { rows_seen.IsOpen rows.old i range.from
+        → rows_seen.free_nodes rows.old + rows_seen.edge_short rows.new i range.to
+        ≤ rows_seen.free_nodes rows.new + rows_seen.edge_short rows.old i range.from + 2 }
+    ensures opened { rows_seen.IsOpen rows.old i range.from → rows_seen.IsOpen rows.new i range.to }
+    ensures cost { steps.new ≤ steps.old + 766 }
+    ensures cost_open { rows_seen.IsOpen rows.old i range.from
+        → steps.new + entries_passed range.from ≤ steps.old + entries_passed range.to + 36 }
+{
+    match origin {
+        Origin::CopyOf(j) => rows.share_between(i, j, range, steps),
+        _ => rows.clear(i, range, steps),
+    }
+}
+
+/// Puts what stretches copy into a row, and clears the other pages that they have: in rising order, and each page
+/// once, so that a row without a tree takes few nodes and steps.
 fn fill_row<L: Ledger>(rows: &mut Rows, i: usize, stretches: &[Stretch], steps: &mut Steps<L>)
     requires row { i < length (rows_seen.maps rows.old) }
     requires stretches { All (IsStretch (length (rows_seen.maps rows.old)) i) stretches.now }
@@ -66,16 +108,20 @@ fn fill_row<L: Ledger>(rows: &mut Rows, i: usize, stretches: &[Stretch], steps: 
     ensures pool { rows_seen.pool rows.new ≡ rows_seen.pool rows.old }
     ensures others { (j : ℕ) → j ≢ i → rows_seen.HasNoTree rows.old j → rows_seen.HasNoTree rows.new j }
     ensures nodes { rows_seen.free_nodes rows.old
-        ≤ rows_seen.free_nodes rows.new + (min 1 (length stretches.now) + 2 * length stretches.now) }
-    ensures cost { steps.new ≤ steps.old + (34 * min 1 (length stretches.now) + 64 * length stretches.now) }
-    ensures cost_empty { rows_seen.HasNoTree rows.old i → steps.new ≤ steps.old + 64 * length stretches.now }
+        ≤ rows_seen.free_nodes rows.new + (1 + 8 * length stretches.now) }
+    ensures nodes_empty { rows_seen.HasNoTree rows.old i
+        → rows_seen.free_nodes rows.old ≤ rows_seen.free_nodes rows.new + (1 + 4 * length stretches.now) }
+    ensures cost { steps.new ≤ steps.old + 1532 * length stretches.now }
+    ensures cost_empty { rows_seen.HasNoTree rows.old i → steps.new ≤ steps.old + 128 * length stretches.now }
 {
-    'stretches: for k in (0..stretches.len()).rev() {
-        let stretch = stretches[k];
-        match stretch.origin {
-            Origin::CopyOf(j) => rows.share_between(i, j, stretch.range, steps),
-            _ => rows.clear(i, stretch.range, steps),
+    let mut p = 0u16;
+    'pieces: while u32::from(p) < MOST_PAGES {
+        let edge = stretch_edge(stretches, p);
+        if let Some(stretch) = stretch_at(stretches, p) {
+            let range = Range { from: p, to: edge };
+            fill_range(rows, i, stretch.origin, range, steps);
         }
+        p = edge;
     }
 }
 
@@ -87,8 +133,19 @@ impl PageCells {
         ensures { result ≡ ranges MOST_PAGES
             (changed_states (cells self.now) (rights self.now) i stretches.now reads.now) }
     {
-        let changes = self.kind_changes(i, stretches, reads);
-        self.kinds[i].count_after(changes.as_slice())
+        let mut count = 0u32;
+        let mut last = None;
+        let mut p = 0u16;
+        'pieces: while u32::from(p) < MOST_PAGES {
+            let piece = self.piece_at(i, stretches, reads, p);
+            let state = piece.state();
+            if state.is_some() && last != state {
+                count += 1;
+            }
+            last = state;
+            p = piece.to;
+        }
+        count
     }
 
     /// Gives the pages of each stretch of a place what its origin and its right say, and leaves all other
@@ -113,15 +170,17 @@ impl PageCells {
             (changed_rights (cells self.old) (rights self.old) i stretches.now reads.now) }
         ensures frames { frames_of self.new ≡ frames_of self.old }
         ensures pool { pool self.new ≡ pool self.old }
-        ensures nodes { free_nodes self.old
-            ≤ free_nodes self.new + (min 1 (length stretches.now) + 2 * length stretches.now) }
-        ensures cost { steps.new
-            ≤ steps.old + (34 * min 1 (length stretches.now) + 64 * length stretches.now) }
+        ensures nodes { free_nodes self.old ≤ free_nodes self.new + (1 + 8 * length stretches.now) }
+        ensures nodes_empty { place_of (cells self.old) i ≡ no_pages
+            → free_nodes self.old ≤ free_nodes self.new + (1 + 4 * length stretches.now) }
+        ensures cost { steps.new ≤ steps.old + 1532 * length stretches.now }
         ensures cost_empty { place_of (cells self.old) i ≡ no_pages
-            → steps.new ≤ steps.old + 64 * length stretches.now }
+            → steps.new ≤ steps.old + 128 * length stretches.now }
     {
-        let changes = self.kind_changes(i, stretches, reads);
-        if change_kinds(&mut self.kinds[i], changes.as_slice()) {
+        let kinds = self.kinds_after(i, stretches, reads);
+        let some = has_page(&kinds);
+        self.kinds[i] = kinds;
+        if some {
             fill_row(&mut self.rows, i, stretches, steps);
         } else {
             self.rows.drop_row(i, steps);
@@ -140,7 +199,7 @@ impl PageCells {
         ensures frames { frames_of self.new ≡ frames_of self.old }
         ensures pool { pool self.new ≡ pool self.old }
         ensures nodes { free_nodes self.old ≤ free_nodes self.new }
-        ensures cost { steps.new ≤ steps.old + 34 }
+        ensures cost { steps.new ≤ steps.old + (1 + TREE_NODES) }
         ensures cost_empty { place_of (cells self.old) to ≡ no_pages
             → steps.new ≤ steps.old + min 1 (ranges MOST_PAGES
             (states_of (place_of (cells self.old) from) (rights_of (rights self.old) from))) }
@@ -163,7 +222,7 @@ impl PageCells {
         ensures frames { frames_of self.new ≡ frames_of self.old }
         ensures pool { pool self.new ≡ pool self.old }
         ensures nodes { free_nodes self.old ≤ free_nodes self.new }
-        ensures cost { steps.new ≤ steps.old + 33 }
+        ensures cost { steps.new ≤ steps.old + TREE_NODES }
         ensures cost_empty { place_of (cells self.old) i ≡ no_pages → steps.new ≡ steps.old }
     {
         self.kinds[i] = RangeMap::empty();

@@ -44,8 +44,8 @@ impl PageCells {
         ensures parted { IfOk result (λ parted. parted ≡ is_parting (cells self.old) i p) }
         ensures rights { rights self.new ≡ rights self.old }
         ensures frames { frames_of self.new ≡ frames_of self.old }
-        ensures nodes { free_nodes self.old ≤ free_nodes self.new + 2 }
-        ensures cost { steps.new ≤ steps.old + 36 }
+        ensures nodes { free_nodes self.old ≤ free_nodes self.new + 3 }
+        ensures cost { steps.new ≤ steps.old + 54 }
     {
         let parting = self.is_parting(i, p);
         if parting {

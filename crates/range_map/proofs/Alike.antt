@@ -1,9 +1,13 @@
 -- The pages of a stretch have one state.
-use Rattle.std.proofs.Common.{◌≡◌, ℕ, suc, ◌+◌, get_or, length, take, ◌<◌, ◌≤◌, Bool, List, [], ◌∷◌, ◌&&◌, arith, cond, leb, ltb, refl, sym, ◌∙◌, ⊎_elim, Some}
-use Rattle.std.specs.Prelude.{All}
-use Rattle.std.specs.List.{find}
+use Rattle.std.proofs.Common.{◌≡◌, ℕ, suc, ◌+◌, get_or, length, take, ◌<◌, ◌≤◌, Bool, List, [], ◌∷◌, ◌&&◌, arith, cond, leb, ltb, refl, subst, sym, ◌∙◌, ⊎_elim, ◌⊎◌, ◌||◌, ap, true, Some}
+use Rattle.std.specs.Prelude.{All, ◌==◌}
+use Rattle.std.specs.List.{find, list_any}
 use Rattle.std.proofs.lemmas.Bool.{cases_lt, lt-ltb, le-ltb, le-leb, lt-leb}
+use Rattle.std.proofs.Math.Bool.{or-true}
+use Rattle.std.proofs.lemmas.Bool.Decides.{nat_tests}
+use Rattle.std.proofs.lemmas.List.{take_more}
 use Rattle.std.proofs.lemmas.List.Elements.{All-more}
+use Rattle.std.proofs.lemmas.List.Folds.{list_any-append}
 use Rattle.range_map.specs.Kinds.{is_between, state_at, state_after}
 use Rattle.range_map.specs.declared.segment.Change.{Change}
 use Rattle.range_map.specs.declared.segment.Segment.{Segment}
@@ -55,12 +59,30 @@ pub find_alike : {X : Type 0} (from to : X → ℕ) (p edge q : ℕ) (xs : List 
 find_alike from to p edge q xs none low high =
     find_same (λ x. is_between (from x) (to x) q) (λ x. is_between (from x) (to x) p) xs (λ k d inside. (none k d inside).alike q low high)
 
--- the pages of a stretch have one state after the changes
-pub stretch_alike : (changes : List Change) (segments : List Segment) (p edge q : ℕ) →
-    All (λ s. HasNoEdge p edge s.from s.to) segments → All (λ c. HasNoEdge p edge c.from c.to) changes →
-    p ≤ q → q < edge → state_after changes segments q ≡ state_after changes segments p
-unfolding state_after state_at
-stretch_alike changes segments p edge q none clear low high =
-    let of_segments = find_alike (λ s. s.from) (λ s. s.to) p edge q segments none low high in
+-- the pages of a stretch have one state before the changes, and after them
+pub segments_alike : (segments : List Segment) (p edge q : ℕ) → All (λ s. HasNoEdge p edge s.from s.to) segments →
+    p ≤ q → q < edge → state_at segments q ≡ state_at segments p
+unfolding state_at
+segments_alike segments p edge q none low high = rw (find_alike (λ s. s.from) (λ s. s.to) p edge q segments none low high) refl
+
+pub stretch_alike : (changes : List Change) (segments : List Segment) (p edge q : ℕ) → state_at segments q ≡ state_at segments p →
+    All (λ c. HasNoEdge p edge c.from c.to) changes → p ≤ q → q < edge → state_after changes segments q ≡ state_after changes segments p
+unfolding state_after
+stretch_alike changes segments p edge q same clear low high =
     let of_changes = find_alike (λ c. c.from) (λ c. c.to) p edge q changes clear low high in
-    rw (of_segments, of_changes) refl
+    rw (same, of_changes) refl
+
+-- a nearer edge than the one before is one of a further element
+pub edge_more : {X : Type 0} (from to : X → ℕ) (xs : List X) (i : ℕ) (d : X) (edge next end : ℕ) → i < length xs →
+    (edge < end → list_any (λ x. (from x == edge) || (to x == edge)) (take i xs) ≡ true) → next ≤ edge →
+    (next < edge → (next ≡ from (get_or xs i d)) ⊎ (next ≡ to (get_or xs i d))) → next < end → list_any (λ x. (from x == next) || (to x == next)) (take (i + 1) xs) ≡ true
+edge_more from to xs i d edge next end inside before nearer one early =
+    ap (list_any (λ x. (from x == next) || (to x == next))) (take_more xs i d inside)
+    ∙ list_any-append (λ x. (from x == next) || (to x == next)) (take i xs) (get_or xs i d ∷ [])
+    ∙ ⊎_elim
+    (λ low. ap (λ b. list_any (λ x. (from x == next) || (to x == next)) (take i xs) || b) (here (one low)) ∙ or-true (list_any (λ x. (from x == next) || (to x == next)) (take i xs)))
+    (λ high. let same : edge ≡ next = omega (arith, high, nearer) in ap (λ b. b || list_any (λ x. (from x == next) || (to x == next)) (get_or xs i d ∷ [])) (subst (λ e. list_any (λ x. (from x == e) || (to x == e)) (take i xs) ≡ true) same (before (omega (arith, same, early)))))
+    (cases_lt next edge)
+  where
+    here : (next ≡ from (get_or xs i d)) ⊎ (next ≡ to (get_or xs i d)) → list_any (λ x. (from x == next) || (to x == next)) (get_or xs i d ∷ []) ≡ true
+    here at = grind (arith, nat_tests, at)

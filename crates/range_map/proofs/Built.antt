@@ -27,13 +27,14 @@ pub record HasRunsBelow (p : ℕ) (kinds : ℕ → Option PageState) (segments :
   pub done : (q : ℕ) → q < p → state_at segments q ≡ kinds q
   pub rest : (q : ℕ) → p ≤ q → state_at segments q ≡ None
 
+-- nothing is found behind what is found
+pub or_none : {X : Type 0} (o : Option X) → option_or o None ≡ o
+or_none None = refl
+or_none (Some x) = refl
+
 -- a further element that does not pass leaves what is found
 pub find_off : {X : Type 0} (test : X → Bool) (xs : List X) (x : X) → test x ≡ false → find test (xs ++ x ∷ []) ≡ find test xs
 find_off test xs x off = rw (find-append test xs (x ∷ []), off) (or_none (find test xs))
-  where
-    or_none : {X : Type 0} (o : Option X) → option_or o None ≡ o
-    or_none None = refl
-    or_none (Some y) = refl
 
 -- a further element that passes is found where no other is
 pub find_on : {X : Type 0} (test : X → Bool) (xs : List X) (x : X) → test x ≡ true → find test xs ≡ None → find test (xs ++ x ∷ []) ≡ Some x
@@ -45,12 +46,12 @@ map_none f None is = refl
 map_none f (Some x) is = absurd cc
 
 -- a further segment leaves the pages that it has not
-push_off : (segments : List Segment) (s : Segment) (q : ℕ) → is_between s.from s.to q ≡ false → state_at (segments ++ s ∷ []) q ≡ state_at segments q
+pub push_off : (segments : List Segment) (s : Segment) (q : ℕ) → is_between s.from s.to q ≡ false → state_at (segments ++ s ∷ []) q ≡ state_at segments q
 unfolding state_at
 push_off segments s q off = ap (option_map state_in) (find_off (λ t. is_between t.from t.to q) segments s off)
 
 -- a further segment gives its state to absent pages
-push_on : (segments : List Segment) (s : Segment) (q : ℕ) → is_between s.from s.to q ≡ true → state_at segments q ≡ None → state_at (segments ++ s ∷ []) q ≡ Some (state_in s)
+pub push_on : (segments : List Segment) (s : Segment) (q : ℕ) → is_between s.from s.to q ≡ true → state_at segments q ≡ None → state_at (segments ++ s ∷ []) q ≡ Some (state_in s)
 unfolding state_at
 push_on segments s q on none =
     ap (option_map state_in) (find_on (λ t. is_between t.from t.to q) segments s on (map_none state_in (find (λ t. is_between t.from t.to q) segments) none))
@@ -124,7 +125,7 @@ unfolding state_at
 none_canonical = record { some = λ k d inside. absurd (omega arith); apart = λ i j d before inside. absurd (omega arith); within = λ p low. refl; counted = sym (absent_ranges (state_at []) (λ p. refl)) }
 
 -- where nothing is found, no element passes
-find_none : {X : Type 0} (test : X → Bool) (xs : List X) (k : ℕ) (d : X) → k < length xs → find test xs ≡ None → test (get_or xs k d) ≡ false
+pub find_none : {X : Type 0} (test : X → Bool) (xs : List X) (k : ℕ) (d : X) → k < length xs → find test xs ≡ None → test (get_or xs k d) ≡ false
 find_none test [] k d inside none = absurd (omega arith)
 find_none test (x ∷ xs) zero d inside none = first (test x) none
   where
@@ -137,19 +138,23 @@ find_none test (x ∷ xs) (suc k) d inside none = find_none test xs k d (omega a
     rest true is = absurd cc
     rest false is = is
 
--- no page of canonical segments is past the last one
-pub segments_inside : (segments : List Segment) → IsCanonical segments → All IsSegment segments
+-- where no page from one on is present, segments end there or before
+pub ends_below : (segments : List Segment) (p : ℕ) → All (λ s. s.from < s.to) segments → ((q : ℕ) → p ≤ q → state_at segments q ≡ None) →
+    (k : ℕ) (d : Segment) → k < length segments → (get_or segments k d).to ≤ p
 unfolding state_at
-segments_inside segments canonical k d inside = record { some = some; inside = ⊎_elim (λ past. absurd (beyond past)) (λ within. within) (cases_lt MOST_PAGES s.to) }
+ends_below segments p some clear k d inside = ⊎_elim (λ past. absurd (beyond past)) (λ within. within) (cases_lt p s.to)
   where
     s : Segment
     s = get_or segments k d
 
-    some : s.from < s.to
-    some = canonical.some k d inside
-
-    beyond : MOST_PAGES < s.to → ⊥
+    beyond : p < s.to → ⊥
     beyond past =
-        let off = find_none (λ t. is_between t.from t.to (s.to - 1)) segments k d inside (map_none state_in (find (λ t. is_between t.from t.to (s.to - 1)) segments) (canonical.within (s.to - 1) (omega arith))) in
+        let more = some k d inside in
+        let off = find_none (λ t. is_between t.from t.to (s.to - 1)) segments k d inside (map_none state_in (find (λ t. is_between t.from t.to (s.to - 1)) segments) (clear (s.to - 1) (omega arith))) in
         let on = between s.from s.to (s.to - 1) (omega arith) (omega arith) in
         cc
+
+-- no page of canonical segments is past the last one
+pub segments_inside : (segments : List Segment) → IsCanonical segments → All IsSegment segments
+segments_inside segments canonical k d inside =
+    record { some = canonical.some k d inside; inside = ends_below segments MOST_PAGES canonical.some canonical.within k d inside }

@@ -1,3 +1,6 @@
 pub mod Ranges
 pub mod Alike
 pub mod Built
+pub mod Appended
+pub mod Edges
+pub mod Walks

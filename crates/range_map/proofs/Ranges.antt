@@ -68,6 +68,10 @@ right_itself : (r : Right) → same_right r r ≡ true
 right_itself Write = refl
 right_itself Read = refl
 
+-- a state is alike itself
+pub alike_itself : (s : PageState) → are_alike (Some s) (Some s) ≡ true
+alike_itself s = rw (kind_itself s.kind, right_itself s.right) refl
+
 -- no range begins at a page of the state of the page before
 same_state : (state : Option PageState) → (is_some state && not (are_alike state state)) ≡ false
 same_state None = refl
@@ -92,7 +96,7 @@ rights_tied Write Read = refl
 rights_tied Read Write = refl
 rights_tied Read Read = refl
 
-differ : (a b : Option PageState) → option_eq eq-value.it a b ≡ false → are_alike a b ≡ false
+pub differ : (a b : Option PageState) → option_eq eq-value.it a b ≡ false → are_alike a b ≡ false
 differ None None e = refl
 differ None (Some b) e = refl
 differ (Some a) None e = refl
@@ -108,6 +112,12 @@ begins_past kinds p k (suc e) is same other =
     let before : kinds e ≡ kinds p = ap kinds here ∙ same in
     rw (before, differ (kinds p) (kinds (suc e)) other) (grind (arith, common_steps))
 
+-- a range begins at a present page if the page before is of another state
+pub begins_parted : (kinds : ℕ → Option PageState) (p : ℕ) → ((k : ℕ) → p ≡ suc k → are_alike (kinds k) (kinds p) ≡ false) → begins_range kinds p ≡ is_some (kinds p)
+unfolding begins_range
+begins_parted kinds zero parted = grind (arith, common_steps)
+begins_parted kinds (suc p) parted = rw (parted p refl) (grind (arith, common_steps))
+
 -- where a range begins, the page before is of another kind
 pub kinds_parted : (kinds : ℕ → Option PageState) (p k : ℕ) (a b : PageState) → p ≡ suc k → kinds k ≡ Some a → kinds p ≡ Some b →
     begins_range kinds p ≡ is_some (kinds p) → are_alike (Some a) (Some b) ≡ false
@@ -120,17 +130,40 @@ kinds_parted kinds (suc p) k a b is before here begins =
     let parted : are_alike (kinds p) (kinds (suc p)) ≡ false = grind (arith, common_steps) in
     subst (λ o. are_alike o (Some b) ≡ false) last (subst (λ o. are_alike (kinds p) o ≡ false) here parted)
 
--- pages of one kind, of which the first begins a range if it is present, are one range or none
-pub one_more : (kinds : ℕ → Option PageState) (p n e : ℕ) → e ≡ p + suc n → ((q : ℕ) → p ≤ q → q < e → kinds q ≡ kinds p) →
-    begins_range kinds p ≡ is_some (kinds p) → ranges e kinds ≡ ranges p kinds + cond (is_some (kinds p)) 1 0
-one_more kinds p zero e is alike begins = ranges_more kinds p e (omega arith) ∙ ap (λ b. ranges p kinds + cond b 1 0) begins
-one_more kinds p (suc n) e is alike begins =
-    let rest = one_more kinds p n (p + suc n) refl (λ q low high. alike q low (omega arith)) begins in
+-- pages of one state add a range if one begins at the first of them
+pub one_piece : (kinds : ℕ → Option PageState) (p n e : ℕ) → e ≡ p + suc n → ((q : ℕ) → p ≤ q → q < e → kinds q ≡ kinds p) →
+    ranges e kinds ≡ ranges p kinds + cond (begins_range kinds p) 1 0
+one_piece kinds p zero e is alike = ranges_more kinds p e (omega arith)
+one_piece kinds p (suc n) e is alike =
+    let rest = one_piece kinds p n (p + suc n) refl (λ q low high. alike q low (omega arith)) in
     let before = alike (p + n) (omega arith) (omega arith) in
     let last = alike (p + suc n) (omega arith) (omega arith) in
     let none = no_range kinds (p + n) (p + suc n) (omega arith) (last ∙ sym before) in
     let more = ranges_more kinds (p + suc n) e (omega arith) in
     more ∙ (rw none (omega (arith, rest)))
+
+-- if one begins there where a page is present, they are one range or none
+pub one_more : (kinds : ℕ → Option PageState) (p n e : ℕ) → e ≡ p + suc n → ((q : ℕ) → p ≤ q → q < e → kinds q ≡ kinds p) →
+    begins_range kinds p ≡ is_some (kinds p) → ranges e kinds ≡ ranges p kinds + cond (is_some (kinds p)) 1 0
+one_more kinds p n e is alike begins = one_piece kinds p n e is alike ∙ ap (λ b. ranges p kinds + cond b 1 0) begins
+
+-- a range begins at a present page if the page before has another state; no page is before the first
+pub begins_where : (kinds : ℕ → Option PageState) (p : ℕ) (last : Option PageState) → (p ≡ 0 → last ≡ None) → ((k : ℕ) → p ≡ suc k → last ≡ kinds k) →
+    begins_range kinds p ≡ (is_some (kinds p) && not (option_eq eq-value.it last (kinds p)))
+unfolding begins_range
+begins_where kinds zero last first later = by (kinds 0) (first refl)
+  where
+    by : (state : Option PageState) → last ≡ None → (is_some state && not false) ≡ (is_some state && not (option_eq eq-value.it last state))
+    by None none = refl
+    by (Some s) none = ap (λ o. not (option_eq eq-value.it o (Some s))) (sym none)
+begins_where kinds (suc p) last first later =
+    ap (λ o. is_some (kinds (suc p)) && not (are_alike o (kinds (suc p)))) (sym (later p refl)) ∙ by last (kinds (suc p))
+  where
+    by : (a b : Option PageState) → (is_some b && not (are_alike a b)) ≡ (is_some b && not (option_eq eq-value.it a b))
+    by None None = refl
+    by None (Some b) = refl
+    by (Some a) None = refl
+    by (Some a) (Some b) = rw (kinds_tied a.kind b.kind, rights_tied a.right b.right) refl
 
 -- ranges begin at the same pages where kinds are the same
 begins_same : (f g : ℕ → Option PageState) (p pages : ℕ) → ((q : ℕ) → q < pages → f q ≡ g q) → p < pages → begins_range f p ≡ begins_range g p
@@ -149,7 +182,7 @@ unfolding begins_range
 nothing_begins kinds p none = rw none refl
 
 -- absent pages add no range
-absent_tail : (kinds : ℕ → Option PageState) (pages n k : ℕ) → k ≡ pages + n → ((p : ℕ) → pages ≤ p → p < k → kinds p ≡ None) → ranges k kinds ≡ ranges pages kinds
+pub absent_tail : (kinds : ℕ → Option PageState) (pages n k : ℕ) → k ≡ pages + n → ((p : ℕ) → pages ≤ p → p < k → kinds p ≡ None) → ranges k kinds ≡ ranges pages kinds
 absent_tail kinds pages zero k is absent = ap (λ n. ranges n kinds) (omega arith)
 absent_tail kinds pages (suc n) k is absent =
     let rest = absent_tail kinds pages n (pages + n) refl (λ p low high. absent p low (omega arith)) in

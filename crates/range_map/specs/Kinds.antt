@@ -1,6 +1,6 @@
 -- The kinds and the rights of a context's pages by segments, after changes, and their number of ranges.
-use Rattle.std.specs.Prelude.{◌≡◌, ◌<◌, ◌≤◌, All, ◌&&◌, ℕ, zero, suc, Bool, true, false, not, List, Option, None, Some, count_by, is_some, length, nat_le, nat_lt}
-use Rattle.std.specs.List.{AllPairs, find, range_with_len}
+use Rattle.std.specs.Prelude.{◌≡◌, ◌<◌, ◌≤◌, All, ◌&&◌, ◌||◌, ◌==◌, if◌then◌else◌, ℕ, zero, suc, Bool, true, false, not, List, Option, None, Some, count_by, is_some, length, nat_le, nat_lt}
+use Rattle.std.specs.List.{AllPairs, find, list_any, range_with_len}
 use Rattle.std.specs.Option.{option_map}
 use Rattle.std.specs.Ordering.{is_eq}
 use Rattle.lwc_base.specs.Names.{name_cmp}
@@ -19,6 +19,10 @@ use Rattle.range_map.specs.declared.segment.SegmentKind.TheVariants.{Own, Common
 -- whether a page is from one on and below another
 abbrev pub is_between : ℕ → ℕ → ℕ → Bool
 is_between from to p = nat_le from p && nat_lt p to
+
+-- whether a segment begins or ends at a page
+abbrev pub is_edge : List Segment → ℕ → Bool
+is_edge segments p = list_any (λ s. (s.from == p) || (s.to == p)) segments
 
 -- the state of a segment's pages
 abbrev pub state_in : Segment → PageState
@@ -52,6 +56,10 @@ state_by before (Some change) = given change
 -- the state of a page after changes
 unfoldable pub state_after : List Change → List Segment → ℕ → Option PageState
 state_after changes segments p = state_by (state_at segments p) (find (λ c. is_between c.from c.to p) changes)
+
+-- states with one for the pages from one on and below another
+abbrev pub put_state : (ℕ → Option PageState) → ℕ → ℕ → PageState → ℕ → Option PageState
+put_state states from to state p = if is_between from to p then Some state else states p
 
 -- the kind of a cell of a page
 abbrev pub kind_of : Cell (Option PageValue) → Option SegmentKind

@@ -1,7 +1,7 @@
-ghost use Rattle.std.specs.Prelude.{◌≡◌, ◌<◌, ◌≤◌, ℕ, [], All, None, OnOk, OnErr, is_err, length, nat_lt};
+ghost use Rattle.std.specs.Prelude.{◌≡◌, ◌≢◌, ◌<◌, ◌≤◌, ℕ, [], All, None, OnOk, OnErr, Some, false, is_err, length, nat_lt, true};
 ghost use Rattle.lwc_base.specs.declared.limits.TheConstants.{MOST_PAGES, MOST_RANGES};
 ghost use Rattle.range_map.specs.Kinds as spec;
-ghost use Rattle.range_map.specs.Kinds.{IsCanonical, IsSegment, ranges};
+ghost use Rattle.range_map.specs.Kinds.{IsCanonical, IsSegment, are_alike, put_state, ranges, state_in};
 
 use crate::segment::{Change, PageState, Segment, SegmentKind};
 use crate::stretches;
@@ -87,14 +87,60 @@ impl RangeMap {
         self.state_at(p).map(|state| state.right)
     }
 
-    /// A later page, or the end of all pages, up to which the pages have the state of this one.
+    /// The first page after one that has another state, or the end of all pages. There are at most 64 ranges, so
+    /// that a walk from edge to edge is short.
     pub fn next_edge(&self, p: u16) -> u16
         requires { p < MOST_PAGES }
         ensures past { p < result }
         ensures within { result ≤ MOST_PAGES }
         ensures alike { (q : ℕ) → p ≤ q → q < result → spec.state_at self.now q ≡ spec.state_at self.now p }
+        ensures other { result < MOST_PAGES → spec.state_at self.now result ≢ spec.state_at self.now p }
+        ensures few { ranges MOST_PAGES (spec.state_at self.now) ≤ MOST_RANGES }
     {
-        stretches::next_edge(self.segments.as_slice(), &[], p)
+        stretches::segment_edge(self.segments.as_slice(), p)
+    }
+
+    /// Gives a state to the pages from `from` up to and without `to`, where no page from `from` on is present.
+    /// The last segment grows if it ends there and its pages have that state.
+    pub fn append(&mut self, from: u16, to: u16, state: PageState)
+        requires order { from < to }
+        requires inside { to ≤ MOST_PAGES }
+        requires clear { (q : ℕ) → from ≤ q → spec.state_at self.old q ≡ None }
+        requires few { ranges MOST_PAGES (put_state (spec.state_at self.old) from to state) ≤ MOST_RANGES }
+        ensures { (q : ℕ) → spec.state_at self.new q ≡ put_state (spec.state_at self.old) from to state q }
+    {
+        if !self.grow_last(from, to, state) {
+            self.segments.push(Segment {
+                from,
+                to,
+                kind: state.kind,
+                right: state.right,
+            });
+        }
+    }
+
+    /// Lets the last segment end at `to` if it ends at `from` and its pages have a state. Tells whether it did.
+    fn grow_last(&mut self, from: u16, to: u16, state: PageState) -> bool
+        requires order { from < to }
+        requires inside { to ≤ MOST_PAGES }
+        requires clear { (q : ℕ) → from ≤ q → spec.state_at self.old q ≡ None }
+        requires few { ranges MOST_PAGES (put_state (spec.state_at self.old) from to state) ≤ MOST_RANGES }
+        ensures grown { result ≡ true → (q : ℕ)
+            → spec.state_at self.new q ≡ put_state (spec.state_at self.old) from to state q }
+        ensures same { result ≡ false → self.new ≡ self.old }
+        ensures parted { result ≡ false
+            → All (λ s. s.to ≡ from → are_alike (Some (state_in s)) (Some state) ≡ false) self.old }
+    {
+        let Some(last) = self.segments.as_slice().last() else {
+            return false;
+        };
+        let last = *last;
+        if last.to != from || last.state() != state {
+            return false;
+        }
+        self.segments.pop();
+        self.segments.push(Segment { to, ..last });
+        true
     }
 
     /// The number of ranges, which is at most 64.

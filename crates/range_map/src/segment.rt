@@ -51,7 +51,7 @@ impl Segment {
 
 impl Change {
     /// The state that its pages get; `None` where they become absent.
-    pub(crate) fn state(&self) -> Option<PageState>
+    pub fn state(&self) -> Option<PageState>
         ensures { result ≡ given self.now }
     {
         match self.kind {

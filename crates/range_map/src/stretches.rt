@@ -1,9 +1,9 @@
-ghost use Rattle.std.specs.Prelude.{◌≡◌, ◌<◌, ◌≤◌, ℕ, is_some};
+ghost use Rattle.std.specs.Prelude.{◌≡◌, ◌<◌, ◌≤◌, ◌⊎◌, ℕ, is_some, true};
 ghost use Rattle.std.specs.List.{find};
 ghost use Rattle.std.specs.Option.{option_copied};
 ghost use Rattle.lwc_base.specs.declared.limits.TheConstants.{MOST_PAGES};
 ghost use Rattle.range_map.specs.Kinds as spec;
-ghost use Rattle.range_map.specs.Kinds.{begins_range, is_between};
+ghost use Rattle.range_map.specs.Kinds.{begins_range, is_between, is_edge};
 
 use crate::segment::{Change, PageState, Segment};
 use lwc_base::MOST_PAGES;
@@ -59,19 +59,32 @@ pub(crate) fn run_end(segments: &[Segment], changes: &[Change], p: u16) -> u16
 }
 
 /// Where the first segment or change after a page begins or ends, or the end of all pages.
-pub(crate) fn next_edge(segments: &[Segment], changes: &[Change], p: u16) -> u16
+fn next_edge(segments: &[Segment], changes: &[Change], p: u16) -> u16
     requires { p < MOST_PAGES }
     ensures past { p < result }
     ensures within { result ≤ MOST_PAGES }
     ensures alike { (q : ℕ) → p ≤ q → q < result
         → spec.state_after changes.now segments.now q ≡ spec.state_after changes.now segments.now p }
 {
+    let mut edge = segment_edge(segments, p);
+    for change in changes {
+        edge = sooner_edge(change.from, change.to, p, edge);
+    }
+    edge
+}
+
+/// Where the first segment after a page begins or ends, or the end of all pages.
+pub(crate) fn segment_edge(segments: &[Segment], p: u16) -> u16
+    requires { p < MOST_PAGES }
+    ensures past { p < result }
+    ensures within { result ≤ MOST_PAGES }
+    ensures alike { (q : ℕ) → p ≤ q → q < result
+        → spec.state_at segments.now q ≡ spec.state_at segments.now p }
+    ensures edge { result < MOST_PAGES → is_edge segments.now result ≡ true }
+{
     let mut edge = MOST_PAGES as u16;
     for segment in segments {
         edge = sooner_edge(segment.from, segment.to, p, edge);
-    }
-    for change in changes {
-        edge = sooner_edge(change.from, change.to, p, edge);
     }
     edge
 }
@@ -83,6 +96,7 @@ pub fn sooner_edge(from: u16, to: u16, p: u16, edge: u16) -> u16
     ensures past { p < result }
     ensures within { result ≤ edge }
     ensures alike { (q : ℕ) → p ≤ q → q < result → is_between from to q ≡ is_between from to p }
+    ensures one { result < edge → (result ≡ from) ⊎ (result ≡ to) }
 {
     sooner(p, sooner(p, edge, from), to)
 }
@@ -93,6 +107,7 @@ fn sooner(p: u16, edge: u16, other: u16) -> u16
     ensures past { p < result }
     ensures within { result ≤ edge }
     ensures other { p < other → result ≤ other }
+    ensures one { result < edge → result ≡ other }
 {
     if p < other && other < edge {
         other

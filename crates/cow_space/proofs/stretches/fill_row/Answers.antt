@@ -1,94 +1,139 @@
-use Rattle.std.proofs.Common.{◌≡◌, ℕ, ◌+◌, ◌-◌, ◌*◌, ◌<◌, ◌≤◌, ◌⊎◌, inl, inr, ⊎_elim, min, length, get_or, drop, set, refl, ap, ◌∙◌, arith, subst, None}
-use Rattle.cow_space.specs.RowSeen.{maps}
-use Rattle.cow_space.specs.declared.stretches.Origin.TheVariants.{Absent, CopyOf}
+use Rattle.std.proofs.Common.{◌<◌, ◌≡◌, ℕ, ◌∙◌, inl, ⊎_elim, ap, arith, length, refl, subst, sym, true, Option, None, Some}
+use Rattle.std.specs.Option.{MatchOption, option_copied}
+use Rattle.std.proofs.lemmas.Bool.{cases_eq}
+use Rattle.std.proofs.Math.ListN.{length-set}
+use Rattle.lwc_base.specs.declared.limits.TheConstants.{MOST_PAGES}
+use Rattle.lwc_base.specs.declared.page.PageValue.{PageValue}
+use Rattle.page_tree.proofs.OpenLemmas.{passed-later}
+use Rattle.range_map.specs.Kinds.{is_between}
 use Rattle.cow_space.specs.declared.stretches.Stretch.{Stretch}
-use Rattle.cow_space.specs.Changes.{IsApart}
-use Rattle.cow_space.specs.Rows.{changed_row}
-use Rattle.cow_space.proofs.Changed.{no-value, row-begin, row-clear, row-copy}
+use Rattle.cow_space.specs.Changes.{IsApart, IsStretch}
+use Rattle.cow_space.specs.Maps.{put_range, row_of}
+use Rattle.cow_space.specs.Rows.{changed_row, origin_value}
+use Rattle.cow_space.specs.RowSeen.{maps}
+use Rattle.cow_space.proofs.Changed.{find-holds, no-stretch, past-stretch}
+use Rattle.range_map.proofs.Walks.{edges-edge, edges-few, edges-grow}
+use Rattle.cow_space.proofs.Edges.{piece-edge}
+use Rattle.cow_space.proofs.Filled.{by-stretch, filled, filled-all, filled-more, filled-none, filled-same, more-nodes, origin-kept, same-nodes}
+use Rattle.cow_space.proofs.RowViews.{few-passed, row-bare, row-edges, row-first, row-later}
 use Rattle.cow_space.proofs.stretches.fill_row.Goals as goal
 
-pub stretches-init : goal.stretches-init
-stretches-init g c =
-    record {
-      maps = row-begin (maps c.args.rows.now) c.args.i (length c.args.stretches.now) c.args.stretches.now (omega arith);
-      within = omega arith;
-      frames = refl;
-      pool = refl;
-      others = λ j off none. none;
-      begins = λ _ none. none;
-      own = λ some. absurd (omega (arith, some));
-      nodes = omega arith;
-      cost = omega arith;
-      cost_empty = λ _. omega arith;
-    }
+pub pieces-init : goal.pieces-init
+pieces-init g c = record {
+  inside = omega arith;
+  maps = filled-none (maps c.args.rows.now) c.args.i (changed_row (maps c.args.rows.now) c.args.i c.args.stretches.now);
+  frames = refl;
+  pool = refl;
+  others = λ j off none. none;
+  nodes = inl (omega arith);
+  cost = omega arith;
+  opened = λ none. row-bare c.args.rows.now c.args.i 0 none;
+  nodes_open = λ none _. omega (arith, row-first c.args.rows.now c.args.i);
+  nodes_end = λ _. omega arith;
+  cost_open = λ _ _. omega arith;
+  cost_end = λ _. omega arith;
+  idle = λ _. refl;
+}
 
--- the nodes that one more stretch takes: the root is among them for the first one, or where the one before left no tree
-few-nodes : (j k n old mid new : ℕ) (Bare Own : Type 0) → j ≤ n → j ≡ k + 1 → (j < n → (Bare × (old ≤ mid + 2 * (n - j))) ⊎ Own) →
-    old ≤ mid + (min 1 (n - j) + 2 * (n - j)) → mid ≤ new + 3 → (Own → mid ≤ new + 2) → old ≤ new + (min 1 (n - k) + 2 * (n - k))
-few-nodes j k n old mid new Bare Own le next own so_far takes takes_own = grind (arith, own, takes_own)
-
--- the node steps of one more stretch: the first one may copy the root
-few-steps : (j k n old mid new : ℕ) (Bare Own Fewer : Type 0) → j ≤ n → j ≡ k + 1 → (j < n → (Bare × Fewer) ⊎ Own) →
-    mid ≤ old + (34 * min 1 (n - j) + 64 * (n - j)) → new ≤ mid + 98 → (Bare → new ≤ mid + 35) → (Own → new ≤ mid + 64) → new ≤ old + (34 * min 1 (n - k) + 64 * (n - k))
-few-steps j k n old mid new Bare Own Fewer le next own so_far takes takes_none takes_own = grind (arith, own, takes_none, takes_own)
-
--- and those where the row had no tree
-few-steps_empty : (j k n old mid new : ℕ) (Bare Own Fewer : Type 0) → j ≤ n → j ≡ k + 1 → (j ≡ n → Bare) → (j < n → (Bare × Fewer) ⊎ Own) →
-    mid ≤ old + 64 * (n - j) → (Bare → new ≤ mid + 35) → (Own → new ≤ mid + 64) → new ≤ old + 64 * (n - k)
-few-steps_empty j k n old mid new Bare Own Fewer le next begins own so_far takes_none takes_own = grind (arith, begins, own, takes_none, takes_own)
-
-none : Stretch
-none = record { range = record { from = 0; to = 0 }; origin = Absent; right = None }
-
-pub stretches-preserved-in-CopyOf : goal.stretches-preserved-in-CopyOf
-unfolding none
-stretches-preserved-in-CopyOf g c =
-    let k = c.stretches.k - 1 in
+pub fill_range-requires-clause-given : goal.fill_range-requires-clause-given
+fill_range-requires-clause-given g c =
     let stretches = c.args.stretches.now in
-    let inv = c.stretches.invariant in
-    let mine = c.share_between.ensures in
-    let more : k < length stretches = omega (arith, c.stretches-test.true, inv.within) in
-    let next : c.stretches.k ≡ k + 1 = omega (arith, c.stretches-test.true) in
-    let given = c.requires.stretches k none more in
-    let origin : IsApart (length (maps c.args.rows.now)) c.args.i (CopyOf c.in-CopyOf.j) = subst (IsApart (length (maps c.args.rows.now)) c.args.i) c.in-CopyOf.is given.given in
+    let count = length (maps c.args.rows.now) in
+    let holds = subst (λ o. MatchOption o (Unit {0}) (λ s. IsStretch count c.args.i s × (is_between s.range.from s.range.to c.pieces.p ≡ true))) (sym c.stretch_at.ensures ∙ ap option_copied c.in-Some.is)
+    (find-holds (λ (s : Stretch). is_between s.range.from s.range.to c.pieces.p) (IsStretch count c.args.i) stretches c.requires.stretches) in
+    subst (λ n. IsApart n c.args.i c.in-Some.stretch.now.origin) (sym (ap length c.pieces.invariant.maps ∙ length-set (maps c.args.rows.now) c.args.i _)) holds.0.given
+
+pub pieces-preserved-in-Some : goal.pieces-preserved-in-Some
+pieces-preserved-in-Some g c =
+    let stretches = c.args.stretches.now in
+    let before = maps c.args.rows.now in
+    let count = length before in
+    let after = changed_row before c.args.i stretches in
+    let p = c.pieces.p in
+    let e = c.stretch_edge-edge.result in
+    let edge = c.stretch_edge-edge.ensures in
+    let inv = c.pieces.invariant in
+    let mine = c.fill_range.ensures in
+    let origin = c.in-Some.stretch.now.origin in
+    let found = sym c.stretch_at.ensures ∙ ap option_copied c.in-Some.is in
+    let holds = subst (λ o. MatchOption o (Unit {0}) (λ s. IsStretch count c.args.i s × (is_between s.range.from s.range.to p ≡ true))) found
+    (find-holds (λ (s : Stretch). is_between s.range.from s.range.to p) (IsStretch count c.args.i) stretches c.requires.stretches) in
+    let kept = ap (λ ms. origin_value ms origin) inv.maps ∙ origin-kept before c.args.i count (put_range (row_of before c.args.i) 0 p after) origin holds.0.given in
+    let more = piece-edge count c.args.i stretches p e c.in-Some.stretch.now c.requires.stretches edge.past edge.within found edge.edge in
     record {
-      maps = row-copy (maps c.args.rows.now) (maps c.stretches.rows) (maps c.share_between.new.self) c.args.i k stretches (get_or stretches k none) none c.requires.row more refl
-          (inv.maps ∙ ap (λ n. set (maps c.args.rows.now) c.args.i (changed_row (maps c.args.rows.now) c.args.i (drop n stretches))) next)
-          c.in-CopyOf.j c.in-CopyOf.is origin.1 mine.maps;
-      within = omega (arith, more);
+      inside = edge.within;
+      maps = filled-more before c.args.i after c.requires.row p e (maps c.pieces.rows) (maps c.fill_range.new.rows) (origin_value (maps c.pieces.rows) origin) (omega (arith, edge.past)) inv.maps mine.maps
+          (λ q low high. by-stretch before c.args.i q stretches (Some c.in-Some.stretch.now) (edge.alike q low high ∙ found) ∙ ap (λ (f : ℕ → Option PageValue). f q) (sym kept));
       frames = mine.frames ∙ inv.frames;
       pool = mine.pool ∙ inv.pool;
       others = λ j off none. mine.others j off (inv.others j off none);
-      begins = λ is. absurd (omega (arith, is, more));
-      own = λ _. inr mine.own;
-      nodes = few-nodes c.stretches.k k (length stretches) _ _ _ _ _ inv.within next inv.own inv.nodes mine.nodes mine.nodes_own;
-      cost = few-steps c.stretches.k k (length stretches) _ _ _ _ _ _ inv.within next inv.own inv.cost mine.cost mine.cost_empty mine.cost_own;
-      cost_empty = λ alone. few-steps_empty c.stretches.k k (length stretches) _ _ _ _ _ _ inv.within next (λ first. inv.begins first alone) inv.own (inv.cost_empty alone) mine.cost_empty mine.cost_own;
+      nodes = more-nodes _ _ _ _ _ _ _ more inv.nodes mine.own mine.nodes mine.nodes_own;
+      cost = omega (arith, more, inv.cost, mine.cost);
+      opened = λ none. mine.opened (inv.opened none);
+      nodes_open = λ none _. let a = inv.nodes_open none (omega (arith, edge.past, edge.within)) in let b = mine.nodes_open (inv.opened none) in omega (arith, a, b, more);
+      nodes_end = λ none. let a = inv.nodes_open none (omega (arith, edge.past, edge.within)) in let b = mine.nodes_open (inv.opened none) in omega (arith, a, b, more);
+      cost_open = λ none _. let a = inv.cost_open none (omega (arith, edge.past, edge.within)) in let b = mine.cost_open (inv.opened none) in omega (arith, a, b, more);
+      cost_end = λ none. let a = inv.cost_open none (omega (arith, edge.past, edge.within)) in let b = mine.cost_open (inv.opened none) in let few = few-passed e edge.within in omega (arith, a, b, more, few);
+      idle = λ empty. absurd (let off = no-stretch stretches p empty in cc);
     }
 
-pub stretches-preserved : goal.stretches-preserved
-unfolding none
-stretches-preserved g c =
-    let k = c.stretches.k - 1 in
+pub pieces-preserved : goal.pieces-preserved
+pieces-preserved g c =
     let stretches = c.args.stretches.now in
-    let inv = c.stretches.invariant in
-    let mine = c.clear.ensures in
-    let more : k < length stretches = omega (arith, c.stretches-test.true, inv.within) in
-    let next : c.stretches.k ≡ k + 1 = omega (arith, c.stretches-test.true) in
+    let before = maps c.args.rows.now in
+    let after = changed_row before c.args.i stretches in
+    let p = c.pieces.p in
+    let e = c.stretch_edge-edge.result in
+    let edge = c.stretch_edge-edge.ensures in
+    let inv = c.pieces.invariant in
+    let found = sym c.stretch_at.ensures ∙ ap option_copied c.in_default.is in
+    let more = λ (early : e < MOST_PAGES). edges-edge (λ (s : Stretch). s.range.from) (λ (s : Stretch). s.range.to) stretches p e edge.past (edge.edge early) in
+    let grows = edges-grow (λ (s : Stretch). s.range.from) (λ (s : Stretch). s.range.to) stretches p e (omega (arith, edge.past)) in
     record {
-      maps = row-clear (maps c.args.rows.now) (maps c.stretches.rows) (maps c.clear.new.self) c.args.i k stretches (get_or stretches k none) none c.requires.row more refl
-          (inv.maps ∙ ap (λ n. set (maps c.args.rows.now) c.args.i (changed_row (maps c.args.rows.now) c.args.i (drop n stretches))) next)
-          (no-value (maps c.args.rows.now) (get_or stretches k none).origin c.in_default.not-CopyOf) mine.maps;
-      within = omega (arith, more);
-      frames = mine.frames ∙ inv.frames;
-      pool = mine.pool ∙ inv.pool;
-      others = λ j off none. mine.others j off (inv.others j off none);
-      begins = λ is. absurd (omega (arith, is, more));
-      own = λ _. ⊎_elim
-          (λ none. inl (none, omega (arith, inv.nodes, mine.given_up none, next, more)))
-          (λ alone. inr alone)
-          mine.own;
-      nodes = few-nodes c.stretches.k k (length stretches) _ _ _ _ _ inv.within next inv.own inv.nodes mine.nodes mine.nodes_own;
-      cost = few-steps c.stretches.k k (length stretches) _ _ _ _ _ _ inv.within next inv.own inv.cost mine.cost mine.cost_empty mine.cost_own;
-      cost_empty = λ alone. few-steps_empty c.stretches.k k (length stretches) _ _ _ _ _ _ inv.within next (λ first. inv.begins first alone) inv.own (inv.cost_empty alone) mine.cost_empty mine.cost_own;
+      inside = edge.within;
+      maps = filled-same before c.args.i after p e (maps c.pieces.rows) (omega (arith, edge.past)) inv.maps
+          (λ q low high. by-stretch before c.args.i q stretches None (edge.alike q low high ∙ found));
+      frames = inv.frames;
+      pool = inv.pool;
+      others = inv.others;
+      nodes = same-nodes _ _ _ _ _ grows inv.nodes;
+      cost = omega (arith, grows, inv.cost);
+      opened = λ none. row-later c.pieces.rows c.args.i p e (omega (arith, edge.past)) (inv.opened none);
+      nodes_open = λ none early. let a = inv.nodes_open none (omega (arith, edge.past, edge.within)) in let b = row-edges c.pieces.rows c.args.i p e in let m = more early in omega (arith, a, b, m);
+      nodes_end = λ none. let a = inv.nodes_end none in omega (arith, a, grows);
+      cost_open = λ none early. let a = inv.cost_open none (omega (arith, edge.past, edge.within)) in let b = passed-later p e (omega (arith, edge.past)) in let m = more early in omega (arith, a, b, m);
+      cost_end = λ none. let a = inv.cost_end none in omega (arith, a, grows);
+      idle = inv.idle;
     }
+
+pub returns-clause-maps : goal.returns-clause-maps
+returns-clause-maps g c =
+    let before = maps c.args.rows.now in
+    let last : c.pieces.p ≡ MOST_PAGES = omega (arith, c.pieces-test.false, c.from.ensures, c.pieces.invariant.inside) in
+    filled-all before c.args.i (changed_row before c.args.i c.args.stretches.now) (maps c.pieces.rows) (c.pieces.invariant.maps ∙ ap (filled before c.args.i (changed_row before c.args.i c.args.stretches.now)) last)
+    (λ q past. by-stretch before c.args.i q c.args.stretches.now None (past-stretch (length before) c.args.i q c.args.stretches.now past c.requires.stretches))
+
+pub returns-clause-nodes : goal.returns-clause-nodes
+returns-clause-nodes g c =
+    let few = edges-few (λ (s : Stretch). s.range.from) (λ (s : Stretch). s.range.to) c.args.stretches.now c.pieces.p in
+    ⊎_elim (λ a. omega (arith, a, few)) (λ b. omega (arith, b.1, few)) c.pieces.invariant.nodes
+
+pub returns-clause-nodes_empty : goal.returns-clause-nodes_empty
+returns-clause-nodes_empty g c none =
+    let few = edges-few (λ (s : Stretch). s.range.from) (λ (s : Stretch). s.range.to) c.args.stretches.now c.pieces.p in
+    let end = c.pieces.invariant.nodes_end none in
+    omega (arith, few, end)
+
+pub returns-clause-cost : goal.returns-clause-cost
+returns-clause-cost g c =
+    let few = edges-few (λ (s : Stretch). s.range.from) (λ (s : Stretch). s.range.to) c.args.stretches.now c.pieces.p in
+    omega (arith, few, c.pieces.invariant.cost)
+
+pub returns-clause-cost_empty : goal.returns-clause-cost_empty
+returns-clause-cost_empty g c none =
+    let few = edges-few (λ (s : Stretch). s.range.from) (λ (s : Stretch). s.range.to) c.args.stretches.now c.pieces.p in
+    let end = c.pieces.invariant.cost_end none in
+    ⊎_elim
+    (λ empty. omega (arith, empty, c.pieces.invariant.idle empty))
+    (λ some. omega (arith, few, end, some))
+    (cases_eq (length c.args.stretches.now) 0)

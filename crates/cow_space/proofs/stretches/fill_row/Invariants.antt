@@ -1,18 +1,28 @@
-use Rattle.std.proofs.Common.{◌≡◌, ◌≢◌, ℕ, ◌<◌, ◌≤◌, ◌+◌, ◌*◌, ◌-◌, ◌⊎◌, drop, length, min, set}
-use Rattle.cow_space.specs.RowSeen.{maps, frames_of, free_nodes, pool, HasNoTree, HasOwnRoot}
+use Rattle.std.proofs.Common.{◌≡◌, ◌≢◌, ℕ, ◌<◌, ◌≤◌, ◌+◌, ◌*◌, ◌-◌, ◌⊎◌, length}
+use Rattle.lwc_base.specs.declared.limits.TheConstants.{MOST_PAGES}
+use Rattle.page_tree.specs.Open.{entries_passed}
+use Rattle.cow_space.specs.RowSeen.{HasNoTree, HasOwnRoot, IsOpen, edge_short, frames_of, free_nodes, maps, pool}
 use Rattle.cow_space.specs.Rows.{changed_row}
+use Rattle.cow_space.proofs.Edges.{edges_to}
+use Rattle.cow_space.proofs.Filled.{filled}
 use Rattle.cow_space.proofs.stretches.fill_row.Given as goal
 
-abbrev pub invariant-stretches : goal.invariant-stretches
-invariant-stretches g l = record {
-  maps : maps l.rows ≡ set (maps l.fn.rows) l.fn.i (changed_row (maps l.fn.rows) l.fn.i (drop l.k l.stretches));
-  within : l.k ≤ length l.stretches;
+abbrev pub invariant-pieces : goal.invariant-pieces
+invariant-pieces g l = record {
+  inside : l.p ≤ MOST_PAGES;
+  maps : maps l.rows ≡ filled (maps l.fn.rows) l.fn.i (changed_row (maps l.fn.rows) l.fn.i l.stretches) l.p;
   frames : frames_of l.rows ≡ frames_of l.fn.rows;
   pool : pool l.rows ≡ pool l.fn.rows;
   others : (j : ℕ) → j ≢ l.fn.i → HasNoTree l.fn.rows j → HasNoTree l.rows j;
-  begins : l.k ≡ length l.stretches → HasNoTree l.fn.rows l.fn.i → HasNoTree l.rows l.fn.i;
-  own : l.k < length l.stretches → (HasNoTree l.rows l.fn.i × (free_nodes l.fn.rows ≤ free_nodes l.rows + 2 * (length l.stretches - l.k))) ⊎ HasOwnRoot l.rows l.fn.i;
-  nodes : free_nodes l.fn.rows ≤ free_nodes l.rows + (min 1 (length l.stretches - l.k) + 2 * (length l.stretches - l.k));
-  cost : l.steps ≤ l.fn.steps + (34 * min 1 (length l.stretches - l.k) + 64 * (length l.stretches - l.k));
-  cost_empty : HasNoTree l.fn.rows l.fn.i → l.steps ≤ l.fn.steps + 64 * (length l.stretches - l.k);
+  nodes : (free_nodes l.fn.rows ≤ free_nodes l.rows + 4 * edges_to l.stretches l.p) ⊎ (HasOwnRoot l.rows l.fn.i × (free_nodes l.fn.rows ≤ free_nodes l.rows + (1 + 4 * edges_to l.stretches l.p)));
+  cost : l.steps ≤ l.fn.steps + 766 * edges_to l.stretches l.p;
+  opened : HasNoTree l.fn.rows l.fn.i → IsOpen l.rows l.fn.i l.p;
+  nodes_open : HasNoTree l.fn.rows l.fn.i → l.p < MOST_PAGES → free_nodes l.fn.rows + edge_short l.rows l.fn.i l.p ≤ free_nodes l.rows + (1 + 2 * edges_to l.stretches l.p);
+  nodes_end : HasNoTree l.fn.rows l.fn.i → free_nodes l.fn.rows ≤ free_nodes l.rows + (1 + 2 * edges_to l.stretches l.p);
+  cost_open : HasNoTree l.fn.rows l.fn.i → l.p < MOST_PAGES → l.steps ≤ l.fn.steps + (entries_passed l.p + 36 * edges_to l.stretches l.p);
+  cost_end : HasNoTree l.fn.rows l.fn.i → l.steps ≤ l.fn.steps + (47 + 36 * edges_to l.stretches l.p);
+  idle : length l.stretches ≡ 0 → l.steps ≡ l.fn.steps;
 }
+
+abbrev pub decreases-pieces : goal.decreases-pieces
+decreases-pieces g l = MOST_PAGES - l.p

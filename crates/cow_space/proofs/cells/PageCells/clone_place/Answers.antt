@@ -10,6 +10,7 @@ use Rattle.cow_space.specs.Seen.{cells, rights}
 use Rattle.cow_space.proofs.Places.{may-none, none-cells}
 use Rattle.cow_space.proofs.Views.{bare-still, cells-set, kept-still, kinds-in, no-tree, place-at, read-segments, read-states, rights-at, rights-set, row-in}
 use Rattle.cow_space.proofs.cells.PageCells.clone_place.Goals as goal
+use Rattle.lwc_base.specs.declared.limits.TheConstants.{MOST_PAGES}
 
 pub index-requires : goal.index-requires
 index-requires g c = omega (arith, kinds-in c.args.self.now c.args.from c.requires.from, c.args.self.now.kinds.ok)
@@ -32,7 +33,7 @@ invariant_of-self g c =
     let read = read-segments w c.args.from c.index.result.now c.requires.from c.index.ensures in
     let copied = c.copy.ensures ∙ read-segments w c.args.from c.index-2.result.now c.requires.from c.index-2.ensures in
     let some = c.has_page-some.ensures.some c.if-some.true in
-    let same = ap (λ s. ranges 1024 (state_at s)) (read ∙ sym copied) in
+    let same = ap (λ s. ranges MOST_PAGES (state_at s)) (read ∙ sym copied) in
     record {
       kept = subst (λ s. IsKept (maps c.clone_row.new.self) (set w.kinds.items c.args.to s)) (sym copied)
           (kept-still w c.args.to (segments_of w.kinds.items c.args.from) (row_of (maps w.rows) c.args.from) (maps c.clone_row.new.self) c.requires.to c.clone_row.ensures.maps (w.kept.fit c.args.from) (w.kept.within c.args.from));
@@ -73,7 +74,7 @@ returns-then-some-clause-rights g c =
 pub returns-then-some-clause-cost_empty : goal.returns-then-some-clause-cost_empty
 returns-then-some-clause-cost_empty g c empty =
     let w = c.args.self.now in
-    omega (arith, c.clone_row.ensures.cost_empty (no-tree w c.args.to empty), c.has_page-some.ensures.some c.if-some.true, ap (ranges 1024) (read-states w c.args.from c.index.result.now c.requires.from c.index.ensures))
+    omega (arith, c.clone_row.ensures.cost_empty (no-tree w c.args.to empty), c.has_page-some.ensures.some c.if-some.true, ap (ranges MOST_PAGES) (read-states w c.args.from c.index.result.now c.requires.from c.index.ensures))
 
 pub returns-else-some-clause-cells : goal.returns-else-some-clause-cells
 unfolding cells

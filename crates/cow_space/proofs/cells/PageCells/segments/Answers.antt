@@ -2,6 +2,7 @@ use Rattle.std.proofs.Common.{ap, ◌∙◌, arith, length}
 use Rattle.range_map.specs.Kinds.{ranges, state_at}
 use Rattle.cow_space.proofs.Views.{kinds-in, read-states}
 use Rattle.cow_space.proofs.cells.PageCells.segments.Goals as goal
+use Rattle.lwc_base.specs.declared.limits.TheConstants.{MOST_PAGES}
 
 pub index-requires : goal.index-requires
 index-requires c = omega (arith, kinds-in c.args.self.now c.args.i c.requires, c.args.self.now.kinds.ok)
@@ -11,4 +12,4 @@ returns-clause-states c = ap state_at c.segments.ensures.items ∙ read-states c
 
 pub returns-clause-count : goal.returns-clause-count
 returns-clause-count c =
-    ap length c.segments.ensures.items ∙ c.segments.ensures.canonical.counted ∙ ap (ranges 1024) (read-states c.args.self.now c.args.i _ c.requires c.index.ensures)
+    ap length c.segments.ensures.items ∙ c.segments.ensures.canonical.counted ∙ ap (ranges MOST_PAGES) (read-states c.args.self.now c.args.i _ c.requires c.index.ensures)

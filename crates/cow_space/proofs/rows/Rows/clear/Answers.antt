@@ -1,11 +1,14 @@
-use Rattle.std.proofs.Common.{ap, ◌∙◌, sym, inl, inr, ⊎_elim, arith, get_or-set_other}
+use Rattle.std.proofs.Common.{subst, ap, ◌∙◌, sym, inl, inr, ⊎_elim, arith, get_or-set_other}
 use Rattle.std.proofs.lemmas.List.{get_or-set_same}
 use Rattle.page_tree.specs.declared.cell.PageCell.TheVariants.{Absent}
-use Rattle.page_tree.specs.Steps.{root_short}
-use Rattle.cow_space.specs.RowSeen.{maps, frames_of, free_nodes, HasNoTree, HasOwnRoot, pool}
+use Rattle.page_tree.specs.Open as tree
+use Rattle.page_tree.specs.Short as short
+use Rattle.page_tree.specs.Short.{root_short}
+use Rattle.cow_space.specs.RowSeen.{maps, frames_of, free_nodes, HasNoTree, HasOwnRoot, IsOpen, edge_short, pool}
 use Rattle.cow_space.proofs.Trees.{kept-set, maps-range}
 use Rattle.cow_space.proofs.RowViews.{is-tree, nodes-left, tree-in, tree-read}
-use Rattle.page_tree.proofs.PageLemmas.{clear_short-le, root_short-le}
+use Rattle.page_tree.proofs.PageLemmas.{clear_short-le}
+use Rattle.page_tree.proofs.LinkLemmas.{root_short-le}
 use Rattle.cow_space.proofs.rows.Rows.clear.Goals as goal
 
 pub index_mut-requires : goal.index_mut-requires
@@ -74,18 +77,6 @@ returns-clause-given_up g c = λ none.
     let inside = tree-in c.args.self.now c.args.i c.requires.row in
     c.clear_range.ensures.given_up (sym (get_or-set_same c.args.self.now.trees.items c.args.i c.clear_range.new.self 0 inside) ∙ none)
 
-pub returns-clause-cost_own : goal.returns-clause-cost_own
-unfolding HasOwnRoot
-returns-clause-cost_own g c = λ own.
-    let left_is = tree-read c.args.self.now c.args.i _ c.requires.row c.index_mut.ensures.value in
-    c.clear_range.ensures.cost_own (ap (root_short c.args.self.now.store.nodes) left_is ∙ own)
-
-pub returns-clause-cost_empty : goal.returns-clause-cost_empty
-unfolding HasNoTree
-returns-clause-cost_empty g c = λ none.
-    let left_is = tree-read c.args.self.now c.args.i _ c.requires.row c.index_mut.ensures.value in
-    c.clear_range.ensures.cost_empty (left_is ∙ none)
-
 pub returns-clause-others : goal.returns-clause-others
 unfolding HasNoTree
 returns-clause-others g c = λ j off none. get_or-set_other c.args.self.now.trees.items c.args.i j c.clear_range.new.self 0 off ∙ none
@@ -105,5 +96,28 @@ returns-clause-cost_all g c = c.clear_range.ensures.cost_all
 
 pub returns-clause-cost_none : goal.returns-clause-cost_none
 unfolding HasNoTree
-returns-clause-cost_none g c = λ first end none.
-    c.clear_range.ensures.cost_none first end (tree-read c.args.self.now c.args.i _ c.requires.row c.index_mut.ensures.value ∙ none)
+returns-clause-cost_none g c = λ none.
+    c.clear_range.ensures.cost_none (tree-read c.args.self.now c.args.i _ c.requires.row c.index_mut.ensures.value ∙ none)
+
+pub returns-clause-opened : goal.returns-clause-opened
+unfolding IsOpen
+returns-clause-opened g c = λ o some.
+    let left_is = tree-read c.args.self.now c.args.i _ c.requires.row c.index_mut.ensures.value in
+    let came_is = get_or-set_same c.args.self.now.trees.items c.args.i c.clear_range.new.self 0 (tree-in c.args.self.now c.args.i c.requires.row) in
+    subst (λ t. tree.IsOpen c.clear_range.new.store.nodes t c.args.range.to) (sym came_is)
+    (c.clear_range.ensures.«open» (subst (λ t. tree.IsOpen c.args.self.now.store.nodes t c.args.range.from) (sym left_is) o) some)
+
+pub returns-clause-nodes_open : goal.returns-clause-nodes_open
+unfolding IsOpen edge_short free_nodes
+returns-clause-nodes_open g c = λ o some.
+    let left_is = tree-read c.args.self.now c.args.i _ c.requires.row c.index_mut.ensures.value in
+    let came_is = get_or-set_same c.args.self.now.trees.items c.args.i c.clear_range.new.self 0 (tree-in c.args.self.now c.args.i c.requires.row) in
+    let left = ap (λ t. short.edge_short c.args.self.now.store.nodes t c.args.range.from) left_is in
+    let came = ap (λ t. short.edge_short c.clear_range.new.store.nodes t c.args.range.to) came_is in
+    omega (arith, left, came, c.clear_range.ensures.free_open (subst (λ t. tree.IsOpen c.args.self.now.store.nodes t c.args.range.from) (sym left_is) o) some)
+
+pub returns-clause-cost_open : goal.returns-clause-cost_open
+unfolding IsOpen
+returns-clause-cost_open g c = λ o.
+    let left_is = tree-read c.args.self.now c.args.i _ c.requires.row c.index_mut.ensures.value in
+    c.clear_range.ensures.cost_open (subst (λ t. tree.IsOpen c.args.self.now.store.nodes t c.args.range.from) (sym left_is) o)

@@ -1,14 +1,17 @@
 use Rattle.std.proofs.Common.{set, sym, ap, ◌∙◌, arith, subst, get_or-set_other}
 use Rattle.std.proofs.lemmas.List.{get_or-set_same}
 use Rattle.std.proofs.Math.ListN.{length-set}
-use Rattle.page_tree.specs.Steps.{root_short}
+use Rattle.page_tree.specs.Open as tree
+use Rattle.page_tree.specs.Short as short
+use Rattle.page_tree.specs.Short.{root_short}
 use Rattle.cow_space.specs.Trees.{cells, values, tree_maps}
 use Rattle.cow_space.specs.RowKept.{IsKept}
 use Rattle.cow_space.specs.Maps.{put_range, row_of}
-use Rattle.cow_space.specs.RowSeen.{maps, frames_of, free_nodes, HasOwnRoot, HasNoTree, pool}
+use Rattle.cow_space.specs.RowSeen.{maps, frames_of, free_nodes, HasOwnRoot, HasNoTree, IsOpen, edge_short, pool}
 use Rattle.cow_space.proofs.Trees.{other-read, kept-tree, kept-both, kept-set, maps-range, row-at, cells-page}
 use Rattle.cow_space.proofs.RowViews.{nodes-left, tree-in, tree-read}
-use Rattle.page_tree.proofs.PageLemmas.{range_short-le, root_short-le}
+use Rattle.page_tree.proofs.PageLemmas.{range_short-le}
+use Rattle.page_tree.proofs.LinkLemmas.{root_short-le}
 use Rattle.cow_space.proofs.rows.Rows.share_between.Goals as goal
 use Rattle.lwc_base.proofs.Small.{set-again}
 
@@ -108,18 +111,6 @@ returns-clause-nodes_own g c = λ own.
     let root = ap (root_short c.args.self.now.store.nodes) left_is ∙ own in
     omega (arith, takes, root, c.share_range.ensures.free)
 
-pub returns-clause-cost_own : goal.returns-clause-cost_own
-unfolding HasOwnRoot
-returns-clause-cost_own g c = λ own.
-    let left_is = c.replace-tree.ensures.value ∙ tree-read c.args.self.now c.args.to _ c.requires.to c.index_mut.ensures.value in
-    c.share_range.ensures.cost_own (ap (root_short c.args.self.now.store.nodes) left_is ∙ own)
-
-pub returns-clause-cost_empty : goal.returns-clause-cost_empty
-unfolding HasNoTree
-returns-clause-cost_empty g c = λ none.
-    let left_is = c.replace-tree.ensures.value ∙ tree-read c.args.self.now c.args.to _ c.requires.to c.index_mut.ensures.value in
-    c.share_range.ensures.cost_empty (left_is ∙ none)
-
 pub returns-clause-others : goal.returns-clause-others
 unfolding HasNoTree
 returns-clause-others g c = λ j off none.
@@ -129,3 +120,31 @@ returns-clause-others g c = λ j off none.
 pub returns-clause-pool : goal.returns-clause-pool
 unfolding pool
 returns-clause-pool g c = λ e f. (c.share_range.ensures.frames.stamps f e, c.share_range.ensures.frames.bytes f e)
+
+pub returns-clause-opened : goal.returns-clause-opened
+unfolding IsOpen
+returns-clause-opened g c = λ o some.
+    let trees = c.args.self.now.trees.items in
+    let to_in = tree-in c.args.self.now c.args.to c.requires.to in
+    let left_is = c.replace-tree.ensures.value ∙ tree-read c.args.self.now c.args.to _ c.requires.to c.index_mut.ensures.value in
+    let came_is = get_or-set_same (set trees c.args.to c.replace-tree.new.dest) c.args.to c.share_range.new.self 0 (omega (arith, to_in, length-set trees c.args.to c.replace-tree.new.dest)) in
+    subst (λ t. tree.IsOpen c.share_range.new.store.nodes t c.args.range.to) (sym came_is)
+    (c.share_range.ensures.«open» (subst (λ t. tree.IsOpen c.args.self.now.store.nodes t c.args.range.from) (sym left_is) o) some)
+
+pub returns-clause-nodes_open : goal.returns-clause-nodes_open
+unfolding IsOpen edge_short free_nodes
+returns-clause-nodes_open g c = λ o some.
+    let trees = c.args.self.now.trees.items in
+    let to_in = tree-in c.args.self.now c.args.to c.requires.to in
+    let left_is = c.replace-tree.ensures.value ∙ tree-read c.args.self.now c.args.to _ c.requires.to c.index_mut.ensures.value in
+    let came_is = get_or-set_same (set trees c.args.to c.replace-tree.new.dest) c.args.to c.share_range.new.self 0 (omega (arith, to_in, length-set trees c.args.to c.replace-tree.new.dest)) in
+    let open_left = subst (λ t. tree.IsOpen c.args.self.now.store.nodes t c.args.range.from) (sym left_is) o in
+    let none = ap (λ t. short.edge_short c.share_range.new.store.nodes t c.args.range.to) came_is ∙ c.share_range.ensures.edge_open open_left some in
+    let few = ap (λ t. short.edge_short c.args.self.now.store.nodes t c.args.range.from) left_is in
+    omega (arith, none, few, c.share_range.ensures.free_open open_left)
+
+pub returns-clause-cost_open : goal.returns-clause-cost_open
+unfolding IsOpen
+returns-clause-cost_open g c = λ o.
+    let left_is = c.replace-tree.ensures.value ∙ tree-read c.args.self.now c.args.to _ c.requires.to c.index_mut.ensures.value in
+    c.share_range.ensures.cost_open (subst (λ t. tree.IsOpen c.args.self.now.store.nodes t c.args.range.from) (sym left_is) o)

@@ -1,0 +1,17 @@
+use Rattle.std.proofs.Common.{◌≡◌, ℕ, suc, ◌≤◌, ◌-◌, None}
+use Rattle.lwc_base.specs.declared.limits.TheConstants.{MOST_PAGES}
+use Rattle.range_map.specs.Kinds.{ranges}
+use Rattle.cow_space.specs.Changes.{changed_states}
+use Rattle.cow_space.specs.Seen.{cells, rights}
+use Rattle.cow_space.proofs.cells.PageCells.count_after.Given as goal
+
+abbrev pub invariant-pieces : goal.invariant-pieces
+invariant-pieces l = record {
+  inside : l.p ≤ MOST_PAGES;
+  counted : l.count ≡ ranges l.p (changed_states (cells l.self) (rights l.self) l.i l.stretches l.reads);
+  first : l.p ≡ 0 → l.last ≡ None;
+  later : (k : ℕ) → l.p ≡ suc k → l.last ≡ changed_states (cells l.self) (rights l.self) l.i l.stretches l.reads k;
+}
+
+abbrev pub decreases-pieces : goal.decreases-pieces
+decreases-pieces l = MOST_PAGES - l.p
