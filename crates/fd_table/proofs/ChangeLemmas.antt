@@ -145,10 +145,8 @@ clear-rows pool pool' tables i used less =
 entry-same : (pool pool' : List Held) (e : ℕ) → ((o : ℕ) → slot_at pool' o ≡ slot_at pool o) → entry_slot pool' e ≡ entry_slot pool e
 entry-same pool pool' e same = ap (λ s. cond (eqb e 0) empty_slot s) (same (e - 1))
 
-pub share-counts : (pool pool' : List Held) (was e : ℕ) → was ≡ 0 → HoldsMore pool pool' (e ∷ []) → (o : ℕ) → count_of pool' o + one_if (eqb was (o + 1)) ≡ count_of pool o + one_if (eqb e (o + 1))
-share-counts pool pool' was e none more o =
-    let old = one-no was (o + 1) (λ is. absurd (omega (arith, is, none))) in
-    omega (arith, more.counts o, times-one o e, old)
+pub share-counts : (pool mid new : List Held) (was e : ℕ) → HoldsMore pool mid (e ∷ []) → HoldsLess mid new (was ∷ []) → (o : ℕ) → count_of new o + one_if (eqb was (o + 1)) ≡ count_of pool o + one_if (eqb e (o + 1))
+share-counts pool mid new was e more less o = omega (arith, more.counts o, less.counts o, times-one o e, times-one o was)
 
 -- a shared entry stands for what it stood for
 pub share-entry : (pool pool' : List Held) (tables : List Table) (from n : ℕ) → from < length tables → ((o : ℕ) → slot_at pool' o ≡ slot_at pool o) → entry_slot pool' (get_or (table_at tables from).entries n 0) ≡ row_of (rows pool tables) from n

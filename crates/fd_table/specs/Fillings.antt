@@ -1,17 +1,25 @@
 -- The slot that a filling stands for.
-use Rattle.std.specs.Prelude.{Option, None, Some}
-use Rattle.lwc_base.specs.declared.cell.Cell.{Cell}
-use Rattle.lwc_base.specs.declared.cell.Cell.TheVariants.{Own, Common}
-use Rattle.lwc_base.specs.declared.descriptor.Descriptor.{Descriptor}
-use Rattle.lwc_base.specs.declared.name.Name.{Name}
+use Rattle.std.specs.Prelude.{ℕ, List}
+use Rattle.lwc_base.specs.declared.descriptor.Cap.{Cap}
+use Rattle.pool_base.specs.Paired.{paired}
 use Rattle.fd_table.specs.declared.filling.Filling.{Filling}
-use Rattle.fd_table.specs.Slots.{Slot}
-
--- the cell of a group, or of a descriptor where there is none
-abbrev pub cell_of : Option Name → Descriptor → Cell Descriptor
-cell_of None descriptor = Own descriptor
-cell_of (Some group) descriptor = Common group
+use Rattle.fd_table.specs.declared.fillings.Stored.{Stored}
+use Rattle.fd_table.specs.Slots.{Slot, cell_of}
+use Rattle.fd_table.specs.Stored.{cell_in}
 
 -- the slot that a filling stands for
 abbrev pub slot_of : Filling → Slot
-slot_of filling = record { cell = cell_of filling.group filling.descriptor; target = filling.target }
+slot_of filling = record { cell = cell_of filling.cell; target = filling.target }
+
+-- the slot that a stored filling stands for, with the words beside it
+abbrev pub slot_in : Stored → Cap → Slot
+slot_in stored words = record { cell = cell_in stored.cell words; target = stored.target }
+
+-- the slots of stored fillings, and for how many there is memory
+pub record Stock : Type 0 where
+  pub slots : List Slot
+  pub room : ℕ
+
+-- the slots of stored fillings, with the words beside each
+abbrev pub slots_in : List Stored → List Cap → List Slot
+slots_in stored words = paired slot_in stored words

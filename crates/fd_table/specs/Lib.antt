@@ -5,4 +5,5 @@ pub mod Objects
 pub mod Pools
 pub mod Seen
 pub mod Slots
+pub mod Stored
 pub mod Tables

@@ -1,11 +1,8 @@
 -- A pool of counted slots as the list of them.
-use Rattle.std.specs.Prelude.{◌≡◌, ℕ, ◌==◌, ◌≤◌, List, None, count_by, length, slice_index, slice_index_or, slice_set}
-use Rattle.lwc_base.specs.declared.descriptor.Descriptor.TheVariants.{Empty}
+use Rattle.std.specs.Prelude.{◌≡◌, ℕ, ◌==◌, ◌≤◌, List, count_by, length, slice_index, slice_index_or, slice_set}
 use Rattle.pool_base.specs.Counts.{Places}
 use Rattle.pool_base.specs.Padded.{padded}
 use Rattle.pool_base.specs.Paired.{paired}
-use Rattle.fd_table.specs.declared.filling.Filling.{Filling}
-use Rattle.fd_table.specs.Fillings.{slot_of}
 use Rattle.fd_table.specs.Slots.{Slot, empty_slot}
 
 -- an object: how often it is held, and the slot that it stands for
@@ -37,20 +34,16 @@ recount pool o c = slice_set pool o (record (held_at pool o) { count = c })
 abbrev pub free_of : List Held → ℕ
 free_of pool = count_by (λ held. held.count == 0) pool
 
--- an object, of its count and its filling
-abbrev pub seen_held : ℕ → Filling → Held
-seen_held count filling = record { count = count; slot = slot_of filling }
+-- an object, of its count and the slot that it stands for
+abbrev pub seen_held : ℕ → Slot → Held
+seen_held count slot = record { count = count; slot = slot }
 
--- the filling of an object that was never taken
-abbrev pub no_filling : Filling
-no_filling = record { descriptor = Empty; group = None; target = None }
-
--- the objects, of their counts and fillings
-abbrev pub seen_pool : Places → List Filling → List Held
-seen_pool places fillings = paired seen_held places.counts (padded (length places.counts) no_filling fillings)
+-- the objects, of their counts and of the slots of those that were taken
+abbrev pub seen_pool : Places → List Slot → List Held
+seen_pool places slots = paired seen_held places.counts (padded (length places.counts) empty_slot slots)
 
 -- each object that was taken has a filling, and no other object is held
-pub record IsWhole (places : Places) (fillings : List Filling) : Type 0 where
-  pub filled : length fillings ≡ places.taken
+pub record IsWhole (places : Places) (slots : List Slot) : Type 0 where
+  pub filled : length slots ≡ places.taken
   pub within : places.taken ≤ length places.counts
   pub fresh : (o : ℕ) → places.taken ≤ o → slice_index places.counts o ≡ 0

@@ -4,13 +4,20 @@ use Rattle.lwc_base.specs.declared.cell.Cell.{Cell}
 use Rattle.lwc_base.specs.declared.cell.Cell.TheVariants.{Own, Common}
 use Rattle.lwc_base.specs.declared.descriptor.Descriptor.{Descriptor}
 use Rattle.lwc_base.specs.declared.descriptor.Descriptor.TheVariants.{Ctx, Empty}
+use Rattle.lwc_base.specs.declared.descriptor.Lent.{Lent}
 use Rattle.lwc_base.specs.declared.name.Name.{Name}
+use Rattle.lwc_base.specs.Lending.{descriptor_of}
 use Rattle.lwc_base.specs.Summaries.{is_empty}
 
 -- what a slot has: its cell, and a number for what the cell names
 pub record Slot : Type 0 where
   pub cell : Cell Descriptor
   pub target : Option ℕ
+
+-- the cell that a lent one stands for
+abbrev pub cell_of : Cell Lent → Cell Descriptor
+cell_of (Own value) = Own (descriptor_of value)
+cell_of (Common g) = Common g
 
 -- an empty slot of a place's own
 abbrev pub empty_slot : Slot

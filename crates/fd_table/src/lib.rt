@@ -4,9 +4,11 @@
 
 pub mod bits;
 pub mod filling;
+pub mod fillings;
 pub mod objects;
 pub mod pool;
 pub mod slots;
+pub mod stored;
 pub mod table;
 
 pub use bits::lowest_bit;

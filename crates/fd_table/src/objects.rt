@@ -61,15 +61,15 @@ impl Objects {
     }
 
     /// Takes a free object for a filling.
-    pub(crate) fn take(&mut self, filling: Filling) -> u32
+    pub(crate) fn take(&mut self, filling: &Filling<'_>) -> u32
         requires free { 0 < free_of self.old.pool }
         requires few { length self.old.pool + 1 < 2 ^ 32 }
-        requires target { IfSome (slot_of filling).target (λ place. place < length self.old.named.items) }
-        ensures pool { Takes self.old.pool self.new.pool result (slot_of filling) }
+        requires target { IfSome (slot_of filling.now).target (λ place. place < length self.old.named.items) }
+        ensures pool { Takes self.old.pool self.new.pool result (slot_of filling.now) }
         ensures places { length self.new.named.items ≡ length self.old.named.items }
     {
         let o = self.pool.take(filling).unwrap();
-        count_more(&mut self.named, filling.target());
+        count_more(&mut self.named, filling.target);
         o
     }
 
@@ -117,7 +117,7 @@ impl Objects {
         ensures { result ≡ last_target (held_at self.now.pool o) }
     {
         if self.pool.count(o) == 1 {
-            self.pool.filling(o).target()
+            self.pool.filling(o).target
         } else {
             None
         }

@@ -3,8 +3,9 @@ ghost use Rattle.fd_table.specs.Fillings.{slot_of};
 ghost use Rattle.fd_table.specs.Pools.{count_of, free_of, no_held, recount, slot_at};
 
 use crate::filling::Filling;
+use crate::fillings::Fillings;
 use lwc_base::OutOfMemory;
-use pool_base::{Counts, put_next};
+use pool_base::Counts;
 use std::alloc::Global;
 use std::marker::Model;
 
@@ -13,7 +14,7 @@ use std::marker::Model;
 #[derive(Drop)]
 pub(crate) struct Pool {
     counts: Counts,
-    fillings: Vec<Filling>,
+    fillings: Fillings,
 }
 
 impl Model for Pool {
@@ -22,14 +23,14 @@ impl Model for Pool {
 
     ghost Value = { List Held };
 
-    ghost use Rattle.std.specs.Prelude.{◌≤◌, length, vec_capacity};
+    ghost use Rattle.std.specs.Prelude.{◌≤◌, length};
     ghost use Rattle.fd_table.specs.Pools.{seen_pool, IsWhole};
 
-    ghost view = { λ pool. seen_pool pool.counts pool.fillings.items };
+    ghost view = { λ pool. seen_pool pool.counts pool.fillings.slots };
 
     ghost invariant = { λ pool. record {
-      whole : IsWhole pool.counts pool.fillings.items;
-      room : length pool.counts.counts ≤ vec_capacity pool.fillings;
+      whole : IsWhole pool.counts pool.fillings.slots;
+      room : length pool.counts.counts ≤ pool.fillings.room;
     } };
 }
 
@@ -39,21 +40,21 @@ impl Pool {
         ensures { IfOk result (λ pool. pool ≡ replicate objects no_held) }
     {
         let counts = Counts::open(alloc, objects)?;
-        let fillings = Vec::with_capacity(alloc, objects as usize)?;
+        let fillings = Fillings::open(alloc, objects)?;
         Ok(Pool { counts, fillings })
     }
 
     /// Takes a free object for a filling, and holds it once. `None` exactly where no object is free.
-    pub(crate) fn take(&mut self, filling: Filling) -> Option<u32>
+    pub(crate) fn take(&mut self, filling: &Filling<'_>) -> Option<u32>
         ensures full { IsNone result ↔ (free_of self.old ≡ 0) }
         ensures full_same { IfNone result (self.new ≡ self.old) }
         ensures inside { IfSome result (λ o. o < length self.old) }
         ensures was_free { IfSome result (λ o. count_of self.old o ≡ 0) }
         ensures taken { IfSome result (λ o.
-            self.new ≡ slice_set self.old o (record { count = 1; slot = slot_of filling })) }
+            self.new ≡ slice_set self.old o (record { count = 1; slot = slot_of filling.now })) }
     {
         let o = self.counts.take()?;
-        put_next(&mut self.fillings, o as usize, filling);
+        self.fillings.put_next(o, filling);
         Some(o)
     }
 
@@ -83,10 +84,10 @@ impl Pool {
     }
 
     /// The filling of a held object.
-    pub(crate) fn filling(&self, o: u32) -> Filling
+    pub(crate) fn filling(&self, o: u32) -> Filling<'_>
         requires { 0 < count_of self.now o }
         ensures { slot_of result ≡ slot_at self.now o }
     {
-        self.fillings[o as usize]
+        self.fillings.get(o)
     }
 }

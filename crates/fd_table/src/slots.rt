@@ -6,7 +6,7 @@ ghost use Rattle.fd_table.specs.Tables.{no_table};
 use crate::filling::Filling;
 use crate::objects::Objects;
 use crate::table::Table;
-use lwc_base::{Cell, Descriptor, Name, OutOfMemory};
+use lwc_base::{Cell, Lent, Name, OutOfMemory};
 use std::alloc::Global;
 
 /// How many numbers there are that slots can name.
@@ -44,7 +44,7 @@ impl Slots {
     ghost use Rattle.lwc_base.specs.declared.descriptor.Descriptor.TheVariants.{Empty};
     ghost use Rattle.lwc_base.specs.declared.limits.TheConstants.{MOST_SLOT_PLACES};
     ghost use Rattle.fd_table.specs.Seen.{slots};
-    ghost use Rattle.fd_table.specs.Slots.{context_in, empty_slot, is_common, is_filled, no_slots, put_slot, row_of};
+    ghost use Rattle.fd_table.specs.Slots.{cell_of, context_in, empty_slot, is_common, is_filled, no_slots, put_slot, row_of};
     ghost use Rattle.fd_table.specs.Fillings.{slot_of};
 
     /// This number of places whose slots are all empty. The only error is out of memory.
@@ -58,7 +58,7 @@ impl Slots {
     }
 
     /// What a slot has, where it is filled.
-    fn filling(&self, i: usize, n: u8) -> Option<Filling>
+    fn filling(&self, i: usize, n: u8) -> Option<Filling<'_>>
         requires place { i < length (slots self.now) }
         requires slot { n < SLOTS }
         ensures none { IfNone result (row_of (slots self.now) i n ≡ empty_slot) }
@@ -70,15 +70,15 @@ impl Slots {
         }
     }
 
-    /// The cell of a slot.
-    pub fn cell(&self, i: usize, n: u8) -> Cell<Descriptor>
+    /// The cell of a slot, lent.
+    pub fn cell(&self, i: usize, n: u8) -> Cell<Lent<'_>>
         requires place { i < length (slots self.now) }
         requires slot { n < SLOTS }
-        ensures { result ≡ (row_of (slots self.now) i n).cell }
+        ensures { cell_of result ≡ (row_of (slots self.now) i n).cell }
     {
         match self.filling(i, n) {
-            Some(filling) => filling.cell(),
-            None => Cell::Own(Descriptor::Empty),
+            Some(filling) => filling.cell,
+            None => Cell::Own(Lent::Empty),
         }
     }
 
@@ -140,18 +140,18 @@ impl Slots {
     }
 
     /// Puts another cell into a slot, with the number that it names.
-    pub fn put(&mut self, i: usize, n: u8, cell: Cell<Descriptor>, target: Option<u16>)
+    pub fn put(&mut self, i: usize, n: u8, cell: Cell<Lent<'_>>, target: Option<u16>)
         requires place { i < length (slots self.old) }
         requires slot { n < SLOTS }
         requires target { IfSome target (λ number. number < NUMBERS) }
-        requires named { cell ≡ Own Empty → target ≡ None }
+        requires named { cell_of cell ≡ Own Empty → target ≡ None }
         ensures { slots self.new ≡ slice_set (slots self.old) i
-            (put_slot (row_of (slots self.old) i) n (record { cell = cell; target = target })) }
+            (put_slot (row_of (slots self.old) i) n (record { cell = cell_of cell.entry; target = target })) }
     {
         self.empty_slot(i, n);
-        let filling = Filling::new(cell, target);
+        let filling = Filling { cell, target };
         if filling.is_filled() {
-            self.fill_slot(i, n, filling);
+            self.fill_slot(i, n, &filling);
         }
     }
 
@@ -168,44 +168,33 @@ impl Slots {
     }
 
     /// Fills an empty slot with a new object.
-    fn fill_slot(&mut self, i: usize, n: u8, filling: Filling)
+    fn fill_slot(&mut self, i: usize, n: u8, filling: &Filling<'_>)
         requires place { i < length (slots self.old) }
         requires slot { n < SLOTS }
         requires empty { row_of (slots self.old) i n ≡ empty_slot }
-        requires filled { is_filled (slot_of filling).cell ≡ true }
-        requires target { IfSome (slot_of filling).target (λ number. number < NUMBERS) }
+        requires filled { is_filled (slot_of filling.now).cell ≡ true }
+        requires target { IfSome (slot_of filling.now).target (λ number. number < NUMBERS) }
         ensures { slots self.new ≡ slice_set (slots self.old) i
-            (put_slot (row_of (slots self.old) i) n (slot_of filling)) }
+            (put_slot (row_of (slots self.old) i) n (slot_of filling.now)) }
     {
         let o = self.objects.take(filling);
         self.tables[i].set(n, o + 1, filling.is_common());
     }
 
-    /// Makes a slot of a place what the same slot of another place is.
-    pub fn copy_slot(&mut self, to: usize, from: usize, n: u8)
+    /// Makes slot n of a place what slot m of a place is. Both slots share its object from then on.
+    pub fn copy_slot(&mut self, to: usize, n: u8, from: usize, m: u8)
         requires to { to < length (slots self.old) }
-        requires from { from < length (slots self.old) }
-        requires apart { from ≢ to }
         requires slot { n < SLOTS }
-        ensures { slots self.new ≡ slice_set (slots self.old) to
-            (put_slot (row_of (slots self.old) to) n (row_of (slots self.old) from n)) }
-    {
-        self.empty_slot(to, n);
-        self.share_slot(to, from, n);
-    }
-
-    /// Gives an empty slot of a place the object of the same slot of another place, if it has one.
-    fn share_slot(&mut self, to: usize, from: usize, n: u8)
-        requires to { to < length (slots self.old) }
         requires from { from < length (slots self.old) }
-        requires slot { n < SLOTS }
-        requires empty { row_of (slots self.old) to n ≡ empty_slot }
+        requires from_slot { m < SLOTS }
         ensures { slots self.new ≡ slice_set (slots self.old) to
-            (put_slot (row_of (slots self.old) to) n (row_of (slots self.old) from n)) }
+            (put_slot (row_of (slots self.old) to) n (row_of (slots self.old) from m)) }
     {
-        let entry = self.tables[from].entries[n as usize];
-        let common = self.tables[from].is_common(n);
+        let entry = self.tables[from].entries[m as usize];
+        let common = self.tables[from].is_common(m);
         self.objects.hold_all(&[entry]);
+        let old = self.tables[to].entries[n as usize];
+        self.objects.drop_entry(old);
         self.tables[to].set(n, entry, common);
     }
 

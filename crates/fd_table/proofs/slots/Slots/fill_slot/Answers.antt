@@ -20,7 +20,7 @@ take-o-requires-clause-free c =
 
 pub take-o-requires-clause-target : goal.take-o-requires-clause-target
 take-o-requires-clause-target c =
-    subst (λ k. IfSome c.args.filling.target (λ number. number < k)) (sym c.args.self.now.numbers) c.requires.target
+    subst (λ k. IfSome c.args.filling.now.target (λ number. number < k)) (sym c.args.self.now.numbers) c.requires.target
 
 pub index_mut-requires : goal.index_mut-requires
 unfolding slots
@@ -35,7 +35,7 @@ invariant_of-self c =
     let i = c.args.i in
     let n = c.args.n in
     let o = c.take-o.result in
-    let slot = slot_of c.args.filling in
+    let slot = slot_of c.args.filling.now in
     let new = c.take-o.new.self.pool in
     let kept = c.args.self.now.kept in
     let takes = c.take-o.ensures.pool in
@@ -62,7 +62,7 @@ returns c =
     let i = c.args.i in
     let n = c.args.n in
     let o = c.take-o.result in
-    let slot = slot_of c.args.filling in
+    let slot = slot_of c.args.filling.now in
     let new = c.take-o.new.self.pool in
     let takes = c.take-o.ensures.pool in
     let inside : i < length tables = omega (arith, c.requires.place, length-rows pool tables) in

@@ -1,12 +1,10 @@
 use Rattle.std.proofs.Common.{set, ap, ◌∙◌}
 use Rattle.fd_table.specs.Seen.{slots}
-use Rattle.fd_table.specs.Fillings.{slot_of}
-use Rattle.fd_table.specs.Slots.{row_of, put_slot}
+use Rattle.fd_table.specs.Slots.{cell_of, row_of, put_slot}
 use Rattle.fd_table.proofs.SlotLemmas.{put-twice}
 use Rattle.fd_table.proofs.slots.Slots.put.Goals as goal
 
 pub returns-then-is_filled : goal.returns-then-is_filled
 returns-then-is_filled c =
-    c.fill_slot.ensures ∙ ap (λ all. set all c.args.i (put_slot (row_of all c.args.i) c.args.n (slot_of c.new-filling.result))) c.empty_slot.ensures
+    c.fill_slot.ensures ∙ ap (λ all. set all c.args.i (put_slot (row_of all c.args.i) c.args.n (record { cell = cell_of c.args.cell; target = c.args.target }))) c.empty_slot.ensures
     ∙ put-twice (slots c.args.self.now) c.args.i c.args.n _ _ c.requires.place
-    ∙ ap (λ s. set (slots c.args.self.now) c.args.i (put_slot (row_of (slots c.args.self.now) c.args.i) c.args.n s)) c.new-filling.ensures
