@@ -28,6 +28,7 @@ use Rattle.range_map.specs.declared.segment.PageState.{PageState}
 use Rattle.range_map.specs.declared.segment.Segment.{Segment}
 use Rattle.range_map.specs.declared.segment.SegmentKind.{SegmentKind}
 use Rattle.range_map.specs.declared.segment.SegmentKind.TheVariants.{Own, Common}
+use Rattle.range_map.proofs.Built.{or_none}
 use Rattle.cow_space.specs.declared.stretches.ReadRange.{ReadRange}
 use Rattle.cow_space.specs.declared.stretches.Stretch.{Stretch}
 use Rattle.cow_space.specs.Changes.{IsApart, IsStretch, have_page}
@@ -52,10 +53,6 @@ gift_append xs ys q =
     at : (a b : Option Stretch) → option_map gift_of (option_or a b) ≡ option_or (option_map gift_of a) (option_map gift_of b)
     at None b = refl
     at (Some s) b = refl
-
-pub or_none : {X : Type 0} (o : Option X) → option_or o None ≡ o
-or_none None = refl
-or_none (Some x) = refl
 
 mode_append : (xs ys : List Item) (k : Key) → mode (xs ++ ys) k ≡ option_or (mode xs k) (mode ys k)
 unfolding mode

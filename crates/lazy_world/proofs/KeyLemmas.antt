@@ -17,6 +17,11 @@ use Rattle.ctx_table.specs.NameTables.{ArePlaced}
 use Rattle.lazy_world.specs.declared.key_value.KeyValue.{KeyValue}
 use Rattle.lazy_world.specs.declared.key_value.KeyValue.TheVariants.{Slot, Cred}
 use Rattle.lazy_world.specs.Cells.{Row, is_nothing, is_own, put_row}
+use Rattle.lwc_base.specs.declared.descriptor.Descriptor.TheVariants as owned
+use Rattle.lwc_base.specs.declared.descriptor.Grant.TheVariants.{Of}
+use Rattle.lwc_base.specs.declared.descriptor.Lent.{Lent}
+use Rattle.lwc_base.specs.declared.descriptor.Lent.TheVariants as lent
+use Rattle.lwc_base.specs.Lending.{descriptor_of}
 use Rattle.lazy_world.specs.KeyValues.{HasSlot, group_in, key_in, value_in}
 use Rattle.lazy_world.specs.Sound.{HasOldTags, IsAllOwn, IsSound, IsWithin}
 use Rattle.lazy_world.specs.States.{Parts, group_of, held, world_of}
@@ -24,6 +29,24 @@ use Rattle.lazy_world.proofs.PageLemmas.{pages-context, pages-group, pages-row}
 use Rattle.lazy_world.proofs.SoundLemmas.{homes-row, sound-row}
 use Rattle.lazy_world.proofs.WorldLemmas.{change_context-row, change_group-row, context-found}
 use Rattle.lwc_base.proofs.Facts.{changes, stays_fresh}
+
+-- a descriptor, lent
+pub lent_for : Descriptor → Lent
+lent_for owned.Empty = lent.Empty
+lent_for owned.Console = lent.Console
+lent_for (owned.File file at) = lent.File file at
+lent_for (owned.Request r at) = lent.Request r at
+lent_for (owned.Reply r) = lent.Reply r
+lent_for (owned.Ctx name keys) = lent.Ctx name (Of (record { ref_ptr = (0, 0); now = keys }))
+
+pub lent_is : (d : Descriptor) → descriptor_of (lent_for d) ≡ d
+unfolding lent_for
+lent_is owned.Empty = refl
+lent_is owned.Console = refl
+lent_is (owned.File file at) = refl
+lent_is (owned.Request r at) = refl
+lent_is (owned.Reply r) = refl
+lent_is (owned.Ctx name keys) = refl
 
 -- the row with the value
 abbrev pub put_value : KeyValue → Row → Row
@@ -34,7 +57,7 @@ chosen_within n m d cell low past is = let other : eqb m n ≡ false = grind (ar
 
 pub within-put : (v : KeyValue) (pages : ℕ) (row : Row) → HasSlot v → IsWithin pages row → IsWithin pages (put_value v row)
 within-put (Slot n d) pages row has within (key.Page p) past = within (key.Page p) past
-within-put (Slot n d) pages row has within (key.Slot m) past = chosen_within n m d (row (key.Slot m)) has past (within (key.Slot m) past)
+within-put (Slot n d) pages row has within (key.Slot m) past = chosen_within n m (descriptor_of d) (row (key.Slot m)) has past (within (key.Slot m) past)
 within-put (Slot n d) pages row has within key.Cred past = refl
 within-put (Cred uid) pages row has within (key.Page p) past = within (key.Page p) past
 within-put (Cred uid) pages row has within (key.Slot m) past = within (key.Slot m) past
@@ -46,7 +69,7 @@ chosen_own false d cell own = own
 
 pub own-put : (v : KeyValue) (row : Row) → IsAllOwn row → IsAllOwn (put_value v row)
 own-put (Slot n d) row own (key.Page p) = own (key.Page p)
-own-put (Slot n d) row own (key.Slot m) = chosen_own (eqb m n) d (row (key.Slot m)) (own (key.Slot m))
+own-put (Slot n d) row own (key.Slot m) = chosen_own (eqb m n) (descriptor_of d) (row (key.Slot m)) (own (key.Slot m))
 own-put (Slot n d) row own key.Cred = own key.Cred
 own-put (Cred uid) row own (key.Page p) = own (key.Page p)
 own-put (Cred uid) row own (key.Slot m) = own (key.Slot m)
@@ -75,7 +98,7 @@ group-put v row = λ e. record { value = λ k. at v k e }
   where
     at : (v : KeyValue) (k : Key) → held k (put_value v row k) ≡ with_key (λ T. T) (key_in v) (value_in v) (λ q. held q (row q)) k
     at (Slot n d) (key.Page p) = refl
-    at (Slot n d) (key.Slot m) = chosen_held n m (eqb m n) d (row (key.Slot m))
+    at (Slot n d) (key.Slot m) = chosen_held n m (eqb m n) (descriptor_of d) (row (key.Slot m))
     at (Slot n d) key.Cred = refl
     at (Cred uid) (key.Page p) = refl
     at (Cred uid) (key.Slot m) = refl

@@ -34,6 +34,7 @@ mod PageLemmas
 mod PastLemmas
 mod PlaceLemmas
 pub mod TransferLemmas
+mod TurnLemmas
 mod ReachLemmas
 mod RenameLemmas
 mod RightLemmas

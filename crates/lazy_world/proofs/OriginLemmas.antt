@@ -1,5 +1,5 @@
 -- Stretches that give the pages below a page what they are to get.
-use Rattle.std.proofs.Common.{◌≡◌, ℕ, ◌<◌, ◌≤◌, ◌++◌, ⊎_elim, true, false, List, [], ◌∷◌, length, length-append, arith, leb, ltb, refl, sym, subst, ◌∙◌, Option, Some, None}
+use Rattle.std.proofs.Common.{◌≡◌, ℕ, ◌<◌, ◌≤◌, ◌++◌, ⊎_elim, true, false, List, [], ◌∷◌, arith, leb, ltb, refl, sym, subst, ◌∙◌, Option, Some, None}
 use Rattle.std.specs.Prelude.{All}
 use Rattle.std.specs.List.{find}
 use Rattle.std.specs.Option.{option_map, option_or}
@@ -34,20 +34,18 @@ push_on stretches s q on none =
 -- stretches give the pages below one what fits them, and no other page any
 pub record HasGiven (count i : ℕ) (fits : ℕ → Option Gift → Type 0) (p : ℕ) (stretches : List Stretch) : Type 0 where
   pub each : All (IsStretch count i) stretches
-  pub few : length stretches ≤ p
   pub done : (q : ℕ) → q < p → fits q (gift_at stretches q)
   pub rest : (q : ℕ) → p ≤ q → gift_at stretches q ≡ None
 
 module _ (count i : ℕ) (fits : ℕ → Option Gift → Type 0) where
   pub none_given : HasGiven count i fits 0 []
-  none_given = record { each = λ k d inside. absurd (omega arith); few = omega arith; done = λ q low. absurd (omega arith); rest = λ q low. refl }
+  none_given = record { each = λ k d inside. absurd (omega arith); done = λ q low. absurd (omega arith); rest = λ q low. refl }
 
   module _ (p e : ℕ) (stretches : List Stretch) (past : p < e) (has : HasGiven count i fits p stretches) where
     -- pages that stay need no stretch
     pub given_kept : ((q : ℕ) → p ≤ q → q < e → fits q None) → HasGiven count i fits e stretches
     given_kept same = record {
       each = has.each;
-      few = omega (arith, has.few, past);
       done = λ q high. ⊎_elim (λ low. has.done q low) (λ low. subst (fits q) (sym (has.rest q low)) (same q low high)) (cases_lt q p);
       rest = λ q low. has.rest q (omega arith);
     }
@@ -61,7 +59,6 @@ module _ (count i : ℕ) (fits : ℕ → Option Gift → Type 0) where
         inside = omega (arith, to, inside);
         given = can;
       }));
-      few = omega (arith, length-append stretches (s ∷ []), has.few, past);
       done = λ q high. ⊎_elim
           (λ low. subst (fits q) (sym (push_off stretches s q (and_left (leb s.range.from q) (ltb q s.range.to) (lt-leb s.range.from q (omega arith))))) (has.done q low))
           (λ low. subst (fits q) (sym (push_on stretches s q (between s.range.from s.range.to q (omega arith) (omega arith)) (has.rest q low))) (gives q low high))

@@ -1,21 +1,16 @@
 -- A test of the values of a map, by the places of names.
-use Rattle.std.proofs.Common.{◌≡◌, inl, inr, ⊎_elim, ℕ, ◌+◌, ◌-◌, ◌<◌, arith, List, [], ◌∷◌, refl, sym, ap, T, ◌∙◌, Bool, true, false, cond, Option, Some, None, get_or, map}
-use Rattle.std.specs.Prelude.{◌&&◌, ◌||◌, unwrap_or}
+use Rattle.std.proofs.Common.{◌≡◌, ⊎_elim, ℕ, ◌+◌, ◌-◌, ◌<◌, arith, refl, sym, ap, ◌∙◌, Bool, true, false, Option, Some, None, get_or}
+use Rattle.std.specs.Prelude.{◌||◌, unwrap_or}
 use Rattle.std.specs.List.{list_any, range_with_len}
 use Rattle.std.specs.Option.{option_map}
-use Rattle.std.specs.Ordering.{eq_by_cmp, is_eq, is_lt}
-use Rattle.std.specs.declared.cmp.Ordering.{Ordering}
-use Rattle.std.specs.declared.cmp.Ordering.TheVariants.{Less, Equal, Greater}
 use Rattle.std.specs.Cmp.{eq_by_cmp_equiv}
 use Rattle.std.specs.FinMap as fm
-use Rattle.std.specs.FinMap.Entries.{below_all, find}
 use Rattle.std.proofs.lemmas.Bool.{cases_lt, false≢true}
 use Rattle.lwc_base.specs.declared.cell.Cell.TheVariants.{Common}
 use Rattle.lwc_base.specs.declared.descriptor.TheConstants.{SLOTS}
 use Rattle.lwc_base.specs.declared.key.Key.TheVariants.{Page, Slot, Cred}
 use Rattle.lwc_base.specs.declared.name.Name.{Name}
 use Rattle.lwc_base.specs.Life.{is_in, names_group}
-use Rattle.lwc_base.specs.Names.{name_cmp}
 use Rattle.lwc_base.specs.Sharing.{any_key}
 use Rattle.lwc_base.specs.World.{Context}
 use Rattle.ctx_table.specs.NameTables.{ArePlaced}
@@ -26,53 +21,10 @@ use Rattle.lazy_world.specs.States.{Parts, context_at, world_of}
 use Rattle.lazy_world.proofs.AddLemmas.{no_common, no_page}
 use Rattle.lazy_world.proofs.WorldLemmas.{get-context}
 use Rattle.lwc_base.proofs.Facts.{orders}
-use Rattle.lwc_base.proofs.Life.{or_cases, or_left}
-use Rattle.lwc_base.proofs.Orders.{same_name}
+use Rattle.lwc_base.proofs.Life.{or_left}
 use Rattle.lwc_base.proofs.Needs.{some_in_range}
-use Rattle.lwc_base.proofs.Reaped.{any_value, number_in}
+use Rattle.lwc_base.proofs.Reaped.{any_value, number_in, some_value}
 use Rattle.lwc_base.proofs.Small.{same_bool}
-
-head_of : (a b : Bool) → T (a && b) → T a
-head_of true b h = tt
-head_of false b h = h
-
-tail_of : (a b : Bool) → T (a && b) → T b
-tail_of true b h = h
-tail_of false b h = absurd h
-
-not_tied : (r : Ordering) → T (is_lt r) → is_eq r ≡ false
-not_tied Less h = refl
-not_tied Equal h = absurd h
-not_tied Greater h = refl
-
-module _ {X : Type 0} where
-  none_below : (x : Name) (es : List (Name × X)) → T (below_all name_cmp x es) → find name_cmp x es ≡ None
-  none_below x [] h = refl
-  none_below x (e ∷ es) h = ap (λ b. cond b (Some e.1) (find name_cmp x es)) (not_tied (name_cmp x e.0) (head_of _ _ h)) ∙ none_below x es (tail_of _ _ h)
-
-  later_entry : (q : Name) (x : X) (e : Name × X) (es : List (Name × X)) (b : Bool) → eq_by_cmp name_cmp q e.0 ≡ b → T (below_all name_cmp e.0 es) → find name_cmp q es ≡ Some x →
-      cond b (Some e.1) (find name_cmp q es) ≡ Some x
-  later_entry q x e es false other below is = is
-  later_entry q x e es true same below is =
-      let none : find name_cmp q es ≡ None = ap (λ n. find name_cmp n es) (same_name q e.0 same) ∙ none_below e.0 es below in
-      let both = sym none ∙ is in cc
-
-  some_entry : (test : X → Bool) (es : List (Name × X)) → T (fm.is_sorted name_cmp es) → list_any test (map (λ (e : Name × X). e.1) es) ≡ true →
-      (q : Name) × (x : X) × (find name_cmp q es ≡ Some x) × (test x ≡ true)
-  some_entry test [] sorted e = absurd (false≢true e)
-  some_entry test (e ∷ es) sorted passes =
-      elim (or_cases (test e.1) (list_any test (map (λ (f : Name × X). f.1) es)) passes) [
-        | inl here ↦ (e.0, e.1, ap (λ b. cond b (Some e.1) (find name_cmp e.0 es)) ((eq_by_cmp_equiv orders.names).refl e.0), here)
-        | inr later ↦
-            let found = some_entry test es (tail_of _ _ sorted) later in
-            (found.0, found.1, later_entry found.0 found.1 e es (eq_by_cmp name_cmp found.0 e.0) refl (head_of _ _ sorted) found.2, found.3)
-      ]
-
-  -- a test that passes at some value passes at that of a name
-  some_value : (test : X → Bool) (m : fm.FinMap name_cmp X) → list_any test (fm.values m) ≡ true → (q : Name) × (x : X) × (fm.get m q ≡ Some x) × (test x ≡ true)
-  some_value test m passes =
-      let found = some_entry test (fm.entries m) (fm.entries_sorted m) passes in
-      (found.0, found.1, fm.get-entries m found.0 ∙ found.2, found.3)
 
 module _ (s : Parts) (sound : IsSound s) (placed : ArePlaced s.contexts) (g : Name) where
   abbrev test : Context → Bool

@@ -39,6 +39,7 @@ use Rattle.lazy_world.proofs.WorldLemmas.{context-found}
 use Rattle.lwc_base.proofs.Common.{put-other_key}
 use Rattle.cow_space.proofs.Taken.{own-cell, parting-others, write-taken}
 use Rattle.lazy_world.proofs.StepLemmas.{two-pages}
+use Rattle.lwc_base.specs.declared.limits.TheConstants.{MOST_PAGES}
 
 -- a page without bytes of its own parts
 pub parts-none : (tags : List Tag) (cell : Cell (Option PageValue)) → kind_of cell ≡ None → true ≡ parts tags (own_value cell)
@@ -111,7 +112,7 @@ module _ (s : Parts) (sound : IsSound s) (placed : ArePlaced s.contexts) (placed
     own-now = ap kind_of (sym (tie j p) ∙ value.1)
 
     -- there is no page past the last one
-    low-page : p < 1024
+    low-page : p < MOST_PAGES
     low-page =
         ⊎_elim (λ low. omega (arith, low, sound.sizes.size.pages.1)) (λ past. absurd (let none = sym (ap (is_nothing (Page p)) value.1) ∙ sound.past j (Page p) past in cc)) (cases_lt p s.size.pages)
 

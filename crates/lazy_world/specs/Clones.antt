@@ -60,25 +60,25 @@ clone_gift s items from q =
 abbrev pub CopiesPages : List Item → Type 0
 CopiesPages items = (p : ℕ) → mode_or_copy items (Page p) ≡ Copy
 
--- the pages of a clone of a place take at most 64 node steps and 2 free nodes for each range of the place and
+-- the pages of a clone of a place take at most 128 node steps and 4 free nodes for each range of the place and
 -- each item, and one free node besides; those that are all copied and all the place's own are taken whole
 pub record AreBounded (rows : ℕ → Row) (rights : ℕ → ℕ → Right) (from : ℕ) (items : List Item)
     (pages : PageOrigins) : Type 0 where
   pub nodes : most_nodes pages
-      ≤ 1 + 2 * (ranges MOST_PAGES (states_of (rows from) (rights from)) + length items)
+      ≤ 1 + 4 * (ranges MOST_PAGES (states_of (rows from) (rights from)) + length items)
   pub steps : most_steps rows rights pages
-      ≤ 64 * (ranges MOST_PAGES (states_of (rows from) (rights from)) + length items)
+      ≤ 128 * (ranges MOST_PAGES (states_of (rows from) (rights from)) + length items)
   pub whole : CopiesPages items → HasOwnPages (rows from) → pages ≡ AllOf from
 
 -- what a clone of a context takes: the frames in use are as many as before, and each frame keeps its stamp
--- and its bytes; for each range of the context and each item at most 64 node steps and 2 free nodes, and one
+-- and its bytes; for each range of the context and each item at most 128 node steps and 4 free nodes, and one
 -- free node besides; where all pages are copied and all are the context's own, at most one node step and no
 -- free node
 pub record CloneCost (old new : PlacedWorld) (before after : ℕ) (c : Name) (items : List Item) : Type 0 where
   pub used : used_frames new.places ≡ used_frames old.places
   pub pool : pool new.places ≡ pool old.places
-  pub nodes : free_nodes old.places ≤ free_nodes new.places + (1 + 2 * (ranges_of (seen old) c + length items))
-  pub steps : after ≤ before + 64 * (ranges_of (seen old) c + length items)
+  pub nodes : free_nodes old.places ≤ free_nodes new.places + (1 + 4 * (ranges_of (seen old) c + length items))
+  pub steps : after ≤ before + 128 * (ranges_of (seen old) c + length items)
   pub whole_nodes : CopiesPages items → HasOwnPages (context (seen old) c).cell
       → free_nodes old.places ≤ free_nodes new.places
   pub whole_steps : CopiesPages items → HasOwnPages (context (seen old) c).cell

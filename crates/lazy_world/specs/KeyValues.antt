@@ -7,6 +7,7 @@ use Rattle.lwc_base.specs.declared.key.Key.{Key}
 use Rattle.lwc_base.specs.declared.key.Key.TheVariants as key
 use Rattle.lwc_base.specs.declared.name.Name.{Name}
 use Rattle.lwc_base.specs.Keys.{ValueOf}
+use Rattle.lwc_base.specs.Lending.{descriptor_of}
 use Rattle.lazy_world.specs.declared.key_value.KeyValue.{KeyValue}
 use Rattle.lazy_world.specs.declared.key_value.KeyValue.TheVariants.{Slot, Cred}
 
@@ -17,7 +18,7 @@ key_in (Cred uid) = key.Cred
 
 -- the value
 abbrev pub value_in : (v : KeyValue) → ValueOf (key_in v)
-value_in (Slot n value) = value
+value_in (Slot n value) = descriptor_of value
 value_in (Cred uid) = uid
 
 -- there is a slot of this number

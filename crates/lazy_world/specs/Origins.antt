@@ -74,15 +74,15 @@ with_rights rows rights i (Stretches stretches reads) p =
 abbrev pub with_states : (ℕ → Row) → (ℕ → ℕ → Right) → ℕ → PageOrigins → ℕ → Option PageState
 with_states rows rights i pages = states_of (with_pages rows pages (rows i)) (with_rights rows rights i pages)
 
--- the most free nodes that pages take
+-- the most free nodes that pages take of a place that had none
 abbrev pub most_nodes : PageOrigins → ℕ
 most_nodes (AllOf j) = 0
-most_nodes (Stretches stretches reads) = 1 + 2 * length stretches.items
+most_nodes (Stretches stretches reads) = 1 + 4 * length stretches.items
 
 -- the most node steps that pages take of a place that had none
 abbrev pub most_steps : (ℕ → Row) → (ℕ → ℕ → Right) → PageOrigins → ℕ
 most_steps rows rights (AllOf j) = min 1 (ranges MOST_PAGES (states_of (rows j) (rights j)))
-most_steps rows rights (Stretches stretches reads) = 64 * length stretches.items
+most_steps rows rights (Stretches stretches reads) = 128 * length stretches.items
 
 -- the origin of a slot
 abbrev pub slot_origin : List (Option Origin) → ℕ → Option Origin

@@ -1,7 +1,7 @@
 use crate::lazy::{LazyWorld, anchors_of};
 use crate::world::PlacedWorld;
 use arrayvec::ArrayVec;
-use lwc_base::{Descriptor, Name, OutOfMemory, Range, Regs, Spec, StoreFault, Summary, WorldSize};
+use lwc_base::{Lent, Name, OutOfMemory, Range, Regs, Spec, StoreFault, Summary, WorldSize};
 use std::alloc::Global;
 use world_face::World;
 
@@ -48,15 +48,22 @@ impl World for LazyWorld {
         self.world.store(c, at, piece, job)
     }
 
-    fn slot(&self, c: Name, n: u8) -> Descriptor {
+    fn slot(&self, c: Name, n: u8) -> Lent<'_> {
         self.world.slot(c, n)
     }
 
-    fn set_slot(&mut self, c: Name, n: u8, value: Descriptor) {
+    fn set_slot(&mut self, c: Name, n: u8, value: Lent<'_>) {
         // What the old descriptor is of may have lost its only link.
         let cut = self.world.link(c, n);
         self.add_anchor(cut);
         self.world.set_slot(c, n, value);
+    }
+
+    fn dup_slot(&mut self, c: Name, from: u8, to: u8) {
+        // As in `set_slot`.
+        let lost = self.world.link(c, to);
+        self.add_anchor(lost);
+        self.world.dup_slot(c, from, to);
     }
 
     fn lowest_empty(&self, c: Name) -> Option<u8> {

@@ -1,8 +1,8 @@
-use lwc_base::Descriptor;
+use lwc_base::Lent;
 
 /// A key that is no page, and a value that is put under it.
-#[derive(Clone, Copy, Debug, PartialEq, Eq)]
-pub enum KeyValue {
-    Slot(u8, Descriptor),
+#[derive(Clone, Copy)]
+pub enum KeyValue<'a> {
+    Slot(u8, Lent<'a>),
     Cred(u32),
 }

@@ -15,7 +15,7 @@ ghost use Rattle.lazy_world.specs.Worlds.{parts, seen};
 
 use crate::world::PlacedWorld;
 use fd_table::lowest_bit;
-use lwc_base::{Descriptor, Name};
+use lwc_base::{Lent, Name};
 
 /// Whether a name is among some.
 fn is_among(names: &[Name], c: Name) -> bool
@@ -35,7 +35,7 @@ impl PlacedWorld {
             return self.places.context(i, n);
         }
         match self.slot_at(i, n) {
-            Descriptor::Ctx { name, .. } => Some(name),
+            Lent::Ctx { name, .. } => Some(name),
             _ => None,
         }
     }

@@ -1,7 +1,9 @@
-ghost use Rattle.std.specs.Prelude.{◌≡◌, ◌+◌, ◌-◌, ◌*◌, ◌<◌, ◌≤◌, IfNone, IfSome, is_some, length, map};
-ghost use Rattle.std.specs.Option.{option_copied};
+ghost use Rattle.std.specs.Prelude.{◌≡◌, ◌+◌, ◌-◌, ◌*◌, ◌<◌, ◌≤◌, IfNone, IfSome, Option, is_some, length, map, slice_index};
+ghost use Rattle.std.specs.Option.{option_copied, option_map_or};
 ghost use Rattle.lwc_base.specs.declared.limits.TheConstants.{MOST_PAGES};
+ghost use Rattle.lwc_base.specs.declared.page.PageValue.{PageValue};
 ghost use Rattle.lwc_base.specs.declared.page.TheConstants.{PAGE_BYTES};
+ghost use Rattle.lwc_base.specs.Pages.{bytes_of};
 ghost use Rattle.cow_space.specs.Maps.{data_of};
 ghost use Rattle.lazy_world.specs.Memory.{byte_in, holder, page_in};
 ghost use Rattle.lazy_world.specs.Seen.{count, rows};
@@ -10,6 +12,17 @@ use crate::touched::{Touched, touched_pages};
 use crate::world::PlacedWorld;
 use lwc_base::{Name, PAGE_BYTES};
 use range_map::SegmentKind;
+
+/// The byte at an offset of a page that has these bytes; 0 of one without bytes.
+fn byte_of(page: Option<&[u8]>, at: usize) -> u8
+    ensures { (value : Option PageValue) → option_copied page.entry ≡ data_of value
+        → result ≡ option_map_or (λ value. slice_index (bytes_of value) at) value 0 }
+{
+    match page {
+        Some(bytes) => bytes.get(at).copied().unwrap_or(0),
+        None => 0,
+    }
+}
 
 impl PlacedWorld {
     ghost use Rattle.std.specs.List.{list_all, range_with_len};
@@ -46,27 +59,21 @@ impl PlacedWorld {
         }
     }
 
-    /// The byte at an address of the context at a place; 0 where a page is absent.
-    fn byte(&self, i: usize, at: usize) -> u8
-        requires place { i < count self.now.places }
-        requires within { at < MOST_PAGES * PAGE_BYTES }
-        ensures { result ≡ byte_in (seen self.now) (rows self.now.places i) at }
-    {
-        match self.page_bytes(i, (at / PAGE_BYTES) as u16) {
-            Some(bytes) => bytes.get(at % PAGE_BYTES).copied().unwrap_or(0),
-            None => 0,
-        }
-    }
-
-    /// Copies the bytes of the context at a place from an address on.
+    /// Copies the bytes of the context at a place from an address on; 0 where a page is absent. Each touched page
+    /// is found once.
     fn copy_to(&self, i: usize, at: usize, out: &mut [u8])
         requires place { i < count self.now.places }
         requires within { at + length out.old ≤ MOST_PAGES * PAGE_BYTES }
         ensures { out.new ≡ map (byte_in (seen self.now) (rows self.now.places i))
             (range_with_len at (length out.old)) }
     {
+        let mut page = None;
         for (k, byte) in out.iter_mut().enumerate() {
-            *byte = self.byte(i, at + k);
+            let address = at + k;
+            if k == 0 || address % PAGE_BYTES == 0 {
+                page = self.page_bytes(i, (address / PAGE_BYTES) as u16);
+            }
+            *byte = byte_of(page, address % PAGE_BYTES);
         }
     }
 

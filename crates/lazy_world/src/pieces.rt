@@ -1,7 +1,7 @@
 use crate::places::Places;
 use arrayvec::ArrayVec;
 use cow_space::{Origin, ReadRange, Stretch};
-use lwc_base::{Cell, Descriptor, MOST_ITEMS, MOST_PAGE_RUNS, NOBODY, SLOTS};
+use lwc_base::{Cell, Lent, MOST_ITEMS, MOST_PAGE_RUNS, NOBODY, SLOTS};
 use pool_base::Steps;
 use std::sync::ledger::Ledger;
 
@@ -81,11 +81,12 @@ impl Places {
             (with_rights (rows self.old) (rights self.old) i (Stretches stretches.now reads.now)) }
         ensures count { count self.new ≡ count self.old }
         ensures frames { frame_count self.new ≡ frame_count self.old }
-        ensures nodes { free_nodes self.old ≤ free_nodes self.new + (1 + 2 * length stretches.now.items) }
+        ensures nodes { HasNoPages (rows self.old i)
+            → free_nodes self.old ≤ free_nodes self.new + (1 + 4 * length stretches.now.items) }
         ensures used { HasNoPages (rows self.old i) → used_frames self.new ≡ used_frames self.old }
         ensures pool { pool self.new ≡ pool self.old }
         ensures cost { HasNoPages (rows self.old i)
-            → steps.new ≤ steps.old + 64 * length stretches.now.items }
+            → steps.new ≤ steps.old + 128 * length stretches.now.items }
     {
         self.pages
             .change(i, stretches.as_slice(), reads.as_slice(), steps);
@@ -103,7 +104,8 @@ impl Places {
             ≡ put_rights (rights self.old) i (with_rights (rows self.old) (rights self.old) i pages.now) }
         ensures count { count self.new ≡ count self.old }
         ensures frames { frame_count self.new ≡ frame_count self.old }
-        ensures nodes { free_nodes self.old ≤ free_nodes self.new + most_nodes pages.now }
+        ensures nodes { HasNoPages (rows self.old i)
+            → free_nodes self.old ≤ free_nodes self.new + most_nodes pages.now }
         ensures used { HasNoPages (rows self.old i) → used_frames self.new ≡ used_frames self.old }
         ensures pool { pool self.new ≡ pool self.old }
         ensures cost { HasNoPages (rows self.old i)
@@ -117,19 +119,19 @@ impl Places {
         }
     }
 
-    /// Makes a slot of a place what the same slot of another place is.
-    fn copy_slot(&mut self, i: usize, j: usize, n: u8)
+    /// Makes slot n of a place what slot m of a place is.
+    pub(crate) fn copy_slot(&mut self, i: usize, n: u8, j: usize, m: u8)
         requires place { i < count self.old }
-        requires origin { j < count self.old }
-        requires apart { j ≢ i }
         requires slot { n < SLOTS }
+        requires origin { j < count self.old }
+        requires origin_slot { m < SLOTS }
         ensures rows { rows self.new ≡ put_row (rows self.old) i
-            (with_key Cell (Slot n) (rows self.old j (Slot n)) (rows self.old i)) }
+            (with_key Cell (Slot n) (rows self.old j (Slot m)) (rows self.old i)) }
         ensures count { count self.new ≡ count self.old }
         ensures frames { frame_count self.new ≡ frame_count self.old }
         ensures store { KeepsStore self.old self.new }
     {
-        self.slots.copy_slot(i, j, n);
+        self.slots.copy_slot(i, n, j, m);
     }
 
     /// Makes a slot of a place what an origin gives.
@@ -145,9 +147,9 @@ impl Places {
         ensures store { KeepsStore self.old self.new }
     {
         match origin {
-            Origin::Absent | Origin::Zeros => self.put_slot(i, n, Cell::Own(Descriptor::Empty)),
+            Origin::Absent | Origin::Zeros => self.put_slot(i, n, Cell::Own(Lent::Empty)),
             Origin::Common(g) => self.put_slot(i, n, Cell::Common(g)),
-            Origin::CopyOf(j) => self.copy_slot(i, j, n),
+            Origin::CopyOf(j) => self.copy_slot(i, n, j, n),
         }
     }
 
@@ -215,8 +217,9 @@ impl Places {
         }
     }
 
-    /// Makes the cells of a place what their origins say. A place without pages takes at most 64 node steps
-    /// for each stretch, or one if it gets all pages of another one, and no frame. No frame is written.
+    /// Makes the cells of a place what their origins say. A place without pages takes at most 128 node steps
+    /// and 4 free nodes for each stretch, and one free node besides, or one step if it gets all pages of another
+    /// one; and no frame. No frame is written.
     pub fn take<L: Ledger>(&mut self, i: usize, origins: &Origins, steps: &mut Steps<L>)
         requires place { i < count self.old }
         requires given { AreGiven (count self.old) i origins.now }
@@ -227,7 +230,8 @@ impl Places {
             (with_rights (rows self.old) (rights self.old) i origins.now.pages) }
         ensures count { count self.new ≡ count self.old }
         ensures frames { frame_count self.new ≡ frame_count self.old }
-        ensures nodes { free_nodes self.old ≤ free_nodes self.new + most_nodes origins.now.pages }
+        ensures nodes { HasNoPages (rows self.old i)
+            → free_nodes self.old ≤ free_nodes self.new + most_nodes origins.now.pages }
         ensures used { HasNoPages (rows self.old i) → used_frames self.new ≡ used_frames self.old }
         ensures pool { pool self.new ≡ pool self.old }
         ensures cost { HasNoPages (rows self.old i)

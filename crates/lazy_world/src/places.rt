@@ -11,7 +11,7 @@ ghost use Rattle.lazy_world.specs.Kept.{IsKept, number_of};
 use crate::key_value::KeyValue;
 use cow_space::PageCells;
 use fd_table::{NUMBERS, Slots};
-use lwc_base::{Cell, Descriptor, NOBODY, Name, OutOfMemory, Right};
+use lwc_base::{Cell, Lent, NOBODY, Name, OutOfMemory, Right};
 use range_map::{PageState, Segment, SegmentKind};
 use std::alloc::Global;
 
@@ -58,7 +58,7 @@ impl Places {
     ghost use Rattle.cow_space.specs.Cells.{all_write};
     ghost use Rattle.lwc_base.specs.Capabilities.{has_bit};
     ghost use Rattle.fd_table.specs.declared.slots.TheConstants.{NUMBERS};
-    ghost use Rattle.fd_table.specs.Slots.{context_in, is_common, is_filled};
+    ghost use Rattle.fd_table.specs.Slots.{cell_of, context_in, is_common, is_filled};
     ghost use Rattle.lazy_world.specs.Cells.{no_row, put_row, states_of};
     ghost use Rattle.lazy_world.specs.Kept.{target_of};
     ghost use Rattle.lwc_base.specs.declared.limits.TheConstants.{MOST_PAGE_PLACES};
@@ -106,8 +106,8 @@ impl Places {
         self.pages.state(i, p)
     }
 
-    /// A later page, or the end of all pages, up to which the pages of a place have the kind and the right of
-    /// this one.
+    /// The first page of a place after one that has another kind or another right, or the end of all pages. There
+    /// are at most 64 ranges, so that a walk from edge to edge is short.
     pub fn next_edge(&self, i: usize, p: u16) -> u16
         requires place { i < count self.now }
         requires page { p < MOST_PAGES }
@@ -116,6 +116,10 @@ impl Places {
         ensures alike { (q : ℕ) → p ≤ q → q < result
             → states_of (rows self.now i) (rights self.now i) q
             ≡ states_of (rows self.now i) (rights self.now i) p }
+        ensures other { result < MOST_PAGES
+            → states_of (rows self.now i) (rights self.now i) result
+            ≢ states_of (rows self.now i) (rights self.now i) p }
+        ensures few { ranges MOST_PAGES (states_of (rows self.now i) (rights self.now i)) ≤ MOST_RANGES }
     {
         self.pages.next_edge(i, p)
     }
@@ -141,11 +145,11 @@ impl Places {
         self.pages.bytes(i, p)
     }
 
-    /// The cell of a slot of a place.
-    pub fn slot(&self, i: usize, n: u8) -> Cell<Descriptor>
+    /// The cell of a slot of a place, lent.
+    pub fn slot(&self, i: usize, n: u8) -> Cell<Lent<'_>>
         requires place { i < count self.now }
         requires slot { n < SLOTS }
-        ensures { result ≡ rows self.now i (Slot n) }
+        ensures { cell_of result ≡ rows self.now i (Slot n) }
     {
         self.slots.cell(i, n)
     }
@@ -159,12 +163,12 @@ impl Places {
     }
 
     /// The number of the context that a cell has a descriptor of, if it has one.
-    fn target_of(cell: &Cell<Descriptor>) -> Option<u16>
-        ensures target { result ≡ target_of cell.now }
+    fn target_of(cell: &Cell<Lent<'_>>) -> Option<u16>
+        ensures target { result ≡ target_of (cell_of cell.now) }
         ensures within { IfSome result (λ number. number < NUMBERS) }
     {
         match cell {
-            Cell::Own(Descriptor::Ctx { name, .. }) => Some(number_of(*name)),
+            Cell::Own(Lent::Ctx { name, .. }) => Some(number_of(*name)),
             _ => None,
         }
     }
@@ -193,6 +197,17 @@ impl Places {
         ensures { result ≡ is_common (rows self.now i (Slot n)) }
     {
         self.common(i) >> n & 1 == 1
+    }
+
+    /// Whether two slots of a place are both its own.
+    pub fn are_own(&self, i: usize, n: u8, m: u8) -> bool
+        requires place { i < count self.now }
+        requires slot { n < SLOTS }
+        requires other { m < SLOTS }
+        ensures slot { result ≡ true → is_common (rows self.now i (Slot n)) ≡ false }
+        ensures other { result ≡ true → is_common (rows self.now i (Slot m)) ≡ false }
+    {
+        !self.is_common(i, n) && !self.is_common(i, m)
     }
 
     /// The slots of a place that are more than empty ones of its own: slot n is bit n.
@@ -230,11 +245,11 @@ impl Places {
     }
 
     /// Puts another cell into a slot of a place.
-    pub fn put_slot(&mut self, i: usize, n: u8, cell: Cell<Descriptor>)
+    pub fn put_slot(&mut self, i: usize, n: u8, cell: Cell<Lent<'_>>)
         requires place { i < count self.old }
         requires slot { n < SLOTS }
         ensures rows { rows self.new
-            ≡ put_row (rows self.old) i (with_key Cell (Slot n) cell (rows self.old i)) }
+            ≡ put_row (rows self.old) i (with_key Cell (Slot n) (cell_of cell.entry) (rows self.old i)) }
         ensures count { count self.new ≡ count self.old }
         ensures frames { frame_count self.new ≡ frame_count self.old }
         ensures store { KeepsStore self.old self.new }
@@ -255,11 +270,11 @@ impl Places {
     }
 
     /// Puts a value of a place's own under a key.
-    pub fn put(&mut self, i: usize, value: KeyValue)
+    pub fn put(&mut self, i: usize, value: KeyValue<'_>)
         requires place { i < count self.old }
         requires slot { HasSlot value }
         ensures rows { rows self.new ≡ put_row (rows self.old) i
-            (with_key Cell (key_in value) (Own (value_in value)) (rows self.old i)) }
+            (with_key Cell (key_in value.entry) (Own (value_in value.entry)) (rows self.old i)) }
         ensures rights { rights self.new ≡ rights self.old }
         ensures count { count self.new ≡ count self.old }
         ensures frames { frame_count self.new ≡ frame_count self.old }
@@ -271,10 +286,10 @@ impl Places {
     }
 
     /// The group that the cell of a place under a key names, if it names one.
-    pub fn group(&self, i: usize, value: KeyValue) -> Option<Name>
+    pub fn group(&self, i: usize, value: KeyValue<'_>) -> Option<Name>
         requires place { i < count self.now }
         requires slot { HasSlot value }
-        ensures { result ≡ group_in (rows self.now i (key_in value)) }
+        ensures { result ≡ group_in (rows self.now i (key_in value.entry)) }
     {
         match value {
             KeyValue::Slot(n, _) => match self.slot(i, n) {

@@ -1,8 +1,9 @@
-ghost use Rattle.std.specs.Prelude.{◌≡◌, ◌<◌, ◌≤◌, ℕ, All, IfSome, None};
+ghost use Rattle.std.specs.Prelude.{◌≡◌, ◌≢◌, ◌==◌, ◌||◌, ◌<◌, ◌≤◌, ◌⊎◌, ℕ, All, IfSome, None, true};
+ghost use Rattle.std.specs.List.{list_any};
 ghost use Rattle.std.specs.Option.{option_map};
 ghost use Rattle.lwc_base.specs.declared.descriptor.TheConstants.{SLOTS};
 ghost use Rattle.lwc_base.specs.declared.key.Key.TheVariants.{Page, Slot, Cred};
-ghost use Rattle.lwc_base.specs.declared.limits.TheConstants.{MOST_PAGES};
+ghost use Rattle.lwc_base.specs.declared.limits.TheConstants.{MOST_PAGES, MOST_RANGES};
 ghost use Rattle.lwc_base.specs.Modes.{IsItem, IsSpec, mode, names};
 ghost use Rattle.lwc_base.specs.declared.cell.Cell.{Cell};
 ghost use Rattle.lwc_base.specs.declared.key.Key.{Key};
@@ -25,6 +26,7 @@ fn item_edge(item: &Item, p: u16, edge: u16) -> u16
     ensures past { p < result }
     ensures within { result ≤ edge }
     ensures alike { (q : ℕ) → p ≤ q → q < result → names item.now (Page q) ≡ names item.now (Page p) }
+    ensures one { result < edge → (result ≡ item.now.from) ⊎ (result ≡ item.now.to) }
 {
     match item.kind {
         Kind::Page => sooner_edge(item.from as u16, item.to as u16, p, edge),
@@ -32,12 +34,15 @@ fn item_edge(item: &Item, p: u16, edge: u16) -> u16
     }
 }
 
-/// A later page, at most the edge, up to which the pages have the mode of this one.
+/// Where an item of pages first begins or ends past a page, if that is before the edge; else the edge. Up to there
+/// the pages have the mode of this one.
 pub(crate) fn mode_edge(spec: &Spec, p: u16, edge: u16) -> u16
     requires { p < edge }
     ensures past { p < result }
     ensures within { result ≤ edge }
     ensures alike { (q : ℕ) → p ≤ q → q < result → mode spec.now (Page q) ≡ mode spec.now (Page p) }
+    ensures edge { result < edge
+        → list_any (λ item. (item.from == result) || (item.to == result)) spec.now ≡ true }
 {
     let mut next = edge;
     for item in spec.items() {
@@ -73,7 +78,7 @@ fn stretch_of(origin: Option<Origin>, range: Range, right: Option<Right>) -> Opt
 impl PlacedWorld {
     ghost use Rattle.cow_space.specs.Changes.{IsStretch};
     ghost use Rattle.lwc_base.specs.declared.right.Right.{Right};
-    ghost use Rattle.range_map.specs.Kinds.{kind_of, state_of};
+    ghost use Rattle.range_map.specs.Kinds.{kind_of, ranges, state_of};
     ghost use Rattle.lazy_world.specs.Cells.{states_of};
     ghost use Rattle.lazy_world.specs.Transfers.{CanGet, Gives, IsFor, IsFound, given_or, reads};
     ghost use Rattle.lazy_world.specs.Seen.{count, rights, rows};
@@ -114,7 +119,7 @@ impl PlacedWorld {
         }
     }
 
-    /// What is found at a page of a place, and a later page up to which the same is found.
+    /// What is found at a page of a place, and the first later page of another state, or the end of all pages.
     pub(crate) fn found_page(&self, i: usize, p: u16) -> (Found, u16)
         requires place { i < count self.now.places }
         requires page { p < MOST_PAGES }
@@ -125,12 +130,21 @@ impl PlacedWorld {
             (rows self.now.places i (Page q)) result.0 }
         ensures right { (q : ℕ) → p ≤ q → q < result.1 → result.0.right
             ≡ option_map (λ s. s.right) (states_of (rows self.now.places i) (rights self.now.places i) q) }
+        ensures alike { (q : ℕ) → p ≤ q → q < result.1
+            → states_of (rows self.now.places i) (rights self.now.places i) q
+            ≡ states_of (rows self.now.places i) (rights self.now.places i) p }
+        ensures other { result.1 < MOST_PAGES
+            → states_of (rows self.now.places i) (rights self.now.places i) result.1
+            ≢ states_of (rows self.now.places i) (rights self.now.places i) p }
+        ensures few { ranges MOST_PAGES (states_of (rows self.now.places i) (rights self.now.places i))
+            ≤ MOST_RANGES }
     {
         let found = self.found_state(self.places.state(i, p));
         (found, self.places.next_edge(i, p))
     }
 
-    /// The stretch by a transfer of a page and of all up to a later one; none where these pages stay.
+    /// The stretch by a transfer of a page and of all up to a later one, where a range or an item begins or ends;
+    /// none where these pages stay.
     fn page_stretch(
         &self,
         transfer: Transfer,
@@ -156,6 +170,15 @@ impl PlacedWorld {
             (option_map gift_of result.0))
             ≡ right_transferred self.now transfer spec.now from to q }
         ensures can { CanGet (count self.now.places) to (option_map (λ s. s.origin) result.0) }
+        ensures alike { (q : ℕ) → p ≤ q → q < result.1
+            → states_of (rows self.now.places from) (rights self.now.places from) q
+            ≡ states_of (rows self.now.places from) (rights self.now.places from) p }
+        ensures edge { result.1 < MOST_PAGES
+            → (states_of (rows self.now.places from) (rights self.now.places from) result.1
+            ≢ states_of (rows self.now.places from) (rights self.now.places from) p)
+            ⊎ (list_any (λ item. (item.from == result.1) || (item.to == result.1)) spec.now ≡ true) }
+        ensures few { ranges MOST_PAGES (states_of (rows self.now.places from) (rights self.now.places from))
+            ≤ MOST_RANGES }
     {
         let (found, edge) = self.found_page(from, p);
         let end = mode_edge(spec, p, edge);
@@ -164,7 +187,7 @@ impl PlacedWorld {
         (stretch_of(origin, range, found.right), end)
     }
 
-    /// The stretches that give a place its pages by a transfer.
+    /// The stretches that give a place its pages by a transfer: at most one from each edge of a range or of an item.
     fn page_stretches(
         &self,
         transfer: Transfer,
@@ -174,6 +197,7 @@ impl PlacedWorld {
     ) -> ArrayVec<Stretch, MOST_PAGE_RUNS>
         requires from { from < count self.now.places }
         requires transfer { IsFor (parts self.now).size.contexts from to transfer }
+        requires within { IsSpec (seen self.now).size.pages spec.now }
         ensures gives { (q : ℕ) → q < MOST_PAGES
             → given_or (rows self.now.places) (Page q) (rows self.now.places to (Page q))
             (origin_at result.items q) ≡ transferred self.now transfer spec.now from to (Page q) }

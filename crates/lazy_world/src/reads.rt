@@ -7,13 +7,14 @@ ghost use Rattle.lwc_base.specs.declared.limits.TheConstants.{MOST_PAGES, MOST_T
 
 use crate::world::PlacedWorld;
 use fd_table::lowest_bit;
-use lwc_base::{Cell, Descriptor, NOBODY, Name, Regs, SLOTS, Summary};
+use lwc_base::{Cell, Lent, NOBODY, Name, Regs, SLOTS, Summary};
 use range_map::SegmentKind;
 
 impl PlacedWorld {
     ghost use Rattle.std.specs.List.{find, range_with_len};
     ghost use Rattle.lwc_base.specs.Capabilities.{has_bit};
     ghost use Rattle.lwc_base.specs.Cells.{slot_at, uid_at, value_of};
+    ghost use Rattle.lwc_base.specs.Lending.{descriptor_of};
     ghost use Rattle.lwc_base.specs.Slots.{lowest_empty};
     ghost use Rattle.lwc_base.specs.Summaries.{is_empty, summary_of};
     ghost use Rattle.lwc_base.specs.World.{context, group, groups_of, live_of, new_group};
@@ -60,25 +61,25 @@ impl PlacedWorld {
         }
     }
 
-    /// The value of a group's slot.
-    fn group_slot(&self, g: Name, n: u8) -> Descriptor
+    /// The value of a group's slot, lent.
+    fn group_slot(&self, g: Name, n: u8) -> Lent<'_>
         requires { n < SLOTS }
-        ensures { result ≡ (group (seen self.now) g).value (Slot n) }
+        ensures { descriptor_of result ≡ (group (seen self.now) g).value (Slot n) }
     {
         let Some(i) = self.group_place(g) else {
-            return Descriptor::Empty;
+            return Lent::Empty;
         };
         match self.places.slot(i, n) {
             Cell::Own(value) => value,
-            Cell::Common(_) => Descriptor::Empty,
+            Cell::Common(_) => Lent::Empty,
         }
     }
 
-    /// The descriptor in a slot of the context at a place.
-    pub(crate) fn slot_at(&self, i: usize, n: u8) -> Descriptor
+    /// The descriptor in a slot of the context at a place, lent.
+    pub(crate) fn slot_at(&self, i: usize, n: u8) -> Lent<'_>
         requires place { i < count self.now.places }
         requires slot { n < SLOTS }
-        ensures { result ≡ value_of (seen self.now) (Slot n) (rows self.now.places i (Slot n)) }
+        ensures { descriptor_of result ≡ value_of (seen self.now) (Slot n) (rows self.now.places i (Slot n)) }
     {
         match self.places.slot(i, n) {
             Cell::Own(value) => value,
@@ -86,11 +87,11 @@ impl PlacedWorld {
         }
     }
 
-    /// The descriptor in a slot of the context.
-    pub(crate) fn slot(&self, c: Name, n: u8) -> Descriptor
+    /// The descriptor in a slot of the context, lent.
+    pub(crate) fn slot(&self, c: Name, n: u8) -> Lent<'_>
         requires live { IsLive (seen self.now) c }
         requires within { n < SLOTS }
-        ensures value { result ≡ slot_at (seen self.now) c n }
+        ensures value { descriptor_of result ≡ slot_at (seen self.now) c n }
     {
         self.slot_at(self.place(c), n)
     }
@@ -107,7 +108,7 @@ impl PlacedWorld {
         if !self.places.is_common(i, n) {
             return false;
         }
-        matches!(self.slot_at(i, n), Descriptor::Empty)
+        matches!(self.slot_at(i, n), Lent::Empty)
     }
 
     /// The slots of the context at a place that may be empty, those that are not filled and those that are

@@ -1,5 +1,5 @@
 ghost use Rattle.std.specs.Prelude.{◌≡◌, ◌≢◌, ◌↔◌, ◌*◌, ◌+◌, ◌-◌, ◌<◌, ◌≤◌, ◌^◌, ℕ, [], ◌∷◌, Err};
-ghost use Rattle.std.specs.Prelude.{OnErr, OnOk, Some, count_by, is_some, length, true, unwrap_or};
+ghost use Rattle.std.specs.Prelude.{OnErr, OnOk, Some, count_by, false, is_some, length, true, unwrap_or};
 ghost use Rattle.lwc_base.specs.declared.cell.Cell.{Cell};
 ghost use Rattle.lwc_base.specs.declared.cell.Cell.TheVariants.{Own};
 ghost use Rattle.lwc_base.specs.declared.key.Key.TheVariants.{Page};
@@ -152,6 +152,27 @@ impl PlacedWorld {
             .count()
     }
 
+    /// Whether the frames in use and the pages that a store to some pages of the context at a place parts are more
+    /// than the frames. These pages are looked at only where all of them could not part.
+    #[tactic(auto, using(lwc_base::proofs::Small::count_of_range))]
+    fn lacks_frames(&self, i: usize, pages: Touched) -> bool
+        requires place { i < count self.now.places }
+        requires order { pages.first ≤ pages.end }
+        ensures lacking { result ≡ true → (seen self.now).size.frames < used (seen self.now)
+            + count_by (λ p. is_parting (seen self.now)
+            (unwrap_or (page_in (seen self.now) (rows self.now.places i) p) Zero))
+            (range_with_len pages.first (pages.end - pages.first)) }
+        ensures enough { result ≡ false → used (seen self.now)
+            + count_by (λ p. is_parting (seen self.now)
+            (unwrap_or (page_in (seen self.now) (rows self.now.places i) p) Zero))
+            (range_with_len pages.first (pages.end - pages.first)) ≤ (seen self.now).size.frames }
+    {
+        let used = self.used() as usize;
+        let frames = self.size.frames as usize;
+        let most = (pages.end - pages.first) as usize;
+        frames < used + most && frames < used + self.parting_count(i, pages)
+    }
+
     /// Whether bytes may be stored to a page of the context at a place.
     fn is_writable(&self, i: usize, p: u16) -> bool
         requires { i < count self.now.places }
@@ -255,7 +276,7 @@ impl PlacedWorld {
         if !self.are_writable(i, pages) {
             return Err(StoreFault::ReadOnly);
         }
-        if (self.size.frames as usize) < self.used() as usize + self.parting_count(i, pages) {
+        if self.lacks_frames(i, pages) {
             return Err(StoreFault::NoFrame);
         }
         self.write_pages(c, pages, at, piece, job);

@@ -6,10 +6,12 @@ use crate::counts::Counts;
 use crate::key_value::KeyValue;
 use crate::registers::Registers;
 use crate::world::PlacedWorld;
-use lwc_base::{Descriptor, Name, Regs};
+use access_cap::owned;
+use lwc_base::{Lent, Name, Regs};
 
 impl PlacedWorld {
-    ghost use Rattle.lwc_base.specs.Cells.{put_at, put_slot, put_uid, with_value};
+    ghost use Rattle.lwc_base.specs.Cells.{put_at, put_slot, put_uid, slot_at, with_value};
+    ghost use Rattle.lwc_base.specs.Lending.{descriptor_of};
     ghost use Rattle.lwc_base.specs.Saved.{save};
     ghost use Rattle.lwc_base.specs.World.{add_context, change_group, new_context, next_context};
     ghost use Rattle.world_face.specs.Calls.{HasPlace, IsLive};
@@ -17,10 +19,10 @@ impl PlacedWorld {
     ghost use Rattle.lazy_world.specs.Worlds.{seen};
 
     /// Puts a value under a key of a group.
-    fn put_common(&mut self, g: Name, value: KeyValue)
+    fn put_common(&mut self, g: Name, value: KeyValue<'_>)
         requires { HasSlot value }
         ensures { seen self.new
-            ≡ change_group (seen self.old) g (with_value (key_in value) (value_in value)) }
+            ≡ change_group (seen self.old) g (with_value (key_in value.entry) (value_in value.entry)) }
     {
         match self.groups.place(g) {
             Some(j) => self.places.put(self.size.contexts as usize + j, value),
@@ -29,10 +31,10 @@ impl PlacedWorld {
     }
 
     /// Puts a value under a key of a context, where the old one is.
-    fn put(&mut self, c: Name, value: KeyValue)
+    fn put(&mut self, c: Name, value: KeyValue<'_>)
         requires live { IsLive (seen self.old) c }
         requires slot { HasSlot value }
-        ensures { seen self.new ≡ put_at (seen self.old) c (key_in value) (value_in value) }
+        ensures { seen self.new ≡ put_at (seen self.old) c (key_in value.entry) (value_in value.entry) }
     {
         let i = self.place(c);
         match self.places.group(i, value) {
@@ -42,12 +44,29 @@ impl PlacedWorld {
     }
 
     /// Puts another descriptor into a slot of the context.
-    pub(crate) fn set_slot(&mut self, c: Name, n: u8, value: Descriptor)
+    pub(crate) fn set_slot(&mut self, c: Name, n: u8, value: Lent<'_>)
         requires live { IsLive (seen self.old) c }
         requires within { n < SLOTS }
-        ensures put { seen self.new ≡ put_slot (seen self.old) c n value }
+        ensures put { seen self.new ≡ put_slot (seen self.old) c n (descriptor_of value.entry) }
     {
         self.put(c, KeyValue::Slot(n, value));
+    }
+
+    /// Puts the descriptor in the slot `from` of the context into its slot `to` too. Where both slots are the
+    /// context's own, they share it.
+    pub(crate) fn dup_slot(&mut self, c: Name, from: u8, to: u8)
+        requires live { IsLive (seen self.old) c }
+        requires from { from < SLOTS }
+        requires to { to < SLOTS }
+        ensures put { seen self.new ≡ put_slot (seen self.old) c to (slot_at (seen self.old) c from) }
+    {
+        let i = self.place(c);
+        if self.places.are_own(i, from, to) {
+            self.places.copy_slot(i, to, i, from);
+        } else {
+            let value = owned(self.slot_at(i, from));
+            self.set_slot(c, to, value.lend());
+        }
     }
 
     /// Changes the credential of the context.

@@ -7,6 +7,7 @@ use Rattle.lwc_base.specs.declared.cell.Cell.TheVariants.{Own}
 use Rattle.lwc_base.specs.declared.name.Name.{Name}
 use Rattle.lwc_base.specs.declared.page.PageValue.{PageValue}
 use Rattle.lwc_base.specs.Frames.{tag_of, own_value, tags_of_context, tags_of_group, tags, used}
+use Rattle.lwc_base.specs.declared.limits.TheConstants.{MOST_PAGES}
 use Rattle.whole_world.specs.declared.context_row.ContextRow.{ContextRow}
 use Rattle.whole_world.specs.declared.group_row.GroupRow.{GroupRow}
 use Rattle.whole_world.specs.declared.world.WholeWorld.{WholeWorld}
@@ -76,7 +77,7 @@ module _ (w : WholeWorld) where
       length-flat_map-le (λ row. page_tags (λ v. v) row.1.pages.items) pages groups (λ k d within. let row = get_or groups k d in
       omega (arith, length-page_tags (λ v. v) row.1.pages.items, (w.sound.groups_whole k d within).pages, row.1.pages.ok.0)) in
       let rows : length contexts + length groups ≤ 2 ^ 16 = omega (arith, w.sound.size_contexts, w.sound.size_groups, w.sound.few_contexts, w.sound.few_groups) in
-      let most : (length contexts + length groups) * pages ≤ 65536 * 1024 = mul-le-mul rows w.sound.few_pages in
+      let most : (length contexts + length groups) * pages ≤ 2 ^ 16 * MOST_PAGES = mul-le-mul rows w.sound.few_pages in
       omega (arith, in_contexts, in_groups, most, length-append (flat_map (λ row. page_tags own_value row.1.pages.items) contexts) (flat_map (λ row. page_tags (λ v. v) row.1.pages.items) groups))
 
   -- the different ones are the frames in use

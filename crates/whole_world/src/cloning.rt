@@ -11,6 +11,7 @@ use crate::context_row::ContextRow;
 use crate::holder::Holder;
 use crate::key_value::KeyValue;
 use crate::world::WholeWorld;
+use access_cap::owned;
 use lwc_base::{
     Key, Mode, NOBODY, Name, OutOfMemory, PageBytes, PageValue, Regs, Right, SLOTS, Spec,
 };
@@ -210,7 +211,7 @@ impl WholeWorld {
                 let copy = copied_page(self.alloc, self.page_value(c, p))?;
                 Ok(KeyValue::Page(p, copy))
             }
-            Key::Slot(n) => Ok(KeyValue::Slot(n, self.slot_value(c, n))),
+            Key::Slot(n) => Ok(KeyValue::Slot(n, owned(self.slot_value(c, n)))),
             Key::Cred => Ok(KeyValue::Cred(self.uid_value(c))),
         }
     }

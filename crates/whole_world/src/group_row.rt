@@ -50,11 +50,11 @@ impl GroupRow {
 
     /// The descriptor under a slot.
     #[tactic(auto, unfolding(crate::specs::Rows::group_of, crate::specs::Rows::value_of))]
-    pub fn slot(&self, n: u8) -> Descriptor
+    pub fn slot(&self, n: u8) -> &Descriptor
         requires { n < vec_len self.now.slots }
-        ensures { result ≡ (group_of self.now).value (Slot n) }
+        ensures { result.now ≡ (group_of self.now).value (Slot n) }
     {
-        self.slots[n as usize]
+        &self.slots[n as usize]
     }
 
     /// The credential.

@@ -8,11 +8,12 @@ use crate::context_row::ContextRow;
 use crate::group_row::GroupRow;
 use crate::touched::Touched;
 use crate::world::WholeWorld;
-use lwc_base::{Cell, Descriptor, NOBODY, Name, PAGE_BYTES, PageValue, Right, SLOTS};
+use lwc_base::{Cell, Lent, NOBODY, Name, PAGE_BYTES, PageValue, Right, SLOTS};
 
 impl WholeWorld {
     ghost use Rattle.std.specs.List.{list_all, range_with_len};
     ghost use Rattle.lwc_base.specs.Cells.{page_at, slot_at, uid_at};
+    ghost use Rattle.lwc_base.specs.Lending.{descriptor_of};
     ghost use Rattle.lwc_base.specs.Memory.{byte_at};
     ghost use Rattle.lwc_base.specs.Rights.{may_write, right_at};
     ghost use Rattle.lwc_base.specs.Summaries.{is_empty};
@@ -60,14 +61,14 @@ impl WholeWorld {
         }
     }
 
-    /// The value of a group's slot.
-    fn group_slot(&self, g: Name, n: u8) -> Descriptor
+    /// The value of a group's slot, lent.
+    fn group_slot(&self, g: Name, n: u8) -> Lent<'_>
         requires { n < SLOTS }
-        ensures { result ≡ (group (seen self.now) g).value (Slot n) }
+        ensures { descriptor_of result ≡ (group (seen self.now) g).value (Slot n) }
     {
         match self.group(g) {
-            Some(row) => row.slot(n),
-            None => Descriptor::Empty,
+            Some(row) => row.slot(n).lend(),
+            None => Lent::Empty,
         }
     }
 
@@ -94,15 +95,15 @@ impl WholeWorld {
         }
     }
 
-    /// The descriptor in a slot of a context.
+    /// The descriptor in a slot of a context, lent.
     #[tactic(auto, unfolding(lwc_base::specs::Cells::value_at))]
-    pub(crate) fn slot_value(&self, c: Name, n: u8) -> Descriptor
+    pub(crate) fn slot_value(&self, c: Name, n: u8) -> Lent<'_>
         requires live { IsTrue (is_live (seen self.now) c) }
         requires within { n < SLOTS }
-        ensures { result ≡ slot_at (seen self.now) c n }
+        ensures { descriptor_of result ≡ slot_at (seen self.now) c n }
     {
         match self.row(c).slot(n) {
-            Cell::Own(value) => *value,
+            Cell::Own(value) => value.lend(),
             Cell::Common(g) => self.group_slot(*g, n),
         }
     }
@@ -167,7 +168,7 @@ impl WholeWorld {
         requires within { n < SLOTS }
         ensures { result ≡ is_empty (slot_at (seen self.now) c n) }
     {
-        matches!(self.slot_value(c, n), Descriptor::Empty)
+        matches!(self.slot_value(c, n), Lent::Empty)
     }
 
     /// The number of pages of a context that are present.

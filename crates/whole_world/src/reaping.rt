@@ -2,6 +2,7 @@ ghost use Rattle.std.specs.Prelude.{◌≡◌, ◌≤◌, [], length};
 ghost use Rattle.std.specs.List.{filter_map, list_any, position};
 ghost use Rattle.std.specs.FinMap as fm;
 ghost use Rattle.lwc_base.specs.declared.limits.TheConstants.{MOST_ROOTS};
+ghost use Rattle.lwc_base.specs.Lending.{descriptor_of};
 ghost use Rattle.lwc_base.specs.Life.{is_in, is_reached, names_group};
 ghost use Rattle.whole_world.specs.Reaping.{AddsMarks};
 ghost use Rattle.whole_world.specs.Rows.{context_of};
@@ -12,7 +13,7 @@ ghost use Rattle.whole_world.specs.Worlds.{seen};
 use crate::context_row::ContextRow;
 use crate::world::WholeWorld;
 use arrayvec::ArrayVec;
-use lwc_base::{Cell, Descriptor, Name};
+use lwc_base::{Cell, Lent, Name};
 use reach::{Links, Marks, mark};
 
 /// The places are those of the rows of contexts.
@@ -59,12 +60,12 @@ impl WholeWorld {
     }
 
     /// The place of the context that a descriptor is of, if it is live.
-    fn place_of(&self, value: Descriptor) -> Option<usize>
-        ensures place { result ≡ place_in self.now.contexts.rows.items value }
+    fn place_of(&self, value: Lent<'_>) -> Option<usize>
+        ensures place { result ≡ place_in self.now.contexts.rows.items (descriptor_of value.entry) }
         ensures within { IfSome result (λ place. place < MOST_CONTEXTS) }
     {
         match value {
-            Descriptor::Ctx { name, .. } => self.contexts.position(name),
+            Lent::Ctx { name, .. } => self.contexts.position(name),
             _ => None,
         }
     }

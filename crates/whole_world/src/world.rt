@@ -9,8 +9,9 @@ use crate::group_row::GroupRow;
 use crate::key_value::KeyValue;
 use crate::table::Table;
 use crate::touched::touched_pages;
+use access_cap::owned;
 use lwc_base::{
-    Descriptor, Mode, Name, OutOfMemory, Range, Regs, SLOTS, Spec, StoreFault, Summary, WorldSize,
+    Lent, Mode, Name, OutOfMemory, Range, Regs, SLOTS, Spec, StoreFault, Summary, WorldSize,
 };
 use std::alloc::Global;
 use world_face::World;
@@ -96,12 +97,17 @@ impl World for WholeWorld {
         }
     }
 
-    fn slot(&self, c: Name, n: u8) -> Descriptor {
+    fn slot(&self, c: Name, n: u8) -> Lent<'_> {
         self.slot_value(c, n)
     }
 
-    fn set_slot(&mut self, c: Name, n: u8, value: Descriptor) {
-        self.put(c, KeyValue::Slot(n, value));
+    fn set_slot(&mut self, c: Name, n: u8, value: Lent<'_>) {
+        self.put(c, KeyValue::Slot(n, owned(value)));
+    }
+
+    fn dup_slot(&mut self, c: Name, from: u8, to: u8) {
+        let value = owned(self.slot_value(c, from));
+        self.put(c, KeyValue::Slot(to, value));
     }
 
     #[tactic(auto, unfolding(lwc_base::specs::Slots::lowest_empty))]

@@ -4,9 +4,11 @@ ghost use Rattle.std.specs.Prelude.{◌≡◌, ◌≤◌, IfOk};
 ghost use Rattle.lwc_base.specs.Modes.{IsSpec};
 ghost use Rattle.world_face.specs.Calls.{HasGroupPlace, HasPlace, IsLive};
 
+use access_cap::owned;
 use lazy_world::LazyWorld;
 use lwc_base::{
-    Cap, Descriptor, Item, Kind, Mode, Name, Range, Regs, Spec, StoreFault, Summary, WorldSize,
+    Cap, Descriptor, Grant, Item, Kind, Lent, Mode, Name, Range, Regs, Spec, StoreFault, Summary,
+    WorldSize,
 };
 use std::process::Abort;
 use std::test::Fail;
@@ -88,7 +90,7 @@ fn shows_a_context<R: AllocGlobal + Abort, W: World>(rt: &R) -> Result<(), Fail>
         (1, 0, 1, 4)
     );
     assert_eq!(rt; (world.entry(c).pc, world.uid(c)), (3, 7));
-    assert_eq!(rt; world.slot(c, 63), Descriptor::Empty);
+    assert!(rt; matches!(world.slot(c, 63), Lent::Empty));
     let summary = Summary {
         pages: 2,
         slots: 0,
@@ -103,11 +105,9 @@ fn shows_a_context<R: AllocGlobal + Abort, W: World>(rt: &R) -> Result<(), Fail>
 fn puts_values<R: AllocGlobal + Abort, W: World>(rt: &R) -> Result<(), Fail> {
     let (mut world, c) = begun::<R, W>(rt, 2)?;
     assert_eq!(rt; world.lowest_empty(c), Some(0));
-    world.set_slot(c, 0, Descriptor::Console);
-    assert_eq!(rt;
-        (world.slot(c, 0), world.lowest_empty(c)),
-        (Descriptor::Console, Some(1))
-    );
+    world.set_slot(c, 0, Lent::Console);
+    assert!(rt; matches!(world.slot(c, 0), Lent::Console));
+    assert_eq!(rt; world.lowest_empty(c), Some(1));
     world.set_uid(c, 9);
     assert_eq!(rt; world.uid(c), 9);
     world.save(c, 15, &Regs::fresh(6));
@@ -116,6 +116,37 @@ fn puts_values<R: AllocGlobal + Abort, W: World>(rt: &R) -> Result<(), Fail> {
         (Some(Regs::fresh(6)), None)
     );
     Ok(())
+}
+
+/// A descriptor that is in two slots stays in one when the other changes, with its keys.
+#[tactic(auto, using(lwc_base::proofs::Facts::changes))]
+fn dups_a_descriptor<R: AllocGlobal + Abort, W: World>(rt: &R) -> Result<(), Fail> {
+    let (mut world, c) = begun::<R, W>(rt, 2)?;
+    let cap = far_page();
+    let keys = Grant::Of(&cap);
+    world.set_slot(c, 1, Lent::Ctx { name: c, keys });
+    world.dup_slot(c, 1, 1);
+    world.dup_slot(c, 1, 5);
+    let link = Descriptor::Ctx { name: c, cap };
+    assert!(rt; owned(world.slot(c, 1)) == link);
+    assert_eq!(rt; world.summary(c).slots, 2);
+    world.set_slot(c, 1, Lent::Console);
+    assert!(rt; owned(world.slot(c, 5)) == link);
+    assert!(rt; matches!(world.slot(c, 1), Lent::Console));
+    world.dup_slot(c, 0, 5);
+    assert!(rt; matches!(world.slot(c, 5), Lent::Empty));
+    Ok(())
+}
+
+/// The capability of page 1500 alone.
+fn far_page() -> Cap {
+    let mut pages = [0; 256];
+    pages[23] = 1 << 28;
+    Cap {
+        pages,
+        slots: 0,
+        cred: false,
+    }
 }
 
 /// Pages are mapped and unmapped, and ranges are counted before.
@@ -214,12 +245,8 @@ fn overlays_itself<R: AllocGlobal + Abort, W: World>(rt: &R) -> Result<(), Fail>
 #[tactic(auto, using(lwc_base::proofs::Facts::changes))]
 fn reaps_a_context<R: AllocGlobal + Abort, W: World>(rt: &R) -> Result<(), Fail> {
     let (mut world, c) = begun::<R, W>(rt, 2)?;
-    let cap = Cap {
-        pages: [0; 16],
-        slots: 0,
-        cred: false,
-    };
-    world.set_slot(c, 2, Descriptor::Ctx { name: c, cap });
+    let keys = Grant::None;
+    world.set_slot(c, 2, Lent::Ctx { name: c, keys });
     world.reap(&[c]);
     assert_eq!(rt; (world.context_count(), world.nth_context(0)), (1, Some(c)));
     world.reap(&[]);
@@ -240,7 +267,9 @@ fn a_context_shows_what_it_has(rt: HostRuntime) -> Result<(), Fail> {
     shows_a_context::<HostRuntime, WholeWorld>(&rt)?;
     shows_a_context::<HostRuntime, LazyWorld>(&rt)?;
     puts_values::<HostRuntime, WholeWorld>(&rt)?;
-    puts_values::<HostRuntime, LazyWorld>(&rt)
+    puts_values::<HostRuntime, LazyWorld>(&rt)?;
+    dups_a_descriptor::<HostRuntime, WholeWorld>(&rt)?;
+    dups_a_descriptor::<HostRuntime, LazyWorld>(&rt)
 }
 
 #[test]

@@ -1,6 +1,5 @@
 use Rattle.std.proofs.Common.{arith, ◌≤◌, ◌∙◌, ap, length, length-set, set, subst, sym, ℕ, List}
 use Rattle.std.specs.Prelude.{All}
-use Rattle.std.proofs.Math.Nat.{min-le_left}
 use Rattle.lwc_base.specs.declared.limits.TheConstants.{MOST_PAGES, MOST_RANGES}
 use Rattle.range_map.specs.Kinds.{ranges}
 use Rattle.fd_table.specs.Seen as slots_seen
@@ -76,9 +75,8 @@ unfolding frame_count
 returns-clause-frames g c = c.change.ensures.frames
 
 pub returns-clause-nodes : goal.returns-clause-nodes
-unfolding free_nodes
-returns-clause-nodes g c =
-    omega (arith, c.change.ensures.nodes, ap length c.as_slice.ensures.value, min-le_left 1 (length c.as_slice.result.now))
+unfolding rows rows_of free_nodes
+returns-clause-nodes g c = λ empty. omega (arith, c.change.ensures.nodes_empty (λ e p. empty p e), ap length c.as_slice.ensures.value)
 
 pub returns-clause-cost : goal.returns-clause-cost
 unfolding rows rows_of

@@ -26,7 +26,7 @@ invariant_of-self c =
         uid_count = c.args.self.now.kept.uid_count;
         targets = subst (λ (table : List (ℕ → Slot)). (i n : ℕ) → IsNumbered (row_of table i n)) (sym c.copy_slot.ensures)
             (numbered-set (slots_seen.slots c.args.self.now.slots) c.args.i _ inside
-            (numbered-put (row_of (slots_seen.slots c.args.self.now.slots) c.args.i) c.args.n _ (c.args.self.now.kept.targets c.args.j c.args.n) (c.args.self.now.kept.targets c.args.i)) c.args.self.now.kept.targets);
+            (numbered-put (row_of (slots_seen.slots c.args.self.now.slots) c.args.i) c.args.n _ (c.args.self.now.kept.targets c.args.j c.args.m) (c.args.self.now.kept.targets c.args.i)) c.args.self.now.kept.targets);
       };
     }
 
@@ -34,7 +34,7 @@ pub returns-clause-rows : goal.returns-clause-rows
 unfolding rows count rows_of slots_seen.slots
 returns-clause-rows c =
     ap (λ table. rows_of (pages_seen.cells c.args.self.now.pages) table c.args.self.now.uids.items) c.copy_slot.ensures
-    ∙ slot-put _ _ _ c.args.i c.args.n (row_of (slots_seen.slots c.args.self.now.slots) c.args.j c.args.n) (omega (arith, c.args.self.now.kept.slot_count, c.requires.place))
+    ∙ slot-put _ _ _ c.args.i c.args.n (row_of (slots_seen.slots c.args.self.now.slots) c.args.j c.args.m) (omega (arith, c.args.self.now.kept.slot_count, c.requires.place))
 
 pub returns-clause-count : goal.returns-clause-count
 unfolding count

@@ -5,6 +5,3 @@ use Rattle.lazy_world.proofs.places.Places.fill_slot.Goals as goal
 
 pub copy_slot-requires-clause-origin : goal.copy_slot-requires-clause-origin
 copy_slot-requires-clause-origin c = (subst (IsApart (count c.args.self.now) c.args.i) c.in-CopyOf.is c.requires.given).0
-
-pub copy_slot-requires-clause-apart : goal.copy_slot-requires-clause-apart
-copy_slot-requires-clause-apart c = (subst (IsApart (count c.args.self.now) c.args.i) c.in-CopyOf.is c.requires.given).1

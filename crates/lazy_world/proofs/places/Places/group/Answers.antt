@@ -1,5 +1,6 @@
 use Rattle.std.proofs.Common.{◌≡◌, ◌∙◌, ap, subst, sym, Option, Some, None}
 use Rattle.lwc_base.specs.declared.name.Name.{Name}
+use Rattle.fd_table.specs.Slots.{cell_of}
 use Rattle.lazy_world.specs.declared.key_value.KeyValue.{KeyValue}
 use Rattle.lazy_world.specs.Cells.{Row}
 use Rattle.lazy_world.specs.KeyValues.{group_in, key_in}
@@ -10,10 +11,10 @@ at_key : (row : Row) (o : Option Name) (v w : KeyValue) → v ≡ w → o ≡ gr
 at_key row o v w is same = subst (λ x. o ≡ group_in (row (key_in x))) (sym is) same
 
 pub returns-in-Own : goal.returns-in-Own
-returns-in-Own c = at_key (rows c.args.self.now c.args.i) None _ _ c.in-Slot.is (ap group_in (sym c.in-Own.is ∙ c.slot.ensures))
+returns-in-Own c = at_key (rows c.args.self.now c.args.i) None _ _ c.in-Slot.is (ap group_in (ap cell_of (sym c.in-Own.is) ∙ c.slot.ensures))
 
 pub returns-in-Common : goal.returns-in-Common
-returns-in-Common c = at_key (rows c.args.self.now c.args.i) (Some c.in-Common.g) _ _ c.in-Slot.is (ap group_in (sym c.in-Common.is ∙ c.slot.ensures))
+returns-in-Common c = at_key (rows c.args.self.now c.args.i) (Some c.in-Common.g) _ _ c.in-Slot.is (ap group_in (ap cell_of (sym c.in-Common.is) ∙ c.slot.ensures))
 
 pub returns-in-Own-uid : goal.returns-in-Own-uid
 returns-in-Own-uid c = at_key (rows c.args.self.now c.args.i) None _ _ c.in-Cred.is (ap group_in (sym c.in-Own-uid.is ∙ c.uid.ensures))

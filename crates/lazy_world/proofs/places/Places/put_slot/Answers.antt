@@ -1,5 +1,5 @@
 use Rattle.std.proofs.Common.{refl, arith, length, length-set, ◌∙◌, ap, sym, subst, ℕ, List, ◌<◌}
-use Rattle.fd_table.specs.Slots.{Slot, row_of}
+use Rattle.fd_table.specs.Slots.{Slot, cell_of, row_of}
 use Rattle.fd_table.specs.Seen as slots_seen
 use Rattle.cow_space.specs.Seen as pages_seen
 use Rattle.lazy_world.specs.Cells.{rows_of}
@@ -30,7 +30,7 @@ pub returns-clause-rows : goal.returns-clause-rows
 unfolding rows count
 returns-clause-rows c =
     ap (λ table. rows_of (pages_seen.cells c.args.self.now.pages) table c.args.self.now.uids.items) c.put.ensures
-    ∙ slot-put _ _ _ c.args.i c.args.n (record { cell = c.args.cell; target = c.target_of-target.result }) (omega (arith, c.args.self.now.kept.slot_count, c.requires.place))
+    ∙ slot-put _ _ _ c.args.i c.args.n (record { cell = cell_of c.args.cell; target = c.target_of-target.result }) (omega (arith, c.args.self.now.kept.slot_count, c.requires.place))
 
 pub put-requires-clause-named : goal.put-requires-clause-named
 put-requires-clause-named c empty = c.target_of-target.ensures.target ∙ ap target_of empty

@@ -81,8 +81,8 @@ returns-clause-cost g c =
     record {
       used = c.take.ensures.used empty;
       pool = c.take.ensures.pool;
-      nodes = omega (arith, c.take.ensures.nodes, bounded.nodes, here);
+      nodes = omega (arith, c.take.ensures.nodes empty, bounded.nodes, here);
       steps = omega (arith, c.take.ensures.cost empty, bounded.steps, here);
-      whole_nodes = λ copies own. omega (arith, c.take.ensures.nodes, ap most_nodes (whole copies own));
+      whole_nodes = λ copies own. omega (arith, c.take.ensures.nodes empty, ap most_nodes (whole copies own));
       whole_steps = λ copies own. omega (arith, c.take.ensures.cost empty, ap (most_steps (rows w.places) (rights w.places)) (whole copies own) ∙ ap (min 1) (sym here));
     }

@@ -15,7 +15,8 @@ use Rattle.lazy_world.specs.Clones.{item_gift, state_gift}
 use Rattle.lazy_world.specs.Seen.{count}
 use Rattle.lazy_world.specs.Origins.{gift_at}
 use Rattle.lazy_world.specs.Worlds.{parts}
-use Rattle.lazy_world.proofs.CloneOrigins.{or_none, segment_given, segment_pushed, stretch_of}
+use Rattle.range_map.proofs.Built.{or_none}
+use Rattle.lazy_world.proofs.CloneOrigins.{segment_given, segment_pushed, stretch_of}
 use Rattle.lazy_world.proofs.world.PlacedWorld.clone_stretches.Goals as goal
 
 pub loop-segment-init : goal.loop-segment-init

@@ -1,9 +1,11 @@
-use Rattle.std.proofs.Common.{◌∙◌, ap, arith, refl, sym, subst}
+use Rattle.std.proofs.Common.{◌≡◌, ◌≢◌, inl, inr, ⊎_elim, ◌∙◌, ap, arith, refl, sym, subst}
 use Rattle.std.specs.Option.{option_map}
 use Rattle.lwc_base.specs.declared.key.Key.TheVariants.{Page}
+use Rattle.std.proofs.lemmas.Bool.{cases_lt}
 use Rattle.lwc_base.specs.Modes.{mode}
 use Rattle.lazy_world.specs.Transfers.{CanGet, given_or, origin_of}
-use Rattle.lazy_world.specs.Seen.{count, rows}
+use Rattle.lazy_world.specs.Cells.{states_of}
+use Rattle.lazy_world.specs.Seen.{count, rights, rows}
 use Rattle.lazy_world.specs.Worlds.{parts, seen}
 use Rattle.lazy_world.proofs.AbsentLemmas.{no-right}
 use Rattle.lazy_world.proofs.RightLemmas.{right-found}
@@ -38,3 +40,15 @@ returns-clause-can c =
     let found = c.found_page-edge.ensures.found c.args.p (omega arith) c.found_page-edge.ensures.past in
     subst (CanGet (count w.places) c.args.to) (sym (origin-of c.origin-origin.result _ c.found_page-edge.result.0.right c.stretch_of.result c.stretch_of.ensures ∙ c.origin-origin.ensures))
     (transfer-can (parts w).size.contexts (count w.places) c.args.from c.args.to c.requires.from c.found_page-edge.result.0 found.behind found.inside c.args.transfer c.mode_of.result c.requires.transfer)
+
+pub returns-clause-edge : goal.returns-clause-edge
+returns-clause-edge c early =
+    let w = c.args.self.now in
+    let found = c.found_page-edge.ensures in
+    let end = c.mode_edge-end.ensures in
+    ⊎_elim
+    (λ before. inr (end.edge before))
+    (λ last.
+    let same : c.found_page-edge.result.1 ≡ c.mode_edge-end.result = omega (arith, last, end.within) in
+    inl (subst (λ e. states_of (rows w.places c.args.from) (rights w.places c.args.from) e ≢ states_of (rows w.places c.args.from) (rights w.places c.args.from) c.args.p) same (found.other (omega (arith, early, same)))))
+    (cases_lt c.mode_edge-end.result c.found_page-edge.result.1)

@@ -13,10 +13,6 @@ few : (w : PlacedWorld) → (seen w).size.pages ≤ MOST_PAGES
 unfolding seen parts world_of
 few w = w.sound.sizes.size.pages.1
 
-frames-are : (w : PlacedWorld) → (seen w).size.frames ≡ w.size.frames
-unfolding seen parts world_of
-frames-are w = refl
-
 pub touched_pages-pages-requires : goal.touched_pages-pages-requires
 touched_pages-pages-requires c = omega (arith, few c.args.self.now, c.requires.within)
 
@@ -49,23 +45,23 @@ returns-then-not-are_writable-clause-read_only c = (λ _. is_read c, λ _. refl)
 pub returns-then-not-are_writable-clause-no_frame : goal.returns-then-not-are_writable-clause-no_frame
 returns-then-not-are_writable-clause-no_frame c = (λ same. cc, λ full. let read = is_read c in cc)
 
-is_full : (c : goal.Then-self-used) → store (seen c.args.self.now) c.args.c c.args.job (record { at = c.args.at; bytes = c.args.piece.now }) ≡ Full
+is_full : (c : goal.Then-lacks_frames) → store (seen c.args.self.now) c.args.c c.args.job (record { at = c.args.at; bytes = c.args.piece.now }) ≡ Full
 unfolding parts
 is_full c =
     let w = seen c.args.self.now in
     let there = present-touched _ _ _ _ _ _ _ c.place-i.ensures.context c.touched_pages-pages.ensures.pages c.are_present.ensures ∙ c.if-not-are_present.false in
-    let many = c.parting_count.ensures.parting ∙ parting-in w c.args.c (context_at (parts c.args.self.now) c.place-i.result) (range_with_len c.touched_pages-pages.result.first (c.touched_pages-pages.result.end - c.touched_pages-pages.result.first)) c.place-i.ensures.context in
+    let many = parting-in w c.args.c (context_at (parts c.args.self.now) c.place-i.result) (range_with_len c.touched_pages-pages.result.first (c.touched_pages-pages.result.end - c.touched_pages-pages.result.first)) c.place-i.ensures.context in
     let may = writable-touched w c.args.c (context_at (parts c.args.self.now) c.place-i.result) _ _ _ _ c.place-i.ensures.context c.touched_pages-pages.ensures.pages c.are_writable.ensures ∙ c.if-not-are_writable.false in
-    store-full w c.args.c c.args.job (record { at = c.args.at; bytes = c.args.piece.now }) there may (range_with_len c.touched_pages-pages.result.first (c.touched_pages-pages.result.end - c.touched_pages-pages.result.first)) c.touched_pages-pages.ensures.pages (omega (arith, many, frames-are c.args.self.now, c.used.ensures.used, c.if-self-used.true))
+    store-full w c.args.c c.args.job (record { at = c.args.at; bytes = c.args.piece.now }) there may (range_with_len c.touched_pages-pages.result.first (c.touched_pages-pages.result.end - c.touched_pages-pages.result.first)) c.touched_pages-pages.ensures.pages (let lacks = c.lacks_frames.ensures.lacking c.if-lacks_frames.true in omega (arith, many, lacks))
 
-pub returns-then-self-used-clause-bad_address : goal.returns-then-self-used-clause-bad_address
-returns-then-self-used-clause-bad_address c = (λ same. cc, λ absent. let full = is_full c in cc)
+pub returns-then-lacks_frames-clause-bad_address : goal.returns-then-lacks_frames-clause-bad_address
+returns-then-lacks_frames-clause-bad_address c = (λ same. cc, λ absent. let full = is_full c in cc)
 
-pub returns-then-self-used-clause-read_only : goal.returns-then-self-used-clause-read_only
-returns-then-self-used-clause-read_only c = (λ same. cc, λ read. let full = is_full c in cc)
+pub returns-then-lacks_frames-clause-read_only : goal.returns-then-lacks_frames-clause-read_only
+returns-then-lacks_frames-clause-read_only c = (λ same. cc, λ read. let full = is_full c in cc)
 
-pub returns-then-self-used-clause-no_frame : goal.returns-then-self-used-clause-no_frame
-returns-then-self-used-clause-no_frame c = (λ _. is_full c, λ _. refl)
+pub returns-then-lacks_frames-clause-no_frame : goal.returns-then-lacks_frames-clause-no_frame
+returns-then-lacks_frames-clause-no_frame c = (λ _. is_full c, λ _. refl)
 
 pub write_pages-requires-clause-there : goal.write_pages-requires-clause-there
 unfolding parts
@@ -74,17 +70,17 @@ write_pages-requires-clause-there c = all-in (seen c.args.self.now) c.args.c (co
 pub write_pages-requires-clause-enough : goal.write_pages-requires-clause-enough
 unfolding parts
 write_pages-requires-clause-enough c =
-    let many = c.parting_count.ensures.parting ∙ parting-in (seen c.args.self.now) c.args.c (context_at (parts c.args.self.now) c.place-i.result) (range_with_len c.touched_pages-pages.result.first (c.touched_pages-pages.result.end - c.touched_pages-pages.result.first)) c.place-i.ensures.context in
-    omega (arith, many, frames-are c.args.self.now, c.used.ensures.used, c.if-self-used.false)
+    let many = parting-in (seen c.args.self.now) c.args.c (context_at (parts c.args.self.now) c.place-i.result) (range_with_len c.touched_pages-pages.result.first (c.touched_pages-pages.result.end - c.touched_pages-pages.result.first)) c.place-i.ensures.context in
+    let enough = c.lacks_frames.ensures.enough c.if-lacks_frames.false in omega (arith, many, enough)
 
 pub returns-clause-done : goal.returns-clause-done
 unfolding parts
 returns-clause-done c =
     let w = seen c.args.self.now in
     let there = present-touched _ _ _ _ _ _ _ c.place-i.ensures.context c.touched_pages-pages.ensures.pages c.are_present.ensures ∙ c.if-not-are_present.false in
-    let many = c.parting_count.ensures.parting ∙ parting-in w c.args.c (context_at (parts c.args.self.now) c.place-i.result) (range_with_len c.touched_pages-pages.result.first (c.touched_pages-pages.result.end - c.touched_pages-pages.result.first)) c.place-i.ensures.context in
+    let many = parting-in w c.args.c (context_at (parts c.args.self.now) c.place-i.result) (range_with_len c.touched_pages-pages.result.first (c.touched_pages-pages.result.end - c.touched_pages-pages.result.first)) c.place-i.ensures.context in
     let may = writable-touched w c.args.c (context_at (parts c.args.self.now) c.place-i.result) _ _ _ _ c.place-i.ensures.context c.touched_pages-pages.ensures.pages c.are_writable.ensures ∙ c.if-not-are_writable.false in
-    store-done w c.args.c c.args.job (record { at = c.args.at; bytes = c.args.piece.now }) there may (range_with_len c.touched_pages-pages.result.first (c.touched_pages-pages.result.end - c.touched_pages-pages.result.first)) c.touched_pages-pages.ensures.pages (omega (arith, many, frames-are c.args.self.now, c.used.ensures.used, c.if-self-used.false))
+    store-done w c.args.c c.args.job (record { at = c.args.at; bytes = c.args.piece.now }) there may (range_with_len c.touched_pages-pages.result.first (c.touched_pages-pages.result.end - c.touched_pages-pages.result.first)) c.touched_pages-pages.ensures.pages (let enough = c.lacks_frames.ensures.enough c.if-lacks_frames.false in omega (arith, many, enough))
     ∙ ap Done (sym c.write_pages.ensures)
 
 pub returns-clause-bad_address : goal.returns-clause-bad_address
