@@ -5,12 +5,11 @@ ghost use Rattle.lwc_create.specs.Create as spec;
 ghost use Rattle.lwc_create.specs.Create.{HasPlaces, HasRoom, IfRefused, IsAllowed};
 ghost use Rattle.world_face.specs.Calls.{IsLive, MayName};
 
-use access_cap::full;
 use call_items::items_for;
 use guest_call::are_too_many;
 use lwc_base::{
-    Answer, Descriptor, MOST_CONTEXTS_OF_JOB, MOST_GROUPS_OF_JOB, Name, OutOfMemory, Refusal, Regs,
-    Spec,
+    Answer, Grant, Lent, MOST_CONTEXTS_OF_JOB, MOST_GROUPS_OF_JOB, Name, OutOfMemory, Refusal,
+    Regs, Spec,
 };
 use res_spec::SpecCall;
 use world_face::World;
@@ -41,9 +40,11 @@ pub fn create<W: World>(
         Ok(made) => made,
         Err(refusal) => return Ok(Answer::Refused(refusal)),
     };
-    let cap = full(world.pages());
+    let keys = Grant::All {
+        pages: world.pages(),
+    };
     let name = world.clone_context(c, &items, job, &after_call(regs, NO_CALLER))?;
-    world.set_slot(c, slot, Descriptor::Ctx { name, cap });
+    world.set_slot(c, slot, Lent::Ctx { name, keys });
     Ok(Answer::Done(after_call(regs, u64::from(slot))))
 }
 

@@ -1,4 +1,5 @@
 ghost use Rattle.std.specs.Prelude.{◌≡◌, ◌<◌, Bool, List, Some, IfErr, IfOk, slice_index};
+ghost use Rattle.lwc_base.specs.Lending.{keys_of};
 ghost use Rattle.lwc_base.specs.Life.{HasItsContexts};
 ghost use Rattle.lwc_base.specs.Modes.{IsSpec};
 ghost use Rattle.lwc_base.specs.Refusals.{first_refusal};
@@ -9,19 +10,19 @@ ghost use Rattle.world_face.specs.Calls.{IsLive};
 
 use call_items::items_for;
 use guest_call::context_for;
-use lwc_base::{Cap, Name, Refusal, Regs, Spec};
+use lwc_base::{Grant, Name, Refusal, Regs, Spec};
 use res_spec::SpecCall;
 use world_face::World;
 
-/// The context that the slot in r1 has a descriptor of, with the capability, and the items by r2 and r3, or
+/// The context that the slot in r1 has a descriptor of, with the keys of its capability, and the items by r2 and r3, or
 /// the first refusal of these.
 #[tactic(auto, unfolding(crate::specs::Named::link))]
-pub(crate) fn named<W: World>(
-    world: &W,
+pub(crate) fn named<'w, W: World>(
+    world: &'w W,
     c: Name,
     call: SpecCall,
     regs: &Regs,
-) -> Result<((Name, Cap), Spec), Refusal>
+) -> Result<((Name, Grant<'w>), Spec), Refusal>
     requires live { IsLive (W.seen world.now) c }
     requires named { HasItsContexts (W.seen world.now) }
     ensures refused { IfErr result (λ refusal. (rows : List (Bool × Refusal)) →
@@ -29,7 +30,8 @@ pub(crate) fn named<W: World>(
     ensures passed { IfOk result (λ found. (rows : List (Bool × Refusal)) →
         first_refusal (refusals_before (W.seen world.now) c call regs.now rows) ≡ first_refusal rows) }
     ensures within { IfOk result (λ found. slice_index regs.now.r 1 < SLOTS) }
-    ensures link { IfOk result (λ found. found.0 ≡ link (W.seen world.now) c regs.now) }
+    ensures link { IfOk result (λ found.
+        (found.0.0, keys_of found.0.1) ≡ link (W.seen world.now) c regs.now) }
     ensures giver { IfOk result (λ found. IsLive (W.seen world.now) found.0.0) }
     ensures items { IfOk result (λ found. found.1 ≡ items_of (W.seen world.now) c call regs.now) }
     ensures valid { IfOk result (λ found. IsSpec (W.seen world.now).size.pages found.1) }

@@ -1,4 +1,5 @@
 ghost use Rattle.std.specs.Prelude.{◌≡◌, ◌<◌, Some, true, IfNone, IfOk, IsOk, OnErr};
+ghost use Rattle.lwc_base.specs.Lending.{keys_of};
 ghost use Rattle.lwc_base.specs.Life.{HasItsContexts};
 ghost use Rattle.lwc_base.specs.Modes.{IsSpec};
 ghost use Rattle.lwc_base.specs.Refusals.{first_refusal};
@@ -10,9 +11,9 @@ ghost use Rattle.lwc_overlay.specs.OverlayCall.{MayTake};
 ghost use Rattle.world_face.specs.Calls.{HasGroupPlace, IsLive, MayName};
 
 use crate::naming::named;
-use access_cap::covers;
+use access_cap::grants;
 use guest_call::{are_too_many, with_answer};
-use lwc_base::{Answer, Cap, MOST_GROUPS_OF_JOB, Name, OutOfMemory, Refusal, Regs, Spec};
+use lwc_base::{Answer, Grant, MOST_GROUPS_OF_JOB, Name, OutOfMemory, Refusal, Regs, Spec};
 use res_spec::SpecCall;
 use world_face::World;
 
@@ -36,14 +37,14 @@ pub fn overlay<W: World>(
     ensures err { OnErr result (W.seen world.new ≡ W.seen world.old) }
     ensures ample { W.roomy ≡ true → IsOk result }
 {
-    let (link, items) = match named(world, c, SpecCall::Overlay, regs) {
+    let ((giver, keys), items) = match named(world, c, SpecCall::Overlay, regs) {
         Ok(found) => found,
         Err(refusal) => return Ok(Answer::Refused(refusal)),
     };
-    if let Some(refusal) = refusal_of(world, c, job, &link, &items) {
+    if let Some(refusal) = refusal_of(world, c, job, giver, keys, &items) {
         return Ok(Answer::Refused(refusal));
     }
-    world.overlay(c, link.0, &items, job)?;
+    world.overlay(c, giver, &items, job)?;
     Ok(Answer::Done(with_answer(regs, 0)))
 }
 
@@ -53,23 +54,24 @@ fn refusal_of<W: World>(
     world: &W,
     c: Name,
     job: u32,
-    link: &(Name, Cap),
+    giver: Name,
+    keys: Grant<'_>,
     items: &Spec,
 ) -> Option<Refusal>
     requires live { IsLive (W.seen world.now) c }
-    requires giver { IsLive (W.seen world.now) link.now.0 }
+    requires giver { IsLive (W.seen world.now) giver }
     requires valid { IsSpec (W.seen world.now).size.pages items.now }
     ensures first { result
-        ≡ first_refusal (spec.giver_refusals (W.seen world.now) c job link.now items.now) }
-    ensures none { IfNone result (MayTake (W.seen world.now) c job link.now items.now) }
+        ≡ first_refusal (spec.giver_refusals (W.seen world.now) c job (giver, keys_of keys.entry) items.now) }
+    ensures none { IfNone result (MayTake (W.seen world.now) c job (giver, keys_of keys.entry) items.now) }
 {
-    if !covers(&link.1, items, world.pages()) {
+    if !grants(keys, items, world.pages()) {
         return Some(Refusal::NotCovered);
     }
-    if world.needs_group(link.0, items) && world.groups_of(job) >= MOST_GROUPS_OF_JOB {
+    if world.needs_group(giver, items) && world.groups_of(job) >= MOST_GROUPS_OF_JOB {
         return Some(Refusal::TooManyGroups);
     }
-    if are_too_many(world.ranges_after_overlay(c, link.0, items)) {
+    if are_too_many(world.ranges_after_overlay(c, giver, items)) {
         return Some(Refusal::TooManyRanges);
     }
     None

@@ -5,9 +5,9 @@ ghost use Rattle.lwc_overlay.specs.RestrictCall as spec;
 ghost use Rattle.world_face.specs.Calls.{IsLive};
 
 use crate::naming::named;
-use access_cap::meet;
+use access_cap::meet_granted;
 use guest_call::with_answer;
-use lwc_base::{Answer, Descriptor, Name, Regs};
+use lwc_base::{Answer, Grant, Lent, Name, Regs};
 use res_spec::SpecCall;
 use world_face::World;
 
@@ -21,9 +21,10 @@ pub fn restrict<W: World>(world: &mut W, c: Name, regs: &Regs) -> Answer
     ensures refused { IfRefused result (W.seen world.new ≡ W.seen world.old) }
 {
     match named(world, c, SpecCall::Restrict, regs) {
-        Ok(((name, cap), items)) => {
-            let cap = meet(&cap, &items);
-            world.set_slot(c, regs.r[1] as u8, Descriptor::Ctx { name, cap });
+        Ok(((name, keys), items)) => {
+            let cap = meet_granted(keys, &items);
+            let keys = Grant::Of(&cap);
+            world.set_slot(c, regs.r[1] as u8, Lent::Ctx { name, keys });
             Answer::Done(with_answer(regs, 0))
         }
         Err(refusal) => Answer::Refused(refusal),

@@ -9,9 +9,8 @@ ghost use Rattle.lwc_switch.specs.Switch as spec;
 ghost use Rattle.lwc_switch.specs.Switch.{IfRefused};
 ghost use Rattle.world_face.specs.Calls.{IsLive};
 
-use access_cap::empty;
 use guest_call::{context_for, with_answer};
-use lwc_base::{Descriptor, Moved, Name, Refusal, Regs};
+use lwc_base::{Grant, Lent, Moved, Name, Refusal, Regs};
 use world_face::World;
 
 /// Takes a thread from context `c` to the context that the slot in r1 has a descriptor of, with r2 as the
@@ -30,8 +29,11 @@ pub fn switch<W: World>(world: &mut W, c: Name, t: u32, regs: &Regs) -> Moved
     };
     world.save(c, t, &with_answer(regs, 0));
     let entered = entered(world, target, t);
-    let cap = empty();
-    world.set_slot(target, slot, Descriptor::Ctx { name: c, cap });
+    let back = Lent::Ctx {
+        name: c,
+        keys: Grant::None,
+    };
+    world.set_slot(target, slot, back);
     Moved::To {
         context: target,
         regs: arriving(&entered, slot, regs.r[2]),

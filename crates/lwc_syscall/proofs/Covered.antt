@@ -1,24 +1,17 @@
 -- What a capability that has all keys of chosen kinds has.
-use Rattle.std.proofs.Common.{◌≡◌, ◌⊎◌, inl, inr, ◌∙◌, ◌<◌, ℕ, Bool, true, false, ap, arith, refl}
+use Rattle.std.proofs.Common.{◌≡◌, ◌⊎◌, inl, inr, ◌∙◌, ℕ, true, false, ap, arith, refl}
 use Rattle.std.specs.Prelude.{◌&&◌, if◌then◌else◌, not}
-use Rattle.std.specs.List.{list_any, range_with_len}
-use Rattle.std.proofs.lemmas.Bool.{or_left, or_right}
-use Rattle.std.proofs.lemmas.List.Folds.{list_any_at}
-use Rattle.std.proofs.lemmas.List.FromFn.{get_or-range_with_len, length-range_with_len}
 use Rattle.access_cap.specs.Kinds.{has_kinds, is_chosen}
 use Rattle.lwc_base.specs.Capabilities.{has_key}
 use Rattle.lwc_base.specs.Modes.{IsKey, kind_of}
-use Rattle.lwc_base.specs.Sharing.{any_key}
 use Rattle.lwc_base.specs.World.{World}
 use Rattle.lwc_base.specs.declared.descriptor.Cap.{Cap}
-use Rattle.lwc_base.specs.declared.descriptor.TheConstants.{SLOTS}
 use Rattle.lwc_base.specs.declared.key.Key.{Key}
 use Rattle.lwc_base.specs.declared.key.Key.TheVariants.{Page, Slot, Cred}
 use Rattle.lwc_base.specs.declared.name.Name.{Name}
 use Rattle.lwc_base.specs.declared.regs.Regs.{Regs}
 use Rattle.lwc_syscall.specs.Changes.{holder}
 use Rattle.lwc_syscall.specs.Syscall.{IsAllowed, link, mask_in, taken_from, three_of}
-use Rattle.lwc_base.proofs.Caps.{some_below}
 use Rattle.lwc_base.proofs.Needs.{any_key-some}
 
 -- a capability with all keys of the chosen kinds has each key of one of them

@@ -1,29 +1,24 @@
 -- Plain calls leave pages of a context's own that have the right Read.
-use Rattle.std.proofs.Common.{◌≡◌, ◌≢◌, ◌⊎◌, inl, inr, ◌∙◌, ℕ, Bool, true, false, List, Option, Some, ap, refl, length, subst, sym, arith}
+use Rattle.std.proofs.Common.{◌≡◌, ◌≢◌, ◌⊎◌, inl, inr, ◌∙◌, ℕ, true, false, List, ap, refl, length, subst, sym, arith}
 use Rattle.std.proofs.lemmas.Bool.Decides.{nat_tests}
 use Rattle.std.specs.Prelude.{◌==◌, slice_index}
 use Rattle.guest_call.specs.Guest.{descriptor_for}
-use Rattle.lwc_base.specs.declared.cell.Cell.TheVariants.{Own}
 use Rattle.lwc_base.specs.declared.descriptor.Descriptor.{Descriptor}
 use Rattle.lwc_base.specs.declared.key.Key.TheVariants.{Page, Slot}
 use Rattle.lwc_base.specs.declared.name.Name.{Name}
-use Rattle.lwc_base.specs.declared.page.PageValue.{PageValue}
 use Rattle.lwc_base.specs.declared.regs.Regs.{Regs}
-use Rattle.lwc_base.specs.declared.right.Right.TheVariants.{Read}
 use Rattle.lwc_base.specs.Cells.{put_slot}
 use Rattle.lwc_base.specs.Channels.{Channels}
 use Rattle.lwc_base.specs.Clones.{AreApart}
-use Rattle.lwc_base.specs.Rights.{right_at}
 use Rattle.lwc_base.specs.Store.{Piece, Stored, store}
 use Rattle.lwc_base.specs.Store as stores
-use Rattle.lwc_base.specs.World.{World, context}
-use Rattle.lwc_syscall.specs.Changes.{ChangesOnly, IsMapped, KeepsReadOnly, maps_page, may_change}
-use Rattle.lwc_syscall.specs.Plain.{Outcome, answering, is_absent, is_full, is_read_only, moved, plain, read_on, read_refusals, reading, store_at, world_after}
+use Rattle.lwc_base.specs.World.{World}
+use Rattle.lwc_syscall.specs.Changes.{IsMapped, KeepsReadOnly, may_change}
+use Rattle.lwc_syscall.specs.Plain.{answering, is_absent, is_full, is_read_only, moved, plain, read_on, read_refusals, reading, store_at, world_after}
 use Rattle.lwc_syscall.specs.Syscall.{inner_args, inner_call, lw_syscall, refusals, three_of}
 use Rattle.lwc_syscall.specs.declared.calls.Three.{Three}
 use Rattle.lwc_base.proofs.Common.{put-other_cell}
-use Rattle.lwc_base.proofs.Orders.{cases_name}
-use Rattle.lwc_base.proofs.Rights.{rights-after_store, rights-put_at, store-kept, store-right}
+use Rattle.lwc_base.proofs.Rights.{rights-put_at, store-kept, store-right}
 use Rattle.lwc_syscall.proofs.Does.{ended-cases, stored-cases}
 use Rattle.lwc_syscall.proofs.Only.{plain_only}
 

@@ -1,6 +1,7 @@
 ghost use Rattle.std.specs.Prelude.{◌≡◌, ◌≢◌, ◌≤◌, ◌↔◌, ◌+◌, ◌<◌, ◌^◌, if◌then◌else◌, true, length, is_some};
 ghost use Rattle.std.specs.Prelude.{not, IfOk, IfSome, IsOk, OnErr, OnOk};
-ghost use Rattle.lwc_base.specs.Channels.{HasItsFiles, IsInRange};
+ghost use Rattle.lwc_base.specs.Channels.{Channels, HasItsFiles, IsInRange};
+ghost use Rattle.lwc_base.specs.Lending.{descriptor_of};
 ghost use Rattle.lwc_base.specs.Store as stores;
 ghost use Rattle.lwc_base.specs.World.{is_live};
 ghost use Rattle.lwc_base.specs.declared.name.Name as names;
@@ -12,8 +13,8 @@ use crate::answer::CallAnswer;
 use crate::calls::Three;
 use crate::slots::filled_slot;
 use lwc_base::{
-    Channels, Descriptor, MOST_BYTES_OF_CALL, MOST_CONSOLE_BYTES, MOST_REPLY_BYTES, Name,
-    OutOfMemory, Refusal, StoreFault,
+    Channels, Lent, MOST_BYTES_OF_CALL, MOST_CONSOLE_BYTES, MOST_REPLY_BYTES, Name, OutOfMemory,
+    Refusal, StoreFault,
 };
 use world_face::{World, bytes_for, is_within};
 
@@ -48,6 +49,7 @@ pub fn read<W: World>(
         return Ok(CallAnswer::Refused(Refusal::TooLong));
     }
     let bytes = &left[..left.len().min(count as usize)];
+    let value = read_on(value, bytes.len());
     match store_at(world, three.memory, at, bytes, job) {
         Ok(()) => {}
         Err(StoreFault::BadAddress) => return Ok(CallAnswer::Refused(Refusal::BadAddress)),
@@ -55,24 +57,25 @@ pub fn read<W: World>(
         Err(StoreFault::NoFrame) => return Ok(CallAnswer::Refused(Refusal::NoFrame)),
         Err(StoreFault::OutOfMemory) => return Err(OutOfMemory),
     }
-    world.set_slot(three.slots, slot, read_on(value, bytes.len()));
+    world.set_slot(three.slots, slot, value);
     Ok(CallAnswer::Value(bytes.len() as u64))
 }
 
 /// The bytes that are left to read through a descriptor; `None` if it cannot be read.
-fn left(io: &Channels, value: Descriptor) -> Option<&[u8]>
-    requires { IsInRange io.now value }
-    ensures some { is_some result ≡ is_some (spec.left io.now value) }
-    ensures bytes { IfSome result (λ bytes. spec.left io.now value ≡ Some bytes.now) }
-    ensures offset { IfSome result (λ bytes. spec.offset_of value + length bytes.now < 2 ^ 32) }
+fn left<'a>(io: &'a Channels, value: Lent<'_>) -> Option<&'a [u8]>
+    requires { IsInRange io.now (descriptor_of value) }
+    ensures some { is_some result ≡ is_some (spec.left io.now (descriptor_of value.entry)) }
+    ensures bytes { IfSome result (λ bytes. spec.left io.now (descriptor_of value.entry) ≡ Some bytes.now) }
+    ensures offset { IfSome result (λ bytes.
+        spec.offset_of (descriptor_of value.entry) + length bytes.now < 2 ^ 32) }
 {
     match value {
-        Descriptor::Console => Some(&[]),
-        Descriptor::File { file, at } => {
+        Lent::Console => Some(&[]),
+        Lent::File { file, at } => {
             let bytes = io.files()[file as usize].bytes.as_slice();
             Some(&bytes[at as usize..])
         }
-        Descriptor::Request { r, at } => {
+        Lent::Request { r, at } => {
             let bytes = io.requests().get(r as usize).as_slice();
             Some(&bytes[at as usize..])
         }
@@ -80,21 +83,22 @@ fn left(io: &Channels, value: Descriptor) -> Option<&[u8]>
     }
 }
 
-/// A descriptor once more bytes have been read through it.
-fn read_on(value: Descriptor, count: usize) -> Descriptor
-    requires { spec.offset_of value + count < 2 ^ 32 }
-    ensures { result ≡ spec.read_on count value }
+/// A descriptor that can be read, once more bytes have been read through it.
+fn read_on(value: Lent<'_>, count: usize) -> Lent<'static>
+    requires { spec.offset_of (descriptor_of value) + count < 2 ^ 32 }
+    ensures { (io : Channels) → is_some (spec.left io (descriptor_of value.entry)) ≡ true →
+        descriptor_of result ≡ spec.read_on count (descriptor_of value.entry) }
 {
     match value {
-        Descriptor::File { file, at } => Descriptor::File {
+        Lent::File { file, at } => Lent::File {
             file,
             at: at + count as u32,
         },
-        Descriptor::Request { r, at } => Descriptor::Request {
+        Lent::Request { r, at } => Lent::Request {
             r,
             at: at + count as u32,
         },
-        other => other,
+        _ => Lent::Console,
     }
 }
 
@@ -174,29 +178,30 @@ pub fn write<W: World>(
 }
 
 /// Whether a descriptor can be written.
-fn is_written(value: Descriptor) -> bool
-    ensures { result ≡ spec.is_written value }
+fn is_written(value: Lent<'_>) -> bool
+    ensures { result ≡ spec.is_written (descriptor_of value.entry) }
 {
-    matches!(value, Descriptor::Console | Descriptor::Reply { .. })
+    matches!(value, Lent::Console | Lent::Reply { .. })
 }
 
 /// Appends bytes where a descriptor writes. `false` says that the limit would be passed, and then nothing has
 /// changed.
-fn append(io: &mut Channels, value: Descriptor, bytes: &[u8]) -> bool
-    requires { IsInRange io.old value }
-    ensures room { result ≡ not (spec.passes_limit io.old value (length bytes.now)) }
-    ensures written { io.new ≡ (if result then spec.written io.old value bytes.now else io.old) }
+fn append(io: &mut Channels, value: Lent<'_>, bytes: &[u8]) -> bool
+    requires { IsInRange io.old (descriptor_of value) }
+    ensures room { result ≡ not (spec.passes_limit io.old (descriptor_of value.entry) (length bytes.now)) }
+    ensures written { io.new ≡
+        (if result then spec.written io.old (descriptor_of value.entry) bytes.now else io.old) }
 {
     match value {
-        Descriptor::Console if io.console().len() + bytes.len() <= MOST_CONSOLE_BYTES => {
+        Lent::Console if io.console().len() + bytes.len() <= MOST_CONSOLE_BYTES => {
             io.append_console(bytes);
             true
         }
-        Descriptor::Reply { r } if io.reply(r).len() + bytes.len() <= MOST_REPLY_BYTES => {
+        Lent::Reply { r } if io.reply(r).len() + bytes.len() <= MOST_REPLY_BYTES => {
             io.append_reply(r, bytes);
             true
         }
-        Descriptor::Console | Descriptor::Reply { .. } => false,
+        Lent::Console | Lent::Reply { .. } => false,
         _ => true,
     }
 }

@@ -7,7 +7,7 @@ ghost use Rattle.world_face.specs.Calls.{IsLive, MayName};
 
 use crate::answer::CallAnswer;
 use crate::calls::{Three, plain};
-use access_cap::{Mask, covers_kinds};
+use access_cap::{Mask, grants_kinds};
 use guest_call::context_for;
 use lwc_base::{Channels, Kind, Name, OutOfMemory, Refusal, Regs};
 use world_face::World;
@@ -56,11 +56,11 @@ fn chosen<W: World>(world: &W, c: Name, regs: &Regs) -> Result<Three, Refusal>
     ensures slots { IfOk result (λ three. IsLive (W.seen world.now) three.slots) }
     ensures cred { IfOk result (λ three. IsLive (W.seen world.now) three.cred) }
 {
-    let (d, cap) = context_for(world, c, regs.r[1])?;
+    let (d, keys) = context_for(world, c, regs.r[1])?;
     let Some(mask) = Mask::of(regs.r[2]) else {
         return Err(Refusal::BadMode);
     };
-    if !covers_kinds(&cap, mask, world.pages()) {
+    if !grants_kinds(keys, mask, world.pages()) {
         return Err(Refusal::NotCovered);
     }
     if regs.r[3] < 1 || regs.r[3] > 9 {

@@ -1,6 +1,7 @@
 ghost use Rattle.std.specs.Prelude.{◌≡◌, ◌<◌, ◌≤◌, IfSome, is_none, length};
 ghost use Rattle.guest_call.specs.Guest.{descriptor_for};
 ghost use Rattle.lwc_base.specs.Channels.{Channels, HasItsFiles, IsInRange};
+ghost use Rattle.lwc_base.specs.Lending.{descriptor_of};
 ghost use Rattle.lwc_base.specs.Summaries.{is_empty};
 ghost use Rattle.lwc_base.specs.declared.descriptor.TheConstants.{SLOTS};
 ghost use Rattle.lwc_base.specs.declared.limits.TheConstants.{MOST_FILES};
@@ -10,7 +11,7 @@ ghost use Rattle.world_face.specs.Calls.{IsLive};
 use crate::answer::CallAnswer;
 use crate::calls::Three;
 use guest_call::descriptor_for;
-use lwc_base::{Descriptor, FileImage, Name, Refusal, may_open};
+use lwc_base::{FileImage, Lent, Name, Refusal, may_open};
 use world_face::World;
 
 /// Opens a file: the lowest empty slot gets a descriptor of it.
@@ -28,7 +29,7 @@ pub fn open<W: World>(world: &mut W, files: &[FileImage], three: &Three, file: u
         return CallAnswer::Refused(Refusal::NotPermitted);
     }
     let file = file as u8;
-    place(world, three.slots, Descriptor::File { file, at: 0 })
+    place(world, three.slots, Lent::File { file, at: 0 })
 }
 
 /// Empties a slot.
@@ -40,43 +41,49 @@ pub fn close<W: World>(world: &mut W, slots: Name, n: u64) -> CallAnswer
     let Some((slot, _)) = filled_slot(world, slots, n) else {
         return CallAnswer::Refused(Refusal::BadFd);
     };
-    world.set_slot(slots, slot, Descriptor::Empty);
+    world.set_slot(slots, slot, Lent::Empty);
     CallAnswer::Value(0)
 }
 
 /// Copies what is in a slot into the lowest empty one.
+#[tactic(auto, unfolding(guest_call::specs::Guest::descriptor_for))]
 pub fn dup<W: World>(world: &mut W, slots: Name, n: u64) -> CallAnswer
     requires { IsLive (W.seen world.old) slots }
     ensures { (io : Channels) → spec.copying (W.seen world.old) io slots n
         ≡ record { answer = result; world = W.seen world.new; io = io } }
 {
-    let Some((_, value)) = filled_slot(world, slots, n) else {
+    let Some((from, _)) = filled_slot(world, slots, n) else {
         return CallAnswer::Refused(Refusal::BadFd);
     };
-    place(world, slots, value)
+    let Some(to) = world.lowest_empty(slots) else {
+        return CallAnswer::Refused(Refusal::NoSlot);
+    };
+    world.dup_slot(slots, from, to);
+    CallAnswer::Value(u64::from(to))
 }
 
-/// The slot of a number and the descriptor in it; `None` if no slot has the number or the slot is empty.
+/// The slot of a number and the descriptor in it, lent; `None` if no slot has the number or the slot is empty.
 #[tactic(auto, unfolding(guest_call::specs::Guest::descriptor_for))]
-pub(crate) fn filled_slot<W: World>(world: &W, slots: Name, n: u64) -> Option<(u8, Descriptor)>
+pub(crate) fn filled_slot<W: World>(world: &W, slots: Name, n: u64) -> Option<(u8, Lent<'_>)>
     requires { IsLive (W.seen world.now) slots }
     ensures empty { is_none result ≡ is_empty (descriptor_for (W.seen world.now) slots n) }
     ensures slot { IfSome result (λ found. (found.0 ≡ n) × (n < SLOTS)) }
-    ensures value { IfSome result (λ found. found.1 ≡ descriptor_for (W.seen world.now) slots n) }
+    ensures value { IfSome result (λ found. descriptor_of found.1 ≡ descriptor_for (W.seen world.now) slots n) }
     ensures range { IfSome result (λ found. (io : Channels) → HasItsFiles io (W.seen world.now) →
-        IsInRange io found.1) }
+        IsInRange io (descriptor_of found.1)) }
 {
     match descriptor_for(world, slots, n) {
-        Descriptor::Empty => None,
+        Lent::Empty => None,
         value => Some((n as u8, value)),
     }
 }
 
 /// Puts a descriptor into the lowest empty slot.
-fn place<W: World>(world: &mut W, slots: Name, value: Descriptor) -> CallAnswer
+fn place<W: World>(world: &mut W, slots: Name, value: Lent<'_>) -> CallAnswer
     requires { IsLive (W.seen world.old) slots }
     ensures { (io : Channels) → spec.ended (W.seen world.old) io
-        (spec.place_refusals (W.seen world.old) slots) (spec.placed (W.seen world.old) io slots value)
+        (spec.place_refusals (W.seen world.old) slots)
+        (spec.placed (W.seen world.old) io slots (descriptor_of value.entry))
         ≡ record { answer = result; world = W.seen world.new; io = io } }
 {
     let Some(n) = world.lowest_empty(slots) else {
