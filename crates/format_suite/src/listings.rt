@@ -15,6 +15,11 @@ fn listings(rt: HostRuntime) -> Result<(), Fail> {
             b".uid 7\n.entry 0\nJZ r15, 0\nADDI r0, r1, 4294967295\nJMP 0\n\
               .page 3 ab01\n.file 9 1 0a\n.slot 2 0\n",
         ),
+        (
+            b"HALT\n.page 16383 05\n.entry 0\n.form 2",
+            b".form 2\n.uid 0\n.entry 0\nHALT\n.page 16383 05\n",
+        ),
+        (b".form 1\nHALT\n.entry 0", b".uid 0\n.entry 0\nHALT\n"),
     ];
     for (source, expected) in rows {
         let image = assemble(rt.alloc(), source)?;

@@ -1,6 +1,7 @@
 use byte_reading::ReadError;
 use guest_asm::*;
 use guest_image::{ImageRule, write_image};
+use std::alloc::{AllocError, Global};
 use std::test::Fail;
 
 #[test]
@@ -122,6 +123,17 @@ fn refusals(rt: HostRuntime) -> Result<(), Fail> {
         (b"a:\nb:\na: HALT\n.entry c", SourceRule::BadLabel, 6),
         (b"a: HALT\nJMP r1\n.entry b", SourceRule::BadLabel, 8),
         (b"HALT\n", SourceRule::Image(ImageRule::BadCount), 20),
+        (b".form 2\n.form 2\nHALT\n.entry 0", SourceRule::BadLine, 8),
+        (b".form 1\nHALT\n.form 2", SourceRule::BadLine, 13),
+        (b".form\nHALT\n.entry 0", SourceRule::BadLine, 0),
+        (b".form 2 2\nHALT\n.entry 0", SourceRule::BadLine, 0),
+        (b".form 0\nHALT\n.entry 0", SourceRule::BadOperand, 0),
+        (b".form 3\nHALT\n.entry 0", SourceRule::BadOperand, 0),
+        (
+            b"one: HALT\n.form one\n.entry 0",
+            SourceRule::BadOperand,
+            10,
+        ),
         (
             b"JMP end\n.entry 0\nend:",
             SourceRule::Image(ImageRule::BadTarget),
@@ -139,6 +151,36 @@ fn refusals(rt: HostRuntime) -> Result<(), Fail> {
     Ok(())
 }
 
+/// A guest that stores to the last word of an address space of form 2, behind these lines.
+fn last_word(alloc: Global, lines: &[u8]) -> Result<Vec<u8>, AllocError> {
+    let mut source = Vec::from_slice(alloc, lines)?;
+    source.extend_from_slice(
+        b"LI r1, 67108856\nLI r2, 7\nSTW r2, r1, 0\nLDW r3, r1, 0\nHALT\n.entry 0\n",
+    )?;
+    Ok(source)
+}
+
+#[test]
+fn forms_of_images(rt: HostRuntime) -> Result<(), Fail> {
+    let rows = [
+        (b".form 2\n.page 16383 -\n".as_slice(), None),
+        (b".page 16383 -\n.form 0x2\n", None),
+        (b".page 16383 -\n", Some(68)),
+        (b".form 2\n.page 16384 -\n", Some(68)),
+        (b".form 1\n.page 1024 -\n", Some(68)),
+        (b".form 1\n.page 1023 -\n", None),
+    ];
+    for (lines, refused_at) in rows {
+        let refused = refused_at.map(|at| ReadError::Refused {
+            rule: SourceRule::Image(ImageRule::BadPage),
+            at,
+        });
+        let source = last_word(rt.alloc(), lines)?;
+        assert_eq!(rt; assemble(rt.alloc(), &source).err(), refused);
+    }
+    Ok(())
+}
+
 #[test]
 fn sources_and_images_that_are_too_long(rt: HostRuntime) -> Result<(), Fail> {
     let line = b".page 0 -\n".as_slice();
@@ -146,14 +188,14 @@ fn sources_and_images_that_are_too_long(rt: HostRuntime) -> Result<(), Fail> {
     for _ in 0..2100 {
         pages.extend_from_slice(line)?;
     }
-    let blanks = vec![in rt.alloc(); b' '; 16_777_217]?;
+    let blanks = vec![in rt.alloc(); b' '; 167_772_161]?;
     let rows = [
         (
             pages.as_slice(),
             SourceRule::Image(ImageRule::TooLong),
             8_388_608,
         ),
-        (blanks.as_slice(), SourceRule::TooLong, 16_777_216),
+        (blanks.as_slice(), SourceRule::TooLong, 167_772_160),
     ];
     for (source, rule, at) in rows {
         let refused = ReadError::Refused { rule, at };

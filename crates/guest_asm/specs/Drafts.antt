@@ -7,6 +7,8 @@ use Rattle.lwc_base.specs.declared.page.TheConstants.{PAGE_BYTES}
 use Rattle.guest_isa.specs.declared.instr.Instr.{Instr}
 use Rattle.guest_isa.specs.Spelling as instructions
 use Rattle.guest_image.specs.declared.fault.ImageRule.{ImageRule}
+use Rattle.guest_image.specs.declared.image.Form.{Form}
+use Rattle.guest_image.specs.declared.image.Form.TheVariants.{One}
 use Rattle.guest_image.specs.declared.image.Image.{Image}
 use Rattle.guest_image.specs.Spelling.{number, magic}
 use Rattle.guest_image.specs.Reading.{image_at}
@@ -22,6 +24,7 @@ use Rattle.guest_asm.specs.Sources.{Source, Use, nothing, with_lines}
 
 -- the parts of an image before it is tested: numbers that may not fit, pages that may be short
 pub record Draft : Type 0 where
+  pub form : Form
   pub uid : ℕ
   pub text : List Instr
   pub pages : List PageDraft
@@ -41,6 +44,7 @@ instruction_with labels coded = record coded.0 { imm = value_of labels coded.1 }
 -- the draft of what all lines say
 abbrev pub draft_of : Source → Draft
 draft_of source = record {
+  form = unwrap_or source.form One;
   uid = unwrap_or source.uid 0;
   text = map (instruction_with source.labels) source.text;
   pages = source.pages;
@@ -72,7 +76,7 @@ draft_at bytes =
 -- the magic, five counts and the uid
 abbrev pub header : Draft → List ℕ
 header d =
-    magic ++ (number (length d.text) ++ (number (length d.pages) ++ (number (length d.files)
+    magic d.form ++ (number (length d.text) ++ (number (length d.pages) ++ (number (length d.files)
     ++ (number (length d.slots) ++ (number (length d.entries) ++ number d.uid)))))
 
 -- bytes and zeros after them, to the length of a page

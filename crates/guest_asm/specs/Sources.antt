@@ -3,12 +3,13 @@ use Rattle.std.specs.Prelude.{ℕ, ◌+◌, if◌then◌else◌, List, [], ◌�
 use Rattle.std.specs.Map.{update}
 use Rattle.std.specs.Str.{bytes_eq}
 use Rattle.byte_reading.specs.Outcomes.{Refusal}
+use Rattle.guest_image.specs.declared.image.Form.{Form}
 use Rattle.guest_asm.specs.declared.error.SourceRule.{SourceRule}
 use Rattle.guest_asm.specs.declared.error.SourceRule.TheVariants.{BadLabel}
 use Rattle.guest_asm.specs.declared.parts.PageDraft.{PageDraft}
 use Rattle.guest_asm.specs.declared.parts.FileDraft.{FileDraft}
 use Rattle.guest_asm.specs.declared.parts.SlotDraft.{SlotDraft}
-use Rattle.guest_asm.specs.Statements.{Immediate, Value, Label, Statement, Instruction, Uid, Entry, Page, File, Slot, Coded, ◌>>=◌, line_of}
+use Rattle.guest_asm.specs.Statements.{Once, Immediate, Value, Label, Statement, Instruction, Uid, OfForm, Entry, Page, File, Slot, Coded, ◌>>=◌, line_of}
 
 -- the use of a label, and the offset of its line
 pub record Use : Type 0 where
@@ -20,6 +21,7 @@ pub record Source : Type 0 where
   pub labels : List ℕ → Option ℕ
   pub uses : List Use
   pub uid : Option ℕ
+  pub form : Option Form
   pub text : List Coded
   pub pages : List PageDraft
   pub files : List FileDraft
@@ -32,6 +34,7 @@ nothing = record {
   labels = λ name. None;
   uses = [];
   uid = None;
+  form = None;
   text = [];
   pages = [];
   files = [];
@@ -60,6 +63,7 @@ abbrev pub with_said : ℕ → Statement → Source → Source
 with_said at (Instruction i n) source =
     with_uses (uses_in at n) (record source { text = source.text ++ (i, n) ∷ [] })
 with_said at (Uid n) source = record source { uid = Some n }
+with_said at (OfForm f) source = record source { form = Some f }
 with_said at (Entry n) source =
     with_uses (uses_in at n) (record source { entries = source.entries ++ n ∷ [] })
 with_said at (Page p) source = record source { pages = source.pages ++ p ∷ [] }
@@ -71,10 +75,14 @@ abbrev pub with_statement : ℕ → Option Statement → Source → Source
 with_statement at None source = source
 with_statement at (Some s) source = with_said at s source
 
+-- which of the directives that may stand once have been said
+abbrev pub once_said : Source → Once
+once_said source = record { uid = is_some source.uid; form = is_some source.form }
+
 -- with the line at an offset, or the rule that it breaks
 unfoldable pub with_line : ℕ → List ℕ → Source → Result Source SourceRule
 with_line at line source =
-    line_of (is_some source.uid) line >>= λ l. with_label l.0 source >>= λ next.
+    line_of (once_said source) line >>= λ l. with_label l.0 source >>= λ next.
     Ok (with_statement at l.1 next)
 
 -- a step after the line at an offset

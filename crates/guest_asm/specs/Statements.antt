@@ -4,6 +4,8 @@ use Rattle.std.specs.List.{list_all}
 use Rattle.std.specs.Result.{result_ok}
 use Rattle.std.specs.Option.{unwrap_or}
 use Rattle.std.specs.Str.{bytes_eq}
+use Rattle.guest_image.specs.declared.image.Form.{Form}
+use Rattle.guest_image.specs.declared.image.Form.TheVariants.{One, Two}
 use Rattle.guest_isa.specs.declared.instr.Instr.{Instr}
 use Rattle.guest_isa.specs.declared.op.Op.{Op}
 use Rattle.guest_isa.specs.declared.op.Op.TheVariants.{Li, Lih, Mov, Add, Sub, Mul, Divu, Remu, And, Or, Xor, Shl, Shr, Ltu, Eq, Addi, Jmp, Jz, Jnz, Jal, Jr, Ldb, Ldw, Stb, Stw, Sys, Halt}
@@ -28,10 +30,16 @@ pub data Immediate : Type 0 where
 pub data Statement : Type 0 where
   Instruction : Instr → Immediate → Statement
   Uid : ℕ → Statement
+  OfForm : Form → Statement
   Entry : Immediate → Statement
   Page : PageDraft → Statement
   File : FileDraft → Statement
   Slot : SlotDraft → Statement
+
+-- whether earlier lines have `.uid` and `.form`, which may stand once
+pub record Once : Type 0 where
+  pub uid : Bool
+  pub form : Bool
 
 infixl 10 ◌>>=◌
 -- a step after one that broke no rule
@@ -145,6 +153,16 @@ abbrev pub uid_of : List (List ℕ) → Result Statement SourceRule
 uid_of (number ∷ []) = operand (number_of number) >>= λ n. Ok (Uid n)
 uid_of _ = Err BadLine
 
+-- the form of a number: 1 or 2
+abbrev pub form_numbered : Option ℕ → Option Form
+form_numbered None = None
+form_numbered (Some n) = if n == 1 then Some One else (if n == 2 then Some Two else None)
+
+-- `.form N`
+abbrev pub form_of : List (List ℕ) → Result Statement SourceRule
+form_of (number ∷ []) = operand (form_numbered (number_of number)) >>= λ f. Ok (OfForm f)
+form_of _ = Err BadLine
+
 -- `.entry N`
 abbrev pub entry_of : List (List ℕ) → Result Statement SourceRule
 entry_of (number ∷ []) = immediate_of number >>= λ n. Ok (Entry n)
@@ -190,10 +208,11 @@ slot_of (slot ∷ file ∷ []) =
     Ok (Slot (record { slot = s; file = f }))
 slot_of _ = Err BadLine
 
--- the directive or instruction with a name; has_uid says whether an earlier line has `.uid`
-unfoldable pub named : Bool → List ℕ → List (List ℕ) → Result Statement SourceRule
-named has_uid name operands =
-    if bytes_eq name (codes ".uid") then (if has_uid then Err BadLine else uid_of operands)
+-- the directive or instruction with a name; once says whether earlier lines have `.uid` and `.form`
+unfoldable pub named : Once → List ℕ → List (List ℕ) → Result Statement SourceRule
+named once name operands =
+    if bytes_eq name (codes ".uid") then (if once.uid then Err BadLine else uid_of operands)
+    else if bytes_eq name (codes ".form") then (if once.form then Err BadLine else form_of operands)
     else if bytes_eq name (codes ".entry") then entry_of operands
     else if bytes_eq name (codes ".page") then page_of operands
     else if bytes_eq name (codes ".file") then file_of operands
@@ -201,15 +220,15 @@ named has_uid name operands =
     else instruction_by (op_named name) operands
 
 -- what words say, if there are any
-abbrev pub statement_of : Bool → List (List ℕ) → Result (Option Statement) SourceRule
-statement_of has_uid [] = Ok None
-statement_of has_uid (name ∷ operands) = named has_uid name operands >>= λ s. Ok (Some s)
+abbrev pub statement_of : Once → List (List ℕ) → Result (Option Statement) SourceRule
+statement_of once [] = Ok None
+statement_of once (name ∷ operands) = named once name operands >>= λ s. Ok (Some s)
 
 -- the label of a line, if it has one, and its statement, if it has one; or the rule that it breaks
-unfoldable pub line_of : Bool → List ℕ → Result (Option (List ℕ) × Option Statement) SourceRule
-line_of has_uid line =
+unfoldable pub line_of : Once → List ℕ → Result (Option (List ℕ) × Option Statement) SourceRule
+line_of once line =
     let text = text_of line in
     let parts = labelled text in
     if list_all is_plain text
-    then (statement_of has_uid (words parts.1) >>= λ s. Ok (parts.0, s))
+    then (statement_of once (words parts.1) >>= λ s. Ok (parts.0, s))
     else Err BadLine

@@ -36,6 +36,7 @@ coded_in coded = (coded.0, immediate_in coded.1)
 abbrev pub statement_in : Statement → said.Statement
 statement_in (statements.Instruction i n) = said.Instruction i (immediate_in n)
 statement_in (statements.Uid n) = said.Uid n
+statement_in (statements.OfForm f) = said.OfForm f
 statement_in (statements.Entry n) = said.Entry (immediate_in n)
 statement_in (statements.Page n text) = said.Page (record { number = n; bytes = said.bytes_of text.now })
 statement_in (statements.File owner public text) =
@@ -60,6 +61,7 @@ source_in s = record {
   labels = label_at s.labels;
   uses = map use_in s.uses.items;
   uid = s.uid;
+  form = s.form;
   text = map coded_in s.text.items;
   pages = s.pages.items;
   files = s.files.items;

@@ -15,6 +15,7 @@ use crate::operand::Immediate;
 use crate::parts::{FileDraft, PageDraft, SlotDraft};
 use crate::source::Source;
 use byte_reading::ReadError;
+use guest_image::Form;
 use guest_isa::Instr;
 use lwc_base::{MOST_IMAGE_BYTES, OutOfMemory, PAGE_BYTES};
 use std::alloc::Global;
@@ -112,7 +113,7 @@ fn put_header(out: &mut Vec<u8>, source: &Source<'_>) -> Result<(), OutOfMemory>
     requires { length (spec.draft_bytes (draft_in source.now)) ≤ MOST_IMAGE_BYTES }
     ensures { OnOk result (out.new.items ≡ out.old.items ++ spec.header (draft_in source.now)) }
 {
-    out.extend_from_slice(b"LWC1")?;
+    out.extend_from_slice(source.form.unwrap_or(Form::One).magic())?;
     put_number(out, source.text.len() as u32)?;
     put_number(out, source.pages.len() as u32)?;
     put_number(out, source.files.len() as u32)?;

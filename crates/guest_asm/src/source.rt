@@ -15,6 +15,7 @@ use crate::parts::{FileDraft, PageDraft, SlotDraft};
 use crate::statement::{Statement, read_line};
 use crate::words::next_line;
 use byte_reading::ReadError;
+use guest_image::Form;
 use guest_isa::Instr;
 use hex::FromHexError;
 use lwc_base::Sequence;
@@ -34,6 +35,7 @@ pub(crate) struct Source<'a> {
     pub(crate) labels: BTreeMap<&'a [u8], u32>,
     pub(crate) uses: Vec<Use<'a>>,
     pub(crate) uid: Option<u32>,
+    pub(crate) form: Option<Form>,
     pub(crate) text: Vec<(Instr, Immediate<'a>)>,
     pub(crate) pages: Vec<PageDraft>,
     pub(crate) files: Vec<FileDraft>,
@@ -65,6 +67,7 @@ impl<'a> Source<'a> {
             labels: BTreeMap::new(alloc),
             uses: Vec::new(alloc),
             uid: None,
+            form: None,
             text: Vec::new(alloc),
             pages: Vec::new(alloc),
             files: Vec::new(alloc),
@@ -81,7 +84,7 @@ impl<'a> Source<'a> {
             (spec.at_offset at (spec.with_line at line.now (source_in self.old)) Ok) }
         ensures count { OnOk result (length self.new.text.items ≤ length self.old.text.items + 1) }
     {
-        let line = match read_line(self.uid.is_some(), line) {
+        let line = match read_line(self.uid.is_some(), self.form.is_some(), line) {
             Ok(line) => line,
             Err(rule) => return Err(ReadError::Refused { rule, at }),
         };
@@ -125,6 +128,7 @@ impl<'a> Source<'a> {
                 self.add_use(imm, at)?;
             }
             Some(Statement::Uid(uid)) => self.uid = Some(uid),
+            Some(Statement::OfForm(form)) => self.form = Some(form),
             Some(Statement::Entry(entry)) => {
                 self.entries.push(entry)?;
                 self.add_use(entry, at)?;

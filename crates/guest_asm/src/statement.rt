@@ -14,6 +14,7 @@ use crate::operand::{
 };
 use crate::parts::SlotDraft;
 use crate::words::{all_plain, labelled, next_word, text_of};
+use guest_image::Form;
 use guest_isa::{Instr, Op};
 use lwc_base::PAGE_BYTES;
 
@@ -22,6 +23,7 @@ use lwc_base::PAGE_BYTES;
 pub(crate) enum Statement<'a> {
     Instruction(Instr, Immediate<'a>),
     Uid(u32),
+    OfForm(Form),
     Entry(Immediate<'a>),
     Page(u32, &'a [u8]),
     File(u32, u32, &'a [u8]),
@@ -35,41 +37,58 @@ pub(crate) struct Line<'a> {
     pub(crate) statement: Option<Statement<'a>>,
 }
 
-/// Reads a line; `has_uid` says whether an earlier line has `.uid`.
+/// Reads a line; `has_uid` and `has_form` say whether earlier lines have `.uid` and `.form`.
 #[tactic(auto, unfolding(crate::specs::Statements::line_of))]
-pub(crate) fn read_line(has_uid: bool, line: &[u8]) -> Result<Line<'_>, SourceRule>
-    ensures { Gives line_in result (spec.line_of has_uid line.now) }
+pub(crate) fn read_line(has_uid: bool, has_form: bool, line: &[u8]) -> Result<Line<'_>, SourceRule>
+    ensures { Gives line_in result (spec.line_of (record { uid = has_uid; form = has_form }) line.now) }
 {
     let text = text_of(line);
     if !all_plain(text) {
         return Err(SourceRule::BadLine);
     }
     let (label, rest) = labelled(text);
-    let statement = read_statement(has_uid, rest)?;
+    let statement = read_statement(has_uid, has_form, rest)?;
     Ok(Line { label, statement })
 }
 
 /// Reads the statement of a line, if it has one.
-fn read_statement(has_uid: bool, text: &[u8]) -> Result<Option<Statement<'_>>, SourceRule>
-    ensures { Gives (λ s. option_map statement_in s) result (spec.statement_of has_uid (words text.now)) }
+fn read_statement(
+    has_uid: bool,
+    has_form: bool,
+    text: &[u8],
+) -> Result<Option<Statement<'_>>, SourceRule>
+    ensures { Gives (λ s. option_map statement_in s) result
+        (spec.statement_of (record { uid = has_uid; form = has_form }) (words text.now)) }
 {
     let Some((name, rest)) = next_word(text) else {
         return Ok(None);
     };
-    let statement = read_named(has_uid, name, rest)?;
+    let statement = read_named(has_uid, has_form, name, rest)?;
     Ok(Some(statement))
 }
 
 /// Reads the directive or instruction with a name.
 #[tactic(auto, unfolding(crate::specs::Statements::named))]
-fn read_named<'a>(has_uid: bool, name: &[u8], text: &'a [u8]) -> Result<Statement<'a>, SourceRule>
-    ensures { Gives statement_in result (spec.named has_uid name.now (words text.now)) }
+fn read_named<'a>(
+    has_uid: bool,
+    has_form: bool,
+    name: &[u8],
+    text: &'a [u8],
+) -> Result<Statement<'a>, SourceRule>
+    ensures { Gives statement_in result
+        (spec.named (record { uid = has_uid; form = has_form }) name.now (words text.now)) }
 {
     if name == b".uid".as_slice() {
         if has_uid {
             return Err(SourceRule::BadLine);
         }
         return read_uid(text);
+    }
+    if name == b".form".as_slice() {
+        if has_form {
+            return Err(SourceRule::BadLine);
+        }
+        return read_form(text);
     }
     if name == b".entry".as_slice() {
         return read_entry(text);
@@ -96,6 +115,18 @@ fn read_uid(text: &[u8]) -> Result<Statement<'_>, SourceRule>
     let word = one_word(text)?;
     let uid = read_number(word)?;
     Ok(Statement::Uid(uid))
+}
+
+/// Reads `.form N`.
+fn read_form(text: &[u8]) -> Result<Statement<'_>, SourceRule>
+    ensures { Gives statement_in result (spec.form_of (words text.now)) }
+{
+    let word = one_word(text)?;
+    match read_number(word)? {
+        1 => Ok(Statement::OfForm(Form::One)),
+        2 => Ok(Statement::OfForm(Form::Two)),
+        _ => Err(SourceRule::BadOperand),
+    }
 }
 
 /// Reads `.entry N`.

@@ -9,7 +9,7 @@ use Rattle.std.proofs.lemmas.List.{append-nil, take-append-le, get_or_push}
 use Rattle.std.proofs.lemmas.List.Elements.{All-nil, All-cons}
 use Rattle.std.proofs.lemmas.List.Splits.{slice_split_at, slice_split_none}
 use Rattle.guest_asm.specs.Lexis.{lines, words, is_separator, has_bytes, labelled, is_plain, text_of, without_end}
-use Rattle.guest_asm.specs.Statements.{line_of, statement_of, ◌>>=◌}
+use Rattle.guest_asm.specs.Statements.{Once, line_of, statement_of, ◌>>=◌}
 use Rattle.guest_asm.proofs.Lexis.{separated}
 
 -- whether a word of a listing may have this byte: a digit, a letter, `-` or `.`
@@ -187,7 +187,7 @@ line_is : (name : List ℕ) (xs : List Spaced) → line_with name xs ≡ (name +
 line_is name xs = ap (λ t. name ++ t) (closed_is xs) ∙ sym (append_assoc name (tail xs) (0x0a ∷ []))
 
 -- it is read by its words
-pub line_again : (u : Bool) (name : List ℕ) (xs : List Spaced) → is_clean_word name ≡ true → list_all is_spaced xs ≡ true → line_of u (line_with name xs) ≡ (statement_of u (name ∷ words_of xs) >>= λ s. Ok (None, s))
+pub line_again : (u : Once) (name : List ℕ) (xs : List Spaced) → is_clean_word name ≡ true → list_all is_spaced xs ≡ true → line_of u (line_with name xs) ≡ (statement_of u (name ∷ words_of xs) >>= λ s. Ok (None, s))
 unfolding line_of
 line_again u [] xs clean all = absurd cc
 line_again u (b ∷ bs) xs clean all =

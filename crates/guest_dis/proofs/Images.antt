@@ -7,16 +7,19 @@ use Rattle.std.proofs.lemmas.List.Sums.{sum_by-cons}
 use Rattle.std.proofs.lemmas.List.Folds.{flat_map-map}
 use Rattle.std.proofs.lemmas.List.Elements.{All-nil, All-cons, All-head, All-tail}
 use Rattle.lwc_base.specs.declared.channels.FileImage.{FileImage}
-use Rattle.guest_isa.specs.declared.instr.Instr.{Instr}
+use Rattle.lwc_base.specs.declared.limits.TheConstants.{MOST_SOURCE_BYTES}
 use Rattle.guest_isa.specs.Instructions.{IsInstruction, HasFieldsInRange}
+use Rattle.guest_image.specs.declared.image.Form.{Form}
+use Rattle.guest_image.specs.declared.image.Form.TheVariants.{One, Two}
 use Rattle.guest_image.specs.declared.image.Image.{Image}
 use Rattle.guest_image.specs.declared.image.PageImage.{PageImage}
 use Rattle.guest_image.specs.declared.image.SlotImage.{SlotImage}
-use Rattle.guest_image.specs.Limits.{IsImage, content}
+use Rattle.guest_image.specs.Limits.{pages_of, IsImage, content}
 use Rattle.guest_image.specs.Spelling as image
+use Rattle.guest_image.proofs.Lifted.{most_pages}
 use Rattle.guest_asm.specs.Drafts as draft
 use Rattle.guest_asm.specs.Drafts.{assembled, draft_bytes}
-use Rattle.guest_dis.specs.Listing.{HasBytes, trimmed, flag, bytes_text, uid_line, entry_line, instruction_line, page_line, file_line, slot_line, listing}
+use Rattle.guest_dis.specs.Listing.{HasBytes, trimmed, flag, bytes_text, form_line, uid_line, entry_line, instruction_line, page_line, file_line, slot_line, listing}
 use Rattle.guest_dis.proofs.Numerals.{decimal_short, text_length}
 use Rattle.guest_dis.proofs.Operations.{instruction_short}
 use Rattle.guest_dis.proofs.Trims.{padded_again, trimmed_short}
@@ -42,7 +45,7 @@ is_listed i is has = record {
   uid = is.uid;
   entries = all_from (λ e. e < length i.text) (λ n. n < 2 ^ 32) (λ e lt. omega (arith, lt, is.text.bounded)) i.entries is.entries;
   text = all_from IsInstruction (λ x. HasFieldsInRange x × IsInstruction x) (λ x h. (in_range x h, h)) i.text is.text.instructions;
-  pages = all_three (λ p. p.number < 2 ^ 32) (λ p. length p.bytes ≡ 4096) (λ p. All (λ b. b < 256) p.bytes) i.pages (all_from (λ p. p.number < 1024) (λ p. p.number < 2 ^ 32) (λ p lt. omega (arith, lt)) i.pages is.pages.numbers) is.pages.whole has.pages;
+  pages = all_three (λ p. p.number < 2 ^ 32) (λ p. length p.bytes ≡ 4096) (λ p. All (λ b. b < 256) p.bytes) i.pages (all_from (λ p. p.number < pages_of i.form) (λ p. p.number < 2 ^ 32) (λ p lt. omega (arith, lt, most_pages i.form)) i.pages is.pages.numbers) is.pages.whole has.pages;
   files = all_both (λ f. f.owner < 2 ^ 32) (λ f. All (λ b. b < 256) f.bytes) i.files is.files.owners has.files;
   slots = all_both (λ s. s.slot < 2 ^ 32) (λ s. s.file < 2 ^ 32) i.slots (all_from (λ s. s.slot < 64) (λ s. s.slot < 2 ^ 32) (λ s lt. omega (arith, lt)) i.slots is.slots.below)
       (all_from (λ s. s.file < length i.files) (λ s. s.file < 2 ^ 32) (λ s lt. omega (arith, lt, is.file_count)) i.slots is.slots.files);
@@ -102,13 +105,18 @@ page_short p small whole =
     let t = bytes_text (trimmed p.bytes) in
     omega (arith, decimal_short p.number small, text_length (trimmed p.bytes), trimmed_short p.bytes, whole, length-append (decimal p.number) (codes " " ++ (t ++ codes "\n")), length-append t (codes "\n"))
 
+form_short : (form : Form) → length (form_line form) ≤ 8
+form_short One = omega arith
+form_short Two = omega arith
+
 slot_short : (s : SlotImage) → s.slot < 2 ^ 32 → s.file < 2 ^ 32 → length (slot_line s) ≤ 28
 slot_short s slot file =
     omega (arith, decimal_short s.slot slot, decimal_short s.file file, length-append (decimal s.slot) (codes " " ++ (decimal s.file ++ codes "\n")), length-append (decimal s.file) (codes "\n"))
 
-listing_short : (i : Image) → IsImage i → IsListed i → length (listing i) ≤ 16777216
+listing_short : (i : Image) → IsImage i → IsListed i → length (listing i) ≤ MOST_SOURCE_BYTES
 unfolding listing
 listing_short i is listed =
+    let o = form_line i.form in
     let u = uid_line i.uid in
     let e = flat_map entry_line i.entries in
     let t = flat_map instruction_line i.text in
@@ -122,6 +130,8 @@ listing_short i is listed =
     let fs = files_at_most i.files is.files.owners in
     omega (
       arith,
+      form_short i.form,
+      most_pages i.form,
       uid_short i.uid listed.uid,
       es,
       ts,
@@ -134,6 +144,7 @@ listing_short i is listed =
       is.file_count,
       is.slot_count,
       is.files.content,
+      length-append o (u ++ (e ++ (t ++ (p ++ (f ++ s))))),
       length-append u (e ++ (t ++ (p ++ (f ++ s)))),
       length-append e (t ++ (p ++ (f ++ s))),
       length-append t (p ++ (f ++ s)),

@@ -12,7 +12,7 @@ use Rattle.guest_isa.specs.Opcodes.{form_of}
 use Rattle.guest_isa.specs.Instructions.{IsInstruction, is_instruction, fits, HasFieldsInRange}
 use Rattle.guest_asm.specs.declared.operand.Field.{Field}
 use Rattle.guest_asm.specs.declared.operand.Field.TheVariants.{Rd, Ra, Rb, Imm}
-use Rattle.guest_asm.specs.Statements.{Coded, Value, Statement, Instruction, mnemonic, fields_of, blank, named, op_named, instruction_of, with_fields, statement_of, line_of}
+use Rattle.guest_asm.specs.Statements.{Once, Coded, Value, Statement, Instruction, mnemonic, fields_of, blank, named, op_named, instruction_of, with_fields, statement_of, line_of}
 use Rattle.guest_asm.specs.Drafts.{instruction_with}
 use Rattle.guest_dis.specs.Listing.{operand_for, operands_of, operands_after, instruction_line}
 use Rattle.guest_asm.specs.Lexis.{lines, has_bytes, is_separator}
@@ -48,7 +48,7 @@ pub record IsRead (op : Op) : Type 0 where
   pub clean : is_clean_word (mnemonic op) ≡ true
   pub short : length (mnemonic op) ≤ 4
   pub few : length (fields_of op) ≤ 3
-  pub named_is : (u : Bool) (ws : List (List ℕ)) → named u (mnemonic op) ws ≡ instruction_of op ws
+  pub named_is : (u : Once) (ws : List (List ℕ)) → named u (mnemonic op) ws ≡ instruction_of op ws
   pub filled_is : (rd ra rb imm : ℕ) → filled (record { op = op; rd = rd; ra = ra; rb = rb; imm = imm }) (fields_of op) (blank op) ≡ used op rd ra rb imm
 
 pub is_read : (op : Op) → IsRead op
@@ -138,7 +138,7 @@ clean_operands i small (Rb ∷ fs) = rw (register_clean i.rb small.rb) (clean_op
 clean_operands i small (Imm ∷ fs) = rw (decimal_clean i.imm small.imm) (clean_operands i small fs)
 
 -- a line that is read as a statement, whatever follows it
-pub record IsLine (u : Bool) (line : List ℕ) (s : Statement) : Type 0 where
+pub record IsLine (u : Once) (line : List ℕ) (s : Statement) : Type 0 where
   pub says : line_of u line ≡ Ok (None, Some s)
   pub first : (rest : List ℕ) → lines (line ++ rest) ≡ line ∷ lines rest
 
@@ -146,7 +146,7 @@ pub record IsLine (u : Bool) (line : List ℕ) (s : Statement) : Type 0 where
 abbrev pub instruction_for : Instr → Statement
 instruction_for i = Instruction (coded_for i).0 (coded_for i).1
 
-statement_again : (i : Instr) → HasFieldsInRange i → (u : Bool) → statement_of u (mnemonic i.op ∷ operands_of i) ≡ Ok (Some (instruction_for i))
+statement_again : (i : Instr) → HasFieldsInRange i → (u : Once) → statement_of u (mnemonic i.op ∷ operands_of i) ≡ Ok (Some (instruction_for i))
 unfolding instruction_of
 statement_again i small u =
     let op = is_read i.op in
@@ -154,7 +154,7 @@ statement_again i small u =
     let made : with_fields (fields_of i.op) (operands_of i) (blank i.op) ≡ Ok (used i.op i.rd i.ra i.rb i.imm) = all_filled i small (fields_of i.op) (blank i.op) ∙ ap Ok (op.filled_is i.rd i.ra i.rb i.imm) in
     rw (op.named_is u (operands_of i), count, made) refl
 
-pub instruction_is : (u : Bool) (i : Instr) → HasFieldsInRange i → IsLine u (instruction_line i) (instruction_for i)
+pub instruction_is : (u : Once) (i : Instr) → HasFieldsInRange i → IsLine u (instruction_line i) (instruction_for i)
 instruction_is u i small =
     let name = mnemonic i.op in
     let ws = operands_of i in

@@ -1,9 +1,8 @@
 -- One line more, as a loop over places appends it.
 use Rattle.std.proofs.Common.{◌≡◌, ℕ, suc, ◌<◌, ◌+◌, List, [], ◌∷◌, ◌++◌, take, Some, sym, ap, ◌∙◌, All}
 use Rattle.std.specs.List.{flat_map, slice_get, slice_index}
-use Rattle.std.proofs.lemmas.List.{take_more, flat_map_more}
+use Rattle.std.proofs.lemmas.List.{flat_map_more}
 use Rattle.std.proofs.lemmas.List.Elements.{All-nil, All-cons, All-push}
-use Rattle.std.proofs.lemmas.Option.{slice_get_within, get_or_from_slice_get}
 use Rattle.guest_image.proofs.Writes.{take_next}
 
 pub line_next : {X : Type 0} (line : X → List ℕ) (bytes : List ℕ) (xs : List X) (i : ℕ) (x : X) → slice_get xs i ≡ Some x → (bytes ++ flat_map line (take i xs)) ++ line x ≡ bytes ++ flat_map line (take (i + 1) xs)

@@ -3,6 +3,8 @@ use Rattle.std.specs.Prelude.{ℕ, ◌<◌, ◌==◌, Bool, if◌then◌else◌,
 use Rattle.std.specs.List.{flat_map}
 use Rattle.lwc_base.specs.declared.channels.FileImage.{FileImage}
 use Rattle.guest_isa.specs.declared.instr.Instr.{Instr}
+use Rattle.guest_image.specs.declared.image.Form.{Form}
+use Rattle.guest_image.specs.declared.image.Form.TheVariants.{One, Two}
 use Rattle.guest_image.specs.declared.image.Image.{Image}
 use Rattle.guest_image.specs.declared.image.PageImage.{PageImage}
 use Rattle.guest_image.specs.declared.image.SlotImage.{SlotImage}
@@ -45,6 +47,11 @@ abbrev pub trimmed : List ℕ → List ℕ
 trimmed [] = []
 trimmed (b ∷ bs) = before_trimmed b (trimmed bs)
 
+-- `.form 2` for form 2, and no line for form 1
+abbrev pub form_line : Form → List ℕ
+form_line One = []
+form_line Two = codes ".form 2\n"
+
 -- `.uid N`
 abbrev pub uid_line : ℕ → List ℕ
 uid_line n = codes ".uid " ++ (decimal n ++ codes "\n")
@@ -72,12 +79,12 @@ file_line f =
 abbrev pub slot_line : SlotImage → List ℕ
 slot_line s = codes ".slot " ++ (decimal s.slot ++ (codes " " ++ (decimal s.file ++ codes "\n")))
 
--- the uid, the entries, the instructions, the pages, the files and the slots, one a line
+-- the form if it is 2, the uid, the entries, the instructions, the pages, the files and the slots, one a line
 unfoldable pub listing : Image → List ℕ
 listing image =
-    uid_line image.uid ++ (flat_map entry_line image.entries
+    form_line image.form ++ (uid_line image.uid ++ (flat_map entry_line image.entries
     ++ (flat_map instruction_line image.text ++ (flat_map page_line image.pages
-    ++ (flat_map file_line image.files ++ flat_map slot_line image.slots))))
+    ++ (flat_map file_line image.files ++ flat_map slot_line image.slots)))))
 
 -- the bytes of an image's pages and files are below 256
 pub record HasBytes (image : Image) : Type 0 where

@@ -4,10 +4,20 @@ ghost use Rattle.std.specs.Prelude.{◌≡◌, ◌<◌, ◌++◌, All, OnOk, IfO
 ghost use Rattle.guest_dis.specs.Listing as spec;
 
 use guest_asm::{Field, fields_of, mnemonic};
-use guest_image::{PageImage, SlotImage};
+use guest_image::{Form, PageImage, SlotImage};
 use guest_isa::Instr;
 use lwc_base::{FileImage, OutOfMemory};
 use std::alloc::Global;
+
+/// Appends the line of the form, if it is 2.
+pub(crate) fn put_form(out: &mut Vec<u8>, form: Form) -> Result<(), OutOfMemory>
+    ensures { OnOk result (out.new.items ≡ out.old.items ++ spec.form_line form) }
+{
+    if form == Form::Two {
+        out.extend_from_slice(b".form 2\n")?;
+    }
+    Ok(())
+}
 
 /// Appends the line of the uid.
 pub(crate) fn put_uid(out: &mut Vec<u8>, uid: u32) -> Result<(), OutOfMemory>

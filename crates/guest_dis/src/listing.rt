@@ -6,14 +6,14 @@ ghost use Rattle.guest_image.specs.Limits.{IsImage};
 ghost use Rattle.guest_asm.specs.Drafts.{assembled};
 ghost use Rattle.guest_dis.specs.Listing as spec;
 
-use crate::lines::{put_entry, put_file, put_instruction, put_page, put_slot, put_uid};
+use crate::lines::{put_entry, put_file, put_form, put_instruction, put_page, put_slot, put_uid};
 use guest_image::{Image, PageImage, SlotImage};
 use guest_isa::Text;
 use lwc_base::{FileImage, OutOfMemory};
 use std::alloc::Global;
 
-/// The source of an image (`listing`): the uid, the entries, the instructions, the pages, the files and the
-/// slots, one a line, without labels. It is assembled to the same image. The only error is out of memory.
+/// The source of an image (`listing`): the form if it is 2, the uid, the entries, the instructions, the pages, the
+/// files and the slots, one a line, without labels. It is assembled to the same image. The only error is out of memory.
 pub fn disassemble(alloc: Global, image: &Image) -> Result<Vec<u8>, OutOfMemory>
     requires { IsImage image.now }
     ensures source { IfOk result (λ source. source.items ≡ spec.listing image.now) }
@@ -29,6 +29,7 @@ fn list(alloc: Global, image: &Image) -> Result<Vec<u8>, OutOfMemory>
     ensures bytes { OnOk result (spec.HasBytes image.now) }
 {
     let mut out = Vec::new(alloc);
+    put_form(&mut out, image.form)?;
     put_uid(&mut out, image.uid)?;
     put_entries(&mut out, image.entries.as_slice())?;
     put_text(&mut out, &image.text)?;

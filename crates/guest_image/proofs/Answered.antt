@@ -1,7 +1,5 @@
 -- What a reading of a file answers.
-use Rattle.std.proofs.Common.{◌≡◌, ◌<◌, inl, inr, ℕ, List, length, Result, Ok, Err, subst, ap, ◌∙◌, arith, All, IfOk}
-use Rattle.std.proofs.lemmas.Bool.{cases_lt}
-use Rattle.std.proofs.lemmas.List.{get_or_past}
+use Rattle.std.proofs.Common.{◌≡◌, ℕ, List, Result, Ok, Err, subst, ap, ◌∙◌, IfOk}
 use Rattle.byte_reading.specs.Outcomes.{Answers}
 use Rattle.byte_reading.specs.declared.error.ReadError.TheVariants.{Refused}
 use Rattle.byte_reading.specs.declared.error.ReadError.{ReadError}

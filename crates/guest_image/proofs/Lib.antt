@@ -8,3 +8,4 @@ pub mod PartLaws
 pub mod WholeLaws
 pub mod Answered
 pub mod Writes
+pub mod Lifted

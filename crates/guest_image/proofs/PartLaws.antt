@@ -1,5 +1,5 @@
 -- Each value of an image: what is read is spelled so and within the limits, what is spelled so within the limits is read, and what is refused breaks a rule.
-use Rattle.std.proofs.Common.{◌≡◌, ◌≢◌, inl, inr, ℕ, zero, suc, ◌+◌, ◌^◌, ◌<◌, ◌≤◌, Bool, true, false, cond, ◌&&◌, ltb, leb, eqb, List, [], ◌∷◌, ◌++◌, length, Option, Some, None, Ok, Err, refl, sym, ap, subst, ◌∙◌, arith, All}
+use Rattle.std.proofs.Common.{◌≡◌, ◌≢◌, inl, inr, ℕ, zero, suc, ◌+◌, ◌^◌, ◌<◌, ◌≤◌, Bool, true, false, cond, ◌&&◌, ltb, leb, eqb, List, [], ◌∷◌, ◌++◌, length, Option, Some, None, Ok, Err, refl, sym, ap, subst, ◌∙◌, arith, All, lit<}
 use Rattle.std.specs.Prelude.{IsTrue, replicate}
 use Rattle.std.proofs.lemmas.Bool.{and_parts, and_from, ltb-true, lt-ltb, le-ltb, ltb-false, leb-true, le-leb, false≢true}
 use Rattle.std.proofs.lemmas.Bool.Decides.{nat_tests}
@@ -9,7 +9,7 @@ use Rattle.std.proofs.lemmas.List.Sums.{sum_by_push, sum_by-append}
 use Rattle.byte_reading.specs.Outcomes.{Refusal, ◌>>=◌}
 use Rattle.lwc_base.specs.declared.channels.FileImage.{FileImage}
 use Rattle.lwc_base.specs.declared.descriptor.TheConstants.{SLOTS}
-use Rattle.lwc_base.specs.declared.limits.TheConstants.{MOST_FILE_BYTES, MOST_PAGES, MOST_RANGES}
+use Rattle.lwc_base.specs.declared.limits.TheConstants.{MOST_FILE_BYTES, MOST_RANGES}
 use Rattle.lwc_base.specs.declared.page.TheConstants.{PAGE_BYTES}
 use Rattle.guest_isa.specs.declared.instr.Instr.{Instr}
 use Rattle.guest_isa.specs.Instructions.{IsInstruction}
@@ -18,12 +18,14 @@ use Rattle.guest_isa.specs.Spelling as instructions
 use Rattle.guest_image.specs.declared.fault.ImageRule.{ImageRule}
 use Rattle.guest_image.specs.declared.fault.ImageRule.TheVariants.{BadFile, BadTarget, BadInstruction, BadPage, BadSlot, BadEntry}
 use Rattle.guest_image.specs.declared.header.Header.{Header}
+use Rattle.guest_image.specs.declared.image.Form.{Form}
+use Rattle.guest_image.specs.declared.image.Form.TheVariants.{One, Two}
 use Rattle.guest_image.specs.declared.image.PageImage.{PageImage}
 use Rattle.guest_image.specs.declared.image.SlotImage.{SlotImage}
 use Rattle.guest_image.specs.declared.image.TheConstants.{FIRST_SLOT}
 use Rattle.guest_image.specs.Rest.{Rest}
 use Rattle.guest_image.specs.Numbers.{is_above, begins, last, rising, ranges, rising_after, ranges_after}
-use Rattle.guest_image.specs.Limits.{stays_inside, page_numbers, slot_numbers, content, ArePages, AreFiles, AreSlots}
+use Rattle.guest_image.specs.Limits.{pages_of, stays_inside, page_numbers, slot_numbers, content, ArePages, AreFiles, AreSlots}
 use Rattle.guest_image.specs.Spelling.{number, flag, page, file, slot}
 use Rattle.guest_image.specs.Reading.{bytes_at, number_at, number_where, checked, instruction_at, is_next_page, page_at, public_at, length_at, file_at, is_next_slot, slot_at, entry_at, next_instruction, next_page, next_file, next_slot, next_entry}
 use Rattle.guest_image.specs.Refusals.{Breaks, IsCode, PageMayFollow, SlotMayFollow, InText, InPages, InFiles, InSlots, InEntries}
@@ -95,8 +97,8 @@ code_reads count = record {
 }
 
 -- the bytes of an instruction that is not taken
-checked_stop : (file : Rest) (h : Header) (text : List Instr) (front : List ℕ) (r : Rest) (bytes rest : List ℕ) (s : Refusal ImageRule) (o : Option Instr) → InText h text front → Takes file front r → r.bytes ≡ bytes ++ rest → length bytes ≡ 8 → IsBytes bytes
-    → reading bytes ≡ o → checked h.instructions r o ≡ Err s → Stops file s
+checked_stop : {form : Form} (file : Rest) (h : Header) (text : List Instr) (front : List ℕ) (r : Rest) (bytes rest : List ℕ) (s : Refusal ImageRule) (o : Option Instr) → InText form h text front → Takes file front r → r.bytes ≡ bytes ++ rest → length bytes ≡ 8 → IsBytes bytes
+    → reading bytes ≡ o → checked h.instructions r o ≡ Err s → Stops form file s
 unfolding Breaks
 checked_stop file h text front r bytes rest s None place t is len fits none e =
     let same : s ≡ record { rule = BadInstruction; at = r.at } = cc in
@@ -106,7 +108,7 @@ checked_stop file h text front r bytes rest s (Some i) place t is len fits some 
     let k = spelling-reading bytes i len fits some in
     stops_at file front r BadTarget s t (h, text, i, place, (rest, is ∙ ap (λ (b : List ℕ). b ++ rest) k.1), k.0, f.0) (sym f.1)
 
-pub instruction_stop : (file : Rest) (h : Header) (text : List Instr) (front : List ℕ) (r : Rest) (s : Refusal ImageRule) → InText h text front → Takes file front r → next_instruction h.instructions text r ≡ Err s → Stops file s
+pub instruction_stop : {form : Form} (file : Rest) (h : Header) (text : List Instr) (front : List ℕ) (r : Rest) (s : Refusal ImageRule) → InText form h text front → Takes file front r → next_instruction h.instructions text r ≡ Err s → Stops form file s
 unfolding instruction_at
 instruction_stop file h text front r s place t e =
     elim (bind_err (bytes_at 8 r) (λ field. checked h.instructions r (reading field.0) >>= λ i. Ok (i, field.1)) s e) [
@@ -134,100 +136,105 @@ target_fails count at i rest is outside = rw (bytes_again 8 at (instructions.spe
 
 -- ---- pages
 
+pub pages_few : (form : Form) → pages_of form < 2 ^ 32
+pages_few One = lit< tt
+pages_few Two = lit< tt
+
 page_rise : (pages : List PageImage) (p : PageImage) → rising (page_numbers (pages ++ p ∷ [])) ≡ (rising (page_numbers pages) && is_above (last (page_numbers pages)) p.number)
 page_rise pages p = rw map_push (rising-push None (page_numbers pages) p.number)
 
-abbrev next_number : List PageImage → ℕ → Bool
-next_number pages = is_next_page (last (page_numbers pages)) (ranges (page_numbers pages))
+module _ (form : Form) where
+  abbrev next_number : List PageImage → ℕ → Bool
+  next_number pages = is_next_page form (last (page_numbers pages)) (ranges (page_numbers pages))
 
--- a page that passes the test of its number comes after pages
-page_follows : (pages : List PageImage) (p : PageImage) → ArePages pages → next_number pages p.number ≡ true → length p.bytes ≡ PAGE_BYTES → ArePages (pages ++ p ∷ [])
-page_follows pages p are test whole =
-    let tests = and_parts _ _ test in
-    let front = and_parts _ _ tests.0 in
-    record {
-      numbers = All-push (λ p. p.number < MOST_PAGES) pages p are.numbers (ltb-true _ _ front.0);
-      rise = page_rise pages p ∙ and_from _ _ are.rise front.1;
-      ranges = subst (λ (n : ℕ). n ≤ MOST_RANGES) (sym (page_ranges pages p)) (leb-true _ _ tests.1);
-      whole = All-push (λ p. length p.bytes ≡ PAGE_BYTES) pages p are.whole whole;
-    }
+  -- a page that passes the test of its number comes after pages
+  page_follows : (pages : List PageImage) (p : PageImage) → ArePages form pages → next_number pages p.number ≡ true → length p.bytes ≡ PAGE_BYTES → ArePages form (pages ++ p ∷ [])
+  page_follows pages p are test whole =
+      let tests = and_parts _ _ test in
+      let front = and_parts _ _ tests.0 in
+      record {
+        numbers = All-push (λ p. p.number < pages_of form) pages p are.numbers (ltb-true _ _ front.0);
+        rise = page_rise pages p ∙ and_from _ _ are.rise front.1;
+        ranges = subst (λ (n : ℕ). n ≤ MOST_RANGES) (sym (page_ranges pages p)) (leb-true _ _ tests.1);
+        whole = All-push (λ p. length p.bytes ≡ PAGE_BYTES) pages p are.whole whole;
+      }
 
--- the number of a page that comes after pages passes the test
-number_follows : (pages : List PageImage) (p : PageImage) → ArePages (pages ++ p ∷ []) → next_number pages p.number ≡ true
-number_follows pages p are =
-    let small = All-last (λ p. p.number < MOST_PAGES) pages p are.numbers in
-    let above = and_parts _ _ (sym (page_rise pages p) ∙ are.rise) in
-    let few = subst (λ (n : ℕ). n ≤ MOST_RANGES) (page_ranges pages p) are.ranges in
-    and_from _ _ (and_from _ _ (lt-ltb _ _ small) above.1) (le-leb _ _ few)
+  -- the number of a page that comes after pages passes the test
+  number_follows : (pages : List PageImage) (p : PageImage) → ArePages form (pages ++ p ∷ []) → next_number pages p.number ≡ true
+  number_follows pages p are =
+      let small = All-last (λ p. p.number < pages_of form) pages p are.numbers in
+      let above = and_parts _ _ (sym (page_rise pages p) ∙ are.rise) in
+      let few = subst (λ (n : ℕ). n ≤ MOST_RANGES) (page_ranges pages p) are.ranges in
+      and_from _ _ (and_from _ _ (lt-ltb _ _ small) above.1) (le-leb _ _ few)
 
-page_takes : (pages : List PageImage) (r : Rest) (p : PageImage) (after : Rest) → IsBytes r.bytes → next_page pages r ≡ Ok (p, after) → Takes r (page p) after × (next_number pages p.number ≡ true) × (length p.bytes ≡ PAGE_BYTES)
-unfolding page_at
-page_takes pages r p after fits e =
-    let a = bind_ok (number_where (next_number pages) BadPage r) _ _ e in
-    let b = bind_ok (bytes_at PAGE_BYTES a.0.1) _ _ a.2 in
-    let ta = where_takes _ _ r a.0.0 a.0.1 fits a.1 in
-    let tb = bytes_take PAGE_BYTES a.0.1 b.0.0 b.0.1 ta.0.rest_fits b.1 in
-    let made : PageImage × Rest = (record { number = a.0.0; bytes = b.0.0 }, b.0.1) in
-    subst (λ (y : PageImage × Rest). Takes r (page y.0) y.1 × (next_number pages y.0.number ≡ true) × (length y.0.bytes ≡ PAGE_BYTES)) (ok_is made (p, after) b.2)
-    (Takes-then r (number a.0.0) a.0.1 b.0.0 b.0.1 ta.0 tb.0, ta.2, tb.1)
+  page_takes : (pages : List PageImage) (r : Rest) (p : PageImage) (after : Rest) → IsBytes r.bytes → next_page form pages r ≡ Ok (p, after) → Takes r (page p) after × (next_number pages p.number ≡ true) × (length p.bytes ≡ PAGE_BYTES)
+  unfolding page_at
+  page_takes pages r p after fits e =
+      let a = bind_ok (number_where (next_number pages) BadPage r) _ _ e in
+      let b = bind_ok (bytes_at PAGE_BYTES a.0.1) _ _ a.2 in
+      let ta = where_takes _ _ r a.0.0 a.0.1 fits a.1 in
+      let tb = bytes_take PAGE_BYTES a.0.1 b.0.0 b.0.1 ta.0.rest_fits b.1 in
+      let made : PageImage × Rest = (record { number = a.0.0; bytes = b.0.0 }, b.0.1) in
+      subst (λ (y : PageImage × Rest). Takes r (page y.0) y.1 × (next_number pages y.0.number ≡ true) × (length y.0.bytes ≡ PAGE_BYTES)) (ok_is made (p, after) b.2)
+      (Takes-then r (number a.0.0) a.0.1 b.0.0 b.0.1 ta.0 tb.0, ta.2, tb.1)
 
-page_again : (pages : List PageImage) (p : PageImage) (at : ℕ) (rest : List ℕ) → p.number < MOST_PAGES → next_number pages p.number ≡ true → length p.bytes ≡ PAGE_BYTES → next_page pages (from at (page p ++ rest)) ≡ Ok (p, from (at + length (page p)) rest)
-unfolding page_at
-page_again pages p at rest lt test whole =
-    let small : p.number < 2 ^ 32 = omega arith in
-    let place : (at + 4) + PAGE_BYTES ≡ at + length (page p) = omega (arith, length-append (number p.number) p.bytes) in
-    rw (where_again _ _ p.number at (p.bytes ++ rest) small test, bytes_again PAGE_BYTES (at + 4) p.bytes rest whole, place) refl
+  page_again : (pages : List PageImage) (p : PageImage) (at : ℕ) (rest : List ℕ) → p.number < pages_of form → next_number pages p.number ≡ true → length p.bytes ≡ PAGE_BYTES → next_page form pages (from at (page p ++ rest)) ≡ Ok (p, from (at + length (page p)) rest)
+  unfolding page_at
+  page_again pages p at rest lt test whole =
+      let small : p.number < 2 ^ 32 = omega (arith, lt, pages_few form) in
+      let place : (at + 4) + PAGE_BYTES ≡ at + length (page p) = omega (arith, length-append (number p.number) p.bytes) in
+      rw (where_again _ _ p.number at (p.bytes ++ rest) small test, bytes_again PAGE_BYTES (at + 4) p.bytes rest whole, place) refl
 
-pub pages_take : TakesEach ArePages page next_page
-pages_take = record {
-  takes = λ before r x after fits p e. let t = page_takes before r x after fits e in (t.0, page_follows before x p t.1 t.2);
-}
+  pub pages_take : TakesEach (ArePages form) page (next_page form)
+  pages_take = record {
+    takes = λ before r x after fits p e. let t = page_takes before r x after fits e in (t.0, page_follows before x p t.1 t.2);
+  }
 
-pub pages_read : ReadsEach ArePages page next_page
-pages_read = record {
-  reads = λ before x at rest p. page_again before x at rest (All-last (λ p. p.number < MOST_PAGES) before x p.numbers) (number_follows before x p) (All-last (λ p. length p.bytes ≡ PAGE_BYTES) before x p.whole);
-  front = λ before after p. record {
-    numbers = All-front (λ p. p.number < MOST_PAGES) before after p.numbers;
-    rise = rising-front None (page_numbers before) (page_numbers after) (ap rising (sym (map-append (λ p. p.number) before after)) ∙ p.rise);
-    ranges =
-        let more = ranges-front None (page_numbers before) (page_numbers after) in
-        let same : ranges (page_numbers before ++ page_numbers after) ≤ MOST_RANGES = subst (λ (ns : List ℕ). ranges ns ≤ MOST_RANGES) (map-append (λ p. p.number) before after) p.ranges in
-        omega arith;
-    whole = All-front (λ p. length p.bytes ≡ PAGE_BYTES) before after p.whole;
-  };
-}
+  pub pages_read : ReadsEach (ArePages form) page (next_page form)
+  pages_read = record {
+    reads = λ before x at rest p. page_again before x at rest (All-last (λ p. p.number < pages_of form) before x p.numbers) (number_follows before x p) (All-last (λ p. length p.bytes ≡ PAGE_BYTES) before x p.whole);
+    front = λ before after p. record {
+      numbers = All-front (λ p. p.number < pages_of form) before after p.numbers;
+      rise = rising-front None (page_numbers before) (page_numbers after) (ap rising (sym (map-append (λ p. p.number) before after)) ∙ p.rise);
+      ranges =
+          let more = ranges-front None (page_numbers before) (page_numbers after) in
+          let same : ranges (page_numbers before ++ page_numbers after) ≤ MOST_RANGES = subst (λ (ns : List ℕ). ranges ns ≤ MOST_RANGES) (map-append (λ p. p.number) before after) p.ranges in
+          omega arith;
+      whole = All-front (λ p. length p.bytes ≡ PAGE_BYTES) before after p.whole;
+    };
+  }
 
-pub page_stop : (file : Rest) (h : Header) (pages : List PageImage) (front : List ℕ) (r : Rest) (s : Refusal ImageRule) → InPages h pages front → Takes file front r → next_page pages r ≡ Err s → Stops file s
-unfolding page_at Breaks
-page_stop file h pages front r s place t e =
-    elim (bind_err (number_where (next_number pages) BadPage r) (λ n. bytes_at PAGE_BYTES n.1 >>= λ field. Ok (record { number = n.0; bytes = field.0 }, field.1)) s e) [
-      | inl stop ↦ elim (where_stop _ _ r s t.rest_fits stop) [
-        | inl short ↦ ends_early file front r s t short
-        | inr bad ↦ stops_at file front r BadPage s t (
-          h,
-          pages,
-          bad.0,
-          place,
-          (bad.1.fits, (bad.1.rest, bad.1.is)),
-          λ follows. false≢true (sym bad.1.fails ∙ number_follows pages (record { number = bad.0; bytes = follows.0 }) follows.1),
-        ) bad.2
+  pub page_stop : (file : Rest) (h : Header) (pages : List PageImage) (front : List ℕ) (r : Rest) (s : Refusal ImageRule) → InPages form h pages front → Takes file front r → next_page form pages r ≡ Err s → Stops form file s
+  unfolding page_at Breaks
+  page_stop file h pages front r s place t e =
+      elim (bind_err (number_where (next_number pages) BadPage r) (λ n. bytes_at PAGE_BYTES n.1 >>= λ field. Ok (record { number = n.0; bytes = field.0 }, field.1)) s e) [
+        | inl stop ↦ elim (where_stop _ _ r s t.rest_fits stop) [
+          | inl short ↦ ends_early file front r s t short
+          | inr bad ↦ stops_at file front r BadPage s t (
+            h,
+            pages,
+            bad.0,
+            place,
+            (bad.1.fits, (bad.1.rest, bad.1.is)),
+            λ follows. false≢true (sym bad.1.fails ∙ number_follows pages (record { number = bad.0; bytes = follows.0 }) follows.1),
+          ) bad.2
+        ]
+        | inr a ↦
+            let ta = where_takes _ _ r a.0.0 a.0.1 t.rest_fits a.1 in
+            elim (bind_err (bytes_at PAGE_BYTES a.0.1) (λ field. Ok (record { number = a.0.0; bytes = field.0 }, field.1)) s a.2) [
+              | inl short ↦ ends_early file (front ++ number a.0.0) a.0.1 s (Takes-then file front r (number a.0.0) a.0.1 t ta.0) (bytes_stop PAGE_BYTES a.0.1 s short)
+              | inr b ↦ absurd cc
+            ]
       ]
-      | inr a ↦
-          let ta = where_takes _ _ r a.0.0 a.0.1 t.rest_fits a.1 in
-          elim (bind_err (bytes_at PAGE_BYTES a.0.1) (λ field. Ok (record { number = a.0.0; bytes = field.0 }, field.1)) s a.2) [
-            | inl short ↦ ends_early file (front ++ number a.0.0) a.0.1 s (Takes-then file front r (number a.0.0) a.0.1 t ta.0) (bytes_stop PAGE_BYTES a.0.1 s short)
-            | inr b ↦ absurd cc
-          ]
-    ]
 
--- a number that no page may have fails the test
-no_page : (pages : List PageImage) (n : ℕ) (test : Bool) → ArePages pages → next_number pages n ≡ test → (PageMayFollow pages n → ⊥) → test ≡ false
-no_page pages n true are test none = absurd (none (replicate PAGE_BYTES 0, page_follows pages (record { number = n; bytes = replicate PAGE_BYTES 0 }) are test (length-replicate {A = ℕ} PAGE_BYTES 0)))
-no_page pages n false are test none = refl
+  -- a number that no page may have fails the test
+  no_page : (pages : List PageImage) (n : ℕ) (test : Bool) → ArePages form pages → next_number pages n ≡ test → (PageMayFollow form pages n → ⊥) → test ≡ false
+  no_page pages n true are test none = absurd (none (replicate PAGE_BYTES 0, page_follows pages (record { number = n; bytes = replicate PAGE_BYTES 0 }) are test (length-replicate {A = ℕ} PAGE_BYTES 0)))
+  no_page pages n false are test none = refl
 
-pub page_fails : (pages : List PageImage) (n at : ℕ) (rest : List ℕ) → ArePages pages → n < 2 ^ 32 → (PageMayFollow pages n → ⊥) → next_page pages (from at (number n ++ rest)) ≡ Err (record { rule = BadPage; at = at })
-unfolding page_at
-page_fails pages n at rest are lt none = rw (where_fails (next_number pages) BadPage n at rest lt (no_page pages n (next_number pages n) are refl none)) refl
+  pub page_fails : (pages : List PageImage) (n at : ℕ) (rest : List ℕ) → ArePages form pages → n < 2 ^ 32 → (PageMayFollow form pages n → ⊥) → next_page form pages (from at (number n ++ rest)) ≡ Err (record { rule = BadPage; at = at })
+  unfolding page_at
+  page_fails pages n at rest are lt none = rw (where_fails (next_number pages) BadPage n at rest lt (no_page pages n (next_number pages n) are refl none)) refl
 
 -- ---- files
 
@@ -328,7 +335,7 @@ at_least n limit e = ltb-false n limit e
 too_many : (n limit : ℕ) → leb n limit ≡ false → limit < n
 too_many n limit e = grind (arith, nat_tests)
 
-pub file_stop : (whole : Rest) (h : Header) (files : List FileImage) (front : List ℕ) (r : Rest) (s : Refusal ImageRule) → InFiles h files front → Takes whole front r → next_file files r ≡ Err s → Stops whole s
+pub file_stop : {form : Form} (whole : Rest) (h : Header) (files : List FileImage) (front : List ℕ) (r : Rest) (s : Refusal ImageRule) → InFiles form h files front → Takes whole front r → next_file files r ≡ Err s → Stops form whole s
 unfolding file_at Breaks
 file_stop whole h files front r s place t e0 =
     elim (bind_err (number_at r) _ s e0) [
@@ -471,7 +478,7 @@ may_follow count slots n are test =
     let more : AreSlots (count + 1) slots = record { above = are.above; below = are.below; rise = are.rise; files = All-weaker (λ s. s.file < count) (λ s. s.file < count + 1) (λ s lt. omega arith) slots are.files } in
     (count + 1, 0, slot_follows (count + 1) slots (record { slot = n; file = 0 }) more test (omega arith))
 
-pub slot_stop : (file : Rest) (h : Header) (slots : List SlotImage) (front : List ℕ) (r : Rest) (s : Refusal ImageRule) → InSlots h slots front → Takes file front r → next_slot h.files slots r ≡ Err s → Stops file s
+pub slot_stop : {form : Form} (file : Rest) (h : Header) (slots : List SlotImage) (front : List ℕ) (r : Rest) (s : Refusal ImageRule) → InSlots form h slots front → Takes file front r → next_slot h.files slots r ≡ Err s → Stops form file s
 unfolding slot_at Breaks
 slot_stop file h slots front r s place t e =
     elim (bind_err (number_where (next_place slots) BadSlot r) _ s e) [
@@ -545,7 +552,7 @@ entries_read count few = record {
   front = λ before after p. All-front (λ e. e < count) before after p;
 }
 
-pub entry_stop : (file : Rest) (h : Header) (entries : List ℕ) (front : List ℕ) (r : Rest) (s : Refusal ImageRule) → InEntries h entries front → Takes file front r → next_entry h.instructions entries r ≡ Err s → Stops file s
+pub entry_stop : {form : Form} (file : Rest) (h : Header) (entries : List ℕ) (front : List ℕ) (r : Rest) (s : Refusal ImageRule) → InEntries form h entries front → Takes file front r → next_entry h.instructions entries r ≡ Err s → Stops form file s
 unfolding Breaks
 entry_stop file h entries front r s place t e =
     elim (where_stop _ _ r s t.rest_fits e) [

@@ -5,6 +5,7 @@ use Rattle.std.proofs.lemmas.List.{append-nil, flat_map_more, length-append, len
 use Rattle.std.proofs.lemmas.List.Concat.{flat_map-cons}
 use Rattle.byte_reading.specs.Outcomes.{Refusal}
 use Rattle.guest_image.specs.declared.fault.ImageRule.{ImageRule}
+use Rattle.guest_image.specs.declared.image.Form.{Form}
 use Rattle.guest_image.specs.Rest.{Rest}
 use Rattle.guest_image.specs.Reading.{list_at}
 use Rattle.guest_image.specs.Refusals.{AllValues, SomeValues}
@@ -47,9 +48,9 @@ module _ {A : Type 0} (file : Rest) (P : List A → Type 0) (spell : A → List 
   pub values_take : (r : Rest) (xs : List A) (after : Rest) → P [] → Takes file start r → list_at read count [] r ≡ Ok (xs, after) → P xs × (length xs ≡ count) × Takes file (spelled xs) after
   values_take r xs after p t e = list_takes count [] r xs after (omega arith) p (none_yet r t) e
 
-  module _ (Before : List ℕ → Type 0) (before : Before start)
-      (item : (values : List A) (front : List ℕ) (r : Rest) (s : Refusal ImageRule) → SomeValues Before P spell count values front → Takes file front r → read values r ≡ Err s → Stops file s) where
-    list_stop : (n : ℕ) (values : List A) (r : Rest) (s : Refusal ImageRule) → length values + n ≡ count → P values → Takes file (spelled values) r → list_at read n values r ≡ Err s → Stops file s
+  module _ {form : Form} (Before : List ℕ → Type 0) (before : Before start)
+      (item : (values : List A) (front : List ℕ) (r : Rest) (s : Refusal ImageRule) → SomeValues Before P spell count values front → Takes file front r → read values r ≡ Err s → Stops form file s) where
+    list_stop : (n : ℕ) (values : List A) (r : Rest) (s : Refusal ImageRule) → length values + n ≡ count → P values → Takes file (spelled values) r → list_at read n values r ≡ Err s → Stops form file s
     unfolding list_at
     list_stop zero values r s len p t e = absurd cc
     list_stop (suc n) values r s len p t e =
@@ -61,7 +62,7 @@ module _ {A : Type 0} (file : Rest) (P : List A → Type 0) (spell : A → List 
         ]
 
     -- not all values were read
-    pub values_stop : (r : Rest) (s : Refusal ImageRule) → P [] → Takes file start r → list_at read count [] r ≡ Err s → Stops file s
+    pub values_stop : (r : Rest) (s : Refusal ImageRule) → P [] → Takes file start r → list_at read count [] r ≡ Err s → Stops form file s
     values_stop r s p t e = list_stop count [] r s (omega arith) p (none_yet r t) e
 
 module _ {A : Type 0} (P : List A → Type 0) (spell : A → List ℕ) (read : Reader A) (law : ReadsEach P spell read) where

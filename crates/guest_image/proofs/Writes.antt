@@ -4,6 +4,7 @@ use Rattle.std.specs.List.{flat_map, slice_get}
 use Rattle.std.proofs.lemmas.List.{take_more, flat_map_more}
 use Rattle.lwc_base.specs.declared.channels.FileImage.{FileImage}
 use Rattle.guest_image.specs.declared.header.Header.{Header}
+use Rattle.guest_image.specs.declared.image.Form.{Form}
 use Rattle.guest_image.specs.Spelling.{magic, number, flag, header, file}
 use Rattle.std.proofs.lemmas.Option.{slice_get_within, get_or_from_slice_get}
 
@@ -17,9 +18,9 @@ pub more : (x y n rest : List ℕ) → y ≡ x ++ n → y ++ rest ≡ x ++ (n ++
 more x y n rest is = ap (λ (t : List ℕ). t ++ rest) is ∙ append_assoc x n rest
 
 -- the parts of a header, written one after another
-pub header_written : (h : Header) (o a b c d e f g : List ℕ) → a ≡ o ++ magic → b ≡ a ++ number h.instructions → c ≡ b ++ number h.pages → d ≡ c ++ number h.files → e ≡ d ++ number h.slots → f ≡ e ++ number h.threads → g ≡ f ++ number h.uid → g ≡ o ++ header h
-header_written h o a b c d e f g p0 p1 p2 p3 p4 p5 p6 =
-    p6 ∙ more e f (number h.threads) (number h.uid) p5 ∙ more d e (number h.slots) _ p4 ∙ more c d (number h.files) _ p3 ∙ more b c (number h.pages) _ p2 ∙ more a b (number h.instructions) _ p1 ∙ more o a magic _ p0
+pub header_written : (form : Form) (h : Header) (o a b c d e f g : List ℕ) → a ≡ o ++ magic form → b ≡ a ++ number h.instructions → c ≡ b ++ number h.pages → d ≡ c ++ number h.files → e ≡ d ++ number h.slots → f ≡ e ++ number h.threads → g ≡ f ++ number h.uid → g ≡ o ++ header form h
+header_written form h o a b c d e f g p0 p1 p2 p3 p4 p5 p6 =
+    p6 ∙ more e f (number h.threads) (number h.uid) p5 ∙ more d e (number h.slots) _ p4 ∙ more c d (number h.files) _ p3 ∙ more b c (number h.pages) _ p2 ∙ more a b (number h.instructions) _ p1 ∙ more o a (magic form) _ p0
 
 -- the parts of a file, written one after another
 pub file_written : (i : FileImage) (o a b c d : List ℕ) → a ≡ o ++ number i.owner → b ≡ a ++ flag i.public → c ≡ b ++ number (length i.bytes) → d ≡ c ++ i.bytes → d ≡ o ++ file i

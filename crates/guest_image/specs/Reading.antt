@@ -1,23 +1,26 @@
 -- Reading an image from its first byte to its last, up to the first refusal.
-use Rattle.std.specs.Prelude.{ℕ, zero, suc, ◌+◌, Bool, ◌&&◌, nat_lt, nat_le, ◌==◌, if◌then◌else◌, List, [], ◌∷◌, ◌++◌, length, take, drop, slice_index, Option, Some, None, Result, Ok, Err}
+use Rattle.std.specs.Prelude.{ℕ, zero, suc, ◌+◌, Bool, false, ◌&&◌, nat_lt, nat_le, ◌==◌, if◌then◌else◌, List, [], ◌∷◌, ◌++◌, length, take, drop, slice_index, Option, Some, None, Result, Ok, Err}
 use Rattle.std.specs.Int.{w32, from_le_bytes}
 use Rattle.byte_reading.specs.Outcomes.{Refusal, ◌>>=◌}
 use Rattle.lwc_base.specs.declared.channels.FileImage.{FileImage}
 use Rattle.lwc_base.specs.declared.descriptor.TheConstants.{SLOTS}
-use Rattle.lwc_base.specs.declared.limits.TheConstants.{MOST_FILE_BYTES, MOST_FILES, MOST_IMAGE_BYTES, MOST_IMAGE_SLOTS, MOST_INSTRUCTIONS, MOST_PAGES, MOST_RANGES, MOST_THREADS}
+use Rattle.lwc_base.specs.declared.limits.TheConstants.{MOST_FILE_BYTES, MOST_FILES, MOST_IMAGE_BYTES, MOST_IMAGE_SLOTS, MOST_BYTES_OF_FORM_ONE, MOST_INSTRUCTIONS, MOST_RANGES, MOST_THREADS}
 use Rattle.lwc_base.specs.declared.page.TheConstants.{PAGE_BYTES}
 use Rattle.guest_isa.specs.declared.instr.Instr.{Instr}
 use Rattle.guest_isa.specs.Spelling.{reading}
 use Rattle.guest_image.specs.declared.fault.ImageRule.{ImageRule}
 use Rattle.guest_image.specs.declared.fault.ImageRule.TheVariants.{TooLong, BadMagic, Truncated, BadCount, BadInstruction, BadTarget, BadPage, BadFile, BadSlot, BadEntry, Trailing}
 use Rattle.guest_image.specs.declared.header.Header.{Header}
+use Rattle.guest_image.specs.declared.image.Form.{Form}
+use Rattle.guest_image.specs.declared.image.Form.TheVariants.{One, Two}
 use Rattle.guest_image.specs.declared.image.Image.{Image}
 use Rattle.guest_image.specs.declared.image.PageImage.{PageImage}
 use Rattle.guest_image.specs.declared.image.SlotImage.{SlotImage}
 use Rattle.guest_image.specs.declared.image.TheConstants.{FIRST_SLOT}
 use Rattle.guest_image.specs.Rest.{Rest}
 use Rattle.guest_image.specs.Numbers.{is_above, ranges_with, last, ranges}
-use Rattle.guest_image.specs.Limits.{stays_inside, page_numbers, slot_numbers, content}
+use Rattle.guest_image.specs.Spelling.{digit}
+use Rattle.guest_image.specs.Limits.{pages_of, stays_inside, page_numbers, slot_numbers, content}
 
 -- a value, or the first refusal
 abbrev pub Read : Type 0 → Type 0
@@ -59,20 +62,20 @@ byte_at expected rest = do
   field ← bytes_at 1 rest
   if slice_index field.0 0 == expected then Ok field.1 else refused BadMagic rest
 
--- what follows the magic
-unfoldable pub magic_at : Rest → Read Rest
-magic_at rest = byte_at 0x4c rest >>= byte_at 0x57 >>= byte_at 0x43 >>= byte_at 0x31
+-- what follows the magic of a form
+unfoldable pub magic_at : Form → Rest → Read Rest
+magic_at form rest = byte_at 0x4c rest >>= byte_at 0x57 >>= byte_at 0x43 >>= byte_at (digit form)
 
 -- a count within its range
 abbrev pub count_at : ℕ → ℕ → Rest → Read (ℕ × Rest)
 count_at least most = number_where (λ n. nat_le least n && nat_le n most) BadCount
 
 -- the magic, the counts and the uid
-unfoldable pub header_at : Rest → Read (Header × Rest)
-header_at rest = do
-  counts ← magic_at rest
+unfoldable pub header_at : Form → Rest → Read (Header × Rest)
+header_at form rest = do
+  counts ← magic_at form rest
   instructions ← count_at 1 MOST_INSTRUCTIONS counts
-  pages ← count_at 0 MOST_PAGES instructions.1
+  pages ← count_at 0 (pages_of form) instructions.1
   files ← count_at 0 MOST_FILES pages.1
   slots ← count_at 0 MOST_IMAGE_SLOTS files.1
   threads ← count_at 1 MOST_THREADS slots.1
@@ -102,18 +105,18 @@ instruction_at count rest = do
   Ok (i, field.1)
 
 -- whether a page of this number may come after pages with this last number and number of ranges
-abbrev pub is_next_page : Option ℕ → ℕ → ℕ → Bool
-is_next_page last ranges n =
-    nat_lt n MOST_PAGES && is_above last n && nat_le (ranges_with ranges last n) MOST_RANGES
+abbrev pub is_next_page : Form → Option ℕ → ℕ → ℕ → Bool
+is_next_page form last ranges n =
+    nat_lt n (pages_of form) && is_above last n && nat_le (ranges_with ranges last n) MOST_RANGES
 
 -- the number of a page, after pages with this last number and number of ranges
-abbrev pub page_number_at : Option ℕ → ℕ → Rest → Read (ℕ × Rest)
-page_number_at last ranges = number_where (is_next_page last ranges) BadPage
+abbrev pub page_number_at : Form → Option ℕ → ℕ → Rest → Read (ℕ × Rest)
+page_number_at form last ranges = number_where (is_next_page form last ranges) BadPage
 
 -- a page, after pages with this last number and number of ranges
-unfoldable pub page_at : Option ℕ → ℕ → Rest → Read (PageImage × Rest)
-page_at last ranges rest = do
-  n ← page_number_at last ranges rest
+unfoldable pub page_at : Form → Option ℕ → ℕ → Rest → Read (PageImage × Rest)
+page_at form last ranges rest = do
+  n ← page_number_at form last ranges rest
   field ← bytes_at PAGE_BYTES n.1
   Ok (record { number = n.0; bytes = field.0 }, field.1)
 
@@ -168,8 +171,8 @@ abbrev pub next_instruction : ℕ → List Instr → Rest → Read (Instr × Res
 next_instruction count before = instruction_at count
 
 -- a page after others
-abbrev pub next_page : List PageImage → Rest → Read (PageImage × Rest)
-next_page before = page_at (last (page_numbers before)) (ranges (page_numbers before))
+abbrev pub next_page : Form → List PageImage → Rest → Read (PageImage × Rest)
+next_page form before = page_at form (last (page_numbers before)) (ranges (page_numbers before))
 
 -- a file after others
 abbrev pub next_file : List FileImage → Rest → Read (FileImage × Rest)
@@ -186,8 +189,8 @@ next_entry count before = entry_at count
 abbrev pub instructions_at : ℕ → Rest → Read (List Instr × Rest)
 instructions_at count = list_at (next_instruction count) count []
 
-abbrev pub pages_at : ℕ → Rest → Read (List PageImage × Rest)
-pages_at count = list_at next_page count []
+abbrev pub pages_at : Form → ℕ → Rest → Read (List PageImage × Rest)
+pages_at form count = list_at (next_page form) count []
 
 abbrev pub files_at : ℕ → Rest → Read (List FileImage × Rest)
 files_at count = list_at next_file count []
@@ -199,27 +202,50 @@ abbrev pub entries_at : ℕ → ℕ → Rest → Read (List ℕ × Rest)
 entries_at instructions count = list_at (next_entry instructions) count []
 
 -- the image of these parts
-abbrev pub made_of : Header → List Instr → List PageImage → List FileImage → List SlotImage → List ℕ → Image
-made_of h text pages files slots entries =
-    record { text = text; uid = h.uid; pages = pages; files = files; slots = slots; entries = entries }
+abbrev pub made_of : Form → Header → List Instr → List PageImage → List FileImage → List SlotImage → List ℕ → Image
+made_of form h text pages files slots entries = record {
+  form = form;
+  text = text;
+  uid = h.uid;
+  pages = pages;
+  files = files;
+  slots = slots;
+  entries = entries;
+}
 
 -- the image, where no byte is left
 abbrev pub unless_trailing : Rest → Image → Read Image
 unless_trailing rest image = if length rest.bytes == 0 then Ok image else refused Trailing rest
 
 -- every part of the file, and nothing after the last
-unfoldable pub parts_at : Rest → Read Image
-parts_at rest = do
-  h ← header_at rest
+unfoldable pub parts_at : Form → Rest → Read Image
+parts_at form rest = do
+  h ← header_at form rest
   text ← instructions_at h.0.instructions h.1
-  pages ← pages_at h.0.pages text.1
+  pages ← pages_at form h.0.pages text.1
   files ← files_at h.0.files pages.1
   slots ← slots_at h.0.files h.0.slots files.1
   entries ← entries_at h.0.instructions h.0.threads slots.1
-  unless_trailing entries.1 (made_of h.0 text.0 pages.0 files.0 slots.0 entries.0)
+  unless_trailing entries.1 (made_of form h.0 text.0 pages.0 files.0 slots.0 entries.0)
+
+-- the form that the fourth byte of a file tells: form 2 by the digit 2, and else form 1
+abbrev pub form_of : List ℕ → Form
+form_of (a ∷ b ∷ c ∷ d ∷ rest) = if d == 0x32 then Two else One
+form_of _ = One
+
+-- whether a file begins with the magic of form 1
+abbrev pub begins_as_one : List ℕ → Bool
+begins_as_one (a ∷ b ∷ c ∷ d ∷ rest) = a == 0x4c && b == 0x57 && c == 0x43 && d == 0x31
+begins_as_one _ = false
+
+-- the most bytes that a file may have; those of form 1 are asked for only where it is not too long for each image
+unfoldable pub limit_of : List ℕ → ℕ
+limit_of bytes =
+    if begins_as_one bytes && nat_le (length bytes) MOST_IMAGE_BYTES then MOST_BYTES_OF_FORM_ONE
+    else MOST_IMAGE_BYTES
 
 -- the image that the bytes spell, or the first refusal
 unfoldable pub image_at : List ℕ → Read Image
 image_at bytes =
-    if nat_lt MOST_IMAGE_BYTES (length bytes) then Err (record { rule = TooLong; at = MOST_IMAGE_BYTES })
-    else parts_at (record { at = 0; bytes = bytes })
+    if nat_lt (limit_of bytes) (length bytes) then Err (record { rule = TooLong; at = limit_of bytes })
+    else parts_at (form_of bytes) (record { at = 0; bytes = bytes })

@@ -2,17 +2,19 @@
 use Rattle.std.specs.Prelude.{◌≡◌, ◌≢◌, ◌⊎◌, ℕ, ◌+◌, ◌<◌, ◌≤◌, ◌^◌, Bool, false, IsTrue, List, [], ◌∷◌, ◌++◌, length, All, Some, slice_get}
 use Rattle.std.specs.List.{flat_map}
 use Rattle.lwc_base.specs.declared.channels.FileImage.{FileImage}
-use Rattle.lwc_base.specs.declared.limits.TheConstants.{MOST_FILE_BYTES, MOST_FILES, MOST_IMAGE_BYTES, MOST_IMAGE_SLOTS, MOST_INSTRUCTIONS, MOST_PAGES, MOST_THREADS}
+use Rattle.lwc_base.specs.declared.limits.TheConstants.{MOST_FILE_BYTES, MOST_FILES, MOST_IMAGE_SLOTS, MOST_INSTRUCTIONS, MOST_THREADS}
 use Rattle.guest_isa.specs.declared.instr.Instr.{Instr}
 use Rattle.guest_isa.specs.Instructions.{IsInstruction}
 use Rattle.guest_isa.specs.Spelling as instructions
 use Rattle.guest_image.specs.declared.fault.ImageRule.{ImageRule}
 use Rattle.guest_image.specs.declared.fault.ImageRule.TheVariants.{TooLong, BadMagic, Truncated, BadCount, BadInstruction, BadTarget, BadPage, BadFile, BadSlot, BadEntry, Trailing}
 use Rattle.guest_image.specs.declared.header.Header.{Header}
+use Rattle.guest_image.specs.declared.image.Form.{Form}
 use Rattle.guest_image.specs.declared.image.Image.{Image}
 use Rattle.guest_image.specs.declared.image.PageImage.{PageImage}
 use Rattle.guest_image.specs.declared.image.SlotImage.{SlotImage}
-use Rattle.guest_image.specs.Limits.{IsImage, ArePages, AreFiles, AreSlots, content, stays_inside}
+use Rattle.guest_image.specs.Limits.{IsImage, ArePages, AreFiles, AreSlots, content, pages_of, stays_inside}
+use Rattle.guest_image.specs.Reading.{form_of, limit_of}
 use Rattle.guest_image.specs.Spelling.{number, flag, magic, header, page, file, slot, spelling}
 
 -- the bytes begin with these
@@ -24,9 +26,9 @@ abbrev pub BeginsWithNumber : ℕ → List ℕ → Type 0
 BeginsWithNumber n bytes = (n < 2 ^ 32) × BeginsWith (number n) bytes
 
 -- the least and the most of each count, in the order of the header
-abbrev pub count_ranges : List (ℕ × ℕ)
-count_ranges =
-    (1, MOST_INSTRUCTIONS) ∷ (0, MOST_PAGES) ∷ (0, MOST_FILES)
+abbrev pub count_ranges : Form → List (ℕ × ℕ)
+count_ranges form =
+    (1, MOST_INSTRUCTIONS) ∷ (0, pages_of form) ∷ (0, MOST_FILES)
     ∷ (0, MOST_IMAGE_SLOTS) ∷ (1, MOST_THREADS) ∷ []
 
 -- a number is in its range
@@ -70,61 +72,61 @@ SomeValues Before AreValid spell count values bytes =
     Values Before AreValid spell values bytes × (length values < count)
 
 -- the bytes are a header that breaks no rule
-pub record AfterHeader (h : Header) (bytes : List ℕ) : Type 0 where
-  pub counts : AreInRanges count_ranges (counts_of h)
+pub record AfterHeader (form : Form) (h : Header) (bytes : List ℕ) : Type 0 where
+  pub counts : AreInRanges (count_ranges form) (counts_of h)
   pub uid : h.uid < 2 ^ 32
-  pub spelled : bytes ≡ header h
+  pub spelled : bytes ≡ header form h
 
 -- the bytes are a header and all of its instructions
-abbrev pub AfterText : Header → List ℕ → Type 0
-AfterText h = AllValues (AfterHeader h) (IsCode h.instructions) instructions.spelling h.instructions
+abbrev pub AfterText : Form → Header → List ℕ → Type 0
+AfterText form h = AllValues (AfterHeader form h) (IsCode h.instructions) instructions.spelling h.instructions
 
 -- .. and all of its pages
-abbrev pub AfterPages : Header → List ℕ → Type 0
-AfterPages h = AllValues (AfterText h) ArePages page h.pages
+abbrev pub AfterPages : Form → Header → List ℕ → Type 0
+AfterPages form h = AllValues (AfterText form h) (ArePages form) page h.pages
 
 -- .. and all of its files
-abbrev pub AfterFiles : Header → List ℕ → Type 0
-AfterFiles h = AllValues (AfterPages h) AreFiles file h.files
+abbrev pub AfterFiles : Form → Header → List ℕ → Type 0
+AfterFiles form h = AllValues (AfterPages form h) AreFiles file h.files
 
 -- .. and all of its slots
-abbrev pub AfterSlots : Header → List ℕ → Type 0
-AfterSlots h = AllValues (AfterFiles h) (AreSlots h.files) slot h.slots
+abbrev pub AfterSlots : Form → Header → List ℕ → Type 0
+AfterSlots form h = AllValues (AfterFiles form h) (AreSlots h.files) slot h.slots
 
 -- an instruction comes next, after these
-abbrev pub InText : Header → List Instr → List ℕ → Type 0
-InText h = SomeValues (AfterHeader h) (IsCode h.instructions) instructions.spelling h.instructions
+abbrev pub InText : Form → Header → List Instr → List ℕ → Type 0
+InText form h = SomeValues (AfterHeader form h) (IsCode h.instructions) instructions.spelling h.instructions
 
 -- a page comes next, after these
-abbrev pub InPages : Header → List PageImage → List ℕ → Type 0
-InPages h = SomeValues (AfterText h) ArePages page h.pages
+abbrev pub InPages : Form → Header → List PageImage → List ℕ → Type 0
+InPages form h = SomeValues (AfterText form h) (ArePages form) page h.pages
 
 -- a file comes next, after these
-abbrev pub InFiles : Header → List FileImage → List ℕ → Type 0
-InFiles h = SomeValues (AfterPages h) AreFiles file h.files
+abbrev pub InFiles : Form → Header → List FileImage → List ℕ → Type 0
+InFiles form h = SomeValues (AfterPages form h) AreFiles file h.files
 
 -- a slot comes next, after these
-abbrev pub InSlots : Header → List SlotImage → List ℕ → Type 0
-InSlots h = SomeValues (AfterFiles h) (AreSlots h.files) slot h.slots
+abbrev pub InSlots : Form → Header → List SlotImage → List ℕ → Type 0
+InSlots form h = SomeValues (AfterFiles form h) (AreSlots h.files) slot h.slots
 
 -- an entry comes next, after these
-abbrev pub InEntries : Header → List ℕ → List ℕ → Type 0
-InEntries h = SomeValues (AfterSlots h) (All (λ e. e < h.instructions)) number h.threads
+abbrev pub InEntries : Form → Header → List ℕ → List ℕ → Type 0
+InEntries form h = SomeValues (AfterSlots form h) (All (λ e. e < h.instructions)) number h.threads
 
 -- a page of this number may come after these
-abbrev pub PageMayFollow : List PageImage → ℕ → Type 0
-PageMayFollow pages n = (bytes : List ℕ) × ArePages (pages ++ record { number = n; bytes = bytes } ∷ [])
+abbrev pub PageMayFollow : Form → List PageImage → ℕ → Type 0
+PageMayFollow form pages n = (bytes : List ℕ) × ArePages form (pages ++ record { number = n; bytes = bytes } ∷ [])
 
 -- a slot of this number may come after these, with some file
 abbrev pub SlotMayFollow : List SlotImage → ℕ → Type 0
 SlotMayFollow slots n = (count file : ℕ) × AreSlots count (slots ++ record { slot = n; file = file } ∷ [])
 
 -- a file's second number is neither 1 nor 0
-pub record BreaksPublic (before after : List ℕ) : Type 0 where
+pub record BreaksPublic (form : Form) (before after : List ℕ) : Type 0 where
   pub head : Header
   pub files : List FileImage
   pub start : List ℕ
-  pub place : InFiles head files start
+  pub place : InFiles form head files start
   pub owner : ℕ
   pub fits : owner < 2 ^ 32
   pub is : before ≡ start ++ number owner
@@ -133,11 +135,11 @@ pub record BreaksPublic (before after : List ℕ) : Type 0 where
   pub high : 2 ≤ flag
 
 -- with a file's length the files have too many bytes together
-pub record BreaksLength (before after : List ℕ) : Type 0 where
+pub record BreaksLength (form : Form) (before after : List ℕ) : Type 0 where
   pub head : Header
   pub files : List FileImage
   pub start : List ℕ
-  pub place : InFiles head files start
+  pub place : InFiles form head files start
   pub owner : ℕ
   pub fits : owner < 2 ^ 32
   pub public : Bool
@@ -147,17 +149,17 @@ pub record BreaksLength (before after : List ℕ) : Type 0 where
   pub high : MOST_FILE_BYTES < content files + length
 
 -- a slot of this number may not come next
-abbrev pub BreaksSlot : List ℕ → List ℕ → Type 0
-BreaksSlot before after =
+abbrev pub BreaksSlot : Form → List ℕ → List ℕ → Type 0
+BreaksSlot form before after =
     (h : Header) × (slots : List SlotImage) × (n : ℕ)
-    × InSlots h slots before × BeginsWithNumber n after × (SlotMayFollow slots n → ⊥)
+    × InSlots form h slots before × BeginsWithNumber n after × (SlotMayFollow slots n → ⊥)
 
 -- a slot has a file that is not there
-pub record BreaksSlotFile (before after : List ℕ) : Type 0 where
+pub record BreaksSlotFile (form : Form) (before after : List ℕ) : Type 0 where
   pub head : Header
   pub slots : List SlotImage
   pub start : List ℕ
-  pub place : InSlots head slots start
+  pub place : InSlots form head slots start
   pub slot : ℕ
   pub fits : SlotMayFollow slots slot
   pub is : before ≡ start ++ number slot
@@ -166,41 +168,42 @@ pub record BreaksSlotFile (before after : List ℕ) : Type 0 where
   pub high : head.files ≤ file
 
 -- a rule is broken by the field that comes next, after fields that break none
-unfoldable pub Breaks : ImageRule → List ℕ → List ℕ → Type 0
-Breaks BadMagic before after =
+unfoldable pub Breaks : Form → ImageRule → List ℕ → List ℕ → Type 0
+Breaks form BadMagic before after =
     (expected b : ℕ) × (later : List ℕ)
-    × (magic ≡ before ++ expected ∷ later) × BeginsWith (b ∷ []) after × (b ≢ expected)
-Breaks BadCount before after =
+    × (magic form ≡ before ++ expected ∷ later) × BeginsWith (b ∷ []) after × (b ≢ expected)
+Breaks form BadCount before after =
     (counts : List ℕ) × (range : ℕ × ℕ) × (n : ℕ)
-    × (before ≡ magic ++ flat_map number counts) × AreInRanges count_ranges counts
-    × (slice_get count_ranges (length counts) ≡ Some range)
+    × (before ≡ magic form ++ flat_map number counts) × AreInRanges (count_ranges form) counts
+    × (slice_get (count_ranges form) (length counts) ≡ Some range)
     × BeginsWithNumber n after × (IsInRange range n → ⊥)
-Breaks BadInstruction before after =
-    (h : Header) × (text : List Instr) × (bytes : List ℕ) × InText h text before
+Breaks form BadInstruction before after =
+    (h : Header) × (text : List Instr) × (bytes : List ℕ) × InText form h text before
     × BeginsWith bytes after × (length bytes ≡ 8)
     × ((i : Instr) → IsInstruction i → bytes ≢ instructions.spelling i)
-Breaks BadTarget before after =
-    (h : Header) × (text : List Instr) × (i : Instr) × InText h text before
+Breaks form BadTarget before after =
+    (h : Header) × (text : List Instr) × (i : Instr) × InText form h text before
     × BeginsWith (instructions.spelling i) after × IsInstruction i
     × (stays_inside h.instructions i ≡ false)
-Breaks BadPage before after =
+Breaks form BadPage before after =
     (h : Header) × (pages : List PageImage) × (n : ℕ)
-    × InPages h pages before × BeginsWithNumber n after × (PageMayFollow pages n → ⊥)
-Breaks BadFile before after = BreaksPublic before after ⊎ BreaksLength before after
-Breaks BadSlot before after = BreaksSlot before after ⊎ BreaksSlotFile before after
-Breaks BadEntry before after =
+    × InPages form h pages before × BeginsWithNumber n after × (PageMayFollow form pages n → ⊥)
+Breaks form BadFile before after = BreaksPublic form before after ⊎ BreaksLength form before after
+Breaks form BadSlot before after = BreaksSlot form before after ⊎ BreaksSlotFile form before after
+Breaks form BadEntry before after =
     (h : Header) × (entries : List ℕ) × (n : ℕ)
-    × InEntries h entries before × BeginsWithNumber n after × (h.instructions ≤ n)
-Breaks Trailing before after = (image : Image) × IsImage image × (before ≡ spelling image) × (after ≢ [])
-Breaks _ before after = ⊥
+    × InEntries form h entries before × BeginsWithNumber n after × (h.instructions ≤ n)
+Breaks form Trailing before after =
+    (image : Image) × IsImage image × (image.form ≡ form) × (before ≡ spelling image) × (after ≢ [])
+Breaks form _ before after = ⊥
 
--- a rule is broken at an offset of the file
+-- a rule is broken at an offset of the file, as one of the form that its fourth byte tells
 pub record IsBroken (bytes : List ℕ) (rule : ImageRule) (at : ℕ) : Type 0 where
   pub before : List ℕ
   pub after : List ℕ
   pub split : bytes ≡ before ++ after
   pub offset : at ≡ length before
-  pub breaks : Breaks rule before after
+  pub breaks : Breaks (form_of bytes) rule before after
 
 -- the file ends too early: it breaks no rule, and is no image
 pub record IsCutOff (bytes : List ℕ) : Type 0 where
@@ -209,6 +212,6 @@ pub record IsCutOff (bytes : List ℕ) : Type 0 where
 
 -- the file is refused by this rule at this offset
 unfoldable pub IsRefused : List ℕ → ImageRule → ℕ → Type 0
-IsRefused bytes TooLong at = (MOST_IMAGE_BYTES < length bytes) × (at ≡ MOST_IMAGE_BYTES)
-IsRefused bytes Truncated at = (length bytes ≤ MOST_IMAGE_BYTES) × IsCutOff bytes × (at ≡ length bytes)
-IsRefused bytes rule at = (length bytes ≤ MOST_IMAGE_BYTES) × IsBroken bytes rule at
+IsRefused bytes TooLong at = (limit_of bytes < length bytes) × (at ≡ limit_of bytes)
+IsRefused bytes Truncated at = (length bytes ≤ limit_of bytes) × IsCutOff bytes × (at ≡ length bytes)
+IsRefused bytes rule at = (length bytes ≤ limit_of bytes) × IsBroken bytes rule at

@@ -1,9 +1,11 @@
 -- The bytes of an image.
-use Rattle.std.specs.Prelude.{ℕ, Bool, if◌then◌else◌, List, ◌++◌, length, codes}
+use Rattle.std.specs.Prelude.{ℕ, Bool, if◌then◌else◌, List, [], ◌∷◌, ◌++◌, length, codes, slice_set}
 use Rattle.std.specs.List.{flat_map}
 use Rattle.std.specs.Int.{w32, to_le_bytes}
 use Rattle.lwc_base.specs.declared.channels.FileImage.{FileImage}
 use Rattle.guest_isa.specs.Spelling as instructions
+use Rattle.guest_image.specs.declared.image.Form.{Form}
+use Rattle.guest_image.specs.declared.image.Form.TheVariants.{One, Two}
 use Rattle.guest_image.specs.declared.image.Image.{Image}
 use Rattle.guest_image.specs.declared.image.PageImage.{PageImage}
 use Rattle.guest_image.specs.declared.image.SlotImage.{SlotImage}
@@ -17,14 +19,19 @@ number n = to_le_bytes w32 n
 abbrev pub flag : Bool → List ℕ
 flag b = number (if b then 1 else 0)
 
--- the four bytes that each image begins with
-abbrev pub magic : List ℕ
-magic = codes "LWC1"
+-- the digit of a form
+abbrev pub digit : Form → ℕ
+digit One = 0x31
+digit Two = 0x32
+
+-- the four bytes that an image of a form begins with: LWC, and its digit
+abbrev pub magic : Form → List ℕ
+magic form = codes "LWC" ++ digit form ∷ []
 
 -- the magic, five counts and the uid
-abbrev pub header : Header → List ℕ
-header h =
-    magic ++ (number h.instructions ++ (number h.pages
+abbrev pub header : Form → Header → List ℕ
+header form h =
+    magic form ++ (number h.instructions ++ (number h.pages
     ++ (number h.files ++ (number h.slots ++ (number h.threads ++ number h.uid)))))
 
 -- a page: its number and its bytes
@@ -58,4 +65,8 @@ body image =
 
 -- the bytes of an image
 unfoldable pub spelling : Image → List ℕ
-spelling image = header (header_of image) ++ body image
+spelling image = header image.form (header_of image) ++ body image
+
+-- the bytes of an image with another last byte of the magic
+abbrev pub last_of_magic : ℕ → List ℕ → List ℕ
+last_of_magic byte bytes = slice_set bytes 3 byte

@@ -4,11 +4,13 @@ ghost use Rattle.std.specs.Prelude.{◌≡◌, ◌≤◌, IfOk};
 ghost use Rattle.byte_reading.specs.Outcomes.{Answers};
 ghost use Rattle.lwc_base.specs.declared.limits.TheConstants.{MOST_FILES, MOST_INSTRUCTIONS};
 ghost use Rattle.guest_image.specs.Reading.{byte_at, magic_at, count_at, header_at};
+ghost use Rattle.guest_image.specs.Spelling.{digit};
 
 use crate::fault::{ImageFault, ImageRule};
+use crate::image::Form;
 use crate::reader::Reader;
 use byte_reading::ReadError;
-use lwc_base::{MOST_FILES, MOST_IMAGE_SLOTS, MOST_INSTRUCTIONS, MOST_PAGES, MOST_THREADS};
+use lwc_base::{MOST_FILES, MOST_IMAGE_SLOTS, MOST_INSTRUCTIONS, MOST_THREADS};
 
 /// The number of values of each list, and the uid.
 #[derive(Clone, Copy, Debug)]
@@ -22,17 +24,17 @@ pub(crate) struct Header {
 }
 
 impl Header {
-    /// Reads the head of an image.
+    /// Reads the head of an image of a form.
     #[tactic(auto, unfolding(crate::specs::Reading::header_at))]
-    pub(crate) fn read(reader: &mut Reader) -> Result<Header, ImageFault>
-        ensures read { Answers (λ h. (h, reader.new)) result (header_at reader.old) }
+    pub(crate) fn read(reader: &mut Reader, form: Form) -> Result<Header, ImageFault>
+        ensures read { Answers (λ h. (h, reader.new)) result (header_at form reader.old) }
         ensures some { IfOk result (λ h. 1 ≤ h.instructions) }
         ensures bounded { IfOk result (λ h. h.instructions ≤ MOST_INSTRUCTIONS) }
         ensures files { IfOk result (λ h. h.files ≤ MOST_FILES) }
     {
-        read_magic(reader)?;
+        read_magic(reader, form)?;
         let instructions = read_count(reader, 1, MOST_INSTRUCTIONS)?;
-        let pages = read_count(reader, 0, MOST_PAGES)?;
+        let pages = read_count(reader, 0, form.pages())?;
         let files = read_count(reader, 0, MOST_FILES)?;
         let slots = read_count(reader, 0, MOST_IMAGE_SLOTS)?;
         let threads = read_count(reader, 1, MOST_THREADS)?;
@@ -48,15 +50,25 @@ impl Header {
     }
 }
 
-/// Reads the magic.
+/// The digit of a form.
+fn digit(form: Form) -> u8
+    ensures { result ≡ digit form }
+{
+    match form {
+        Form::One => b'1',
+        Form::Two => b'2',
+    }
+}
+
+/// Reads the magic of a form.
 #[tactic(auto, unfolding(crate::specs::Reading::magic_at))]
-fn read_magic(reader: &mut Reader) -> Result<(), ImageFault>
-    ensures { Answers (λ _. reader.new) result (magic_at reader.old) }
+fn read_magic(reader: &mut Reader, form: Form) -> Result<(), ImageFault>
+    ensures { Answers (λ _. reader.new) result (magic_at form reader.old) }
 {
     read_byte(reader, b'L')?;
     read_byte(reader, b'W')?;
     read_byte(reader, b'C')?;
-    read_byte(reader, b'1')
+    read_byte(reader, digit(form))
 }
 
 /// Reads this byte of the magic.

@@ -1,15 +1,51 @@
 //! What an image holds.
 
+ghost use Rattle.std.specs.Prelude.{◌≡◌};
+ghost use Rattle.guest_image.specs.Limits.{pages_of};
+ghost use Rattle.guest_image.specs.Spelling.{magic};
+
 use guest_isa::Text;
-use lwc_base::{FileImage, PageBytes, Sequence};
+use lwc_base::{FileImage, MOST_PAGES, PAGES_OF_FORM_ONE, PageBytes, Sequence};
 
 /// The first slot that an image may fill; those below it are the console.
 pub const FIRST_SLOT: u8 = 2;
 
+/// The form of an image: how many pages its contexts may have.
+#[derive(Clone, Copy, Debug, Default, PartialEq, Eq)]
+pub enum Form {
+    /// 1024 pages.
+    #[default]
+    One,
+    /// 16384 pages.
+    Two,
+}
+
+impl Form {
+    /// The number of pages that a context may have (`pages_of`).
+    pub fn pages(self) -> u32
+        ensures { result ≡ pages_of self }
+    {
+        match self {
+            Form::One => PAGES_OF_FORM_ONE,
+            Form::Two => MOST_PAGES,
+        }
+    }
+
+    /// The four bytes that an image of the form begins with (`magic`).
+    pub fn magic<'a>(self) -> &'a [u8]
+        ensures { result.now ≡ magic self }
+    {
+        match self {
+            Form::One => b"LWC1",
+            Form::Two => b"LWC2",
+        }
+    }
+}
+
 /// A page of an image: its number and its bytes.
 #[derive(Debug, Drop)]
 pub struct PageImage {
-    /// The number, below `MOST_PAGES`.
+    /// The number, below the pages of the image's form.
     pub number: u16,
     /// What the page holds.
     pub bytes: PageBytes,
@@ -27,6 +63,8 @@ pub struct SlotImage {
 /// A guest and what it starts with.
 #[derive(Debug, Drop)]
 pub struct Image {
+    /// The form, which says how many pages there may be.
+    pub form: Form,
     /// The instructions.
     pub text: Text,
     /// The uid that the guest starts with.

@@ -5,6 +5,7 @@ mod fault;
 mod header;
 mod image;
 mod laws;
+mod lifting;
 mod lists;
 mod parts;
 mod reader;
@@ -12,7 +13,8 @@ mod reading;
 mod writing;
 
 pub use fault::{ImageFault, ImageRule};
-pub use image::{FIRST_SLOT, Image, PageImage, SlotImage};
+pub use image::{FIRST_SLOT, Form, Image, PageImage, SlotImage};
 pub use laws::images_are_read_as_spelled;
+pub use lifting::{a_lifted_image_is_an_image, lift};
 pub use reading::read_image;
 pub use writing::write_image;

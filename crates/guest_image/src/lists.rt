@@ -6,7 +6,7 @@ ghost use Rattle.lwc_base.specs.declared.limits.TheConstants.{MOST_FILES, MOST_I
 ghost use Rattle.guest_image.specs.Reading.{instructions_at, pages_at, files_at, slots_at, entries_at};
 
 use crate::fault::{ImageFault, ImageRule};
-use crate::image::{PageImage, SlotImage};
+use crate::image::{Form, PageImage, SlotImage};
 use crate::parts::{
     ranges_with, read_file, read_instruction, read_number_below, read_page, read_slot,
 };
@@ -33,15 +33,16 @@ pub(crate) fn read_text(alloc: Global, reader: &mut Reader, count: u32) -> Resul
 pub(crate) fn read_pages(
     alloc: Global,
     reader: &mut Reader,
+    form: Form,
     count: u32,
 ) -> Result<Sequence<PageImage>, ImageFault>
-    ensures { Answers (λ pages. (pages, reader.new)) result (pages_at count reader.old) }
+    ensures { Answers (λ pages. (pages, reader.new)) result (pages_at form count reader.old) }
 {
     let mut pages = Vec::new(alloc);
     let mut last = None;
     let mut ranges = 0;
     for _ in 0..count {
-        let page = read_page(alloc, reader, last, ranges)?;
+        let page = read_page(alloc, reader, form, last, ranges)?;
         ranges = ranges_with(ranges, last, u32::from(page.number));
         last = Some(page.number);
         pages.push(page)?;

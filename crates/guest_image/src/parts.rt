@@ -10,13 +10,11 @@ ghost use Rattle.guest_image.specs.Reading.{number_below, instruction_at, page_n
 ghost use Rattle.guest_image.specs.Reading.{length_at, file_at, slot_number_at, slot_at};
 
 use crate::fault::{ImageFault, ImageRule};
-use crate::image::{FIRST_SLOT, PageImage, SlotImage};
+use crate::image::{FIRST_SLOT, Form, PageImage, SlotImage};
 use crate::reader::Reader;
 use byte_reading::ReadError;
 use guest_isa::{Instr, decode};
-use lwc_base::{
-    FileImage, MOST_FILE_BYTES, MOST_PAGES, MOST_RANGES, PAGE_BYTES, PageBytes, SLOTS, Sequence,
-};
+use lwc_base::{FileImage, MOST_FILE_BYTES, MOST_RANGES, PAGE_BYTES, PageBytes, SLOTS, Sequence};
 use std::alloc::Global;
 
 /// Reads an instruction of a text of this length.
@@ -55,14 +53,15 @@ fn stays_inside(count: u32, instr: &Instr) -> bool
 pub(crate) fn read_page(
     alloc: Global,
     reader: &mut Reader,
+    form: Form,
     last: Option<u16>,
     ranges: u32,
 ) -> Result<PageImage, ImageFault>
     requires { ranges ≤ MOST_RANGES }
-    ensures read { Answers (λ p. (p, reader.new)) result (page_at last ranges reader.old) }
+    ensures read { Answers (λ p. (p, reader.new)) result (page_at form last ranges reader.old) }
     ensures room { IfOk result (λ p. ranges_with ranges last p.number ≤ MOST_RANGES) }
 {
-    let number = read_page_number(reader, last, ranges)?;
+    let number = read_page_number(reader, form, last, ranges)?;
     let field = reader.bytes(PAGE_BYTES)?;
     let bytes = PageBytes::from_slice(alloc, field)?;
     Ok(PageImage { number, bytes })
@@ -70,15 +69,20 @@ pub(crate) fn read_page(
 
 /// Reads the number of a page.
 #[tactic(auto, unfolding(crate::specs::Reading::number_where))]
-fn read_page_number(reader: &mut Reader, last: Option<u16>, ranges: u32) -> Result<u16, ImageFault>
+fn read_page_number(
+    reader: &mut Reader,
+    form: Form,
+    last: Option<u16>,
+    ranges: u32,
+) -> Result<u16, ImageFault>
     requires { ranges ≤ MOST_RANGES }
-    ensures read { Answers (λ n. (n, reader.new)) result (page_number_at last ranges reader.old) }
+    ensures read { Answers (λ n. (n, reader.new)) result (page_number_at form last ranges reader.old) }
     ensures room { IfOk result (λ n. ranges_with ranges last n ≤ MOST_RANGES) }
 {
     let at = reader.offset();
     let number = reader.number()?;
     let ranges = ranges_with(ranges, last, number);
-    if number < MOST_PAGES && is_above(last, number) && ranges <= MOST_RANGES {
+    if number < form.pages() && is_above(last, number) && ranges <= MOST_RANGES {
         Ok(number as u16)
     } else {
         Err(ReadError::Refused {

@@ -1,6 +1,7 @@
 //! Reading an image.
 
-ghost use Rattle.std.specs.Prelude.{◌≡◌, ℕ, IfOk, Ok, Err};
+ghost use Rattle.std.specs.Prelude.{◌≡◌, ◌≤◌, ℕ, IfOk, Ok, Err};
+ghost use Rattle.lwc_base.specs.declared.limits.TheConstants.{MOST_IMAGE_BYTES};
 ghost use Rattle.byte_reading.specs.Outcomes.{Answers};
 ghost use Rattle.byte_reading.specs.declared.error.ReadError.TheVariants.{Refused};
 ghost use Rattle.guest_image.specs.declared.fault.ImageRule.{ImageRule};
@@ -8,15 +9,15 @@ ghost use Rattle.guest_image.specs.declared.image.Image.{Image};
 ghost use Rattle.guest_image.specs.Limits.{IsImage};
 ghost use Rattle.guest_image.specs.Refusals.{IsRefused};
 ghost use Rattle.guest_image.specs.Spelling.{spelling};
-ghost use Rattle.guest_image.specs.Reading.{parts_at, image_at};
+ghost use Rattle.guest_image.specs.Reading.{begins_as_one, form_of, limit_of, parts_at, image_at};
 
 use crate::fault::{ImageFault, ImageRule};
 use crate::header::Header;
-use crate::image::Image;
+use crate::image::{Form, Image};
 use crate::lists::{read_entries, read_files, read_pages, read_slots, read_text};
 use crate::reader::Reader;
 use byte_reading::ReadError;
-use lwc_base::MOST_IMAGE_BYTES;
+use lwc_base::{MOST_BYTES_OF_FORM_ONE, MOST_IMAGE_BYTES};
 use std::alloc::Global;
 
 /// The image that these bytes spell, all of them.
@@ -48,23 +49,57 @@ pub fn read_image(alloc: Global, bytes: &[u8]) -> Result<Image, ImageFault>
 fn read_file(alloc: Global, bytes: &[u8]) -> Result<Image, ImageFault>
     ensures { Answers (λ image. image) result (image_at bytes.now) }
 {
-    if bytes.len() > MOST_IMAGE_BYTES {
+    let limit = limit_of(bytes);
+    if bytes.len() > limit {
         return Err(ReadError::Refused {
             rule: ImageRule::TooLong,
-            at: MOST_IMAGE_BYTES as u64,
+            at: limit as u64,
         });
     }
-    read_parts(alloc, &mut Reader::new(bytes))
+    read_parts(alloc, &mut Reader::new(bytes), form_of(bytes))
 }
 
-/// Reads every part of a file, and nothing after the last.
-#[tactic(auto, unfolding(crate::specs::Reading::parts_at))]
-fn read_parts(alloc: Global, reader: &mut Reader) -> Result<Image, ImageFault>
-    ensures { Answers (λ image. image) result (parts_at reader.old) }
+/// The form that the fourth byte of a file tells.
+fn form_of(bytes: &[u8]) -> Form
+    ensures { result ≡ form_of bytes.now }
 {
-    let header = Header::read(reader)?;
+    match bytes {
+        [_, _, _, d, ..] if *d == b'2' => Form::Two,
+        _ => Form::One,
+    }
+}
+
+/// Whether a file begins with the magic of form 1.
+fn begins_as_one(bytes: &[u8]) -> bool
+    ensures { result ≡ begins_as_one bytes.now }
+{
+    match bytes {
+        [a, b, c, d, ..] => *a == b'L' && *b == b'W' && *c == b'C' && *d == b'1',
+        _ => false,
+    }
+}
+
+/// The most bytes that a file may have.
+#[tactic(auto, unfolding(crate::specs::Reading::limit_of))]
+fn limit_of(bytes: &[u8]) -> usize
+    ensures limit { result ≡ limit_of bytes.now }
+    ensures most { result ≤ MOST_IMAGE_BYTES }
+{
+    if begins_as_one(bytes) && bytes.len() <= MOST_IMAGE_BYTES {
+        MOST_BYTES_OF_FORM_ONE
+    } else {
+        MOST_IMAGE_BYTES
+    }
+}
+
+/// Reads every part of a file of a form, and nothing after the last.
+#[tactic(auto, unfolding(crate::specs::Reading::parts_at))]
+fn read_parts(alloc: Global, reader: &mut Reader, form: Form) -> Result<Image, ImageFault>
+    ensures { Answers (λ image. image) result (parts_at form reader.old) }
+{
+    let header = Header::read(reader, form)?;
     let text = read_text(alloc, reader, header.instructions)?;
-    let pages = read_pages(alloc, reader, header.pages)?;
+    let pages = read_pages(alloc, reader, form, header.pages)?;
     let files = read_files(alloc, reader, header.files)?;
     let slots = read_slots(alloc, reader, header.files, header.slots)?;
     let entries = read_entries(alloc, reader, header.instructions, header.threads)?;
@@ -75,6 +110,7 @@ fn read_parts(alloc: Global, reader: &mut Reader) -> Result<Image, ImageFault>
         });
     }
     Ok(Image {
+        form,
         text,
         uid: header.uid,
         pages,

@@ -4,11 +4,11 @@ ghost use Rattle.std.specs.Prelude.{◌≡◌, ◌++◌, ◌<◌, ◌^◌, lengt
 ghost use Rattle.std.specs.List.{flat_map};
 ghost use Rattle.guest_isa.specs.Spelling as instructions;
 ghost use Rattle.guest_image.specs.Limits.{IsImage};
-ghost use Rattle.guest_image.specs.Spelling.{number, flag, magic, header, header_of, page, file};
+ghost use Rattle.guest_image.specs.Spelling.{number, flag, header, header_of, page, file};
 ghost use Rattle.guest_image.specs.Spelling.{file as file_spelling, slot, spelling};
 
 use crate::header::Header;
-use crate::image::{Image, PageImage, SlotImage};
+use crate::image::{Form, Image, PageImage, SlotImage};
 use guest_isa::{Text, encode};
 use lwc_base::{FileImage, OutOfMemory};
 use std::alloc::Global;
@@ -20,7 +20,7 @@ pub fn write_image(alloc: Global, image: &Image) -> Result<Vec<u8>, OutOfMemory>
     ensures { IfOk result (λ bytes. bytes.items ≡ spelling image.now) }
 {
     let mut out = Vec::new(alloc);
-    put_header(&mut out, &header_of(image))?;
+    put_header(&mut out, image.form, &header_of(image))?;
     put_text(&mut out, &image.text)?;
     put_pages(&mut out, image.pages.as_slice())?;
     put_files(&mut out, image.files.as_slice())?;
@@ -59,11 +59,11 @@ fn header_of(image: &Image) -> Header
     }
 }
 
-/// Appends the magic, the counts and the uid.
-fn put_header(out: &mut Vec<u8>, head: &Header) -> Result<(), OutOfMemory>
-    ensures { OnOk result (out.new.items ≡ out.old.items ++ header head.now) }
+/// Appends the magic of a form, the counts and the uid.
+fn put_header(out: &mut Vec<u8>, form: Form, head: &Header) -> Result<(), OutOfMemory>
+    ensures { OnOk result (out.new.items ≡ out.old.items ++ header form head.now) }
 {
-    out.extend_from_slice(b"LWC1")?;
+    out.extend_from_slice(form.magic())?;
     put_number(out, head.instructions)?;
     put_number(out, head.pages)?;
     put_number(out, head.files)?;

@@ -1,5 +1,5 @@
 use Rattle.std.proofs.Common.{◌≡◌, ◌++◌, length, sym, ap, ◌∙◌, arith}
-use Rattle.guest_image.specs.Spelling.{number}
+use Rattle.guest_image.specs.Spelling.{magic, number}
 use Rattle.guest_asm.specs.Drafts.{draft_of}
 use Rattle.guest_asm.specs.Views.{source_in}
 use Rattle.guest_asm.proofs.Lengths.{has_few, counts_of}
@@ -40,9 +40,10 @@ returns c =
     let files : c.len-3.result ≡ length d.files = c.len-3.ensures ∙ s.files.ok.0 in
     let slots : c.len-4.result ≡ length d.slots = c.len-4.ensures ∙ s.slots.ok.0 in
     let entries : c.len-5.result ≡ length d.entries = c.len-5.ensures ∙ s.entries.ok.0 ∙ sym (counts_of s).1 in
-    let uid : c.unwrap_or.result ≡ d.uid = c.unwrap_or.ensures in
+    let form : c.unwrap_or.result ≡ d.form = c.unwrap_or.ensures in
+    let uid : c.unwrap_or-2.result ≡ d.uid = c.unwrap_or-2.ensures in
     header_written d c.args.out.now.items c.extend_from_slice.new.self.items c.put_number.new.out.items c.put_number-2.new.out.items c.put_number-3.new.out.items c.put_number-4.new.out.items c.put_number-5.new.out.items c.put_number-6.new.out.items
-    c.in_ok-extend_from_slice.ensures.items
+    (c.in_ok-extend_from_slice.ensures.items ∙ ap (λ l. c.args.out.now.items ++ l) (c.magic.ensures ∙ ap magic form))
     (c.in_ok-put_number.ensures ∙ ap (λ n. c.extend_from_slice.new.self.items ++ number n) text)
     (c.in_ok-put_number-2.ensures ∙ ap (λ n. c.put_number.new.out.items ++ number n) pages)
     (c.in_ok-put_number-3.ensures ∙ ap (λ n. c.put_number-2.new.out.items ++ number n) files)

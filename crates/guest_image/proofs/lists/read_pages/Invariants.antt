@@ -7,7 +7,7 @@ use Rattle.guest_image.proofs.lists.read_pages.Given as goal
 
 abbrev pub invariant-loop : goal.invariant-loop
 invariant-loop l = record {
-  read : list_at next_page (l.count - l.counter) l.pages.items l.reader ≡ pages_at l.count l.fn.reader;
+  read : list_at (next_page l.form) (l.count - l.counter) l.pages.items l.reader ≡ pages_at l.form l.count l.fn.reader;
   last : l.last ≡ last (page_numbers l.pages.items);
   ranges : l.ranges ≡ ranges (page_numbers l.pages.items);
   room : l.ranges ≤ MOST_RANGES;
