@@ -9,10 +9,12 @@ use Rattle.std.proofs.lemmas.List.{take_more, length-map, length-take-le}
 use Rattle.std.proofs.lemmas.List.Elements.{All-get_or}
 use Rattle.std.proofs.lemmas.List.Folds.{find-append}
 use Rattle.std.proofs.lemmas.Option.{slice_get_within, get_or_from_slice_get}
-use Rattle.guest_image.specs.Limits.{IsImage, page_numbers}
+use Rattle.guest_image.specs.Limits.{IsImage, page_numbers, pages_of}
 use Rattle.guest_image.specs.Numbers.{is_above, rising_after}
+use Rattle.guest_image.specs.declared.image.Form.{Form}
 use Rattle.guest_image.specs.declared.image.Image.{Image}
 use Rattle.guest_image.specs.declared.image.PageImage.{PageImage}
+use Rattle.guest_image.proofs.Lifted.{most_pages}
 use Rattle.kernel_core.proofs.FirstWorld.{context-first, first_added, live-first, map-first, page_piece, put_at-first, store-first, used-first}
 use Rattle.kernel_core.proofs.Ranges.{has, is_some-found, num, one_tag, ranges-own, ranges-take, tags-within}
 use Rattle.kernel_core.specs.Start.{first_context, first_entry, first_name, first_page, first_slot, first_value, image_tag, world_size, world_so_far, world_with}
@@ -30,19 +32,26 @@ use Rattle.lwc_base.specs.declared.descriptor.Descriptor.{Descriptor}
 use Rattle.lwc_base.specs.declared.descriptor.Descriptor.TheVariants.{Empty}
 use Rattle.lwc_base.specs.declared.key.Key.{Key}
 use Rattle.lwc_base.specs.declared.key.Key.TheVariants.{Page, Slot, Cred}
+use Rattle.lwc_base.specs.declared.limits.TheConstants.{MOST_CONTEXTS, MOST_GROUPS, MOST_JOBS}
 use Rattle.lwc_base.specs.declared.page.PageValue.{PageValue}
 use Rattle.lwc_base.specs.declared.page.PageValue.TheVariants.{Zero, Data}
 use Rattle.lwc_base.specs.declared.regs.Regs.{Regs}
 use Rattle.world_face.specs.Calls.{HasPlace, MayName}
 
--- an empty world has a place for the first context, which job 0 may name
-pub has_first_place : (frames : ℕ) (w : World) → w ≡ empty_world (world_size frames) → HasPlace w
-unfolding empty_world
-has_first_place frames w opened = let none = fm.len-empty name_cmp Context in subst HasPlace (sym opened) (omega (arith, none))
+-- an empty world with as many pages as the form has is one of the kernel's size
+pub opened_by : (form : Form) (frames pages : ℕ) (w : World) → pages ≡ pages_of form →
+    w ≡ empty_world (record { frames = frames; contexts = MOST_CONTEXTS; groups = MOST_GROUPS; jobs = MOST_JOBS; pages = pages }) → w ≡ empty_world (world_size form frames)
+opened_by form frames pages w same opened =
+    opened ∙ ap (λ n. empty_world (record { frames = frames; contexts = MOST_CONTEXTS; groups = MOST_GROUPS; jobs = MOST_JOBS; pages = n })) same
 
-pub may_name_first : (frames : ℕ) (w : World) → w ≡ empty_world (world_size frames) → MayName w 0
+-- an empty world has a place for the first context, which job 0 may name
+pub has_first_place : (form : Form) (frames : ℕ) (w : World) → w ≡ empty_world (world_size form frames) → HasPlace w
 unfolding empty_world
-may_name_first frames w opened =
+has_first_place form frames w opened = let none = fm.len-empty name_cmp Context in subst HasPlace (sym opened) (omega (arith, none))
+
+pub may_name_first : (form : Form) (frames : ℕ) (w : World) → w ≡ empty_world (world_size form frames) → MayName w 0
+unfolding empty_world
+may_name_first form frames w opened =
     subst (λ (v : World). MayName v 0) (sym opened) (record { known = omega arith; contexts = omega arith; groups = omega arith; tags = omega arith })
 
 none_below : {A : Type 0} (n : ℕ) (x y : A) → y ≡ cond (ltb n 0) x y
@@ -55,14 +64,14 @@ begins_with image (Slot n) = none_below n (first_slot image.slots n) Empty
 begins_with image Cred = refl
 
 -- the first context is made
-pub first_made : (image : Image) (frames : ℕ) (regs : Regs) (w v : World) → w ≡ empty_world (world_size frames) → regs ≡ fresh_registers (first_entry image) →
+pub first_made : (image : Image) (frames : ℕ) (regs : Regs) (w v : World) → w ≡ empty_world (world_size image.form frames) → regs ≡ fresh_registers (first_entry image) →
     v ≡ add_context w 0 (new_context image.uid regs) → v ≡ world_so_far image frames 0 0
 unfolding world_so_far first_context
 first_made image frames regs w v opened entry made =
     made
     ∙ (λ i. add_context (opened i) 0 (new_context image.uid (entry i)))
-    ∙ first_added frames (new_context image.uid (fresh_registers (first_entry image)))
-    ∙ (λ i. world_with frames 0 (record (new_context image.uid (fresh_registers (first_entry image))) { cell = λ k. Own (begins_with image k i) }))
+    ∙ first_added image.form frames (new_context image.uid (fresh_registers (first_entry image)))
+    ∙ (λ i. world_with image.form frames 0 (record (new_context image.uid (fresh_registers (first_entry image))) { cell = λ k. Own (begins_with image k i) }))
 
 pub enumerate-push : {X : Type 0} (a : ℕ) (xs : List X) (x : X) → enumerate_from a (xs ++ x ∷ []) ≡ enumerate_from a xs ++ (a + length xs, x) ∷ []
 enumerate-push a [] x = ap (λ n. (n, x) ∷ []) (omega arith)
@@ -139,25 +148,25 @@ pub from_here : (image : Image) (frames pages slots p n : ℕ) (w v : World) →
 from_here image frames pages slots p n w v before after = after ∙ ap (λ m. world_so_far image m p n) (frames_here image frames pages slots w before)
 
 -- a world of the first context: it is live, and job 0 may name more
-pub record IsFirstWorld (frames : ℕ) (w : World) : Type 0 where
+pub record IsFirstWorld (form : Form) (frames : ℕ) (w : World) : Type 0 where
   pub live : is_live w first_name ≡ true
-  pub size : w.size ≡ world_size frames
+  pub size : w.size ≡ world_size form frames
   pub may : MayName w 0
 
 -- the k-th page of an image
 module _ (image : Image) (is : IsImage image) where
-  is_first : (frames tags : ℕ) (x : Context) → tags ≤ 1024 → IsFirstWorld frames (world_with frames tags x)
+  is_first : (frames tags : ℕ) (x : Context) → tags ≤ 16384 → IsFirstWorld image.form frames (world_with image.form frames tags x)
   unfolding world_with
   is_first frames tags x few = record {
-    live = live-first frames tags x;
+    live = live-first image.form frames tags x;
     size = refl;
     may = record { known = omega arith; contexts = omega arith; groups = omega arith; tags = omega arith };
   }
 
   -- the world as it is built
-  pub first_world : (frames pages slots : ℕ) (w : World) → w ≡ world_so_far image frames pages slots → pages ≤ 1024 → IsFirstWorld frames w
+  pub first_world : (frames pages slots : ℕ) (w : World) → w ≡ world_so_far image frames pages slots → pages ≤ 16384 → IsFirstWorld image.form frames w
   unfolding world_so_far
-  first_world frames pages slots w before few = subst (IsFirstWorld frames) (sym before) (is_first frames pages (first_context image (take pages image.pages) slots) few)
+  first_world frames pages slots w before few = subst (IsFirstWorld image.form frames) (sym before) (is_first frames pages (first_context image (take pages image.pages) slots) few)
 
   slot_by : (b : Bool) (m n : ℕ) → eqb m n ≡ b →
       cond b (Own (first_slot image.slots n)) (Own (cond (ltb m n) (first_slot image.slots m) Empty)) ≡ Own (cond (ltb m (n + 1)) (first_slot image.slots m) Empty)
@@ -190,17 +199,17 @@ module _ (image : Image) (is : IsImage image) where
   slot_put frames pages n value w v before value_is put =
       let had = first_context image (take pages image.pages) n in
       put ∙ (λ i. put_slot (before i) first_name n (value_is i))
-      ∙ put_at-first frames pages had (Slot n) Empty (first_slot image.slots n) (empty_slot (take pages image.pages) n) refl
-      ∙ ap (world_with frames pages) (context_with_slot (take pages image.pages) n)
+      ∙ put_at-first image.form frames pages had (Slot n) Empty (first_slot image.slots n) (empty_slot (take pages image.pages) n) refl
+      ∙ ap (world_with image.form frames pages) (context_with_slot (take pages image.pages) n)
 
   module _ (k : ℕ) (x : PageImage) (found : slice_get image.pages k ≡ Some x) where
     within : k < length image.pages
     within = slice_get_within image.pages k x found
 
-    pub number_below : x.number < 1024
+    pub number_below : x.number < pages_of image.form
     number_below =
-        subst (λ (y : PageImage). y.number < 1024) (get_or_from_slice_get image.pages k x x found)
-        (All-get_or (λ (y : PageImage). y.number < 1024) image.pages k x within is.pages.numbers)
+        subst (λ (y : PageImage). y.number < pages_of image.form) (get_or_from_slice_get image.pages k x x found)
+        (All-get_or (λ (y : PageImage). y.number < pages_of image.form) image.pages k x within is.pages.numbers)
 
     whole : length x.bytes ≡ 4096
     whole =
@@ -283,9 +292,9 @@ module _ (image : Image) (is : IsImage image) where
     value-there q =
         value_by (eqb q x.number) q refl ∙ ap (λ c. is_some (own_value c)) (cell_with_page (Page q)) ∙ first_page-there (take (k + 1) image.pages) q
 
-    few_ranges_in : ranges 1024 mapped ≤ 64
+    few_ranges_in : ranges (pages_of image.form) mapped ≤ 64
     few_ranges_in =
-        omega (arith, ranges-own mapped (page_numbers (take (k + 1) image.pages)) value value_is right_is value-there 1024, ranges-take None (k + 1) image.pages, is.pages.ranges)
+        omega (arith, ranges-own mapped (page_numbers (take (k + 1) image.pages)) value value_is right_is value-there (pages_of image.form), ranges-take None (k + 1) image.pages, is.pages.ranges)
 
     tagged_by : (b : Bool) (v : Option PageValue) → length (tag_of (cond b (Some Zero) v)) ≤ num (is_some v)
     tagged_by true v = omega arith
@@ -298,33 +307,33 @@ module _ (image : Image) (is : IsImage image) where
         let had_it = first_page-there (take k image.pages) q in
         omega (arith, at, tagged_by (leb x.number q && ltb q (x.number + 1)) (first_page (take k image.pages) q), ap num had_it)
 
-    frame_left : (frames : ℕ) → length image.pages ≤ frames → used (world_with frames k mapped) < frames
+    frame_left : (frames : ℕ) → length image.pages ≤ frames → used (world_with image.form frames k mapped) < frames
     frame_left frames fits =
-        let tags = tags-within mapped (page_numbers (take k image.pages)) tagged 1024 in
+        let tags = tags-within mapped (page_numbers (take k image.pages)) tagged (pages_of image.form) in
         let numbers : length (page_numbers (take k image.pages)) ≡ k = length-map (take k image.pages) (λ y. y.number) ∙ length-take-le k image.pages (omega (arith, within)) in
-        omega (arith, used-first frames k mapped, tags, numbers, within, fits)
+        omega (arith, used-first image.form frames k mapped, tags, numbers, within, fits)
 
     -- a page that is mapped, and then stored
     module _ (frames : ℕ) (fits : length image.pages ≤ frames) (w v : World) (before : w ≡ world_so_far image frames k 0) (after : v ≡ map_pages w first_name x.number (x.number + 1)) where
-      is_mapped : v ≡ world_with frames k mapped
+      is_mapped : v ≡ world_with image.form frames k mapped
       unfolding world_so_far mapped had
-      is_mapped = after ∙ ap (λ u. map_pages u first_name x.number (x.number + 1)) before ∙ map-first frames k (first_context image (take k image.pages) 0) x.number (x.number + 1)
+      is_mapped = after ∙ ap (λ u. map_pages u first_name x.number (x.number + 1)) before ∙ map-first image.form frames k (first_context image (take k image.pages) 0) x.number (x.number + 1)
 
-      pub mapped_world : IsFirstWorld frames v
-      mapped_world = subst (IsFirstWorld frames) (sym is_mapped) (is_first frames k mapped (omega (arith, within, is.page_count)))
+      pub mapped_world : IsFirstWorld image.form frames v
+      mapped_world = subst (IsFirstWorld image.form frames) (sym is_mapped) (is_first frames k mapped (omega (arith, within, is.page_count, most_pages image.form)))
 
       pub few_ranges : ranges_of v first_name ≤ 64
       unfolding ranges_of world_with
       few_ranges =
           subst (λ (u : World). ranges_of u first_name ≤ 64) (sym is_mapped)
-          (subst (λ (y : Context). ranges 1024 y ≤ 64) (sym (context-first frames k mapped)) few_ranges_in)
+          (subst (λ (y : Context). ranges (pages_of image.form) y ≤ 64) (sym (context-first image.form frames k mapped)) few_ranges_in)
 
       pub page_stored : store v first_name 0 (page_piece x.number x.bytes) ≡ Done (world_so_far image frames (k + 1) 0)
       unfolding world_so_far
       page_stored =
           ap (λ u. store u first_name 0 (page_piece x.number x.bytes)) is_mapped
-          ∙ store-first frames k x.number mapped x.bytes whole zeros (right_is x.number) (frame_left frames fits)
-          ∙ ap (λ y. Done (world_with frames (k + 1) y)) context_with_page
+          ∙ store-first image.form frames k x.number mapped x.bytes whole zeros (right_is x.number) (frame_left frames fits)
+          ∙ ap (λ y. Done (world_with image.form frames (k + 1) y)) context_with_page
 
       -- the store as the code makes it is done
       module _ (at : ℕ) (stored_bytes : List ℕ) (at_is : at ≡ x.number * 4096) (bytes_are : stored_bytes ≡ x.bytes) where

@@ -6,6 +6,7 @@ use Rattle.std.specs.Option.{option_map_or}
 use Rattle.std.specs.Ordering.{eq_by_cmp}
 use Rattle.std.specs.Prelude.{is_some}
 use Rattle.std.proofs.lemmas.Bool.{false≢true}
+use Rattle.guest_image.specs.declared.image.Form.{Form}
 use Rattle.guest_image.specs.declared.image.Image.{Image}
 use Rattle.guest_image.specs.declared.image.PageImage.{PageImage}
 use Rattle.guest_image.specs.declared.image.SlotImage.{SlotImage}
@@ -42,9 +43,9 @@ not_of d image n = by_number (ltb n 64)
     by_number true = by_console (ltb n 2)
     by_number false = refl
 
-module _ (frames tags : ℕ) where
+module _ (form : Form) (frames tags : ℕ) where
   -- a name that is live at the start is the first one
-  only_first : (x : Context) (c : Name) → is_live (world_with frames tags x) c ≡ true → c ≡ first_name
+  only_first : (x : Context) (c : Name) → is_live (world_with form frames tags x) c ≡ true → c ≡ first_name
   unfolding world_with
   only_first x c live = by_name _ refl (sym (ap is_some (get-first x c)) ∙ live)
     where
@@ -52,7 +53,7 @@ module _ (frames tags : ℕ) where
       by_name true same live = same_name c first_name same
       by_name false other live = absurd (false≢true live)
 
-  pub reaped_first : (x : Context) (budget : ℕ) (entries : List ℕ) → 1 ≤ length entries → IsReaped (world_with frames tags x) (roots (first_threads budget entries) None)
+  pub reaped_first : (x : Context) (budget : ℕ) (entries : List ℕ) → 1 ≤ length entries → IsReaped (world_with form frames tags x) (roots (first_threads budget entries) None)
   unfolding world_with first_threads
   reaped_first x budget [] some = absurd (omega arith)
   reaped_first x budget (e ∷ es) some = record {
@@ -61,15 +62,15 @@ module _ (frames tags : ℕ) where
   }
 
 module _ (image : Image) (frames tags : ℕ) (pages : List PageImage) where
-  slot-first : (n : ℕ) → slot_at (world_with frames tags (first_context image pages 64)) first_name n ≡ cond (ltb n 64) (first_slot image.slots n) Empty
+  slot-first : (n : ℕ) → slot_at (world_with image.form frames tags (first_context image pages 64)) first_name n ≡ cond (ltb n 64) (first_slot image.slots n) Empty
   unfolding value_at first_context
-  slot-first n = ap (λ (y : Context). value_of (world_with frames tags (first_context image pages 64)) (Slot n) (y.cell (Slot n))) (context-first frames tags (first_context image pages 64))
+  slot-first n = ap (λ (y : Context). value_of (world_with image.form frames tags (first_context image pages 64)) (Slot n) (y.cell (Slot n))) (context-first image.form frames tags (first_context image pages 64))
 
-  no_links : (c d : Name) → is_live (world_with frames tags (first_context image pages 64)) c ≡ true → links (world_with frames tags (first_context image pages 64)) c d ≡ false
+  no_links : (c d : Name) → is_live (world_with image.form frames tags (first_context image pages 64)) c ≡ true → links (world_with image.form frames tags (first_context image pages 64)) c d ≡ false
   unfolding links
   no_links c d live =
-      ap (λ e. list_any (λ n. is_of d (slot_at (world_with frames tags (first_context image pages 64)) e n)) (range_with_len 0 64)) (only_first frames tags (first_context image pages 64) c live)
+      ap (λ e. list_any (λ n. is_of d (slot_at (world_with image.form frames tags (first_context image pages 64)) e n)) (range_with_len 0 64)) (only_first image.form frames tags (first_context image pages 64) c live)
       ∙ none_of _ (range_with_len 0 64) (λ n. ap (is_of d) (slot-first n) ∙ not_of d image n)
 
-  pub named_first : HasItsContexts (world_with frames tags (first_context image pages 64))
+  pub named_first : HasItsContexts (world_with image.form frames tags (first_context image pages 64))
   named_first = record { live = λ c d live link. absurd (false≢true (sym (no_links c d live) ∙ link)) }

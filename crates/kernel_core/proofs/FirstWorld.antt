@@ -8,6 +8,8 @@ use Rattle.std.specs.Prelude.{count_by, is_some, not, slice_index, unwrap_or}
 use Rattle.std.proofs.lemmas.Bool.Decides.{nat_tests}
 use Rattle.std.proofs.lemmas.List.{length-replicate}
 use Rattle.std.proofs.lemmas.List.FromFn.{fill_by_all}
+use Rattle.guest_image.specs.Limits.{pages_of}
+use Rattle.guest_image.specs.declared.image.Form.{Form}
 use Rattle.kernel_core.specs.Start.{counted, first_name, world_size, world_with}
 use Rattle.lwc_base.specs.Cells.{page_at, put_at, put_in, value_at, value_of, with_cell}
 use Rattle.lwc_base.specs.Frames.{is_parting, tags, tags_of_context, tags_of_group, used}
@@ -36,13 +38,13 @@ counted_once true = refl
 counted_once false = refl
 
 -- the first context of a world in which nothing is live
-pub first_added : (frames : ℕ) (x : Context) → add_context (empty_world (world_size frames)) 0 x ≡ world_with frames 0 x
+pub first_added : (form : Form) (frames : ℕ) (x : Context) → add_context (empty_world (world_size form frames)) 0 x ≡ world_with form frames 0 x
 unfolding world_with add_context change_counters empty_world
-first_added frames x = λ i. record {
+first_added form frames x = λ i. record {
   contexts = fm.insert fm.empty first_name x;
   groups = fm.empty;
   next = λ j. counted_once (eqb j 0) i;
-  size = world_size frames;
+  size = world_size form frames;
 }
 
 chosen : {A : Type 0} (b : Bool) (x y : A) → b ≡ true → cond b x y ≡ x
@@ -59,34 +61,34 @@ insert-twice x y = fm.same_map orders.names orders.one_name _ _ (λ q.
     ∙ sym (get-first y q))
 
 -- the one context
-pub context-first : (frames tags : ℕ) (x : Context) → context (world_with frames tags x) first_name ≡ x
+pub context-first : (form : Form) (frames tags : ℕ) (x : Context) → context (world_with form frames tags x) first_name ≡ x
 unfolding context world_with
-context-first frames tags x = ap (λ o. unwrap_or o (new_context 0 (fresh_registers 0))) (get-first x first_name)
+context-first form frames tags x = ap (λ o. unwrap_or o (new_context 0 (fresh_registers 0))) (get-first x first_name)
 
 -- it is live
-pub live-first : (frames tags : ℕ) (x : Context) → is_live (world_with frames tags x) first_name ≡ true
+pub live-first : (form : Form) (frames tags : ℕ) (x : Context) → is_live (world_with form frames tags x) first_name ≡ true
 unfolding world_with
-live-first frames tags x = ap is_some (get-first x first_name)
+live-first form frames tags x = ap is_some (get-first x first_name)
 
-change-first : (frames tags : ℕ) (x : Context) (change : Context → Context) → change_context (world_with frames tags x) first_name change ≡ world_with frames tags (change x)
+change-first : (form : Form) (frames tags : ℕ) (x : Context) (change : Context → Context) → change_context (world_with form frames tags x) first_name change ≡ world_with form frames tags (change x)
 unfolding change_context world_with
-change-first frames tags x change =
-    ap (changed_context (world_with frames tags x) first_name change) (get-first x first_name)
-    ∙ ap (λ m. record (world_with frames tags x) { contexts = m }) (insert-twice x (change x))
+change-first form frames tags x change =
+    ap (changed_context (world_with form frames tags x) first_name change) (get-first x first_name)
+    ∙ ap (λ m. record (world_with form frames tags x) { contexts = m }) (insert-twice x (change x))
 
 -- another value under a key of its own
-pub put_at-first : (frames tags : ℕ) (x : Context) (k : Key) (old value : ValueOf k) → x.cell k ≡ Own old → is_there k old ≡ true →
-    put_at (world_with frames tags x) first_name k value ≡ world_with frames tags (with_cell k (Own value) x)
+pub put_at-first : (form : Form) (frames tags : ℕ) (x : Context) (k : Key) (old value : ValueOf k) → x.cell k ≡ Own old → is_there k old ≡ true →
+    put_at (world_with form frames tags x) first_name k value ≡ world_with form frames tags (with_cell k (Own value) x)
 unfolding put_at
-put_at-first frames tags x k old value own there =
-    ap (put_in (world_with frames tags x) first_name k value) (ap (λ (y : Context). y.cell k) (context-first frames tags x) ∙ own)
-    ∙ ap (λ b. cond b (change_context (world_with frames tags x) first_name (with_cell k (Own value))) (world_with frames tags x)) there
-    ∙ change-first frames tags x (with_cell k (Own value))
+put_at-first form frames tags x k old value own there =
+    ap (put_in (world_with form frames tags x) first_name k value) (ap (λ (y : Context). y.cell k) (context-first form frames tags x) ∙ own)
+    ∙ ap (λ b. cond b (change_context (world_with form frames tags x) first_name (with_cell k (Own value))) (world_with form frames tags x)) there
+    ∙ change-first form frames tags x (with_cell k (Own value))
 
 -- pages that are mapped
-pub map-first : (frames tags : ℕ) (x : Context) (from to : ℕ) → map_pages (world_with frames tags x) first_name from to ≡ world_with frames tags (with_zeros from to x)
+pub map-first : (form : Form) (frames tags : ℕ) (x : Context) (from to : ℕ) → map_pages (world_with form frames tags x) first_name from to ≡ world_with form frames tags (with_zeros from to x)
 unfolding map_pages
-map-first frames tags x from to = change-first frames tags x (with_zeros from to)
+map-first form frames tags x from to = change-first form frames tags x (with_zeros from to)
 
 -- the bytes of a whole page
 abbrev pub page_piece : ℕ → List ℕ → Piece
@@ -125,26 +127,26 @@ counted_more : (b : Bool) (tags more : ℕ) → more ≡ 1 →
 counted_more true tags more one = ap (λ n. counted 1 (tags + n)) one
 counted_more false tags more one = refl
 
-one_more_tag : (frames tags : ℕ) (x : Context) (more : ℕ) → more ≡ 1 → change_counters (world_with frames tags x) 0 (λ n. record n { tags = n.tags + more }) ≡ world_with frames (tags + 1) x
+one_more_tag : (form : Form) (frames tags : ℕ) (x : Context) (more : ℕ) → more ≡ 1 → change_counters (world_with form frames tags x) 0 (λ n. record n { tags = n.tags + more }) ≡ world_with form frames (tags + 1) x
 unfolding world_with change_counters
-one_more_tag frames tags x more one = λ i. record (world_with frames tags x) { next = λ j. counted_more (eqb j 0) tags more one i }
+one_more_tag form frames tags x more one = λ i. record (world_with form frames tags x) { next = λ j. counted_more (eqb j 0) tags more one i }
 
 is_done : (absent read full : Bool) (after : World) → absent ≡ false → read ≡ false → full ≡ false →
     cond absent Absent (cond read ReadOnly (cond full Full (Done after))) ≡ Done after
 is_done absent read full after present writable free = grind arith
 
 -- a page of zeros of the one context, for which a frame is free, and the whole page that is stored over it
-module _ (frames tags p : ℕ) (x : Context) (bytes : List ℕ) (whole : length bytes ≡ 4096) (zeros : x.cell (Page p) ≡ Own (Some Zero)) (right : x.right p ≡ Write)
-    (free : used (world_with frames tags x) < frames) where
+module _ (form : Form) (frames tags p : ℕ) (x : Context) (bytes : List ℕ) (whole : length bytes ≡ 4096) (zeros : x.cell (Page p) ≡ Own (Some Zero)) (right : x.right p ≡ Write)
+    (free : used (world_with form frames tags x) < frames) where
   w : World
-  w = world_with frames tags x
+  w = world_with form frames tags x
 
   stored : Context
   stored = with_cell (Page p) (Own (Some (Data (record { job = 0; k = tags }) bytes))) x
 
   page-zeros : page_at w first_name p ≡ Some Zero
   unfolding value_at w
-  page-zeros = ap (value_of w (Page p)) (ap (λ (y : Context). y.cell (Page p)) (context-first frames tags x) ∙ zeros)
+  page-zeros = ap (value_of w (Page p)) (ap (λ (y : Context). y.cell (Page p)) (context-first form frames tags x) ∙ zeros)
 
   value-zeros : page_value_at w first_name p ≡ Zero
   value-zeros = ap (λ o. unwrap_or o Zero) page-zeros
@@ -164,8 +166,8 @@ module _ (frames tags p : ℕ) (x : Context) (bytes : List ℕ) (whole : length 
   writable-one : not (is_writable w first_name (p * 4096) (length bytes)) ≡ false
   unfolding is_writable w
   writable-one =
-      ap (λ l. not (list_all (λ q. may_write (right_at (world_with frames tags x) first_name q)) l)) (touched_page p (length bytes) whole)
-      ∙ ap (λ r. not (may_write r && true)) (ap (λ (y : Context). y.right p) (context-first frames tags x) ∙ right)
+      ap (λ l. not (list_all (λ q. may_write (right_at (world_with form frames tags x) first_name q)) l)) (touched_page p (length bytes) whole)
+      ∙ ap (λ r. not (may_write r && true)) (ap (λ (y : Context). y.right p) (context-first form frames tags x) ∙ right)
 
   stored_pages-one : stored_pages w first_name 0 (page_piece p bytes) tags (p ∷ []) ≡ (p, Data (record { job = 0; k = tags }) bytes) ∷ []
   unfolding is_parting
@@ -176,21 +178,21 @@ module _ (frames tags p : ℕ) (x : Context) (bytes : List ℕ) (whole : length 
   abbrev with_tags : World → World
   with_tags v = change_counters v 0 (λ n. record n { tags = n.tags + parting_count w first_name (page_piece p bytes) })
 
-  after_store-one : after_store w first_name 0 (page_piece p bytes) ≡ world_with frames (tags + 1) stored
+  after_store-one : after_store w first_name 0 (page_piece p bytes) ≡ world_with form frames (tags + 1) stored
   unfolding after_store world_with w stored
   after_store-one =
-      ap (λ l. with_tags (put_pages (world_with frames tags x) first_name (stored_pages (world_with frames tags x) first_name 0 (page_piece p bytes) tags l))) (touched_page p (length bytes) whole)
-      ∙ ap (λ l. with_tags (put_pages (world_with frames tags x) first_name l)) stored_pages-one
-      ∙ ap with_tags (put_at-first frames tags x (Page p) (Some Zero) (Some (Data (record { job = 0; k = tags }) bytes)) zeros refl)
-      ∙ one_more_tag frames tags stored _ parting-one
+      ap (λ l. with_tags (put_pages (world_with form frames tags x) first_name (stored_pages (world_with form frames tags x) first_name 0 (page_piece p bytes) tags l))) (touched_page p (length bytes) whole)
+      ∙ ap (λ l. with_tags (put_pages (world_with form frames tags x) first_name l)) stored_pages-one
+      ∙ ap with_tags (put_at-first form frames tags x (Page p) (Some Zero) (Some (Data (record { job = 0; k = tags }) bytes)) zeros refl)
+      ∙ one_more_tag form frames tags stored _ parting-one
 
   frame_free : ltb frames (used w + parting_count w first_name (page_piece p bytes)) ≡ false
   unfolding w
   frame_free = let parts = parting-one in grind (arith, nat_tests)
 
   -- the store is done
-  pub store-first : store (world_with frames tags x) first_name 0 (page_piece p bytes)
-      ≡ Done (world_with frames (tags + 1) (with_cell (Page p) (Own (Some (Data (record { job = 0; k = tags }) bytes))) x))
+  pub store-first : store (world_with form frames tags x) first_name 0 (page_piece p bytes)
+      ≡ Done (world_with form frames (tags + 1) (with_cell (Page p) (Own (Some (Data (record { job = 0; k = tags }) bytes))) x))
   unfolding store w stored world_with
   store-first = is_done _ _ _ _ present-one writable-one frame_free ∙ ap Done after_store-one
 
@@ -216,16 +218,16 @@ entries-first : (x : Context) → fm.entries (fm.insert (fm.empty {R = name_cmp}
 entries-first x = fm.entries-insert orders.names fm.empty first_name x ∙ ap (fm.put name_cmp first_name x) entries-none
 
 -- the tags of the world are those of the context
-tags-first : (frames counted : ℕ) (x : Context) → tags (world_with frames counted x) ≡ (tags_of_context 1024 x ++ []) ++ []
+tags-first : (form : Form) (frames counted : ℕ) (x : Context) → tags (world_with form frames counted x) ≡ (tags_of_context (pages_of form) x ++ []) ++ []
 unfolding tags world_with
-tags-first frames counted x =
-    ap (λ es. flat_map (λ (e : Name × Context). tags_of_context 1024 e.1) es ++ flat_map (λ (e : Name × Group). tags_of_group 1024 e.1) (fm.entries (fm.empty {X = Group} {R = name_cmp}))) (entries-first x)
-    ∙ ap (λ es. (tags_of_context 1024 x ++ []) ++ flat_map (λ (e : Name × Group). tags_of_group 1024 e.1) es) entries-none
+tags-first form frames counted x =
+    ap (λ es. flat_map (λ (e : Name × Context). tags_of_context (pages_of form) e.1) es ++ flat_map (λ (e : Name × Group). tags_of_group (pages_of form) e.1) (fm.entries (fm.empty {X = Group} {R = name_cmp}))) (entries-first x)
+    ∙ ap (λ es. (tags_of_context (pages_of form) x ++ []) ++ flat_map (λ (e : Name × Group). tags_of_group (pages_of form) e.1) es) entries-none
 
 -- no more frames are used than the context's pages have tags
-pub used-first : (frames counted : ℕ) (x : Context) → used (world_with frames counted x) ≤ length (tags_of_context 1024 x)
+pub used-first : (form : Form) (frames counted : ℕ) (x : Context) → used (world_with form frames counted x) ≤ length (tags_of_context (pages_of form) x)
 unfolding used
-used-first frames counted x =
-    let few = len-from_list (tags (world_with frames counted x)) in
-    let same : length (tags (world_with frames counted x)) ≡ length ((tags_of_context 1024 x ++ []) ++ []) = ap length (tags-first frames counted x) in
-    omega (arith, few, same, length-append (tags_of_context 1024 x ++ []) [], length-append (tags_of_context 1024 x) [])
+used-first form frames counted x =
+    let few = len-from_list (tags (world_with form frames counted x)) in
+    let same : length (tags (world_with form frames counted x)) ≡ length ((tags_of_context (pages_of form) x ++ []) ++ []) = ap length (tags-first form frames counted x) in
+    omega (arith, few, same, length-append (tags_of_context (pages_of form) x ++ []) [], length-append (tags_of_context (pages_of form) x) [])

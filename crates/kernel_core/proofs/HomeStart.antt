@@ -11,6 +11,7 @@ use Rattle.std.proofs.lemmas.List.Sums.{count_by-le-length}
 use Rattle.std.proofs.lemmas.Bool.{false≢true}
 use Rattle.std.proofs.lemmas.Bool.Decides.{nat_tests}
 use Rattle.guest_image.specs.declared.image.Image.{Image}
+use Rattle.guest_image.proofs.Lifted.{most_pages}
 use Rattle.kernel_core.proofs.Limits.{length_of_keys}
 use Rattle.kernel_core.proofs.Started.{files_start, machine_at, ready_run_start, sound_start}
 use Rattle.kernel_core.specs.Kernel.{CanOpen, MayHave}
@@ -30,7 +31,7 @@ use Rattle.kernel_core.specs.declared.thread.Thread.{Thread}
 use Rattle.lwc_base.specs.Channels.{Channels, HasItsFiles, opened}
 use Rattle.lwc_base.specs.Holders.{InContext, IsGroup}
 use Rattle.lwc_base.specs.Jobs.{IsOwnName, NamesKeepToJobs, own_names}
-use Rattle.guest_image.specs.Limits.{IsImage}
+use Rattle.guest_image.specs.Limits.{IsImage, pages_of}
 use Rattle.lwc_base.specs.Ranges.{ranges, ranges_of}
 use Rattle.lwc_base.specs.Sound.{HasItsGroups, IsSound, live_groups}
 use Rattle.world_face.specs.Calls.{HasPlace, MayName}
@@ -182,7 +183,7 @@ module _ (image : Image) (frames k : ℕ) where
         contexts = with_homes (only_first image) (home_context image) (next i);
         groups = fm.empty;
         next = λ j. counted_more j i;
-        size = world_size frames;
+        size = world_size image.form frames;
       }
 
   low_slot : (n : ℕ) → cond (eqb n 0) (Own Empty) (cond (eqb n 1) (Own Empty) (Own (first_value image image.pages 64 (Slot n)))) ≡ Own (home_value image (Slot n))
@@ -311,7 +312,7 @@ module _ (image : Image) (frames k : ℕ) where
   kept_contexts = fm.retain_keys (with_homes (only_first image) (home_context image) k) (is_reached (so_far image frames k) (homes_of k))
 
   abbrev is_named : Name → Bool
-  is_named g = list_any (names_group 1024 g) (fm.values kept_contexts)
+  is_named g = list_any (names_group (pages_of image.form) g) (fm.values kept_contexts)
 
   contexts_left : kept_contexts ≡ with_homes fm.empty (home_context image) k
   contexts_left =
@@ -329,7 +330,7 @@ module _ (image : Image) (frames k : ℕ) where
   -- the first context is dropped
   pub homes_left : reap (so_far image frames k) (homes_of k) ≡ serve_world image frames k
   unfolding reap world_of
-  homes_left = λ i. record { contexts = contexts_left i; groups = groups_left i; next = (so_far image frames k).next; size = world_size frames }
+  homes_left = λ i. record { contexts = contexts_left i; groups = groups_left i; next = (so_far image frames k).next; size = world_size image.form frames }
 
 -- there are few contexts
 few_contexts : (image : Image) (base : fm.FinMap name_cmp Context) (most n : ℕ) → fm.len base ≤ most → fm.len (with_homes base (home_context image) n) ≤ n + most
@@ -363,7 +364,7 @@ module _ (image : Image) (is : IsImage image) (frames k : ℕ) (few : k < 16) wh
 
   ranges_first : ranges_of (so_far image frames k) first_name ≤ 64
   unfolding ranges_of world_of
-  ranges_first = subst (λ (x : Context). ranges 1024 x ≤ 64) (sym (first_there image frames k)) (few_ranges_in_first image is)
+  ranges_first = subst (λ (x : Context). ranges (pages_of image.form) x ≤ 64) (sym (first_there image frames k)) (few_ranges_in_first image is)
 
   place_there : HasPlace (so_far image frames k)
   unfolding world_of
@@ -371,7 +372,7 @@ module _ (image : Image) (is : IsImage image) (frames k : ℕ) (few : k < 16) wh
 
   may_there : MayName (so_far image frames k) 0
   unfolding world_of
-  may_there = record { known = omega arith; contexts = omega (arith, few); groups = omega arith; tags = omega (arith, is.page_count) }
+  may_there = record { known = omega arith; contexts = omega (arith, few); groups = omega arith; tags = omega (arith, is.page_count, most_pages image.form) }
 
   copied_there : (entry : Regs) → is_live (clone_context (so_far image frames k) first_name 0 [] entry) (home_of k) ≡ true
   copied_there entry =
@@ -422,10 +423,10 @@ module _ (inputs : Inputs) (is_image : IsImage inputs.image) (fits : length inpu
   abbrev start_here : World
   start_here = serve_world inputs.image inputs.settings.frames workers
 
-  no_items : IsSpec 1024 []
+  no_items : IsSpec (pages_of inputs.image.form) []
   no_items = record { few = omega arith; each = All-nil _; apart = λ i j d before within. absurd (omega (arith, within)) }
 
-  size_is : (k : ℕ) → (made_world k).size.pages ≡ 1024
+  size_is : (k : ℕ) → (made_world k).size.pages ≡ pages_of inputs.image.form
   unfolding world_of
   size_is k = refl
 
@@ -557,7 +558,7 @@ module _ (inputs : Inputs) (is_image : IsImage inputs.image) (fits : length inpu
   counted_here j = by_test (eqb j 0)
     where
       by_test : (b : Bool) → IsCounted (most_counted 0) (cond b (counted (workers + 1) (length inputs.image.pages)) (counted 0 0))
-      by_test true = record { contexts = omega (arith, few.1); groups = omega arith; tags = omega (arith, is_image.page_count) }
+      by_test true = record { contexts = omega (arith, few.1); groups = omega arith; tags = omega (arith, is_image.page_count, most_pages inputs.image.form) }
       by_test false = record { contexts = omega arith; groups = omega arith; tags = omega arith }
 
   new_here : (r : ℕ) → IsNewJob start_here (r + 1)
@@ -610,7 +611,7 @@ module _ (inputs : Inputs) (is_image : IsImage inputs.image) (fits : length inpu
     };
   }
     where
-      size_here : start_here.size ≡ world_size inputs.settings.frames
+      size_here : start_here.size ≡ world_size inputs.image.form inputs.settings.frames
       size_here = refl
 
 -- the machine of a start is ready

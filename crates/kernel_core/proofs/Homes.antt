@@ -3,11 +3,12 @@ use Rattle.std.proofs.Common.{◌≡◌, ℕ, ◌≤◌, refl, sym, ap, subst, �
 use Rattle.std.specs.List.{enumerate_from, find}
 use Rattle.std.specs.Option.{option_map, option_map_or}
 use Rattle.std.specs.Prelude.{is_some}
-use Rattle.guest_image.specs.Limits.{IsImage, page_numbers}
+use Rattle.guest_image.specs.Limits.{IsImage, page_numbers, pages_of}
 use Rattle.guest_image.specs.declared.image.Image.{Image}
 use Rattle.guest_image.specs.declared.image.PageImage.{PageImage}
 use Rattle.guest_image.specs.declared.image.SlotImage.{SlotImage}
 use Rattle.lwc_base.specs.declared.page.PageValue.TheVariants.{Data}
+use Rattle.kernel_core.proofs.FirstLife.{not_of}
 use Rattle.kernel_core.proofs.Ranges.{has, is_some-found, ranges-own}
 use Rattle.kernel_core.specs.Start.{Inputs, first_context, first_page, first_slot, home_context, image_tag, world_size}
 use Rattle.lwc_base.specs.Cells.{slot_at, value_at, value_of}
@@ -28,18 +29,18 @@ module _ (image : Image) (is : IsImage image) where
   home_page-there p = found_page (find (λ e. eqb e.1.number p) (enumerate_from 0 image.pages)) ∙ is_some-found 0 p image.pages
 
   -- so has the first context
-  pub few_ranges_in_first : ranges 1024 (first_context image image.pages 64) ≤ 64
+  pub few_ranges_in_first : ranges (pages_of image.form) (first_context image image.pages 64) ≤ 64
   unfolding first_context
   few_ranges_in_first =
-      omega (arith, ranges-own (first_context image image.pages 64) (page_numbers image.pages) (first_page image.pages) (λ q. refl) (λ q. refl) home_page-there 1024, is.pages.ranges)
+      omega (arith, ranges-own (first_context image image.pages 64) (page_numbers image.pages) (first_page image.pages) (λ q. refl) (λ q. refl) home_page-there (pages_of image.form), is.pages.ranges)
 
-  few_ranges_in_home : ranges 1024 (home_context image) ≤ 64
+  few_ranges_in_home : ranges (pages_of image.form) (home_context image) ≤ 64
   unfolding home_context
   few_ranges_in_home =
-      omega (arith, ranges-own (home_context image) (page_numbers image.pages) (first_page image.pages) (λ q. refl) (λ q. refl) home_page-there 1024, is.pages.ranges)
+      omega (arith, ranges-own (home_context image) (page_numbers image.pages) (first_page image.pages) (λ q. refl) (λ q. refl) home_page-there (pages_of image.form), is.pages.ranges)
 
 -- a home has few ranges
-pub few_home_ranges : (inputs : Inputs) (w : World) (home : Name) → IsImage inputs.image → w.size ≡ world_size inputs.settings.frames → context w home ≡ home_context inputs.image → ranges_of w home ≤ 64
+pub few_home_ranges : (inputs : Inputs) (w : World) (home : Name) → IsImage inputs.image → w.size ≡ world_size inputs.image.form inputs.settings.frames → context w home ≡ home_context inputs.image → ranges_of w home ≤ 64
 unfolding ranges_of
 few_home_ranges inputs w home image size same =
     subst (λ (x : Context). ranges w.size.pages x ≤ 64) (sym same)
@@ -47,24 +48,11 @@ few_home_ranges inputs w home image size same =
 
 -- a slot of a home is of no context
 pub not_of_home : (d : Name) (image : Image) (n : ℕ) → is_of d (cond (ltb n 2) Empty (cond (ltb n 64) (first_slot image.slots n) Empty)) ≡ false
-unfolding first_slot
 not_of_home d image n = by_low (ltb n 2)
   where
-    by_file : (file : Option SlotImage) → is_of d (option_map_or (λ (s : SlotImage). File s.file 0) file Empty) ≡ false
-    by_file None = refl
-    by_file (Some s) = refl
-
-    by_console : (b : Bool) → is_of d (cond b Console (option_map_or (λ (s : SlotImage). File s.file 0) (find (λ (s : SlotImage). eqb s.slot n) image.slots) Empty)) ≡ false
-    by_console true = refl
-    by_console false = by_file _
-
-    by_number : (b : Bool) → is_of d (cond b (cond (ltb n 2) Console (option_map_or (λ (s : SlotImage). File s.file 0) (find (λ (s : SlotImage). eqb s.slot n) image.slots) Empty)) Empty) ≡ false
-    by_number true = by_console (ltb n 2)
-    by_number false = refl
-
-    by_low : (b : Bool) → is_of d (cond b Empty (cond (ltb n 64) (cond (ltb n 2) Console (option_map_or (λ (s : SlotImage). File s.file 0) (find (λ (s : SlotImage). eqb s.slot n) image.slots) Empty)) Empty)) ≡ false
+    by_low : (b : Bool) → is_of d (cond b Empty (cond (ltb n 64) (first_slot image.slots n) Empty)) ≡ false
     by_low true = refl
-    by_low false = by_number (ltb n 64)
+    by_low false = not_of d image n
 
 pub no_names : (inputs : Inputs) (w : World) (home : Name) → context w home ≡ home_context inputs.image → (n : ℕ) (d : Name) → is_of d (slot_at w home n) ≡ false
 unfolding value_at home_context

@@ -7,6 +7,7 @@ use Rattle.std.specs.Prelude.{count_by}
 use Rattle.std.proofs.lemmas.Bool.Decides.{nat_tests}
 use Rattle.std.proofs.lemmas.List.{length-map}
 use Rattle.std.proofs.lemmas.List.Sums.{sum_by-cons}
+use Rattle.guest_image.specs.declared.image.Form.{Form}
 use Rattle.kernel_core.specs.Ready.{IsWithinLimits}
 use Rattle.kernel_core.specs.Start.{world_size}
 use Rattle.lwc_base.specs.Names.{name_cmp}
@@ -68,9 +69,9 @@ pub length_of_keys : {X : Type 0} (m : fm.FinMap name_cmp X) → fm.len m ≡ le
 length_of_keys m = fm.len-entries m ∙ sym (length-map (fm.entries m) (λ e. e.0))
 
 -- within the limits there is a place for one more context
-pub has_place : (frames : ℕ) (w : World) (jobs : List ℕ) → w.size ≡ world_size frames → IsWithinLimits w jobs → length jobs ≤ 16 → HasPlace w
+pub has_place : (form : Form) (frames : ℕ) (w : World) (jobs : List ℕ) → w.size ≡ world_size form frames → IsWithinLimits w jobs → length jobs ≤ 16 → HasPlace w
 unfolding live_of
-has_place frames w jobs size limits few =
+has_place form frames w jobs size limits few =
     let names = few_names (fm.keys w.contexts) (0 ∷ jobs) (λ q live. limits.contexts q (fm.contains_key-keys w.contexts q ∙ live)) in
     omega (
       arith,
@@ -83,11 +84,11 @@ has_place frames w jobs size limits few =
     )
 
 -- there are places for a job's next context and group
-pub has_places : (frames job : ℕ) (w : World) (jobs : List ℕ) → w.size ≡ world_size frames →
+pub has_places : (form : Form) (frames job : ℕ) (w : World) (jobs : List ℕ) → w.size ≡ world_size form frames →
     IsWithinLimits w jobs → length jobs ≤ 16 → Contains jobs job → HasPlaces w job
 unfolding groups_of
-has_places frames job w jobs size limits few there = record {
-  context = λ fewer. has_place frames w jobs size limits few;
+has_places form frames job w jobs size limits few there = record {
+  context = λ fewer. has_place form frames w jobs size limits few;
   group = λ fewer.
       let names = few_names (fm.keys w.groups) jobs (λ q live. (limits.groups q (fm.contains_key-keys w.groups q ∙ live)).0) in
       omega (

@@ -52,7 +52,7 @@ step_leaves m s t apart = thread_leaves m s t (slice_get m.threads s) apart
 steps-cons : (t s : ℕ) (ts : List ℕ) → steps_by t (s ∷ ts) ≡ steps_by t (s ∷ []) + steps_by t ts
 steps-cons t s ts = sum_by-append (λ r. cond (r == t) 1 0) (s ∷ []) ts
 
-steps-one : (t : ℕ) → steps_by t (t ∷ []) ≡ 1
+pub steps-one : (t : ℕ) → steps_by t (t ∷ []) ≡ 1
 steps-one t = grind (arith, nat_tests)
 
 first_other : (t s : ℕ) (ts : List ℕ) → steps_by t (s ∷ ts) ≡ 0 → s ≢ t

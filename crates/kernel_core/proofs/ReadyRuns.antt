@@ -132,7 +132,7 @@ can_act inputs steps t m x ready short found runs =
         groups = omega (arith, counted.groups, few);
         tags = omega (arith, counted.tags, few);
       };
-      places = has_places inputs.settings.frames x.job m.environment.world (jobs_of m.threads) ready.size ready.limits jobs (known_job m.threads t x found);
+      places = has_places inputs.image.form inputs.settings.frames x.job m.environment.world (jobs_of m.threads) ready.size ready.limits jobs (known_job m.threads t x found);
     }
 
 -- a ready thread can act while it runs
@@ -155,7 +155,7 @@ can_serve inputs steps m ready = by_serve m.serve ready.serve
           workers = serves.workers;
           homes = λ t within. (serves.live t within, few_home_ranges inputs m.environment.world (home_of t) ready.image ready.size (serves.homes t within));
           groups = ready.sound.groups;
-          place = has_place inputs.settings.frames m.environment.world (jobs_of m.threads) ready.size ready.limits jobs;
+          place = has_place inputs.image.form inputs.settings.frames m.environment.world (jobs_of m.threads) ready.size ready.limits jobs;
           known = omega (arith, requests, ready.few_requests, ap (λ z. z.jobs) ready.size);
           next = omega (arith, requests, serves.next);
           new_jobs = serves.new_jobs;

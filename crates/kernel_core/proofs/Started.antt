@@ -11,10 +11,12 @@ use Rattle.std.proofs.lemmas.List.Elements.{All-cons, All-nil}
 use Rattle.std.proofs.lemmas.List.FromFn.{length-enumerate_from}
 use Rattle.std.proofs.lemmas.List.Sums.{count_by-le-length}
 use Rattle.std.proofs.Math.Seq.{take-length}
-use Rattle.guest_image.specs.Limits.{IsImage}
+use Rattle.guest_image.specs.Limits.{IsImage, pages_of}
+use Rattle.guest_image.specs.declared.image.Form.{Form}
 use Rattle.guest_image.specs.declared.image.Image.{Image}
 use Rattle.guest_image.specs.declared.image.PageImage.{PageImage}
 use Rattle.guest_image.specs.declared.image.SlotImage.{SlotImage}
+use Rattle.guest_image.proofs.Lifted.{most_pages}
 use Rattle.kernel_core.proofs.Building.{enumerate-push, first_made, first_world, mapped_world, number_below, page_stored, slot_put}
 use Rattle.kernel_core.proofs.FirstLife.{named_first, reaped_first}
 use Rattle.kernel_core.proofs.FirstWorld.{get-first, page_piece}
@@ -68,14 +70,14 @@ ready_from w budget n (e ∷ entries) live some few known =
     (record { live = live; budget = few; runs = record { some_job = omega arith; known_job = omega arith; some_step = some } })
     (ready_from w budget (n + 1) entries live some few (omega arith))
 
-pub counted_by : (b : Bool) (tags : ℕ) → tags ≤ 1024 → IsCounted (most_counted 0) (cond b (counted 1 tags) (counted 0 0))
+pub counted_by : (b : Bool) (tags : ℕ) → tags ≤ 16384 → IsCounted (most_counted 0) (cond b (counted 1 tags) (counted 0 0))
 counted_by true tags few = record { contexts = omega arith; groups = omega arith; tags = omega arith }
 counted_by false tags few = record { contexts = omega arith; groups = omega arith; tags = omega arith }
 
 -- the world of a start is the one in which all pages are stored and all slots filled
 pub all_put : (image : Image) (frames : ℕ) → world_so_far image frames (length image.pages) 64 ≡ start_world image frames
 unfolding world_so_far start_world
-all_put image frames = ap (λ l. world_with frames (length image.pages) (first_context image l 64)) (take-length image.pages)
+all_put image frames = ap (λ l. world_with image.form frames (length image.pages) (first_context image l 64)) (take-length image.pages)
 
 page_there : (pages : List PageImage) (k : ℕ) → k < length pages → (x : PageImage) × (slice_get pages k ≡ Some x)
 page_there [] k within = absurd (omega arith)
@@ -84,7 +86,7 @@ page_there (x ∷ xs) (suc k) within = page_there xs k (omega arith)
 
 -- what stays so while the world of a start is built
 record StaysSo (image : Image) (frames : ℕ) (P : World → Type 0) : Type 0 where
-  add : P (add_context (empty_world (world_size frames)) 0 (new_context image.uid (fresh_registers (first_entry image))))
+  add : P (add_context (empty_world (world_size image.form frames)) 0 (new_context image.uid (fresh_registers (first_entry image))))
   map : (w : World) (c : Name) (from to : ℕ) → to ≤ w.size.pages → P w → P (map_pages w c from to)
   store : (w v : World) (c : Name) (job : ℕ) (piece : Piece) → P w → is_live w c ≡ true → store w c job piece ≡ Done v → P v
   slot : (w : World) (n : ℕ) → P w → P (put_slot w first_name n (first_slot image.slots n))
@@ -132,10 +134,10 @@ machine_at inputs job = record {
 }
 
 -- the world of one context is within the limits
-within_limits : (frames tags : ℕ) (x : Context) (jobs : List ℕ) → IsWithinLimits (world_with frames tags x) jobs
+within_limits : (form : Form) (frames tags : ℕ) (x : Context) (jobs : List ℕ) → IsWithinLimits (world_with form frames tags x) jobs
 unfolding world_with live_of groups_of
-within_limits frames tags x jobs =
-    let w : World = world_with frames tags x in
+within_limits form frames tags x jobs =
+    let w : World = world_with form frames tags x in
     let one : fm.len w.contexts ≡ 1 =
     fm.len-insert orders.names nobody first_name x
     ∙ ap (λ b. cond b (fm.len nobody) (fm.len nobody + 1)) (ap is_some (fm.get-empty name_cmp first_name))
@@ -165,8 +167,8 @@ module _ (image : Image) (is : IsImage image) (frames : ℕ) (fits : length imag
         let x = there.0 in
         let w : World = world_so_far image frames k 0 in
         let v : World = map_pages w first_name x.number (x.number + 1) in
-        let first = first_world image is frames k 0 w refl (omega (arith, is.page_count)) in
-        let number : x.number < 1024 = number_below image is k x there.1 in
+        let first = first_world image is frames k 0 w refl (omega (arith, is.page_count, most_pages image.form)) in
+        let number : x.number < pages_of image.form = number_below image is k x there.1 in
         let so : P v = stays.map w first_name x.number (x.number + 1) (omega (arith, number, ap (λ s. s.pages) first.size)) (so_after_pages k (omega arith)) in
         let live = (mapped_world image is k x there.1 frames fits w v refl refl).live in
         let next : k + 1 ≡ suc k = omega arith in
@@ -189,7 +191,7 @@ module _ (image : Image) (is : IsImage image) (frames : ℕ) (fits : length imag
   sound_start =
       so_at_start IsSound
       (record {
-        add = sound-add_new_context (empty_world (world_size frames)) 0 image.uid (fresh_registers (first_entry image)) (sound-empty_world (world_size frames));
+        add = sound-add_new_context (empty_world (world_size image.form frames)) 0 image.uid (fresh_registers (first_entry image)) (sound-empty_world (world_size image.form frames));
         map = sound-map_pages;
         store = sound-store;
         slot = λ w n. sound-put_slot w first_name n (first_slot image.slots n);
@@ -201,7 +203,7 @@ module _ (image : Image) (is : IsImage image) (frames : ℕ) (fits : length imag
       let io = opened image.files requests in
       so_at_start (HasItsFiles io)
       (record {
-        add = files-add_context io (empty_world (world_size frames)) 0 image.uid (fresh_registers (first_entry image)) (files-empty_world io (world_size frames));
+        add = files-add_context io (empty_world (world_size image.form frames)) 0 image.uid (fresh_registers (first_entry image)) (files-empty_world io (world_size image.form frames));
         map = λ w c from to within. files-map_pages io w c from to;
         store = λ w v c job piece has live done. files_store w v io c job piece done has;
         slot = λ w n. files-put_slot io w first_name n (first_slot image.slots n) (first_in_range image.files requests image.slots is.slots.files n);
@@ -225,11 +227,11 @@ ready_run_start inputs can job none =
       files = files_start image can.image frames can.fits inputs.requests;
       given_files = refl;
       given_requests = refl;
-      reaped = reaped_first frames (length image.pages) (first_context image image.pages 64) inputs.settings.budget entries can.image.some_thread;
-      limits = within_limits frames (length image.pages) (first_context image image.pages 64) (jobs_of (first_threads inputs.settings.budget entries));
-      counted = λ job. counted_by (eqb job 0) (length image.pages) can.image.page_count;
+      reaped = reaped_first image.form frames (length image.pages) (first_context image image.pages 64) inputs.settings.budget entries can.image.some_thread;
+      limits = within_limits image.form frames (length image.pages) (first_context image image.pages 64) (jobs_of (first_threads inputs.settings.budget entries));
+      counted = λ job. counted_by (eqb job 0) (length image.pages) (omega (arith, can.image.page_count, most_pages image.form));
       threads = ready_from (start_world image frames) inputs.settings.budget 0 entries
-          (first_world image can.image frames (length image.pages) 64 _ (sym (all_put image frames)) can.image.page_count).live
+          (first_world image can.image frames (length image.pages) 64 _ (sym (all_put image frames)) (omega (arith, can.image.page_count, most_pages image.form))).live
           can.settings.budget.0 can.settings.budget.1 (omega (arith, can.image.thread_count));
       count = count ∙ sym (ap (threads_for image) job);
       some = omega (arith, count, can.image.some_thread);

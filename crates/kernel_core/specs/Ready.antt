@@ -117,7 +117,7 @@ pub record IsReadyServe (inputs : Inputs) (m : Machine) (s : Serve) : Type 0 whe
 -- the threads and the world of a machine are as the calls of a world need them, after this number of steps
 pub record IsReady (inputs : Inputs) (steps : ℕ) (m : Machine) : Type 0 where
   pub image : IsImage inputs.image
-  pub size : m.environment.world.size ≡ world_size inputs.settings.frames
+  pub size : m.environment.world.size ≡ world_size inputs.image.form inputs.settings.frames
   pub sound : IsSound m.environment.world
   pub named : HasItsContexts m.environment.world
   pub files : HasItsFiles m.environment.channels m.environment.world

@@ -3,9 +3,11 @@ use Rattle.std.specs.Prelude.{ℕ, zero, suc, ◌+◌, ◌==◌, if◌then◌els
 use Rattle.std.specs.FinMap as fm
 use Rattle.std.specs.List.{enumerate_from, find}
 use Rattle.std.specs.Option.{option_map, option_map_or}
+use Rattle.guest_image.specs.declared.image.Form.{Form}
 use Rattle.guest_image.specs.declared.image.Image.{Image}
 use Rattle.guest_image.specs.declared.image.PageImage.{PageImage}
 use Rattle.guest_image.specs.declared.image.SlotImage.{SlotImage}
+use Rattle.guest_image.specs.Limits.{pages_of}
 use Rattle.kernel_core.specs.Machine as machine
 use Rattle.kernel_core.specs.Machine.{Machine, home_of, homes_of}
 use Rattle.kernel_core.specs.Step.{waiting}
@@ -20,7 +22,7 @@ use Rattle.lwc_base.specs.declared.descriptor.TheConstants.{SLOTS}
 use Rattle.lwc_base.specs.declared.fault.ThreadStatus.TheVariants.{Running}
 use Rattle.lwc_base.specs.declared.key.Key.{Key}
 use Rattle.lwc_base.specs.declared.key.Key.TheVariants.{Page, Slot, Cred}
-use Rattle.lwc_base.specs.declared.limits.TheConstants.{MOST_CONTEXTS, MOST_GROUPS, MOST_JOBS, MOST_PAGES}
+use Rattle.lwc_base.specs.declared.limits.TheConstants.{MOST_CONTEXTS, MOST_GROUPS, MOST_JOBS}
 use Rattle.lwc_base.specs.declared.name.Name.{Name}
 use Rattle.lwc_base.specs.declared.name.Tag.{Tag}
 use Rattle.lwc_base.specs.declared.page.PageValue.{PageValue}
@@ -99,14 +101,14 @@ first_thread budget t entry = record {
 unfoldable pub first_threads : ℕ → List ℕ → List Thread
 first_threads budget entries = map (λ e. first_thread budget e.0 e.1) (enumerate_from 0 entries)
 
--- the size of a kernel's world
-abbrev pub world_size : ℕ → WorldSize
-world_size frames = record {
+-- the size of a kernel's world: as many pages as the image's form has
+abbrev pub world_size : Form → ℕ → WorldSize
+world_size form frames = record {
   frames = frames;
   contexts = MOST_CONTEXTS;
   groups = MOST_GROUPS;
   jobs = MOST_JOBS;
-  pages = MOST_PAGES;
+  pages = pages_of form;
 }
 
 -- this number of contexts and tags counted, and no groups
@@ -114,17 +116,18 @@ abbrev pub counted : ℕ → ℕ → Counters
 counted contexts tags = record { contexts = contexts; groups = 0; tags = tags }
 
 -- the world with this one context, which job 0 has named; job 0 has taken this number of tags
-unfoldable pub world_with : ℕ → ℕ → Context → World
-world_with frames tags x = record {
+unfoldable pub world_with : Form → ℕ → ℕ → Context → World
+world_with form frames tags x = record {
   contexts = fm.insert fm.empty first_name x;
   groups = fm.empty;
   next = λ job. if job == 0 then counted 1 tags else counted 0 0;
-  size = world_size frames;
+  size = world_size form frames;
 }
 
 -- the world of a run's start: its one context, in which each page has a tag of its own
 unfoldable pub start_world : Image → ℕ → World
-start_world image frames = world_with frames (length image.pages) (first_context image image.pages SLOTS)
+start_world image frames =
+    world_with image.form frames (length image.pages) (first_context image image.pages SLOTS)
 
 -- what is under each key of a home: what is under the first context's, but slots 0 and 1 are empty
 abbrev pub home_value : Image → (k : Key) → ValueOf k
@@ -152,7 +155,7 @@ world_of image frames workers contexts = record {
   contexts = contexts;
   groups = fm.empty;
   next = λ job. if job == 0 then counted (workers + 1) (length image.pages) else counted 0 0;
-  size = world_size frames;
+  size = world_size image.form frames;
 }
 
 -- the world of a serve's start as it is built: the first context, and this number of homes
@@ -201,4 +204,4 @@ start inputs = record {
 -- the world of a start as it is built: with this number of pages stored, and the slots below a number filled
 unfoldable pub world_so_far : Image → ℕ → ℕ → ℕ → World
 world_so_far image frames pages slots =
-    world_with frames pages (first_context image (take pages image.pages) slots)
+    world_with image.form frames pages (first_context image (take pages image.pages) slots)

@@ -5,6 +5,7 @@ ghost use Rattle.kernel_core.specs.Start as spec;
 ghost use Rattle.kernel_core.specs.Kernel.{AreRequests};
 ghost use Rattle.kernel_core.specs.Settings.{IsJob};
 ghost use Rattle.lwc_base.specs.Channels.{opened};
+ghost use Rattle.lwc_base.specs.Lending.{descriptor_of};
 ghost use Rattle.lwc_base.specs.declared.descriptor.TheConstants.{SLOTS};
 ghost use Rattle.lwc_base.specs.declared.limits.TheConstants.{MOST_FRAMES, MOST_THREADS};
 
@@ -14,9 +15,8 @@ use crate::thread::Thread;
 use arrayvec::ArrayVec;
 use guest_image::{Image, SlotImage};
 use lwc_base::{
-    Channels, Descriptor, FileImage, MOST_CONTEXTS, MOST_GROUPS, MOST_JOBS, MOST_PAGES, Name,
-    OutOfMemory, PAGE_BYTES, Range, Regs, Requests, SLOTS, Sequence, Spec, StoreFault,
-    ThreadStatus,
+    Channels, FileImage, Lent, MOST_CONTEXTS, MOST_GROUPS, MOST_JOBS, Name, OutOfMemory,
+    PAGE_BYTES, Range, Regs, Requests, SLOTS, Sequence, Spec, StoreFault, ThreadStatus,
 };
 use std::alloc::Global;
 use world_face::{World, WorldSize};
@@ -204,8 +204,8 @@ fn put_home<W: World>(world: &mut W, image: &Image, t: u32) -> Result<(), OutOfM
 {
     let entry = Regs::fresh(u64::from(image.entries.as_slice()[0]));
     let home = world.clone_context(FIRST, &Spec::empty(), 0, &entry)?;
-    world.set_slot(home, 1, Descriptor::Empty);
-    world.set_slot(home, 0, Descriptor::Empty);
+    world.set_slot(home, 1, Lent::Empty);
+    world.set_slot(home, 0, Lent::Empty);
     Ok(())
 }
 
@@ -224,7 +224,7 @@ fn start_world<W: World>(alloc: Global, image: &Image, frames: u32) -> Result<W,
             contexts: MOST_CONTEXTS,
             groups: MOST_GROUPS,
             jobs: MOST_JOBS,
-            pages: MOST_PAGES,
+            pages: image.form.pages(),
         },
     )?;
     let entry = image.entries.as_slice()[0];
@@ -313,18 +313,18 @@ fn put_slot<W: World>(world: &mut W, image: &Image, n: u8)
 
 /// What is in slot n at the start.
 #[tactic(auto, unfolding(crate::specs::Start::first_slot))]
-fn first_slot(slots: &[SlotImage], n: u8) -> Descriptor
-    ensures { result ≡ spec.first_slot slots.now n }
+fn first_slot(slots: &[SlotImage], n: u8) -> Lent<'_>
+    ensures { descriptor_of result ≡ spec.first_slot slots.now n }
 {
     if n < CONSOLES {
-        return Descriptor::Console;
+        return Lent::Console;
     }
     match slot_of(slots, n) {
-        Some(slot) => Descriptor::File {
+        Some(slot) => Lent::File {
             file: slot.file,
             at: 0,
         },
-        None => Descriptor::Empty,
+        None => Lent::Empty,
     }
 }
 

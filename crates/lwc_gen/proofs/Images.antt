@@ -1,14 +1,16 @@
 -- The generated server is an image.
-use Rattle.std.proofs.Common.{◌≡◌, ◌-◌, ◌<◌, ℕ, zero, suc, Bool, true, false, ◌&&◌, List, [], ◌∷◌, get_or, length, refl, sym, subst, ◌∙◌, arith, length-append}
+use Rattle.std.proofs.Common.{◌≡◌, ◌-◌, ◌<◌, ℕ, zero, suc, Bool, true, ◌&&◌, List, [], ◌∷◌, get_or, length, refl, sym, subst, ◌∙◌, arith, length-append}
 use lib.ListN.{length-replicate}
 use Rattle.std.specs.Prelude.{All}
 use Rattle.std.specs.Int.{to_le_bytes, w64}
 use Rattle.std.proofs.lemmas.List.FromFn.{get_or-map-range_with_len, length-map-range_with_len}
 use Rattle.guest_image.specs.Limits.{ArePages, IsImage, page_numbers, stays_inside}
 use Rattle.guest_image.specs.Numbers.{ranges, ranges_after, rising_after}
+use Rattle.guest_image.specs.declared.image.Form.TheVariants.{One}
 use Rattle.guest_image.specs.declared.image.PageImage.{PageImage}
 use Rattle.guest_isa.specs.Instructions.{IsText, is_instruction}
 use Rattle.lwc_base.specs.Pages.{zero_bytes}
+use Rattle.lwc_base.specs.declared.limits.TheConstants.{PAGES_OF_FORM_ONE}
 use Rattle.lwc_base.specs.declared.page.TheConstants.{PAGE_BYTES}
 use Rattle.lwc_gen.specs.Generated.{numbered_page, server}
 use Rattle.lwc_gen.specs.declared.generating.TheConstants.{PAGES}
@@ -40,10 +42,10 @@ unfolding zero_bytes
 page_whole p = length-append (to_le_bytes w64 p) (zero_bytes (PAGE_BYTES - 8)) ∙ omega (arith, length-replicate {A = ℕ} (PAGE_BYTES - 8) 0)
 
 -- the pages are those of an image
-pages_are : ArePages server.pages
+pages_are : ArePages One server.pages
 unfolding rising_after ranges_after
 pages_are = record {
-  numbers = λ k d below. subst (λ (p : PageImage). p.number < 1024) (sym (at k d below)) (omega (arith, inside k below));
+  numbers = λ k d below. subst (λ (p : PageImage). p.number < PAGES_OF_FORM_ONE) (sym (at k d below)) (omega (arith, inside k below));
   rise = refl;
   ranges = let one : ranges (page_numbers server.pages) ≡ 1 = refl in omega (arith, one);
   whole = λ k d below. subst (λ (p : PageImage). length p.bytes ≡ PAGE_BYTES) (sym (at k d below)) (page_whole k);

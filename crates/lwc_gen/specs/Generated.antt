@@ -2,6 +2,7 @@
 use Rattle.std.specs.Prelude.{ℕ, ◌+◌, ◌*◌, ◌-◌, ◌++◌, List, [], ◌∷◌, map}
 use Rattle.std.specs.Int.{to_le_bytes, w64}
 use Rattle.std.specs.List.{range_with_len}
+use Rattle.guest_image.specs.declared.image.Form.TheVariants.{One}
 use Rattle.guest_image.specs.declared.image.Image.{Image}
 use Rattle.guest_image.specs.declared.image.PageImage.{PageImage}
 use Rattle.kernel_core.specs.Start.{Inputs}
@@ -14,10 +15,11 @@ use Rattle.lwc_gen.specs.declared.handler.TheConstants.{HANDLER}
 abbrev pub numbered_page : ℕ → PageImage
 numbered_page p = record { number = p; bytes = to_le_bytes w64 p ++ zero_bytes (PAGE_BYTES - 8) }
 
--- the server: the handler, PAGES pages from 0 on, each with its number, and one thread from the first
+-- the server, of form 1: the handler, PAGES pages from 0 on, each with its number, and one thread from the first
 -- instruction on
 abbrev pub server : Image
 server = record {
+  form = One;
   text = HANDLER;
   uid = 0;
   pages = map numbered_page (range_with_len 0 PAGES);

@@ -6,7 +6,7 @@ ghost use Rattle.lwc_base.specs.Pages.{zero_bytes};
 ghost use Rattle.lwc_gen.specs.Generated as spec;
 
 use crate::handler::HANDLER;
-use guest_image::{Image, PageImage};
+use guest_image::{Form, Image, PageImage};
 use guest_isa::Text;
 use kernel_core::{Job, Settings};
 use lwc_base::{OutOfMemory, PAGE_BYTES, PageBytes, Requests, Sequence};
@@ -33,6 +33,7 @@ pub fn generate(alloc: Global, number: u32) -> Result<(Image, Requests), OutOfMe
     ensures requests { IfOk result (λ g. g.1 ≡ spec.requests_of number) }
 {
     let image = Image {
+        form: Form::One,
         text: handler(alloc)?,
         uid: 0,
         pages: numbered_pages(alloc)?,

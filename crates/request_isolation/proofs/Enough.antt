@@ -5,6 +5,9 @@ use Rattle.std.specs.List.{list_any}
 use Rattle.std.proofs.Math.Nat.{mul-le-mul_right}
 use Rattle.std.proofs.lemmas.Bool.{cases_eq, eqb-true, false≢true, or_cases}
 use Rattle.std.proofs.lemmas.Bool.Decides.{nat_tests}
+use Rattle.guest_image.specs.Limits.{pages_of}
+use Rattle.guest_image.specs.declared.image.Form.{Form}
+use Rattle.guest_image.specs.declared.image.Form.TheVariants.{One, Two}
 use Rattle.guest_image.specs.Limits.{IsImage}
 use Rattle.guest_image.specs.declared.image.Image.{Image}
 use Rattle.guest_machine.specs.Advances.{advanced}
@@ -43,6 +46,21 @@ use Rattle.job_view.proofs.Counting.{is_in_list}
 use Rattle.lwc_base.proofs.Life.{or_right}
 use Rattle.kernel_core.proofs.Worlds.{few_parting}
 
+-- ample frames are more for a greater budget
+pub ample-rises : (form : Form) (j k : ℕ) → j ≤ k → 2 * (j + 1) * pages_of form ≤ 2 * (k + 1) * pages_of form
+ample-rises One j k few = omega (arith, few)
+ample-rises Two j k few = omega (arith, few)
+
+-- they are enough for the pages of an image
+pub least_ample : (form : Form) (budget : ℕ) → pages_of form ≤ 2 * (budget + 1) * pages_of form
+least_ample One budget = omega arith
+least_ample Two budget = omega arith
+
+-- two frames are left beside all pages of this number of contexts and groups
+frames_to_spare : (form : Form) (names k : ℕ) → names ≤ 2 * k + 1 → names * pages_of form + 2 ≤ 2 * (k + 1) * pages_of form
+frames_to_spare One names k few = omega (arith, few)
+frames_to_spare Two names k few = omega (arith, few)
+
 module _ (image : Image) where
   abbrev home : Home
   home = home_for image
@@ -77,15 +95,16 @@ module _ (image : Image) where
       omega (arith, fewer, least)
 
   -- with ample frames no store finds too few
-  pub never_wants : (e : Environment) (y : Thread) (t : ℕ) (next : Next) (k frames : ℕ) → KeepsJobs home e.world → e.world.size ≡ world_size frames → names_of e.world ≤ 2 * k + 1 → ample k ≤ frames → WantsFrames e y next → ⊥
+  pub never_wants : (e : Environment) (y : Thread) (t : ℕ) (next : Next) (k frames : ℕ) → KeepsJobs home e.world → e.world.size ≡ world_size image.form frames → names_of e.world ≤ 2 * k + 1 → ample image k ≤ frames → WantsFrames e y next → ⊥
   never_wants e y t next k frames jobs size names enough wants =
       let act = full_act home e y t jobs next wants in
       let few = few_parting e.world act.name act.piece act.short in
       let full = act.full in
       let most = used_names e.world in
       let frames_are : e.world.size.frames ≡ frames = ap (λ (z : WorldSize). z.frames) size in
-      let pages : names_of e.world * e.world.size.pages ≡ names_of e.world * 1024 = ap (λ (z : WorldSize). names_of e.world * z.pages) size in
-      omega (arith, full, few, most, names, enough, frames_are, pages)
+      let pages : names_of e.world * e.world.size.pages ≡ names_of e.world * pages_of image.form = ap (λ (z : WorldSize). names_of e.world * z.pages) size in
+      let spare = frames_to_spare image.form (names_of e.world) k names in
+      omega (arith, full, few, most, spare, enough, frames_are, pages)
 
   -- with more frames jobs keep what is their own, and see the same
   jobs_more : (w : World) → KeepsJobs home w → KeepsJobs home (more w)

@@ -6,7 +6,7 @@ use Rattle.std.specs.List.{enumerate_from, find}
 use Rattle.std.specs.Option.{option_map, option_map_or}
 use Rattle.std.proofs.lemmas.Bool.{false≢true}
 use Rattle.std.proofs.lemmas.Bool.Decides.{nat_tests}
-use Rattle.guest_image.specs.Limits.{IsImage}
+use Rattle.guest_image.specs.Limits.{IsImage, pages_of}
 use Rattle.guest_image.specs.declared.image.Image.{Image}
 use Rattle.guest_image.specs.declared.image.PageImage.{PageImage}
 use Rattle.guest_image.specs.declared.image.SlotImage.{SlotImage}
@@ -168,22 +168,22 @@ module _ (image : Image) where
     no_group g is = let none : is_some (fm.get (fm.empty {K = Name} {X = Group} {R = name_cmp}) g) ≡ false = ap is_some (fm.get-empty name_cmp g) in false≢true (sym none ∙ is)
 
     -- an image's page is within the limit
-    found_page : (a : ℕ) (pages : List PageImage) (p : ℕ) (e : ℕ × PageImage) → find (λ (e : ℕ × PageImage). eqb e.1.number p) (enumerate_from a pages) ≡ Some e → All (λ (q : PageImage). q.number < 1024) pages → p < 1024
-    found_page a [] p e is small = cc
-    found_page a (q ∷ qs) p e is small = by_test (eqb q.number p) refl is (λ same. found_page (a + 1) qs p e same (λ k d within. small (suc k) d (omega (arith, within))))
+    found_page : (most a : ℕ) (pages : List PageImage) (p : ℕ) (e : ℕ × PageImage) → find (λ (e : ℕ × PageImage). eqb e.1.number p) (enumerate_from a pages) ≡ Some e → All (λ (q : PageImage). q.number < most) pages → p < most
+    found_page most a [] p e is small = cc
+    found_page most a (q ∷ qs) p e is small = by_test (eqb q.number p) refl is (λ same. found_page most (a + 1) qs p e same (λ k d within. small (suc k) d (omega (arith, within))))
       where
         by_test : (b : Bool) → eqb q.number p ≡ b → cond b (Some (a, q)) (find (λ (e : ℕ × PageImage). eqb e.1.number p) (enumerate_from (a + 1) qs)) ≡ Some e →
-            (find (λ (e : ℕ × PageImage). eqb e.1.number p) (enumerate_from (a + 1) qs) ≡ Some e → p < 1024) → p < 1024
-        by_test true here same later = let low : q.number < 1024 = small 0 q (omega arith) in grind (arith, nat_tests)
+            (find (λ (e : ℕ × PageImage). eqb e.1.number p) (enumerate_from (a + 1) qs) ≡ Some e → p < most) → p < most
+        by_test true here same later = let low : q.number < most = small 0 q (omega arith) in grind (arith, nat_tests)
         by_test false other same later = later same
 
     tag_found : (p : ℕ) (tag : Tag) (found : Option (ℕ × PageImage)) → find (λ (e : ℕ × PageImage). eqb e.1.number p) (enumerate_from 0 image.pages) ≡ found →
         tag_at (option_map (λ (e : ℕ × PageImage). Data (image_tag e.0) e.1.bytes) found) ≡ Some tag → IsImage image →
-        (p < 1024) × (tag.job ≡ 0) × (tag_of (option_map (λ (e : ℕ × PageImage). Data (image_tag e.0) e.1.bytes) found) ≡ tag ∷ [])
+        (p < pages_of image.form) × (tag.job ≡ 0) × (tag_of (option_map (λ (e : ℕ × PageImage). Data (image_tag e.0) e.1.bytes) found) ≡ tag ∷ [])
     tag_found p tag None is same image_is = cc
     tag_found p tag (Some e) is same image_is =
         let one : image_tag e.0 ≡ tag = cc in
-        (found_page 0 image.pages p e is image_is.pages.numbers, ap (λ (t : Tag). t.job) (sym one), ap (λ (t : Tag). t ∷ []) one)
+        (found_page (pages_of image.form) 0 image.pages p e is image_is.pages.numbers, ap (λ (t : Tag). t.job) (sym one), ap (λ (t : Tag). t ∷ []) one)
 
     pub start_keeps : 1 ≤ count → IsImage image → KeepsJobs (home_for image) (serve_world image frames count)
     unfolding first_page home_context world_of homes_map
@@ -204,7 +204,7 @@ module _ (image : Image) where
         live_at : is_live (serve_world image frames count) (home_of 0) ≡ true
         live_at = ap is_some (get_home count (home_of 0)) ∙ ap (λ b. is_some (cond b (Some (home_context image)) None)) (at_home count 0 (omega (arith, some)))
 
-        size_is : (p : ℕ) → p < 1024 → p < (serve_world image frames count).size.pages
+        size_is : (p : ℕ) → p < pages_of image.form → p < (serve_world image frames count).size.pages
         size_is p small = small
 
   -- a request that has not begun is seen alike at each start
@@ -214,7 +214,7 @@ module _ (image : Image) where
     contexts = λ k. both k i;
     groups = λ k. fm.get (fm.empty {K = Name} {X = Group} {R = name_cmp}) (record { job = r + 1; k = k });
     next = counters i;
-    pages = 1024;
+    pages = pages_of image.form;
   }
     where
       both : (k : ℕ) → option_map (seen_by t) (fm.get (homes_map count) (record { job = r + 1; k = k })) ≡ option_map (seen_by 0) (fm.get (homes_map also) (record { job = r + 1; k = k }))

@@ -38,7 +38,7 @@ use Rattle.request_isolation.proofs.Holds.{Holds, begun_few, few_after, reply_co
 use Rattle.request_isolation.proofs.Recorded.{recorded_run, told_nobody, told_written}
 use Rattle.request_isolation.proofs.Roots.{Placed}
 use Rattle.request_isolation.proofs.Serves.{some_worker}
-use Rattle.request_isolation.proofs.Enough.{alike_bound, never_wants, not_here}
+use Rattle.request_isolation.proofs.Enough.{alike_bound, ample-rises, least_ample, never_wants, not_here}
 use Rattle.request_isolation.proofs.Bounds.{used_by}
 use Rattle.request_isolation.proofs.Extra.{acted_is, acted_most, before_most, max_first, max_second}
 use Rattle.request_isolation.proofs.Reached.{IsServedBy, of_live}
@@ -196,9 +196,9 @@ module _ (inputs : Inputs) (workers : ℕ) (can : CanOpen inputs) (serve : input
         by_job jobs.Run is may = cc
         by_job (jobs.Serve count) is may = omega (arith, many_alone, low, may.few)
 
-    module _ (enough : ample inputs.settings.budget ≤ frames) where
+    module _ (enough : ample inputs.image inputs.settings.budget ≤ frames) where
       fits_alone : length inputs.image.pages ≤ frames
-      fits_alone = omega (arith, enough, can.image.page_count, can.settings.budget.0)
+      fits_alone = omega (arith, enough, can.image.page_count, least_ample inputs.image.form inputs.settings.budget)
 
       holds_alone : Holds inputs.image 1 inputs.settings.budget (r + 1) by_itself alone_serve
       unfolding start start_alone
@@ -214,7 +214,7 @@ module _ (inputs : Inputs) (workers : ℕ) (can : CanOpen inputs) (serve : input
     unfolding start start_alone
     waits_alone = some_first (first_entry inputs.image) 1 (omega arith)
 
-    size_alone : by_itself.environment.world.size ≡ world_size frames
+    size_alone : by_itself.environment.world.size ≡ world_size inputs.image.form frames
     unfolding start start_alone world_of
     size_alone = refl
 
@@ -276,7 +276,7 @@ module _ (inputs : Inputs) (workers : ℕ) (can : CanOpen inputs) (serve : input
       ]
 
   -- a request by itself with one number of frames and with another, both ample
-  module _ (f g r : ℕ) (low : r < length inputs.requests) (enough_f : ample inputs.settings.budget ≤ f) (enough_g : ample inputs.settings.budget ≤ g) where
+  module _ (f g r : ℕ) (low : r < length inputs.requests) (enough_f : ample inputs.image inputs.settings.budget ≤ f) (enough_g : ample inputs.image inputs.settings.budget ≤ g) where
     abbrev StageFor : Machine → Serve → Type 0
     StageFor m s =
         Stage inputs.image inputs.settings.budget r (by_itself g r low) (alone_serve g r low) (holds_alone g r low enough_g) refl (none_told g r low) (waits_alone g r low)
@@ -284,7 +284,7 @@ module _ (inputs : Inputs) (workers : ℕ) (can : CanOpen inputs) (serve : input
 
     record Pair (j : ℕ) (m : Machine) (s : Serve) : Type 0 where
       stage : StageFor m s
-      size : m.environment.world.size ≡ world_size f
+      size : m.environment.world.size ≡ world_size inputs.image.form f
       names : names_of m.environment.world ≤ 2 * j + 1
 
     pair_start : Pair 0 (by_itself f r low) (alone_serve f r low)
@@ -306,9 +306,9 @@ module _ (inputs : Inputs) (workers : ℕ) (can : CanOpen inputs) (serve : input
               let left = served.left in
               let some = served.some in
               record {
-                here = never_wants inputs.image m.environment (with_regs x (advanced m.text x.regs).after) 0 (advanced m.text x.regs).next j f holds.jobs pair.size pair.names (omega (arith, few, enough_f));
+                here = never_wants inputs.image m.environment (with_regs x (advanced m.text x.regs).after) 0 (advanced m.text x.regs).next j f holds.jobs pair.size pair.names (omega (arith, ample-rises inputs.image.form j inputs.settings.budget few, enough_f));
                 alone = never_wants inputs.image (by_one (by_itself g r low) k).environment (with_regs x (advanced m.text x.regs).after) 0 (advanced m.text x.regs).next k g served.like.second served.alone.fact.size served.alone.fact.names
-                    (omega (arith, left, some, enough_g));
+                    (omega (arith, ample-rises inputs.image.form k inputs.settings.budget (omega (arith, left, some)), enough_g));
               })
               made pair.stage;
           size = adds.size ∙ pair.size;
@@ -338,17 +338,17 @@ module _ (inputs : Inputs) (workers : ℕ) (can : CanOpen inputs) (serve : input
   one_option (Some x) b there back = sym (there x refl)
 
   -- each ample number of frames gives the same
-  pub ample_same : (frames r : ℕ) → r < length inputs.requests → ample inputs.settings.budget ≤ frames →
+  pub ample_same : (frames r : ℕ) → r < length inputs.requests → ample inputs.image inputs.settings.budget ≤ frames →
       alone_in frames inputs.image inputs.settings.budget r (bytes_in inputs.requests r) ≡ alone inputs.image inputs.settings.budget r (bytes_in inputs.requests r)
   ample_same frames r low enough =
-      one_option _ _ (told_too frames (ample inputs.settings.budget) r low enough (omega arith)) (told_too (ample inputs.settings.budget) frames r low (omega arith) enough)
+      one_option _ _ (told_too frames (ample inputs.image inputs.settings.budget) r low enough (omega arith)) (told_too (ample inputs.image inputs.settings.budget) frames r low (omega arith) enough)
 
   -- with the frames that the requests by themselves take
   module _ (enough : HasFrames inputs) where
     abbrev frames_alone : ℕ
-    frames_alone = ample inputs.settings.budget
+    frames_alone = ample inputs.image inputs.settings.budget
 
-    enough_alone : ample inputs.settings.budget ≤ frames_alone
+    enough_alone : ample inputs.image inputs.settings.budget ≤ frames_alone
     enough_alone = omega arith
 
     abbrev most : ℕ
@@ -442,7 +442,7 @@ module _ (inputs : Inputs) (workers : ℕ) (can : CanOpen inputs) (serve : input
           let bound : used (advance_outcome guest_calls 0 a.environment x (advanced m.text x.regs)).environment.world ≤ length inputs.image.pages + most =
           subst (λ (text : List Instr). used (advance_outcome guest_calls 0 a.environment x (advanced text x.regs)).environment.world ≤ length inputs.image.pages + most) text_is (omega (arith, acted, few, ap used world)) in
           let spared = never_wants inputs.image a.environment (with_regs x (advanced m.text x.regs).after) 0 (advanced m.text x.regs).next k frames_alone served.like.second served.alone.fact.size served.alone.fact.names
-          (omega (arith, left, some)) in
+          (ample-rises inputs.image.form k inputs.settings.budget (omega (arith, left, some))) in
           record {
             here = not_here inputs.image can.image workers inputs.settings.budget (length inputs.requests) m s holds t x found running r job a sa served.alone.holds found_a like served.channels
                 most inputs.settings.frames spared bound (λ j by apart. others j by) all.size frames_are;

@@ -240,7 +240,7 @@ module _ (image : Image) (budget : ℕ) where
     abbrev alone_at : ℕ → Machine
     alone_at k = by_one start k
 
-    module _ (frames : ℕ) (size_first : start.environment.world.size ≡ world_size frames) (names_first : names_of start.environment.world ≤ 1) where
+    module _ (frames : ℕ) (size_first : start.environment.world.size ≡ world_size image.form frames) (names_first : names_of start.environment.world ≤ 1) where
       -- what a request is told by itself
       abbrev pub last_told : Option Finished
       last_told = reply_of (alone_at (budget + 1)) r
@@ -250,7 +250,7 @@ module _ (image : Image) (budget : ℕ) where
         pub found : slice_get a.threads 0 ≡ Some thread
         pub none : get_or sa.replies r None ≡ None
         pub begun : sa.next ≡ r + 1
-        pub size : a.environment.world.size ≡ world_size frames
+        pub size : a.environment.world.size ≡ world_size image.form frames
         pub names : names_of a.environment.world ≤ 2 * k + 1
 
       -- a worker serves the request as by itself after a number of steps
@@ -335,7 +335,7 @@ module _ (image : Image) (budget : ℕ) where
             (sa : Serve) → Holds image 1 budget (r + 1) (alone_at k) sa → (xa : Thread) (also : ℕ) (after_a : AfterStep) (now_a : Serve) → slice_get (alone_at k).threads 0 ≡ Some xa → How (alone_at k) sa 0 xa also after_a now_a →
             after.thread ≡ after_a.thread → after.thread.status ≡ Running → after.thread.job ≡ r + 1 → 1 ≤ after.thread.budget → after.thread.budget + suc k ≡ budget + 1 →
             now_a.next ≡ r + 1 → get_or now_a.replies r None ≡ None → LooksAlike (home_for image) (r + 1) t 0 after.environment.world after_a.environment.world →
-            channel_view r after.environment.channels ≡ channel_view r after_a.environment.channels → (alone_at k).environment.world.size ≡ world_size frames →
+            channel_view r after.environment.channels ≡ channel_view r after_a.environment.channels → (alone_at k).environment.world.size ≡ world_size image.form frames →
             names_of (alone_at k).environment.world ≤ 2 * k + 1 → IsServed (after_outcome m t (Some after)) (suc k)
         joins k x acted after now found how sa holds_a xa also after_a now_a found_a how_a threads runs job some left begun none like channels size names =
             let a = alone_at k in

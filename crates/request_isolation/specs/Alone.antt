@@ -1,13 +1,13 @@
 -- A request by itself: what it is replied when no other request is served.
 use Rattle.std.specs.Prelude.{ℕ, ◌+◌, ◌*◌, ◌++◌, List, [], ◌∷◌, Option, replicate}
 use Rattle.std.specs.Option.{option_map}
+use Rattle.guest_image.specs.Limits.{pages_of}
 use Rattle.guest_image.specs.declared.image.Image.{Image}
 use Rattle.kernel_core.specs.Machine as machine
 use Rattle.kernel_core.specs.Machine.{Machine, reply_of}
 use Rattle.kernel_core.specs.Runs.{run}
 use Rattle.kernel_core.specs.Start.{Inputs, start}
 use Rattle.kernel_core.specs.declared.settings.Job.TheVariants.{Serve}
-use Rattle.lwc_base.specs.declared.limits.TheConstants.{MOST_PAGES}
 use Rattle.snapshot_host.specs.declared.finishing.Finished.{Finished}
 
 -- a serve of one worker with this number of frames, in which the request comes last, after empty ones
@@ -33,8 +33,8 @@ abbrev pub steps_alone : ℕ → List ℕ
 steps_alone budget = replicate (budget + 1) 0
 
 -- frames of which a request never wants more, since a step makes at most a context and a group
-abbrev pub ample : ℕ → ℕ
-ample budget = 2 * (budget + 1) * MOST_PAGES
+abbrev pub ample : Image → ℕ → ℕ
+ample image budget = 2 * (budget + 1) * pages_of image.form
 
 -- what is recorded of the request by itself, with this number of frames
 abbrev pub alone_in : ℕ → Image → ℕ → ℕ → List ℕ → Option Finished
@@ -43,4 +43,4 @@ alone_in frames image budget r bytes =
 
 -- what is recorded of the request by itself
 abbrev pub alone : Image → ℕ → ℕ → List ℕ → Option Finished
-alone image budget r bytes = alone_in (ample budget) image budget r bytes
+alone image budget r bytes = alone_in (ample image budget) image budget r bytes

@@ -50,7 +50,7 @@ most_used m (t ∷ ts) = max (frames_of m) (max (used (acted_world m t)) (most_u
 -- the most frames that the request by itself takes beside the image's pages
 unfoldable pub extra : Image → ℕ → ℕ → List ℕ → ℕ
 extra image budget r bytes =
-    most_used (start_alone image (ample budget) budget r bytes) (steps_alone budget) - length image.pages
+    most_used (start_alone image (ample image budget) budget r bytes) (steps_alone budget) - length image.pages
 
 -- the most that one of these requests takes beside the image's pages; the first of them has this number
 abbrev pub greatest_extra : Image → ℕ → ℕ → List (List ℕ) → ℕ

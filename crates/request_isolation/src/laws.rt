@@ -68,7 +68,7 @@ pub fn no_store_of_a_serve_finds_too_few_frames()
 pub fn ample_frames_are_ample()
     ensures { (inputs : Inputs) (workers frames r : ℕ) → CanOpen inputs →
         inputs.settings.job ≡ jobs.Serve workers → r < length inputs.requests →
-        ample inputs.settings.budget ≤ frames →
+        ample inputs.image inputs.settings.budget ≤ frames →
         alone_in frames inputs.image inputs.settings.budget r (bytes_in inputs.requests r)
         ≡ alone inputs.image inputs.settings.budget r (bytes_in inputs.requests r) }
 {}

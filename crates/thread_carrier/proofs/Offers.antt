@@ -2,13 +2,11 @@
 use Rattle.std.proofs.Common.{◌≡◌, ◌+◌, ◌<◌, ◌==◌, ℕ, suc, cond, List, [], ◌∷◌, ◌++◌, length, get_or, map, refl, ap, ◌∙◌, arith, length-append}
 use Rattle.std.proofs.lemmas.Bool.Decides.{nat_tests}
 use Rattle.std.proofs.lemmas.List.Sums.{sum_by-append}
+use Rattle.kernel_core.proofs.Others.{steps-one}
 use Rattle.kernel_core.specs.Histories.{GoesOn, steps_by}
 
 steps-append : (t : ℕ) (xs ys : List ℕ) → steps_by t (xs ++ ys) ≡ steps_by t xs + steps_by t ys
 steps-append t xs ys = sum_by-append (λ s. cond (s == t) 1 0) xs ys
-
-steps-one : (t : ℕ) → steps_by t (t ∷ []) ≡ 1
-steps-one t = grind (arith, nat_tests)
 
 -- a history that goes on has one more step of the thread
 pub one_more : (t : ℕ) (before after : List ℕ) → GoesOn t before after → steps_by t after ≡ steps_by t before + 1

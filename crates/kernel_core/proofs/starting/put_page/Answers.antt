@@ -1,14 +1,15 @@
 use Rattle.std.proofs.Common.{◌*◌, Err, ap, arith, length, refl}
+use Rattle.guest_image.proofs.Lifted.{most_pages}
 use Rattle.kernel_core.proofs.Building.{few_ranges, first_world, mapped_world, not_absent, not_full, not_read_only, number_below, page_put}
 use Rattle.kernel_core.proofs.starting.put_page.Goals as goal
 
 pub map-requires-clause-live : goal.map-requires-clause-live
 map-requires-clause-live g c =
-    (first_world _ c.requires.image _ _ _ _ c.requires.before (omega (arith, c.requires.within, c.requires.image.page_count))).live
+    (first_world _ c.requires.image _ _ _ _ c.requires.before (omega (arith, c.requires.within, c.requires.image.page_count, most_pages c.args.image.now.form))).live
 
 pub map-requires-clause-within : goal.map-requires-clause-within
 map-requires-clause-within g c =
-    let first = first_world _ c.requires.image _ _ _ _ c.requires.before (omega (arith, c.requires.within, c.requires.image.page_count)) in
+    let first = first_world _ c.requires.image _ _ _ _ c.requires.before (omega (arith, c.requires.within, c.requires.image.page_count, most_pages c.args.image.now.form)) in
     omega (arith, ap (λ size. size.pages) first.size, number_below _ c.requires.image _ _ c.get-page.ensures)
 
 pub map-requires-clause-few : goal.map-requires-clause-few
@@ -25,6 +26,7 @@ store-requires-clause-within g c =
       arith,
       ap (λ size. size.pages) first.size,
       number_below _ c.requires.image _ _ c.get-page.ensures,
+      most_pages c.args.image.now.form,
       c.from.ensures,
       c.as_slice.ensures.whole,
       ap length c.as_slice.ensures.bytes,

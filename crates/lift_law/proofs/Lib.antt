@@ -1,0 +1,17 @@
+pub mod Tables
+pub mod Wide
+pub mod Pages
+pub mod Counts
+pub mod Changes
+pub mod Ends
+pub mod Rows
+pub mod Whole
+pub mod Named
+pub mod Calls
+pub mod Plainly
+pub mod Staying
+pub mod Stepping
+pub mod Running
+pub mod Telling
+pub mod Starting
+pub mod Lifted

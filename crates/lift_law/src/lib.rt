@@ -1,0 +1,4 @@
+//! The law of lifted images: what a run is that meets no limit of pages.
+#![tactic(auto)]
+
+pub mod laws;
