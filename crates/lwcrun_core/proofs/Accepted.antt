@@ -108,6 +108,9 @@ asm_is_within a command e = let made = mapped_some commands.Asm (only_word a) co
 dis_is_within : (a : Arguments) (command : Command) → option_map commands.Dis (only_word a) ≡ Some command → IsWithinLimits command
 dis_is_within a command e = let made = mapped_some commands.Dis (only_word a) command e in subst IsWithinLimits made.2 tt
 
+lift_is_within : (a : Arguments) (command : Command) → option_map commands.Lift (only_word a) ≡ Some command → IsWithinLimits command
+lift_is_within a command e = let made = mapped_some commands.Lift (only_word a) command e in subst IsWithinLimits made.2 tt
+
 asked_is_within : (mode : List ℕ) (a : Arguments) (command : Command) → asked_in mode a ≡ Some command → IsWithinLimits command
 asked_is_within mode a command e =
     by_branch (bytes_eq mode (codes "replay")) (replay_with a a.third) _ command (replay_within a a.third command)
@@ -115,7 +118,8 @@ asked_is_within mode a command e =
     (by_branch (bytes_eq mode (codes "serve")) (serve_of a) _ command (serve_is_within a command)
     (by_branch (bytes_eq mode (codes "asm")) (option_map commands.Asm (only_word a)) _ command (asm_is_within a command)
     (by_branch (bytes_eq mode (codes "dis")) (option_map commands.Dis (only_word a)) _ command (dis_is_within a command)
-    (by_branch (bytes_eq mode (codes "gen")) (gen_of a) None command (gen_is_within a command) (not_none command)))))) e
+    (by_branch (bytes_eq mode (codes "gen")) (gen_of a) _ command (gen_is_within a command)
+    (by_branch (bytes_eq mode (codes "lift")) (option_map commands.Lift (only_word a)) None command (lift_is_within a command) (not_none command))))))) e
 
 -- the numbers of an accepted line are within their limits
 pub accepted_is_within : (words : List (List ℕ)) (command : Command) → command_of words ≡ Some command → IsWithinLimits command

@@ -1,12 +1,10 @@
 -- What the exit status of a call says, from how the call ended.
-use Rattle.std.proofs.Common.{◌≡◌, ◌≢◌, ◌⊎◌, ◌<◌, ◌≤◌, ◌+◌, inl, inr, ℕ, zero, suc, Bool, true, false, cond, List, [], ◌∷◌, ◌++◌, map, ap₂, Option, None, Some, Result, Ok, Err, length, refl, sym, subst, ap, ◌∙◌, arith, All}
-use Rattle.std.proofs.lemmas.Bool.{le-ltb, ltb-false}
+use Rattle.std.proofs.Common.{◌≡◌, ◌≢◌, ◌⊎◌, ◌<◌, ◌≤◌, ◌+◌, inl, inr, ℕ, zero, suc, List, [], ◌∷◌, ◌++◌, map, ap₂, Option, None, Some, Result, Ok, Err, length, refl, sym, subst, ap, ◌∙◌, arith, All}
 use Rattle.std.proofs.lemmas.List.Elements.{All-append, All-nil, All-same, All-weaker}
-use Rattle.std.specs.Prelude.{nat_lt}
 use Rattle.std.specs.List.{range_with_len}
 use Rattle.byte_reading.specs.Outcomes.{Refusal}
 use Rattle.guest_asm.specs.Drafts.{assembled}
-use Rattle.guest_image.specs.Limits.{IsImage}
+use Rattle.guest_image.specs.Limits.{IsImage, lifted}
 use Rattle.guest_image.specs.Reading.{image_at}
 use Rattle.guest_image.specs.Spelling.{spelling}
 use Rattle.guest_image.specs.declared.image.Image.{Image}
@@ -27,9 +25,8 @@ use Rattle.lwc_text.proofs.Steps.{is_read, is_schedule}
 use Rattle.request_isolation.proofs.Isolated.{never_full, recorded_alone}
 use Rattle.request_isolation.proofs.Serves.{each_reply, requests_stay}
 use Rattle.request_isolation.specs.Needs.{HasFrames}
-use Rattle.request_isolation.specs.Replies.{HasReply}
-use Rattle.snapshot_host.specs.declared.finishing.Finished.{Finished}
 use Rattle.kernel_core.specs.declared.settings.Settings.{Settings}
+use Rattle.lift_law.proofs.Lifted.{runs_lifted}
 use Rattle.lwc_base.specs.declared.limits.TheConstants.{MOST_IMAGE_BYTES, MOST_REQUEST_FILE_BYTES, MOST_SCHEDULE_BYTES, MOST_SOURCE_BYTES, MOST_STEPS}
 use Rattle.lwc_io.specs.Outside.{Fetch, FilesView, appended}
 use Rattle.lwc_text.specs.Requests.{IsRequestFile, requests_at}
@@ -41,7 +38,7 @@ use Rattle.lwcrun_core.specs.declared.status.ExitStatus.TheVariants as statuses
 use Rattle.lwcrun_core.specs.Calls.{AreContents, AreRequestsIn, CallEnded, FetchesNamed, FetchesPlan, FileFailed, Headline, IsFitting, IsNameIn, IsOrNoMemory, IsRejected, IsRunnable, IsUndisturbed, Names, NoFault, WroteServe, status_by}
 use Rattle.lwcrun_core.specs.Ends.{End, Outside, Ended, FetchFailed, IsUnhindered, IsUnwritten, NothingFailed, WriteFailed, end_by}
 use Rattle.lwcrun_core.specs.Ends as ends
-use Rattle.lwcrun_core.specs.Headline.{IsText, Work, after_image, after_schedule, after_server, asm_plan, dis_plan, gen_plan, inputs_of, plan_of, read_by, replay_plan, run_plan, serve_plan, text_of}
+use Rattle.lwcrun_core.specs.Headline.{IsText, Work, after_image, after_schedule, after_server, asm_plan, dis_plan, gen_plan, inputs_of, lift_plan, plan_of, read_by, replay_plan, run_plan, serve_plan, text_of}
 use Rattle.lwcrun_core.specs.Headline as works
 use Rattle.lwcrun_core.specs.Images.{bounded, bounded_requests_of, fitted, fitting_image_of, image_of, or_rejected, requests_of, schedule_of, serve_steps, source_of, then_tested}
 use Rattle.lwcrun_core.specs.Lines.{AreReplaySettings, AreServeSettings, Command, IsWithinLimits}
@@ -64,10 +61,13 @@ abbrev served : Settings → Image → List (List ℕ) → Plan Rejection Work
 served settings image asked = plans.Write (works.Running (inputs_of image asked settings))
 
 abbrev made : Image → Plan Rejection Work
-made image = plans.Write (works.Assembling image)
+made image = plans.Write (works.Spelling image)
 
 abbrev listed : Image → Plan Rejection Work
 listed image = plans.Write (works.Disassembling image)
+
+abbrev raised : Image → Plan Rejection Work
+raised image = plans.Write (works.Spelling (lifted image))
 
 -- the files that a plan reads are those that its command names
 
@@ -95,7 +95,7 @@ unfolding after_server
 reads_after_server files requests settings image q h = reads_by files (bounded_requests_of settings) MOST_REQUEST_FILE_BYTES requests (served settings image) q _ (λ is. is) (λ asked after. absurd after) h
 
 reads_names : (files : FileContents) (command : Command) (q : List ℕ) → Reads files (plan_of command) q → Names command q
-unfolding replay_plan run_plan serve_plan asm_plan dis_plan gen_plan
+unfolding replay_plan run_plan serve_plan asm_plan dis_plan gen_plan lift_plan
 reads_names files (commands.Replay image schedule requests settings) q h =
     reads_by files (fitting_image_of settings.frames) MOST_IMAGE_BYTES image (after_image schedule requests settings) q _ (λ is. inl is) (λ x after. inr (reads_after_image files schedule requests settings x q after)) h
 reads_names files (commands.Run image settings) q h = reads_by files (fitting_image_of settings.frames) MOST_IMAGE_BYTES image (ran settings) q _ (λ is. is) (λ x after. absurd after) h
@@ -104,6 +104,7 @@ reads_names files (commands.Serve image requests settings) q h =
 reads_names files (commands.Asm source) q h = reads_by files source_of MOST_SOURCE_BYTES source made q _ (λ is. is) (λ x after. absurd after) h
 reads_names files (commands.Gen number) q h = h
 reads_names files (commands.Dis image) q h = reads_by files image_of MOST_IMAGE_BYTES image listed q _ (λ is. is) (λ x after. absurd after) h
+reads_names files (commands.Lift image) q h = reads_by files image_of MOST_IMAGE_BYTES image raised q _ (λ is. is) (λ x after. absurd after) h
 
 are_known : (files : FileContents) (command : Command) (bytes : List ℕ → List ℕ) → AreContents files command bytes → AreKnown files (plan_of command) bytes
 are_known files command bytes h q reads = h q (reads_names files command q reads)
@@ -231,7 +232,7 @@ over_schedule bytes None settings image steps asked none = ap (λ a. Ok (works.R
 over_schedule bytes (Some requests) settings image steps asked is = over bytes _ asked (replayed settings image steps) (requests_accepted (bytes requests) asked is)
 
 runs : (bytes : List ℕ → List ℕ) (command : Command) → IsRunnable command bytes → (work : Work) × (outcome bytes (plan_of command) ≡ Ok work)
-unfolding replay_plan after_image run_plan serve_plan after_server asm_plan dis_plan gen_plan
+unfolding replay_plan after_image run_plan serve_plan after_server asm_plan dis_plan gen_plan lift_plan
 runs bytes (commands.Replay image schedule requests settings) (x, steps, asked, h) = (
   works.Replaying (inputs_of x asked settings) steps,
   over bytes _ x (after_image schedule requests settings) (fitting_accepted settings (bytes image) x h.guest)
@@ -245,9 +246,10 @@ runs bytes (commands.Serve image requests settings) (x, asked, h) = (
   over bytes _ x (after_server requests settings) (fitting_accepted settings (bytes image) x h.guest)
       ∙ over bytes _ asked (served settings x) (requests_bounded settings (bytes requests) asked (file_is_read (bytes requests) asked h.requested) h.few),
 )
-runs bytes (commands.Asm source) (x, is) = (works.Assembling x, over bytes _ x made (source_read (bytes source) x is))
+runs bytes (commands.Asm source) (x, is) = (works.Spelling x, over bytes _ x made (source_read (bytes source) x is))
 runs bytes (commands.Dis image) (x, is, spelled) = (works.Disassembling x, over bytes _ x listed (image_accepted (bytes image) x is spelled))
 runs bytes (commands.Gen number) runnable = (works.Generating number, refl)
+runs bytes (commands.Lift image) (x, is, spelled) = (works.Spelling (lifted x), over bytes _ x raised (image_accepted (bytes image) x is spelled))
 
 mapped_alike : {A : Type 0} (f g : ℕ → A) (from n : ℕ) → ((r : ℕ) → r < from + n → f r ≡ g r) → map f (range_with_len from n) ≡ map g (range_with_len from n)
 mapped_alike f g from zero same = refl
@@ -314,7 +316,7 @@ asked_of files (Some requests) settings image steps work bytes known h =
     (read.0, requests_found (bytes requests) read.0 read.1, work_is work _ read.3)
 
 headline_of : (o : Outside) (command : Command) (bytes : List ℕ → List ℕ) (work : Work) (text : List ℕ) → IsWithinLimits command → AreContents o.files.contents command bytes → LeadsTo o.files.contents (plan_of command) (Ok work) → IsText work text → o.out_after.taken ≡ appended o.out.taken text → Headline o command bytes
-unfolding replay_plan after_image run_plan serve_plan after_server asm_plan dis_plan gen_plan bounded_requests_of
+unfolding replay_plan after_image run_plan serve_plan after_server asm_plan dis_plan gen_plan lift_plan bounded_requests_of
 headline_of o (commands.Replay image schedule requests settings) bytes work text within known leads is taken =
     let files = o.files.contents in
     let read = leads_by files (fitting_image_of settings.frames) MOST_IMAGE_BYTES image (after_image schedule requests settings) work (bytes image) (known image (inl refl)) leads in
@@ -369,6 +371,15 @@ headline_of o (commands.Dis image) bytes work text within known leads is taken =
 headline_of o (commands.Gen number) bytes work text within known leads is taken =
     let h : IsText (works.Generating number) text = (let P : Work → Type 0 = λ w. IsText w text in subst P (work_is work _ leads) is) in
     (h.0, h.1, run_confined (generated number) (can_open number within.1) h.0, none_short (generated number) h.0 (can_open number within.1), summed_alone number h.0 within.1 h.1, taken ∙ ap (appended o.out.taken) h.2)
+headline_of o (commands.Lift image) bytes work text within known leads is taken =
+    let read = leads_by o.files.contents image_of MOST_IMAGE_BYTES image raised work (bytes image) (known image refl) leads in
+    let spelled = image_found (bytes image) read.0 read.2 read.1 in (
+      read.0,
+      spelled.0,
+      spelled.1,
+      runs_lifted read.0,
+      taken ∙ ap (appended o.out.taken) (let P : Work → Type 0 = λ w. IsText w text in subst P (work_is work _ read.3) is),
+    )
 
 -- a line that is not accepted reads no file and writes no text
 

@@ -4,7 +4,7 @@ use Rattle.std.proofs.Math.Seq.{take-add}
 use Rattle.std.proofs.lemmas.List.{append-nil}
 use Rattle.std.proofs.lemmas.List.Elements.{All-get_or, All-nil, All-push, All-weaker}
 use Rattle.std.proofs.lemmas.List.Quantifiers.{all_pairs_push}
-use Rattle.lwc_io.specs.Outside.{CountsOneFault, Fetch, FilesView, IsPiece, MayBeContents}
+use Rattle.lwc_io.specs.Outside.{CountsOneFault, Fetch, FilesView, IsPiece}
 use Rattle.lwcrun_core.specs.Reading.{Fetched, GaveBefore, MayBeginWith, MayExceed, ReadsOnward, ReadsToTheEnd}
 
 length-taken : (n : ℕ) (xs : List ℕ) → n ≤ length xs → length (take n xs) ≡ n

@@ -1,5 +1,5 @@
 -- What the readers of inputs answer, one test after another.
-use Rattle.std.proofs.Common.{◌≡◌, ◌<◌, ◌≤◌, ℕ, Bool, true, false, cond, List, length, ltb, Result, Ok, Err, refl, sym, subst, ap, ◌∙◌, arith, All}
+use Rattle.std.proofs.Common.{◌≡◌, ◌<◌, ◌≤◌, ℕ, Bool, true, false, cond, List, length, ltb, Result, Ok, Err, refl, sym, subst, ap, ◌∙◌, arith}
 use Rattle.std.specs.Prelude.{nat_lt}
 use Rattle.std.specs.Result.{IsErr, IsErrAnd}
 use Rattle.std.proofs.lemmas.Bool.{le-ltb, lt-ltb, ltb-false}
@@ -14,7 +14,7 @@ use Rattle.guest_image.specs.declared.fault.ImageRule.TheVariants.{TooLong}
 use Rattle.guest_image.specs.declared.image.Image.{Image}
 use Rattle.kernel_core.specs.declared.settings.Settings.{Settings}
 use Rattle.lwc_base.specs.declared.limits.TheConstants.{MOST_IMAGE_BYTES, MOST_REQUEST_FILE_BYTES, MOST_SCHEDULE_BYTES, MOST_SOURCE_BYTES, MOST_STEPS}
-use Rattle.lwc_io.specs.Outside.{FilesView, MayBeContents}
+use Rattle.lwc_io.specs.Outside.{FilesView}
 use Rattle.lwc_text.specs.Requests.{requests_at}
 use Rattle.lwc_text.specs.Schedules.{schedule_at}
 use Rattle.lwc_text.specs.declared.fault.InputRule.TheVariants as inputs
@@ -23,10 +23,11 @@ use Rattle.lwcrun_core.specs.declared.ending.Rejection.{Rejection}
 use Rattle.lwcrun_core.specs.declared.ending.Rejection.TheVariants as rejections
 use Rattle.lwcrun_core.specs.Ends.{End}
 use Rattle.lwcrun_core.specs.Ends as ends
-use Rattle.lwcrun_core.specs.Images.{bounded, bounded_requests_of, fitted, fitting_image_of, image_of, or_rejected, requests_of, schedule_of, serve_steps, source_of, then_tested, within_limit}
+use Rattle.lwcrun_core.specs.Images.{bounded, bounded_requests_of, fitted, image_of, or_rejected, requests_of, schedule_of, serve_steps, source_of, then_tested, within_limit}
 use Rattle.lwcrun_core.specs.Parts.{ReadsBy}
 use Rattle.lwcrun_core.specs.Parts as parts
 use Rattle.lwcrun_core.specs.Views.{end_of, error_end, found}
+use Rattle.guest_image.proofs.WholeLaws.{too_long}
 
 module _ {A B : Type 0} (first : List ℕ → Result A Rejection) (test : A → Result B Rejection) (both : List ℕ → Result B Rejection) (is : (bytes : List ℕ) → both bytes ≡ then_tested (first bytes) test) (files after : FilesView) (name : List ℕ) where
   -- what the first test misses is missed
@@ -98,8 +99,8 @@ or_rejected_err reject r refusal is = ap (or_rejected reject) is
 -- the grammars reject what is too long
 
 too_long_image : (bytes : List ℕ) → MOST_IMAGE_BYTES < length bytes → image_of bytes ≡ Err (rejections.Image TooLong MOST_IMAGE_BYTES)
-unfolding image_of image_at
-too_long_image bytes long = rw (lt-ltb MOST_IMAGE_BYTES (length bytes) long) refl
+unfolding image_of
+too_long_image bytes long = ap (or_rejected rejections.Image) (too_long bytes long)
 
 too_long_source : (bytes : List ℕ) → MOST_SOURCE_BYTES < length bytes → source_of bytes ≡ Err (rejections.Source sources.TooLong MOST_SOURCE_BYTES)
 unfolding source_of assembled draft_at

@@ -2,7 +2,7 @@
 use Rattle.std.specs.Prelude.{◌≡◌, ◌⊎◌, ◌≤◌, ℕ, List, [], Option, None, Some, Result, Ok, Err, All, length}
 use Rattle.guest_asm.specs.Drafts.{assembled}
 use Rattle.guest_dis.specs.Listing.{listing}
-use Rattle.guest_image.specs.Limits.{IsImage}
+use Rattle.guest_image.specs.Limits.{IsImage, lifted}
 use Rattle.guest_image.specs.Spelling.{spelling}
 use Rattle.guest_image.specs.declared.image.Image.{Image}
 use Rattle.kernel_core.specs.declared.settings.Settings.{Settings}
@@ -10,6 +10,7 @@ use Rattle.lwc_io.specs.Outside.{FilesView, SinkView, appended}
 use Rattle.kernel_core.specs.Histories.{IsComplete}
 use Rattle.kernel_core.specs.Runs.{kept}
 use Rattle.kernel_core.specs.Start.{Inputs, start, threads_for}
+use Rattle.lift_law.specs.Lifting.{RunsLifted}
 use Rattle.lwc_base.specs.declared.limits.TheConstants.{MOST_STEPS}
 use Rattle.confinement.specs.EachStep.{IsConfinedRun}
 use Rattle.request_isolation.specs.Needs.{HasFrames}
@@ -55,6 +56,7 @@ Names (commands.Serve image requests settings) q = (q ≡ image) ⊎ (q ≡ requ
 Names (commands.Asm source) q = q ≡ source
 Names (commands.Dis image) q = q ≡ image
 Names (commands.Gen number) q = ⊥
+Names (commands.Lift image) q = q ≡ image
 
 -- a call fetched what its command's plan comes to, and nothing where the line is not accepted
 abbrev pub FetchesPlan : Option Command → FilesView → FilesView → Type 0
@@ -155,9 +157,10 @@ WroteSummary o number =
 
 -- the headline of a command over the contents of its files. They are accepted, and what was written is: the
 -- report of the steps that are kept of the schedule, or of those that running threads made; the bytes of the
--- source's image, or the source of the image; the summary of the steps of a generated serve. Of the same
--- steps: with enough frames each reply is the one that its request gets alone, and no step is short of them;
--- each step is confined, and what is left alone is as it was made
+-- source's image, or the source of the image; the summary of the steps of a generated serve; the bytes of the
+-- lifted image, which runs the same where no limit of pages is met. Of the same steps: with enough frames each
+-- reply is the one that its request gets alone, and no step is short of them; each step is confined, and what is
+-- left alone is as it was made
 abbrev pub Headline : Outside → Command → (List ℕ → List ℕ) → Type 0
 Headline o (commands.Replay image schedule requests settings) bytes =
     (x : Image) × (steps : List ℕ) × (asked : List (List ℕ))
@@ -176,6 +179,9 @@ Headline o (commands.Asm source) bytes =
 Headline o (commands.Dis image) bytes =
     (x : Image) × IsImage x × (bytes image ≡ spelling x) × (o.out_after.taken ≡ appended o.out.taken (listing x))
 Headline o (commands.Gen number) bytes = WroteSummary o number
+Headline o (commands.Lift image) bytes =
+    (x : Image) × IsImage x × (bytes image ≡ spelling x) × RunsLifted x
+    × (o.out_after.taken ≡ appended o.out.taken (spelling (lifted x)))
 
 -- the contents of the command's files are accepted
 abbrev pub IsRunnable : Command → (List ℕ → List ℕ) → Type 0
@@ -188,3 +194,4 @@ IsRunnable (commands.Serve image requests settings) bytes =
 IsRunnable (commands.Asm source) bytes = (x : Image) × (assembled (bytes source) ≡ Ok x)
 IsRunnable (commands.Dis image) bytes = (x : Image) × IsImage x × (bytes image ≡ spelling x)
 IsRunnable (commands.Gen number) bytes = Unit {0}
+IsRunnable (commands.Lift image) bytes = (x : Image) × IsImage x × (bytes image ≡ spelling x)

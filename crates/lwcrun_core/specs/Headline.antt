@@ -2,6 +2,7 @@
 use Rattle.std.specs.Prelude.{◌≡◌, ℕ, List, [], Option, None, Some, Result}
 use Rattle.guest_dis.specs.Listing.{listing}
 use Rattle.lwc_base.specs.declared.limits.TheConstants.{MOST_IMAGE_BYTES, MOST_REQUEST_FILE_BYTES, MOST_SCHEDULE_BYTES, MOST_SOURCE_BYTES}
+use Rattle.guest_image.specs.Limits.{lifted}
 use Rattle.guest_image.specs.Spelling.{spelling}
 use Rattle.guest_image.specs.declared.image.Image.{Image}
 use Rattle.kernel_core.specs.declared.settings.Settings.{Settings}
@@ -22,7 +23,7 @@ use Rattle.lwcrun_core.specs.Plans.{Plan, Read, Write, accepted}
 pub data Work : Type 0 where
   Replaying : Inputs → List ℕ → Work
   Running : Inputs → Work
-  Assembling : Image → Work
+  Spelling : Image → Work
   Disassembling : Image → Work
   Generating : ℕ → Work
 
@@ -35,7 +36,7 @@ abbrev pub IsText : Work → List ℕ → Type 0
 IsText (Replaying inputs schedule) text = text ≡ text_of inputs schedule
 IsText (Running inputs) text =
     (steps : List ℕ) × IsComplete (start inputs) steps × (text ≡ text_of inputs steps)
-IsText (Assembling image) text = text ≡ spelling image
+IsText (Spelling image) text = text ≡ spelling image
 IsText (Disassembling image) text = text ≡ listing image
 IsText (Generating number) text =
     (steps : List ℕ) × IsComplete (start (generated number)) steps
@@ -85,11 +86,15 @@ serve_plan image requests settings =
 
 -- the image of a source
 unfoldable pub asm_plan : List ℕ → Plan Rejection Work
-asm_plan source = read_by source_of MOST_SOURCE_BYTES source (λ image. Write (Assembling image))
+asm_plan source = read_by source_of MOST_SOURCE_BYTES source (λ image. Write (Spelling image))
 
 -- the source of an image
 unfoldable pub dis_plan : List ℕ → Plan Rejection Work
 dis_plan image = read_by image_of MOST_IMAGE_BYTES image (λ x. Write (Disassembling x))
+
+-- the lifted image of an image
+unfoldable pub lift_plan : List ℕ → Plan Rejection Work
+lift_plan image = read_by image_of MOST_IMAGE_BYTES image (λ x. Write (Spelling (lifted x)))
 
 -- a generated serve: no file is read
 unfoldable pub gen_plan : ℕ → Plan Rejection Work
@@ -103,3 +108,4 @@ plan_of (commands.Serve image requests settings) = serve_plan image requests set
 plan_of (commands.Asm source) = asm_plan source
 plan_of (commands.Dis image) = dis_plan image
 plan_of (commands.Gen number) = gen_plan number
+plan_of (commands.Lift image) = lift_plan image

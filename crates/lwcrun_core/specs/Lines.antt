@@ -1,5 +1,5 @@
 -- What a line of words asks for.
-use Rattle.std.specs.Prelude.{◌≡◌, ◌≤◌, ℕ, ◌||◌, if◌then◌else◌, List, Option, None, Some, is_some, bytes_eq, codes, string_bytes, String}
+use Rattle.std.specs.Prelude.{◌≡◌, ◌≤◌, ℕ, ◌||◌, if◌then◌else◌, List, Option, None, Some, is_some, bytes_eq, codes, string_bytes}
 use Rattle.std.specs.Option.{option_map, option_and_then}
 use Rattle.kernel_core.specs.Settings.{IsSettings}
 use Rattle.kernel_core.specs.declared.settings.Settings.{Settings}
@@ -13,7 +13,7 @@ use Rattle.lwcrun_core.specs.Numbers.{number_within}
 
 -- what is asked for, each file by its name: an image under a schedule, a serve where there are requests; the
 -- run of an image; the serve of requests by an image; the image of a source; the source of an image; the
--- serve that is generated from a number
+-- serve that is generated from a number; the lifted image of an image
 pub data Command : Type 0 where
   Replay : List ℕ → List ℕ → Option (List ℕ) → Settings → Command
   Run : List ℕ → Settings → Command
@@ -21,6 +21,7 @@ pub data Command : Type 0 where
   Asm : List ℕ → Command
   Dis : List ℕ → Command
   Gen : ℕ → Command
+  Lift : List ℕ → Command
 
 -- settings of a run, within their limits
 pub record AreRunSettings (settings : Settings) : Type 0 where
@@ -106,6 +107,7 @@ asked_in mode a =
     else if bytes_eq mode (codes "asm") then option_map Asm (only_word a)
     else if bytes_eq mode (codes "dis") then option_map Dis (only_word a)
     else if bytes_eq mode (codes "gen") then gen_of a
+    else if bytes_eq mode (codes "lift") then option_map Lift (only_word a)
     else None
 
 -- what the words ask for, the program's name first; none where the line is not accepted
@@ -121,6 +123,7 @@ asked_by (lines.Serve image requests settings) = Serve (string_bytes image) (str
 asked_by (lines.Asm source) = Asm (string_bytes source)
 asked_by (lines.Dis image) = Dis (string_bytes image)
 asked_by (lines.Gen number) = Gen number
+asked_by (lines.Lift image) = Lift (string_bytes image)
 
 -- the settings of a replay are within their limits: those of a run, or of a serve where there are requests
 abbrev pub AreReplaySettings : {A : Type 0} → Option A → Settings → Type 0
@@ -135,6 +138,7 @@ IsWithinLimits (Serve image requests settings) = AreServeSettings settings
 IsWithinLimits (Asm source) = Unit {0}
 IsWithinLimits (Dis image) = Unit {0}
 IsWithinLimits (Gen number) = (1 ≤ number) × (number ≤ 100)
+IsWithinLimits (Lift image) = Unit {0}
 
 -- the command runs threads, which come to the gate
 abbrev pub RunsThreads : Command → Type 0
@@ -144,3 +148,4 @@ RunsThreads (Serve image requests settings) = Unit {0}
 RunsThreads (Asm source) = ⊥
 RunsThreads (Dis image) = ⊥
 RunsThreads (Gen number) = Unit {0}
+RunsThreads (Lift image) = ⊥

@@ -17,7 +17,7 @@ use crate::line::{Line, LineFault, read_line};
 use crate::messages::write_message;
 use crate::replaying::replay;
 use crate::running::{run, serve, serve_generated};
-use crate::sources::{asm, dis};
+use crate::sources::{asm, dis, lift};
 use crate::status::ExitStatus;
 use lwc_io::{Files, Gate, Sink};
 use std::alloc::Global;
@@ -51,8 +51,8 @@ pub fn lwcrun<R: Threads + Wait + Sync, F: Files, O: Sink, E: Sink, G: Gate>(
         (command_of (map string_bytes words.now)) result (E.seen err.old) (E.seen err.new) }
 
     // What was written at status 0, over known files: the report of the steps that are kept of the schedule,
-    // or that the threads made, each of which is confined; an image or a source; the summary of a generated
-    // serve.
+    // or that the threads made, each of which is confined; an image, one that was lifted too, or a source; the
+    // summary of a generated serve.
     ensures headline { (command : Command) (bytes : List ℕ → List ℕ) → result ≡ ExitStatus.Ok
         → command_of (map string_bytes words.now) ≡ Some command
         → AreContents (F.seen files.old).contents command bytes
@@ -193,5 +193,6 @@ fn carry_out<'a, R: Threads + Wait + Sync, F: Files, O: Sink, G: Gate>(
         Line::Asm { source } => asm(alloc, files, out, source.as_str()),
         Line::Dis { image } => dis(alloc, files, out, image.as_str()),
         Line::Gen { number } => serve_generated(rt, alloc, out, gate, *number),
+        Line::Lift { image } => lift(alloc, files, out, image.as_str()),
     }
 }

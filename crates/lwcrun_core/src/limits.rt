@@ -1,5 +1,6 @@
 ghost use Rattle.std.specs.Prelude.{◌≡◌, ◌^◌};
 ghost use Rattle.lwc_base.specs.declared.limits.TheConstants.{MOST_BUDGET, MOST_BYTES_OF_CALL};
+ghost use Rattle.lwc_base.specs.declared.limits.TheConstants.{MOST_BYTES_OF_FORM_ONE, PAGES_OF_FORM_ONE};
 ghost use Rattle.lwc_base.specs.declared.limits.TheConstants.{MOST_CONSOLE_BYTES, MOST_CONTEXTS};
 ghost use Rattle.lwc_base.specs.declared.limits.TheConstants.{MOST_CONTEXTS_OF_JOB, MOST_FILES};
 ghost use Rattle.lwc_base.specs.declared.limits.TheConstants.{MOST_FILE_BYTES, MOST_FRAMES, MOST_GROUPS};
@@ -22,7 +23,8 @@ ghost use Rattle.lwc_gen.specs.declared.generating.TheConstants.{PAGES, REQUESTS
 /// A law: the numbers behind the names that definitions use for limits, and for a generated serve. A
 /// change of one of these constants changes what the program accepts or generates, and does not pass.
 pub fn limits_are_as_documented()
-    ensures pages { MOST_PAGES ≡ 1024 }
+    ensures pages { MOST_PAGES ≡ 16384 }
+    ensures pages_of_form_one { PAGES_OF_FORM_ONE ≡ 1024 }
     ensures page_bytes { PAGE_BYTES ≡ 4096 }
     ensures slots { SLOTS ≡ 64 }
     ensures first_slot { FIRST_SLOT ≡ 2 }
@@ -43,8 +45,9 @@ pub fn limits_are_as_documented()
     ensures instructions { MOST_INSTRUCTIONS ≡ 65536 }
     ensures files { MOST_FILES ≡ 64 }
     ensures file_bytes { MOST_FILE_BYTES ≡ 2 ^ 20 }
-    ensures image_bytes { MOST_IMAGE_BYTES ≡ 2 ^ 23 }
-    ensures source_bytes { MOST_SOURCE_BYTES ≡ 2 ^ 24 }
+    ensures image_bytes { MOST_IMAGE_BYTES ≡ 75497472 }
+    ensures bytes_of_form_one { MOST_BYTES_OF_FORM_ONE ≡ 2 ^ 23 }
+    ensures source_bytes { MOST_SOURCE_BYTES ≡ 167772160 }
     ensures bytes_of_call { MOST_BYTES_OF_CALL ≡ 4096 }
     ensures console_bytes { MOST_CONSOLE_BYTES ≡ 65536 }
     ensures reply_bytes { MOST_REPLY_BYTES ≡ 4096 }

@@ -45,6 +45,10 @@ pub enum Line {
     Gen {
         number: u32,
     },
+    /// The lifted image of an image, a file by its name.
+    Lift {
+        image: String,
+    },
 }
 
 /// Why a line was not read.
@@ -102,6 +106,9 @@ fn line_in(alloc: Global, mode: &str, arguments: &Arguments<'_>) -> Result<Line,
             image: name_of(alloc, only_word(arguments))?,
         }),
         "gen" => gen_line(arguments),
+        "lift" => Ok(Line::Lift {
+            image: name_of(alloc, only_word(arguments))?,
+        }),
         _ => Err(LineFault::Usage),
     }
 }

@@ -1,6 +1,6 @@
 ghost use Rattle.std.specs.Prelude.{◌≡◌};
 ghost use Rattle.lwcrun_core.specs.Ends.{Ended};
-ghost use Rattle.lwcrun_core.specs.Headline.{IsText, asm_plan, dis_plan};
+ghost use Rattle.lwcrun_core.specs.Headline.{IsText, asm_plan, dis_plan, lift_plan};
 ghost use Rattle.lwcrun_core.specs.Plans.{AreFetchesOf};
 ghost use Rattle.lwcrun_core.specs.Reading.{Fetched};
 ghost use Rattle.lwcrun_core.specs.Views.{end_of, outside};
@@ -47,6 +47,26 @@ pub fn dis<'a, F: Files, O: Sink>(
 {
     match image_in(alloc, files, image) {
         Ok(image) => write_work(out, disassemble(alloc, &image)),
+        Err(ending) => ending,
+    }
+}
+
+/// Reads the image of this name, and writes the bytes of the lifted image: the same in form 2.
+#[tactic(auto, using(guest_image::proofs::Lifted::lifting))]
+pub fn lift<'a, F: Files, O: Sink>(
+    alloc: Global,
+    files: &mut F,
+    out: &mut O,
+    image: &'a str,
+) -> Ending<'a>
+    ensures ended { Ended IsText
+        (outside (F.seen files.old) (F.seen files.new) (O.seen out.old) (O.seen out.new))
+        (lift_plan image.now) (end_of result) }
+    ensures fetches { Fetched (AreFetchesOf (F.seen files.old).contents (lift_plan image.now))
+        (F.seen files.old).fetches (F.seen files.new).fetches }
+{
+    match image_in(alloc, files, image) {
+        Ok(image) => write_work(out, write_image(alloc, &guest_image::lift(image))),
         Err(ending) => ending,
     }
 }

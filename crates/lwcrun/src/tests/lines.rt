@@ -56,6 +56,13 @@ fn lines_are_accepted_with_their_options_anywhere(rt: HostRuntime) -> Result<(),
             "lwcrun: image refused: BadMagic at 0\n",
         ),
         ("dis -", "ReadFault", "lwcrun: cannot read -\n"),
+        ("lift guest", "Ok", ""),
+        (
+            "lift schedule",
+            "ImageRefused",
+            "lwcrun: image refused: BadMagic at 0\n",
+        ),
+        ("lift none", "ReadFault", "lwcrun: cannot read none\n"),
         (
             "replay guest schedule requests --workers 16",
             "ReadFault",
@@ -139,6 +146,9 @@ fn other_lines_are_answered_by_the_usage(rt: HostRuntime) -> Result<(), Fail> {
         "gen 0",
         "gen 101",
         "gen 40 --workers 8",
+        "lift",
+        "lift guest schedule",
+        "lift guest --frames 2",
     ];
     for line in cases {
         let left = call_line(&rt, &guest, line)?;
@@ -154,10 +164,16 @@ fn sources_become_images_and_images_sources(rt: HostRuntime) -> Result<(), Fail>
     let guest = image(rt.alloc(), &STORE_LOAD, &[ZEROS], &[0])?;
     let source = b".page 0 -\nLI r1, 7\nSTW r1, r0, 0\nLDW r2, r0, 0\nHALT\n.entry 0\n";
     let listed = b".uid 0\n.entry 0\nLI r1, 7\nSTW r1, r0, 0\nLDW r2, r0, 0\nHALT\n.page 0 -\n";
-    let cases: [(&str, &[u8], &[u8]); 3] = [
+    let mut lifted = image(rt.alloc(), &STORE_LOAD, &[ZEROS], &[0])?;
+    if let Some(digit) = lifted.get_mut(3) {
+        *digit = b'2';
+    }
+    let cases: [(&str, &[u8], &[u8]); 5] = [
         ("asm guest", source, &guest),
         ("dis guest", &guest, listed),
         ("asm guest", listed, &guest),
+        ("lift guest", &guest, &lifted),
+        ("lift guest", &lifted, &lifted),
     ];
     for (line, file, written) in cases {
         let left = call_line(&rt, file, line)?;

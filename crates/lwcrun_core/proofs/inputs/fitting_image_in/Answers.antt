@@ -1,4 +1,4 @@
-use Rattle.std.proofs.Common.{◌≡◌, ◌≤◌, ◌<◌, List, ℕ, length, refl, arith}
+use Rattle.std.proofs.Common.{◌≡◌, ◌≤◌, List, ℕ, length, refl, arith}
 use Rattle.lwcrun_core.specs.Images.{fitting_image_of, image_of, then_tested, fitted}
 use Rattle.lwcrun_core.proofs.Readers.{handed_on, image_fits, image_too_large, passed, rejected}
 use Rattle.lwcrun_core.proofs.inputs.fitting_image_in.Goals as goal

@@ -1,4 +1,4 @@
-use Rattle.std.proofs.Common.{All, ◌<◌, ℕ, refl, subst}
+use Rattle.std.proofs.Common.{refl}
 use Rattle.lwcrun_core.specs.Headline.{IsText, after_image}
 use Rattle.lwcrun_core.proofs.Follows.{fetches_on, fetches_stop, reads_on, stops_reading}
 use Rattle.lwcrun_core.proofs.replaying.replay_image.Goals as goal

@@ -1,4 +1,4 @@
-use Rattle.std.proofs.Common.{◌≡◌, ◌<◌, ℕ, List, All, IfOk, ap, subst, sym}
+use Rattle.std.proofs.Common.{◌≡◌, ◌<◌, All, IfOk, ap, subst, sym}
 use Rattle.kernel_core.specs.Kernel.{History}
 use Rattle.kernel_core.specs.Start.{Inputs, thread_count}
 use Rattle.lwcrun_core.specs.Headline.{text_of}

@@ -1,4 +1,4 @@
-use Rattle.std.proofs.Common.{◌≡◌, ◌≤◌, sym, subst, arith}
+use Rattle.std.proofs.Common.{◌≤◌, sym, subst, arith}
 use Rattle.kernel_core.specs.Kernel.{History, machine_of}
 use Rattle.kernel_core.specs.Machine.{work}
 use Rattle.lwcrun_core.proofs.running.open_process.Goals as goal

@@ -1,4 +1,4 @@
-use Rattle.std.proofs.Common.{◌≡◌, IfOk, List, Result, Vec, refl, subst, ◌∙◌}
+use Rattle.std.proofs.Common.{refl}
 use Rattle.lwcrun_core.specs.Ends.{Ended}
 use Rattle.lwcrun_core.specs.Headline.{IsText}
 use Rattle.lwcrun_core.specs.declared.ending.Rejection.{Rejection}
