@@ -38,12 +38,13 @@ told-leaf alone count joined short is owned shared =
 
 -- above it
 told-above : (alone : Bool) (count : ℕ) (joined : Bool) (short below : ℕ) (told : Bool) → IsJoined alone count joined → (count ≡ 1 → below ≡ short) → (count ≢ 1 → 0 < short) → IsTold joined below told → IsTold alone short told
-told-above alone count joined short below told is owned shared rest =
-    ((λ t. let r = rest.0 t in let b = is.0 r.0 in (b.0, sym (owned b.1) ∙ r.1)),
-    (λ b. ⊎_elim
-    (λ one. rest.1 (is.1 (b.0, one), owned one ∙ b.1))
-    (λ off. absurd (let s = shared off in let none = b.1 in omega (arith, s, none)))
-    (cases_eq count 1)))
+told-above alone count joined short below told is owned shared rest = (
+  (λ t. let r = rest.0 t in let b = is.0 r.0 in (b.0, sym (owned b.1) ∙ r.1)),
+  (λ b. ⊎_elim
+      (λ one. rest.1 (is.1 (b.0, one), owned one ∙ b.1))
+      (λ off. absurd (let s = shared off in let none = b.1 in omega (arith, s, none)))
+      (cases_eq count 1)),
+)
 
 pub returns-then-link-eq0-clause-alone : goal.returns-then-link-eq0-clause-alone
 returns-then-link-eq0-clause-alone t c =
