@@ -12,9 +12,8 @@ use Rattle.guest_isa.specs.Instructions.{IsText, is_instruction}
 use Rattle.lwc_base.specs.Pages.{zero_bytes}
 use Rattle.lwc_base.specs.declared.limits.TheConstants.{PAGES_OF_FORM_ONE}
 use Rattle.lwc_base.specs.declared.page.TheConstants.{PAGE_BYTES}
-use Rattle.lwc_gen.specs.Generated.{numbered_page, server}
+use Rattle.lwc_gen.specs.Generated.{handler, numbered_page, server}
 use Rattle.lwc_gen.specs.declared.generating.TheConstants.{PAGES}
-use Rattle.lwc_gen.specs.declared.handler.TheConstants.{HANDLER}
 use Rattle.lwc_base.proofs.Small.{both-true}
 
 -- whether each element passes a test
@@ -29,12 +28,12 @@ all_pass p (x ∷ xs) is zero d below = (both-true (p x) (each p xs) is).0
 all_pass p (x ∷ xs) is (suc k) d below = all_pass p xs (both-true (p x) (each p xs) is).1 k d (omega arith)
 
 -- the handler is a text
-pub handler_is_text : IsText HANDLER
+pub handler_is_text : IsText handler
 unfolding each is_instruction
 handler_is_text = record {
   some = omega arith;
   bounded = omega arith;
-  instructions = all_pass is_instruction HANDLER refl;
+  instructions = all_pass is_instruction handler refl;
 }
 
 page_whole : (p : ℕ) → length (numbered_page p).bytes ≡ PAGE_BYTES
@@ -62,7 +61,7 @@ pub server_is_image : IsImage server
 unfolding each rising_after
 server_is_image = record {
   text = handler_is_text;
-  targets = all_pass (stays_inside 21) HANDLER refl;
+  targets = all_pass (stays_inside 21) handler refl;
   uid = omega arith;
   page_count = omega (arith, length-map-range_with_len numbered_page 0 PAGES);
   pages = pages_are;
@@ -80,6 +79,6 @@ server_is_image = record {
   entries = entry_inside;
 }
   where
-    entry_inside : All (λ (e : ℕ). e < length HANDLER) (0 ∷ [])
+    entry_inside : All (λ (e : ℕ). e < length handler) (0 ∷ [])
     entry_inside zero d below = omega arith
     entry_inside (suc k) d below = absurd (omega arith)

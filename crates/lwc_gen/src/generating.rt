@@ -46,7 +46,7 @@ pub fn generate(alloc: Global, number: u32) -> Result<(Image, Requests), OutOfMe
 
 /// The handler.
 fn handler(alloc: Global) -> Result<Text, OutOfMemory>
-    ensures { IfOk result (λ text. text ≡ HANDLER) }
+    ensures { IfOk result (λ text. text ≡ spec.handler) }
 {
     Ok(Text::of(Vec::from_slice(alloc, &HANDLER)?))
 }
