@@ -174,12 +174,12 @@ module _ (w : World) (sound : IsSound w) (c : Name) (job : ℕ) (piece : Piece) 
       omega (arith, taken, used_more w, parting_more w c piece)
 
 -- a slot that is put leaves each tag where it is
-record KeepsPages (v u : World) : Type 0 where
+pub record KeepsPages (v u : World) : Type 0 where
   live : (c : Name) → is_live v c ≡ true → is_live u c ≡ true
   cell : (c : Name) (p : ℕ) → (context u c).cell (Page p) ≡ (context v c).cell (Page p)
   groups : (g : Name) → IsGroup v g → IsGroup u g
   value : (g : Name) (p : ℕ) → (group u g).value (Page p) ≡ (group v g).value (Page p)
-  pages : u.size.pages ≡ v.size.pages
+  pub pages : u.size.pages ≡ v.size.pages
 
 one_or_other : (c d : Name) → (c ≡ d) ⊎ (c ≢ d)
 one_or_other c d = by_test (eq_by_cmp name_cmp c d) refl
@@ -223,7 +223,7 @@ kept_group v g n d =
     value_by h p (inl same) = subst (λ (e : Name). (group (change_group v g (with_value (Slot n) d)) e).value (Page p) ≡ (group v e).value (Page p)) (sym same) (by_live p (fm.contains_key v.groups g) refl)
     value_by h p (inr other) = ap (λ (x : Group). x.value (Page p)) ((changes-change_group v g (with_value (Slot n) d)).others h other)
 
-kept_put : (v : World) (s : Name) (n : ℕ) (d : Descriptor) → KeepsPages v (put_slot v s n d)
+pub kept_put : (v : World) (s : Name) (n : ℕ) (d : Descriptor) → KeepsPages v (put_slot v s n d)
 unfolding put_at
 kept_put v s n d = by_cell ((context v s).cell (Slot n))
   where

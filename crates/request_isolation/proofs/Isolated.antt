@@ -332,6 +332,17 @@ module _ (inputs : Inputs) (workers : ℕ) (can : CanOpen inputs) (serve : input
         (record { serve = there.serve; holds = there.holds; fact = there.fact.stage })
         (ap (λ (a : Machine). reply_of a r) (sym (run_by_one (by_itself f r low) (inputs.settings.budget + 1))) ∙ is)
 
+  -- with ample frames no step of a request by itself finds too few
+  pub never_short : (frames r j : ℕ) (low : r < length inputs.requests) → ample inputs.image inputs.settings.budget ≤ frames → j ≤ inputs.settings.budget →
+      IsShort (run (by_itself frames r low) (replicate j 0)) 0 → ⊥
+  never_short frames r j low enough few short =
+      let m : Machine = by_one (by_itself frames r low) j in
+      let there = pair_at frames frames r low enough enough j (omega (arith, few)) in
+      let wants : IsShort m 0 = subst (λ (a : Machine). IsShort a 0) (run_by_one (by_itself frames r low) j) short in
+      let rest = advanced m.text wants.thread.regs in
+      never_wants inputs.image m.environment (with_regs wants.thread rest.after) 0 rest.next j frames there.holds.jobs there.fact.size there.fact.names
+      (omega (arith, ample-rises inputs.image.form j inputs.settings.budget few, enough)) wants.wants
+
   one_option : (a b : Option Finished) → ((x : Finished) → a ≡ Some x → b ≡ Some x) → ((x : Finished) → b ≡ Some x → a ≡ Some x) → a ≡ b
   one_option None None there back = refl
   one_option None (Some x) there back = back x refl

@@ -1,5 +1,5 @@
 -- The frames that requests take by themselves and together, and the want of frames.
-use Rattle.std.specs.Prelude.{◌≡◌, ℕ, ◌+◌, ◌-◌, ◌*◌, ◌%◌, ◌==◌, ◌≤◌, if◌then◌else◌, true, List, [], ◌∷◌, Option, None, Some, length, max, nat_le, slice_get, slice_index}
+use Rattle.std.specs.Prelude.{◌≡◌, ◌⊎◌, ℕ, ◌+◌, ◌-◌, ◌*◌, ◌%◌, ◌==◌, ◌≤◌, if◌then◌else◌, true, List, [], ◌∷◌, Option, None, Some, length, max, nat_le, slice_get, slice_index}
 use Rattle.std.specs.Int.{w64, to_le_bytes}
 use Rattle.guest_image.specs.declared.image.Image.{Image}
 use Rattle.guest_isa.specs.declared.instr.Instr.{Instr}
@@ -16,15 +16,19 @@ use Rattle.kernel_core.specs.declared.calling.TheConstants.{LW_SYSCALL}
 use Rattle.kernel_core.specs.declared.settings.Job.{Job}
 use Rattle.kernel_core.specs.declared.settings.Job.TheVariants.{Run, Serve}
 use Rattle.kernel_core.specs.declared.thread.Thread.{Thread}
+use Rattle.guest_call.specs.Guest.{descriptor_for}
+use Rattle.lwc_base.specs.Channels.{Channels}
 use Rattle.lwc_base.specs.Frames.{used}
-use Rattle.lwc_base.specs.Store.{Full, Piece, store}
+use Rattle.lwc_base.specs.Store.{Full, Piece, Stored, store}
 use Rattle.lwc_base.specs.World.{World}
 use Rattle.lwc_base.specs.declared.fault.ThreadStatus.TheVariants.{Running}
 use Rattle.lwc_base.specs.declared.page.TheConstants.{PAGE_BYTES}
+use Rattle.lwc_base.specs.declared.regs.Regs.{Regs}
 use Rattle.lwc_base.specs.declared.refusal.Refusal.TheVariants.{NoFrame}
-use Rattle.lwc_syscall.specs.Plain.{Outcome, plain}
-use Rattle.lwc_syscall.specs.Syscall.{lw_syscall}
+use Rattle.lwc_syscall.specs.Plain.{Outcome, moved, plain, store_at}
+use Rattle.lwc_syscall.specs.Syscall.{inner_call, lw_syscall}
 use Rattle.lwc_syscall.specs.declared.answer.CallAnswer.TheVariants.{Refused}
+use Rattle.lwc_syscall.specs.declared.calls.Three.{Three}
 use Rattle.request_isolation.specs.Alone.{ample, start_alone, steps_alone}
 
 -- the world directly after what a step does, before anything is dropped
@@ -107,3 +111,32 @@ pub record IsShort (m : Machine) (t : ℕ) : Type 0 where
   pub runs : thread.status ≡ Running
   pub wants : WantsFrames m.environment (with_regs thread (advanced m.text thread.regs).after)
       (advanced m.text thread.regs).next
+
+-- a call reads, in the thread's context or in chosen ones
+abbrev pub Reads : ℕ → Regs → Type 0
+Reads number regs = (number ≡ 4) ⊎ ((number ≡ LW_SYSCALL) × (inner_call regs ≡ 4))
+
+-- a shared instruction stores: it is a store, or a call that reads
+abbrev pub Stores : Regs → Instr → Op → Type 0
+Stores regs i Stb = Unit {0}
+Stores regs i Stw = Unit {0}
+Stores regs i Sys = Reads i.imm regs
+Stores regs i _ = ⊥
+
+-- what comes after the private instructions stores
+abbrev pub StoresNext : Regs → Next → Type 0
+StoresNext regs (Shared i) = Stores regs i i.op
+StoresNext regs _ = ⊥
+
+-- the next step of the thread of a number stores
+pub record IsStoring (m : Machine) (t : ℕ) : Type 0 where
+  pub thread : Thread
+  pub found : slice_get m.threads t ≡ Some thread
+  pub runs : thread.status ≡ Running
+  pub stores : StoresNext (advanced m.text thread.regs).after (advanced m.text thread.regs).next
+
+-- the store that a call makes which reads
+abbrev pub store_of_read : World → Channels → Three → ℕ → List ℕ → Stored
+store_of_read w io three job args =
+    store_at w three.memory job (slice_index args 1)
+    (moved io (descriptor_for w three.slots (slice_index args 0)) (slice_index args 2))

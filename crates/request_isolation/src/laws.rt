@@ -1,18 +1,21 @@
 //! Laws of serves: functions with empty bodies, each with a contract that is the law.
 
-ghost use Rattle.std.specs.Prelude.{◌≡◌, ◌≢◌, ◌+◌, ◌<◌, ◌≤◌, ℕ, List, Some, length, true};
+ghost use Rattle.std.specs.Prelude.{◌≡◌, ◌≢◌, ◌⊎◌, ◌+◌, ◌<◌, ◌≤◌, ℕ, List, Some, length, replicate, true};
 ghost use Rattle.kernel_core.specs.Histories.{IsComplete};
 ghost use Rattle.kernel_core.specs.Kernel.{CanOpen};
 ghost use Rattle.kernel_core.specs.Machine.{reply_of};
-ghost use Rattle.kernel_core.specs.Runs.{run};
+ghost use Rattle.kernel_core.specs.Runs.{frames_of, run};
 ghost use Rattle.kernel_core.specs.Start.{Inputs, start};
 ghost use Rattle.kernel_core.specs.declared.settings.Job.TheVariants as jobs;
 ghost use Rattle.job_view.specs.ByJob.{Home, KeepsJobs};
-ghost use Rattle.lwc_base.specs.Channels.{bytes_in};
-ghost use Rattle.lwc_base.specs.World.{is_live};
+ghost use Rattle.lwc_base.specs.Channels.{Channels, bytes_in};
+ghost use Rattle.lwc_base.specs.Frames.{used};
+ghost use Rattle.lwc_base.specs.World.{World, is_live};
 ghost use Rattle.lwc_base.specs.declared.name.Name.{Name};
-ghost use Rattle.request_isolation.specs.Alone.{alone, alone_in, ample};
-ghost use Rattle.request_isolation.specs.Needs.{HasFrames, IsShort};
+ghost use Rattle.request_isolation.specs.Alone.{alone, alone_in, ample, start_alone};
+ghost use Rattle.lwc_syscall.specs.Plain.{plain, world_after};
+ghost use Rattle.lwc_syscall.specs.declared.calls.Three.{Three};
+ghost use Rattle.request_isolation.specs.Needs.{HasFrames, IsShort, IsStoring, acted_world, store_of_read};
 ghost use Rattle.request_isolation.specs.Replies.{HasReply};
 ghost use Rattle.snapshot_host.specs.declared.finishing.Finished.{Finished};
 
@@ -64,11 +67,28 @@ pub fn no_store_of_a_serve_finds_too_few_frames()
         IsShort (run (start inputs) steps) t → ⊥ }
 {}
 
-/// More frames than ample ones change nothing for a request by itself.
+/// More frames than ample ones change nothing for a request by itself, and none of its steps finds too few.
 pub fn ample_frames_are_ample()
-    ensures { (inputs : Inputs) (workers frames r : ℕ) → CanOpen inputs →
+    ensures reply { (inputs : Inputs) (workers frames r : ℕ) → CanOpen inputs →
         inputs.settings.job ≡ jobs.Serve workers → r < length inputs.requests →
         ample inputs.image inputs.settings.budget ≤ frames →
         alone_in frames inputs.image inputs.settings.budget r (bytes_in inputs.requests r)
         ≡ alone inputs.image inputs.settings.budget r (bytes_in inputs.requests r) }
+    ensures never_short { (inputs : Inputs) (workers frames r steps : ℕ) → CanOpen inputs →
+        inputs.settings.job ≡ jobs.Serve workers → r < length inputs.requests →
+        ample inputs.image inputs.settings.budget ≤ frames → steps ≤ inputs.settings.budget →
+        IsShort (run (start_alone inputs.image frames inputs.settings.budget r (bytes_in inputs.requests r))
+        (replicate steps 0)) 0 → ⊥ }
+{}
+
+/// A step takes a frame by a store alone: one that does not store leaves no more in use, and a call that reads
+/// leaves as many as its store. So the most frames that a request takes by itself are those after a step of it, or
+/// directly after a store.
+pub fn stores_alone_take_frames()
+    ensures step { (inputs : Inputs) (steps : List ℕ) (t : ℕ) → CanOpen inputs →
+        (IsStoring (run (start inputs) steps) t → ⊥) →
+        used (acted_world (run (start inputs) steps) t) ≤ frames_of (run (start inputs) steps) }
+    ensures read { (w : World) (io : Channels) (job : ℕ) (three : Three) (args : List ℕ) →
+        (used (plain w io three job 4 args).world ≡ used w)
+        ⊎ (used (plain w io three job 4 args).world ≡ used (world_after w (store_of_read w io three job args))) }
 {}
