@@ -7,7 +7,7 @@ ghost use Rattle.lwcrun_core.specs.Ends as ends;
 ghost use Rattle.lwcrun_core.specs.Ends.{Ended, IsUnwritten, NothingFailed, WriteFailed};
 ghost use Rattle.lwcrun_core.specs.Headline.{IsText, plan_of};
 ghost use Rattle.lwcrun_core.specs.Lines.{Command, IsWithinLimits, RunsThreads, asked_by, command_of};
-ghost use Rattle.lwcrun_core.specs.Plans.{AreFetchesOf, outcome};
+ghost use Rattle.lwcrun_core.specs.Plans.{AreFetchesOf, ComesToWork, outcome};
 ghost use Rattle.lwcrun_core.specs.Reading.{Fetched};
 ghost use Rattle.lwcrun_core.specs.Statuses.{status_of_rejection};
 ghost use Rattle.lwcrun_core.specs.Views.{end_of, outside};
@@ -28,7 +28,8 @@ use std::thread::Threads;
 /// names in their order, tests each before the next, runs or makes what is asked for, and writes it to
 /// `out`. If it does not come to that, it writes why in one line to `err`; a fault of `err` changes
 /// nothing. The result is the exit status. Threads are started, and come to the gate, for `run`, `serve`
-/// and `gen` alone: the other modes are carried out in functions that have no handle of the runtime.
+/// and `gen` alone, and only once all their inputs are accepted: the other modes are carried out in functions
+/// that have no handle of the runtime, and no leave to come to the gate is asked for before.
 ///
 /// `outcome` is the whole table: how the call ended, what holds then, and the message on `err`. The other
 /// clauses follow from it, each a promise by itself. `NoMemory` may always come, and then nothing was
@@ -43,7 +44,8 @@ pub fn lwcrun<R: Threads + Wait + Sync, F: Files, O: Sink, E: Sink, G: Gate>(
     gate: &G,
 ) -> ExitStatus
     requires leave { (command : Command) → command_of (map string_bytes words.now) ≡ Some command
-        → RunsThreads command → G.leave gate.now }
+        → RunsThreads command → ComesToWork (F.seen files.old).contents (plan_of command)
+        → G.leave gate.now }
 
     // How the call ended, what holds then, and its message.
     ensures outcome { Answers
@@ -121,7 +123,8 @@ fn answer<R: Threads + Wait + Sync, F: Files, O: Sink, E: Sink, G: Gate>(
     gate: &G,
 ) -> ExitStatus
     requires leave { (command : Command) → command_of (map string_bytes words.now) ≡ Some command
-        → RunsThreads command → G.leave gate.now }
+        → RunsThreads command → ComesToWork (F.seen files.old).contents (plan_of command)
+        → G.leave gate.now }
     ensures answers { Answers
         (outside (F.seen files.old) (F.seen files.new) (O.seen out.old) (O.seen out.new))
         (command_of (map string_bytes words.now)) result (E.seen err.old) (E.seen err.new) }
@@ -156,7 +159,8 @@ fn carry_out<'a, R: Threads + Wait + Sync, F: Files, O: Sink, G: Gate>(
     gate: &G,
 ) -> Ending<'a>
     requires limits { IsWithinLimits (asked_by line.now) }
-    requires leave { RunsThreads (asked_by line.now) → G.leave gate.now }
+    requires leave { RunsThreads (asked_by line.now)
+        → ComesToWork (F.seen files.old).contents (plan_of (asked_by line.now)) → G.leave gate.now }
     ensures ended { Ended IsText
         (outside (F.seen files.old) (F.seen files.new) (O.seen out.old) (O.seen out.new))
         (plan_of (asked_by line.now)) (end_of result) }

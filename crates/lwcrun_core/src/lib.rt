@@ -5,6 +5,7 @@
 mod arguments;
 mod call;
 mod ending;
+mod in_memory;
 mod inputs;
 mod limits;
 mod line;
@@ -19,6 +20,7 @@ mod writing;
 
 pub use call::lwcrun;
 pub use ending::Ending;
+pub use in_memory::lwcrun_in_memory;
 pub use limits::limits_are_as_documented;
 pub use line::{Line, LineFault, read_line};
 pub use replaying::replay;

@@ -10,7 +10,7 @@ ghost use Rattle.lwc_io.specs.Outside.{FilesView};
 ghost use Rattle.lwcrun_core.specs.Headline.{IsText, after_server, gen_plan, inputs_of, run_plan, serve_plan};
 ghost use Rattle.lwcrun_core.specs.Headline as works;
 ghost use Rattle.lwcrun_core.specs.Lines.{AreRunSettings, AreServeSettings};
-ghost use Rattle.lwcrun_core.specs.Plans.{AreFetchesOf};
+ghost use Rattle.lwcrun_core.specs.Plans.{AreFetchesOf, ComesToWork};
 ghost use Rattle.lwcrun_core.specs.Reading.{Fetched};
 ghost use Rattle.lwcrun_core.specs.Views.{end_of, outside};
 ghost use Rattle.lwc_gen.specs.Generated.{generated};
@@ -44,7 +44,8 @@ pub fn run<'a, R: Threads + Wait + Sync, F: Files, O: Sink, G: Gate>(
     settings: &Settings,
 ) -> Ending<'a>
     requires settings { AreRunSettings settings.now }
-    requires leave { G.leave gate.now }
+    requires leave { ComesToWork (F.seen files.old).contents (run_plan image.now settings.now)
+        → G.leave gate.now }
     ensures ended { Ended IsText
         (outside (F.seen files.old) (F.seen files.new) (O.seen out.old) (O.seen out.new))
         (run_plan image.now settings.now) (end_of result) }
@@ -75,7 +76,8 @@ pub fn serve<'a, R: Threads + Wait + Sync, F: Files, O: Sink, G: Gate>(
     settings: &Settings,
 ) -> Ending<'a>
     requires settings { AreServeSettings settings.now }
-    requires leave { G.leave gate.now }
+    requires leave { ComesToWork (F.seen files.old).contents
+        (serve_plan image.now requests.now settings.now) → G.leave gate.now }
     ensures ended { Ended IsText
         (outside (F.seen files.old) (F.seen files.new) (O.seen out.old) (O.seen out.new))
         (serve_plan image.now requests.now settings.now) (end_of result) }
@@ -103,7 +105,8 @@ fn serve_image<'a, R: Threads + Wait + Sync, F: Files, O: Sink, G: Gate>(
     requires image { IsImage image.now }
     requires fits { length image.now.pages ≤ settings.now.frames }
     requires settings { AreServeSettings settings.now }
-    requires leave { G.leave gate.now }
+    requires leave { ComesToWork (F.seen files.old).contents
+        (after_server requests.now settings.now image.now) → G.leave gate.now }
     ensures ended { Ended IsText
         (outside (F.seen files.old) (F.seen files.new) (O.seen out.old) (O.seen out.new))
         (after_server requests.now settings.now image.now) (end_of result) }
