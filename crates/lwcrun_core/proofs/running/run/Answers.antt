@@ -1,11 +1,13 @@
 use Rattle.std.proofs.Common.{◌≡◌, ◌≤◌, ◌*◌, ◌∙◌, IfOk, List, [], ℕ, length, refl, subst, arith}
 use Rattle.std.proofs.Math.Nat.{mul-le-mul_left, mul-le-mul_right}
-use Rattle.lwc_base.specs.declared.limits.TheConstants.{MOST_BUDGET, MOST_THREADS}
+use Rattle.lwc_base.specs.declared.limits.TheConstants.{MOST_BUDGET, MOST_IMAGE_BYTES, MOST_THREADS}
 use Rattle.lwcrun_core.specs.Headline.{IsText, inputs_of, run_plan}
 use Rattle.lwcrun_core.specs.Headline as works
+use Rattle.lwcrun_core.specs.Plans as plans
+use Rattle.guest_image.specs.declared.image.Image.{Image}
 use Rattle.kernel_core.proofs.Others.{work_at_start}
 use Rattle.lwcrun_core.proofs.Fetches.{nothing_fetched}
-use Rattle.lwcrun_core.proofs.Follows.{fetches_on, fetches_stop, reads_on, stops_reading}
+use Rattle.lwcrun_core.proofs.Follows.{comes_on, fetches_on, fetches_stop, reads_on, stops_reading}
 use Rattle.lwcrun_core.proofs.running.run.Goals as goal
 
 pub history_text-requires-clause-few : goal.history_text-requires-clause-few
@@ -15,6 +17,11 @@ history_text-requires-clause-few g c κs within =
     let steps : MOST_THREADS * budget ≤ MOST_THREADS * MOST_BUDGET = mul-le-mul_left MOST_THREADS c.requires.settings.limits.budget.1 in
     let work = work_at_start (inputs_of c.in-Ok.image c.of-requests.result c.args.settings.now) c.requires.settings.job in
     omega (arith, work, threads, steps)
+
+pub history_text-requires-clause-leave : goal.history_text-requires-clause-leave
+unfolding run_plan
+history_text-requires-clause-leave g c κs within =
+    c.requires.leave (comes_on IsText _ _ MOST_IMAGE_BYTES (λ (x : Image). plans.Write (works.Running (inputs_of x [] c.args.settings.now))) _ _ _ c.in-Ok.ensures.reads c.fitting_image_in.ensures.same (works.Running (inputs_of c.in-Ok.image [] c.args.settings.now), refl))
 
 pub returns-in-Ok-clause-ended : goal.returns-in-Ok-clause-ended
 unfolding run_plan

@@ -1,7 +1,12 @@
 use Rattle.std.proofs.Common.{refl}
-use Rattle.lwcrun_core.specs.Headline.{IsText, serve_plan}
-use Rattle.lwcrun_core.proofs.Follows.{fetches_on, fetches_stop, reads_on, stops_reading}
+use Rattle.lwc_base.specs.declared.limits.TheConstants.{MOST_IMAGE_BYTES}
+use Rattle.lwcrun_core.specs.Headline.{IsText, after_server, serve_plan}
+use Rattle.lwcrun_core.proofs.Follows.{comes_on, fetches_on, fetches_stop, reads_on, stops_reading}
 use Rattle.lwcrun_core.proofs.running.serve.Goals as goal
+
+pub serve_image-requires-clause-leave : goal.serve_image-requires-clause-leave
+unfolding serve_plan
+serve_image-requires-clause-leave g c κs within comes = c.requires.leave (comes_on IsText _ _ MOST_IMAGE_BYTES (after_server c.args.requests.now c.args.settings.now) _ _ _ c.in-Ok.ensures.reads c.fitting_image_in.ensures.same comes)
 
 pub returns-in-Ok-clause-ended : goal.returns-in-Ok-clause-ended
 unfolding serve_plan

@@ -1,9 +1,12 @@
-use Rattle.std.proofs.Common.{◌≡◌, refl, ap, arith}
+use Rattle.std.proofs.Common.{◌≡◌, ℕ, List, refl, ap, arith}
+use Rattle.lwc_base.specs.declared.limits.TheConstants.{MOST_REQUEST_FILE_BYTES}
 use Rattle.lwcrun_core.specs.Headline.{IsText, after_server, inputs_of}
+use Rattle.lwcrun_core.specs.Headline as works
+use Rattle.lwcrun_core.specs.Plans as plans
 use Rattle.lwcrun_core.specs.Images.{worker_count}
 use Rattle.kernel_core.proofs.Others.{work_at_serve}
 use Rattle.lwcrun_core.proofs.Fetches.{nothing_fetched}
-use Rattle.lwcrun_core.proofs.Follows.{fetches_on, fetches_stop, reads_on, stops_reading}
+use Rattle.lwcrun_core.proofs.Follows.{comes_on, fetches_on, fetches_stop, reads_on, stops_reading}
 use Rattle.lwcrun_core.proofs.running.serve_image.Goals as goal
 
 pub history_text-requires-clause-few : goal.history_text-requires-clause-few
@@ -11,6 +14,11 @@ history_text-requires-clause-few g c κs within =
     let workers : worker_count c.args.settings.now.job ≡ c.requires.settings.workers = ap worker_count c.requires.settings.job in
     let work = work_at_serve (inputs_of c.args.image.now c.in-Ok.requests c.args.settings.now) c.requires.settings.workers c.requires.settings.job in
     omega (arith, work, workers, c.in-Ok.ensures.few)
+
+pub history_text-requires-clause-leave : goal.history_text-requires-clause-leave
+unfolding after_server
+history_text-requires-clause-leave g c κs within =
+    c.requires.leave (comes_on IsText _ _ MOST_REQUEST_FILE_BYTES (λ (asked : List (List ℕ)). plans.Write (works.Running (inputs_of c.args.image.now asked c.args.settings.now))) _ _ _ c.in-Ok.ensures.reads c.bounded_requests_in.ensures.same (works.Running (inputs_of c.args.image.now c.in-Ok.requests c.args.settings.now), refl))
 
 pub returns-in-Ok-clause-ended : goal.returns-in-Ok-clause-ended
 unfolding after_server
