@@ -43,10 +43,14 @@ left w c t regs = save w c t (with_answer regs 0)
 abbrev pub arriving : Regs → ℕ → ℕ → Regs
 arriving regs slot argument = record regs { r = slice_set (slice_set regs.r 1 slot) 2 argument }
 
--- the registers that the thread goes on with: those that it enters the target with, once its own are saved
+-- the registers that the thread goes on with: those that it enters the target with, once its own are saved,
+-- with the slot's number and an argument
+abbrev pub entering : World → Name → ℕ → Regs → Name → ℕ → ℕ → Regs
+entering w c t regs d slot argument = arriving (entered (context (left w c t regs) d) t) slot argument
+
+-- those of a switch, whose argument is in r2
 abbrev pub going_on : World → Name → ℕ → Regs → Name → ℕ → Regs
-going_on w c t regs d slot =
-    arriving (entered (context (left w c t regs) d) t) slot (slice_index regs.r 2)
+going_on w c t regs d slot = entering w c t regs d slot (slice_index regs.r 2)
 
 -- the registers are saved, and the slot of the target gets a descriptor of the caller's context without a key
 abbrev pub switched : World → Name → ℕ → Regs → Name → ℕ → World

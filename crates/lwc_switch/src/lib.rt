@@ -4,4 +4,4 @@
 pub mod laws;
 pub mod switching;
 
-pub use switching::switch;
+pub use switching::{enter, switch};

@@ -4,6 +4,7 @@ ghost use Rattle.lwc_base.specs.Refusals.{first_refusal};
 ghost use Rattle.lwc_base.specs.Saved.{entered};
 ghost use Rattle.lwc_base.specs.Slots.{lowest_empty};
 ghost use Rattle.lwc_base.specs.World.{context};
+ghost use Rattle.lwc_base.specs.declared.descriptor.TheConstants.{SLOTS};
 ghost use Rattle.lwc_base.specs.declared.limits.TheConstants.{MOST_THREADS};
 ghost use Rattle.lwc_switch.specs.Switch as spec;
 ghost use Rattle.lwc_switch.specs.Switch.{IfRefused};
@@ -15,7 +16,7 @@ use world_face::World;
 
 /// Takes a thread from context `c` to the context that the slot in r1 has a descriptor of, with r2 as the
 /// argument. The registers are those at the call (`switch`). A refusal changes nothing.
-#[tactic(auto, using(crate::proofs::Saving::live_after_save), unfolding(crate::specs::Switch::switch))]
+#[tactic(auto, unfolding(crate::specs::Switch::switch))]
 pub fn switch<W: World>(world: &mut W, c: Name, t: u32, regs: &Regs) -> Moved
     requires live { IsLive (W.seen world.old) c }
     requires thread { t < MOST_THREADS }
@@ -27,6 +28,32 @@ pub fn switch<W: World>(world: &mut W, c: Name, t: u32, regs: &Regs) -> Moved
         Ok(found) => found,
         Err(refusal) => return Moved::Refused(refusal),
     };
+    Moved::To {
+        context: target,
+        regs: enter(world, c, t, regs, target, slot, regs.r[2]),
+    }
+}
+
+/// Takes thread `t`, with these registers, from context `c` to the context `target`. The registers are kept
+/// in `c`, and the slot of the target gets a descriptor of `c` without a key. Answers the registers that the
+/// thread goes on with: the slot's number is in r1, and the argument in r2.
+#[tactic(auto, using(crate::proofs::Saving::live_after_save))]
+pub fn enter<W: World>(
+    world: &mut W,
+    c: Name,
+    t: u32,
+    regs: &Regs,
+    target: Name,
+    slot: u8,
+    argument: u64,
+) -> Regs
+    requires live { IsLive (W.seen world.old) c }
+    requires there { IsLive (W.seen world.old) target }
+    requires thread { t < MOST_THREADS }
+    requires within { slot < SLOTS }
+    ensures regs { result ≡ spec.entering (W.seen world.old) c t regs.now target slot argument }
+    ensures world { W.seen world.new ≡ spec.switched (W.seen world.old) c t regs.now target slot }
+{
     world.save(c, t, &with_answer(regs, 0));
     let entered = entered(world, target, t);
     let back = Lent::Ctx {
@@ -34,10 +61,7 @@ pub fn switch<W: World>(world: &mut W, c: Name, t: u32, regs: &Regs) -> Moved
         keys: Grant::None,
     };
     world.set_slot(target, slot, back);
-    Moved::To {
-        context: target,
-        regs: arriving(&entered, slot, regs.r[2]),
-    }
+    arriving(&entered, slot, argument)
 }
 
 /// The target and its slot, or the first refusal.
