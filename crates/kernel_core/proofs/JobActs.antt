@@ -10,7 +10,7 @@ use Rattle.guest_machine.specs.declared.progress.Next.TheVariants.{Shared, Pause
 use Rattle.kernel_core.proofs.Worlds.{StaysInJob}
 use Rattle.kernel_core.proofs.JobStays.{stays_created, stays_overlaid, stays_plain_here, stays_restricted, stays_store, stays_switched, stays_syscalled}
 use Rattle.kernel_core.specs.Machine.{Environment}
-use Rattle.kernel_core.specs.Step.{Outcome, advance_outcome, args_of, beside, call_outcome, create_outcome, faulted, guest_calls, is_aligned, loaded, next_outcome, overlay_outcome, plain_outcome, plainly, restrict_outcome, shared_outcome, store_outcome, stored_outcome, switch_outcome, switched, syscall_outcome, unchanged, with_regs, with_status, with_world, word_outcome}
+use Rattle.kernel_core.specs.Step.{Calls, Outcome, advance_outcome, args_of, beside, call_outcome, create_outcome, faulted, guest_calls, is_aligned, loaded, next_outcome, overlay_outcome, plain_outcome, plainly, restrict_outcome, shared_outcome, store_outcome, stored_outcome, switch_outcome, switched, syscall_outcome, unchanged, with_regs, with_status, with_world, word_outcome}
 use Rattle.kernel_core.specs.declared.calling.TheConstants.{LW_CREATE, LW_OVERLAY, LW_RESTRICT, LW_SWITCH, LW_SYSCALL}
 use Rattle.kernel_core.specs.declared.thread.Thread.{Thread}
 use Rattle.lwc_base.specs.Store.{Absent, Done, Full, ReadOnly, Piece, Stored, store}
@@ -37,6 +37,12 @@ use Rattle.lwc_syscall.specs.Syscall.{lw_syscall}
 pub record IsLocal (e : Environment) (x : Thread) (outcome : Outcome) : Type 0 where
   pub stays : StaysInJob x.job e.world outcome.environment.world
   pub here : outcome.thread.context.job ≡ x.job
+
+-- each call of a table stays in its thread's job
+abbrev pub AllLocal : Calls → Type 0
+AllLocal calls =
+    (number t : ℕ) (e : Environment) (x : Thread) → NamesKeepToJobs e.world → IsWell e.world e.channels → is_live e.world x.context ≡ true → x.context.job ≡ x.job →
+    IsLocal e x (calls number t e x)
 
 module _ (e : Environment) (x : Thread) (names : NamesKeepToJobs e.world) (well : IsWell e.world e.channels) (live : is_live e.world x.context ≡ true) (ours : x.context.job ≡ x.job) where
   same : StaysInJob x.job e.world e.world
@@ -112,26 +118,30 @@ module _ (e : Environment) (x : Thread) (names : NamesKeepToJobs e.world) (well 
       (local_plainly (beside (plain e.world e.channels (record { memory = x.context; slots = x.context; cred = x.context }) x.job number (args_of x.regs)).world (plain e.world e.channels (record { memory = x.context; slots = x.context; cred = x.context }) x.job number (args_of x.regs)).io) _
       (stays_plain_here x.context e.world live names e.channels well x.job ours number (args_of x.regs)))))))
 
-  local_shared : (t : ℕ) (i : Instr) (op : Op) → IsLocal e x (shared_outcome guest_calls t e x i op)
-  unfolding shared_outcome
-  local_shared t i Ldb = local_loaded i.rd _
-  local_shared t i Ldw = local_loaded i.rd _
-  local_shared t i Stb = local_store _
-  local_shared t i Stw = local_word _ _
-  local_shared t i Sys = local_call t i.imm
-  local_shared t i Halt = same_context (with_status x (status.Done 0)) refl
-  local_shared t i _ = same_context x refl
+  module _ (calls : Calls) (local : AllLocal calls) where
+    local_shared : (t : ℕ) (i : Instr) (op : Op) → IsLocal e x (shared_outcome calls t e x i op)
+    unfolding shared_outcome
+    local_shared t i Ldb = local_loaded i.rd _
+    local_shared t i Ldw = local_loaded i.rd _
+    local_shared t i Stb = local_store _
+    local_shared t i Stw = local_word _ _
+    local_shared t i Sys = local i.imm t e x names well live ours
+    local_shared t i Halt = same_context (with_status x (status.Done 0)) refl
+    local_shared t i _ = same_context x refl
 
-  local_next : (t : ℕ) (next : Next) → IsLocal e x (next_outcome guest_calls t e x next)
-  unfolding next_outcome
-  local_next t Pause = same_context x refl
-  local_next t BadPc = same_context (faulted x fault.BadPc) refl
-  local_next t (Shared i) = local_shared t i i.op
+    local_next : (t : ℕ) (next : Next) → IsLocal e x (next_outcome calls t e x next)
+    unfolding next_outcome
+    local_next t Pause = same_context x refl
+    local_next t BadPc = same_context (faulted x fault.BadPc) refl
+    local_next t (Shared i) = local_shared t i i.op
+
+pub guest_calls_are_local : AllLocal guest_calls
+guest_calls_are_local number t e x names well live ours = local_call e x names well live ours t number
 
 -- a step of a running thread in a context of its job stays in the job
-pub local_step : (t : ℕ) (e : Environment) (x : Thread) (advance : Advance) → NamesKeepToJobs e.world → IsWell e.world e.channels → is_live e.world x.context ≡ true → x.context.job ≡ x.job →
-    IsLocal e x (advance_outcome guest_calls t e x advance)
+pub local_step : (calls : Calls) → AllLocal calls → (t : ℕ) (e : Environment) (x : Thread) (advance : Advance) → NamesKeepToJobs e.world → IsWell e.world e.channels → is_live e.world x.context ≡ true → x.context.job ≡ x.job →
+    IsLocal e x (advance_outcome calls t e x advance)
 unfolding advance_outcome
-local_step t e x advance names well live ours =
-    let local = local_next e (with_regs x advance.after) names well live ours t advance.next in
-    record { stays = local.stays; here = local.here }
+local_step calls local t e x advance names well live ours =
+    let there = local_next e (with_regs x advance.after) names well live ours calls local t advance.next in
+    record { stays = there.stays; here = there.here }

@@ -12,7 +12,7 @@ use Rattle.guest_machine.specs.declared.progress.Next.TheVariants.{Shared, Pause
 use Rattle.kernel_core.proofs.Worlds.{Grows, grows_created, grows_more, grows_not, grows_numbers, grows_overlay, grows_slot, grows_store, grows_switched, well_created, well_switched}
 use Rattle.kernel_core.specs.Machine.{Environment, has_ended, steps_left}
 use Rattle.kernel_core.specs.Ready.{IsReadyThread, IsRunnable, IsWithinLimits, KeepsContexts, WhileRunning}
-use Rattle.kernel_core.specs.Step.{Outcome, advance_outcome, args_of, beside, call_outcome, create_outcome, faulted, guest_calls, is_aligned, loaded, next_outcome, overlay_outcome, plain_outcome, plainly, refused, restrict_outcome, shared_outcome, status_with, store_outcome, stored_outcome, switch_outcome, switched, syscall_outcome, three_times, unchanged, with_regs, with_result, with_status, with_world, word_outcome}
+use Rattle.kernel_core.specs.Step.{Calls, Outcome, advance_outcome, args_of, beside, call_outcome, create_outcome, faulted, guest_calls, is_aligned, loaded, next_outcome, overlay_outcome, plain_outcome, plainly, refused, restrict_outcome, shared_outcome, status_with, store_outcome, stored_outcome, switch_outcome, switched, syscall_outcome, three_times, unchanged, with_regs, with_result, with_status, with_world, word_outcome}
 use Rattle.kernel_core.specs.declared.calling.TheConstants.{LW_CREATE, LW_OVERLAY, LW_RESTRICT, LW_SWITCH, LW_SYSCALL}
 use Rattle.kernel_core.specs.declared.thread.Thread.{Thread}
 use Rattle.lwc_base.specs.Life.{is_of}
@@ -63,27 +63,27 @@ pub record Changes (job : ℕ) (e f : Environment) : Type 0 where
   pub inputs : (f.channels.files ≡ e.channels.files) × (f.channels.requests ≡ e.channels.requests)
 
 -- what threads have in common changes as it may for a job, and the thread is in a live context
-record Ends (job : ℕ) (e : Environment) (outcome : Outcome) : Type 0 where
-  changes : Changes job e outcome.environment
-  live : is_live outcome.environment.world outcome.thread.context ≡ true
+pub record Ends (job : ℕ) (e : Environment) (outcome : Outcome) : Type 0 where
+  pub changes : Changes job e outcome.environment
+  pub live : is_live outcome.environment.world outcome.thread.context ≡ true
 
 -- the thread keeps its job, and may make no more steps; the rest is so where the world was well, and the thread's context was live
-record Acts (e : Environment) (x : Thread) (outcome : Outcome) : Type 0 where
-  job : outcome.thread.job ≡ x.job
-  left : (more n : ℕ) → steps_left more n outcome.thread.status ≤ steps_left more n x.status
-  ends : IsWell e.world e.channels → is_live e.world x.context ≡ true → Ends x.job e outcome
+pub record Acts (e : Environment) (x : Thread) (outcome : Outcome) : Type 0 where
+  pub job : outcome.thread.job ≡ x.job
+  pub left : (more n : ℕ) → steps_left more n outcome.thread.status ≤ steps_left more n x.status
+  pub ends : IsWell e.world e.channels → is_live e.world x.context ≡ true → Ends x.job e outcome
 
 pub same_world : (job : ℕ) (e : Environment) → IsWell e.world e.channels → Changes job e e
 same_world job e well = record { grows = grows_not job 2 e.world; well = well; inputs = (refl, refl) }
 
-acts_unchanged : (e : Environment) (x y : Thread) → y.context ≡ x.context → y.job ≡ x.job → ((more n : ℕ) → steps_left more n y.status ≤ steps_left more n x.status) → Acts e x (unchanged e y)
+pub acts_unchanged : (e : Environment) (x y : Thread) → y.context ≡ x.context → y.job ≡ x.job → ((more n : ℕ) → steps_left more n y.status ≤ steps_left more n x.status) → Acts e x (unchanged e y)
 acts_unchanged e x y context job left = record {
   job = job;
   left = left;
   ends = λ well live. record { changes = same_world x.job e well; live = ap (is_live e.world) context ∙ live };
 }
 
-acts_regs : (e : Environment) (x : Thread) (regs : Regs) → Acts e x (unchanged e (with_regs x regs))
+pub acts_regs : (e : Environment) (x : Thread) (regs : Regs) → Acts e x (unchanged e (with_regs x regs))
 acts_regs e x regs = acts_unchanged e x (with_regs x regs) refl refl (λ more n. omega arith)
 
 acts_faulted : (e : Environment) (x : Thread) (f : Fault) → Acts e x (unchanged e (faulted x f))
@@ -93,7 +93,7 @@ acts_loaded : (e : Environment) (x : Thread) (d : ℕ) (found : Option ℕ) → 
 acts_loaded e x d None = acts_faulted e x fault.BadLoad
 acts_loaded e x d (Some value) = acts_regs e x (with_result x.regs d value)
 
-acts_chosen : (e : Environment) (x : Thread) (b : Bool) (first second : Outcome) → Acts e x first → Acts e x second → Acts e x (cond b first second)
+pub acts_chosen : (e : Environment) (x : Thread) (b : Bool) (first second : Outcome) → Acts e x first → Acts e x second → Acts e x (cond b first second)
 acts_chosen e x true first second p q = p
 acts_chosen e x false first second p q = q
 
@@ -296,21 +296,28 @@ acts_call t number e x =
     (acts_chosen e x (eqb number LW_OVERLAY) (overlay_outcome e x) _ (acts_overlay e x)
     (acts_chosen e x (eqb number LW_SYSCALL) (syscall_outcome e x) (plain_outcome number e x) (acts_syscall e x) (acts_plain number e x)))))
 
-acts_shared : (t : ℕ) (e : Environment) (x : Thread) (i : Instr) (op : Op) → Acts e x (shared_outcome guest_calls t e x i op)
-unfolding shared_outcome
-acts_shared t e x i Ldb = acts_loaded e x i.rd _
-acts_shared t e x i Ldw = acts_loaded e x i.rd _
-acts_shared t e x i Stb = acts_store e x _ (omega arith)
-acts_shared t e x i Stw = acts_word e x _ _
-acts_shared t e x i Sys = acts_call t i.imm e x
-acts_shared t e x i Halt = acts_unchanged e x (with_status x (status.Done 0)) refl refl (λ more n. omega arith)
-acts_shared t e x i _ = acts_regs e x x.regs
+-- each call of a table acts
+abbrev pub AllAct : Calls → Type 0
+AllAct calls = (number t : ℕ) (e : Environment) (x : Thread) → Acts e x (calls number t e x)
 
-acts_next : (t : ℕ) (e : Environment) (x : Thread) (next : Next) → Acts e x (next_outcome guest_calls t e x next)
+pub guest_calls_act : AllAct guest_calls
+guest_calls_act number t e x = acts_call t number e x
+
+acts_shared : (calls : Calls) → AllAct calls → (t : ℕ) (e : Environment) (x : Thread) (i : Instr) (op : Op) → Acts e x (shared_outcome calls t e x i op)
+unfolding shared_outcome
+acts_shared calls act t e x i Ldb = acts_loaded e x i.rd _
+acts_shared calls act t e x i Ldw = acts_loaded e x i.rd _
+acts_shared calls act t e x i Stb = acts_store e x _ (omega arith)
+acts_shared calls act t e x i Stw = acts_word e x _ _
+acts_shared calls act t e x i Sys = act i.imm t e x
+acts_shared calls act t e x i Halt = acts_unchanged e x (with_status x (status.Done 0)) refl refl (λ more n. omega arith)
+acts_shared calls act t e x i _ = acts_regs e x x.regs
+
+acts_next : (calls : Calls) → AllAct calls → (t : ℕ) (e : Environment) (x : Thread) (next : Next) → Acts e x (next_outcome calls t e x next)
 unfolding next_outcome
-acts_next t e x Pause = acts_regs e x x.regs
-acts_next t e x BadPc = acts_faulted e x fault.BadPc
-acts_next t e x (Shared i) = acts_shared t e x i i.op
+acts_next calls act t e x Pause = acts_regs e x x.regs
+acts_next calls act t e x BadPc = acts_faulted e x fault.BadPc
+acts_next calls act t e x (Shared i) = acts_shared calls act t e x i i.op
 
 -- a thread is ready in a world that has grown
 pub still_ready : (job most : ℕ) (w v : World) → Grows job most w v → (x : Thread) → IsReadyThread w x → IsReadyThread v x
@@ -374,17 +381,17 @@ pub keeps_contexts : (t : ℕ) (e : Environment) (x : Thread) (advance : Advance
     KeepsContexts e x (advance_outcome guest_calls t e x advance)
 unfolding advance_outcome
 keeps_contexts t e x advance well live =
-    let acts = acts_next t e (with_regs x advance.after) advance.next in
+    let acts = acts_next guest_calls guest_calls_act t e (with_regs x advance.after) advance.next in
     let changes = (acts.ends well live).changes in
     record { job = acts.job; live = changes.grows.live; requests = changes.inputs.1 }
 
 -- what a step of a running thread leaves
-pub step_running : (t : ℕ) (e : Environment) (x : Thread) (advance : Advance) → IsWell e.world e.channels → x.status ≡ status.Running → IsReadyThread e.world x →
-    IsStep e x (advance_outcome guest_calls t e x advance)
+pub step_running : (calls : Calls) → AllAct calls → (t : ℕ) (e : Environment) (x : Thread) (advance : Advance) → IsWell e.world e.channels → x.status ≡ status.Running → IsReadyThread e.world x →
+    IsStep e x (advance_outcome calls t e x advance)
 unfolding advance_outcome
-step_running t e x advance well running ready =
-    let outcome = next_outcome guest_calls t e (with_regs x advance.after) advance.next in
-    let acts = acts_next t e (with_regs x advance.after) advance.next in
+step_running calls act t e x advance well running ready =
+    let outcome = next_outcome calls t e (with_regs x advance.after) advance.next in
+    let acts = acts_next calls act t e (with_regs x advance.after) advance.next in
     let ends = acts.ends well ready.live in
     let changes = ends.changes in
     let runs : IsRunnable e.world x = subst (λ (s : ThreadStatus). WhileRunning s (IsRunnable e.world x)) running ready.runs in

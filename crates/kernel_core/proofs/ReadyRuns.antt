@@ -12,17 +12,17 @@ use Rattle.guest_machine.specs.Advances.{advanced}
 use Rattle.kernel_core.proofs.Afters.{IsAfter, begins_request, finishes_request, home_there, idle_ends, known_job, running_on}
 use Rattle.kernel_core.proofs.Beginnings.{still_live}
 use Rattle.kernel_core.proofs.Homes.{few_home_ranges, no_names}
-use Rattle.kernel_core.proofs.JobActs.{IsLocal, local_step}
+use Rattle.kernel_core.proofs.JobActs.{AllLocal, IsLocal, guest_calls_are_local, local_step}
 use Rattle.kernel_core.proofs.JobStays.{stays_begun}
 use Rattle.kernel_core.proofs.Limits.{has_place, has_places}
-use Rattle.kernel_core.proofs.Outcomes.{IsStep, step_running}
+use Rattle.kernel_core.proofs.Outcomes.{AllAct, IsStep, guest_calls_act, step_running}
 use Rattle.kernel_core.proofs.Reaping.{among_back, each_root, live_roots, root_kept}
 use Rattle.kernel_core.proofs.Worlds.{RisesBy, StaysInJob}
 use Rattle.kernel_core.specs.Machine.{Machine, Serve, has_ended, home_of, homes, steps_after, steps_for_requests, steps_left, work}
 use Rattle.kernel_core.specs.Ready.{CanAct, CanServe, HasItsJob, IsCounted, IsReady, IsReadyServe, IsReadyThread, IsRunnable, IsWorker, WhileRunning, jobs_of, most_counted}
 use Rattle.kernel_core.specs.Runs.{run}
 use Rattle.kernel_core.specs.Start.{Inputs}
-use Rattle.kernel_core.specs.Step.{AfterStep, Outcome, advance_outcome, after_outcome, after_thread, begin_next, contexts_of, finish, finished_by, guest_calls, only, roots, step, step_by, thread_outcome, unchanged, with_reply, with_status}
+use Rattle.kernel_core.specs.Step.{AfterStep, Calls, Outcome, advance_outcome, after_outcome, after_thread, begin_next, contexts_of, finish, finished_by, guest_calls, only, roots, step, step_by, thread_outcome, unchanged, with_reply, with_status}
 use Rattle.kernel_core.specs.declared.thread.Thread.{Thread}
 use Rattle.lwc_base.specs.Life.{is_among, reap}
 use Rattle.lwc_base.specs.Jobs.{NamesKeepToJobs, own_names}
@@ -174,7 +174,13 @@ kept_ready w names x among ready =
           (λ runs. record { some_job = runs.some_job; known_job = omega (arith, ap (λ s. s.jobs) size, runs.known_job); some_step = runs.some_step }) ready.runs;
     }
 
-module _ (inputs : Inputs) (steps t : ℕ) (m : Machine) (x : Thread) (ready : IsReady inputs steps m) (found : slice_get m.threads t ≡ Some x) where
+-- a fact of whatever is there
+pub whatever : {T : Type 0} (o : Option T) (P : Type 0) → P → IfSome o (λ v. P)
+whatever None P is = tt
+whatever (Some v) P is = is
+
+module _ (calls : Calls) (act : AllAct calls) (inputs : Inputs) (steps t : ℕ) (m : Machine) (x : Thread) (ready : IsReady inputs steps m) (local : IfSome m.serve (λ s. AllLocal calls))
+    (found : slice_get m.threads t ≡ Some x) where
   here : IsReadyThread m.environment.world x
   here = ready_thread inputs steps t m x ready found
 
@@ -182,9 +188,9 @@ module _ (inputs : Inputs) (steps t : ℕ) (m : Machine) (x : Thread) (ready : I
   within_threads = slice_get_within m.threads t x found
 
   advanced_outcome : Outcome
-  advanced_outcome = advance_outcome guest_calls t m.environment x (advanced m.text x.regs)
+  advanced_outcome = advance_outcome calls t m.environment x (advanced m.text x.regs)
 
-  module _ (s : Serve) (serves : IsReadyServe inputs m s) where
+  module _ (s : Serve) (serves : IsReadyServe inputs m s) (stays_local : AllLocal calls) where
     worker : IsWorker s x
     worker =
         subst (λ (y : Thread). IsWorker s y) (get_or_from_slice_get m.threads t x x found) (All-get_or (IsWorker s) m.threads t x within_threads serves.threads)
@@ -235,11 +241,11 @@ module _ (inputs : Inputs) (steps t : ℕ) (m : Machine) (x : Thread) (ready : I
 
     local_here : IsLocal m.environment x advanced_outcome
     unfolding advanced_outcome
-    local_here = local_step t m.environment x (advanced m.text x.regs) serves.names (well_ready inputs steps m ready) here.live worker.here
+    local_here = local_step calls stays_local t m.environment x (advanced m.text x.regs) serves.names (well_ready inputs steps m ready) here.live worker.here
 
     made_here : x.status ≡ Running → IsStep m.environment x advanced_outcome
     unfolding advanced_outcome
-    made_here running = step_running t m.environment x (advanced m.text x.regs) (well_ready inputs steps m ready) running here
+    made_here running = step_running calls act t m.environment x (advanced m.text x.regs) (well_ready inputs steps m ready) running here
 
     runs_here : x.status ≡ Running → IsRunnable m.environment.world x
     runs_here running = subst (λ (st : ThreadStatus). WhileRunning st (IsRunnable m.environment.world x)) running here.runs
@@ -298,27 +304,27 @@ module _ (inputs : Inputs) (steps t : ℕ) (m : Machine) (x : Thread) (ready : I
         )
 
   -- what a step leaves, by its thread's status, in a serve and outside one
-  after_by : (serve : Option Serve) (st : ThreadStatus) (after : AfterStep) → IfSome serve (IsReadyServe inputs m) → x.status ≡ st → thread_outcome guest_calls t m.environment serve m.text x st ≡ Some after →
+  after_by : (serve : Option Serve) (st : ThreadStatus) (after : AfterStep) → IfSome serve (IsReadyServe inputs m) → IfSome serve (λ s. AllLocal calls) → x.status ≡ st → thread_outcome calls t m.environment serve m.text x st ≡ Some after →
       IsAfter m serve t x after × IfSome after.serve (IsReadyServe inputs (after_outcome m t (Some after)))
   unfolding advanced_outcome
-  after_by None Running after serves running made =
+  after_by None Running after serves locals running made =
       let is : only None advanced_outcome ≡ after = cc in
       subst (λ (z : AfterStep). IsAfter m None t x z × IfSome z.serve (IsReadyServe inputs (after_outcome m t (Some z)))) is
-      (running_on inputs steps t m x ready found here None advanced_outcome running (step_running t m.environment x (advanced m.text x.regs) (well_ready inputs steps m ready) running here), tt)
-  after_by None Idle after serves idle made =
+      (running_on inputs steps t m x ready found here None advanced_outcome running (step_running calls act t m.environment x (advanced m.text x.regs) (well_ready inputs steps m ready) running here), tt)
+  after_by None Idle after serves locals idle made =
       let is : only None (unchanged m.environment (with_status x (Done 0))) ≡ after = cc in
       subst (λ (z : AfterStep). IsAfter m None t x z × IfSome z.serve (IsReadyServe inputs (after_outcome m t (Some z)))) is
       (idle_ends inputs steps t m x ready found here None idle, tt)
-  after_by (Some s) Running after serves running made =
-      settled_worker s serves (has_ended advanced_outcome.thread.status) refl running after cc
-  after_by (Some s) Idle after serves idle made =
-      woken_worker s serves (ltb s.next (length m.environment.channels.requests)) refl idle after cc
-  after_by serve (Done code) after serves ended made = cc
-  after_by serve (Faulted f) after serves ended made = cc
+  after_by (Some s) Running after serves locals running made =
+      settled_worker s serves locals (has_ended advanced_outcome.thread.status) refl running after cc
+  after_by (Some s) Idle after serves locals idle made =
+      woken_worker s serves locals (ltb s.next (length m.environment.channels.requests)) refl idle after cc
+  after_by serve (Done code) after serves locals ended made = cc
+  after_by serve (Faulted f) after serves locals ended made = cc
 
-  module _ (after : AfterStep) (made : thread_outcome guest_calls t m.environment m.serve m.text x x.status ≡ Some after) where
+  module _ (after : AfterStep) (made : thread_outcome calls t m.environment m.serve m.text x x.status ≡ Some after) where
     pub step_made : IsAfter m m.serve t x after × IfSome after.serve (IsReadyServe inputs (after_outcome m t (Some after)))
-    step_made = after_by m.serve x.status after ready.serve refl made
+    step_made = after_by m.serve x.status after ready.serve local refl made
 
     -- fewer steps are left
     pub fewer_steps : work (after_outcome m t (Some after)) < work m
@@ -375,20 +381,23 @@ module _ (inputs : Inputs) (steps t : ℕ) (m : Machine) (x : Thread) (ready : I
           serve = step_made.1;
         }
 
--- a step keeps a machine ready
-pub ready_after : (inputs : Inputs) (steps t : ℕ) (m : Machine) (x : Thread) (made : Option AfterStep) → IsReady inputs steps m → slice_get m.threads t ≡ Some x →
-    thread_outcome guest_calls t m.environment m.serve m.text x x.status ≡ made → IsReady inputs (steps + 1) (after_outcome m t made)
-ready_after inputs steps t m x None ready found made = ready_later inputs steps (steps + 1) m (omega arith) ready
-ready_after inputs steps t m x (Some after) ready found made = ready_outcome inputs steps t m x ready found after made
+module _ (calls : Calls) (act : AllAct calls) (inputs : Inputs) (steps t : ℕ) (m : Machine) (ready : IsReady inputs steps m) (local : IfSome m.serve (λ s. AllLocal calls)) where
+  ready_after : (x : Thread) (made : Option AfterStep) → slice_get m.threads t ≡ Some x → thread_outcome calls t m.environment m.serve m.text x x.status ≡ made →
+      IsReady inputs (steps + 1) (after_outcome m t made)
+  ready_after x None found made = ready_later inputs steps (steps + 1) m (omega arith) ready
+  ready_after x (Some after) found made = ready_outcome calls act inputs steps t m x ready local found after made
 
-ready_found : (inputs : Inputs) (steps t : ℕ) (m : Machine) (found : Option Thread) → IsReady inputs steps m → slice_get m.threads t ≡ found →
-    IsReady inputs (steps + 1) (after_thread guest_calls m t found)
-ready_found inputs steps t m None ready is = ready_later inputs steps (steps + 1) m (omega arith) ready
-ready_found inputs steps t m (Some x) ready is = ready_after inputs steps t m x _ ready is refl
+  ready_found : (found : Option Thread) → slice_get m.threads t ≡ found → IsReady inputs (steps + 1) (after_thread calls m t found)
+  ready_found None is = ready_later inputs steps (steps + 1) m (omega arith) ready
+  ready_found (Some x) is = ready_after x _ is refl
+
+  -- a step with calls that act keeps a machine ready
+  pub ready_step_by : IsReady inputs (steps + 1) (step_by calls m t)
+  unfolding step_by
+  ready_step_by = ready_found _ refl
 
 pub ready_step : (inputs : Inputs) (steps t : ℕ) (m : Machine) → IsReady inputs steps m → IsReady inputs (steps + 1) (step m t)
-unfolding step_by
-ready_step inputs steps t m ready = ready_found inputs steps t m _ ready refl
+ready_step inputs steps t m ready = ready_step_by guest_calls guest_calls_act inputs steps t m ready (whatever m.serve (AllLocal guest_calls) guest_calls_are_local)
 
 -- and over each run
 pub ready_run : (inputs : Inputs) (steps : ℕ) (ts : List ℕ) (m : Machine) → IsReady inputs steps m → IsReady inputs (steps + length ts) (run m ts)

@@ -12,14 +12,16 @@ use Rattle.guest_isa.specs.declared.instr.Instr.{Instr}
 use Rattle.guest_machine.specs.Advances.{advanced}
 use Rattle.kernel_core.proofs.Finished.{ended_none, finished-push}
 use Rattle.kernel_core.proofs.Others.{found_set}
-use Rattle.kernel_core.proofs.ReadyRuns.{fewer_steps, live_after, ready_thread, running_acts, while_running}
+use Rattle.kernel_core.proofs.JobActs.{AllLocal, guest_calls_are_local}
+use Rattle.kernel_core.proofs.Outcomes.{guest_calls_act}
+use Rattle.kernel_core.proofs.ReadyRuns.{fewer_steps, live_after, ready_thread, running_acts, whatever, while_running}
 use Rattle.kernel_core.proofs.Reaping.{uncut}
 use Rattle.kernel_core.proofs.Runs.{run-push, peak-push, used_last}
 use Rattle.kernel_core.specs.Changes.{IsNumbered, Keeps, KeepsAll, after_effect, made}
 use Rattle.kernel_core.specs.Kernel.{CanOpen, History, machine_of, stepped, turn, turn_at, view_of}
 use Rattle.kernel_core.specs.Machine.{Environment, Machine, Serve, has_ended, homes, homes_of, in_serve, is_ended, recorded, reply_of, steps_after, steps_for_requests, steps_left, work}
 use Rattle.kernel_core.specs.Ready.{CanAct, HasItsJob, IsReady, IsReadyServe, IsReadyThread, IsRunnable, IsWorker, WhileRunning}
-use Rattle.kernel_core.specs.Runs.{frames_of, last_finished, peak}
+use Rattle.kernel_core.specs.Runs.{frames_of, last_finished, peak, run}
 use Rattle.kernel_core.specs.Start.{Inputs, serve_at, start, thread_count, threads_at, world_for}
 use Rattle.kernel_core.specs.Steady.{IsSteady, history, machine}
 use Rattle.kernel_core.specs.Step.{AfterStep, Outcome, advance_outcome, after_outcome, after_thread, begin_next, beside, contexts_of, finish, finished_in, finished_of, finishes, guest_calls, only, roots, step, step_by, thread_outcome, unchanged, with_status, with_world}
@@ -181,6 +183,14 @@ module _ (m : Machine) (most : ℕ) (h : History) (steady : IsSteady m most h) w
   unfolding machine_of
   is_ready = subst (IsReady h.inputs (length h.steps)) (sym steady.machine) (ready_machine h.inputs h.steps steady.inputs)
 
+  -- before the first step it is the machine of the start
+  pub begun : h.steps ≡ [] → m ≡ start h.inputs
+  unfolding machine_of
+  begun none = steady.machine ∙ ap (run (start h.inputs)) none
+
+  local : IfSome m.serve (λ s. AllLocal guest_calls)
+  local = whatever m.serve (AllLocal guest_calls) guest_calls_are_local
+
   -- a number below the number of threads
   pub within : (t : ℕ) → t < thread_count h.inputs → t < length m.threads
   within t few = omega (arith, few, is_ready.count)
@@ -331,11 +341,11 @@ module _ (m : Machine) (most : ℕ) (h : History) (steady : IsSteady m most h) w
       unfolding turn turn_at after
       made_step =
           let going : is_ended (machine_of h) t ≡ false = ended_as ∙ not_ended t m.environment m.serve m.text x x.status made_after made in
-          let fewer = fewer_steps h.inputs (length h.steps) t m x is_ready found made_after made in
+          let fewer = fewer_steps guest_calls guest_calls_act h.inputs (length h.steps) t m x is_ready local found made_after made in
           record {
             going = going;
             kept = stepped_by h t false going;
-            live = live_after h.inputs (length h.steps) t m x is_ready found made_after made;
+            live = live_after guest_calls guest_calls_act h.inputs (length h.steps) t m x is_ready local found made_after made;
             steady = λ some u reaped.
                 subst (λ (u : World). IsSteady (record m { threads = slice_set m.threads t made_after.thread; environment = with_world made_after.environment u; serve = made_after.serve }) (max most (used u)) (longer h t)) (sym reaped)
                 (record { inputs = steady.inputs; machine = machine_after; peak = peak_after; room = one_less some });

@@ -54,7 +54,7 @@ impl Effect {
 /// Makes a step of thread `t` in place. Answers what has changed; `None` if the thread had ended. The only
 /// error is out of memory: then the world, the channels and the serve are as before, and the thread may have
 /// changed.
-pub(crate) fn step_thread<W: World>(
+pub fn step_thread<W: World>(
     world: &mut W,
     io: &mut Channels,
     serve: &mut Option<Serve>,

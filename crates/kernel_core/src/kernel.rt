@@ -56,6 +56,16 @@ pub struct Kernel<W: World> {
     peak: u32,
 }
 
+/// What a kernel is made of at its start: the world, what calls read and write beside it, the instructions,
+/// and the threads.
+#[derive(Drop)]
+pub struct Parts<W: World> {
+    pub world: W,
+    pub channels: Channels,
+    pub text: Text,
+    pub threads: Vec<Thread>,
+}
+
 impl<W: World> Model for Kernel<W> {
     ghost use Rattle.std.specs.Prelude.{◌+◌, ◌≤◌, vec_len, vec_capacity};
     ghost use Rattle.kernel_core.specs.Kernel.{History};
@@ -350,6 +360,22 @@ impl<W: World> Kernel<W> {
         &self.channels
     }
 
+    /// The parts of a kernel that has kept no step: those of its start.
+    pub fn into_parts(self) -> Parts<W>
+        requires { self.steps ≡ [] }
+        ensures world { W.seen result.world ≡ (start self.inputs).environment.world }
+        ensures channels { result.channels ≡ (start self.inputs).environment.channels }
+        ensures text { result.text ≡ self.inputs.image.text }
+        ensures threads { result.threads.items ≡ (start self.inputs).threads }
+    {
+        Parts {
+            world: self.world,
+            channels: self.channels,
+            text: self.text,
+            threads: self.threads,
+        }
+    }
+
     /// A law of each kernel: a kernel can be opened with its inputs.
     pub fn was_opened(&self)
         ensures { CanOpen self.now.inputs }
@@ -361,7 +387,7 @@ impl<W: World> Kernel<W> {
 /// Drops the contexts that are reached neither from a thread's context nor from the homes of this number
 /// of workers, and then the groups that no cell names. There are none if the step has cut no link, and
 /// then no work is done.
-fn drop_unreached<W: World>(world: &mut W, threads: &[Thread], workers: u32, change: Change)
+pub fn drop_unreached<W: World>(world: &mut W, threads: &[Thread], workers: u32, change: Change)
     requires few { length threads.now ≤ MOST_THREADS }
     requires few_homes { workers ≤ MOST_THREADS }
     requires live { All (λ x. IsLive (W.seen world.old) x.context) threads.now }
@@ -384,7 +410,7 @@ fn drop_unreached<W: World>(world: &mut W, threads: &[Thread], workers: u32, cha
 }
 
 /// The peak after a step, which a step that leaves the world does not raise.
-fn peak_after<W: World>(peak: u32, world: &W, change: Change) -> u32
+pub fn peak_after<W: World>(peak: u32, world: &W, change: Change) -> u32
     requires { change ≡ changes.Thread → used (W.seen world.now) ≤ peak }
     ensures { result ≡ max peak (used (W.seen world.now)) }
 {

@@ -2,7 +2,7 @@
 //! says.
 #![tactic(auto)]
 
-mod acting;
+pub mod acting;
 pub mod calling;
 pub mod inputs;
 pub mod kernel;
@@ -13,9 +13,10 @@ pub mod settings;
 mod starting;
 pub mod thread;
 
+pub use acting::{Change, Effect, step_thread};
 pub use calling::{LW_CREATE, LW_OVERLAY, LW_RESTRICT, LW_SWITCH, LW_SYSCALL};
 pub use inputs::Inputs;
-pub use kernel::Kernel;
+pub use kernel::{Kernel, Parts, drop_unreached, peak_after};
 pub use laws::{
     a_history_that_ends_each_thread_is_complete, a_refused_call_changes_its_thread_alone,
     a_step_of_a_thread_that_goes_on_is_legal, a_thread_that_goes_on_has_steps_left,

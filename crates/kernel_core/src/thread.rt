@@ -150,7 +150,7 @@ impl Thread {
     }
 
     /// Goes to the next instruction, with a value in a register.
-    pub(crate) fn answer(&mut self, register: u8, value: u64)
+    pub fn answer(&mut self, register: u8, value: u64)
         requires { register < 16 }
         ensures { self.new ≡ spec.with_regs self.old (spec.with_result self.old.regs register value) }
     {
@@ -177,7 +177,7 @@ impl Thread {
     }
 
     /// Sets the number of steps left. With none left, a running thread is ended by a fault.
-    pub(crate) fn set_steps(&mut self, left: u32)
+    pub fn set_steps(&mut self, left: u32)
         ensures { self.new ≡ spec.with_steps left self.old }
     {
         self.budget = left;
