@@ -51,6 +51,10 @@ context_line name summary =
     codes "context " ++ name_text name ++ codes " pages " ++ decimal summary.pages
     ++ codes " slots " ++ decimal summary.slots ++ codes " uid " ++ decimal summary.uid ++ codes "\n"
 
+-- a trapped context, and the one that traps it
+unfoldable pub trap_line : Name → Name → List ℕ
+trap_line trapped monitor = codes "trap " ++ name_text trapped ++ codes " by " ++ name_text monitor ++ codes "\n"
+
 -- the number of groups
 unfoldable pub groups_line : ℕ → List ℕ
 groups_line groups = codes "groups " ++ decimal groups ++ codes "\n"

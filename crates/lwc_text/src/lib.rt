@@ -11,7 +11,7 @@ mod schedule;
 
 pub use fault::{InputFault, InputRule};
 pub use laws::{request_files_are_read_as_spelled, schedules_are_read_as_named};
-pub use lines::{context_line, groups_line, reply_line, tail_lines, thread_lines};
-pub use reporting::report;
+pub use lines::{context_line, groups_line, reply_line, tail_lines, thread_lines, trap_line};
+pub use reporting::{context_lines, report};
 pub use requests::read_requests;
 pub use schedule::{Schedule, read_schedule};

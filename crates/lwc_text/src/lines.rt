@@ -6,7 +6,7 @@ ghost use Rattle.std.specs.List.{flat_map};
 ghost use Rattle.std.specs.Option.{option_map};
 ghost use Rattle.lwc_text.specs.Lines.{bytes_text, context_line, groups_line, name_text, regs_line};
 ghost use Rattle.lwc_text.specs.Lines.{reply_line, reply_text, status_text, steps_text, tail_lines};
-ghost use Rattle.lwc_text.specs.Lines.{thread_line, thread_lines};
+ghost use Rattle.lwc_text.specs.Lines.{thread_line, thread_lines, trap_line};
 
 use crate::digits::digits_of;
 use kernel_core::ThreadView;
@@ -29,6 +29,19 @@ pub fn context_line(out: &mut Vec<u8>, name: Name, summary: &Summary) -> Result<
     ensures err { OnErr result (out.new.items ≡ out.old.items) }
 {
     let line = context_text(*out.allocator(), name, summary)?;
+    append(out, line.as_str())
+}
+
+/// Appends the line of a trapped context and of its monitor (`trap_line`). The only error is out of memory.
+#[tactic(auto, unfolding(crate::specs::Lines::trap_line))]
+pub fn trap_line(out: &mut Vec<u8>, trapped: Name, monitor: Name) -> Result<(), OutOfMemory>
+    ensures ok { OnOk result (out.new.items ≡ out.old.items ++ trap_line trapped monitor) }
+    ensures err { OnErr result (out.new.items ≡ out.old.items) }
+{
+    let alloc = *out.allocator();
+    let trapped = name_text(alloc, trapped)?;
+    let monitor = name_text(alloc, monitor)?;
+    let line = format!(in alloc; "trap {trapped} by {monitor}\n")?;
     append(out, line.as_str())
 }
 
@@ -275,12 +288,13 @@ mod tests {
             uid: 65534,
         };
         context_line(&mut out, Name { job: 1, k: 0 }, &summary)?;
+        trap_line(&mut out, Name { job: 1, k: 0 }, Name { job: 0, k: 10 })?;
         groups_line(&mut out, 12)?;
         tail_lines(&mut out, &[0, 0x2a, 0xff], 3, 4, &[0, 10, 15])?;
         tail_lines(&mut out, &[], 0, 0, &[])?;
         tail_lines(&mut out, &[], 0, 0, &[2, 16])?;
         let want = [
-            "context 1.0 pages 2 slots 5 uid 65534\ngroups 12\n",
+            "context 1.0 pages 2 slots 5 uid 65534\ntrap 1.0 by 0.10\ngroups 12\n",
             "console 002aff\nused 3\npeak 4\nsteps 3\nschedule 0af\n",
             "console -\nused 0\npeak 0\nsteps 0\nschedule -\n",
             "console -\nused 0\npeak 0\nsteps 2\nschedule 210\n",

@@ -44,9 +44,9 @@ fn threads_text<W: World>(alloc: Global, k: &Kernel<W>) -> Result<Vec<u8>, OutOf
     Ok(text)
 }
 
-/// Appends the lines of all contexts.
+/// Appends the lines of all contexts, in the order of their names. The only error is out of memory.
 #[tactic(auto, using(crate::proofs::Machines::live_names), unfolding(crate::specs::Report::contexts_text))]
-fn context_lines<W: World>(out: &mut Vec<u8>, world: &W) -> Result<(), OutOfMemory>
+pub fn context_lines<W: World>(out: &mut Vec<u8>, world: &W) -> Result<(), OutOfMemory>
     ensures { OnOk result (out.new.items ≡ out.old.items ++ contexts_text (W.seen world.now)) }
 {
     'contexts: for i in 0..world.context_count() {
