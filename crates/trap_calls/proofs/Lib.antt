@@ -1,0 +1,6 @@
+pub mod CommonSlots
+pub mod Leaving
+pub mod Names
+pub mod Pairs
+pub mod Refused
+pub mod Slots

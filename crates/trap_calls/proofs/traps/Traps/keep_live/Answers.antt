@@ -1,0 +1,20 @@
+use Rattle.std.proofs.Common.{rules, ◌≡◌, List}
+use Rattle.std.proofs.lemmas.Fn.{filter_same}
+use Rattle.std.specs.FinMap.Entries.{where_key}
+use Rattle.lwc_base.specs.Names.{name_cmp}
+use Rattle.lwc_base.specs.World.{is_live}
+use Rattle.lwc_base.specs.declared.name.Name.{Name}
+use Rattle.trap_calls.proofs.Pairs.{kept, kept-sorted}
+use Rattle.trap_calls.proofs.traps.Traps.keep_live.Goals as goal
+
+pub invariant_of-self : goal.invariant_of-self
+invariant_of-self g c =
+    let keep = is_live (g.W.World.seen c.args.world.now) in
+    let left : c.retain.new.self.items ≡ where_key name_cmp keep c.self.inside.pairs.items = filter_same _ (λ e. keep e.0) _ (λ x b f called. search rules) _ _ c.retain.ensures.filtered in
+    rw left (kept-sorted c.self.inside.pairs.items c.self.invariant keep)
+
+pub returns : goal.returns
+returns g c =
+    let keep = is_live (g.W.World.seen c.args.world.now) in
+    let left : c.retain.new.self.items ≡ where_key name_cmp keep c.self.inside.pairs.items = filter_same _ (λ e. keep e.0) _ (λ x b f called. search rules) _ _ c.retain.ensures.filtered in
+    rw (← c.self.view_is, left) (kept c.self.inside.pairs.items c.self.invariant keep)

@@ -1,0 +1,5 @@
+use Rattle.trap_calls.proofs.Pairs.{no_rows}
+use Rattle.trap_calls.proofs.traps.Traps.new.Goals as goal
+
+pub returns : goal.returns
+returns c = rw c.new.ensures.items no_rows

@@ -1,0 +1,20 @@
+ghost use Rattle.std.specs.Prelude.{◌≡◌};
+ghost use Rattle.lwc_base.specs.World as worlds;
+
+use lwc_base::Name;
+use world_face::World;
+
+/// Whether a context of this name is live.
+pub fn is_live<W: World>(world: &W, c: Name) -> bool
+    ensures { result ≡ worlds.is_live (W.seen world.now) c }
+{
+    'contexts: for i in 0..world.context_count() {
+        let Some(name) = world.nth_context(i) else {
+            unreachable!();
+        };
+        if name == c {
+            return true;
+        }
+    }
+    false
+}
