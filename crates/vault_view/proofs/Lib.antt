@@ -1,0 +1,4 @@
+pub mod Tables
+pub mod Asked
+pub mod Counts
+pub mod Changes
