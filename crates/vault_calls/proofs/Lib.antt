@@ -1,0 +1,4 @@
+pub mod Named
+pub mod Calls
+pub mod Plainly
+pub mod Alike
