@@ -13,7 +13,8 @@ use Rattle.guest_image.specs.declared.image.Form.TheVariants.{One, Two}
 use Rattle.guest_image.specs.declared.image.Image.{Image}
 use Rattle.guest_image.specs.declared.image.PageImage.{PageImage}
 use Rattle.guest_image.specs.declared.image.SlotImage.{SlotImage}
-use Rattle.guest_image.specs.declared.image.TheConstants.{FIRST_SLOT}
+use Rattle.guest_image.specs.declared.image.Vault.{Vault}
+use Rattle.guest_image.specs.declared.image.TheConstants.{FIRST_SLOT, MOST_VAULT_PAGES}
 use Rattle.guest_image.specs.Numbers.{rising, ranges}
 
 -- whether the target of an instruction, if it has one, is in a text of this length
@@ -70,6 +71,16 @@ pub record IsImage (image : Image) : Type 0 where
   pub some_thread : 1 ≤ length image.entries
   pub thread_count : length image.entries ≤ MOST_THREADS
   pub entries : All (λ e. e < length image.text) image.entries
+
+-- a vault beside a text of this length, with contexts of this number of pages: it is entered in the text, and has
+-- 1 to MOST_VAULT_PAGES whole pages, in rising order
+pub record IsVault (instructions pages : ℕ) (vault : Vault) : Type 0 where
+  pub entry : vault.entry < instructions
+  pub some : 1 ≤ length vault.pages
+  pub few : length vault.pages ≤ MOST_VAULT_PAGES
+  pub numbers : All (λ p. p.number < pages) vault.pages
+  pub rise : IsTrue (rising (page_numbers vault.pages))
+  pub whole : All (λ p. length p.bytes ≡ PAGE_BYTES) vault.pages
 
 -- the image in form 2, with nothing else changed
 abbrev pub lifted : Image → Image

@@ -10,6 +10,9 @@ use lwc_base::{FileImage, MOST_PAGES, PAGES_OF_FORM_ONE, PageBytes, Sequence};
 /// The first slot that an image may fill; those below it are the console.
 pub const FIRST_SLOT: u8 = 2;
 
+/// The most pages that a vault may have.
+pub const MOST_VAULT_PAGES: u32 = 64;
+
 /// The form of an image: how many pages its contexts may have.
 #[derive(Clone, Copy, Debug, Default, PartialEq, Eq)]
 pub enum Form {
@@ -77,4 +80,13 @@ pub struct Image {
     pub slots: Sequence<SlotImage>,
     /// Where each thread begins: a place in the text.
     pub entries: Sequence<u32>,
+}
+
+/// A secret beside an image: where it is entered, and what it holds.
+#[derive(Debug, Drop)]
+pub struct Vault {
+    /// Where a thread enters it: a place in the image's text.
+    pub entry: u32,
+    /// Its pages, in the order of their numbers.
+    pub pages: Sequence<PageImage>,
 }
