@@ -10,6 +10,9 @@ use lwc_base::{FileImage, MOST_PAGES, PAGES_OF_FORM_ONE, PageBytes, Sequence};
 /// The first slot that an image may fill; those below it are the console.
 pub const FIRST_SLOT: u8 = 2;
 
+/// The slot of the first context in which a start with a vault has a descriptor of it.
+pub const VAULT_SLOT: u8 = 63;
+
 /// The most pages that a vault may have.
 pub const MOST_VAULT_PAGES: u32 = 64;
 

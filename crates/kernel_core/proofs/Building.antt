@@ -1,5 +1,5 @@
 -- The world of a start as it is built: one page more, one slot more, and what all of them make.
-use Rattle.std.proofs.Common.{◌≡◌, ℕ, zero, suc, ◌+◌, ◌*◌, ◌≤◌, ◌<◌, refl, sym, ap, subst, ◌∙◌, Bool, true, false, cond, eqb, leb, ltb, ◌&&◌, IsTrue, Option, Some, None, List, [], ◌∷◌, ◌++◌, length, take, arith}
+use Rattle.std.proofs.Common.{◌≡◌, ℕ, zero, suc, ◌+◌, ◌≤◌, ◌<◌, refl, sym, ap, subst, ◌∙◌, Bool, true, false, cond, eqb, leb, ltb, ◌&&◌, IsTrue, Option, Some, None, List, [], ◌∷◌, ◌++◌, length, take, arith}
 use Rattle.std.specs.FinMap as fm
 use Rattle.std.specs.Prelude.{is_some, slice_get}
 use Rattle.std.specs.List.{enumerate_from, find}
@@ -17,6 +17,7 @@ use Rattle.guest_image.specs.declared.image.PageImage.{PageImage}
 use Rattle.guest_image.proofs.Lifted.{most_pages}
 use Rattle.kernel_core.proofs.FirstWorld.{context-first, first_added, live-first, map-first, page_piece, put_at-first, store-first, used-first}
 use Rattle.kernel_core.proofs.Ranges.{has, is_some-found, num, one_tag, ranges-own, ranges-take, tags-within}
+use Rattle.kernel_core.specs.Ready.{CanPutPage}
 use Rattle.kernel_core.specs.Start.{first_context, first_entry, first_name, first_page, first_slot, first_value, image_tag, world_size, world_so_far, world_with}
 use Rattle.lwc_base.specs.Cells.{put_slot, with_cell}
 use Rattle.lwc_base.specs.Frames.{own_value, tag_of, used}
@@ -25,7 +26,7 @@ use Rattle.lwc_base.specs.Names.{name_cmp}
 use Rattle.lwc_base.specs.Ranges.{ranges, ranges_of}
 use Rattle.lwc_base.specs.Registers.{fresh_registers}
 use Rattle.lwc_base.specs.declared.right.Right.TheVariants.{Write}
-use Rattle.lwc_base.specs.Store.{Absent, Done, Full, ReadOnly, store}
+use Rattle.lwc_base.specs.Store.{Done, store}
 use Rattle.lwc_base.specs.World.{World, Context, add_context, empty_world, is_live, new_context, new_value}
 use Rattle.lwc_base.specs.declared.cell.Cell.TheVariants.{Own}
 use Rattle.lwc_base.specs.declared.descriptor.Descriptor.{Descriptor}
@@ -77,7 +78,7 @@ pub enumerate-push : {X : Type 0} (a : ℕ) (xs : List X) (x : X) → enumerate_
 enumerate-push a [] x = ap (λ n. (n, x) ∷ []) (omega arith)
 enumerate-push a (y ∷ ys) x = ap (λ l. (a, y) ∷ l) (enumerate-push (a + 1) ys x ∙ ap (λ n. enumerate_from (a + 1) ys ++ (n, x) ∷ []) (omega arith))
 
-page_of : Option (ℕ × PageImage) → Option PageValue
+pub page_of : Option (ℕ × PageImage) → Option PageValue
 page_of found = option_map (λ e. Data (image_tag e.0) e.1.bytes) found
 
 page_by : (b : Bool) (n q k : ℕ) (x : PageImage) (found : Option (ℕ × PageImage)) (zeros : Bool) → eqb q n ≡ b → x.number ≡ n → (eqb q n ≡ true → found ≡ None) →
@@ -94,15 +95,25 @@ page_by false n q k x (Some e) zeros is number fresh other =
     ap (λ c. cond c (Own (Some Zero)) (Own (page_of (Some e)))) (other is)
 
 -- one page more: mapped, and then stored
-first_page-push : (pages : List PageImage) (x : PageImage) (q : ℕ) → find (λ e. eqb e.1.number x.number) (enumerate_from 0 pages) ≡ None →
-    cond (eqb q x.number) (Own (Some (Data (image_tag (length pages)) x.bytes))) (cond (leb x.number q && ltb q (x.number + 1)) (Own (Some Zero)) (Own (first_page pages q)))
-    ≡ Own (first_page (pages ++ x ∷ []) q)
+pub first_page-push : (a : ℕ) (pages : List PageImage) (x : PageImage) (q : ℕ) → find (λ e. eqb e.1.number x.number) (enumerate_from a pages) ≡ None →
+    cond (eqb q x.number) (Own (Some (Data (image_tag (a + length pages)) x.bytes))) (cond (leb x.number q && ltb q (x.number + 1)) (Own (Some Zero)) (Own (first_page a pages q)))
+    ≡ Own (first_page a (pages ++ x ∷ []) q)
 unfolding first_page page_of
-first_page-push pages x q fresh =
-    page_by (eqb q x.number) x.number q (length pages) x (find (λ e. eqb e.1.number q) (enumerate_from 0 pages)) (leb x.number q && ltb q (x.number + 1)) refl refl
-    (λ same. let is : q ≡ x.number = grind (arith, nat_tests) in ap (λ m. find (λ (e : ℕ × PageImage). eqb e.1.number m) (enumerate_from 0 pages)) is ∙ fresh)
+first_page-push a pages x q fresh =
+    page_by (eqb q x.number) x.number q (a + length pages) x (find (λ e. eqb e.1.number q) (enumerate_from a pages)) (leb x.number q && ltb q (x.number + 1)) refl refl
+    (λ same. let is : q ≡ x.number = grind (arith, nat_tests) in ap (λ m. find (λ (e : ℕ × PageImage). eqb e.1.number m) (enumerate_from a pages)) is ∙ fresh)
     (λ other. grind (arith, nat_tests))
-    ∙ ap (λ o. Own (page_of o)) (sym (ap (find (λ e. eqb e.1.number q)) (enumerate-push 0 pages x ∙ ap (λ n. enumerate_from 0 pages ++ (n, x) ∷ []) (omega arith)) ∙ find-append (λ e. eqb e.1.number q) (enumerate_from 0 pages) ((length pages, x) ∷ [])))
+    ∙ ap (λ o. Own (page_of o)) (sym (ap (find (λ e. eqb e.1.number q)) (enumerate-push a pages x) ∙ find-append (λ e. eqb e.1.number q) (enumerate_from a pages) ((a + length pages, x) ∷ [])))
+
+-- a page is there exactly where its number is one of theirs
+found_by : (found : Option (ℕ × PageImage)) → is_some (page_of found) ≡ is_some found
+unfolding page_of
+found_by None = refl
+found_by (Some e) = refl
+
+pub first_page-there : (a : ℕ) (pages : List PageImage) (q : ℕ) → is_some (first_page a pages q) ≡ has (page_numbers pages) q
+unfolding first_page page_of
+first_page-there a pages q = found_by (find (λ (e : ℕ × PageImage). eqb e.1.number q) (enumerate_from a pages)) ∙ is_some-found a q pages
 
 both : (a b : Bool) → IsTrue (a && b) → IsTrue a × IsTrue b
 both true b h = (refl, h)
@@ -123,7 +134,7 @@ later_above before (y ∷ ys) (suc k) x rise found =
     omega arith
 
 -- no page before it has its number
-new_number : (before : Option ℕ) (a : ℕ) (pages : List PageImage) (k : ℕ) (x : PageImage) → IsTrue (rising_after before (page_numbers pages)) → slice_get pages k ≡ Some x →
+pub new_number : (before : Option ℕ) (a : ℕ) (pages : List PageImage) (k : ℕ) (x : PageImage) → IsTrue (rising_after before (page_numbers pages)) → slice_get pages k ≡ Some x →
     find (λ e. eqb e.1.number x.number) (enumerate_from a (take k pages)) ≡ None
 unfolding rising_after
 new_number before a [] k x rise found = cc
@@ -227,7 +238,7 @@ module _ (image : Image) (is : IsImage image) where
 
     -- what is under a page once the page is mapped
     value : ℕ → Option PageValue
-    value q = cond (leb x.number q && ltb q (x.number + 1)) (Some Zero) (first_page (take k image.pages) q)
+    value q = cond (leb x.number q && ltb q (x.number + 1)) (Some Zero) (first_page 0 (take k image.pages) q)
 
     chosen_own : (b : Bool) (a c : Option PageValue) → cond b (Own a) (Own c) ≡ Own (cond b a c)
     chosen_own true a c = refl
@@ -235,7 +246,7 @@ module _ (image : Image) (is : IsImage image) where
 
     value_is : (q : ℕ) → mapped.cell (Page q) ≡ Own (value q)
     unfolding mapped had value first_context
-    value_is q = chosen_own _ (Some Zero) (first_page (take k image.pages) q)
+    value_is q = chosen_own _ (Some Zero) (first_page 0 (take k image.pages) q)
 
     zeros : mapped.cell (Page x.number) ≡ Own (Some Zero)
     unfolding mapped
@@ -246,10 +257,11 @@ module _ (image : Image) (is : IsImage image) where
     cell_with_page : (key : Key) → (with_cell (Page x.number) (Own (Some (Data (image_tag k) x.bytes))) mapped).cell key ≡ (first_context image (take (k + 1) image.pages) 0).cell key
     unfolding mapped had first_context
     cell_with_page (Page q) =
-        let count : length (take k image.pages) ≡ k = length-take-le k image.pages (omega (arith, within)) in
-        ap (λ n. cond (eqb q x.number) (Own (Some (Data (image_tag n) x.bytes))) (cond (leb x.number q && ltb q (x.number + 1)) (Own (Some Zero)) (Own (first_page (take k image.pages) q)))) (sym count)
-        ∙ first_page-push (take k image.pages) x q (new_number None 0 image.pages k x is.pages.rise found)
-        ∙ ap (λ l. Own (first_page l q)) (sym one_more)
+        let taken = length-take-le k image.pages (omega (arith, within)) in
+        let count : k ≡ 0 + length (take k image.pages) = omega (arith, taken) in
+        ap (λ n. cond (eqb q x.number) (Own (Some (Data (image_tag n) x.bytes))) (cond (leb x.number q && ltb q (x.number + 1)) (Own (Some Zero)) (Own (first_page 0 (take k image.pages) q)))) count
+        ∙ first_page-push 0 (take k image.pages) x q (new_number None 0 image.pages k x is.pages.rise found)
+        ∙ ap (λ l. Own (first_page 0 l q)) (sym one_more)
     cell_with_page (Slot n) = refl
     cell_with_page Cred = refl
 
@@ -266,31 +278,22 @@ module _ (image : Image) (is : IsImage image) where
     unfolding mapped had first_context
     context_with_page = λ i. record (first_context image (take (k + 1) image.pages) 0) { cell = λ key. cell_with_page key i; right = λ q. right_by (leb x.number q && ltb q (x.number + 1)) i }
 
-    found_by : (found : Option (ℕ × PageImage)) → is_some (page_of found) ≡ is_some found
-    unfolding page_of
-    found_by None = refl
-    found_by (Some e) = refl
-
-    first_page-there : (pages : List PageImage) (q : ℕ) → is_some (first_page pages q) ≡ has (page_numbers pages) q
-    unfolding first_page page_of
-    first_page-there pages q = found_by (find (λ (e : ℕ × PageImage). eqb e.1.number q) (enumerate_from 0 pages)) ∙ is_some-found 0 q pages
-
     value_by : (b : Bool) (q : ℕ) → eqb q x.number ≡ b →
-        is_some (value q) ≡ is_some (own_value (cond b (Own (Some (Data (image_tag k) x.bytes))) (cond (leb x.number q && ltb q (x.number + 1)) (Own (Some Zero)) (Own (first_page (take k image.pages) q)))))
+        is_some (value q) ≡ is_some (own_value (cond b (Own (Some (Data (image_tag k) x.bytes))) (cond (leb x.number q && ltb q (x.number + 1)) (Own (Some Zero)) (Own (first_page 0 (take k image.pages) q)))))
     unfolding value
     value_by true q same =
         let inside : (leb x.number q && ltb q (x.number + 1)) ≡ true = grind (arith, nat_tests) in
-        ap (λ b. is_some (cond b (Some Zero) (first_page (take k image.pages) q))) inside
+        ap (λ b. is_some (cond b (Some Zero) (first_page 0 (take k image.pages) q))) inside
     value_by false q other = chosen_by (leb x.number q && ltb q (x.number + 1))
       where
-        chosen_by : (b : Bool) → is_some (cond b (Some Zero) (first_page (take k image.pages) q)) ≡ is_some (own_value (cond b (Own (Some Zero)) (Own (first_page (take k image.pages) q))))
+        chosen_by : (b : Bool) → is_some (cond b (Some Zero) (first_page 0 (take k image.pages) q)) ≡ is_some (own_value (cond b (Own (Some Zero)) (Own (first_page 0 (take k image.pages) q))))
         chosen_by true = refl
         chosen_by false = refl
 
     value-there : (q : ℕ) → is_some (value q) ≡ has (page_numbers (take (k + 1) image.pages)) q
     unfolding mapped had first_context
     value-there q =
-        value_by (eqb q x.number) q refl ∙ ap (λ c. is_some (own_value c)) (cell_with_page (Page q)) ∙ first_page-there (take (k + 1) image.pages) q
+        value_by (eqb q x.number) q refl ∙ ap (λ c. is_some (own_value c)) (cell_with_page (Page q)) ∙ first_page-there 0 (take (k + 1) image.pages) q
 
     few_ranges_in : ranges (pages_of image.form) mapped ≤ 64
     few_ranges_in =
@@ -304,8 +307,8 @@ module _ (image : Image) (is : IsImage image) where
     unfolding value
     tagged q =
         let at : length (tag_of (own_value (mapped.cell (Page q)))) ≡ length (tag_of (value q)) = ap (λ c. length (tag_of (own_value c))) (value_is q) in
-        let had_it = first_page-there (take k image.pages) q in
-        omega (arith, at, tagged_by (leb x.number q && ltb q (x.number + 1)) (first_page (take k image.pages) q), ap num had_it)
+        let had_it = first_page-there 0 (take k image.pages) q in
+        omega (arith, at, tagged_by (leb x.number q && ltb q (x.number + 1)) (first_page 0 (take k image.pages) q), ap num had_it)
 
     frame_left : (frames : ℕ) → length image.pages ≤ frames → used (world_with image.form frames k mapped) < frames
     frame_left frames fits =
@@ -314,10 +317,13 @@ module _ (image : Image) (is : IsImage image) where
         omega (arith, used-first image.form frames k mapped, tags, numbers, within, fits)
 
     -- a page that is mapped, and then stored
-    module _ (frames : ℕ) (fits : length image.pages ≤ frames) (w v : World) (before : w ≡ world_so_far image frames k 0) (after : v ≡ map_pages w first_name x.number (x.number + 1)) where
+    module _ (frames : ℕ) (fits : length image.pages ≤ frames) (w : World) (before : w ≡ world_so_far image frames k 0) where
+      abbrev v : World
+      v = map_pages w first_name x.number (x.number + 1)
+
       is_mapped : v ≡ world_with image.form frames k mapped
       unfolding world_so_far mapped had
-      is_mapped = after ∙ ap (λ u. map_pages u first_name x.number (x.number + 1)) before ∙ map-first image.form frames k (first_context image (take k image.pages) 0) x.number (x.number + 1)
+      is_mapped = ap (λ u. map_pages u first_name x.number (x.number + 1)) before ∙ map-first image.form frames k (first_context image (take k image.pages) 0) x.number (x.number + 1)
 
       pub mapped_world : IsFirstWorld image.form frames v
       mapped_world = subst (IsFirstWorld image.form frames) (sym is_mapped) (is_first frames k mapped (omega (arith, within, is.page_count, most_pages image.form)))
@@ -335,19 +341,23 @@ module _ (image : Image) (is : IsImage image) where
           ∙ store-first image.form frames k x.number mapped x.bytes whole zeros (right_is x.number) (frame_left frames fits)
           ∙ ap (λ y. Done (world_with image.form frames (k + 1) y)) context_with_page
 
-      -- the store as the code makes it is done
-      module _ (at : ℕ) (stored_bytes : List ℕ) (at_is : at ≡ x.number * 4096) (bytes_are : stored_bytes ≡ x.bytes) where
-        pub code_stored : store v first_name 0 (record { at = at; bytes = stored_bytes }) ≡ Done (world_so_far image frames (k + 1) 0)
-        code_stored = (λ i. store v first_name 0 (record { at = at_is i; bytes = bytes_are i })) ∙ page_stored
+      -- it may be put, and then one more is there
+      pub image_page_can : CanPutPage w first_name x
+      image_page_can =
+          let first = first_world frames k 0 w before (omega (arith, within, is.page_count, most_pages image.form)) in
+          let pages : w.size.pages ≡ pages_of image.form = ap (λ size. size.pages) first.size in
+          record {
+            live = first.live;
+            number = omega (arith, pages, number_below);
+            whole = whole;
+            few = few_ranges;
+            stays = mapped_world.live;
+            size = ap (λ size. size.pages) mapped_world.size ∙ sym pages;
+            most = omega (arith, pages, most_pages image.form);
+            may = mapped_world.may;
+            after = world_so_far image frames (k + 1) 0;
+            stored = page_stored;
+          }
 
-        pub page_put : (u : World) → store v first_name 0 (record { at = at; bytes = stored_bytes }) ≡ Done u → u ≡ world_so_far image frames (k + 1) 0
-        page_put u done = let made = code_stored in cc
-
-        pub not_absent : store v first_name 0 (record { at = at; bytes = stored_bytes }) ≡ Absent → ⊥
-        not_absent absent = let made = code_stored in cc
-
-        pub not_read_only : store v first_name 0 (record { at = at; bytes = stored_bytes }) ≡ ReadOnly → ⊥
-        not_read_only read = let made = code_stored in cc
-
-        pub not_full : store v first_name 0 (record { at = at; bytes = stored_bytes }) ≡ Full → ⊥
-        not_full full = let made = code_stored in cc
+      pub image_page_put : (u : World) → store v first_name 0 (page_piece x.number x.bytes) ≡ Done u → u ≡ world_so_far image frames (k + 1) 0
+      image_page_put u done = let made = page_stored in cc

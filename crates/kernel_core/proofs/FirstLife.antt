@@ -45,7 +45,7 @@ not_of d image n = by_number (ltb n 64)
 
 module _ (form : Form) (frames tags : ℕ) where
   -- a name that is live at the start is the first one
-  only_first : (x : Context) (c : Name) → is_live (world_with form frames tags x) c ≡ true → c ≡ first_name
+  pub only_first : (x : Context) (c : Name) → is_live (world_with form frames tags x) c ≡ true → c ≡ first_name
   unfolding world_with
   only_first x c live = by_name _ refl (sym (ap is_some (get-first x c)) ∙ live)
     where

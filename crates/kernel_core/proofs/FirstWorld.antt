@@ -101,7 +101,7 @@ touched_whole p =
     let count : (p * 4096 + 4096 - 1) / 4096 + 1 - p * 4096 / 4096 ≡ 1 = omega arith in
     λ i. range_with_len (from i) (count i)
 
-touched_page : (p count : ℕ) → count ≡ 4096 → touched (p * 4096) count ≡ p ∷ []
+pub touched_page : (p count : ℕ) → count ≡ 4096 → touched (p * 4096) count ≡ p ∷ []
 touched_page p count whole = subst (λ (n : ℕ). touched (p * 4096) n ≡ p ∷ []) (sym whole) (touched_whole p)
 
 byte_there : (at k old : ℕ) (bytes : List ℕ) → k < length bytes → get_or bytes k 0 ≡ byte_after (record { at = at; bytes = bytes }) (at + k) old
@@ -111,13 +111,13 @@ byte_there at k old bytes within =
     sym (chosen (leb at (at + k) && ltb (at + k) (at + length bytes)) (slice_index bytes (at + k - at)) old covered ∙ ap (λ n. get_or bytes n 0) place)
 
 -- the bytes of a page once a whole page is stored there
-bytes_whole : (p : ℕ) (bytes old : List ℕ) → length bytes ≡ 4096 → length old ≡ 4096 → bytes_after (page_piece p bytes) p old ≡ bytes
+pub bytes_whole : (p : ℕ) (bytes old : List ℕ) → length bytes ≡ 4096 → length old ≡ 4096 → bytes_after (page_piece p bytes) p old ≡ bytes
 unfolding bytes_after
 bytes_whole p bytes old whole old_whole =
     sym (fill_by_all (λ i. byte_after (page_piece p bytes) (p * 4096 + i) (slice_index old i)) bytes (length old) 0 (whole ∙ sym old_whole)
     (λ k h. byte_there (p * 4096) k (slice_index old k) bytes (omega arith)))
 
-length-zero_page : length zero_page ≡ 4096
+pub length-zero_page : length zero_page ≡ 4096
 unfolding zero_page zero_bytes
 length-zero_page = length-replicate {A = ℕ} PAGE_BYTES 0
 
@@ -131,7 +131,7 @@ one_more_tag : (form : Form) (frames tags : ℕ) (x : Context) (more : ℕ) → 
 unfolding world_with change_counters
 one_more_tag form frames tags x more one = λ i. record (world_with form frames tags x) { next = λ j. counted_more (eqb j 0) tags more one i }
 
-is_done : (absent read full : Bool) (after : World) → absent ≡ false → read ≡ false → full ≡ false →
+pub is_done : (absent read full : Bool) (after : World) → absent ≡ false → read ≡ false → full ≡ false →
     cond absent Absent (cond read ReadOnly (cond full Full (Done after))) ≡ Done after
 is_done absent read full after present writable free = grind arith
 
@@ -204,17 +204,17 @@ no_entries : {X : Type 0} (es : List X) → length es ≡ 0 → es ≡ []
 no_entries [] e = refl
 no_entries (x ∷ es) e = absurd (omega (arith, e))
 
-entries-none : {X : Type 0} → fm.entries (fm.empty {X = X} {R = name_cmp}) ≡ []
+pub entries-none : {X : Type 0} → fm.entries (fm.empty {X = X} {R = name_cmp}) ≡ []
 entries-none {X} = no_entries _ (sym (fm.len-entries fm.empty) ∙ fm.len-empty name_cmp X)
 
 -- a set has no more items than the list that it was made of
-len-from_list : (ts : List Tag) → set.len (set.from_list {R = tag_cmp} ts) ≤ length ts
+pub len-from_list : (ts : List Tag) → set.len (set.from_list {R = tag_cmp} ts) ≤ length ts
 len-from_list [] = subst (λ (n : ℕ). n ≤ 0) (sym (set.len-empty tag_cmp)) (omega arith)
 len-from_list (t ∷ ts) =
     subst (λ (n : ℕ). n ≤ length (t ∷ ts)) (sym (set.len-insert orders.tags (set.from_list {R = tag_cmp} ts) t))
     (set_by_suc (set.contains (set.from_list {R = tag_cmp} ts) t) _ (length ts) (len-from_list ts))
 
-entries-first : (x : Context) → fm.entries (fm.insert (fm.empty {R = name_cmp}) first_name x) ≡ (first_name, x) ∷ []
+pub entries-first : (x : Context) → fm.entries (fm.insert (fm.empty {R = name_cmp}) first_name x) ≡ (first_name, x) ∷ []
 entries-first x = fm.entries-insert orders.names fm.empty first_name x ∙ ap (fm.put name_cmp first_name x) entries-none
 
 -- the tags of the world are those of the context

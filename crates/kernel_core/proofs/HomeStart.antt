@@ -3,7 +3,7 @@ use Rattle.std.proofs.Common.{◌≡◌, ◌⊎◌, inl, inr, ℕ, zero, suc, �
 use Rattle.std.specs.FinMap as fm
 use Rattle.std.specs.List.{list_any, range_with_len}
 use Rattle.std.specs.Ordering.{eq_by_cmp}
-use Rattle.std.specs.Prelude.{All, is_some, map, replicate, unwrap_or}
+use Rattle.std.specs.Prelude.{All, IfSome, is_some, map, replicate, unwrap_or}
 use Rattle.std.proofs.lemmas.List.{length-map, length-replicate}
 use Rattle.std.proofs.lemmas.List.Elements.{All-map, All-nil}
 use Rattle.std.proofs.lemmas.List.FromFn.{length-map-range_with_len}
@@ -11,10 +11,12 @@ use Rattle.std.proofs.lemmas.List.Sums.{count_by-le-length}
 use Rattle.std.proofs.lemmas.Bool.{false≢true}
 use Rattle.std.proofs.lemmas.Bool.Decides.{nat_tests}
 use Rattle.guest_image.specs.declared.image.Image.{Image}
+use Rattle.guest_image.specs.declared.image.Vault.{Vault}
 use Rattle.guest_image.proofs.Lifted.{most_pages}
 use Rattle.kernel_core.proofs.Limits.{length_of_keys}
-use Rattle.kernel_core.proofs.Started.{files_start, machine_at, ready_run_start, sound_start}
-use Rattle.kernel_core.specs.Kernel.{CanOpen, MayHave}
+use Rattle.kernel_core.proofs.Started.{files_start, image_fits, machine_at, ready_run_start, sound_start}
+use Rattle.kernel_core.proofs.VaultReady.{ready_with_vault}
+use Rattle.kernel_core.specs.Kernel.{CanKeep, CanOpen, MayHave, pages_in}
 use Rattle.kernel_core.specs.Ready.{CanPutHome, IsCounted, IsReady, IsReadyThread, IsWithinLimits, IsWorker, jobs_of, most_counted}
 use Rattle.kernel_core.specs.Settings.{IsJob}
 use Rattle.kernel_core.specs.declared.settings.Job.{Job}
@@ -25,7 +27,7 @@ use Rattle.kernel_core.proofs.Homes.{few_ranges_in_first, not_of_home}
 use Rattle.kernel_core.proofs.ReadyRuns.{all_homes}
 use Rattle.kernel_core.proofs.Reaping.{among_back}
 use Rattle.kernel_core.specs.Machine as machine
-use Rattle.kernel_core.specs.Machine.{home_of, homes_of}
+use Rattle.kernel_core.specs.Machine.{Machine, home_of, homes_of}
 use Rattle.kernel_core.specs.Step.{contexts_of, roots, waiting}
 use Rattle.kernel_core.specs.declared.thread.Thread.{Thread}
 use Rattle.lwc_base.specs.Channels.{Channels, HasItsFiles, opened}
@@ -36,7 +38,7 @@ use Rattle.lwc_base.specs.Ranges.{ranges, ranges_of}
 use Rattle.lwc_base.specs.Sound.{HasItsGroups, IsSound, live_groups}
 use Rattle.world_face.specs.Calls.{HasPlace, MayName}
 use Rattle.snapshot_host.specs.Begin.{IsNewJob}
-use Rattle.kernel_core.specs.Start.{Inputs, counted, first_context, first_entry, first_name, first_value, first_workers, home_context, home_value, homes_so_far, serve_world, start, start_world, thread_count, threads_for, with_homes, world_of, world_size, world_with}
+use Rattle.kernel_core.specs.Start.{Inputs, counted, first_context, first_entry, first_name, first_value, first_workers, home_context, home_value, homes_so_far, serve_world, start, start_world, thread_count, threads_for, with_homes, with_its_vault, world_for, world_of, world_size, world_with}
 use Rattle.lwc_base.specs.Cells.{put_slot, slot_at, value_at, value_of, with_cell}
 use Rattle.lwc_base.specs.Keys.{with_key}
 use Rattle.lwc_base.specs.Life.{HasItsContexts, IsReaped, Link, Reaches, Root, is_among, is_of, is_reached, links, names_group, reap}
@@ -615,10 +617,27 @@ module _ (inputs : Inputs) (is_image : IsImage inputs.image) (fits : length inpu
       size_here = refl
 
 -- the machine of a start is ready
+-- the machine of a start, by the job and the vault
+abbrev machine_beside : Inputs → Job → Option Vault → Machine
+machine_beside inputs job vault = record (machine_at inputs job) {
+  environment = record {
+    world = with_its_vault (world_for inputs.image inputs.settings.frames job) vault;
+    channels = opened inputs.image.files inputs.requests;
+  };
+}
+
 pub ready_start : (inputs : Inputs) → CanOpen inputs → IsReady inputs 0 (start inputs)
 unfolding start
-ready_start inputs can = by_job inputs.settings.job refl can.requests
+ready_start inputs can = by_vault inputs.vault refl can.vault inputs.settings.job refl can.requests
   where
     by_job : (job : Job) → inputs.settings.job ≡ job → MayHave job inputs.requests → IsReady inputs 0 (machine_at inputs job)
     by_job Run is none = ready_run_start inputs can is none
-    by_job (Serve workers) is may = ready_serve inputs can.image can.fits can.settings.budget workers is (subst IsJob is can.settings.job) may.few 0 (omega arith)
+    by_job (Serve workers) is may =
+        ready_serve inputs can.image (image_fits inputs.image inputs.vault inputs.settings.frames can.fits) can.settings.budget workers is (subst IsJob is can.settings.job) may.few 0 (omega arith)
+
+    by_vault : (vault : Option Vault) → inputs.vault ≡ vault → IfSome vault (CanKeep inputs.image inputs.settings.job) → (job : Job) → inputs.settings.job ≡ job → MayHave job inputs.requests →
+        IsReady inputs 0 (machine_beside inputs job vault)
+    by_vault None none keeps job is may = by_job job is may
+    by_vault (Some v) some keeps Run is may =
+        ready_with_vault inputs v can keeps.vault (subst (λ (o : Option Vault). pages_in inputs.image o ≤ inputs.settings.frames) some can.fits) (by_job Run is may)
+    by_vault (Some v) some keeps (Serve workers) is may = let run : Serve workers ≡ Run = sym is ∙ keeps.run in cc

@@ -1,12 +1,11 @@
 -- A home is as it was at the start: it has few ranges, and its slots have no descriptor of a context.
 use Rattle.std.proofs.Common.{◌≡◌, ℕ, ◌≤◌, refl, sym, ap, subst, ◌∙◌, Bool, true, false, cond, eqb, ltb, Option, Some, None, arith}
 use Rattle.std.specs.List.{enumerate_from, find}
-use Rattle.std.specs.Option.{option_map, option_map_or}
+use Rattle.std.specs.Option.{option_map}
 use Rattle.std.specs.Prelude.{is_some}
 use Rattle.guest_image.specs.Limits.{IsImage, page_numbers, pages_of}
 use Rattle.guest_image.specs.declared.image.Image.{Image}
 use Rattle.guest_image.specs.declared.image.PageImage.{PageImage}
-use Rattle.guest_image.specs.declared.image.SlotImage.{SlotImage}
 use Rattle.lwc_base.specs.declared.page.PageValue.TheVariants.{Data}
 use Rattle.kernel_core.proofs.FirstLife.{not_of}
 use Rattle.kernel_core.proofs.Ranges.{has, is_some-found, ranges-own}
@@ -15,7 +14,7 @@ use Rattle.lwc_base.specs.Cells.{slot_at, value_at, value_of}
 use Rattle.lwc_base.specs.Life.{is_of}
 use Rattle.lwc_base.specs.Ranges.{ranges, ranges_of}
 use Rattle.lwc_base.specs.World.{World, Context, context}
-use Rattle.lwc_base.specs.declared.descriptor.Descriptor.TheVariants.{Console, Empty, File}
+use Rattle.lwc_base.specs.declared.descriptor.Descriptor.TheVariants.{Empty}
 use Rattle.lwc_base.specs.declared.key.Key.TheVariants.{Slot}
 use Rattle.lwc_base.specs.declared.name.Name.{Name}
 
@@ -24,7 +23,7 @@ module _ (image : Image) (is : IsImage image) where
   found_page None = refl
   found_page (Some e) = refl
 
-  home_page-there : (p : ℕ) → is_some (first_page image.pages p) ≡ has (page_numbers image.pages) p
+  home_page-there : (p : ℕ) → is_some (first_page 0 image.pages p) ≡ has (page_numbers image.pages) p
   unfolding first_page
   home_page-there p = found_page (find (λ e. eqb e.1.number p) (enumerate_from 0 image.pages)) ∙ is_some-found 0 p image.pages
 
@@ -32,12 +31,12 @@ module _ (image : Image) (is : IsImage image) where
   pub few_ranges_in_first : ranges (pages_of image.form) (first_context image image.pages 64) ≤ 64
   unfolding first_context
   few_ranges_in_first =
-      omega (arith, ranges-own (first_context image image.pages 64) (page_numbers image.pages) (first_page image.pages) (λ q. refl) (λ q. refl) home_page-there (pages_of image.form), is.pages.ranges)
+      omega (arith, ranges-own (first_context image image.pages 64) (page_numbers image.pages) (first_page 0 image.pages) (λ q. refl) (λ q. refl) home_page-there (pages_of image.form), is.pages.ranges)
 
   few_ranges_in_home : ranges (pages_of image.form) (home_context image) ≤ 64
   unfolding home_context
   few_ranges_in_home =
-      omega (arith, ranges-own (home_context image) (page_numbers image.pages) (first_page image.pages) (λ q. refl) (λ q. refl) home_page-there (pages_of image.form), is.pages.ranges)
+      omega (arith, ranges-own (home_context image) (page_numbers image.pages) (first_page 0 image.pages) (λ q. refl) (λ q. refl) home_page-there (pages_of image.form), is.pages.ranges)
 
 -- a home has few ranges
 pub few_home_ranges : (inputs : Inputs) (w : World) (home : Name) → IsImage inputs.image → w.size ≡ world_size inputs.image.form inputs.settings.frames → context w home ≡ home_context inputs.image → ranges_of w home ≤ 64

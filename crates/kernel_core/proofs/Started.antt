@@ -16,13 +16,14 @@ use Rattle.guest_image.specs.declared.image.Form.{Form}
 use Rattle.guest_image.specs.declared.image.Image.{Image}
 use Rattle.guest_image.specs.declared.image.PageImage.{PageImage}
 use Rattle.guest_image.specs.declared.image.SlotImage.{SlotImage}
+use Rattle.guest_image.specs.declared.image.Vault.{Vault}
 use Rattle.guest_image.proofs.Lifted.{most_pages}
 use Rattle.kernel_core.proofs.Building.{enumerate-push, first_made, first_world, mapped_world, number_below, page_stored, slot_put}
 use Rattle.kernel_core.proofs.FirstLife.{named_first, reaped_first}
 use Rattle.kernel_core.proofs.FirstWorld.{get-first, page_piece}
 use Rattle.kernel_core.proofs.Limits.{length_of_keys}
 use Rattle.kernel_core.proofs.Worlds.{files_store}
-use Rattle.kernel_core.specs.Kernel.{CanOpen}
+use Rattle.kernel_core.specs.Kernel.{CanOpen, pages_in}
 use Rattle.kernel_core.specs.Machine.{Machine}
 use Rattle.kernel_core.specs.declared.settings.Job.{Job}
 use Rattle.kernel_core.specs.declared.settings.Job.TheVariants.{Run}
@@ -62,7 +63,7 @@ length-first_threads : (budget : ℕ) (entries : List ℕ) → length (first_thr
 unfolding first_threads
 length-first_threads budget entries = length-map (enumerate_from 0 entries) (λ e. first_thread budget e.0 e.1) ∙ length-enumerate_from 0 entries
 
-ready_from : (w : World) (budget n : ℕ) (entries : List ℕ) → is_live w first_name ≡ true → 1 ≤ budget → budget ≤ MOST_BUDGET → n + length entries < w.size.jobs →
+pub ready_from : (w : World) (budget n : ℕ) (entries : List ℕ) → is_live w first_name ≡ true → 1 ≤ budget → budget ≤ MOST_BUDGET → n + length entries < w.size.jobs →
     All (IsReadyThread w) (map (λ e. first_thread budget e.0 e.1) (enumerate_from n entries))
 ready_from w budget n [] live some few known = All-nil (IsReadyThread w)
 ready_from w budget n (e ∷ entries) live some few known =
@@ -79,7 +80,7 @@ pub all_put : (image : Image) (frames : ℕ) → world_so_far image frames (leng
 unfolding world_so_far start_world
 all_put image frames = ap (λ l. world_with image.form frames (length image.pages) (first_context image l 64)) (take-length image.pages)
 
-page_there : (pages : List PageImage) (k : ℕ) → k < length pages → (x : PageImage) × (slice_get pages k ≡ Some x)
+pub page_there : (pages : List PageImage) (k : ℕ) → k < length pages → (x : PageImage) × (slice_get pages k ≡ Some x)
 page_there [] k within = absurd (omega arith)
 page_there (x ∷ xs) zero within = (x, refl)
 page_there (x ∷ xs) (suc k) within = page_there xs k (omega arith)
@@ -170,11 +171,11 @@ module _ (image : Image) (is : IsImage image) (frames : ℕ) (fits : length imag
         let first = first_world image is frames k 0 w refl (omega (arith, is.page_count, most_pages image.form)) in
         let number : x.number < pages_of image.form = number_below image is k x there.1 in
         let so : P v = stays.map w first_name x.number (x.number + 1) (omega (arith, number, ap (λ s. s.pages) first.size)) (so_after_pages k (omega arith)) in
-        let live = (mapped_world image is k x there.1 frames fits w v refl refl).live in
+        let live = (mapped_world image is k x there.1 frames fits w refl).live in
         let next : k + 1 ≡ suc k = omega arith in
         subst (λ (n : ℕ). P (world_so_far image frames n 0)) next
         (stays.store v (world_so_far image frames (k + 1) 0) first_name 0 (page_piece x.number x.bytes) so live
-        (page_stored image is k x there.1 frames fits w v refl refl))
+        (page_stored image is k x there.1 frames fits w refl))
 
     so_after_slots : (n : ℕ) → P (world_so_far image frames (length image.pages) n)
     so_after_slots zero = so_after_pages (length image.pages) (omega arith)
@@ -209,6 +210,11 @@ module _ (image : Image) (is : IsImage image) (frames : ℕ) (fits : length imag
         slot = λ w n. files-put_slot io w first_name n (first_slot image.slots n) (first_in_range image.files requests image.slots is.slots.files n);
       })
 
+-- the image alone fits, where it does with a vault
+pub image_fits : (image : Image) (vault : Option Vault) (frames : ℕ) → pages_in image vault ≤ frames → length image.pages ≤ frames
+image_fits image None frames fits = fits
+image_fits image (Some v) frames fits = omega (arith, fits)
+
 -- the machine of a run's start is ready
 pub ready_run_start : (inputs : Inputs) → CanOpen inputs → inputs.settings.job ≡ Run → inputs.requests ≡ [] → IsReady inputs 0 (machine_at inputs Run)
 unfolding start_world first_threads world_with thread_count
@@ -222,9 +228,9 @@ ready_run_start inputs can job none =
       few_requests = omega (arith, ap (λ (l : List (List ℕ)). length l) none);
       serve = tt;
       size = refl;
-      sound = sound_start image can.image frames can.fits;
+      sound = sound_start image can.image frames (image_fits image inputs.vault frames can.fits);
       named = named_first image frames (length image.pages) image.pages;
-      files = files_start image can.image frames can.fits inputs.requests;
+      files = files_start image can.image frames (image_fits image inputs.vault frames can.fits) inputs.requests;
       given_files = refl;
       given_requests = refl;
       reaped = reaped_first image.form frames (length image.pages) (first_context image image.pages 64) inputs.settings.budget entries can.image.some_thread;

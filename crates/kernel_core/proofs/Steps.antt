@@ -8,6 +8,7 @@ use Rattle.std.proofs.lemmas.Option.{get_or_from_slice_get, slice_get-get_or}
 use Rattle.std.proofs.lemmas.List.Sums.{sum_by-le}
 use Rattle.std.proofs.lemmas.List.Elements.{All-cons, All-get_or, All-nil, All-weaker}
 use Rattle.guest_image.specs.declared.image.Image.{Image}
+use Rattle.guest_image.specs.declared.image.Vault.{Vault}
 use Rattle.guest_isa.specs.declared.instr.Instr.{Instr}
 use Rattle.guest_machine.specs.Advances.{advanced}
 use Rattle.kernel_core.proofs.Finished.{ended_none, finished-push}
@@ -22,7 +23,7 @@ use Rattle.kernel_core.specs.Kernel.{CanOpen, History, machine_of, stepped, turn
 use Rattle.kernel_core.specs.Machine.{Environment, Machine, Serve, has_ended, homes, homes_of, in_serve, is_ended, recorded, reply_of, steps_after, steps_for_requests, steps_left, work}
 use Rattle.kernel_core.specs.Ready.{CanAct, HasItsJob, IsReady, IsReadyServe, IsReadyThread, IsRunnable, IsWorker, WhileRunning}
 use Rattle.kernel_core.specs.Runs.{frames_of, last_finished, peak, run}
-use Rattle.kernel_core.specs.Start.{Inputs, serve_at, start, thread_count, threads_at, world_for}
+use Rattle.kernel_core.specs.Start.{Inputs, serve_at, start, thread_count, threads_at, with_its_vault, world_for}
 use Rattle.kernel_core.specs.Steady.{IsSteady, history, machine}
 use Rattle.kernel_core.specs.Step.{AfterStep, Outcome, advance_outcome, after_outcome, after_thread, begin_next, beside, contexts_of, finish, finished_in, finished_of, finishes, guest_calls, only, roots, step, step_by, thread_outcome, unchanged, with_status, with_world}
 use Rattle.kernel_core.specs.declared.acting.Change.{Change}
@@ -121,7 +122,7 @@ steady_as m most now h after peak_is is steady =
 
 -- a kernel whose parts are those of a start
 pub steady_start : (inputs : Inputs) (steps : List ℕ) (room : ℕ) (threads : List Thread) (w : World) (io : Channels) (text : List Instr) (serve : Option Serve) (most : ℕ) → CanOpen inputs →
-    room ≤ MOST_STEPS → steps ≡ [] → threads ≡ threads_at inputs.image inputs.settings.budget inputs.settings.job → w ≡ world_for inputs.image inputs.settings.frames inputs.settings.job →
+    room ≤ MOST_STEPS → steps ≡ [] → threads ≡ threads_at inputs.image inputs.settings.budget inputs.settings.job → w ≡ with_its_vault (world_for inputs.image inputs.settings.frames inputs.settings.job) inputs.vault →
     io ≡ channels.opened inputs.image.files inputs.requests → text ≡ inputs.image.text → serve ≡ serve_at inputs.settings.job inputs.settings.budget (length inputs.requests) → most ≡ used w →
     IsSteady (machine w io threads text serve) most (record { inputs = inputs; steps = steps; room = room })
 unfolding machine_of start
@@ -131,10 +132,10 @@ steady_start inputs steps room threads w io text serve most can short none threa
     (record { inputs = can; machine = begun; peak = used_is ∙ ap used world_is; room = omega (arith, short) })
 
 -- the history of a kernel's parts after one more step
-pub one_longer : (image : Image) (requests : List (List ℕ)) (settings : Settings) (steps after : List ℕ) (room t : ℕ) (value : History) →
-    history image requests settings steps room ≡ value → after ≡ steps ++ t ∷ [] → history image requests settings after (room - 1) ≡ longer value t
-one_longer image requests settings steps after room t value is appended =
-    ap (λ (l : List ℕ). history image requests settings l (room - 1)) appended ∙ ap (λ h. longer h t) is
+pub one_longer : (image : Image) (vault : Option Vault) (requests : List (List ℕ)) (settings : Settings) (steps after : List ℕ) (room t : ℕ) (value : History) →
+    history image vault requests settings steps room ≡ value → after ≡ steps ++ t ∷ [] → history image vault requests settings after (room - 1) ≡ longer value t
+one_longer image vault requests settings steps after room t value is appended =
+    ap (λ (l : List ℕ). history image vault requests settings l (room - 1)) appended ∙ ap (λ h. longer h t) is
 
 -- what a step makes of a kernel
 pub record IsMade (m : Machine) (most t : ℕ) (after : AfterStep) (h : History) : Type 0 where

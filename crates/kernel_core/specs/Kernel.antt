@@ -1,7 +1,10 @@
 -- What contracts see of a kernel.
-use Rattle.std.specs.Prelude.{◌≡◌, ℕ, ◌-◌, ◌++◌, ◌∷◌, ◌≤◌, [], All, if◌then◌else◌, List, None, Option, length, slice_get}
+use Rattle.std.specs.Prelude.{◌≡◌, ◌≢◌, ℕ, ◌+◌, ◌-◌, ◌++◌, ◌∷◌, ◌≤◌, [], All, if◌then◌else◌, IfSome, List, None, Option, Some, length, slice_get}
 use Rattle.std.specs.Option.{option_map}
-use Rattle.guest_image.specs.Limits.{IsImage}
+use Rattle.guest_image.specs.Limits.{IsImage, IsVault, pages_of}
+use Rattle.guest_image.specs.declared.image.Image.{Image}
+use Rattle.guest_image.specs.declared.image.TheConstants.{VAULT_SLOT}
+use Rattle.guest_image.specs.declared.image.Vault.{Vault}
 use Rattle.kernel_core.specs.Machine.{Machine, is_ended, recorded}
 use Rattle.kernel_core.specs.Runs.{last_finished, run}
 use Rattle.kernel_core.specs.Settings.{IsSettings}
@@ -24,11 +27,24 @@ abbrev pub MayHave : Job → List (List ℕ) → Type 0
 MayHave Run requests = requests ≡ []
 MayHave (Serve workers) requests = AreRequests requests
 
--- what a kernel can be opened with: an image that fits the frames, settings, and requests of their job
+-- the number of pages of an image, and of the vault beside it if there is one
+abbrev pub pages_in : Image → Option Vault → ℕ
+pages_in image None = length image.pages
+pages_in image (Some v) = length image.pages + length v.pages
+
+-- a run of an image may have a vault: one for its text and its form, where no slot of the image is the vault's
+pub record CanKeep (image : Image) (job : Job) (v : Vault) : Type 0 where
+  pub run : job ≡ Run
+  pub vault : IsVault (length image.text) (pages_of image.form) v
+  pub free : All (λ s. s.slot ≢ VAULT_SLOT) image.slots
+
+-- what a kernel can be opened with: an image, and a vault for it or none, that fit the frames together,
+-- settings, and requests of their job
 pub record CanOpen (inputs : Inputs) : Type 0 where
   pub image : IsImage inputs.image
+  pub vault : IfSome inputs.vault (CanKeep inputs.image inputs.settings.job)
   pub settings : IsSettings inputs.settings
-  pub fits : length inputs.image.pages ≤ inputs.settings.frames
+  pub fits : pages_in inputs.image inputs.vault ≤ inputs.settings.frames
   pub requests : MayHave inputs.settings.job inputs.requests
 
 -- a kernel: what it was opened with, the steps that it has kept, and how many more it has room for

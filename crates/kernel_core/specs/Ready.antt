@@ -2,6 +2,8 @@
 use Rattle.std.specs.Prelude.{◌≡◌, ℕ, ◌+◌, ◌*◌, ◌≤◌, ◌<◌, false, true, List, [], ◌∷◌, length, map, All, IfSome}
 use Rattle.std.specs.List.{Contains}
 use Rattle.guest_image.specs.Limits.{IsImage}
+use Rattle.guest_image.specs.declared.image.PageImage.{PageImage}
+use Rattle.guest_image.specs.declared.image.TheConstants.{MOST_VAULT_PAGES}
 use Rattle.kernel_core.specs.Machine.{Environment, Machine, Serve, home_of}
 use Rattle.lwc_base.specs.Jobs.{NamesKeepToJobs}
 use Rattle.kernel_core.specs.Start.{Inputs, first_name, home_context, thread_count, world_size}
@@ -14,7 +16,11 @@ use Rattle.lwc_base.specs.declared.name.Name.{Name}
 use Rattle.lwc_base.specs.Channels.{Channels, HasItsFiles}
 use Rattle.lwc_base.specs.Holders.{IsGroup}
 use Rattle.lwc_base.specs.Life.{HasItsContexts, IsReaped}
+use Rattle.lwc_base.specs.Mapping.{map_pages}
 use Rattle.lwc_base.specs.Ranges.{ranges_of}
+use Rattle.lwc_base.specs.Store as stores
+use Rattle.lwc_base.specs.Store.{Stored, store}
+use Rattle.lwc_base.specs.declared.page.TheConstants.{PAGE_BYTES}
 use Rattle.lwc_base.specs.Sound.{HasItsGroups, IsSound}
 use Rattle.lwc_base.specs.Cells.{put_slot}
 use Rattle.lwc_base.specs.Sharing.{clone_context, needs_group, ranges_after_clone}
@@ -86,7 +92,7 @@ pub record IsCounted (most : ℕ) (n : Counters) : Type 0 where
 
 -- the most that a job has counted after this number of steps: what a start has, and two more a step
 abbrev pub most_counted : ℕ → ℕ
-most_counted steps = MOST_PAGES + 1 + MOST_THREADS + 2 * steps
+most_counted steps = MOST_PAGES + MOST_VAULT_PAGES + 1 + MOST_THREADS + 2 * steps
 
 -- the job of a worker: while it runs that of a request that has been begun, and else 0
 abbrev pub HasItsJob : Serve → ThreadStatus → ℕ → Type 0
@@ -139,6 +145,27 @@ pub record KeepsContexts (e : Environment) (x : Thread) (outcome : Outcome) : Ty
   pub job : outcome.thread.job ≡ x.job
   pub live : (c : Name) → is_live e.world c ≡ true → is_live outcome.environment.world c ≡ true
   pub requests : outcome.environment.channels.requests ≡ e.channels.requests
+
+-- the world once a page is mapped in a context
+abbrev pub mapped : World → Name → PageImage → World
+mapped w c page = map_pages w c page.number (page.number + 1)
+
+-- the store of a page's bytes at its place
+abbrev pub page_stored : World → Name → PageImage → Stored
+page_stored w c page = store w c 0 (record { at = page.number * PAGE_BYTES; bytes = page.bytes })
+
+-- a page may be mapped in a context and then stored, whole and for job 0
+pub record CanPutPage (w : World) (c : Name) (page : PageImage) : Type 0 where
+  pub live : IsLive w c
+  pub number : page.number < w.size.pages
+  pub whole : length page.bytes ≡ PAGE_BYTES
+  pub few : ranges_of (mapped w c page) c ≤ MOST_RANGES
+  pub stays : IsLive (mapped w c page) c
+  pub size : (mapped w c page).size.pages ≡ w.size.pages
+  pub most : w.size.pages ≤ MOST_PAGES
+  pub may : MayName (mapped w c page) 0
+  pub after : World
+  pub stored : page_stored (mapped w c page) c page ≡ stores.Done after
 
 -- one more home may be made from the first context of a world: the next one, which lives then
 pub record CanPutHome (w : World) (home : Name) : Type 0 where

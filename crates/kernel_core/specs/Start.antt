@@ -7,6 +7,8 @@ use Rattle.guest_image.specs.declared.image.Form.{Form}
 use Rattle.guest_image.specs.declared.image.Image.{Image}
 use Rattle.guest_image.specs.declared.image.PageImage.{PageImage}
 use Rattle.guest_image.specs.declared.image.SlotImage.{SlotImage}
+use Rattle.guest_image.specs.declared.image.TheConstants.{VAULT_SLOT}
+use Rattle.guest_image.specs.declared.image.Vault.{Vault}
 use Rattle.guest_image.specs.Limits.{pages_of}
 use Rattle.kernel_core.specs.Machine as machine
 use Rattle.kernel_core.specs.Machine.{Machine, home_of, homes_of}
@@ -17,11 +19,12 @@ use Rattle.kernel_core.specs.declared.settings.Settings.{Settings}
 use Rattle.kernel_core.specs.declared.thread.Thread.{Thread}
 use Rattle.lwc_base.specs.declared.cell.Cell.TheVariants.{Own}
 use Rattle.lwc_base.specs.declared.descriptor.Descriptor.{Descriptor}
-use Rattle.lwc_base.specs.declared.descriptor.Descriptor.TheVariants.{Empty, Console, File}
+use Rattle.lwc_base.specs.declared.descriptor.Descriptor.TheVariants.{Empty, Console, Ctx, File}
 use Rattle.lwc_base.specs.declared.descriptor.TheConstants.{SLOTS}
 use Rattle.lwc_base.specs.declared.fault.ThreadStatus.TheVariants.{Running}
 use Rattle.lwc_base.specs.declared.key.Key.{Key}
 use Rattle.lwc_base.specs.declared.key.Key.TheVariants.{Page, Slot, Cred}
+use Rattle.lwc_base.specs.declared.key.TheConstants.{NOBODY}
 use Rattle.lwc_base.specs.declared.limits.TheConstants.{MOST_CONTEXTS, MOST_GROUPS, MOST_JOBS}
 use Rattle.lwc_base.specs.declared.name.Name.{Name}
 use Rattle.lwc_base.specs.declared.name.Tag.{Tag}
@@ -29,15 +32,18 @@ use Rattle.lwc_base.specs.declared.page.PageValue.{PageValue}
 use Rattle.lwc_base.specs.declared.page.PageValue.TheVariants.{Data}
 use Rattle.lwc_base.specs.declared.right.Right.TheVariants.{Write}
 use Rattle.lwc_base.specs.declared.size.WorldSize.{WorldSize}
+use Rattle.lwc_base.specs.Capabilities.{empty_cap}
+use Rattle.lwc_base.specs.Cells.{put_slot}
 use Rattle.lwc_base.specs.Channels.{opened}
 use Rattle.lwc_base.specs.Keys.{ValueOf}
 use Rattle.lwc_base.specs.Names.{name_cmp}
 use Rattle.lwc_base.specs.Registers.{fresh_registers}
-use Rattle.lwc_base.specs.World.{World, Context, Counters}
+use Rattle.lwc_base.specs.World.{World, Context, Counters, change_counters}
 
--- what a kernel is opened with: an image, requests, and settings
+-- what a kernel is opened with: an image, a vault beside it if there is one, requests, and settings
 pub record Inputs : Type 0 where
   pub image : Image
+  pub vault : Option Vault
   pub requests : List (List ℕ)
   pub settings : Settings
 
@@ -50,14 +56,15 @@ threads_for image (Serve workers) = workers
 unfoldable pub thread_count : Inputs → ℕ
 thread_count inputs = threads_for inputs.image inputs.settings.job
 
--- the tag of the image's k-th page
+-- the k-th tag of job 0, which the image's k-th page has
 abbrev pub image_tag : ℕ → Tag
 image_tag k = record { job = 0; k = k }
 
--- what is under a page at the start: the image's bytes for it, under the tag of their place in the image
-unfoldable pub first_page : List PageImage → ℕ → Option PageValue
-first_page pages p =
-    option_map (λ e. Data (image_tag e.0) e.1.bytes) (find (λ e. e.1.number == p) (enumerate_from 0 pages))
+-- what is under a page at the start: its bytes, under the tag of their place among these pages, counted from the
+-- number of tags that are taken
+unfoldable pub first_page : ℕ → List PageImage → ℕ → Option PageValue
+first_page taken pages p =
+    option_map (λ e. Data (image_tag e.0) e.1.bytes) (find (λ e. e.1.number == p) (enumerate_from taken pages))
 
 -- what is in a slot at the start: the console in 0 and 1, else the beginning of the image's file, or nothing
 unfoldable pub first_slot : List SlotImage → ℕ → Descriptor
@@ -66,7 +73,7 @@ first_slot slots n =
 
 -- what is under each key at the start, with the slots below a number filled
 abbrev pub first_value : Image → List PageImage → ℕ → (k : Key) → ValueOf k
-first_value image pages slots (Page p) = first_page pages p
+first_value image pages slots (Page p) = first_page 0 pages p
 first_value image pages slots (Slot n) = if nat_lt n slots then first_slot image.slots n else Empty
 first_value image pages slots Cred = image.uid
 
@@ -178,6 +185,45 @@ world_for image frames (Serve workers) = serve_world image frames workers
 unfoldable pub first_workers : ℕ → ℕ → List Thread
 first_workers entry workers = map (λ home. waiting home (fresh_registers entry)) (homes_of workers)
 
+-- the name of a vault's context: the second one of job 0
+abbrev pub vault_name : Name
+vault_name = record { job = 0; k = 1 }
+
+-- what is under each key of a vault: its pages' bytes, empty slots, and the uid of nobody
+abbrev pub vault_value : ℕ → List PageImage → (k : Key) → ValueOf k
+vault_value taken pages (Page p) = first_page taken pages p
+vault_value taken pages (Slot n) = Empty
+vault_value taken pages Cred = NOBODY
+
+-- the context of a vault with these pages, once this number of tags is taken
+unfoldable pub vault_context : ℕ → ℕ → List PageImage → Context
+vault_context taken entry pages = record {
+  cell = λ k. Own (vault_value taken pages k);
+  right = λ p. Write;
+  entry = fresh_registers entry;
+  saved = λ t. None;
+}
+
+-- the world with one context more, which job 0 has named, and for which it has taken this number of tags
+unfoldable pub with_context : World → Name → ℕ → Context → World
+with_context w c tags x =
+    change_counters (record w { contexts = fm.insert w.contexts c x }) 0
+    (λ n. record n { contexts = n.contexts + 1; tags = n.tags + tags })
+
+-- the world with the context of a vault that has these pages
+abbrev pub vault_so_far : World → ℕ → List PageImage → World
+vault_so_far w entry pages =
+    with_context w vault_name (length pages) (vault_context (w.next 0).tags entry pages)
+
+-- the world with a vault: its context, and in the vault's slot of the first context a descriptor without a key
+unfoldable pub with_vault : World → Vault → World
+with_vault w v = put_slot (vault_so_far w v.entry v.pages) first_name VAULT_SLOT (Ctx vault_name empty_cap)
+
+-- the world with its vault, if it has one
+abbrev pub with_its_vault : World → Option Vault → World
+with_its_vault w None = w
+with_its_vault w (Some v) = with_vault w v
+
 -- the threads of a start, by the job
 abbrev pub threads_at : Image → ℕ → Job → List Thread
 threads_at image budget Run = first_threads budget image.entries
@@ -194,7 +240,7 @@ unfoldable pub start : Inputs → Machine
 start inputs = record {
   threads = threads_at inputs.image inputs.settings.budget inputs.settings.job;
   environment = record {
-    world = world_for inputs.image inputs.settings.frames inputs.settings.job;
+    world = with_its_vault (world_for inputs.image inputs.settings.frames inputs.settings.job) inputs.vault;
     channels = opened inputs.image.files inputs.requests;
   };
   text = inputs.image.text;

@@ -1,6 +1,7 @@
 -- What each kernel keeps true of itself.
 use Rattle.std.specs.Prelude.{◌≡◌, ℕ, ◌+◌, ◌≤◌, List, Option, length}
 use Rattle.guest_image.specs.declared.image.Image.{Image}
+use Rattle.guest_image.specs.declared.image.Vault.{Vault}
 use Rattle.guest_isa.specs.declared.instr.Instr.{Instr}
 use Rattle.kernel_core.specs.Kernel.{CanOpen, History, machine_of}
 use Rattle.kernel_core.specs.Machine.{Machine, Serve}
@@ -14,9 +15,9 @@ use Rattle.lwc_base.specs.Channels.{Channels}
 use Rattle.lwc_base.specs.World.{World}
 
 -- the history of a kernel's parts
-abbrev pub history : Image → List (List ℕ) → Settings → List ℕ → ℕ → History
-history image requests settings steps room = record {
-  inputs = record { image = image; requests = requests; settings = settings };
+abbrev pub history : Image → Option Vault → List (List ℕ) → Settings → List ℕ → ℕ → History
+history image vault requests settings steps room = record {
+  inputs = record { image = image; vault = vault; requests = requests; settings = settings };
   steps = steps;
   room = room;
 }

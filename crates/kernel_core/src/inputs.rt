@@ -1,5 +1,5 @@
 use crate::settings::Settings;
-use guest_image::Image;
+use guest_image::{Image, Vault};
 use lwc_base::Requests;
 use std::marker::Model;
 
@@ -8,6 +8,7 @@ use std::marker::Model;
 #[derive(Drop)]
 pub struct Inputs {
     pub image: Image,
+    pub vault: Option<Vault>,
     pub requests: Requests,
     pub settings: Settings,
 }
@@ -17,5 +18,10 @@ impl Model for Inputs {
 
     ghost Value = { Inputs };
 
-    ghost view = { λ i. record { image = i.image; requests = i.requests; settings = i.settings } };
+    ghost view = { λ i. record {
+      image = i.image;
+      vault = i.vault;
+      requests = i.requests;
+      settings = i.settings;
+    } };
 }

@@ -2,9 +2,10 @@ ghost use Rattle.std.specs.Prelude.{◌≡◌, ◌≢◌, ◌<◌, All, ◌≤�
 ghost use Rattle.std.specs.Prelude.{true, None, IfErr, IfOk, IfSome, IsOk, OnErr, OnOk, Some, length};
 ghost use Rattle.std.specs.Prelude.{vec_capacity, vec_len};
 ghost use Rattle.guest_image.specs.Limits.{IsImage};
+ghost use Rattle.guest_image.specs.declared.image.TheConstants.{MOST_VAULT_PAGES};
 ghost use Rattle.guest_machine.specs.Advances.{advanced};
 ghost use Rattle.kernel_core.specs.Kernel as spec;
-ghost use Rattle.kernel_core.specs.Kernel.{CanOpen, MayHave, machine_of};
+ghost use Rattle.kernel_core.specs.Kernel.{CanKeep, CanOpen, MayHave, machine_of};
 ghost use Rattle.kernel_core.specs.Machine.{homes_of, is_ended, reply_of, steps_after, steps_for_requests};
 ghost use Rattle.kernel_core.specs.Machine.{steps_left, work};
 ghost use Rattle.kernel_core.specs.Machine as machines;
@@ -25,10 +26,10 @@ ghost use Rattle.world_face.specs.Calls.{IsLive};
 use crate::acting::{Change, step_thread};
 use crate::serve::{Serve, home_of, recorded, worker_count};
 use crate::settings::{Job, OpenFault, Settings};
-use crate::starting::{first_serve, open_channels, threads_at, world_for};
+use crate::starting::{first_serve, open_channels, threads_at, world_with_vault};
 use crate::thread::{Thread, ThreadView, Turn};
 use arrayvec::ArrayVec;
-use guest_image::Image;
+use guest_image::{Image, Vault};
 use guest_isa::Text;
 use guest_machine::Advance;
 use lwc_base::{Channels, Name, OutOfMemory, Requests, ThreadStatus};
@@ -44,6 +45,7 @@ use world_face::World;
 #[derive(Drop)]
 pub struct Kernel<W: World> {
     image: Snapshot<Image>,
+    vault: Option<Snapshot<Vault>>,
     requests: Snapshot<Requests>,
     settings: Settings,
     text: Text,
@@ -68,17 +70,20 @@ pub struct Parts<W: World> {
 
 impl<W: World> Model for Kernel<W> {
     ghost use Rattle.std.specs.Prelude.{◌+◌, ◌≤◌, vec_len, vec_capacity};
+    ghost use Rattle.std.specs.Option.{option_map};
     ghost use Rattle.kernel_core.specs.Kernel.{History};
 
     ghost Value = { History };
 
     ghost use Rattle.kernel_core.specs.Steady.{IsSteady, history, machine};
 
-    ghost view = { λ k. history k.image.value k.requests.value k.settings k.schedule.items k.room };
+    ghost view = { λ k. history k.image.value (option_map (λ v. v.value) k.vault) k.requests.value k.settings k.schedule.items
+        k.room };
 
     ghost invariant = { λ k. (vec_len k.schedule + k.room ≤ vec_capacity k.schedule)
         × IsSteady (machine (W.seen k.world) k.channels k.threads.items k.text k.serve) k.peak
-        (history k.image.value k.requests.value k.settings k.schedule.items k.room) };
+        (history k.image.value (option_map (λ v. v.value) k.vault) k.requests.value k.settings k.schedule.items
+        k.room) };
 }
 
 impl<W: World> Kernel<W> {
@@ -100,41 +105,118 @@ impl<W: World> Kernel<W> {
         requires settings { IsSettings settings.now }
         requires requests { MayHave settings.now.job requests }
         requires steps { steps ≤ MOST_STEPS }
-        ensures opened { IfOk result (λ k. k ≡ spec.opened
-            (record { image = image.now; requests = requests; settings = settings.now }) steps) }
+        ensures opened { IfOk result (λ k. k ≡ spec.opened (record {
+          image = image.now;
+          vault = None;
+          requests = requests;
+          settings = settings.now;
+        }) steps) }
         ensures too_large { settings.now.frames < length image.now.pages →
             result ≡ Err (OpenFault.ImageTooLarge (length image.now.pages) settings.now.frames) }
         ensures fits { length image.now.pages ≤ settings.now.frames →
             IfErr result (λ fault. fault ≡ OpenFault.OutOfMemory) }
     {
-        let pages = image.pages.len() as u32;
+        Kernel::open_at(alloc, image, None, requests, steps, settings)
+    }
+
+    /// A kernel at the start of a run of an image with a vault beside its first context. It is else opened as
+    /// by `open`.
+    ///
+    /// # Errors
+    ///
+    /// `ImageTooLarge` exactly where the image and the vault together have more pages than there are frames,
+    /// which is tested before memory is taken, and has that sum; or `OutOfMemory`.
+    pub fn open_with_vault(
+        alloc: Global,
+        image: &Image,
+        vault: &Vault,
+        steps: u32,
+        settings: &Settings,
+    ) -> Result<Kernel<W>, OpenFault>
+        requires image { IsImage image.now }
+        requires vault { CanKeep image.now settings.now.job vault.now }
+        requires settings { IsSettings settings.now }
+        requires steps { steps ≤ MOST_STEPS }
+        ensures opened { IfOk result (λ k. k ≡ spec.opened (record {
+          image = image.now;
+          vault = Some vault.now;
+          requests = [];
+          settings = settings.now;
+        }) steps) }
+        ensures too_large { settings.now.frames < length image.now.pages + length vault.now.pages →
+            result ≡ Err (OpenFault.ImageTooLarge (length image.now.pages + length vault.now.pages)
+            settings.now.frames) }
+        ensures fits { length image.now.pages + length vault.now.pages ≤ settings.now.frames →
+            IfErr result (λ fault. fault ≡ OpenFault.OutOfMemory) }
+    {
+        let requests = Requests::of(Vec::new(alloc));
+        Kernel::open_at(alloc, image, Some(vault), requests, steps, settings)
+    }
+
+    /// A kernel at the start of an image, with a vault if one is given.
+    fn open_at(
+        alloc: Global,
+        image: &Image,
+        vault: Option<&Vault>,
+        requests: Requests,
+        steps: u32,
+        settings: &Settings,
+    ) -> Result<Kernel<W>, OpenFault>
+        requires image { IsImage image.now }
+        requires vault { IfSome vault (λ v. CanKeep image.now settings.now.job v.now) }
+        requires settings { IsSettings settings.now }
+        requires requests { MayHave settings.now.job requests }
+        requires steps { steps ≤ MOST_STEPS }
+        ensures opened { IfOk result (λ k. k ≡ spec.opened (record {
+          image = image.now;
+          vault = option_map (λ v. v.now) vault.entry;
+          requests = requests;
+          settings = settings.now;
+        }) steps) }
+        ensures too_large { settings.now.frames < spec.pages_in image.now (option_map (λ v. v.now) vault.entry) →
+            result ≡ Err (OpenFault.ImageTooLarge (spec.pages_in image.now (option_map (λ v. v.now) vault.entry))
+            settings.now.frames) }
+        ensures fits { spec.pages_in image.now (option_map (λ v. v.now) vault.entry) ≤ settings.now.frames →
+            IfErr result (λ fault. fault ≡ OpenFault.OutOfMemory) }
+    {
+        let pages = pages_in(image, vault);
         if pages > settings.frames {
             return Err(OpenFault::ImageTooLarge {
                 pages,
                 frames: settings.frames,
             });
         }
-        match Kernel::start(alloc, image, requests, steps, settings) {
+        match Kernel::start(alloc, image, vault, requests, steps, settings) {
             Ok(kernel) => Ok(kernel),
             Err(_) => Err(OpenFault::OutOfMemory),
         }
     }
 
-    /// A kernel at the start of an image that has no more pages than there are frames.
+    /// A kernel at the start of an image, with a vault if one is given, that have no more pages than there are
+    /// frames.
     fn start(
         alloc: Global,
         image: &Image,
+        vault: Option<&Vault>,
         requests: Requests,
         steps: u32,
         settings: &Settings,
     ) -> Result<Kernel<W>, OutOfMemory>
-        requires inputs { CanOpen
-            (record { image = image.now; requests = requests; settings = settings.now }) }
+        requires inputs { CanOpen (record {
+          image = image.now;
+          vault = option_map (λ v. v.now) vault;
+          requests = requests;
+          settings = settings.now;
+        }) }
         requires steps { steps ≤ MOST_STEPS }
-        ensures { IfOk result (λ k. k ≡ spec.opened
-            (record { image = image.now; requests = requests; settings = settings.now }) steps) }
+        ensures { IfOk result (λ k. k ≡ spec.opened (record {
+          image = image.now;
+          vault = option_map (λ v. v.now) vault.entry;
+          requests = requests;
+          settings = settings.now;
+        }) steps) }
     {
-        let world: W = world_for(alloc, image, settings.frames, settings.job)?;
+        let world: W = world_with_vault(alloc, image, vault, settings)?;
         let serve = first_serve(alloc, settings, requests.len())?;
         let asked = Snapshot::of(&requests);
         let channels = open_channels(alloc, image, requests)?;
@@ -144,6 +226,7 @@ impl<W: World> Kernel<W> {
         let peak = world.used();
         Ok(Kernel {
             image: Snapshot::of(image),
+            vault: snapshot_of(vault),
             requests: asked,
             settings: *settings,
             text,
@@ -466,4 +549,27 @@ fn work_left(threads: &[Thread], more: u32) -> u32
     ensures { result ≡ sum_by (λ x. steps_left more x.budget x.status) threads.now }
 {
     threads.iter().map(|thread| thread.steps_left(more)).sum()
+}
+
+/// The number of pages of an image, and of a vault if one is given.
+fn pages_in(image: &Image, vault: Option<&Vault>) -> u32
+    requires image { IsImage image.now }
+    requires vault { IfSome vault (λ v. length v.now.pages ≤ MOST_VAULT_PAGES) }
+    ensures { result ≡ spec.pages_in image.now (option_map (λ v. v.now) vault.entry) }
+{
+    let pages = image.pages.len() as u32;
+    match vault {
+        None => pages,
+        Some(vault) => pages + vault.pages.len() as u32,
+    }
+}
+
+/// A snapshot of a vault, if one is given.
+fn snapshot_of(vault: Option<&Vault>) -> Option<Snapshot<Vault>>
+    ensures { option_map (λ v. v.value) result ≡ option_map (λ v. v.now) vault.entry }
+{
+    match vault {
+        None => None,
+        Some(vault) => Some(Snapshot::of(vault)),
+    }
 }

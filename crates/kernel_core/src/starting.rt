@@ -1,9 +1,12 @@
-ghost use Rattle.std.specs.Prelude.{[], ◌≡◌, ◌≢◌, ◌==◌, ◌<◌, ◌≤◌, ◌+◌, IfOk, OnOk, length, take};
+ghost use Rattle.std.specs.Prelude.{[], ◌≡◌, ◌≢◌, ◌==◌, ◌<◌, ◌≤◌, ◌+◌, IfOk, IfSome, OnOk, length, take};
 ghost use Rattle.std.specs.List.{find};
-ghost use Rattle.guest_image.specs.Limits.{IsImage};
+ghost use Rattle.std.specs.Option.{option_map};
+ghost use Rattle.guest_image.specs.Limits.{IsImage, IsVault, pages_of};
 ghost use Rattle.kernel_core.specs.Start as spec;
-ghost use Rattle.kernel_core.specs.Kernel.{AreRequests};
-ghost use Rattle.kernel_core.specs.Settings.{IsJob};
+ghost use Rattle.kernel_core.specs.Kernel.{AreRequests, CanKeep, pages_in};
+ghost use Rattle.kernel_core.specs.Ready.{CanPutPage, mapped, page_stored};
+ghost use Rattle.kernel_core.specs.Settings.{IsJob, IsSettings};
+ghost use Rattle.lwc_base.specs.Store as stores;
 ghost use Rattle.lwc_base.specs.Channels.{opened};
 ghost use Rattle.lwc_base.specs.Lending.{descriptor_of};
 ghost use Rattle.lwc_base.specs.declared.descriptor.TheConstants.{SLOTS};
@@ -13,10 +16,11 @@ use crate::serve::{Serve, home_of};
 use crate::settings::{Job, Settings};
 use crate::thread::Thread;
 use arrayvec::ArrayVec;
-use guest_image::{Image, SlotImage};
+use guest_image::{Image, PageImage, SlotImage, VAULT_SLOT, Vault};
 use lwc_base::{
-    Channels, FileImage, Lent, MOST_CONTEXTS, MOST_GROUPS, MOST_JOBS, Name, OutOfMemory,
-    PAGE_BYTES, Range, Regs, Requests, SLOTS, Sequence, Spec, StoreFault, ThreadStatus,
+    Channels, FileImage, Grant, Lent, MOST_CONTEXTS, MOST_GROUPS, MOST_JOBS, NOBODY, Name,
+    OutOfMemory, PAGE_BYTES, Range, Regs, Requests, SLOTS, Sequence, Spec, StoreFault,
+    ThreadStatus,
 };
 use std::alloc::Global;
 use world_face::{World, WorldSize};
@@ -135,8 +139,50 @@ fn copy_file(alloc: Global, file: &FileImage) -> Result<FileImage, OutOfMemory>
     })
 }
 
+/// The world of a start, by the job, and with a vault if one is given. The only error is out of memory.
+pub(crate) fn world_with_vault<W: World>(
+    alloc: Global,
+    image: &Image,
+    vault: Option<&Vault>,
+    settings: &Settings,
+) -> Result<W, OutOfMemory>
+    requires image { IsImage image.now }
+    requires vault { IfSome vault (λ v. CanKeep image.now settings.now.job v.now) }
+    requires settings { IsSettings settings.now }
+    requires fits { pages_in image.now (option_map (λ v. v.now) vault) ≤ settings.now.frames }
+    ensures { IfOk result (λ w. W.seen w ≡ spec.with_its_vault
+        (spec.world_for image.now settings.now.frames settings.now.job) (option_map (λ v. v.now) vault.entry)) }
+{
+    let mut world: W = world_for(alloc, image, settings.frames, settings.job)?;
+    if let Some(vault) = vault {
+        put_vault(&mut world, image, vault)?;
+    }
+    Ok(world)
+}
+
+/// Makes a vault beside the first context of a run's start, and puts a descriptor of it without a key into the
+/// vault's slot. The only error is out of memory.
+fn put_vault<W: World>(world: &mut W, image: &Image, vault: &Vault) -> Result<(), OutOfMemory>
+    requires image { IsImage image.now }
+    requires vault { IsVault (length image.now.text) (pages_of image.now.form) vault.now }
+    requires fits { length image.now.pages + length vault.now.pages ≤ (W.seen world.old).size.frames }
+    requires before { W.seen world.old ≡ spec.start_world image.now (W.seen world.old).size.frames }
+    ensures { OnOk result (W.seen world.new ≡ spec.with_vault (W.seen world.old) vault.now) }
+{
+    let name = world.first(NOBODY, &Regs::fresh(u64::from(vault.entry)))?;
+    'pages: for k in 0..vault.pages.len() {
+        put_page(world, name, vault.pages.get(k))?;
+    }
+    let descriptor = Lent::Ctx {
+        name,
+        keys: Grant::None,
+    };
+    world.set_slot(FIRST, VAULT_SLOT, descriptor);
+    Ok(())
+}
+
 /// The world of a start, by the job. The only error is out of memory.
-pub(crate) fn world_for<W: World>(
+fn world_for<W: World>(
     alloc: Global,
     image: &Image,
     frames: u32,
@@ -243,30 +289,26 @@ fn put_pages<W: World>(world: &mut W, image: &Image) -> Result<(), OutOfMemory>
         ≡ spec.world_so_far image.now (W.seen world.old).size.frames (length image.now.pages) 0) }
 {
     'pages: for k in 0..image.pages.len() {
-        put_page(world, image, k)?;
+        put_page(world, FIRST, image.pages.get(k))?;
     }
     Ok(())
 }
 
-/// Stores the k-th page of an image, whole and for job 0. The only error is out of memory.
-fn put_page<W: World>(world: &mut W, image: &Image, k: usize) -> Result<(), OutOfMemory>
-    requires image { IsImage image.now }
-    requires within { k < length image.now.pages }
-    requires frames { length image.now.pages ≤ (W.seen world.old).size.frames }
-    requires before { W.seen world.old ≡ spec.world_so_far image.now (W.seen world.old).size.frames k 0 }
-    ensures { OnOk result (W.seen world.new
-        ≡ spec.world_so_far image.now (W.seen world.old).size.frames (k + 1) 0) }
+/// Maps a page in a context, and stores its bytes there for job 0. The only error is out of memory.
+fn put_page<W: World>(world: &mut W, c: Name, page: &PageImage) -> Result<(), OutOfMemory>
+    requires { CanPutPage (W.seen world.old) c page.now }
+    ensures { OnOk result (page_stored (mapped (W.seen world.old) c page.now) c page.now
+        ≡ stores.Done (W.seen world.new)) }
 {
-    let page = image.pages.get(k);
     world.map(
-        FIRST,
+        c,
         Range {
             from: page.number,
             to: page.number + 1,
         },
     )?;
     let at = u32::from(page.number) * PAGE_BYTES as u32;
-    match world.store(FIRST, at, page.bytes.as_slice(), 0) {
+    match world.store(c, at, page.bytes.as_slice(), 0) {
         Ok(()) => Ok(()),
         Err(fault) => Err(out_of_memory(fault)),
     }

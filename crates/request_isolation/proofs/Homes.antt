@@ -42,14 +42,14 @@ tag_at (Some (Data tag bytes)) = Some tag
 
 -- the first home of a serve of an image
 abbrev pub home_for : Image → Home
-home_for image = record { name = home_of 0; tags = λ p. tag_at (first_page image.pages p) }
+home_for image = record { name = home_of 0; tags = λ p. tag_at (first_page 0 image.pages p) }
 
 -- the home of a number is as at the start
 abbrev pub IsHomeOf : Image → World → ℕ → Type 0
 IsHomeOf image w t = context w (home_of t) ≡ home_context image
 
 -- what a home may have under its keys, any job may have
-page_in : (image : Image) (job p : ℕ) (o : Option PageValue) → first_page image.pages p ≡ o → IsPageOf (home_for image) job p o
+page_in : (image : Image) (job p : ℕ) (o : Option PageValue) → first_page 0 image.pages p ≡ o → IsPageOf (home_for image) job p o
 page_in image job p None is = tt
 page_in image job p (Some Zero) is = tt
 page_in image job p (Some (Data tag bytes)) is = inr (ap tag_at is)
@@ -86,7 +86,7 @@ first_begun image r = record { cell = λ k. Own (begun_home image r k); right = 
 
 begun_in_home : (image : Image) (r : ℕ) → InContext (by_job (home_for image)) (r + 1) (first_begun image r)
 unfolding begun_home first_begun
-begun_in_home image r (Page p) = page_in image (r + 1) p (first_page image.pages p) refl
+begun_in_home image r (Page p) = page_in image (r + 1) p (first_page 0 image.pages p) refl
 begun_in_home image r (Slot n) = by_place (eqb n 0) (eqb n 1)
   where
     by_place : (first second : Bool) → IsSlotOf (r + 1) (cond first (Request r 0) (cond second (Reply r) (home_value image (Slot n))))
@@ -159,7 +159,7 @@ module _ (image : Image) where
 
     home_context_in : (job : ℕ) → InContext (by_job (home_for image)) job (home_context image)
     unfolding home_context
-    home_context_in job (Page p) = page_in image job p (first_page image.pages p) refl
+    home_context_in job (Page p) = page_in image job p (first_page 0 image.pages p) refl
     home_context_in job (Slot n) = slot_in image job n
     home_context_in job Cred = tt
 

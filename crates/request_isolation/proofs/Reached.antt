@@ -108,7 +108,7 @@ module _ (image : Image) (workers budget n : ℕ) (m : Machine) (s : Serve) (hol
   pub of_live : (c : Name) → is_live m.environment.world c ≡ true → IsHome c ⊎ IsServedBy m.threads c.job
   of_live c live = of_reached c ((reaped_now holds).contexts c live)
 
-  home_page : (t p : ℕ) (cell : Cell (Option PageValue)) → t < workers → (context m.environment.world (home_of t)).cell (Page p) ≡ cell → cell ≡ Own (first_page image.pages p)
+  home_page : (t p : ℕ) (cell : Cell (Option PageValue)) → t < workers → (context m.environment.world (home_of t)).cell (Page p) ≡ cell → cell ≡ Own (first_page 0 image.pages p)
   unfolding home_context
   home_page t p cell low is = sym is ∙ ap (λ (x : Context). x.cell (Page p)) (home_stays holds t low)
 

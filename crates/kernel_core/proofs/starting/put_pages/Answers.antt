@@ -1,12 +1,8 @@
-use Rattle.std.proofs.Common.{arith, rules}
-use Rattle.kernel_core.proofs.Building.{as_here, frames_here, from_here}
+use Rattle.kernel_core.proofs.Building.{image_page_can, image_page_put}
 use Rattle.kernel_core.proofs.starting.put_pages.Goals as goal
 
-pub put_page-requires-clause-frames : goal.put_page-requires-clause-frames
-put_page-requires-clause-frames g c = omega (arith, frames_here _ _ _ _ _ c.pages.invariant, c.requires.frames)
-
-pub put_page-requires-clause-before : goal.put_page-requires-clause-before
-put_page-requires-clause-before g c = let here = as_here _ _ _ _ _ c.pages.invariant in search rules
+pub put_page-requires-after_bounds : goal.put_page-requires-after_bounds
+put_page-requires-after_bounds g c κs within = image_page_can _ c.requires.image _ _ c.get.ensures _ c.requires.frames _ c.pages.invariant
 
 pub pages-preserved : goal.pages-preserved
-pages-preserved g c = from_here _ _ _ _ _ _ _ _ c.pages.invariant c.in_ok-put_page.ensures
+pages-preserved g c = image_page_put _ c.requires.image _ _ c.get.ensures _ c.requires.frames _ c.pages.invariant _ c.in_ok-put_page.ensures

@@ -99,7 +99,7 @@ invariant_of-self-2 g c =
     let made = made_here _ _ _ (as_seen _ _ _ _ c.self.view_is c.self.invariant.1) c.args.t _ _ _ _ _ _ c.requires.within c.index.ensures
     c.in_ok-effect.ensures.outcome c.in-Some.effect c.in-Some.is in
     let some = c.requires.room made.going in
-    let is = one_longer _ _ _ _ _ _ _ _ c.self.view_is c.append.ensures.steps in (
+    let is = one_longer _ _ _ _ _ _ _ _ _ c.self.view_is c.append.ensures.steps in (
       omega (arith, some, ap (λ (h : History). h.room) c.self.view_is, c.self.invariant.0, c.append.ensures.length, c.append.ensures.capacity),
       steady_as _ _ _ _ _ c.peak_after-self-inside.ensures is (made.steady some _ (reaped_as _ _ _ _ _ _ c.drop_unreached.ensures c.as_slice.ensures.value c.worker_count-workers.ensures.homes)),
     )
@@ -108,14 +108,14 @@ pub returns-clause-step : goal.returns-clause-step
 returns-clause-step g c =
     let made = made_here _ _ _ (as_seen _ _ _ _ c.self.view_is c.self.invariant.1) c.args.t _ _ _ _ _ _ c.requires.within c.index.ensures
     c.in_ok-effect.ensures.outcome c.in-Some.effect c.in-Some.is in
-    one_longer _ _ _ _ _ _ _ _ c.self.view_is c.append.ensures.steps ∙ sym made.kept
+    one_longer _ _ _ _ _ _ _ _ _ c.self.view_is c.append.ensures.steps ∙ sym made.kept
 
 pub returns-clause-turn : goal.returns-clause-turn
 returns-clause-turn g c =
     let made = made_here _ _ _ (as_seen _ _ _ _ c.self.view_is c.self.invariant.1) c.args.t _ _ _ _ _ _ c.requires.within c.index.ensures
     c.in_ok-effect.ensures.outcome c.in-Some.effect c.in-Some.is in
     subst (λ (h : History). turn h c.args.t ≡ turn_at (machine_of h) c.args.t c.in-Some.effect.finished)
-    (sym (one_longer _ _ _ _ _ _ _ _ c.self.view_is c.append.ensures.steps)) (made.turn ∙ sym (made.turn_in c.in-Some.effect.finished))
+    (sym (one_longer _ _ _ _ _ _ _ _ _ c.self.view_is c.append.ensures.steps)) (made.turn ∙ sym (made.turn_in c.in-Some.effect.finished))
 
 pub returns-clause-number : goal.returns-clause-number
 returns-clause-number g c =
@@ -123,14 +123,14 @@ returns-clause-number g c =
     c.in_ok-effect.ensures.outcome c.in-Some.effect c.in-Some.is in
     let numbered = numbered_here _ _ c.in_ok-effect.ensures.number c.in-Some.effect c.in-Some.is in
     subst (λ (h : History). c.in-Some.effect.finished ≡ option_map (λ f. f.request) (last_finished (start h.inputs) h.steps c.args.t None))
-    (sym (one_longer _ _ _ _ _ _ _ _ c.self.view_is c.append.ensures.steps))
+    (sym (one_longer _ _ _ _ _ _ _ _ _ c.self.view_is c.append.ensures.steps))
     (numbered ∙ ap (λ (o : Option Finished). option_map (λ f. f.request) o) (sym made.finished))
 
 pub returns-clause-work : goal.returns-clause-work
 returns-clause-work g c going =
     let made = made_here _ _ _ (as_seen _ _ _ _ c.self.view_is c.self.invariant.1) c.args.t _ _ _ _ _ _ c.requires.within c.index.ensures
     c.in_ok-effect.ensures.outcome c.in-Some.effect c.in-Some.is in
-    subst (λ (h : History). work (machine_of h) < work (machine_of c.args.self.now)) (sym (one_longer _ _ _ _ _ _ _ _ c.self.view_is c.append.ensures.steps)) made.less
+    subst (λ (h : History). work (machine_of h) < work (machine_of c.args.self.now)) (sym (one_longer _ _ _ _ _ _ _ _ _ c.self.view_is c.append.ensures.steps)) made.less
 
 pub drop_unreached-requires-clause-few : goal.drop_unreached-requires-clause-few
 drop_unreached-requires-clause-few g c =
