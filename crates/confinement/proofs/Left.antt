@@ -1,15 +1,19 @@
 -- What a confined step leaves as it was.
-use Rattle.std.proofs.Common.{◌≡◌, ◌≢◌, ◌⊎◌, inl, inr, ℕ, ◌<◌, true, false, Some, refl, ap, sym, subst, ◌∙◌, arith}
-use Rattle.std.specs.Prelude.{slice_get, slice_index}
+use Rattle.std.proofs.Common.{◌≡◌, ◌≢◌, ◌⊎◌, inl, inr, ℕ, ◌<◌, Bool, true, false, cond, ltb, None, Some, [], ◌∷◌, ◌++◌, refl, ap, sym, subst, ◌∙◌, arith}
+use Rattle.std.proofs.lemmas.Bool.{ltb-true}
+use Rattle.std.specs.Prelude.{is_none, slice_get, slice_index}
+use Rattle.call_items.specs.Asked.{item_refusals}
+use Rattle.guest_call.specs.Guest.{descriptor_for, link_of, slot_refusals}
+use Rattle.kernel_core.specs.Refused.{advanced_thread, refusal_in, refusal_of}
 use Rattle.guest_isa.specs.declared.instr.Instr.{Instr}
 use Rattle.guest_machine.specs.Advances.{advanced}
 use Rattle.guest_machine.specs.declared.progress.Next.TheVariants.{Shared}
 use Rattle.access_cap.specs.Kinds.{is_chosen}
-use Rattle.kernel_core.specs.Machine.{Machine}
-use Rattle.kernel_core.specs.declared.calling.TheConstants.{LW_OVERLAY, LW_SWITCH, LW_SYSCALL}
+use Rattle.kernel_core.specs.Machine.{Environment, Machine}
+use Rattle.kernel_core.specs.declared.calling.TheConstants.{LW_CREATE, LW_OVERLAY, LW_RESTRICT, LW_SWITCH, LW_SYSCALL}
 use Rattle.kernel_core.specs.declared.thread.Thread.{Thread}
 use Rattle.lwc_base.specs.declared.descriptor.Cap.{Cap}
-use Rattle.lwc_base.specs.declared.descriptor.Descriptor.TheVariants.{Ctx}
+use Rattle.lwc_base.specs.declared.descriptor.Descriptor.TheVariants.{Ctx, Empty}
 use Rattle.lwc_base.specs.declared.descriptor.TheConstants.{SLOTS}
 use Rattle.lwc_base.specs.declared.key.Key.{Key}
 use Rattle.lwc_base.specs.declared.key.Key.TheVariants.{Page}
@@ -22,13 +26,39 @@ use Rattle.lwc_base.specs.Cells.{slot_at, value_at}
 use Rattle.lwc_base.specs.Modes.{IsKey, kind_of}
 use Rattle.lwc_base.specs.Rights.{right_at}
 use Rattle.lwc_base.specs.World.{World, context, is_live, next_context}
+use Rattle.lwc_base.specs.Refusals.{first_refusal}
+use Rattle.lwc_base.specs.Summaries.{is_empty}
+use Rattle.lwc_base.specs.declared.refusal.Refusal.TheVariants.{BadFd, WrongKind}
+use Rattle.lwc_base.specs.declared.regs.Regs.{Regs}
+use Rattle.lwc_overlay.specs.RestrictCall.{ended, refusals, restrict}
 use Rattle.lwc_syscall.specs.Syscall.{mask_in}
+use Rattle.res_spec.specs.declared.items.SpecCall.TheVariants as spec_call
 use Rattle.confinement.specs.Confined.{ComesFrom, IsConfined, IsLiveInBoth, Made, OfTheCaller, Restricted, Stood}
 use Rattle.confinement.specs.May.{IsGiven, MakesCall, MayChange, OfItsOwn, OfTheChosen, OfTheGiver, OfTheTarget, regs_at, world_of}
 use Rattle.confinement.specs.One.{IsOneValue}
 
+-- an accepted restriction names a slot that there is
+restricted_slot : (w : World) (c : Name) (regs : Regs) → refusal_in (restrict w c regs).0 ≡ None → slice_index regs.r 1 < SLOTS
+unfolding restrict refusals slot_refusals descriptor_for
+restricted_slot w c regs none = by (ltb (slice_index regs.r 1) 64) refl
+  where
+    n : ℕ
+    n = slice_index regs.r 1
+
+    by : (b : Bool) → ltb n 64 ≡ b → n < 64
+    by true is = ltb-true n 64 is
+    by false is =
+        let bad : refusal_in (restrict w c regs).0 ≡ Some BadFd =
+        ap (λ b. refusal_in (ended w c regs (cond (is_empty (cond b (slot_at w c n) Empty)) (Some BadFd)
+        (first_refusal ((is_none (link_of (descriptor_for w c n)), WrongKind) ∷ (item_refusals w c spec_call.Restrict (slice_index regs.r 2) (slice_index regs.r 3) ++ []))))).0) is in
+        let no : Some BadFd ≡ None = sym bad ∙ none in cc
+
+accepted_slot : (t : ℕ) (e : Environment) (x : Thread) → refusal_of LW_RESTRICT t e x ≡ None → slice_index x.regs.r 1 < SLOTS
+unfolding refusal_of
+accepted_slot t e x none = restricted_slot e.world x.context x.regs none
+
 -- the empty capability has no key
-empty_lacks : (k : Key) → has_key empty_cap k ≡ false
+pub empty_lacks : (k : Key) → has_key empty_cap k ≡ false
 unfolding empty_cap
 empty_lacks k = zeros_have_none empty_cap refl refl refl k
 
@@ -41,19 +71,19 @@ module _ (m : Machine) (t : ℕ) (after : Machine) (confined : IsConfined m t af
 
   -- where no slot had a capability with a key for a context that the step has not made, none has one afterwards
   pub no_key : (e d : Name) (n : ℕ) (held : Cap) (k : Key) → is_live v e ≡ true → n < SLOTS → slot_at v e n ≡ Ctx d held → IsKey MOST_PAGES k →
-      ((x : Thread) → d ≢ next_context w x.job) → ((f : Name) (i : ℕ) (old : Cap) → slot_at w f i ≡ Ctx d old → has_key old k ≡ false) → has_key held k ≡ false
+      ((x : Thread) → MakesCall m t x LW_CREATE → d ≢ next_context w x.job) → ((f : Name) (i : ℕ) (old : Cap) → i < SLOTS → slot_at w f i ≡ Ctx d old → has_key old k ≡ false) → has_key held k ≡ false
   no_key e d n held k live slot is key old lacked = elim (confined.capabilities e d n held live slot is) [
-    | inl had ↦ lacked e n held had
+    | inl had ↦ lacked e n held slot had
     | inr comes ↦ by_source comes
   ]
     where
       by_source : ComesFrom m t d held → has_key held k ≡ false
-      by_source (Stood f i there in_slot had) = lacked f i held had
+      by_source (Stood f i there in_slot had) = lacked f i held in_slot had
       by_source (Restricted x whole calls given part) = elim (has_key held k) as (λ b. has_key held k ≡ b → b ≡ false) [
         | false ↦ λ is. refl
-        | true ↦ λ has. absurd (let no = lacked x.context _ whole given in let more = part k key has in cc)
+        | true ↦ λ has. absurd (let no = lacked x.context _ whole (accepted_slot t m.environment (advanced_thread m x) calls.accepted) given in let more = part k key has in cc)
       ] refl
-      by_source (Made x calls new full) = absurd (old x new)
+      by_source (Made x calls new full) = absurd (old x calls new)
       by_source (OfTheCaller x calls same empty) = ap (λ (c : Cap). has_key c k) empty ∙ empty_lacks k
 
   -- an instruction that is none of three calls changes no value but those that are its own context's

@@ -1,10 +1,11 @@
 -- What a law of confined steps says of the step before it.
-use Rattle.std.specs.Prelude.{◌≡◌, ◌≢◌, ℕ, false}
+use Rattle.std.specs.Prelude.{◌≡◌, ◌≢◌, ◌<◌, ℕ, false}
 use Rattle.kernel_core.specs.Machine.{Machine}
 use Rattle.kernel_core.specs.declared.calling.TheConstants.{LW_OVERLAY, LW_SWITCH, LW_SYSCALL}
 use Rattle.kernel_core.specs.declared.thread.Thread.{Thread}
 use Rattle.lwc_base.specs.declared.descriptor.Cap.{Cap}
 use Rattle.lwc_base.specs.declared.descriptor.Descriptor.TheVariants.{Ctx}
+use Rattle.lwc_base.specs.declared.descriptor.TheConstants.{SLOTS}
 use Rattle.lwc_base.specs.declared.key.Key.{Key}
 use Rattle.lwc_base.specs.declared.name.Name.{Name}
 use Rattle.lwc_base.specs.Capabilities.{has_key}
@@ -19,5 +20,5 @@ MakesNoneOfThree m t = (number : ℕ) (x : Thread) → MakesCall m t x number �
 
 -- no slot has a capability with this key for a context, and this is not one that a call would make next
 pub record LacksKey (w : World) (d : Name) (k : Key) : Type 0 where
-  pub slots : (e : Name) (n : ℕ) (cap : Cap) → slot_at w e n ≡ Ctx d cap → has_key cap k ≡ false
+  pub slots : (e : Name) (n : ℕ) (cap : Cap) → n < SLOTS → slot_at w e n ≡ Ctx d cap → has_key cap k ≡ false
   pub old : (job : ℕ) → d ≢ next_context w job

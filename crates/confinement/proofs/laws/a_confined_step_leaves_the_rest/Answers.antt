@@ -9,5 +9,5 @@ returns c = record {
   giver_rights = λ m after t x d cap p confined calls given differ lacks both key. uncovered_right m t after confined x d cap p calls given differ lacks both key;
   kinds = λ m after t x d k confined calls differ other both key. unchosen_cell m t after confined x d k calls differ other both key;
   kinds_rights = λ m after t x d p confined calls differ other both key. unchosen_right m t after confined x d p calls differ other both key;
-  keys = λ m after t e d n cap k confined live slot is key lacks. no_key m t after confined e d n cap k live slot is key (λ x. lacks.old x.job) lacks.slots;
+  keys = λ m after t e d n cap k confined live slot is key lacks. no_key m t after confined e d n cap k live slot is key (λ x calls. lacks.old x.job) lacks.slots;
 }
