@@ -1,0 +1,5 @@
+pub mod Stepping
+pub mod Telling
+pub mod Entering
+pub mod Staying
+pub mod Shapes

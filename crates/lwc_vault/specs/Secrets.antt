@@ -1,0 +1,54 @@
+-- Runs beside a vault, and what their reports tell of its bytes.
+use Rattle.std.specs.Prelude.{◌≡◌, ◌≢◌, ℕ, List, [], ◌∷◌, Some, slice_get}
+use Rattle.guest_image.specs.Limits.{page_numbers}
+use Rattle.guest_image.specs.declared.image.Vault.{Vault}
+use Rattle.kernel_core.specs.Histories.{IsLegal}
+use Rattle.kernel_core.specs.Machine.{Machine}
+use Rattle.kernel_core.specs.Runs.{kept}
+use Rattle.kernel_core.specs.Start.{Inputs, start, vault_name}
+use Rattle.kernel_core.specs.Step.{step, with_world}
+use Rattle.kernel_core.specs.declared.thread.Thread.{Thread}
+use Rattle.lwc_base.specs.declared.fault.ThreadStatus.TheVariants.{Running}
+use Rattle.lwc_text.specs.Report.{report_after}
+use Rattle.vault_calls.specs.Outside.{IsOutside}
+use Rattle.vault_view.specs.Blank.{blank}
+
+-- the machine with zero bytes in each page of the vault, the tags kept
+abbrev pub blank_machine : Machine → Machine
+blank_machine m = record m { environment = with_world m.environment (blank vault_name m.environment.world) }
+
+-- the thread of a number, if it runs, is outside the vault, and none of its descriptors opens the vault
+abbrev pub ActsOutside : Machine → ℕ → Type 0
+ActsOutside m t =
+    (x : Thread) → slice_get m.threads t ≡ Some x → x.status ≡ Running →
+    IsOutside vault_name x.context x.job m.environment.world
+
+-- the thread of a number, if there is one, does not stand in the vault
+abbrev pub StandsOutside : Machine → ℕ → Type 0
+StandsOutside m t = (x : Thread) → slice_get m.threads t ≡ Some x → x.context ≢ vault_name
+
+-- so it is of each thread that makes one of these steps, at that moment; a step that enters the vault is made
+-- from outside it
+abbrev pub StandOutside : Machine → List ℕ → Type 0
+StandOutside m [] = Unit {0}
+StandOutside m (t ∷ ts) = StandsOutside m t × StandOutside (step m t) ts
+
+-- two vaults are entered at one instruction, and have pages of the same numbers
+pub record HaveOneShape (a b : Vault) : Type 0 where
+  pub entry : a.entry ≡ b.entry
+  pub pages : page_numbers a.pages ≡ page_numbers b.pages
+
+-- the inputs with this vault
+abbrev pub beside : Inputs → Vault → Inputs
+beside inputs v = record inputs { vault = Some v }
+
+-- what is printed after the steps of a schedule that are kept
+abbrev pub vault_text : Inputs → List ℕ → List ℕ
+vault_text inputs schedule = report_after inputs (kept (start inputs) schedule)
+
+-- what a report tells of the vault: beside each other one of its shape the same steps are legal, and the report
+-- of these steps is the same
+abbrev pub TellsNothing : Inputs → List ℕ → Vault → Type 0
+TellsNothing inputs steps v =
+    (other : Vault) → HaveOneShape v other → IsLegal (start (beside inputs other)) steps
+    × (report_after (beside inputs other) steps ≡ report_after (beside inputs v) steps)

@@ -1,0 +1,57 @@
+//! Laws of runs beside a vault: functions with empty bodies, each with a contract that is the law.
+
+ghost use Rattle.std.specs.Prelude.{◌≡◌, ◌⊎◌, ℕ, List, None};
+ghost use Rattle.guest_image.specs.declared.image.Vault.{Vault};
+ghost use Rattle.kernel_core.specs.Histories.{IsLegal};
+ghost use Rattle.kernel_core.specs.Kernel.{CanOpen};
+ghost use Rattle.kernel_core.specs.Machine.{Environment, Machine};
+ghost use Rattle.kernel_core.specs.Runs.{peak, run};
+ghost use Rattle.kernel_core.specs.Start.{Inputs, start};
+ghost use Rattle.kernel_core.specs.Step.{guest_calls, step};
+ghost use Rattle.kernel_core.specs.declared.calling.TheConstants.{LW_SWITCH};
+ghost use Rattle.kernel_core.specs.declared.thread.Thread.{Thread};
+ghost use Rattle.lwc_base.specs.declared.answer.Moved.TheVariants.{To};
+ghost use Rattle.lwc_base.specs.declared.regs.Regs.{Regs};
+ghost use Rattle.lwc_switch.specs.Switch.{switch};
+ghost use Rattle.lwc_text.specs.Report.{report_after, report_of};
+ghost use Rattle.lwc_vault.specs.Secrets.{ActsOutside, StandOutside, StandsOutside, TellsNothing, beside, blank_machine};
+
+/// A step of a thread that is outside the vault is the same step where the vault is blank. That it enters the
+/// vault by an accepted switch is no exception.
+pub fn a_step_outside_is_the_same_step()
+    ensures { (m : Machine) (t : ℕ) → m.serve ≡ None → ActsOutside m t →
+        step (blank_machine m) t ≡ blank_machine (step m t) }
+{}
+
+/// In a run beside a vault no descriptor ever opens the vault: who does not stand in it is outside it.
+pub fn who_stands_outside_is_outside()
+    ensures { (inputs : Inputs) (v : Vault) (steps : List ℕ) (t : ℕ) → CanOpen (beside inputs v) →
+        StandsOutside (run (start (beside inputs v)) steps) t →
+        ActsOutside (run (start (beside inputs v)) steps) t }
+{}
+
+/// Steps of threads that do not stand in the vault are as legal where the vault is blank, and the whole report
+/// is the same.
+pub fn steps_outside_tell_nothing_of_the_vault()
+    ensures { (inputs : Inputs) (v : Vault) (steps : List ℕ) → CanOpen (beside inputs v) →
+        StandOutside (start (beside inputs v)) steps → IsLegal (start (beside inputs v)) steps →
+        IsLegal (blank_machine (start (beside inputs v))) steps
+        × (report_of (run (blank_machine (start (beside inputs v))) steps)
+        (peak (blank_machine (start (beside inputs v))) steps) steps ≡ report_after (beside inputs v) steps) }
+{}
+
+/// Two vaults with one entry and the same page numbers: what threads do that do not stand in the vault is as
+/// legal beside the one as beside the other, and the report is the same.
+pub fn vaults_of_one_shape_tell_the_same()
+    ensures { (inputs : Inputs) (v : Vault) (steps : List ℕ) → CanOpen (beside inputs v) →
+        StandOutside (start (beside inputs v)) steps → IsLegal (start (beside inputs v)) steps →
+        TellsNothing inputs steps v }
+{}
+
+/// A call leaves its thread where it is, unless it is an accepted switch, which takes it to its target.
+#[tactic(auto, using(crate::proofs::Entering::moves))]
+pub fn only_an_accepted_switch_moves_a_thread()
+    ensures { (number t : ℕ) (e : Environment) (x : Thread) →
+        ((guest_calls number t e x).thread.context ≡ x.context) ⊎ ((number ≡ LW_SWITCH) × ((regs : Regs)
+        × ((switch e.world x.context t x.regs).0 ≡ To (guest_calls number t e x).thread.context regs))) }
+{}
