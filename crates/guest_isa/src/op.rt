@@ -74,37 +74,6 @@ pub struct Form {
 }
 
 impl Op {
-    /// Every operation, in the order of the opcodes.
-    pub const ALL: [Op; 27] = [
-        Op::Li,
-        Op::Lih,
-        Op::Mov,
-        Op::Add,
-        Op::Sub,
-        Op::Mul,
-        Op::Divu,
-        Op::Remu,
-        Op::And,
-        Op::Or,
-        Op::Xor,
-        Op::Shl,
-        Op::Shr,
-        Op::Ltu,
-        Op::Eq,
-        Op::Addi,
-        Op::Jmp,
-        Op::Jz,
-        Op::Jnz,
-        Op::Jal,
-        Op::Jr,
-        Op::Ldb,
-        Op::Ldw,
-        Op::Stb,
-        Op::Stw,
-        Op::Sys,
-        Op::Halt,
-    ];
-
     /// The opcode: the first byte of an instruction.
     pub fn number(self) -> u8
         ensures { result ≡ number_of self }
@@ -117,7 +86,37 @@ impl Op {
     pub fn from_number(number: u8) -> Option<Op>
         ensures { result ≡ op_of number }
     {
-        Op::ALL.iter().copied().find(|op| op.number() == number)
+        let op = match number {
+            1 => Op::Li,
+            2 => Op::Lih,
+            3 => Op::Mov,
+            4 => Op::Add,
+            5 => Op::Sub,
+            6 => Op::Mul,
+            7 => Op::Divu,
+            8 => Op::Remu,
+            9 => Op::And,
+            10 => Op::Or,
+            11 => Op::Xor,
+            12 => Op::Shl,
+            13 => Op::Shr,
+            14 => Op::Ltu,
+            15 => Op::Eq,
+            16 => Op::Addi,
+            17 => Op::Jmp,
+            18 => Op::Jz,
+            19 => Op::Jnz,
+            20 => Op::Jal,
+            21 => Op::Jr,
+            32 => Op::Ldb,
+            33 => Op::Ldw,
+            34 => Op::Stb,
+            35 => Op::Stw,
+            36 => Op::Sys,
+            37 => Op::Halt,
+            _ => return None,
+        };
+        Some(op)
     }
 
     /// The fields that an instruction of this operation uses.
