@@ -11,6 +11,7 @@ mod guarded;
 mod opening;
 mod passes;
 mod process;
+mod slip;
 
 pub use passes::{ProcessPass, ProcessPasses};
 pub use process::Process;

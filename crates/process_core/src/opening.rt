@@ -10,6 +10,7 @@ ghost use Rattle.turnstile.specs.Passes.{Held};
 
 use crate::guarded::Guarded;
 use crate::passes::{ProcessPass, ProcessPasses};
+use crate::slip::Slip;
 use kernel_core::{Kernel, Turn};
 use lwc_base::OutOfMemory;
 use std::alloc::Global;
@@ -55,8 +56,9 @@ pub(crate) fn hand_out<W: World>(
 {
     'held: while !held.is_empty() {
         let pass = held.remove(0);
-        let last = Box::new(alloc, turns[passes.len()].same())?;
-        passes.push_reserved(ProcessPass::new(pass, last));
+        let last = turns[passes.len()].same();
+        let slip = Box::new(alloc, Slip::new(last, turns.len() == 1))?;
+        passes.push_reserved(ProcessPass::new(pass, slip));
     }
     Ok(passes)
 }

@@ -14,6 +14,7 @@ ghost use Rattle.turnstile.specs.Past.{Knows};
 use crate::guarded::{Guarded, guard};
 use crate::opening::{first_turns, hand_out};
 use crate::passes::{ProcessPass, ProcessPasses};
+use crate::slip::Slip;
 use guest_isa::Text;
 use guest_machine::Advance;
 use kernel_core::{Kernel, Turn};
@@ -45,23 +46,21 @@ impl<W: World> Model for Process<W> {
     ghost invariant = { λ p. (p.text ≡ p.gate.name.image.text) × (p.gate.seats ≡ thread_count p.gate.name) };
 }
 
-/// One step of the pass's thread, which its last turn had not ended. What it left is noted in the box of
-/// that turn.
+/// One step of the pass's thread, which its last turn had not ended. What it left is noted in the slip.
 fn take_turn<R: Wait, W: World>(
     gate: &Turnstile<Guarded<W>>,
     rt: &R,
     pass: &mut Pass<Guarded<W>>,
-    last: Box<Turn>,
-    proposal: Option<Advance>,
-) -> Box<Turn>
+    slip: Box<Slip>,
+) -> Box<Slip>
     requires ours { gates.IsPassOf gate.now pass.old }
     requires within { pass.old.number < thread_count gate.now.name }
-    requires knows { Leaves gate.now.name pass.old.number pass.old.seen last.value }
-    requires going { has_ended last.value.status ≡ false }
-    requires proposal { IfSome proposal (λ a. a ≡ advanced gate.now.name.image.text a.before) }
+    requires knows { Leaves gate.now.name pass.old.number pass.old.seen slip.value.last }
+    requires going { has_ended slip.value.last.status ≡ false }
+    requires offer { IfSome slip.value.offer (λ a. a ≡ advanced gate.now.name.image.text a.before) }
     ensures ours { gates.IsPassOf gate.now pass.new }
     ensures number { pass.new.number ≡ pass.old.number }
-    ensures leaves { Leaves gate.now.name pass.new.number pass.new.seen result.value }
+    ensures leaves { Leaves gate.now.name pass.new.number pass.new.seen result.value.last }
     ensures goes_on { GoesOn pass.old.number pass.old.seen pass.new.seen }
     ensures later { pass.old.noted < length pass.new.seen }
     ensures noted { pass.old.noted ≤ pass.new.noted }
@@ -70,14 +69,14 @@ fn take_turn<R: Wait, W: World>(
     gate.with_turn(
         rt,
         pass,
-        move |guarded: &mut Guarded<W>| -> Box<Turn>
+        move |guarded: &mut Guarded<W>| -> Box<Slip>
             requires { (t < thread_count guarded.now.kernel.value.inputs)
                 × (is_ended (machine_of guarded.now.kernel.value) t ≡ false)
-                × IfSome proposal (λ a. a ≡ advanced guarded.now.kernel.value.inputs.image.text a.before) }
+                × IfSome slip.value.offer (λ a. a ≡ advanced guarded.now.kernel.value.inputs.image.text a.before) }
             ensures { (guarded.exit.now.kernel.value.inputs ≡ guarded.entry.now.kernel.value.inputs)
                 × (guarded.exit.now.kernel.value.steps ≡ guarded.entry.now.kernel.value.steps ++ t ∷ [])
-                × (kernels.turn guarded.exit.now.kernel.value t ≡ Some result.value) }
-        { guarded.make_step(t, proposal, last) },
+                × (kernels.turn guarded.exit.now.kernel.value t ≡ Some result.value.last) }
+        { guarded.make_step(t, slip) },
     )
 }
 
@@ -122,7 +121,7 @@ impl<W: World> Process<W> {
     /// One step of the pass's thread, or none where its last turn had ended the thread: then that turn is
     /// answered again. It may wait, and takes no memory. A proposal is the advance of some registers over
     /// the text; it is used if it begins with the thread's registers, and the answer is the same without
-    /// it.
+    /// it. Without one the thread's registers are advanced before the lock is taken, unless it is alone.
     ///
     /// The answer is what the history that the pass has then seen leaves of the thread. That history is
     /// legal, and goes on from the one that the pass had seen by steps of others and one of this thread.
@@ -168,9 +167,9 @@ impl<W: World> Process<W> {
         if pass.last().has_ended() {
             return;
         }
-        let offer = proposal.copied();
-        if let Some(last) = pass.last.take() {
-            pass.last = Some(take_turn(&self.gate, rt, &mut pass.pass, last, offer));
+        if let Some(mut slip) = pass.slip.take() {
+            slip.fill(&self.text, proposal);
+            pass.slip = Some(take_turn(&self.gate, rt, &mut pass.pass, slip));
         }
     }
 

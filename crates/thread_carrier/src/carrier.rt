@@ -4,7 +4,6 @@ ghost use Rattle.lwc_base.specs.declared.limits.TheConstants.{MOST_STEPS};
 ghost use Rattle.process_core.specs.Running.{IsPassOf};
 ghost use Rattle.thread_carrier.specs.Carriers.{HasTurned};
 
-use guest_machine::advance;
 use lwc_base::MOST_THREADS;
 use lwc_io::Gate;
 use process_core::{Process, ProcessPass};
@@ -20,9 +19,9 @@ pub struct Carrier<W: World> {
     pub turns: u64,
 }
 
-/// Carries a thread to its end. Each turn has as its proposal the advance of the thread's registers,
-/// which is computed outside the lock. It comes to the gate before each, and after each that finished a
-/// request. It may wait, and takes no memory.
+/// Carries a thread to its end. Before each turn it comes to the gate; then the process advances the thread's
+/// registers, outside the lock unless the thread is alone. It comes to the gate again after each turn that
+/// finished a request. It may wait, and takes no memory.
 pub fn carry<R: Wait, W: World, G: Gate>(
     rt: &R,
     process: &Process<W>,
@@ -39,9 +38,8 @@ pub fn carry<R: Wait, W: World, G: Gate>(
     ensures few { carrier.new.turns ≤ carrier.old.turns + MOST_STEPS }
 {
     'turns: while !carrier.pass.last().has_ended() {
-        let proposal = advance(process.text(), &carrier.pass.last().regs);
         gate.before(rt, carrier.pass.thread(), carrier.turns);
-        process.make_turn(rt, &mut carrier.pass, Some(&proposal));
+        process.make_turn(rt, &mut carrier.pass, None);
         tell_finished(rt, &carrier.pass, gate);
         carrier.turns += 1;
     }

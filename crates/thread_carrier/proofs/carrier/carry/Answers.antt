@@ -2,15 +2,7 @@ use Rattle.std.proofs.Common.{rules, ◌≡◌, ◌+◌, ◌∙◌, ℕ, List, f
 use Rattle.kernel_core.specs.Histories.{steps_by}
 use Rattle.kernel_core.specs.Machine.{has_ended}
 use Rattle.thread_carrier.proofs.Offers.{longer, one_more}
-use Rattle.guest_isa.specs.declared.instr.Instr.{Instr}
-use Rattle.guest_machine.specs.Advances.{advanced}
-use Rattle.guest_machine.proofs.Runs.{advance_is_one}
 use Rattle.thread_carrier.proofs.carrier.carry.Goals as goal
-
-pub make_turn-requires-clause-proposal : goal.make_turn-requires-clause-proposal
-make_turn-requires-clause-proposal g c κs within =
-    let is = c.advance-proposal.ensures.is_advance in
-    subst (λ (text : List Instr). c.advance-proposal.result ≡ advanced text c.advance-proposal.result.before) c.text.ensures (advance_is_one _ c.advance-proposal.result is.0 is.1)
 
 pub turns-preserved : goal.turns-preserved
 turns-preserved g c =
