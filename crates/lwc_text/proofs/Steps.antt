@@ -1,5 +1,5 @@
 -- Reading steps byte by byte.
-use Rattle.std.proofs.Common.{◌≡◌, ℕ, zero, suc, get_or, ◌+◌, ◌≤◌, ◌<◌, true, ◌||◌, IsTrue, List, [], ◌∷◌, ◌++◌, length, take, drop, All, Option, Some, None, Ok, refl, sym, ap, subst, ◌∙◌, arith, append_assoc, append-nil, length-append}
+use Rattle.std.proofs.Common.{◌≡◌, ℕ, zero, suc, get_or, ◌+◌, ◌-◌, ◌≤◌, ◌<◌, true, ◌||◌, IsTrue, List, [], ◌∷◌, ◌++◌, length, take, drop, All, Option, Some, None, Ok, refl, sym, ap, subst, ◌∙◌, arith, append_assoc, append-nil, length-append}
 use Rattle.std.proofs.lemmas.Bool.Decides.{nat_tests}
 use Rattle.std.proofs.lemmas.List.{take_more, take-append-drop}
 use Rattle.std.proofs.lemmas.List.Elements.{All-nil, All-cons, All-head, All-tail, All-from_get_or, All-get_or}
@@ -85,6 +85,26 @@ continues threads at before after bytes within unbroken added few so_far =
       few = few;
       clear = clear_next (refusal_at threads bytes) at so_far.clear here;
     }
+
+-- the decimal digit of a thread
+abbrev pub IsPlain : ℕ → ℕ → Type 0
+IsPlain threads b = (48 ≤ b) × (b < 58) × (b < 48 + threads)
+
+plain_number : (threads b : ℕ) → IsPlain threads b → digit_number b ≡ Some (b - 48)
+plain_number threads b is = grind (arith, nat_tests)
+
+plain_fits : (threads b : ℕ) → IsPlain threads b → Fits threads b
+plain_fits threads b is = grind (arith, nat_tests)
+
+-- a loop over plain digits continues after each
+pub plain_continues : (threads at : ℕ) (steps bytes : List ℕ) → at < length bytes → at < MOST_STEPS → length steps ≡ at → IsPlain threads (get_or bytes at 0) →
+    IsSoFar threads bytes at steps → IsSoFar threads bytes (at + 1) (steps ++ (get_or bytes at 0 - 48) ∷ [])
+plain_continues threads at steps bytes within few long is so_far =
+    let b = get_or bytes at 0 in
+    let one : numbers (b ∷ []) ≡ (b - 48) ∷ [] = named_adds b (b - 48) (plain_number threads b is) in
+    continues threads at steps (steps ++ (b - 48) ∷ []) bytes within
+    (keeps threads (length steps) b (plain_fits threads b is) (omega (arith, long, few, ap length one)))
+    (ap (λ l. steps ++ l) (sym one)) (omega (arith, long, few, length-append steps ((b - 48) ∷ []))) so_far
 
 -- a loop ends at a byte
 pub ends : (e : ReadError InputRule) (threads at : ℕ) (before bytes : List ℕ) → at < length bytes → IsFound e (option_map (refusal_of at) (rule_broken threads (length before) (get_or bytes at 0))) →

@@ -1,7 +1,7 @@
 //! Schedules: which thread makes each step.
 
 ghost use Rattle.std.specs.Prelude.{◌≡◌, ◌≤◌, ◌<◌, ◌++◌, ◌∷◌, ℕ, List, [], ◌↔◌, IsTrue, length, All};
-ghost use Rattle.std.specs.Prelude.{slice_get, IfOk, IfErr, OnOk, Some, None, Ok};
+ghost use Rattle.std.specs.Prelude.{slice_get, take, ◌+◌, IfOk, IfErr, OnOk, Some, None, Ok};
 ghost use Rattle.std.specs.Option.{option_map};
 ghost use Rattle.byte_reading.specs.Outcomes.{Answers, Fails, IsFound, unless_refused};
 ghost use Rattle.byte_reading.specs.declared.error.ReadError.TheVariants.{OutOfMemory};
@@ -110,11 +110,29 @@ fn read_steps(alloc: Global, bytes: &[u8], threads: u32) -> Result<Vec<u8>, Inpu
         Fails e (unless_refused (numbers bytes.now) (refusals threads bytes.now))) }
     ensures few { IfOk result (λ steps. length steps.items ≤ MOST_STEPS) }
 {
-    let mut steps = Vec::new(alloc);
-    'bytes: for (at, byte) in bytes.iter().enumerate() {
-        read_byte(&mut steps, threads, at as u64, *byte)?;
+    let mut steps = Vec::with_capacity(alloc, bytes.len())?;
+    let first = &bytes[..plain_count(bytes, threads)];
+    'first: for byte in first {
+        steps.push_reserved(*byte - b'0');
+    }
+    'bytes: for at in first.len()..bytes.len() {
+        read_byte(&mut steps, threads, at as u64, bytes[at])?;
     }
     Ok(steps)
+}
+
+/// How many of the first bytes, at most `MOST_STEPS`, are decimal digits of threads. Mostly no others come.
+fn plain_count(bytes: &[u8], threads: u32) -> usize
+    ensures within { result ≤ length bytes.now }
+    ensures few { result ≤ MOST_STEPS }
+    ensures plain { All (λ b. (48 ≤ b) × (b < 58) × (b < 48 + threads)) (take result bytes.now) }
+{
+    let first = &bytes[..bytes.len().min(MOST_STEPS as usize)];
+    let end = b'0' + threads.min(10) as u8;
+    first
+        .iter()
+        .position(|b| *b < b'0' || *b >= end)
+        .unwrap_or(first.len())
 }
 
 /// Reads the byte at an offset, after the bytes of these steps.
