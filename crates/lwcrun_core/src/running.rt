@@ -215,9 +215,8 @@ fn report_of<R: Threads + Wait + Sync, W: World, G: Gate>(
     Ok(text)
 }
 
-/// A process at the start of an image, with a pass for each of its threads, and with room for all steps
+/// A process at the start of an image, with a pass for each of its threads, and with room for just the steps
 /// that they may make. A run has no requests.
-///
 ///
 /// # Errors
 ///

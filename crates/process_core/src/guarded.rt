@@ -13,7 +13,8 @@ use lwc_base::OutOfMemory;
 use turnstile::Turned;
 use world_face::World;
 
-/// A kernel over a roomy world, whose steps are a legal history, with room for all the steps that are left.
+/// A kernel over a roomy world, whose steps are a legal history, with room for all the steps that are left. The
+/// steps and the room are together as many as the threads could make at the start.
 ///
 /// The kernel is in a box, since the lock moves it twice in each turn.
 #[derive(Drop)]
@@ -21,6 +22,7 @@ pub(crate) struct Guarded<W: World> {
     pub(crate) kernel: Box<Kernel<W>>,
     pub(crate) ghost legal: { IsLegal (start kernel.value.inputs) kernel.value.steps },
     pub(crate) ghost room: { work (machine_of kernel.value) ≤ kernel.value.room },
+    pub(crate) ghost whole: { length kernel.value.steps + kernel.value.room ≡ work (start kernel.value.inputs) },
     pub(crate) ghost few: { length kernel.value.steps + kernel.value.room ≤ MOST_STEPS },
     pub(crate) ghost roomy: { W.roomy ≡ true },
 }
@@ -58,10 +60,11 @@ fn step_kernel<W: World>(kernel: &mut Kernel<W>, t: u32, slip: &mut Slip)
 }
 
 /// A kernel that was just opened, as the lock guards it.
+#[tactic(auto, using(crate::proofs::Stepping::opened_whole))]
 pub(crate) fn guard<W: World>(kernel: Box<Kernel<W>>) -> Guarded<W>
     requires roomy { W.roomy ≡ true }
     requires fresh { kernel.value.steps ≡ [] }
-    requires room { work (machine_of kernel.value) ≤ kernel.value.room }
+    requires room { kernel.value.room ≡ work (machine_of kernel.value) }
     ensures { result.kernel.value ≡ kernel.value }
 {
     let _steps = kernel.schedule();

@@ -1,5 +1,5 @@
 //! A process, as its callers see it.
-ghost use Rattle.std.specs.Prelude.{◌≡◌, ◌<◌, ◌≤◌, ℕ, [], ◌∷◌, ◌++◌, false, true, length, All, IfOk, IfSome};
+ghost use Rattle.std.specs.Prelude.{◌≡◌, ◌<◌, ◌≤◌, ◌+◌, ℕ, [], ◌∷◌, ◌++◌, false, true, length, All, IfOk, IfSome};
 ghost use Rattle.std.specs.Prelude.{Some, slice_get};
 ghost use Rattle.guest_machine.specs.Advances.{advanced};
 ghost use Rattle.kernel_core.specs.Histories.{GoesOn, IsComplete, IsLegal, turn_after};
@@ -82,7 +82,7 @@ fn take_turn<R: Wait, W: World>(
 
 impl<W: World> Process<W> {
     /// A kernel under a lock, and a pass for each of its threads, in the order of their numbers. The kernel
-    /// has kept no step, and has room for all the steps that its threads may make. This is the only call that
+    /// has kept no step, and has room for just the steps that its threads may make. This is the only call that
     /// takes memory.
     ///
     /// # Errors
@@ -94,7 +94,7 @@ impl<W: World> Process<W> {
     ) -> Result<(Process<W>, ProcessPasses<W>), OutOfMemory>
         requires roomy { W.roomy ≡ true }
         requires fresh { kernel.steps ≡ [] }
-        requires room { work (machine_of kernel) ≤ kernel.room }
+        requires room { kernel.room ≡ work (machine_of kernel) }
         ensures inputs { IfOk result (λ p. p.0.name ≡ kernel.inputs) }
         ensures count { IfOk result (λ p. length p.1.items ≡ thread_count kernel.inputs) }
         ensures passes { IfOk result (λ p. (i : ℕ) (q : Carried) →
@@ -190,13 +190,15 @@ impl<W: World> Process<W> {
     ///
     /// The kernel's steps are a legal history, which begins with what each pass had seen, has no further step
     /// of that pass's thread, and has at least as many steps as the pass had noted. Where the last turn of
-    /// each pass ended its thread, the history is complete.
+    /// each pass ended its thread, the history is complete. The steps that were kept and the room that is left
+    /// are together as many as the threads could make at the start.
     pub fn close(self, passes: ProcessPasses<W>) -> Kernel<W>
         requires { AreAllOf self passes.items }
         ensures inputs { result.inputs ≡ self.name }
         ensures legal { IsLegal (start self.name) result.steps }
         ensures seen { All (λ p. Knows result.steps p.held.number p.held.seen) passes.items }
         ensures noted { All (λ p. p.held.noted ≤ length result.steps) passes.items }
+        ensures whole { length result.steps + result.room ≡ work (start self.name) }
         ensures turns { All (λ p. kernels.turn result p.held.number ≡ Some p.last) passes.items }
         ensures complete { All (λ p. has_ended p.last.status ≡ true) passes.items →
             IsComplete (start self.name) result.steps }

@@ -1,5 +1,6 @@
-ghost use Rattle.std.specs.Prelude.{◌≡◌, ◌<◌, ◌≤◌, ◌^◌, [], All, IfOk, length, map, vec_capacity};
+ghost use Rattle.std.specs.Prelude.{◌≡◌, ◌<◌, ◌≤◌, ◌+◌, ◌^◌, [], All, IfOk, length, map, vec_capacity};
 ghost use Rattle.kernel_core.specs.Histories.{IsComplete};
+ghost use Rattle.kernel_core.specs.Machine.{work};
 ghost use Rattle.kernel_core.specs.Start.{start};
 ghost use Rattle.process_core.specs.Running.{AreAllOf};
 
@@ -14,12 +15,12 @@ use std::thread::Threads;
 use world_face::World;
 
 /// Runs all threads of a process to their ends, and gives its kernel back. The steps that the kernel has
-/// kept then are a legal history after which every thread has ended. It may wait.
+/// kept then are a legal history after which every thread has ended, and with the room that is left they are as
+/// many as the threads could make at the start. It may wait.
 ///
 /// Each thread is carried by a worker of its own where one can be started, and comes to the gate before
 /// each turn. All memory is taken before the first step. No clause says these three: tests show the
 /// first.
-///
 ///
 /// # Errors
 ///
@@ -35,6 +36,7 @@ pub fn run_threads<R: Threads + Wait + Sync, W: World, G: Gate>(
     requires all { AreAllOf process passes.items }
     ensures inputs { IfOk result (λ after. after.inputs ≡ process.name) }
     ensures complete { IfOk result (λ after. IsComplete (start process.name) after.steps) }
+    ensures whole { IfOk result (λ after. length after.steps + after.room ≡ work (start process.name)) }
 {
     let taken = Vec::with_capacity(alloc, passes.len())?;
     let mut carriers = carriers_of(alloc, passes)?;

@@ -77,7 +77,7 @@ fn close_both(
 #[test]
 fn passes_make_one_history(rt: HostRuntime) -> Result<(), Fail> {
     let kernel = kernel_of_two(rt.alloc())?;
-    assert!(rt; kernel.thread_count() == 2 && kernel.work() <= kernel.room());
+    assert!(rt; kernel.thread_count() == 2 && kernel.work() == kernel.room());
     let (process, passes) = Process::open(rt.alloc(), kernel)?;
     let (mut zero, mut one, rest) = two_passes(&process, passes);
     let done = ThreadStatus::Done { code: 0 };

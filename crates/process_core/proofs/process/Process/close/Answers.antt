@@ -1,8 +1,9 @@
 use Rattle.std.proofs.Crossing.{crosses}
 use denote.Param.Send.{sendable}
-use Rattle.std.proofs.Common.{◌≡◌, ◌∙◌, ap, subst, sym}
+use Rattle.std.proofs.Common.{◌≡◌, ◌+◌, ◌∙◌, ap, length, subst, sym}
 use Rattle.kernel_core.specs.Histories.{IsLegal}
 use Rattle.kernel_core.specs.Kernel.{History}
+use Rattle.kernel_core.specs.Machine.{work}
 use Rattle.kernel_core.specs.Start.{Inputs, start, thread_count}
 use Rattle.std.specs.Prelude.{All}
 use Rattle.process_core.specs.Running.{Carried}
@@ -26,6 +27,12 @@ close-requires-after_bounds g c κs within =
 pub returns-clause-seen : goal.returns-clause-seen
 returns-clause-seen g c =
     subst (λ (h : History). All (λ (p : Carried). Knows h.steps p.held.number p.held.seen) c.args.passes.items) (sym c.into_kernel-kernel.ensures.kernel) c.close.ensures.seen
+
+pub returns-clause-whole : goal.returns-clause-whole
+returns-clause-whole g c =
+    let same = c.into_kernel-kernel.ensures.kernel in
+    let name : c.into_kernel-kernel.result.inputs ≡ c.args.self.name = ap (λ (h : History). h.inputs) same ∙ (c.close.ensures.name ∙ ap (λ (l : Lock Inputs). l.name) c.self.view_is) in
+    subst (λ (h : History). length h.steps + h.room ≡ work (start h.inputs)) (sym same) c.close.result.whole ∙ ap (λ (i : Inputs). work (start i)) name
 
 pub returns-clause-turns : goal.returns-clause-turns
 returns-clause-turns g c =
