@@ -1,7 +1,8 @@
 -- Reading steps byte by byte.
-use Rattle.std.proofs.Common.{◌≡◌, ℕ, zero, suc, get_or, ◌+◌, ◌-◌, ◌≤◌, ◌<◌, true, ◌||◌, IsTrue, List, [], ◌∷◌, ◌++◌, length, take, drop, All, Option, Some, None, Ok, refl, sym, ap, subst, ◌∙◌, arith, append_assoc, append-nil, length-append}
+use Rattle.std.proofs.Common.{◌≡◌, ℕ, zero, suc, get_or, ◌+◌, ◌-◌, ◌≤◌, ◌<◌, true, ◌||◌, IsTrue, List, [], ◌∷◌, ◌++◌, length, take, drop, All, Option, Some, None, Ok, refl, sym, ap, subst, inl, inr, ◌∙◌, arith, append_assoc, append-nil, length-append}
 use Rattle.std.proofs.lemmas.Bool.Decides.{nat_tests}
-use Rattle.std.proofs.lemmas.List.{take_more, take-append-drop}
+use Rattle.std.proofs.lemmas.Bool.{cases_lt}
+use Rattle.std.proofs.lemmas.List.{get_or-drop, get_or-take, length-drop, length-take-le, take_more, take-append-drop}
 use Rattle.std.proofs.lemmas.List.Elements.{All-nil, All-cons, All-head, All-tail, All-from_get_or, All-get_or}
 use Rattle.std.proofs.Math.Seq.{take-length}
 use Rattle.std.specs.List.{cons_option, filter_map, range_with_len}
@@ -89,6 +90,31 @@ continues threads at before after bytes within unbroken added few so_far =
 -- the decimal digit of a thread
 abbrev pub IsPlain : ℕ → ℕ → Type 0
 IsPlain threads b = (48 ≤ b) × (b < 58) × (b < 48 + threads)
+
+-- the first bytes are digits below an end
+abbrev Begins : ℕ → ℕ → List ℕ → Type 0
+Begins end n bytes = (k : ℕ) → k < n → (48 ≤ get_or bytes k 0) × (get_or bytes k 0 < end)
+
+pub plain_first : (threads end n : ℕ) (bytes : List ℕ) → n ≤ length bytes → end ≤ 58 → end ≤ 48 + threads → Begins end n bytes → All (IsPlain threads) (take n bytes)
+plain_first threads end n bytes within few there each =
+    All-from_get_or (IsPlain threads) (take n bytes) 0
+    (λ i below.
+      let lt : i < n = omega (arith, below, length-take-le n bytes within) in
+      let is = each i lt in
+      subst (IsPlain threads) (sym (get_or-take n bytes i 0 lt)) (is.0, omega (arith, is.1, few), omega (arith, is.1, there)))
+
+pub plain_next : (end n m : ℕ) (bytes : List ℕ) → n + m ≤ length bytes → Begins end n bytes → All (λ b. (48 ≤ b) × (b < end)) (take (n + m - n) (drop n bytes)) → Begins end (n + m) bytes
+plain_next end n m bytes within each all k below =
+    let piece = subst (λ (x : ℕ). All (λ b. (48 ≤ b) × (b < end)) (take x (drop n bytes))) (let e : n + m - n ≡ m = omega arith in e) all in
+    elim (cases_lt k n) [
+      | inl lt ↦ each k lt
+      | inr ge ↦
+          let inside : k - n < m = omega (arith, ge, below) in
+          let here : get_or (take m (drop n bytes)) (k - n) 0 ≡ get_or bytes k 0 =
+          get_or-take m (drop n bytes) (k - n) 0 inside ∙ get_or-drop n bytes (k - n) 0 ∙ ap (λ (i : ℕ). get_or bytes i 0) (omega (arith, ge)) in
+          let long : length (take m (drop n bytes)) ≡ m = length-take-le m (drop n bytes) (omega (arith, within, length-drop n bytes)) in
+          subst (λ (b : ℕ). (48 ≤ b) × (b < end)) here (piece (k - n) 0 (omega (arith, inside, long)))
+    ]
 
 plain_number : (threads b : ℕ) → IsPlain threads b → digit_number b ≡ Some (b - 48)
 plain_number threads b is = grind (arith, nat_tests)

@@ -15,6 +15,9 @@ use lwc_base::{MOST_SCHEDULE_BYTES, MOST_STEPS};
 use std::alloc::Global;
 use std::marker::Model;
 
+/// How many bytes are looked at before the next ones.
+const CHUNK: usize = 64;
+
 /// The steps to make, each the number of the thread that makes it: at most `MOST_STEPS`, each below
 /// `MOST_THREADS`.
 #[derive(Debug, Drop)]
@@ -121,18 +124,30 @@ fn read_steps(alloc: Global, bytes: &[u8], threads: u32) -> Result<Vec<u8>, Inpu
     Ok(steps)
 }
 
-/// How many of the first bytes, at most `MOST_STEPS`, are decimal digits of threads. Mostly no others come.
+/// How many of the first bytes, at most `MOST_STEPS` and in whole chunks, are decimal digits of threads.
 fn plain_count(bytes: &[u8], threads: u32) -> usize
     ensures within { result ≤ length bytes.now }
     ensures few { result ≤ MOST_STEPS }
     ensures plain { All (λ b. (48 ≤ b) × (b < 58) × (b < 48 + threads)) (take result bytes.now) }
 {
-    let first = &bytes[..bytes.len().min(MOST_STEPS as usize)];
+    let most = bytes.len().min(MOST_STEPS as usize);
     let end = b'0' + threads.min(10) as u8;
-    first
-        .iter()
-        .position(|b| *b < b'0' || *b >= end)
-        .unwrap_or(first.len())
+    let mut count = 0;
+    'chunks: while most - count >= CHUNK && are_plain(&bytes[count..count + CHUNK], end) {
+        count += CHUNK;
+    }
+    count
+}
+
+/// Whether all bytes are digits below an end. It looks at all of them, so that many are compared at once.
+fn are_plain(bytes: &[u8], end: u8) -> bool
+    ensures { IsTrue result → All (λ b. (48 ≤ b) × (b < end)) bytes.now }
+{
+    let mut plain = true;
+    'bytes: for byte in bytes {
+        plain = plain & (b'0' <= *byte) & (*byte < end);
+    }
+    plain
 }
 
 /// Reads the byte at an offset, after the bytes of these steps.
