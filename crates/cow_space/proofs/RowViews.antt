@@ -9,7 +9,7 @@ use Rattle.cow_space.specs.Maps.{row_of}
 use Rattle.page_tree.specs.Open as tree
 use Rattle.page_tree.specs.Open.{entries_passed}
 use Rattle.page_tree.specs.Short as short
-use Rattle.page_tree.proofs.LinkLemmas.{root_short-le}
+use Rattle.page_tree.proofs.LinkLemmas.{link_short-le}
 use Rattle.page_tree.proofs.OpenLemmas.{edges-later, open-empty, open-later, passed-later}
 use Rattle.cow_space.specs.RowSeen.{HasNoTree, IsOpen, edge_short, maps}
 use Rattle.cow_space.specs.Trees.{cell_value}
@@ -48,7 +48,7 @@ module _ (w : Rows) where
   -- how many nodes a range takes where it begins
   pub row-first : (i : ℕ) → edge_short w i 0 ≤ 1
   unfolding edge_short short.edge_short
-  row-first i = root_short-le w.store.nodes (get_or w.trees.items i 0)
+  row-first i = link_short-le w.store.nodes (get_or w.trees.items i 0)
 
   pub row-edges : (i p q : ℕ) → edge_short w i q ≤ edge_short w i p + 2
   unfolding edge_short

@@ -6,7 +6,7 @@ use Rattle.frame_pool.specs.Frame.{frame_bytes, frame_stamp}
 use Rattle.std.proofs.Math.Nat.{ℕ_set}
 use Rattle.node_pool.specs.Nodes.{free_of}
 use Rattle.page_tree.specs.Open as tree
-use Rattle.page_tree.specs.Short.{root_short}
+use Rattle.page_tree.specs.Short.{link_short}
 use Rattle.page_tree.specs.Short as tree_short
 use Rattle.cow_space.specs.declared.rows.Rows.{Rows}
 use Rattle.cow_space.specs.Trees.{tree_maps}
@@ -29,7 +29,7 @@ free_nodes w = free_of w.store.nodes
 
 -- a row shares the root of its tree with no other
 unfoldable pub HasOwnRoot : Rows → ℕ → Type 0
-HasOwnRoot w i = root_short w.store.nodes (slice_index w.trees.items i) ≡ 0
+HasOwnRoot w i = link_short w.store.nodes (slice_index w.trees.items i) ≡ 0
 
 -- a row has no tree: it holds no node
 unfoldable pub HasNoTree : Rows → ℕ → Type 0

@@ -6,11 +6,11 @@ use Rattle.frame_pool.specs.Frame.{Frame}
 use Rattle.node_pool.specs.Nodes.{Node, node_at, count_of, level_of, entry_of, enter, free_of}
 use Rattle.page_tree.specs.Pages.{entries_of, entry_below, link_of}
 use Rattle.page_tree.specs.Open.{IsOpenBelow}
-use Rattle.page_tree.specs.Short.{edge_below, root_short, short_below}
+use Rattle.page_tree.specs.Short.{edge_below, link_short, short_below}
 use Rattle.page_tree.specs.Sound.{IsSoundTo, is_root}
 use Rattle.page_tree.specs.Changes.{IsBelow}
 use Rattle.page_tree.specs.Steps.{IsOwned, IsLoose, IsOther, Moves}
-use Rattle.page_tree.proofs.LinkLemmas.{is_root-none, is_root-no, link_of-node, root_short-cases, short-le, entry-moved, short-moved, short-step, short-all, below-entry}
+use Rattle.page_tree.proofs.LinkLemmas.{is_root-none, is_root-no, link_of-node, link_short-cases, short-le, entry-moved, short-moved, short-step, short-all, below-entry}
 use Rattle.page_tree.proofs.EnterLemmas.{count-entered, level-entered, off-entered, here-entered, there-entered}
 use Rattle.page_tree.proofs.MoveLemmas.{IsSound-low, IsSound-raise, Moves-with, Moves-raise, Moves-trans}
 use Rattle.page_tree.proofs.OpenLemmas.{edge-moved, open-moved}
@@ -191,18 +191,18 @@ apart-within w p q off same is =
     off (omega (arith, a, b, e, is))
 
 -- the nodes of a way, where the first one is owned
-pub short-own : (level : ℕ) (nodes : List Node) (link q : ℕ) → 0 < level → root_short nodes link ≡ 0 → short_below nodes level link q ≡ short_below nodes (level - 1) (link_of nodes link (q / 32 ^ (level - 1))) (q % 32 ^ (level - 1))
+pub short-own : (level : ℕ) (nodes : List Node) (link q : ℕ) → 0 < level → link_short nodes link ≡ 0 → short_below nodes level link q ≡ short_below nodes (level - 1) (link_of nodes link (q / 32 ^ (level - 1))) (q % 32 ^ (level - 1))
 short-own zero nodes link q some own = absurd (omega (arith, some))
 short-own (suc k) nodes link q some own =
     let less : k ≡ suc k - 1 = omega arith in
     short-step nodes k link q own ∙ ap (λ l. short_below nodes l (link_of nodes link (q / 32 ^ l)) (q % 32 ^ l)) less
 
-pub short-whole : (level : ℕ) (nodes : List Node) (link q : ℕ) → 0 < level → root_short nodes link ≡ 1 → short_below nodes level link q ≡ level
+pub short-whole : (level : ℕ) (nodes : List Node) (link q : ℕ) → 0 < level → link_short nodes link ≡ 1 → short_below nodes level link q ≡ level
 short-whole zero nodes link q some short = absurd (omega (arith, some))
 short-whole (suc k) nodes link q some short = short-all nodes k link q short
 
 -- the nodes that are left to be taken below an entry that was taken out
-pub left-short : (level : ℕ) (old a b : List Node) (link n p c : ℕ) → 0 < level → (root_short old link ≡ 0 → a ≡ old) → (root_short old link ≡ 0 → link_of old link (p / 32 ^ (level - 1)) ≡ c) → ((r : ℕ) → short_below b (level - 1) c r ≡ short_below a (level - 1) c r) → free_of old ≤ free_of a + root_short old link → free_of b ≡ free_of a → short_below old level link p ≤ free_of old → short_below b (level - 1) c (p % 32 ^ (level - 1)) ≤ free_of b
+pub left-short : (level : ℕ) (old a b : List Node) (link n p c : ℕ) → 0 < level → (link_short old link ≡ 0 → a ≡ old) → (link_short old link ≡ 0 → link_of old link (p / 32 ^ (level - 1)) ≡ c) → ((r : ℕ) → short_below b (level - 1) c r ≡ short_below a (level - 1) c r) → free_of old ≤ free_of a + link_short old link → free_of b ≡ free_of a → short_below old level link p ≤ free_of old → short_below b (level - 1) c (p % 32 ^ (level - 1)) ≤ free_of b
 left-short level old a b link n p c some same is before takes kept free =
     let r = p % 32 ^ (level - 1) in
     let at = before r in
@@ -218,10 +218,10 @@ left-short level old a b link n p c some same is before takes kept free =
     let all = short-whole level old link p some short in
     let most = short-le b (level - 1) c r in
     omega (arith, all, most, takes, kept, free, short, some))
-    (root_short-cases old link)
+    (link_short-cases old link)
 
 -- and all that were taken
-pub all-short : (level : ℕ) (old a b d : List Node) (link p c : ℕ) → 0 < level → (root_short old link ≡ 0 → a ≡ old) → (root_short old link ≡ 0 → link_of old link (p / 32 ^ (level - 1)) ≡ c) → ((r : ℕ) → short_below b (level - 1) c r ≡ short_below a (level - 1) c r) → free_of old ≤ free_of a + root_short old link → free_of b ≡ free_of a → free_of b ≤ free_of d + short_below b (level - 1) c (p % 32 ^ (level - 1)) → free_of old ≤ free_of d + short_below old level link p
+pub all-short : (level : ℕ) (old a b d : List Node) (link p c : ℕ) → 0 < level → (link_short old link ≡ 0 → a ≡ old) → (link_short old link ≡ 0 → link_of old link (p / 32 ^ (level - 1)) ≡ c) → ((r : ℕ) → short_below b (level - 1) c r ≡ short_below a (level - 1) c r) → free_of old ≤ free_of a + link_short old link → free_of b ≡ free_of a → free_of b ≤ free_of d + short_below b (level - 1) c (p % 32 ^ (level - 1)) → free_of old ≤ free_of d + short_below old level link p
 all-short level old a b d link p c some same is before takes kept more =
     let r = p % 32 ^ (level - 1) in
     let at = before r in
@@ -235,9 +235,9 @@ all-short level old a b d link p c some same is before takes kept more =
     let all = short-whole level old link p some short in
     let most = short-le b (level - 1) c r in
     omega (arith, all, most, takes, kept, more, short, some))
-    (root_short-cases old link)
+    (link_short-cases old link)
 
-pub short-leaf : (nodes : List Node) (link q : ℕ) → root_short nodes link ≡ 0 → short_below nodes 1 link q ≡ 0
+pub short-leaf : (nodes : List Node) (link q : ℕ) → link_short nodes link ≡ 0 → short_below nodes 1 link q ≡ 0
 unfolding short_below
 short-leaf nodes link q own = short-step nodes 0 link q own
 

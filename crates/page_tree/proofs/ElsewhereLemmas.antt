@@ -9,13 +9,13 @@ use Rattle.node_pool.specs.Nodes.{Node, count_of, level_of, entry_of}
 use Rattle.page_tree.specs.declared.cell.PageCell.TheVariants as cell
 use Rattle.page_tree.specs.declared.store.TheConstants.{PAGES}
 use Rattle.page_tree.specs.Pages.{entry_below, link_of, page}
-use Rattle.page_tree.specs.Short.{page_short, root_short, short_below}
+use Rattle.page_tree.specs.Short.{page_short, link_short, short_below}
 use Rattle.page_tree.specs.Sound.{IsSound, is_inner, is_leaf, is_root}
 use Rattle.page_tree.specs.Tied.{HasElsewhere, IsElsewhere, IsTied, page_of}
 use Rattle.page_tree.proofs.UsesLemmas.{inner-is, inner-yes, inside-level, leaf-is, leaf-yes}
 use Rattle.pool_base.proofs.Totals.{one_if-yes}
 use Rattle.page_tree.proofs.CostLemmas.{pow-pos, pow-step}
-use Rattle.page_tree.proofs.LinkLemmas.{link_of-node, link_of-none, root_short-cases, root_short-once, short-step, zero_or_more}
+use Rattle.page_tree.proofs.LinkLemmas.{link_of-node, link_of-none, link_short-cases, link_short-once, short-step, zero_or_more}
 use Rattle.page_tree.proofs.NodeLemmas.{entry-none}
 use Rattle.page_tree.proofs.ChildLemmas.{entry-leaf, entry-step, short-leaf, short-whole}
 use Rattle.page_tree.proofs.TreeLemmas.{trees-is}
@@ -85,9 +85,9 @@ module _ (nodes : List Node) (frames : List Frame) (sound : IsSound nodes frames
       (omega (arith, node.1, place.0, alone.1.1.0), same-parts (32 ^ suc k) q' q place.1 rest.1))
       (zero_or_more c'))
       (λ short. absurd (let all = short-whole (suc k) nodes (link_of nodes c (q / 32 ^ suc k)) (q % 32 ^ suc k) (omega arith) short in omega (arith, all, below_own)))
-      (root_short-cases nodes (link_of nodes c (q / 32 ^ suc k))))
+      (link_short-cases nodes (link_of nodes c (q / 32 ^ suc k))))
       (λ short. absurd (let all = short-whole (suc (suc k)) nodes c q (omega arith) short in omega (arith, all, own)))
-      (root_short-cases nodes c))
+      (link_short-cases nodes c))
       met')
       met
 
@@ -159,7 +159,7 @@ module _ (nodes : List Node) (frames : List Frame) (trees : List ℕ) (k p f : �
           let one_there = one_if-yes (get_or trees a 0) (root + 1) (same ∙ alone.1.1.0) in
           absurd (omega (arith, trees_is, rooted, places, two, one_here, one_there, alone.1.1.1)))
           (λ short. absurd (let all = short-whole 3 nodes tree p (omega arith) short in omega (arith, all, own)))
-          (root_short-cases nodes tree)
+          (link_short-cases nodes tree)
 
   -- another page that has the frame
   found : (a b : ℕ) → a < length trees → b < 16384 → IsElsewhere k p a b → page nodes (get_or trees a 0) b ≡ cell.Frame (record { n = f }) → HasElsewhere nodes trees k p f
@@ -210,7 +210,7 @@ module _ (nodes : List Node) (frames : List Frame) (trees : List ℕ) (k p f : �
       found off.0 p off.1.0 p_in (inl off.1.1.0) (ap (λ t. page nodes t p) (tree-of_root nodes frames trees tied root off.0 off.1.1.1 ∙ sym at) ∙ is)
 
   -- on the way below a node that is the tree's own, a node that others lead to
-  below-elsewhere : (level n r : ℕ) → level ≤ 3 → level_of nodes n ≡ level → 0 < count_of nodes n → r < 32 ^ level → root_short nodes (n + 1) ≡ 0 → IsMet nodes 3 level tree p (n + 1) r → short_below nodes level (n + 1) r ≢ 0 → HasElsewhere nodes trees k p f
+  below-elsewhere : (level n r : ℕ) → level ≤ 3 → level_of nodes n ≡ level → 0 < count_of nodes n → r < 32 ^ level → link_short nodes (n + 1) ≡ 0 → IsMet nodes 3 level tree p (n + 1) r → short_below nodes level (n + 1) r ≢ 0 → HasElsewhere nodes trees k p f
   below-elsewhere zero n r most at held r_in own met short = absurd (let l = sound.levels n held in omega (arith, l.0, at))
   below-elsewhere (suc zero) n r most at held r_in own met short = absurd (short (short-leaf nodes (n + 1) r own))
   below-elsewhere (suc (suc l)) n r most at held r_in own met short =
@@ -236,7 +236,7 @@ module _ (nodes : List Node) (frames : List Frame) (trees : List ℕ) (k p f : �
       ⊎_elim
       (λ once.
       let below_short : short_below nodes (suc l) (x + 1) (r % 32 ^ suc l) ≢ 0 = λ none. short (short-step nodes (suc l) (n + 1) r own ∙ ap (λ c. short_below nodes (suc l) c (r % 32 ^ suc l)) (link_of-node nodes n (r / 32 ^ suc l) ∙ child.1) ∙ none) in
-      below-elsewhere (suc l) x (r % 32 ^ suc l) (omega (arith, most)) (omega (arith, next, at)) x_held (mod_below r (32 ^ suc l) pos) (root_short-once nodes x once) met_x below_short)
+      below-elsewhere (suc l) x (r % 32 ^ suc l) (omega (arith, most)) (omega (arith, next, at)) x_held (mod_below r (32 ^ suc l) pos) (link_short-once nodes x once) met_x below_short)
       (λ more.
       let counted = sound.counted x (omega (arith, next, at, most)) in
       let sums = uses-total 3 nodes frames is_inner (x + 1) sound in
@@ -271,7 +271,7 @@ module _ (nodes : List Node) (frames : List Frame) (trees : List ℕ) (k p f : �
       let held = held-tree k k_in root.0 root.1 in
       ⊎_elim
       (λ once.
-      below-elsewhere 3 root.0 p (omega arith) held.0 held.1 (omega (arith, p_in)) (root_short-once nodes root.0 once)
+      below-elsewhere 3 root.0 p (omega arith) held.0 held.1 (omega (arith, p_in)) (link_short-once nodes root.0 once)
       (subst (λ t. IsMet nodes 3 3 tree p t p) root.1 (met-top nodes 3 tree p (omega arith)))
       (λ none. short (ap (λ t. short_below nodes 3 t p) root.1 ∙ none)))
       (λ more. root-elsewhere root.0 root.1 more)

@@ -4,7 +4,7 @@ use Rattle.std.proofs.lemmas.Bool.{cases_eq, eq-eqb, ne_eqb, cond-true, cond-fal
 use Rattle.frame_pool.specs.Frame.{Frame}
 use Rattle.node_pool.specs.Nodes.{Node, count_of, level_of, entry_of}
 use Rattle.page_tree.specs.Pages.{entries_of, entry_below, link_of}
-use Rattle.page_tree.specs.Short.{root_short, short_below}
+use Rattle.page_tree.specs.Short.{link_short, short_below}
 use Rattle.page_tree.specs.Sound.{IsSoundTo, is_inner, is_root, leading_to}
 use Rattle.page_tree.specs.Changes.{IsBelow}
 use Rattle.page_tree.proofs.UsesLemmas.{uses-some, inner-yes}
@@ -87,44 +87,44 @@ entry-moved old new (suc k) link q same =
     ap (λ e. entry_below new k e (q % 32 ^ k)) (link-same old new link (q / 32 ^ k) (λ m is. same m (inl is)))
     ∙ entry-moved old new k (link_of old link (q / 32 ^ k)) (q % 32 ^ k) (λ m w. same m (inr (q / 32 ^ k, w)))
 
-pub root_short-none : (nodes : List Node) → root_short nodes 0 ≡ 1
-unfolding root_short
-root_short-none nodes = refl
+pub link_short-none : (nodes : List Node) → link_short nodes 0 ≡ 1
+unfolding link_short
+link_short-none nodes = refl
 
-pub root_short-node : (nodes : List Node) (n : ℕ) → root_short nodes (n + 1) ≡ cond (eqb (count_of nodes n) 1) 0 1
-unfolding root_short
-root_short-node nodes n =
+pub link_short-node : (nodes : List Node) (n : ℕ) → link_short nodes (n + 1) ≡ cond (eqb (count_of nodes n) 1) 0 1
+unfolding link_short
+link_short-node nodes n =
     cond-false (eqb (n + 1) 0) 1 (cond (eqb (count_of nodes (n + 1 - 1)) 1) 0 1) (ne_eqb (n + 1) 0 (λ is. absurd (omega (arith, is)))) ∙ ap (λ x. cond (eqb (count_of nodes x) 1) 0 1) (omega arith)
 
-pub root_short-once : (nodes : List Node) (n : ℕ) → count_of nodes n ≡ 1 → root_short nodes (n + 1) ≡ 0
-root_short-once nodes n once = root_short-node nodes n ∙ cond-true (eqb (count_of nodes n) 1) 0 1 (eq-eqb (count_of nodes n) 1 once)
+pub link_short-once : (nodes : List Node) (n : ℕ) → count_of nodes n ≡ 1 → link_short nodes (n + 1) ≡ 0
+link_short-once nodes n once = link_short-node nodes n ∙ cond-true (eqb (count_of nodes n) 1) 0 1 (eq-eqb (count_of nodes n) 1 once)
 
-pub root_short-shared : (nodes : List Node) (n : ℕ) → count_of nodes n ≢ 1 → root_short nodes (n + 1) ≡ 1
-root_short-shared nodes n more = root_short-node nodes n ∙ cond-false (eqb (count_of nodes n) 1) 0 1 (ne_eqb (count_of nodes n) 1 more)
+pub link_short-shared : (nodes : List Node) (n : ℕ) → count_of nodes n ≢ 1 → link_short nodes (n + 1) ≡ 1
+link_short-shared nodes n more = link_short-node nodes n ∙ cond-false (eqb (count_of nodes n) 1) 0 1 (ne_eqb (count_of nodes n) 1 more)
 
 -- what need not be taken is a node that is held once
-pub root_short-cases : (nodes : List Node) (link : ℕ) → ((root_short nodes link ≡ 0) × ((n : ℕ) × ((link ≡ n + 1) × (count_of nodes n ≡ 1)))) ⊎ (root_short nodes link ≡ 1)
-root_short-cases nodes link =
+pub link_short-cases : (nodes : List Node) (link : ℕ) → ((link_short nodes link ≡ 0) × ((n : ℕ) × ((link ≡ n + 1) × (count_of nodes n ≡ 1)))) ⊎ (link_short nodes link ≡ 1)
+link_short-cases nodes link =
     ⊎_elim
-    (λ none. inr (ap (root_short nodes) none ∙ root_short-none nodes))
+    (λ none. inr (ap (link_short nodes) none ∙ link_short-none nodes))
     (λ some.
     ⊎_elim
-    (λ once. inl (ap (root_short nodes) some.1 ∙ root_short-once nodes some.0 once, (some.0, (some.1, once))))
-    (λ more. inr (ap (root_short nodes) some.1 ∙ root_short-shared nodes some.0 more))
+    (λ once. inl (ap (link_short nodes) some.1 ∙ link_short-once nodes some.0 once, (some.0, (some.1, once))))
+    (λ more. inr (ap (link_short nodes) some.1 ∙ link_short-shared nodes some.0 more))
     (cases_eq (count_of nodes some.0) 1))
     (zero_or_more link)
 
-pub root_short-le : (nodes : List Node) (link : ℕ) → root_short nodes link ≤ 1
-root_short-le nodes link = ⊎_elim (λ own. omega (arith, own.0)) (λ short. omega (arith, short)) (root_short-cases nodes link)
+pub link_short-le : (nodes : List Node) (link : ℕ) → link_short nodes link ≤ 1
+link_short-le nodes link = ⊎_elim (λ own. omega (arith, own.0)) (λ short. omega (arith, short)) (link_short-cases nodes link)
 
-pub short-step : (nodes : List Node) (k link q : ℕ) → root_short nodes link ≡ 0 → short_below nodes (suc k) link q ≡ short_below nodes k (link_of nodes link (q / 32 ^ k)) (q % 32 ^ k)
+pub short-step : (nodes : List Node) (k link q : ℕ) → link_short nodes link ≡ 0 → short_below nodes (suc k) link q ≡ short_below nodes k (link_of nodes link (q / 32 ^ k)) (q % 32 ^ k)
 unfolding short_below
-short-step nodes k link q own = cond-true (eqb (root_short nodes link) 0) (short_below nodes k (link_of nodes link (q / 32 ^ k)) (q % 32 ^ k)) (suc k) (eq-eqb (root_short nodes link) 0 own)
+short-step nodes k link q own = cond-true (eqb (link_short nodes link) 0) (short_below nodes k (link_of nodes link (q / 32 ^ k)) (q % 32 ^ k)) (suc k) (eq-eqb (link_short nodes link) 0 own)
 
-pub short-all : (nodes : List Node) (k link q : ℕ) → root_short nodes link ≡ 1 → short_below nodes (suc k) link q ≡ suc k
+pub short-all : (nodes : List Node) (k link q : ℕ) → link_short nodes link ≡ 1 → short_below nodes (suc k) link q ≡ suc k
 unfolding short_below
 short-all nodes k link q short =
-    cond-false (eqb (root_short nodes link) 0) (short_below nodes k (link_of nodes link (q / 32 ^ k)) (q % 32 ^ k)) (suc k) (ne_eqb (root_short nodes link) 0 (λ is. absurd (omega (arith, is, short))))
+    cond-false (eqb (link_short nodes link) 0) (short_below nodes k (link_of nodes link (q / 32 ^ k)) (q % 32 ^ k)) (suc k) (ne_eqb (link_short nodes link) 0 (λ is. absurd (omega (arith, is, short))))
 
 -- at most the nodes of a way are to be taken
 pub short-le : (nodes : List Node) (k link q : ℕ) → short_below nodes k link q ≤ k
@@ -134,13 +134,13 @@ short-le nodes (suc k) link q =
     ⊎_elim
     (λ own. let rest = short-le nodes k (link_of nodes link (q / 32 ^ k)) (q % 32 ^ k) in omega (arith, short-step nodes k link q own.0, rest))
     (λ short. omega (arith, short-all nodes k link q short))
-    (root_short-cases nodes link)
+    (link_short-cases nodes link)
 
-pub root-moved : (old new : List Node) (link : ℕ) → ((m : ℕ) → link ≡ m + 1 → count_of new m ≡ count_of old m) → root_short new link ≡ root_short old link
+pub root-moved : (old new : List Node) (link : ℕ) → ((m : ℕ) → link ≡ m + 1 → count_of new m ≡ count_of old m) → link_short new link ≡ link_short old link
 root-moved old new link same =
     ⊎_elim
-    (λ none. ap (root_short new) none ∙ root_short-none new ∙ sym (root_short-none old) ∙ ap (root_short old) (sym none))
-    (λ some. ap (root_short new) some.1 ∙ root_short-node new some.0 ∙ ap (λ c. cond (eqb c 1) 0 1) (same some.0 some.1) ∙ sym (root_short-node old some.0) ∙ ap (root_short old) (sym some.1))
+    (λ none. ap (link_short new) none ∙ link_short-none new ∙ sym (link_short-none old) ∙ ap (link_short old) (sym none))
+    (λ some. ap (link_short new) some.1 ∙ link_short-node new some.0 ∙ ap (λ c. cond (eqb c 1) 0 1) (same some.0 some.1) ∙ sym (link_short-node old some.0) ∙ ap (link_short old) (sym some.1))
     (zero_or_more link)
 
 -- and so is what is to be taken, where they are held as often too
@@ -156,7 +156,7 @@ short-moved old new (suc k) link q same =
     ∙ short-moved old new k (link_of old link (q / 32 ^ k)) (q % 32 ^ k) (λ m w. same m (inr (q / 32 ^ k, w)))
     ∙ sym (short-step old k link q own.0))
     (λ short. short-all new k link q (root ∙ short) ∙ sym (short-all old k link q short))
-    (root_short-cases old link)
+    (link_short-cases old link)
 
 module _ (top : ℕ) (nodes : List Node) (frames : List Frame) (sound : IsSoundTo top nodes frames) where
   -- what an entry of a node above the leaves leads to is led to

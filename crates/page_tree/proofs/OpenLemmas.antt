@@ -7,9 +7,9 @@ use Rattle.node_pool.specs.Nodes.{Node, count_of}
 use Rattle.page_tree.specs.Changes.{IsBelow}
 use Rattle.page_tree.specs.Open.{IsOpen, IsOpenBelow, entries_passed}
 use Rattle.page_tree.specs.Pages.{entries_of, link_of}
-use Rattle.page_tree.specs.Short.{edge_below, edge_short, root_short}
+use Rattle.page_tree.specs.Short.{edge_below, edge_short, link_short}
 use Rattle.page_tree.proofs.CostLemmas.{pow-pos}
-use Rattle.page_tree.proofs.LinkLemmas.{link-same, root-moved, root_short-le}
+use Rattle.page_tree.proofs.LinkLemmas.{link-same, root-moved, link_short-le}
 
 -- nothing is open
 
@@ -24,7 +24,7 @@ open-empty nodes p = open-none nodes 3 0 p refl
 -- an open link that is not nothing leads to an owned node without later entries, and goes on
 pub record Goes (nodes : List Node) (level link p : ℕ) : Type 0 where
   pub some : 0 < p
-  pub own : root_short nodes link ≡ 0
+  pub own : link_short nodes link ≡ 0
   pub later : (i : ℕ) → p / 32 ^ (level - 1) < i → link_of nodes link i ≡ 0
   pub way : IsOpenBelow nodes (level - 1) (link_of nodes link (p / 32 ^ (level - 1))) (p % 32 ^ (level - 1))
 
@@ -130,22 +130,22 @@ edge-moved old new (suc k) link p same =
     let root = root-moved old new link (λ m is. (same m (inl is)).1) in
     let links = link-same old new link (p / 32 ^ k) (λ m is. (same m (inl is)).0) in
     let rest = edge-moved old new k (link_of old link (p / 32 ^ k)) (p % 32 ^ k) (λ m w. same m (inr (p / 32 ^ k, w))) in
-    ap (λ x. cond (eqb p 0) 0 x) (ap (λ x. x + edge_below new k (link_of new link (p / 32 ^ k)) (p % 32 ^ k)) root ∙ ap (λ x. root_short old link + x) (ap (λ l. edge_below new k l (p % 32 ^ k)) links ∙ rest))
+    ap (λ x. cond (eqb p 0) 0 x) (ap (λ x. x + edge_below new k (link_of new link (p / 32 ^ k)) (p % 32 ^ k)) root ∙ ap (λ x. link_short old link + x) (ap (λ l. edge_below new k l (p % 32 ^ k)) links ∙ rest))
 
 -- numbers of nodes on the way to an edge
 
 pub edge-first : (nodes : List Node) (k link p : ℕ) → p ≡ 0 → edge_below nodes k link p ≡ 0
 unfolding edge_below
 edge-first nodes zero link p begins = refl
-edge-first nodes (suc k) link p begins = cond-true (eqb p 0) 0 (root_short nodes link + edge_below nodes k (link_of nodes link (p / 32 ^ k)) (p % 32 ^ k)) (eq-eqb p 0 begins)
+edge-first nodes (suc k) link p begins = cond-true (eqb p 0) 0 (link_short nodes link + edge_below nodes k (link_of nodes link (p / 32 ^ k)) (p % 32 ^ k)) (eq-eqb p 0 begins)
 
-pub edge-step : (nodes : List Node) (level link p : ℕ) → 0 < level → p ≢ 0 → edge_below nodes level link p ≡ root_short nodes link + edge_below nodes (level - 1) (link_of nodes link (p / 32 ^ (level - 1))) (p % 32 ^ (level - 1))
+pub edge-step : (nodes : List Node) (level link p : ℕ) → 0 < level → p ≢ 0 → edge_below nodes level link p ≡ link_short nodes link + edge_below nodes (level - 1) (link_of nodes link (p / 32 ^ (level - 1))) (p % 32 ^ (level - 1))
 unfolding edge_below
 edge-step nodes zero link p up inner = absurd (omega (arith, up))
 edge-step nodes (suc k) link p up inner =
     let less : k ≡ suc k - 1 = omega arith in
-    cond-false (eqb p 0) 0 (root_short nodes link + edge_below nodes k (link_of nodes link (p / 32 ^ k)) (p % 32 ^ k)) (ne_eqb p 0 inner)
-    ∙ ap (λ l. root_short nodes link + edge_below nodes l (link_of nodes link (p / 32 ^ l)) (p % 32 ^ l)) less
+    cond-false (eqb p 0) 0 (link_short nodes link + edge_below nodes k (link_of nodes link (p / 32 ^ k)) (p % 32 ^ k)) (ne_eqb p 0 inner)
+    ∙ ap (λ l. link_short nodes link + edge_below nodes l (link_of nodes link (p / 32 ^ l)) (p % 32 ^ l)) less
 
 edge-le : (nodes : List Node) (k link p : ℕ) → edge_below nodes k link p ≤ k
 unfolding edge_below
@@ -154,21 +154,21 @@ edge-le nodes (suc k) link p =
     ⊎_elim
     (λ begins. let none = edge-first nodes (suc k) link p begins in omega (arith, none))
     (λ inner.
-    let all = cond-false (eqb p 0) 0 (root_short nodes link + edge_below nodes k (link_of nodes link (p / 32 ^ k)) (p % 32 ^ k)) (ne_eqb p 0 inner) in
-    let root = root_short-le nodes link in
+    let all = cond-false (eqb p 0) 0 (link_short nodes link + edge_below nodes k (link_of nodes link (p / 32 ^ k)) (p % 32 ^ k)) (ne_eqb p 0 inner) in
+    let root = link_short-le nodes link in
     let rest = edge-le nodes k (link_of nodes link (p / 32 ^ k)) (p % 32 ^ k) in
     omega (arith, all, root, rest))
     (cases_eq p 0)
 
-pub edge_short-first : (nodes : List Node) (tree p : ℕ) → p ≡ 0 → edge_short nodes tree p ≡ root_short nodes tree
+pub edge_short-first : (nodes : List Node) (tree p : ℕ) → p ≡ 0 → edge_short nodes tree p ≡ link_short nodes tree
 unfolding edge_short
-edge_short-first nodes tree p begins = cond-true (eqb p 0) (root_short nodes tree) (edge_below nodes 3 tree p) (eq-eqb p 0 begins)
+edge_short-first nodes tree p begins = cond-true (eqb p 0) (link_short nodes tree) (edge_below nodes 3 tree p) (eq-eqb p 0 begins)
 
 pub edge_short-inner : (nodes : List Node) (tree p : ℕ) → p ≢ 0 → edge_short nodes tree p ≡ edge_below nodes 3 tree p
 unfolding edge_short
-edge_short-inner nodes tree p inner = cond-false (eqb p 0) (root_short nodes tree) (edge_below nodes 3 tree p) (ne_eqb p 0 inner)
+edge_short-inner nodes tree p inner = cond-false (eqb p 0) (link_short nodes tree) (edge_below nodes 3 tree p) (ne_eqb p 0 inner)
 
-edge-bounds : (nodes : List Node) (tree p : ℕ) → (root_short nodes tree ≤ edge_short nodes tree p) × (edge_short nodes tree p ≤ root_short nodes tree + 2)
+edge-bounds : (nodes : List Node) (tree p : ℕ) → (link_short nodes tree ≤ edge_short nodes tree p) × (edge_short nodes tree p ≤ link_short nodes tree + 2)
 edge-bounds nodes tree p =
     ⊎_elim
     (λ begins. let is = edge_short-first nodes tree p begins in (omega (arith, is), omega (arith, is)))

@@ -8,9 +8,9 @@ use Rattle.page_tree.specs.Changes.{IsBelow}
 use Rattle.page_tree.specs.Costs.{open_steps}
 use Rattle.page_tree.specs.Open.{IsOpen, IsOpenBelow, IsOpenNode, passed_below}
 use Rattle.page_tree.specs.Pages.{link_of}
-use Rattle.page_tree.specs.Short.{cut_at, edge_below, edge_short, open_cuts, root_short}
+use Rattle.page_tree.specs.Short.{cut_at, edge_below, edge_short, open_cuts, link_short}
 use Rattle.page_tree.proofs.CostLemmas.{pow-pos}
-use Rattle.page_tree.proofs.LinkLemmas.{below-none, link_of-node, link_of-none, root_short-le, root_short-none}
+use Rattle.page_tree.proofs.LinkLemmas.{below-none, link_of-node, link_of-none, link_short-le, link_short-none}
 use Rattle.page_tree.proofs.OpenLemmas.{edge_short-first, edge_short-inner, open-first, edge-first, edge-moved, edge-step, open-cases, open-goes, open-none}
 use Rattle.page_tree.proofs.RangeLemmas.{InRange, cut-none, cut-some, first-or-later}
 
@@ -76,7 +76,7 @@ opens-start level first end i s n t le order is_open =
 module _ (level first end i low high : ℕ) (s0 s s' : List Node) (n t0 t t' : ℕ) (some : 1 ≤ level) (at : InRange level first end i (32 ^ (level - 1)))
     (from_on : first / 32 ^ (level - 1) ≤ i) (below : i < (end - 1) / 32 ^ (level - 1) + 1)
     (low_is : low + i * 32 ^ (level - 1) ≡ max first (i * 32 ^ (level - 1))) (high_is : high + i * 32 ^ (level - 1) ≡ min end (i * 32 ^ (level - 1) + 32 ^ (level - 1)))
-    (order : first < end) (page : end ≤ 32 ^ level) (is_open : IsOpenNode s0 level n first) (inv : Opens level first end i s0 s n t0 t) (own : root_short s' (n + 1) ≡ 0)
+    (order : first < end) (page : end ≤ 32 ^ level) (is_open : IsOpenNode s0 level n first) (inv : Opens level first end i s0 s n t0 t) (own : link_short s' (n + 1) ≡ 0)
     (others : (k : ℕ) → k ≢ i → entry_of s' n k ≡ entry_of s n k)
     (opens : IsOpenBelow s (level - 1) (entry_of s n i) low → high ≢ 32 ^ (level - 1) → IsOpenBelow s' (level - 1) (entry_of s' n i) high)
     (edges : IsOpenBelow s (level - 1) (entry_of s n i) low → high ≢ 32 ^ (level - 1) → edge_below s' (level - 1) (entry_of s' n i) high ≡ 0)
@@ -329,7 +329,7 @@ module _ (level first end i low high : ℕ) (s0 s s' : List Node) (n t0 t t' : �
       }
 
 -- an open link is made a node of its own
-module _ (level first end : ℕ) (old a : List Node) (link n t0 t : ℕ) (some : 1 ≤ level) (is_open : IsOpenBelow old level link first) (same : root_short old link ≡ 0 → a ≡ old) (entries : (i : ℕ) → entry_of a n i ≡ link_of old link i) where
+module _ (level first end : ℕ) (old a : List Node) (link n t0 t : ℕ) (some : 1 ≤ level) (is_open : IsOpenBelow old level link first) (same : link_short old link ≡ 0 → a ≡ old) (entries : (i : ℕ) → entry_of a n i ≡ link_of old link i) where
   pub own-open : IsOpenNode a level n first
   own-open =
       ⊎_elim
@@ -355,9 +355,9 @@ module _ (level first end : ℕ) (old a : List Node) (link n t0 t : ℕ) (some :
       (open-cases old level link first (omega (arith, some)) is_open)
 
   -- what a range takes from there on
-  pub own-free : (cut free0 free1 free2 : ℕ) → free0 ≤ free1 + root_short old link → free1 ≤ free2 + (edge_below a (level - 1) (entry_of a n (first / 32 ^ (level - 1))) (first % 32 ^ (level - 1)) + cut) → free0 ≤ free2 + (edge_below old level link first + cond (eqb first 0) 1 0 + cut)
+  pub own-free : (cut free0 free1 free2 : ℕ) → free0 ≤ free1 + link_short old link → free1 ≤ free2 + (edge_below a (level - 1) (entry_of a n (first / 32 ^ (level - 1))) (first % 32 ^ (level - 1)) + cut) → free0 ≤ free2 + (edge_below old level link first + cond (eqb first 0) 1 0 + cut)
   own-free cut free0 free1 free2 takes rest =
-      let root = root_short-le old link in
+      let root = link_short-le old link in
       ⊎_elim
       (λ begins.
       let none = edge-first a (level - 1) (entry_of a n (first / 32 ^ (level - 1))) (first % 32 ^ (level - 1)) (ap (λ x. x % 32 ^ (level - 1)) begins ∙ omega arith) in
@@ -366,14 +366,14 @@ module _ (level first end : ℕ) (old a : List Node) (link n t0 t : ℕ) (some :
       (λ inner. let step = edge-step old level link first (omega (arith, some)) inner in omega (arith, takes, rest, step, own-edge))
       (cases_eq first 0)
 
-  pub own-free_none : (cut free0 free1 : ℕ) → free0 ≤ free1 + root_short old link → free0 ≤ free1 + (edge_below old level link first + cond (eqb first 0) 1 0 + cut)
+  pub own-free_none : (cut free0 free1 : ℕ) → free0 ≤ free1 + link_short old link → free0 ≤ free1 + (edge_below old level link first + cond (eqb first 0) 1 0 + cut)
   own-free_none cut free0 free1 takes = own-free cut free0 free1 free1 takes (omega arith)
 
-  pub own-cost : (root_short old link ≡ 0 → t ≡ t0) → (link ≡ 0 → t ≤ t0 + 1) → t ≤ t0 + 1
+  pub own-cost : (link_short old link ≡ 0 → t ≡ t0) → (link ≡ 0 → t ≤ t0 + 1) → t ≤ t0 + 1
   own-cost own none = ⊎_elim (λ is. none is) (λ goes. let same' = own goes.own in omega (arith, same')) (open-cases old level link first (omega (arith, some)) is_open)
 
 -- an owned node that is open is an open link
-pub node-open : (level : ℕ) (nodes : List Node) (n p : ℕ) → 1 ≤ level → 0 < p → root_short nodes (n + 1) ≡ 0 → IsOpenNode nodes level n p → IsOpenBelow nodes level (n + 1) p
+pub node-open : (level : ℕ) (nodes : List Node) (n p : ℕ) → 1 ≤ level → 0 < p → link_short nodes (n + 1) ≡ 0 → IsOpenNode nodes level n p → IsOpenBelow nodes level (n + 1) p
 node-open level nodes n p up some own is_open =
     open-goes nodes level (n + 1) p (omega (arith, up))
     (record {
@@ -391,7 +391,7 @@ open-takes nodes tree from to is_open =
     (λ begins.
     let none = edge-first nodes 3 tree from begins in
     let one = cond-true {A = ℕ} (eqb from 0) 1 0 (eq-eqb from 0 begins) in
-    let root = edge_short-first nodes tree from begins ∙ ap (root_short nodes) (open-first nodes 3 tree from begins is_open) ∙ root_short-none nodes in
+    let root = edge_short-first nodes tree from begins ∙ ap (link_short nodes) (open-first nodes 3 tree from begins is_open) ∙ link_short-none nodes in
     omega (arith, none, one, root, cut))
     (λ inner.
     let off = cond-false {A = ℕ} (eqb from 0) 1 0 (ne_eqb from 0 inner) in

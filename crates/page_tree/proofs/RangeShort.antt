@@ -7,10 +7,10 @@ use Rattle.std.proofs.lemmas.List.FromFn.{get_or-range_with_len, length-range_wi
 use Rattle.std.proofs.lemmas.Bool.{and_from, and_left, and_right, cases_eq, cases_lt, cond-false, cond-true, eq-eqb, le-ltb, lt-ltb, ne_eqb}
 use Rattle.node_pool.specs.Nodes.{Node, count_of, entry_of}
 use Rattle.page_tree.specs.Pages.{entries_of, link_of}
-use Rattle.page_tree.specs.Short.{cut_at, entry_short, is_part, own_entry, part_below, range_below, root_short}
+use Rattle.page_tree.specs.Short.{cut_at, entry_short, is_part, own_entry, part_below, range_below, link_short}
 use Rattle.page_tree.specs.Steps.{IsWay}
 use Rattle.page_tree.proofs.CostLemmas.{pow-pos, pow-step}
-use Rattle.page_tree.proofs.LinkLemmas.{link-same, root_short-cases, root_short-le, root_short-none, root_short-once}
+use Rattle.page_tree.proofs.LinkLemmas.{link-same, link_short-cases, link_short-le, link_short-none, link_short-once}
 use Rattle.page_tree.proofs.LoneLemmas.{way-here}
 use Rattle.page_tree.proofs.RangeLemmas.{cut-none, cut-some}
 use Rattle.pool_base.proofs.Totals.{total, total-add, total-le, total-list, total-same, total-zero}
@@ -85,23 +85,23 @@ part-le old new k link link' from to le = cond-le (is_part (32 ^ k) from to) (ra
 abbrev part_at : List Node → ℕ → ℕ → ℕ → ℕ → ℕ → ℕ
 part_at nodes k link from to i = part_below nodes k (own_entry nodes link i) (from - i * 32 ^ k) (min (32 ^ k) (to - i * 32 ^ k))
 
-range-step : (nodes : List Node) (k link from to : ℕ) → range_below nodes (suc k) link from to ≡ root_short nodes link + total (part_at nodes k link from to) 32
+range-step : (nodes : List Node) (k link from to : ℕ) → range_below nodes (suc k) link from to ≡ link_short nodes link + total (part_at nodes k link from to) 32
 unfolding range_below
-range-step nodes k link from to = ap (λ n. root_short nodes link + n) (sum-total (part_at nodes k link from to))
+range-step nodes k link from to = ap (λ n. link_short nodes link + n) (sum-total (part_at nodes k link from to))
 
-own_entry-own : (nodes : List Node) (link i : ℕ) → root_short nodes link ≡ 0 → own_entry nodes link i ≡ link_of nodes link i
-own_entry-own nodes link i own = cond-true (eqb (root_short nodes link) 0) (link_of nodes link i) 0 (eq-eqb (root_short nodes link) 0 own)
+own_entry-own : (nodes : List Node) (link i : ℕ) → link_short nodes link ≡ 0 → own_entry nodes link i ≡ link_of nodes link i
+own_entry-own nodes link i own = cond-true (eqb (link_short nodes link) 0) (link_of nodes link i) 0 (eq-eqb (link_short nodes link) 0 own)
 
-own_entry-short : (nodes : List Node) (link i : ℕ) → root_short nodes link ≡ 1 → own_entry nodes link i ≡ 0
-own_entry-short nodes link i short = cond-false (eqb (root_short nodes link) 0) (link_of nodes link i) 0 (ne_eqb (root_short nodes link) 0 (λ is. absurd (omega (arith, is, short))))
+own_entry-short : (nodes : List Node) (link i : ℕ) → link_short nodes link ≡ 1 → own_entry nodes link i ≡ 0
+own_entry-short nodes link i short = cond-false (eqb (link_short nodes link) 0) (link_of nodes link i) 0 (ne_eqb (link_short nodes link) 0 (λ is. absurd (omega (arith, is, short))))
 
 -- nothing takes most
 pub range-most : (nodes nodes' : List Node) (k link from to : ℕ) → range_below nodes k link from to ≤ range_below nodes' k 0 from to
 unfolding range_below
 range-most nodes nodes' zero link from to = omega arith
 range-most nodes nodes' (suc k) link from to =
-    let root = root_short-le nodes link in
-    let none = root_short-none nodes' in
+    let root = link_short-le nodes link in
+    let none = link_short-none nodes' in
     let parts = total-le (part_at nodes k link from to) (part_at nodes' k 0 from to) 32
     (λ i _.
     part-le nodes' nodes k (own_entry nodes' 0 i) (own_entry nodes link i) (from - i * 32 ^ k) (min (32 ^ k) (to - i * 32 ^ k))
@@ -118,7 +118,7 @@ range-lone old new (suc k) link from to same =
     (λ own.
     let m = own.1.0 in
     let here = same m (way-here (λ x. count_of old x ≡ 1) old (suc k) link m (omega arith) own.1.1.0 own.1.1.1) in
-    let root : root_short new link ≡ 0 = ap (root_short new) own.1.1.0 ∙ root_short-once new m here.0 in
+    let root : link_short new link ≡ 0 = ap (link_short new) own.1.1.0 ∙ link_short-once new m here.0 in
     let links : (i : ℕ) → own_entry new link i ≡ own_entry old link i = λ i.
     own_entry-own new link i root
     ∙ link-same old new link i (λ y is. let e : y ≡ m = omega (arith, is, own.1.1.0) in ap (entries_of new) e ∙ here.1 ∙ ap (entries_of old) (sym e))
@@ -131,17 +131,17 @@ range-lone old new (suc k) link from to same =
     let e = ap (λ l. range_below new k l (from - i * 32 ^ k) (min (32 ^ k) (to - i * 32 ^ k))) (links i) in omega (arith, least, e))) in
     omega (arith, range-step new k link from to, range-step old k link from to, root, own.0, parts))
     (λ short.
-    let root = root_short-le new link in
+    let root = link_short-le new link in
     let parts = total-le (part_at new k link from to) (part_at old k link from to) 32
     (λ i _.
     part-le old new k (own_entry old link i) (own_entry new link i) (from - i * 32 ^ k) (min (32 ^ k) (to - i * 32 ^ k))
     (let most = range-most new old k (own_entry new link i) (from - i * 32 ^ k) (min (32 ^ k) (to - i * 32 ^ k)) in
     let e = ap (λ l. range_below old k l (from - i * 32 ^ k) (min (32 ^ k) (to - i * 32 ^ k))) (own_entry-short old link i short) in omega (arith, most, e))) in
     omega (arith, range-step new k link from to, range-step old k link from to, root, short, parts))
-    (root_short-cases old link)
+    (link_short-cases old link)
 
 -- a link is made a node of its own, with its entries
-pub range-own : (old a : List Node) (level link n from to : ℕ) → 0 < level → (root_short old link ≡ 0 → a ≡ old) → ((i : ℕ) → entry_of a n i ≡ link_of old link i) → root_short old link + total (entry_short a level n from to) 32 ≤ range_below old level link from to
+pub range-own : (old a : List Node) (level link n from to : ℕ) → 0 < level → (link_short old link ≡ 0 → a ≡ old) → ((i : ℕ) → entry_of a n i ≡ link_of old link i) → link_short old link + total (entry_short a level n from to) 32 ≤ range_below old level link from to
 range-own old a zero link n from to some same entries = absurd (omega (arith, some))
 range-own old a (suc k) link n from to some same entries =
     let less : suc k - 1 ≡ k = omega arith in
@@ -158,12 +158,12 @@ range-own old a (suc k) link n from to some same entries =
     (λ short.
     let most = range-most a old k (entry_of a n i) (from - i * 32 ^ k) (min (32 ^ k) (to - i * 32 ^ k)) in
     let e = ap (λ l. range_below old k l (from - i * 32 ^ k) (min (32 ^ k) (to - i * 32 ^ k))) (own_entry-short old link i short) in omega (arith, most, e))
-    (root_short-cases old link)) in
+    (link_short-cases old link)) in
     omega (arith, low, le)) in
     omega (arith, range-step old k link from to, parts)
 
 -- what a link leads to is among them
-pub range-root : (nodes : List Node) (level link from to : ℕ) → 0 < level → root_short nodes link ≤ range_below nodes level link from to
+pub range-root : (nodes : List Node) (level link from to : ℕ) → 0 < level → link_short nodes link ≤ range_below nodes level link from to
 range-root nodes zero link from to some = absurd (omega (arith, some))
 range-root nodes (suc k) link from to some = omega (arith, range-step nodes k link from to)
 
@@ -178,7 +178,7 @@ unfolding range_below
 range-none nodes zero link from to none = refl
 range-none nodes (suc k) link from to none = absurd (omega (arith, none))
 
-pub range-le : (nodes : List Node) (k link from to : ℕ) → range_below nodes k link from to ≤ root_short nodes link + (cut_at k from 0 + cut_at k to (32 ^ k))
+pub range-le : (nodes : List Node) (k link from to : ℕ) → range_below nodes k link from to ≤ link_short nodes link + (cut_at k from 0 + cut_at k to (32 ^ k))
 unfolding range_below
 range-le nodes zero link from to = omega arith
 range-le nodes (suc k) link from to =
@@ -203,7 +203,7 @@ range-le nodes (suc k) link from to =
     let cut = cut-some (suc k) to (32 ^ suc k) (λ is. absurd (omega (arith, is, off, high', step, power))) in
     omega (arith, c, cut) in
     let rest = range-le nodes k (own_entry nodes link i) (from - i * 32 ^ k) (min (32 ^ k) (to - i * 32 ^ k)) in
-    let root = root_short-le nodes (own_entry nodes link i) in
+    let root = link_short-le nodes (own_entry nodes link i) in
     let some : (range_below nodes k (own_entry nodes link i) (from - i * 32 ^ k) (min (32 ^ k) (to - i * 32 ^ k)) ≡ 0) ⊎ (0 < k) = ⊎_elim (λ up. inr up) (λ low. inl (range-none nodes k (own_entry nodes link i) (from - i * 32 ^ k) (min (32 ^ k) (to - i * 32 ^ k)) (omega (arith, low)))) (cases_lt 0 k) in
     ⊎_elim
     (λ a.

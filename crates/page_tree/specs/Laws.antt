@@ -8,7 +8,7 @@ use Rattle.page_tree.specs.declared.cell.PageCell.TheVariants as cell
 use Rattle.page_tree.specs.declared.store.TheConstants.{PAGES, ROOT_ENTRIES, ROOT_LEVEL, TREE_NODES}
 use Rattle.page_tree.specs.Open.{IsOpen, entries_passed}
 use Rattle.page_tree.specs.Pages.{page}
-use Rattle.page_tree.specs.Short.{clear_short, edge_short, page_short, range_short, root_short}
+use Rattle.page_tree.specs.Short.{clear_short, edge_short, page_short, range_short, link_short}
 use Rattle.page_tree.specs.Sound.{IsTree}
 use Rattle.page_tree.specs.Tied.{IsTied, HasElsewhere, HasFrame, page_of}
 
@@ -18,9 +18,9 @@ pub record TreeLaws : Type 0 where
   pub pages : PAGES ≡ ROOT_ENTRIES * NODE_ENTRIES ^ (ROOT_LEVEL - 1)
   pub empty : (nodes : List Node) (p : ℕ) → page nodes 0 p ≡ Absent
   pub page_takes : (nodes : List Node) (tree p : ℕ) → page_short nodes tree p ≤ ROOT_LEVEL
-  pub range_takes : (nodes : List Node) (tree from to : ℕ) → range_short nodes tree from to ≤ root_short nodes tree + 4
-  pub root_takes : (nodes : List Node) (tree : ℕ) → root_short nodes tree ≤ 1
-  pub clear_takes : (nodes : List Node) (tree from to : ℕ) → clear_short nodes tree from to ≤ root_short nodes tree + 4
+  pub range_takes : (nodes : List Node) (tree from to : ℕ) → range_short nodes tree from to ≤ link_short nodes tree + 4
+  pub root_takes : (nodes : List Node) (tree : ℕ) → link_short nodes tree ≤ 1
+  pub clear_takes : (nodes : List Node) (tree from to : ℕ) → clear_short nodes tree from to ≤ link_short nodes tree + 4
 
 -- the laws of open trees: the empty one is open, each is open from later pages on, where a range that begins
 -- takes few more nodes, and few entries passed are not passed there

@@ -4,14 +4,14 @@ use Rattle.node_pool.specs.declared.pool.TheConstants.{NODE_ENTRIES}
 use Rattle.node_pool.specs.Nodes.{Node, entry_of}
 use Rattle.page_tree.specs.declared.store.TheConstants.{ROOT_LEVEL}
 use Rattle.page_tree.specs.Pages.{link_of}
-use Rattle.page_tree.specs.Short.{root_short}
+use Rattle.page_tree.specs.Short.{link_short}
 
 -- a link of a level leads to nothing from its page p on, and nobody else holds a node on the way to p
 unfoldable pub IsOpenBelow : List Node → ℕ → ℕ → ℕ → Type 0
 IsOpenBelow nodes zero link p = link ≡ 0
 IsOpenBelow nodes (suc level) link p =
     (link ≡ 0)
-    ⊎ ((0 < p) × ((root_short nodes link ≡ 0)
+    ⊎ ((0 < p) × ((link_short nodes link ≡ 0)
     × (((i : ℕ) → p / NODE_ENTRIES ^ level < i → link_of nodes link i ≡ 0)
     × IsOpenBelow nodes level (link_of nodes link (p / NODE_ENTRIES ^ level)) (p % NODE_ENTRIES ^ level))))
 

@@ -7,15 +7,15 @@ use Rattle.page_tree.specs.declared.store.TheConstants.{PAGES, ROOT_LEVEL}
 use Rattle.page_tree.specs.Pages.{link_of}
 
 -- 1 where what a link leads to must be taken: it is absent, or held by others too
-unfoldable pub root_short : List Node → ℕ → ℕ
-root_short nodes link = if link == 0 then 1 else (if count_of nodes (link - 1) == 1 then 0 else 1)
+unfoldable pub link_short : List Node → ℕ → ℕ
+link_short nodes link = if link == 0 then 1 else (if count_of nodes (link - 1) == 1 then 0 else 1)
 
 -- for one page: the nodes on the way down from a link, from the first one on that is absent or held by others
 -- too
 unfoldable pub short_below : List Node → ℕ → ℕ → ℕ → ℕ
 short_below nodes zero link p = 0
 short_below nodes (suc level) link p =
-    if root_short nodes link == 0 then short_below nodes level (link_of nodes link (p / NODE_ENTRIES ^ level)) (p % NODE_ENTRIES ^ level) else suc level
+    if link_short nodes link == 0 then short_below nodes level (link_of nodes link (p / NODE_ENTRIES ^ level)) (p % NODE_ENTRIES ^ level) else suc level
 
 -- for one page of a tree
 abbrev pub page_short : List Node → ℕ → ℕ → ℕ
@@ -29,7 +29,7 @@ cut_at level at edge = if at == edge then 0 else level - 1
 -- an entry of what a link leads to; 0 where that is taken anew: a new node has no entries, and what the entries
 -- of a shared one lead to is shared
 abbrev pub own_entry : List Node → ℕ → ℕ → ℕ
-own_entry nodes link i = if root_short nodes link == 0 then link_of nodes link i else 0
+own_entry nodes link i = if link_short nodes link == 0 then link_of nodes link i else 0
 
 -- a range of pages has some of so many pages, and not all
 abbrev pub is_part : ℕ → ℕ → ℕ → Bool
@@ -40,7 +40,7 @@ is_part width from to = nat_lt from to && not ((from == 0) && (to == width))
 unfoldable pub range_below : List Node → ℕ → ℕ → ℕ → ℕ → ℕ
 range_below nodes zero link from to = 0
 range_below nodes (suc level) link from to =
-    root_short nodes link
+    link_short nodes link
     + sum_by
     (λ i. if is_part (NODE_ENTRIES ^ level) (from - i * NODE_ENTRIES ^ level) (min (NODE_ENTRIES ^ level) (to - i * NODE_ENTRIES ^ level))
     then range_below nodes level (own_entry nodes link i) (from - i * NODE_ENTRIES ^ level) (min (NODE_ENTRIES ^ level) (to - i * NODE_ENTRIES ^ level))
@@ -70,7 +70,7 @@ range_short nodes tree from to = range_below nodes ROOT_LEVEL tree from to
 unfoldable pub edge_below : List Node → ℕ → ℕ → ℕ → ℕ
 edge_below nodes zero link p = 0
 edge_below nodes (suc level) link p =
-    if p == 0 then 0 else root_short nodes link + edge_below nodes level (link_of nodes link (p / NODE_ENTRIES ^ level)) (p % NODE_ENTRIES ^ level)
+    if p == 0 then 0 else link_short nodes link + edge_below nodes level (link_of nodes link (p / NODE_ENTRIES ^ level)) (p % NODE_ENTRIES ^ level)
 
 -- for a range of the pages of an open link: what its beginning takes, and what its end takes below
 abbrev pub open_cuts : List Node → ℕ → ℕ → ℕ → ℕ → ℕ
@@ -78,7 +78,7 @@ open_cuts nodes level link from to = edge_below nodes level link from + (if from
 
 -- for an end of a range of pages of a tree: the root, and the nodes on the way there that it meets in part
 unfoldable pub edge_short : List Node → ℕ → ℕ → ℕ
-edge_short nodes tree p = if p == 0 then root_short nodes tree else edge_below nodes ROOT_LEVEL tree p
+edge_short nodes tree p = if p == 0 then link_short nodes tree else edge_below nodes ROOT_LEVEL tree p
 
 -- for pages that are taken away: none where all are
 abbrev pub clear_short : List Node → ℕ → ℕ → ℕ → ℕ

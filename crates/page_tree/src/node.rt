@@ -7,7 +7,7 @@ ghost use Rattle.page_tree.specs.Costs.{copy_steps, entries_in, most_nodes};
 ghost use Rattle.page_tree.specs.Pages.{entry_below, link_of};
 ghost use Rattle.page_tree.specs.Sound.{IsSoundTo, is_root, leading_to};
 ghost use Rattle.page_tree.specs.Steps.{IsLoose, IsOwned, IsWay, KeepsLone, Moves, leads_to, none_shared};
-ghost use Rattle.page_tree.specs.Short.{range_below, root_short};
+ghost use Rattle.page_tree.specs.Short.{range_below, link_short};
 
 use crate::cell::cell_from;
 use crate::store::{LEAF_LEVEL, Store, node_of};
@@ -147,7 +147,7 @@ impl Store {
         requires high { level ≤ ROOT_LEVEL }
         requires sound { IsSoundTo level self.old.nodes self.old.frames }
         requires loose { IsLoose self.old.nodes level link }
-        requires free { root_short self.old.nodes link ≤ free_of self.old.nodes }
+        requires free { link_short self.old.nodes link ≤ free_of self.old.nodes }
         ensures sound { IsSoundTo level self.new.nodes self.new.frames }
         ensures own { IsOwned self.new.nodes level result.n }
         ensures moves { Moves level self.old.nodes self.new.nodes self.old.frames self.new.frames
@@ -155,12 +155,12 @@ impl Store {
         ensures entries { (i : ℕ) → entry_of self.new.nodes result.n i ≡ link_of self.old.nodes link i }
         ensures maps { (q : ℕ) → entry_below self.new.nodes level (result.n + 1) q
             ≡ entry_below self.old.nodes level link q }
-        ensures same { root_short self.old.nodes link ≡ 0 → self.new.nodes ≡ self.old.nodes }
-        ensures free { free_of self.old.nodes ≤ free_of self.new.nodes + root_short self.old.nodes link }
+        ensures same { link_short self.old.nodes link ≡ 0 → self.new.nodes ≡ self.old.nodes }
+        ensures free { free_of self.old.nodes ≤ free_of self.new.nodes + link_short self.old.nodes link }
         ensures grows { (f : ℕ) → frame_count self.old.frames f ≤ frame_count self.new.frames f }
         ensures lone { KeepsLone self.old.nodes self.new.nodes (is_root link) none_shared }
         ensures cost { steps.new ≤ steps.old + copy_steps level }
-        ensures cost_own { root_short self.old.nodes link ≡ 0 → steps.new ≡ steps.old }
+        ensures cost_own { link_short self.old.nodes link ≡ 0 → steps.new ≡ steps.old }
         ensures cost_none { link ≡ 0 → steps.new ≤ steps.old + 1 }
     {
         if link == 0 {
@@ -176,7 +176,7 @@ impl Store {
         requires high { level ≤ ROOT_LEVEL }
         requires sound { IsSoundTo level self.old.nodes self.old.frames }
         requires loose { IsLoose self.old.nodes level (node.n + 1) }
-        requires free { root_short self.old.nodes (node.n + 1) ≤ free_of self.old.nodes }
+        requires free { link_short self.old.nodes (node.n + 1) ≤ free_of self.old.nodes }
         ensures sound { IsSoundTo level self.new.nodes self.new.frames }
         ensures own { IsOwned self.new.nodes level result.n }
         ensures moves { Moves level self.old.nodes self.new.nodes self.old.frames self.new.frames
@@ -184,13 +184,13 @@ impl Store {
         ensures entries { (i : ℕ) → entry_of self.new.nodes result.n i ≡ entry_of self.old.nodes node.n i }
         ensures maps { (q : ℕ) → entry_below self.new.nodes level (result.n + 1) q
             ≡ entry_below self.old.nodes level (node.n + 1) q }
-        ensures same { root_short self.old.nodes (node.n + 1) ≡ 0 → self.new.nodes ≡ self.old.nodes }
+        ensures same { link_short self.old.nodes (node.n + 1) ≡ 0 → self.new.nodes ≡ self.old.nodes }
         ensures free { free_of self.old.nodes
-            ≤ free_of self.new.nodes + root_short self.old.nodes (node.n + 1) }
+            ≤ free_of self.new.nodes + link_short self.old.nodes (node.n + 1) }
         ensures grows { (f : ℕ) → frame_count self.old.frames f ≤ frame_count self.new.frames f }
         ensures lone { KeepsLone self.old.nodes self.new.nodes (is_root (node.n + 1)) none_shared }
         ensures cost { steps.new ≤ steps.old + copy_steps level }
-        ensures cost_own { root_short self.old.nodes (node.n + 1) ≡ 0 → steps.new ≡ steps.old }
+        ensures cost_own { link_short self.old.nodes (node.n + 1) ≡ 0 → steps.new ≡ steps.old }
     {
         if self.nodes.count(node) == 1 {
             node

@@ -6,7 +6,7 @@ ghost use Rattle.page_tree.specs.declared.store.TheConstants.{PAGES, TREE_NODES}
 ghost use Rattle.page_tree.specs.Changes.{KeepsFrames, KeepsMaps, KeepsTrees};
 ghost use Rattle.page_tree.specs.Pages.{entry_for, page};
 ghost use Rattle.page_tree.specs.Open.{IsOpen, entries_passed};
-ghost use Rattle.page_tree.specs.Short.{clear_short, edge_short, page_short, range_short, root_short};
+ghost use Rattle.page_tree.specs.Short.{clear_short, edge_short, page_short, range_short, link_short};
 ghost use Rattle.page_tree.specs.Sound.{IsSound, IsTree, trees_at};
 
 use crate::cell::{PageCell, cell_from};
@@ -69,7 +69,7 @@ impl PageTree {
         requires page { p < PAGES }
         ensures { result ≡ page store.now.nodes self.now p }
     {
-        cell_from(store.entry_at(self.root, ROOT_LEVEL, p as usize))
+        cell_from(store.look_at(self.root, p as usize).0)
     }
 
     /// Whether nobody else holds the nodes on the way to a page, and all of them are there.
@@ -79,7 +79,7 @@ impl PageTree {
         requires page { p < PAGES }
         ensures { (result ≡ true) ↔ (page_short store.now.nodes self.now p ≡ 0) }
     {
-        store.look_at(self.root, ROOT_LEVEL, p as usize, true).1
+        store.look_at(self.root, p as usize).1
     }
 
     /// What the tree has for a page, and whether nobody else holds the nodes on the way there, and all of
@@ -91,7 +91,7 @@ impl PageTree {
         ensures cell { result.0 ≡ page store.now.nodes self.now p }
         ensures alone { (result.1 ≡ true) ↔ (page_short store.now.nodes self.now p ≡ 0) }
     {
-        let (entry, alone) = store.look_at(self.root, ROOT_LEVEL, p as usize, true);
+        let (entry, alone) = store.look_at(self.root, p as usize);
         (cell_from(entry), alone)
     }
 
@@ -172,7 +172,7 @@ impl PageTree {
         requires inside { range.to ≤ PAGES }
         requires free { range_short store.old.nodes self.old range.from range.to ≤ free_of store.old.nodes }
 
-        ensures alone { root_short store.new.nodes self.new ≡ 0 }
+        ensures alone { link_short store.new.nodes self.new ≡ 0 }
         ensures within { (q : ℕ) → range.from ≤ q → q < range.to →
             page store.new.nodes self.new q ≡ page store.old.nodes from.now q }
         ensures before { (q : ℕ) → q < range.from
@@ -216,7 +216,7 @@ impl PageTree {
         requires free { clear_short store.old.nodes self.old range.from range.to ≤ free_of store.old.nodes }
 
         ensures all { range.from ≡ 0 → range.to ≡ PAGES → self.new ≡ 0 }
-        ensures alone { (self.new ≡ 0) ⊎ (root_short store.new.nodes self.new ≡ 0) }
+        ensures alone { (self.new ≡ 0) ⊎ (link_short store.new.nodes self.new ≡ 0) }
         ensures within { (q : ℕ) → range.from ≤ q → q < range.to → page store.new.nodes self.new q ≡ Absent }
         ensures before { (q : ℕ) → q < range.from
             → page store.new.nodes self.new q ≡ page store.old.nodes self.old q }

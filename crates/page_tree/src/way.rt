@@ -5,15 +5,18 @@ ghost use Rattle.node_pool.specs.Nodes.{count_of, level_of, entry_of, free_of};
 ghost use Rattle.page_tree.specs.declared.store.TheConstants.{LEAF_LEVEL, PAGES, ROOT_ENTRIES, ROOT_LEVEL};
 ghost use Rattle.page_tree.specs.Costs.{way_steps};
 ghost use Rattle.page_tree.specs.Pages.{entry_below, entry_for, link_of};
-ghost use Rattle.page_tree.specs.Short.{root_short, short_below};
+ghost use Rattle.page_tree.specs.Short.{link_short, short_below};
 ghost use Rattle.page_tree.specs.Sound.{IsSoundTo, is_root};
 ghost use Rattle.page_tree.specs.Steps.{IsLoose, IsOwned, Moves};
 
 use crate::cell::PageCell;
-use crate::store::{LEAF_LEVEL, Store, node_of};
+use crate::store::{LEAF_LEVEL, ROOT_LEVEL, Store, node_of};
 use node_pool::{NODE_ENTRIES, NodeNo};
 use pool_base::Steps;
 use std::sync::ledger::Ledger;
+
+/// How many bits of a page's number choose an entry of a node.
+const ENTRY_BITS: u8 = 5;
 
 /// How many pages an entry of a node of a level leads to.
 pub(crate) fn width(level: u8) -> usize
@@ -21,61 +24,38 @@ pub(crate) fn width(level: u8) -> usize
     requires high { level ≤ ROOT_LEVEL }
     ensures { result ≡ NODE_ENTRIES ^ (level - 1) }
 {
-    match level {
-        LEAF_LEVEL => 1,
-        2 => NODE_ENTRIES,
-        _ => NODE_ENTRIES * NODE_ENTRIES,
-    }
+    1 << (ENTRY_BITS * (level - 1))
 }
 
 impl Store {
-    /// The entry for a page on the way down from a link at a level.
-    pub(crate) fn entry_at(&self, link: u32, level: u8, p: usize) -> u32
-        requires low { LEAF_LEVEL ≤ level }
-        requires high { level ≤ ROOT_LEVEL }
-        requires sound { IsSoundTo level self.now.nodes self.now.frames }
-        requires held { (n : ℕ) → link ≡ n + 1
-            → (level_of self.now.nodes n ≡ level) × (0 < count_of self.now.nodes n) }
-        requires page { p < NODE_ENTRIES ^ level }
-        ensures { result ≡ entry_below self.now.nodes level link p }
+    /// The entry for a page on the way down from the root of a tree; and whether all nodes on the way are there,
+    /// and held once.
+    #[inline(always)]
+    pub(crate) fn look_at(&self, root: u32, page: usize) -> (u32, bool)
+        requires sound { IsSoundTo ROOT_LEVEL self.now.nodes self.now.frames }
+        requires held { (n : ℕ) → root ≡ n + 1
+            → (level_of self.now.nodes n ≡ ROOT_LEVEL) × (0 < count_of self.now.nodes n) }
+        requires page { page < NODE_ENTRIES ^ ROOT_LEVEL }
+        ensures entry { result.0 ≡ entry_below self.now.nodes ROOT_LEVEL root page }
+        ensures alone { (result.1 ≡ true) ↔ (short_below self.now.nodes ROOT_LEVEL root page ≡ 0) }
     {
-        if link == 0 {
-            return 0;
+        let mut link = root;
+        let mut p = page;
+        let mut alone = true;
+        let mut level = ROOT_LEVEL;
+        'levels: while level >= LEAF_LEVEL {
+            if link == 0 {
+                return (0, false);
+            }
+            let node = node_of(link);
+            let once = self.nodes.count(node) == 1;
+            alone = alone && once;
+            let width = width(level);
+            link = self.nodes.entry(node, p / width);
+            p %= width;
+            level -= 1;
         }
-        let width = width(level);
-        let entry = self.nodes.entry(node_of(link), p / width);
-        if level == LEAF_LEVEL {
-            entry
-        } else {
-            self.entry_at(entry, level - 1, p % width)
-        }
-    }
-
-    /// The entry for a page on the way down from a link at a level; and whether all nodes on the way are there, and
-    /// held once, if the way to the link is `alone`.
-    pub(crate) fn look_at(&self, link: u32, level: u8, p: usize, alone: bool) -> (u32, bool)
-        requires low { LEAF_LEVEL ≤ level }
-        requires high { level ≤ ROOT_LEVEL }
-        requires sound { IsSoundTo level self.now.nodes self.now.frames }
-        requires held { (n : ℕ) → link ≡ n + 1
-            → (level_of self.now.nodes n ≡ level) × (0 < count_of self.now.nodes n) }
-        requires page { p < NODE_ENTRIES ^ level }
-        ensures entry { result.0 ≡ entry_below self.now.nodes level link p }
-        ensures alone { (result.1 ≡ true)
-            ↔ ((alone ≡ true) × (short_below self.now.nodes level link p ≡ 0)) }
-    {
-        if link == 0 {
-            return (0, false);
-        }
-        let node = node_of(link);
-        let once = self.nodes.count(node) == 1;
-        let alone = alone && once;
-        let width = width(level);
-        let entry = self.nodes.entry(node, p / width);
-        if level == LEAF_LEVEL {
-            return (entry, alone);
-        }
-        self.look_at(entry, level - 1, p % width, alone)
+        (link, alone)
     }
 
     /// Lets a link at a level, which is given up, have a cell for a page.

@@ -1,7 +1,7 @@
 ghost use Rattle.std.specs.Prelude.{◌≡◌, ℕ, ◌+◌, ◌<◌, ◌≤◌, length};
 ghost use Rattle.node_pool.specs.Nodes.{free_of};
 ghost use Rattle.page_tree.specs.Pages.{entry_for};
-ghost use Rattle.page_tree.specs.Short.{root_short};
+ghost use Rattle.page_tree.specs.Short.{link_short};
 ghost use Rattle.page_tree.specs.Sound.{IsSound, IsTree, trees_at};
 
 use super::*;
@@ -35,7 +35,7 @@ fn fill<L: Ledger>(tree: &mut PageTree, store: &mut Store, steps: &mut Steps<L>)
     requires room { 507 ≤ free_of store.old.nodes }
     ensures sound { IsSound store.new.nodes store.new.frames }
     ensures tree { IsTree store.new.nodes tree.new }
-    ensures alone { root_short store.new.nodes tree.new ≡ 0 }
+    ensures alone { link_short store.new.nodes tree.new ≡ 0 }
     ensures room { free_of store.old.nodes ≤ free_of store.new.nodes + 507 }
     ensures size { length store.new.nodes ≡ length store.old.nodes }
 {

@@ -3,12 +3,12 @@ use Rattle.std.proofs.lemmas.List.{get_or-set_same}
 use Rattle.page_tree.specs.declared.cell.PageCell.TheVariants.{Absent}
 use Rattle.page_tree.specs.Open as tree
 use Rattle.page_tree.specs.Short as short
-use Rattle.page_tree.specs.Short.{root_short}
+use Rattle.page_tree.specs.Short.{link_short}
 use Rattle.cow_space.specs.RowSeen.{maps, frames_of, free_nodes, HasNoTree, HasOwnRoot, IsOpen, edge_short, pool}
 use Rattle.cow_space.proofs.Trees.{kept-set, maps-range}
 use Rattle.cow_space.proofs.RowViews.{is-tree, nodes-left, tree-in, tree-read}
 use Rattle.page_tree.proofs.PageLemmas.{clear_short-le}
-use Rattle.page_tree.proofs.LinkLemmas.{root_short-le}
+use Rattle.page_tree.proofs.LinkLemmas.{link_short-le}
 use Rattle.cow_space.proofs.rows.Rows.clear.Goals as goal
 
 pub index_mut-requires : goal.index_mut-requires
@@ -23,7 +23,7 @@ pub clear_range-requires-clause-free : goal.clear_range-requires-clause-free
 clear_range-requires-clause-free g c =
     let free = nodes-left c.args.self.now in
     let takes = clear_short-le c.args.self.now.store.nodes c.index_mut.result.now c.args.range.from c.args.range.to in
-    let root = root_short-le c.args.self.now.store.nodes c.index_mut.result.now in
+    let root = link_short-le c.args.self.now.store.nodes c.index_mut.result.now in
     omega (arith, free, takes, root)
 
 pub invariant_of-self : goal.invariant_of-self
@@ -50,7 +50,7 @@ pub returns-clause-nodes : goal.returns-clause-nodes
 unfolding free_nodes
 returns-clause-nodes g c =
     let takes = clear_short-le c.args.self.now.store.nodes c.index_mut.result.now c.args.range.from c.args.range.to in
-    let root = root_short-le c.args.self.now.store.nodes c.index_mut.result.now in
+    let root = link_short-le c.args.self.now.store.nodes c.index_mut.result.now in
     omega (arith, takes, root, c.clear_range.ensures.free)
 
 pub returns-clause-own : goal.returns-clause-own
@@ -60,7 +60,7 @@ returns-clause-own g c =
     let here = get_or-set_same c.args.self.now.trees.items c.args.i c.clear_range.new.self 0 inside in
     ⊎_elim
     (λ none. inl (here ∙ none))
-    (λ own. inr (ap (root_short c.clear_range.new.store.nodes) here ∙ own))
+    (λ own. inr (ap (link_short c.clear_range.new.store.nodes) here ∙ own))
     c.clear_range.ensures.alone
 
 pub returns-clause-nodes_own : goal.returns-clause-nodes_own
@@ -68,7 +68,7 @@ unfolding free_nodes HasOwnRoot
 returns-clause-nodes_own g c = λ own.
     let left_is = tree-read c.args.self.now c.args.i _ c.requires.row c.index_mut.ensures.value in
     let takes = clear_short-le c.args.self.now.store.nodes c.index_mut.result.now c.args.range.from c.args.range.to in
-    let root = ap (root_short c.args.self.now.store.nodes) left_is ∙ own in
+    let root = ap (link_short c.args.self.now.store.nodes) left_is ∙ own in
     omega (arith, takes, root, c.clear_range.ensures.free)
 
 pub returns-clause-given_up : goal.returns-clause-given_up

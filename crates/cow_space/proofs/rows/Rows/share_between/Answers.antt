@@ -3,7 +3,7 @@ use Rattle.std.proofs.lemmas.List.{get_or-set_same}
 use Rattle.std.proofs.Math.ListN.{length-set}
 use Rattle.page_tree.specs.Open as tree
 use Rattle.page_tree.specs.Short as short
-use Rattle.page_tree.specs.Short.{root_short}
+use Rattle.page_tree.specs.Short.{link_short}
 use Rattle.cow_space.specs.Trees.{cells, values, tree_maps}
 use Rattle.cow_space.specs.RowKept.{IsKept}
 use Rattle.cow_space.specs.Maps.{put_range, row_of}
@@ -11,7 +11,7 @@ use Rattle.cow_space.specs.RowSeen.{maps, frames_of, free_nodes, HasOwnRoot, Has
 use Rattle.cow_space.proofs.Trees.{other-read, kept-tree, kept-both, kept-set, maps-range, row-at, cells-page}
 use Rattle.cow_space.proofs.RowViews.{nodes-left, tree-in, tree-read}
 use Rattle.page_tree.proofs.PageLemmas.{range_short-le}
-use Rattle.page_tree.proofs.LinkLemmas.{root_short-le}
+use Rattle.page_tree.proofs.LinkLemmas.{link_short-le}
 use Rattle.cow_space.proofs.rows.Rows.share_between.Goals as goal
 use Rattle.lwc_base.proofs.Small.{set-again}
 
@@ -47,7 +47,7 @@ pub share_range-requires-clause-free : goal.share_range-requires-clause-free
 share_range-requires-clause-free g c =
     let free = nodes-left c.args.self.now in
     let takes = range_short-le c.args.self.now.store.nodes c.replace-tree.result c.args.range.from c.args.range.to in
-    let root = root_short-le c.args.self.now.store.nodes c.replace-tree.result in
+    let root = link_short-le c.args.self.now.store.nodes c.replace-tree.result in
     omega (arith, free, takes, root)
 
 pub index_mut-requires-2 : goal.index_mut-requires-2
@@ -93,14 +93,14 @@ unfolding HasOwnRoot
 returns-clause-own g c =
     let trees = c.args.self.now.trees.items in
     let to_in = tree-in c.args.self.now c.args.to c.requires.to in
-    ap (root_short c.share_range.new.store.nodes) (get_or-set_same (set trees c.args.to c.replace-tree.new.dest) c.args.to c.share_range.new.self 0 (omega (arith, to_in, length-set trees c.args.to c.replace-tree.new.dest)))
+    ap (link_short c.share_range.new.store.nodes) (get_or-set_same (set trees c.args.to c.replace-tree.new.dest) c.args.to c.share_range.new.self 0 (omega (arith, to_in, length-set trees c.args.to c.replace-tree.new.dest)))
     ∙ c.share_range.ensures.alone
 
 pub returns-clause-nodes : goal.returns-clause-nodes
 unfolding free_nodes
 returns-clause-nodes g c =
     let takes = range_short-le c.args.self.now.store.nodes c.replace-tree.result c.args.range.from c.args.range.to in
-    let root = root_short-le c.args.self.now.store.nodes c.replace-tree.result in
+    let root = link_short-le c.args.self.now.store.nodes c.replace-tree.result in
     omega (arith, takes, root, c.share_range.ensures.free)
 
 pub returns-clause-nodes_own : goal.returns-clause-nodes_own
@@ -108,7 +108,7 @@ unfolding free_nodes HasOwnRoot
 returns-clause-nodes_own g c = λ own.
     let left_is = c.replace-tree.ensures.value ∙ tree-read c.args.self.now c.args.to _ c.requires.to c.index_mut.ensures.value in
     let takes = range_short-le c.args.self.now.store.nodes c.replace-tree.result c.args.range.from c.args.range.to in
-    let root = ap (root_short c.args.self.now.store.nodes) left_is ∙ own in
+    let root = ap (link_short c.args.self.now.store.nodes) left_is ∙ own in
     omega (arith, takes, root, c.share_range.ensures.free)
 
 pub returns-clause-others : goal.returns-clause-others

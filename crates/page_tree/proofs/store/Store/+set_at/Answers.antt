@@ -6,7 +6,7 @@ use Rattle.page_tree.specs.Pages.{entry_below, entry_for}
 use Rattle.page_tree.specs.Short.{short_below}
 use Rattle.page_tree.specs.Sound.{one_if}
 use Rattle.page_tree.specs.Steps.{IsOwned}
-use Rattle.page_tree.proofs.LinkLemmas.{root_short-cases, root_short-once, link_of-node}
+use Rattle.page_tree.proofs.LinkLemmas.{link_short-cases, link_short-once, link_of-node}
 use Rattle.page_tree.proofs.EnterLemmas.{here-entered, there-entered}
 use Rattle.page_tree.proofs.MoveLemmas.{Moves-raise, Moves-trans}
 use Rattle.page_tree.proofs.NodeLemmas.{loose-own}
@@ -21,7 +21,7 @@ own-node-requires-clause-free g t c =
     ⊎_elim
     (λ own. omega (arith, own.0))
     (λ short. let all = short-whole c.args.level old c.args.link c.args.p (omega (arith, c.requires.low)) short in omega (arith, short, all, c.requires.free, c.requires.low))
-    (root_short-cases old c.args.link)
+    (link_short-cases old c.args.link)
 
 pub set_at-child-requires : goal.set_at-child-requires
 set_at-child-requires g t c =
@@ -151,7 +151,7 @@ returns-else-level-eq-LEAF_LEVEL-clause-alone g t c =
     let ch = child-changed c.args.level c.own-node.new.self.nodes c.swap-child.new.self.nodes c.set_at-child.new.self.nodes c.swap.new.self.nodes _ _ _ _ c.own-node.result.n (c.args.p / c.width-width.result) (c.set_at-child.result.n + 1) up place
     c.own-node.ensures.sound c.own-node.ensures.own one.nodes one.sound one.own (rw one.was at one.loose) (rw one.was at one.moves)
     rec.sound (loose-own _ _ _ rec.own) (rw one.was at rec.moves) two.nodes two.sound two.own (rw two.was at two.moves) in
-    let own = root_short-once c.swap.new.self.nodes c.own-node.result.n two.own.once in
+    let own = link_short-once c.swap.new.self.nodes c.own-node.result.n two.own.once in
     short-own c.args.level c.swap.new.self.nodes (c.own-node.result.n + 1) c.args.p some own
     ∙ ap (λ l. short_below c.swap.new.self.nodes (c.args.level - 1) l (c.args.p % 32 ^ (c.args.level - 1))) (link_of-node c.swap.new.self.nodes c.own-node.result.n (c.args.p / 32 ^ (c.args.level - 1)) ∙ ap (entry_of c.swap.new.self.nodes c.own-node.result.n) (sym at) ∙ ch.here)
     ∙ ch.short_after (c.args.p % 32 ^ (c.args.level - 1))
@@ -214,7 +214,7 @@ returns-then-level-eq-LEAF_LEVEL-clause-alone g t c =
     let new = c.write.new.self.nodes in
     let n = c.own-node.result.n in
     let place : c.args.p < 32 = let power = ap (λ l. 32 ^ l) leaf in omega (arith, power, c.requires.page) in
-    ap (λ l. short_below new l (n + 1) c.args.p) leaf ∙ short-leaf new (n + 1) c.args.p (root_short-once new n c.write.ensures.own.once)
+    ap (λ l. short_below new l (n + 1) c.args.p) leaf ∙ short-leaf new (n + 1) c.args.p (link_short-once new n c.write.ensures.own.once)
 
 pub returns-then-level-eq-LEAF_LEVEL-clause-free : goal.returns-then-level-eq-LEAF_LEVEL-clause-free
 returns-then-level-eq-LEAF_LEVEL-clause-free g t c =
@@ -228,7 +228,7 @@ returns-then-level-eq-LEAF_LEVEL-clause-free g t c =
     ⊎_elim
     (λ own. omega (arith, kept, own.0, c.own-node.ensures.free))
     (λ short. let all = short-whole c.args.level old c.args.link c.args.p (omega (arith, leaf)) short in omega (arith, kept, short, all, leaf, c.own-node.ensures.free))
-    (root_short-cases old c.args.link)
+    (link_short-cases old c.args.link)
 
 pub returns-then-level-eq-LEAF_LEVEL-clause-grows : goal.returns-then-level-eq-LEAF_LEVEL-clause-grows
 returns-then-level-eq-LEAF_LEVEL-clause-grows g t c = λ same f.

@@ -11,7 +11,7 @@ use Rattle.page_tree.specs.Sound.{is_root}
 use Rattle.page_tree.specs.Changes.{IsBelow}
 use Rattle.page_tree.specs.Steps.{IsBeside, none_shared}
 use Rattle.page_tree.proofs.UsesLemmas.{inside-count}
-use Rattle.page_tree.proofs.LinkLemmas.{below-here, is_root-here, is_root-no, is_root-none, root_short-once}
+use Rattle.page_tree.proofs.LinkLemmas.{below-here, is_root-here, is_root-no, is_root-none, link_short-once}
 use Rattle.page_tree.proofs.MoveLemmas.{Moves-refl, Moves-trans}
 use Rattle.page_tree.proofs.NodeLemmas.{loose-own, entry-cell, not-root, own-below}
 use Rattle.page_tree.proofs.LoneLemmas.{lone-less, lone-same, lone-trans, way-apart, way-none}
@@ -332,7 +332,7 @@ share_entries-entries-preserved g t c =
           (subst (InRange level c.args.first c.args.end i) c.width-width.ensures at)
           (subst (λ x. c.args.first / x ≤ i) c.width-width.ensures c.entries.auto.i) (subst (λ x. i < (c.args.end - 1) / x + 1) c.width-width.ensures c.entries-test.true)
           (subst (λ x. low + i * x ≡ max c.args.first (i * x)) c.width-width.ensures low_is) (subst (λ x. high + i * x ≡ min c.args.end (i * x + x)) c.width-width.ensures high_is)
-          c.requires.order c.requires.page is_open (inv.opens is_open) (root_short-once c.share_entry.new.self.nodes n put.own.once)
+          c.requires.order c.requires.page is_open (inv.opens is_open) (link_short-once c.share_entry.new.self.nodes n put.own.once)
           put.others put.open put.edge put.free_open put.free_whole put.cost_open put.cost_open_whole
           (λ leaf. let a = put.cost_leaf leaf in let b = inv.cost_leaf leaf in omega (arith, a, b));
       free = omega (arith, put.free, inv.free, few, here, sum);
@@ -523,7 +523,7 @@ share_entry-returns-then-end-width-clause-cost_open g t c = λ is_open.
 
 pub share_at-returns-then-first-end-clause-open : goal.share_at-returns-then-first-end-clause-open
 share_at-returns-then-first-end-clause-open g t c = λ is_open lt.
-    node-open c.args.level c.share_entries.new.self.nodes c.own-node.result.n c.args.end c.requires.low (omega (arith, lt)) (root_short-once c.share_entries.new.self.nodes c.own-node.result.n c.share_entries.ensures.own.once)
+    node-open c.args.level c.share_entries.new.self.nodes c.own-node.result.n c.args.end c.requires.low (omega (arith, lt)) (link_short-once c.share_entries.new.self.nodes c.own-node.result.n c.share_entries.ensures.own.once)
     (c.share_entries.ensures.open (own-open c.args.level c.args.first c.args.end c.args.self.now.nodes c.own-node.new.self.nodes c.args.link c.own-node.result.n c.args.steps.now c.own-node.new.steps c.requires.low is_open c.own-node.ensures.same c.own-node.ensures.entries))
 
 pub share_at-returns-then-first-end-clause-edge : goal.share_at-returns-then-first-end-clause-edge

@@ -1,7 +1,7 @@
 use Rattle.std.proofs.Common.{ap, sym, subst, ◌∙◌, arith}
-use Rattle.page_tree.specs.Short.{root_short}
+use Rattle.page_tree.specs.Short.{link_short}
 use Rattle.page_tree.specs.Pages.{entry_below, link_of}
-use Rattle.page_tree.proofs.LinkLemmas.{root_short-none, link_of-none, link_of-node}
+use Rattle.page_tree.proofs.LinkLemmas.{link_short-none, link_of-none, link_of-node}
 use Rattle.page_tree.proofs.NodeLemmas.{map-none}
 use Rattle.page_tree.specs.Sound.{is_root}
 use Rattle.page_tree.specs.Steps.{KeepsLone, none_shared}
@@ -10,7 +10,7 @@ use Rattle.page_tree.proofs.store.Store.own.Goals as goal
 
 pub take-requires-clause-free : goal.take-requires-clause-free
 take-requires-clause-free g c =
-    let short = ap (root_short c.args.self.now.nodes) c.if-link-eq0.true ∙ root_short-none c.args.self.now.nodes in
+    let short = ap (link_short c.args.self.now.nodes) c.if-link-eq0.true ∙ link_short-none c.args.self.now.nodes in
     omega (arith, short, c.requires.free)
 
 pub returns-then-link-eq0-clause-entries : goal.returns-then-link-eq0-clause-entries
@@ -24,17 +24,17 @@ returns-then-link-eq0-clause-maps g c = λ q.
 
 pub returns-then-link-eq0-clause-same : goal.returns-then-link-eq0-clause-same
 returns-then-link-eq0-clause-same g c = λ none.
-    let short = ap (root_short c.args.self.now.nodes) c.if-link-eq0.true ∙ root_short-none c.args.self.now.nodes in
+    let short = ap (link_short c.args.self.now.nodes) c.if-link-eq0.true ∙ link_short-none c.args.self.now.nodes in
     absurd (omega (arith, short, none))
 
 pub returns-then-link-eq0-clause-free : goal.returns-then-link-eq0-clause-free
 returns-then-link-eq0-clause-free g c =
-    let short = ap (root_short c.args.self.now.nodes) c.if-link-eq0.true ∙ root_short-none c.args.self.now.nodes in
+    let short = ap (link_short c.args.self.now.nodes) c.if-link-eq0.true ∙ link_short-none c.args.self.now.nodes in
     omega (arith, short, c.take.ensures.free)
 
 pub returns-then-link-eq0-clause-cost_own : goal.returns-then-link-eq0-clause-cost_own
 returns-then-link-eq0-clause-cost_own g c = λ none.
-    let short = ap (root_short c.args.self.now.nodes) c.if-link-eq0.true ∙ root_short-none c.args.self.now.nodes in
+    let short = ap (link_short c.args.self.now.nodes) c.if-link-eq0.true ∙ link_short-none c.args.self.now.nodes in
     absurd (omega (arith, short, none))
 
 pub returns-else-link-eq0-clause-entries : goal.returns-else-link-eq0-clause-entries

@@ -1,6 +1,6 @@
 use Rattle.std.proofs.Common.{refl, ◌∙◌, arith}
 use Rattle.page_tree.proofs.UsesLemmas.{inside-count}
-use Rattle.page_tree.proofs.LinkLemmas.{root_short-shared}
+use Rattle.page_tree.proofs.LinkLemmas.{link_short-shared}
 use Rattle.page_tree.proofs.LoneLemmas.{lone-same}
 use Rattle.page_tree.proofs.store.Store.own_node.Goals as goal
 
@@ -9,22 +9,22 @@ count-requires g c = inside-count _ c.args.node.n (let l = (c.requires.loose c.a
 
 pub copy-requires-clause-free : goal.copy-requires-clause-free
 copy-requires-clause-free g c =
-    let short = root_short-shared c.args.self.now.nodes c.args.node.n (λ once. c.if-count-eq1.false (c.count.ensures ∙ once)) in
+    let short = link_short-shared c.args.self.now.nodes c.args.node.n (λ once. c.if-count-eq1.false (c.count.ensures ∙ once)) in
     omega (arith, short, c.requires.free)
 
 pub returns-else-count-eq1-clause-same : goal.returns-else-count-eq1-clause-same
 returns-else-count-eq1-clause-same g c = λ none.
-    let short = root_short-shared c.args.self.now.nodes c.args.node.n (λ once. c.if-count-eq1.false (c.count.ensures ∙ once)) in
+    let short = link_short-shared c.args.self.now.nodes c.args.node.n (λ once. c.if-count-eq1.false (c.count.ensures ∙ once)) in
     absurd (omega (arith, short, none))
 
 pub returns-else-count-eq1-clause-free : goal.returns-else-count-eq1-clause-free
 returns-else-count-eq1-clause-free g c =
-    let short = root_short-shared c.args.self.now.nodes c.args.node.n (λ once. c.if-count-eq1.false (c.count.ensures ∙ once)) in
+    let short = link_short-shared c.args.self.now.nodes c.args.node.n (λ once. c.if-count-eq1.false (c.count.ensures ∙ once)) in
     omega (arith, short, c.copy.ensures.free)
 
 pub returns-else-count-eq1-clause-cost_own : goal.returns-else-count-eq1-clause-cost_own
 returns-else-count-eq1-clause-cost_own g c = λ none.
-    let short = root_short-shared c.args.self.now.nodes c.args.node.n (λ once. c.if-count-eq1.false (c.count.ensures ∙ once)) in
+    let short = link_short-shared c.args.self.now.nodes c.args.node.n (λ once. c.if-count-eq1.false (c.count.ensures ∙ once)) in
     absurd (omega (arith, short, none))
 
 pub returns-then-count-eq1-clause-lone : goal.returns-then-count-eq1-clause-lone

@@ -1,7 +1,7 @@
 use Rattle.std.proofs.Common.{◌+◌, ap, inl, inr, refl, sym, ◌∙◌, arith}
 use Rattle.page_tree.specs.Pages.{page}
 use Rattle.page_tree.specs.Short.{edge_short, open_cuts}
-use Rattle.page_tree.proofs.LinkLemmas.{root_short-none, root_short-once}
+use Rattle.page_tree.proofs.LinkLemmas.{link_short-none, link_short-once}
 use Rattle.page_tree.proofs.OpenLemmas.{edge_short-first, edge_short-inner, edges-later, open-first, open-none, passed-later}
 use Rattle.page_tree.proofs.OpenRange.{open-takes}
 use Rattle.page_tree.proofs.TreeLemmas.{tree-loose, own-tree, beside-none, no-tree, page-none, moves-given, KeepsTrees-moved, KeepsMaps-moved, page-same}
@@ -41,7 +41,7 @@ pub returns-then-end-eq-PAGES-clause-tree : goal.returns-then-end-eq-PAGES-claus
 returns-then-end-eq-PAGES-clause-tree g c = no-tree _
 
 pub returns-then-self-ne0-clause-alone : goal.returns-then-self-ne0-clause-alone
-returns-then-self-ne0-clause-alone g c = inr (root_short-once _ _ c.share_at-root.ensures.own.once)
+returns-then-self-ne0-clause-alone g c = inr (link_short-once _ _ c.share_at-root.ensures.own.once)
 
 pub returns-then-self-ne0-clause-within : goal.returns-then-self-ne0-clause-within
 returns-then-self-ne0-clause-within g c = λ q low high. page-same _ _ _ _ q (c.share_at-root.ensures.within q low high) ∙ page-none _ q
@@ -87,8 +87,8 @@ returns-then-end-eq-PAGES-clause-open g c = λ is_open lt. open-none c.release.n
 pub returns-then-end-eq-PAGES-clause-free_open : goal.returns-then-end-eq-PAGES-clause-free_open
 returns-then-end-eq-PAGES-clause-free_open g c = λ is_open lt.
     let none = open-first c.args.store.now.nodes 3 c.args.self.now c.args.range.from (omega (arith, c.if-first-eq0.true)) is_open in
-    let old = ap (λ tree. edge_short c.args.store.now.nodes tree c.args.range.from) none ∙ edge_short-first c.args.store.now.nodes 0 c.args.range.from (omega (arith, c.if-first-eq0.true)) ∙ root_short-none c.args.store.now.nodes in
-    let new = edge_short-first c.release.new.self.nodes 0 0 refl ∙ root_short-none c.release.new.self.nodes in
+    let old = ap (λ tree. edge_short c.args.store.now.nodes tree c.args.range.from) none ∙ edge_short-first c.args.store.now.nodes 0 c.args.range.from (omega (arith, c.if-first-eq0.true)) ∙ link_short-none c.args.store.now.nodes in
+    let new = edge_short-first c.release.new.self.nodes 0 0 refl ∙ link_short-none c.release.new.self.nodes in
     let later = edges-later c.release.new.self.nodes 0 0 c.args.range.to in
     omega (arith, old, new, later, c.release.ensures.free)
 

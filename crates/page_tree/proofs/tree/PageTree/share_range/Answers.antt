@@ -1,6 +1,6 @@
 use Rattle.std.proofs.Common.{◌+◌, ap, inl, inr, ◌∙◌, arith}
 use Rattle.page_tree.specs.Short.{open_cuts}
-use Rattle.page_tree.proofs.LinkLemmas.{root_short-once}
+use Rattle.page_tree.proofs.LinkLemmas.{link_short-once}
 use Rattle.page_tree.proofs.TreeLemmas.{tree-loose, own-tree, beside-tree, KeepsTrees-moved, KeepsMaps-moved, page-same}
 use Rattle.page_tree.proofs.OpenLemmas.{edge_short-inner}
 use Rattle.page_tree.proofs.OpenRange.{open-takes}
@@ -16,7 +16,7 @@ pub share_at-root-requires-clause-free : goal.share_at-root-requires-clause-free
 share_at-root-requires-clause-free g c = rw c.self.view_is c.requires.free
 
 pub returns-clause-alone : goal.returns-clause-alone
-returns-clause-alone g c = root_short-once _ _ c.share_at-root.ensures.own.once
+returns-clause-alone g c = link_short-once _ _ c.share_at-root.ensures.own.once
 
 pub returns-clause-within : goal.returns-clause-within
 returns-clause-within g c = λ q low high. rw (← c.from.view_is) (page-same _ _ _ _ q (c.share_at-root.ensures.within q low high))

@@ -1,9 +1,9 @@
 use Rattle.std.proofs.Common.{ℕ, ◌≡◌, ◌+◌, ◌≤◌, ⊎_elim, List, arith, refl, ap, sym, ◌∙◌}
 use Rattle.std.proofs.lemmas.Bool.{cases_eq}
-use Rattle.page_tree.specs.Short.{root_short}
+use Rattle.page_tree.specs.Short.{link_short}
 use Rattle.page_tree.specs.Sound.{trees_at}
 use Rattle.node_pool.specs.Nodes.{Node, count_of, level_of}
-use Rattle.page_tree.proofs.LinkLemmas.{root_short-cases}
+use Rattle.page_tree.proofs.LinkLemmas.{link_short-cases}
 use Rattle.page_tree.proofs.TreeLemmas.{trees-is, trees-none}
 use Rattle.page_tree.proofs.tree.tests.try_ranges.Goals as goal
 
@@ -22,11 +22,11 @@ try_range-requires-clause-tree g c = λ n is.
 pub try_range-requires-clause-few : goal.try_range-requires-clause-few
 try_range-requires-clause-few g c = λ n is.
     let same = c.table.invariant.trees n in
-    let once = trees-once c.fill.new.store.nodes n (ap (λ t. root_short c.fill.new.store.nodes t) (sym is) ∙ c.fill.ensures.alone) in
+    let once = trees-once c.fill.new.store.nodes n (ap (λ t. link_short c.fill.new.store.nodes t) (sym is) ∙ c.fill.ensures.alone) in
     omega (arith, same, once)
   where
     -- a root that need not be taken is that of one tree
-    trees-once : (nodes : List Node) (n : ℕ) → root_short nodes (n + 1) ≡ 0 → trees_at nodes n ≤ 1
+    trees-once : (nodes : List Node) (n : ℕ) → link_short nodes (n + 1) ≡ 0 → trees_at nodes n ≤ 1
     trees-once nodes n own =
         ⊎_elim
         (λ alone.
@@ -34,7 +34,7 @@ try_range-requires-clause-few g c = λ n is.
         let once = ap (count_of nodes) same in
         ⊎_elim (λ root. let trees = trees-is nodes n root in omega (arith, trees, once, alone.1.1.1)) (λ off. let none = trees-none nodes n off in omega (arith, none)) (cases_eq (level_of nodes n) 3))
         (λ short. absurd (omega (arith, short, own)))
-        (root_short-cases nodes (n + 1))
+        (link_short-cases nodes (n + 1))
 
 pub try_range-requires-clause-room : goal.try_range-requires-clause-room
 try_range-requires-clause-room g c =

@@ -1,4 +1,0 @@
-use Rattle.page_tree.proofs.store.Store.+entry_at.Given as goal
-
-abbrev pub decreases-entry_at : goal.decreases-entry_at
-decreases-entry_at l = l.level
