@@ -10,9 +10,9 @@ width-is level low high =
     ⊎_elim
     (λ one. subst IsWidth (sym one) refl)
     (λ more. ⊎_elim
-      (λ two. subst IsWidth (sym two) refl)
-      (λ most. let three : level ≡ 3 = omega (arith, low, high, more, most) in subst IsWidth (sym three) refl)
-      (cases_eq level 2))
+    (λ two. subst IsWidth (sym two) refl)
+    (λ most. let three : level ≡ 3 = omega (arith, low, high, more, most) in subst IsWidth (sym three) refl)
+    (cases_eq level 2))
     (cases_eq level 1)
 
 pub returns : goal.returns

@@ -45,11 +45,13 @@ pub returns-then-link-eq0-clause-alone : goal.returns-then-link-eq0-clause-alone
 returns-then-link-eq0-clause-alone c =
     let nodes = c.args.self.now.nodes in
     let some : 0 < c.levels.level = omega (arith, c.levels-test.true) in
-    let all = short-whole c.levels.level nodes c.levels.link c.levels.p some (ap (link_short nodes) c.if-link-eq0.true ∙ link_short-none nodes) in
-    ((λ is. absurd cc), (λ none. absurd (⊎_elim
-      (λ alone. let same = c.levels.invariant.alone alone in omega (arith, all, some, same, none))
-      (λ shared. let more = c.levels.invariant.shared shared in omega (arith, more, none))
-      (cases_Bool c.levels.alone))))
+    let all = short-whole c.levels.level nodes c.levels.link c.levels.p some (ap (link_short nodes) c.if-link-eq0.true ∙ link_short-none nodes) in (
+      (λ is. absurd cc),
+      (λ none. absurd (⊎_elim
+          (λ alone. let same = c.levels.invariant.alone alone in omega (arith, all, some, same, none))
+          (λ shared. let more = c.levels.invariant.shared shared in omega (arith, more, none))
+          (cases_Bool c.levels.alone))),
+    )
 
 pub count-once-requires : goal.count-once-requires
 count-once-requires c =
@@ -96,13 +98,13 @@ levels-preserved c =
       entry = step-entry nodes c.levels.level c.levels.link n c.levels.p c.width-width.result c.entry-link.result step ∙ c.levels.invariant.entry;
       alone = λ is. let b = joined.both is in step-short nodes c.levels.level c.levels.link n c.levels.p c.width-width.result c.entry-link.result step (sym c.count-once.ensures ∙ b.1) ∙ c.levels.invariant.alone b.0;
       shared = λ is. ⊎_elim
-      c.levels.invariant.shared
-      (λ more. let s = step-shared nodes c.levels.level c.levels.link n c.levels.p c.width-width.result c.entry-link.result step (λ once. more (c.count-once.ensures ∙ once)) in
-        ⊎_elim
-        (λ alone. let same = c.levels.invariant.alone alone in omega (arith, s, same))
-        c.levels.invariant.shared
-        (cases_Bool c.levels.alone))
-      (joined.none is);
+          c.levels.invariant.shared
+          (λ more. let s = step-shared nodes c.levels.level c.levels.link n c.levels.p c.width-width.result c.entry-link.result step (λ once. more (c.count-once.ensures ∙ once)) in
+          ⊎_elim
+          (λ alone. let same = c.levels.invariant.alone alone in omega (arith, s, same))
+          c.levels.invariant.shared
+          (cases_Bool c.levels.alone))
+          (joined.none is);
     }
 
 pub returns-clause-entry : goal.returns-clause-entry
@@ -115,8 +117,7 @@ pub returns-clause-alone : goal.returns-clause-alone
 unfolding short_below
 returns-clause-alone c =
     let done : c.levels.level ≡ 0 = omega (arith, c.levels-test.false) in
-    let none : short_below c.args.self.now.nodes c.levels.level c.levels.link c.levels.p ≡ 0 = ap (λ l. short_below c.args.self.now.nodes l c.levels.link c.levels.p) done in
-    (
+    let none : short_below c.args.self.now.nodes c.levels.level c.levels.link c.levels.p ≡ 0 = ap (λ l. short_below c.args.self.now.nodes l c.levels.link c.levels.p) done in (
       (λ is. sym (c.levels.invariant.alone is) ∙ none),
       (λ is. true_from_ne_false c.levels.alone (λ off. absurd (let more = c.levels.invariant.shared off in omega (arith, more, is)))),
     )
