@@ -18,11 +18,10 @@ fn put_piece(page: &mut [u8; PAGE_BYTES], p: u16, at: u32, piece: &[u8])
     let start = p as usize * PAGE_BYTES;
     let at = at as usize;
     let first = at.max(start);
-    let room = start + PAGE_BYTES - first.min(start + PAGE_BYTES);
-    let count = piece.len().saturating_sub(first - at).min(room);
-    'bytes: for k in 0..count {
-        page[first - start + k] = piece[first - at + k];
-    }
+    let skip = piece.len().min(first - at);
+    let into = PAGE_BYTES.min(first - start);
+    let count = (piece.len() - skip).min(PAGE_BYTES - into);
+    page[into..into + count].copy_from_slice(&piece[skip..skip + count]);
 }
 
 /// Takes a frame with the bytes of a cell once a piece is there.
@@ -60,7 +59,7 @@ fn write_frame(frames: &mut Pool, frame: FrameNo, p: u16, at: u32, piece: &[u8])
 }
 
 impl Rows {
-    ghost use Rattle.std.specs.Prelude.{true, false, length};
+    ghost use Rattle.std.specs.Prelude.{true, false, length, not};
     ghost use Rattle.lwc_base.specs.declared.name.Tag.{Tag};
     ghost use Rattle.page_tree.specs.declared.store.TheConstants.{PAGES};
     ghost use Rattle.cow_space.specs.Maps.{row_of};
@@ -96,20 +95,24 @@ impl Rows {
         self.store.frames.drop_hold(frame);
     }
 
-    /// Writes a page whose frame no other page has.
-    pub(crate) fn write_in_place(&mut self, i: usize, p: u16, at: u32, piece: &[u8])
+    /// Writes what a piece at an address has of page p of a row if the page does not part, and tells whether it
+    /// did. If the page parts, nothing changes.
+    pub(crate) fn write_in_place(&mut self, i: usize, p: u16, at: u32, piece: &[u8]) -> bool
         requires row { i < length (maps self.old) }
         requires page { p < PAGES }
-        requires alone { parts (row_tags (maps self.old)) (row_of (maps self.old) i p) ≡ false }
-        ensures written { (tag : Tag) → maps self.new
+        ensures tells { result ≡ not (parts (row_tags (maps self.old)) (row_of (maps self.old) i p)) }
+        ensures written { result ≡ true → (tag : Tag) → maps self.new
             ≡ write_page (maps self.old) i p (record { at = at; bytes = piece.now }) tag }
+        ensures same { result ≡ false → maps self.new ≡ maps self.old }
         ensures frames { frames_of self.new ≡ frames_of self.old }
         ensures others { (j : ℕ) → HasNoTree self.old j → HasNoTree self.new j }
         ensures nodes { free_nodes self.new ≡ free_nodes self.old }
         ensures within { different (row_tags (maps self.old)) ≤ frames_of self.old }
     {
-        if let PageCell::Frame(frame) = self.cell(i, p) {
-            write_frame(&mut self.store.frames, frame, p, at, piece);
-        }
+        let Some(frame) = self.lone_frame(i, p) else {
+            return false;
+        };
+        write_frame(&mut self.store.frames, frame, p, at, piece);
+        true
     }
 }

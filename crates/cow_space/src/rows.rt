@@ -1,6 +1,7 @@
 ghost use Rattle.std.specs.Prelude.{◌≡◌, ℕ, IfOk, replicate};
 ghost use Rattle.cow_space.specs.RowKept.{IsKept};
 
+use frame_pool::FrameNo;
 use lwc_base::OutOfMemory;
 use page_tree::{PAGES, PageCell, PageTree, Store, TREE_NODES};
 use std::alloc::Global;
@@ -30,7 +31,8 @@ fn empty_trees(alloc: Global, rows: u32) -> Result<Vec<PageTree>, OutOfMemory>
 }
 
 impl Rows {
-    ghost use Rattle.std.specs.Prelude.{◌≡◌, ℕ, ◌+◌, ◌*◌, ◌<◌, ◌≤◌, ◌↔◌, true, IfOk, length, replicate, slice_index};
+    ghost use Rattle.std.specs.Prelude.{◌≡◌, ℕ, ◌+◌, ◌*◌, ◌<◌, ◌≤◌, ◌↔◌, true, false, IfNone, IfOk, IfSome, length, replicate, slice_index};
+    ghost use Rattle.page_tree.specs.declared.cell.PageCell.TheVariants as cell;
     ghost use Rattle.std.specs.Option.{option_copied};
     ghost use Rattle.page_tree.specs.declared.store.TheConstants.{PAGES, TREE_NODES};
     ghost use Rattle.page_tree.specs.Pages.{page};
@@ -74,17 +76,36 @@ impl Rows {
         }
     }
 
+    /// The frame of a page that does not part when it is written: no other page has its tag.
+    pub(crate) fn lone_frame(&self, i: usize, p: u16) -> Option<FrameNo>
+        requires row { i < length (maps self.now) }
+        requires page { p < PAGES }
+        ensures frame { IfSome result (λ frame. page self.now.store.nodes (slice_index self.now.trees.items i) p
+            ≡ cell.Frame frame) }
+        ensures alone { IfSome result
+            (λ frame. parts (row_tags (maps self.now)) (row_of (maps self.now) i p) ≡ false) }
+        ensures parts { IfNone result (parts (row_tags (maps self.now)) (row_of (maps self.now) i p) ≡ true) }
+    {
+        let (cell, alone) = self.trees[i].look(&self.store, p);
+        match cell {
+            PageCell::Frame(frame) => {
+                if alone && self.store.frames.count(frame) == 1 {
+                    Some(frame)
+                } else {
+                    None
+                }
+            }
+            _ => None,
+        }
+    }
+
     /// Whether a page parts when it is written: it is absent or zeros, or its tag is at another page too.
     pub fn parts(&self, i: usize, p: u16) -> bool
         requires row { i < length (maps self.now) }
         requires page { p < PAGES }
         ensures { result ≡ parts (row_tags (maps self.now)) (row_of (maps self.now) i p) }
     {
-        let (cell, alone) = self.trees[i].look(&self.store, p);
-        match cell {
-            PageCell::Frame(frame) => !alone || self.store.frames.count(frame) > 1,
-            _ => true,
-        }
+        self.lone_frame(i, p).is_none()
     }
 
     /// How many frames are in use: one for each different tag.

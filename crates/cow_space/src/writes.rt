@@ -1,6 +1,7 @@
 use crate::cells::PageCells;
-use lwc_base::Tag;
+use lwc_base::{Right, Tag};
 use pool_base::Steps;
+use range_map::SegmentKind;
 use std::sync::ledger::Ledger;
 use thiserror::Error;
 
@@ -10,8 +11,10 @@ use thiserror::Error;
 pub struct NoFrame;
 
 impl PageCells {
-    ghost use Rattle.std.specs.Prelude.{◌≡◌, ◌↔◌, ◌+◌, ◌<◌, ◌≤◌, IfOk, IsErr, OnErr, length};
-    ghost use Rattle.cow_space.specs.Cells.{IsOwnPage, place_of};
+    ghost use Rattle.std.specs.Prelude.{◌≡◌, ◌↔◌, ◌+◌, ◌<◌, ◌≤◌, IfOk, IsErr, OnErr, false, length, true};
+    ghost use Rattle.lwc_base.specs.declared.name.Tag.{Tag};
+    ghost use Rattle.lwc_base.specs.declared.right.Right.TheVariants.{Write};
+    ghost use Rattle.cow_space.specs.Cells.{IsOwnPage, place_of, rights_of};
     ghost use Rattle.cow_space.specs.Seen.{cells, frames_of, free_nodes, rights};
     ghost use Rattle.cow_space.specs.Tags.{IsNewTag, is_parting, taken_by, used};
     ghost use Rattle.cow_space.specs.Writes.{write_page};
@@ -57,5 +60,29 @@ impl PageCells {
             self.rows.write_in_place(i, p, at, piece);
         }
         Ok(parting)
+    }
+
+    /// Writes what a piece at an address has of page p of a place, if the page is the place's own, may be written
+    /// and does not part, and tells whether it did. No other page of any place changes, and no right does. If it
+    /// did not, nothing changes.
+    #[tactic(auto, unfolding(crate::specs::Seen::rights, crate::specs::Seen::frames_of, crate::specs::Seen::free_nodes))]
+    pub fn write_in_place(&mut self, i: usize, p: u16, at: u32, piece: &[u8]) -> bool
+        requires place { i < length (cells self.old) }
+        ensures tells { (result ≡ true) ↔ (IsOwnPage (place_of (cells self.old) i p)
+            × ((rights_of (rights self.old) i p ≡ Write) × (is_parting (cells self.old) i p ≡ false))) }
+        ensures written { result ≡ true → (tag : Tag) → cells self.new
+            ≡ write_page (cells self.old) i p (record { at = at; bytes = piece.now }) tag }
+        ensures same { result ≡ false → cells self.new ≡ cells self.old }
+        ensures rights { rights self.new ≡ rights self.old }
+        ensures frames { frames_of self.new ≡ frames_of self.old }
+        ensures nodes { free_nodes self.new ≡ free_nodes self.old }
+    {
+        let Some(state) = self.state(i, p) else {
+            return false;
+        };
+        match (state.kind, state.right) {
+            (SegmentKind::Own, Right::Write) => self.rows.write_in_place(i, p, at, piece),
+            _ => false,
+        }
     }
 }

@@ -1,4 +1,4 @@
-use Rattle.std.proofs.Common.{sym, ◌∙◌, arith}
+use Rattle.std.proofs.Common.{◌≡◌, Bool, true, false, not, sym, ap, ◌∙◌, arith}
 use Rattle.cow_space.specs.RowSeen.{HasNoTree, maps}
 use Rattle.cow_space.specs.Seen.{cells, frames_of}
 use Rattle.cow_space.proofs.OwnTags.{new-rows, parting-rows, used-rows}
@@ -38,15 +38,15 @@ write_in_place-requires-clause-row g c = row-in c.args.self.now c.args.i c.requi
 pub write_in_place-requires-clause-page : goal.write_in_place-requires-clause-page
 write_in_place-requires-clause-page g c = own-page c.args.self.now c.args.i c.args.p c.requires.own
 
-pub write_in_place-requires-clause-alone : goal.write_in_place-requires-clause-alone
-write_in_place-requires-clause-alone g c =
-    sym (parting-rows c.args.self.now c.args.i c.args.p) ∙ sym c.is_parting-parting.ensures ∙ c.if-parting.false
+-- a page that does not part is written in place
+in-place : (parting parts told : Bool) → parting ≡ false → parting ≡ parts → told ≡ not parts → told ≡ true
+in-place parting parts told off is tells = let p = sym is ∙ off in tells ∙ ap not p
 
 pub invariant_of-self-else-parting : goal.invariant_of-self-else-parting
 invariant_of-self-else-parting g c =
     let w = c.args.self.now in
     record {
-      kept = kept-written w c.args.i c.args.p (record { at = c.args.at; bytes = c.args.piece.now }) c.args.tag (maps c.write_in_place.new.self) c.requires.place c.requires.own (c.write_in_place.ensures.written c.args.tag);
+      kept = kept-written w c.args.i c.args.p (record { at = c.args.at; bytes = c.args.piece.now }) c.args.tag (maps c.write_in_place.new.self) c.requires.place c.requires.own (c.write_in_place.ensures.written (in-place c.is_parting-parting.result _ c.write_in_place.result c.if-parting.false (c.is_parting-parting.ensures ∙ parting-rows c.args.self.now c.args.i c.args.p) c.write_in_place.ensures.tells) c.args.tag);
       bare = λ j none. c.write_in_place.ensures.others j (w.bare j none);
     }
 
@@ -64,4 +64,4 @@ returns-else-parting-clause-full g c =
 pub returns-else-parting-clause-written : goal.returns-else-parting-clause-written
 unfolding cells
 returns-else-parting-clause-written g c =
-    cells-written c.args.self.now c.args.i c.args.p (record { at = c.args.at; bytes = c.args.piece.now }) c.args.tag (maps c.write_in_place.new.self) c.requires.place c.requires.own (c.write_in_place.ensures.written c.args.tag)
+    cells-written c.args.self.now c.args.i c.args.p (record { at = c.args.at; bytes = c.args.piece.now }) c.args.tag (maps c.write_in_place.new.self) c.requires.place c.requires.own (c.write_in_place.ensures.written (in-place c.is_parting-parting.result _ c.write_in_place.result c.if-parting.false (c.is_parting-parting.ensures ∙ parting-rows c.args.self.now c.args.i c.args.p) c.write_in_place.ensures.tells) c.args.tag)
