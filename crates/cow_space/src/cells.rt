@@ -34,9 +34,10 @@ fn no_kinds(alloc: Global, places: u32) -> Result<Vec<RangeMap>, OutOfMemory>
 }
 
 impl PageCells {
-    ghost use Rattle.std.specs.Prelude.{◌+◌, ◌*◌, ◌<◌, ◌≤◌, ◌≢◌, All, length, Some};
+    ghost use Rattle.std.specs.Prelude.{◌+◌, ◌*◌, ◌<◌, ◌≤◌, ◌≢◌, All, IfSome, length, Some};
     ghost use Rattle.std.specs.Option.{option_copied};
     ghost use Rattle.lwc_base.specs.declared.limits.TheConstants.{MOST_PAGE_PLACES, MOST_PAGES, MOST_RANGES};
+    ghost use Rattle.lwc_base.specs.declared.page.TheConstants.{PAGE_BYTES};
     ghost use Rattle.page_tree.specs.declared.store.TheConstants.{TREE_NODES};
     ghost use Rattle.cow_space.specs.declared.rows.TheConstants.{FREE_NODES};
     ghost use Rattle.range_map.specs.Kinds.{IsSegment, ranges, state_at};
@@ -144,7 +145,8 @@ impl PageCells {
     pub fn bytes(&self, i: usize, p: u16) -> Option<&[u8]>
         requires place { i < length (cells self.now) }
         requires page { p < MOST_PAGES }
-        ensures { option_copied result ≡ data_of (own_values (place_of (cells self.now) i) p) }
+        ensures data { option_copied result ≡ data_of (own_values (place_of (cells self.now) i) p) }
+        ensures whole { IfSome result (λ bytes. length bytes.now ≡ PAGE_BYTES) }
     {
         self.rows.bytes(i, p)
     }

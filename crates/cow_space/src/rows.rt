@@ -37,6 +37,7 @@ impl Rows {
     ghost use Rattle.page_tree.specs.declared.store.TheConstants.{PAGES, TREE_NODES};
     ghost use Rattle.page_tree.specs.Pages.{page};
     ghost use Rattle.lwc_base.specs.declared.limits.TheConstants.{MOST_PAGE_PLACES};
+    ghost use Rattle.lwc_base.specs.declared.page.TheConstants.{PAGE_BYTES};
     ghost use Rattle.cow_space.specs.Maps.{data_of, no_pages, row_of};
     ghost use Rattle.cow_space.specs.RowSeen.{frames_of, free_nodes, maps, HasNoTree};
     ghost use Rattle.cow_space.specs.Tags.{different, parts, row_tags};
@@ -68,7 +69,8 @@ impl Rows {
     pub fn bytes(&self, i: usize, p: u16) -> Option<&[u8]>
         requires row { i < length (maps self.now) }
         requires page { p < PAGES }
-        ensures { option_copied result ≡ data_of (row_of (maps self.now) i p) }
+        ensures data { option_copied result ≡ data_of (row_of (maps self.now) i p) }
+        ensures whole { IfSome result (λ bytes. length bytes.now ≡ PAGE_BYTES) }
     {
         match self.cell(i, p) {
             PageCell::Frame(frame) => Some(self.store.frames.bytes(frame)),

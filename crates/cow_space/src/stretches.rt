@@ -225,7 +225,7 @@ impl PageCells {
         ensures cost { steps.new ≤ steps.old + TREE_NODES }
         ensures cost_empty { place_of (cells self.old) i ≡ no_pages → steps.new ≡ steps.old }
     {
-        self.kinds[i] = RangeMap::empty();
+        self.kinds[i].clear();
         self.rows.drop_row(i, steps);
     }
 }

@@ -42,6 +42,13 @@ impl RangeMap {
         }
     }
 
+    /// Takes all pages away, and writes no segment.
+    pub fn clear(&mut self)
+        ensures { self.new ≡ [] }
+    {
+        self.segments.clear();
+    }
+
     /// The same once more.
     pub fn copy(&self) -> RangeMap
         ensures { result ≡ self.now }
