@@ -145,7 +145,7 @@ impl PageCells {
     pub fn bytes(&self, i: usize, p: u16) -> Option<&[u8]>
         requires place { i < length (cells self.now) }
         requires page { p < MOST_PAGES }
-        ensures data { option_copied result ≡ data_of (own_values (place_of (cells self.now) i) p) }
+        ensures value { option_copied result ≡ data_of (own_values (place_of (cells self.now) i) p) }
         ensures whole { IfSome result (λ bytes. length bytes.now ≡ PAGE_BYTES) }
     {
         self.rows.bytes(i, p)

@@ -69,7 +69,7 @@ impl Rows {
     pub fn bytes(&self, i: usize, p: u16) -> Option<&[u8]>
         requires row { i < length (maps self.now) }
         requires page { p < PAGES }
-        ensures data { option_copied result ≡ data_of (row_of (maps self.now) i p) }
+        ensures value { option_copied result ≡ data_of (row_of (maps self.now) i p) }
         ensures whole { IfSome result (λ bytes. length bytes.now ≡ PAGE_BYTES) }
     {
         match self.cell(i, p) {

@@ -70,6 +70,7 @@ impl PageCells {
         requires place { i < length (cells self.old) }
         ensures tells { (result ≡ true) ↔ (IsOwnPage (place_of (cells self.old) i p)
             × ((rights_of (rights self.old) i p ≡ Write) × (is_parting (cells self.old) i p ≡ false))) }
+        ensures enough { result ≡ true → used (cells self.old) ≤ frames_of self.old }
         ensures written { result ≡ true → (tag : Tag) → cells self.new
             ≡ write_page (cells self.old) i p (record { at = at; bytes = piece.now }) tag }
         ensures same { result ≡ false → cells self.new ≡ cells self.old }
