@@ -87,7 +87,7 @@ counted-twice w job m n = λ e. record w { next = λ j. at (eqb j job) (w.next j
     at true x = ap (λ (t : ℕ). record x { tags = t }) (sum x.tags)
     at false x = refl
 
-counted-none : (w : World) (job : ℕ) → change_counters w job (λ x. record x { tags = x.tags + 0 }) ≡ w
+pub counted-none : (w : World) (job : ℕ) → change_counters w job (λ x. record x { tags = x.tags + 0 }) ≡ w
 unfolding change_counters
 counted-none w job = λ e. record w { next = λ j. at (eqb j job) (w.next j) e }
   where

@@ -29,11 +29,11 @@ use Rattle.lazy_world.specs.Memory.{holder, page_in}
 use Rattle.lazy_world.specs.Sound.{IsSound}
 use Rattle.lazy_world.specs.States.{Parts, context_at, counters_of, nothing_counted, world_of}
 use Rattle.lazy_world.specs.Stores.{parts_at, store_pages, taken_at, value_after}
-use Rattle.lazy_world.proofs.HolderLemmas.{page-held, page-lost}
+use Rattle.lazy_world.proofs.HolderLemmas.{holder-own, page-held, page-lost}
 use Rattle.lazy_world.proofs.MemoryLemmas.{page-in}
 use Rattle.lazy_world.proofs.PlaceLemmas.{choose, pass}
 use Rattle.lazy_world.proofs.SpotLemmas.{KeepsHome, counted-world, page-other, put-spot, sound-counted, sound-spot, with_page}
-use Rattle.lazy_world.proofs.StoreLemmas.{counted-put, counted-value, next-tags, store-one}
+use Rattle.lazy_world.proofs.StoreLemmas.{counted-none, counted-put, counted-value, next-tags, store-one}
 use Rattle.lazy_world.proofs.UsedLemmas.{parting-places, used-places}
 use Rattle.lazy_world.proofs.WorldLemmas.{context-found}
 use Rattle.lwc_base.proofs.Common.{put-other_key}
@@ -51,6 +51,11 @@ pub parts-common : (tags : List Tag) (g : Name) (cell : Cell (Option PageValue))
 parts-common tags g (Own None) is = absurd cc
 parts-common tags g (Own (Some value)) is = absurd cc
 parts-common tags g (Common h) is = refl
+
+own-value : (cell : Cell (Option PageValue)) → kind_of cell ≡ Some kind.Own → is_some (own_value cell) ≡ true
+own-value (Own None) is = absurd cc
+own-value (Own (Some v)) is = refl
+own-value (Common g) is = absurd cc
 
 some-own : (cell : Cell (Option PageValue)) → is_some (own_value cell) ≡ true → (v : PageValue) × (cell ≡ Own (Some v))
 some-own (Own None) there = absurd cc
@@ -95,6 +100,13 @@ module _ (s : Parts) (sound : IsSound s) (placed : ArePlaced s.contexts) (placed
   pub no-holder : holder s i p ≡ None → is_some (page_at w c p) ≡ true → ⊥
   no-holder none there = let lost = sym (page-in w c (context_at s i) p (context-found s c i found)) ∙ page-lost s i p none in let two = sym there ∙ ap is_some lost in cc
 
+  -- a page of the place's own is held by it, and is there
+  pub own-held : IsOwnPage (place_of cells i p) → holder s i p ≡ Some i
+  own-held own = holder-own s i (s.rows i (Page p)) (ap kind_of (tie i p) ∙ own)
+
+  pub own-there : IsOwnPage (place_of cells i p) → is_some (page_at w c p) ≡ true
+  own-there own = ap is_some (page-read p i (own-held own)) ∙ own-value (s.rows i (Page p)) (ap kind_of (tie i p) ∙ own)
+
   pub used-now : frames.used w ≡ places.used cells
   used-now = used-places s sound placed placed_groups cells tie long
 
@@ -124,6 +136,45 @@ module _ (s : Parts) (sound : IsSound s) (placed : ArePlaced s.contexts) (placed
         sym (ap (λ o. frames.is_parting w (unwrap_or o Zero)) page-is
         ∙ parting-places s sound placed placed_groups cells tie long j p value.0 value.1)
 
+    -- the value once a piece is there
+    module _ (piece : Piece) where
+      read : page_value cells j p ≡ page_value_at w c p
+      read = ap (λ (x : Cell (Option PageValue)). unwrap_or (own_value x) Zero) (sym (tie j p)) ∙ ap (λ o. unwrap_or o Zero) (sym (page-read p j there))
+
+      written : written_value cells j p piece tag ≡ value_after w c job piece p
+      written = λ e. stored_value (part-now e) tag (read e) (bytes_after piece p (bytes_of (read e)))
+
+      tag-of : (t : Tag) (bytes : List ℕ) → written_value cells j p piece tag ≡ Data t bytes → ((parts_at w c p ≡ true) × (tag ≡ t)) ⊎ ((a : List ℕ) × (value.0 ≡ Data t a))
+      tag-of t bytes is =
+          stored-tags (parts_at w c p) tag t value.0 (bytes_after piece p (bytes_of value.0)) bytes
+          (λ zero. ap (λ o. frames.is_parting w (unwrap_or o Zero)) page-is ∙ zero-parts w value.0 zero)
+          ((λ e. stored_value (parts_at w c p) tag (unwrap_or (sym page-is e) Zero) (bytes_after piece p (bytes_of (unwrap_or (sym page-is e) Zero)))) ∙ sym written ∙ is)
+
+      -- where the page does not part no tag is new, and nothing is counted
+      module _ (alone : places.is_parting cells j p ≡ false) where
+        abbrev in_place : Parts
+        in_place = record s { rows = put_row s.rows j (with_page p (written_value cells j p piece tag) (s.rows j)) }
+
+        stays : parts_at w c p ≡ false
+        stays = sym part-now ∙ alone
+
+        same-tag : (t : Tag) (bytes : List ℕ) → written_value cells j p piece tag ≡ Data t bytes → (a : List ℕ) × (value.0 ≡ Data t a)
+        same-tag t bytes is = ⊎_elim (λ fresh. absurd (let yes = fresh.0 in cc (yes, stays))) (λ old. old) (tag-of t bytes is)
+
+        pub sound-in_place : IsSound in_place
+        sound-in_place =
+            sound-spot s sound placed placed_groups c i found p j there value.0 (written_value cells j p piece tag) value.1
+            (λ t bytes is. let old = same-tag t bytes is in sound.tags j p t old.0 (value.1 ∙ ap (λ u. Own (Some u)) old.1))
+            (λ t bytes is. let old = same-tag t bytes is in inl (record { place = j; bytes = old.0; is = value.1 ∙ ap (λ u. Own (Some u)) old.1 }))
+
+        pub world-in_place : world_of in_place ≡ store_pages w c job piece (p ∷ [])
+        world-in_place =
+            put-spot s sound placed placed_groups c i found p j there value.0 (written_value cells j p piece tag) value.1
+            ∙ ap (λ u. put_page w c p u) written
+            ∙ sym (counted-none (put_page w c p (value_after w c job piece p)) job)
+            ∙ sym (ap (λ (b : Bool). change_counters (put_page w c p (value_after w c job piece p)) job (λ m. record m { tags = m.tags + cond b 1 0 })) stays)
+            ∙ sym (store-one w c job piece p)
+
     module _ (known : job < s.size.jobs) (inside : j < length cells) (piece : Piece) (n : Counts)
         (counted : counters_of n ≡ record (counters_of (get_or s.counts job nothing_counted)) { tags = (counters_of (get_or s.counts job nothing_counted)).tags + taken_at w c p }) where
       abbrev v : PageValue
@@ -138,12 +189,6 @@ module _ (s : Parts) (sound : IsSound s) (placed : ArePlaced s.contexts) (placed
       abbrev later : Parts
       later = record s { counts = set s.counts job n; rows = put_row s.rows j (with_page p v (s.rows j)) }
 
-      read : page_value cells j p ≡ page_value_at w c p
-      read = ap (λ (x : Cell (Option PageValue)). unwrap_or (own_value x) Zero) (sym (tie j p)) ∙ ap (λ o. unwrap_or o Zero) (sym (page-read p j there))
-
-      written : v ≡ value_after w c job piece p
-      written = λ e. stored_value (part-now e) tag (read e) (bytes_after piece p (bytes_of (read e)))
-
       sound-more : IsSound more
       sound-more = sound-counted s sound job known n (taken_at w c p) counted
 
@@ -152,14 +197,8 @@ module _ (s : Parts) (sound : IsSound s) (placed : ArePlaced s.contexts) (placed
           put-spot more sound-more placed placed_groups c i found p j there value.0 v value.1
           ∙ ap (λ (x : World). put_page x c p v) (counted-world s sound job known n (taken_at w c p) counted)
           ∙ counted-put w job f c p v
-          ∙ ap (λ u. change_counters (put_page w c p u) job f) written
+          ∙ ap (λ u. change_counters (put_page w c p u) job f) (written piece)
           ∙ sym (store-one w c job piece p)
-
-      tag-of : (t : Tag) (bytes : List ℕ) → v ≡ Data t bytes → ((parts_at w c p ≡ true) × (tag ≡ t)) ⊎ ((a : List ℕ) × (value.0 ≡ Data t a))
-      tag-of t bytes is =
-          stored-tags (parts_at w c p) tag t value.0 (bytes_after piece p (bytes_of value.0)) bytes
-          (λ zero. ap (λ o. frames.is_parting w (unwrap_or o Zero)) page-is ∙ zero-parts w value.0 zero)
-          ((λ e. stored_value (parts_at w c p) tag (unwrap_or (sym page-is e) Zero) (bytes_after piece p (bytes_of (unwrap_or (sym page-is e) Zero)))) ∙ sym written ∙ is)
 
       tags-later : (t : Tag) (bytes : List ℕ) → v ≡ Data t bytes → t.k < ((world_of more).next t.job).tags
       tags-later t bytes is =
@@ -170,14 +209,14 @@ module _ (s : Parts) (sound : IsSound s) (placed : ArePlaced s.contexts) (placed
           let below : tag.k < ((world_of more).next tag.job).tags = omega (arith, now, one) in
           subst (λ (u : Tag). u.k < ((world_of more).next u.job).tags) fresh.1 below)
           (λ old. sound-more.tags j p t old.0 (value.1 ∙ ap (λ u. Own (Some u)) old.1))
-          (tag-of t bytes is)
+          (tag-of piece t bytes is)
 
       keeps : KeepsHome s.rows p v
       keeps t bytes is =
           ⊎_elim
           (λ fresh. inr (λ m q b at_q. new-now m q b (sym (tie m q) ∙ at_q ∙ ap (λ (u : Tag). Own (Some (Data u b))) (sym fresh.1))))
           (λ old. inl (record { place = j; bytes = old.0; is = value.1 ∙ ap (λ u. Own (Some u)) old.1 }))
-          (tag-of t bytes is)
+          (tag-of piece t bytes is)
 
       pub sound-later : IsSound later
       sound-later = sound-spot more sound-more placed placed_groups c i found p j there value.0 v value.1 tags-later keeps

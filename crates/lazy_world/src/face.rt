@@ -45,6 +45,9 @@ impl World for LazyWorld {
     }
 
     fn store(&mut self, c: Name, at: u32, piece: &[u8], job: u32) -> Result<(), StoreFault> {
+        if self.world.store_in_place(c, at, piece) {
+            return Ok(());
+        }
         self.world.store(c, at, piece, job)
     }
 

@@ -1,4 +1,4 @@
-ghost use Rattle.std.specs.Prelude.{◌≡◌, ◌+◌, ◌-◌, ◌*◌, ◌<◌, ◌≤◌, IfNone, IfSome, Option, is_some, length, map, slice_index};
+ghost use Rattle.std.specs.Prelude.{◌≡◌, ◌+◌, ◌-◌, ◌*◌, ◌<◌, ◌≤◌, IfNone, IfSome, Option, false, is_some, length, map, slice_index, true};
 ghost use Rattle.std.specs.Option.{option_copied, option_map_or};
 ghost use Rattle.lwc_base.specs.declared.limits.TheConstants.{MOST_PAGES};
 ghost use Rattle.lwc_base.specs.declared.page.PageValue.{PageValue};
@@ -26,7 +26,7 @@ fn byte_of(page: Option<&[u8]>, at: usize) -> u8
 
 impl PlacedWorld {
     ghost use Rattle.std.specs.List.{list_all, range_with_len};
-    ghost use Rattle.lwc_base.specs.Memory.{load};
+    ghost use Rattle.lwc_base.specs.Memory.{load, touched};
     ghost use Rattle.world_face.specs.Calls.{IsLive};
     ghost use Rattle.lazy_world.specs.Worlds.{parts, seen};
 
@@ -77,6 +77,35 @@ impl PlacedWorld {
         }
     }
 
+    /// Copies bytes of the context at a place from an address on, if they are in one page, which is its own, and
+    /// tells whether it did. If it did not, nothing changes.
+    fn copy_own(&self, i: usize, at: usize, out: &mut [u8]) -> bool
+        requires place { i < count self.now.places }
+        requires within { at + length out.old ≤ MOST_PAGES * PAGE_BYTES }
+        ensures present { result ≡ true
+            → list_all (λ p. is_some (page_in (seen self.now) (rows self.now.places i) p))
+            (touched at (length out.old)) ≡ true }
+        ensures copied { result ≡ true → out.new ≡ map (byte_in (seen self.now) (rows self.now.places i))
+            (range_with_len at (length out.old)) }
+        ensures same { result ≡ false → out.new ≡ out.old }
+    {
+        let pages = touched_pages(at, out.len());
+        if pages.end - pages.first != 1 {
+            return false;
+        }
+        match self.places.kind(i, pages.first) {
+            Some(SegmentKind::Own) => {
+                let from = at % PAGE_BYTES;
+                match self.places.bytes(i, pages.first) {
+                    Some(bytes) => out.copy_from_slice(&bytes[from..from + out.len()]),
+                    None => out.fill(0),
+                }
+                true
+            }
+            _ => false,
+        }
+    }
+
     /// Whether all of some pages of the context at a place are present.
     pub(crate) fn are_present(&self, i: usize, pages: Touched) -> bool
         requires { i < count self.now.places }
@@ -96,6 +125,9 @@ impl PlacedWorld {
         ensures absent { IfNone (load (seen self.now) c at (length out.old)) (out.new ≡ out.old) }
     {
         let i = self.place(c);
+        if self.copy_own(i, at as usize, out) {
+            return true;
+        }
         let pages = touched_pages(at as usize, out.len());
         if !self.are_present(i, pages) {
             return false;

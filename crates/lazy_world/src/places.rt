@@ -50,6 +50,7 @@ impl Places {
     ghost use Rattle.lwc_base.specs.declared.descriptor.TheConstants.{SLOTS};
     ghost use Rattle.lwc_base.specs.declared.key.Key.TheVariants.{Page, Slot, Cred};
     ghost use Rattle.lwc_base.specs.declared.limits.TheConstants.{MOST_PAGES, MOST_RANGES};
+    ghost use Rattle.lwc_base.specs.declared.page.TheConstants.{PAGE_BYTES};
     ghost use Rattle.lwc_base.specs.Frames.{own_value};
     ghost use Rattle.lwc_base.specs.Keys.{with_key};
     ghost use Rattle.lwc_base.specs.declared.cell.Cell.{Cell};
@@ -140,7 +141,8 @@ impl Places {
     pub fn bytes(&self, i: usize, p: u16) -> Option<&[u8]>
         requires place { i < count self.now }
         requires page { p < MOST_PAGES }
-        ensures { option_copied result ≡ data_of (own_value (rows self.now i (Page p))) }
+        ensures value { option_copied result ≡ data_of (own_value (rows self.now i (Page p))) }
+        ensures whole { IfSome result (λ bytes. length bytes.now ≡ PAGE_BYTES) }
     {
         self.pages.bytes(i, p)
     }

@@ -3,8 +3,10 @@ ghost use Rattle.std.specs.Prelude.{OnErr, OnOk, Some, count_by, false, is_some,
 ghost use Rattle.lwc_base.specs.declared.cell.Cell.{Cell};
 ghost use Rattle.lwc_base.specs.declared.cell.Cell.TheVariants.{Own};
 ghost use Rattle.lwc_base.specs.declared.key.Key.TheVariants.{Page};
+ghost use Rattle.lwc_base.specs.declared.name.Tag.{Tag};
 ghost use Rattle.lwc_base.specs.declared.page.PageValue.TheVariants.{Zero};
 ghost use Rattle.lwc_base.specs.declared.page.TheConstants.{PAGE_BYTES};
+ghost use Rattle.lwc_base.specs.declared.right.Right.TheVariants.{Write};
 ghost use Rattle.lwc_base.specs.Keys.{with_key};
 ghost use Rattle.cow_space.specs.Cells.{IsOwnPage, place_of};
 ghost use Rattle.cow_space.specs.Tags as places;
@@ -44,6 +46,26 @@ impl Places {
             Some(SegmentKind::Common(_)) => true,
             Some(SegmentKind::Own) => self.pages.is_parting(i, p),
         }
+    }
+
+    /// Writes what a piece has of a page, if the page is the place's own, may be stored to and does not part, and
+    /// tells whether it did. If it did not, nothing changes.
+    #[tactic(auto, unfolding(crate::specs::Seen::pages, crate::specs::Seen::count, crate::specs::Seen::frame_count))]
+    pub fn write_in_place(&mut self, i: usize, p: u16, at: u32, piece: &[u8]) -> bool
+        requires { i < count self.old }
+        ensures own { result ≡ true → IsOwnPage (place_of (pages self.old) i p) }
+        ensures may { result ≡ true → rights self.old i p ≡ Write }
+        ensures alone { result ≡ true → places.is_parting (pages self.old) i p ≡ false }
+        ensures enough { result ≡ true → places.used (pages self.old) ≤ frame_count self.old }
+        ensures rows { result ≡ true → (tag : Tag) → rows self.new ≡ put_row (rows self.old) i (with_key Cell
+            (Page p) (Own (Some (written_value (pages self.old) i p (record { at = at; bytes = piece.now }) tag)))
+            (rows self.old i)) }
+        ensures same { result ≡ false → rows self.new ≡ rows self.old }
+        ensures rights { rights self.new ≡ rights self.old }
+        ensures count { count self.new ≡ count self.old }
+        ensures frames { frame_count self.new ≡ frame_count self.old }
+    {
+        self.pages.write_in_place(i, p, at, piece)
     }
 
     /// Writes what a piece has of a page that is the place's own, on a counter of its own, and tells whether
@@ -238,6 +260,23 @@ impl PlacedWorld {
         for p in pages.first..pages.end {
             self.write_page(c, p, at, piece, job);
         }
+    }
+
+    /// Stores bytes in the context's memory from the address `at` on, if they are in one page, which is its own, may
+    /// be stored to and does not part, and tells whether it did. If it did not, nothing changes.
+    pub(crate) fn store_in_place(&mut self, c: Name, at: u32, piece: &[u8]) -> bool
+        requires live { IsLive (seen self.old) c }
+        requires within { at + length piece.now ≤ (seen self.old).size.pages * PAGE_BYTES }
+        ensures done { result ≡ true → (job : ℕ) → store (seen self.old) c job
+            (record { at = at; bytes = piece.now }) ≡ stores.Done (seen self.new) }
+        ensures same { result ≡ false → seen self.new ≡ seen self.old }
+    {
+        let i = self.place(c);
+        let pages = touched_pages(at as usize, piece.len());
+        if pages.end - pages.first != 1 {
+            return false;
+        }
+        self.places.write_in_place(i, pages.first, at, piece)
     }
 
     /// Stores bytes in the context's memory from the address `at` on, for a job.

@@ -1,4 +1,4 @@
-ghost use Rattle.std.specs.Prelude.{◌≡◌, ◌+◌, ◌-◌, ◌/◌, ◌<◌, ◌≤◌, ◌^◌};
+ghost use Rattle.std.specs.Prelude.{◌≡◌, ◌+◌, ◌-◌, ◌/◌, ◌%◌, ◌<◌, ◌≤◌, ◌^◌};
 ghost use Rattle.std.specs.List.{range_with_len};
 ghost use Rattle.lwc_base.specs.Memory.{touched};
 
@@ -16,6 +16,8 @@ pub struct Touched {
 pub fn touched_pages(at: usize, count: usize) -> Touched
     requires { at + count ≤ 2 ^ 26 }
     ensures pages { range_with_len result.first (result.end - result.first) ≡ touched at count }
+    ensures first { result.first ≡ at / PAGE_BYTES }
+    ensures one { result.end - result.first ≡ 1 → at % PAGE_BYTES + count ≤ PAGE_BYTES }
     ensures order { result.first ≤ result.end }
     ensures last { result.end ≤ (at + count) / PAGE_BYTES + 1 }
 {

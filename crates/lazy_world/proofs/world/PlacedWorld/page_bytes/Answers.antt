@@ -7,7 +7,7 @@ use Rattle.lazy_world.proofs.world.PlacedWorld.page_bytes.Goals as goal
 pub returns-in-Some : goal.returns-in-Some
 unfolding parts seen
 returns-in-Some c =
-    c.bytes.ensures ∙ ap data_of (sym (page-held (parts c.args.self.now) c.args.i c.args.p c.in-Some.j (sym c.holder.ensures.place ∙ c.in-Some.is)))
+    c.bytes.ensures.value ∙ ap data_of (sym (page-held (parts c.args.self.now) c.args.i c.args.p c.in-Some.j (sym c.holder.ensures.place ∙ c.in-Some.is)))
 
 pub returns-in-None : goal.returns-in-None
 unfolding parts seen

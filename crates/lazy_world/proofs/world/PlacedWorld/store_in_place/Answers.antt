@@ -1,0 +1,129 @@
+use Rattle.std.proofs.Common.{◌≡◌, ◌≤◌, ◌<◌, ◌∙◌, ℕ, ◌+◌, ◌-◌, ◌&&◌, true, false, Some, Bool, List, [], ◌∷◌, cond, ⊎_elim, arith, ap, length, subst, sym}
+use Rattle.std.specs.FinMap as fm
+use Rattle.std.specs.List.{range_with_len}
+use Rattle.std.proofs.lemmas.Bool.{cases_Bool}
+use Rattle.lwc_base.specs.declared.limits.TheConstants.{MOST_PAGES}
+use Rattle.lwc_base.specs.declared.name.Name.{Name}
+use Rattle.lwc_base.specs.declared.name.Tag.{Tag}
+use Rattle.lwc_base.specs.Memory.{touched}
+use Rattle.lwc_base.specs.Store.{Done, Piece, store}
+use Rattle.lazy_world.specs.declared.places.Places.{Places}
+use Rattle.lazy_world.specs.declared.world.PlacedWorld.{PlacedWorld}
+use Rattle.lazy_world.specs.States.{Parts, context_at, world_of}
+use Rattle.lazy_world.specs.Worlds.{parts, seen}
+use Rattle.std.specs.Prelude.{count_by, is_some}
+use Rattle.std.specs.List.{list_all}
+use Rattle.lwc_base.specs.declared.right.Right.TheVariants.{Write}
+use Rattle.lwc_base.specs.Frames.{used}
+use Rattle.lwc_base.specs.Memory.{is_present}
+use Rattle.lwc_base.specs.Rights.{is_writable, may_write}
+use Rattle.lwc_base.specs.World.{context}
+use Rattle.lazy_world.proofs.StoreLemmas.{count-one, store-done, writable-touched}
+use Rattle.lwc_base.specs.Cells.{page_at}
+use Rattle.cow_space.specs.Cells.{IsOwnPage, place_of}
+use Rattle.cow_space.specs.Tags as places
+use Rattle.cow_space.specs.Writes.{written_value}
+use Rattle.lazy_world.specs.Cells.{put_row}
+use Rattle.lazy_world.specs.Memory.{holder}
+use Rattle.lazy_world.specs.Seen.{count, frame_count, pages, rights, rows}
+use Rattle.lazy_world.specs.Sound.{IsSound}
+use Rattle.lazy_world.specs.Stores.{parts_at, store_pages}
+use Rattle.lazy_world.proofs.SpotLemmas.{with_page}
+use Rattle.lazy_world.proofs.UsedLemmas.{count-pages, row-page}
+use Rattle.lazy_world.proofs.WrittenLemmas.{own-held, own-there, part-now, sound-in_place, used-now, world-in_place}
+use Rattle.lazy_world.proofs.world.PlacedWorld.store_in_place.Goals as goal
+
+few : (w : PlacedWorld) → (seen w).size.pages ≤ MOST_PAGES
+unfolding seen parts world_of
+few w = w.sound.sizes.size.pages.1
+
+pub touched_pages-pages-requires : goal.touched_pages-pages-requires
+touched_pages-pages-requires c = omega (arith, few c.args.self.now, c.requires.within)
+
+-- the world once the page is written in place
+module _ (w : PlacedWorld) (c : Name) (i p : ℕ) (found : fm.get (parts w).contexts.map c ≡ Some i) (inside : i < count w.places) (q : Places) (piece : Piece) (own : IsOwnPage (place_of (pages w.places) i p)) (alone : places.is_parting (pages w.places) i p ≡ false)
+    (rows_are : (tag : Tag) → rows q ≡ put_row (rows w.places) i (with_page p (written_value (pages w.places) i p piece tag) (rows w.places i))) (rights_are : rights q ≡ rights w.places) where
+  abbrev after : Parts
+  after = record (parts w) { rows = rows q; rights = rights q }
+
+  abbrev by : ℕ → Parts
+  unfolding seen parts
+  by job = record (parts w) { rows = put_row (rows w.places) i (with_page p (written_value (pages w.places) i p piece (record { job = job; k = ((seen w).next job).tags })) (rows w.places i)) }
+
+  after_is : (job : ℕ) → after ≡ by job
+  unfolding parts by
+  after_is job = λ e. record (parts w) { rows = rows_are (record { job = job; k = ((seen w).next job).tags }) e; rights = rights_are e }
+
+  held : holder (parts w) i p ≡ Some i
+  unfolding parts
+  held = own-held (parts w) w.sound w.placed w.placed_groups (pages w.places) (row-page w.places) (count-pages w.places ∙ w.count) c i found p own
+
+  pub is_there : is_some (page_at (seen w) c p) ≡ true
+  unfolding seen parts
+  is_there = own-there (parts w) w.sound w.placed w.placed_groups (pages w.places) (row-page w.places) (count-pages w.places ∙ w.count) c i found p own
+
+  pub sound : IsSound after
+  unfolding seen parts
+  sound =
+      subst IsSound (sym (after_is 0))
+      (sound-in_place (parts w) w.sound w.placed w.placed_groups (pages w.places) (row-page w.places) (count-pages w.places ∙ w.count) c i found p i held is_there 0 piece alone)
+
+  pub stored : (job : ℕ) → world_of after ≡ store_pages (seen w) c job piece (p ∷ [])
+  unfolding seen parts by
+  stored job =
+      ap world_of (after_is job)
+      ∙ world-in_place (parts w) w.sound w.placed w.placed_groups (pages w.places) (row-page w.places) (count-pages w.places ∙ w.count) c i found p i held is_there job piece alone
+
+  pub stays : parts_at (seen w) c p ≡ false
+  unfolding seen parts
+  stays = sym (part-now (parts w) w.sound w.placed w.placed_groups (pages w.places) (row-page w.places) (count-pages w.places ∙ w.count) c i found p i held is_there 0) ∙ alone
+
+  module _ (one : p ∷ [] ≡ touched piece.at (length piece.bytes)) (may : rights w.places i p ≡ Write) (enough : places.used (pages w.places) ≤ frame_count w.places) (cells : context (seen w) c ≡ context_at (parts w) i) where
+    present : is_present (seen w) c piece.at (length piece.bytes) ≡ true
+    unfolding is_present
+    present = (λ e. list_all (λ q. is_some (page_at (seen w) c q)) (sym one e)) ∙ (λ e. is_there e && true)
+
+    writable : is_writable (seen w) c piece.at (length piece.bytes) ≡ true
+    unfolding parts
+    writable = writable-touched (seen w) c (context_at (parts w) i) piece.at (length piece.bytes) (p ∷ []) true cells one (sym (λ e. may_write (may e) && true))
+
+    room : used (seen w) + count_by (parts_at (seen w) c) (p ∷ []) ≤ (seen w).size.frames
+    unfolding seen parts world_of
+    room =
+        let none = ap {B = ℕ} (λ (b : Bool). cond b 1 0) stays in
+        let now = used-now (parts w) w.sound w.placed w.placed_groups (pages w.places) (row-page w.places) (count-pages w.places ∙ w.count) c i found p in
+        omega (arith, none, now, enough, w.frames, count-one (parts_at (seen w) c) p [])
+
+    pub done : (job : ℕ) → store (seen w) c job piece ≡ Done (world_of after)
+    done job = store-done (seen w) c job piece present writable (p ∷ []) one room ∙ ap Done (sym (stored job))
+
+-- one page is touched
+one-page : (first end : ℕ) (ps : List ℕ) → range_with_len first (end - first) ≡ ps → end - first ≡ 1 → first ∷ [] ≡ ps
+one-page first end ps is one = sym (ap (range_with_len first) one) ∙ is
+
+pub invariant_of-self : goal.invariant_of-self
+unfolding parts
+invariant_of-self c =
+    let w = c.args.self.now in
+    record {
+      placed = w.placed;
+      placed_groups = w.placed_groups;
+      count = c.write_in_place.ensures.count ∙ w.count;
+      frames = c.write_in_place.ensures.frames ∙ w.frames;
+      sound = ⊎_elim
+          (λ done. sound w c.args.c c.place-i.result c.touched_pages-pages.result.first c.place-i.ensures.found c.place-i.ensures.inside c.write_in_place.new.self (record { at = c.args.at; bytes = c.args.piece.now })
+          (c.write_in_place.ensures.own done) (c.write_in_place.ensures.alone done) (c.write_in_place.ensures.rows done) c.write_in_place.ensures.rights)
+          (λ off. subst IsSound (λ e. record (parts w) { rows = sym (c.write_in_place.ensures.same off) e; rights = sym c.write_in_place.ensures.rights e }) w.sound)
+          (cases_Bool c.write_in_place.result);
+    }
+
+pub returns-clause-done : goal.returns-clause-done
+unfolding seen parts
+returns-clause-done c = λ yes.
+    done c.args.self.now c.args.c c.place-i.result c.touched_pages-pages.result.first c.place-i.ensures.found c.place-i.ensures.inside c.write_in_place.new.self (record { at = c.args.at; bytes = c.args.piece.now })
+    (c.write_in_place.ensures.own yes) (c.write_in_place.ensures.alone yes) (c.write_in_place.ensures.rows yes) c.write_in_place.ensures.rights
+    (one-page c.touched_pages-pages.result.first c.touched_pages-pages.result.end _ c.touched_pages-pages.ensures.pages c.if-pages-ne1.false) (c.write_in_place.ensures.may yes) (c.write_in_place.ensures.enough yes) c.place-i.ensures.context
+
+pub returns-clause-same : goal.returns-clause-same
+unfolding seen parts
+returns-clause-same c = λ off. ap world_of (λ e. record (parts c.args.self.now) { rows = c.write_in_place.ensures.same off e; rights = c.write_in_place.ensures.rights e })
