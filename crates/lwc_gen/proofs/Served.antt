@@ -29,6 +29,7 @@ short_requests number k d below =
 pub can_open : (number : ℕ) → number ≤ 100 → CanOpen (generated number)
 can_open number small = record {
   image = server_is_image;
+  vault = tt;
   settings = record { frames = (omega arith, omega arith); budget = (omega arith, omega arith); job = (omega arith, omega arith) };
   fits = omega (arith, length-map-range_with_len numbered_page 0 PAGES);
   requests = record { few = omega (arith, request_count number); short = short_requests number };

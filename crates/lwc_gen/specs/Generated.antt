@@ -1,5 +1,5 @@
 -- The server and the requests that are made from a number.
-use Rattle.std.specs.Prelude.{ℕ, ◌+◌, ◌*◌, ◌-◌, ◌++◌, List, [], ◌∷◌, map}
+use Rattle.std.specs.Prelude.{ℕ, ◌+◌, ◌*◌, ◌-◌, ◌++◌, List, [], ◌∷◌, None, map}
 use Rattle.std.specs.Int.{to_le_bytes, w64}
 use Rattle.std.specs.List.{range_with_len}
 use Rattle.guest_image.specs.declared.image.Form.TheVariants.{One}
@@ -67,4 +67,5 @@ requests_of number = map (λ r. to_le_bytes w64 (1000 * number + r)) (range_with
 
 -- what a kernel is opened with to serve them
 abbrev pub generated : ℕ → Inputs
-generated number = record { image = server; requests = requests_of number; settings = SETTINGS }
+generated number =
+    record { image = server; vault = None; requests = requests_of number; settings = SETTINGS }

@@ -264,6 +264,7 @@ are_requests bytes asked is = record { few = is.few; short = is.small }
 serve_opens : (settings : Settings) (bytes requests : List ℕ) (image : Image) (asked : List (List ℕ)) → AreServeSettings settings → IsFitting settings bytes image → IsRequestFile requests asked → CanOpen (inputs_of image asked settings)
 serve_opens settings bytes requests image asked within is file = record {
   image = is.image;
+  vault = tt;
   settings = within.limits;
   fits = is.fits;
   requests = subst (λ job. MayHave job asked) (sym within.job) (are_requests requests asked file);
@@ -272,7 +273,7 @@ serve_opens settings bytes requests image asked within is file = record {
 -- a replay of accepted files can be opened
 replay_opens : (requests : Option (List ℕ)) (settings : Settings) (bytes : List ℕ → List ℕ) (spelled : List ℕ) (image : Image) (asked : List (List ℕ)) → AreReplaySettings requests settings → IsFitting settings spelled image → AreRequestsIn requests bytes asked → CanOpen (inputs_of image asked settings)
 replay_opens None settings bytes spelled image asked within is none =
-    record { image = is.image; settings = within.limits; fits = is.fits; requests = subst (λ job. MayHave job asked) (sym within.job) none }
+    record { image = is.image; vault = tt; settings = within.limits; fits = is.fits; requests = subst (λ job. MayHave job asked) (sym within.job) none }
 replay_opens (Some requests) settings bytes spelled image asked within is file = serve_opens settings spelled (bytes requests) image asked within is file
 
 -- each request of a finished serve has a reply

@@ -44,7 +44,8 @@ IsText (Generating number) text =
 
 -- what a kernel is opened with
 abbrev pub inputs_of : Image → List (List ℕ) → Settings → Inputs
-inputs_of image requests settings = record { image = image; requests = requests; settings = settings }
+inputs_of image requests settings =
+    record { image = image; vault = None; requests = requests; settings = settings }
 
 -- a file is read by a grammar, and what it is says what follows
 abbrev pub read_by : {A : Type 0} → (List ℕ → Result A Rejection) → ℕ → List ℕ → (A → Plan Rejection Work) → Plan Rejection Work

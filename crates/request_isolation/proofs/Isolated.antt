@@ -1,6 +1,6 @@
 -- Serves from their starts: each reply is that of its request by itself.
 use Rattle.std.proofs.Common.{◌≡◌, ◌≢◌, inl, inr, ℕ, zero, suc, ◌+◌, ◌*◌, ◌≤◌, ◌<◌, refl, sym, ap, subst, ◌∙◌, Bool, true, false, cond, ltb, Option, Some, None, List, [], ◌∷◌, ◌++◌, length, map, get_or, arith}
-use Rattle.std.specs.Prelude.{max, replicate, slice_get}
+use Rattle.std.specs.Prelude.{IfSome, max, replicate, slice_get}
 use Rattle.std.specs.List.{range_with_len}
 use Rattle.std.proofs.lemmas.Bool.Decides.{nat_tests}
 use Rattle.std.proofs.lemmas.List.{get_or_past}
@@ -10,10 +10,11 @@ use Rattle.guest_isa.specs.declared.instr.Instr.{Instr}
 use Rattle.guest_machine.specs.Advances.{advanced}
 use Rattle.job_view.specs.ByJob.{KeepsJobs, LooksAlike}
 use Rattle.job_view.specs.Views.{channel_view, view}
-use Rattle.kernel_core.specs.Kernel.{CanOpen, MayHave}
+use Rattle.guest_image.specs.declared.image.Vault.{Vault}
+use Rattle.kernel_core.specs.Kernel.{CanKeep, CanOpen, MayHave}
 use Rattle.kernel_core.specs.Machine.{Machine, Serve, has_ended, home_of, in_serve, reply_of}
 use Rattle.kernel_core.specs.Runs.{run}
-use Rattle.kernel_core.specs.Start.{Inputs, first_entry, first_workers, home_context, serve_at, serve_world, start, threads_at, world_for, world_of, world_size}
+use Rattle.kernel_core.specs.Start.{Inputs, first_entry, first_workers, home_context, serve_at, serve_world, start, threads_at, with_its_vault, world_for, world_of, world_size}
 use Rattle.kernel_core.specs.Step.{AfterStep, advance_outcome, after_outcome, after_thread, guest_calls, only, step, step_by, thread_outcome, unchanged, waiting, with_regs, with_status}
 use Rattle.kernel_core.specs.declared.settings.Job.{Job}
 use Rattle.kernel_core.specs.declared.settings.Job.TheVariants as jobs
@@ -169,12 +170,17 @@ module _ (inputs : Inputs) (workers : ℕ) (can : CanOpen inputs) (serve : input
   first_serve : Serve
   first_serve = record { workers = workers; budget = inputs.settings.budget; next = 0; replies = replicate (length inputs.requests) None }
 
+  -- a serve has no vault
+  no_vault : (vault : Option Vault) → IfSome vault (CanKeep inputs.image inputs.settings.job) → vault ≡ None
+  no_vault None keeps = refl
+  no_vault (Some v) keeps = let run : jobs.Serve workers ≡ jobs.Run = sym serve ∙ keeps.run in cc
+
   holds_start : Holds inputs.image workers inputs.settings.budget (length inputs.requests) (start inputs) first_serve
   unfolding start first_serve
   holds_start =
       holds_first inputs workers (length inputs.requests) (start inputs) first_serve (ready_start inputs can) refl some
       (ap (λ (job : Job). serve_at job inputs.settings.budget (length inputs.requests)) serve) refl refl
-      (ap (threads_at inputs.image inputs.settings.budget) serve) (ap (world_for inputs.image inputs.settings.frames) serve)
+      (ap (threads_at inputs.image inputs.settings.budget) serve) (ap (with_its_vault (world_for inputs.image inputs.settings.frames inputs.settings.job)) (no_vault inputs.vault can.vault) ∙ ap (world_for inputs.image inputs.settings.frames) serve)
 
   module _ (frames r : ℕ) (low : r < length inputs.requests) where
     abbrev bytes : List ℕ

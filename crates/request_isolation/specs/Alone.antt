@@ -1,5 +1,5 @@
 -- A request by itself: what it is replied when no other request is served.
-use Rattle.std.specs.Prelude.{ℕ, ◌+◌, ◌*◌, ◌++◌, List, [], ◌∷◌, Option, replicate}
+use Rattle.std.specs.Prelude.{ℕ, ◌+◌, ◌*◌, ◌++◌, List, [], ◌∷◌, None, Option, replicate}
 use Rattle.std.specs.Option.{option_map}
 use Rattle.guest_image.specs.Limits.{pages_of}
 use Rattle.guest_image.specs.declared.image.Image.{Image}
@@ -14,6 +14,7 @@ use Rattle.snapshot_host.specs.declared.finishing.Finished.{Finished}
 abbrev pub inputs_alone : Image → ℕ → ℕ → ℕ → List ℕ → Inputs
 inputs_alone image frames budget r bytes = record {
   image = image;
+  vault = None;
   requests = replicate r [] ++ bytes ∷ [];
   settings = record { frames = frames; budget = budget; job = Serve 1 };
 }
