@@ -14,7 +14,7 @@ use Rattle.guest_machine.specs.Advances.{advanced}
 use Rattle.guest_machine.specs.declared.progress.Advance.{Advance}
 use Rattle.guest_machine.specs.declared.progress.Next.{Next}
 use Rattle.guest_machine.specs.declared.progress.Next.TheVariants as next
-use Rattle.kernel_core.proofs.Outcomes.{step_running}
+use Rattle.kernel_core.proofs.Outcomes.{guest_calls_act, step_running}
 use Rattle.kernel_core.proofs.ReadyRuns.{ready_thread, well_ready}
 use Rattle.kernel_core.specs.Machine.{Environment, Machine, Serve, has_ended, home_of}
 use Rattle.kernel_core.specs.Ready.{IsReady, IsReadyServe}
@@ -167,7 +167,7 @@ module _ (inputs : Inputs) (count t : ℕ) (m : Machine) (ready : IsReady inputs
   running-fine : (x : Thread) → slice_get m.threads t ≡ Some x → x.status ≡ status.Running → IsFine (Some (settled t m.serve (advance_outcome guest_calls t e x (advanced m.text x.regs))))
   running-fine x found running =
       let thread = ready_thread inputs count t m x ready found in
-      let changes = (step_running t e x (advanced m.text x.regs) (well_ready inputs count m ready) running thread).changes in
+      let changes = (step_running guest_calls guest_calls_act t e x (advanced m.text x.regs) (well_ready inputs count m ready) running thread).changes in
       let o : Outcome = advance_outcome guest_calls t e x (advanced m.text x.regs) in
       let size : o.environment.world.size ≡ e.world.size = changes.grows.size in
       let there : HasNoMore o.environment.world = no_more o.environment.world changes.well.sound (subst (λ (z : WorldSize). z.pages ≤ MOST_PAGES) (sym size) few_pages) in

@@ -8,11 +8,12 @@ use Rattle.std.specs.Prelude.{is_some, nat_lt}
 use Rattle.guest_image.specs.Limits.{lifted}
 use Rattle.guest_image.specs.declared.image.Form.TheVariants.{Two}
 use Rattle.guest_image.specs.declared.image.Image.{Image}
+use Rattle.guest_image.specs.declared.image.Vault.{Vault}
 use Rattle.guest_image.specs.declared.image.SlotImage.{SlotImage}
 use Rattle.kernel_core.proofs.HomeStart.{ready_start}
 use Rattle.kernel_core.specs.Kernel.{CanOpen}
 use Rattle.kernel_core.specs.Machine.{home_of}
-use Rattle.kernel_core.specs.Start.{Inputs, first_context, first_name, first_slot, first_value, home_context, home_value, serve_world, start, start_world, with_homes, world_for, world_of, world_size, world_with}
+use Rattle.kernel_core.specs.Start.{Inputs, first_context, first_name, first_slot, first_value, home_context, home_value, serve_world, start, start_world, with_its_vault, with_homes, world_for, world_of, world_size, world_with}
 use Rattle.kernel_core.specs.Step.{with_world}
 use Rattle.kernel_core.specs.declared.settings.Job.{Job}
 use Rattle.kernel_core.specs.declared.settings.Job.TheVariants.{Run, Serve}
@@ -126,13 +127,18 @@ module _ (image : Image) where
     size = world_size Two frames;
   }
 
-pub start-wide : (inputs : Inputs) → start (lifted_inputs inputs) ≡ wide_machine (start inputs)
+pub start-wide : (inputs : Inputs) → inputs.vault ≡ None → start (lifted_inputs inputs) ≡ wide_machine (start inputs)
 unfolding start
-start-wide inputs = ap (λ w. record (start (lifted_inputs inputs)) { environment = with_world (start inputs).environment w }) (by inputs.settings.job)
+start-wide inputs none = ap (λ w. record (start (lifted_inputs inputs)) { environment = with_world (start inputs).environment w }) (with_none inputs.vault none)
   where
     by : (job : Job) → world_for (lifted inputs.image) inputs.settings.frames job ≡ wide (world_for inputs.image inputs.settings.frames job)
     by Run = run_world-wide inputs.image inputs.settings.frames
     by (Serve workers) = serve_world-wide inputs.image inputs.settings.frames workers
+
+    with_none : (vault : Option Vault) → vault ≡ None →
+        with_its_vault (world_for (lifted inputs.image) inputs.settings.frames inputs.settings.job) vault ≡ wide (with_its_vault (world_for inputs.image inputs.settings.frames inputs.settings.job) vault)
+    with_none None none = by inputs.settings.job
+    with_none (Some v) none = cc
 
 -- worlds without contexts
 nothing-whole : (pages : ℕ) (w : World) → w.contexts ≡ fm.empty → w.groups ≡ fm.empty → KeepsWhole pages w
@@ -153,14 +159,18 @@ module _ (pages : ℕ) (image : Image) (frames : ℕ) where
   serve-whole workers (suc n) =
       keeps-insert_context (whole pages) (world_of image frames workers (with_homes fm.empty (home_context image) n)) (home_of n) (home_context image) (home-whole image pages) (serve-whole workers n)
 
-pub start-fine : (inputs : Inputs) → CanOpen inputs → IsFine inputs (start inputs)
+pub start-fine : (inputs : Inputs) → inputs.vault ≡ None → CanOpen inputs → IsFine inputs (start inputs)
 unfolding start
-start-fine inputs can = record {
+start-fine inputs none can = record {
   count = 0;
   ready = ready_start inputs can;
-  keeps = by inputs.settings.job (start inputs).environment.world.size.pages;
+  keeps = with_none inputs.vault none (start inputs).environment.world.size.pages;
 }
   where
     by : (job : Job) (pages : ℕ) → KeepsWhole pages (world_for inputs.image inputs.settings.frames job)
     by Run pages = run-whole pages inputs.image inputs.settings.frames
     by (Serve workers) pages = serve-whole pages inputs.image inputs.settings.frames workers workers
+
+    with_none : (vault : Option Vault) → vault ≡ None → (pages : ℕ) → KeepsWhole pages (with_its_vault (world_for inputs.image inputs.settings.frames inputs.settings.job) vault)
+    with_none None none pages = by inputs.settings.job pages
+    with_none (Some v) none pages = cc

@@ -40,10 +40,10 @@ abbrev pub MeetNoLimit : Machine → List ℕ → Type 0
 MeetNoLimit m [] = Unit {0}
 MeetNoLimit m (t ∷ ts) = MeetsNoLimit m t × MeetNoLimit (step m t) ts
 
--- each run and each serve of an image in which no step meets a limit of pages is one of the lifted image: its
--- list of steps is legal there, and the report is the same
+-- each run without a vault and each serve of an image in which no step meets a limit of pages is one of the lifted
+-- image: its list of steps is legal there, and the report is the same
 abbrev pub RunsLifted : Image → Type 0
 RunsLifted image =
-    (inputs : Inputs) (steps : List ℕ) → inputs.image ≡ image → CanOpen inputs → MeetNoLimit (start inputs) steps →
-    IsLegal (start inputs) steps → IsLegal (start (lifted_inputs inputs)) steps
+    (inputs : Inputs) (steps : List ℕ) → inputs.image ≡ image → inputs.vault ≡ None → CanOpen inputs →
+    MeetNoLimit (start inputs) steps → IsLegal (start inputs) steps → IsLegal (start (lifted_inputs inputs)) steps
     × (report_after (lifted_inputs inputs) steps ≡ report_after inputs steps)

@@ -11,7 +11,7 @@ use Rattle.guest_machine.specs.declared.progress.Next.TheVariants as next
 use Rattle.guest_isa.specs.declared.instr.Instr.{Instr}
 use Rattle.guest_isa.specs.declared.op.Op.{Op}
 use Rattle.guest_isa.specs.declared.op.Op.TheVariants.{Stb, Stw, Sys}
-use Rattle.kernel_core.proofs.Outcomes.{step_running}
+use Rattle.kernel_core.proofs.Outcomes.{guest_calls_act, step_running}
 use Rattle.kernel_core.proofs.ReadyRuns.{ready_thread, well_ready}
 use Rattle.kernel_core.specs.Machine.{Environment, Machine, Serve, has_ended, home_of}
 use Rattle.kernel_core.specs.Ready.{IsReady, IsReadyServe}
@@ -353,7 +353,7 @@ module _ (inputs : Inputs) (count t : ℕ) (m : Machine) (ready : IsReady inputs
   unfolding advance_outcome
   running-frames x found running =
       let thread = ready_thread inputs count t m x ready found in
-      let size = (step_running t e x (advanced m.text x.regs) (well_ready inputs count m ready) running thread).changes.grows.size in
+      let size = (step_running guest_calls guest_calls_act t e x (advanced m.text x.regs) (well_ready inputs count m ready) running thread).changes.grows.size in
       let kept = next-tags t e (with_regs x (advanced m.text x.regs).after) thread.live ready.named (advanced m.text x.regs).next (λ stores. never (record { thread = x; found = found; runs = running; stores = stores })) in
       subst (λ (f : Environment). used f.world ≤ used e.world) (sym (settled-world t m.serve (advance_outcome guest_calls t e x (advanced m.text x.regs))))
       (no_more_frames e.world _ (ap (λ (z : WorldSize). z.pages) size) kept)

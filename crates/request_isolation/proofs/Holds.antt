@@ -16,14 +16,15 @@ use Rattle.lwc_base.specs.declared.fault.ThreadStatus.TheVariants.{Idle, Running
 use Rattle.request_isolation.proofs.Apart.{ActsApart, acts_apart}
 use Rattle.request_isolation.proofs.Homes.{begun_in, home_for}
 use Rattle.request_isolation.proofs.Roots.{Nobody, Placed, home_root, nobody_put, no_root, only_root, placed_put, serving}
+use Rattle.request_isolation.proofs.Serves.{step_made}
 use Rattle.request_isolation.proofs.Taking.{AddsFew, few_begin, few_same}
 use Rattle.job_calls.proofs.Beginning.{begin-hidden, begin-keeps}
 use Rattle.job_view.proofs.Together.{reap-hidden, reap-keeps}
 use Rattle.lwc_base.proofs.Facts.{counts}
 use Rattle.lwc_base.proofs.Reaped.{reap-stays}
 use Rattle.job_calls.proofs.Plainly.{slice_get-other}
-use Rattle.kernel_core.proofs.Outcomes.{IsStep, step_running}
-use Rattle.kernel_core.proofs.ReadyRuns.{ready_after, ready_thread, some_of, well_ready}
+use Rattle.kernel_core.proofs.Outcomes.{IsStep, guest_calls_act, step_running}
+use Rattle.kernel_core.proofs.ReadyRuns.{ready_step, ready_thread, some_of, well_ready}
 use Rattle.kernel_core.specs.Ready.{IsReady, IsReadyServe}
 use Rattle.kernel_core.specs.Start.{Inputs, home_context}
 
@@ -101,7 +102,7 @@ module _ (image : Image) (workers budget n : ℕ) (m : Machine) (s : Serve) (hol
 
     pub acts : IsStep m.environment x outcome
     acts =
-        step_running t m.environment x (advanced m.text x.regs) (well_ready holds.inputs holds.steps m holds.ready) running
+        step_running guest_calls guest_calls_act t m.environment x (advanced m.text x.regs) (well_ready holds.inputs holds.steps m holds.ready) running
         (ready_thread holds.inputs holds.steps t m x holds.ready found)
 
     apart : ActsApart (home_for image) x.job m.environment outcome
@@ -201,8 +202,9 @@ module _ (image : Image) (workers budget n : ℕ) (m : Machine) (s : Serve) (hol
 
     ready_then : IsReady holds.inputs (holds.steps + 1) (after_outcome m t (Some after))
     ready_then =
-        ready_after holds.inputs holds.steps t m x (Some after) holds.ready found
-        (ap (λ (serve : Option Serve). thread_outcome guest_calls t m.environment serve m.text x x.status) holds.is ∙ leaves.made)
+        subst (IsReady holds.inputs (holds.steps + 1))
+        (step_made m t x (Some after) found (ap (λ (serve : Option Serve). thread_outcome guest_calls t m.environment serve m.text x x.status) holds.is ∙ leaves.made))
+        (ready_step holds.inputs holds.steps t m holds.ready)
 
     serve_then : IsReadyServe holds.inputs (after_outcome m t (Some after)) now
     serve_then = some_of Serve (IsReadyServe holds.inputs (after_outcome m t (Some after))) after.serve now leaves.is ready_then.serve

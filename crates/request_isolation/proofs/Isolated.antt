@@ -175,12 +175,18 @@ module _ (inputs : Inputs) (workers : ℕ) (can : CanOpen inputs) (serve : input
   no_vault None keeps = refl
   no_vault (Some v) keeps = let run : jobs.Serve workers ≡ jobs.Run = sym serve ∙ keeps.run in cc
 
+  starts_as : (start inputs).environment.world ≡ world_for inputs.image inputs.settings.frames (jobs.Serve workers)
+  unfolding start
+  starts_as =
+      ap (with_its_vault (world_for inputs.image inputs.settings.frames inputs.settings.job)) (no_vault inputs.vault can.vault)
+      ∙ ap (world_for inputs.image inputs.settings.frames) serve
+
   holds_start : Holds inputs.image workers inputs.settings.budget (length inputs.requests) (start inputs) first_serve
   unfolding start first_serve
   holds_start =
       holds_first inputs workers (length inputs.requests) (start inputs) first_serve (ready_start inputs can) refl some
       (ap (λ (job : Job). serve_at job inputs.settings.budget (length inputs.requests)) serve) refl refl
-      (ap (threads_at inputs.image inputs.settings.budget) serve) (ap (with_its_vault (world_for inputs.image inputs.settings.frames inputs.settings.job)) (no_vault inputs.vault can.vault) ∙ ap (world_for inputs.image inputs.settings.frames) serve)
+      (ap (threads_at inputs.image inputs.settings.budget) serve) starts_as
 
   module _ (frames r : ℕ) (low : r < length inputs.requests) where
     abbrev bytes : List ℕ
@@ -231,7 +237,7 @@ module _ (inputs : Inputs) (workers : ℕ) (can : CanOpen inputs) (serve : input
     seen_at_start : (v : ℕ) → view (r + 1) v (start inputs).environment.world ≡ view (r + 1) 0 by_itself.environment.world
     unfolding start start_alone
     seen_at_start v =
-        ap (view (r + 1) v) (ap (world_for inputs.image inputs.settings.frames) serve) ∙ start_alike inputs.image inputs.settings.frames frames workers 1 r v
+        ap (view (r + 1) v) starts_as ∙ start_alike inputs.image inputs.settings.frames frames workers 1 r v
 
     channels_at_start : channel_view r (start inputs).environment.channels ≡ channel_view r by_itself.environment.channels
     unfolding start start_alone channel_view none_yet
@@ -492,7 +498,7 @@ module _ (inputs : Inputs) (workers : ℕ) (can : CanOpen inputs) (serve : input
       serve = first_serve;
       holds = holds_start;
       fact = record {
-        size = ap (λ (job : Job). (world_for inputs.image inputs.settings.frames job).size.frames) serve;
+        size = ap (λ (w : World). w.size.frames) starts_as;
         stages = λ r low. Waits (omega arith) (seen_at_start frames_alone r low) (channels_at_start frames_alone r low) (none_yet_told frames_alone r low);
       };
     }

@@ -26,9 +26,9 @@ use Rattle.request_isolation.specs.Replies.{HasReply}
 use Rattle.job_calls.proofs.Plainly.{slice_get-other}
 use Rattle.kernel_core.proofs.HomeStart.{ready_start}
 use Rattle.kernel_core.proofs.Others.{found_set}
-use Rattle.kernel_core.proofs.Outcomes.{IsStep, step_running}
+use Rattle.kernel_core.proofs.Outcomes.{IsStep, guest_calls_act, step_running}
 use Rattle.kernel_core.proofs.ReadyMachines.{ready_machine}
-use Rattle.kernel_core.proofs.ReadyRuns.{ready_after, ready_thread, some_of, well_ready}
+use Rattle.kernel_core.proofs.ReadyRuns.{ready_step, ready_thread, some_of, well_ready}
 use Rattle.kernel_core.specs.Ready.{IsReady, IsReadyServe}
 
 -- a worker serves a request
@@ -180,12 +180,17 @@ module _ (inputs : Inputs) (steps : ℕ) (m : Machine) (s : Serve) (t : ℕ) (x 
   leaves_by Running after running made =
       let outcome = advance_outcome guest_calls t m.environment x (advanced m.text x.regs) in
       let is : settled t (Some s) outcome ≡ after = cc in
-      subst (Leaves n m.threads t) is (leaves_settled outcome (step_running t m.environment x (advanced m.text x.regs) (well_ready inputs steps m ready) running (ready_thread inputs steps t m x ready found)) (has_ended outcome.thread.status) refl)
+      subst (Leaves n m.threads t) is (leaves_settled outcome (step_running guest_calls guest_calls_act t m.environment x (advanced m.text x.regs) (well_ready inputs steps m ready) running (ready_thread inputs steps t m x ready found)) (has_ended outcome.thread.status) refl)
   leaves_by Idle after idle made =
       let is : woken t (Some s) m.environment x ≡ after = cc in
       subst (Leaves n m.threads t) is (leaves_woken (ltb s.next (length m.environment.channels.requests)) refl idle)
   leaves_by (Done code) after ended made = cc
   leaves_by (Faulted f) after ended made = cc
+
+-- the step of a thread that was found is what it makes
+pub step_made : (m : Machine) (t : ℕ) (x : Thread) (made : Option AfterStep) → slice_get m.threads t ≡ Some x → thread_outcome guest_calls t m.environment m.serve m.text x x.status ≡ made → step m t ≡ after_outcome m t made
+unfolding step_by
+step_made m t x made found is = ap (after_thread guest_calls m t) found ∙ ap (after_outcome m t) is
 
 module _ (inputs : Inputs) (m : Machine) (t : ℕ) (serves : Serves inputs m) where
   serves_after : (x : Thread) → slice_get m.threads t ≡ Some x → (made : Option AfterStep) → thread_outcome guest_calls t m.environment m.serve m.text x x.status ≡ made →
@@ -197,7 +202,7 @@ module _ (inputs : Inputs) (m : Machine) (t : ℕ) (serves : Serves inputs m) wh
       let leaves = leaves_by inputs serves.steps m serves.serve t x serves.ready here serves.served found x.status after refl made in
       record {
         steps = serves.steps + 1;
-        ready = ready_after inputs serves.steps t m x (Some after) serves.ready found is;
+        ready = subst (IsReady inputs (serves.steps + 1)) (step_made m t x (Some after) found is) (ready_step inputs serves.steps t m serves.ready);
         serve = leaves.serve;
         is = leaves.is;
         served = leaves.served;
