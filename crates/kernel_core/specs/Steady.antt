@@ -1,5 +1,5 @@
 -- What each kernel keeps true of itself.
-use Rattle.std.specs.Prelude.{◌≡◌, ℕ, ◌+◌, ◌≤◌, Bool, if◌then◌else◌, List, None, Option, Some, length}
+use Rattle.std.specs.Prelude.{◌≡◌, ℕ, ◌+◌, ◌≤◌, List, Option, length}
 use Rattle.guest_image.specs.declared.image.Image.{Image}
 use Rattle.guest_image.specs.declared.image.Vault.{Vault}
 use Rattle.guest_isa.specs.declared.instr.Instr.{Instr}
@@ -13,10 +13,6 @@ use Rattle.kernel_core.specs.Step.{beside}
 use Rattle.lwc_base.specs.declared.limits.TheConstants.{MOST_STEPS}
 use Rattle.lwc_base.specs.Channels.{Channels}
 use Rattle.lwc_base.specs.World.{World}
-
--- the vault of a kernel's parts, if it has one
-abbrev pub given : Bool → Vault → Option Vault
-given has v = if has then Some v else None
 
 -- the history of a kernel's parts
 abbrev pub history : Image → Option Vault → List (List ℕ) → Settings → List ℕ → ℕ → History

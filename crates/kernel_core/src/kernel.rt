@@ -12,7 +12,6 @@ ghost use Rattle.kernel_core.specs.Machine as machines;
 ghost use Rattle.kernel_core.specs.Runs as runs;
 ghost use Rattle.kernel_core.specs.Settings.{IsSettings};
 ghost use Rattle.kernel_core.specs.Start.{start, thread_count};
-ghost use Rattle.kernel_core.specs.Steady.{given};
 ghost use Rattle.kernel_core.specs.declared.acting.Change.TheVariants as changes;
 ghost use Rattle.kernel_core.specs.Step.{contexts_of};
 ghost use Rattle.lwc_base.specs.Frames.{used};
@@ -33,7 +32,7 @@ use arrayvec::ArrayVec;
 use guest_image::{Image, Vault};
 use guest_isa::Text;
 use guest_machine::Advance;
-use lwc_base::{Channels, Name, OutOfMemory, Requests, Sequence, ThreadStatus};
+use lwc_base::{Channels, Name, OutOfMemory, Requests, ThreadStatus};
 use snapshot_host::Finished;
 use std::alloc::Global;
 use std::marker::Model;
@@ -46,8 +45,7 @@ use world_face::World;
 #[derive(Drop)]
 pub struct Kernel<W: World> {
     image: Snapshot<Image>,
-    vault: Snapshot<Vault>,
-    has_vault: bool,
+    vault: Option<Snapshot<Vault>>,
     requests: Snapshot<Requests>,
     settings: Settings,
     text: Text,
@@ -72,18 +70,19 @@ pub struct Parts<W: World> {
 
 impl<W: World> Model for Kernel<W> {
     ghost use Rattle.std.specs.Prelude.{◌+◌, ◌≤◌, vec_len, vec_capacity};
+    ghost use Rattle.std.specs.Option.{option_map};
     ghost use Rattle.kernel_core.specs.Kernel.{History};
 
     ghost Value = { History };
 
-    ghost use Rattle.kernel_core.specs.Steady.{IsSteady, given, history, machine};
+    ghost use Rattle.kernel_core.specs.Steady.{IsSteady, history, machine};
 
-    ghost view = { λ k. history k.image.value (given k.has_vault k.vault.value) k.requests.value k.settings k.schedule.items
+    ghost view = { λ k. history k.image.value (option_map (λ v. v.value) k.vault) k.requests.value k.settings k.schedule.items
         k.room };
 
     ghost invariant = { λ k. (vec_len k.schedule + k.room ≤ vec_capacity k.schedule)
         × IsSteady (machine (W.seen k.world) k.channels k.threads.items k.text k.serve) k.peak
-        (history k.image.value (given k.has_vault k.vault.value) k.requests.value k.settings k.schedule.items
+        (history k.image.value (option_map (λ v. v.value) k.vault) k.requests.value k.settings k.schedule.items
         k.room) };
 }
 
@@ -220,7 +219,6 @@ impl<W: World> Kernel<W> {
         let world: W = world_with_vault(alloc, image, vault, settings)?;
         let serve = first_serve(alloc, settings, requests.len())?;
         let asked = Snapshot::of(&requests);
-        let (kept, has_vault) = snapshot_of(alloc, vault);
         let channels = open_channels(alloc, image, requests)?;
         let text = image.text.copy(alloc)?;
         let threads = threads_at(alloc, image, settings.budget, settings.job)?;
@@ -228,8 +226,7 @@ impl<W: World> Kernel<W> {
         let peak = world.used();
         Ok(Kernel {
             image: Snapshot::of(image),
-            vault: kept,
-            has_vault,
+            vault: snapshot_of(vault),
             requests: asked,
             settings: *settings,
             text,
@@ -567,15 +564,12 @@ fn pages_in(image: &Image, vault: Option<&Vault>) -> u32
     }
 }
 
-/// A snapshot of a vault, and whether one is given; else it is one of a vault without pages.
-fn snapshot_of(alloc: Global, vault: Option<&Vault>) -> (Snapshot<Vault>, bool)
-    ensures { given result.1 result.0.value ≡ option_map (λ v. v.now) vault.entry }
+/// A snapshot of a vault, if one is given.
+fn snapshot_of(vault: Option<&Vault>) -> Option<Snapshot<Vault>>
+    ensures { option_map (λ v. v.value) result ≡ option_map (λ v. v.now) vault.entry }
 {
     match vault {
-        Some(vault) => (Snapshot::of(vault), true),
-        None => {
-            let pages = Sequence::of(Vec::new(alloc));
-            (Snapshot::of(&Vault { entry: 0, pages }), false)
-        }
+        None => None,
+        Some(vault) => Some(Snapshot::of(vault)),
     }
 }

@@ -2,3 +2,4 @@ pub mod Due
 pub mod Handing
 pub mod Stepping
 pub mod Completed
+pub mod Sends

@@ -2,6 +2,7 @@
 use Rattle.std.proofs.Crossing.{crosses}
 use denote.RattleType.{RattleType}
 use denote.Param.Send.{IsSend, IsSync, sendable}
+use Rattle.process_core.proofs.Sends.{guarded_send}
 use Rattle.turnstile.specs.declared.states.Turned.{Ghosts}
 use Rattle.world_face.specs.declared.world.World as world
 use Rattle.turnstile.specs.contracts.passes.Pass as pass
@@ -23,9 +24,6 @@ lock_sync : (S N : RattleType) (g : Ghosts S.Denot N.Denot) → IsSend S → IsS
 lock_sync S N g s = search (sendable, crosses, shared.the_sync, lease.the_sync) depth 80 fits 20000
 
 -- of a process
-guarded_send : (W : RattleType) (g : world.Ghosts W.Denot) → IsSend W → IsSend (guarded.the_row W g)
-guarded_send W g s = search (sendable, crosses) depth 80 fits 20000
-
 slip_send : IsSend slip.the_row
 slip_send = search (sendable, crosses) depth 80 fits 20000
 

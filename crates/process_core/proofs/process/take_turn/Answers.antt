@@ -1,3 +1,4 @@
+use Rattle.process_core.proofs.Sends.{guarded_send, guarded_sync}
 use Rattle.std.proofs.Crossing.{crosses}
 use denote.Param.Send.{sendable}
 use Rattle.std.proofs.Common.{◌≡◌, ◌∙◌, ◌++◌, ◌∷◌, [], ap, sym, subst, ℕ}
@@ -8,16 +9,16 @@ use Rattle.turnstile.specs.Past.{Knows}
 use Rattle.process_core.proofs.process.take_turn.Goals as goal
 
 pub number-t-requires-send-S : goal.number-t-requires-send-S
-number-t-requires-send-S g c κs within = let s = c.type_bounds.send-W in search (sendable, crosses) depth 80 fits 20000
+number-t-requires-send-S g c κs within = let s = c.type_bounds.send-W in search (sendable, crosses, guarded_send, guarded_sync) depth 80 fits 20000
 
 pub number-t-requires-sync-S : goal.number-t-requires-sync-S
-number-t-requires-sync-S g c κs within = let s = c.type_bounds.sync-W in search (sendable, crosses) depth 80 fits 20000
+number-t-requires-sync-S g c κs within = let s = c.type_bounds.sync-W in search (sendable, crosses, guarded_send, guarded_sync) depth 80 fits 20000
 
 pub with_turn-requires-send-S : goal.with_turn-requires-send-S
-with_turn-requires-send-S g c κs within = let s = c.type_bounds.send-W in search (sendable, crosses) depth 80 fits 20000
+with_turn-requires-send-S g c κs within = let s = c.type_bounds.send-W in search (sendable, crosses, guarded_send, guarded_sync) depth 80 fits 20000
 
 pub with_turn-requires-sync-S : goal.with_turn-requires-sync-S
-with_turn-requires-sync-S g c κs within = let s = c.type_bounds.sync-W in search (sendable, crosses) depth 80 fits 20000
+with_turn-requires-sync-S g c κs within = let s = c.type_bounds.sync-W in search (sendable, crosses, guarded_send, guarded_sync) depth 80 fits 20000
 
 pub with_turn-requires-clause-callable : goal.with_turn-requires-clause-callable
 with_turn-requires-clause-callable g c κs lives x due p is =
@@ -27,7 +28,7 @@ with_turn-requires-clause-callable g c κs lives x due p is =
       ready p.now.kernel.value c.args.gate.now.name c.args.pass.now.seen c.args.pass.now.number c.number-t.result c.args.slip.value.last c.args.slip.value.offer
           (ap (λ (h : History). h.inputs) e ∙ due.0) (subst (λ (h : History). Knows h.steps c.args.pass.now.number c.args.pass.now.seen) (sym e) due.1)
           c.requires.knows c.requires.going c.requires.within c.requires.offer c.number-t.ensures,
-      (search (sendable, crosses) depth 80 fits 20000, search (sendable, crosses) depth 80 fits 20000),
+      (search (sendable, crosses, guarded_send, guarded_sync) depth 80 fits 20000, search (sendable, crosses, guarded_send, guarded_sync) depth 80 fits 20000),
     )
 
 pub with_turn-requires-clause-moves : goal.with_turn-requires-clause-moves

@@ -1,3 +1,4 @@
+use Rattle.process_core.proofs.Sends.{guarded_send, guarded_sync}
 use Rattle.std.proofs.Crossing.{crosses}
 use denote.Param.Send.{sendable}
 use Rattle.std.proofs.Common.{◌≡◌, ◌+◌, ◌∙◌, ap, length, subst, sym}
@@ -14,10 +15,10 @@ use Rattle.turnstile.specs.Passes as gates
 use Rattle.process_core.proofs.process.Process.close.Goals as goal
 
 pub close-requires-send-S : goal.close-requires-send-S
-close-requires-send-S g c κs within = let s = c.type_bounds.send-W in search (sendable, crosses) depth 80 fits 20000
+close-requires-send-S g c κs within = let s = c.type_bounds.send-W in search (sendable, crosses, guarded_send, guarded_sync) depth 80 fits 20000
 
 pub close-requires-sync-S : goal.close-requires-sync-S
-close-requires-sync-S g c κs within = let s = c.type_bounds.sync-W in search (sendable, crosses) depth 80 fits 20000
+close-requires-sync-S g c κs within = let s = c.type_bounds.sync-W in search (sendable, crosses, guarded_send, guarded_sync) depth 80 fits 20000
 
 pub close-requires-after_bounds : goal.close-requires-after_bounds
 close-requires-after_bounds g c κs within =

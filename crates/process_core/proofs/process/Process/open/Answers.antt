@@ -1,3 +1,4 @@
+use Rattle.process_core.proofs.Sends.{guarded_send, guarded_sync}
 use Rattle.std.proofs.Crossing.{crosses}
 use denote.Param.Send.{sendable}
 use Rattle.std.proofs.Common.{◌∙◌, ap, sym}
@@ -7,10 +8,10 @@ use Rattle.process_core.proofs.Handing.{all_new, start_turn}
 use Rattle.process_core.proofs.process.Process.open.Goals as goal
 
 pub new-requires-2-send-S : goal.new-requires-2-send-S
-new-requires-2-send-S g c κs within = let s = c.type_bounds.send-W in search (sendable, crosses) depth 80 fits 20000
+new-requires-2-send-S g c κs within = let s = c.type_bounds.send-W in search (sendable, crosses, guarded_send, guarded_sync) depth 80 fits 20000
 
 pub new-requires-2-sync-S : goal.new-requires-2-sync-S
-new-requires-2-sync-S g c κs within = let s = c.type_bounds.sync-W in search (sendable, crosses) depth 80 fits 20000
+new-requires-2-sync-S g c κs within = let s = c.type_bounds.sync-W in search (sendable, crosses, guarded_send, guarded_sync) depth 80 fits 20000
 
 pub hand_out-requires-clause-turns : goal.hand_out-requires-clause-turns
 hand_out-requires-clause-turns g c κs within t turn at =
