@@ -1,5 +1,5 @@
 //! What a pass takes into a turn and brings back.
-ghost use Rattle.std.specs.Prelude.{◌≡◌, IfSome};
+ghost use Rattle.std.specs.Prelude.{◌≡◌, IfNone, IfSome};
 ghost use Rattle.guest_machine.specs.Advances.{advanced};
 
 use guest_isa::Text;
@@ -40,6 +40,7 @@ impl Slip {
         requires proposal { IfSome proposal (λ a. a.now ≡ advanced text.now a.now.before) }
         ensures last { self.new.last ≡ self.old.last }
         ensures offer { IfSome self.new.offer (λ a. a ≡ advanced text.now a.before) }
+        ensures own { IfNone proposal.entry (IfSome self.new.offer (λ a. a.before ≡ self.old.last.regs)) }
     {
         if let Some(proposal) = proposal {
             self.offer = Some(*proposal);
