@@ -22,7 +22,7 @@ use Rattle.lwc_base.specs.Summaries.{is_empty}
 use Rattle.lwc_base.specs.World.{World, Counters, add_context, change_counters, group, new_context, new_value, next_context}
 use Rattle.ctx_table.specs.NameTables.{ArePlaced, NameTable}
 use Rattle.lazy_world.specs.declared.counts.Counts.{Counts}
-use Rattle.lazy_world.specs.declared.registers.Registers.{Registers}
+use Rattle.lazy_world.specs.Registers.{KeptRegisters}
 use Rattle.lazy_world.specs.Cells.{Row, is_nothing, put_row}
 use Rattle.lazy_world.specs.Mapped.{mapped}
 use Rattle.lazy_world.specs.Sound.{HasOldTags, IsAllOwn, IsEmpty, IsSound, IsWithin}
@@ -113,7 +113,7 @@ module _ (s : Parts) (sound : IsSound s) where
       (table : NameTable) (map : table.map ≡ fm.insert s.contexts.map c p) (places : table.places ≡ set s.contexts.places p (Some c))
       (uid : ℕ) (entry : Regs) (n : Counts) (counted : counters_of n ≡ record (counters_of (get_or s.counts job nothing_counted)) { contexts = (counters_of (get_or s.counts job nothing_counted)).contexts + 1 })
       (bare : (q : ℕ) → s.rights p q ≡ Write) where
-    abbrev registers : Registers
+    abbrev registers : KeptRegisters
     registers = record { entry = entry; saved = replicate 16 None }
 
     abbrev row : Row

@@ -53,3 +53,4 @@ mod UsedLemmas
 mod ValueLemmas
 mod WorldLemmas
 mod WrittenLemmas
+pub mod RegisterLemmas

@@ -7,7 +7,7 @@ use Rattle.lwc_base.specs.declared.size.WorldSize.{WorldSize}
 use Rattle.lwc_base.specs.Fresh.{IsFresh}
 use Rattle.lwc_base.specs.World.{empty_world}
 use Rattle.world_face.specs.Calls.{IsSize}
-use Rattle.lazy_world.specs.declared.registers.Registers.{Registers}
+use Rattle.lazy_world.specs.Registers.{KeptRegisters}
 use Rattle.cow_space.specs.Cells.{all_write}
 use Rattle.lazy_world.specs.Cells.{no_row}
 use Rattle.ctx_table.specs.NameTables.{NameTable}
@@ -27,7 +27,7 @@ nothing_there Cred = refl
 abbrev pub no_names : ℕ → NameTable
 no_names places = record { map = fm.empty; places = replicate places None }
 
-module _ (size : WorldSize) (is_size : IsSize size) (registers : List Registers) (many : length registers ≡ size.contexts) where
+module _ (size : WorldSize) (is_size : IsSize size) (registers : List KeptRegisters) (many : length registers ≡ size.contexts) where
   abbrev pub opened : Parts
   opened = record {
     size = size;

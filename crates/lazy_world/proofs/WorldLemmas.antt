@@ -9,7 +9,7 @@ use Rattle.lwc_base.specs.declared.right.Right.{Right}
 use Rattle.lwc_base.specs.Registers.{fresh_registers}
 use Rattle.lwc_base.specs.World.{World, Context, Group, change_context, changed_context, change_group, changed_group, context, group, is_live, new_context, new_group}
 use Rattle.ctx_table.specs.NameTables.{ArePlaced, NameTable}
-use Rattle.lazy_world.specs.declared.registers.Registers.{Registers}
+use Rattle.lazy_world.specs.Registers.{KeptRegisters}
 use Rattle.lazy_world.specs.Cells.{Row, put_row}
 use Rattle.lazy_world.specs.Mapped.{mapped}
 use Rattle.lazy_world.specs.States.{Parts, context_at, context_of, counters_of, group_at, group_of, no_registers, nothing_counted, registers_at, world_of}
@@ -114,7 +114,7 @@ module _ (s : Parts) where
         (ap (λ r. context_of r (rights i) (registers_at s.registers i)) (row_here s.rows i i row refl) ∙ is)
 
     -- other registers there
-    pub change_context-registers : (registers : Registers) (change : Context → Context) → i < length s.registers →
+    pub change_context-registers : (registers : KeptRegisters) (change : Context → Context) → i < length s.registers →
         context_of (s.rows i) (s.rights i) registers ≡ change (context_at s i) →
         world_of (record s { registers = set s.registers i registers }) ≡ change_context now c change
     change_context-registers registers change inside is =

@@ -7,11 +7,12 @@ pub mod KeyValues
 pub mod Lazy
 pub mod Mapped
 pub mod Memory
-pub mod Transfers
+pub mod Origins
 pub mod Reaping
+pub mod Registers
 pub mod Seen
 pub mod Sound
-pub mod Origins
 pub mod States
 pub mod Stores
+pub mod Transfers
 pub mod Worlds

@@ -9,7 +9,7 @@ use Rattle.lwc_base.specs.Keys.{ValueOf, nothing}
 use Rattle.lwc_base.specs.Registers.{fresh_registers}
 use Rattle.lwc_base.specs.World.{Context, Counters, Group, World}
 use Rattle.ctx_table.specs.NameTables.{NameTable}
-use Rattle.lazy_world.specs.declared.registers.Registers.{Registers}
+use Rattle.lazy_world.specs.Registers.{KeptRegisters}
 use Rattle.lazy_world.specs.declared.counts.Counts.{Counts}
 use Rattle.lazy_world.specs.Cells.{Row}
 use Rattle.lazy_world.specs.Mapped.{mapped}
@@ -20,17 +20,17 @@ pub record Parts : Type 0 where
   pub size : WorldSize
   pub rows : ℕ → Row
   pub rights : ℕ → ℕ → Right
-  pub registers : List Registers
+  pub registers : List KeptRegisters
   pub contexts : NameTable
   pub groups : NameTable
   pub counts : List Counts
 
 -- the registers of a context before it has any
-abbrev pub no_registers : Registers
+abbrev pub no_registers : KeptRegisters
 no_registers = record { entry = fresh_registers 0; saved = [] }
 
 -- the context of these cells, rights and registers
-abbrev pub context_of : Row → (ℕ → Right) → Registers → Context
+abbrev pub context_of : Row → (ℕ → Right) → KeptRegisters → Context
 context_of row right registers = record {
   cell = row;
   right = right;
@@ -48,7 +48,7 @@ abbrev pub group_of : Row → Group
 group_of row = record { value = λ k. held k (row k) }
 
 -- the registers at a place
-abbrev pub registers_at : List Registers → ℕ → Registers
+abbrev pub registers_at : List KeptRegisters → ℕ → KeptRegisters
 registers_at registers i = slice_index_or registers i no_registers
 
 -- the context at a place of contexts

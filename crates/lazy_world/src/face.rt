@@ -1,4 +1,4 @@
-use crate::lazy::{LazyWorld, anchors_of};
+use crate::lazy::{LazyWorld, set_anchors};
 use crate::world::PlacedWorld;
 use arrayvec::ArrayVec;
 use lwc_base::{Lent, Name, OutOfMemory, Range, Regs, Spec, StoreFault, Summary, WorldSize};
@@ -118,7 +118,7 @@ impl World for LazyWorld {
     fn reap(&mut self, roots: &[Name]) {
         self.world
             .reap_from(self.known, self.anchors.as_slice(), roots);
-        self.anchors = anchors_of(roots);
+        set_anchors(&mut self.anchors, roots);
         self.known = true;
     }
 

@@ -37,14 +37,13 @@ impl LazyWorld {
     }
 }
 
-/// Roots as anchors.
-pub(crate) fn anchors_of(roots: &[Name]) -> ArrayVec<Name, MOST_KEPT_ROOTS>
+/// Lets anchors be roots.
+pub(crate) fn set_anchors(anchors: &mut ArrayVec<Name, MOST_KEPT_ROOTS>, roots: &[Name])
     requires { length roots.now ≤ MOST_ROOTS }
-    ensures { result.items ≡ roots.now }
+    ensures { anchors.new.items ≡ roots.now }
 {
-    let mut anchors = ArrayVec::new();
+    anchors.clear();
     for root in roots {
         anchors.push(*root);
     }
-    anchors
 }

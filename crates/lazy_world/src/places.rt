@@ -294,10 +294,15 @@ impl Places {
         ensures { result ≡ group_in (rows self.now i (key_in value.entry)) }
     {
         match value {
-            KeyValue::Slot(n, _) => match self.slot(i, n) {
-                Cell::Own(_) => None,
-                Cell::Common(g) => Some(g),
-            },
+            KeyValue::Slot(n, _) => {
+                if !self.is_common(i, n) {
+                    return None;
+                }
+                match self.slot(i, n) {
+                    Cell::Own(_) => None,
+                    Cell::Common(g) => Some(g),
+                }
+            }
             KeyValue::Cred(_) => match self.uid(i) {
                 Cell::Own(_) => None,
                 Cell::Common(g) => Some(*g),

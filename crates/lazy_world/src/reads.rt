@@ -238,7 +238,7 @@ impl PlacedWorld {
         requires { IsLive (seen self.now) c }
         ensures { result ≡ (context (seen self.now) c).entry }
     {
-        self.registers[self.place(c)].entry
+        self.registers[self.place(c)].entry()
     }
 
     /// The registers that the context keeps for a thread; `None` if it keeps none for it.
@@ -247,7 +247,7 @@ impl PlacedWorld {
         requires thread { t < MOST_THREADS }
         ensures value { result ≡ (context (seen self.now) c).saved t }
     {
-        self.registers[self.place(c)].saved[t as usize]
+        self.registers[self.place(c)].saved(t)
     }
 
     /// The number of live contexts of the job.

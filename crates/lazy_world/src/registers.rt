@@ -1,12 +1,35 @@
-ghost use Rattle.std.specs.Prelude.{◌≡◌, replicate, None};
+ghost use Rattle.std.specs.Prelude.{◌≡◌, ◌<◌, None, Some, length, replicate, slice_index_or, slice_set};
 
 use lwc_base::Regs;
+use std::marker::Model;
 
-/// The registers of a context: those that it begins with, and those that it keeps for each thread.
-#[derive(Clone, Copy, Debug, PartialEq, Eq)]
+/// The registers of a context: those that it begins with, and those that it keeps for each thread. Only what is
+/// marked as kept is there, so that a new context writes none of the others.
+#[derive(Drop)]
 pub struct Registers {
-    pub entry: Regs,
-    pub saved: [Option<Regs>; 16],
+    entry: Regs,
+    saved: [Regs; 16],
+    kept: [bool; 16],
+}
+
+impl Model for Registers {
+    ghost use Rattle.lazy_world.specs.Registers.{KeptRegisters};
+
+    ghost Value = { KeptRegisters };
+
+    ghost use Rattle.std.specs.Prelude.{None, Some, false, if◌then◌else◌, map, slice_index_or};
+    ghost use Rattle.std.specs.List.{range_with_len};
+    ghost use Rattle.lwc_base.specs.Registers.{fresh_registers};
+
+    ghost view = { λ r. record {
+      entry = r.entry;
+      saved = map (λ t. if slice_index_or r.kept t false
+          then Some (slice_index_or r.saved t (fresh_registers 0)) else None) (range_with_len 0 16);
+    } };
+
+    ghost use Rattle.std.specs.Prelude.{◌≡◌, length};
+
+    ghost invariant = { λ r. record { saved : length r.saved ≡ 16; kept : length r.kept ≡ 16 } };
 }
 
 impl Registers {
@@ -16,7 +39,48 @@ impl Registers {
     {
         Registers {
             entry: *entry,
-            saved: [None; 16],
+            saved: [*entry; 16],
+            kept: [false; 16],
         }
+    }
+
+    /// Lets them be those of a context that begins with these, and keeps none for any thread.
+    pub fn begin(&mut self, entry: &Regs)
+        ensures { self.new ≡ record { entry = entry.now; saved = replicate 16 None } }
+    {
+        self.entry = *entry;
+        self.kept = [false; 16];
+    }
+
+    /// Those that the context begins with.
+    pub fn entry(&self) -> Regs
+        ensures { result ≡ self.now.entry }
+    {
+        self.entry
+    }
+
+    /// Those that the context keeps for a thread; `None` if it keeps none for it.
+    pub fn saved(&self, t: u32) -> Option<Regs>
+        requires { t < 16 }
+        ensures { result ≡ slice_index_or self.now.saved t None }
+    {
+        if self.kept[t as usize] {
+            Some(self.saved[t as usize])
+        } else {
+            None
+        }
+    }
+
+    /// Keeps registers for a thread, in place of those that were kept for it.
+    pub fn save(&mut self, t: u32, regs: &Regs)
+        requires { t < 16 }
+        ensures inside { t < length self.old.saved }
+        ensures saved { self.new ≡ record {
+          entry = self.old.entry;
+          saved = slice_set self.old.saved t (Some regs.now);
+        } }
+    {
+        self.saved[t as usize] = *regs;
+        self.kept[t as usize] = true;
     }
 }

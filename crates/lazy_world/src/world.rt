@@ -42,7 +42,11 @@ pub struct PlacedWorld {
 fn no_registers(alloc: Global, places: u32) -> Result<Vec<Registers>, OutOfMemory>
     ensures { IfOk result (λ registers. length registers.items ≡ places) }
 {
-    Ok(vec![in alloc; Registers::new(&Regs::fresh(0)); places as usize]?)
+    let mut registers = Vec::with_capacity(alloc, places as usize)?;
+    'places: for _ in 0..places {
+        registers.push_reserved(Registers::new(&Regs::fresh(0)));
+    }
+    Ok(registers)
 }
 
 /// What the jobs have counted before they have named anything. The only error is out of memory.

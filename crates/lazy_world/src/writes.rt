@@ -4,7 +4,6 @@ ghost use Rattle.lwc_base.specs.declared.limits.TheConstants.{MOST_THREADS};
 
 use crate::counts::Counts;
 use crate::key_value::KeyValue;
-use crate::registers::Registers;
 use crate::world::PlacedWorld;
 use access_cap::owned;
 use lwc_base::{Lent, Name, Regs};
@@ -84,7 +83,7 @@ impl PlacedWorld {
         ensures saved { seen self.new ≡ save (seen self.old) c t regs.now }
     {
         let i = self.place(c);
-        self.registers[i].saved[t as usize] = Some(*regs);
+        self.registers[i].save(t, regs);
     }
 
     /// The name of a job's next context.
@@ -113,7 +112,7 @@ impl PlacedWorld {
         };
         let i = self.contexts.insert(name);
         self.places.put(i, KeyValue::Cred(uid));
-        self.registers[i] = Registers::new(entry);
+        self.registers[i].begin(entry);
         self.counts[job as usize] = Counts {
             contexts: counts.contexts + 1,
             ..counts

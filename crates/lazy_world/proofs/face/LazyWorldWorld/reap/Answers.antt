@@ -13,7 +13,7 @@ invariant_of-self c =
     let roots = c.args.roots.now in
     record {
       reached = λ _.
-          subst (AreReached (seen c.reap_from.new.self)) (sym c.anchors_of-self.ensures)
+          subst (AreReached (seen c.reap_from.new.self)) (sym c.set_anchors.ensures)
           (subst (λ (v : World). AreReached v roots) (sym c.reap_from.ensures)
           (reached-reaped (reap w roots) roots (reaped-reap w roots)));
     }

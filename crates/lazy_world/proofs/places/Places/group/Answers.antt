@@ -1,6 +1,10 @@
-use Rattle.std.proofs.Common.{◌≡◌, ◌∙◌, ap, subst, sym, Option, Some, None}
+use Rattle.std.proofs.Common.{◌≡◌, ◌∙◌, ap, refl, subst, sym, Bool, false, Option, Some, None}
+use Rattle.lwc_base.specs.declared.cell.Cell.{Cell}
+use Rattle.lwc_base.specs.declared.cell.Cell.TheVariants.{Own, Common}
+use Rattle.lwc_base.specs.declared.descriptor.Descriptor.{Descriptor}
+use Rattle.lwc_base.specs.declared.key.Key.TheVariants.{Slot}
 use Rattle.lwc_base.specs.declared.name.Name.{Name}
-use Rattle.fd_table.specs.Slots.{cell_of}
+use Rattle.fd_table.specs.Slots.{cell_of, is_common}
 use Rattle.lazy_world.specs.declared.key_value.KeyValue.{KeyValue}
 use Rattle.lazy_world.specs.Cells.{Row}
 use Rattle.lazy_world.specs.KeyValues.{group_in, key_in}
@@ -9,6 +13,15 @@ use Rattle.lazy_world.proofs.places.Places.group.Goals as goal
 
 at_key : (row : Row) (o : Option Name) (v w : KeyValue) → v ≡ w → o ≡ group_in (row (key_in w)) → o ≡ group_in (row (key_in v))
 at_key row o v w is same = subst (λ x. o ≡ group_in (row (key_in x))) (sym is) same
+
+-- a slot of the place's own names none
+no-group : (cell : Cell Descriptor) (common : Bool) → common ≡ is_common cell → common ≡ false → None ≡ group_in cell
+no-group (Own value) common is off = refl
+no-group (Common g) common is off = absurd cc
+
+pub returns-then-not-is_common : goal.returns-then-not-is_common
+returns-then-not-is_common c =
+    at_key (rows c.args.self.now c.args.i) None _ _ c.in-Slot.is (no-group (rows c.args.self.now c.args.i (Slot c.in-Slot.n)) c.is_common.result c.is_common.ensures c.if-not-is_common.true)
 
 pub returns-in-Own : goal.returns-in-Own
 returns-in-Own c = at_key (rows c.args.self.now c.args.i) None _ _ c.in-Slot.is (ap group_in (ap cell_of (sym c.in-Own.is) ∙ c.slot.ensures))

@@ -12,7 +12,7 @@ use Rattle.ctx_table.specs.Contexts.{first_free}
 use Rattle.ctx_table.specs.NameTables.{NameTable}
 use Rattle.lazy_world.specs.declared.counts.Counts.{Counts}
 use Rattle.lazy_world.specs.declared.places.Places.{Places}
-use Rattle.lazy_world.specs.declared.registers.Registers.{Registers}
+use Rattle.lazy_world.specs.Registers.{KeptRegisters}
 use Rattle.lazy_world.specs.declared.world.PlacedWorld.{PlacedWorld}
 use Rattle.lazy_world.specs.Cells.{put_row}
 use Rattle.lazy_world.specs.Seen.{rights, rows}
@@ -38,7 +38,7 @@ module _ (w : PlacedWorld) (job : ℕ) (known : job < (seen w).size.jobs) (n : C
 
   -- which gets the first free place
   module _ (p : ℕ) (within : p < length w.contexts.places) (first : p ≡ first_free w.contexts.places) (table : NameTable) (map : table.map ≡ fm.insert w.contexts.map name p) (places : table.places ≡ set w.contexts.places p (Some name))
-      (uid : ℕ) (entry : Regs) (q : Places) (rows_are : rows q ≡ put_row (rows w.places) (p) (with_key Cell Cred (Own uid) (rows w.places p))) (rights_are : rights q ≡ rights w.places) (registers : Registers) (registers_are : registers ≡ record { entry = entry; saved = replicate 16 None }) where
+      (uid : ℕ) (entry : Regs) (q : Places) (rows_are : rows q ≡ put_row (rows w.places) (p) (with_key Cell Cred (Own uid) (rows w.places p))) (rights_are : rights q ≡ rights w.places) (registers : KeptRegisters) (registers_are : registers ≡ record { entry = entry; saved = replicate 16 None }) where
     abbrev more : Counts
     more = record { contexts = n.contexts + 1; groups = n.groups; tags = n.tags }
 
@@ -103,7 +103,7 @@ invariant_of-self c = record {
   count = c.put.ensures.count ∙ c.args.self.now.count;
   frames = c.put.ensures.frames ∙ c.args.self.now.frames;
   sound = sound-later c.args.self.now c.args.job c.requires.known c.index-counts.result.now c.index-counts.ensures
-      c.insert-i.result c.insert-i.ensures.within c.insert-i.ensures.place c.insert-i.new.self c.insert-i.ensures.map c.insert-i.ensures.places c.args.uid c.args.entry.now c.put.new.self c.put.ensures.rows c.put.ensures.rights c.new.result c.new.ensures;
+      c.insert-i.result c.insert-i.ensures.within c.insert-i.ensures.place c.insert-i.new.self c.insert-i.ensures.map c.insert-i.ensures.places c.args.uid c.args.entry.now c.put.new.self c.put.ensures.rows c.put.ensures.rights c.begin.new.self c.begin.ensures;
 }
 
 pub returns-clause-name : goal.returns-clause-name
@@ -113,4 +113,4 @@ pub returns-clause-world : goal.returns-clause-world
 unfolding seen parts
 returns-clause-world c =
     world-later c.args.self.now c.args.job c.requires.known c.index-counts.result.now c.index-counts.ensures
-    c.insert-i.result c.insert-i.ensures.within c.insert-i.ensures.place c.insert-i.new.self c.insert-i.ensures.map c.insert-i.ensures.places c.args.uid c.args.entry.now c.put.new.self c.put.ensures.rows c.put.ensures.rights c.new.result c.new.ensures
+    c.insert-i.result c.insert-i.ensures.within c.insert-i.ensures.place c.insert-i.new.self c.insert-i.ensures.map c.insert-i.ensures.places c.args.uid c.args.entry.now c.put.new.self c.put.ensures.rows c.put.ensures.rights c.begin.new.self c.begin.ensures

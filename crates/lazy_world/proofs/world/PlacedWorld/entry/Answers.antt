@@ -1,7 +1,7 @@
 use Rattle.std.proofs.Common.{◌<◌, ◌∙◌, ap, sym, arith, length}
 use Rattle.std.proofs.lemmas.List.{get_or_read}
 use Rattle.lwc_base.specs.World.{Context}
-use Rattle.lazy_world.specs.declared.registers.Registers.{Registers}
+use Rattle.lazy_world.specs.Registers.{KeptRegisters}
 use Rattle.lazy_world.specs.States.{no_registers}
 use Rattle.lazy_world.specs.Worlds.{parts}
 use Rattle.lazy_world.proofs.world.PlacedWorld.entry.Goals as goal
@@ -14,5 +14,5 @@ pub returns : goal.returns
 unfolding parts
 returns c =
     let inside : c.place.result < length c.args.self.now.registers.items = omega (arith, c.place.ensures.low, c.args.self.now.sound.sizes.registers) in
-    ap (λ (r : Registers). r.entry) (get_or_read c.args.self.now.registers.items c.place.result _ inside c.index.ensures no_registers)
+    c.entry.ensures ∙ ap (λ (r : KeptRegisters). r.entry) (get_or_read c.args.self.now.registers.items c.place.result _ inside c.index.ensures no_registers)
     ∙ ap (λ (x : Context). x.entry) (sym c.place.ensures.context)

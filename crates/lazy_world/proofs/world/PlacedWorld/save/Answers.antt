@@ -1,6 +1,7 @@
-use Rattle.std.proofs.Common.{◌<◌, arith, length, rules}
+use Rattle.std.proofs.Common.{◌<◌, ◌∙◌, ap, arith, length, set, subst, sym}
 use Rattle.std.proofs.lemmas.List.{get_or_read}
-use Rattle.lazy_world.specs.States.{no_registers}
+use Rattle.lazy_world.specs.States.{no_registers, world_of}
+use Rattle.lazy_world.specs.Sound.{IsSound}
 use Rattle.lazy_world.specs.Worlds.{parts, seen}
 use Rattle.lazy_world.proofs.SaveLemmas.{saved-world, sound-saved}
 use Rattle.lazy_world.proofs.world.PlacedWorld.save.Goals as goal
@@ -19,8 +20,9 @@ invariant_of-self c =
       placed_groups = c.args.self.now.placed_groups;
       count = c.args.self.now.count;
       frames = c.args.self.now.frames;
-      sound = sound-saved s c.args.self.now.sound c.args.self.now.placed c.args.c c.place-i.result c.place-i.ensures.found _
-          (get_or_read s.registers c.place-i.result _ inside c.index_mut.ensures.value no_registers) c.args.t c.args.regs.now (search rules);
+      sound = subst (λ r. IsSound (record s { registers = set s.registers c.place-i.result r })) (sym c.save.ensures.saved)
+          (sound-saved s c.args.self.now.sound c.args.self.now.placed c.args.c c.place-i.result c.place-i.ensures.found _
+          (get_or_read s.registers c.place-i.result _ inside c.index_mut.ensures.value no_registers) c.args.t c.args.regs.now c.save.ensures.inside);
     }
 
 pub returns : goal.returns
@@ -29,6 +31,7 @@ returns c =
     let s = parts c.args.self.now in
     let inside : c.place-i.result < length c.args.self.now.registers.items = omega (arith, c.place-i.ensures.low, c.args.self.now.sound.sizes.registers) in
     record {
-      saved = saved-world s c.args.self.now.sound c.args.self.now.placed c.args.c c.place-i.result c.place-i.ensures.found _
-          (get_or_read s.registers c.place-i.result _ inside c.index_mut.ensures.value no_registers) c.args.t c.args.regs.now (search rules);
+      saved = ap (λ r. world_of (record s { registers = set s.registers c.place-i.result r })) c.save.ensures.saved
+          ∙ saved-world s c.args.self.now.sound c.args.self.now.placed c.args.c c.place-i.result c.place-i.ensures.found _
+          (get_or_read s.registers c.place-i.result _ inside c.index_mut.ensures.value no_registers) c.args.t c.args.regs.now c.save.ensures.inside;
     }

@@ -2,7 +2,7 @@ use Rattle.std.proofs.Common.{◌<◌, ◌∙◌, ap, sym, arith, length, None}
 use Rattle.std.specs.Prelude.{slice_index_or}
 use Rattle.std.proofs.lemmas.List.{get_or_read}
 use Rattle.lwc_base.specs.World.{Context}
-use Rattle.lazy_world.specs.declared.registers.Registers.{Registers}
+use Rattle.lazy_world.specs.Registers.{KeptRegisters}
 use Rattle.lazy_world.specs.States.{no_registers}
 use Rattle.lazy_world.specs.Worlds.{parts}
 use Rattle.lazy_world.proofs.world.PlacedWorld.saved.Goals as goal
@@ -16,6 +16,6 @@ unfolding parts
 returns c =
     let inside : c.place.result < length c.args.self.now.registers.items = omega (arith, c.place.ensures.low, c.args.self.now.sound.sizes.registers) in
     record {
-      value = ap (λ (r : Registers). slice_index_or r.saved c.args.t None) (get_or_read c.args.self.now.registers.items c.place.result _ inside c.index.ensures no_registers)
+      value = c.saved.ensures ∙ ap (λ (r : KeptRegisters). slice_index_or r.saved c.args.t None) (get_or_read c.args.self.now.registers.items c.place.result _ inside c.index.ensures no_registers)
           ∙ ap (λ (x : Context). x.saved c.args.t) (sym c.place.ensures.context);
     }

@@ -1,0 +1,21 @@
+use Rattle.std.proofs.Common.{◌∙◌, None, Some, arith, ap, cond, get_or, sym}
+use Rattle.std.proofs.lemmas.List.{get_or_default}
+use Rattle.lwc_base.specs.Registers.{fresh_registers}
+use Rattle.lazy_world.specs.Registers.{KeptRegisters}
+use Rattle.lazy_world.proofs.RegisterLemmas.{read-there}
+use Rattle.lazy_world.proofs.registers.Registers.saved.Goals as goal
+
+pub returns-then-self-t : goal.returns-then-self-t
+returns-then-self-t c =
+    let r = c.self.inside in
+    ap Some (get_or_default r.saved c.args.t _ (fresh_registers 0) (omega (arith, c.requires, c.self.invariant.saved)))
+    ∙ ap (λ b. cond b (Some (get_or r.saved c.args.t (fresh_registers 0))) None) (sym c.if-self-t.true)
+    ∙ sym (read-there r.kept r.saved c.args.t c.requires)
+    ∙ ap (λ (k : KeptRegisters). get_or k.saved c.args.t None) c.self.view_is
+
+pub returns-else-self-t : goal.returns-else-self-t
+returns-else-self-t c =
+    let r = c.self.inside in
+    ap (λ b. cond b (Some (get_or r.saved c.args.t (fresh_registers 0))) None) (sym c.if-self-t.false)
+    ∙ sym (read-there r.kept r.saved c.args.t c.requires)
+    ∙ ap (λ (k : KeptRegisters). get_or k.saved c.args.t None) c.self.view_is
