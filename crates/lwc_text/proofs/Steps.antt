@@ -99,9 +99,9 @@ pub plain_first : (threads end n : ℕ) (bytes : List ℕ) → n ≤ length byte
 plain_first threads end n bytes within few there each =
     All-from_get_or (IsPlain threads) (take n bytes) 0
     (λ i below.
-      let lt : i < n = omega (arith, below, length-take-le n bytes within) in
-      let is = each i lt in
-      subst (IsPlain threads) (sym (get_or-take n bytes i 0 lt)) (is.0, omega (arith, is.1, few), omega (arith, is.1, there)))
+    let lt : i < n = omega (arith, below, length-take-le n bytes within) in
+    let is = each i lt in
+    subst (IsPlain threads) (sym (get_or-take n bytes i 0 lt)) (is.0, omega (arith, is.1, few), omega (arith, is.1, there)))
 
 pub plain_next : (end n m : ℕ) (bytes : List ℕ) → n + m ≤ length bytes → Begins end n bytes → All (λ b. (48 ≤ b) × (b < end)) (take (n + m - n) (drop n bytes)) → Begins end (n + m) bytes
 plain_next end n m bytes within each all k below =

@@ -13,5 +13,6 @@ pub mod Glyphs
 pub mod Rules
 pub mod Schedules
 pub mod Requests
+pub mod VaultFiles
 pub mod Lines
 pub mod Report

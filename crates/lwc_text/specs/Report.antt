@@ -5,7 +5,7 @@ use Rattle.std.specs.List.{flat_map, range_with_len}
 use Rattle.std.specs.Option.{option_map_or}
 use Rattle.kernel_core.specs.Kernel.{view_of}
 use Rattle.kernel_core.specs.Machine.{Machine, reply_of}
-use Rattle.kernel_core.specs.Runs.{frames_of, peak, run}
+use Rattle.kernel_core.specs.Runs.{frames_of, kept, peak, run}
 use Rattle.kernel_core.specs.Start.{Inputs, start}
 use Rattle.lwc_base.specs.Summaries.{summary_of}
 use Rattle.lwc_base.specs.World.{World}
@@ -37,3 +37,7 @@ report_of m most steps =
 -- the report of the run of these steps from the start
 abbrev pub report_after : Inputs → List ℕ → List ℕ
 report_after inputs steps = report_of (run (start inputs) steps) (peak (start inputs) steps) steps
+
+-- the report of the steps of a schedule that are kept
+unfoldable pub report_of_schedule : Inputs → List ℕ → List ℕ
+report_of_schedule inputs schedule = report_after inputs (kept (start inputs) schedule)

@@ -1,7 +1,7 @@
 -- The names of the rules.
 use Rattle.std.specs.Prelude.{ℕ, List, codes}
 use Rattle.lwc_text.specs.declared.fault.InputRule.{InputRule}
-use Rattle.lwc_text.specs.declared.fault.InputRule.TheVariants.{TooLong, BadThread, TooManySteps, TooManyRequests, BadHex, RequestTooLong, OddLength, TooMuchWork}
+use Rattle.lwc_text.specs.declared.fault.InputRule.TheVariants.{TooLong, BadThread, TooManySteps, TooManyRequests, BadHex, RequestTooLong, OddLength, TooMuchWork, Truncated, BadEntry, BadPage, SlotTaken}
 
 -- the bytes of a rule's name
 abbrev pub rule_name : InputRule → List ℕ
@@ -13,3 +13,7 @@ rule_name BadHex = codes "BadHex"
 rule_name RequestTooLong = codes "RequestTooLong"
 rule_name OddLength = codes "OddLength"
 rule_name TooMuchWork = codes "TooMuchWork"
+rule_name Truncated = codes "Truncated"
+rule_name BadEntry = codes "BadEntry"
+rule_name BadPage = codes "BadPage"
+rule_name SlotTaken = codes "SlotTaken"

@@ -24,6 +24,14 @@ pub enum InputRule {
     OddLength,
     /// The requests of a serve may take more than `MOST_STEPS` steps.
     TooMuchWork,
+    /// A vault file ends inside a field, or before its first page.
+    Truncated,
+    /// A vault's entry is not below the number of instructions.
+    BadEntry,
+    /// A vault's page has a number above the last one, or not above the one before it.
+    BadPage,
+    /// The image has a file in the vault's slot.
+    SlotTaken,
 }
 
 impl InputRule {
@@ -40,6 +48,10 @@ impl InputRule {
             InputRule::RequestTooLong => "RequestTooLong",
             InputRule::OddLength => "OddLength",
             InputRule::TooMuchWork => "TooMuchWork",
+            InputRule::Truncated => "Truncated",
+            InputRule::BadEntry => "BadEntry",
+            InputRule::BadPage => "BadPage",
+            InputRule::SlotTaken => "SlotTaken",
         }
     }
 }
