@@ -42,10 +42,6 @@ pub record HaveOneShape (a b : Vault) : Type 0 where
 abbrev pub beside : Inputs → Vault → Inputs
 beside inputs v = record inputs { vault = Some v }
 
--- what is printed after the steps of a schedule that are kept
-abbrev pub vault_text : Inputs → List ℕ → List ℕ
-vault_text inputs schedule = report_after inputs (kept (start inputs) schedule)
-
 -- what a report tells of the vault: beside each other one of its shape the same steps are legal, and the report
 -- of these steps is the same
 abbrev pub TellsNothing : Inputs → List ℕ → Vault → Type 0

@@ -1,0 +1,52 @@
+//! The replay of a run beside a vault.
+
+ghost use Rattle.std.specs.Prelude.{◌≡◌, ◌<◌, ◌≤◌, ◌+◌, [], All, IfErr, IfOk, Some, length};
+ghost use Rattle.guest_image.specs.Limits.{IsImage};
+ghost use Rattle.kernel_core.specs.Kernel.{CanKeep};
+ghost use Rattle.kernel_core.specs.Settings.{IsSettings};
+ghost use Rattle.lwc_base.specs.declared.limits.TheConstants.{MOST_STEPS};
+ghost use Rattle.lwc_text.specs.Report.{report_of_schedule};
+
+use guest_image::{Image, Vault};
+use kernel_core::{Kernel, OpenFault, Settings};
+use lwc_text::{Schedule, report_of_schedule};
+use std::alloc::Global;
+use world_face::World;
+
+/// The report of a schedule's steps beside a vault: what is printed of a run from a start with it.
+///
+/// # Errors
+///
+/// `ImageTooLarge` exactly where the image and the vault together have more pages than there are frames, which
+/// is tested before memory is taken, and has that sum; or `OutOfMemory`.
+pub fn vault_replay<W: World>(
+    alloc: Global,
+    image: &Image,
+    vault: &Vault,
+    schedule: &Schedule,
+    settings: &Settings,
+) -> Result<Vec<u8>, OpenFault>
+    requires image { IsImage image.now }
+    requires vault { CanKeep image.now settings.now.job vault.now }
+    requires settings { IsSettings settings.now }
+    requires threads { All (λ t. t < length image.now.entries) schedule.now }
+    requires short { length schedule.now ≤ MOST_STEPS }
+    ensures text { IfOk result (λ text. text.items ≡ report_of_schedule (record {
+      image = image.now;
+      vault = Some vault.now;
+      requests = [];
+      settings = settings.now;
+    }) schedule.now) }
+    ensures too_large { settings.now.frames < length image.now.pages + length vault.now.pages →
+        result ≡ Err (OpenFault.ImageTooLarge (length image.now.pages + length vault.now.pages)
+        settings.now.frames) }
+    ensures fits { length image.now.pages + length vault.now.pages ≤ settings.now.frames →
+        IfErr result (λ fault. fault ≡ OpenFault.OutOfMemory) }
+{
+    let steps = schedule.len() as u32;
+    let kernel = Kernel::<W>::open_with_vault(alloc, image, vault, steps, settings)?;
+    match report_of_schedule(alloc, kernel, schedule) {
+        Ok(text) => Ok(text),
+        Err(_) => Err(OpenFault::OutOfMemory),
+    }
+}
