@@ -1,0 +1,10 @@
+pub mod Acting
+pub mod Courses
+pub mod Guarding
+pub mod Keeping
+pub mod Plain
+pub mod Promised
+pub mod Replays
+pub mod Rulings
+pub mod Steadying
+pub mod Tables

@@ -1,0 +1,47 @@
+-- Runs under traps keep what is promised.
+use Rattle.std.proofs.Common.{◌≡◌, ◌+◌, ℕ, refl, sym, ap, subst, ◌∙◌, Option, Some, None, List, [], ◌∷◌, ◌++◌, length, arith}
+use Rattle.std.specs.FinMap as fm
+use Rattle.kernel_core.proofs.HomeStart.{ready_start}
+use Rattle.kernel_core.specs.Kernel.{CanOpen}
+use Rattle.kernel_core.specs.Start.{Inputs, serve_at, start}
+use Rattle.kernel_core.specs.declared.settings.Job.{Job}
+use Rattle.kernel_core.specs.declared.settings.Job.TheVariants as job
+use Rattle.lwc_base.specs.Names.{name_cmp}
+use Rattle.lwc_base.specs.World.{World}
+use Rattle.lwc_base.specs.declared.name.Name.{Name}
+use Rattle.lwc_monitor.proofs.Keeping.{IsKept, kept-run, leaves-step}
+use Rattle.lwc_monitor.proofs.Plain.{plain_text}
+use Rattle.lwc_monitor.specs.Promises.{IsMonitoredRun}
+use Rattle.lwc_monitor.specs.Reports.{begun}
+use Rattle.lwc_monitor.specs.Steps.{run_under}
+use Rattle.trap_calls.specs.Guards.{AreGuarded}
+
+none_guarded : (w : World) → AreGuarded fm.empty w
+none_guarded w = record {
+  live = λ d m is. absurd (nothing d m is);
+  own = λ d m is. absurd (nothing d m is);
+  free = λ d m is. absurd (nothing d m is);
+}
+  where
+    nothing : (d m : Name) → fm.get (fm.empty {K = Name} {X = Name} {R = name_cmp}) d ≡ Some m → ⊥
+    nothing d m is = let none = fm.get-empty {X = Name} name_cmp d in cc
+
+-- what is kept is true at the start
+pub kept-start : (inputs : Inputs) → CanOpen inputs → inputs.settings.job ≡ job.Run → IsKept inputs 0 (begun inputs)
+unfolding start
+kept-start inputs can run = record {
+  ready = ready_start inputs can;
+  run = ap (λ (j : Job). serve_at j inputs.settings.budget (length inputs.requests)) run;
+  guarded = none_guarded _;
+}
+
+-- and after each list of steps
+pub kept-after : (inputs : Inputs) (steps : List ℕ) → CanOpen inputs → inputs.settings.job ≡ job.Run → IsKept inputs (0 + length steps) (run_under (begun inputs) steps)
+kept-after inputs steps can run = kept-run inputs 0 steps (begun inputs) (kept-start inputs can run)
+
+pub monitored_run : (inputs : Inputs) (steps : List ℕ) → CanOpen inputs → inputs.settings.job ≡ job.Run → IsMonitoredRun inputs steps
+monitored_run inputs steps can run = record {
+  guarded = λ before rest is. (kept-after inputs before can run).guarded;
+  leaves = λ before rest t is. leaves-step inputs (0 + length before) (run_under (begun inputs) before) t (kept-after inputs before can run);
+  plain = plain_text inputs steps;
+}

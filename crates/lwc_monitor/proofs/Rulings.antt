@@ -1,0 +1,32 @@
+-- What comes next, by the ruling on it.
+use Rattle.std.proofs.Common.{◌≡◌, ◌≢◌, ℕ, Option, Some, None, ap, refl, sym, ◌∙◌}
+use Rattle.std.specs.Option.{option_map}
+use Rattle.guest_isa.specs.declared.instr.Instr.{Instr}
+use Rattle.guest_isa.specs.declared.op.Op.{Op}
+use Rattle.guest_isa.specs.declared.op.Op.TheVariants.{Sys}
+use Rattle.guest_machine.specs.declared.progress.Next.{Next}
+use Rattle.guest_machine.specs.declared.progress.Next.TheVariants as next
+use Rattle.kernel_core.specs.Machine.{Environment}
+use Rattle.kernel_core.specs.Step.{Calls, guest_calls, next_outcome, shared_outcome}
+use Rattle.kernel_core.specs.declared.thread.Thread.{Thread}
+use Rattle.lwc_base.specs.World.{World}
+use Rattle.lwc_monitor.specs.Calls.{calls_under, traps_after_call}
+use Rattle.lwc_monitor.specs.Rulings.{next_ruled, ruled_or_not}
+use Rattle.lwc_monitor.specs.Steps.{call_in, call_next}
+use Rattle.lwc_monitor.specs.declared.ruling.Ruling.{Ruling}
+use Rattle.trap_calls.specs.Traps.{Traps}
+
+-- an instruction that is no call is done in the same way under each table
+pub no_call : (first second : Calls) (t : ℕ) (e : Environment) (x : Thread) (i : Instr) (op : Op) → op ≢ Sys → shared_outcome first t e x i op ≡ shared_outcome second t e x i op
+unfolding shared_outcome
+no_call first second t e x i Sys other = absurd (other refl)
+no_call first second t e x i _ other = refl
+
+pub none_called : (traps : Traps) (w : World) (x : Thread) (i : Instr) (op : Op) → op ≢ Sys → traps_after_call traps w x (call_in op i.imm) ≡ traps
+none_called traps w x i Sys other = absurd (other refl)
+none_called traps w x i _ other = refl
+
+-- a call is what the table says of it
+pub a_call : (calls : Calls) (t : ℕ) (e : Environment) (x : Thread) (i : Instr) → i.op ≡ Sys → next_outcome calls t e x (next.Shared i) ≡ calls i.imm t e x
+unfolding next_outcome shared_outcome
+a_call calls t e x i is = ap (shared_outcome calls t e x i) is

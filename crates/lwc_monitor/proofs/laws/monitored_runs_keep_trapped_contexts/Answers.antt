@@ -1,0 +1,5 @@
+use Rattle.lwc_monitor.proofs.Promised.{monitored_run}
+use Rattle.lwc_monitor.proofs.laws.monitored_runs_keep_trapped_contexts.Goals as goal
+
+pub returns : goal.returns
+returns c = monitored_run

@@ -1,0 +1,16 @@
+use Rattle.kernel_core.specs.Step.{beside}
+use Rattle.lwc_monitor.proofs.Courses.{advance-again, kernel-course, ruled-course}
+use Rattle.lwc_monitor.proofs.stepping.run_under.Goals as goal
+
+pub step_thread-requires-clause-proposal : goal.step_thread-requires-clause-proposal
+step_thread-requires-clause-proposal g c κs within = advance-again c.args.text.now _ c.advance-advance.result c.advance-advance.ensures.exact
+
+pub returns-in-None-clause-outcome : goal.returns-in-None-clause-outcome
+returns-in-None-clause-outcome g c =
+    kernel-course c.args.traps.now c.args.t (beside (g.W.World.seen c.args.world.now) c.args.io.now) c.args.text.now c.args.thread.now c.advance-advance.result c.advance-advance.ensures.exact
+    c.step_thread.result _ _ _ c.requires.running (c.in-None.ensures.outcome c.args.t c.args.io.now) c.step_thread.ensures.outcome
+
+pub returns-in_ok-change-in-Some-clause-outcome : goal.returns-in_ok-change-in-Some-clause-outcome
+returns-in_ok-change-in-Some-clause-outcome g c =
+    ruled-course c.args.traps.now c.args.t (beside (g.W.World.seen c.args.world.now) c.args.io.now) c.args.text.now c.args.thread.now c.advance-advance.result c.advance-advance.ensures.exact
+    c.in-Some.ruling c.in-Some.number _ _ _ c.in_ok-change-in-Some.change (c.in-Some.ensures.outcome c.args.t c.args.io.now) (c.in_ok-change-in-Some.ensures.outcome c.args.io.now) c.set_steps.ensures

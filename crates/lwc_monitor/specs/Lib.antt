@@ -1,0 +1,12 @@
+pub use Rattle.kernel_core.specs.Kernel
+pub use Rattle.kernel_core.specs.Runs
+pub use Rattle.kernel_core.specs.Start
+pub use Rattle.lwc_text.specs.Report
+pub use Rattle.trap_calls.specs.Guards
+pub use Rattle.trap_calls.specs.Traps
+pub mod Calls
+pub mod Rulings
+pub mod Steps
+pub mod Reports
+pub mod Promises
+pub mod Steady

@@ -1,0 +1,224 @@
+ghost use Rattle.std.specs.Prelude.{◌≡◌, ◌≢◌, ◌<◌, ◌≤◌, ◌++◌, false, IfErr, IfOk, None, OnErr, OnOk, Some, length};
+ghost use Rattle.std.specs.FinMap as fm;
+ghost use Rattle.guest_image.specs.Limits.{IsImage};
+ghost use Rattle.kernel_core.specs.declared.acting.Change.TheVariants as changes;
+ghost use Rattle.kernel_core.specs.Kernel as kernels;
+ghost use Rattle.kernel_core.specs.Machine.{is_ended};
+ghost use Rattle.kernel_core.specs.Settings.{IsSettings};
+ghost use Rattle.kernel_core.specs.Start.{thread_count};
+ghost use Rattle.lwc_base.specs.World as worlds;
+ghost use Rattle.lwc_base.specs.declared.limits.TheConstants.{MOST_STEPS};
+ghost use Rattle.lwc_monitor.specs.Reports.{inputs_of, report_after_under, traps_text};
+ghost use Rattle.lwc_monitor.specs.Steady as spec;
+ghost use Rattle.lwc_monitor.specs.Steady.{state_of};
+ghost use Rattle.lwc_text.specs.Report.{threads_text};
+
+use crate::stepping::step_under;
+use guest_image::Image;
+use guest_isa::Text;
+use kernel_core::{
+    Change, Job, Kernel, OpenFault, Parts, Settings, Thread, ThreadView, Turn, drop_unreached,
+    peak_after,
+};
+use lwc_base::{Channels, OutOfMemory, Requests};
+use lwc_text::{context_lines, groups_line, tail_lines, thread_lines, trap_line};
+use std::alloc::Global;
+use std::marker::Model;
+use std::snapshot::Snapshot;
+use trap_calls::Traps;
+use world_face::World;
+
+/// Threads that run an image over a world in which contexts may be trapped. It is seen as its history, as a
+/// kernel is.
+#[derive(Drop)]
+pub struct Monitored<W: World> {
+    image: Snapshot<Image>,
+    settings: Settings,
+    text: Text,
+    world: W,
+    channels: Channels,
+    threads: Vec<Thread>,
+    traps: Traps,
+    schedule: Vec<u8>,
+    room: u32,
+    peak: u32,
+}
+
+impl<W: World> Model for Monitored<W> {
+    ghost use Rattle.std.specs.Prelude.{◌+◌, ◌≤◌, [], None, vec_capacity, vec_len};
+    ghost use Rattle.kernel_core.specs.Kernel.{History};
+    ghost use Rattle.kernel_core.specs.Steady.{history, machine};
+    ghost use Rattle.lwc_monitor.specs.Steady.{IsSteady};
+
+    ghost Value = { History };
+
+    ghost view = { λ k. history k.image.value None [] k.settings k.schedule.items k.room };
+
+    ghost invariant = { λ k. (vec_len k.schedule + k.room ≤ vec_capacity k.schedule)
+        × IsSteady
+        (record { machine = machine (W.seen k.world) k.channels k.threads.items k.text None; traps = k.traps })
+        k.peak (history k.image.value None [] k.settings k.schedule.items k.room) };
+}
+
+impl<W: World> Monitored<W> {
+    /// A run at the start of an image, in which no context is trapped, with room for this number of steps.
+    ///
+    /// # Errors
+    ///
+    /// `ImageTooLarge` exactly where the image has more pages than there are frames, which is tested before
+    /// memory is taken; or `OutOfMemory`.
+    pub fn open(
+        alloc: Global,
+        image: &Image,
+        steps: u32,
+        settings: &Settings,
+    ) -> Result<Monitored<W>, OpenFault>
+        requires image { IsImage image.now }
+        requires settings { IsSettings settings.now }
+        requires run { settings.now.job ≡ Job.Run }
+        requires steps { steps ≤ MOST_STEPS }
+        ensures opened { IfOk result (λ k. k ≡ kernels.opened (inputs_of image.now settings.now) steps) }
+        ensures too_large { settings.now.frames < length image.now.pages →
+            result ≡ Err (OpenFault.ImageTooLarge (length image.now.pages) settings.now.frames) }
+        ensures fits { length image.now.pages ≤ settings.now.frames →
+            IfErr result (λ fault. fault ≡ OpenFault.OutOfMemory) }
+    {
+        let requests = Requests::of(Vec::new(alloc));
+        let kernel: Kernel<W> = Kernel::open(alloc, image, requests, 0, settings)?;
+        let Ok(schedule) = Vec::with_capacity(alloc, steps as usize) else {
+            return Err(OpenFault::OutOfMemory);
+        };
+        let peak = kernel.peak();
+        let Parts {
+            world,
+            channels,
+            text,
+            threads,
+        } = kernel.into_parts();
+        Ok(Monitored {
+            image: Snapshot::of(image),
+            settings: *settings,
+            text,
+            world,
+            channels,
+            threads,
+            traps: Traps::new(alloc),
+            schedule,
+            room: steps,
+            peak,
+        })
+    }
+
+    /// One step of thread `t`, which is kept unless the thread had ended. The only error is out of memory, and
+    /// then nothing has changed.
+    pub fn step(&mut self, t: u32) -> Result<Turn, OutOfMemory>
+        requires within { t < thread_count self.old.inputs }
+        requires room { is_ended (state_of self.old).machine t ≡ false → 0 < self.old.room }
+        ensures step { OnOk result (self.new ≡ spec.stepped_under self.old t) }
+        ensures turn { IfOk result (λ turn. spec.turn_under self.new t ≡ Some turn) }
+        ensures err { OnErr result (self.new ≡ self.old) }
+    {
+        let mut thread = self.threads[t as usize];
+        let Some(effect) = step_under(
+            &mut self.traps,
+            &mut self.world,
+            &mut self.channels,
+            &self.text,
+            t,
+            &mut thread,
+        )?
+        else {
+            return Ok(turn_of(&thread));
+        };
+        self.threads[t as usize] = thread;
+        drop_unreached(&mut self.world, self.threads.as_slice(), 0, effect.change);
+        keep_reached(&mut self.traps, &self.world, effect.change);
+        self.peak = peak_after(self.peak, &self.world, effect.change);
+        self.schedule.push_reserved(t as u8);
+        self.room -= 1;
+        Ok(turn_of(&thread))
+    }
+
+    /// The number of steps that there is room for.
+    pub fn room(&self) -> u32
+        ensures { result ≡ self.now.room }
+    {
+        self.room
+    }
+
+    /// The report of the run: that of a kernel, with a line for each trapped context after the contexts. The
+    /// only error is out of memory.
+    #[tactic(auto, unfolding(crate::specs::Reports::report_under, crate::specs::Steady::state_of))]
+    pub fn report(&self, alloc: Global) -> Result<Vec<u8>, OutOfMemory>
+        ensures { IfOk result (λ text. text.items ≡ report_after_under self.now.inputs self.now.steps) }
+    {
+        let mut text = self.threads_text(alloc)?;
+        context_lines(&mut text, &self.world)?;
+        trap_lines(&mut text, &self.traps)?;
+        groups_line(&mut text, self.world.group_count())?;
+        tail_lines(
+            &mut text,
+            self.channels.console(),
+            self.world.used(),
+            self.peak,
+            self.schedule.as_slice(),
+        )?;
+        Ok(text)
+    }
+
+    /// The lines of all threads.
+    #[tactic(auto, using(lwc_text::proofs::Machines::more_threads), unfolding(lwc_text::specs::Report::threads_text))]
+    fn threads_text(&self, alloc: Global) -> Result<Vec<u8>, OutOfMemory>
+        ensures { IfOk result (λ text. text.items ≡ threads_text (state_of self.now).machine) }
+    {
+        let mut text = Vec::new(alloc);
+        'threads: for t in 0..self.threads.len() {
+            let Thread {
+                status,
+                context,
+                regs,
+                ..
+            } = self.threads[t];
+            let view = ThreadView {
+                status,
+                context,
+                regs,
+            };
+            thread_lines(&mut text, t as u32, &view)?;
+        }
+        Ok(text)
+    }
+}
+
+/// Keeps the traps of live contexts alone. All are live if the step has cut no link, and then no work is done.
+fn keep_reached<W: World>(traps: &mut Traps, world: &W, change: Change)
+    requires { change ≢ changes.Links →
+        traps.old ≡ fm.retain_keys traps.old (worlds.is_live (W.seen world.now)) }
+    ensures { traps.new ≡ fm.retain_keys traps.old (worlds.is_live (W.seen world.now)) }
+{
+    if change == Change::Links {
+        traps.keep_live(world);
+    }
+}
+
+/// Appends the lines of the traps.
+#[tactic(auto, unfolding(crate::specs::Reports::traps_text))]
+fn trap_lines(out: &mut Vec<u8>, traps: &Traps) -> Result<(), OutOfMemory>
+    ensures { OnOk result (out.new.items ≡ out.old.items ++ traps_text traps.now) }
+{
+    'traps: for pair in traps.pairs() {
+        trap_line(out, pair.0, pair.1)?;
+    }
+    Ok(())
+}
+
+/// The registers and the status of a thread.
+fn turn_of(thread: &Thread) -> Turn
+    ensures { result ≡ kernels.turn_of thread.now None }
+{
+    Turn {
+        regs: thread.regs,
+        status: thread.status,
+        finished: None,
+    }
+}

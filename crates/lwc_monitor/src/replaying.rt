@@ -1,0 +1,52 @@
+ghost use Rattle.std.specs.Prelude.{◌≡◌, ◌<◌, ◌≤◌, [], All, IfOk, OnOk, length};
+ghost use Rattle.kernel_core.specs.Kernel.{CanOpen};
+ghost use Rattle.kernel_core.specs.Start.{thread_count};
+ghost use Rattle.lwc_base.specs.declared.limits.TheConstants.{MOST_STEPS};
+ghost use Rattle.lwc_monitor.specs.Reports.{begun, inputs_of, monitored_text};
+ghost use Rattle.lwc_monitor.specs.Steps.{kept_under};
+
+use crate::monitored::Monitored;
+use guest_image::Image;
+use kernel_core::{Job, Settings};
+use lwc_base::OutOfMemory;
+use lwc_text::Schedule;
+use std::alloc::Global;
+use world_face::World;
+
+/// The report of a schedule's steps under traps, from the start of an image on. The only error is out of memory.
+#[tactic(auto, unfolding(crate::specs::Reports::monitored_text))]
+pub fn monitor_replay<W: World>(
+    alloc: Global,
+    image: &Image,
+    schedule: &Schedule,
+    settings: &Settings,
+) -> Result<Vec<u8>, OutOfMemory>
+    requires can { CanOpen (inputs_of image.now settings.now) }
+    requires run { settings.now.job ≡ Job.Run }
+    requires threads { All (λ t. t < length image.now.entries) schedule.now }
+    requires short { length schedule.now ≤ MOST_STEPS }
+    ensures { IfOk result (λ text. text.items ≡ monitored_text (inputs_of image.now settings.now) schedule.now) }
+{
+    let steps = schedule.len() as u32;
+    match Monitored::<W>::open(alloc, image, steps, settings) {
+        Ok(mut run) => {
+            make_steps(&mut run, schedule)?;
+            run.report(alloc)
+        }
+        Err(_) => Err(OutOfMemory),
+    }
+}
+
+/// Makes the steps of the schedule, one after another.
+fn make_steps<W: World>(run: &mut Monitored<W>, schedule: &Schedule) -> Result<(), OutOfMemory>
+    requires fresh { run.old.steps ≡ [] }
+    requires room { length schedule.now ≤ run.old.room }
+    requires threads { All (λ t. t < thread_count run.old.inputs) schedule.now }
+    ensures inputs { OnOk result (run.new.inputs ≡ run.old.inputs) }
+    ensures steps { OnOk result (run.new.steps ≡ kept_under (begun run.old.inputs) schedule.now) }
+{
+    for i in 0..schedule.len() {
+        run.step(u32::from(*schedule.get(i)))?;
+    }
+    Ok(())
+}
