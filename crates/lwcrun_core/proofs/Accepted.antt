@@ -10,7 +10,7 @@ use Rattle.kernel_core.specs.declared.settings.Job.TheVariants as jobs
 use Rattle.kernel_core.specs.declared.settings.Settings.{Settings}
 use Rattle.lwc_base.specs.declared.limits.TheConstants.{MOST_BUDGET, MOST_FRAMES, MOST_THREADS}
 use Rattle.lwcrun_core.specs.Arguments.{Arguments, arguments_of}
-use Rattle.lwcrun_core.specs.Lines.{AreRunSettings, AreServeSettings, Command, IsWithinLimits, asked_in, budget_of, command_of, frames_of, gen_of, number_or, only_word, replay_with, run_of, serve_of, serve_settings_of, settings_for, settings_of, two_words, workers_of}
+use Rattle.lwcrun_core.specs.Lines.{AreRunSettings, AreServeSettings, Command, IsWithinLimits, asked_in, budget_of, command_of, frames_of, gen_of, monitor_of, number_or, only_word, replay_with, run_of, serve_of, serve_settings_of, settings_for, settings_of, two_words, workers_of}
 use Rattle.lwcrun_core.specs.Lines as commands
 use Rattle.lwcrun_core.specs.Numbers.{kept_within, number_of, number_within}
 
@@ -111,6 +111,12 @@ dis_is_within a command e = let made = mapped_some commands.Dis (only_word a) co
 lift_is_within : (a : Arguments) (command : Command) → option_map commands.Lift (only_word a) ≡ Some command → IsWithinLimits command
 lift_is_within a command e = let made = mapped_some commands.Lift (only_word a) command e in subst IsWithinLimits made.2 tt
 
+monitor_is_within : (a : Arguments) (command : Command) → monitor_of a ≡ Some command → IsWithinLimits command
+monitor_is_within a command e =
+    by_branch (is_some a.third || is_some a.workers) None _ command (not_none command) (λ rest.
+    asked_with a commands.Monitor (settings_of jobs.Run a) command _ rest
+    (λ image schedule s is made. subst IsWithinLimits made (run_within a s is))) e
+
 asked_is_within : (mode : List ℕ) (a : Arguments) (command : Command) → asked_in mode a ≡ Some command → IsWithinLimits command
 asked_is_within mode a command e =
     by_branch (bytes_eq mode (codes "replay")) (replay_with a a.third) _ command (replay_within a a.third command)
@@ -119,7 +125,8 @@ asked_is_within mode a command e =
     (by_branch (bytes_eq mode (codes "asm")) (option_map commands.Asm (only_word a)) _ command (asm_is_within a command)
     (by_branch (bytes_eq mode (codes "dis")) (option_map commands.Dis (only_word a)) _ command (dis_is_within a command)
     (by_branch (bytes_eq mode (codes "gen")) (gen_of a) _ command (gen_is_within a command)
-    (by_branch (bytes_eq mode (codes "lift")) (option_map commands.Lift (only_word a)) None command (lift_is_within a command) (not_none command))))))) e
+    (by_branch (bytes_eq mode (codes "lift")) (option_map commands.Lift (only_word a)) _ command (lift_is_within a command)
+    (by_branch (bytes_eq mode (codes "monitor")) (monitor_of a) None command (monitor_is_within a command) (not_none command)))))))) e
 
 -- the numbers of an accepted line are within their limits
 pub accepted_is_within : (words : List (List ℕ)) (command : Command) → command_of words ≡ Some command → IsWithinLimits command

@@ -27,6 +27,7 @@ use Rattle.request_isolation.proofs.Serves.{each_reply, requests_stay}
 use Rattle.request_isolation.specs.Needs.{HasFrames}
 use Rattle.kernel_core.specs.declared.settings.Settings.{Settings}
 use Rattle.lift_law.proofs.Lifted.{runs_lifted}
+use Rattle.lwc_monitor.proofs.Promised.{monitored_run}
 use Rattle.lwc_base.specs.declared.limits.TheConstants.{MOST_IMAGE_BYTES, MOST_REQUEST_FILE_BYTES, MOST_SCHEDULE_BYTES, MOST_SOURCE_BYTES, MOST_STEPS}
 use Rattle.lwc_io.specs.Outside.{Fetch, FilesView, appended}
 use Rattle.lwc_text.specs.Requests.{IsRequestFile, requests_at}
@@ -38,7 +39,8 @@ use Rattle.lwcrun_core.specs.declared.status.ExitStatus.TheVariants as statuses
 use Rattle.lwcrun_core.specs.Calls.{AreContents, AreRequestsIn, CallEnded, FetchesNamed, FetchesPlan, FileFailed, Headline, IsFitting, IsNameIn, IsOrNoMemory, IsRejected, IsRunnable, IsUndisturbed, Names, NoFault, WroteServe, status_by}
 use Rattle.lwcrun_core.specs.Ends.{End, Outside, Ended, FetchFailed, IsUnhindered, IsUnwritten, NothingFailed, WriteFailed, end_by}
 use Rattle.lwcrun_core.specs.Ends as ends
-use Rattle.lwcrun_core.specs.Headline.{IsText, Work, after_image, after_schedule, after_server, asm_plan, dis_plan, gen_plan, inputs_of, lift_plan, plan_of, read_by, replay_plan, run_plan, serve_plan, text_of}
+use Rattle.lwc_text.specs.Report.{report_of_schedule}
+use Rattle.lwcrun_core.specs.Headline.{IsText, Work, after_image, after_monitored, after_schedule, after_server, asm_plan, dis_plan, gen_plan, inputs_of, lift_plan, monitor_plan, plan_of, read_by, replay_plan, run_plan, serve_plan}
 use Rattle.lwcrun_core.specs.Headline as works
 use Rattle.lwcrun_core.specs.Images.{bounded, bounded_requests_of, fitted, fitting_image_of, image_of, or_rejected, requests_of, schedule_of, serve_steps, source_of, then_tested}
 use Rattle.lwcrun_core.specs.Lines.{AreReplaySettings, AreServeSettings, Command, IsWithinLimits}
@@ -69,6 +71,9 @@ listed image = plans.Write (works.Disassembling image)
 abbrev raised : Image → Plan Rejection Work
 raised image = plans.Write (works.Spelling (lifted image))
 
+abbrev monitored : Settings → Image → List ℕ → Plan Rejection Work
+monitored settings image steps = plans.Write (works.Monitoring (inputs_of image [] settings) steps)
+
 -- the files that a plan reads are those that its command names
 
 reads_accepted : {A : Type 0} (files : FileContents) (r : Result A Rejection) (next : A → Plan Rejection Work) (q : List ℕ) (P : Type 0) → ((x : A) → Reads files (next x) q → P) → Reads files (accepted r next) q → P
@@ -94,8 +99,13 @@ reads_after_server : (files : FileContents) (requests : List ℕ) (settings : Se
 unfolding after_server
 reads_after_server files requests settings image q h = reads_by files (bounded_requests_of settings) MOST_REQUEST_FILE_BYTES requests (served settings image) q _ (λ is. is) (λ asked after. absurd after) h
 
+reads_after_monitored : (files : FileContents) (schedule : List ℕ) (settings : Settings) (image : Image) (q : List ℕ) → Reads files (after_monitored schedule settings image) q → q ≡ schedule
+unfolding after_monitored
+reads_after_monitored files schedule settings image q h =
+    reads_by files (schedule_of (threads_for image settings.job)) MOST_SCHEDULE_BYTES schedule (monitored settings image) q _ (λ is. is) (λ steps after. absurd after) h
+
 reads_names : (files : FileContents) (command : Command) (q : List ℕ) → Reads files (plan_of command) q → Names command q
-unfolding replay_plan run_plan serve_plan asm_plan dis_plan gen_plan lift_plan
+unfolding replay_plan run_plan serve_plan asm_plan dis_plan gen_plan lift_plan monitor_plan after_monitored
 reads_names files (commands.Replay image schedule requests settings) q h =
     reads_by files (fitting_image_of settings.frames) MOST_IMAGE_BYTES image (after_image schedule requests settings) q _ (λ is. inl is) (λ x after. inr (reads_after_image files schedule requests settings x q after)) h
 reads_names files (commands.Run image settings) q h = reads_by files (fitting_image_of settings.frames) MOST_IMAGE_BYTES image (ran settings) q _ (λ is. is) (λ x after. absurd after) h
@@ -105,6 +115,8 @@ reads_names files (commands.Asm source) q h = reads_by files source_of MOST_SOUR
 reads_names files (commands.Gen number) q h = h
 reads_names files (commands.Dis image) q h = reads_by files image_of MOST_IMAGE_BYTES image listed q _ (λ is. is) (λ x after. absurd after) h
 reads_names files (commands.Lift image) q h = reads_by files image_of MOST_IMAGE_BYTES image raised q _ (λ is. is) (λ x after. absurd after) h
+reads_names files (commands.Monitor image schedule settings) q h =
+    reads_by files (fitting_image_of settings.frames) MOST_IMAGE_BYTES image (after_monitored schedule settings) q _ (λ is. inl is) (λ x after. inr (reads_after_monitored files schedule settings x q after)) h
 
 are_known : (files : FileContents) (command : Command) (bytes : List ℕ → List ℕ) → AreContents files command bytes → AreKnown files (plan_of command) bytes
 are_known files command bytes h q reads = h q (reads_names files command q reads)
@@ -182,7 +194,7 @@ leads_by files grammar limit name next work known is (bytes, may, fits, leads) =
 
 -- what was written is the text of a complete history
 abbrev WroteSteps : Outside → Inputs → Type 0
-WroteSteps o inputs = (steps : List ℕ) × IsComplete (start inputs) steps × (o.out_after.taken ≡ appended o.out.taken (text_of inputs steps))
+WroteSteps o inputs = (steps : List ℕ) × IsComplete (start inputs) steps × (o.out_after.taken ≡ appended o.out.taken (report_of_schedule inputs steps))
 
 -- the text of threads that went on by themselves is that of a complete history
 wrote : (o : Outside) (inputs : Inputs) (work : Work) (text : List ℕ) → work ≡ works.Running inputs → IsText work text → o.out_after.taken ≡ appended o.out.taken text → WroteSteps o inputs
@@ -232,7 +244,7 @@ over_schedule bytes None settings image steps asked none = ap (λ a. Ok (works.R
 over_schedule bytes (Some requests) settings image steps asked is = over bytes _ asked (replayed settings image steps) (requests_accepted (bytes requests) asked is)
 
 runs : (bytes : List ℕ → List ℕ) (command : Command) → IsRunnable command bytes → (work : Work) × (outcome bytes (plan_of command) ≡ Ok work)
-unfolding replay_plan after_image run_plan serve_plan after_server asm_plan dis_plan gen_plan lift_plan
+unfolding replay_plan after_image run_plan serve_plan after_server asm_plan dis_plan gen_plan lift_plan monitor_plan after_monitored
 runs bytes (commands.Replay image schedule requests settings) (x, steps, asked, h) = (
   works.Replaying (inputs_of x asked settings) steps,
   over bytes _ x (after_image schedule requests settings) (fitting_accepted settings (bytes image) x h.guest)
@@ -249,6 +261,11 @@ runs bytes (commands.Serve image requests settings) (x, asked, h) = (
 runs bytes (commands.Asm source) (x, is) = (works.Spelling x, over bytes _ x made (source_read (bytes source) x is))
 runs bytes (commands.Dis image) (x, is, spelled) = (works.Disassembling x, over bytes _ x listed (image_accepted (bytes image) x is spelled))
 runs bytes (commands.Gen number) runnable = (works.Generating number, refl)
+runs bytes (commands.Monitor image schedule settings) (x, steps, h) = (
+  works.Monitoring (inputs_of x [] settings) steps,
+  over bytes _ x (after_monitored schedule settings) (fitting_accepted settings (bytes image) x h.guest)
+      ∙ over bytes _ steps (monitored settings x) (schedule_accepted _ (bytes schedule) steps h.scheduled),
+)
 runs bytes (commands.Lift image) (x, is, spelled) = (works.Spelling (lifted x), over bytes _ x raised (image_accepted (bytes image) x is spelled))
 
 mapped_alike : {A : Type 0} (f g : ℕ → A) (from n : ℕ) → ((r : ℕ) → r < from + n → f r ≡ g r) → map f (range_with_len from n) ≡ map g (range_with_len from n)
@@ -317,7 +334,7 @@ asked_of files (Some requests) settings image steps work bytes known h =
     (read.0, requests_found (bytes requests) read.0 read.1, work_is work _ read.3)
 
 headline_of : (o : Outside) (command : Command) (bytes : List ℕ → List ℕ) (work : Work) (text : List ℕ) → IsWithinLimits command → AreContents o.files.contents command bytes → LeadsTo o.files.contents (plan_of command) (Ok work) → IsText work text → o.out_after.taken ≡ appended o.out.taken text → Headline o command bytes
-unfolding replay_plan after_image run_plan serve_plan after_server asm_plan dis_plan gen_plan lift_plan bounded_requests_of
+unfolding replay_plan after_image run_plan serve_plan after_server asm_plan dis_plan gen_plan lift_plan monitor_plan after_monitored bounded_requests_of
 headline_of o (commands.Replay image schedule requests settings) bytes work text within known leads is taken =
     let files = o.files.contents in
     let read = leads_by files (fitting_image_of settings.frames) MOST_IMAGE_BYTES image (after_image schedule requests settings) work (bytes image) (known image (inl refl)) leads in
@@ -380,6 +397,19 @@ headline_of o (commands.Lift image) bytes work text within known leads is taken 
       spelled.1,
       runs_lifted read.0,
       taken ∙ ap (appended o.out.taken) (let P : Work → Type 0 = λ w. IsText w text in subst P (work_is work _ read.3) is),
+    )
+headline_of o (commands.Monitor image schedule settings) bytes work text within known leads is taken =
+    let files = o.files.contents in
+    let read = leads_by files (fitting_image_of settings.frames) MOST_IMAGE_BYTES image (after_monitored schedule settings) work (bytes image) (known image (inl refl)) leads in
+    let steps = leads_by files (schedule_of (threads_for read.0 settings.job)) MOST_SCHEDULE_BYTES schedule (monitored settings read.0) work (bytes schedule) (known schedule (inr refl)) read.3 in
+    let guest = fitting_found settings (bytes image) read.0 read.2 read.1 in
+    let inputs = inputs_of read.0 [] settings in
+    let can = replay_opens None settings bytes (bytes image) read.0 [] within guest refl in (
+      read.0,
+      steps.0,
+      record { guest = guest; scheduled = schedule_found _ (bytes schedule) steps.0 steps.1; requested = refl },
+      monitored_run inputs steps.0 can within.job,
+      taken ∙ ap (appended o.out.taken) (let P : Work → Type 0 = λ w. IsText w text in subst P (work_is work _ steps.3) is),
     )
 
 -- a line that is not accepted reads no file and writes no text

@@ -8,4 +8,3 @@ pub mod Follows
 pub mod Readers
 pub mod Outputs
 pub mod Promises
-pub mod Replays

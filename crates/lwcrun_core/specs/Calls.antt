@@ -16,6 +16,8 @@ use Rattle.confinement.specs.EachStep.{IsConfinedRun}
 use Rattle.request_isolation.specs.Needs.{HasFrames}
 use Rattle.lwc_gen.specs.Generated.{generated}
 use Rattle.lwc_gen.specs.Summary.{summary_after}
+use Rattle.lwc_monitor.specs.Promises.{IsMonitoredRun}
+use Rattle.lwc_monitor.specs.Reports.{monitored_text}
 use Rattle.lwc_text.specs.Requests.{IsRequestFile}
 use Rattle.lwc_text.specs.Schedules.{IsSchedule}
 use Rattle.lwcrun_core.specs.declared.ending.Rejection.{Rejection}
@@ -23,7 +25,8 @@ use Rattle.lwcrun_core.specs.declared.status.ExitStatus.{ExitStatus}
 use Rattle.lwcrun_core.specs.declared.status.ExitStatus.TheVariants as statuses
 use Rattle.lwcrun_core.specs.Ends.{End, Outside, Ended, FetchFailed, IsUnwritten, WriteFailed}
 use Rattle.lwcrun_core.specs.Ends as ends
-use Rattle.lwcrun_core.specs.Headline.{IsText, Work, inputs_of, plan_of, text_of}
+use Rattle.lwc_text.specs.Report.{report_of_schedule}
+use Rattle.lwcrun_core.specs.Headline.{IsText, Work, inputs_of, plan_of}
 use Rattle.lwcrun_core.specs.Images.{serve_steps}
 use Rattle.lwcrun_core.specs.Lines.{Command}
 use Rattle.lwcrun_core.specs.Lines as commands
@@ -57,6 +60,7 @@ Names (commands.Asm source) q = q ≡ source
 Names (commands.Dis image) q = q ≡ image
 Names (commands.Gen number) q = ⊥
 Names (commands.Lift image) q = q ≡ image
+Names (commands.Monitor image schedule settings) q = (q ≡ image) ⊎ (q ≡ schedule)
 
 -- a call fetched what its command's plan comes to, and nothing where the line is not accepted
 abbrev pub FetchesPlan : Option Command → FilesView → FilesView → Type 0
@@ -135,7 +139,7 @@ pub record IsServe
 abbrev pub WroteHistory : Outside → Inputs → Type 0
 WroteHistory o inputs =
     (steps : List ℕ) × IsComplete (start inputs) steps × IsConfinedRun inputs steps
-    × (o.out_after.taken ≡ appended o.out.taken (text_of inputs steps))
+    × (o.out_after.taken ≡ appended o.out.taken (report_of_schedule inputs steps))
 
 -- some complete history of this serve was made, each step of which is confined, and in which each request has
 -- a reply; where there are frames for that, it is the one that the request gets by itself, and no step finds
@@ -144,7 +148,7 @@ abbrev pub WroteServe : Outside → Inputs → Type 0
 WroteServe o inputs =
     (steps : List ℕ) × IsComplete (start inputs) steps × EachHasReply inputs steps × RepliesAreAlone inputs steps
     × NoneIsShort inputs steps × IsConfinedRun inputs steps
-    × (o.out_after.taken ≡ appended o.out.taken (text_of inputs steps))
+    × (o.out_after.taken ≡ appended o.out.taken (report_of_schedule inputs steps))
 
 -- some complete history of the generated serve was made, and its summary was written, which is that of the
 -- replies that the requests get by themselves where there are frames for that
@@ -158,9 +162,10 @@ WroteSummary o number =
 -- the headline of a command over the contents of its files. They are accepted, and what was written is: the
 -- report of the steps that are kept of the schedule, or of those that running threads made; the bytes of the
 -- source's image, or the source of the image; the summary of the steps of a generated serve; the bytes of the
--- lifted image, which runs the same where no limit of pages is met. Of the same steps: with enough frames each
--- reply is the one that its request gets alone, and no step is short of them; each step is confined, and what is
--- left alone is as it was made
+-- lifted image, which runs the same where no limit of pages is met; the report of the steps that are kept of the
+-- schedule of a monitored run, in which no trapped context's slots change but by its monitor. Of the same steps:
+-- with enough frames each reply is the one that its request gets alone, and no step is short of them; each step is
+-- confined, and what is left alone is as it was made
 abbrev pub Headline : Outside → Command → (List ℕ → List ℕ) → Type 0
 Headline o (commands.Replay image schedule requests settings) bytes =
     (x : Image) × (steps : List ℕ) × (asked : List (List ℕ))
@@ -168,7 +173,7 @@ Headline o (commands.Replay image schedule requests settings) bytes =
     × RepliesAreAlone (inputs_of x asked settings) (kept (start (inputs_of x asked settings)) steps)
     × NoneIsShort (inputs_of x asked settings) (kept (start (inputs_of x asked settings)) steps)
     × IsConfinedRun (inputs_of x asked settings) (kept (start (inputs_of x asked settings)) steps)
-    × (o.out_after.taken ≡ appended o.out.taken (text_of (inputs_of x asked settings) steps))
+    × (o.out_after.taken ≡ appended o.out.taken (report_of_schedule (inputs_of x asked settings) steps))
 Headline o (commands.Run image settings) bytes =
     (x : Image) × IsFitting settings (bytes image) x × WroteHistory o (inputs_of x [] settings)
 Headline o (commands.Serve image requests settings) bytes =
@@ -182,6 +187,10 @@ Headline o (commands.Gen number) bytes = WroteSummary o number
 Headline o (commands.Lift image) bytes =
     (x : Image) × IsImage x × (bytes image ≡ spelling x) × RunsLifted x
     × (o.out_after.taken ≡ appended o.out.taken (spelling (lifted x)))
+Headline o (commands.Monitor image schedule settings) bytes =
+    (x : Image) × (steps : List ℕ) × IsReplay bytes image schedule None settings x steps []
+    × IsMonitoredRun (inputs_of x [] settings) steps
+    × (o.out_after.taken ≡ appended o.out.taken (monitored_text (inputs_of x [] settings) steps))
 
 -- the contents of the command's files are accepted
 abbrev pub IsRunnable : Command → (List ℕ → List ℕ) → Type 0
@@ -195,3 +204,5 @@ IsRunnable (commands.Asm source) bytes = (x : Image) × (assembled (bytes source
 IsRunnable (commands.Dis image) bytes = (x : Image) × IsImage x × (bytes image ≡ spelling x)
 IsRunnable (commands.Gen number) bytes = Unit {0}
 IsRunnable (commands.Lift image) bytes = (x : Image) × IsImage x × (bytes image ≡ spelling x)
+IsRunnable (commands.Monitor image schedule settings) bytes =
+    (x : Image) × (steps : List ℕ) × IsReplay bytes image schedule None settings x steps []

@@ -7,11 +7,11 @@ use Rattle.guest_image.specs.Spelling.{spelling}
 use Rattle.guest_image.specs.declared.image.Image.{Image}
 use Rattle.kernel_core.specs.declared.settings.Settings.{Settings}
 use Rattle.kernel_core.specs.Histories.{IsComplete}
-use Rattle.kernel_core.specs.Runs.{kept}
 use Rattle.kernel_core.specs.Start.{Inputs, start, threads_for}
 use Rattle.lwc_gen.specs.Generated.{generated}
 use Rattle.lwc_gen.specs.Summary.{summary_after}
-use Rattle.lwc_text.specs.Report.{report_after}
+use Rattle.lwc_monitor.specs.Reports.{monitored_text}
+use Rattle.lwc_text.specs.Report.{report_of_schedule}
 use Rattle.lwcrun_core.specs.declared.ending.Rejection.{Rejection}
 use Rattle.lwcrun_core.specs.Images.{bounded_requests_of, fitting_image_of, image_of, requests_of, schedule_of, source_of}
 use Rattle.lwcrun_core.specs.Lines.{Command}
@@ -19,28 +19,27 @@ use Rattle.lwcrun_core.specs.Lines as commands
 use Rattle.lwcrun_core.specs.Plans.{Plan, Read, Write, accepted}
 
 -- what is done when all inputs are accepted: the steps of a schedule; all steps of threads that go on by
--- themselves; the bytes of an image, or its source; all steps of a generated serve
+-- themselves; the bytes of an image, or its source; all steps of a generated serve; the steps of a schedule, in
+-- which contexts may be trapped
 pub data Work : Type 0 where
   Replaying : Inputs → List ℕ → Work
   Running : Inputs → Work
   Spelling : Image → Work
   Disassembling : Image → Work
   Generating : ℕ → Work
-
--- the text of a schedule: the report of the steps that are kept
-unfoldable pub text_of : Inputs → List ℕ → List ℕ
-text_of inputs schedule = report_after inputs (kept (start inputs) schedule)
+  Monitoring : Inputs → List ℕ → Work
 
 -- the texts that a work may have; threads that go on by themselves may make any complete history
 abbrev pub IsText : Work → List ℕ → Type 0
-IsText (Replaying inputs schedule) text = text ≡ text_of inputs schedule
+IsText (Replaying inputs schedule) text = text ≡ report_of_schedule inputs schedule
 IsText (Running inputs) text =
-    (steps : List ℕ) × IsComplete (start inputs) steps × (text ≡ text_of inputs steps)
+    (steps : List ℕ) × IsComplete (start inputs) steps × (text ≡ report_of_schedule inputs steps)
 IsText (Spelling image) text = text ≡ spelling image
 IsText (Disassembling image) text = text ≡ listing image
 IsText (Generating number) text =
     (steps : List ℕ) × IsComplete (start (generated number)) steps
     × (text ≡ summary_after (generated number) number steps)
+IsText (Monitoring inputs schedule) text = text ≡ monitored_text inputs schedule
 
 -- what a kernel is opened with
 abbrev pub inputs_of : Image → List (List ℕ) → Settings → Inputs
@@ -97,6 +96,17 @@ dis_plan image = read_by image_of MOST_IMAGE_BYTES image (λ x. Write (Disassemb
 unfoldable pub lift_plan : List ℕ → Plan Rejection Work
 lift_plan image = read_by image_of MOST_IMAGE_BYTES image (λ x. Write (Spelling (lifted x)))
 
+-- what follows the image of a monitored run: the schedule of its threads is read
+unfoldable pub after_monitored : List ℕ → Settings → Image → Plan Rejection Work
+after_monitored schedule settings image =
+    read_by (schedule_of (threads_for image settings.job)) MOST_SCHEDULE_BYTES schedule (λ steps.
+    Write (Monitoring (inputs_of image [] settings) steps))
+
+-- a monitored run: the image is read, and then the schedule
+unfoldable pub monitor_plan : List ℕ → List ℕ → Settings → Plan Rejection Work
+monitor_plan image schedule settings =
+    read_by (fitting_image_of settings.frames) MOST_IMAGE_BYTES image (after_monitored schedule settings)
+
 -- a generated serve: no file is read
 unfoldable pub gen_plan : ℕ → Plan Rejection Work
 gen_plan number = Write (Generating number)
@@ -110,3 +120,4 @@ plan_of (commands.Asm source) = asm_plan source
 plan_of (commands.Dis image) = dis_plan image
 plan_of (commands.Gen number) = gen_plan number
 plan_of (commands.Lift image) = lift_plan image
+plan_of (commands.Monitor image schedule settings) = monitor_plan image schedule settings

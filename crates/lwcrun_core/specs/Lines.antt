@@ -13,7 +13,8 @@ use Rattle.lwcrun_core.specs.Numbers.{number_within}
 
 -- what is asked for, each file by its name: an image under a schedule, a serve where there are requests; the
 -- run of an image; the serve of requests by an image; the image of a source; the source of an image; the
--- serve that is generated from a number; the lifted image of an image
+-- serve that is generated from a number; the lifted image of an image; an image under a schedule, in whose run
+-- contexts may be trapped
 pub data Command : Type 0 where
   Replay : List ℕ → List ℕ → Option (List ℕ) → Settings → Command
   Run : List ℕ → Settings → Command
@@ -22,6 +23,7 @@ pub data Command : Type 0 where
   Dis : List ℕ → Command
   Gen : ℕ → Command
   Lift : List ℕ → Command
+  Monitor : List ℕ → List ℕ → Settings → Command
 
 -- settings of a run, within their limits
 pub record AreRunSettings (settings : Settings) : Type 0 where
@@ -98,6 +100,12 @@ serve_of a =
 abbrev pub gen_of : Arguments → Option Command
 gen_of a = option_map Gen (option_and_then (number_within 1 100) (only_word a))
 
+-- `monitor` wants an image and a schedule, and takes frames and a budget
+abbrev pub monitor_of : Arguments → Option Command
+monitor_of a =
+    if is_some a.third || is_some a.workers then None
+    else two_words a (λ image schedule. option_map (Monitor image schedule) (settings_of jobs.Run a))
+
 -- the table of modes: what each asks for, if it takes the other arguments
 abbrev pub asked_in : List ℕ → Arguments → Option Command
 asked_in mode a =
@@ -108,6 +116,7 @@ asked_in mode a =
     else if bytes_eq mode (codes "dis") then option_map Dis (only_word a)
     else if bytes_eq mode (codes "gen") then gen_of a
     else if bytes_eq mode (codes "lift") then option_map Lift (only_word a)
+    else if bytes_eq mode (codes "monitor") then monitor_of a
     else None
 
 -- what the words ask for, the program's name first; none where the line is not accepted
@@ -124,6 +133,7 @@ asked_by (lines.Asm source) = Asm (string_bytes source)
 asked_by (lines.Dis image) = Dis (string_bytes image)
 asked_by (lines.Gen number) = Gen number
 asked_by (lines.Lift image) = Lift (string_bytes image)
+asked_by (lines.Monitor image schedule settings) = Monitor (string_bytes image) (string_bytes schedule) settings
 
 -- the settings of a replay are within their limits: those of a run, or of a serve where there are requests
 abbrev pub AreReplaySettings : {A : Type 0} → Option A → Settings → Type 0
@@ -139,6 +149,7 @@ IsWithinLimits (Asm source) = Unit {0}
 IsWithinLimits (Dis image) = Unit {0}
 IsWithinLimits (Gen number) = (1 ≤ number) × (number ≤ 100)
 IsWithinLimits (Lift image) = Unit {0}
+IsWithinLimits (Monitor image schedule settings) = AreRunSettings settings
 
 -- the command runs threads, which come to the gate
 abbrev pub RunsThreads : Command → Type 0
@@ -149,3 +160,4 @@ RunsThreads (Asm source) = ⊥
 RunsThreads (Dis image) = ⊥
 RunsThreads (Gen number) = Unit {0}
 RunsThreads (Lift image) = ⊥
+RunsThreads (Monitor image schedule settings) = ⊥

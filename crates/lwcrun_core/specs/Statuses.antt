@@ -47,7 +47,8 @@ message words = codes "lwcrun: " ++ words ++ 10 ∷ []
 abbrev pub usage_words : List ℕ
 usage_words =
     codes "usage: lwcrun replay IMAGE SCHEDULE [REQUESTS], run IMAGE, serve IMAGE REQUESTS, "
-    ++ codes "asm SOURCE, dis IMAGE, gen NUMBER, lift IMAGE; --frames F --budget B --workers W"
+    ++ codes "asm SOURCE, dis IMAGE, gen NUMBER, lift IMAGE, monitor IMAGE SCHEDULE; "
+    ++ codes "--frames F --budget B --workers W"
 
 -- why an input was refused, in words
 abbrev pub rejection_words : Rejection → List ℕ

@@ -15,6 +15,7 @@ ghost use Rattle.lwcrun_core.specs.Views.{end_of, outside};
 use crate::ending::Ending;
 use crate::line::{Line, LineFault, read_line};
 use crate::messages::write_message;
+use crate::monitoring::monitor;
 use crate::replaying::replay;
 use crate::running::{run, serve, serve_generated};
 use crate::sources::{asm, dis, lift};
@@ -53,8 +54,8 @@ pub fn lwcrun<R: Threads + Wait + Sync, F: Files, O: Sink, E: Sink, G: Gate>(
         (command_of (map string_bytes words.now)) result (E.seen err.old) (E.seen err.new) }
 
     // What was written at status 0, over known files: the report of the steps that are kept of the schedule,
-    // or that the threads made, each of which is confined; an image, one that was lifted too, or a source; the
-    // summary of a generated serve.
+    // or that the threads made, each of which is confined, also where contexts are trapped; an image, one that was
+    // lifted too, or a source; the summary of a generated serve.
     ensures headline { (command : Command) (bytes : List ℕ → List ℕ) → result ≡ ExitStatus.Ok
         → command_of (map string_bytes words.now) ≡ Some command
         → AreContents (F.seen files.old).contents command bytes
@@ -198,5 +199,10 @@ fn carry_out<'a, R: Threads + Wait + Sync, F: Files, O: Sink, G: Gate>(
         Line::Dis { image } => dis(alloc, files, out, image.as_str()),
         Line::Gen { number } => serve_generated(rt, alloc, out, gate, *number),
         Line::Lift { image } => lift(alloc, files, out, image.as_str()),
+        Line::Monitor {
+            image,
+            schedule,
+            settings,
+        } => monitor(alloc, files, out, image, schedule, settings),
     }
 }

@@ -10,6 +10,7 @@ mod inputs;
 mod limits;
 mod line;
 mod messages;
+mod monitoring;
 mod numbers;
 mod reading;
 mod replaying;

@@ -49,6 +49,12 @@ pub enum Line {
     Lift {
         image: String,
     },
+    /// An image under a schedule, each a file by its name; its contexts may be trapped.
+    Monitor {
+        image: String,
+        schedule: String,
+        settings: Settings,
+    },
 }
 
 /// Why a line was not read.
@@ -109,6 +115,7 @@ fn line_in(alloc: Global, mode: &str, arguments: &Arguments<'_>) -> Result<Line,
         "lift" => Ok(Line::Lift {
             image: name_of(alloc, only_word(arguments))?,
         }),
+        "monitor" => monitor_line(alloc, arguments),
         _ => Err(LineFault::Usage),
     }
 }
@@ -222,6 +229,26 @@ fn gen_line(arguments: &Arguments<'_>) -> Result<Line, LineFault>
         Some(number) => Ok(Line::Gen { number }),
         None => Err(LineFault::Usage),
     }
+}
+
+/// The line of a monitored run: an image and a schedule, with frames and a budget.
+fn monitor_line(alloc: Global, arguments: &Arguments<'_>) -> Result<Line, LineFault>
+    ensures accepted { IfOk result (λ line. spec.monitor_of (arguments_in arguments.now)
+        ≡ Some (asked_by line)) }
+    ensures limits { IfOk result (λ line. IsWithinLimits (asked_by line)) }
+    ensures usage { result ≡ Err LineFault.Usage → spec.monitor_of (arguments_in arguments.now) ≡ None }
+{
+    if arguments.third.is_some() || arguments.workers.is_some() {
+        return Err(LineFault::Usage);
+    }
+    let Some(settings) = settings_of(arguments, Job::Run) else {
+        return Err(LineFault::Usage);
+    };
+    Ok(Line::Monitor {
+        image: name_of(alloc, arguments.first)?,
+        schedule: name_of(alloc, arguments.second)?,
+        settings,
+    })
 }
 
 /// The name of a file, if it is given.

@@ -3,11 +3,10 @@ ghost use Rattle.guest_image.specs.Limits.{IsImage};
 ghost use Rattle.lwc_base.specs.declared.limits.TheConstants.{MOST_STEPS};
 ghost use Rattle.lwc_io.specs.Outside.{FilesView};
 ghost use Rattle.kernel_core.specs.Kernel.{CanOpen};
-ghost use Rattle.kernel_core.specs.Runs.{kept};
 ghost use Rattle.kernel_core.specs.Start.{start, thread_count, threads_for};
 ghost use Rattle.lwcrun_core.specs.Ends.{Ended};
 ghost use Rattle.lwcrun_core.specs.Headline.{IsText, after_image, after_schedule, inputs_of, replay_plan};
-ghost use Rattle.lwcrun_core.specs.Headline.{text_of};
+ghost use Rattle.lwc_text.specs.Report.{report_of_schedule};
 ghost use Rattle.lwcrun_core.specs.Headline as works;
 ghost use Rattle.lwcrun_core.specs.Lines.{AreReplaySettings};
 ghost use Rattle.lwcrun_core.specs.Plans as plans;
@@ -23,9 +22,8 @@ use kernel_core::{Job, Kernel, Settings};
 use lazy_world::LazyWorld;
 use lwc_base::{OutOfMemory, Requests};
 use lwc_io::{Files, Sink};
-use lwc_text::{Schedule, report};
+use lwc_text::{Schedule, report_of_schedule};
 use std::alloc::Global;
-use world_face::World;
 
 /// Reads the image and the schedule of these names, and the requests of a serve, makes the schedule's
 /// steps, and writes the report.
@@ -118,7 +116,7 @@ fn replay_schedule<'a, F: Files, O: Sink>(
 }
 
 /// The number of threads of an image's run or serve.
-fn thread_count(image: &Image, job: Job) -> u32
+pub(crate) fn thread_count(image: &Image, job: Job) -> u32
     requires { IsImage image.now }
     ensures { result ≡ threads_for image.now job }
 {
@@ -140,41 +138,11 @@ fn replay_text(
     requires threads { All (λ t. t < threads_for image.now settings.now.job) schedule.now }
     requires short { length schedule.now ≤ MOST_STEPS }
     ensures { IfOk result (λ text.
-        text.items ≡ text_of (inputs_of image.now requests settings.now) schedule.now) }
+        text.items ≡ report_of_schedule (inputs_of image.now requests settings.now) schedule.now) }
 {
     let steps = schedule.len() as u32;
     match Kernel::<LazyWorld>::open(alloc, image, requests, steps, settings) {
-        Ok(kernel) => report_of(alloc, kernel, schedule),
+        Ok(kernel) => report_of_schedule(alloc, kernel, schedule),
         Err(_) => Err(OutOfMemory),
     }
-}
-
-/// The report of the schedule's steps from the kernel's start.
-fn report_of<W: World>(
-    alloc: Global,
-    mut kernel: Kernel<W>,
-    schedule: &Schedule,
-) -> Result<Vec<u8>, OutOfMemory>
-    requires fresh { kernel.steps ≡ [] }
-    requires room { length schedule.now ≤ kernel.room }
-    requires threads { All (λ t. t < thread_count kernel.inputs) schedule.now }
-    ensures { IfOk result (λ text. text.items ≡ text_of kernel.inputs schedule.now) }
-{
-    make_steps(&mut kernel, schedule)?;
-    let text = report(alloc, &kernel)?;
-    Ok(text)
-}
-
-/// Makes the steps of the schedule, one after another.
-fn make_steps<W: World>(kernel: &mut Kernel<W>, schedule: &Schedule) -> Result<(), OutOfMemory>
-    requires fresh { kernel.old.steps ≡ [] }
-    requires room { length schedule.now ≤ kernel.old.room }
-    requires threads { All (λ t. t < thread_count kernel.old.inputs) schedule.now }
-    ensures inputs { OnOk result (kernel.new.inputs ≡ kernel.old.inputs) }
-    ensures steps { OnOk result (kernel.new.steps ≡ kept (start kernel.old.inputs) schedule.now) }
-{
-    for i in 0..schedule.len() {
-        kernel.make_step(u32::from(*schedule.get(i)), None)?;
-    }
-    Ok(())
 }

@@ -1,5 +1,6 @@
 use Rattle.std.proofs.Common.{◌≡◌, ◌∙◌, IfOk, List, [], ℕ, refl, subst}
-use Rattle.lwcrun_core.specs.Headline.{IsText, after_schedule, inputs_of, text_of}
+use Rattle.lwc_text.specs.Report.{report_of_schedule}
+use Rattle.lwcrun_core.specs.Headline.{IsText, after_schedule, inputs_of}
 use Rattle.lwcrun_core.specs.Headline as works
 use Rattle.lwcrun_core.proofs.Fetches.{nothing_fetched}
 use Rattle.lwcrun_core.proofs.Follows.{fetches_on, fetches_stop, reads_on, stops_reading}
@@ -9,7 +10,7 @@ pub returns-in-None-clause-ended : goal.returns-in-None-clause-ended
 unfolding after_schedule
 returns-in-None-clause-ended g c =
     let none : c.of-requests.result ≡ [] = c.of-requests.ensures ∙ c.new.ensures.items in
-    let text = subst (λ (r : List (List ℕ)). IfOk c.replay_text.result (λ text. text.items ≡ text_of (inputs_of c.args.image.now r c.args.settings.now) c.args.schedule.now)) none c.replay_text.ensures in
+    let text = subst (λ (r : List (List ℕ)). IfOk c.replay_text.result (λ text. text.items ≡ report_of_schedule (inputs_of c.args.image.now r c.args.settings.now) c.args.schedule.now)) none c.replay_text.ensures in
     rw c.in-None.is (c.write_work.ensures (works.Replaying (inputs_of c.args.image.now [] c.args.settings.now) c.args.schedule.now) _ text)
 
 pub returns-in-None-clause-fetches : goal.returns-in-None-clause-fetches

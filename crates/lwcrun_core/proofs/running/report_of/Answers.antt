@@ -1,5 +1,5 @@
 use Rattle.std.proofs.Common.{sym}
-use Rattle.lwcrun_core.proofs.Replays.{text_is}
+use Rattle.lwc_text.proofs.Replays.{text_is}
 use Rattle.lwcrun_core.proofs.running.report_of.Goals as goal
 
 pub returns : goal.returns

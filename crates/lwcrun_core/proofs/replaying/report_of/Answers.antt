@@ -1,7 +1,0 @@
-use Rattle.lwcrun_core.proofs.Replays.{text_is}
-use Rattle.lwcrun_core.proofs.replaying.report_of.Goals as goal
-
-pub returns : goal.returns
-returns g c =
-    text_is c.make_steps.new.kernel c.args.kernel.inputs c.args.schedule.now _ c.in_ok-make_steps.ensures.inputs c.in_ok-make_steps.ensures.steps
-    c.in_ok-text.ensures.exact
