@@ -179,7 +179,7 @@ pub const STORED: &str =
 /// The message of a line that is not accepted.
 pub const USAGE: &str =
     "lwcrun: usage: lwcrun replay IMAGE SCHEDULE [REQUESTS], run IMAGE, serve IMAGE REQUESTS, asm SOURCE, \
-    dis IMAGE, gen NUMBER, lift IMAGE; --frames F --budget B --workers W\n";
+    dis IMAGE, gen NUMBER, lift IMAGE, monitor IMAGE SCHEDULE; --frames F --budget B --workers W\n";
 
 #[test]
 fn guests_run_as_their_schedules_say(rt: HostRuntime) -> Result<(), Fail> {

@@ -1,13 +1,15 @@
 ghost use Rattle.guest_image.specs.Limits.{IsImage};
 ghost use Rattle.kernel_core.specs.Kernel.{MayHave};
 ghost use Rattle.kernel_core.specs.Settings.{IsSettings};
+ghost use Rattle.lwcrun_core.specs.Lines.{AreRunSettings};
 
 use crate::case::Case;
 use crate::line_of;
 use guest_image::{Image, read_image};
 use kernel_core::{Kernel, OpenFault, Settings};
 use lwc_base::{OutOfMemory, Requests};
-use lwc_text::{read_requests, report};
+use lwc_monitor::monitor_replay;
+use lwc_text::{read_requests, read_schedule, report};
 use lwcrun_core::{Line, read_line};
 use std::alloc::{AllocError, Global};
 use whole_world::WholeWorld;
@@ -42,6 +44,9 @@ pub fn text_over_copies(alloc: Global, guest: &[u8], case: &Case) -> Result<Vec<
             };
             Ok(steps_over_copies(alloc, &image, requests, &settings, schedule)?)
         }
+        Ok(Line::Monitor { settings, .. }) => {
+            Ok(monitored_over_copies(alloc, &image, &settings, schedule)?)
+        }
         _ => Ok(Vec::new(alloc)),
     }
 }
@@ -70,4 +75,23 @@ fn steps_over_copies(
         }
     }
     report(alloc, &kernel).or_else(|_| Ok(Vec::new(alloc)))
+}
+
+/// The report of the schedule's steps, in which contexts may be trapped, over a world by whole copies.
+fn monitored_over_copies(
+    alloc: Global,
+    image: &Image,
+    settings: &Settings,
+    schedule: &[u8],
+) -> Result<Vec<u8>, AllocError>
+    requires image { IsImage image.now }
+    requires settings { AreRunSettings settings.now }
+{
+    let fits = image.pages.len() as u32 <= settings.frames;
+    match read_schedule(alloc, schedule, image.entries.len() as u32) {
+        Ok(steps) if fits => monitor_replay::<WholeWorld>(alloc, image, &steps, settings).or_else(
+            |_| Ok(Vec::new(alloc)),
+        ),
+        _ => Ok(Vec::new(alloc)),
+    }
 }

@@ -1,10 +1,10 @@
-//! A replay in a function without a handle of the runtime.
+//! A replay in a function without a handle of the runtime, and one over files that never fail.
 
 use guest_asm::assemble;
 use guest_image::write_image;
 use kernel_core::{Job, Settings};
-use lwc_io::{MemoryFiles, MemorySink, NamedFile};
-use lwcrun_core::{Ending, replay};
+use lwc_io::{MemoryFiles, MemorySink, NamedFile, OpenGate, SureFiles};
+use lwcrun_core::{Ending, ExitStatus, lwcrun_in_memory, replay};
 use std::alloc::Global;
 use std::test::Fail;
 
@@ -31,5 +31,31 @@ fn a_replay_starts_no_thread(rt: HostRuntime) -> Result<(), Fail> {
     let mut out = MemorySink::new(alloc, 1 << 20, Vec::new(alloc));
     assert!(rt; without_runtime(alloc, &mut files, &mut out));
     assert!(rt; out.bytes().starts_with(b"thread 0 done 0 ctx 0.0 pc 0\n"));
+    Ok(())
+}
+
+#[test]
+fn files_that_never_fail_are_run(rt: HostRuntime) -> Result<(), Fail> {
+    let alloc = rt.alloc();
+    let image = assemble(alloc, b".entry 0\nHALT\n")?;
+    let guest = write_image(alloc, &image)?;
+    let mut named = Vec::new(alloc);
+    named.push(NamedFile::new(alloc, "guest", &guest)?)?;
+    named.push(NamedFile::new(alloc, "schedule", b"0")?)?;
+    let mut files = SureFiles::new(named);
+    let mut err = MemorySink::new(alloc, 1 << 20, Vec::new(alloc));
+    let mut words = Vec::new(alloc);
+    for word in ["lwcrun", "replay", "guest", "schedule"] {
+        words.push(String::from_str(alloc, word)?)?;
+    }
+    let status = lwcrun_in_memory(
+        &rt,
+        alloc,
+        words.as_slice(),
+        &mut files,
+        &mut err,
+        &OpenGate,
+    );
+    assert_eq!(rt; status, ExitStatus::Ok);
     Ok(())
 }
