@@ -7,16 +7,16 @@ use Rattle.lwcrun_core.proofs.monitoring.monitor_image.Goals as goal
 pub returns-in-Ok-clause-ended : goal.returns-in-Ok-clause-ended
 unfolding after_monitored
 returns-in-Ok-clause-ended g c =
-    reads_on IsText _ _ _ _ _ _ _ _ _ _ _ c.in-Ok.ensures.reads c.schedule_in.ensures.same (c.write_work.ensures _ _ c.monitor_replay.ensures)
+    reads_on IsText _ _ _ _ _ _ _ _ _ _ _ (rw c.thread_count.ensures at c.in-Ok.ensures.reads) c.schedule_in.ensures.same (c.write_work.ensures _ _ c.monitor_replay.ensures)
 
 pub returns-in-Ok-clause-fetches : goal.returns-in-Ok-clause-fetches
 unfolding after_monitored
 returns-in-Ok-clause-fetches g c =
-    fetches_on IsText _ _ _ _ _ _ _ _ c.in-Ok.ensures.reads c.schedule_in.ensures.same c.in-Ok.ensures.whole (nothing_fetched _ refl)
+    fetches_on IsText _ _ _ _ _ _ _ _ (rw c.thread_count.ensures at c.in-Ok.ensures.reads) c.schedule_in.ensures.same c.in-Ok.ensures.whole (nothing_fetched _ refl)
 
 pub returns-in-Err-clause-ended : goal.returns-in-Err-clause-ended
 unfolding after_monitored
-returns-in-Err-clause-ended g c = stops_reading IsText _ _ _ _ _ _ c.in-Err.ensures.reads refl
+returns-in-Err-clause-ended g c = stops_reading IsText _ _ _ _ _ _ (rw c.thread_count.ensures at c.in-Err.ensures.reads) refl
 
 pub returns-in-Err-clause-fetches : goal.returns-in-Err-clause-fetches
 unfolding after_monitored
