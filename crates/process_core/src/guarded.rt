@@ -13,8 +13,8 @@ use lwc_base::OutOfMemory;
 use turnstile::Turned;
 use world_face::World;
 
-/// A kernel over a roomy world, whose steps are a legal history, with room for all the steps that are left. The
-/// steps and the room are together as many as the threads could make at the start.
+/// A kernel over a roomy world, whose steps are a legal history, with room for all the steps that are left.
+/// The steps and the room are together as many as the threads could make at the start.
 ///
 /// The kernel is in a box, since the lock moves it twice in each turn.
 #[derive(Drop)]
@@ -22,7 +22,8 @@ pub(crate) struct Guarded<W: World> {
     pub(crate) kernel: Box<Kernel<W>>,
     pub(crate) ghost legal: { IsLegal (start kernel.value.inputs) kernel.value.steps },
     pub(crate) ghost room: { work (machine_of kernel.value) ≤ kernel.value.room },
-    pub(crate) ghost whole: { length kernel.value.steps + kernel.value.room ≡ work (start kernel.value.inputs) },
+    pub(crate) ghost whole: { length kernel.value.steps + kernel.value.room
+        ≡ work (start kernel.value.inputs) },
     pub(crate) ghost few: { length kernel.value.steps + kernel.value.room ≤ MOST_STEPS },
     pub(crate) ghost roomy: { W.roomy ≡ true },
 }

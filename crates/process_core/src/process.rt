@@ -1,6 +1,6 @@
 //! A process, as its callers see it.
-ghost use Rattle.std.specs.Prelude.{◌≡◌, ◌<◌, ◌≤◌, ◌+◌, ℕ, [], ◌∷◌, ◌++◌, false, true, length, All, IfOk, IfSome};
-ghost use Rattle.std.specs.Prelude.{Some, slice_get};
+ghost use Rattle.std.specs.Prelude.{◌≡◌, ◌<◌, ◌≤◌, ◌+◌, ℕ, [], ◌∷◌, ◌++◌, false, true, length, All};
+ghost use Rattle.std.specs.Prelude.{IfOk, IfSome, Some, slice_get};
 ghost use Rattle.guest_machine.specs.Advances.{advanced};
 ghost use Rattle.kernel_core.specs.Histories.{GoesOn, IsComplete, IsLegal, turn_after};
 ghost use Rattle.kernel_core.specs.Kernel as kernels;
@@ -72,7 +72,8 @@ fn take_turn<R: Wait, W: World>(
         move |guarded: &mut Guarded<W>| -> Box<Slip>
             requires { (t < thread_count guarded.now.kernel.value.inputs)
                 × (is_ended (machine_of guarded.now.kernel.value) t ≡ false)
-                × IfSome slip.value.offer (λ a. a ≡ advanced guarded.now.kernel.value.inputs.image.text a.before) }
+                × IfSome slip.value.offer (λ a. a
+                    ≡ advanced guarded.now.kernel.value.inputs.image.text a.before) }
             ensures { (guarded.exit.now.kernel.value.inputs ≡ guarded.entry.now.kernel.value.inputs)
                 × (guarded.exit.now.kernel.value.steps ≡ guarded.entry.now.kernel.value.steps ++ t ∷ [])
                 × (kernels.turn guarded.exit.now.kernel.value t ≡ Some result.value.last) }
@@ -82,8 +83,8 @@ fn take_turn<R: Wait, W: World>(
 
 impl<W: World> Process<W> {
     /// A kernel under a lock, and a pass for each of its threads, in the order of their numbers. The kernel
-    /// has kept no step, and has room for just the steps that its threads may make. This is the only call that
-    /// takes memory.
+    /// has kept no step, and has room for just the steps that its threads may make. This is the only call
+    /// that takes memory.
     ///
     /// # Errors
     ///
@@ -190,8 +191,8 @@ impl<W: World> Process<W> {
     ///
     /// The kernel's steps are a legal history, which begins with what each pass had seen, has no further step
     /// of that pass's thread, and has at least as many steps as the pass had noted. Where the last turn of
-    /// each pass ended its thread, the history is complete. The steps that were kept and the room that is left
-    /// are together as many as the threads could make at the start.
+    /// each pass ended its thread, the history is complete. The steps that were kept and the room that is
+    /// left are together as many as the threads could make at the start.
     pub fn close(self, passes: ProcessPasses<W>) -> Kernel<W>
         requires { AreAllOf self passes.items }
         ensures inputs { result.inputs ≡ self.name }

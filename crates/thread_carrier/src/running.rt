@@ -15,8 +15,8 @@ use std::thread::Threads;
 use world_face::World;
 
 /// Runs all threads of a process to their ends, and gives its kernel back. The steps that the kernel has
-/// kept then are a legal history after which every thread has ended, and with the room that is left they are as
-/// many as the threads could make at the start. It may wait.
+/// kept then are a legal history after which every thread has ended, and with the room that is left they are
+/// as many as the threads could make at the start. It may wait.
 ///
 /// Each thread is carried by a worker of its own where one can be started, and comes to the gate before
 /// each turn. All memory is taken before the first step. No clause says these three: tests show the
