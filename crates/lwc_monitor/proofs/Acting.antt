@@ -1,5 +1,5 @@
 -- What calls and steps under traps leave of the slots of trapped contexts.
-use Rattle.std.proofs.Common.{◌≡◌, ◌≢◌, ◌⊎◌, inl, inr, ◌+◌, ◌-◌, ◌*◌, ◌%◌, ℕ, refl, sym, ap, subst, ◌∙◌, Bool, true, false, cond, eqb, ◌&&◌, ◌||◌, Option, Some, None, List, [], ◌∷◌, length}
+use Rattle.std.proofs.Common.{◌≡◌, ◌+◌, ◌*◌, ◌%◌, ℕ, refl, sym, ap, subst, Bool, true, false, cond, eqb, ◌&&◌, ◌||◌, Option, Some, None, [], ◌∷◌, length}
 use Rattle.std.proofs.lemmas.Bool.{eqb-true, false≢true}
 use Rattle.std.specs.Int.{w64, to_le_bytes}
 use Rattle.std.specs.Prelude.{is_some, nat_le, nat_lt, not, slice_index}
@@ -18,7 +18,7 @@ use Rattle.lwc_base.specs.Memory.{is_present}
 use Rattle.lwc_base.specs.Rights.{is_writable}
 use Rattle.lwc_base.specs.Slots.{lowest_empty}
 use Rattle.lwc_base.specs.Store.{Absent, Done, Full, Piece, ReadOnly, after_store, parting_count, store}
-use Rattle.lwc_base.specs.World.{World, is_live}
+use Rattle.lwc_base.specs.World.{is_live}
 use Rattle.lwc_base.specs.declared.name.Name.{Name}
 use Rattle.lwc_base.specs.declared.page.TheConstants.{PAGE_BYTES}
 use Rattle.lwc_monitor.specs.Calls.{by_monitor, calls_under, is_forbidden, trapped_outcome, trapped_to}

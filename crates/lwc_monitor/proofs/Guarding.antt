@@ -1,16 +1,14 @@
 -- The traps after a call, and what is kept true of them.
-use Rattle.std.proofs.Common.{◌≡◌, ◌≢◌, ◌<◌, ◌∙◌, ℕ, refl, sym, ap, subst, Bool, true, false, cond, eqb, ◌&&◌, ◌||◌, Option, Some, None, List, [], ◌∷◌}
+use Rattle.std.proofs.Common.{◌≡◌, ◌≢◌, ◌∙◌, ℕ, refl, sym, ap, subst, Bool, true, false, cond, eqb, ◌&&◌, ◌||◌, Option, Some, None, [], ◌∷◌}
 use Rattle.std.proofs.lemmas.Bool.{eqb-true, false≢true}
 use Rattle.std.specs.Prelude.{is_none, is_some, not, slice_index, unwrap_or}
 use Rattle.std.specs.FinMap as fm
-use Rattle.std.specs.List.{list_any, range_with_len}
 use Rattle.std.specs.Ordering.{eq_by_cmp}
 use Rattle.std.specs.declared.cmp.Ordering.TheVariants.{Equal}
 use Rattle.access_cap.specs.Kinds.{has_kinds}
 use Rattle.guest_call.proofs.Targets.{target_links}
 use Rattle.guest_call.specs.Guest.{descriptor_for, link_of}
 use Rattle.kernel_core.specs.Machine.{Environment}
-use Rattle.kernel_core.specs.Step.{unchanged}
 use Rattle.kernel_core.specs.declared.thread.Thread.{Thread}
 use Rattle.lwc_base.proofs.Caps.{some_below}
 use Rattle.lwc_base.proofs.Orders.{cases_name, name-itself, name_cmp-IsAntisymmetric, name_cmp-total, other_name}
@@ -30,7 +28,7 @@ use Rattle.lwc_base.specs.declared.key.Key.TheVariants.{Slot}
 use Rattle.lwc_base.specs.declared.name.Name.{Name}
 use Rattle.lwc_base.specs.declared.refusal.Refusal.TheVariants.{BadFd, NotCovered, WrongKind}
 use Rattle.lwc_base.specs.declared.regs.Regs.{Regs}
-use Rattle.lwc_monitor.specs.Calls.{by_monitor, calls_under, trapped_by, trapping, traps_after_call}
+use Rattle.lwc_monitor.specs.Calls.{by_monitor, calls_under, trapped_by, traps_after_call}
 use Rattle.lwc_monitor.specs.declared.numbers.TheConstants.{LW_TRAP}
 use Rattle.lwc_overlay.specs.Named.{link}
 use Rattle.trap_calls.specs.Guards.{AreGuarded, HasOwnSlots, LeavesToMonitors}

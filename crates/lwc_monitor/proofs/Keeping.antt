@@ -1,7 +1,7 @@
 -- Each step under traps keeps the machine ready and the traps guarded, and leaves the trapped contexts.
-use Rattle.std.proofs.Common.{◌≡◌, ◌≢◌, ◌⊎◌, inl, inr, ◌+◌, ◌<◌, ℕ, suc, refl, sym, ap, subst, ◌∙◌, Bool, true, false, cond, eqb, Option, Some, None, List, [], ◌∷◌, length, arith}
+use Rattle.std.proofs.Common.{◌≡◌, ◌≢◌, ◌⊎◌, inl, inr, ◌+◌, ℕ, suc, refl, sym, ap, subst, ◌∙◌, true, false, cond, Option, Some, None, List, [], ◌∷◌, length, arith}
 use Rattle.std.proofs.lemmas.Bool.{ne_eqb}
-use Rattle.std.specs.Prelude.{IfSome, is_some, slice_get, slice_set}
+use Rattle.std.specs.Prelude.{IfSome, slice_get}
 use Rattle.std.specs.FinMap as fm
 use Rattle.guest_isa.specs.declared.instr.Instr.{Instr}
 use Rattle.guest_isa.specs.declared.op.Op.{Op}
@@ -10,29 +10,28 @@ use Rattle.guest_machine.specs.Advances.{advanced}
 use Rattle.guest_machine.specs.declared.progress.Next.{Next}
 use Rattle.guest_machine.specs.declared.progress.Next.TheVariants as next
 use Rattle.kernel_core.proofs.JobActs.{AllLocal}
-use Rattle.kernel_core.proofs.ReadyRuns.{ready_later, ready_step_by, ready_thread, well_ready}
-use Rattle.kernel_core.specs.Machine.{Environment, Machine, Serve}
+use Rattle.kernel_core.proofs.ReadyRuns.{ready_later, ready_step_by, well_ready}
+use Rattle.kernel_core.specs.Machine.{Environment, Serve}
 use Rattle.kernel_core.specs.Ready.{IsReady}
 use Rattle.kernel_core.specs.Refused.{advanced_thread}
 use Rattle.kernel_core.specs.Start.{Inputs}
-use Rattle.kernel_core.specs.Step.{AfterStep, Calls, Outcome, advance_outcome, after_outcome, after_thread, guest_calls, next_outcome, only, roots, shared_outcome, step_by, thread_outcome, unchanged, with_regs, with_status}
+use Rattle.kernel_core.specs.Step.{AfterStep, Calls, advance_outcome, after_outcome, after_thread, guest_calls, next_outcome, only, shared_outcome, step_by, thread_outcome, unchanged, with_status}
 use Rattle.kernel_core.specs.declared.thread.Thread.{Thread}
 use Rattle.lwc_base.proofs.Reaped.{context-kept}
 use Rattle.lwc_base.specs.Life.{reap}
-use Rattle.lwc_base.specs.World.{World, Context, context, is_live}
+use Rattle.lwc_base.specs.World.{World, Context, is_live}
 use Rattle.lwc_base.specs.declared.fault.ThreadStatus.{ThreadStatus}
 use Rattle.lwc_base.specs.declared.fault.ThreadStatus.TheVariants as status
 use Rattle.lwc_base.specs.declared.key.Key.TheVariants.{Slot}
 use Rattle.lwc_base.specs.declared.name.Name.{Name}
-use Rattle.lwc_monitor.proofs.Acting.{calls-leave, next-leaves}
+use Rattle.lwc_monitor.proofs.Acting.{next-leaves}
 use Rattle.lwc_monitor.proofs.Guarding.{AreSafe, call-safe, kept-trap, kept-untrapped, other-safe}
 use Rattle.lwc_monitor.proofs.Tables.{acts_under}
 use Rattle.lwc_monitor.specs.Calls.{by_monitor, calls_under, trapped_outcome, traps_after_call}
-use Rattle.lwc_monitor.specs.Promises.{IsIn, LeavesEachTrapped, LeavesTrapped}
-use Rattle.lwc_monitor.specs.Steps.{Monitored, call_by, call_in, call_next, call_of, monitored_step, run_under, traps_after}
+use Rattle.lwc_monitor.specs.Promises.{IsIn, LeavesEachTrapped}
+use Rattle.lwc_monitor.specs.Steps.{Monitored, call_by, call_in, call_next, monitored_step, run_under, traps_after}
 use Rattle.lwc_monitor.specs.declared.numbers.TheConstants.{EXIT}
 use Rattle.lwc_syscall.specs.Changes.{IsWell}
-use Rattle.trap_calls.proofs.Leaving.{leaves-itself}
 use Rattle.trap_calls.specs.Guards.{AreGuarded, HasOwnSlots, LeavesToMonitors, SameSlots}
 use Rattle.trap_calls.specs.Traps.{Traps}
 

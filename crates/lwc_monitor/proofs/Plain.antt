@@ -1,5 +1,5 @@
 -- Where no step traps a context, a run under traps is the kernel's.
-use Rattle.std.proofs.Common.{◌≡◌, ◌≢◌, ◌<◌, ◌-◌, ℕ, refl, sym, ap, subst, ◌∙◌, Bool, true, false, cond, ◌&&◌, arith, Option, Some, None, List, [], ◌∷◌, ◌++◌, length, append-nil}
+use Rattle.std.proofs.Common.{◌≡◌, ◌≢◌, ◌-◌, ℕ, refl, sym, ap, subst, ◌∙◌, Bool, true, false, cond, ◌&&◌, arith, Option, Some, None, List, [], ◌∷◌, ◌++◌, length, append-nil}
 use Rattle.std.specs.Prelude.{max, not, slice_get}
 use Rattle.std.specs.FinMap as fm
 use Rattle.std.specs.List.{flat_map}

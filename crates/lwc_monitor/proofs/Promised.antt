@@ -1,5 +1,5 @@
 -- Runs under traps keep what is promised.
-use Rattle.std.proofs.Common.{◌≡◌, ◌+◌, ℕ, refl, sym, ap, subst, ◌∙◌, Option, Some, None, List, [], ◌∷◌, ◌++◌, length, arith}
+use Rattle.std.proofs.Common.{◌≡◌, ◌+◌, ℕ, ap, Some, List, length}
 use Rattle.std.specs.FinMap as fm
 use Rattle.kernel_core.proofs.HomeStart.{ready_start}
 use Rattle.kernel_core.specs.Kernel.{CanOpen}

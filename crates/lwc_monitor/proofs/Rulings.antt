@@ -1,19 +1,15 @@
 -- What comes next, by the ruling on it.
-use Rattle.std.proofs.Common.{◌≡◌, ◌≢◌, ℕ, Option, Some, None, ap, refl, sym, ◌∙◌}
-use Rattle.std.specs.Option.{option_map}
+use Rattle.std.proofs.Common.{◌≡◌, ◌≢◌, ℕ, ap, refl}
 use Rattle.guest_isa.specs.declared.instr.Instr.{Instr}
 use Rattle.guest_isa.specs.declared.op.Op.{Op}
 use Rattle.guest_isa.specs.declared.op.Op.TheVariants.{Sys}
-use Rattle.guest_machine.specs.declared.progress.Next.{Next}
 use Rattle.guest_machine.specs.declared.progress.Next.TheVariants as next
 use Rattle.kernel_core.specs.Machine.{Environment}
-use Rattle.kernel_core.specs.Step.{Calls, guest_calls, next_outcome, shared_outcome}
+use Rattle.kernel_core.specs.Step.{Calls, next_outcome, shared_outcome}
 use Rattle.kernel_core.specs.declared.thread.Thread.{Thread}
 use Rattle.lwc_base.specs.World.{World}
-use Rattle.lwc_monitor.specs.Calls.{calls_under, traps_after_call}
-use Rattle.lwc_monitor.specs.Rulings.{next_ruled, ruled_or_not}
-use Rattle.lwc_monitor.specs.Steps.{call_in, call_next}
-use Rattle.lwc_monitor.specs.declared.ruling.Ruling.{Ruling}
+use Rattle.lwc_monitor.specs.Calls.{traps_after_call}
+use Rattle.lwc_monitor.specs.Steps.{call_in}
 use Rattle.trap_calls.specs.Traps.{Traps}
 
 -- an instruction that is no call is done in the same way under each table

@@ -6,12 +6,10 @@ use Rattle.std.specs.FinMap as fm
 use Rattle.std.specs.List.{flat_map, range_with_len}
 use Rattle.std.specs.Option.{option_map, option_map_or}
 use Rattle.std.proofs.lemmas.Option.{slice_get-get_or}
-use Rattle.std.proofs.lemmas.List.Elements.{All-weaker}
 use Rattle.guest_image.specs.Limits.{IsImage}
 use Rattle.guest_image.specs.declared.image.Image.{Image}
 use Rattle.guest_isa.specs.declared.instr.Instr.{Instr}
 use Rattle.guest_machine.specs.Advances.{advanced}
-use Rattle.kernel_core.proofs.JobActs.{AllLocal}
 use Rattle.kernel_core.proofs.Others.{found_set}
 use Rattle.kernel_core.proofs.Reaping.{uncut}
 use Rattle.kernel_core.proofs.ReadyRuns.{live_after, ready_later, ready_thread, running_acts, step_made, while_running}
@@ -19,13 +17,12 @@ use Rattle.kernel_core.proofs.Steps.{contexts_part}
 use Rattle.kernel_core.specs.Changes.{Keeps, KeepsAll, after_effect, made}
 use Rattle.kernel_core.specs.Kernel.{CanOpen, History, MayHave, opened, turn_of, view_of}
 use Rattle.kernel_core.specs.Machine.{Environment, Machine, has_ended, is_ended, reply_of}
-use Rattle.kernel_core.specs.Ready.{CanAct, IsReady, IsReadyThread, IsRunnable, WhileRunning}
-use Rattle.kernel_core.specs.Refused.{advanced_thread}
+use Rattle.kernel_core.specs.Ready.{CanAct, IsReadyThread, IsRunnable, WhileRunning}
 use Rattle.kernel_core.specs.Runs.{frames_of, peak}
 use Rattle.kernel_core.specs.Start.{Inputs, serve_at, start, thread_count}
 use Rattle.kernel_core.specs.Settings.{IsSettings}
 use Rattle.kernel_core.specs.Steady.{history, machine}
-use Rattle.kernel_core.specs.Step.{AfterStep, after_outcome, after_thread, beside, contexts_of, only, roots, step_by, thread_outcome, with_regs, with_world}
+use Rattle.kernel_core.specs.Step.{AfterStep, after_outcome, after_thread, beside, contexts_of, roots, step_by, thread_outcome, with_regs}
 use Rattle.kernel_core.specs.declared.acting.Change.{Change}
 use Rattle.kernel_core.specs.declared.acting.Change.TheVariants as changes
 use Rattle.kernel_core.specs.declared.acting.Effect.{Effect}
@@ -33,7 +30,6 @@ use Rattle.kernel_core.specs.declared.settings.Job.{Job}
 use Rattle.kernel_core.specs.declared.settings.Job.TheVariants as job
 use Rattle.kernel_core.specs.declared.settings.Settings.{Settings}
 use Rattle.kernel_core.specs.declared.thread.Thread.{Thread}
-use Rattle.kernel_core.specs.declared.thread.Turn.{Turn}
 use Rattle.lwc_base.proofs.Reaped.{reap-reaped}
 use Rattle.lwc_base.specs.Channels.{Channels}
 use Rattle.lwc_base.specs.Frames.{used}
@@ -44,13 +40,13 @@ use Rattle.lwc_base.specs.declared.fault.ThreadStatus.TheVariants as status
 use Rattle.lwc_base.specs.declared.limits.TheConstants.{MOST_STEPS}
 use Rattle.lwc_base.specs.declared.name.Name.{Name}
 use Rattle.lwc_monitor.proofs.Guarding.{all-kept, trapped-live}
-use Rattle.lwc_monitor.proofs.Keeping.{IsKept, serve-none}
+use Rattle.lwc_monitor.proofs.Keeping.{IsKept}
 use Rattle.lwc_monitor.proofs.Promised.{kept-after}
 use Rattle.lwc_monitor.proofs.Tables.{acts_under}
 use Rattle.lwc_monitor.specs.Calls.{calls_under, traps_after_call}
 use Rattle.lwc_monitor.specs.Reports.{begun, inputs_of, report_after_under, report_under, traps_text}
 use Rattle.lwc_monitor.specs.Steady.{IsSteady, state_of, stepped_under, turn_under}
-use Rattle.lwc_monitor.specs.Steps.{Monitored, call_by, call_of, monitored_step, peak_under, run_under, traps_after}
+use Rattle.lwc_monitor.specs.Steps.{Monitored, call_by, monitored_step, peak_under, run_under, traps_after}
 use Rattle.lwc_text.specs.Lines.{groups_line, reply_line, tail_lines}
 use Rattle.lwc_text.specs.Report.{contexts_text, replies_text, threads_text}
 use Rattle.trap_calls.specs.Traps.{Traps}

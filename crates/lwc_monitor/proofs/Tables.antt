@@ -1,6 +1,6 @@
 -- The table of calls under traps: each call acts, and without traps it is the kernel's.
-use Rattle.std.proofs.Common.{◌≡◌, ◌≢◌, ℕ, ◌+◌, ◌-◌, refl, sym, ap, ◌∙◌, Bool, true, false, cond, eqb, ◌&&◌, ◌||◌, Option, Some, None, arith}
-use Rattle.std.specs.Prelude.{◌^◌, is_none, is_some, not}
+use Rattle.std.proofs.Common.{◌≡◌, ◌≢◌, ℕ, refl, ap, ◌∙◌, Bool, true, false, cond, eqb, ◌&&◌, ◌||◌, Option, Some, None, arith}
+use Rattle.std.specs.Prelude.{is_some, not}
 use Rattle.std.specs.FinMap as fm
 use Rattle.std.specs.List.{list_any}
 use Rattle.std.specs.Option.{option_and_then, option_map_or}
@@ -9,17 +9,16 @@ use Rattle.std.proofs.lemmas.Bool.{ne_eqb}
 use Rattle.kernel_core.proofs.Outcomes.{Acts, AllAct, acts_chosen, acts_regs, guest_calls_act}
 use Rattle.kernel_core.proofs.Worlds.{grows_more, grows_switched, well_switched}
 use Rattle.kernel_core.specs.Machine.{Environment}
-use Rattle.kernel_core.specs.Step.{guest_calls, refused, unchanged, with_result}
+use Rattle.kernel_core.specs.Step.{guest_calls, unchanged, with_result}
 use Rattle.kernel_core.specs.declared.calling.TheConstants.{LW_OVERLAY, LW_SWITCH, LW_SYSCALL}
 use Rattle.kernel_core.specs.declared.thread.Thread.{Thread}
 use Rattle.lwc_base.specs.Capabilities.{empty_cap}
 use Rattle.lwc_base.specs.Names.{name_cmp}
 use Rattle.lwc_base.specs.Refusals.{first_refusal}
 use Rattle.lwc_base.specs.Slots.{lowest_empty}
-use Rattle.lwc_base.specs.World.{World, is_live}
+use Rattle.lwc_base.specs.World.{is_live}
 use Rattle.lwc_base.specs.declared.descriptor.Descriptor.TheVariants.{Ctx}
 use Rattle.lwc_base.specs.declared.name.Name.{Name}
-use Rattle.lwc_base.specs.declared.refusal.Refusal.TheVariants.{NoSlotThere}
 use Rattle.lwc_monitor.specs.Calls.{by_monitor, calls_under, is_forbidden, refused_by, trapped_outcome, trapped_to, trapping}
 use Rattle.lwc_monitor.specs.declared.numbers.TheConstants.{EXIT, LW_TRAP, TRAPPED}
 use Rattle.lwc_overlay.specs.Named.{items_of}

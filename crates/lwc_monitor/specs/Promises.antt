@@ -33,19 +33,24 @@ pub record LeavesTrapped (s after : Monitored) (t : ℕ) (d m : Name) : Type 0 w
 
 -- so does it leave each trapped context that lives after it
 abbrev pub LeavesEachTrapped : Monitored → ℕ → Type 0
-LeavesEachTrapped s t = (d m : Name) → fm.get s.traps d ≡ Some m →
-    is_live (monitored_step s t).machine.environment.world d ≡ true → LeavesTrapped s (monitored_step s t) t d m
+LeavesEachTrapped s t =
+    (d m : Name) → fm.get s.traps d ≡ Some m →
+    let after = monitored_step s t in
+    is_live after.machine.environment.world d ≡ true → LeavesTrapped s after t d m
 
 -- no step of a schedule comes to the call that traps a context
 abbrev pub TrapsNone : Inputs → List ℕ → Type 0
 TrapsNone inputs schedule = (before rest : List ℕ) (t : ℕ) (x : Thread) → schedule ≡ before ++ t ∷ rest →
-    slice_get (run (start inputs) before).threads t ≡ Some x → call_of (run (start inputs) before) x ≢ Some LW_TRAP
+    slice_get (run (start inputs) before).threads t ≡ Some x →
+    call_of (run (start inputs) before) x ≢ Some LW_TRAP
 
--- of a run under traps: after any of its steps each trapped context lives and has its own slots, and no monitor
--- is trapped; each step leaves the trapped contexts; and where none is ever trapped, the text is the kernel's
+-- of a run under traps: after any of its steps each trapped context lives and has its own slots, and no
+-- monitor is trapped; each step leaves the trapped contexts; and where none comes to the call that traps, the
+-- text is the kernel's
 pub record IsMonitoredRun (inputs : Inputs) (steps : List ℕ) : Type 0 where
   pub guarded : (before rest : List ℕ) → steps ≡ before ++ rest →
       let s = run_under (begun inputs) before in AreGuarded s.traps s.machine.environment.world
   pub leaves : (before rest : List ℕ) (t : ℕ) → steps ≡ before ++ t ∷ rest →
       LeavesEachTrapped (run_under (begun inputs) before) t
-  pub plain : TrapsNone inputs steps → monitored_text inputs steps ≡ report_after inputs (kept (start inputs) steps)
+  pub plain : TrapsNone inputs steps →
+      monitored_text inputs steps ≡ report_after inputs (kept (start inputs) steps)

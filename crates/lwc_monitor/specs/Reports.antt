@@ -32,7 +32,8 @@ begun inputs = unmonitored (start inputs)
 
 -- the report of the run of these steps
 abbrev pub report_after_under : Inputs → List ℕ → List ℕ
-report_after_under inputs steps = report_under (run_under (begun inputs) steps) (peak_under (begun inputs) steps) steps
+report_after_under inputs steps =
+    let s = begun inputs in report_under (run_under s steps) (peak_under s steps) steps
 
 -- the report of a schedule's steps, as far as they are kept
 unfoldable pub monitored_text : Inputs → List ℕ → List ℕ

@@ -42,7 +42,7 @@ abbrev pub traps_by_or_not : Traps → Name → Option Ruling → Traps
 traps_by_or_not traps c None = traps
 traps_by_or_not traps c (Some ruling) = traps_by traps c ruling
 
--- what a ruling tells of the context that it names: one that is to be trapped is not trapped yet, and a monitor
+-- what a ruling tells of the context that it names: one that is to be trapped is not trapped yet; a monitor
 -- lives, and its slot is the lowest empty one
 abbrev pub IsRuling : Traps → World → Ruling → Type 0
 IsRuling traps w (Answer value) = Unit {0}

@@ -1,5 +1,5 @@
 -- What a run under traps keeps true of itself.
-use Rattle.std.specs.Prelude.{◌≡◌, ℕ, ◌-◌, ◌+◌, ◌≤◌, ◌++◌, ◌∷◌, [], if◌then◌else◌, List, None, Option, length, slice_get}
+use Rattle.std.specs.Prelude.{◌≡◌, ℕ, ◌-◌, ◌+◌, ◌≤◌, ◌++◌, ◌∷◌, [], if◌then◌else◌, None, Option, length, slice_get}
 use Rattle.std.specs.Option.{option_map}
 use Rattle.kernel_core.specs.Kernel.{CanOpen, History, turn_of}
 use Rattle.kernel_core.specs.Machine.{is_ended}

@@ -52,13 +52,12 @@ abbrev pub traps_after : Traps → Machine → Option Thread → Traps
 traps_after traps m None = traps
 traps_after traps m (Some x) = traps_after_call traps m.environment.world (advanced_thread m x) (call_of m x)
 
--- one step under traps: the machine's own, with the calls under them, and the traps of contexts that still live
+-- one step under traps: the machine's own, with the calls under them; and the traps of contexts that live on
 unfoldable pub monitored_step : Monitored → ℕ → Monitored
 monitored_step s t =
-    let after = step_by (calls_under s.traps) s.machine t in record {
-      machine = after;
-      traps = fm.retain_keys (traps_after s.traps s.machine (slice_get s.machine.threads t)) (is_live after.environment.world);
-    }
+    let after = step_by (calls_under s.traps) s.machine t in
+    let traps = traps_after s.traps s.machine (slice_get s.machine.threads t) in
+    record { machine = after; traps = fm.retain_keys traps (is_live after.environment.world) }
 
 -- the steps, one after another
 abbrev pub run_under : Monitored → List ℕ → Monitored

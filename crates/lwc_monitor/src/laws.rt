@@ -4,8 +4,8 @@ ghost use Rattle.kernel_core.specs.Start.{Inputs};
 ghost use Rattle.kernel_core.specs.declared.settings.Job.TheVariants as job;
 ghost use Rattle.lwc_monitor.specs.Promises.{IsMonitoredRun};
 
-/// Over every list of steps: each trapped context lives and has its own slots, and no monitor is trapped; each
-/// step leaves the slots of each trapped context, but for those by its monitor; and a thread in a trapped
+/// Over every list of steps: each trapped context lives and has its own slots, and no monitor is trapped.
+/// Each step leaves the slots of each trapped context, but for those by its monitor, and a thread in a trapped
 /// context makes no call but an exit. Where no step comes to the call that traps, the text is the kernel's.
 pub fn monitored_runs_keep_trapped_contexts()
     ensures { (inputs : Inputs) (steps : List ℕ) → CanOpen inputs → inputs.settings.job ≡ job.Run →

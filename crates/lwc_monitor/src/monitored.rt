@@ -55,8 +55,10 @@ impl<W: World> Model for Monitored<W> {
     ghost view = { λ k. history k.image.value None [] k.settings k.schedule.items k.room };
 
     ghost invariant = { λ k. (vec_len k.schedule + k.room ≤ vec_capacity k.schedule)
-        × IsSteady
-        (record { machine = machine (W.seen k.world) k.channels k.threads.items k.text None; traps = k.traps })
+        × IsSteady (record {
+          machine = machine (W.seen k.world) k.channels k.threads.items k.text None;
+          traps = k.traps;
+        })
         k.peak (history k.image.value None [] k.settings k.schedule.items k.room) };
 }
 
@@ -109,8 +111,8 @@ impl<W: World> Monitored<W> {
         })
     }
 
-    /// One step of thread `t`, which is kept unless the thread had ended. The only error is out of memory, and
-    /// then nothing has changed.
+    /// One step of thread `t`, which is kept unless the thread had ended. The only error is out of memory,
+    /// and then nothing has changed.
     pub fn step(&mut self, t: u32) -> Result<Turn, OutOfMemory>
         requires within { t < thread_count self.old.inputs }
         requires room { is_ended (state_of self.old).machine t ≡ false → 0 < self.old.room }
@@ -190,7 +192,7 @@ impl<W: World> Monitored<W> {
     }
 }
 
-/// Keeps the traps of live contexts alone. All are live if the step has cut no link, and then no work is done.
+/// Keeps the traps of live contexts alone. All are live if the step has cut no link: then no work is done.
 fn keep_reached<W: World>(traps: &mut Traps, world: &W, change: Change)
     requires { change ≢ changes.Links →
         traps.old ≡ fm.retain_keys traps.old (worlds.is_live (W.seen world.now)) }

@@ -13,7 +13,8 @@ use lwc_text::Schedule;
 use std::alloc::Global;
 use world_face::World;
 
-/// The report of a schedule's steps under traps, from the start of an image on. The only error is out of memory.
+/// The report of a schedule's steps under traps, from the start of an image on. The only error is out of
+/// memory.
 #[tactic(auto, unfolding(crate::specs::Reports::monitored_text))]
 pub fn monitor_replay<W: World>(
     alloc: Global,
@@ -25,7 +26,8 @@ pub fn monitor_replay<W: World>(
     requires run { settings.now.job ≡ Job.Run }
     requires threads { All (λ t. t < length image.now.entries) schedule.now }
     requires short { length schedule.now ≤ MOST_STEPS }
-    ensures { IfOk result (λ text. text.items ≡ monitored_text (inputs_of image.now settings.now) schedule.now) }
+    ensures { IfOk result (λ text.
+        text.items ≡ monitored_text (inputs_of image.now settings.now) schedule.now) }
 {
     let steps = schedule.len() as u32;
     match Monitored::<W>::open(alloc, image, steps, settings) {

@@ -34,8 +34,8 @@ pub enum Ruling {
     Monitor { monitor: Name, slot: u8 },
 }
 
-/// The ruling on what comes next for a running thread with these registers, with the number of the call that it
-/// is; `None` if it is no call, or the kernel's.
+/// The ruling on what comes next for a running thread with these registers, with the number of the call that
+/// it is; `None` if it is no call, or the kernel's.
 #[tactic(auto, unfolding(kernel_core::specs::Step::next_outcome))]
 pub fn rule_on_next<W: World>(
     traps: &Traps,
@@ -69,9 +69,11 @@ fn rule_on_instr<W: World>(
     requires live { IsLive (W.seen world.now) thread.now.context }
     requires named { HasItsContexts (W.seen world.now) }
     ensures outcome { (t : ℕ) (io : Channels) →
-        shared_outcome (calls.calls_under traps.now) t (beside (W.seen world.now) io) thread.now i.now i.now.op
+        shared_outcome (calls.calls_under traps.now) t (beside (W.seen world.now) io) thread.now
+        i.now i.now.op
         ≡ spec.next_ruled result t (beside (W.seen world.now) io) thread.now (nexts.Shared i.now) }
-    ensures traps { calls.traps_after_call traps.now (W.seen world.now) thread.now (call_in i.now.op i.now.imm)
+    ensures traps { calls.traps_after_call traps.now (W.seen world.now) thread.now
+        (call_in i.now.op i.now.imm)
         ≡ spec.traps_by_or_not traps.now thread.now.context (option_map (λ r. r.0) result) }
     ensures ruling { IfSome result (λ r. IsRuling traps.now (W.seen world.now) r.0) }
 {

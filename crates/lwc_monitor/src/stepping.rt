@@ -104,7 +104,8 @@ fn run_under<W: World>(
     }
 }
 
-/// Carries out a ruling on the call of a number that thread `t` makes. The only error is out of memory, and then the world and the traps are as before.
+/// Carries out a ruling on the call of a number that thread `t` makes. The only error is out of memory, and
+/// then the world and the traps are as before.
 fn carry_out<W: World>(
     traps: &mut Traps,
     world: &mut W,

@@ -1,10 +1,9 @@
 -- A slot is common where to share it would need no group.
-use Rattle.std.proofs.Common.{◌≡◌, ◌∙◌, ℕ, ◌+◌, ◌<◌, ◌≤◌, Bool, true, false, cond, List, [], ◌∷◌, Some, None, Option, refl, sym, ap, subst, arith, ltb, leb}
+use Rattle.std.proofs.Common.{◌≡◌, ℕ, ◌+◌, ◌<◌, Bool, true, false, cond, List, [], ◌∷◌, Some, None, refl, sym, ap, subst, arith, ltb, leb}
 use Rattle.std.specs.Prelude.{◌&&◌, not, unwrap_or}
 use Rattle.std.specs.Option.{option_map}
-use Rattle.std.proofs.lemmas.Bool.{false≢true}
 use Rattle.std.proofs.lemmas.Bool.Decides.{nat_tests}
-use Rattle.lwc_base.specs.Modes.{mode, mode_or_copy, names}
+use Rattle.lwc_base.specs.Modes.{mode, mode_or_copy}
 use Rattle.lwc_base.specs.Sharing.{has_own, needs_group}
 use Rattle.lwc_base.specs.World.{World, context}
 use Rattle.lwc_base.specs.declared.cell.Cell.{Cell}
@@ -12,7 +11,6 @@ use Rattle.lwc_base.specs.declared.cell.Cell.TheVariants.{Common, Own}
 use Rattle.lwc_base.specs.declared.descriptor.Descriptor.{Descriptor}
 use Rattle.lwc_base.specs.declared.descriptor.TheConstants.{SLOTS}
 use Rattle.lwc_base.specs.declared.item.Item.{Item}
-use Rattle.lwc_base.specs.declared.item.Mode.{Mode}
 use Rattle.lwc_base.specs.declared.item.Mode.TheVariants.{Copy, Share}
 use Rattle.lwc_base.specs.declared.key.Key.{Key}
 use Rattle.lwc_base.specs.declared.key.Key.TheVariants.{Cred, Page, Slot}

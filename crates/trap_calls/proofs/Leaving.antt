@@ -1,5 +1,5 @@
 -- What calls leave of the slots of trapped contexts.
-use Rattle.std.proofs.Common.{◌≡◌, ◌≢◌, ◌⊎◌, inl, inr, ◌<◌, ◌*◌, ℕ, ◌+◌, refl, sym, ap, subst, ◌∙◌, Bool, true, false, cond, eqb, ◌&&◌, ◌||◌, Option, Some, None, List, [], ◌∷◌, ◌++◌, length, arith}
+use Rattle.std.proofs.Common.{◌≡◌, ◌≢◌, ◌⊎◌, inl, inr, ℕ, ◌+◌, refl, sym, ap, subst, ◌∙◌, Bool, true, false, cond, ◌&&◌, ◌||◌, Option, Some, None, List, [], ◌∷◌, ◌++◌, length}
 use Rattle.std.proofs.lemmas.Bool.{false≢true}
 use Rattle.std.specs.Prelude.{is_none, is_some, nat_lt, not, slice_index, unwrap_or}
 use Rattle.std.specs.List.{list_any}
@@ -9,7 +9,7 @@ use Rattle.std.specs.FinMap as fm
 use Rattle.access_cap.specs.Kinds.{has_kinds, is_chosen}
 use Rattle.call_items.specs.Asked.{item_refusals}
 use Rattle.guest_call.specs.Guest.{descriptor_for, link_of, slot_refusals, with_answer}
-use Rattle.lwc_base.specs.Capabilities.{empty_cap, full_cap, restricted}
+use Rattle.lwc_base.specs.Capabilities.{empty_cap}
 use Rattle.lwc_base.specs.Cells.{put_slot}
 use Rattle.lwc_base.specs.Channels.{Channels}
 use Rattle.lwc_base.specs.Summaries.{is_empty}
@@ -21,19 +21,14 @@ use Rattle.lwc_syscall.proofs.Only.{plain_only}
 use Rattle.lwc_base.specs.Memory.{is_present}
 use Rattle.lwc_base.specs.Rights.{is_writable}
 use Rattle.lwc_base.specs.Names.{name_cmp}
-use Rattle.lwc_base.specs.Overlay as base
 use Rattle.lwc_base.specs.Frames.{used}
 use Rattle.lwc_base.specs.Refusals.{first_refusal}
 use Rattle.lwc_base.specs.Saved.{save}
-use Rattle.lwc_base.specs.Sharing.{clone_context}
 use Rattle.lwc_base.specs.Store.{Absent, Done, Full, Piece, ReadOnly, Stored, after_store, parting_count, store}
-use Rattle.lwc_base.specs.World.{World, context, is_live, next_context}
+use Rattle.lwc_base.specs.World.{World, is_live, next_context}
 use Rattle.lwc_base.specs.declared.descriptor.Cap.{Cap}
 use Rattle.lwc_base.specs.declared.descriptor.Descriptor.{Descriptor}
 use Rattle.lwc_base.specs.declared.descriptor.Descriptor.TheVariants.{Console, Ctx, Empty, File, Reply, Request}
-use Rattle.lwc_base.specs.declared.descriptor.TheConstants.{SLOTS}
-use Rattle.lwc_base.specs.declared.item.Item.{Item}
-use Rattle.lwc_base.specs.declared.key.Key.{Key}
 use Rattle.lwc_base.specs.declared.key.Key.TheVariants.{Slot}
 use Rattle.lwc_base.specs.declared.key.Kind.TheVariants as kinds
 use Rattle.lwc_base.specs.declared.name.Name.{Name}
@@ -47,7 +42,7 @@ use Rattle.lwc_overlay.specs.OverlayCall as overlaying
 use Rattle.lwc_overlay.specs.RestrictCall as restricting
 use Rattle.lwc_switch.specs.Switch as switching
 use Rattle.lwc_syscall.specs.Changes.{IsPlainChange, IsWell, Mapped, Nothing, Read, SlotPut, UidPut, Written}
-use Rattle.lwc_syscall.specs.Plain.{Outcome, plain, refused_or}
+use Rattle.lwc_syscall.specs.Plain.{plain, refused_or}
 use Rattle.lwc_syscall.specs.Syscall as syscalls
 use Rattle.lwc_syscall.specs.declared.calls.Three.{Three}
 use Rattle.res_spec.specs.declared.items.SpecCall.TheVariants as spec_call

@@ -1,5 +1,5 @@
 -- Whether a name is among those of live contexts.
-use Rattle.std.proofs.Common.{◌≡◌, ℕ, refl, ◌≤◌, ◌<◌, ◌+◌, sym, ap, ◌∙◌, Bool, true, false, ◌||◌, List, [], ◌∷◌, ◌++◌, length, Option, Some, None, take, arith, ⊎_elim}
+use Rattle.std.proofs.Common.{◌≡◌, ℕ, refl, ◌≤◌, ◌<◌, ◌+◌, sym, ap, ◌∙◌, Bool, true, false, ◌||◌, List, [], ◌∷◌, ◌++◌, length, Some, None, take, arith, ⊎_elim}
 use Rattle.std.specs.Prelude.{slice_get}
 use Rattle.std.specs.FinMap as fm
 use Rattle.std.specs.List.{list_any}

@@ -1,9 +1,8 @@
 -- What refusals say of the context that a slot names.
-use Rattle.std.proofs.Common.{◌≡◌, ◌∙◌, ℕ, Bool, true, false, List, [], ◌∷◌, ◌++◌, Option, None, Some, ap, refl, sym, append-nil}
+use Rattle.std.proofs.Common.{◌≡◌, ◌∙◌, ℕ, Bool, false, List, [], ◌∷◌, ◌++◌, Option, None, Some, ap, refl, sym, append-nil}
 use Rattle.std.specs.Prelude.{◌&&◌, ◌||◌, is_none, is_some, not, slice_index}
-use Rattle.std.specs.FinMap as fm
 use Rattle.std.specs.List.{list_any}
-use Rattle.std.specs.Option.{option_and_then, option_map, option_map_or}
+use Rattle.std.specs.Option.{option_map, option_map_or}
 use Rattle.std.specs.Ordering.{eq_by_cmp}
 use Rattle.access_cap.specs.Kinds.{has_kinds}
 use Rattle.call_items.specs.Asked.{item_refusals}

@@ -1,31 +1,24 @@
 -- What changes of a world leave of the slots of a context that has them as its own.
-use Rattle.std.proofs.Common.{◌≡◌, ◌≢◌, ◌⊎◌, inl, inr, ◌<◌, ◌+◌, ℕ, refl, sym, ap, subst, ◌∙◌, Bool, true, false, cond, eqb, ◌&&◌, ◌||◌, Option, Some, None, List, [], ◌∷◌, length, arith}
+use Rattle.std.proofs.Common.{◌≡◌, ◌≢◌, ◌<◌, ℕ, refl, sym, ap, subst, ◌∙◌, Bool, true, false, cond, eqb, ◌&&◌, ◌||◌, Option, Some, None, List, [], ◌∷◌, length}
 use Rattle.std.proofs.lemmas.Bool.{false≢true}
-use Rattle.std.specs.Prelude.{T, not, unwrap_or}
+use Rattle.std.specs.Prelude.{unwrap_or}
 use Rattle.std.specs.List.{find, list_any}
 use Rattle.std.specs.Option.{option_map}
-use Rattle.std.specs.Ordering.{eq_by_cmp, is_eq}
-use Rattle.std.proofs.lemmas.Cmp.{tied_itself}
-use Rattle.std.specs.FinMap as fm
-use Rattle.guest_call.specs.Changes.{ChangesKey, ChangesSaved}
-use Rattle.lwc_base.specs.Cells.{put_at, put_page, put_slot, put_uid, with_cell}
+use Rattle.lwc_base.specs.Cells.{put_page, put_slot, put_uid, with_cell}
 use Rattle.lwc_base.specs.Clones.{AreApart}
 use Rattle.lwc_base.specs.Facts.{ChangesContext}
 use Rattle.lwc_base.proofs.Facts.{changes}
 use Rattle.lwc_base.proofs.Orders.{cases_name}
 use Rattle.guest_call.proofs.Changes.{putting, saving}
-use Rattle.lwc_base.specs.Fresh.{IsFresh}
-use Rattle.lwc_base.specs.Keys.{ValueOf, is_there}
 use Rattle.lwc_base.specs.Mapping.{map_pages, mapped_or_not, unmap_pages, with_zeros, without_pages}
 use Rattle.lwc_base.specs.Memory.{touched}
-use Rattle.lwc_base.specs.Modes.{kind_of, mode, mode_or_copy, names, number_of, same_kind}
-use Rattle.lwc_base.specs.Names.{name_cmp}
+use Rattle.lwc_base.specs.Modes.{mode, mode_or_copy, names, same_kind}
 use Rattle.lwc_base.specs.Overlay as base
 use Rattle.lwc_base.specs.Overlay.{with_overlay}
 use Rattle.lwc_base.specs.Saved.{save}
 use Rattle.lwc_base.specs.Sharing.{clone_context, is_moved, needs_group, share, with_shared}
 use Rattle.lwc_base.specs.Store.{Piece, after_store, put_pages, stored_pages}
-use Rattle.lwc_base.specs.World.{World, Context, Counters, change_counters, context, is_live, next_context, next_group}
+use Rattle.lwc_base.specs.World.{World, Context, change_counters, context, is_live, next_context, next_group}
 use Rattle.lwc_base.specs.declared.cell.Cell.{Cell}
 use Rattle.lwc_base.specs.declared.cell.Cell.TheVariants.{Own, Common}
 use Rattle.lwc_base.specs.declared.descriptor.Descriptor.{Descriptor}
@@ -35,7 +28,6 @@ use Rattle.lwc_base.specs.declared.item.Mode.{Mode}
 use Rattle.lwc_base.specs.declared.item.Mode.TheVariants.{Copy, CopyRead, Share, Unmap}
 use Rattle.lwc_base.specs.declared.key.Key.{Key}
 use Rattle.lwc_base.specs.declared.key.Key.TheVariants.{Page, Slot, Cred}
-use Rattle.lwc_base.specs.declared.key.Kind.{Kind}
 use Rattle.lwc_base.specs.declared.key.Kind.TheVariants as kinds
 use Rattle.lwc_base.specs.declared.name.Name.{Name}
 use Rattle.lwc_base.specs.declared.page.PageValue.{PageValue}

@@ -1,5 +1,5 @@
 -- Trapped contexts: why one is not trapped, and which calls on one are forbidden.
-use Rattle.std.specs.Prelude.{ℕ, ◌&&◌, ◌||◌, Bool, true, false, not, List, [], ◌∷◌, Option, is_none, is_some, slice_index}
+use Rattle.std.specs.Prelude.{◌&&◌, ◌||◌, Bool, true, false, not, List, [], ◌∷◌, Option, is_none, is_some, slice_index}
 use Rattle.std.specs.Coded.{Coded}
 use Rattle.std.specs.List.{list_any, range_with_len}
 use Rattle.std.specs.Option.{option_and_then, option_map, option_map_or}
@@ -91,8 +91,8 @@ is_share CopyRead = false
 abbrev pub shares_slots : Item → Bool
 shares_slots item = same_kind item.kind kinds.Slot && is_share item.mode
 
--- whether a trap forbids an overlay whose items are in order: the slot names a context with another monitor, or
--- a trapped one of which an item shares slots
+-- whether a trap forbids an overlay whose items are in order: the slot names a context with another monitor,
+-- or a trapped one of which an item shares slots
 unfoldable pub forbids_overlay : Traps → World → Name → Regs → Bool
 forbids_overlay traps w c regs =
     is_none (first_refusal (item_refusals w c spec_call.Overlay (slice_index regs.r 2) (slice_index regs.r 3)))

@@ -1,5 +1,5 @@
-//! Calls of guests beside trapped contexts: which contexts are trapped, why one is not, and which calls on one
-//! are forbidden.
+//! Calls of guests beside trapped contexts: which contexts are trapped, why one is not, and which calls on
+//! one are forbidden.
 #![tactic(auto)]
 
 pub mod forbidding;

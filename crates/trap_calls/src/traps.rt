@@ -67,7 +67,8 @@ impl Traps {
         self.pairs.as_slice()
     }
 
-    /// Traps a context that is not trapped yet. The only error is out of memory, and then nothing has changed.
+    /// Traps a context that is not trapped yet. The only error is out of memory, and then nothing has
+    /// changed.
     pub fn trap(&mut self, c: Name, monitor: Name) -> Result<(), OutOfMemory>
         requires { is_trapped self.old c ≡ false }
         ensures ok { OnOk result (self.new ≡ fm.insert self.old c monitor) }

@@ -1,4 +1,4 @@
-use Rattle.std.proofs.Common.{◌<◌, ap, arith, ◌∙◌}
+use Rattle.std.proofs.Common.{ap, arith, ◌∙◌}
 use Rattle.kernel_core.specs.Kernel.{History}
 use Rattle.kernel_core.specs.Start.{thread_count}
 use Rattle.lwc_monitor.proofs.Replays.{count-is}

@@ -1,6 +1,5 @@
 use Rattle.std.proofs.Common.{rules, ap, sym, ◌∙◌, ◌≡◌, ◌≢◌}
 use Rattle.guest_isa.specs.declared.op.Op.TheVariants.{Sys}
-use Rattle.guest_machine.specs.declared.progress.Next.TheVariants.{Shared}
 use Rattle.kernel_core.specs.Step.{beside, guest_calls, next_outcome, shared_outcome}
 use Rattle.lwc_monitor.proofs.Rulings.{a_call, no_call}
 use Rattle.lwc_monitor.specs.Calls.{calls_under}

@@ -1,7 +1,6 @@
 use Rattle.std.proofs.Common.{[], Bool, ap, sym, ◌∙◌}
 use Rattle.std.specs.List.{list_any}
 use Rattle.std.specs.Prelude.{not, ◌||◌}
-use Rattle.lwc_base.specs.declared.item.Item.{Item}
 use Rattle.lwc_overlay.specs.Named.{items_of}
 use Rattle.res_spec.specs.declared.items.SpecCall.TheVariants as spec_call
 use Rattle.trap_calls.proofs.Pairs.{alike}

@@ -1,4 +1,4 @@
-use Rattle.std.proofs.Common.{◌≡◌, ◌<◌, ◌∙◌, arith, false, inl, inr, subst, sym, ℕ}
+use Rattle.std.proofs.Common.{◌≡◌, ◌∙◌, arith, false, inl, inr, subst, sym, ℕ}
 use Rattle.std.proofs.Math.Nat.{eq-or-lt_of_le}
 use Rattle.lwc_base.proofs.Caps.{none_below, some_below}
 use Rattle.lwc_base.specs.World.{context}

@@ -1,4 +1,4 @@
-use Rattle.std.proofs.Common.{List, ap, sym, ◌++◌, ◌∙◌, ◌∷◌, [], ◌+◌, ◌≡◌, ℕ}
+use Rattle.std.proofs.Common.{List, ap, ◌∙◌, ◌≡◌}
 use Rattle.std.specs.Prelude.{not}
 use Rattle.lwc_base.specs.Sharing.{needs_group}
 use Rattle.lwc_base.specs.declared.item.Item.{Item}

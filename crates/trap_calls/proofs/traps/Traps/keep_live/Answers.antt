@@ -1,9 +1,8 @@
-use Rattle.std.proofs.Common.{rules, ◌≡◌, List}
+use Rattle.std.proofs.Common.{rules, ◌≡◌}
 use Rattle.std.proofs.lemmas.Fn.{filter_same}
 use Rattle.std.specs.FinMap.Entries.{where_key}
 use Rattle.lwc_base.specs.Names.{name_cmp}
 use Rattle.lwc_base.specs.World.{is_live}
-use Rattle.lwc_base.specs.declared.name.Name.{Name}
 use Rattle.trap_calls.proofs.Pairs.{kept, kept-sorted}
 use Rattle.trap_calls.proofs.traps.Traps.keep_live.Goals as goal
 

@@ -1,5 +1,4 @@
-use Rattle.std.proofs.Common.{ap, sym, ◌∙◌, ◌≡◌, List, Option, Some, None}
-use Rattle.std.specs.FinMap as fm
+use Rattle.std.proofs.Common.{ap, ◌∙◌, Option}
 use Rattle.std.specs.Option.{option_map}
 use Rattle.lwc_base.specs.declared.name.Name.{Name}
 use Rattle.trap_calls.proofs.Pairs.{get-is}

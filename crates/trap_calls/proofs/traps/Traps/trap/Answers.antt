@@ -1,7 +1,5 @@
-use Rattle.std.proofs.Common.{arith, ap, length, List, sym, ◌∙◌, ◌≡◌}
-use Rattle.std.specs.List.{insert}
-use Rattle.lwc_base.specs.declared.name.Name.{Name}
-use Rattle.trap_calls.proofs.Pairs.{inserted, inserted-sorted, place, place-within}
+use Rattle.std.proofs.Common.{arith}
+use Rattle.trap_calls.proofs.Pairs.{inserted, inserted-sorted, place-within}
 use Rattle.trap_calls.proofs.traps.Traps.trap.Goals as goal
 
 pub insert-requires : goal.insert-requires
