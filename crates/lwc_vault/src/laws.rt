@@ -30,8 +30,8 @@ pub fn who_stands_outside_is_outside()
         ActsOutside (run (start (beside inputs v)) steps) t }
 {}
 
-/// Steps of threads that do not stand in the vault are as legal where the vault is blank, and the whole report
-/// is the same.
+/// Steps of threads that do not stand in the vault are as legal where the vault is blank, and the whole
+/// report is the same.
 pub fn steps_outside_tell_nothing_of_the_vault()
     ensures { (inputs : Inputs) (v : Vault) (steps : List ℕ) → CanOpen (beside inputs v) →
         StandOutside (start (beside inputs v)) steps → IsLegal (start (beside inputs v)) steps →

@@ -17,8 +17,8 @@ use world_face::World;
 ///
 /// # Errors
 ///
-/// `ImageTooLarge` exactly where the image and the vault together have more pages than there are frames, which
-/// is tested before memory is taken, and has that sum; or `OutOfMemory`.
+/// `ImageTooLarge` exactly where the image and the vault together have more pages than there are frames,
+/// which is tested before memory is taken, and has that sum; or `OutOfMemory`.
 pub fn vault_replay<W: World>(
     alloc: Global,
     image: &Image,
