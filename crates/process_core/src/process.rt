@@ -73,7 +73,7 @@ fn take_turn<R: Wait, W: World>(
             requires { (t < thread_count guarded.now.kernel.value.inputs)
                 × (is_ended (machine_of guarded.now.kernel.value) t ≡ false)
                 × IfSome slip.value.offer (λ a. a
-                    ≡ advanced guarded.now.kernel.value.inputs.image.text a.before) }
+                ≡ advanced guarded.now.kernel.value.inputs.image.text a.before) }
             ensures { (guarded.exit.now.kernel.value.inputs ≡ guarded.entry.now.kernel.value.inputs)
                 × (guarded.exit.now.kernel.value.steps ≡ guarded.entry.now.kernel.value.steps ++ t ∷ [])
                 × (kernels.turn guarded.exit.now.kernel.value t ≡ Some result.value.last) }
