@@ -35,7 +35,6 @@ use Rattle.trap_calls.specs.Guards.{AreGuarded, HasOwnSlots, LeavesToMonitors}
 use Rattle.trap_calls.specs.Traps.{Traps, has_common_slot, is_common, is_monitor, is_trapped, trap_rows}
 use Rattle.trap_calls.specs.declared.trapping.TrapRefusal.{TrapRefusal}
 use Rattle.trap_calls.specs.declared.trapping.TrapRefusal.TheVariants.{NotFresh, Plain, Trapped}
-use Rattle.trap_calls.specs.declared.trapping.TheConstants.{ALL_KINDS}
 
 -- what is true of traps and a world, but for whether the trapped contexts live
 pub record AreSafe (traps : Traps) (w : World) : Type 0 where
@@ -74,7 +73,7 @@ unfolding trap_rows
 fresh-trap traps w c regs none =
     let l = link w c regs in
     let x = descriptor_for w c (slice_index regs.r 1) in
-    let facts = rows-none (is_empty x) (is_none (link_of x)) (not (has_kinds w.size.pages l.1 ALL_KINDS)) (is_trapped traps l.0) (eq_by_cmp name_cmp l.0 c) (has_common_slot w l.0) (is_monitor traps l.0) none in
+    let facts = rows-none (is_empty x) (is_none (link_of x)) (not (has_kinds w.size.pages l.1 7)) (is_trapped traps l.0) (eq_by_cmp name_cmp l.0 c) (has_common_slot w l.0) (is_monitor traps l.0) none in
     record { new = facts.0; other = facts.1; own = facts.2; monitors = facts.3 }
 
 inserted-get : (traps : Traps) (d c q : Name) → fm.get (fm.insert traps d c) q ≡ cond (eq_by_cmp name_cmp q d) (Some c) (fm.get traps q)

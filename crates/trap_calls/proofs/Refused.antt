@@ -23,7 +23,6 @@ use Rattle.res_spec.specs.declared.items.SpecCall.TheVariants as spec_call
 use Rattle.trap_calls.specs.Traps.{Traps, forbids_overlay, has_common_slot, is_monitor, is_trapped, monitor_of_named, named, names_anothers, shares_slots, trap_rows}
 use Rattle.trap_calls.specs.declared.trapping.TrapRefusal.{TrapRefusal}
 use Rattle.trap_calls.specs.declared.trapping.TrapRefusal.TheVariants.{NotFresh, Plain, Trapped}
-use Rattle.trap_calls.specs.declared.trapping.TheConstants.{ALL_KINDS}
 
 -- a slot that is refused names no context
 pub unnamed : (w : World) (c : Name) (regs : Regs) (r : Refusal) → first_refusal (slot_refusals w c (slice_index regs.r 1) ++ []) ≡ Some r → named w c regs ≡ None
@@ -58,7 +57,7 @@ module _ (traps : Traps) (w : World) (c : Name) (regs : Regs) where
   unfolding trap_rows
   plain-target r some =
       let l = link w c regs in
-      plainly w c (slice_index regs.r 1) r ((not (has_kinds w.size.pages l.1 ALL_KINDS), Plain NotCovered) ∷ (is_trapped traps l.0, Trapped)
+      plainly w c (slice_index regs.r 1) r ((not (has_kinds w.size.pages l.1 7), Plain NotCovered) ∷ (is_trapped traps l.0, Trapped)
       ∷ (eq_by_cmp name_cmp l.0 c || has_common_slot w l.0 || is_monitor traps l.0, NotFresh) ∷ []) some
 
   abbrev shared : Bool

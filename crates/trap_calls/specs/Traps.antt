@@ -29,7 +29,6 @@ use Rattle.lwc_overlay.specs.Named.{items_of, link}
 use Rattle.res_spec.specs.declared.items.SpecCall.TheVariants as spec_call
 use Rattle.trap_calls.specs.declared.trapping.TrapRefusal.{TrapRefusal}
 use Rattle.trap_calls.specs.declared.trapping.TrapRefusal.TheVariants.{NotFresh, Plain, Trapped}
-use Rattle.trap_calls.specs.declared.trapping.TheConstants.{ALL_KINDS}
 
 -- which contexts are trapped, each with its monitor
 abbrev pub Traps : Type 0
@@ -56,14 +55,15 @@ is_common (Common g) = true
 unfoldable pub has_common_slot : World → Name → Bool
 has_common_slot w d = list_any (λ n. is_common ((context w d).cell (Slot n))) (range_with_len 0 SLOTS)
 
--- why a context is not trapped: the first of these that holds
+-- why a context is not trapped: the first of these that holds. The capability has to have each key of the three
+-- kinds
 unfoldable pub trap_rows : Traps → World → Name → Regs → List (Bool × TrapRefusal)
 trap_rows traps w c regs =
     let d = descriptor_for w c (slice_index regs.r 1) in
     let l = link w c regs in
     (is_empty d, Plain BadFd)
     ∷ (is_none (link_of d), Plain WrongKind)
-    ∷ (not (has_kinds w.size.pages l.1 ALL_KINDS), Plain NotCovered)
+    ∷ (not (has_kinds w.size.pages l.1 7), Plain NotCovered)
     ∷ (is_trapped traps l.0, Trapped)
     ∷ (eq_by_cmp name_cmp l.0 c || has_common_slot w l.0 || is_monitor traps l.0, NotFresh)
     ∷ []
