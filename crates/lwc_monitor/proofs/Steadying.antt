@@ -1,6 +1,7 @@
 -- A run under traps stays steady over a step.
 use Rattle.std.proofs.Common.{◌≡◌, ◌≢◌, ℕ, ◌+◌, ◌-◌, ◌≤◌, ◌<◌, refl, sym, ap, subst, ◌∙◌, Bool, true, false, cond, Option, Some, None, List, [], ◌∷◌, ◌++◌, length, arith, length-append, get_or, append-nil, ltb}
 use Rattle.std.proofs.lemmas.Bool.{ltb-false, ltb-true}
+use Rattle.std.proofs.lemmas.List.{length-map}
 use Rattle.std.specs.Prelude.{All, max, slice_get, slice_set}
 use Rattle.std.specs.FinMap as fm
 use Rattle.std.specs.List.{flat_map, range_with_len}
@@ -17,7 +18,8 @@ use Rattle.kernel_core.proofs.Steps.{contexts_part}
 use Rattle.kernel_core.specs.Changes.{Keeps, KeepsAll, after_effect, made}
 use Rattle.kernel_core.specs.Kernel.{CanOpen, History, MayHave, opened, turn_of, view_of}
 use Rattle.kernel_core.specs.Machine.{Environment, Machine, has_ended, is_ended, reply_of}
-use Rattle.kernel_core.specs.Ready.{CanAct, IsReadyThread, IsRunnable, WhileRunning}
+use Rattle.kernel_core.proofs.Limits.{has_place}
+use Rattle.kernel_core.specs.Ready.{CanAct, IsReadyThread, IsRunnable, WhileRunning, jobs_of}
 use Rattle.kernel_core.specs.Runs.{frames_of, peak}
 use Rattle.kernel_core.specs.Start.{Inputs, serve_at, start, thread_count}
 use Rattle.kernel_core.specs.Settings.{IsSettings}
@@ -37,8 +39,9 @@ use Rattle.lwc_base.specs.Life.{IsReaped, reap}
 use Rattle.lwc_base.specs.World.{World, is_live}
 use Rattle.lwc_base.specs.declared.fault.ThreadStatus.{ThreadStatus}
 use Rattle.lwc_base.specs.declared.fault.ThreadStatus.TheVariants as status
-use Rattle.lwc_base.specs.declared.limits.TheConstants.{MOST_STEPS}
+use Rattle.lwc_base.specs.declared.limits.TheConstants.{MOST_CONTEXTS, MOST_STEPS}
 use Rattle.lwc_base.specs.declared.name.Name.{Name}
+use Rattle.lwc_base.specs.declared.size.WorldSize.{WorldSize}
 use Rattle.lwc_monitor.proofs.Guarding.{all-kept, trapped-live}
 use Rattle.lwc_monitor.proofs.Keeping.{IsKept}
 use Rattle.lwc_monitor.proofs.Promised.{kept-after}
@@ -49,6 +52,7 @@ use Rattle.lwc_monitor.specs.Steady.{IsSteady, state_of, stepped_under, turn_und
 use Rattle.lwc_monitor.specs.Steps.{Monitored, call_by, monitored_step, peak_under, run_under, traps_after}
 use Rattle.lwc_text.specs.Lines.{groups_line, reply_line, tail_lines}
 use Rattle.lwc_text.specs.Report.{contexts_text, replies_text, threads_text}
+use Rattle.trap_calls.proofs.Few.{few_traps}
 use Rattle.trap_calls.specs.Traps.{Traps}
 
 -- a history with one more step
@@ -118,6 +122,12 @@ module _ (w : World) (io : Channels) (threads : List Thread) (text : List Instr)
 
     pub few : length threads ≤ 16
     few = kept.ready.few
+
+    -- there are fewer traps than there may be contexts
+    pub few_trapped : fm.len traps < MOST_CONTEXTS
+    few_trapped =
+        let place = has_place h.inputs.image.form h.inputs.settings.frames w (jobs_of threads) kept.ready.size kept.ready.limits (omega (arith, few, length-map threads (λ (y : Thread). y.job))) in
+        omega (arith, place, few_traps traps w kept.guarded.live, ap (λ (z : WorldSize). z.contexts) kept.ready.size)
 
     pub used_below : used w ≤ most
     unfolding state_of

@@ -1,4 +1,4 @@
-ghost use Rattle.std.specs.Prelude.{◌≡◌, ◌≢◌, ◌<◌, ◌≤◌, ◌++◌, false, IfErr, IfOk, None, OnErr, OnOk, Some, length};
+ghost use Rattle.std.specs.Prelude.{◌≡◌, ◌≢◌, ◌<◌, ◌≤◌, ◌++◌, false, true, IfErr, IfOk, IsOk, None, OnErr, OnOk, Some, length};
 ghost use Rattle.std.specs.FinMap as fm;
 ghost use Rattle.guest_image.specs.Limits.{IsImage};
 ghost use Rattle.kernel_core.specs.declared.acting.Change.TheVariants as changes;
@@ -90,6 +90,9 @@ impl<W: World> Monitored<W> {
         let Ok(schedule) = Vec::with_capacity(alloc, steps as usize) else {
             return Err(OpenFault::OutOfMemory);
         };
+        let Ok(traps) = Traps::new(alloc) else {
+            return Err(OpenFault::OutOfMemory);
+        };
         let peak = kernel.peak();
         let Parts {
             world,
@@ -104,21 +107,22 @@ impl<W: World> Monitored<W> {
             world,
             channels,
             threads,
-            traps: Traps::new(alloc),
+            traps,
             schedule,
             room: steps,
             peak,
         })
     }
 
-    /// One step of thread `t`, which is kept unless the thread had ended. The only error is out of memory,
-    /// and then nothing has changed.
+    /// One step of thread `t`, which is kept unless the thread had ended. The only error is out of memory:
+    /// then nothing has changed, and the world has not taken all its memory at opening.
     pub fn step(&mut self, t: u32) -> Result<Turn, OutOfMemory>
         requires within { t < thread_count self.old.inputs }
         requires room { is_ended (state_of self.old).machine t ≡ false → 0 < self.old.room }
         ensures step { OnOk result (self.new ≡ spec.stepped_under self.old t) }
         ensures turn { IfOk result (λ turn. spec.turn_under self.new t ≡ Some turn) }
         ensures err { OnErr result (self.new ≡ self.old) }
+        ensures ample { W.roomy ≡ true → IsOk result }
     {
         let mut thread = self.threads[t as usize];
         let Some(effect) = step_under(

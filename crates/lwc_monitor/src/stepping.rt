@@ -1,13 +1,14 @@
-ghost use Rattle.std.specs.Prelude.{◌≡◌, ◌≤◌, ◌<◌, ◌-◌, None, Some, IfOk, IfSome, OnErr, OnOk};
+ghost use Rattle.std.specs.Prelude.{◌≡◌, ◌≤◌, ◌<◌, ◌-◌, None, Some, IfOk, IfSome, IsOk, OnErr, OnOk, true};
+ghost use Rattle.std.specs.FinMap as fm;
 ghost use Rattle.guest_isa.specs.Instructions.{IsText};
 ghost use Rattle.guest_machine.specs.Advances.{advanced};
-ghost use Rattle.kernel_core.specs.Changes.{Keeps, KeepsAll, LeavesNothing, MakesAll, made};
+ghost use Rattle.kernel_core.specs.Changes.{Keeps, KeepsAll, LeavesNothing, Makes, made};
 ghost use Rattle.kernel_core.specs.Ready.{CanAct, WhileRunning};
 ghost use Rattle.kernel_core.specs.Step as steps;
 ghost use Rattle.lwc_base.specs.Channels as channels;
 ghost use Rattle.lwc_base.specs.Channels.{HasItsFiles};
 ghost use Rattle.lwc_base.specs.Slots.{lowest_empty};
-ghost use Rattle.lwc_base.specs.declared.limits.TheConstants.{MOST_THREADS};
+ghost use Rattle.lwc_base.specs.declared.limits.TheConstants.{MOST_CONTEXTS, MOST_THREADS};
 ghost use Rattle.lwc_monitor.specs.Calls.{calls_under, reporting, traps_after_call};
 ghost use Rattle.lwc_monitor.specs.Rulings as spec;
 ghost use Rattle.lwc_monitor.specs.Rulings.{IsRuling};
@@ -40,6 +41,7 @@ pub fn step_under<W: World>(
     requires files { HasItsFiles io.old (W.seen world.old) }
     requires steps { WhileRunning thread.old.status (0 < thread.old.budget) }
     requires text { IsText text.now }
+    requires room { fm.len traps.old < MOST_CONTEXTS }
     ensures outcome { IfOk result (λ effect.
         steps.thread_outcome (calls_under traps.old) t (steps.beside (W.seen world.old) io.old) None text.now
         thread.old thread.old.status
@@ -52,6 +54,7 @@ pub fn step_under<W: World>(
     ensures err { OnErr result (W.seen world.new ≡ W.seen world.old) }
     ensures err_io { OnErr result (io.new ≡ io.old) }
     ensures err_traps { OnErr result (traps.new ≡ traps.old) }
+    ensures ample { W.roomy ≡ true → IsOk result }
 {
     match thread.status {
         ThreadStatus::Running => run_under(traps, world, io, text, t, thread),
@@ -74,6 +77,7 @@ fn run_under<W: World>(
     requires files { HasItsFiles io.old (W.seen world.old) }
     requires steps { 0 < thread.old.budget }
     requires text { IsText text.now }
+    requires room { fm.len traps.old < MOST_CONTEXTS }
     ensures outcome { IfOk result (λ effect.
         steps.thread_outcome (calls_under traps.old) t (steps.beside (W.seen world.old) io.old) None text.now
         thread.old ThreadStatus.Running
@@ -86,6 +90,7 @@ fn run_under<W: World>(
     ensures err { OnErr result (W.seen world.new ≡ W.seen world.old) }
     ensures err_io { OnErr result (io.new ≡ io.old) }
     ensures err_traps { OnErr result (traps.new ≡ traps.old) }
+    ensures ample { W.roomy ≡ true → IsOk result }
 {
     let advance = advance(text, &thread.regs);
     let mut caller = *thread;
@@ -93,7 +98,7 @@ fn run_under<W: World>(
     match rule_on_next(traps, world, &caller, &advance.next) {
         None => step_thread(world, io, &mut None, text, t, thread, Some(&advance)),
         Some((ruling, number)) => {
-            let change = carry_out(traps, world, t, &mut caller, ruling, number)?;
+            let change = carry_out(traps, world, t, &mut caller, ruling, number);
             caller.set_steps(thread.budget - 1);
             *thread = caller;
             Ok(Some(Effect {
@@ -104,8 +109,7 @@ fn run_under<W: World>(
     }
 }
 
-/// Carries out a ruling on the call of a number that thread `t` makes. The only error is out of memory, and
-/// then the world and the traps are as before.
+/// Carries out a ruling on the call of a number that thread `t` makes.
 fn carry_out<W: World>(
     traps: &mut Traps,
     world: &mut W,
@@ -113,32 +117,29 @@ fn carry_out<W: World>(
     thread: &mut Thread,
     ruling: Ruling,
     number: u32,
-) -> Result<Change, OutOfMemory>
+) -> Change
     requires number { t < MOST_THREADS }
     requires ready { CanAct (W.seen world.old) thread.old }
     requires ruling { IsRuling traps.old (W.seen world.old) ruling }
-    ensures outcome { OnOk result ((io : channels.Channels) →
-        MakesAll (λ e x. spec.ruled ruling number t e x)
-        (W.seen world.old) io thread.old (W.seen world.new) io thread.new) }
-    ensures traps { OnOk result (traps.new ≡ spec.traps_by traps.old thread.old.context ruling) }
-    ensures kept { IfOk result (λ change.
-        Keeps change (W.seen world.old) thread.old (W.seen world.new) thread.new) }
-    ensures err { OnErr result (W.seen world.new ≡ W.seen world.old) }
-    ensures err_traps { OnErr result (traps.new ≡ traps.old) }
+    requires room { fm.len traps.old < MOST_CONTEXTS }
+    ensures outcome { Makes (λ e x. spec.ruled ruling number t e x)
+        (W.seen world.old) thread.old (W.seen world.new) thread.new }
+    ensures traps { traps.new ≡ spec.traps_by traps.old thread.old.context ruling }
+    ensures kept { Keeps result (W.seen world.old) thread.old (W.seen world.new) thread.new }
 {
     match ruling {
         Ruling::Answer(value) => {
             thread.answer(0, value);
-            Ok(Change::Thread)
+            Change::Thread
         }
         Ruling::Trap(target) => {
-            traps.trap(target, thread.context)?;
+            traps.trap(target, thread.context);
             thread.answer(0, 0);
-            Ok(Change::Thread)
+            Change::Thread
         }
         Ruling::Monitor { monitor, slot } => {
             enter_monitor(world, t, thread, monitor, slot, number);
-            Ok(Change::World)
+            Change::World
         }
     }
 }

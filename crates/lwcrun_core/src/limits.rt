@@ -11,13 +11,14 @@ ghost use Rattle.lwc_base.specs.declared.limits.TheConstants.{MOST_REPLY_BYTES, 
 ghost use Rattle.lwc_base.specs.declared.limits.TheConstants.{MOST_REQUEST_BYTES, MOST_REQUEST_FILE_BYTES};
 ghost use Rattle.lwc_base.specs.declared.limits.TheConstants.{MOST_ROOTS, MOST_SCHEDULE_BYTES};
 ghost use Rattle.lwc_base.specs.declared.limits.TheConstants.{MOST_SOURCE_BYTES, MOST_STEPS, MOST_THREADS};
-ghost use Rattle.guest_image.specs.declared.image.TheConstants.{FIRST_SLOT};
+ghost use Rattle.guest_image.specs.declared.image.TheConstants.{FIRST_SLOT, MOST_VAULT_PAGES, VAULT_SLOT};
 ghost use Rattle.kernel_core.specs.declared.calling.TheConstants.{LW_CREATE, LW_OVERLAY, LW_RESTRICT};
 ghost use Rattle.kernel_core.specs.declared.calling.TheConstants.{LW_SWITCH, LW_SYSCALL};
 ghost use Rattle.kernel_core.specs.declared.settings.Job.TheVariants.{Serve};
 ghost use Rattle.lwc_base.specs.declared.descriptor.TheConstants.{SLOTS};
 ghost use Rattle.lwc_base.specs.declared.key.TheConstants.{NOBODY};
 ghost use Rattle.lwc_base.specs.declared.page.TheConstants.{PAGE_BYTES};
+ghost use Rattle.lwc_monitor.specs.declared.numbers.TheConstants.{EXIT, LW_TRAP, NOT_FRESH, TRAPPED};
 ghost use Rattle.lwc_gen.specs.declared.generating.TheConstants.{PAGES, REQUESTS_FOR_EACH, SETTINGS};
 
 /// A law: the numbers behind the names that definitions use for limits, and for a generated serve. A
@@ -60,6 +61,12 @@ pub fn limits_are_as_documented()
     ensures restrict { LW_RESTRICT ≡ 18 }
     ensures overlay { LW_OVERLAY ≡ 19 }
     ensures syscall { LW_SYSCALL ≡ 20 }
+    ensures trap { LW_TRAP ≡ 21 }
+    ensures exit { EXIT ≡ 10 }
+    ensures trapped { TRAPPED ≡ 22 }
+    ensures not_fresh { NOT_FRESH ≡ 23 }
+    ensures vault_pages { MOST_VAULT_PAGES ≡ 64 }
+    ensures vault_slot { VAULT_SLOT ≡ 63 }
     ensures generated_pages { PAGES ≡ 300 }
     ensures generated_requests { REQUESTS_FOR_EACH ≡ 10 }
     ensures generated_frames { SETTINGS.frames ≡ 324 }

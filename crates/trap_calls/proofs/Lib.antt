@@ -1,4 +1,5 @@
 pub mod CommonSlots
+pub mod Few
 pub mod Leaving
 pub mod Names
 pub mod Pairs

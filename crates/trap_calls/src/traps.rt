@@ -1,27 +1,30 @@
-ghost use Rattle.std.specs.Prelude.{◌≡◌, ◌==◌, ◌&&◌, false, OnErr, OnOk};
+ghost use Rattle.std.specs.Prelude.{◌≡◌, ◌<◌, ◌==◌, ◌&&◌, false, IfOk};
 ghost use Rattle.std.specs.List.{find, list_any, position_or_len};
 ghost use Rattle.std.specs.Ordering.{is_gt};
 ghost use Rattle.std.specs.FinMap as fm;
 ghost use Rattle.lwc_base.specs.Names.{name_cmp};
 ghost use Rattle.lwc_base.specs.World as worlds;
+ghost use Rattle.lwc_base.specs.declared.limits.TheConstants.{MOST_CONTEXTS};
 ghost use Rattle.trap_calls.specs.Traps.{is_monitor, is_trapped};
 
 use crate::live::is_live;
-use lwc_base::{Name, OutOfMemory};
+use lwc_base::{MOST_CONTEXTS, Name, OutOfMemory};
 use std::alloc::Global;
 use std::marker::Model;
 use world_face::World;
 
-/// Which contexts are trapped, each with its monitor, in the order of names. They are seen as a map.
+/// Which contexts are trapped, each with its monitor, in the order of names. They are seen as a map, and have room
+/// for as many as there may be contexts.
 #[derive(Drop)]
 pub struct Traps {
     pairs: Vec<(Name, Name)>,
 }
 
 impl Model for Traps {
-    ghost use Rattle.std.specs.Prelude.{T};
+    ghost use Rattle.std.specs.Prelude.{◌≤◌, T, vec_capacity};
     ghost use Rattle.std.specs.FinMap as fm;
     ghost use Rattle.lwc_base.specs.Names.{name_cmp};
+    ghost use Rattle.lwc_base.specs.declared.limits.TheConstants.{MOST_CONTEXTS};
     ghost use Rattle.trap_calls.specs.Traps as spec;
 
     ghost Value = { spec.Traps };
@@ -30,17 +33,17 @@ impl Model for Traps {
 
     ghost view = { λ traps. fm.from_sorted traps.pairs.items };
 
-    ghost invariant = { λ traps. T (fm.is_sorted name_cmp traps.pairs.items) };
+    ghost invariant = { λ traps. T (fm.is_sorted name_cmp traps.pairs.items)
+        × (MOST_CONTEXTS ≤ vec_capacity traps.pairs) };
 }
 
 impl Traps {
-    /// No traps.
-    pub fn new(alloc: Global) -> Traps
-        ensures { result ≡ fm.empty }
+    /// No traps. The only error is out of memory: this is the only call that takes any.
+    pub fn new(alloc: Global) -> Result<Traps, OutOfMemory>
+        ensures { IfOk result (λ traps. traps ≡ fm.empty) }
     {
-        Traps {
-            pairs: Vec::new(alloc),
-        }
+        let pairs = Vec::with_capacity(alloc, MOST_CONTEXTS as usize)?;
+        Ok(Traps { pairs })
     }
 
     /// The monitor of a context, if it is trapped.
@@ -67,16 +70,14 @@ impl Traps {
         self.pairs.as_slice()
     }
 
-    /// Traps a context that is not trapped yet. The only error is out of memory, and then nothing has
-    /// changed.
-    pub fn trap(&mut self, c: Name, monitor: Name) -> Result<(), OutOfMemory>
-        requires { is_trapped self.old c ≡ false }
-        ensures ok { OnOk result (self.new ≡ fm.insert self.old c monitor) }
-        ensures err { OnErr result (self.new ≡ self.old) }
+    /// Traps a context that is not trapped yet, where fewer are than there may be contexts.
+    pub fn trap(&mut self, c: Name, monitor: Name)
+        requires free { is_trapped self.old c ≡ false }
+        requires room { fm.len self.old < MOST_CONTEXTS }
+        ensures { self.new ≡ fm.insert self.old c monitor }
     {
         let place = place_for(self.pairs.as_slice(), c);
-        self.pairs.insert(place, (c, monitor))?;
-        Ok(())
+        self.pairs.insert(place, (c, monitor)).unwrap();
     }
 
     /// Keeps the traps of live contexts alone.

@@ -14,7 +14,7 @@ invariant_of-result g c =
     let begins = begins-with (inputs_of c.args.image.now c.args.settings.now) c.requires.run _ _ _ _ (parts.world ∙ ap (λ (i : Inputs). (start i).environment.world) of)
     (parts.channels ∙ ap (λ (i : Inputs). (start i).environment.channels) of) (parts.threads ∙ ap (λ (i : Inputs). (start i).threads) of) (parts.text ∙ ap (λ (i : Inputs). i.image.text) of) in
     let used = opens-so c.in_ok-kernel.kernel _ _ _ _ c.in_ok-kernel.ensures.opened c.peak-peak.ensures parts.world in
-    let steady = steady_start (inputs_of c.args.image.now c.args.settings.now) c.in-Ok.schedule.items c.args.steps _ _ _ _ _ c.peak-peak.result can c.requires.run c.requires.steps c.in-Ok.ensures.items begins c.new-2.ensures used in (
+    let steady = steady_start (inputs_of c.args.image.now c.args.settings.now) c.in-Ok.schedule.items c.args.steps _ _ _ _ _ c.peak-peak.result can c.requires.run c.requires.steps c.in-Ok.ensures.items begins c.in-Ok-new.ensures used in (
       omega (arith, c.in-Ok.ensures.len, c.in-Ok.ensures.exact),
       search (rules, steady, c.of.ensures),
     )

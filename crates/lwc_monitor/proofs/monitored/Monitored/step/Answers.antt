@@ -3,7 +3,7 @@ use Rattle.std.proofs.lemmas.List.{length-set}
 use Rattle.guest_isa.specs.Instructions.{IsText}
 use Rattle.kernel_core.specs.Kernel.{History}
 use Rattle.kernel_core.specs.declared.thread.Thread.{Thread}
-use Rattle.lwc_monitor.proofs.Steadying.{acts, as_seen, few, going, has_steps, kept, live-as, one_longer, reaped-as, rested, steady_as, steady_next, stepped_to, traps_stay, turn_next, uncut-as, used_kept, within}
+use Rattle.lwc_monitor.proofs.Steadying.{acts, as_seen, few, few_trapped, going, has_steps, kept, live-as, one_longer, reaped-as, rested, steady_as, steady_next, stepped_to, traps_stay, turn_next, uncut-as, used_kept, within}
 use Rattle.lwc_monitor.specs.Steady.{turn_under}
 use Rattle.lwc_monitor.proofs.monitored.Monitored.step.Goals as goal
 
@@ -25,6 +25,9 @@ step_under-requires-clause-steps g c κs bounds = has_steps _ _ _ _ _ _ _ (as_se
 pub step_under-requires-clause-text : goal.step_under-requires-clause-text
 step_under-requires-clause-text g c κs bounds =
     let steady = (as_seen _ _ _ _ c.self.view_is c.self.invariant.1) in subst IsText (sym (kept _ _ _ _ _ _ _ steady).ready.text) steady.inputs.image.text
+
+pub step_under-requires-clause-room : goal.step_under-requires-clause-room
+step_under-requires-clause-room g c κs bounds = few_trapped _ _ _ _ _ _ _ (as_seen _ _ _ _ c.self.view_is c.self.invariant.1)
 
 pub returns-in_default-clause-step : goal.returns-in_default-clause-step
 returns-in_default-clause-step g c =
