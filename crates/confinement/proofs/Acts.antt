@@ -37,7 +37,7 @@ use Rattle.guest_call.specs.Guest.{with_answer}
 use Rattle.lwc_syscall.specs.Changes.{holder}
 use Rattle.lwc_syscall.specs.Plain.{plain}
 use Rattle.lwc_syscall.specs.Syscall as syscalls
-use Rattle.lwc_syscall.specs.Syscall.{inner_args, inner_call, link, mask_in, taken_from, three_of}
+use Rattle.lwc_syscall.specs.Syscall.{inner_args, inner_call, link, mask_in, taken_from, targets_of}
 use Rattle.res_spec.specs.declared.items.SpecCall.TheVariants as call
 use Rattle.snapshot_host.specs.Begin.{begin, begun_context}
 use Rattle.confinement.proofs.Making.{add_on, clone_on, named_old, overlay_on, share_on}
@@ -200,7 +200,7 @@ module _ (m : Machine) (t : ℕ) (x : Thread) (found : slice_get m.threads t ≡
   }
 
   -- of three contexts that a mask chooses
-  chosen_holder : (k : Key) → holder (three_of w c regs) k ≡ cond (is_chosen (mask_in regs) (kind_of k)) (link w c regs).0 c
+  chosen_holder : (k : Key) → holder (targets_of w c regs) k ≡ cond (is_chosen (mask_in regs) (kind_of k)) (link w c regs).0 c
   chosen_holder (Page p) = refl
   chosen_holder (Slot n) = refl
   chosen_holder Cred = refl
@@ -209,17 +209,17 @@ module _ (m : Machine) (t : ℕ) (x : Thread) (found : slice_get m.threads t ≡
     given : IsGiven m x (link w c regs).0 (link w c regs).1
     given = (in_slot w c (slice_index regs.r 1) (link w c regs) allowed.found).1
 
-    by_choice : (k : Key) → IsKey w.size.pages k → (b : Bool) → is_chosen (mask_in regs) (kind_of k) ≡ b → MayChange m t (holder (three_of w c regs) k) k
+    by_choice : (k : Key) → IsKey w.size.pages k → (b : Bool) → is_chosen (mask_in regs) (kind_of k) ≡ b → MayChange m t (holder (targets_of w c regs) k) k
     by_choice k key false other = subst (λ (n : Name). MayChange m t n k) (sym (chosen_holder k ∙ ap (λ b. cond b (link w c regs).0 c) other)) (own k)
     by_choice k key true chosen = elim (holder-covered w c regs k allowed key) [
       | inl mine ↦ subst (λ (n : Name). MayChange m t n k) (sym mine) (own k)
       | inr theirs ↦ subst (λ (n : Name). MayChange m t n k) (sym theirs.0) (OfTheChosen x (link w c regs).0 (link w c regs).1 k calls given theirs.1 chosen)
     ]
 
-    copied : (n : ℕ) → n < SLOTS → (b : Bool) → is_chosen (mask_in regs) kinds.Slot ≡ b → (d : Name) (cap : Cap) → slot_at w (three_of w c regs).slots n ≡ Ctx d cap → ComesFrom m t d cap
+    copied : (n : ℕ) → n < SLOTS → (b : Bool) → is_chosen (mask_in regs) kinds.Slot ≡ b → (d : Name) (cap : Cap) → slot_at w (targets_of w c regs).slots n ≡ Ctx d cap → ComesFrom m t d cap
     copied n slot false other d cap is = stood d n cap slot (subst (λ (e : Name). slot_at w e n ≡ Ctx d cap) (chosen_holder (Slot n) ∙ ap (λ b. cond b (link w c regs).0 c) other) is)
     copied n slot true chosen d cap is =
-        let there : (three_of w c regs).slots ≡ (link w c regs).0 = chosen_holder (Slot n) ∙ ap (λ b. cond b (link w c regs).0 c) chosen in
+        let there : (targets_of w c regs).slots ≡ (link w c regs).0 = chosen_holder (Slot n) ∙ ap (λ b. cond b (link w c regs).0 c) chosen in
         let had : slot_at w (link w c regs).0 n ≡ Ctx d cap = subst (λ (e : Name). slot_at w e n ≡ Ctx d cap) there is in
         elim (holder-covered w c regs (Slot n) allowed slot) [
           | inl mine ↦ stood d n cap slot (subst (λ (e : Name). slot_at w e n ≡ Ctx d cap) mine is)
@@ -227,10 +227,10 @@ module _ (m : Machine) (t : ℕ) (x : Thread) (found : slice_get m.threads t ≡
         ]
 
     pub chosen : HasItsContexts w → HasItsFiles m.environment.channels w →
-        Allowed (plain w m.environment.channels (three_of w c regs) x.job (inner_call regs) (inner_args regs)).world
+        Allowed (plain w m.environment.channels (targets_of w c regs) x.job (inner_call regs) (inner_args regs)).world
     chosen named files = record {
       confines =
-          plain_on r w sound.groups m.environment.channels (three_of w c regs) x.job
+          plain_on r w sound.groups m.environment.channels (targets_of w c regs) x.job
           (record {
             memory = allowed.live kinds.Page;
             slots = allowed.live kinds.Slot;
@@ -238,9 +238,9 @@ module _ (m : Machine) (t : ℕ) (x : Thread) (found : slice_get m.threads t ≡
             each = λ k key. by_choice k key (is_chosen (mask_in regs) (kind_of k)) refl;
             had = λ d n cap slot is. copied n slot (is_chosen (mask_in regs) kinds.Slot) refl d cap is;
           }) _ _
-          (does-one_thing w m.environment.channels (three_of w c regs) x.job (inner_call regs) (inner_args regs) named files (allowed.live kinds.Slot));
-      read_only = left_plain w Shares Replaces _ (three_of w c regs) (inner_call regs) (inner_args regs) (λ p maps. ByMappingFor x p calls maps)
-          (plain_keeps w m.environment.channels (three_of w c regs) x.job (inner_call regs) (inner_args regs));
+          (does-one_thing w m.environment.channels (targets_of w c regs) x.job (inner_call regs) (inner_args regs) named files (allowed.live kinds.Slot));
+      read_only = left_plain w Shares Replaces _ (targets_of w c regs) (inner_call regs) (inner_args regs) (λ p maps. ByMappingFor x p calls maps)
+          (plain_keeps w m.environment.channels (targets_of w c regs) x.job (inner_call regs) (inner_args regs));
     }
 
   -- a request begins in a copy of the thread's home, which is live

@@ -22,7 +22,7 @@ use Rattle.lwc_base.specs.Sharing.{needs_group, share, shared_cell, with_shared}
 use Rattle.lwc_base.specs.Store.{Done, Piece, store}
 use Rattle.lwc_base.specs.World.{World, Context, context, is_live, next_context, next_group}
 use Rattle.lwc_syscall.specs.Changes.{IsMapped, KeepsReadOnly, maps_page}
-use Rattle.lwc_syscall.specs.declared.calls.Three.{Three}
+use Rattle.lwc_syscall.specs.declared.calls.CallContexts.{CallContexts}
 use Rattle.confinement.specs.Confined.{IsLeftToRead}
 use Rattle.confinement.proofs.Decide.{name_or_not, value_same}
 use Rattle.guest_call.proofs.Changes.{saving}
@@ -81,9 +81,9 @@ module _ (w : World) (Shared May : Name → ℕ → Type 0) where
       inl (here v e p value own (store-kept w v c job piece is e p value read own) (store-right w v c job piece is e p ∙ read))
 
   -- a plain call leaves such pages, where those that it maps may be replaced
-  pub left_plain : (v : World) (three : Three) (call : ℕ) (args : List ℕ) → ((p : ℕ) → maps_page call args p ≡ true → May three.memory p) →
-      KeepsReadOnly w v (IsMapped three call args) → LeavesToRead w v Shared May
-  left_plain v three call args may keeps e p value live own read = elim (name_or_not e three.memory) [
+  pub left_plain : (v : World) (targets : CallContexts) (call : ℕ) (args : List ℕ) → ((p : ℕ) → maps_page call args p ≡ true → May targets.memory p) →
+      KeepsReadOnly w v (IsMapped targets call args) → LeavesToRead w v Shared May
+  left_plain v targets call args may keeps e p value live own read = elim (name_or_not e targets.memory) [
     | inr other ↦ let kept = keeps e p value (λ is. other is.0) own read in inl (here v e p value own kept.0 kept.1)
     | inl same ↦
         elim (maps_page call args p) as (λ b. maps_page call args p ≡ b → IsLeftToRead w v e p (Shared e p) ⊎ May e p) [

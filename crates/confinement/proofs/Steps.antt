@@ -41,7 +41,7 @@ use Rattle.lwc_switch.specs.Switch.{IsSwitch, switch}
 use Rattle.lwc_syscall.specs.Plain as plains
 use Rattle.lwc_syscall.specs.Plain.{plain, refused_or}
 use Rattle.lwc_syscall.specs.Syscall as syscalls
-use Rattle.lwc_syscall.specs.Syscall.{inner_args, inner_call, lw_syscall, three_of}
+use Rattle.lwc_syscall.specs.Syscall.{inner_args, inner_call, lw_syscall, targets_of}
 use Rattle.confinement.proofs.Acts.{IsAllowed, chosen, created, overlaid, plainly, restricts, same, stored, switched}
 use Rattle.confinement.specs.May.{MakesCall, regs_at, world_of}
 use Rattle.kernel_core.proofs.Refusing.{call_refused}
@@ -158,10 +158,10 @@ module _ (m : Machine) (t : ℕ) (x : Thread) (found : slice_get m.threads t ≡
       taken w x.context regs x.job named live _ done.0 (ap (λ (a : Answer). (a, (overlaying.overlay w x.context x.job regs).1)) done.1)
 
   pub at_syscall : MakesCall m t x LW_SYSCALL → syscalls.IsAllowed w x.context regs
-      × (world_by LW_SYSCALL ≡ (plain w m.environment.channels (three_of w x.context regs) x.job (inner_call regs) (inner_args regs)).world)
+      × (world_by LW_SYSCALL ≡ (plain w m.environment.channels (targets_of w x.context regs) x.job (inner_call regs) (inner_args regs)).world)
   unfolding guest_calls refusal_of lw_syscall
   at_syscall calls =
-      let inner = inner_of w m.environment.channels (plain w m.environment.channels (three_of w x.context regs) x.job (inner_call regs) (inner_args regs))
+      let inner = inner_of w m.environment.channels (plain w m.environment.channels (targets_of w x.context regs) x.job (inner_call regs) (inner_args regs))
       (first_refusal (syscalls.refusals w x.context regs)) calls.accepted in
       (allowed w x.context regs named live inner.0, ap (λ (o : plains.Outcome). o.world) inner.1)
 

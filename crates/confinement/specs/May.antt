@@ -27,7 +27,7 @@ use Rattle.lwc_base.specs.World.{World}
 use Rattle.lwc_create.specs.Create as create
 use Rattle.lwc_overlay.specs.Named.{items_of}
 use Rattle.lwc_syscall.specs.Changes.{maps_page}
-use Rattle.lwc_syscall.specs.Syscall.{inner_args, inner_call, mask_in, three_of}
+use Rattle.lwc_syscall.specs.Syscall.{inner_args, inner_call, mask_in, targets_of}
 use Rattle.confinement.specs.One.{IsOneValue}
 use Rattle.res_spec.specs.declared.items.SpecCall.TheVariants as call
 
@@ -83,7 +83,7 @@ pub data MayReplace (m : Machine) (t : ℕ) : Name → ℕ → Type 0 where
       maps_page number (args_of (regs_at m x)) p ≡ true → MayReplace m t x.context p
   ByMappingFor : (x : Thread) (p : ℕ) → MakesCall m t x LW_SYSCALL →
       maps_page (inner_call (regs_at m x)) (inner_args (regs_at m x)) p ≡ true →
-      MayReplace m t (three_of (world_of m) x.context (regs_at m x)).memory p
+      MayReplace m t (targets_of (world_of m) x.context (regs_at m x)).memory p
   ByTakingOver : (x : Thread) (p : ℕ) (how : Mode) → MakesCall m t x LW_OVERLAY →
       mode (items_of (world_of m) x.context call.Overlay (regs_at m x)) (Page p) ≡ Some how →
       MayReplace m t x.context p

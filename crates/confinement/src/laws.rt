@@ -6,7 +6,7 @@ ghost use Rattle.confinement.specs.Confined.{IsConfined, IsLiveInBoth};
 ghost use Rattle.confinement.specs.Faults.{EndsByFault};
 ghost use Rattle.confinement.specs.May.{IsGiven, MakesCall, MayChange, regs_at, world_of};
 ghost use Rattle.confinement.specs.One.{IsOneValue};
-ghost use Rattle.confinement.specs.Rest.{LacksKey, MakesNoneOfThree};
+ghost use Rattle.confinement.specs.Rest.{LacksKey, MakesNoneOfItsContexts};
 ghost use Rattle.confinement.specs.EachStep.{IsConfinedRun};
 ghost use Rattle.confinement.specs.Snapshots.{IsAsMade, IsResumed, IsUntouched, Makes, Touches};
 ghost use Rattle.kernel_core.specs.Kernel.{CanOpen};
@@ -80,7 +80,7 @@ pub fn what_may_change_is_touched()
 /// chosen, each cell with the right of a page. Where no slot had a capability with a key for a context, none has one afterwards.
 pub fn a_confined_step_leaves_the_rest()
     ensures values { (m after : Machine) (t : ℕ) (x : Thread) (e : Name) (k : Key) → IsConfined m t after →
-        slice_get m.threads t ≡ Some x → MakesNoneOfThree m t → IsLiveInBoth (world_of m) (world_of after) e →
+        slice_get m.threads t ≡ Some x → MakesNoneOfItsContexts m t → IsLiveInBoth (world_of m) (world_of after) e →
         IsKey (world_of m).size.pages k →
         (value_at (world_of after) e k ≡ value_at (world_of m) e k) ⊎ IsOneValue (world_of m) x.context e k }
     ensures registers { (m after : Machine) (t s : ℕ) (e : Name) → IsConfined m t after → s ≢ t →

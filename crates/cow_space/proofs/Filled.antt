@@ -1,14 +1,14 @@
--- A row that gets the values of stretches in rising order.
+-- A row that gets the values of page runs in rising order.
 use Rattle.std.proofs.Common.{◌≡◌, ℕ, ◌+◌, ◌*◌, ◌<◌, ◌≤◌, ◌⊎◌, inl, inr, ⊎_elim, ◌&&◌, cond, leb, ltb, List, length, set, refl, sym, ◌∙◌, ap, arith, get_or-set_other, Option}
 use Rattle.std.proofs.lemmas.Bool.Decides.{nat_tests}
 use Rattle.std.proofs.lemmas.List.{get_or-set_same, set-get_or}
 use Rattle.lwc_base.proofs.Small.{set-again}
 use Rattle.lwc_base.specs.declared.limits.TheConstants.{MOST_PAGES}
 use Rattle.lwc_base.specs.declared.page.PageValue.{PageValue}
-use Rattle.cow_space.specs.declared.stretches.Origin.{Origin}
-use Rattle.cow_space.specs.declared.stretches.Origin.TheVariants.{Absent, Zeros, Common, CopyOf}
-use Rattle.cow_space.specs.declared.stretches.Stretch.{Stretch}
-use Rattle.cow_space.specs.Changes.{IsApart, stretch_at}
+use Rattle.cow_space.specs.declared.page_runs.Origin.{Origin}
+use Rattle.cow_space.specs.declared.page_runs.Origin.TheVariants.{Absent, Zeros, Common, CopyOf}
+use Rattle.cow_space.specs.declared.page_runs.PageRun.{PageRun}
+use Rattle.cow_space.specs.Changes.{IsApart, page_run_at}
 use Rattle.cow_space.specs.Maps.{no_pages, put_range, row_of}
 use Rattle.cow_space.specs.Rows.{changed_row, origin_value, value_by}
 
@@ -60,10 +60,10 @@ origin-kept maps i count row Zeros apart = refl
 origin-kept maps i count row (Common g) apart = refl
 origin-kept maps i count row (CopyOf j) apart = get_or-set_other maps i j row no_pages apart.1
 
--- the value by a stretch
-pub by-stretch : (maps : List (ℕ → Option PageValue)) (i q : ℕ) (stretches : List Stretch) (o : Option Stretch) → stretch_at stretches q ≡ o → changed_row maps i stretches q ≡ value_by maps q (row_of maps i q) o
+-- the value by a page run
+pub by-page_run : (maps : List (ℕ → Option PageValue)) (i q : ℕ) (page_runs : List PageRun) (o : Option PageRun) → page_run_at page_runs q ≡ o → changed_row maps i page_runs q ≡ value_by maps q (row_of maps i q) o
 unfolding changed_row
-by-stretch maps i q stretches o found = ap (value_by maps q (row_of maps i q)) found
+by-page_run maps i q page_runs o found = ap (value_by maps q (row_of maps i q)) found
 
 -- the most nodes and steps that one more range of a row takes
 

@@ -13,19 +13,19 @@ use Rattle.range_map.specs.Kinds.{is_between, put_state, ranges, state_at}
 use Rattle.range_map.proofs.Alike.{HasNoEdge}
 use Rattle.range_map.proofs.Built.{between, not_between}
 use Rattle.range_map.proofs.Ranges.{absent_tail, begins_where, one_piece, ranges_grow, ranges_same}
-use Rattle.cow_space.specs.declared.stretches.ReadRange.{ReadRange}
-use Rattle.cow_space.specs.declared.stretches.Stretch.{Stretch}
-use Rattle.cow_space.specs.Changes.{have_page, stretch_at}
+use Rattle.cow_space.specs.declared.page_runs.ReadRange.{ReadRange}
+use Rattle.cow_space.specs.declared.page_runs.PageRun.{PageRun}
+use Rattle.cow_space.specs.Changes.{have_page, page_run_at}
 
--- one more stretch is no other one at two pages of which it has both or none
-pub stretch_more : (stretches : List Stretch) (i : ℕ) (d : Stretch) (q p : ℕ) → i < length stretches → stretch_at (take i stretches) q ≡ stretch_at (take i stretches) p →
-    is_between (get_or stretches i d).range.from (get_or stretches i d).range.to q ≡ is_between (get_or stretches i d).range.from (get_or stretches i d).range.to p →
-    stretch_at (take (i + 1) stretches) q ≡ stretch_at (take (i + 1) stretches) p
-stretch_more stretches i d q p inside before same = at q ∙ (λ e. option_or (before e) (cond (same e) (Some (get_or stretches i d)) None)) ∙ sym (at p)
+-- one more page run is no other one at two pages of which it has both or none
+pub page_run_more : (page_runs : List PageRun) (i : ℕ) (d : PageRun) (q p : ℕ) → i < length page_runs → page_run_at (take i page_runs) q ≡ page_run_at (take i page_runs) p →
+    is_between (get_or page_runs i d).range.from (get_or page_runs i d).range.to q ≡ is_between (get_or page_runs i d).range.from (get_or page_runs i d).range.to p →
+    page_run_at (take (i + 1) page_runs) q ≡ page_run_at (take (i + 1) page_runs) p
+page_run_more page_runs i d q p inside before same = at q ∙ (λ e. option_or (before e) (cond (same e) (Some (get_or page_runs i d)) None)) ∙ sym (at p)
   where
-    at : (n : ℕ) → stretch_at (take (i + 1) stretches) n
-        ≡ option_or (stretch_at (take i stretches) n) (cond (is_between (get_or stretches i d).range.from (get_or stretches i d).range.to n) (Some (get_or stretches i d)) None)
-    at n = ap (λ xs. stretch_at xs n) (take_more stretches i d inside) ∙ find-append (λ (t : Stretch). is_between t.range.from t.range.to n) (take i stretches) (get_or stretches i d ∷ [])
+    at : (n : ℕ) → page_run_at (take (i + 1) page_runs) n
+        ≡ option_or (page_run_at (take i page_runs) n) (cond (is_between (get_or page_runs i d).range.from (get_or page_runs i d).range.to n) (Some (get_or page_runs i d)) None)
+    at n = ap (λ xs. page_run_at xs n) (take_more page_runs i d inside) ∙ find-append (λ (t : PageRun). is_between t.range.from t.range.to n) (take i page_runs) (get_or page_runs i d ∷ [])
 
 -- ranges that neither begin nor end between two pages have both or none
 pub have-alike : (p edge q : ℕ) (ranges : List ReadRange) → All (λ r. HasNoEdge p edge r.from r.to) ranges → p ≤ q → q < edge → have_page ranges q ≡ have_page ranges p

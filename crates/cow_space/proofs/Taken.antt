@@ -17,10 +17,10 @@ use Rattle.lwc_base.specs.Pages.{bytes_of}
 use Rattle.lwc_base.specs.Store.{Piece, bytes_after, stored_value}
 use Rattle.range_map.specs.Kinds.{is_between, kind_of}
 use Rattle.cow_space.specs.Maps.{put_page}
-use Rattle.cow_space.specs.declared.stretches.Origin.{Origin}
-use Rattle.cow_space.specs.declared.stretches.Origin.TheVariants.{Absent, Zeros, Common, CopyOf}
-use Rattle.cow_space.specs.declared.stretches.Stretch.{Stretch}
-use Rattle.cow_space.specs.Changes.{IsApart, IsStretch, cell_by, changed_place, origin_cell, stretch_at}
+use Rattle.cow_space.specs.declared.page_runs.Origin.{Origin}
+use Rattle.cow_space.specs.declared.page_runs.Origin.TheVariants.{Absent, Zeros, Common, CopyOf}
+use Rattle.cow_space.specs.declared.page_runs.PageRun.{PageRun}
+use Rattle.cow_space.specs.Changes.{IsApart, IsPageRun, cell_by, changed_place, origin_cell, page_run_at}
 use Rattle.cow_space.specs.Cells.{IsOwnPage, Place, kinds_of, no_pages, place_of}
 use Rattle.cow_space.specs.Tags.{IsNewTag, different, is_parting, own_values, parts, taken_by, tags, tags_of_place, times, used}
 use Rattle.cow_space.specs.Writes.{page_value, write_page, written_value}
@@ -245,14 +245,14 @@ module _ (cells : List Place) (to : ℕ) (inside : to < length cells) (none : pl
   by-origin (Common g) p t bytes below apart is = absurd cc
   by-origin (CopyOf j) p t bytes below apart is = in-place j p t bytes apart.0 below is
 
-  by-stretch : (o : Option Stretch) (p : ℕ) (t : Tag) (bytes : List ℕ) → p < PAGES → MatchOption o (Unit {0}) (λ s. IsStretch (length cells) to s × (is_between s.range.from s.range.to p ≡ true)) →
+  by-page_run : (o : Option PageRun) (p : ℕ) (t : Tag) (bytes : List ℕ) → p < PAGES → MatchOption o (Unit {0}) (λ s. IsPageRun (length cells) to s × (is_between s.range.from s.range.to p ≡ true)) →
       own_value (cell_by cells p (place_of cells to p) o) ≡ Some (Data t bytes) → 0 < times t (tags cells)
-  by-stretch None p t bytes below holds is = in-place to p t bytes inside below is
-  by-stretch (Some s) p t bytes below holds is = by-origin s.origin p t bytes below holds.0.given is
+  by-page_run None p t bytes below holds is = in-place to p t bytes inside below is
+  by-page_run (Some s) p t bytes below holds is = by-origin s.origin p t bytes below holds.0.given is
 
-  pub changed-used : (stretches : List Stretch) → All (IsStretch (length cells) to) stretches → used (set cells to (changed_place cells to stretches)) ≡ used cells
+  pub changed-used : (page_runs : List PageRun) → All (IsPageRun (length cells) to) page_runs → used (set cells to (changed_place cells to page_runs)) ≡ used cells
   unfolding changed_place tags_of_place
-  changed-used stretches are =
-      copied-used (changed_place cells to stretches) (λ t some.
-      let at = map-has t (own_values (changed_place cells to stretches)) some in
-      by-stretch (stretch_at stretches at.0) at.0 t at.1.1.0 at.1.0 (find-holds (λ (s : Stretch). is_between s.range.from s.range.to at.0) (IsStretch (length cells) to) stretches are) at.1.1.1)
+  changed-used page_runs are =
+      copied-used (changed_place cells to page_runs) (λ t some.
+      let at = map-has t (own_values (changed_place cells to page_runs)) some in
+      by-page_run (page_run_at page_runs at.0) at.0 t at.1.1.0 at.1.0 (find-holds (λ (s : PageRun). is_between s.range.from s.range.to at.0) (IsPageRun (length cells) to) page_runs are) at.1.1.1)

@@ -1,4 +1,4 @@
--- The cells and the rights of a place once stretches of its pages have changed.
+-- The cells and the rights of a place once page runs of its pages have changed.
 use Rattle.std.specs.Prelude.{◌==◌, ◌||◌, ◌≢◌, ◌<◌, ◌≤◌, if◌then◌else◌, ℕ, Bool, List, Option, None, Some, unwrap_or}
 use Rattle.std.specs.List.{find, list_any}
 use Rattle.lwc_base.specs.declared.cell.Cell.{Cell}
@@ -10,10 +10,10 @@ use Rattle.lwc_base.specs.declared.right.Right.{Right}
 use Rattle.lwc_base.specs.declared.right.Right.TheVariants.{Write, Read}
 use Rattle.range_map.specs.Kinds.{is_between, kind_of, state_of}
 use Rattle.range_map.specs.declared.segment.PageState.{PageState}
-use Rattle.cow_space.specs.declared.stretches.Origin.{Origin}
-use Rattle.cow_space.specs.declared.stretches.Origin.TheVariants.{Absent, Zeros, Common, CopyOf}
-use Rattle.cow_space.specs.declared.stretches.ReadRange.{ReadRange}
-use Rattle.cow_space.specs.declared.stretches.Stretch.{Stretch}
+use Rattle.cow_space.specs.declared.page_runs.Origin.{Origin}
+use Rattle.cow_space.specs.declared.page_runs.Origin.TheVariants.{Absent, Zeros, Common, CopyOf}
+use Rattle.cow_space.specs.declared.page_runs.ReadRange.{ReadRange}
+use Rattle.cow_space.specs.declared.page_runs.PageRun.{PageRun}
 use Rattle.cow_space.specs.Cells.{Place, place_of, right_in, rights_of, states_of}
 
 -- the cell that a page gets of an origin
@@ -23,22 +23,22 @@ origin_cell cells Zeros p = cell.Own (Some value.Zero)
 origin_cell cells (Common g) p = cell.Common g
 origin_cell cells (CopyOf j) p = place_of cells j p
 
--- the cell of a page by the stretch that was found, and the one before where none was
-abbrev pub cell_by : List Place → ℕ → Cell (Option PageValue) → Option Stretch → Cell (Option PageValue)
+-- the cell of a page by the page run that was found, and the one before where none was
+abbrev pub cell_by : List Place → ℕ → Cell (Option PageValue) → Option PageRun → Cell (Option PageValue)
 cell_by cells p before None = before
-cell_by cells p before (Some stretch) = origin_cell cells stretch.origin p
+cell_by cells p before (Some page_run) = origin_cell cells page_run.origin p
 
--- the first of stretches that has a page
-abbrev pub stretch_at : List Stretch → ℕ → Option Stretch
-stretch_at stretches p = find (λ s. is_between s.range.from s.range.to p) stretches
+-- the first of page runs that has a page
+abbrev pub page_run_at : List PageRun → ℕ → Option PageRun
+page_run_at page_runs p = find (λ s. is_between s.range.from s.range.to p) page_runs
 
--- whether a stretch begins or ends at a page
-abbrev pub is_edge : List Stretch → ℕ → Bool
-is_edge stretches p = list_any (λ s. (s.range.from == p) || (s.range.to == p)) stretches
+-- whether a page run begins or ends at a page
+abbrev pub is_edge : List PageRun → ℕ → Bool
+is_edge page_runs p = list_any (λ s. (s.range.from == p) || (s.range.to == p)) page_runs
 
--- the cells of a place after stretches
-unfoldable pub changed_place : List Place → ℕ → List Stretch → Place
-changed_place cells i stretches p = cell_by cells p (place_of cells i p) (stretch_at stretches p)
+-- the cells of a place after page runs
+unfoldable pub changed_place : List Place → ℕ → List PageRun → Place
+changed_place cells i page_runs p = cell_by cells p (place_of cells i p) (page_run_at page_runs p)
 
 -- the right that an origin has at a page: only another place has one of its own
 abbrev pub origin_right : List (ℕ → Right) → Origin → ℕ → Right
@@ -47,27 +47,27 @@ origin_right rights Zeros p = Write
 origin_right rights (Common g) p = Write
 origin_right rights (CopyOf j) p = rights_of rights j p
 
--- the right by the stretch that was found: what it says, or else its origin has; before where none was found
-abbrev pub right_by : List (ℕ → Right) → ℕ → Right → Option Stretch → Right
+-- the right by the page run that was found: what it says, or else its origin has; before where none was found
+abbrev pub right_by : List (ℕ → Right) → ℕ → Right → Option PageRun → Right
 right_by rights p before None = before
-right_by rights p before (Some stretch) = unwrap_or stretch.right (origin_right rights stretch.origin p)
+right_by rights p before (Some page_run) = unwrap_or page_run.right (origin_right rights page_run.origin p)
 
 -- whether ranges have a page
 abbrev pub have_page : List ReadRange → ℕ → Bool
 have_page ranges p = list_any (λ r. is_between r.from r.to p) ranges
 
--- the rights of a place after stretches: Read in some ranges, and Write where a page is absent then
-unfoldable pub changed_rights : List Place → List (ℕ → Right) → ℕ → List Stretch → List ReadRange
+-- the rights of a place after page runs: Read in some ranges, and Write where a page is absent then
+unfoldable pub changed_rights : List Place → List (ℕ → Right) → ℕ → List PageRun → List ReadRange
     → ℕ → Right
-changed_rights cells rights i stretches reads p =
-    right_in (state_of (kind_of (changed_place cells i stretches p))
-    (if have_page reads p then Read else right_by rights p (rights_of rights i p) (stretch_at stretches p)))
+changed_rights cells rights i page_runs reads p =
+    right_in (state_of (kind_of (changed_place cells i page_runs p))
+    (if have_page reads p then Read else right_by rights p (rights_of rights i p) (page_run_at page_runs p)))
 
--- the states of the pages of a place after stretches
-abbrev pub changed_states : List Place → List (ℕ → Right) → ℕ → List Stretch → List ReadRange
+-- the states of the pages of a place after page runs
+abbrev pub changed_states : List Place → List (ℕ → Right) → ℕ → List PageRun → List ReadRange
     → ℕ → Option PageState
-changed_states cells rights i stretches reads =
-    states_of (changed_place cells i stretches) (changed_rights cells rights i stretches reads)
+changed_states cells rights i page_runs reads =
+    states_of (changed_place cells i page_runs) (changed_rights cells rights i page_runs reads)
 
 -- an origin is another one of this number of places, or no place
 abbrev pub IsApart : ℕ → ℕ → Origin → Type 0
@@ -76,8 +76,8 @@ IsApart count i Zeros = Unit {0}
 IsApart count i (Common g) = Unit {0}
 IsApart count i (CopyOf j) = (j < count) × (j ≢ i)
 
--- a stretch of the pages of one of this number of places
-pub record IsStretch (count i : ℕ) (stretch : Stretch) : Type 0 where
-  pub order : stretch.range.from ≤ stretch.range.to
-  pub inside : stretch.range.to ≤ MOST_PAGES
-  pub given : IsApart count i stretch.origin
+-- a page run of the pages of one of this number of places
+pub record IsPageRun (count i : ℕ) (page_run : PageRun) : Type 0 where
+  pub order : page_run.range.from ≤ page_run.range.to
+  pub inside : page_run.range.to ≤ MOST_PAGES
+  pub given : IsApart count i page_run.origin

@@ -5,19 +5,19 @@ use Rattle.lwc_base.specs.declared.limits.TheConstants.{MOST_PAGES}
 use Rattle.lwc_base.specs.declared.name.Tag.{Tag}
 use Rattle.lwc_base.specs.declared.page.PageValue.TheVariants.{Data}
 use Rattle.lwc_base.specs.Store.{Piece}
-use Rattle.cow_space.specs.declared.stretches.Stretch.{Stretch}
-use Rattle.cow_space.specs.Changes.{IsStretch, changed_place}
+use Rattle.cow_space.specs.declared.page_runs.PageRun.{PageRun}
+use Rattle.cow_space.specs.Changes.{IsPageRun, changed_place}
 use Rattle.cow_space.specs.Cells.{IsOwnPage, Place, kinds_of, no_pages, place_of}
 use Rattle.cow_space.specs.Tags.{IsNewTag, is_parting, taken_by, used}
 use Rattle.cow_space.specs.Writes.{write_page}
 
--- the places use as many frames as before, once one without pages has those of another one, or what stretches
+-- the places use as many frames as before, once one without pages has those of another one, or what page runs
 -- give it
 pub record CopyLaws : Type 0 where
   pub cloned : (cells : List Place) (to from : ℕ) → to < length cells → from < length cells → place_of cells to ≡ no_pages →
       used (slice_set cells to (place_of cells from)) ≡ used cells
-  pub changed : (cells : List Place) (i : ℕ) (stretches : List Stretch) → i < length cells → place_of cells i ≡ no_pages →
-      All (IsStretch (length cells) i) stretches → used (slice_set cells i (changed_place cells i stretches)) ≡ used cells
+  pub changed : (cells : List Place) (i : ℕ) (page_runs : List PageRun) → i < length cells → place_of cells i ≡ no_pages →
+      All (IsPageRun (length cells) i) page_runs → used (slice_set cells i (changed_place cells i page_runs)) ≡ used cells
 
 -- a write takes a frame if the page parts, and none otherwise; it leaves the kinds of pages, and any other
 -- new tag stays new; another page of any place is as before, and parts as before if it is under another tag

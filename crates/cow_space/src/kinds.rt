@@ -6,36 +6,34 @@ ghost use Rattle.lwc_base.specs.declared.right.Right.TheVariants.{Read};
 ghost use Rattle.range_map.specs.Kinds.{given, kind_of, ranges, state_at, state_of};
 ghost use Rattle.cow_space.specs.Cells.{place_of, rights_of, states_of};
 ghost use Rattle.cow_space.specs.Changes as spec;
-ghost use Rattle.cow_space.specs.Changes.{IsStretch, changed_states, is_edge, origin_cell, origin_right};
-ghost use Rattle.cow_space.specs.declared.stretches.Origin.TheVariants.{CopyOf};
+ghost use Rattle.cow_space.specs.Changes.{IsPageRun, changed_states, is_edge, origin_cell, origin_right};
+ghost use Rattle.cow_space.specs.declared.page_runs.Origin.TheVariants.{CopyOf};
 ghost use Rattle.cow_space.specs.Seen.{cells, rights};
 
 use crate::cells::PageCells;
-use crate::stretches::{Origin, ReadRange, Stretch};
+use crate::page_runs::{Origin, PageRun, ReadRange};
 use lwc_base::{MOST_PAGES, Right};
 use range_map::{Change, RangeMap, SegmentKind, sooner_edge};
 
-/// The first stretch that has a page.
-pub(crate) fn stretch_at(stretches: &[Stretch], p: u16) -> Option<&Stretch>
-    ensures { option_copied result ≡ spec.stretch_at stretches.now p }
+/// The first page run that has a page.
+pub(crate) fn page_run_at(page_runs: &[PageRun], p: u16) -> Option<&PageRun>
+    ensures { option_copied result ≡ spec.page_run_at page_runs.now p }
 {
-    stretches
-        .iter()
-        .find(|stretch| stretch.range.from <= p && p < stretch.range.to)
+    page_runs.iter().find(|page_run| page_run.range.from <= p && p < page_run.range.to)
 }
 
-/// Where the first stretch after a page begins or ends, or the end of all pages.
-pub(crate) fn stretch_edge(stretches: &[Stretch], p: u16) -> u16
+/// Where the first page run after a page begins or ends, or the end of all pages.
+pub(crate) fn page_run_edge(page_runs: &[PageRun], p: u16) -> u16
     requires { p < MOST_PAGES }
     ensures past { p < result }
     ensures within { result ≤ MOST_PAGES }
     ensures alike { (q : ℕ) → p ≤ q → q < result
-        → spec.stretch_at stretches.now q ≡ spec.stretch_at stretches.now p }
-    ensures edge { result < MOST_PAGES → is_edge stretches.now result ≡ true }
+        → spec.page_run_at page_runs.now q ≡ spec.page_run_at page_runs.now p }
+    ensures edge { result < MOST_PAGES → is_edge page_runs.now result ≡ true }
 {
     let mut edge = MOST_PAGES as u16;
-    for stretch in stretches {
-        edge = sooner_edge(stretch.range.from, stretch.range.to, p, edge);
+    for page_run in page_runs {
+        edge = sooner_edge(page_run.range.from, page_run.range.to, p, edge);
     }
     edge
 }
@@ -71,40 +69,40 @@ pub(crate) fn has_page(kinds: &RangeMap) -> bool
 }
 
 impl PageCells {
-    /// The right that a page gets by a stretch, or `Read`, if it is present then.
-    fn right_given(&self, stretch: &Stretch, read: bool, p: u16) -> Right
-        requires { (j : ℕ) → stretch.now.origin ≡ CopyOf j → j < length (cells self.now) }
+    /// The right that a page gets by a page run, or `Read`, if it is present then.
+    fn right_given(&self, page_run: &PageRun, read: bool, p: u16) -> Right
+        requires { (j : ℕ) → page_run.now.origin ≡ CopyOf j → j < length (cells self.now) }
         ensures { result
             ≡ (if read then Read
-            else unwrap_or stretch.now.right (origin_right (rights self.now) stretch.now.origin p)) }
+            else unwrap_or page_run.now.right (origin_right (rights self.now) page_run.now.origin p)) }
     {
         if read {
             return Right::Read;
         }
-        match (stretch.right, stretch.origin) {
+        match (page_run.right, page_run.origin) {
             (Some(right), _) => right,
             (None, Origin::CopyOf(j)) => self.right(j, p),
             (None, Origin::Absent | Origin::Zeros | Origin::Common(_)) => Right::Write,
         }
     }
 
-    /// The change that a stretch makes of a page and of later ones, up to an edge at the most; they all get
-    /// the right `Read`, or each the right by the stretch.
-    fn change_given(&self, stretch: &Stretch, read: bool, p: u16, edge: u16) -> Change
-        requires origin { (j : ℕ) → stretch.now.origin ≡ CopyOf j → j < length (cells self.now) }
+    /// The change that a page run makes of a page and of later ones, up to an edge at the most; they all get
+    /// the right `Read`, or each the right by the page run.
+    fn change_given(&self, page_run: &PageRun, read: bool, p: u16, edge: u16) -> Change
+        requires origin { (j : ℕ) → page_run.now.origin ≡ CopyOf j → j < length (cells self.now) }
         requires page { p < edge }
         requires within { edge ≤ MOST_PAGES }
         ensures from { result.from ≡ p }
         ensures past { p < result.to }
         ensures within { result.to ≤ edge }
         ensures state { (q : ℕ) → p ≤ q → q < result.to
-            → state_of (kind_of (origin_cell (cells self.now) stretch.now.origin q))
+            → state_of (kind_of (origin_cell (cells self.now) page_run.now.origin q))
             (if read then Read
-            else unwrap_or stretch.now.right (origin_right (rights self.now) stretch.now.origin q))
+            else unwrap_or page_run.now.right (origin_right (rights self.now) page_run.now.origin q))
             ≡ given result }
     {
-        let right = self.right_given(stretch, read, p);
-        let (kind, to) = match stretch.origin {
+        let right = self.right_given(page_run, read, p);
+        let (kind, to) = match page_run.origin {
             Origin::Absent => (None, edge),
             Origin::Zeros => (Some(SegmentKind::Own), edge),
             Origin::Common(g) => (Some(SegmentKind::Common(g)), edge),
@@ -141,52 +139,52 @@ impl PageCells {
         }
     }
 
-    /// The kind and the right that a page of a place, and all up to a later one, have after stretches and ranges
+    /// The kind and the right that a page of a place, and all up to a later one, have after page runs and ranges
     /// that may only be read.
     pub(crate) fn piece_at(
         &self,
         i: usize,
-        stretches: &[Stretch],
+        page_runs: &[PageRun],
         reads: &[ReadRange],
         p: u16,
     ) -> Change
         requires place { i < length (cells self.now) }
-        requires stretches { All (IsStretch (length (cells self.now)) i) stretches.now }
+        requires page_runs { All (IsPageRun (length (cells self.now)) i) page_runs.now }
         requires page { p < MOST_PAGES }
         ensures from { result.from ≡ p }
         ensures past { p < result.to }
         ensures within { result.to ≤ MOST_PAGES }
         ensures state { (q : ℕ) → p ≤ q → q < result.to
-            → changed_states (cells self.now) (rights self.now) i stretches.now reads.now q ≡ given result }
+            → changed_states (cells self.now) (rights self.now) i page_runs.now reads.now q ≡ given result }
     {
-        let edge = range_edge(reads, p, stretch_edge(stretches, p));
+        let edge = range_edge(reads, p, page_run_edge(page_runs, p));
         let read = have_page(reads, p);
-        match stretch_at(stretches, p) {
-            Some(stretch) => self.change_given(stretch, read, p, edge),
+        match page_run_at(page_runs, p) {
+            Some(page_run) => self.change_given(page_run, read, p, edge),
             None => self.change_left(i, read, p, edge),
         }
     }
 
-    /// The kinds and the rights of a place after stretches, and ranges that may only be read.
+    /// The kinds and the rights of a place after page runs, and ranges that may only be read.
     pub(crate) fn kinds_after(
         &self,
         i: usize,
-        stretches: &[Stretch],
+        page_runs: &[PageRun],
         reads: &[ReadRange],
     ) -> RangeMap
         requires place { i < length (cells self.now) }
-        requires stretches { All (IsStretch (length (cells self.now)) i) stretches.now }
+        requires page_runs { All (IsPageRun (length (cells self.now)) i) page_runs.now }
         requires ranges { ranges MOST_PAGES
-            (changed_states (cells self.now) (rights self.now) i stretches.now reads.now) ≤ MOST_RANGES }
+            (changed_states (cells self.now) (rights self.now) i page_runs.now reads.now) ≤ MOST_RANGES }
         ensures states { (p : ℕ) → p < MOST_PAGES
             → state_at result p
-            ≡ changed_states (cells self.now) (rights self.now) i stretches.now reads.now p }
+            ≡ changed_states (cells self.now) (rights self.now) i page_runs.now reads.now p }
         ensures past { (p : ℕ) → MOST_PAGES ≤ p → state_at result p ≡ None }
     {
         let mut kinds = RangeMap::empty();
         let mut p = 0u16;
         'pieces: while u32::from(p) < MOST_PAGES {
-            let piece = self.piece_at(i, stretches, reads, p);
+            let piece = self.piece_at(i, page_runs, reads, p);
             if let Some(state) = piece.state() {
                 kinds.append(p, piece.to, state);
             }

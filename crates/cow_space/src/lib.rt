@@ -7,14 +7,14 @@ pub mod cells;
 pub mod copies;
 pub(crate) mod kinds;
 pub mod laws;
+pub mod page_runs;
 pub mod row_writes;
 pub mod rows;
-pub mod stretches;
 pub mod writes;
 
 pub use cells::PageCells;
+pub use page_runs::{Origin, PageRun, ReadRange};
 pub use rows::Rows;
-pub use stretches::{Origin, ReadRange, Stretch};
 pub use writes::NoFrame;
 
 #[cfg(test)]

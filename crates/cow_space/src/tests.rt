@@ -1,5 +1,5 @@
 ghost use Rattle.std.specs.Prelude.{◌≡◌, ◌≢◌, ℕ, ◌+◌, ◌<◌, ◌≤◌, All, IfOk, None, length, slice_set};
-ghost use Rattle.cow_space.specs.Changes.{IsStretch, changed_place};
+ghost use Rattle.cow_space.specs.Changes.{IsPageRun, changed_place};
 ghost use Rattle.cow_space.specs.Seen.{cells};
 
 use super::*;
@@ -12,11 +12,11 @@ use std::process::Abort;
 use std::sync::ledger::{Blank, Ledger};
 use std::test::Fail;
 
-/// A stretch of pages from one up to and without another.
-fn stretch(from: u16, to: u16, origin: Origin) -> Stretch
+/// A page run of pages from one up to and without another.
+fn page_run(from: u16, to: u16, origin: Origin) -> PageRun
     ensures { result ≡ record { range = record { from = from; to = to }; origin = origin; right = None } }
 {
-    Stretch {
+    PageRun {
         range: Range { from, to },
         origin,
         right: None,
@@ -28,20 +28,20 @@ fn change<L: Ledger>(
     rt: &impl Abort,
     places: &mut PageCells,
     i: usize,
-    stretches: &[Stretch],
+    page_runs: &[PageRun],
     steps: &mut Steps<L>,
 )
     requires place { i < length (cells places.old) }
-    requires stretches { All (IsStretch (length (cells places.old)) i) stretches.now }
+    requires page_runs { All (IsPageRun (length (cells places.old)) i) page_runs.now }
     ensures { cells places.new
-        ≡ slice_set (cells places.old) i (changed_place (cells places.old) i stretches.now) }
+        ≡ slice_set (cells places.old) i (changed_place (cells places.old) i page_runs.now) }
 {
-    let count = places.count_after(i, stretches, &[]);
+    let count = places.count_after(i, page_runs, &[]);
     assert!(rt; count <= MOST_RANGES);
-    places.change(i, stretches, &[], steps);
+    places.change(i, page_runs, &[], steps);
 }
 
-/// Three places, of which the first has pages 2 to 7, and bytes at page 5.
+/// CallContexts places, of which the first has pages 2 to 7, and bytes at page 5.
 fn written<L: Ledger>(
     rt: &impl Abort,
     alloc: Global,
@@ -49,7 +49,7 @@ fn written<L: Ledger>(
 ) -> Result<PageCells, Fail> {
     let mut places = PageCells::open(alloc, 4, 3)?;
     assert_eq!(rt; (places.len(), places.frames(), places.used()), (3, 4, 0));
-    change(rt, &mut places, 0, &[stretch(2, 8, Origin::Zeros)], steps);
+    change(rt, &mut places, 0, &[page_run(2, 8, Origin::Zeros)], steps);
     assert_eq!(rt; places.len(), 3);
     let Some(SegmentKind::Own) = places.kind(0, 5) else {
         return Err("page 5 is the place's own")?;
@@ -75,14 +75,14 @@ fn try_places<L: Ledger>(rt: &impl Abort, alloc: Global, blank: Blank) -> Result
     assert_eq!(rt; places.len(), 3);
     assert_eq!(rt; (places.count(1), places.used()), (1, 1));
     let common = [
-        stretch(4, 6, Origin::Common(group)),
-        stretch(0, 8, Origin::Absent),
+        page_run(4, 6, Origin::Common(group)),
+        page_run(0, 8, Origin::Absent),
     ];
     change(rt, &mut places, 0, &common, &mut steps);
     let mixed = [
-        stretch(4, 6, Origin::CopyOf(1)),
-        stretch(5, 8, Origin::CopyOf(0)),
-        stretch(7, 10, Origin::Zeros),
+        page_run(4, 6, Origin::CopyOf(1)),
+        page_run(5, 8, Origin::CopyOf(0)),
+        page_run(7, 10, Origin::Zeros),
     ];
     change(rt, &mut places, 2, &mixed, &mut steps);
     let own = Some(SegmentKind::Own);

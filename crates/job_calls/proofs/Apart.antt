@@ -36,7 +36,7 @@ use Rattle.lwc_syscall.specs.Plain.{Outcome, answering, placed, plain, read_on, 
 use Rattle.lwc_syscall.specs.Plain as calls
 use Rattle.lwc_syscall.specs.Syscall as syscalls
 use Rattle.lwc_syscall.specs.declared.answer.CallAnswer.{CallAnswer}
-use Rattle.lwc_syscall.specs.declared.calls.Three.{Three}
+use Rattle.lwc_syscall.specs.declared.calls.CallContexts.{CallContexts}
 use Rattle.res_spec.specs.declared.items.SpecCall.TheVariants as spec_call
 use Rattle.job_view.proofs.Keeping.{changes-hidden, changes-keep}
 
@@ -149,7 +149,7 @@ module _ (home : Home) where
       goes_to e own slot None to = sym (ap (λ m. (to_name m).job) to) ∙ own
 
   -- plain calls
-  module _ (own : ℕ) (three : Three) (w : World) (io : Channels) (some : own ≢ 0) (of : AreOf own three) (keeps : KeepsJobs home w) where
+  module _ (own : ℕ) (targets : CallContexts) (w : World) (io : Channels) (some : own ≢ 0) (of : AreOf own targets) (keeps : KeepsJobs home w) where
     -- a change of one of the three contexts
     of_job : (c : Name) → c.job ≡ own → (v : World) → (c.job ≢ 0 → LeavesOthers home c.job w v) → LeavesOthers home own w v
     of_job c same v leaves = subst (λ j. LeavesOthers home j w v) same (leaves (λ none. some (sym same ∙ none)))
@@ -161,52 +161,52 @@ module _ (home : Home) where
     unfolding Leaves
     end_leaves first done leaves = by_refusal Leaves w io done first (λ refusal is. record { kept = keeps; hidden = λ job t other. refl }) (λ is. leaves)
 
-    slot_of : (n : ℕ) → IsSlotOf three.slots.job (descriptor_for w three.slots n)
-    slot_of = descriptor_fits home three.slots w keeps.kept
+    slot_of : (n : ℕ) → IsSlotOf targets.slots.job (descriptor_for w targets.slots n)
+    slot_of = descriptor_fits home targets.slots w keeps.kept
 
-    placed_leaves : (value : Descriptor) → IsSlotOf three.slots.job value → Leaves (placed w io three.slots value)
+    placed_leaves : (value : Descriptor) → IsSlotOf targets.slots.job value → Leaves (placed w io targets.slots value)
     unfolding Leaves
-    placed_leaves value fits = of_job three.slots of.slots _ (λ here. leaves_slot three.slots w here keeps _ value fits)
+    placed_leaves value fits = of_job targets.slots of.slots _ (λ here. leaves_slot targets.slots w here keeps _ value fits)
 
-    store_leaves : (piece : Piece) → LeavesOthers home own w (after_store w three.memory own piece)
+    store_leaves : (piece : Piece) → LeavesOthers home own w (after_store w targets.memory own piece)
     store_leaves piece =
-        of_job three.memory of.memory _ (λ here. subst (λ j. LeavesOthers home three.memory.job w (after_store w three.memory j piece)) of.memory
-        (leaves_stored three.memory w here keeps piece))
+        of_job targets.memory of.memory _ (λ here. subst (λ j. LeavesOthers home targets.memory.job w (after_store w targets.memory j piece)) of.memory
+        (leaves_stored targets.memory w here keeps piece))
 
-    read_leaves : (n at : ℕ) (bytes : List ℕ) → LeavesOthers home own w (world_after w (store_at w three.memory own at bytes))
+    read_leaves : (n at : ℕ) (bytes : List ℕ) → LeavesOthers home own w (world_after w (store_at w targets.memory own at bytes))
     read_leaves n at bytes =
         let same : LeavesOthers home own w w = record { kept = keeps; hidden = λ job t other. refl } in
-        store_at_cases (λ stored. LeavesOthers home own w (world_after w stored)) w three.memory own at bytes same same same same (store_leaves (record { at = at; bytes = bytes }))
+        store_at_cases (λ stored. LeavesOthers home own w (world_after w stored)) w targets.memory own at bytes same same same same (store_leaves (record { at = at; bytes = bytes }))
 
-    reading_leaves : (n at count : ℕ) → Leaves (calls.reading w io three own n at count)
+    reading_leaves : (n at count : ℕ) → Leaves (calls.reading w io targets own n at count)
     unfolding Leaves calls.reading
     reading_leaves n at count =
-        let value = descriptor_for w three.slots n in
+        let value = descriptor_for w targets.slots n in
         let bytes = calls.moved io value count in
         let stored = read_leaves n at bytes in
         end_leaves _ _ (leaves_then own _ _ _ stored
-        (subst (λ j. LeavesOthers home j (world_after w (store_at w three.memory own at bytes)) (put_slot (world_after w (store_at w three.memory own at bytes)) three.slots n (read_on (length bytes) value))) of.slots
-        (leaves_slot three.slots _ (λ none. some (sym of.slots ∙ none)) stored.kept n (read_on (length bytes) value) (read_fits three.slots.job (length bytes) value (slot_of n)))))
+        (subst (λ j. LeavesOthers home j (world_after w (store_at w targets.memory own at bytes)) (put_slot (world_after w (store_at w targets.memory own at bytes)) targets.slots n (read_on (length bytes) value))) of.slots
+        (leaves_slot targets.slots _ (λ none. some (sym of.slots ∙ none)) stored.kept n (read_on (length bytes) value) (read_fits targets.slots.job (length bytes) value (slot_of n)))))
 
-    pub plain-leaves : (call : ℕ) (args : List ℕ) → LeavesOthers home own w (plain w io three own call args).world
+    pub plain-leaves : (call : ℕ) (args : List ℕ) → LeavesOthers home own w (plain w io targets own call args).world
     unfolding Leaves calls.writing
     plain-leaves call args =
         let same : LeavesOthers home own w w = record { kept = keeps; hidden = λ job t other. refl } in
-        all_calls (λ a b. Leaves a) w w io io three own call args (record {
+        all_calls (λ a b. Leaves a) w w io io targets own call args (record {
           opens = end_leaves _ _ (placed_leaves (File (slice_index args 0) 0) tt);
-          closes = end_leaves _ _ (of_job three.slots of.slots _ (λ here. leaves_slot three.slots w here keeps (slice_index args 0) Empty tt));
+          closes = end_leaves _ _ (of_job targets.slots of.slots _ (λ here. leaves_slot targets.slots w here keeps (slice_index args 0) Empty tt));
           copies = end_leaves _ _ (placed_leaves _ (slot_of (slice_index args 0)));
           reads = λ is. reading_leaves (slice_index args 0) (slice_index args 1) (slice_index args 2);
           writes = end_leaves _ _ same;
-          maps = λ present. end_leaves _ _ (of_job three.memory of.memory _ (λ here. leaves_mapped three.memory w here keeps (slice_index args 0) (slice_index args 1) present));
+          maps = λ present. end_leaves _ _ (of_job targets.memory of.memory _ (λ here. leaves_mapped targets.memory w here keeps (slice_index args 0) (slice_index args 1) present));
           tells = same;
-          becomes = end_leaves _ _ (of_job three.cred of.cred _ (λ here. leaves_uid three.cred w here keeps (slice_index args 0)));
+          becomes = end_leaves _ _ (of_job targets.cred of.cred _ (λ here. leaves_uid targets.cred w here keeps (slice_index args 0)));
           exits = same;
           refuses = same;
         })
 
   -- nor do other requests see what a plain call writes
-  module _ (own r : ℕ) (three : Three) (w : World) (io : Channels) (other : own ≢ r + 1) (of : AreOf own three) (keeps : KeepsJobs home w) where
+  module _ (own r : ℕ) (targets : CallContexts) (w : World) (io : Channels) (other : own ≢ r + 1) (of : AreOf own targets) (keeps : KeepsJobs home w) where
     Same : Outcome → Type 0
     Same outcome = channel_view r outcome.io ≡ channel_view r io
 
@@ -232,12 +232,12 @@ module _ (home : Home) where
     unfolding Same
     writes_io answer v value bytes fits = written_same value bytes fits
 
-    plain_same : (call : ℕ) (args : List ℕ) → Same (plain w io three own call args)
+    plain_same : (call : ℕ) (args : List ℕ) → Same (plain w io targets own call args)
     unfolding calls.reading calls.writing
     plain_same call args =
-        let fits : IsSlotOf own (descriptor_for w three.slots (slice_index args 0)) =
-        subst (λ j. IsSlotOf j (descriptor_for w three.slots (slice_index args 0))) of.slots (descriptor_fits home three.slots w keeps.kept (slice_index args 0)) in
-        all_calls (λ a b. Same a) w w io io three own call args (record {
+        let fits : IsSlotOf own (descriptor_for w targets.slots (slice_index args 0)) =
+        subst (λ j. IsSlotOf j (descriptor_for w targets.slots (slice_index args 0))) of.slots (descriptor_fits home targets.slots w keeps.kept (slice_index args 0)) in
+        all_calls (λ a b. Same a) w w io io targets own call args (record {
           opens = search (end_same, keeps_io);
           closes = search (end_same, keeps_io);
           copies = search (end_same, keeps_io);
@@ -250,13 +250,13 @@ module _ (home : Home) where
           refuses = search keeps_io;
         })
 
-    pub plain-same : (call : ℕ) (args : List ℕ) → channel_view r (plain w io three own call args).io ≡ channel_view r io
+    pub plain-same : (call : ℕ) (args : List ℕ) → channel_view r (plain w io targets own call args).io ≡ channel_view r io
     unfolding Same
     plain-same call args = plain_same call args
 
   -- the call over contexts that a mask chooses
   module _ (c : Name) (w : World) (io : Channels) (regs : Regs) (keeps : KeepsJobs home w) where
-    own_three : AreOf c.job (syscalls.three_of w c regs)
+    own_three : AreOf c.job (syscalls.targets_of w c regs)
     own_three = three_own home c w regs keeps.kept
 
     pub syscall-leaves : c.job ≢ 0 → LeavesOthers home c.job w (syscalls.lw_syscall w io c c.job regs).world
@@ -264,10 +264,10 @@ module _ (home : Home) where
     syscall-leaves some =
         by_refusal (λ outcome. LeavesOthers home c.job w outcome.world) w io _ (first_refusal (syscalls.refusals w c regs))
         (λ refusal is. record { kept = keeps; hidden = λ job t other. refl })
-        (λ is. plain-leaves c.job (syscalls.three_of w c regs) w io some own_three keeps (syscalls.inner_call regs) (syscalls.inner_args regs))
+        (λ is. plain-leaves c.job (syscalls.targets_of w c regs) w io some own_three keeps (syscalls.inner_call regs) (syscalls.inner_args regs))
 
     pub syscall-same : (r : ℕ) → c.job ≢ r + 1 → channel_view r (syscalls.lw_syscall w io c c.job regs).io ≡ channel_view r io
     unfolding syscalls.lw_syscall
     syscall-same r other =
         by_refusal (λ outcome. channel_view r outcome.io ≡ channel_view r io) w io _ (first_refusal (syscalls.refusals w c regs)) (λ refusal is. refl)
-        (λ is. plain-same c.job r (syscalls.three_of w c regs) w io other own_three keeps (syscalls.inner_call regs) (syscalls.inner_args regs))
+        (λ is. plain-same c.job r (syscalls.targets_of w c regs) w io other own_three keeps (syscalls.inner_call regs) (syscalls.inner_args regs))

@@ -23,7 +23,7 @@ use Rattle.lwc_syscall.specs.Plain.{Outcome, is_full, plain, refused_or, store_a
 use Rattle.lwc_syscall.specs.Plain as calls
 use Rattle.lwc_syscall.specs.Syscall as syscalls
 use Rattle.lwc_syscall.specs.declared.answer.CallAnswer.TheVariants.{Refused, Value}
-use Rattle.lwc_syscall.specs.declared.calls.Three.{Three}
+use Rattle.lwc_syscall.specs.declared.calls.CallContexts.{CallContexts}
 
 -- no row of a table means this refusal
 abbrev pub NoneIs : Refusal → List (Bool × Refusal) → Type 0
@@ -75,52 +75,52 @@ module _ (w : World) (m : Name) (job : ℕ) where
       by_tests false true is = store_full (record { at = from; bytes = bytes }) is
       by_tests false false is = cc
 
-module _ (w : World) (io : Channels) (three : Three) (job call : ℕ) (args : List ℕ) where
+module _ (w : World) (io : Channels) (targets : CallContexts) (job call : ℕ) (args : List ℕ) where
   -- an outcome that is no such refusal, or has the reason for it
   HasReason : Outcome → Type 0
-  HasReason outcome = outcome.answer ≡ Refused NoFrame → (call ≡ 4) × (w.size.frames < used w + parting_count w three.memory (read_piece w io three args))
+  HasReason outcome = outcome.answer ≡ Refused NoFrame → (call ≡ 4) × (w.size.frames < used w + parting_count w targets.memory (read_piece w io targets args))
 
   end_reason : (rows : List (Bool × Refusal)) → NoneIs NoFrame rows → (n : ℕ) (v : World) (after : Channels) → HasReason (refused_or w io (record { answer = Value n; world = v; io = after }) (first_refusal rows))
   unfolding HasReason
   end_reason rows none n v after =
       by_refusal HasReason w io (record { answer = Value n; world = v; io = after }) (first_refusal rows) (λ refusal first is. absurd (not_first NoFrame rows none (first ∙ ap Some (refused_is refusal is)))) (λ first is. cc)
 
-  read_reason : call ≡ 4 → HasReason (calls.reading w io three job (slice_index args 0) (slice_index args 1) (slice_index args 2))
+  read_reason : call ≡ 4 → HasReason (calls.reading w io targets job (slice_index args 0) (slice_index args 1) (slice_index args 2))
   unfolding HasReason calls.reading
   read_reason four =
-      let value = descriptor_for w three.slots (slice_index args 0) in
-      let stored = store_at w three.memory job (slice_index args 1) (calls.moved io value (slice_index args 2)) in
+      let value = descriptor_for w targets.slots (slice_index args 0) in
+      let stored = store_at w targets.memory job (slice_index args 1) (calls.moved io value (slice_index args 2)) in
       by_refusal HasReason w io _ (first_refusal (calls.read_refusals io value (slice_index args 2) stored))
       (λ refusal first is. (
         four,
-        store_at_full w three.memory job (slice_index args 1) (calls.moved io value (slice_index args 2))
+        store_at_full w targets.memory job (slice_index args 1) (calls.moved io value (slice_index args 2))
             (last_row _ _ _ _ _ (is_full stored) (first ∙ ap Some (refused_is refusal is))),
       ))
       (λ first is. cc)
 
-  pub plain-reason : (plain w io three job call args).answer ≡ Refused NoFrame → (call ≡ 4) × (w.size.frames < used w + parting_count w three.memory (read_piece w io three args))
+  pub plain-reason : (plain w io targets job call args).answer ≡ Refused NoFrame → (call ≡ 4) × (w.size.frames < used w + parting_count w targets.memory (read_piece w io targets args))
   unfolding HasReason calls.writing
   plain-reason =
       let arg = slice_index args in
-      all_calls (λ a b. HasReason a) w w io io three job call args (record {
-        opens = end_reason (calls.open_refusals w io three (arg 0)) ((λ is. cc), ((λ is. cc), ((λ is. cc), tt))) _ _ _;
-        closes = end_reason (calls.close_refusals w three.slots (arg 0)) ((λ is. cc), tt) _ _ _;
-        copies = end_reason (calls.copy_refusals w three.slots (arg 0)) ((λ is. cc), ((λ is. cc), tt)) _ _ _;
+      all_calls (λ a b. HasReason a) w w io io targets job call args (record {
+        opens = end_reason (calls.open_refusals w io targets (arg 0)) ((λ is. cc), ((λ is. cc), ((λ is. cc), tt))) _ _ _;
+        closes = end_reason (calls.close_refusals w targets.slots (arg 0)) ((λ is. cc), tt) _ _ _;
+        copies = end_reason (calls.copy_refusals w targets.slots (arg 0)) ((λ is. cc), ((λ is. cc), tt)) _ _ _;
         reads = read_reason;
-        writes = end_reason (calls.write_refusals io (descriptor_for w three.slots (arg 0)) (arg 2) (bytes_for w three.memory (arg 1) (arg 2))) ((λ is. cc), ((λ is. cc), ((λ is. cc), ((λ is. cc), ((λ is. cc), tt))))) _ _ _;
-        maps = λ present. end_reason (calls.map_refusals w three.memory (arg 0) (arg 1) present) ((λ is. cc), ((λ is. cc), tt)) _ _ _;
+        writes = end_reason (calls.write_refusals io (descriptor_for w targets.slots (arg 0)) (arg 2) (bytes_for w targets.memory (arg 1) (arg 2))) ((λ is. cc), ((λ is. cc), ((λ is. cc), ((λ is. cc), ((λ is. cc), tt))))) _ _ _;
+        maps = λ present. end_reason (calls.map_refusals w targets.memory (arg 0) (arg 1) present) ((λ is. cc), ((λ is. cc), tt)) _ _ _;
         tells = λ is. cc;
-        becomes = end_reason (calls.uid_refusals w three.cred (arg 0)) ((λ is. cc), ((λ is. cc), tt)) _ _ _;
+        becomes = end_reason (calls.uid_refusals w targets.cred (arg 0)) ((λ is. cc), ((λ is. cc), tt)) _ _ _;
         exits = λ is. cc;
         refuses = λ is. cc;
       })
 
 pub syscall-reason : (w : World) (io : Channels) (c : Name) (job : ℕ) (regs : Regs) → (syscalls.lw_syscall w io c job regs).answer ≡ Refused NoFrame →
-    (syscalls.inner_call regs ≡ 4) × (w.size.frames < used w + parting_count w (syscalls.three_of w c regs).memory (read_piece w io (syscalls.three_of w c regs) (syscalls.inner_args regs)))
+    (syscalls.inner_call regs ≡ 4) × (w.size.frames < used w + parting_count w (syscalls.targets_of w c regs).memory (read_piece w io (syscalls.targets_of w c regs) (syscalls.inner_args regs)))
 unfolding syscalls.lw_syscall syscalls.refusals slot_refusals
 syscall-reason w io c job regs =
     by_refusal (λ outcome. outcome.answer ≡ Refused NoFrame → (syscalls.inner_call regs ≡ 4)
-    × (w.size.frames < used w + parting_count w (syscalls.three_of w c regs).memory (read_piece w io (syscalls.three_of w c regs) (syscalls.inner_args regs))))
+    × (w.size.frames < used w + parting_count w (syscalls.targets_of w c regs).memory (read_piece w io (syscalls.targets_of w c regs) (syscalls.inner_args regs))))
     w io _ (first_refusal (syscalls.refusals w c regs))
     (λ refusal first is. absurd (not_first NoFrame (syscalls.refusals w c regs) ((λ e. cc), ((λ e. cc), ((λ e. cc), ((λ e. cc), ((λ e. cc), tt))))) (first ∙ ap Some (refused_is refusal is))))
-    (λ first. plain-reason w io (syscalls.three_of w c regs) job (syscalls.inner_call regs) (syscalls.inner_args regs))
+    (λ first. plain-reason w io (syscalls.targets_of w c regs) job (syscalls.inner_call regs) (syscalls.inner_args regs))

@@ -16,7 +16,7 @@ use Rattle.lwc_base.specs.declared.refusal.Refusal.{Refusal}
 use Rattle.lwc_base.specs.declared.refusal.Refusal.TheVariants.{BadCall}
 use Rattle.lwc_syscall.specs.Plain.{Outcome, answering, becoming, closing, copying, mapping, opening, plain, reading, refused_or, store_at, writing}
 use Rattle.lwc_syscall.specs.declared.answer.CallAnswer.TheVariants.{Exit, Refused}
-use Rattle.lwc_syscall.specs.declared.calls.Three.{Three}
+use Rattle.lwc_syscall.specs.declared.calls.CallContexts.{CallContexts}
 
 -- two outcomes by the same test
 pub by_test : (R : Outcome → Outcome → Type 0) (b : Bool) (x y u v : Outcome) → (b ≡ true → R x u) → (b ≡ false → R y v) → R (cond b x y) (cond b u v)
@@ -24,22 +24,22 @@ by_test R true x y u v first second = first refl
 by_test R false x y u v first second = second refl
 
 -- what is so of each plain call in two worlds, by its number, is so of all
-pub record EachCall (R : Outcome → Outcome → Type 0) (w v : World) (io other : Channels) (three : Three) (job call : ℕ) (args : List ℕ) : Type 0 where
-  pub opens : R (opening w io three (slice_index args 0)) (opening v other three (slice_index args 0))
-  pub closes : R (closing w io three.slots (slice_index args 0)) (closing v other three.slots (slice_index args 0))
-  pub copies : R (copying w io three.slots (slice_index args 0)) (copying v other three.slots (slice_index args 0))
-  pub reads : call ≡ 4 → R (reading w io three job (slice_index args 0) (slice_index args 1) (slice_index args 2)) (reading v other three job (slice_index args 0) (slice_index args 1) (slice_index args 2))
-  pub writes : R (writing w io three (slice_index args 0) (slice_index args 1) (slice_index args 2)) (writing v other three (slice_index args 0) (slice_index args 1) (slice_index args 2))
-  pub maps : (present : Bool) → R (mapping w io three.memory (slice_index args 0) (slice_index args 1) present) (mapping v other three.memory (slice_index args 0) (slice_index args 1) present)
-  pub tells : R (answering (uid_at w three.cred) w io) (answering (uid_at v three.cred) v other)
-  pub becomes : R (becoming w io three.cred (slice_index args 0)) (becoming v other three.cred (slice_index args 0))
+pub record EachCall (R : Outcome → Outcome → Type 0) (w v : World) (io other : Channels) (targets : CallContexts) (job call : ℕ) (args : List ℕ) : Type 0 where
+  pub opens : R (opening w io targets (slice_index args 0)) (opening v other targets (slice_index args 0))
+  pub closes : R (closing w io targets.slots (slice_index args 0)) (closing v other targets.slots (slice_index args 0))
+  pub copies : R (copying w io targets.slots (slice_index args 0)) (copying v other targets.slots (slice_index args 0))
+  pub reads : call ≡ 4 → R (reading w io targets job (slice_index args 0) (slice_index args 1) (slice_index args 2)) (reading v other targets job (slice_index args 0) (slice_index args 1) (slice_index args 2))
+  pub writes : R (writing w io targets (slice_index args 0) (slice_index args 1) (slice_index args 2)) (writing v other targets (slice_index args 0) (slice_index args 1) (slice_index args 2))
+  pub maps : (present : Bool) → R (mapping w io targets.memory (slice_index args 0) (slice_index args 1) present) (mapping v other targets.memory (slice_index args 0) (slice_index args 1) present)
+  pub tells : R (answering (uid_at w targets.cred) w io) (answering (uid_at v targets.cred) v other)
+  pub becomes : R (becoming w io targets.cred (slice_index args 0)) (becoming v other targets.cred (slice_index args 0))
   pub exits : R (record { answer = Exit (slice_index args 0); world = w; io = io }) (record { answer = Exit (slice_index args 0); world = v; io = other })
   pub refuses : R (record { answer = Refused BadCall; world = w; io = io }) (record { answer = Refused BadCall; world = v; io = other })
 
-pub all_calls : (R : Outcome → Outcome → Type 0) (w v : World) (io other : Channels) (three : Three) (job call : ℕ) (args : List ℕ) → EachCall R w v io other three job call args →
-    R (plain w io three job call args) (plain v other three job call args)
+pub all_calls : (R : Outcome → Outcome → Type 0) (w v : World) (io other : Channels) (targets : CallContexts) (job call : ℕ) (args : List ℕ) → EachCall R w v io other targets job call args →
+    R (plain w io targets job call args) (plain v other targets job call args)
 unfolding plain
-all_calls R w v io other three job call args each =
+all_calls R w v io other targets job call args each =
     by_test R (eqb call 1) _ _ _ _ (λ _. each.opens)
     (λ _. by_test R (eqb call 2) _ _ _ _ (λ _. each.closes)
     (λ _. by_test R (eqb call 3) _ _ _ _ (λ _. each.copies)

@@ -20,7 +20,7 @@ use Rattle.lwc_base.specs.declared.name.Name.{Name}
 use Rattle.lwc_base.specs.declared.refusal.Refusal.TheVariants.{BadAddress, BadFd, BadMode, BadRange, Overlap, TooManyItems, WrongKind}
 use Rattle.lwc_base.specs.declared.regs.Regs.{Regs}
 use Rattle.lwc_syscall.specs.Plain.{read_on}
-use Rattle.lwc_syscall.specs.Syscall.{link, three_of}
+use Rattle.lwc_syscall.specs.Syscall.{link, targets_of}
 use Rattle.res_spec.specs.Items.{all_taken, all_within, has_overlap, items_in}
 use Rattle.res_spec.specs.declared.items.SpecCall.{SpecCall}
 use Rattle.res_spec.specs.declared.items.TheConstants.{ITEM_BYTES}
@@ -62,7 +62,7 @@ chosen_job : (job : ℕ) (b : Bool) (c d : Name) → c.job ≡ job → d.job ≡
 chosen_job job true c d own is = is
 chosen_job job false c d own is = own
 
-pub three_own : (home : Home) (c : Name) (w : World) (regs : Regs) → Keeps (by_job home) w → AreOf c.job (three_of w c regs)
+pub three_own : (home : Home) (c : Name) (w : World) (regs : Regs) → Keeps (by_job home) w → AreOf c.job (targets_of w c regs)
 three_own home c w regs keeps =
     let own : (link w c regs).0.job ≡ c.job = link_job c.job c (descriptor_for w c (slice_index regs.r 1)) refl (descriptor_fits home c w keeps (slice_index regs.r 1)) in
     record { memory = chosen_job _ _ _ _ refl own; slots = chosen_job _ _ _ _ refl own; cred = chosen_job _ _ _ _ refl own }

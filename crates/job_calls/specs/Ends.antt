@@ -9,7 +9,7 @@ use Rattle.lwc_base.specs.World.{World}
 use Rattle.lwc_base.specs.declared.refusal.Refusal.TheVariants.{NoFrame}
 use Rattle.lwc_syscall.specs.Plain.{Outcome, moved}
 use Rattle.lwc_syscall.specs.declared.answer.CallAnswer.TheVariants.{Refused}
-use Rattle.lwc_syscall.specs.declared.calls.Three.{Three}
+use Rattle.lwc_syscall.specs.declared.calls.CallContexts.{CallContexts}
 
 -- two calls give the same answer, and leave worlds that look alike to a job
 pub record EndsAlike {A : Type 0} (home : Home) (job t s : ℕ) (a b : A × World) : Type 0 where
@@ -27,14 +27,14 @@ abbrev pub HasFrames : Outcome → Type 0
 HasFrames outcome = outcome.answer ≢ Refused NoFrame
 
 -- the contexts of a plain call are all of a job
-pub record AreOf (job : ℕ) (three : Three) : Type 0 where
-  pub memory : three.memory.job ≡ job
-  pub slots : three.slots.job ≡ job
-  pub cred : three.cred.job ≡ job
+pub record AreOf (job : ℕ) (targets : CallContexts) : Type 0 where
+  pub memory : targets.memory.job ≡ job
+  pub slots : targets.slots.job ≡ job
+  pub cred : targets.cred.job ≡ job
 
 -- the bytes that a read moves to the memory
-abbrev pub read_piece : World → Channels → Three → List ℕ → Piece
-read_piece w io three args = record {
+abbrev pub read_piece : World → Channels → CallContexts → List ℕ → Piece
+read_piece w io targets args = record {
   at = slice_index args 1;
-  bytes = moved io (descriptor_for w three.slots (slice_index args 0)) (slice_index args 2);
+  bytes = moved io (descriptor_for w targets.slots (slice_index args 0)) (slice_index args 2);
 }

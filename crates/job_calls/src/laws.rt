@@ -18,9 +18,9 @@ ghost use Rattle.lwc_overlay.specs.OverlayCall.{overlay};
 ghost use Rattle.lwc_overlay.specs.RestrictCall.{restrict};
 ghost use Rattle.lwc_switch.specs.Switch.{switch};
 ghost use Rattle.lwc_syscall.specs.Plain.{plain};
-ghost use Rattle.lwc_syscall.specs.Syscall.{inner_args, inner_call, lw_syscall, three_of};
+ghost use Rattle.lwc_syscall.specs.Syscall.{inner_args, inner_call, lw_syscall, targets_of};
 ghost use Rattle.lwc_syscall.specs.declared.answer.CallAnswer.TheVariants.{Refused};
-ghost use Rattle.lwc_syscall.specs.declared.calls.Three.{Three};
+ghost use Rattle.lwc_syscall.specs.declared.calls.CallContexts.{CallContexts};
 ghost use Rattle.snapshot_host.specs.Begin.{begin, begun_context};
 
 /// A call does the same in two worlds that look alike to its job: it gives the same answer, and leaves worlds
@@ -38,12 +38,12 @@ pub fn calls_do_the_same_in_worlds_that_look_alike()
     ensures overlay { (home : Home) (t s : ℕ) (c : Name) (w v : World) (regs : Regs) →
         LooksAlike home c.job t s w v →
         EndsAlike home c.job t s (overlay w c c.job regs) (overlay v c c.job regs) }
-    ensures plain { (home : Home) (r t s : ℕ) (three : Three) (w v : World) (io other : Channels) (call : ℕ)
-        (args : List ℕ) → AreOf (r + 1) three → LooksAlike home (r + 1) t s w v →
-        channel_view r io ≡ channel_view r other → HasFrames (plain w io three (r + 1) call args) →
-        HasFrames (plain v other three (r + 1) call args) →
-        OutcomesAlike home r t s (plain w io three (r + 1) call args)
-        (plain v other three (r + 1) call args) }
+    ensures plain { (home : Home) (r t s : ℕ) (targets : CallContexts) (w v : World) (io other : Channels) (call : ℕ)
+        (args : List ℕ) → AreOf (r + 1) targets → LooksAlike home (r + 1) t s w v →
+        channel_view r io ≡ channel_view r other → HasFrames (plain w io targets (r + 1) call args) →
+        HasFrames (plain v other targets (r + 1) call args) →
+        OutcomesAlike home r t s (plain w io targets (r + 1) call args)
+        (plain v other targets (r + 1) call args) }
     ensures syscall { (home : Home) (r t s : ℕ) (c : Name) (w v : World) (io other : Channels) (regs : Regs) →
         c.job ≡ r + 1 → LooksAlike home (r + 1) t s w v → channel_view r io ≡ channel_view r other →
         HasFrames (lw_syscall w io c (r + 1) regs) → HasFrames (lw_syscall v other c (r + 1) regs) →
@@ -65,9 +65,9 @@ pub fn calls_keep_each_job_what_is_its_own()
         KeepsJobs home (restrict w c regs).1 }
     ensures overlay { (home : Home) (c : Name) (w : World) (regs : Regs) → c.job ≢ 0 → KeepsJobs home w →
         KeepsJobs home (overlay w c c.job regs).1 }
-    ensures plain { (home : Home) (job : ℕ) (three : Three) (w : World) (io : Channels) (call : ℕ)
-        (args : List ℕ) → job ≢ 0 → AreOf job three → KeepsJobs home w →
-        KeepsJobs home (plain w io three job call args).world }
+    ensures plain { (home : Home) (job : ℕ) (targets : CallContexts) (w : World) (io : Channels) (call : ℕ)
+        (args : List ℕ) → job ≢ 0 → AreOf job targets → KeepsJobs home w →
+        KeepsJobs home (plain w io targets job call args).world }
     ensures syscall { (home : Home) (c : Name) (w : World) (io : Channels) (regs : Regs) → c.job ≢ 0 →
         KeepsJobs home w → KeepsJobs home (lw_syscall w io c c.job regs).world }
     ensures begin { (home : Home) (r : ℕ) (a : Name) (w : World) →
@@ -85,12 +85,12 @@ pub fn no_job_sees_calls_of_another_one()
         c.job ≢ job → KeepsJobs home w → view job t (restrict w c regs).1 ≡ view job t w }
     ensures overlay { (home : Home) (job t : ℕ) (c : Name) (w : World) (regs : Regs) → c.job ≢ 0 →
         c.job ≢ job → KeepsJobs home w → view job t (overlay w c c.job regs).1 ≡ view job t w }
-    ensures plain { (home : Home) (own job t : ℕ) (three : Three) (w : World) (io : Channels) (call : ℕ)
-        (args : List ℕ) → own ≢ 0 → own ≢ job → AreOf own three → KeepsJobs home w →
-        view job t (plain w io three own call args).world ≡ view job t w }
-    ensures plain_channels { (home : Home) (own r : ℕ) (three : Three) (w : World) (io : Channels) (call : ℕ)
-        (args : List ℕ) → own ≢ r + 1 → AreOf own three → KeepsJobs home w →
-        channel_view r (plain w io three own call args).io ≡ channel_view r io }
+    ensures plain { (home : Home) (own job t : ℕ) (targets : CallContexts) (w : World) (io : Channels) (call : ℕ)
+        (args : List ℕ) → own ≢ 0 → own ≢ job → AreOf own targets → KeepsJobs home w →
+        view job t (plain w io targets own call args).world ≡ view job t w }
+    ensures plain_channels { (home : Home) (own r : ℕ) (targets : CallContexts) (w : World) (io : Channels) (call : ℕ)
+        (args : List ℕ) → own ≢ r + 1 → AreOf own targets → KeepsJobs home w →
+        channel_view r (plain w io targets own call args).io ≡ channel_view r io }
     ensures syscall { (home : Home) (job t : ℕ) (c : Name) (w : World) (io : Channels) (regs : Regs) →
         c.job ≢ 0 → c.job ≢ job → KeepsJobs home w →
         view job t (lw_syscall w io c c.job regs).world ≡ view job t w }
@@ -103,11 +103,11 @@ pub fn no_job_sees_calls_of_another_one()
 
 /// A call is refused for want of frames only where it is a read whose bytes need more than there are.
 pub fn a_read_alone_wants_frames()
-    ensures plain { (w : World) (io : Channels) (three : Three) (job call : ℕ) (args : List ℕ) →
-        (plain w io three job call args).answer ≡ Refused NoFrame → (call ≡ 4)
-        × (w.size.frames < used w + parting_count w three.memory (read_piece w io three args)) }
+    ensures plain { (w : World) (io : Channels) (targets : CallContexts) (job call : ℕ) (args : List ℕ) →
+        (plain w io targets job call args).answer ≡ Refused NoFrame → (call ≡ 4)
+        × (w.size.frames < used w + parting_count w targets.memory (read_piece w io targets args)) }
     ensures syscall { (w : World) (io : Channels) (c : Name) (job : ℕ) (regs : Regs) →
         (lw_syscall w io c job regs).answer ≡ Refused NoFrame → (inner_call regs ≡ 4)
-        × (w.size.frames < used w + parting_count w (three_of w c regs).memory
-        (read_piece w io (three_of w c regs) (inner_args regs))) }
+        × (w.size.frames < used w + parting_count w (targets_of w c regs).memory
+        (read_piece w io (targets_of w c regs) (inner_args regs))) }
 {}

@@ -44,7 +44,7 @@ use Rattle.lwc_syscall.specs.Plain.{plain}
 use Rattle.lwc_syscall.specs.Plain as calls
 use Rattle.lwc_syscall.specs.Syscall as syscalls
 use Rattle.lwc_syscall.specs.Syscall.{lw_syscall}
-use Rattle.lwc_syscall.specs.declared.calls.Three.{Three}
+use Rattle.lwc_syscall.specs.declared.calls.CallContexts.{CallContexts}
 use Rattle.lwc_base.specs.declared.key.Kind.TheVariants as kinds
 use Rattle.snapshot_host.specs.Begin.{begin, begun_context}
 use Rattle.lwc_base.proofs.Facts.{changes}
@@ -159,20 +159,20 @@ stays_store c job w v piece ours done keeps =
     in_job c job w v ours kept (leaves_store c job w v piece done)
 
 -- what a plain call does over contexts of the job
-pub stays_plain : (three : Three) (job : ℕ) (w : World) (io : Channels) (v : World) (after : Channels) → three.memory.job ≡ job → three.slots.job ≡ job → three.cred.job ≡ job → IsPlainChange w io three job v after → NamesKeepToJobs w → StaysInJob job w v
-stays_plain three job w io v after memory slots cred Nothing keeps = stays_same job w keeps
-stays_plain three job w io v after memory slots cred (SlotPut n value within known) keeps = stays_put three.slots job w n value slots (subst (λ (j : ℕ). IsOwnName j value) slots (known.own keeps)) keeps
-stays_plain three job w io v after memory slots cred (UidPut uid) keeps = in_job three.cred job w _ cred (jobs-put_uid w three.cred uid keeps) (leaves_put three.cred job w Cred uid)
-stays_plain three job w io v after memory slots cred (Mapped from to present few) keeps =
-    in_job three.memory job w _ memory (kept_mapped present) (mapped_leaves three.memory job w from to present)
+pub stays_plain : (targets : CallContexts) (job : ℕ) (w : World) (io : Channels) (v : World) (after : Channels) → targets.memory.job ≡ job → targets.slots.job ≡ job → targets.cred.job ≡ job → IsPlainChange w io targets job v after → NamesKeepToJobs w → StaysInJob job w v
+stays_plain targets job w io v after memory slots cred Nothing keeps = stays_same job w keeps
+stays_plain targets job w io v after memory slots cred (SlotPut n value within known) keeps = stays_put targets.slots job w n value slots (subst (λ (j : ℕ). IsOwnName j value) slots (known.own keeps)) keeps
+stays_plain targets job w io v after memory slots cred (UidPut uid) keeps = in_job targets.cred job w _ cred (jobs-put_uid w targets.cred uid keeps) (leaves_put targets.cred job w Cred uid)
+stays_plain targets job w io v after memory slots cred (Mapped from to present few) keeps =
+    in_job targets.memory job w _ memory (kept_mapped present) (mapped_leaves targets.memory job w from to present)
   where
-    kept_mapped : (b : Bool) → NamesKeepToJobs (mapped_or_not w three.memory from to b)
-    kept_mapped true = jobs-map_pages w three.memory from to keeps
-    kept_mapped false = jobs-unmap_pages w three.memory from to keeps
-stays_plain three job w io v after memory slots cred (Read u piece n value short done within known) keeps =
-    let first : StaysInJob job w u = stays_store three.memory job w u piece memory done keeps in
-    then_stays job w u _ first (stays_put three.slots job u n value slots (subst (λ (j : ℕ). IsOwnName j value) slots (known.own keeps)) first.kept)
-stays_plain three job w io v after memory slots cred (Written value bytes) keeps = stays_same job w keeps
+    kept_mapped : (b : Bool) → NamesKeepToJobs (mapped_or_not w targets.memory from to b)
+    kept_mapped true = jobs-map_pages w targets.memory from to keeps
+    kept_mapped false = jobs-unmap_pages w targets.memory from to keeps
+stays_plain targets job w io v after memory slots cred (Read u piece n value short done within known) keeps =
+    let first : StaysInJob job w u = stays_store targets.memory job w u piece memory done keeps in
+    then_stays job w u _ first (stays_put targets.slots job u n value slots (subst (λ (j : ℕ). IsOwnName j value) slots (known.own keeps)) first.kept)
+stays_plain targets job w io v after memory slots cred (Written value bytes) keeps = stays_same job w keeps
 
 stays_cloned : (c : Name) (w : World) (items : List Item) (entry : Regs) → is_live w c ≡ true → NamesKeepToJobs w → StaysInJob c.job w (clone_context w c c.job items entry)
 stays_cloned c w items entry live keeps =
@@ -302,13 +302,13 @@ module _ (c : Name) (w : World) (live : is_live w c ≡ true) (keeps : NamesKeep
     chosen_job false d same = refl
 
     syscalled_by : (regs : Regs) (first : Option Refusal) → first_refusal (syscalls.refusals w c regs) ≡ first →
-        StaysInJob c.job w (calls.refused_or w io (plain w io (syscalls.three_of w c regs) c.job (syscalls.inner_call regs) (syscalls.inner_args regs)) first).world
+        StaysInJob c.job w (calls.refused_or w io (plain w io (syscalls.targets_of w c regs) c.job (syscalls.inner_call regs) (syscalls.inner_args regs)) first).world
     syscalled_by regs (Some r) is = stays_same c.job w keeps
     syscalled_by regs None is =
         let allowed = allowed w c regs well.named live is in
         let same : (syscalls.link w c regs).0.job ≡ c.job = link_job _ _ allowed.found in
-        stays_plain (syscalls.three_of w c regs) c.job w io _ _ (chosen_job _ _ same) (chosen_job _ _ same) (chosen_job _ _ same)
-        (does-one_thing w io (syscalls.three_of w c regs) c.job (syscalls.inner_call regs) (syscalls.inner_args regs) well.named well.files (allowed.live kinds.Slot)) keeps
+        stays_plain (syscalls.targets_of w c regs) c.job w io _ _ (chosen_job _ _ same) (chosen_job _ _ same) (chosen_job _ _ same)
+        (does-one_thing w io (syscalls.targets_of w c regs) c.job (syscalls.inner_call regs) (syscalls.inner_args regs) well.named well.files (allowed.live kinds.Slot)) keeps
 
     syscalled_here : (regs : Regs) → StaysInJob c.job w (lw_syscall w io c c.job regs).world
     unfolding lw_syscall

@@ -45,7 +45,7 @@ use Rattle.lwc_syscall.specs.Syscall.{lw_syscall}
 use Rattle.lwc_syscall.specs.declared.answer.CallAnswer.{CallAnswer}
 use Rattle.lwc_syscall.specs.declared.answer.CallAnswer.TheVariants.{Value, Exit}
 use Rattle.lwc_syscall.specs.declared.answer.CallAnswer.TheVariants as call_answers
-use Rattle.lwc_syscall.specs.declared.calls.Three.{Three}
+use Rattle.lwc_syscall.specs.declared.calls.CallContexts.{CallContexts}
 use Rattle.lwc_base.proofs.InRange.{files-overlay}
 use Rattle.lwc_base.proofs.NamedContexts.{contexts-overlay, named-live}
 use Rattle.lwc_base.proofs.Sound.{sound-overlay}
@@ -245,12 +245,12 @@ acts_switch : (t : ℕ) (e : Environment) (x : Thread) → Acts e x (switch_outc
 acts_switch t e x = acts_moved t e x _ _ refl
 
 -- numbers that are kept grow little
-plain_changes : (e f : Environment) (job : ℕ) (three : Three) → IsPlainChange e.world e.channels three job f.world f.channels → IsWell e.world e.channels → is_live e.world three.memory ≡ true →
+plain_changes : (e f : Environment) (job : ℕ) (targets : CallContexts) → IsPlainChange e.world e.channels targets job f.world f.channels → IsWell e.world e.channels → is_live e.world targets.memory ≡ true →
     Changes job e f
-plain_changes e f job three does well live = record {
-  grows = grows_numbers job e.world f.world (numbers-change e.world e.channels three job f.world f.channels does);
-  well = well-change e.world e.channels three job f.world f.channels does live well;
-  inputs = inputs-change e.world e.channels three job f.world f.channels does;
+plain_changes e f job targets does well live = record {
+  grows = grows_numbers job e.world f.world (numbers-change e.world e.channels targets job f.world f.channels does);
+  well = well-change e.world e.channels targets job f.world f.channels does live well;
+  inputs = inputs-change e.world e.channels targets job f.world f.channels does;
 }
 
 acts_plainly : (e f : Environment) (x : Thread) (answer : CallAnswer) → (IsWell e.world e.channels → is_live e.world x.context ≡ true → Changes x.job e f) → Acts e x (unchanged f (plainly x answer))

@@ -14,7 +14,7 @@ use Rattle.lwc_base.specs.declared.refusal.Refusal.{Refusal}
 use Rattle.lwc_syscall.specs.Changes.{CutsNone, Put, Same, StoredPut, cuts_none, leaves_world}
 use Rattle.lwc_syscall.specs.declared.answer.CallAnswer.{CallAnswer}
 use Rattle.lwc_syscall.specs.declared.answer.CallAnswer.TheVariants as ends
-use Rattle.lwc_syscall.specs.declared.calls.Three.{Three}
+use Rattle.lwc_syscall.specs.declared.calls.CallContexts.{CallContexts}
 use Rattle.lwc_base.proofs.Stored.{is_done}
 use Rattle.lwc_base.proofs.StillReaped.{reaped-after_store, reaped-put_slot}
 
@@ -22,11 +22,11 @@ stored_reaped : (w v : World) (names : List Name) (c : Name) (job : ℕ) (piece 
 stored_reaped w v names c job piece done reaped = subst (λ (u : World). IsReaped u names) (sym (is_done w c job piece v done).after) (reaped-after_store w names c job piece reaped)
 
 -- what cuts no link leaves nothing to drop
-pub cuts_leaves : (w : World) (c : Name) (three : Three) (job : ℕ) (v : World) → CutsNone w three job v → LeavesNothing w c v c
-cuts_leaves w c three job v Same = leaves_same w w c (λ names reaped. reaped)
-cuts_leaves w c three job v (Put n value loses) = leaves_same w _ c (λ names. reaped-put_slot w names three.slots n value loses)
-cuts_leaves w c three job v (StoredPut u piece n value done loses) =
-    leaves_same w _ c (λ names reaped. reaped-put_slot u names three.slots n value loses (stored_reaped w u names three.memory job piece done reaped))
+pub cuts_leaves : (w : World) (c : Name) (targets : CallContexts) (job : ℕ) (v : World) → CutsNone w targets job v → LeavesNothing w c v c
+cuts_leaves w c targets job v Same = leaves_same w w c (λ names reaped. reaped)
+cuts_leaves w c targets job v (Put n value loses) = leaves_same w _ c (λ names. reaped-put_slot w names targets.slots n value loses)
+cuts_leaves w c targets job v (StoredPut u piece n value done loses) =
+    leaves_same w _ c (λ names reaped. reaped-put_slot u names targets.slots n value loses (stored_reaped w u names targets.memory job piece done reaped))
 
 -- what an accepted call keeps, for a thread that stays in its context
 by_number : (w v : World) (x y : Thread) (leaves cuts : Bool) → y.context ≡ x.context → (leaves ≡ true → v ≡ w) → (cuts ≡ true → LeavesNothing w x.context v x.context) →

@@ -41,7 +41,7 @@ use Rattle.lwc_syscall.specs.Plain.{plain}
 use Rattle.lwc_syscall.specs.Syscall.{lw_syscall}
 use Rattle.lwc_syscall.specs.declared.answer.CallAnswer.{CallAnswer}
 use Rattle.lwc_syscall.specs.declared.answer.CallAnswer.TheVariants as ends
-use Rattle.lwc_syscall.specs.declared.calls.Three.{Three}
+use Rattle.lwc_syscall.specs.declared.calls.CallContexts.{CallContexts}
 use Rattle.snapshot_host.specs.Begin.{begin, request_context}
 use Rattle.snapshot_host.specs.declared.finishing.Finished.{Finished}
 
@@ -177,7 +177,7 @@ abbrev pub ended_outcome : Thread → calls.Outcome → Outcome
 ended_outcome x ended = unchanged (beside ended.world ended.io) (plainly x ended.answer)
 
 -- one context for the memory, the slots and the credential
-abbrev pub three_times : Name → Three
+abbrev pub three_times : Name → CallContexts
 three_times c = record { memory = c; slots = c; cred = c }
 
 -- the arguments of a plain call, in r1 to r3

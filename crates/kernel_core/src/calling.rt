@@ -12,7 +12,7 @@ use lwc_base::{Answer, Channels, Moved, OutOfMemory};
 use lwc_create::create;
 use lwc_overlay::{overlay, restrict};
 use lwc_switch::switch;
-use lwc_syscall::{CallAnswer, Three, lw_syscall, plain};
+use lwc_syscall::{CallAnswer, CallContexts, lw_syscall, plain};
 use world_face::World;
 
 /// The number of the call that makes a context.
@@ -163,13 +163,13 @@ fn call_plain<W: World>(
     ensures ample { W.roomy ≡ true → IsOk result }
 {
     let c = thread.context;
-    let three = Three {
+    let targets = CallContexts {
         memory: c,
         slots: c,
         cred: c,
     };
     let args = [thread.regs.r[1], thread.regs.r[2], thread.regs.r[3]];
-    let answer = plain(world, io, &three, thread.job, number, args)?;
+    let answer = plain(world, io, &targets, thread.job, number, args)?;
     Ok(end_plain(thread, answer, change_by_number(u64::from(number))))
 }
 

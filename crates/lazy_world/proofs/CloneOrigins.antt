@@ -29,9 +29,9 @@ use Rattle.range_map.specs.declared.segment.Segment.{Segment}
 use Rattle.range_map.specs.declared.segment.SegmentKind.{SegmentKind}
 use Rattle.range_map.specs.declared.segment.SegmentKind.TheVariants.{Own, Common}
 use Rattle.range_map.proofs.Built.{or_none}
-use Rattle.cow_space.specs.declared.stretches.ReadRange.{ReadRange}
-use Rattle.cow_space.specs.declared.stretches.Stretch.{Stretch}
-use Rattle.cow_space.specs.Changes.{IsApart, IsStretch, have_page}
+use Rattle.cow_space.specs.declared.page_runs.ReadRange.{ReadRange}
+use Rattle.cow_space.specs.declared.page_runs.PageRun.{PageRun}
+use Rattle.cow_space.specs.Changes.{IsApart, IsPageRun, have_page}
 use Rattle.ctx_table.specs.NameTables.{ArePlaced}
 use Rattle.lazy_world.specs.Clones.{CopiesPages, item_gift, kind_origin, place_of_group, state_gift}
 use Rattle.lazy_world.specs.Cells.{states_of}
@@ -44,13 +44,13 @@ use Rattle.lazy_world.proofs.FoundLemmas.{held_own}
 use Rattle.lazy_world.proofs.PastLemmas.{find_none}
 use Rattle.lazy_world.proofs.WorldLemmas.{group-found, group-missed}
 
--- what stretches after others give
-pub gift_append : (xs ys : List Stretch) (q : ℕ) → gift_at (xs ++ ys) q ≡ option_or (gift_at xs q) (gift_at ys q)
+-- what page runs after others give
+pub gift_append : (xs ys : List PageRun) (q : ℕ) → gift_at (xs ++ ys) q ≡ option_or (gift_at xs q) (gift_at ys q)
 gift_append xs ys q =
-    ap (option_map gift_of) (find-append (λ (s : Stretch). is_between s.range.from s.range.to q) xs ys)
-    ∙ at (find (λ (s : Stretch). is_between s.range.from s.range.to q) xs) (find (λ (s : Stretch). is_between s.range.from s.range.to q) ys)
+    ap (option_map gift_of) (find-append (λ (s : PageRun). is_between s.range.from s.range.to q) xs ys)
+    ∙ at (find (λ (s : PageRun). is_between s.range.from s.range.to q) xs) (find (λ (s : PageRun). is_between s.range.from s.range.to q) ys)
   where
-    at : (a b : Option Stretch) → option_map gift_of (option_or a b) ≡ option_or (option_map gift_of a) (option_map gift_of b)
+    at : (a b : Option PageRun) → option_map gift_of (option_or a b) ≡ option_or (option_map gift_of a) (option_map gift_of b)
     at None b = refl
     at (Some s) b = refl
 
@@ -71,8 +71,8 @@ both_name kinds.Cred b from to first end q here there apart = cc
 both_name kinds.Page kinds.Slot from to first end q here there apart = cc
 both_name kinds.Page kinds.Cred from to first end q here there apart = cc
 
--- what one stretch gives
-one_gift : (s : Stretch) (q : ℕ) (b : Bool) → is_between s.range.from s.range.to q ≡ b → gift_at (s ∷ []) q ≡ cond b (Some (gift_of s)) None
+-- what one page run gives
+one_gift : (s : PageRun) (q : ℕ) (b : Bool) → is_between s.range.from s.range.to q ≡ b → gift_at (s ∷ []) q ≡ cond b (Some (gift_of s)) None
 one_gift s q true on = ap (λ c. option_map gift_of (cond c (Some s) None)) on
 one_gift s q false off = ap (λ c. option_map gift_of (cond c (Some s) None)) off
 
@@ -136,27 +136,27 @@ module _ (items : List Item) (pages : ℕ) (spec : IsSpec pages items) (i : ℕ)
   unfolding mode_or_copy
   copied_here copies here = sym (ap (λ o. unwrap_or o Copy) (mode_here here)) ∙ copies q
 
-  module _ (from : ℕ) (stretches : List Stretch) (so_far : gift_at stretches q ≡ item_gift from (mode (take i items) (Page q))) where
-    -- an item whose pages are copied has no stretch
-    pub item_passed : (names item (Page q) ≡ true → item_gift from (Some item.mode) ≡ None) → gift_at stretches q ≡ item_gift from (mode (take (i + 1) items) (Page q))
+  module _ (from : ℕ) (page_runs : List PageRun) (so_far : gift_at page_runs q ≡ item_gift from (mode (take i items) (Page q))) where
+    -- an item whose pages are copied has no page run
+    pub item_passed : (names item (Page q) ≡ true → item_gift from (Some item.mode) ≡ None) → gift_at page_runs q ≡ item_gift from (mode (take (i + 1) items) (Page q))
     item_passed copies = at (names item (Page q)) refl
       where
-        at : (b : Bool) → names item (Page q) ≡ b → gift_at stretches q ≡ item_gift from (mode (take (i + 1) items) (Page q))
+        at : (b : Bool) → names item (Page q) ≡ b → gift_at page_runs q ≡ item_gift from (mode (take (i + 1) items) (Page q))
         at true here = so_far ∙ ap (item_gift from) (none_before here) ∙ sym (ap (item_gift from) (mode_named here) ∙ copies here)
         at false off = so_far ∙ sym (ap (item_gift from) (mode_other off))
 
-    -- another one has a stretch of its own
-    pub item_pushed : (s : Stretch) → is_between s.range.from s.range.to q ≡ names item (Page q) → Some (gift_of s) ≡ item_gift from (Some item.mode) →
-        gift_at (stretches ++ s ∷ []) q ≡ item_gift from (mode (take (i + 1) items) (Page q))
-    item_pushed s same gift = gift_append stretches (s ∷ []) q ∙ at (names item (Page q)) refl
+    -- another one has a page run of its own
+    pub item_pushed : (s : PageRun) → is_between s.range.from s.range.to q ≡ names item (Page q) → Some (gift_of s) ≡ item_gift from (Some item.mode) →
+        gift_at (page_runs ++ s ∷ []) q ≡ item_gift from (mode (take (i + 1) items) (Page q))
+    item_pushed s same gift = gift_append page_runs (s ∷ []) q ∙ at (names item (Page q)) refl
       where
-        at : (b : Bool) → names item (Page q) ≡ b → option_or (gift_at stretches q) (gift_at (s ∷ []) q) ≡ item_gift from (mode (take (i + 1) items) (Page q))
+        at : (b : Bool) → names item (Page q) ≡ b → option_or (gift_at page_runs q) (gift_at (s ∷ []) q) ≡ item_gift from (mode (take (i + 1) items) (Page q))
         at true here =
             (λ x. option_or ((so_far ∙ ap (item_gift from) (none_before here)) x) (one_gift s q true (same ∙ here) x))
             ∙ gift ∙ sym (ap (item_gift from) (mode_named here))
         at false off =
-            ap (option_or (gift_at stretches q)) (one_gift s q false (same ∙ off))
-            ∙ or_none (gift_at stretches q) ∙ so_far ∙ sym (ap (item_gift from) (mode_other off))
+            ap (option_or (gift_at page_runs q)) (one_gift s q false (same ∙ off))
+            ∙ or_none (gift_at page_runs q) ∙ so_far ∙ sym (ap (item_gift from) (mode_other off))
 
   -- of pages that may only be read, with one item more
   module _ (ranges : List ReadRange) (so_far : have_page ranges q ≡ is_read (mode (take i items) (Page q))) where
@@ -192,9 +192,9 @@ item_given from count to inside apart (Some Unmap) = tt
 item_given from count to inside apart (Some CopyRead) = tt
 
 module _ (s : Parts) (from : ℕ) where
-  -- the stretch of a segment
-  abbrev pub stretch_of : Segment → Stretch
-  stretch_of segment = record { range = record { from = segment.from; to = segment.to }; origin = kind_origin s from segment.kind; right = Some segment.right }
+  -- the page run of a segment
+  abbrev pub page_run_of : Segment → PageRun
+  page_run_of segment = record { range = record { from = segment.from; to = segment.to }; origin = kind_origin s from segment.kind; right = Some segment.right }
 
   module _ (segments : List Segment) (i : ℕ) (d : Segment) (inside : i < length segments) (q : ℕ) where
     abbrev segment : Segment
@@ -216,15 +216,15 @@ module _ (s : Parts) (from : ℕ) where
         at (Some x) b = refl
 
     -- one more segment gives what it says to the pages that neither an item nor a segment before it has
-    pub segment_pushed : (first : Option Gift) (stretches : List Stretch) → gift_at stretches q ≡ option_or first (option_map (state_gift s from) (state_at (take i segments) q)) →
-        gift_at (stretches ++ stretch_of segment ∷ []) q ≡ option_or first (option_map (state_gift s from) (state_at (take (i + 1) segments) q))
-    segment_pushed first stretches so_far =
-        gift_append stretches (stretch_of segment ∷ []) q
-        ∙ (λ x. option_or (so_far x) (one_gift (stretch_of segment) q has refl x))
+    pub segment_pushed : (first : Option Gift) (page_runs : List PageRun) → gift_at page_runs q ≡ option_or first (option_map (state_gift s from) (state_at (take i segments) q)) →
+        gift_at (page_runs ++ page_run_of segment ∷ []) q ≡ option_or first (option_map (state_gift s from) (state_at (take (i + 1) segments) q))
+    segment_pushed first page_runs so_far =
+        gift_append page_runs (page_run_of segment ∷ []) q
+        ∙ (λ x. option_or (so_far x) (one_gift (page_run_of segment) q has refl x))
         ∙ at first (state_at (take i segments) q) has
         ∙ sym (ap (λ o. option_or first (option_map (state_gift s from) o)) state_more)
       where
-        at : (a : Option Gift) (o : Option PageState) (b : Bool) → option_or (option_or a (option_map (state_gift s from) o)) (cond b (Some (gift_of (stretch_of segment))) None)
+        at : (a : Option Gift) (o : Option PageState) (b : Bool) → option_or (option_or a (option_map (state_gift s from) o)) (cond b (Some (gift_of (page_run_of segment))) None)
             ≡ option_or a (option_map (state_gift s from) (option_or o (cond b (Some (state_in segment)) None)))
         at (Some x) o b = refl
         at None (Some k) b = refl
@@ -244,9 +244,9 @@ module _ (s : Parts) (from : ℕ) where
     kind_given Own = (inside, apart)
     kind_given (Common g) = group_given g (fm.get s.groups.map g) refl
 
-    pub segment_given : (stretches : List Stretch) (segment : Segment) → IsSegment segment → All (IsStretch count to) stretches → All (IsStretch count to) (stretches ++ stretch_of segment ∷ [])
-    segment_given stretches segment is all =
-        All-push (IsStretch count to) stretches (stretch_of segment) all (record { order = omega (arith, is.some); inside = is.inside; given = kind_given segment.kind })
+    pub segment_given : (page_runs : List PageRun) (segment : Segment) → IsSegment segment → All (IsPageRun count to) page_runs → All (IsPageRun count to) (page_runs ++ page_run_of segment ∷ [])
+    segment_given page_runs segment is all =
+        All-push (IsPageRun count to) page_runs (page_run_of segment) all (record { order = omega (arith, is.some); inside = is.inside; given = kind_given segment.kind })
 
 -- a group's value is what its place has, if it is live
 pub group_copied : (s : Parts) → ((j : ℕ) → IsAllOwn (s.rows (s.size.contexts + j))) → (k : Key) (g : Name) → given s.rows k (copied_origin (place_of_group s g)) ≡ cells.Own ((group (world_of s) g).value k)

@@ -19,8 +19,8 @@ use Rattle.lwc_base.specs.Ranges as base
 use Rattle.lwc_base.specs.Ranges.{ranges_of}
 use Rattle.lwc_base.specs.World.{World, Context, Counters, change_context, changed_context, context, new_context}
 use Rattle.range_map.specs.Kinds.{kind_of, ranges, state_of}
-use Rattle.cow_space.specs.declared.stretches.Origin.{Origin}
-use Rattle.cow_space.specs.declared.stretches.Origin.TheVariants as origins
+use Rattle.cow_space.specs.declared.page_runs.Origin.{Origin}
+use Rattle.cow_space.specs.declared.page_runs.Origin.TheVariants as origins
 use Rattle.ctx_table.specs.NameTables.{ArePlaced, NameTable}
 use Rattle.lazy_world.specs.Cells.{Row, put_rights, put_row, states_of}
 use Rattle.lazy_world.specs.Followed.{IsOfContexts, IsReady, followed, with_transferred}

@@ -1,7 +1,7 @@
 mod AbsentLemmas
 mod AddLemmas
 mod AfterLemmas
-mod AnchorLemmas
+mod CachedRootLemmas
 mod ClearLemmas
 mod CloneLemmas
 mod CloneOrigins
@@ -46,7 +46,7 @@ mod OriginLemmas
 mod SpotLemmas
 mod StepLemmas
 mod StoreLemmas
-mod StretchLemmas
+mod PageRunLemmas
 mod TakeLemmas
 mod TakenLemmas
 mod UsedLemmas

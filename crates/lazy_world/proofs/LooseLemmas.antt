@@ -16,7 +16,7 @@ use Rattle.lwc_base.specs.Cells.{slot_at, value_at, value_of}
 use Rattle.lwc_base.specs.Life.{Link, Reaches, Root, is_among, is_of, is_reached, links}
 use Rattle.lwc_base.specs.Names.{name_cmp}
 use Rattle.lwc_base.specs.World.{World, Context, Group, group, is_live}
-use Rattle.lazy_world.specs.Anchors.{AreReached, HasLoose, HasRoot, IsLoose}
+use Rattle.lazy_world.specs.CachedRoots.{AreReached, HasLoose, HasRoot, IsLoose}
 use Rattle.lazy_world.specs.States.{Parts, held, world_of}
 use Rattle.lazy_world.proofs.WorldLemmas.{context-found, group-found, group-missed, live-there}
 use Rattle.lwc_base.proofs.Facts.{orders}

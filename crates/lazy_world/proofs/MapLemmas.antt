@@ -21,10 +21,10 @@ use Rattle.lwc_base.specs.Ranges as base
 use Rattle.lwc_base.specs.Ranges.{ranges_of}
 use Rattle.lwc_base.specs.World.{Context, Counters, change_context}
 use Rattle.range_map.specs.Kinds.{is_between, kind_of, ranges, state_of}
-use Rattle.cow_space.specs.declared.stretches.Stretch.{Stretch}
+use Rattle.cow_space.specs.declared.page_runs.PageRun.{PageRun}
 use Rattle.cow_space.specs.Cells.{Place, place_of}
 use Rattle.cow_space.specs.Cells.{right_in, rights_of}
-use Rattle.cow_space.specs.Changes.{IsStretch, cell_by, changed_place, changed_rights, changed_states, right_by}
+use Rattle.cow_space.specs.Changes.{IsPageRun, cell_by, changed_place, changed_rights, changed_states, right_by}
 use Rattle.ctx_table.specs.NameTables.{ArePlaced}
 use Rattle.fd_table.specs.Slots as slots
 use Rattle.lazy_world.specs.Cells.{Row, is_nothing, on_place, page_cell, put_rights, put_row, rows_of, set_pages, states_of, origin_of}
@@ -37,20 +37,20 @@ use Rattle.lazy_world.proofs.WorldLemmas.{change_context-row, context-found}
 use Rattle.lwc_base.proofs.Facts.{stays_fresh}
 use Rattle.range_map.proofs.Ranges.{ranges_of_context}
 
--- the stretch of a range
-abbrev pub stretch_of : ℕ → ℕ → Bool → Stretch
-stretch_of from to present = record { range = record { from = from; to = to }; origin = origin_of present; right = None }
+-- the page run of a range
+abbrev pub page_run_of : ℕ → ℕ → Bool → PageRun
+page_run_of from to present = record { range = record { from = from; to = to }; origin = origin_of present; right = None }
 
-pub is_stretch : (count i from to : ℕ) (present : Bool) → from ≤ to → to ≤ MOST_PAGES → All (IsStretch count i) (stretch_of from to present ∷ [])
-is_stretch count i from to true order inside = All-cons (IsStretch count i) (stretch_of from to true) [] (record { order = order; inside = inside; given = tt }) (All-nil (IsStretch count i))
-is_stretch count i from to false order inside = All-cons (IsStretch count i) (stretch_of from to false) [] (record { order = order; inside = inside; given = tt }) (All-nil (IsStretch count i))
+pub is_page_run : (count i from to : ℕ) (present : Bool) → from ≤ to → to ≤ MOST_PAGES → All (IsPageRun count i) (page_run_of from to present ∷ [])
+is_page_run count i from to true order inside = All-cons (IsPageRun count i) (page_run_of from to true) [] (record { order = order; inside = inside; given = tt }) (All-nil (IsPageRun count i))
+is_page_run count i from to false order inside = All-cons (IsPageRun count i) (page_run_of from to false) [] (record { order = order; inside = inside; given = tt }) (All-nil (IsPageRun count i))
 
 module _ (cells : List Place) (i from to : ℕ) where
-  pub place-set : (present : Bool) (p : ℕ) → changed_place cells i (stretch_of from to present ∷ []) p ≡ cond (nat_le from p && nat_lt p to) (page_cell present) (place_of cells i p)
+  pub place-set : (present : Bool) (p : ℕ) → changed_place cells i (page_run_of from to present ∷ []) p ≡ cond (nat_le from p && nat_lt p to) (page_cell present) (place_of cells i p)
   unfolding changed_place
   place-set present p = at (is_between from to p) present
     where
-      at : (b present : Bool) → cell_by cells p (place_of cells i p) (cond b (Some (stretch_of from to present)) None) ≡ cond b (page_cell present) (place_of cells i p)
+      at : (b present : Bool) → cell_by cells p (place_of cells i p) (cond b (Some (page_run_of from to present)) None) ≡ cond b (page_cell present) (place_of cells i p)
       at true true = refl
       at true false = refl
       at false present = refl
@@ -61,7 +61,7 @@ module _ (cells : List Place) (table : List (ℕ → slots.Slot)) (uids : List (
 
   -- the rights of the place afterwards, if what is absent had the right Write
   module _ (rights : List (ℕ → Right)) (absent : (p : ℕ) → place_of cells i p ≡ Own None → rights_of rights i p ≡ Write) where
-    pub rights-row : changed_rights cells rights i (stretch_of from to present ∷ []) [] ≡ writable_in from to (rights_of rights i)
+    pub rights-row : changed_rights cells rights i (page_run_of from to present ∷ []) [] ≡ writable_in from to (rights_of rights i)
     unfolding changed_rights changed_place
     rights-row = λ e p. at p (is_between from to p) present e
       where
@@ -71,23 +71,23 @@ module _ (cells : List Place) (table : List (ℕ → slots.Slot)) (uids : List (
         kept p (Common g) is = refl
 
         at : (p : ℕ) (b present : Bool) →
-            right_in (state_of (kind_of (cell_by cells p (place_of cells i p) (cond b (Some (stretch_of from to present)) None))) (right_by rights p (rights_of rights i p) (cond b (Some (stretch_of from to present)) None)))
+            right_in (state_of (kind_of (cell_by cells p (place_of cells i p) (cond b (Some (page_run_of from to present)) None))) (right_by rights p (rights_of rights i p) (cond b (Some (page_run_of from to present)) None)))
             ≡ cond b Write (rights_of rights i p)
         at p true true = refl
         at p true false = refl
         at p false present = kept p (place_of cells i p) refl
 
     -- and its states
-    pub states-row : changed_states cells rights i (stretch_of from to present ∷ []) [] ≡ states_of (set_pages from to present (old i)) (writable_in from to (rights_of rights i))
+    pub states-row : changed_states cells rights i (page_run_of from to present ∷ []) [] ≡ states_of (set_pages from to present (old i)) (writable_in from to (rights_of rights i))
     unfolding rows_of
     states-row = λ e p. state_of (kind_of (place-set cells i from to present p e)) (rights-row e p)
 
   -- and its row
-  pub row-set : i < length cells → rows_of (set cells i (changed_place cells i (stretch_of from to present ∷ []))) table uids ≡ put_row old i (set_pages from to present (old i))
+  pub row-set : i < length cells → rows_of (set cells i (changed_place cells i (page_run_of from to present ∷ []))) table uids ≡ put_row old i (set_pages from to present (old i))
   unfolding rows_of
-  row-set inside = pages-put cells table uids i (changed_place cells i (stretch_of from to present ∷ [])) (set_pages from to present (old i)) inside each
+  row-set inside = pages-put cells table uids i (changed_place cells i (page_run_of from to present ∷ [])) (set_pages from to present (old i)) inside each
     where
-      each : (k : Key) → set_pages from to present (old i) k ≡ on_place (changed_place cells i (stretch_of from to present ∷ [])) (old i) k
+      each : (k : Key) → set_pages from to present (old i) k ≡ on_place (changed_place cells i (page_run_of from to present ∷ [])) (old i) k
       each (Page p) = sym (place-set cells i from to present p)
       each (Slot n) = refl
       each Cred = refl

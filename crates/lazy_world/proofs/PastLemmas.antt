@@ -17,7 +17,7 @@ use Rattle.lwc_base.specs.Cells.{value_of}
 use Rattle.lwc_base.specs.Keys.{ValueOf, nothing}
 use Rattle.lwc_base.specs.Modes.{IsSpec, kind_of, limit, mode, names, number_of, same_kind}
 use Rattle.lwc_base.specs.World.{World}
-use Rattle.cow_space.specs.declared.stretches.Origin.{Origin}
+use Rattle.cow_space.specs.declared.page_runs.Origin.{Origin}
 use Rattle.lazy_world.specs.Cells.{Row, is_nothing}
 use Rattle.lazy_world.specs.Transfers.{Gives, given_or, transferred_cell, transferred_row}
 use Rattle.lazy_world.specs.Sound.{IsWithin}

@@ -23,8 +23,8 @@ use Rattle.lwc_base.specs.World.{World}
 use Rattle.range_map.specs.Kinds.{kind_of, state_of}
 use Rattle.range_map.specs.declared.segment.SegmentKind.{SegmentKind}
 use Rattle.range_map.specs.declared.segment.SegmentKind.TheVariants.{Own, Common}
-use Rattle.cow_space.specs.declared.stretches.Origin.{Origin}
-use Rattle.cow_space.specs.declared.stretches.Origin.TheVariants as origins
+use Rattle.cow_space.specs.declared.page_runs.Origin.{Origin}
+use Rattle.cow_space.specs.declared.page_runs.Origin.TheVariants as origins
 use Rattle.lazy_world.specs.Clones.{item_gift, state_gift}
 use Rattle.lazy_world.specs.Sound.{HasItsPages, IsAllOwn, IsSound}
 use Rattle.lazy_world.specs.States.{Parts, world_of}

@@ -13,17 +13,17 @@ use Rattle.lwc_base.specs.Keys.{ValueOf, with_key}
 use Rattle.fd_table.specs.Slots as slots
 use Rattle.cow_space.specs.Cells.{Place, place_of, right_in, rights_of}
 use Rattle.cow_space.specs.Changes as page_changes
-use Rattle.cow_space.specs.Changes.{cell_by, changed_place, changed_rights, changed_states, have_page, origin_cell, right_by, stretch_at}
+use Rattle.cow_space.specs.Changes.{cell_by, changed_place, changed_rights, changed_states, have_page, origin_cell, right_by, page_run_at}
 use Rattle.range_map.specs.Kinds.{kind_of, state_of}
-use Rattle.cow_space.specs.declared.stretches.Origin.{Origin}
-use Rattle.cow_space.specs.declared.stretches.Origin.TheVariants as origins
-use Rattle.cow_space.specs.declared.stretches.ReadRange.{ReadRange}
-use Rattle.cow_space.specs.declared.stretches.Stretch.{Stretch}
+use Rattle.cow_space.specs.declared.page_runs.Origin.{Origin}
+use Rattle.cow_space.specs.declared.page_runs.Origin.TheVariants as origins
+use Rattle.cow_space.specs.declared.page_runs.ReadRange.{ReadRange}
+use Rattle.cow_space.specs.declared.page_runs.PageRun.{PageRun}
 use Rattle.lazy_world.specs.Cells.{Row, on_place, put_row, rows_of}
 use Rattle.lazy_world.specs.Transfers.{CanGet, given, given_or}
 use Rattle.arrayvec.specs.ArrayVec.{ArrayVec}
 use Rattle.lazy_world.specs.declared.pieces.PageOrigins.{PageOrigins}
-use Rattle.lazy_world.specs.declared.pieces.PageOrigins.TheVariants.{Stretches}
+use Rattle.lazy_world.specs.declared.pieces.PageOrigins.TheVariants.{PageRuns}
 use Rattle.lazy_world.specs.Origins.{gift_at, gift_of, gift_right, origin_right, page_origin, shown_right, slot_origin, origin_at, with_pages, with_slots, with_states}
 use Rattle.lazy_world.proofs.PlaceLemmas.{choose, pages-put, pass, same_rows}
 
@@ -31,10 +31,10 @@ module _ (cells : List Place) (table : List (ℕ → slots.Slot)) (uids : List (
   abbrev old : ℕ → Row
   old = rows_of cells table uids
 
-  -- the pages of stretches
-  pub stretches-given : (stretches : List Stretch) (p : ℕ) → changed_place cells i stretches p ≡ given_or old (Page p) (old i (Page p)) (origin_at stretches p)
+  -- the pages of page runs
+  pub page_runs-given : (page_runs : List PageRun) (p : ℕ) → changed_place cells i page_runs p ≡ given_or old (Page p) (old i (Page p)) (origin_at page_runs p)
   unfolding changed_place rows_of
-  stretches-given stretches p = at (stretch_at stretches p)
+  page_runs-given page_runs p = at (page_run_at page_runs p)
     where
       given_is : (origin : Origin) → origin_cell cells origin p ≡ given old (Page p) origin
       given_is origins.Absent = refl
@@ -42,16 +42,16 @@ module _ (cells : List Place) (table : List (ℕ → slots.Slot)) (uids : List (
       given_is (origins.Common g) = refl
       given_is (origins.CopyOf j) = refl
 
-      at : (o : Option Stretch) → cell_by cells p (place_of cells i p) o ≡ given_or old (Page p) (old i (Page p)) (option_map (λ gift. gift.0) (option_map gift_of o))
+      at : (o : Option PageRun) → cell_by cells p (place_of cells i p) o ≡ given_or old (Page p) (old i (Page p)) (option_map (λ gift. gift.0) (option_map gift_of o))
       at None = refl
       at (Some s) = given_is s.origin
 
   -- and their rights and states
-  module _ (rights : List (ℕ → Right)) (stretches : List Stretch) (reads : List ReadRange) where
-    pub rights-given : (p : ℕ) → changed_rights cells rights i stretches reads p
-        ≡ shown_right (given_or old (Page p) (old i (Page p)) (origin_at stretches p)) (have_page reads p) (gift_right (rights_of rights) p (rights_of rights i p) (gift_at stretches p))
+  module _ (rights : List (ℕ → Right)) (page_runs : List PageRun) (reads : List ReadRange) where
+    pub rights-given : (p : ℕ) → changed_rights cells rights i page_runs reads p
+        ≡ shown_right (given_or old (Page p) (old i (Page p)) (origin_at page_runs p)) (have_page reads p) (gift_right (rights_of rights) p (rights_of rights i p) (gift_at page_runs p))
     unfolding changed_rights
-    rights-given p = λ e. right_in (state_of (kind_of (stretches-given stretches p e)) (cond (have_page reads p) Read (at (stretch_at stretches p) e)))
+    rights-given p = λ e. right_in (state_of (kind_of (page_runs-given page_runs p e)) (cond (have_page reads p) Read (at (page_run_at page_runs p) e)))
       where
         origin_is : (origin : Origin) → page_changes.origin_right rights origin p ≡ origin_right (rights_of rights) origin p
         origin_is origins.Absent = refl
@@ -59,7 +59,7 @@ module _ (cells : List Place) (table : List (ℕ → slots.Slot)) (uids : List (
         origin_is (origins.Common g) = refl
         origin_is (origins.CopyOf j) = refl
 
-        at : (o : Option Stretch) → right_by rights p (rights_of rights i p) o ≡ gift_right (rights_of rights) p (rights_of rights i p) (option_map gift_of o)
+        at : (o : Option PageRun) → right_by rights p (rights_of rights i p) o ≡ gift_right (rights_of rights) p (rights_of rights i p) (option_map gift_of o)
         at None = refl
         at (Some s) = ap (unwrap_or s.right) (origin_is s.origin)
 
@@ -78,10 +78,10 @@ module _ (cells : List Place) (table : List (ℕ → slots.Slot)) (uids : List (
         each (Slot n) = refl
         each Cred = refl
 
-  -- the states of pages by stretches
-  pub states-given : (rights : List (ℕ → Right)) (stretches : ArrayVec Stretch) (reads : ArrayVec ReadRange) →
-      changed_states cells rights i stretches.items reads.items ≡ with_states old (rights_of rights) i (Stretches stretches reads)
-  states-given rights stretches reads = λ e p. state_of (kind_of (stretches-given stretches.items p e)) (rights-given rights stretches.items reads.items p e)
+  -- the states of pages by page runs
+  pub states-given : (rights : List (ℕ → Right)) (page_runs : ArrayVec PageRun) (reads : ArrayVec ReadRange) →
+      changed_states cells rights i page_runs.items reads.items ≡ with_states old (rights_of rights) i (PageRuns page_runs reads)
+  states-given rights page_runs reads = λ e p. state_of (kind_of (page_runs-given page_runs.items p e)) (rights-given rights page_runs.items reads.items p e)
 
 key_same : (k q : Key) (row : Row) → with_key Cell k (row k) row q ≡ row q
 key_same (Page p) (Page q) row = ⊎_elim (λ same. choose p q (row (Page p)) (row (Page q)) same ∙ ap (λ n. row (Page n)) (sym same)) (λ other. pass p q (row (Page p)) (row (Page q)) other) (cases_eq q p)

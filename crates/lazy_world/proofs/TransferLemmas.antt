@@ -14,8 +14,8 @@ use Rattle.lwc_base.specs.Sharing.{is_moved, moved_value, shared_cell}
 use Rattle.lwc_base.specs.World.{World}
 use Rattle.range_map.specs.declared.segment.SegmentKind.{SegmentKind}
 use Rattle.range_map.specs.declared.segment.SegmentKind.TheVariants.{Own, Common}
-use Rattle.cow_space.specs.declared.stretches.Origin.{Origin}
-use Rattle.cow_space.specs.declared.stretches.Origin.TheVariants as origins
+use Rattle.cow_space.specs.declared.page_runs.Origin.{Origin}
+use Rattle.cow_space.specs.declared.page_runs.Origin.TheVariants as origins
 use Rattle.cow_space.specs.Changes.{IsApart}
 use Rattle.lazy_world.specs.Cells.{Row}
 use Rattle.lazy_world.specs.Transfers.{CanGet, IsFor, IsFound, copied_origin, given, given_or, kind_in, moved_origin, other_origin, transferred_cell, share_origin, shown_origin, origin_of, taken_cell, taken_origin}

@@ -14,8 +14,8 @@ use Rattle.lwc_base.specs.Ranges.{is_page}
 use Rattle.range_map.specs.Kinds.{kind_of, state_of}
 use Rattle.range_map.specs.declared.segment.PageState.{PageState}
 use Rattle.fd_table.specs.Slots as slots
-use Rattle.cow_space.specs.declared.stretches.Origin.{Origin}
-use Rattle.cow_space.specs.declared.stretches.Origin.TheVariants.{Absent, Zeros}
+use Rattle.cow_space.specs.declared.page_runs.Origin.{Origin}
+use Rattle.cow_space.specs.declared.page_runs.Origin.TheVariants.{Absent, Zeros}
 use Rattle.cow_space.specs.Cells.{Place, place_of}
 
 -- a cell under each key

@@ -14,8 +14,8 @@ use Rattle.range_map.specs.Kinds.{ranges}
 use Rattle.range_map.specs.declared.segment.PageState.{PageState}
 use Rattle.range_map.specs.declared.segment.SegmentKind.{SegmentKind}
 use Rattle.range_map.specs.declared.segment.SegmentKind.TheVariants.{Own, Common}
-use Rattle.cow_space.specs.declared.stretches.Origin.{Origin}
-use Rattle.cow_space.specs.declared.stretches.Origin.TheVariants.{Absent, CopyOf}
+use Rattle.cow_space.specs.declared.page_runs.Origin.{Origin}
+use Rattle.cow_space.specs.declared.page_runs.Origin.TheVariants.{Absent, CopyOf}
 use Rattle.lwc_base.specs.Ranges.{ranges_of}
 use Rattle.lwc_base.specs.World.{context}
 use Rattle.lazy_world.specs.declared.world.PlacedWorld.{PlacedWorld}

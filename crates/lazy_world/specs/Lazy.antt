@@ -1,4 +1,4 @@
--- The world that a world with anchors stands for.
+-- The world that a world with cached roots stands for.
 use Rattle.lwc_base.specs.World.{World}
 use Rattle.lazy_world.specs.declared.lazy.LazyWorld.{LazyWorld}
 use Rattle.lazy_world.specs.Worlds.{seen}

@@ -1,4 +1,4 @@
-pub mod Anchors
+pub mod CachedRoots
 pub mod Cells
 pub mod Clones
 pub mod Followed

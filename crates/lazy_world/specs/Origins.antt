@@ -10,13 +10,13 @@ use Rattle.lwc_base.specs.declared.right.Right.{Right}
 use Rattle.lwc_base.specs.declared.right.Right.TheVariants.{Write, Read}
 use Rattle.range_map.specs.Kinds.{kind_of, ranges, state_of}
 use Rattle.range_map.specs.declared.segment.PageState.{PageState}
-use Rattle.cow_space.specs.declared.stretches.Origin.{Origin}
-use Rattle.cow_space.specs.declared.stretches.Origin.TheVariants.{Absent, Zeros, Common, CopyOf}
-use Rattle.cow_space.specs.declared.stretches.Stretch.{Stretch}
+use Rattle.cow_space.specs.declared.page_runs.Origin.{Origin}
+use Rattle.cow_space.specs.declared.page_runs.Origin.TheVariants.{Absent, Zeros, Common, CopyOf}
+use Rattle.cow_space.specs.declared.page_runs.PageRun.{PageRun}
 use Rattle.cow_space.specs.Cells.{right_in}
-use Rattle.cow_space.specs.Changes.{IsApart, IsStretch, have_page, stretch_at}
+use Rattle.cow_space.specs.Changes.{IsApart, IsPageRun, have_page, page_run_at}
 use Rattle.lazy_world.specs.declared.pieces.PageOrigins.{PageOrigins}
-use Rattle.lazy_world.specs.declared.pieces.PageOrigins.TheVariants.{AllOf, Stretches}
+use Rattle.lazy_world.specs.declared.pieces.PageOrigins.TheVariants.{AllOf, PageRuns}
 use Rattle.lazy_world.specs.declared.pieces.Origins.{Origins}
 use Rattle.lazy_world.specs.Cells.{Row, states_of}
 use Rattle.lazy_world.specs.Transfers.{CanGet, given_or}
@@ -25,22 +25,22 @@ use Rattle.lazy_world.specs.Transfers.{CanGet, given_or}
 abbrev pub Gift : Type 0
 Gift = Origin × Option Right
 
--- what the pages of a stretch get
-abbrev pub gift_of : Stretch → Gift
-gift_of stretch = (stretch.origin, stretch.right)
+-- what the pages of a page run get
+abbrev pub gift_of : PageRun → Gift
+gift_of page_run = (page_run.origin, page_run.right)
 
--- what a page gets, if a stretch has it
-abbrev pub gift_at : List Stretch → ℕ → Option Gift
-gift_at stretches p = option_map gift_of (stretch_at stretches p)
+-- what a page gets, if a page run has it
+abbrev pub gift_at : List PageRun → ℕ → Option Gift
+gift_at page_runs p = option_map gift_of (page_run_at page_runs p)
 
--- the origin of a page, if a stretch has it
-abbrev pub origin_at : List Stretch → ℕ → Option Origin
-origin_at stretches p = option_map (λ gift. gift.0) (gift_at stretches p)
+-- the origin of a page, if a page run has it
+abbrev pub origin_at : List PageRun → ℕ → Option Origin
+origin_at page_runs p = option_map (λ gift. gift.0) (gift_at page_runs p)
 
 -- the origin of a page
 abbrev pub page_origin : PageOrigins → ℕ → Option Origin
 page_origin (AllOf j) p = Some (CopyOf j)
-page_origin (Stretches stretches reads) p = origin_at stretches.items p
+page_origin (PageRuns page_runs reads) p = origin_at page_runs.items p
 
 -- the right that an origin has at a page: only another place has one of its own
 abbrev pub origin_right : (ℕ → ℕ → Right) → Origin → ℕ → Right
@@ -66,9 +66,9 @@ with_pages rows pages row k = row k
 -- rights with those of the pages that origins give the place i
 abbrev pub with_rights : (ℕ → Row) → (ℕ → ℕ → Right) → ℕ → PageOrigins → ℕ → Right
 with_rights rows rights i (AllOf j) p = rights j p
-with_rights rows rights i (Stretches stretches reads) p =
-    shown_right (given_or rows (Page p) (rows i (Page p)) (origin_at stretches.items p))
-    (have_page reads.items p) (gift_right rights p (rights i p) (gift_at stretches.items p))
+with_rights rows rights i (PageRuns page_runs reads) p =
+    shown_right (given_or rows (Page p) (rows i (Page p)) (origin_at page_runs.items p))
+    (have_page reads.items p) (gift_right rights p (rights i p) (gift_at page_runs.items p))
 
 -- the states of the pages of the place i with those that origins give
 abbrev pub with_states : (ℕ → Row) → (ℕ → ℕ → Right) → ℕ → PageOrigins → ℕ → Option PageState
@@ -77,12 +77,12 @@ with_states rows rights i pages = states_of (with_pages rows pages (rows i)) (wi
 -- the most free nodes that pages take of a place that had none
 abbrev pub most_nodes : PageOrigins → ℕ
 most_nodes (AllOf j) = 0
-most_nodes (Stretches stretches reads) = 1 + 4 * length stretches.items
+most_nodes (PageRuns page_runs reads) = 1 + 4 * length page_runs.items
 
 -- the most node steps that pages take of a place that had none
 abbrev pub most_steps : (ℕ → Row) → (ℕ → ℕ → Right) → PageOrigins → ℕ
 most_steps rows rights (AllOf j) = min 1 (ranges MOST_PAGES (states_of (rows j) (rights j)))
-most_steps rows rights (Stretches stretches reads) = 128 * length stretches.items
+most_steps rows rights (PageRuns page_runs reads) = 128 * length page_runs.items
 
 -- the origin of a slot
 abbrev pub slot_origin : List (Option Origin) → ℕ → Option Origin
@@ -106,7 +106,7 @@ origin_states rows rights i s = states_of (origin_row rows i s) (with_rights row
 -- origins can give a place pages
 abbrev pub ArePagesGiven : ℕ → ℕ → PageOrigins → Type 0
 ArePagesGiven count i (AllOf j) = IsApart count i (CopyOf j)
-ArePagesGiven count i (Stretches stretches reads) = All (IsStretch count i) stretches.items
+ArePagesGiven count i (PageRuns page_runs reads) = All (IsPageRun count i) page_runs.items
 
 -- origins can give a place what they name
 pub record AreGiven (count i : ℕ) (s : Origins) : Type 0 where

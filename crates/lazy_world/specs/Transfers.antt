@@ -21,8 +21,8 @@ use Rattle.lwc_base.specs.World.{World, group}
 use Rattle.range_map.specs.Kinds as kinds
 use Rattle.range_map.specs.declared.segment.SegmentKind.{SegmentKind}
 use Rattle.range_map.specs.declared.segment.SegmentKind.TheVariants.{Own, Common}
-use Rattle.cow_space.specs.declared.stretches.Origin.{Origin}
-use Rattle.cow_space.specs.declared.stretches.Origin.TheVariants as origins
+use Rattle.cow_space.specs.declared.page_runs.Origin.{Origin}
+use Rattle.cow_space.specs.declared.page_runs.Origin.TheVariants as origins
 use Rattle.cow_space.specs.Changes.{IsApart}
 use Rattle.lazy_world.specs.Cells.{Row}
 use Rattle.lazy_world.specs.declared.transfer.Found.{Found}

@@ -9,7 +9,7 @@ ghost use Rattle.lwc_base.specs.Modes.{IsItem, IsSpec, mode, names};
 ghost use Rattle.lwc_base.specs.Sharing.{clone_context, needs_group, ranges_after_clone};
 ghost use Rattle.lwc_base.specs.World.{next_context};
 ghost use Rattle.range_map.specs.Kinds.{is_between, ranges};
-ghost use Rattle.cow_space.specs.Changes.{IsStretch};
+ghost use Rattle.cow_space.specs.Changes.{IsPageRun};
 ghost use Rattle.world_face.specs.Calls.{AreFew, HasGroupPlace, HasPlace, IsLive, MayName};
 ghost use Rattle.lwc_base.specs.declared.right.Right.{Right};
 ghost use Rattle.lazy_world.specs.Cells.{HasNoPages, Row, states_of};
@@ -26,16 +26,16 @@ use crate::pieces::{Origins, PageOrigins};
 use crate::transfer::{Transfer, read_pages};
 use crate::world::PlacedWorld;
 use arrayvec::ArrayVec;
-use cow_space::{Origin, Stretch};
+use cow_space::{Origin, PageRun};
 use lwc_base::{Item, Kind, MOST_PAGE_RUNS, Mode, NOBODY, Name, Range, Regs, Spec};
 use pool_base::Steps;
 use range_map::SegmentKind;
 use std::marker::Brand;
 use std::sync::ledger::{Blank, Ledger};
 
-/// The stretch of the pages of an item in a clone of the place `from`: they are shared, or left out. Pages
+/// The page run of the pages of an item in a clone of the place `from`: they are shared, or left out. Pages
 /// that are copied have theirs by segments.
-fn item_stretch(item: &Item, from: usize) -> Option<Stretch>
+fn item_run(item: &Item, from: usize) -> Option<PageRun>
     requires { IsItem MOST_PAGES item.now }
     ensures none { IfNone result ((q : ℕ) → names item.now (Page q) ≡ true
         → item_gift from (Some item.now.mode) ≡ None) }
@@ -54,27 +54,27 @@ fn item_stretch(item: &Item, from: usize) -> Option<Stretch>
         from: item.from as u16,
         to: item.to as u16,
     };
-    Some(Stretch {
+    Some(PageRun {
         range,
         origin,
         right: None,
     })
 }
 
-/// The stretches of the pages of items in a clone of the place `from`.
-fn item_stretches(spec: &Spec, from: usize) -> ArrayVec<Stretch, MOST_PAGE_RUNS>
+/// The page runs of the pages of items in a clone of the place `from`.
+fn item_runs(spec: &Spec, from: usize) -> ArrayVec<PageRun, MOST_PAGE_RUNS>
     ensures gifts { (q : ℕ) → gift_at result.items q ≡ item_gift from (mode spec.now (Page q)) }
     ensures few { length result.items ≤ length spec.now }
-    ensures given { (count to : ℕ) → from < count → from ≢ to → All (IsStretch count to) result.items }
+    ensures given { (count to : ℕ) → from < count → from ≢ to → All (IsPageRun count to) result.items }
 {
-    let mut stretches = ArrayVec::new();
+    let mut page_runs = ArrayVec::new();
     for item in spec.items() {
-        let Some(stretch) = item_stretch(item, from) else {
+        let Some(page_run) = item_run(item, from) else {
             continue;
         };
-        stretches.push(stretch);
+        page_runs.push(page_run);
     }
-    stretches
+    page_runs
 }
 
 /// Whether an item names pages in another mode than copy.
@@ -121,9 +121,9 @@ impl PlacedWorld {
         }
     }
 
-    /// The stretches that give a place without pages those of a clone of the place `from`: at most one for
+    /// The page runs that give a place without pages those of a clone of the place `from`: at most one for
     /// each item, and one for each segment.
-    fn clone_stretches(&self, spec: &Spec, from: usize) -> ArrayVec<Stretch, MOST_PAGE_RUNS>
+    fn clone_runs(&self, spec: &Spec, from: usize) -> ArrayVec<PageRun, MOST_PAGE_RUNS>
         requires from { from < count self.now.places }
         requires within { IsSpec (seen self.now).size.pages spec.now }
         ensures gifts { (q : ℕ) → gift_at result.items q ≡ clone_gift (parts self.now) spec.now from q }
@@ -131,11 +131,11 @@ impl PlacedWorld {
             ≤ ranges MOST_PAGES (states_of (rows self.now.places from) (rights self.now.places from))
             + length spec.now }
         ensures given { (to : ℕ) → from ≢ to → to < (parts self.now).size.contexts
-            → All (IsStretch (count self.now.places) to) result.items }
+            → All (IsPageRun (count self.now.places) to) result.items }
     {
-        let mut stretches = item_stretches(spec, from);
+        let mut page_runs = item_runs(spec, from);
         for segment in self.places.segments(from) {
-            stretches.push(Stretch {
+            page_runs.push(PageRun {
                 range: Range {
                     from: segment.from,
                     to: segment.to,
@@ -144,7 +144,7 @@ impl PlacedWorld {
                 right: Some(segment.right),
             });
         }
-        stretches
+        page_runs
     }
 
     /// Where a place without pages gets those of a clone of the place `from`, where no page is left that
@@ -166,7 +166,7 @@ impl PlacedWorld {
         if copies_pages(spec) && self.places.has_own_pages(from) {
             return PageOrigins::AllOf(from);
         }
-        PageOrigins::Stretches(self.clone_stretches(spec, from), read_pages(spec))
+        PageOrigins::PageRuns(self.clone_runs(spec, from), read_pages(spec))
     }
 
     /// Where the place `to`, which has no pages, gets the cells of a clone of the place `from`, where nothing

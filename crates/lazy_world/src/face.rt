@@ -1,4 +1,4 @@
-use crate::lazy::{LazyWorld, set_anchors};
+use crate::lazy::{LazyWorld, set_cached_roots};
 use crate::world::PlacedWorld;
 use arrayvec::ArrayVec;
 use lwc_base::{Lent, Name, OutOfMemory, Range, Regs, Spec, StoreFault, Summary, WorldSize};
@@ -16,7 +16,7 @@ impl World for LazyWorld {
     fn open(alloc: Global, world_size: &WorldSize) -> Result<LazyWorld, OutOfMemory> {
         Ok(LazyWorld {
             world: PlacedWorld::open(alloc, world_size)?,
-            anchors: ArrayVec::new(),
+            cached_roots: ArrayVec::new(),
             known: false,
         })
     }
@@ -58,14 +58,14 @@ impl World for LazyWorld {
     fn set_slot(&mut self, c: Name, n: u8, value: Lent<'_>) {
         // What the old descriptor is of may have lost its only link.
         let cut = self.world.link(c, n);
-        self.add_anchor(cut);
+        self.add_cached_root(cut);
         self.world.set_slot(c, n, value);
     }
 
     fn dup_slot(&mut self, c: Name, from: u8, to: u8) {
         // As in `set_slot`.
         let lost = self.world.link(c, to);
-        self.add_anchor(lost);
+        self.add_cached_root(lost);
         self.world.dup_slot(c, from, to);
     }
 
@@ -105,7 +105,7 @@ impl World for LazyWorld {
             return Ok(self.world.clone_context(c, spec, job, entry));
         }
         let next = self.world.next_name(job);
-        self.add_anchor(Some(next));
+        self.add_cached_root(Some(next));
         Ok(self.world.clone_context(c, spec, job, entry))
     }
 
@@ -117,8 +117,8 @@ impl World for LazyWorld {
 
     fn reap(&mut self, roots: &[Name]) {
         self.world
-            .reap_from(self.known, self.anchors.as_slice(), roots);
-        set_anchors(&mut self.anchors, roots);
+            .reap_from(self.known, self.cached_roots.as_slice(), roots);
+        set_cached_roots(&mut self.cached_roots, roots);
         self.known = true;
     }
 

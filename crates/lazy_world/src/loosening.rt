@@ -9,7 +9,7 @@ ghost use Rattle.lwc_base.specs.Cells.{slot_at, value_of};
 ghost use Rattle.lwc_base.specs.Life.{Reaches, is_among, is_reached, links, reap};
 ghost use Rattle.lwc_base.specs.World.{is_live};
 ghost use Rattle.world_face.specs.Calls.{IsLive};
-ghost use Rattle.lazy_world.specs.Anchors.{AreReached, HasLoose, HasRoot, IsLoose};
+ghost use Rattle.lazy_world.specs.CachedRoots.{AreReached, HasLoose, HasRoot, IsLoose};
 ghost use Rattle.lazy_world.specs.Seen.{count, rows};
 ghost use Rattle.lazy_world.specs.Worlds.{parts, seen};
 
@@ -212,16 +212,16 @@ impl PlacedWorld {
     }
 
     /// Drops the contexts that are not reached from the roots, where each live one is reached from the
-    /// anchors. Answers `false`, with nothing changed, where that takes a search.
-    pub(crate) fn drop_loose(&mut self, anchors: &[Name], roots: &[Name]) -> bool
-        requires anchors { AreReached (seen self.old) anchors.now }
+    /// cached roots. Answers `false`, with nothing changed, where that takes a search.
+    pub(crate) fn drop_loose(&mut self, cached_roots: &[Name], roots: &[Name]) -> bool
+        requires cached_roots { AreReached (seen self.old) cached_roots.now }
         requires roots { All (λ root. IsLive (seen self.old) root) roots.now }
         ensures done { result ≡ true → seen self.new ≡ record (seen self.old) {
           contexts = fm.retain_keys (seen self.old).contexts (is_reached (seen self.old) roots.now);
         } }
         ensures same { result ≡ false → seen self.new ≡ seen self.old }
     {
-        match self.loose_of(anchors, roots) {
+        match self.loose_of(cached_roots, roots) {
             Some(Some(c)) => {
                 self.drop_context(c);
                 true
@@ -232,10 +232,10 @@ impl PlacedWorld {
     }
 
     /// Drops the contexts that are not reached from the roots, and then the groups that no cell names.
-    /// Where each live context is known to be reached from the anchors, it takes no search if that is
+    /// Where each live context is known to be reached from the cached roots, it takes no search if that is
     /// enough.
-    pub(crate) fn reap_from(&mut self, known: bool, anchors: &[Name], roots: &[Name])
-        requires anchors { known ≡ true → AreReached (seen self.old) anchors.now }
+    pub(crate) fn reap_from(&mut self, known: bool, cached_roots: &[Name], roots: &[Name])
+        requires cached_roots { known ≡ true → AreReached (seen self.old) cached_roots.now }
         requires few { length roots.now ≤ MOST_ROOTS }
         requires live { All (λ root. IsLive (seen self.old) root) roots.now }
         ensures { seen self.new ≡ reap (seen self.old) roots.now }
@@ -244,7 +244,7 @@ impl PlacedWorld {
             self.reap(roots);
             return;
         }
-        if self.drop_loose(anchors, roots) {
+        if self.drop_loose(cached_roots, roots) {
             self.drop_groups();
             return;
         }

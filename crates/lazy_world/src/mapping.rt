@@ -7,14 +7,14 @@ ghost use Rattle.lazy_world.specs.Seen.{count, frame_count, rights, rows};
 
 use crate::places::Places;
 use crate::world::PlacedWorld;
-use cow_space::{Origin, Stretch};
+use cow_space::{Origin, PageRun};
 use lwc_base::{Name, Range};
 use pool_base::Steps;
 use std::marker::Brand;
 use std::sync::ledger::{Blank, Ledger};
 
-/// The stretch of pages that become zeros that may be stored to, or absent.
-fn stretch_of(range: Range, present: bool) -> Stretch
+/// The page run of pages that become zeros that may be stored to, or absent.
+fn page_run_of(range: Range, present: bool) -> PageRun
     ensures { result ≡ record { range = range; origin = origin_of present; right = None } }
 {
     let origin = if present {
@@ -22,7 +22,7 @@ fn stretch_of(range: Range, present: bool) -> Stretch
     } else {
         Origin::Absent
     };
-    Stretch {
+    PageRun {
         range,
         origin,
         right: None,
@@ -49,8 +49,8 @@ impl Places {
         ensures frames { frame_count self.new ≡ frame_count self.old }
     {
         let mut steps = Steps::<L>::new(blank);
-        let stretch = stretch_of(range, present);
-        self.pages.change(i, &[stretch], &[], &mut steps);
+        let page_run = page_run_of(range, present);
+        self.pages.change(i, &[page_run], &[], &mut steps);
     }
 
     /// Makes each page of a range a page of zeros of the place's own with the right `Write`, or absent.
@@ -80,8 +80,8 @@ impl Places {
             (states_of (set_pages range.from range.to present (rows self.now i))
             (writable_in range.from range.to (rights self.now i))) }
     {
-        let stretch = stretch_of(range, present);
-        self.pages.count_after(i, &[stretch], &[])
+        let page_run = page_run_of(range, present);
+        self.pages.count_after(i, &[page_run], &[])
     }
 }
 

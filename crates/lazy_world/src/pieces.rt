@@ -1,16 +1,16 @@
 use crate::places::Places;
 use arrayvec::ArrayVec;
-use cow_space::{Origin, ReadRange, Stretch};
+use cow_space::{Origin, PageRun, ReadRange};
 use lwc_base::{Cell, Lent, MOST_ITEMS, MOST_PAGE_RUNS, NOBODY, SLOTS};
 use pool_base::Steps;
 use std::sync::ledger::Ledger;
 
-/// Where a place gets its pages: all that another place has, or by stretches. Pages of no stretch stay. Those
+/// Where a place gets its pages: all that another place has, or by page runs. Pages of no page run stay. Those
 /// of the ranges may only be read then.
 #[derive(Drop)]
 pub enum PageOrigins {
     AllOf(usize),
-    Stretches(ArrayVec<Stretch, MOST_PAGE_RUNS>, ArrayVec<ReadRange, MOST_ITEMS>),
+    PageRuns(ArrayVec<PageRun, MOST_PAGE_RUNS>, ArrayVec<ReadRange, MOST_ITEMS>),
 }
 
 /// Where a place gets its cells: its pages, each of its slots, and its credential. Those without an origin
@@ -30,14 +30,14 @@ impl Places {
     ghost use Rattle.lwc_base.specs.declared.limits.TheConstants.{MOST_PAGES, MOST_RANGES};
     ghost use Rattle.lwc_base.specs.Keys.{with_key};
     ghost use Rattle.range_map.specs.Kinds.{ranges};
-    ghost use Rattle.cow_space.specs.Changes.{IsStretch};
-    ghost use Rattle.cow_space.specs.declared.stretches.Origin.TheVariants.{CopyOf};
+    ghost use Rattle.cow_space.specs.Changes.{IsPageRun};
+    ghost use Rattle.cow_space.specs.declared.page_runs.Origin.TheVariants.{CopyOf};
     ghost use Rattle.lazy_world.specs.Cells.{HasNoPages, put_rights, put_row, states_of};
     ghost use Rattle.lazy_world.specs.Transfers.{CanGet, given, given_or};
     ghost use Rattle.lazy_world.specs.Origins.{AreGiven, ArePagesGiven, most_nodes, most_steps, slot_origin};
     ghost use Rattle.lazy_world.specs.Origins.{origin_row, origin_states, with_pages, with_rights};
     ghost use Rattle.lazy_world.specs.Origins.{with_slots, with_states};
-    ghost use Rattle.lazy_world.specs.declared.pieces.PageOrigins.TheVariants.{AllOf, Stretches};
+    ghost use Rattle.lazy_world.specs.declared.pieces.PageOrigins.TheVariants.{AllOf, PageRuns};
     ghost use Rattle.lazy_world.specs.Seen.{KeepsStore, count, frame_count, free_nodes, pool, rights};
     ghost use Rattle.lazy_world.specs.Seen.{rows, used_frames};
 
@@ -61,35 +61,35 @@ impl Places {
         self.pages.clone_place(i, j, steps);
     }
 
-    /// Makes the pages of each stretch of a place what their origin says, and those of the ranges such as may
+    /// Makes the pages of each page run of a place what their origin says, and those of the ranges such as may
     /// only be read.
     fn change_pages<L: Ledger>(
         &mut self,
         i: usize,
-        stretches: &ArrayVec<Stretch, MOST_PAGE_RUNS>,
+        page_runs: &ArrayVec<PageRun, MOST_PAGE_RUNS>,
         reads: &ArrayVec<ReadRange, MOST_ITEMS>,
         steps: &mut Steps<L>,
     )
         requires place { i < count self.old }
-        requires given { All (IsStretch (count self.old) i) stretches.now.items }
+        requires given { All (IsPageRun (count self.old) i) page_runs.now.items }
         requires ranges { ranges MOST_PAGES
-            (with_states (rows self.old) (rights self.old) i (Stretches stretches.now reads.now))
+            (with_states (rows self.old) (rights self.old) i (PageRuns page_runs.now reads.now))
             ≤ MOST_RANGES }
         ensures rows { rows self.new ≡ put_row (rows self.old) i
-            (with_pages (rows self.old) (Stretches stretches.now reads.now) (rows self.old i)) }
+            (with_pages (rows self.old) (PageRuns page_runs.now reads.now) (rows self.old i)) }
         ensures rights { rights self.new ≡ put_rights (rights self.old) i
-            (with_rights (rows self.old) (rights self.old) i (Stretches stretches.now reads.now)) }
+            (with_rights (rows self.old) (rights self.old) i (PageRuns page_runs.now reads.now)) }
         ensures count { count self.new ≡ count self.old }
         ensures frames { frame_count self.new ≡ frame_count self.old }
         ensures nodes { HasNoPages (rows self.old i)
-            → free_nodes self.old ≤ free_nodes self.new + (1 + 4 * length stretches.now.items) }
+            → free_nodes self.old ≤ free_nodes self.new + (1 + 4 * length page_runs.now.items) }
         ensures used { HasNoPages (rows self.old i) → used_frames self.new ≡ used_frames self.old }
         ensures pool { pool self.new ≡ pool self.old }
         ensures cost { HasNoPages (rows self.old i)
-            → steps.new ≤ steps.old + 128 * length stretches.now.items }
+            → steps.new ≤ steps.old + 128 * length page_runs.now.items }
     {
         self.pages
-            .change(i, stretches.as_slice(), reads.as_slice(), steps);
+            .change(i, page_runs.as_slice(), reads.as_slice(), steps);
     }
 
     /// Makes the pages of a place what their origins say.
@@ -113,8 +113,8 @@ impl Places {
     {
         match pages {
             PageOrigins::AllOf(j) => self.copy_pages(i, *j, steps),
-            PageOrigins::Stretches(stretches, reads) => {
-                self.change_pages(i, stretches, reads, steps)
+            PageOrigins::PageRuns(page_runs, reads) => {
+                self.change_pages(i, page_runs, reads, steps)
             }
         }
     }
@@ -218,7 +218,7 @@ impl Places {
     }
 
     /// Makes the cells of a place what their origins say. A place without pages takes at most 128 node steps
-    /// and 4 free nodes for each stretch, and one free node besides, or one step if it gets all pages of another
+    /// and 4 free nodes for each page run, and one free node besides, or one step if it gets all pages of another
     /// one; and no frame. No frame is written.
     pub fn take<L: Ledger>(&mut self, i: usize, origins: &Origins, steps: &mut Steps<L>)
         requires place { i < count self.old }

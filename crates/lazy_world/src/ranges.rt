@@ -14,7 +14,7 @@ use crate::pieces::{Origins, PageOrigins};
 use crate::transfer::{Found, Transfer};
 use crate::world::PlacedWorld;
 use arrayvec::ArrayVec;
-use cow_space::{Origin, Stretch};
+use cow_space::{Origin, PageRun};
 use lwc_base::{Cell, Item, Key, Kind, MOST_PAGE_RUNS, MOST_PAGES, Range, Right, SLOTS, Spec};
 use range_map::{PageState, SegmentKind, sooner_edge};
 use res_spec::mode_of;
@@ -61,12 +61,12 @@ fn owner<T>(cell: &Cell<T>) -> SegmentKind
     }
 }
 
-/// The stretch of a range that gets something of an origin, if there is one.
-fn stretch_of(origin: Option<Origin>, range: Range, right: Option<Right>) -> Option<Stretch>
+/// The page run of a range that gets something of an origin, if there is one.
+fn page_run_of(origin: Option<Origin>, range: Range, right: Option<Right>) -> Option<PageRun>
     ensures { result ≡ option_map (λ o. record { range = range; origin = o; right = right }) origin }
 {
     match origin {
-        Some(origin) => Some(Stretch {
+        Some(origin) => Some(PageRun {
             range,
             origin,
             right,
@@ -76,7 +76,7 @@ fn stretch_of(origin: Option<Origin>, range: Range, right: Option<Right>) -> Opt
 }
 
 impl PlacedWorld {
-    ghost use Rattle.cow_space.specs.Changes.{IsStretch};
+    ghost use Rattle.cow_space.specs.Changes.{IsPageRun};
     ghost use Rattle.lwc_base.specs.declared.right.Right.{Right};
     ghost use Rattle.range_map.specs.Kinds.{kind_of, ranges, state_of};
     ghost use Rattle.lazy_world.specs.Cells.{states_of};
@@ -143,16 +143,16 @@ impl PlacedWorld {
         (found, self.places.next_edge(i, p))
     }
 
-    /// The stretch by a transfer of a page and of all up to a later one, where a range or an item begins or ends;
+    /// The page run by a transfer of a page and of all up to a later one, where a range or an item begins or ends;
     /// none where these pages stay.
-    fn page_stretch(
+    fn run_from_page(
         &self,
         transfer: Transfer,
         spec: &Spec,
         from: usize,
         to: usize,
         p: u16,
-    ) -> (Option<Stretch>, u16)
+    ) -> (Option<PageRun>, u16)
         requires from { from < count self.now.places }
         requires transfer { IsFor (parts self.now).size.contexts from to transfer }
         requires page { p < MOST_PAGES }
@@ -184,17 +184,17 @@ impl PlacedWorld {
         let end = mode_edge(spec, p, edge);
         let origin = transfer.origin(mode_of(spec, Key::Page(p)), found, from, to);
         let range = Range { from: p, to: end };
-        (stretch_of(origin, range, found.right), end)
+        (page_run_of(origin, range, found.right), end)
     }
 
-    /// The stretches that give a place its pages by a transfer: at most one from each edge of a range or of an item.
-    fn page_stretches(
+    /// The page runs that give a place its pages by a transfer: at most one from each edge of a range or of an item.
+    fn runs_of_pages(
         &self,
         transfer: Transfer,
         spec: &Spec,
         from: usize,
         to: usize,
-    ) -> ArrayVec<Stretch, MOST_PAGE_RUNS>
+    ) -> ArrayVec<PageRun, MOST_PAGE_RUNS>
         requires from { from < count self.now.places }
         requires transfer { IsFor (parts self.now).size.contexts from to transfer }
         requires within { IsSpec (seen self.now).size.pages spec.now }
@@ -207,18 +207,18 @@ impl PlacedWorld {
             (gift_right (rights self.now.places) q (rights self.now.places to q) (gift_at result.items q))
             ≡ right_transferred self.now transfer spec.now from to q }
         ensures past { (q : ℕ) → MOST_PAGES ≤ q → gift_at result.items q ≡ None }
-        ensures given { All (IsStretch (count self.now.places) to) result.items }
+        ensures given { All (IsPageRun (count self.now.places) to) result.items }
     {
-        let mut stretches = ArrayVec::new();
+        let mut page_runs = ArrayVec::new();
         let mut p = 0u16;
         'pages: while u32::from(p) < MOST_PAGES {
-            let (stretch, end) = self.page_stretch(transfer, spec, from, to, p);
-            if let Some(stretch) = stretch {
-                stretches.push(stretch);
+            let (page_run, end) = self.run_from_page(transfer, spec, from, to, p);
+            if let Some(page_run) = page_run {
+                page_runs.push(page_run);
             }
             p = end;
         }
-        stretches
+        page_runs
     }
 
     /// What is found in a slot of a place.
@@ -307,8 +307,8 @@ impl PlacedWorld {
         ensures given { AreGiven (count self.now.places) to result }
     {
         Origins {
-            pages: PageOrigins::Stretches(
-                self.page_stretches(transfer, spec, from, to),
+            pages: PageOrigins::PageRuns(
+                self.runs_of_pages(transfer, spec, from, to),
                 transfer.reads(spec),
             ),
             slots: self.slot_origins(transfer, spec, from, to),

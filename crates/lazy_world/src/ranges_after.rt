@@ -4,10 +4,10 @@ ghost use Rattle.std.specs.Prelude.{◌≡◌, ◌<◌, ◌≤◌, ℕ, All};
 ghost use Rattle.lwc_base.specs.declared.limits.TheConstants.{MOST_PAGES};
 ghost use Rattle.lwc_base.specs.Modes.{IsSpec};
 ghost use Rattle.range_map.specs.Kinds.{ranges};
-ghost use Rattle.cow_space.specs.Changes.{IsStretch};
+ghost use Rattle.cow_space.specs.Changes.{IsPageRun};
 ghost use Rattle.lazy_world.specs.Cells.{states_of};
 ghost use Rattle.lazy_world.specs.Origins.{ArePagesGiven, with_states};
-ghost use Rattle.lazy_world.specs.declared.pieces.PageOrigins.TheVariants.{Stretches};
+ghost use Rattle.lazy_world.specs.declared.pieces.PageOrigins.TheVariants.{PageRuns};
 ghost use Rattle.lazy_world.specs.Seen.{count, rights, rows};
 
 use crate::pieces::PageOrigins;
@@ -15,7 +15,7 @@ use crate::places::Places;
 use crate::transfer::Transfer;
 use crate::world::PlacedWorld;
 use arrayvec::ArrayVec;
-use cow_space::{ReadRange, Stretch};
+use cow_space::{PageRun, ReadRange};
 use lwc_base::{MOST_ITEMS, MOST_PAGE_RUNS, Name, Spec};
 
 impl Places {
@@ -27,21 +27,21 @@ impl Places {
         self.pages.count(i)
     }
 
-    /// The number of ranges of a place once the pages of each stretch were what their origin says, and those
+    /// The number of ranges of a place once the pages of each page run were what their origin says, and those
     /// of the ranges such as may only be read.
     fn count_changed(
         &self,
         i: usize,
-        stretches: &ArrayVec<Stretch, MOST_PAGE_RUNS>,
+        page_runs: &ArrayVec<PageRun, MOST_PAGE_RUNS>,
         reads: &ArrayVec<ReadRange, MOST_ITEMS>,
     ) -> u32
         requires place { i < count self.now }
-        requires given { All (IsStretch (count self.now) i) stretches.now.items }
+        requires given { All (IsPageRun (count self.now) i) page_runs.now.items }
         ensures { result ≡ ranges MOST_PAGES
-            (with_states (rows self.now) (rights self.now) i (Stretches stretches.now reads.now)) }
+            (with_states (rows self.now) (rights self.now) i (PageRuns page_runs.now reads.now)) }
     {
         self.pages
-            .count_after(i, stretches.as_slice(), reads.as_slice())
+            .count_after(i, page_runs.as_slice(), reads.as_slice())
     }
 
     /// The number of ranges of a place once it had the pages that origins give it.
@@ -52,7 +52,7 @@ impl Places {
     {
         match pages {
             PageOrigins::AllOf(j) => self.range_count(*j),
-            PageOrigins::Stretches(stretches, reads) => self.count_changed(i, stretches, reads),
+            PageOrigins::PageRuns(page_runs, reads) => self.count_changed(i, page_runs, reads),
         }
     }
 }

@@ -28,9 +28,9 @@ use Rattle.lwc_base.specs.declared.refusal.Refusal.{Refusal}
 use Rattle.lwc_base.specs.declared.refusal.Refusal.TheVariants.{BadAddress, BadCall, BadFd, BadMode, BadRange, NoFile, NoFrame, NoSlot, NotCovered, NotPermitted, ReadOnly, ReplyFull, TooLong, TooManyRanges, WrongKind}
 use Rattle.lwc_base.specs.declared.regs.Regs.{Regs}
 use Rattle.lwc_syscall.specs.Plain.{Outcome, answering, becoming, close_refusals, closing, copy_refusals, copying, ended, is_absent, is_full, is_read_only, is_written, left, map_refusals, mapping, moved, open_refusals, opening, passes_limit, place_refusals, placed, plain, read_on, read_refusals, reading, refused_or, store_at, uid_refusals, world_after, write_refusals, writing, written}
-use Rattle.lwc_syscall.specs.Syscall.{inner_args, inner_call, link, lw_syscall, mask_in, refusals, three_of}
+use Rattle.lwc_syscall.specs.Syscall.{inner_args, inner_call, link, lw_syscall, mask_in, refusals, targets_of}
 use Rattle.lwc_syscall.specs.declared.answer.CallAnswer.TheVariants.{Exit, Refused}
-use Rattle.lwc_syscall.specs.declared.calls.Three.{Three}
+use Rattle.lwc_syscall.specs.declared.calls.CallContexts.{CallContexts}
 use Rattle.lift_law.proofs.Calls.{MayAct, whole_link}
 use Rattle.lift_law.proofs.Changes.{map-wide, put_slot-wide, put_uid-wide, store-wide, wide_stored}
 use Rattle.lift_law.proofs.Counts.{ranges-wide}
@@ -91,12 +91,12 @@ module _ (w : World) (io : Channels) where
   place-wide : (s : Name) → place_refusals (wide w) s ≡ place_refusals w s
   place-wide s = λ i. (is_none (lowest-wide w s i), NoSlot) ∷ []
 
-  opening-wide : (three : Three) (file : ℕ) → opening (wide w) io three file ≡ wide_outcome (opening w io three file)
-  opening-wide three file =
-      ended-wide (open_refusals w io three file) (open_refusals (wide w) io three file) (placed (wide w) io three.slots (File file 0)) (placed w io three.slots (File file 0))
+  opening-wide : (targets : CallContexts) (file : ℕ) → opening (wide w) io targets file ≡ wide_outcome (opening w io targets file)
+  opening-wide targets file =
+      ended-wide (open_refusals w io targets file) (open_refusals (wide w) io targets file) (placed (wide w) io targets.slots (File file 0)) (placed w io targets.slots (File file 0))
       (λ i. first_refusal ((nat_le (length io.files) file, NoFile)
-      ∷ (not (option_map_or (may_open (uid-wide w three.cred i)) (slice_get io.files file) false), NotPermitted) ∷ place-wide three.slots i))
-      (λ none. placed-wide three.slots (File file 0))
+      ∷ (not (option_map_or (may_open (uid-wide w targets.cred i)) (slice_get io.files file) false), NotPermitted) ∷ place-wide targets.slots i))
+      (λ none. placed-wide targets.slots (File file 0))
 
   closing-wide : (s : Name) (n : ℕ) → closing (wide w) io s n ≡ wide_outcome (closing w io s n)
   closing-wide s n =
@@ -184,18 +184,18 @@ module _ (w : World) (io : Channels) where
   world_after-wide (stores.Done v) = refl
 
 module _ (w : World) (ends : HasNoMore w) (io : Channels) where
-  writing-wide : (three : Three) (n at count : ℕ) → writing (wide w) io three n at count ≡ wide_outcome (writing w io three n at count)
+  writing-wide : (targets : CallContexts) (n at count : ℕ) → writing (wide w) io targets n at count ≡ wide_outcome (writing w io targets n at count)
   unfolding writing
-  writing-wide three n at count =
-      let d : Descriptor = descriptor_for w three.slots n in
-      let bytes = bytes-wide w ends three.memory at count in
-      (λ i. ended (wide w) io (write_refusals io (descriptor-wide w three.slots n i) count (bytes i))
-      (answering count (wide w) (written io (descriptor-wide w three.slots n i) (unwrap_or (bytes i) []))))
-      ∙ ended-wide w io (write_refusals io d count (bytes_for w three.memory at count)) (write_refusals io (wide_descriptor d) count (bytes_for w three.memory at count))
-      (answering count (wide w) (written io (wide_descriptor d) (unwrap_or (bytes_for w three.memory at count) []))) (answering count w (written io d (unwrap_or (bytes_for w three.memory at count) [])))
+  writing-wide targets n at count =
+      let d : Descriptor = descriptor_for w targets.slots n in
+      let bytes = bytes-wide w ends targets.memory at count in
+      (λ i. ended (wide w) io (write_refusals io (descriptor-wide w targets.slots n i) count (bytes i))
+      (answering count (wide w) (written io (descriptor-wide w targets.slots n i) (unwrap_or (bytes i) []))))
+      ∙ ended-wide w io (write_refusals io d count (bytes_for w targets.memory at count)) (write_refusals io (wide_descriptor d) count (bytes_for w targets.memory at count))
+      (answering count (wide w) (written io (wide_descriptor d) (unwrap_or (bytes_for w targets.memory at count) []))) (answering count w (written io d (unwrap_or (bytes_for w targets.memory at count) [])))
       (λ i. first_refusal ((empty_descriptor w io d i, BadFd) ∷ (not (is_written-wide w io d i), WrongKind) ∷ (nat_lt MOST_BYTES_OF_CALL count, TooLong)
-      ∷ (is_none (bytes_for w three.memory at count), BadAddress) ∷ (passes-wide w io d count i, ReplyFull) ∷ []))
-      (λ none. ap (answering count (wide w)) (written-wide w io d (unwrap_or (bytes_for w three.memory at count) [])))
+      ∷ (is_none (bytes_for w targets.memory at count), BadAddress) ∷ (passes-wide w io d count i, ReplyFull) ∷ []))
+      (λ none. ap (answering count (wide w)) (written-wide w io d (unwrap_or (bytes_for w targets.memory at count) [])))
 
   -- a store at a guest's address: past the last page it finds no page in either world
   store_at-wide : (m : Name) (job at : ℕ) (bytes : List ℕ) → store_at (wide w) m job at bytes ≡ wide_stored (store_at w m job at bytes)
@@ -213,24 +213,24 @@ module _ (w : World) (ends : HasNoMore w) (io : Channels) where
       by false some false past true most = ap wide_stored (store-past w ends m job (record { at = at; bytes = bytes }) (grind (arith, nat_tests)) (grind (arith, nat_tests)))
       by false some false past false most = refl
 
-  reading-wide : (three : Three) (job n at count : ℕ) → reading (wide w) io three job n at count ≡ wide_outcome (reading w io three job n at count)
+  reading-wide : (targets : CallContexts) (job n at count : ℕ) → reading (wide w) io targets job n at count ≡ wide_outcome (reading w io targets job n at count)
   unfolding reading
-  reading-wide three job n at count =
-      let d : Descriptor = descriptor_for w three.slots n in
+  reading-wide targets job n at count =
+      let d : Descriptor = descriptor_for w targets.slots n in
       let bytes : List ℕ = moved io d count in
-      let stored : Stored = store_at w three.memory job at bytes in
-      let same_bytes : moved io (descriptor_for (wide w) three.slots n) count ≡ bytes = ap (λ o. take count (unwrap_or o [])) (ap (left io) (descriptor-wide w three.slots n) ∙ left-wide w io d) in
-      let stores_same : store_at (wide w) three.memory job at (moved io (descriptor_for (wide w) three.slots n) count) ≡ wide_stored stored =
-      ap (store_at (wide w) three.memory job at) same_bytes ∙ store_at-wide three.memory job at bytes in
-      (λ i. ended (wide w) io (read_refusals io (descriptor-wide w three.slots n i) count (stores_same i))
-      (answering (length (same_bytes i)) (put_slot (world_after (wide w) (stores_same i)) three.slots n (read_on (length (same_bytes i)) (descriptor-wide w three.slots n i))) io))
+      let stored : Stored = store_at w targets.memory job at bytes in
+      let same_bytes : moved io (descriptor_for (wide w) targets.slots n) count ≡ bytes = ap (λ o. take count (unwrap_or o [])) (ap (left io) (descriptor-wide w targets.slots n) ∙ left-wide w io d) in
+      let stores_same : store_at (wide w) targets.memory job at (moved io (descriptor_for (wide w) targets.slots n) count) ≡ wide_stored stored =
+      ap (store_at (wide w) targets.memory job at) same_bytes ∙ store_at-wide targets.memory job at bytes in
+      (λ i. ended (wide w) io (read_refusals io (descriptor-wide w targets.slots n i) count (stores_same i))
+      (answering (length (same_bytes i)) (put_slot (world_after (wide w) (stores_same i)) targets.slots n (read_on (length (same_bytes i)) (descriptor-wide w targets.slots n i))) io))
       ∙ ended-wide w io (read_refusals io d count stored) (read_refusals io (wide_descriptor d) count (wide_stored stored))
-      (answering (length bytes) (put_slot (world_after (wide w) (wide_stored stored)) three.slots n (read_on (length bytes) (wide_descriptor d))) io)
-      (answering (length bytes) (put_slot (world_after w stored) three.slots n (read_on (length bytes) d)) io)
+      (answering (length bytes) (put_slot (world_after (wide w) (wide_stored stored)) targets.slots n (read_on (length bytes) (wide_descriptor d))) io)
+      (answering (length bytes) (put_slot (world_after w stored) targets.slots n (read_on (length bytes) d)) io)
       (λ i. first_refusal ((empty_descriptor w io d i, BadFd) ∷ (is_none (left-wide w io d i), WrongKind) ∷ (nat_lt MOST_BYTES_OF_CALL count, TooLong)
       ∷ (absent-wide w io stored i, BadAddress) ∷ (read_only-wide w io stored i, ReadOnly) ∷ (full-wide w io stored i, NoFrame) ∷ []))
       (λ none. ap (λ u. answering (length bytes) u io)
-      ((λ i. put_slot (world_after-wide w io stored i) three.slots n (read_on-wide w io (length bytes) d i)) ∙ put_slot-wide (world_after w stored) three.slots n (read_on (length bytes) d)))
+      ((λ i. put_slot (world_after-wide w io stored i) targets.slots n (read_on-wide w io (length bytes) d i)) ∙ put_slot-wide (world_after w stored) targets.slots n (read_on (length bytes) d)))
 
   mapping-wide : (m : Name) (from to : ℕ) (present : Bool) → refusal_at_end (mapping w io m from to present).answer ≢ Some BadRange →
       mapping (wide w) io m from to present ≡ wide_outcome (mapping w io m from to present)
@@ -259,23 +259,23 @@ module _ (w : World) (ends : HasNoMore w) (io : Channels) where
       (λ i. first_refusal ((nat_le (2 ^ 32) uid, BadRange) ∷ (not (may_set (uid-wide w c i) uid), NotPermitted) ∷ []))
       (λ none. ap (λ u. answering 0 u io) (put_uid-wide w c uid))
 
-  pub plain-wide : (three : Three) (job call : ℕ) (args : List ℕ) → Follows (plain w io three job call args) (plain (wide w) io three job call args)
+  pub plain-wide : (targets : CallContexts) (job call : ℕ) (args : List ℕ) → Follows (plain w io targets job call args) (plain (wide w) io targets job call args)
   unfolding plain
-  plain-wide three job call args =
+  plain-wide targets job call args =
       let arg = slice_index args in
       by_call call
-      (opening w io three (arg 0)) (closing w io three.slots (arg 0)) (copying w io three.slots (arg 0)) (reading w io three job (arg 0) (arg 1) (arg 2))
-      (writing w io three (arg 0) (arg 1) (arg 2)) (mapping w io three.memory (arg 0) (arg 1) true) (mapping w io three.memory (arg 0) (arg 1) false)
-      (answering (uid_at w three.cred) w io) (becoming w io three.cred (arg 0)) (record { answer = Exit (arg 0); world = w; io = io })
+      (opening w io targets (arg 0)) (closing w io targets.slots (arg 0)) (copying w io targets.slots (arg 0)) (reading w io targets job (arg 0) (arg 1) (arg 2))
+      (writing w io targets (arg 0) (arg 1) (arg 2)) (mapping w io targets.memory (arg 0) (arg 1) true) (mapping w io targets.memory (arg 0) (arg 1) false)
+      (answering (uid_at w targets.cred) w io) (becoming w io targets.cred (arg 0)) (record { answer = Exit (arg 0); world = w; io = io })
       (record { answer = Refused BadCall; world = w; io = io })
-      (opening (wide w) io three (arg 0)) (closing (wide w) io three.slots (arg 0)) (copying (wide w) io three.slots (arg 0)) (reading (wide w) io three job (arg 0) (arg 1) (arg 2))
-      (writing (wide w) io three (arg 0) (arg 1) (arg 2)) (mapping (wide w) io three.memory (arg 0) (arg 1) true) (mapping (wide w) io three.memory (arg 0) (arg 1) false)
-      (answering (uid_at (wide w) three.cred) (wide w) io) (becoming (wide w) io three.cred (arg 0)) (record { answer = Exit (arg 0); world = wide w; io = io })
+      (opening (wide w) io targets (arg 0)) (closing (wide w) io targets.slots (arg 0)) (copying (wide w) io targets.slots (arg 0)) (reading (wide w) io targets job (arg 0) (arg 1) (arg 2))
+      (writing (wide w) io targets (arg 0) (arg 1) (arg 2)) (mapping (wide w) io targets.memory (arg 0) (arg 1) true) (mapping (wide w) io targets.memory (arg 0) (arg 1) false)
+      (answering (uid_at (wide w) targets.cred) (wide w) io) (becoming (wide w) io targets.cred (arg 0)) (record { answer = Exit (arg 0); world = wide w; io = io })
       (record { answer = Refused BadCall; world = wide w; io = io })
-      (λ free. opening-wide w io three (arg 0)) (λ free. closing-wide w io three.slots (arg 0)) (λ free. copying-wide w io three.slots (arg 0))
-      (λ free. reading-wide three job (arg 0) (arg 1) (arg 2)) (λ free. writing-wide three (arg 0) (arg 1) (arg 2))
-      (mapping-wide three.memory (arg 0) (arg 1) true) (mapping-wide three.memory (arg 0) (arg 1) false)
-      (λ free. ap (λ n. answering n (wide w) io) (uid-wide w three.cred)) (λ free. becoming-wide three.cred (arg 0)) (λ free. refl) (λ free. refl)
+      (λ free. opening-wide w io targets (arg 0)) (λ free. closing-wide w io targets.slots (arg 0)) (λ free. copying-wide w io targets.slots (arg 0))
+      (λ free. reading-wide targets job (arg 0) (arg 1) (arg 2)) (λ free. writing-wide targets (arg 0) (arg 1) (arg 2))
+      (mapping-wide targets.memory (arg 0) (arg 1) true) (mapping-wide targets.memory (arg 0) (arg 1) false)
+      (λ free. ap (λ n. answering n (wide w) io) (uid-wide w targets.cred)) (λ free. becoming-wide targets.cred (arg 0)) (λ free. refl) (λ free. refl)
 
 -- a call over chosen contexts
 module _ (w : World) (io : Channels) (c : Name) (may : MayAct w c) (job : ℕ) (regs : Regs) where
@@ -285,7 +285,7 @@ module _ (w : World) (io : Channels) (c : Name) (may : MayAct w c) (job : ℕ) (
   link_is : link (wide w) c regs ≡ wide_link l
   link_is = link-wide w c (slice_index regs.r 1)
 
-  three_is : three_of (wide w) c regs ≡ three_of w c regs
+  three_is : targets_of (wide w) c regs ≡ targets_of w c regs
   three_is = λ i. record {
     memory = cond (is_chosen (mask_in regs) Page) (link_is i).0 c;
     slots = cond (is_chosen (mask_in regs) Slot) (link_is i).0 c;
@@ -305,8 +305,8 @@ module _ (w : World) (io : Channels) (c : Name) (may : MayAct w c) (job : ℕ) (
   pub syscall-wide : refusal_at_end (lw_syscall w io c job regs).answer ≢ Some BadRange → lw_syscall (wide w) io c job regs ≡ wide_outcome (lw_syscall w io c job regs)
   unfolding lw_syscall
   syscall-wide free =
-      ap (λ three. ended (wide w) io (refusals (wide w) c regs) (plain (wide w) io three job (inner_call regs) (inner_args regs))) three_is
-      ∙ ended-wide w io (refusals w c regs) (refusals (wide w) c regs) (plain (wide w) io (three_of w c regs) job (inner_call regs) (inner_args regs))
-      (plain w io (three_of w c regs) job (inner_call regs) (inner_args regs)) (ap first_refusal refusals-wide)
-      (λ none. plain-wide w may.ends io (three_of w c regs) job (inner_call regs) (inner_args regs)
-      (λ bad. free (ap (λ first. refusal_at_end (refused_or w io (plain w io (three_of w c regs) job (inner_call regs) (inner_args regs)) first).answer) none ∙ bad)))
+      ap (λ targets. ended (wide w) io (refusals (wide w) c regs) (plain (wide w) io targets job (inner_call regs) (inner_args regs))) three_is
+      ∙ ended-wide w io (refusals w c regs) (refusals (wide w) c regs) (plain (wide w) io (targets_of w c regs) job (inner_call regs) (inner_args regs))
+      (plain w io (targets_of w c regs) job (inner_call regs) (inner_args regs)) (ap first_refusal refusals-wide)
+      (λ none. plain-wide w may.ends io (targets_of w c regs) job (inner_call regs) (inner_args regs)
+      (λ bad. free (ap (λ first. refusal_at_end (refused_or w io (plain w io (targets_of w c regs) job (inner_call regs) (inner_args regs)) first).answer) none ∙ bad)))

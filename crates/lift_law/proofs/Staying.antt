@@ -33,7 +33,7 @@ use Rattle.lwc_switch.specs.Switch as switching
 use Rattle.lwc_syscall.specs.Plain as calls
 use Rattle.lwc_syscall.specs.Plain.{Outcome, moved, placed, plain, read_on, refused_or, store_at, world_after}
 use Rattle.lwc_syscall.specs.Syscall as syscalls
-use Rattle.lwc_syscall.specs.declared.calls.Three.{Three}
+use Rattle.lwc_syscall.specs.declared.calls.CallContexts.{CallContexts}
 use Rattle.res_spec.specs.declared.items.SpecCall.TheVariants as spec_call
 use Rattle.lift_law.proofs.Whole.{IsWhole, whole, whole-at, whole-clone, whole-map, whole-overlay, whole-save, whole-slot, whole-store, whole-uid}
 
@@ -69,31 +69,31 @@ module _ (pages : ℕ) where
         by true true false = whole-store pages w keeps m job piece
 
     -- a plain call
-    module _ (io : Channels) (job : ℕ) (three : Three) (live : is_live w three.slots ≡ true) where
+    module _ (io : Channels) (job : ℕ) (targets : CallContexts) (live : is_live w targets.slots ≡ true) where
       ends : (first : Option Refusal) (done : Outcome) → KeepsWhole done.world → KeepsWhole (refused_or w io done first).world
       ends None done is = is
       ends (Some refusal) done is = keeps
 
-      placed-whole : (value : Descriptor) → IsWhole pages value → KeepsWhole (placed w io three.slots value).world
-      placed-whole value is = whole-slot pages w keeps three.slots (unwrap_or (lowest_empty w three.slots) 0) value is
+      placed-whole : (value : Descriptor) → IsWhole pages value → KeepsWhole (placed w io targets.slots value).world
+      placed-whole value is = whole-slot pages w keeps targets.slots (unwrap_or (lowest_empty w targets.slots) 0) value is
 
-      store_at-whole : (from : ℕ) (bytes : List ℕ) → KeepsWhole (world_after w (store_at w three.memory job from bytes))
+      store_at-whole : (from : ℕ) (bytes : List ℕ) → KeepsWhole (world_after w (store_at w targets.memory job from bytes))
       unfolding store_at
       store_at-whole from bytes = by (eqb (length bytes) 0) (nat_le (from + length bytes) (w.size.pages * PAGE_BYTES))
         where
-          by : (a b : Bool) → KeepsWhole (world_after w (cond a (Done w) (cond b (store w three.memory job (record { at = from; bytes = bytes })) Absent)))
+          by : (a b : Bool) → KeepsWhole (world_after w (cond a (Done w) (cond b (store w targets.memory job (record { at = from; bytes = bytes })) Absent)))
           by true b = keeps
-          by false true = stored-whole three.memory job (record { at = from; bytes = bytes })
+          by false true = stored-whole targets.memory job (record { at = from; bytes = bytes })
           by false false = keeps
 
-      reading-whole : (n from count : ℕ) → KeepsWhole (calls.reading w io three job n from count).world
+      reading-whole : (n from count : ℕ) → KeepsWhole (calls.reading w io targets job n from count).world
       unfolding calls.reading
       reading-whole n from count =
-          let value = descriptor_for w three.slots n in
+          let value = descriptor_for w targets.slots n in
           let bytes = moved io value count in
-          ends _ _ (whole-slot pages _ (store_at-whole from bytes) three.slots n (read_on (length bytes) value) (read_on-whole (length bytes) value (descriptor-whole three.slots n live)))
+          ends _ _ (whole-slot pages _ (store_at-whole from bytes) targets.slots n (read_on (length bytes) value) (read_on-whole (length bytes) value (descriptor-whole targets.slots n live)))
 
-      writing-whole : (n from count : ℕ) → KeepsWhole (calls.writing w io three n from count).world
+      writing-whole : (n from count : ℕ) → KeepsWhole (calls.writing w io targets n from count).world
       unfolding calls.writing
       writing-whole n from count = ends _ _ keeps
 
@@ -101,18 +101,18 @@ module _ (pages : ℕ) where
       either true x y first second = first
       either false x y first second = second
 
-      pub plain-whole : (call : ℕ) (args : List ℕ) → KeepsWhole (plain w io three job call args).world
+      pub plain-whole : (call : ℕ) (args : List ℕ) → KeepsWhole (plain w io targets job call args).world
       unfolding plain
       plain-whole call args =
           either (eqb call 1) _ _ (ends _ _ (placed-whole (File (slice_index args 0) 0) tt))
-          (either (eqb call 2) _ _ (ends _ _ (whole-slot pages w keeps three.slots (slice_index args 0) Empty tt))
-          (either (eqb call 3) _ _ (ends _ _ (placed-whole _ (descriptor-whole three.slots (slice_index args 0) live)))
+          (either (eqb call 2) _ _ (ends _ _ (whole-slot pages w keeps targets.slots (slice_index args 0) Empty tt))
+          (either (eqb call 3) _ _ (ends _ _ (placed-whole _ (descriptor-whole targets.slots (slice_index args 0) live)))
           (either (eqb call 4) _ _ (reading-whole (slice_index args 0) (slice_index args 1) (slice_index args 2))
           (either (eqb call 5) _ _ (writing-whole (slice_index args 0) (slice_index args 1) (slice_index args 2))
-          (either (eqb call 6) _ _ (ends _ _ (whole-map pages w keeps three.memory (slice_index args 0) (slice_index args 1) true))
-          (either (eqb call 7) _ _ (ends _ _ (whole-map pages w keeps three.memory (slice_index args 0) (slice_index args 1) false))
+          (either (eqb call 6) _ _ (ends _ _ (whole-map pages w keeps targets.memory (slice_index args 0) (slice_index args 1) true))
+          (either (eqb call 7) _ _ (ends _ _ (whole-map pages w keeps targets.memory (slice_index args 0) (slice_index args 1) false))
           (either (eqb call 8) _ _ keeps
-          (either (eqb call 9) _ _ (ends _ _ (whole-uid pages w keeps three.cred (slice_index args 0)))
+          (either (eqb call 9) _ _ (ends _ _ (whole-uid pages w keeps targets.cred (slice_index args 0)))
           (either (eqb call 10) _ _ keeps keeps)))))))))
 
 -- the context that a descriptor names, and else another one
@@ -168,7 +168,7 @@ module _ (c : Name) (job t : ℕ) (w : World) (io : Channels) (keeps : KeepsWhol
   unfolding overlaying.overlay
   overlay-whole = overlaid-whole _
 
-  slots-live : is_live w (syscalls.three_of w c regs).slots ≡ true
+  slots-live : is_live w (syscalls.targets_of w c regs).slots ≡ true
   slots-live = by (is_chosen (syscalls.mask_in regs) kinds.Slot)
     where
       by : (b : Bool) → is_live w (cond b (link_or c d).0 c) ≡ true
@@ -177,5 +177,5 @@ module _ (c : Name) (job t : ℕ) (w : World) (io : Channels) (keeps : KeepsWhol
 
   pub syscall-whole : KeepsWhole pages (syscalls.lw_syscall w io c job regs).world
   unfolding syscalls.lw_syscall
-  syscall-whole = ends pages w keeps io job (syscalls.three_of w c regs) slots-live _ _
-      (plain-whole pages w keeps io job (syscalls.three_of w c regs) slots-live (syscalls.inner_call regs) (syscalls.inner_args regs))
+  syscall-whole = ends pages w keeps io job (syscalls.targets_of w c regs) slots-live _ _
+      (plain-whole pages w keeps io job (syscalls.targets_of w c regs) slots-live (syscalls.inner_call regs) (syscalls.inner_args regs))

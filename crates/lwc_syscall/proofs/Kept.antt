@@ -21,7 +21,7 @@ use Rattle.lwc_base.specs.declared.name.Name.{Name}
 use Rattle.lwc_base.specs.declared.page.TheConstants.{PAGE_BYTES}
 use Rattle.lwc_syscall.specs.Changes.{IsPlainChange, IsWell, KeepsNumbers, Mapped, Nothing, Read, SlotPut, UidPut, Written}
 use Rattle.lwc_syscall.specs.Plain.{written}
-use Rattle.lwc_syscall.specs.declared.calls.Three.{Three}
+use Rattle.lwc_syscall.specs.declared.calls.CallContexts.{CallContexts}
 use Rattle.lwc_base.proofs.Facts.{changes}
 use Rattle.lwc_base.proofs.InRange.{files-after_store, files-map_pages, files-put_slot, files-put_uid, files-unmap_pages}
 use Rattle.lwc_base.proofs.NamedContexts.{contexts-after_store, contexts-map_pages, contexts-put_slot, contexts-put_uid, contexts-unmap_pages}
@@ -81,18 +81,18 @@ well-written w io (File file at) bytes well = well
 well-written w io (Request r at) bytes well = well
 well-written w io (Ctx name cap) bytes well = well
 
-pub well-change : (w : World) (io : Channels) (three : Three) (job : ℕ) (v : World) (after : Channels) → IsPlainChange w io three job v after → is_live w three.memory ≡ true → IsWell w io → IsWell v after
-well-change w io three job v after Nothing live well = well
-well-change w io three job v after (SlotPut n value within known) live well = well-slot w io three.slots n value known.in_range known.named well
-well-change w io three job v after (UidPut uid) live well = record {
-  sound = sound-put_uid w three.cred uid well.sound;
-  named = contexts-put_uid w three.cred uid well.named;
-  files = files-put_uid io w three.cred uid well.files;
+pub well-change : (w : World) (io : Channels) (targets : CallContexts) (job : ℕ) (v : World) (after : Channels) → IsPlainChange w io targets job v after → is_live w targets.memory ≡ true → IsWell w io → IsWell v after
+well-change w io targets job v after Nothing live well = well
+well-change w io targets job v after (SlotPut n value within known) live well = well-slot w io targets.slots n value known.in_range known.named well
+well-change w io targets job v after (UidPut uid) live well = record {
+  sound = sound-put_uid w targets.cred uid well.sound;
+  named = contexts-put_uid w targets.cred uid well.named;
+  files = files-put_uid io w targets.cred uid well.files;
 }
-well-change w io three job v after (Mapped from to present few) live well = well-mapped w io three.memory from to present few well
-well-change w io three job v after (Read u piece n value short is within known) live well =
-    well-slot u io three.slots n value known.in_range (λ d of. named-store w u three.memory job piece d is (known.named d of)) (well-store w u io three.memory job piece live is well)
-well-change w io three job v after (Written value bytes) live well = well-written w io value bytes well
+well-change w io targets job v after (Mapped from to present few) live well = well-mapped w io targets.memory from to present few well
+well-change w io targets job v after (Read u piece n value short is within known) live well =
+    well-slot u io targets.slots n value known.in_range (λ d of. named-store w u targets.memory job piece d is (known.named d of)) (well-store w u io targets.memory job piece live is well)
+well-change w io targets job v after (Written value bytes) live well = well-written w io value bytes well
 
 -- names that are kept keep numbers
 numbers-names : (w v : World) → KeepsNames w v → KeepsNumbers w v
@@ -127,23 +127,23 @@ numbers-takes w u v job count takes few names = record {
   tags_counted = λ j. let same : (v.next j).tags ≡ (with_tags w.next job count j).tags = ap (λ (n : ℕ → Counters). (n j).tags) (names.next ∙ takes.next) in let tags = (with-tags w.next job count j).1.1 in (omega arith, omega arith);
 }
 
-pub numbers-change : (w : World) (io : Channels) (three : Three) (job : ℕ) (v : World) (after : Channels) → IsPlainChange w io three job v after → KeepsNumbers w v
-numbers-change w io three job v after Nothing = numbers-names w w (names-itself w)
-numbers-change w io three job v after (SlotPut n value within known) = numbers-names w _ (changes.put w three.slots (Slot n) value)
-numbers-change w io three job v after (UidPut uid) = numbers-names w _ (changes.put w three.cred Cred uid)
-numbers-change w io three job v after (Mapped from to present few) = numbers-names w _ (names-mapped w three.memory from to present)
-numbers-change w io three job v after (Read u piece n value short is within known) =
-    numbers-takes w u _ job (parting_count w three.memory piece) (takes-store w u three.memory job piece is) (few_parting w three.memory piece short) (changes.put u three.slots (Slot n) value)
-numbers-change w io three job v after (Written value bytes) = numbers-names w w (names-itself w)
+pub numbers-change : (w : World) (io : Channels) (targets : CallContexts) (job : ℕ) (v : World) (after : Channels) → IsPlainChange w io targets job v after → KeepsNumbers w v
+numbers-change w io targets job v after Nothing = numbers-names w w (names-itself w)
+numbers-change w io targets job v after (SlotPut n value within known) = numbers-names w _ (changes.put w targets.slots (Slot n) value)
+numbers-change w io targets job v after (UidPut uid) = numbers-names w _ (changes.put w targets.cred Cred uid)
+numbers-change w io targets job v after (Mapped from to present few) = numbers-names w _ (names-mapped w targets.memory from to present)
+numbers-change w io targets job v after (Read u piece n value short is within known) =
+    numbers-takes w u _ job (parting_count w targets.memory piece) (takes-store w u targets.memory job piece is) (few_parting w targets.memory piece short) (changes.put u targets.slots (Slot n) value)
+numbers-change w io targets job v after (Written value bytes) = numbers-names w w (names-itself w)
 
 -- no call changes files or requests
 inputs-written : (io : Channels) (value : Descriptor) (bytes : List ℕ) → ((written io value bytes).files ≡ io.files) × ((written io value bytes).requests ≡ io.requests)
 inputs-written io value bytes = grind arith
 
-pub inputs-change : (w : World) (io : Channels) (three : Three) (job : ℕ) (v : World) (after : Channels) → IsPlainChange w io three job v after → (after.files ≡ io.files) × (after.requests ≡ io.requests)
-inputs-change w io three job v after (Written value bytes) = inputs-written io value bytes
-inputs-change w io three job v after Nothing = (refl, refl)
-inputs-change w io three job v after (SlotPut n value within known) = (refl, refl)
-inputs-change w io three job v after (UidPut uid) = (refl, refl)
-inputs-change w io three job v after (Mapped from to present few) = (refl, refl)
-inputs-change w io three job v after (Read u piece n value short is within known) = (refl, refl)
+pub inputs-change : (w : World) (io : Channels) (targets : CallContexts) (job : ℕ) (v : World) (after : Channels) → IsPlainChange w io targets job v after → (after.files ≡ io.files) × (after.requests ≡ io.requests)
+inputs-change w io targets job v after (Written value bytes) = inputs-written io value bytes
+inputs-change w io targets job v after Nothing = (refl, refl)
+inputs-change w io targets job v after (SlotPut n value within known) = (refl, refl)
+inputs-change w io targets job v after (UidPut uid) = (refl, refl)
+inputs-change w io targets job v after (Mapped from to present few) = (refl, refl)
+inputs-change w io targets job v after (Read u piece n value short is within known) = (refl, refl)

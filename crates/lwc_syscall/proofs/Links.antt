@@ -22,9 +22,9 @@ use Rattle.lwc_base.specs.declared.regs.Regs.{Regs}
 use Rattle.lwc_syscall.proofs.Does.{ended-cases, stored-cases}
 use Rattle.lwc_syscall.specs.Changes.{CutsNone, LosesNone, Put, Same, StoredPut, cuts_none, leaves_world}
 use Rattle.lwc_syscall.specs.Plain.{Outcome, answering, becoming, closing, copy_refusals, copying, ended, is_absent, is_read_only, is_full, left, mapping, moved, open_refusals, opening, placed, plain, read_on, read_refusals, reading, store_at, world_after, write_refusals, writing, written}
-use Rattle.lwc_syscall.specs.Syscall.{inner_args, inner_call, lw_syscall, refusals, three_of}
+use Rattle.lwc_syscall.specs.Syscall.{inner_args, inner_call, lw_syscall, refusals, targets_of}
 use Rattle.lwc_syscall.specs.declared.answer.CallAnswer.TheVariants.{Exit, Refused}
-use Rattle.lwc_syscall.specs.declared.calls.Three.{Three}
+use Rattle.lwc_syscall.specs.declared.calls.CallContexts.{CallContexts}
 use Rattle.lwc_base.proofs.Slots.{lowest_is_empty_slot, slot_at-after_store}
 
 -- an outcome by a number that is one of three, in the order of the calls
@@ -63,82 +63,82 @@ done-leaves : (w v : World) (c : Name) (job : ℕ) (piece : Piece) (d : Name) (n
 unfolding store
 done-leaves w v c job piece d n is = let done : v ≡ after_store w c job piece = grind arith in ap (λ u. slot_at u d n) done ∙ slot_at-after_store w c job piece d n
 
-module _ (w : World) (io : Channels) (three : Three) (job : ℕ) where
-  lowest-of-none : (lowest : Option ℕ) → lowest_empty w three.slots ≡ lowest → is_none lowest ≡ false → (d : Name) → is_of d (slot_at w three.slots (unwrap_or lowest 0)) ≡ false
+module _ (w : World) (io : Channels) (targets : CallContexts) (job : ℕ) where
+  lowest-of-none : (lowest : Option ℕ) → lowest_empty w targets.slots ≡ lowest → is_none lowest ≡ false → (d : Name) → is_of d (slot_at w targets.slots (unwrap_or lowest 0)) ≡ false
   lowest-of-none None is some d = cc
-  lowest-of-none (Some n) is some d = empty-of-none d _ (lowest_is_empty_slot w three.slots n is).1
+  lowest-of-none (Some n) is some d = empty-of-none d _ (lowest_is_empty_slot w targets.slots n is).1
 
-  placed-cuts : (value : Descriptor) (rows : List (Bool × Refusal)) → (first_refusal rows ≡ None → is_none (lowest_empty w three.slots) ≡ false) →
-      CutsNone w three job (ended w io rows (placed w io three.slots value)).world
+  placed-cuts : (value : Descriptor) (rows : List (Bool × Refusal)) → (first_refusal rows ≡ None → is_none (lowest_empty w targets.slots) ≡ false) →
+      CutsNone w targets job (ended w io rows (placed w io targets.slots value)).world
   placed-cuts value rows some =
-      ended-cases (λ o. CutsNone w three job o.world) w io rows (placed w io three.slots value) (λ _. Same)
-      (λ passed. Put (unwrap_or (lowest_empty w three.slots) 0) value (loses-none _ _ (lowest-of-none (lowest_empty w three.slots) refl (some passed))))
+      ended-cases (λ o. CutsNone w targets job o.world) w io rows (placed w io targets.slots value) (λ _. Same)
+      (λ passed. Put (unwrap_or (lowest_empty w targets.slots) 0) value (loses-none _ _ (lowest-of-none (lowest_empty w targets.slots) refl (some passed))))
 
   done-cuts : (stored : Stored) (piece : Piece) (n : ℕ) (value : Descriptor) → is_absent stored ≡ false → is_read_only stored ≡ false → is_full stored ≡ false →
-      (stored ≡ stores.Done w) ⊎ ((stored ≡ stores.Absent) ⊎ (stored ≡ store w three.memory job piece)) → ((d : Name) → is_of d (slot_at w three.slots n) ≡ false) →
-      CutsNone w three job (put_slot (world_after w stored) three.slots n value)
+      (stored ≡ stores.Done w) ⊎ ((stored ≡ stores.Absent) ⊎ (stored ≡ store w targets.memory job piece)) → ((d : Name) → is_of d (slot_at w targets.slots n) ≡ false) →
+      CutsNone w targets job (put_slot (world_after w stored) targets.slots n value)
   done-cuts stores.Absent piece n value there writable room by none = absurd (grind arith)
   done-cuts stores.ReadOnly piece n value there writable room by none = absurd (grind arith)
   done-cuts stores.Full piece n value there writable room by none = absurd (grind arith)
   done-cuts (stores.Done v) piece n value there writable room (inl same) none =
-      let is : w ≡ v = grind arith in subst (λ (u : World). CutsNone w three job (put_slot u three.slots n value)) is (Put n value (loses-none _ _ none))
+      let is : w ≡ v = grind arith in subst (λ (u : World). CutsNone w targets job (put_slot u targets.slots n value)) is (Put n value (loses-none _ _ none))
   done-cuts (stores.Done v) piece n value there writable room (inr (inl same)) none = absurd (grind arith)
   done-cuts (stores.Done v) piece n value there writable room (inr (inr is)) none =
-      StoredPut v piece n value (sym is) (loses-none _ _ (λ d. ap (is_of d) (done-leaves w v three.memory job piece three.slots n (sym is)) ∙ none d))
+      StoredPut v piece n value (sym is) (loses-none _ _ (λ d. ap (is_of d) (done-leaves w v targets.memory job piece targets.slots n (sym is)) ∙ none d))
 
   -- what is found under a number is of no context where the slot is of none
-  found-of-none : (n : ℕ) (d : Name) → is_empty (descriptor_for w three.slots n) ≡ false → is_of d (descriptor_for w three.slots n) ≡ false → is_of d (slot_at w three.slots n) ≡ false
+  found-of-none : (n : ℕ) (d : Name) → is_empty (descriptor_for w targets.slots n) ≡ false → is_of d (descriptor_for w targets.slots n) ≡ false → is_of d (slot_at w targets.slots n) ≡ false
   unfolding descriptor_for
   found-of-none n d filled is = grind (arith, nat_tests)
 
-  reading-cuts : (n at count : ℕ) → CutsNone w three job (reading w io three job n at count).world
+  reading-cuts : (n at count : ℕ) → CutsNone w targets job (reading w io targets job n at count).world
   unfolding reading
   reading-cuts n at count =
-      let value = descriptor_for w three.slots n in
+      let value = descriptor_for w targets.slots n in
       let bytes = moved io value count in
-      let stored = store_at w three.memory job at bytes in
-      ended-cases (λ o. CutsNone w three job o.world) w io (read_refusals io value count stored)
-      (answering (length bytes) (put_slot (world_after w stored) three.slots n (read_on (length bytes) value)) io) (λ _. Same)
-      (λ passed. done-cuts stored (record { at = at; bytes = bytes }) n (read_on (length bytes) value) (grind arith) (grind arith) (grind arith) (stored-cases w three.memory job at bytes)
+      let stored = store_at w targets.memory job at bytes in
+      ended-cases (λ o. CutsNone w targets job o.world) w io (read_refusals io value count stored)
+      (answering (length bytes) (put_slot (world_after w stored) targets.slots n (read_on (length bytes) value)) io) (λ _. Same)
+      (λ passed. done-cuts stored (record { at = at; bytes = bytes }) n (read_on (length bytes) value) (grind arith) (grind arith) (grind arith) (stored-cases w targets.memory job at bytes)
       (λ d. found-of-none n d (grind arith) (read-of-none io d value (grind arith))))
 
-  writing-leaves : (n at count : ℕ) → (writing w io three n at count).world ≡ w
+  writing-leaves : (n at count : ℕ) → (writing w io targets n at count).world ≡ w
   unfolding writing
   writing-leaves n at count =
-      let value = descriptor_for w three.slots n in
-      let bytes = bytes_for w three.memory at count in
+      let value = descriptor_for w targets.slots n in
+      let bytes = bytes_for w targets.memory at count in
       ended-cases (λ o. o.world ≡ w) w io (write_refusals io value count bytes) (answering count w (written io value (unwrap_or bytes []))) (λ _. refl) (λ _. refl)
 
-  pub plain-cuts : (call : ℕ) (args : List ℕ) → cuts_none call ≡ true → CutsNone w three job (plain w io three job call args).world
+  pub plain-cuts : (call : ℕ) (args : List ℕ) → cuts_none call ≡ true → CutsNone w targets job (plain w io targets job call args).world
   unfolding plain
   plain-cuts call args is =
       let arg = λ (i : ℕ). slice_index args i in
-      one_of_cutting (λ o. CutsNone w three job o.world) call (opening w io three (arg 0)) (closing w io three.slots (arg 0)) (copying w io three.slots (arg 0))
-      (reading w io three job (arg 0) (arg 1) (arg 2)) (writing w io three (arg 0) (arg 1) (arg 2)) (mapping w io three.memory (arg 0) (arg 1) true)
-      (mapping w io three.memory (arg 0) (arg 1) false) (answering (uid_at w three.cred) w io) (becoming w io three.cred (arg 0))
+      one_of_cutting (λ o. CutsNone w targets job o.world) call (opening w io targets (arg 0)) (closing w io targets.slots (arg 0)) (copying w io targets.slots (arg 0))
+      (reading w io targets job (arg 0) (arg 1) (arg 2)) (writing w io targets (arg 0) (arg 1) (arg 2)) (mapping w io targets.memory (arg 0) (arg 1) true)
+      (mapping w io targets.memory (arg 0) (arg 1) false) (answering (uid_at w targets.cred) w io) (becoming w io targets.cred (arg 0))
       (record { answer = Exit (arg 0); world = w; io = io }) (record { answer = Refused BadCall; world = w; io = io }) is
-      (placed-cuts (File (arg 0) 0) (open_refusals w io three (arg 0)) (λ passed. grind arith))
-      (placed-cuts (descriptor_for w three.slots (arg 0)) (copy_refusals w three.slots (arg 0)) (λ passed. grind arith)) (reading-cuts (arg 0) (arg 1) (arg 2))
+      (placed-cuts (File (arg 0) 0) (open_refusals w io targets (arg 0)) (λ passed. grind arith))
+      (placed-cuts (descriptor_for w targets.slots (arg 0)) (copy_refusals w targets.slots (arg 0)) (λ passed. grind arith)) (reading-cuts (arg 0) (arg 1) (arg 2))
 
-  pub plain-leaves : (call : ℕ) (args : List ℕ) → leaves_world call ≡ true → (plain w io three job call args).world ≡ w
+  pub plain-leaves : (call : ℕ) (args : List ℕ) → leaves_world call ≡ true → (plain w io targets job call args).world ≡ w
   unfolding plain
   plain-leaves call args is =
       let arg = λ (i : ℕ). slice_index args i in
-      one_of_leaving (λ o. o.world ≡ w) call (opening w io three (arg 0)) (closing w io three.slots (arg 0)) (copying w io three.slots (arg 0))
-      (reading w io three job (arg 0) (arg 1) (arg 2)) (writing w io three (arg 0) (arg 1) (arg 2)) (mapping w io three.memory (arg 0) (arg 1) true)
-      (mapping w io three.memory (arg 0) (arg 1) false) (answering (uid_at w three.cred) w io) (becoming w io three.cred (arg 0))
+      one_of_leaving (λ o. o.world ≡ w) call (opening w io targets (arg 0)) (closing w io targets.slots (arg 0)) (copying w io targets.slots (arg 0))
+      (reading w io targets job (arg 0) (arg 1) (arg 2)) (writing w io targets (arg 0) (arg 1) (arg 2)) (mapping w io targets.memory (arg 0) (arg 1) true)
+      (mapping w io targets.memory (arg 0) (arg 1) false) (answering (uid_at w targets.cred) w io) (becoming w io targets.cred (arg 0))
       (record { answer = Exit (arg 0); world = w; io = io }) (record { answer = Refused BadCall; world = w; io = io }) is
       (writing-leaves (arg 0) (arg 1) (arg 2)) refl refl
 
 -- and so over the contexts that a mask chooses
-pub syscall-cuts : (w : World) (io : Channels) (c : Name) (job : ℕ) (regs : Regs) → cuts_none (inner_call regs) ≡ true → CutsNone w (three_of w c regs) job (lw_syscall w io c job regs).world
+pub syscall-cuts : (w : World) (io : Channels) (c : Name) (job : ℕ) (regs : Regs) → cuts_none (inner_call regs) ≡ true → CutsNone w (targets_of w c regs) job (lw_syscall w io c job regs).world
 unfolding lw_syscall
 syscall-cuts w io c job regs is =
-    ended-cases (λ o. CutsNone w (three_of w c regs) job o.world) w io (refusals w c regs) (plain w io (three_of w c regs) job (inner_call regs) (inner_args regs)) (λ _. Same)
-    (λ _. plain-cuts w io (three_of w c regs) job (inner_call regs) (inner_args regs) is)
+    ended-cases (λ o. CutsNone w (targets_of w c regs) job o.world) w io (refusals w c regs) (plain w io (targets_of w c regs) job (inner_call regs) (inner_args regs)) (λ _. Same)
+    (λ _. plain-cuts w io (targets_of w c regs) job (inner_call regs) (inner_args regs) is)
 
 pub syscall-leaves : (w : World) (io : Channels) (c : Name) (job : ℕ) (regs : Regs) → leaves_world (inner_call regs) ≡ true → (lw_syscall w io c job regs).world ≡ w
 unfolding lw_syscall
 syscall-leaves w io c job regs is =
-    ended-cases (λ o. o.world ≡ w) w io (refusals w c regs) (plain w io (three_of w c regs) job (inner_call regs) (inner_args regs)) (λ _. refl)
-    (λ _. plain-leaves w io (three_of w c regs) job (inner_call regs) (inner_args regs) is)
+    ended-cases (λ o. o.world ≡ w) w io (refusals w c regs) (plain w io (targets_of w c regs) job (inner_call regs) (inner_args regs)) (λ _. refl)
+    (λ _. plain-leaves w io (targets_of w c regs) job (inner_call regs) (inner_args regs) is)

@@ -31,9 +31,9 @@ use Rattle.lwc_base.specs.declared.right.Right.TheVariants.{Write}
 use Rattle.lwc_syscall.proofs.Does.{ended-cases, stored-cases}
 use Rattle.lwc_syscall.specs.Changes.{ChangesOnly, has_page, holder, may_change, read_pages}
 use Rattle.lwc_syscall.specs.Plain.{Outcome, answering, becoming, close_refusals, closing, copy_refusals, copying, ended, is_absent, is_read_only, is_full, map_refusals, mapping, moved, open_refusals, opening, placed, plain, read_on, read_refusals, reading, store_at, uid_refusals, world_after, write_refusals, writing, written}
-use Rattle.lwc_syscall.specs.Syscall.{inner_args, inner_call, lw_syscall, refusals, three_of}
+use Rattle.lwc_syscall.specs.Syscall.{inner_args, inner_call, lw_syscall, refusals, targets_of}
 use Rattle.lwc_syscall.specs.declared.answer.CallAnswer.TheVariants.{Exit, Refused}
-use Rattle.lwc_syscall.specs.declared.calls.Three.{Three}
+use Rattle.lwc_syscall.specs.declared.calls.CallContexts.{CallContexts}
 use Rattle.guest_call.proofs.Changes.{putting}
 use Rattle.lwc_base.proofs.Common.{apart-put_at}
 use Rattle.lwc_base.proofs.Facts.{changes}
@@ -51,24 +51,24 @@ abbrev KeepsApart : World → World → Type 0
 KeepsApart w v = (a b : Name) (k : Key) → AreApart w a b k → AreApart v a b k
 
 -- a change of some keys that keeps what is apart
-record Leaves (w v : World) (three : Three) (keys : Key → Bool) : Type 0 where
-  only : ChangesOnly w v three keys
+record Leaves (w v : World) (targets : CallContexts) (keys : Key → Bool) : Type 0 where
+  only : ChangesOnly w v targets keys
   apart : KeepsApart w v
 
 -- each page of some values is one of the keys
 abbrev PagesIn : (Key → Bool) → List ℕ → Type 0
 PagesIn keys pages = (p : ℕ) → has_page pages p ≡ true → keys (Page p) ≡ true
 
-module _ (w : World) (three : Three) (keys : Key → Bool) where
-  same : Leaves w w three keys
+module _ (w : World) (targets : CallContexts) (keys : Key → Bool) where
+  same : Leaves w w targets keys
   same = record { only = record { values = λ e k out. refl; cells = λ e k out. refl; rights = λ e p out. refl; entries = λ e. refl; saved = λ e t. refl }; apart = λ a b k is. is }
 
   -- one more put under one of the keys
-  put_on : (v : World) (q : Key) (value : ValueOf q) → keys q ≡ true → Leaves w v three keys → Leaves w (put_at v (holder three q) q value) three keys
+  put_on : (v : World) (q : Key) (value : ValueOf q) → keys q ≡ true → Leaves w v targets keys → Leaves w (put_at v (holder targets q) q value) targets keys
   put_on v q value is left =
-      let put = putting v (holder three q) q value in
-      let out : (e : Name) (k : Key) → (keys k ≡ true → AreApart w (holder three k) e k) → IsUntouched v (holder three q) q e k =
-      λ e k out same. left.apart (holder three q) e k (subst (λ r. AreApart w (holder three r) e k) same (out (subst (λ r. keys r ≡ true) (sym same) is))) in
+      let put = putting v (holder targets q) q value in
+      let out : (e : Name) (k : Key) → (keys k ≡ true → AreApart w (holder targets k) e k) → IsUntouched v (holder targets q) q e k =
+      λ e k out same. left.apart (holder targets q) e k (subst (λ r. AreApart w (holder targets r) e k) same (out (subst (λ r. keys r ≡ true) (sym same) is))) in
       record {
         only = record {
           values = λ e k untouched. put.values e k (out e k untouched) ∙ left.only.values e k untouched;
@@ -77,36 +77,36 @@ module _ (w : World) (three : Three) (keys : Key → Bool) where
           entries = λ e. put.entries e ∙ left.only.entries e;
           saved = λ e t. put.saved e t ∙ left.only.saved e t;
         };
-        apart = λ a b k is. apart-put_at v (holder three q) q value a b k (left.apart a b k is);
+        apart = λ a b k is. apart-put_at v (holder targets q) q value a b k (left.apart a b k is);
       }
 
   -- pages of the memory's context that get new values
-  pages_on : (v : World) (values : List (ℕ × PageValue)) → PagesIn keys (map (λ x. x.0) values) → Leaves w v three keys → Leaves w (put_pages v three.memory values) three keys
+  pages_on : (v : World) (values : List (ℕ × PageValue)) → PagesIn keys (map (λ x. x.0) values) → Leaves w v targets keys → Leaves w (put_pages v targets.memory values) targets keys
   pages_on v [] named left = left
   pages_on v (x ∷ xs) named left =
-      pages_on (put_page v three.memory x.0 x.1) xs (λ p is. named p (grind arith)) (put_on v (Page x.0) (Some x.1) (named x.0 (grind (arith, nat_tests))) left)
+      pages_on (put_page v targets.memory x.0 x.1) xs (λ p is. named p (grind arith)) (put_on v (Page x.0) (Some x.1) (named x.0 (grind (arith, nat_tests))) left)
 
   -- the pages that are stored are those that are touched
   put_so_far : (c : Name) (job : ℕ) (piece : Piece) (ps : List ℕ) (k : ℕ) → map (λ x. x.0) (stored_pages w c job piece k ps) ≡ ps
   put_so_far c job piece [] k = refl
   put_so_far c job piece (p ∷ ps) k = ap (λ qs. p ∷ qs) (put_so_far c job piece ps (if is_parting w (page_value_at w c p) then k + 1 else k))
 
-  counters_on : (v : World) (job : ℕ) (f : Counters → Counters) → Leaves w v three keys → Leaves w (change_counters v job f) three keys
+  counters_on : (v : World) (job : ℕ) (f : Counters → Counters) → Leaves w v targets keys → Leaves w (change_counters v job f) targets keys
   unfolding change_counters value_at context group
   counters_on v job f left = record {
     only = record { values = left.only.values; cells = left.only.cells; rights = left.only.rights; entries = left.only.entries; saved = left.only.saved };
     apart = λ a b k is. let was = left.apart a b k is in record { differ = was.differ; no_group = was.no_group };
   }
 
-  store_on : (job : ℕ) (piece : Piece) → PagesIn keys (touched piece.at (length piece.bytes)) → (v : World) → store w three.memory job piece ≡ stores.Done v → Leaves w v three keys
+  store_on : (job : ℕ) (piece : Piece) → PagesIn keys (touched piece.at (length piece.bytes)) → (v : World) → store w targets.memory job piece ≡ stores.Done v → Leaves w v targets keys
   unfolding store after_store
   store_on job piece named v is =
       let pages = touched piece.at (length piece.bytes) in
-      let put = stored_pages w three.memory job piece (w.next job).tags pages in
-      let left = pages_on w put (subst (PagesIn keys) (sym (put_so_far three.memory job piece pages (w.next job).tags)) named) same in
-      let f = λ (n : Counters). record n { tags = n.tags + parting_count w three.memory piece } in
-      let done : v ≡ change_counters (put_pages w three.memory put) job f = grind arith in
-      subst (λ u. Leaves w u three keys) (sym done) (counters_on (put_pages w three.memory put) job f left)
+      let put = stored_pages w targets.memory job piece (w.next job).tags pages in
+      let left = pages_on w put (subst (PagesIn keys) (sym (put_so_far targets.memory job piece pages (w.next job).tags)) named) same in
+      let f = λ (n : Counters). record n { tags = n.tags + parting_count w targets.memory piece } in
+      let done : v ≡ change_counters (put_pages w targets.memory put) job f = grind arith in
+      subst (λ u. Leaves w u targets keys) (sym done) (counters_on (put_pages w targets.memory put) job f left)
 
   -- a context in which cells of pages of a range have changed
   record TurnsPages (from to : ℕ) (change : Context → Context) : Type 0 where
@@ -139,103 +139,103 @@ module _ (w : World) (three : Three) (keys : Key → Bool) where
     saved = λ x t. refl;
   }
 
-  module _ (from to : ℕ) (change : Context → Context) (v : World) (turns : TurnsPages from to change) (changed : ChangesContext w three.memory change v)
+  module _ (from to : ℕ) (change : Context → Context) (v : World) (turns : TurnsPages from to change) (changed : ChangesContext w targets.memory change v)
       (within : (p : ℕ) → nat_le from p && nat_lt p to ≡ true → keys (Page p) ≡ true) where
     -- what the change leaves of a context, it leaves of each
-    each : {X : Type 0} (part : Context → X) (e : Name) → (e ≡ three.memory → (x : Context) → part (change x) ≡ part x) → part (context v e) ≡ part (context w e)
+    each : {X : Type 0} (part : Context → X) (e : Name) → (e ≡ targets.memory → (x : Context) → part (change x) ≡ part x) → part (context v e) ≡ part (context w e)
     each part e left =
-        cases_name e three.memory
-        (λ is. elim (is_live w three.memory) as (λ b. is_live w three.memory ≡ b → part (context v e) ≡ part (context w e)) [
-          | true ↦ λ live. let h = changed.changed live in let l = left is (context w three.memory) in grind arith
+        cases_name e targets.memory
+        (λ is. elim (is_live w targets.memory) as (λ b. is_live w targets.memory ≡ b → part (context v e) ≡ part (context w e)) [
+          | true ↦ λ live. let h = changed.changed live in let l = left is (context w targets.memory) in grind arith
           | false ↦ λ dead. let h = changed.same dead in grind arith
         ] refl)
         (λ other. ap part (changed.others e other))
 
     -- a key that is left in the memory's context is no page of the range
-    outside : (e : Name) (k : Key) → (keys k ≡ true → AreApart w (holder three k) e k) → e ≡ three.memory → (p : ℕ) → k ≡ Page p → (nat_le from p && nat_lt p to) ≡ false
+    outside : (e : Name) (k : Key) → (keys k ≡ true → AreApart w (holder targets k) e k) → e ≡ targets.memory → (p : ℕ) → k ≡ Page p → (nat_le from p && nat_lt p to) ≡ false
     outside e k out is p at =
         elim (nat_le from p && nat_lt p to) as (λ b. (nat_le from p && nat_lt p to) ≡ b → b ≡ false) [
           | false ↦ λ none. refl
           | true ↦ λ some.
               let apart = out (subst (λ r. keys r ≡ true) (sym at) (within p some)) in
-              absurd ((subst (λ r. AreApart w (holder three r) e r) at apart).differ (sym is))
+              absurd ((subst (λ r. AreApart w (holder targets r) e r) at apart).differ (sym is))
         ] refl
 
-    cells_on : (e : Name) (k : Key) → (keys k ≡ true → AreApart w (holder three k) e k) → (context v e).cell k ≡ (context w e).cell k
+    cells_on : (e : Name) (k : Key) → (keys k ≡ true → AreApart w (holder targets k) e k) → (context v e).cell k ≡ (context w e).cell k
     cells_on e k out = each (λ x. x.cell k) e (λ is x. turns.cell x k (outside e k out is))
 
-    values_on : (e : Name) (k : Key) → (keys k ≡ true → AreApart w (holder three k) e k) → value_at v e k ≡ value_at w e k
+    values_on : (e : Name) (k : Key) → (keys k ≡ true → AreApart w (holder targets k) e k) → value_at v e k ≡ value_at w e k
     unfolding value_at
     values_on e k out = let c = cells_on e k out in elim ((context w e).cell k) as (λ cell. (context w e).cell k ≡ cell → value_of v k ((context v e).cell k) ≡ value_of w k ((context w e).cell k)) [
       | Own value ↦ λ is. grind arith
       | Common g ↦ λ is. let h = changed.groups g in grind arith
     ] refl
 
-    unnamed : (e : Name) (p : ℕ) → (keys (Page p) ≡ true → e ≢ three.memory) → e ≡ three.memory → (nat_le from p && nat_lt p to) ≡ false
+    unnamed : (e : Name) (p : ℕ) → (keys (Page p) ≡ true → e ≢ targets.memory) → e ≡ targets.memory → (nat_le from p && nat_lt p to) ≡ false
     unnamed e p out is =
         elim (nat_le from p && nat_lt p to) as (λ b. (nat_le from p && nat_lt p to) ≡ b → b ≡ false) [
           | false ↦ λ none. refl
           | true ↦ λ some. absurd (out (within p some) is)
         ] refl
 
-    mapped_on : ChangesOnly w v three keys
+    mapped_on : ChangesOnly w v targets keys
     mapped_on = record { values = values_on; cells = cells_on; rights = λ e p out. each (λ x. x.right p) e (λ is x. turns.right x p (unnamed e p out is)); entries = λ e. each (λ x. x.entry) e (λ is. turns.entry); saved = λ e t. each (λ x. x.saved t) e (λ is x. turns.saved x t) }
 
-module _ (w : World) (io : Channels) (three : Three) (job : ℕ) (call : ℕ) (args : List ℕ) where
+module _ (w : World) (io : Channels) (targets : CallContexts) (job : ℕ) (call : ℕ) (args : List ℕ) where
   abbrev keys : Key → Bool
-  keys = may_change w io three call args
+  keys = may_change w io targets call args
 
   abbrev arg : ℕ → ℕ
   arg = slice_index args
 
   abbrev Only : Outcome → Type 0
-  Only o = ChangesOnly w o.world three keys
+  Only o = ChangesOnly w o.world targets keys
 
-  none : ChangesOnly w w three keys
-  none = (same w three keys).only
+  none : ChangesOnly w w targets keys
+  none = (same w targets keys).only
 
-  slot_on : (n : ℕ) (value : Descriptor) → keys (Slot n) ≡ true → ChangesOnly w (put_slot w three.slots n value) three keys
-  slot_on n value is = (put_on w three keys w (Slot n) value is (same w three keys)).only
+  slot_on : (n : ℕ) (value : Descriptor) → keys (Slot n) ≡ true → ChangesOnly w (put_slot w targets.slots n value) targets keys
+  slot_on n value is = (put_on w targets keys w (Slot n) value is (same w targets keys)).only
 
-  closing_only : call ≡ 2 → Only (closing w io three.slots (arg 0))
+  closing_only : call ≡ 2 → Only (closing w io targets.slots (arg 0))
   unfolding may_change
   closing_only is =
-      ended-cases Only w io (close_refusals w three.slots (arg 0)) (answering 0 (put_slot w three.slots (arg 0) Empty) io) (λ _. none)
+      ended-cases Only w io (close_refusals w targets.slots (arg 0)) (answering 0 (put_slot w targets.slots (arg 0) Empty) io) (λ _. none)
       (λ passed. slot_on (arg 0) Empty (grind (arith, nat_tests)))
 
-  placed_only : (value : Descriptor) (rows : List (Bool × Refusal)) → (call ≡ 1) ⊎ (call ≡ 3) → (first_refusal rows ≡ None → is_none (lowest_empty w three.slots) ≡ false) →
-      Only (ended w io rows (placed w io three.slots value))
+  placed_only : (value : Descriptor) (rows : List (Bool × Refusal)) → (call ≡ 1) ⊎ (call ≡ 3) → (first_refusal rows ≡ None → is_none (lowest_empty w targets.slots) ≡ false) →
+      Only (ended w io rows (placed w io targets.slots value))
   unfolding may_change
   placed_only value rows is some =
-      ended-cases Only w io rows (placed w io three.slots value) (λ _. none)
-      (λ passed. let there = some passed in slot_on (unwrap_or (lowest_empty w three.slots) 0) value (grind (arith, nat_tests)))
+      ended-cases Only w io rows (placed w io targets.slots value) (λ _. none)
+      (λ passed. let there = some passed in slot_on (unwrap_or (lowest_empty w targets.slots) 0) value (grind (arith, nat_tests)))
 
-  uid_only : (uid : ℕ) → call ≡ 9 → Only (becoming w io three.cred uid)
+  uid_only : (uid : ℕ) → call ≡ 9 → Only (becoming w io targets.cred uid)
   unfolding may_change
   uid_only uid is =
-      ended-cases Only w io (uid_refusals w three.cred uid) (answering 0 (put_uid w three.cred uid) io) (λ _. none)
-      (λ passed. (put_on w three keys w Cred uid (grind (arith, nat_tests)) (same w three keys)).only)
+      ended-cases Only w io (uid_refusals w targets.cred uid) (answering 0 (put_uid w targets.cred uid) io) (λ _. none)
+      (λ passed. (put_on w targets keys w Cred uid (grind (arith, nat_tests)) (same w targets keys)).only)
 
   range_in : (call ≡ 6) ⊎ (call ≡ 7) → (p : ℕ) → (nat_le (arg 0) p && nat_lt p (arg 1)) ≡ true → keys (Page p) ≡ true
   unfolding may_change
   range_in is p within = grind (arith, nat_tests)
 
-  mapping_only : (present : Bool) → (call ≡ 6) ⊎ (call ≡ 7) → Only (mapping w io three.memory (arg 0) (arg 1) present)
+  mapping_only : (present : Bool) → (call ≡ 6) ⊎ (call ≡ 7) → Only (mapping w io targets.memory (arg 0) (arg 1) present)
   mapping_only present is =
-      ended-cases Only w io (map_refusals w three.memory (arg 0) (arg 1) present) (answering 0 (mapped_or_not w three.memory (arg 0) (arg 1) present) io) (λ _. none)
-      (λ passed. elim present as (λ b. ChangesOnly w (mapped_or_not w three.memory (arg 0) (arg 1) b) three keys) [
-        | true ↦ mapped_on w three keys (arg 0) (arg 1) _ _ (zeros_turn w three keys (arg 0) (arg 1)) (changes.mapped w three.memory (arg 0) (arg 1)) (range_in is)
-        | false ↦ mapped_on w three keys (arg 0) (arg 1) _ _ (absent_turn w three keys (arg 0) (arg 1)) (changes.unmapped w three.memory (arg 0) (arg 1)) (range_in is)
+      ended-cases Only w io (map_refusals w targets.memory (arg 0) (arg 1) present) (answering 0 (mapped_or_not w targets.memory (arg 0) (arg 1) present) io) (λ _. none)
+      (λ passed. elim present as (λ b. ChangesOnly w (mapped_or_not w targets.memory (arg 0) (arg 1) b) targets keys) [
+        | true ↦ mapped_on w targets keys (arg 0) (arg 1) _ _ (zeros_turn w targets keys (arg 0) (arg 1)) (changes.mapped w targets.memory (arg 0) (arg 1)) (range_in is)
+        | false ↦ mapped_on w targets keys (arg 0) (arg 1) _ _ (absent_turn w targets keys (arg 0) (arg 1)) (changes.unmapped w targets.memory (arg 0) (arg 1)) (range_in is)
       ])
 
-  writing_only : (n at count : ℕ) → Only (writing w io three n at count)
+  writing_only : (n at count : ℕ) → Only (writing w io targets n at count)
   unfolding writing
   writing_only n at count =
-      let value = descriptor_for w three.slots n in
-      let bytes = bytes_for w three.memory at count in
+      let value = descriptor_for w targets.slots n in
+      let bytes = bytes_for w targets.memory at count in
       ended-cases Only w io (write_refusals io value count bytes) (answering count w (written io value (unwrap_or bytes []))) (λ _. none) (λ _. none)
 
-  pages_in : call ≡ 4 → (p : ℕ) → has_page (read_pages w io three args) p ≡ true → keys (Page p) ≡ true
+  pages_in : call ≡ 4 → (p : ℕ) → has_page (read_pages w io targets args) p ≡ true → keys (Page p) ≡ true
   unfolding may_change
   pages_in is p within = grind (arith, nat_tests)
 
@@ -244,41 +244,41 @@ module _ (w : World) (io : Channels) (three : Three) (job : ℕ) (call : ℕ) (a
   slot_in is = grind (arith, nat_tests)
 
   done_only : (stored : Stored) (piece : Piece) (value : Descriptor) → is_absent stored ≡ false → is_read_only stored ≡ false → is_full stored ≡ false →
-      (stored ≡ stores.Done w) ⊎ ((stored ≡ stores.Absent) ⊎ (stored ≡ store w three.memory job piece)) → keys (Slot (arg 0)) ≡ true → PagesIn keys (touched piece.at (length piece.bytes)) →
-      ChangesOnly w (put_slot (world_after w stored) three.slots (arg 0) value) three keys
+      (stored ≡ stores.Done w) ⊎ ((stored ≡ stores.Absent) ⊎ (stored ≡ store w targets.memory job piece)) → keys (Slot (arg 0)) ≡ true → PagesIn keys (touched piece.at (length piece.bytes)) →
+      ChangesOnly w (put_slot (world_after w stored) targets.slots (arg 0) value) targets keys
   done_only stores.Absent piece value there writable room by slot pages = absurd (grind arith)
   done_only stores.ReadOnly piece value there writable room by slot pages = absurd (grind arith)
   done_only stores.Full piece value there writable room by slot pages = absurd (grind arith)
   done_only (stores.Done v) piece value there writable room (inl is) slot pages =
-      let one : w ≡ v = grind arith in subst (λ (u : World). ChangesOnly w (put_slot u three.slots (arg 0) value) three keys) one (slot_on (arg 0) value slot)
+      let one : w ≡ v = grind arith in subst (λ (u : World). ChangesOnly w (put_slot u targets.slots (arg 0) value) targets keys) one (slot_on (arg 0) value slot)
   done_only (stores.Done v) piece value there writable room (inr (inl is)) slot pages = absurd (grind arith)
   done_only (stores.Done v) piece value there writable room (inr (inr is)) slot pages =
-      (put_on w three keys v (Slot (arg 0)) value slot (store_on w three keys job piece pages v (sym is))).only
+      (put_on w targets keys v (Slot (arg 0)) value slot (store_on w targets keys job piece pages v (sym is))).only
 
-  reading_only : call ≡ 4 → Only (reading w io three job (arg 0) (arg 1) (arg 2))
+  reading_only : call ≡ 4 → Only (reading w io targets job (arg 0) (arg 1) (arg 2))
   unfolding reading
   reading_only is =
-      let value = descriptor_for w three.slots (arg 0) in
+      let value = descriptor_for w targets.slots (arg 0) in
       let bytes = moved io value (arg 2) in
-      let stored = store_at w three.memory job (arg 1) bytes in
+      let stored = store_at w targets.memory job (arg 1) bytes in
       ended-cases Only w io (read_refusals io value (arg 2) stored)
-      (answering (length bytes) (put_slot (world_after w stored) three.slots (arg 0) (read_on (length bytes) value)) io) (λ _. none)
-      (λ passed. done_only stored (record { at = arg 1; bytes = bytes }) (read_on (length bytes) value) (grind arith) (grind arith) (grind arith) (stored-cases w three.memory job (arg 1) bytes) (slot_in is) (pages_in is))
+      (answering (length bytes) (put_slot (world_after w stored) targets.slots (arg 0) (read_on (length bytes) value)) io) (λ _. none)
+      (λ passed. done_only stored (record { at = arg 1; bytes = bytes }) (read_on (length bytes) value) (grind arith) (grind arith) (grind arith) (stored-cases w targets.memory job (arg 1) bytes) (slot_in is) (pages_in is))
 
-  pub plain_only : Only (plain w io three job call args)
+  pub plain_only : Only (plain w io targets job call args)
   unfolding plain
   plain_only =
-      by_call Only call (opening w io three (arg 0)) (closing w io three.slots (arg 0)) (copying w io three.slots (arg 0)) (reading w io three job (arg 0) (arg 1) (arg 2))
-      (writing w io three (arg 0) (arg 1) (arg 2)) (mapping w io three.memory (arg 0) (arg 1) true) (mapping w io three.memory (arg 0) (arg 1) false)
-      (answering (uid_at w three.cred) w io) (becoming w io three.cred (arg 0)) (record { answer = Exit (arg 0); world = w; io = io }) (record { answer = Refused BadCall; world = w; io = io })
-      (λ is. placed_only (File (arg 0) 0) (open_refusals w io three (arg 0)) (inl is) (λ passed. grind arith)) closing_only
-      (λ is. placed_only (descriptor_for w three.slots (arg 0)) (copy_refusals w three.slots (arg 0)) (inr is) (λ passed. grind arith)) reading_only (writing_only (arg 0) (arg 1) (arg 2))
+      by_call Only call (opening w io targets (arg 0)) (closing w io targets.slots (arg 0)) (copying w io targets.slots (arg 0)) (reading w io targets job (arg 0) (arg 1) (arg 2))
+      (writing w io targets (arg 0) (arg 1) (arg 2)) (mapping w io targets.memory (arg 0) (arg 1) true) (mapping w io targets.memory (arg 0) (arg 1) false)
+      (answering (uid_at w targets.cred) w io) (becoming w io targets.cred (arg 0)) (record { answer = Exit (arg 0); world = w; io = io }) (record { answer = Refused BadCall; world = w; io = io })
+      (λ is. placed_only (File (arg 0) 0) (open_refusals w io targets (arg 0)) (inl is) (λ passed. grind arith)) closing_only
+      (λ is. placed_only (descriptor_for w targets.slots (arg 0)) (copy_refusals w targets.slots (arg 0)) (inr is) (λ passed. grind arith)) reading_only (writing_only (arg 0) (arg 1) (arg 2))
       (λ is. mapping_only true (inl is)) (λ is. mapping_only false (inr is)) none (uid_only (arg 0)) none none
 
 pub syscall_only : (w : World) (io : Channels) (c : Name) (job : ℕ) (regs : Regs) →
-    ChangesOnly w (lw_syscall w io c job regs).world (three_of w c regs) (may_change w io (three_of w c regs) (inner_call regs) (inner_args regs))
+    ChangesOnly w (lw_syscall w io c job regs).world (targets_of w c regs) (may_change w io (targets_of w c regs) (inner_call regs) (inner_args regs))
 unfolding lw_syscall
 syscall_only w io c job regs =
-    ended-cases (λ o. ChangesOnly w o.world (three_of w c regs) (may_change w io (three_of w c regs) (inner_call regs) (inner_args regs))) w io (refusals w c regs)
-    (plain w io (three_of w c regs) job (inner_call regs) (inner_args regs)) (λ _. none w io (three_of w c regs) job (inner_call regs) (inner_args regs))
-    (λ _. plain_only w io (three_of w c regs) job (inner_call regs) (inner_args regs))
+    ended-cases (λ o. ChangesOnly w o.world (targets_of w c regs) (may_change w io (targets_of w c regs) (inner_call regs) (inner_args regs))) w io (refusals w c regs)
+    (plain w io (targets_of w c regs) job (inner_call regs) (inner_args regs)) (λ _. none w io (targets_of w c regs) job (inner_call regs) (inner_args regs))
+    (λ _. plain_only w io (targets_of w c regs) job (inner_call regs) (inner_args regs))

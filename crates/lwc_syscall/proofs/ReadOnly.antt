@@ -15,8 +15,8 @@ use Rattle.lwc_base.specs.Store as stores
 use Rattle.lwc_base.specs.World.{World}
 use Rattle.lwc_syscall.specs.Changes.{IsMapped, KeepsReadOnly, may_change}
 use Rattle.lwc_syscall.specs.Plain.{answering, is_absent, is_full, is_read_only, moved, plain, read_on, read_refusals, reading, store_at, world_after}
-use Rattle.lwc_syscall.specs.Syscall.{inner_args, inner_call, lw_syscall, refusals, three_of}
-use Rattle.lwc_syscall.specs.declared.calls.Three.{Three}
+use Rattle.lwc_syscall.specs.Syscall.{inner_args, inner_call, lw_syscall, refusals, targets_of}
+use Rattle.lwc_syscall.specs.declared.calls.CallContexts.{CallContexts}
 use Rattle.lwc_base.proofs.Common.{put-other_cell}
 use Rattle.lwc_base.proofs.Rights.{rights-put_at, store-kept, store-right}
 use Rattle.lwc_syscall.proofs.Does.{ended-cases, stored-cases}
@@ -32,54 +32,54 @@ slot_keeps w v Out c n new was e p value out own read =
     let kept = was e p value out own read in
     (put-other_cell v c (Slot n) new e (Page p) (λ _ is. absurd cc) ∙ kept.0, ap (λ f. f p) (rights-put_at v c (Slot n) new e) ∙ kept.1)
 
-module _ (w : World) (io : Channels) (three : Three) (job : ℕ) where
+module _ (w : World) (io : Channels) (targets : CallContexts) (job : ℕ) where
   done_keeps : (Out : Name → ℕ → Type 0) (stored : Stored) (piece : Piece) (n : ℕ) (value : Descriptor) → is_absent stored ≡ false → is_read_only stored ≡ false → is_full stored ≡ false →
-      (stored ≡ stores.Done w) ⊎ ((stored ≡ stores.Absent) ⊎ (stored ≡ store w three.memory job piece)) → KeepsReadOnly w (put_slot (world_after w stored) three.slots n value) Out
+      (stored ≡ stores.Done w) ⊎ ((stored ≡ stores.Absent) ⊎ (stored ≡ store w targets.memory job piece)) → KeepsReadOnly w (put_slot (world_after w stored) targets.slots n value) Out
   done_keeps Out stores.Absent piece n value there writable room by = absurd (grind arith)
   done_keeps Out stores.ReadOnly piece n value there writable room by = absurd (grind arith)
   done_keeps Out stores.Full piece n value there writable room by = absurd (grind arith)
   done_keeps Out (stores.Done v) piece n value there writable room (inl is) =
-      let one : w ≡ v = grind arith in subst (λ (u : World). KeepsReadOnly w (put_slot u three.slots n value) Out) one (slot_keeps w w Out three.slots n value (none_keeps w Out))
+      let one : w ≡ v = grind arith in subst (λ (u : World). KeepsReadOnly w (put_slot u targets.slots n value) Out) one (slot_keeps w w Out targets.slots n value (none_keeps w Out))
   done_keeps Out (stores.Done v) piece n value there writable room (inr (inl is)) = absurd (grind arith)
   done_keeps Out (stores.Done v) piece n value there writable room (inr (inr is)) =
-      slot_keeps w v Out three.slots n value
-      (λ e p old out own read. (store-kept w v three.memory job piece (sym is) e p old read own, store-right w v three.memory job piece (sym is) e p ∙ read))
+      slot_keeps w v Out targets.slots n value
+      (λ e p old out own read. (store-kept w v targets.memory job piece (sym is) e p old read own, store-right w v targets.memory job piece (sym is) e p ∙ read))
 
-  reading_keeps : (Out : Name → ℕ → Type 0) (n at count : ℕ) → KeepsReadOnly w (reading w io three job n at count).world Out
+  reading_keeps : (Out : Name → ℕ → Type 0) (n at count : ℕ) → KeepsReadOnly w (reading w io targets job n at count).world Out
   unfolding reading
   reading_keeps Out n at count =
-      let value = descriptor_for w three.slots n in
+      let value = descriptor_for w targets.slots n in
       let bytes = moved io value count in
-      let stored = store_at w three.memory job at bytes in
+      let stored = store_at w targets.memory job at bytes in
       ended-cases (λ o. KeepsReadOnly w o.world Out) w io (read_refusals io value count stored)
-      (answering (length bytes) (put_slot (world_after w stored) three.slots n (read_on (length bytes) value)) io) (λ _. none_keeps w Out)
-      (λ passed. done_keeps Out stored (record { at = at; bytes = bytes }) n (read_on (length bytes) value) (grind arith) (grind arith) (grind arith) (stored-cases w three.memory job at bytes))
+      (answering (length bytes) (put_slot (world_after w stored) targets.slots n (read_on (length bytes) value)) io) (λ _. none_keeps w Out)
+      (λ passed. done_keeps Out stored (record { at = at; bytes = bytes }) n (read_on (length bytes) value) (grind arith) (grind arith) (grind arith) (stored-cases w targets.memory job at bytes))
 
   -- a call that is no read changes no page but those that it maps
-  other_keeps : (call : ℕ) (args : List ℕ) → (call == 4) ≡ false → KeepsReadOnly w (plain w io three job call args).world (IsMapped three call args)
+  other_keeps : (call : ℕ) (args : List ℕ) → (call == 4) ≡ false → KeepsReadOnly w (plain w io targets job call args).world (IsMapped targets call args)
   unfolding may_change
   other_keeps call args no_read e p value out own read =
-      let only = plain_only w io three job call args in
-      let elsewhere : may_change w io three call args (Page p) ≡ true → e ≢ three.memory = λ may same. out (same, grind arith) in
-      let apart : may_change w io three call args (Page p) ≡ true → AreApart w three.memory e (Page p) =
+      let only = plain_only w io targets job call args in
+      let elsewhere : may_change w io targets call args (Page p) ≡ true → e ≢ targets.memory = λ may same. out (same, grind arith) in
+      let apart : may_change w io targets call args (Page p) ≡ true → AreApart w targets.memory e (Page p) =
       λ may. record { differ = λ same. elsewhere may (sym same); no_group = λ g one two. absurd (cc (own, two)) } in
       (only.cells e (Page p) apart ∙ own, only.rights e p elsewhere ∙ read)
 
-  pub plain_keeps : (call : ℕ) (args : List ℕ) → KeepsReadOnly w (plain w io three job call args).world (IsMapped three call args)
+  pub plain_keeps : (call : ℕ) (args : List ℕ) → KeepsReadOnly w (plain w io targets job call args).world (IsMapped targets call args)
   unfolding plain
   plain_keeps call args =
-      elim (call == 4) as (λ b. (call == 4) ≡ b → KeepsReadOnly w (plain w io three job call args).world (IsMapped three call args)) [
+      elim (call == 4) as (λ b. (call == 4) ≡ b → KeepsReadOnly w (plain w io targets job call args).world (IsMapped targets call args)) [
         | false ↦ other_keeps call args
         | true ↦ λ is.
             let four : call ≡ 4 = grind (arith, nat_tests) in
-            subst (λ (n : ℕ). KeepsReadOnly w (plain w io three job n args).world (IsMapped three n args)) (sym four)
-            (reading_keeps (IsMapped three 4 args) (slice_index args 0) (slice_index args 1) (slice_index args 2))
+            subst (λ (n : ℕ). KeepsReadOnly w (plain w io targets job n args).world (IsMapped targets n args)) (sym four)
+            (reading_keeps (IsMapped targets 4 args) (slice_index args 0) (slice_index args 1) (slice_index args 2))
       ] refl
 
 pub syscall_keeps : (w : World) (io : Channels) (c : Name) (job : ℕ) (regs : Regs) →
-    KeepsReadOnly w (lw_syscall w io c job regs).world (IsMapped (three_of w c regs) (inner_call regs) (inner_args regs))
+    KeepsReadOnly w (lw_syscall w io c job regs).world (IsMapped (targets_of w c regs) (inner_call regs) (inner_args regs))
 unfolding lw_syscall
 syscall_keeps w io c job regs =
-    ended-cases (λ o. KeepsReadOnly w o.world (IsMapped (three_of w c regs) (inner_call regs) (inner_args regs))) w io (refusals w c regs)
-    (plain w io (three_of w c regs) job (inner_call regs) (inner_args regs)) (λ _. none_keeps w _)
-    (λ _. plain_keeps w io (three_of w c regs) job (inner_call regs) (inner_args regs))
+    ended-cases (λ o. KeepsReadOnly w o.world (IsMapped (targets_of w c regs) (inner_call regs) (inner_args regs))) w io (refusals w c regs)
+    (plain w io (targets_of w c regs) job (inner_call regs) (inner_args regs)) (λ _. none_keeps w _)
+    (λ _. plain_keeps w io (targets_of w c regs) job (inner_call regs) (inner_args regs))

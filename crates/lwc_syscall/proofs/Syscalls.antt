@@ -16,7 +16,7 @@ use Rattle.lwc_base.specs.declared.name.Name.{Name}
 use Rattle.lwc_base.specs.declared.regs.Regs.{Regs}
 use Rattle.lwc_syscall.specs.Changes.{IsPlainChange, IsWell, KeepsNumbers, Nothing}
 use Rattle.lwc_syscall.specs.Plain.{Outcome, plain}
-use Rattle.lwc_syscall.specs.Syscall.{IsAllowed, inner_args, inner_call, link, lw_syscall, mask_in, refusals, taken_from, three_of}
+use Rattle.lwc_syscall.specs.Syscall.{IsAllowed, inner_args, inner_call, link, lw_syscall, mask_in, refusals, taken_from, targets_of}
 use Rattle.lwc_syscall.proofs.Does.{does-one_thing, ended-cases}
 use Rattle.guest_call.proofs.Targets.{target_links}
 use Rattle.lwc_syscall.proofs.Kept.{inputs-change, numbers-change, well-change}
@@ -46,29 +46,29 @@ allowed w c regs has live passed =
     }
 
 module _ (w : World) (io : Channels) (c : Name) (job : ℕ) (regs : Regs) (named : HasItsContexts w) (files : HasItsFiles io w) (live : is_live w c ≡ true) where
-  inner-does : IsAllowed w c regs → IsPlainChange w io (three_of w c regs) job (plain w io (three_of w c regs) job (inner_call regs) (inner_args regs)).world
-      (plain w io (three_of w c regs) job (inner_call regs) (inner_args regs)).io
-  inner-does is = does-one_thing w io (three_of w c regs) job (inner_call regs) (inner_args regs) named files (is.live Slot)
+  inner-does : IsAllowed w c regs → IsPlainChange w io (targets_of w c regs) job (plain w io (targets_of w c regs) job (inner_call regs) (inner_args regs)).world
+      (plain w io (targets_of w c regs) job (inner_call regs) (inner_args regs)).io
+  inner-does is = does-one_thing w io (targets_of w c regs) job (inner_call regs) (inner_args regs) named files (is.live Slot)
 
   -- what is so where nothing changes, and where the inner call does one thing, is so after the call
   over-cases : (P : Outcome → Type 0) → ((o : Outcome) → o.world ≡ w → o.io ≡ io → P o) →
-      (IsAllowed w c regs → P (plain w io (three_of w c regs) job (inner_call regs) (inner_args regs))) → P (lw_syscall w io c job regs)
+      (IsAllowed w c regs → P (plain w io (targets_of w c regs) job (inner_call regs) (inner_args regs))) → P (lw_syscall w io c job regs)
   unfolding lw_syscall
   over-cases P same done =
-      ended-cases P w io (refusals w c regs) (plain w io (three_of w c regs) job (inner_call regs) (inner_args regs)) (λ refusal. same _ refl refl)
+      ended-cases P w io (refusals w c regs) (plain w io (targets_of w c regs) job (inner_call regs) (inner_args regs)) (λ refusal. same _ refl refl)
       (λ passed. done (allowed w c regs named live passed))
 
   pub numbers-over : KeepsNumbers w (lw_syscall w io c job regs).world
   numbers-over =
-      over-cases (λ o. KeepsNumbers w o.world) (λ o same _. numbers-change w io (three_of w c regs) job o.world io (subst (λ (v : World). IsPlainChange w io (three_of w c regs) job v io) (sym same) Nothing))
-      (λ is. numbers-change w io (three_of w c regs) job _ _ (inner-does is))
+      over-cases (λ o. KeepsNumbers w o.world) (λ o same _. numbers-change w io (targets_of w c regs) job o.world io (subst (λ (v : World). IsPlainChange w io (targets_of w c regs) job v io) (sym same) Nothing))
+      (λ is. numbers-change w io (targets_of w c regs) job _ _ (inner-does is))
 
   pub inputs-over : ((lw_syscall w io c job regs).io.files ≡ io.files) × ((lw_syscall w io c job regs).io.requests ≡ io.requests)
   inputs-over =
       over-cases (λ o. (o.io.files ≡ io.files) × (o.io.requests ≡ io.requests)) (λ o _ same. (ap (λ (x : Channels). x.files) same, ap (λ (x : Channels). x.requests) same))
-      (λ is. inputs-change w io (three_of w c regs) job _ _ (inner-does is))
+      (λ is. inputs-change w io (targets_of w c regs) job _ _ (inner-does is))
 
-  pub jobs-over : ((v : World) (after : Channels) → IsPlainChange w io (three_of w c regs) job v after → NamesKeepToJobs w → NamesKeepToJobs v) → NamesKeepToJobs w →
+  pub jobs-over : ((v : World) (after : Channels) → IsPlainChange w io (targets_of w c regs) job v after → NamesKeepToJobs w → NamesKeepToJobs v) → NamesKeepToJobs w →
       NamesKeepToJobs (lw_syscall w io c job regs).world
   jobs-over change keeps = over-cases (λ o. NamesKeepToJobs o.world) (λ o same _. subst NamesKeepToJobs (sym same) keeps) (λ is. change _ _ (inner-does is) keeps)
 
@@ -76,4 +76,4 @@ module _ (w : World) (io : Channels) (c : Name) (job : ℕ) (regs : Regs) (named
   well-over sound =
       let well : IsWell w io = record { sound = sound; named = named; files = files } in
       over-cases (λ o. IsWell o.world o.io) (λ o same one. rw (same, one) well)
-      (λ is. well-change w io (three_of w c regs) job _ _ (inner-does is) (is.live Page) well)
+      (λ is. well-change w io (targets_of w c regs) job _ _ (inner-does is) (is.live Page) well)

@@ -28,7 +28,7 @@ use Rattle.lwc_base.specs.declared.name.Name.{Name}
 use Rattle.lwc_base.specs.declared.page.PageValue.{PageValue}
 use Rattle.lwc_base.specs.declared.refusal.Refusal.{Refusal}
 use Rattle.lwc_base.specs.declared.right.Right.TheVariants.{Read as MayRead}
-use Rattle.lwc_syscall.specs.declared.calls.Three.{Three}
+use Rattle.lwc_syscall.specs.declared.calls.CallContexts.{CallContexts}
 use Rattle.lwc_syscall.specs.Plain.{Outcome, moved, written}
 use Rattle.lwc_syscall.specs.declared.answer.CallAnswer.TheVariants.{Refused}
 
@@ -42,17 +42,17 @@ pub record IsKnown (w : World) (io : Channels) (c : Name) (value : Descriptor) :
   pub stood : (d : Name) (cap : Cap) → value ≡ Ctx d cap → (n : ℕ) × (n < SLOTS) × (slot_at w c n ≡ Ctx d cap)
 
 -- what a plain call may do over three contexts: nothing, a put, a mapping, a store and a put, or a write
-pub data IsPlainChange (w : World) (io : Channels) (three : Three) (job : ℕ) : World → Channels → Type 0 where
-  Nothing : IsPlainChange w io three job w io
-  SlotPut : (n : ℕ) (value : Descriptor) → n < SLOTS → IsKnown w io three.slots value →
-      IsPlainChange w io three job (put_slot w three.slots n value) io
-  UidPut : (uid : ℕ) → IsPlainChange w io three job (put_uid w three.cred uid) io
+pub data IsPlainChange (w : World) (io : Channels) (targets : CallContexts) (job : ℕ) : World → Channels → Type 0 where
+  Nothing : IsPlainChange w io targets job w io
+  SlotPut : (n : ℕ) (value : Descriptor) → n < SLOTS → IsKnown w io targets.slots value →
+      IsPlainChange w io targets job (put_slot w targets.slots n value) io
+  UidPut : (uid : ℕ) → IsPlainChange w io targets job (put_uid w targets.cred uid) io
   Mapped : (from to : ℕ) (present : Bool) → to ≤ w.size.pages →
-      IsPlainChange w io three job (mapped_or_not w three.memory from to present) io
+      IsPlainChange w io targets job (mapped_or_not w targets.memory from to present) io
   Read : (v : World) (piece : Piece) (n : ℕ) (value : Descriptor) → length piece.bytes ≤ MOST_BYTES_OF_CALL →
-      store w three.memory job piece ≡ Done v → n < SLOTS → IsKnown w io three.slots value →
-      IsPlainChange w io three job (put_slot v three.slots n value) io
-  Written : (value : Descriptor) (bytes : List ℕ) → IsPlainChange w io three job w (written io value bytes)
+      store w targets.memory job piece ≡ Done v → n < SLOTS → IsKnown w io targets.slots value →
+      IsPlainChange w io targets job (put_slot v targets.slots n value) io
+  Written : (value : Descriptor) (bytes : List ℕ) → IsPlainChange w io targets job w (written io value bytes)
 
 -- the same names live, sizes stay, and at most two tags have been taken
 pub record KeepsNumbers (w v : World) : Type 0 where
@@ -64,20 +64,20 @@ pub record KeepsNumbers (w v : World) : Type 0 where
   pub tags_counted : (j : ℕ) → ((w.next j).tags ≤ (v.next j).tags) × ((v.next j).tags ≤ (w.next j).tags + 2)
 
 -- the context that a key is taken from: of the three, the one for its kind
-abbrev pub holder : Three → Key → Name
-holder three (Page p) = three.memory
-holder three (Slot n) = three.slots
-holder three Cred = three.cred
+abbrev pub holder : CallContexts → Key → Name
+holder targets (Page p) = targets.memory
+holder targets (Slot n) = targets.slots
+holder targets Cred = targets.cred
 
 -- whether a page is in a list
 abbrev pub has_page : List ℕ → ℕ → Bool
 has_page pages p = list_any (λ q. q == p) pages
 
 -- the pages that a read touches
-abbrev pub read_pages : World → Channels → Three → List ℕ → List ℕ
-read_pages w io three args =
+abbrev pub read_pages : World → Channels → CallContexts → List ℕ → List ℕ
+read_pages w io targets args =
     touched (slice_index args 1)
-    (length (moved io (descriptor_for w three.slots (slice_index args 0)) (slice_index args 2)))
+    (length (moved io (descriptor_for w targets.slots (slice_index args 0)) (slice_index args 2)))
 
 -- whether a plain call is a map or an unmap that has a page in its range
 abbrev pub maps_page : ℕ → List ℕ → ℕ → Bool
@@ -86,23 +86,23 @@ maps_page call args p = (call == 6 || call == 7) && nat_le (slice_index args 0) 
 -- whether a plain call may change what is under a key: a page that a read touches or that is in the range of
 -- a map or unmap, the slot that an open or a dup fills or that a close or a read names, and the uid by a
 -- setuid
-unfoldable pub may_change : World → Channels → Three → ℕ → List ℕ → Key → Bool
-may_change w io three call args (Page p) =
-    call == 4 && has_page (read_pages w io three args) p
+unfoldable pub may_change : World → Channels → CallContexts → ℕ → List ℕ → Key → Bool
+may_change w io targets call args (Page p) =
+    call == 4 && has_page (read_pages w io targets args) p
     || maps_page call args p
-may_change w io three call args (Slot n) =
-    (call == 1 || call == 3) && option_map_or (λ m. m == n) (lowest_empty w three.slots) false
+may_change w io targets call args (Slot n) =
+    (call == 1 || call == 3) && option_map_or (λ m. m == n) (lowest_empty w targets.slots) false
     || (call == 2 || call == 4) && n == slice_index args 0
-may_change w io three call args Cred = call == 9
+may_change w io targets call args Cred = call == 9
 
 -- nothing has changed but what is under some keys of the three contexts, and of each context that has it in
 -- common
-pub record ChangesOnly (w v : World) (three : Three) (keys : Key → Bool) : Type 0 where
-  pub values : (e : Name) (k : Key) → (keys k ≡ true → AreApart w (holder three k) e k) →
+pub record ChangesOnly (w v : World) (targets : CallContexts) (keys : Key → Bool) : Type 0 where
+  pub values : (e : Name) (k : Key) → (keys k ≡ true → AreApart w (holder targets k) e k) →
       value_at v e k ≡ value_at w e k
-  pub cells : (e : Name) (k : Key) → (keys k ≡ true → AreApart w (holder three k) e k) →
+  pub cells : (e : Name) (k : Key) → (keys k ≡ true → AreApart w (holder targets k) e k) →
       (context v e).cell k ≡ (context w e).cell k
-  pub rights : (e : Name) (p : ℕ) → (keys (Page p) ≡ true → e ≢ three.memory) → right_at v e p ≡ right_at w e p
+  pub rights : (e : Name) (p : ℕ) → (keys (Page p) ≡ true → e ≢ targets.memory) → right_at v e p ≡ right_at w e p
   pub entries : (e : Name) → (context v e).entry ≡ (context w e).entry
   pub saved : (e : Name) (t : ℕ) → (context v e).saved t ≡ (context w e).saved t
 
@@ -113,8 +113,8 @@ KeepsReadOnly w v IsLeftOut =
     (context w e).cell (Page p) ≡ Own value → right_at w e p ≡ MayRead → ((context v e).cell (Page p) ≡ Own value) × (right_at v e p ≡ MayRead)
 
 -- the memory of three contexts is this one, and a call maps or unmaps this page of it
-abbrev pub IsMapped : Three → ℕ → List ℕ → Name → ℕ → Type 0
-IsMapped three call args e p = (e ≡ three.memory) × (maps_page call args p ≡ true)
+abbrev pub IsMapped : CallContexts → ℕ → List ℕ → Name → ℕ → Type 0
+IsMapped targets call args e p = (e ≡ targets.memory) × (maps_page call args p ≡ true)
 
 -- what runs keep: the world is sound, and has the contexts and files that its slots name
 pub record IsWell (w : World) (io : Channels) : Type 0 where
@@ -132,13 +132,13 @@ abbrev pub LosesNone : Descriptor → Descriptor → Type 0
 LosesNone old new = (d : Name) → is_of d old ≡ true → is_of d new ≡ true
 
 -- what cuts no link: nothing, or a put under a slot that loses no context, perhaps after a store
-pub data CutsNone (w : World) (three : Three) (job : ℕ) : World → Type 0 where
-  Same : CutsNone w three job w
-  Put : (n : ℕ) (value : Descriptor) → LosesNone (slot_at w three.slots n) value →
-      CutsNone w three job (put_slot w three.slots n value)
+pub data CutsNone (w : World) (targets : CallContexts) (job : ℕ) : World → Type 0 where
+  Same : CutsNone w targets job w
+  Put : (n : ℕ) (value : Descriptor) → LosesNone (slot_at w targets.slots n) value →
+      CutsNone w targets job (put_slot w targets.slots n value)
   StoredPut : (v : World) (piece : Piece) (n : ℕ) (value : Descriptor) →
-      store w three.memory job piece ≡ Done v → LosesNone (slot_at v three.slots n) value →
-      CutsNone w three job (put_slot v three.slots n value)
+      store w targets.memory job piece ≡ Done v → LosesNone (slot_at v targets.slots n) value →
+      CutsNone w targets job (put_slot v targets.slots n value)
 
 -- the plain calls that cut no link: open, dup, read, and those that leave the world
 abbrev pub cuts_none : ℕ → Bool

@@ -22,7 +22,7 @@ use Rattle.lwc_base.specs.declared.refusal.Refusal.{Refusal}
 use Rattle.lwc_base.specs.declared.refusal.Refusal.TheVariants.{BadCall, BadFd, WrongKind, BadAddress, BadRange, NoSlot, NoFrame, NotPermitted, NoFile, TooManyRanges, ReplyFull, TooLong, ReadOnly}
 use Rattle.lwc_syscall.specs.declared.answer.CallAnswer.{CallAnswer}
 use Rattle.lwc_syscall.specs.declared.answer.CallAnswer.TheVariants.{Value, Exit, Refused}
-use Rattle.lwc_syscall.specs.declared.calls.Three.{Three}
+use Rattle.lwc_syscall.specs.declared.calls.CallContexts.{CallContexts}
 
 -- how a call ends: its answer, and the world and the channels afterwards
 pub record Outcome : Type 0 where
@@ -53,16 +53,16 @@ abbrev pub place_refusals : World → Name → List (Bool × Refusal)
 place_refusals w s = (is_none (lowest_empty w s), NoSlot) ∷ []
 
 -- why a file is not opened
-abbrev pub open_refusals : World → Channels → Three → ℕ → List (Bool × Refusal)
-open_refusals w io three file =
+abbrev pub open_refusals : World → Channels → CallContexts → ℕ → List (Bool × Refusal)
+open_refusals w io targets file =
     (nat_le (length io.files) file, NoFile)
-    ∷ (not (option_map_or (may_open (uid_at w three.cred)) (slice_get io.files file) false), NotPermitted)
-    ∷ place_refusals w three.slots
+    ∷ (not (option_map_or (may_open (uid_at w targets.cred)) (slice_get io.files file) false), NotPermitted)
+    ∷ place_refusals w targets.slots
 
 -- call 1: the lowest empty slot becomes a descriptor of a file, at its beginning
-abbrev pub opening : World → Channels → Three → ℕ → Outcome
-opening w io three file =
-    ended w io (open_refusals w io three file) (placed w io three.slots (File file 0))
+abbrev pub opening : World → Channels → CallContexts → ℕ → Outcome
+opening w io targets file =
+    ended w io (open_refusals w io targets file) (placed w io targets.slots (File file 0))
 
 -- why a slot is not closed
 abbrev pub close_refusals : World → Name → ℕ → List (Bool × Refusal)
@@ -142,14 +142,14 @@ read_refusals io value count stored =
     ∷ []
 
 -- call 4: bytes that are left go to the memory, and the slot's descriptor moves on by as many
-unfoldable pub reading : World → Channels → Three → ℕ → ℕ → ℕ → ℕ → Outcome
-reading w io three job n at count =
-    let value = descriptor_for w three.slots n in
+unfoldable pub reading : World → Channels → CallContexts → ℕ → ℕ → ℕ → ℕ → Outcome
+reading w io targets job n at count =
+    let value = descriptor_for w targets.slots n in
     let bytes = moved io value count in
-    let stored = store_at w three.memory job at bytes in
+    let stored = store_at w targets.memory job at bytes in
     ended w io (read_refusals io value count stored)
     (answering (length bytes)
-    (put_slot (world_after w stored) three.slots n (read_on (length bytes) value)) io)
+    (put_slot (world_after w stored) targets.slots n (read_on (length bytes) value)) io)
 
 -- whether a descriptor can be written
 abbrev pub is_written : Descriptor → Bool
@@ -180,10 +180,10 @@ write_refusals io value count bytes =
     ∷ []
 
 -- call 5: bytes of the memory are appended to the console or to a reply
-unfoldable pub writing : World → Channels → Three → ℕ → ℕ → ℕ → Outcome
-writing w io three n at count =
-    let value = descriptor_for w three.slots n in
-    let bytes = bytes_for w three.memory at count in
+unfoldable pub writing : World → Channels → CallContexts → ℕ → ℕ → ℕ → Outcome
+writing w io targets n at count =
+    let value = descriptor_for w targets.slots n in
+    let bytes = bytes_for w targets.memory at count in
     ended w io (write_refusals io value count bytes)
     (answering count w (written io value (unwrap_or bytes [])))
 
@@ -207,17 +207,17 @@ abbrev pub becoming : World → Channels → Name → ℕ → Outcome
 becoming w io c uid = ended w io (uid_refusals w c uid) (answering 0 (put_uid w c uid) io)
 
 -- a plain call by its number: calls 8 and 10 answer with the uid, and with the code of an exit
-unfoldable pub plain : World → Channels → Three → ℕ → ℕ → List ℕ → Outcome
-plain w io three job call args =
+unfoldable pub plain : World → Channels → CallContexts → ℕ → ℕ → List ℕ → Outcome
+plain w io targets job call args =
     let arg = slice_index args in
-    if call == 1 then opening w io three (arg 0)
-    else (if call == 2 then closing w io three.slots (arg 0)
-    else (if call == 3 then copying w io three.slots (arg 0)
-    else (if call == 4 then reading w io three job (arg 0) (arg 1) (arg 2)
-    else (if call == 5 then writing w io three (arg 0) (arg 1) (arg 2)
-    else (if call == 6 then mapping w io three.memory (arg 0) (arg 1) true
-    else (if call == 7 then mapping w io three.memory (arg 0) (arg 1) false
-    else (if call == 8 then answering (uid_at w three.cred) w io
-    else (if call == 9 then becoming w io three.cred (arg 0)
+    if call == 1 then opening w io targets (arg 0)
+    else (if call == 2 then closing w io targets.slots (arg 0)
+    else (if call == 3 then copying w io targets.slots (arg 0)
+    else (if call == 4 then reading w io targets job (arg 0) (arg 1) (arg 2)
+    else (if call == 5 then writing w io targets (arg 0) (arg 1) (arg 2)
+    else (if call == 6 then mapping w io targets.memory (arg 0) (arg 1) true
+    else (if call == 7 then mapping w io targets.memory (arg 0) (arg 1) false
+    else (if call == 8 then answering (uid_at w targets.cred) w io
+    else (if call == 9 then becoming w io targets.cred (arg 0)
     else (if call == 10 then record { answer = Exit (arg 0); world = w; io = io }
     else record { answer = Refused BadCall; world = w; io = io })))))))))

@@ -13,7 +13,7 @@ use Rattle.lwc_base.specs.declared.refusal.Refusal.{Refusal}
 use Rattle.lwc_base.specs.declared.refusal.Refusal.TheVariants.{BadCall, BadMode, NotCovered}
 use Rattle.lwc_base.specs.declared.regs.Regs.{Regs}
 use Rattle.lwc_syscall.specs.Plain.{Outcome, ended, plain}
-use Rattle.lwc_syscall.specs.declared.calls.Three.{Three}
+use Rattle.lwc_syscall.specs.declared.calls.CallContexts.{CallContexts}
 
 -- the context that the slot in r1 has a descriptor of, with the capability
 abbrev pub link : World → Name → Regs → Name × Cap
@@ -36,8 +36,8 @@ abbrev pub taken_from : World → Name → Regs → Kind → Name
 taken_from w c regs kind = if is_chosen (mask_in regs) kind then (link w c regs).0 else c
 
 -- the three contexts of the inner call
-abbrev pub three_of : World → Name → Regs → Three
-three_of w c regs = record {
+abbrev pub targets_of : World → Name → Regs → CallContexts
+targets_of w c regs = record {
   memory = taken_from w c regs Page;
   slots = taken_from w c regs Slot;
   cred = taken_from w c regs Cred;
@@ -54,7 +54,7 @@ refusals w c regs =
 -- the call: the inner one over the three contexts, with its own refusals
 unfoldable pub lw_syscall : World → Channels → Name → ℕ → Regs → Outcome
 lw_syscall w io c job regs =
-    ended w io (refusals w c regs) (plain w io (three_of w c regs) job (inner_call regs) (inner_args regs))
+    ended w io (refusals w c regs) (plain w io (targets_of w c regs) job (inner_call regs) (inner_args regs))
 
 -- a call that is not refused before the inner one: its contexts are live, and the capability has the kinds
 pub record IsAllowed (w : World) (c : Name) (regs : Regs) : Type 0 where

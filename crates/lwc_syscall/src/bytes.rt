@@ -10,7 +10,7 @@ ghost use Rattle.lwc_syscall.specs.Plain as spec;
 ghost use Rattle.world_face.specs.Calls.{IsLive, MayName};
 
 use crate::answer::CallAnswer;
-use crate::calls::Three;
+use crate::calls::CallContexts;
 use crate::slots::filled_slot;
 use lwc_base::{
     Channels, Lent, MOST_BYTES_OF_CALL, MOST_CONSOLE_BYTES, MOST_REPLY_BYTES, Name, OutOfMemory,
@@ -24,22 +24,22 @@ use world_face::{World, bytes_for, is_within};
 pub fn read<W: World>(
     world: &mut W,
     io: &Channels,
-    three: &Three,
+    targets: &CallContexts,
     job: u32,
     n: u64,
     at: u64,
     count: u64,
 ) -> Result<CallAnswer, OutOfMemory>
-    requires memory { IsLive (W.seen world.old) three.now.memory }
-    requires slots { IsLive (W.seen world.old) three.now.slots }
+    requires memory { IsLive (W.seen world.old) targets.now.memory }
+    requires slots { IsLive (W.seen world.old) targets.now.slots }
     requires may { MayName (W.seen world.old) job }
     requires files { HasItsFiles io.now (W.seen world.old) }
-    ensures done { IfOk result (λ answer. spec.reading (W.seen world.old) io.now three.now job n at count
+    ensures done { IfOk result (λ answer. spec.reading (W.seen world.old) io.now targets.now job n at count
         ≡ record { answer = answer; world = W.seen world.new; io = io.now }) }
     ensures err { OnErr result (W.seen world.new ≡ W.seen world.old) }
     ensures ample { W.roomy ≡ true → IsOk result }
 {
-    let Some((slot, value)) = filled_slot(world, three.slots, n) else {
+    let Some((slot, value)) = filled_slot(world, targets.slots, n) else {
         return Ok(CallAnswer::Refused(Refusal::BadFd));
     };
     let Some(left) = left(io, value) else {
@@ -50,14 +50,14 @@ pub fn read<W: World>(
     }
     let bytes = &left[..left.len().min(count as usize)];
     let value = read_on(value, bytes.len());
-    match store_at(world, three.memory, at, bytes, job) {
+    match store_at(world, targets.memory, at, bytes, job) {
         Ok(()) => {}
         Err(StoreFault::BadAddress) => return Ok(CallAnswer::Refused(Refusal::BadAddress)),
         Err(StoreFault::ReadOnly) => return Ok(CallAnswer::Refused(Refusal::ReadOnly)),
         Err(StoreFault::NoFrame) => return Ok(CallAnswer::Refused(Refusal::NoFrame)),
         Err(StoreFault::OutOfMemory) => return Err(OutOfMemory),
     }
-    world.set_slot(three.slots, slot, value);
+    world.set_slot(targets.slots, slot, value);
     Ok(CallAnswer::Value(bytes.len() as u64))
 }
 
@@ -146,18 +146,18 @@ fn store_at<W: World>(
 pub fn write<W: World>(
     world: &W,
     io: &mut Channels,
-    three: &Three,
+    targets: &CallContexts,
     n: u64,
     at: u64,
     count: u64,
 ) -> CallAnswer
-    requires memory { IsLive (W.seen world.now) three.now.memory }
-    requires slots { IsLive (W.seen world.now) three.now.slots }
+    requires memory { IsLive (W.seen world.now) targets.now.memory }
+    requires slots { IsLive (W.seen world.now) targets.now.slots }
     requires files { HasItsFiles io.old (W.seen world.now) }
-    ensures { spec.writing (W.seen world.now) io.old three.now n at count
+    ensures { spec.writing (W.seen world.now) io.old targets.now n at count
         ≡ record { answer = result; world = W.seen world.now; io = io.new } }
 {
-    let Some((_, value)) = filled_slot(world, three.slots, n) else {
+    let Some((_, value)) = filled_slot(world, targets.slots, n) else {
         return CallAnswer::Refused(Refusal::BadFd);
     };
     if !is_written(value) {
@@ -168,7 +168,7 @@ pub fn write<W: World>(
     }
     let mut buffer = [0; MOST_BYTES_OF_CALL];
     let bytes = &mut buffer[..count as usize];
-    if !bytes_for(world, three.memory, at, bytes) {
+    if !bytes_for(world, targets.memory, at, bytes) {
         return CallAnswer::Refused(Refusal::BadAddress);
     }
     if !append(io, value, bytes) {

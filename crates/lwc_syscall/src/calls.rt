@@ -13,7 +13,7 @@ use world_face::World;
 
 /// The contexts of a call: one for the memory, one for the slots, and one for the credential.
 #[derive(Clone, Copy, Debug, PartialEq, Eq)]
-pub struct Three {
+pub struct CallContexts {
     pub memory: Name,
     pub slots: Name,
     pub cred: Name,
@@ -25,17 +25,17 @@ pub struct Three {
 pub fn plain<W: World>(
     world: &mut W,
     io: &mut Channels,
-    three: &Three,
+    targets: &CallContexts,
     job: u32,
     call: u32,
     args: [u64; 3],
 ) -> Result<CallAnswer, OutOfMemory>
-    requires memory { IsLive (W.seen world.old) three.now.memory }
-    requires slots { IsLive (W.seen world.old) three.now.slots }
-    requires cred { IsLive (W.seen world.old) three.now.cred }
+    requires memory { IsLive (W.seen world.old) targets.now.memory }
+    requires slots { IsLive (W.seen world.old) targets.now.slots }
+    requires cred { IsLive (W.seen world.old) targets.now.cred }
     requires may { MayName (W.seen world.old) job }
     requires files { HasItsFiles io.old (W.seen world.old) }
-    ensures done { IfOk result (λ answer. spec.plain (W.seen world.old) io.old three.now job call args
+    ensures done { IfOk result (λ answer. spec.plain (W.seen world.old) io.old targets.now job call args
         ≡ record { answer = answer; world = W.seen world.new; io = io.new }) }
     ensures err { OnErr result (W.seen world.new ≡ W.seen world.old) }
     ensures err_io { OnErr result (io.new ≡ io.old) }
@@ -43,15 +43,15 @@ pub fn plain<W: World>(
 {
     let [first, second, third] = args;
     match call {
-        1 => Ok(open(world, io.files(), three, first)),
-        2 => Ok(close(world, three.slots, first)),
-        3 => Ok(dup(world, three.slots, first)),
-        4 => read(world, io, three, job, first, second, third),
-        5 => Ok(write(world, io, three, first, second, third)),
-        6 => map(world, three.memory, first, second, true),
-        7 => map(world, three.memory, first, second, false),
-        8 => Ok(CallAnswer::Value(u64::from(world.uid(three.cred)))),
-        9 => Ok(set_uid(world, three.cred, first)),
+        1 => Ok(open(world, io.files(), targets, first)),
+        2 => Ok(close(world, targets.slots, first)),
+        3 => Ok(dup(world, targets.slots, first)),
+        4 => read(world, io, targets, job, first, second, third),
+        5 => Ok(write(world, io, targets, first, second, third)),
+        6 => map(world, targets.memory, first, second, true),
+        7 => map(world, targets.memory, first, second, false),
+        8 => Ok(CallAnswer::Value(u64::from(world.uid(targets.cred)))),
+        9 => Ok(set_uid(world, targets.cred, first)),
         10 => Ok(CallAnswer::Exit(first)),
         _ => Ok(CallAnswer::Refused(Refusal::BadCall)),
     }

@@ -16,55 +16,55 @@ ghost use Rattle.lwc_base.specs.declared.name.Name.{Name};
 ghost use Rattle.lwc_base.specs.declared.regs.Regs.{Regs};
 ghost use Rattle.lwc_syscall.specs.Plain.{plain};
 ghost use Rattle.lwc_syscall.specs.Syscall.{IsAllowed, inner_args, inner_call, link, lw_syscall, refusals};
-ghost use Rattle.lwc_syscall.specs.Syscall.{three_of};
-ghost use Rattle.lwc_syscall.specs.declared.calls.Three.{Three};
+ghost use Rattle.lwc_syscall.specs.Syscall.{targets_of};
+ghost use Rattle.lwc_syscall.specs.declared.calls.CallContexts.{CallContexts};
 
 /// A plain call does at most one thing: a put under a slot or of the credential, a mapping, a store and
 /// then a put, or a write. A descriptor that it puts is in range, and of a live context if it is of one;
 /// of the job's own, where names keep to their jobs.
 pub fn a_plain_call_does_one_thing()
-    ensures { (w : World) (io : Channels) (three : Three) (job call : ℕ) (args : List ℕ) → HasItsContexts w →
-        HasItsFiles io w → is_live w three.slots ≡ true → IsPlainChange w io three job
-        (plain w io three job call args).world (plain w io three job call args).io }
+    ensures { (w : World) (io : Channels) (targets : CallContexts) (job call : ℕ) (args : List ℕ) → HasItsContexts w →
+        HasItsFiles io w → is_live w targets.slots ≡ true → IsPlainChange w io targets job
+        (plain w io targets job call args).world (plain w io targets job call args).io }
 {}
 
 /// A plain call changes what it may: a page, a slot or the uid of one of its three contexts, also for the
 /// contexts that have it in common. It changes nothing else.
 pub fn a_plain_call_changes_what_it_may()
-    ensures plain { (w : World) (io : Channels) (three : Three) (job call : ℕ) (args : List ℕ) →
-        ChangesOnly w (plain w io three job call args).world three (may_change w io three call args) }
+    ensures plain { (w : World) (io : Channels) (targets : CallContexts) (job call : ℕ) (args : List ℕ) →
+        ChangesOnly w (plain w io targets job call args).world targets (may_change w io targets call args) }
     ensures syscall { (w : World) (io : Channels) (c : Name) (job : ℕ) (regs : Regs) →
-        ChangesOnly w (lw_syscall w io c job regs).world (three_of w c regs)
-        (may_change w io (three_of w c regs) (inner_call regs) (inner_args regs)) }
+        ChangesOnly w (lw_syscall w io c job regs).world (targets_of w c regs)
+        (may_change w io (targets_of w c regs) (inner_call regs) (inner_args regs)) }
 {}
 
 /// A plain call leaves each page of a context's own that has the right Read as it is, with its right, but for
 /// those that it maps or unmaps.
 pub fn a_plain_call_leaves_what_is_read_only()
-    ensures plain { (w : World) (io : Channels) (three : Three) (job call : ℕ) (args : List ℕ) →
-        KeepsReadOnly w (plain w io three job call args).world (IsMapped three call args) }
+    ensures plain { (w : World) (io : Channels) (targets : CallContexts) (job call : ℕ) (args : List ℕ) →
+        KeepsReadOnly w (plain w io targets job call args).world (IsMapped targets call args) }
     ensures syscall { (w : World) (io : Channels) (c : Name) (job : ℕ) (regs : Regs) →
         KeepsReadOnly w (lw_syscall w io c job regs).world
-        (IsMapped (three_of w c regs) (inner_call regs) (inner_args regs)) }
+        (IsMapped (targets_of w c regs) (inner_call regs) (inner_args regs)) }
 {}
 
 /// What a call over chosen contexts may change is the caller's, or of the context that the slot names and
 /// under a key that the capability has.
 pub fn a_syscall_changes_only_keys_of_its_capability()
     ensures { (w : World) (c : Name) (regs : Regs) (k : Key) → IsAllowed w c regs → IsKey w.size.pages k →
-        (holder (three_of w c regs) k ≡ c) ⊎ ((holder (three_of w c regs) k ≡ (link w c regs).0)
+        (holder (targets_of w c regs) k ≡ c) ⊎ ((holder (targets_of w c regs) k ≡ (link w c regs).0)
         × (has_key (link w c regs).1 k ≡ true)) }
 {}
 
 /// What a plain call does over live contexts keeps the world sound, with the contexts and files that its
 /// slots name. It makes and drops no context and no group, and takes at most two tags.
 pub fn a_plain_call_keeps_the_world_well()
-    ensures well { (w : World) (io : Channels) (three : Three) (job : ℕ) (v : World) (after : Channels) →
-        IsPlainChange w io three job v after → is_live w three.memory ≡ true → IsWell w io → IsWell v after }
-    ensures numbers { (w : World) (io : Channels) (three : Three) (job : ℕ) (v : World) (after : Channels) →
-        IsPlainChange w io three job v after → KeepsNumbers w v }
-    ensures inputs { (w : World) (io : Channels) (three : Three) (job : ℕ) (v : World) (after : Channels) →
-        IsPlainChange w io three job v after → (after.files ≡ io.files) × (after.requests ≡ io.requests) }
+    ensures well { (w : World) (io : Channels) (targets : CallContexts) (job : ℕ) (v : World) (after : Channels) →
+        IsPlainChange w io targets job v after → is_live w targets.memory ≡ true → IsWell w io → IsWell v after }
+    ensures numbers { (w : World) (io : Channels) (targets : CallContexts) (job : ℕ) (v : World) (after : Channels) →
+        IsPlainChange w io targets job v after → KeepsNumbers w v }
+    ensures inputs { (w : World) (io : Channels) (targets : CallContexts) (job : ℕ) (v : World) (after : Channels) →
+        IsPlainChange w io targets job v after → (after.files ≡ io.files) × (after.requests ≡ io.requests) }
 {}
 
 /// A call over the contexts that a mask chooses that is not refused before the inner one takes from live
@@ -88,16 +88,16 @@ pub fn a_syscall_keeps_the_world_well()
 /// What a job's contexts and groups name is of that job after a plain call, and after a call over the
 /// contexts that a mask chooses, if it was so before.
 pub fn calls_keep_names_to_their_jobs()
-    ensures plain { (w : World) (io : Channels) (three : Three) (job : ℕ) (v : World) (after : Channels) →
-        IsPlainChange w io three job v after → NamesKeepToJobs w → NamesKeepToJobs v }
+    ensures plain { (w : World) (io : Channels) (targets : CallContexts) (job : ℕ) (v : World) (after : Channels) →
+        IsPlainChange w io targets job v after → NamesKeepToJobs w → NamesKeepToJobs v }
     ensures syscall { (w : World) (io : Channels) (c : Name) (job : ℕ) (regs : Regs) → is_live w c ≡ true →
         IsWell w io → NamesKeepToJobs w → NamesKeepToJobs (lw_syscall w io c job regs).world }
 {}
 
 /// A call that is refused changes nothing.
 pub fn a_refused_call_changes_nothing()
-    ensures plain { (w : World) (io : Channels) (three : Three) (job call : ℕ) (args : List ℕ) →
-        ChangesIfDone w io (plain w io three job call args) }
+    ensures plain { (w : World) (io : Channels) (targets : CallContexts) (job call : ℕ) (args : List ℕ) →
+        ChangesIfDone w io (plain w io targets job call args) }
     ensures syscall { (w : World) (io : Channels) (c : Name) (job : ℕ) (regs : Regs) →
         ChangesIfDone w io (lw_syscall w io c job regs) }
 {}
@@ -105,13 +105,13 @@ pub fn a_refused_call_changes_nothing()
 /// What an open, a dup and a read change loses no descriptor of a context, and a write, a getuid and an
 /// exit leave the world: no link is cut. So it is where they are made over chosen contexts.
 pub fn some_plain_calls_cut_no_link()
-    ensures none { (w : World) (io : Channels) (three : Three) (job call : ℕ) (args : List ℕ) →
-        cuts_none call ≡ true → CutsNone w three job (plain w io three job call args).world }
-    ensures same { (w : World) (io : Channels) (three : Three) (job call : ℕ) (args : List ℕ) →
-        leaves_world call ≡ true → (plain w io three job call args).world ≡ w }
+    ensures none { (w : World) (io : Channels) (targets : CallContexts) (job call : ℕ) (args : List ℕ) →
+        cuts_none call ≡ true → CutsNone w targets job (plain w io targets job call args).world }
+    ensures same { (w : World) (io : Channels) (targets : CallContexts) (job call : ℕ) (args : List ℕ) →
+        leaves_world call ≡ true → (plain w io targets job call args).world ≡ w }
     ensures chosen_none { (w : World) (io : Channels) (c : Name) (job : ℕ) (regs : Regs) →
         cuts_none (inner_call regs) ≡ true
-        → CutsNone w (three_of w c regs) job (lw_syscall w io c job regs).world }
+        → CutsNone w (targets_of w c regs) job (lw_syscall w io c job regs).world }
     ensures chosen_same { (w : World) (io : Channels) (c : Name) (job : ℕ) (regs : Regs) →
         leaves_world (inner_call regs) ≡ true → (lw_syscall w io c job regs).world ≡ w }
 {}

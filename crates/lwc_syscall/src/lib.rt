@@ -12,5 +12,5 @@ pub mod slots;
 pub mod uids;
 
 pub use answer::CallAnswer;
-pub use calls::{Three, plain};
+pub use calls::{CallContexts, plain};
 pub use over::lw_syscall;

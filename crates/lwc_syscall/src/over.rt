@@ -6,7 +6,7 @@ ghost use Rattle.lwc_syscall.specs.Syscall as spec;
 ghost use Rattle.world_face.specs.Calls.{IsLive, MayName};
 
 use crate::answer::CallAnswer;
-use crate::calls::{Three, plain};
+use crate::calls::{CallContexts, plain};
 use access_cap::{Mask, grants_kinds};
 use guest_call::context_for;
 use lwc_base::{Channels, Kind, Name, OutOfMemory, Refusal, Regs};
@@ -33,28 +33,28 @@ pub fn lw_syscall<W: World>(
     ensures err_io { OnErr result (io.new ≡ io.old) }
     ensures ample { W.roomy ≡ true → IsOk result }
 {
-    let three = match chosen(world, c, regs) {
-        Ok(three) => three,
+    let targets = match chosen(world, c, regs) {
+        Ok(targets) => targets,
         Err(refusal) => return Ok(CallAnswer::Refused(refusal)),
     };
     let args = [regs.r[4], regs.r[5], regs.r[6]];
-    plain(world, io, &three, job, regs.r[3] as u32, args)
+    plain(world, io, &targets, job, regs.r[3] as u32, args)
 }
 
 /// The contexts of the inner call, or the first refusal before it is looked at.
 #[tactic(auto, unfolding(crate::specs::Syscall::refusals))]
-fn chosen<W: World>(world: &W, c: Name, regs: &Regs) -> Result<Three, Refusal>
+fn chosen<W: World>(world: &W, c: Name, regs: &Regs) -> Result<CallContexts, Refusal>
     requires live { IsLive (W.seen world.now) c }
     requires named { HasItsContexts (W.seen world.now) }
     ensures refused { IfErr result (λ refusal.
         first_refusal (spec.refusals (W.seen world.now) c regs.now) ≡ Some refusal) }
-    ensures passed { IfOk result (λ three.
+    ensures passed { IfOk result (λ targets.
         first_refusal (spec.refusals (W.seen world.now) c regs.now) ≡ None) }
-    ensures three { IfOk result (λ three. three ≡ spec.three_of (W.seen world.now) c regs.now) }
-    ensures call { IfOk result (λ three. spec.inner_call regs.now ≤ 9) }
-    ensures memory { IfOk result (λ three. IsLive (W.seen world.now) three.memory) }
-    ensures slots { IfOk result (λ three. IsLive (W.seen world.now) three.slots) }
-    ensures cred { IfOk result (λ three. IsLive (W.seen world.now) three.cred) }
+    ensures targets { IfOk result (λ targets. targets ≡ spec.targets_of (W.seen world.now) c regs.now) }
+    ensures call { IfOk result (λ targets. spec.inner_call regs.now ≤ 9) }
+    ensures memory { IfOk result (λ targets. IsLive (W.seen world.now) targets.memory) }
+    ensures slots { IfOk result (λ targets. IsLive (W.seen world.now) targets.slots) }
+    ensures cred { IfOk result (λ targets. IsLive (W.seen world.now) targets.cred) }
 {
     let (d, keys) = context_for(world, c, regs.r[1])?;
     let Some(mask) = Mask::of(regs.r[2]) else {
@@ -67,7 +67,7 @@ fn chosen<W: World>(world: &W, c: Name, regs: &Regs) -> Result<Three, Refusal>
         return Err(Refusal::BadCall);
     }
     let taken = |kind| if mask.chooses(kind) { d } else { c };
-    Ok(Three {
+    Ok(CallContexts {
         memory: taken(Kind::Page),
         slots: taken(Kind::Slot),
         cred: taken(Kind::Cred),

@@ -9,27 +9,32 @@ ghost use Rattle.lwc_syscall.specs.Plain as spec;
 ghost use Rattle.world_face.specs.Calls.{IsLive};
 
 use crate::answer::CallAnswer;
-use crate::calls::Three;
+use crate::calls::CallContexts;
 use guest_call::descriptor_for;
 use lwc_base::{FileImage, Lent, Name, Refusal, may_open};
 use world_face::World;
 
 /// Opens a file: the lowest empty slot gets a descriptor of it.
-pub fn open<W: World>(world: &mut W, files: &[FileImage], three: &Three, file: u64) -> CallAnswer
-    requires slots { IsLive (W.seen world.old) three.now.slots }
-    requires cred { IsLive (W.seen world.old) three.now.cred }
+pub fn open<W: World>(
+    world: &mut W,
+    files: &[FileImage],
+    targets: &CallContexts,
+    file: u64,
+) -> CallAnswer
+    requires slots { IsLive (W.seen world.old) targets.now.slots }
+    requires cred { IsLive (W.seen world.old) targets.now.cred }
     requires few { length files.now ≤ MOST_FILES }
-    ensures { (io : Channels) → io.files ≡ files.now → spec.opening (W.seen world.old) io three.now file
+    ensures { (io : Channels) → io.files ≡ files.now → spec.opening (W.seen world.old) io targets.now file
         ≡ record { answer = result; world = W.seen world.new; io = io } }
 {
     if file >= files.len() as u64 {
         return CallAnswer::Refused(Refusal::NoFile);
     }
-    if !may_open(world.uid(three.cred), &files[file as usize]) {
+    if !may_open(world.uid(targets.cred), &files[file as usize]) {
         return CallAnswer::Refused(Refusal::NotPermitted);
     }
     let file = file as u8;
-    place(world, three.slots, Lent::File { file, at: 0 })
+    place(world, targets.slots, Lent::File { file, at: 0 })
 }
 
 /// Empties a slot.

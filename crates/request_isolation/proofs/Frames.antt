@@ -64,7 +64,7 @@ use Rattle.lwc_syscall.specs.Plain as calls
 use Rattle.lwc_base.specs.Refusals.{first_refusal}
 use Rattle.lwc_syscall.specs.Plain.{Outcome, answering, moved, placed, plain, read_on, refused_or, world_after}
 use Rattle.lwc_syscall.specs.Syscall as syscalls
-use Rattle.lwc_syscall.specs.declared.calls.Three.{Three}
+use Rattle.lwc_syscall.specs.declared.calls.CallContexts.{CallContexts}
 use Rattle.res_spec.specs.declared.items.SpecCall.TheVariants as spec_call
 use Rattle.job_view.proofs.Counting.{is_in_list}
 use Rattle.lwc_base.proofs.Holders.{in_clone, keeps-add_context, keeps-change_context, keeps-on_pages, keeps-put_at, keeps-share, keeps-with_overlay, lets-everywhere, value_at-keeps}
@@ -177,15 +177,15 @@ module _ (pages : ℕ) (ts : List Tag) where
         (lets-everywhere (λ k g. Unit {0}) (HasTagAt pages ts) d.job c.job) (λ k g value same is. is) (tags-share d job items live)
 
     -- a plain call that does not read
-    module _ (io : Channels) (job : ℕ) (three : Three) where
+    module _ (io : Channels) (job : ℕ) (targets : CallContexts) where
       ends : (first : Option Refusal) (done : Outcome) → KeepsTags done.world → KeepsTags (refused_or w io done first).world
       ends None done is = is
       ends (Some refusal) done is = keeps
 
-      placed-tags : (value : Descriptor) → KeepsTags (placed w io three.slots value).world
-      placed-tags value = tags-slot three.slots (unwrap_or (lowest_empty w three.slots) 0) value
+      placed-tags : (value : Descriptor) → KeepsTags (placed w io targets.slots value).world
+      placed-tags value = tags-slot targets.slots (unwrap_or (lowest_empty w targets.slots) 0) value
 
-      writing-tags : (n from count : ℕ) → KeepsTags (calls.writing w io three n from count).world
+      writing-tags : (n from count : ℕ) → KeepsTags (calls.writing w io targets n from count).world
       unfolding calls.writing
       writing-tags n from count = ends _ _ keeps
 
@@ -197,18 +197,18 @@ module _ (pages : ℕ) (ts : List Tag) where
       otherwise true x y never second = cc
       otherwise false x y never second = second
 
-      pub plain-tags : (call : ℕ) (args : List ℕ) → eqb call 4 ≡ false → KeepsTags (plain w io three job call args).world
+      pub plain-tags : (call : ℕ) (args : List ℕ) → eqb call 4 ≡ false → KeepsTags (plain w io targets job call args).world
       unfolding plain
       plain-tags call args no_read =
           either (eqb call 1) _ _ (ends _ _ (placed-tags (File (slice_index args 0) 0)))
-          (either (eqb call 2) _ _ (ends _ _ (tags-slot three.slots (slice_index args 0) Empty))
+          (either (eqb call 2) _ _ (ends _ _ (tags-slot targets.slots (slice_index args 0) Empty))
           (either (eqb call 3) _ _ (ends _ _ (placed-tags _))
           (otherwise (eqb call 4) _ _ no_read
           (either (eqb call 5) _ _ (writing-tags (slice_index args 0) (slice_index args 1) (slice_index args 2))
-          (either (eqb call 6) _ _ (ends _ _ (tags-map three.memory (slice_index args 0) (slice_index args 1) true))
-          (either (eqb call 7) _ _ (ends _ _ (tags-map three.memory (slice_index args 0) (slice_index args 1) false))
+          (either (eqb call 6) _ _ (ends _ _ (tags-map targets.memory (slice_index args 0) (slice_index args 1) true))
+          (either (eqb call 7) _ _ (ends _ _ (tags-map targets.memory (slice_index args 0) (slice_index args 1) false))
           (either (eqb call 8) _ _ keeps
-          (either (eqb call 9) _ _ (ends _ _ (tags-uid three.cred (slice_index args 0)))
+          (either (eqb call 9) _ _ (ends _ _ (tags-uid targets.cred (slice_index args 0)))
           (either (eqb call 10) _ _ keeps keeps)))))))))
 
   -- the context of a request
@@ -268,8 +268,8 @@ module _ (pages : ℕ) (ts : List Tag) where
 
     pub syscall-tags : eqb (syscalls.inner_call regs) 4 ≡ false → KeepsTags (syscalls.lw_syscall w io c job regs).world
     unfolding syscalls.lw_syscall
-    syscall-tags no_read = ends w keeps io job (syscalls.three_of w c regs) _ _
-        (plain-tags w keeps io job (syscalls.three_of w c regs) (syscalls.inner_call regs) (syscalls.inner_args regs) no_read)
+    syscall-tags no_read = ends w keeps io job (syscalls.targets_of w c regs) _ _
+        (plain-tags w keeps io job (syscalls.targets_of w c regs) (syscalls.inner_call regs) (syscalls.inner_args regs) no_read)
 
 -- what a step does that makes no store
 module _ (t : ℕ) (e : Environment) (x : Thread) (live : is_live e.world x.context ≡ true) (named_live : HasItsContexts e.world) where
@@ -384,30 +384,30 @@ module _ (inputs : Inputs) (count t : ℕ) (m : Machine) (ready : IsReady inputs
       by (Some x) is = left-frames x is x.status refl
 
 -- a read leaves as many frames in use as its store
-module _ (w : World) (io : Channels) (job : ℕ) (three : Three) (args : List ℕ) where
+module _ (w : World) (io : Channels) (job : ℕ) (targets : CallContexts) (args : List ℕ) where
   abbrev value : Descriptor
-  value = descriptor_for w three.slots (slice_index args 0)
+  value = descriptor_for w targets.slots (slice_index args 0)
 
   abbrev count : ℕ
   count = length (moved io value (slice_index args 2))
 
   abbrev stored : World
-  stored = world_after w (store_of_read w io three job args)
+  stored = world_after w (store_of_read w io targets job args)
 
   abbrev left : World
-  left = put_slot stored three.slots (slice_index args 0) (read_on count value)
+  left = put_slot stored targets.slots (slice_index args 0) (read_on count value)
 
   same-frames : used left ≡ used stored
   same-frames =
-      let up = used_put stored three.slots (slice_index args 0) (read_on count value) in
-      let down = no_more_frames stored left (kept_put stored three.slots (slice_index args 0) (read_on count value)).pages
-      (tags-slot stored.size.pages (tags stored) stored (has_its_tags stored) three.slots (slice_index args 0) (read_on count value)) in
+      let up = used_put stored targets.slots (slice_index args 0) (read_on count value) in
+      let down = no_more_frames stored left (kept_put stored targets.slots (slice_index args 0) (read_on count value)).pages
+      (tags-slot stored.size.pages (tags stored) stored (has_its_tags stored) targets.slots (slice_index args 0) (read_on count value)) in
       omega (arith, up, down)
 
   ended-frames : (first : Option Refusal) → (used (refused_or w io (answering count left io) first).world ≡ used w) ⊎ (used (refused_or w io (answering count left io) first).world ≡ used stored)
   ended-frames None = inr same-frames
   ended-frames (Some refusal) = inl refl
 
-  pub read-frames : (used (plain w io three job 4 args).world ≡ used w) ⊎ (used (plain w io three job 4 args).world ≡ used stored)
+  pub read-frames : (used (plain w io targets job 4 args).world ≡ used w) ⊎ (used (plain w io targets job 4 args).world ≡ used stored)
   unfolding plain calls.reading
   read-frames = ended-frames _

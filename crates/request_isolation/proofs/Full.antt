@@ -55,9 +55,9 @@ use Rattle.lwc_base.specs.declared.page.PageValue.TheVariants.{Zero, Data}
 use Rattle.lwc_base.specs.Summaries.{is_empty}
 use Rattle.lwc_syscall.specs.Plain as calls
 use Rattle.lwc_syscall.specs.Plain.{plain, read_refusals, reading, refused_or, store_at}
-use Rattle.lwc_syscall.specs.Syscall.{inner_args, inner_call, link, lw_syscall, mask_in, refusals, three_of}
+use Rattle.lwc_syscall.specs.Syscall.{inner_args, inner_call, link, lw_syscall, mask_in, refusals, targets_of}
 use Rattle.lwc_syscall.specs.declared.answer.CallAnswer.TheVariants.{Refused}
-use Rattle.lwc_syscall.specs.declared.calls.Three.{Three}
+use Rattle.lwc_syscall.specs.declared.calls.CallContexts.{CallContexts}
 use Rattle.request_isolation.specs.Needs.{IsFull, StoreIsFull, WantsFrames}
 use Rattle.request_isolation.proofs.Counting.{no_fewer}
 use Rattle.request_isolation.proofs.Tagged.{AtContext, AtGroup, Holder, held_in, holder_of}
@@ -274,24 +274,24 @@ few_taken (suc n) [] = omega arith
 few_taken (suc n) (y ∷ ys) = let rest = few_taken n ys in omega (arith, rest)
 
 -- a read whose store finds too few frames
-record FullRead (w : World) (io : Channels) (three : Three) (job n at count : ℕ) : Type 0 where
+record FullRead (w : World) (io : Channels) (targets : CallContexts) (job n at count : ℕ) : Type 0 where
   bytes : List ℕ
-  are : bytes ≡ calls.moved io (descriptor_for w three.slots n) count
+  are : bytes ≡ calls.moved io (descriptor_for w targets.slots n) count
   some : 1 ≤ length bytes
   short : length bytes ≤ 4096
-  full : store w three.memory job (record { at = at; bytes = bytes }) ≡ Full
+  full : store w targets.memory job (record { at = at; bytes = bytes }) ≡ Full
   within : leb (at + length bytes) (w.size.pages * PAGE_BYTES) ≡ true
-  rows : (is_empty (descriptor_for w three.slots n) ≡ false) × (is_none (calls.left io (descriptor_for w three.slots n)) ≡ false) × (ltb 4096 count ≡ false)
+  rows : (is_empty (descriptor_for w targets.slots n) ≡ false) × (is_none (calls.left io (descriptor_for w targets.slots n)) ≡ false) × (ltb 4096 count ≡ false)
 
-full_read : (w : World) (io : Channels) (three : Three) (job n at count : ℕ) → (reading w io three job n at count).answer ≡ Refused NoFrame → FullRead w io three job n at count
+full_read : (w : World) (io : Channels) (targets : CallContexts) (job n at count : ℕ) → (reading w io targets job n at count).answer ≡ Refused NoFrame → FullRead w io targets job n at count
 unfolding reading store_at
-full_read w io three job n at count is =
-    let value = descriptor_for w three.slots n in
+full_read w io targets job n at count is =
+    let value = descriptor_for w targets.slots n in
     let bytes = calls.moved io value count in
-    let stored = store_at w three.memory job at bytes in
+    let stored = store_at w targets.memory job at bytes in
     let row = refused_row w io (length bytes) _ io (first_refusal (read_refusals io value count stored)) is in
     let rows = last_row (is_empty value) (is_none (calls.left io value)) (ltb 4096 count) (calls.is_absent stored) (calls.is_read_only stored) (calls.is_full stored) row in
-    let parts = at_parts w (eqb (length bytes) 0) (leb (at + length bytes) (w.size.pages * PAGE_BYTES)) (store w three.memory job (record { at = at; bytes = bytes })) (full_is stored rows.4) in
+    let parts = at_parts w (eqb (length bytes) 0) (leb (at + length bytes) (w.size.pages * PAGE_BYTES)) (store w targets.memory job (record { at = at; bytes = bytes })) (full_is stored rows.4) in
     let few = few_taken count (unwrap_or (calls.left io value) []) in
     record {
       bytes = bytes;
@@ -306,12 +306,12 @@ full_read w io three job n at count is =
 rows_none : (a b c d g f : Bool) → a ≡ false → b ≡ false → c ≡ false → d ≡ false → g ≡ false → f ≡ false →
     first_refusal ((a, BadFd) ∷ (b, WrongKind) ∷ (c, TooLong) ∷ (d, BadAddress) ∷ (g, refusal.ReadOnly) ∷ (f, NoFrame) ∷ []) ≡ None
 rows_none false false false false false false a b c d g f = refl
-rows_none true b c d g f one two three four five six = cc
-rows_none false true c d g f one two three four five six = cc
-rows_none false false true d g f one two three four five six = cc
-rows_none false false false true g f one two three four five six = cc
-rows_none false false false false true f one two three four five six = cc
-rows_none false false false false false true one two three four five six = cc
+rows_none true b c d g f one two targets four five six = cc
+rows_none false true c d g f one two targets four five six = cc
+rows_none false false true d g f one two targets four five six = cc
+rows_none false false false true g f one two targets four five six = cc
+rows_none false false false false true f one two targets four five six = cc
+rows_none false false false false false true one two targets four five six = cc
 
 descriptor_more : (w : World) (s : Name) (n : ℕ) → descriptor_for (more w) s n ≡ descriptor_for w s n
 unfolding descriptor_for value_at context group
@@ -323,29 +323,29 @@ at_done w true within v stored a b is = cc
 at_done w false false v stored a b is = cc
 
 -- the same read where there are more frames
-read_more : (w : World) (io : Channels) (three : Three) (job n at count : ℕ) → IsSound w → (read : FullRead w io three job n at count) →
-    used w + parting_count w three.memory (record { at = at; bytes = read.bytes }) ≤ used (reading (more w) io three job n at count).world
+read_more : (w : World) (io : Channels) (targets : CallContexts) (job n at count : ℕ) → IsSound w → (read : FullRead w io targets job n at count) →
+    used w + parting_count w targets.memory (record { at = at; bytes = read.bytes }) ≤ used (reading (more w) io targets job n at count).world
 unfolding reading store_at
-read_more w io three job n at count sound read =
-    let value = descriptor_for (more w) three.slots n in
+read_more w io targets job n at count sound read =
+    let value = descriptor_for (more w) targets.slots n in
     let bytes = calls.moved io value count in
-    let same_value : value ≡ descriptor_for w three.slots n = descriptor_more w three.slots n in
+    let same_value : value ≡ descriptor_for w targets.slots n = descriptor_more w targets.slots n in
     let same : bytes ≡ read.bytes = ap (λ (d : Descriptor). calls.moved io d count) same_value ∙ sym read.are in
-    let v = after_store (more w) three.memory job (record { at = at; bytes = read.bytes }) in
-    let stored : store_at (more w) three.memory job at bytes ≡ Done v =
-    ap (store_at (more w) three.memory job at) same
-    ∙ at_done (more w) (eqb (length read.bytes) 0) (leb (at + length read.bytes) (w.size.pages * PAGE_BYTES)) v (store (more w) three.memory job (record { at = at; bytes = read.bytes }))
-    (let some = read.some in grind (arith, nat_tests)) read.within (store_more w sound three.memory job (record { at = at; bytes = read.bytes }) read.full read.some read.short) in
-    let none : first_refusal (read_refusals io value count (store_at (more w) three.memory job at bytes)) ≡ None =
-    rows_none (is_empty value) (is_none (calls.left io value)) (ltb 4096 count) (calls.is_absent (store_at (more w) three.memory job at bytes))
-    (calls.is_read_only (store_at (more w) three.memory job at bytes)) (calls.is_full (store_at (more w) three.memory job at bytes))
+    let v = after_store (more w) targets.memory job (record { at = at; bytes = read.bytes }) in
+    let stored : store_at (more w) targets.memory job at bytes ≡ Done v =
+    ap (store_at (more w) targets.memory job at) same
+    ∙ at_done (more w) (eqb (length read.bytes) 0) (leb (at + length read.bytes) (w.size.pages * PAGE_BYTES)) v (store (more w) targets.memory job (record { at = at; bytes = read.bytes }))
+    (let some = read.some in grind (arith, nat_tests)) read.within (store_more w sound targets.memory job (record { at = at; bytes = read.bytes }) read.full read.some read.short) in
+    let none : first_refusal (read_refusals io value count (store_at (more w) targets.memory job at bytes)) ≡ None =
+    rows_none (is_empty value) (is_none (calls.left io value)) (ltb 4096 count) (calls.is_absent (store_at (more w) targets.memory job at bytes))
+    (calls.is_read_only (store_at (more w) targets.memory job at bytes)) (calls.is_full (store_at (more w) targets.memory job at bytes))
     (ap is_empty same_value ∙ read.rows.0) (ap (λ (d : Descriptor). is_none (calls.left io d)) same_value ∙ read.rows.1) read.rows.2
     (ap calls.is_absent stored) (ap calls.is_read_only stored) (ap calls.is_full stored) in
-    let put = put_slot (calls.world_after (more w) (store_at (more w) three.memory job at bytes)) three.slots n (calls.read_on (length bytes) value) in
-    let world : (reading (more w) io three job n at count).world ≡ put = ap (λ (o : Option Refusal). (refused_or (more w) io (calls.answering (length bytes) put io) o).world) none in
-    let after : calls.world_after (more w) (store_at (more w) three.memory job at bytes) ≡ v = ap (calls.world_after (more w)) stored in
-    let grown = used_put (calls.world_after (more w) (store_at (more w) three.memory job at bytes)) three.slots n (calls.read_on (length bytes) value) in
-    let taken = taken_more w sound three.memory job (record { at = at; bytes = read.bytes }) read.full read.some read.short in
+    let put = put_slot (calls.world_after (more w) (store_at (more w) targets.memory job at bytes)) targets.slots n (calls.read_on (length bytes) value) in
+    let world : (reading (more w) io targets job n at count).world ≡ put = ap (λ (o : Option Refusal). (refused_or (more w) io (calls.answering (length bytes) put io) o).world) none in
+    let after : calls.world_after (more w) (store_at (more w) targets.memory job at bytes) ≡ v = ap (calls.world_after (more w)) stored in
+    let grown = used_put (calls.world_after (more w) (store_at (more w) targets.memory job at bytes)) targets.slots n (calls.read_on (length bytes) value) in
+    let taken = taken_more w sound targets.memory job (record { at = at; bytes = read.bytes }) read.full read.some read.short in
     omega (arith, grown, taken, ap used world, ap used after)
 
 -- an act that finds too few frames: the store that it makes, and what it leaves where there are more
@@ -375,20 +375,20 @@ module _ (home : Home) (e : Environment) (y : Thread) (t : ℕ) (jobs : KeepsJob
       let taken = taken_more e.world sound y.context y.job piece is.1 some short in
       omega (arith, taken, ap used world)
 
-  full_plain : (three : Three) (number : ℕ) (args : List ℕ) → number ≡ 4 → (plain e.world e.channels three y.job number args).answer ≡ Refused NoFrame →
-      (piece : Piece) × (length piece.bytes ≤ 4096) × (e.world.size.frames < used e.world + parting_count e.world three.memory piece)
-      × (IsSound e.world → used e.world + parting_count e.world three.memory piece ≤ used (plain (more e.world) e.channels three y.job number args).world)
+  full_plain : (targets : CallContexts) (number : ℕ) (args : List ℕ) → number ≡ 4 → (plain e.world e.channels targets y.job number args).answer ≡ Refused NoFrame →
+      (piece : Piece) × (length piece.bytes ≤ 4096) × (e.world.size.frames < used e.world + parting_count e.world targets.memory piece)
+      × (IsSound e.world → used e.world + parting_count e.world targets.memory piece ≤ used (plain (more e.world) e.channels targets y.job number args).world)
   unfolding plain
-  full_plain three number args four is =
+  full_plain targets number args four is =
       let arg = slice_index args in
-      let reads : (plain e.world e.channels three y.job 4 args).answer ≡ Refused NoFrame = ap (λ (k : ℕ). (plain e.world e.channels three y.job k args).answer) (sym four) ∙ is in
-      let read = full_read e.world e.channels three y.job (arg 0) (arg 1) (arg 2) reads in
-      let parts = full_parts e.world three.memory y.job (record { at = arg 1; bytes = read.bytes }) read.full in (
+      let reads : (plain e.world e.channels targets y.job 4 args).answer ≡ Refused NoFrame = ap (λ (k : ℕ). (plain e.world e.channels targets y.job k args).answer) (sym four) ∙ is in
+      let read = full_read e.world e.channels targets y.job (arg 0) (arg 1) (arg 2) reads in
+      let parts = full_parts e.world targets.memory y.job (record { at = arg 1; bytes = read.bytes }) read.full in (
         record { at = arg 1; bytes = read.bytes },
         read.short,
         parts.few,
-        λ sound. subst (λ (k : ℕ). used e.world + parting_count e.world three.memory (record { at = arg 1; bytes = read.bytes }) ≤ used (plain (more e.world) e.channels three y.job k args).world) (sym four)
-            (read_more e.world e.channels three y.job (arg 0) (arg 1) (arg 2) sound read),
+        λ sound. subst (λ (k : ℕ). used e.world + parting_count e.world targets.memory (record { at = arg 1; bytes = read.bytes }) ≤ used (plain (more e.world) e.channels targets y.job k args).world) (sym four)
+            (read_more e.world e.channels targets y.job (arg 0) (arg 1) (arg 2) sound read),
       )
 
   -- the context that a slot's descriptor is of is of the job
@@ -408,7 +408,7 @@ module _ (home : Home) (e : Environment) (y : Thread) (t : ℕ) (jobs : KeepsJob
       by_there true = value_at-in home e.world jobs.kept c (Slot n)
       by_there false = tt
 
-  memory_own : (regs : Regs) → (three_of e.world y.context regs).memory.job ≡ y.context.job
+  memory_own : (regs : Regs) → (targets_of e.world y.context regs).memory.job ≡ y.context.job
   memory_own regs = by_chosen (is_chosen (mask_in regs) kinds.Page)
     where
       by_chosen : (b : Bool) → (cond b (link e.world y.context regs).0 y.context).job ≡ y.context.job
@@ -428,16 +428,16 @@ module _ (home : Home) (e : Environment) (y : Thread) (t : ℕ) (jobs : KeepsJob
   outer_passed w io done (Some r) never is = let same : r ≡ NoFrame = cc in absurd (never (ap Some same))
 
   full_syscall : (lw_syscall e.world e.channels y.context y.job y.regs).answer ≡ Refused NoFrame →
-      (piece : Piece) × (length piece.bytes ≤ 4096) × (e.world.size.frames < used e.world + parting_count e.world (three_of e.world y.context y.regs).memory piece)
-      × (IsSound e.world → used e.world + parting_count e.world (three_of e.world y.context y.regs).memory piece ≤ used (lw_syscall (more e.world) e.channels y.context y.job y.regs).world)
+      (piece : Piece) × (length piece.bytes ≤ 4096) × (e.world.size.frames < used e.world + parting_count e.world (targets_of e.world y.context y.regs).memory piece)
+      × (IsSound e.world → used e.world + parting_count e.world (targets_of e.world y.context y.regs).memory piece ≤ used (lw_syscall (more e.world) e.channels y.context y.job y.regs).world)
   unfolding lw_syscall refusals slot_refusals descriptor_for value_at context group
   full_syscall is =
-      let three = three_of e.world y.context y.regs in
-      let passed = outer_passed e.world e.channels (plain e.world e.channels three y.job (inner_call y.regs) (inner_args y.regs)) (first_refusal (refusals e.world y.context y.regs)) (outer_rows _ _ _ _ _) is in
-      let four = (plain-reason e.world e.channels three y.job (inner_call y.regs) (inner_args y.regs) passed.1).0 in
-      let read = full_plain three (inner_call y.regs) (inner_args y.regs) four passed.1 in
-      let world : (lw_syscall (more e.world) e.channels y.context y.job y.regs).world ≡ (plain (more e.world) e.channels three y.job (inner_call y.regs) (inner_args y.regs)).world =
-      ap (λ (o : Option Refusal). (refused_or (more e.world) e.channels (plain (more e.world) e.channels three y.job (inner_call y.regs) (inner_args y.regs)) o).world) passed.0 in
+      let targets = targets_of e.world y.context y.regs in
+      let passed = outer_passed e.world e.channels (plain e.world e.channels targets y.job (inner_call y.regs) (inner_args y.regs)) (first_refusal (refusals e.world y.context y.regs)) (outer_rows _ _ _ _ _) is in
+      let four = (plain-reason e.world e.channels targets y.job (inner_call y.regs) (inner_args y.regs) passed.1).0 in
+      let read = full_plain targets (inner_call y.regs) (inner_args y.regs) four passed.1 in
+      let world : (lw_syscall (more e.world) e.channels y.context y.job y.regs).world ≡ (plain (more e.world) e.channels targets y.job (inner_call y.regs) (inner_args y.regs)).world =
+      ap (λ (o : Option Refusal). (refused_or (more e.world) e.channels (plain (more e.world) e.channels targets y.job (inner_call y.regs) (inner_args y.regs)) o).world) passed.0 in
       (read.0, read.1, read.2, λ sound. let most = read.3 sound in omega (arith, most, ap used world))
 
   full_call : (number : ℕ) (b : Bool) → eqb number LW_SYSCALL ≡ b → (cond b (lw_syscall e.world e.channels y.context y.job y.regs) (plain e.world e.channels (three_times y.context) y.job number (args_of y.regs))).answer ≡ Refused NoFrame →
@@ -447,12 +447,12 @@ module _ (home : Home) (e : Environment) (y : Thread) (t : ℕ) (jobs : KeepsJob
   full_call number true is full =
       let same : number ≡ LW_SYSCALL = eqb-true number LW_SYSCALL is in
       let found = full_syscall full in (
-        (three_of e.world y.context y.regs).memory,
+        (targets_of e.world y.context y.regs).memory,
         found.0,
         memory_own y.regs,
         found.1,
         found.2,
-        λ sound. subst (λ (k : ℕ). used e.world + parting_count e.world (three_of e.world y.context y.regs).memory found.0 ≤ used (guest_calls k t (beside (more e.world) e.channels) y).environment.world) (sym same) (found.3 sound),
+        λ sound. subst (λ (k : ℕ). used e.world + parting_count e.world (targets_of e.world y.context y.regs).memory found.0 ≤ used (guest_calls k t (beside (more e.world) e.channels) y).environment.world) (sym same) (found.3 sound),
       )
   full_call number false is full =
       let four = (plain-reason e.world e.channels (three_times y.context) y.job number (args_of y.regs) full).0 in

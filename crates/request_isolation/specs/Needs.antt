@@ -28,7 +28,7 @@ use Rattle.lwc_base.specs.declared.refusal.Refusal.TheVariants.{NoFrame}
 use Rattle.lwc_syscall.specs.Plain.{Outcome, moved, plain, store_at}
 use Rattle.lwc_syscall.specs.Syscall.{inner_call, lw_syscall}
 use Rattle.lwc_syscall.specs.declared.answer.CallAnswer.TheVariants.{Refused}
-use Rattle.lwc_syscall.specs.declared.calls.Three.{Three}
+use Rattle.lwc_syscall.specs.declared.calls.CallContexts.{CallContexts}
 use Rattle.request_isolation.specs.Alone.{ample, start_alone, steps_alone}
 
 -- the world directly after what a step does, before anything is dropped
@@ -136,7 +136,7 @@ pub record IsStoring (m : Machine) (t : ℕ) : Type 0 where
   pub stores : StoresNext (advanced m.text thread.regs).after (advanced m.text thread.regs).next
 
 -- the store that a call makes which reads
-abbrev pub store_of_read : World → Channels → Three → ℕ → List ℕ → Stored
-store_of_read w io three job args =
-    store_at w three.memory job (slice_index args 1)
-    (moved io (descriptor_for w three.slots (slice_index args 0)) (slice_index args 2))
+abbrev pub store_of_read : World → Channels → CallContexts → ℕ → List ℕ → Stored
+store_of_read w io targets job args =
+    store_at w targets.memory job (slice_index args 1)
+    (moved io (descriptor_for w targets.slots (slice_index args 0)) (slice_index args 2))

@@ -44,7 +44,7 @@ use Rattle.lwc_switch.specs.Switch as switching
 use Rattle.lwc_syscall.specs.Changes.{IsPlainChange, IsWell, Mapped, Nothing, Read, SlotPut, UidPut, Written}
 use Rattle.lwc_syscall.specs.Plain.{plain, refused_or}
 use Rattle.lwc_syscall.specs.Syscall as syscalls
-use Rattle.lwc_syscall.specs.declared.calls.Three.{Three}
+use Rattle.lwc_syscall.specs.declared.calls.CallContexts.{CallContexts}
 use Rattle.res_spec.specs.declared.items.SpecCall.TheVariants as spec_call
 use Rattle.trap_calls.proofs.Slots.{apart_slots, own-put, own_after, same-clone, same-map, same-overlay, same-put, same-put_uid, same-save, same-store, same_itself, same_then}
 use Rattle.trap_calls.specs.Guards.{AreGuarded, HasOwnSlots, LeavesToMonitors, SameSlots}
@@ -213,8 +213,8 @@ module _ (traps : Traps) (w : World) (guarded : AreGuarded traps w) where
         (λ here. let before = before_none regs is in none_shared regs d m found (named_is regs d before.0 here) before.1 forbids))
 
     -- a plain call over slots of another context than the trapped one
-    plain_same : (three : Three) (call : ℕ) (args : List ℕ) (d m : Name) → fm.get traps d ≡ Some m → three.slots ≢ d → SameSlots w (plain w io three job call args).world d
-    plain_same three call args d m found apart n within = (plain_only w io three job call args).cells d (Slot n) (λ _. apart_slots w three.slots d apart (guarded.own d m found) n within)
+    plain_same : (targets : CallContexts) (call : ℕ) (args : List ℕ) (d m : Name) → fm.get traps d ≡ Some m → targets.slots ≢ d → SameSlots w (plain w io targets job call args).world d
+    plain_same targets call args d m found apart n within = (plain_only w io targets job call args).cells d (Slot n) (λ _. apart_slots w targets.slots d apart (guarded.own d m found) n within)
 
     done_is : (m : Name) (piece : Piece) (v : World) → store w m job piece ≡ Done v → after_store w m job piece ≡ v
     unfolding store
@@ -232,24 +232,24 @@ module _ (traps : Traps) (w : World) (guarded : AreGuarded traps w) where
         by false false true e = cc
         by false false false e = ap world_in e
 
-    own-plain : (three : Three) (d m : Name) → fm.get traps d ≡ Some m → three.slots ≡ d → (v : World) (after : Channels) → IsPlainChange w io three job v after → HasOwnSlots v d
-    own-plain three d m found here _ _ Nothing = guarded.own d m found
-    own-plain three d m found here _ _ (SlotPut n value within known) =
+    own-plain : (targets : CallContexts) (d m : Name) → fm.get traps d ≡ Some m → targets.slots ≡ d → (v : World) (after : Channels) → IsPlainChange w io targets job v after → HasOwnSlots v d
+    own-plain targets d m found here _ _ Nothing = guarded.own d m found
+    own-plain targets d m found here _ _ (SlotPut n value within known) =
         subst (λ e. HasOwnSlots (put_slot w e n value) d) (sym here) (own-put w d (guarded.own d m found) (guarded.live d m found) n value)
-    own-plain three d m found here _ _ (UidPut uid) = own_after w _ d (guarded.own d m found) (same-put_uid w d (guarded.own d m found) three.cred uid)
-    own-plain three d m found here _ _ (Mapped from to present within) = own_after w _ d (guarded.own d m found) (same-map w d (guarded.own d m found) three.memory from to present)
-    own-plain three d m found here _ _ (Read v piece n value short is within known) =
-        let made = done_is three.memory piece v is in
-        let own : HasOwnSlots v d = subst (λ u. HasOwnSlots u d) made (own_after w _ d (guarded.own d m found) (same-store w three.memory d job piece (guarded.own d m found))) in
-        let live : is_live v d ≡ true = subst (λ u. is_live u d ≡ true) made ((changes.stored w three.memory job piece).live d ∙ guarded.live d m found) in
+    own-plain targets d m found here _ _ (UidPut uid) = own_after w _ d (guarded.own d m found) (same-put_uid w d (guarded.own d m found) targets.cred uid)
+    own-plain targets d m found here _ _ (Mapped from to present within) = own_after w _ d (guarded.own d m found) (same-map w d (guarded.own d m found) targets.memory from to present)
+    own-plain targets d m found here _ _ (Read v piece n value short is within known) =
+        let made = done_is targets.memory piece v is in
+        let own : HasOwnSlots v d = subst (λ u. HasOwnSlots u d) made (own_after w _ d (guarded.own d m found) (same-store w targets.memory d job piece (guarded.own d m found))) in
+        let live : is_live v d ≡ true = subst (λ u. is_live u d ≡ true) made ((changes.stored w targets.memory job piece).live d ∙ guarded.live d m found) in
         subst (λ e. HasOwnSlots (put_slot v e n value) d) (sym here) (own-put v d own live n value)
-    own-plain three d m found here _ _ (Written value bytes) = guarded.own d m found
+    own-plain targets d m found here _ _ (Written value bytes) = guarded.own d m found
 
-    abbrev three : Regs → Three
-    three regs = syscalls.three_of w c regs
+    abbrev targets : Regs → CallContexts
+    targets regs = syscalls.targets_of w c regs
 
     abbrev over_world : Regs → World
-    over_world regs = (plain w io (three regs) job (syscalls.inner_call regs) (syscalls.inner_args regs)).world
+    over_world regs = (plain w io (targets regs) job (syscalls.inner_call regs) (syscalls.inner_args regs)).world
 
     rows_none : (regs : Regs) → first_refusal (syscalls.refusals w c regs) ≡ None → first_refusal (slot_refusals w c (slice_index regs.r 1)) ≡ None
     unfolding syscalls.refusals
@@ -259,7 +259,7 @@ module _ (traps : Traps) (w : World) (guarded : AreGuarded traps w) where
         ∷ (not (has_kinds w.size.pages (syscalls.link w c regs).1 (syscalls.mask_in regs)), NotCovered)
         ∷ (nat_lt (syscalls.inner_call regs) 1 || nat_lt 9 (syscalls.inner_call regs), BadCall) ∷ []) none).0
 
-    linked : (regs : Regs) (d m : Name) → fm.get traps d ≡ Some m → (three regs).slots ≡ d → (link w c regs).0 ≡ d
+    linked : (regs : Regs) (d m : Name) → fm.get traps d ≡ Some m → (targets regs).slots ≡ d → (link w c regs).0 ≡ d
     unfolding link
     linked regs d m found same = by (is_chosen (syscalls.mask_in regs) kinds.Slot) same
       where
@@ -269,20 +269,20 @@ module _ (traps : Traps) (w : World) (guarded : AreGuarded traps w) where
 
     over_at : (regs : Regs) → first_refusal (syscalls.refusals w c regs) ≡ None → names_anothers traps w c regs ≡ false → (d m : Name) → fm.get traps d ≡ Some m →
         HasOwnSlots (over_world regs) d × ((m ≡ c) ⊎ SameSlots w (over_world regs) d)
-    over_at regs none forbids d m found = cases_name (three regs).slots d
+    over_at regs none forbids d m found = cases_name (targets regs).slots d
         (λ same. (
-          own-plain (three regs) d m found same (over_world regs) _ (does-one_thing w io (three regs) job (syscalls.inner_call regs) (syscalls.inner_args regs)
+          own-plain (targets regs) d m found same (over_world regs) _ (does-one_thing w io (targets regs) job (syscalls.inner_call regs) (syscalls.inner_args regs)
               well.named well.files (ap (is_live w) same ∙ guarded.live d m found)),
           inl (allowed regs d m found (named_is regs d (rows_none regs none) (linked regs d m found same)) forbids),
         ))
-        (λ apart. let same : SameSlots w (over_world regs) d = plain_same (three regs) (syscalls.inner_call regs) (syscalls.inner_args regs) d m found apart in
+        (λ apart. let same : SameSlots w (over_world regs) d = plain_same (targets regs) (syscalls.inner_call regs) (syscalls.inner_args regs) d m found apart in
         (own_after w (over_world regs) d (guarded.own d m found) same, inr same))
 
     chosen : (regs : Regs) → first_refusal (syscalls.refusals w c regs) ≡ None → names_anothers traps w c regs ≡ false → LeavesToMonitors traps c w (over_world regs)
     chosen regs none forbids = record { own = λ d m found. (over_at regs none forbids d m found).0; same = λ d m found. (over_at regs none forbids d m found).1 }
 
     over : (regs : Regs) (first : Option Refusal) → first_refusal (syscalls.refusals w c regs) ≡ first → names_anothers traps w c regs ≡ false →
-        LeavesToMonitors traps c w (refused_or w io (plain w io (syscalls.three_of w c regs) job (syscalls.inner_call regs) (syscalls.inner_args regs)) first).world
+        LeavesToMonitors traps c w (refused_or w io (plain w io (syscalls.targets_of w c regs) job (syscalls.inner_call regs) (syscalls.inner_args regs)) first).world
     over regs (Some refusal) is forbids = itself
     over regs None is forbids = chosen regs is forbids
 

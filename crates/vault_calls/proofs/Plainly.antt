@@ -33,7 +33,7 @@ use Rattle.lwc_base.specs.declared.regs.Regs.{Regs}
 use Rattle.lwc_syscall.specs.Plain as calls
 use Rattle.lwc_syscall.specs.Plain.{Outcome, answering, ended, is_absent, is_full, is_read_only, left, moved, placed, plain, read_on, refused_or, store_at, world_after, written}
 use Rattle.lwc_syscall.specs.Syscall as syscalls
-use Rattle.lwc_syscall.specs.declared.calls.Three.{Three}
+use Rattle.lwc_syscall.specs.declared.calls.CallContexts.{CallContexts}
 use Rattle.vault_calls.proofs.Calls.{link-shut}
 use Rattle.access_cap.proofs.Keys.{within_most}
 use Rattle.lwc_base.proofs.Needs.{any_key-some}
@@ -79,92 +79,92 @@ either-blank : (v : Name) (b : Bool) (x y z u : Outcome) → x ≡ blank_outcome
 either-blank v true x y z u first second = first
 either-blank v false x y z u first second = second
 
-module _ (v : Name) (w : World) (io : Channels) (job : ℕ) (three : Three) (outside : AreOutside v three) where
-  value-blank : (n : ℕ) → descriptor_for (blank v w) three.slots n ≡ descriptor_for w three.slots n
-  value-blank n = descriptor-blank v w three.slots n
+module _ (v : Name) (w : World) (io : Channels) (job : ℕ) (targets : CallContexts) (outside : AreOutside v targets) where
+  value-blank : (n : ℕ) → descriptor_for (blank v w) targets.slots n ≡ descriptor_for w targets.slots n
+  value-blank n = descriptor-blank v w targets.slots n
 
-  lowest-blank : lowest_empty (blank v w) three.slots ≡ lowest_empty w three.slots
-  lowest-blank = (blanks-alike v w).lowest three.slots
+  lowest-blank : lowest_empty (blank v w) targets.slots ≡ lowest_empty w targets.slots
+  lowest-blank = (blanks-alike v w).lowest targets.slots
 
-  uid-blank : uid_at (blank v w) three.cred ≡ uid_at w three.cred
-  uid-blank = (asks-alike v w three.cred outside.cred).value Cred
+  uid-blank : uid_at (blank v w) targets.cred ≡ uid_at w targets.cred
+  uid-blank = (asks-alike v w targets.cred outside.cred).value Cred
 
-  put-blank : (u : World) (n : ℕ) (value : Descriptor) → put_slot (blank v u) three.slots n value ≡ blank v (put_slot u three.slots n value)
-  put-blank u n value = (changes-alike v u three.slots outside.slots).put (Slot n) value
+  put-blank : (u : World) (n : ℕ) (value : Descriptor) → put_slot (blank v u) targets.slots n value ≡ blank v (put_slot u targets.slots n value)
+  put-blank u n value = (changes-alike v u targets.slots outside.slots).put (Slot n) value
 
-  placed-blank : (value : Descriptor) → placed (blank v w) io three.slots value ≡ blank_outcome v (placed w io three.slots value)
+  placed-blank : (value : Descriptor) → placed (blank v w) io targets.slots value ≡ blank_outcome v (placed w io targets.slots value)
   placed-blank value =
-      ap (λ o. answering (unwrap_or o 0) (put_slot (blank v w) three.slots (unwrap_or o 0) value) io) lowest-blank
-      ∙ ap (λ u. answering (unwrap_or (lowest_empty w three.slots) 0) u io) (put-blank w (unwrap_or (lowest_empty w three.slots) 0) value)
+      ap (λ o. answering (unwrap_or o 0) (put_slot (blank v w) targets.slots (unwrap_or o 0) value) io) lowest-blank
+      ∙ ap (λ u. answering (unwrap_or (lowest_empty w targets.slots) 0) u io) (put-blank w (unwrap_or (lowest_empty w targets.slots) 0) value)
 
-  opening-blank : (file : ℕ) → calls.opening (blank v w) io three file ≡ blank_outcome v (calls.opening w io three file)
+  opening-blank : (file : ℕ) → calls.opening (blank v w) io targets file ≡ blank_outcome v (calls.opening w io targets file)
   opening-blank file =
       ended-blank v w io _ _ _ _
       (λ i. (nat_le (length io.files) file, NoFile) ∷ (not (option_map_or (may_open (uid-blank i)) (slice_get io.files file) false), NotPermitted) ∷ (is_none (lowest-blank i), NoSlot) ∷ [])
       (placed-blank (File file 0))
 
-  closing-blank : (n : ℕ) → calls.closing (blank v w) io three.slots n ≡ blank_outcome v (calls.closing w io three.slots n)
+  closing-blank : (n : ℕ) → calls.closing (blank v w) io targets.slots n ≡ blank_outcome v (calls.closing w io targets.slots n)
   closing-blank n = ended-blank v w io _ _ _ _ (λ i. (is_empty (value-blank n i), BadFd) ∷ []) (ap (λ u. answering 0 u io) (put-blank w n Empty))
 
-  copying-blank : (n : ℕ) → calls.copying (blank v w) io three.slots n ≡ blank_outcome v (calls.copying w io three.slots n)
+  copying-blank : (n : ℕ) → calls.copying (blank v w) io targets.slots n ≡ blank_outcome v (calls.copying w io targets.slots n)
   copying-blank n =
       ended-blank v w io _ _ _ _ (λ i. (is_empty (value-blank n i), BadFd) ∷ (is_none (lowest-blank i), NoSlot) ∷ [])
-      (ap (placed (blank v w) io three.slots) (value-blank n) ∙ placed-blank (descriptor_for w three.slots n))
+      (ap (placed (blank v w) io targets.slots) (value-blank n) ∙ placed-blank (descriptor_for w targets.slots n))
 
-  store_at-blank : (from : ℕ) (bytes : List ℕ) → store_at (blank v w) three.memory job from bytes ≡ blank_stored v (store_at w three.memory job from bytes)
+  store_at-blank : (from : ℕ) (bytes : List ℕ) → store_at (blank v w) targets.memory job from bytes ≡ blank_stored v (store_at w targets.memory job from bytes)
   unfolding store_at
   store_at-blank from bytes = by (eqb (length bytes) 0) (nat_le (from + length bytes) (w.size.pages * PAGE_BYTES))
     where
-      by : (a b : Bool) → cond a (Done (blank v w)) (cond b (store (blank v w) three.memory job (record { at = from; bytes = bytes })) Absent)
-          ≡ blank_stored v (cond a (Done w) (cond b (store w three.memory job (record { at = from; bytes = bytes })) Absent))
+      by : (a b : Bool) → cond a (Done (blank v w)) (cond b (store (blank v w) targets.memory job (record { at = from; bytes = bytes })) Absent)
+          ≡ blank_stored v (cond a (Done w) (cond b (store w targets.memory job (record { at = from; bytes = bytes })) Absent))
       by true b = refl
-      by false true = (changes-alike v w three.memory outside.memory).store job (record { at = from; bytes = bytes })
+      by false true = (changes-alike v w targets.memory outside.memory).store job (record { at = from; bytes = bytes })
       by false false = refl
 
-  reading-blank : (n from count : ℕ) → calls.reading (blank v w) io three job n from count ≡ blank_outcome v (calls.reading w io three job n from count)
+  reading-blank : (n from count : ℕ) → calls.reading (blank v w) io targets job n from count ≡ blank_outcome v (calls.reading w io targets job n from count)
   unfolding calls.reading
   reading-blank n from count =
-      let value = descriptor_for w three.slots n in
+      let value = descriptor_for w targets.slots n in
       let bytes = moved io value count in
-      let stored = store_at w three.memory job from bytes in
-      ap (λ d. ended (blank v w) io (calls.read_refusals io d count (store_at (blank v w) three.memory job from (moved io d count)))
-      (answering (length (moved io d count)) (put_slot (world_after (blank v w) (store_at (blank v w) three.memory job from (moved io d count))) three.slots n (read_on (length (moved io d count)) d)) io))
+      let stored = store_at w targets.memory job from bytes in
+      ap (λ d. ended (blank v w) io (calls.read_refusals io d count (store_at (blank v w) targets.memory job from (moved io d count)))
+      (answering (length (moved io d count)) (put_slot (world_after (blank v w) (store_at (blank v w) targets.memory job from (moved io d count))) targets.slots n (read_on (length (moved io d count)) d)) io))
       (value-blank n)
-      ∙ ap (λ s. ended (blank v w) io (calls.read_refusals io value count s) (answering (length bytes) (put_slot (world_after (blank v w) s) three.slots n (read_on (length bytes) value)) io))
+      ∙ ap (λ s. ended (blank v w) io (calls.read_refusals io value count s) (answering (length bytes) (put_slot (world_after (blank v w) s) targets.slots n (read_on (length bytes) value)) io))
       (store_at-blank from bytes)
       ∙ ended-blank v w io _ _ _ _
       (λ i. (is_empty value, BadFd) ∷ (is_none (left io value), WrongKind) ∷ (nat_lt MOST_BYTES_OF_CALL count, TooLong) ∷ (absent-blank v stored i, BadAddress) ∷ (read_only-blank v stored i, refusal.ReadOnly) ∷ (full-blank v stored i, NoFrame) ∷ [])
-      (ap (λ u. answering (length bytes) (put_slot u three.slots n (read_on (length bytes) value)) io) (after-blank v w stored)
+      (ap (λ u. answering (length bytes) (put_slot u targets.slots n (read_on (length bytes) value)) io) (after-blank v w stored)
       ∙ ap (λ u. answering (length bytes) u io) (put-blank (world_after w stored) n (read_on (length bytes) value)))
 
-  writing-blank : (n from count : ℕ) → calls.writing (blank v w) io three n from count ≡ blank_outcome v (calls.writing w io three n from count)
+  writing-blank : (n from count : ℕ) → calls.writing (blank v w) io targets n from count ≡ blank_outcome v (calls.writing w io targets n from count)
   unfolding calls.writing
   writing-blank n from count =
-      let bytes = (asks-alike v w three.memory outside.memory).bytes from count in
+      let bytes = (asks-alike v w targets.memory outside.memory).bytes from count in
       ended-blank v w io _ _ _ _
       (λ i. calls.write_refusals io (value-blank n i) count (bytes i))
       (λ i. answering count (blank v w) (written io (value-blank n i) (unwrap_or (bytes i) [])))
 
-  mapped-blank : (from to : ℕ) (present : Bool) → mapped_or_not (blank v w) three.memory from to present ≡ blank v (mapped_or_not w three.memory from to present)
-  mapped-blank = (changes-alike v w three.memory outside.memory).map
+  mapped-blank : (from to : ℕ) (present : Bool) → mapped_or_not (blank v w) targets.memory from to present ≡ blank v (mapped_or_not w targets.memory from to present)
+  mapped-blank = (changes-alike v w targets.memory outside.memory).map
 
-  mapping-blank : (from to : ℕ) (present : Bool) → calls.mapping (blank v w) io three.memory from to present ≡ blank_outcome v (calls.mapping w io three.memory from to present)
+  mapping-blank : (from to : ℕ) (present : Bool) → calls.mapping (blank v w) io targets.memory from to present ≡ blank_outcome v (calls.mapping w io targets.memory from to present)
   mapping-blank from to present =
       ended-blank v w io _ _ _ _
       (λ i. (nat_le to from || nat_lt w.size.pages to, BadRange)
-      ∷ (nat_lt MOST_RANGES ((ap (λ u. ranges_of u three.memory) (mapped-blank from to present) ∙ (blanks-alike v (mapped_or_not w three.memory from to present)).ranges three.memory) i), TooManyRanges) ∷ [])
+      ∷ (nat_lt MOST_RANGES ((ap (λ u. ranges_of u targets.memory) (mapped-blank from to present) ∙ (blanks-alike v (mapped_or_not w targets.memory from to present)).ranges targets.memory) i), TooManyRanges) ∷ [])
       (ap (λ u. answering 0 u io) (mapped-blank from to present))
 
-  becoming-blank : (uid : ℕ) → calls.becoming (blank v w) io three.cred uid ≡ blank_outcome v (calls.becoming w io three.cred uid)
+  becoming-blank : (uid : ℕ) → calls.becoming (blank v w) io targets.cred uid ≡ blank_outcome v (calls.becoming w io targets.cred uid)
   becoming-blank uid =
       ended-blank v w io _ _ _ _
       (λ i. (nat_le (2 ^ 32) uid, BadRange) ∷ (not (may_set (uid-blank i) uid), NotPermitted) ∷ [])
-      (ap (λ u. answering 0 u io) ((changes-alike v w three.cred outside.cred).put Cred uid))
+      (ap (λ u. answering 0 u io) ((changes-alike v w targets.cred outside.cred).put Cred uid))
 
-  telling-blank : answering (uid_at (blank v w) three.cred) (blank v w) io ≡ blank_outcome v (answering (uid_at w three.cred) w io)
+  telling-blank : answering (uid_at (blank v w) targets.cred) (blank v w) io ≡ blank_outcome v (answering (uid_at w targets.cred) w io)
   telling-blank = ap (λ n. answering n (blank v w) io) uid-blank
 
-  pub plain-blank : (call : ℕ) (args : List ℕ) → plain (blank v w) io three job call args ≡ blank_outcome v (plain w io three job call args)
+  pub plain-blank : (call : ℕ) (args : List ℕ) → plain (blank v w) io targets job call args ≡ blank_outcome v (plain w io targets job call args)
   unfolding plain
   plain-blank call args =
       either-blank v (eqb call 1) _ _ _ _ (opening-blank (slice_index args 0))
@@ -182,7 +182,7 @@ module _ (v c : Name) (job : ℕ) (w : World) (io : Channels) (outside : IsOutsi
   links : syscalls.link (blank v w) c regs ≡ syscalls.link w c regs
   links = ap (link_or c) (descriptor-blank v w c (slice_index regs.r 1))
 
-  threes : syscalls.three_of (blank v w) c regs ≡ syscalls.three_of w c regs
+  threes : syscalls.targets_of (blank v w) c regs ≡ syscalls.targets_of w c regs
   threes = λ i. record {
     memory = cond (is_chosen (syscalls.mask_in regs) kinds.Page) (links i).0 c;
     slots = cond (is_chosen (syscalls.mask_in regs) kinds.Slot) (links i).0 c;
@@ -239,10 +239,10 @@ module _ (v c : Name) (job : ℕ) (w : World) (io : Channels) (outside : IsOutsi
       ∙ by (first_refusal (syscalls.refusals w c regs)) refl
     where
       by : (first : Option Refusal) → first_refusal (syscalls.refusals w c regs) ≡ first →
-          refused_or (blank v w) io (plain (blank v w) io (syscalls.three_of w c regs) job (syscalls.inner_call regs) (syscalls.inner_args regs)) first
-          ≡ blank_outcome v (refused_or w io (plain w io (syscalls.three_of w c regs) job (syscalls.inner_call regs) (syscalls.inner_args regs)) first)
+          refused_or (blank v w) io (plain (blank v w) io (syscalls.targets_of w c regs) job (syscalls.inner_call regs) (syscalls.inner_args regs)) first
+          ≡ blank_outcome v (refused_or w io (plain w io (syscalls.targets_of w c regs) job (syscalls.inner_call regs) (syscalls.inner_args regs)) first)
       by (Some refusal) is = refl
       by None is =
           let taken = taken-outside is in
-          plain-blank v w io job (syscalls.three_of w c regs) (record { memory = taken kinds.Page; slots = taken kinds.Slot; cred = taken kinds.Cred })
+          plain-blank v w io job (syscalls.targets_of w c regs) (record { memory = taken kinds.Page; slots = taken kinds.Slot; cred = taken kinds.Cred })
           (syscalls.inner_call regs) (syscalls.inner_args regs)

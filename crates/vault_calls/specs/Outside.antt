@@ -17,7 +17,7 @@ use Rattle.lwc_overlay.specs.RestrictCall.{restrict}
 use Rattle.lwc_switch.specs.Switch.{switch}
 use Rattle.lwc_syscall.specs.Plain.{Outcome, plain}
 use Rattle.lwc_syscall.specs.Syscall.{lw_syscall}
-use Rattle.lwc_syscall.specs.declared.calls.Three.{Three}
+use Rattle.lwc_syscall.specs.declared.calls.CallContexts.{CallContexts}
 use Rattle.vault_view.specs.Blank.{blank}
 
 -- a capability has no key
@@ -36,10 +36,10 @@ pub record IsOutside (v c : Name) (own : ℕ) (w : World) : Type 0 where
   pub pages : (1 ≤ w.size.pages) × (w.size.pages ≤ MOST_PAGES)
 
 -- three contexts, each another one
-pub record AreOutside (v : Name) (three : Three) : Type 0 where
-  pub memory : three.memory ≢ v
-  pub slots : three.slots ≢ v
-  pub cred : three.cred ≢ v
+pub record AreOutside (v : Name) (targets : CallContexts) : Type 0 where
+  pub memory : targets.memory ≢ v
+  pub slots : targets.slots ≢ v
+  pub cred : targets.cred ≢ v
 
 -- an answer, with a world in which a context is blank
 abbrev pub blank_end : {A : Type 0} → Name → A × World → A × World
@@ -55,7 +55,7 @@ pub record CallsAlike (v c : Name) (own t : ℕ) (w : World) (io : Channels) : T
   pub restrict : (regs : Regs) → restrict (blank v w) c regs ≡ blank_end v (restrict w c regs)
   pub overlay : (regs : Regs) → overlay (blank v w) c own regs ≡ blank_end v (overlay w c own regs)
   pub switch : (regs : Regs) → switch (blank v w) c t regs ≡ blank_end v (switch w c t regs)
-  pub plain : (three : Three) (call : ℕ) (args : List ℕ) → AreOutside v three →
-      plain (blank v w) io three own call args ≡ blank_outcome v (plain w io three own call args)
+  pub plain : (targets : CallContexts) (call : ℕ) (args : List ℕ) → AreOutside v targets →
+      plain (blank v w) io targets own call args ≡ blank_outcome v (plain w io targets own call args)
   pub syscall : (regs : Regs) →
       lw_syscall (blank v w) io c own regs ≡ blank_outcome v (lw_syscall w io c own regs)

@@ -5,5 +5,5 @@ pub returns : goal.returns
 returns c =
     record {
       cloned = λ cells to from inside low none. cloned-used cells to inside none from low;
-      changed = λ cells i stretches inside none. changed-used cells i inside none stretches;
+      changed = λ cells i page_runs inside none. changed-used cells i inside none page_runs;
     }

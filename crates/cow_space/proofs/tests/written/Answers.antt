@@ -5,8 +5,8 @@ use Rattle.lwc_base.specs.declared.cell.Cell.TheVariants as cell
 use Rattle.lwc_base.specs.declared.name.Tag.{Tag}
 use Rattle.lwc_base.specs.declared.page.PageValue.TheVariants.{Zero, Data}
 use Rattle.range_map.specs.Kinds.{is_between}
-use Rattle.cow_space.specs.declared.stretches.Origin.TheVariants.{Zeros}
-use Rattle.cow_space.specs.declared.stretches.Stretch.{Stretch}
+use Rattle.cow_space.specs.declared.page_runs.Origin.TheVariants.{Zeros}
+use Rattle.cow_space.specs.declared.page_runs.PageRun.{PageRun}
 use Rattle.cow_space.specs.Cells.{Place, no_pages, place_of}
 use Rattle.cow_space.specs.Changes.{cell_by, changed_place, origin_cell}
 use Rattle.cow_space.specs.Seen.{cells}
@@ -15,7 +15,7 @@ use Rattle.cow_space.proofs.tests.written.Goals as goal
 use Rattle.lwc_base.proofs.Small.{at-new}
 
 -- zeros have no tag
-zeros-new : (n : ℕ) (old new : List Place) (s : Stretch) (tag : Tag) → old ≡ replicate n no_pages → new ≡ set old 0 (changed_place old 0 (s ∷ [])) → 0 < length old → s.origin ≡ Zeros → IsNewTag new tag
+zeros-new : (n : ℕ) (old new : List Place) (s : PageRun) (tag : Tag) → old ≡ replicate n no_pages → new ≡ set old 0 (changed_place old 0 (s ∷ [])) → 0 < length old → s.origin ≡ Zeros → IsNewTag new tag
 unfolding changed_place
 zeros-new n old new s tag begun changed some zeros = λ k q bytes is.
     let none : (j : ℕ) → place_of old j q ≡ cell.Own None = λ j. ap (λ cs. place_of cs j q) begun ∙ ap (λ (place : Place). place q) (at-new n j no_pages) in
@@ -32,6 +32,6 @@ zeros-new n old new s tag begun changed some zeros = λ k q bytes is.
 
 pub write-parted-requires-clause-new : goal.write-parted-requires-clause-new
 write-parted-requires-clause-new g c =
-    zeros-new 3 (cells c.in_ok-places.places) (cells c.change.new.places) c.stretch.result (record { job = 1; k = 0 }) c.in_ok-places.ensures.cells c.change.ensures
+    zeros-new 3 (cells c.in_ok-places.places) (cells c.change.new.places) c.page_run.result (record { job = 1; k = 0 }) c.in_ok-places.ensures.cells c.change.ensures
     (omega (arith, ap length c.in_ok-places.ensures.cells, length-replicate 3 no_pages))
-    (ap (λ (s : Stretch). s.origin) c.stretch.ensures)
+    (ap (λ (s : PageRun). s.origin) c.page_run.ensures)

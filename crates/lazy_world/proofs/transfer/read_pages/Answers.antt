@@ -4,7 +4,7 @@ use Rattle.lwc_base.specs.declared.item.Item.{Item}
 use Rattle.lwc_base.specs.declared.key.Key.TheVariants.{Page}
 use Rattle.lwc_base.specs.declared.limits.TheConstants.{MOST_PAGES}
 use Rattle.lwc_base.specs.Modes.{IsSpec, mode}
-use Rattle.cow_space.specs.declared.stretches.ReadRange.{ReadRange}
+use Rattle.cow_space.specs.declared.page_runs.ReadRange.{ReadRange}
 use Rattle.cow_space.specs.Changes.{have_page}
 use Rattle.lazy_world.specs.Transfers.{is_read}
 use Rattle.lazy_world.proofs.CloneOrigins.{read_passed, read_pushed}

@@ -3,7 +3,7 @@ use Rattle.std.specs.Prelude.{All}
 use Rattle.std.proofs.lemmas.Bool.{cases_eq}
 use Rattle.range_map.specs.Kinds.{kind_at, state_at}
 use Rattle.range_map.proofs.Ranges.{absent_ranges}
-use Rattle.cow_space.specs.Changes.{IsStretch}
+use Rattle.cow_space.specs.Changes.{IsPageRun}
 use Rattle.cow_space.specs.Maps as rows
 use Rattle.cow_space.specs.Rows.{changed_row}
 use Rattle.cow_space.specs.RowSeen.{HasNoTree, maps}
@@ -20,18 +20,18 @@ index_mut-requires g c = omega (arith, kinds-in c.args.self.now c.args.i c.requi
 pub fill_row-requires-clause-row : goal.fill_row-requires-clause-row
 fill_row-requires-clause-row g c = row-in c.args.self.now c.args.i c.requires.place
 
-pub fill_row-requires-clause-stretches : goal.fill_row-requires-clause-stretches
-fill_row-requires-clause-stretches g c = subst (λ n. All (IsStretch n c.args.i) c.args.stretches.now) (row-count c.args.self.now) c.requires.stretches
+pub fill_row-requires-clause-page_runs : goal.fill_row-requires-clause-page_runs
+fill_row-requires-clause-page_runs g c = subst (λ n. All (IsPageRun n c.args.i) c.args.page_runs.now) (row-count c.args.self.now) c.requires.page_runs
 
 pub invariant_of-self : goal.invariant_of-self
 invariant_of-self g c =
     let w = c.args.self.now in
     let kinds = c.kinds_after-kinds.ensures in
-    let all = states-now w c.args.i c.args.stretches.now c.args.reads.now c.kinds_after-kinds.result c.requires.stretches kinds.states kinds.past in
+    let all = states-now w c.args.i c.args.page_runs.now c.args.reads.now c.kinds_after-kinds.result c.requires.page_runs kinds.states kinds.past in
     let some = c.has_page-some.ensures.some c.if-some.true in
     record {
-      kept = kept-still w c.args.i c.kinds_after-kinds.result (changed_row (maps w.rows) c.args.i c.args.stretches.now) (maps c.fill_row.new.rows) c.requires.place c.fill_row.ensures.maps
-          (fit-changed w c.args.i c.args.stretches.now c.args.reads.now c.kinds_after-kinds.result all) kinds.past;
+      kept = kept-still w c.args.i c.kinds_after-kinds.result (changed_row (maps w.rows) c.args.i c.args.page_runs.now) (maps c.fill_row.new.rows) c.requires.place c.fill_row.ensures.maps
+          (fit-changed w c.args.i c.args.page_runs.now c.args.reads.now c.kinds_after-kinds.result all) kinds.past;
       bare = bare-still w c.args.i c.kinds_after-kinds.result (HasNoTree c.fill_row.new.rows) c.requires.place c.fill_row.ensures.others
           (λ none. absurd (omega (arith, some, absent_ranges (state_at c.kinds_after-kinds.result) none)));
     }
@@ -52,17 +52,17 @@ unfolding cells
 returns-then-some-clause-cells g c =
     let w = c.args.self.now in
     let kinds = c.kinds_after-kinds.ensures in
-    let all = states-now w c.args.i c.args.stretches.now c.args.reads.now c.kinds_after-kinds.result c.requires.stretches kinds.states kinds.past in
-    cells-set w c.args.i c.kinds_after-kinds.result (changed_row (maps w.rows) c.args.i c.args.stretches.now) (maps c.fill_row.new.rows) c.requires.place c.fill_row.ensures.maps
-    ∙ ap (set (cells w) c.args.i) (cells-changed w c.args.i c.args.stretches.now c.args.reads.now c.kinds_after-kinds.result all)
+    let all = states-now w c.args.i c.args.page_runs.now c.args.reads.now c.kinds_after-kinds.result c.requires.page_runs kinds.states kinds.past in
+    cells-set w c.args.i c.kinds_after-kinds.result (changed_row (maps w.rows) c.args.i c.args.page_runs.now) (maps c.fill_row.new.rows) c.requires.place c.fill_row.ensures.maps
+    ∙ ap (set (cells w) c.args.i) (cells-changed w c.args.i c.args.page_runs.now c.args.reads.now c.kinds_after-kinds.result all)
 
 pub returns-then-some-clause-rights : goal.returns-then-some-clause-rights
 unfolding rights
 returns-then-some-clause-rights g c =
     let w = c.args.self.now in
     let kinds = c.kinds_after-kinds.ensures in
-    let all = states-now w c.args.i c.args.stretches.now c.args.reads.now c.kinds_after-kinds.result c.requires.stretches kinds.states kinds.past in
-    rights-set w c.args.i c.kinds_after-kinds.result ∙ ap (set (rights w) c.args.i) (rights-changed w c.args.i c.args.stretches.now c.args.reads.now c.kinds_after-kinds.result all)
+    let all = states-now w c.args.i c.args.page_runs.now c.args.reads.now c.kinds_after-kinds.result c.requires.page_runs kinds.states kinds.past in
+    rights-set w c.args.i c.kinds_after-kinds.result ∙ ap (set (rights w) c.args.i) (rights-changed w c.args.i c.args.page_runs.now c.args.reads.now c.kinds_after-kinds.result all)
 
 pub returns-then-some-clause-nodes_empty : goal.returns-then-some-clause-nodes_empty
 unfolding free_nodes rows_seen.free_nodes
@@ -76,27 +76,27 @@ unfolding cells
 returns-else-some-clause-cells g c =
     let w = c.args.self.now in
     let kinds = c.kinds_after-kinds.ensures in
-    let all = states-now w c.args.i c.args.stretches.now c.args.reads.now c.kinds_after-kinds.result c.requires.stretches kinds.states kinds.past in
+    let all = states-now w c.args.i c.args.page_runs.now c.args.reads.now c.kinds_after-kinds.result c.requires.page_runs kinds.states kinds.past in
     cells-set w c.args.i c.kinds_after-kinds.result rows.no_pages (maps c.drop_row.new.self) c.requires.place c.drop_row.ensures.maps
-    ∙ ap (set (cells w) c.args.i) (none-left w c.args.i c.args.stretches.now c.args.reads.now c.kinds_after-kinds.result all (c.has_page-some.ensures.none c.if-some.false))
+    ∙ ap (set (cells w) c.args.i) (none-left w c.args.i c.args.page_runs.now c.args.reads.now c.kinds_after-kinds.result all (c.has_page-some.ensures.none c.if-some.false))
 
 pub returns-else-some-clause-cost : goal.returns-else-some-clause-cost
 returns-else-some-clause-cost g c =
     let w = c.args.self.now in
     let kinds = c.kinds_after-kinds.ensures in
-    let all = states-now w c.args.i c.args.stretches.now c.args.reads.now c.kinds_after-kinds.result c.requires.stretches kinds.states kinds.past in
+    let all = states-now w c.args.i c.args.page_runs.now c.args.reads.now c.kinds_after-kinds.result c.requires.page_runs kinds.states kinds.past in
     ⊎_elim
-    (λ zero. omega (arith, c.drop_row.ensures.cost_empty (none-before w c.args.i c.args.stretches.now c.args.reads.now c.kinds_after-kinds.result all (c.has_page-some.ensures.none c.if-some.false) zero)))
+    (λ zero. omega (arith, c.drop_row.ensures.cost_empty (none-before w c.args.i c.args.page_runs.now c.args.reads.now c.kinds_after-kinds.result all (c.has_page-some.ensures.none c.if-some.false) zero)))
     (λ some. omega (arith, some, c.drop_row.ensures.cost))
-    (cases_eq (length c.args.stretches.now) 0)
+    (cases_eq (length c.args.page_runs.now) 0)
 
 pub returns-else-some-clause-rights : goal.returns-else-some-clause-rights
 unfolding rights
 returns-else-some-clause-rights g c =
     let w = c.args.self.now in
     let kinds = c.kinds_after-kinds.ensures in
-    let all = states-now w c.args.i c.args.stretches.now c.args.reads.now c.kinds_after-kinds.result c.requires.stretches kinds.states kinds.past in
-    rights-set w c.args.i c.kinds_after-kinds.result ∙ ap (set (rights w) c.args.i) (rights-changed w c.args.i c.args.stretches.now c.args.reads.now c.kinds_after-kinds.result all)
+    let all = states-now w c.args.i c.args.page_runs.now c.args.reads.now c.kinds_after-kinds.result c.requires.page_runs kinds.states kinds.past in
+    rights-set w c.args.i c.kinds_after-kinds.result ∙ ap (set (rights w) c.args.i) (rights-changed w c.args.i c.args.page_runs.now c.args.reads.now c.kinds_after-kinds.result all)
 
 pub returns-else-some-clause-cost_empty : goal.returns-else-some-clause-cost_empty
 returns-else-some-clause-cost_empty g c empty = omega (arith, c.drop_row.ensures.cost_empty (no-tree c.args.self.now c.args.i empty))

@@ -17,12 +17,12 @@ pieces-init c = record { inside = omega arith; counted = refl; first = λ _. ref
 
 pub overflow_add-count : goal.overflow_add-count
 overflow_add-count c =
-    let few = few_ranges (changed_states (cells c.args.self.now) (rights c.args.self.now) c.args.i c.args.stretches.now c.args.reads.now) c.pieces.p in
+    let few = few_ranges (changed_states (cells c.args.self.now) (rights c.args.self.now) c.args.i c.args.page_runs.now c.args.reads.now) c.pieces.p in
     omega (arith, few, c.pieces.invariant.counted, c.pieces.invariant.inside)
 
 pub pieces-preserved-then-ne : goal.pieces-preserved-then-ne
 pieces-preserved-then-ne c =
-    let after = changed_states (cells c.args.self.now) (rights c.args.self.now) c.args.i c.args.stretches.now c.args.reads.now in
+    let after = changed_states (cells c.args.self.now) (rights c.args.self.now) c.args.i c.args.page_runs.now c.args.reads.now in
     let piece = c.piece_at-piece.ensures in
     let inv = c.pieces.invariant in
     let more = piece-counts after c.pieces.p c.piece_at-piece.result.to c.pieces.last c.state-state.result piece.past inv.first inv.later (λ q low high. piece.state q low high ∙ sym c.state-state.ensures) in
@@ -36,7 +36,7 @@ pieces-preserved-then-ne c =
 
 pub pieces-preserved : goal.pieces-preserved
 pieces-preserved c =
-    let after = changed_states (cells c.args.self.now) (rights c.args.self.now) c.args.i c.args.stretches.now c.args.reads.now in
+    let after = changed_states (cells c.args.self.now) (rights c.args.self.now) c.args.i c.args.page_runs.now c.args.reads.now in
     let piece = c.piece_at-piece.ensures in
     let inv = c.pieces.invariant in
     let more = piece-counts after c.pieces.p c.piece_at-piece.result.to c.pieces.last c.state-state.result piece.past inv.first inv.later (λ q low high. piece.state q low high ∙ sym c.state-state.ensures) in

@@ -8,9 +8,9 @@ use Rattle.cow_space.proofs.cells.PageCells.count_after.Given as goal
 abbrev pub invariant-pieces : goal.invariant-pieces
 invariant-pieces l = record {
   inside : l.p ≤ MOST_PAGES;
-  counted : l.count ≡ ranges l.p (changed_states (cells l.self) (rights l.self) l.i l.stretches l.reads);
+  counted : l.count ≡ ranges l.p (changed_states (cells l.self) (rights l.self) l.i l.page_runs l.reads);
   first : l.p ≡ 0 → l.last ≡ None;
-  later : (k : ℕ) → l.p ≡ suc k → l.last ≡ changed_states (cells l.self) (rights l.self) l.i l.stretches l.reads k;
+  later : (k : ℕ) → l.p ≡ suc k → l.last ≡ changed_states (cells l.self) (rights l.self) l.i l.page_runs l.reads k;
 }
 
 abbrev pub decreases-pieces : goal.decreases-pieces

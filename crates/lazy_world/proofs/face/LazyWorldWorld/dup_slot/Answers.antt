@@ -2,20 +2,20 @@ use Rattle.std.proofs.Common.{ap, subst, sym, ◌∙◌}
 use Rattle.lwc_base.specs.Cells.{put_slot, slot_at}
 use Rattle.lwc_base.specs.World.{World}
 use Rattle.lazy_world.specs.declared.world.PlacedWorld.{PlacedWorld}
-use Rattle.lazy_world.specs.Anchors.{AreReached, with_anchor}
+use Rattle.lazy_world.specs.CachedRoots.{AreReached, with_cached_root}
 use Rattle.lazy_world.specs.Worlds.{seen}
-use Rattle.lazy_world.proofs.AnchorLemmas.{reached-put}
+use Rattle.lazy_world.proofs.CachedRootLemmas.{reached-put}
 use Rattle.lazy_world.proofs.face.LazyWorldWorld.dup_slot.Goals as goal
 
 pub invariant_of-self : goal.invariant_of-self
 invariant_of-self c =
     let old = c.args.self.now in
     let value = slot_at (seen old.world) c.args.c c.args.from in
-    let put = c.dup_slot.ensures.put ∙ ap (λ (p : PlacedWorld). put_slot (seen p) c.args.c c.args.to (slot_at (seen p) c.args.c c.args.from)) c.add_anchor.ensures.world in
+    let put = c.dup_slot.ensures.put ∙ ap (λ (p : PlacedWorld). put_slot (seen p) c.args.c c.args.to (slot_at (seen p) c.args.c c.args.from)) c.add_cached_root.ensures.world in
     record {
       reached = λ known.
-          subst (AreReached (seen c.dup_slot.new.self)) (sym (c.add_anchor.ensures.anchors known))
-          (subst (λ (w : World). AreReached w (with_anchor old.anchors.items c.link-lost.result)) (sym put)
-          (reached-put (seen old.world) old.anchors.items (old.reached (c.add_anchor.ensures.kept known))
+          subst (AreReached (seen c.dup_slot.new.self)) (sym (c.add_cached_root.ensures.cached_roots known))
+          (subst (λ (w : World). AreReached w (with_cached_root old.cached_roots.items c.link-lost.result)) (sym put)
+          (reached-put (seen old.world) old.cached_roots.items (old.reached (c.add_cached_root.ensures.kept known))
           c.args.c c.args.to value c.link-lost.result c.link-lost.ensures));
     }

@@ -2,9 +2,9 @@ use Rattle.std.proofs.Common.{◌+◌, ◌*◌, ◌≤◌, length, subst, sym}
 use Rattle.lwc_base.specs.declared.page.TheConstants.{PAGE_BYTES}
 use Rattle.lwc_base.specs.World.{World}
 use Rattle.world_face.specs.Calls.{IsLive, MayName}
-use Rattle.lazy_world.specs.Anchors.{AreReached}
+use Rattle.lazy_world.specs.CachedRoots.{AreReached}
 use Rattle.lazy_world.specs.Worlds.{seen}
-use Rattle.lazy_world.proofs.AnchorLemmas.{reached-store, reached-stored}
+use Rattle.lazy_world.proofs.CachedRootLemmas.{reached-store, reached-stored}
 use Rattle.lazy_world.proofs.face.LazyWorldWorld.store.Goals as goal
 
 pub invariant_of-self : goal.invariant_of-self
@@ -12,7 +12,7 @@ invariant_of-self c =
     let old = c.args.self.now in
     record {
       reached = λ known.
-          reached-store (seen old.world) old.anchors.items (old.reached known) (seen c.store_in_place.new.self) c.args.c c.args.job
+          reached-store (seen old.world) old.cached_roots.items (old.reached known) (seen c.store_in_place.new.self) c.args.c c.args.job
           (record { at = c.args.at; bytes = c.args.piece.now }) (c.store_in_place.ensures.done c.if-store_in_place.true c.args.job);
     }
 
@@ -32,6 +32,6 @@ invariant_of-self-2 c =
     let same = sym (c.store_in_place.ensures.same c.if-store_in_place.false) in
     record {
       reached = λ known.
-          reached-stored (seen c.store_in_place.new.self) old.anchors.items (subst (λ (w : World). AreReached w old.anchors.items) same (old.reached known)) (seen c.store.new.self) c.args.c c.args.job
+          reached-stored (seen c.store_in_place.new.self) old.cached_roots.items (subst (λ (w : World). AreReached w old.cached_roots.items) same (old.reached known)) (seen c.store.new.self) c.args.c c.args.job
           (record { at = c.args.at; bytes = c.args.piece.now }) c.store.result c.store.ensures.done c.store.ensures.err;
     }

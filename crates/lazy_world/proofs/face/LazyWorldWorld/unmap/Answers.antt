@@ -1,8 +1,8 @@
 use Rattle.std.proofs.Common.{subst, sym}
 use Rattle.lwc_base.specs.World.{World}
-use Rattle.lazy_world.specs.Anchors.{AreReached}
+use Rattle.lazy_world.specs.CachedRoots.{AreReached}
 use Rattle.lazy_world.specs.Worlds.{seen}
-use Rattle.lazy_world.proofs.AnchorLemmas.{reached-unmap}
+use Rattle.lazy_world.proofs.CachedRootLemmas.{reached-unmap}
 use Rattle.lazy_world.proofs.face.LazyWorldWorld.unmap.Goals as goal
 
 pub invariant_of-self : goal.invariant_of-self
@@ -10,6 +10,6 @@ invariant_of-self c =
     let old = c.args.self.now in
     record {
       reached = λ known.
-          subst (λ (w : World). AreReached w old.anchors.items) (sym c.unmap.ensures.unmapped)
-          (reached-unmap (seen old.world) old.anchors.items (old.reached known) c.args.c c.args.range.from c.args.range.to);
+          subst (λ (w : World). AreReached w old.cached_roots.items) (sym c.unmap.ensures.unmapped)
+          (reached-unmap (seen old.world) old.cached_roots.items (old.reached known) c.args.c c.args.range.from c.args.range.to);
     }

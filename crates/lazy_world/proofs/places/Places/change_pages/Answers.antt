@@ -5,13 +5,13 @@ use Rattle.range_map.specs.Kinds.{ranges}
 use Rattle.fd_table.specs.Seen as slots_seen
 use Rattle.cow_space.specs.Seen as pages_seen
 use Rattle.cow_space.specs.Cells.{rights_of}
-use Rattle.cow_space.specs.declared.stretches.Stretch.{Stretch}
-use Rattle.cow_space.specs.Changes.{IsStretch, changed_place, changed_rights, changed_states}
+use Rattle.cow_space.specs.declared.page_runs.PageRun.{PageRun}
+use Rattle.cow_space.specs.Changes.{IsPageRun, changed_place, changed_rights, changed_states}
 use Rattle.cow_space.specs.Tags.{used}
 use Rattle.lazy_world.specs.Cells.{put_rights, rows_of}
 use Rattle.lazy_world.specs.Seen.{count, frame_count, free_nodes, rights, rows, used_frames, pool}
-use Rattle.lazy_world.specs.declared.pieces.PageOrigins.TheVariants.{Stretches}
-use Rattle.lazy_world.proofs.TakeLemmas.{rights-given, row-given, states-given, stretches-given}
+use Rattle.lazy_world.specs.declared.pieces.PageOrigins.TheVariants.{PageRuns}
+use Rattle.lazy_world.proofs.TakeLemmas.{rights-given, row-given, states-given, page_runs-given}
 use Rattle.cow_space.proofs.Taken.{changed-used}
 use Rattle.lazy_world.proofs.PlaceLemmas.{rights-set}
 use Rattle.lazy_world.proofs.AbsentLemmas.{rights-in}
@@ -21,9 +21,9 @@ pub change-requires-clause-place : goal.change-requires-clause-place
 unfolding count
 change-requires-clause-place g c = c.requires.place
 
-pub change-requires-clause-stretches : goal.change-requires-clause-stretches
+pub change-requires-clause-page_runs : goal.change-requires-clause-page_runs
 unfolding count
-change-requires-clause-stretches g c = subst (All (IsStretch (count c.args.self.now) c.args.i)) (sym c.as_slice.ensures.value) c.requires.given
+change-requires-clause-page_runs g c = subst (All (IsPageRun (count c.args.self.now) c.args.i)) (sym c.as_slice.ensures.value) c.requires.given
 
 pub change-requires-clause-ranges : goal.change-requires-clause-ranges
 unfolding rows rights count
@@ -34,7 +34,7 @@ change-requires-clause-ranges g c =
     subst (λ (n : ℕ). n ≤ MOST_RANGES)
     (sym (ap (ranges MOST_PAGES)
     ((λ e. changed_states cells (pages_seen.rights w.pages) c.args.i (c.as_slice.ensures.value e) (c.as_slice-2.ensures.value e))
-    ∙ states-given cells table w.uids.items c.args.i (pages_seen.rights w.pages) c.args.stretches.now c.args.reads.now))) c.requires.ranges
+    ∙ states-given cells table w.uids.items c.args.i (pages_seen.rights w.pages) c.args.page_runs.now c.args.reads.now))) c.requires.ranges
 
 pub invariant_of-self : goal.invariant_of-self
 invariant_of-self g c =
@@ -48,10 +48,10 @@ returns-clause-rows g c =
     let w = c.args.self.now in
     let cells = pages_seen.cells w.pages in
     let table = slots_seen.slots w.slots in
-    let stretches = c.args.stretches.now in
+    let page_runs = c.args.page_runs.now in
     ap (λ cells. rows_of cells table w.uids.items) c.change.ensures.cells
-    ∙ ap (λ (list : List Stretch). rows_of (set cells c.args.i (changed_place cells c.args.i list)) table w.uids.items) c.as_slice.ensures.value
-    ∙ row-given cells table w.uids.items c.args.i (Stretches stretches c.args.reads.now) (changed_place cells c.args.i stretches.items) (stretches-given cells table w.uids.items c.args.i stretches.items) c.requires.place
+    ∙ ap (λ (list : List PageRun). rows_of (set cells c.args.i (changed_place cells c.args.i list)) table w.uids.items) c.as_slice.ensures.value
+    ∙ row-given cells table w.uids.items c.args.i (PageRuns page_runs c.args.reads.now) (changed_place cells c.args.i page_runs.items) (page_runs-given cells table w.uids.items c.args.i page_runs.items) c.requires.place
 
 pub returns-clause-rights : goal.returns-clause-rights
 unfolding rows rights count
@@ -64,7 +64,7 @@ returns-clause-rights g c =
     ∙ rights-set olds c.args.i _ (rights-in w.pages c.args.i c.requires.place)
     ∙ ap (put_rights (rights_of olds) c.args.i)
     ((λ e. changed_rights cells olds c.args.i (c.as_slice.ensures.value e) (c.as_slice-2.ensures.value e))
-    ∙ (λ e p. rights-given cells table w.uids.items c.args.i olds c.args.stretches.now.items c.args.reads.now.items p e))
+    ∙ (λ e p. rights-given cells table w.uids.items c.args.i olds c.args.page_runs.now.items c.args.reads.now.items p e))
 
 pub returns-clause-count : goal.returns-clause-count
 unfolding count
@@ -88,7 +88,7 @@ returns-clause-used g c empty =
     let w = c.args.self.now in
     ap used c.change.ensures.cells
     ∙ changed-used (pages_seen.cells w.pages) c.args.i c.requires.place (λ e p. empty p e) c.as_slice.result.now
-    (subst (All (IsStretch (count w) c.args.i)) (sym c.as_slice.ensures.value) c.requires.given)
+    (subst (All (IsPageRun (count w) c.args.i)) (sym c.as_slice.ensures.value) c.requires.given)
 
 pub returns-clause-pool : goal.returns-clause-pool
 unfolding pool

@@ -3,7 +3,7 @@ use Rattle.std.specs.Prelude.{All}
 use Rattle.lwc_base.specs.declared.limits.TheConstants.{MOST_PAGES}
 use Rattle.range_map.specs.Kinds.{ranges}
 use Rattle.fd_table.specs.Seen as slots_seen
-use Rattle.cow_space.specs.Changes.{IsStretch, changed_states}
+use Rattle.cow_space.specs.Changes.{IsPageRun, changed_states}
 use Rattle.cow_space.specs.Seen as pages_seen
 use Rattle.lazy_world.specs.Seen.{count, rights, rows}
 use Rattle.lazy_world.proofs.TakeLemmas.{states-given}
@@ -13,9 +13,9 @@ pub count_after-requires-clause-place : goal.count_after-requires-clause-place
 unfolding count
 count_after-requires-clause-place c = c.requires.place
 
-pub count_after-requires-clause-stretches : goal.count_after-requires-clause-stretches
+pub count_after-requires-clause-page_runs : goal.count_after-requires-clause-page_runs
 unfolding count
-count_after-requires-clause-stretches c = subst (All (IsStretch (count c.args.self.now) c.args.i)) (sym c.as_slice.ensures.value) c.requires.given
+count_after-requires-clause-page_runs c = subst (All (IsPageRun (count c.args.self.now) c.args.i)) (sym c.as_slice.ensures.value) c.requires.given
 
 pub returns : goal.returns
 unfolding rows rights count
@@ -26,4 +26,4 @@ returns c =
     c.count_after.ensures
     ∙ ap (ranges MOST_PAGES)
     ((λ e. changed_states cells (pages_seen.rights w.pages) c.args.i (c.as_slice.ensures.value e) (c.as_slice-2.ensures.value e))
-    ∙ states-given cells table w.uids.items c.args.i (pages_seen.rights w.pages) c.args.stretches.now c.args.reads.now)
+    ∙ states-given cells table w.uids.items c.args.i (pages_seen.rights w.pages) c.args.page_runs.now c.args.reads.now)

@@ -4,13 +4,13 @@ use Rattle.lwc_base.specs.declared.limits.TheConstants.{MOST_PAGES, MOST_RANGES}
 use Rattle.range_map.specs.Kinds.{ranges}
 use Rattle.fd_table.specs.Seen as slots_seen
 use Rattle.cow_space.specs.Cells.{rights_of}
-use Rattle.cow_space.specs.Changes.{IsStretch, changed_place, changed_rights, changed_states}
+use Rattle.cow_space.specs.Changes.{IsPageRun, changed_place, changed_rights, changed_states}
 use Rattle.cow_space.specs.Seen as pages_seen
-use Rattle.cow_space.specs.declared.stretches.Stretch.{Stretch}
+use Rattle.cow_space.specs.declared.page_runs.PageRun.{PageRun}
 use Rattle.lazy_world.specs.Cells.{put_rights, rows_of}
 use Rattle.lazy_world.specs.Seen.{count, frame_count, rights, rows}
 use Rattle.lazy_world.proofs.AbsentLemmas.{absent-right, rights-in}
-use Rattle.lazy_world.proofs.MapLemmas.{is_stretch, rights-row, row-set, states-row}
+use Rattle.lazy_world.proofs.MapLemmas.{is_page_run, rights-row, row-set, states-row}
 use Rattle.lazy_world.proofs.PlaceLemmas.{rights-set}
 use Rattle.lazy_world.proofs.places.Places.set_pages_counted.Goals as goal
 
@@ -18,10 +18,10 @@ pub change-requires-clause-place : goal.change-requires-clause-place
 unfolding count
 change-requires-clause-place g c = c.requires.place
 
-pub change-requires-clause-stretches : goal.change-requires-clause-stretches
-change-requires-clause-stretches g c =
-    subst (λ (stretch : Stretch). All (IsStretch (length (pages_seen.cells c.args.self.now.pages)) c.args.i) (stretch ∷ [])) (sym c.stretch_of-stretch.ensures)
-    (is_stretch (length (pages_seen.cells c.args.self.now.pages)) c.args.i c.args.range.from c.args.range.to c.args.present c.requires.order c.requires.inside)
+pub change-requires-clause-page_runs : goal.change-requires-clause-page_runs
+change-requires-clause-page_runs g c =
+    subst (λ (page_run : PageRun). All (IsPageRun (length (pages_seen.cells c.args.self.now.pages)) c.args.i) (page_run ∷ [])) (sym c.page_run_of-page_run.ensures)
+    (is_page_run (length (pages_seen.cells c.args.self.now.pages)) c.args.i c.args.range.from c.args.range.to c.args.present c.requires.order c.requires.inside)
 
 pub change-requires-clause-ranges : goal.change-requires-clause-ranges
 unfolding rows rights
@@ -30,7 +30,7 @@ change-requires-clause-ranges g c =
     let cells = pages_seen.cells w.pages in
     let olds = pages_seen.rights w.pages in
     subst (λ (n : ℕ). n ≤ MOST_RANGES)
-    (sym (ap (λ (stretch : Stretch). ranges MOST_PAGES (changed_states cells olds c.args.i (stretch ∷ []) [])) c.stretch_of-stretch.ensures
+    (sym (ap (λ (page_run : PageRun). ranges MOST_PAGES (changed_states cells olds c.args.i (page_run ∷ []) [])) c.page_run_of-page_run.ensures
     ∙ ap (ranges MOST_PAGES)
     (states-row cells (slots_seen.slots w.slots) w.uids.items c.args.i c.args.range.from c.args.range.to c.args.present olds (absent-right w c.args.i)))) c.requires.few
 
@@ -46,7 +46,7 @@ returns-clause-rows g c =
     let w = c.args.self.now in
     ap (λ cells. rows_of cells (slots_seen.slots w.slots) w.uids.items)
     (c.change.ensures.cells
-    ∙ ap (λ (stretch : Stretch). set (pages_seen.cells w.pages) c.args.i (changed_place (pages_seen.cells w.pages) c.args.i (stretch ∷ []))) c.stretch_of-stretch.ensures)
+    ∙ ap (λ (page_run : PageRun). set (pages_seen.cells w.pages) c.args.i (changed_place (pages_seen.cells w.pages) c.args.i (page_run ∷ []))) c.page_run_of-page_run.ensures)
     ∙ row-set (pages_seen.cells w.pages) (slots_seen.slots w.slots) w.uids.items c.args.i c.args.range.from c.args.range.to c.args.present c.requires.place
 
 pub returns-clause-rights : goal.returns-clause-rights
@@ -58,7 +58,7 @@ returns-clause-rights g c =
     ap rights_of c.change.ensures.rights
     ∙ rights-set olds c.args.i _ (rights-in w.pages c.args.i c.requires.place)
     ∙ ap (put_rights (rights_of olds) c.args.i)
-    (ap (λ (stretch : Stretch). changed_rights cells olds c.args.i (stretch ∷ []) []) c.stretch_of-stretch.ensures
+    (ap (λ (page_run : PageRun). changed_rights cells olds c.args.i (page_run ∷ []) []) c.page_run_of-page_run.ensures
     ∙ rights-row cells (slots_seen.slots w.slots) w.uids.items c.args.i c.args.range.from c.args.range.to c.args.present olds (absent-right w c.args.i))
 
 pub returns-clause-count : goal.returns-clause-count

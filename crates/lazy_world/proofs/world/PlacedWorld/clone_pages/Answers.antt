@@ -27,7 +27,7 @@ pub returns-clause-gives : goal.returns-clause-gives
 unfolding seen parts world_of
 returns-clause-gives c made old q =
     let w = c.args.self.now in
-    ap (λ gift. given_or (rows w.places) (Page q) (Own None) (option_map (λ g. g.0) gift)) (c.clone_stretches.ensures.gifts q)
+    ap (λ gift. given_or (rows w.places) (Page q) (Own None) (option_map (λ g. g.0) gift)) (c.clone_runs.ensures.gifts q)
     ∙ clone_gives (parts w) w.sound.own made (mode c.args.spec.now (Page q)) c.args.from q (old (Page q)) (c.requires.settled q)
 
 pub returns-then-has_own_pages-clause-rights : goal.returns-then-has_own_pages-clause-rights
@@ -41,6 +41,6 @@ unfolding seen parts world_of
 returns-clause-rights c made to empty =
     let w = c.args.self.now in
     λ e q.
-    ((λ x. shown_right (given_or (rows w.places) (Page q) (rows w.places to (Page q)) (option_map (λ g. g.0) (c.clone_stretches.ensures.gifts q x))) (c.read_pages.ensures q x)
-    (gift_right (rights w.places) q (rights w.places to q) (c.clone_stretches.ensures.gifts q x)))
+    ((λ x. shown_right (given_or (rows w.places) (Page q) (rows w.places to (Page q)) (option_map (λ g. g.0) (c.clone_runs.ensures.gifts q x))) (c.read_pages.ensures q x)
+    (gift_right (rights w.places) q (rights w.places to q) (c.clone_runs.ensures.gifts q x)))
     ∙ clone-rights (parts w) w.sound.own w.sound.pages (no-right w.places) made (mode c.args.spec.now (Page q)) c.args.from to q (c.requires.settled q) (empty q)) e

@@ -1,5 +1,5 @@
 use Rattle.std.proofs.Common.{take}
-use Rattle.lazy_world.specs.Anchors.{HasLoose}
+use Rattle.lazy_world.specs.CachedRoots.{HasLoose}
 use Rattle.lazy_world.specs.Worlds.{seen}
 use Rattle.lazy_world.proofs.world.PlacedWorld.loose_of.Given as goal
 

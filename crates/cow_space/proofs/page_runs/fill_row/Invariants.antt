@@ -1,0 +1,28 @@
+use Rattle.std.proofs.Common.{◌≡◌, ◌≢◌, ℕ, ◌<◌, ◌≤◌, ◌+◌, ◌*◌, ◌-◌, ◌⊎◌, length}
+use Rattle.lwc_base.specs.declared.limits.TheConstants.{MOST_PAGES}
+use Rattle.page_tree.specs.Open.{entries_passed}
+use Rattle.cow_space.specs.RowSeen.{HasNoTree, HasOwnRoot, IsOpen, edge_short, frames_of, free_nodes, maps, pool}
+use Rattle.cow_space.specs.Rows.{changed_row}
+use Rattle.cow_space.proofs.Edges.{edges_to}
+use Rattle.cow_space.proofs.Filled.{filled}
+use Rattle.cow_space.proofs.page_runs.fill_row.Given as goal
+
+abbrev pub invariant-pieces : goal.invariant-pieces
+invariant-pieces g l = record {
+  inside : l.p ≤ MOST_PAGES;
+  maps : maps l.rows ≡ filled (maps l.fn.rows) l.fn.i (changed_row (maps l.fn.rows) l.fn.i l.page_runs) l.p;
+  frames : frames_of l.rows ≡ frames_of l.fn.rows;
+  pool : pool l.rows ≡ pool l.fn.rows;
+  others : (j : ℕ) → j ≢ l.fn.i → HasNoTree l.fn.rows j → HasNoTree l.rows j;
+  nodes : (free_nodes l.fn.rows ≤ free_nodes l.rows + 4 * edges_to l.page_runs l.p) ⊎ (HasOwnRoot l.rows l.fn.i × (free_nodes l.fn.rows ≤ free_nodes l.rows + (1 + 4 * edges_to l.page_runs l.p)));
+  cost : l.steps ≤ l.fn.steps + 766 * edges_to l.page_runs l.p;
+  opened : HasNoTree l.fn.rows l.fn.i → IsOpen l.rows l.fn.i l.p;
+  nodes_open : HasNoTree l.fn.rows l.fn.i → l.p < MOST_PAGES → free_nodes l.fn.rows + edge_short l.rows l.fn.i l.p ≤ free_nodes l.rows + (1 + 2 * edges_to l.page_runs l.p);
+  nodes_end : HasNoTree l.fn.rows l.fn.i → free_nodes l.fn.rows ≤ free_nodes l.rows + (1 + 2 * edges_to l.page_runs l.p);
+  cost_open : HasNoTree l.fn.rows l.fn.i → l.p < MOST_PAGES → l.steps ≤ l.fn.steps + (entries_passed l.p + 36 * edges_to l.page_runs l.p);
+  cost_end : HasNoTree l.fn.rows l.fn.i → l.steps ≤ l.fn.steps + (47 + 36 * edges_to l.page_runs l.p);
+  idle : length l.page_runs ≡ 0 → l.steps ≡ l.fn.steps;
+}
+
+abbrev pub decreases-pieces : goal.decreases-pieces
+decreases-pieces g l = MOST_PAGES - l.p

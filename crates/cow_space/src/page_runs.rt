@@ -1,0 +1,231 @@
+ghost use Rattle.std.specs.Prelude.{◌≡◌, ◌≢◌, ◌<◌, ◌≤◌, ◌+◌, ◌*◌, ◌⊎◌, ℕ, All, length, min, slice_set};
+ghost use Rattle.page_tree.specs.declared.store.TheConstants.{PAGES, TREE_NODES};
+ghost use Rattle.page_tree.specs.Open.{entries_passed};
+ghost use Rattle.lwc_base.specs.declared.limits.TheConstants.{MOST_PAGES, MOST_RANGES};
+ghost use Rattle.range_map.specs.Kinds.{ranges};
+ghost use Rattle.cow_space.specs.RowSeen as rows_seen;
+ghost use Rattle.cow_space.specs.Cells.{all_write, no_pages, place_of, rights_of, states_of};
+ghost use Rattle.cow_space.specs.Changes.{IsApart, IsPageRun, changed_place, changed_rights, changed_states};
+ghost use Rattle.cow_space.specs.Maps.{put_range, row_of};
+ghost use Rattle.cow_space.specs.Rows.{changed_row, origin_value};
+ghost use Rattle.cow_space.specs.Seen.{cells, frames_of, free_nodes, pool, rights};
+
+use crate::cells::PageCells;
+use crate::kinds::{has_page, page_run_at, page_run_edge};
+use crate::rows::Rows;
+use lwc_base::{MOST_PAGES, Name, Range, Right};
+use pool_base::Steps;
+use range_map::RangeMap;
+use std::sync::ledger::Ledger;
+
+/// What the pages of a page run get.
+#[derive(Clone, Copy, Debug, PartialEq, Eq)]
+pub enum Origin {
+    /// They become absent.
+    Absent,
+    /// They become pages of zeros of the place's own.
+    Zeros,
+    /// They are common of the group of this name.
+    Common(Name),
+    /// They become what another place has there: copies of its own pages, common of the same groups, or
+    /// absent.
+    CopyOf(usize),
+}
+
+/// The pages of a range, what they get, and the right of those that are present then: without one the right
+/// that the place that is copied has there, and `Write` if none is copied.
+#[derive(Clone, Copy, Debug, PartialEq, Eq)]
+pub struct PageRun {
+    pub range: Range,
+    pub origin: Origin,
+    pub right: Option<Right>,
+}
+
+impl Default for PageRun {
+    /// No page.
+    fn default() -> PageRun {
+        PageRun {
+            range: Range { from: 0, to: 0 },
+            origin: Origin::Absent,
+            right: None,
+        }
+    }
+}
+
+/// The pages from `from` up to and without `to`, which may only be read.
+#[derive(Clone, Copy, Debug, Default, PartialEq, Eq)]
+pub struct ReadRange {
+    pub from: u16,
+    pub to: u16,
+}
+
+/// Puts what an origin copies into a range of a row, and clears it if it copies nothing.
+fn fill_range<L: Ledger>(
+    rows: &mut Rows,
+    i: usize,
+    origin: Origin,
+    range: Range,
+    steps: &mut Steps<L>,
+)
+    requires row { i < length (rows_seen.maps rows.old) }
+    requires given { IsApart (length (rows_seen.maps rows.old)) i origin }
+    requires order { range.from < range.to }
+    requires inside { range.to ≤ PAGES }
+    ensures maps { rows_seen.maps rows.new
+        ≡ slice_set (rows_seen.maps rows.old) i
+        (put_range (row_of (rows_seen.maps rows.old) i) range.from range.to
+        (origin_value (rows_seen.maps rows.old) origin)) }
+    ensures frames { rows_seen.frames_of rows.new ≡ rows_seen.frames_of rows.old }
+    ensures pool { rows_seen.pool rows.new ≡ rows_seen.pool rows.old }
+    ensures others { (j : ℕ) → j ≢ i → rows_seen.HasNoTree rows.old j → rows_seen.HasNoTree rows.new j }
+    ensures own { (rows_seen.free_nodes rows.old ≤ rows_seen.free_nodes rows.new)
+        ⊎ (rows_seen.HasOwnRoot rows.new i) }
+    ensures nodes { rows_seen.free_nodes rows.old ≤ rows_seen.free_nodes rows.new + 5 }
+    ensures nodes_own { rows_seen.HasOwnRoot rows.old i
+        → rows_seen.free_nodes rows.old ≤ rows_seen.free_nodes rows.new + 4 }
+    ensures nodes_open { rows_seen.IsOpen rows.old i range.from
+        → rows_seen.free_nodes rows.old + rows_seen.edge_short rows.new i range.to
+        ≤ rows_seen.free_nodes rows.new + rows_seen.edge_short rows.old i range.from + 2 }
+    ensures opened { rows_seen.IsOpen rows.old i range.from → rows_seen.IsOpen rows.new i range.to }
+    ensures cost { steps.new ≤ steps.old + 766 }
+    ensures cost_open { rows_seen.IsOpen rows.old i range.from
+        → steps.new + entries_passed range.from ≤ steps.old + entries_passed range.to + 36 }
+{
+    match origin {
+        Origin::CopyOf(j) => rows.share_between(i, j, range, steps),
+        _ => rows.clear(i, range, steps),
+    }
+}
+
+/// Puts what page runs copy into a row, and clears the other pages that they have: in rising order, and each page
+/// once, so that a row without a tree takes few nodes and steps.
+fn fill_row<L: Ledger>(rows: &mut Rows, i: usize, page_runs: &[PageRun], steps: &mut Steps<L>)
+    requires row { i < length (rows_seen.maps rows.old) }
+    requires page_runs { All (IsPageRun (length (rows_seen.maps rows.old)) i) page_runs.now }
+    ensures maps { rows_seen.maps rows.new
+        ≡ slice_set (rows_seen.maps rows.old) i (changed_row (rows_seen.maps rows.old) i page_runs.now) }
+    ensures frames { rows_seen.frames_of rows.new ≡ rows_seen.frames_of rows.old }
+    ensures pool { rows_seen.pool rows.new ≡ rows_seen.pool rows.old }
+    ensures others { (j : ℕ) → j ≢ i → rows_seen.HasNoTree rows.old j → rows_seen.HasNoTree rows.new j }
+    ensures nodes { rows_seen.free_nodes rows.old
+        ≤ rows_seen.free_nodes rows.new + (1 + 8 * length page_runs.now) }
+    ensures nodes_empty { rows_seen.HasNoTree rows.old i
+        → rows_seen.free_nodes rows.old ≤ rows_seen.free_nodes rows.new + (1 + 4 * length page_runs.now) }
+    ensures cost { steps.new ≤ steps.old + 1532 * length page_runs.now }
+    ensures cost_empty { rows_seen.HasNoTree rows.old i → steps.new ≤ steps.old + 128 * length page_runs.now }
+{
+    let mut p = 0u16;
+    'pieces: while u32::from(p) < MOST_PAGES {
+        let edge = page_run_edge(page_runs, p);
+        if let Some(page_run) = page_run_at(page_runs, p) {
+            let range = Range { from: p, to: edge };
+            fill_range(rows, i, page_run.origin, range, steps);
+        }
+        p = edge;
+    }
+}
+
+impl PageCells {
+    /// The number of ranges that a place would have after `change`.
+    pub fn count_after(&self, i: usize, page_runs: &[PageRun], reads: &[ReadRange]) -> u32
+        requires place { i < length (cells self.now) }
+        requires page_runs { All (IsPageRun (length (cells self.now)) i) page_runs.now }
+        ensures { result ≡ ranges MOST_PAGES
+            (changed_states (cells self.now) (rights self.now) i page_runs.now reads.now) }
+    {
+        let mut count = 0u32;
+        let mut last = None;
+        let mut p = 0u16;
+        'pieces: while u32::from(p) < MOST_PAGES {
+            let piece = self.piece_at(i, page_runs, reads, p);
+            let state = piece.state();
+            if state.is_some() && last != state {
+                count += 1;
+            }
+            last = state;
+            p = piece.to;
+        }
+        count
+    }
+
+    /// Gives the pages of each page run of a place what its origin and its right say, and leaves all other
+    /// pages. Of two page runs that have a page, the first counts. The pages of `reads` that are present then
+    /// get the right `Read`, whether a page run has them or not. No frame is written.
+    #[tactic(auto, unfolding(crate::specs::Seen::frames_of, crate::specs::Seen::pool, crate::specs::Seen::free_nodes))]
+    pub fn change<L: Ledger>(
+        &mut self,
+        i: usize,
+        page_runs: &[PageRun],
+        reads: &[ReadRange],
+        steps: &mut Steps<L>,
+    )
+        requires place { i < length (cells self.old) }
+        requires page_runs { All (IsPageRun (length (cells self.old)) i) page_runs.now }
+        requires ranges { ranges MOST_PAGES
+            (changed_states (cells self.old) (rights self.old) i page_runs.now reads.now) ≤ MOST_RANGES }
+        ensures cells { cells self.new
+            ≡ slice_set (cells self.old) i (changed_place (cells self.old) i page_runs.now) }
+        ensures rights { rights self.new
+            ≡ slice_set (rights self.old) i
+            (changed_rights (cells self.old) (rights self.old) i page_runs.now reads.now) }
+        ensures frames { frames_of self.new ≡ frames_of self.old }
+        ensures pool { pool self.new ≡ pool self.old }
+        ensures nodes { free_nodes self.old ≤ free_nodes self.new + (1 + 8 * length page_runs.now) }
+        ensures nodes_empty { place_of (cells self.old) i ≡ no_pages
+            → free_nodes self.old ≤ free_nodes self.new + (1 + 4 * length page_runs.now) }
+        ensures cost { steps.new ≤ steps.old + 1532 * length page_runs.now }
+        ensures cost_empty { place_of (cells self.old) i ≡ no_pages
+            → steps.new ≤ steps.old + 128 * length page_runs.now }
+    {
+        let kinds = self.kinds_after(i, page_runs, reads);
+        let some = has_page(&kinds);
+        self.kinds[i] = kinds;
+        if some {
+            fill_row(&mut self.rows, i, page_runs, steps);
+        } else {
+            self.rows.drop_row(i, steps);
+        }
+    }
+
+    /// Makes all pages of a place those of another, and their rights, by one hold of the root of their tree.
+    /// No frame is written.
+    #[tactic(auto, unfolding(crate::specs::Seen::frames_of, crate::specs::Seen::pool, crate::specs::Seen::free_nodes))]
+    pub fn clone_place<L: Ledger>(&mut self, to: usize, from: usize, steps: &mut Steps<L>)
+        requires to { to < length (cells self.old) }
+        requires from { from < length (cells self.old) }
+        requires apart { from ≢ to }
+        ensures cells { cells self.new ≡ slice_set (cells self.old) to (place_of (cells self.old) from) }
+        ensures rights { rights self.new ≡ slice_set (rights self.old) to (rights_of (rights self.old) from) }
+        ensures frames { frames_of self.new ≡ frames_of self.old }
+        ensures pool { pool self.new ≡ pool self.old }
+        ensures nodes { free_nodes self.old ≤ free_nodes self.new }
+        ensures cost { steps.new ≤ steps.old + (1 + TREE_NODES) }
+        ensures cost_empty { place_of (cells self.old) to ≡ no_pages
+            → steps.new ≤ steps.old + min 1 (ranges MOST_PAGES
+            (states_of (place_of (cells self.old) from) (rights_of (rights self.old) from))) }
+    {
+        let some = has_page(&self.kinds[from]);
+        self.kinds[to] = self.kinds[from].copy();
+        if some {
+            self.rows.clone_row(to, from, steps);
+        } else {
+            self.rows.drop_row(to, steps);
+        }
+    }
+
+    /// Takes all pages from a place, and gives back all that no other place holds.
+    #[tactic(auto, unfolding(crate::specs::Seen::frames_of, crate::specs::Seen::pool, crate::specs::Seen::free_nodes))]
+    pub fn clear_place<L: Ledger>(&mut self, i: usize, steps: &mut Steps<L>)
+        requires place { i < length (cells self.old) }
+        ensures cells { cells self.new ≡ slice_set (cells self.old) i no_pages }
+        ensures rights { rights self.new ≡ slice_set (rights self.old) i all_write }
+        ensures frames { frames_of self.new ≡ frames_of self.old }
+        ensures pool { pool self.new ≡ pool self.old }
+        ensures nodes { free_nodes self.old ≤ free_nodes self.new }
+        ensures cost { steps.new ≤ steps.old + TREE_NODES }
+        ensures cost_empty { place_of (cells self.old) i ≡ no_pages → steps.new ≡ steps.old }
+    {
+        self.kinds[i].clear();
+        self.rows.drop_row(i, steps);
+    }
+}

@@ -1,0 +1,117 @@
+ghost use Rattle.std.specs.Prelude.{◌≡◌, ◌<◌, ◌≤◌, ◌⊎◌, ℕ, is_some, true};
+ghost use Rattle.std.specs.List.{find};
+ghost use Rattle.std.specs.Option.{option_copied};
+ghost use Rattle.lwc_base.specs.declared.limits.TheConstants.{MOST_PAGES};
+ghost use Rattle.range_map.specs.Kinds as spec;
+ghost use Rattle.range_map.specs.Kinds.{begins_range, is_between, is_edge};
+
+use crate::segment::{Change, PageState, Segment};
+use lwc_base::MOST_PAGES;
+
+/// The state of a page; `None` where it is absent.
+#[tactic(auto, unfolding(crate::specs::Kinds::state_at))]
+pub(crate) fn state_at(segments: &[Segment], p: u16) -> Option<PageState>
+    ensures { result ≡ spec.state_at segments.now p }
+{
+    segments
+        .iter()
+        .find(|segment| segment.from <= p && p < segment.to)
+        .map(|segment| segment.state())
+}
+
+/// The state of a page after the changes: that of the first change that has it, or the state before.
+#[tactic(auto, unfolding(crate::specs::Kinds::state_after))]
+pub(crate) fn state_after(segments: &[Segment], changes: &[Change], p: u16) -> Option<PageState>
+    ensures { result ≡ spec.state_after changes.now segments.now p }
+{
+    match change_at(changes, p) {
+        Some(change) => change.state(),
+        None => state_at(segments, p),
+    }
+}
+
+/// The first change that has a page.
+fn change_at(changes: &[Change], p: u16) -> Option<&Change>
+    ensures { option_copied result ≡ find (λ c. is_between c.from c.to p) changes.now }
+{
+    changes
+        .iter()
+        .find(|change| change.from <= p && p < change.to)
+}
+
+/// The first page past a page at which the state after the changes is another one; the end of all pages
+/// where there is none.
+pub(crate) fn run_end(segments: &[Segment], changes: &[Change], p: u16) -> u16
+    requires { p < MOST_PAGES }
+    ensures past { p < result }
+    ensures within { result ≤ MOST_PAGES }
+    ensures alike { (q : ℕ) → p ≤ q → q < result
+        → spec.state_after changes.now segments.now q ≡ spec.state_after changes.now segments.now p }
+    ensures begins { result < MOST_PAGES → begins_range (spec.state_after changes.now segments.now) result
+        ≡ is_some (spec.state_after changes.now segments.now result) }
+{
+    let state = state_after(segments, changes, p);
+    let mut end = next_edge(segments, changes, p);
+    'page_runs: while u32::from(end) < MOST_PAGES && state == state_after(segments, changes, end) {
+        end = next_edge(segments, changes, end);
+    }
+    end
+}
+
+/// Where the first segment or change after a page begins or ends, or the end of all pages.
+fn next_edge(segments: &[Segment], changes: &[Change], p: u16) -> u16
+    requires { p < MOST_PAGES }
+    ensures past { p < result }
+    ensures within { result ≤ MOST_PAGES }
+    ensures alike { (q : ℕ) → p ≤ q → q < result
+        → spec.state_after changes.now segments.now q ≡ spec.state_after changes.now segments.now p }
+{
+    let mut edge = segment_edge(segments, p);
+    for change in changes {
+        edge = sooner_edge(change.from, change.to, p, edge);
+    }
+    edge
+}
+
+/// Where the first segment after a page begins or ends, or the end of all pages.
+pub(crate) fn segment_edge(segments: &[Segment], p: u16) -> u16
+    requires { p < MOST_PAGES }
+    ensures past { p < result }
+    ensures within { result ≤ MOST_PAGES }
+    ensures alike { (q : ℕ) → p ≤ q → q < result
+        → spec.state_at segments.now q ≡ spec.state_at segments.now p }
+    ensures edge { result < MOST_PAGES → is_edge segments.now result ≡ true }
+{
+    let mut edge = MOST_PAGES as u16;
+    for segment in segments {
+        edge = sooner_edge(segment.from, segment.to, p, edge);
+    }
+    edge
+}
+
+/// Where the pages from one up to and without another first begin or end past a page, if that is before the
+/// edge; else the edge.
+pub fn sooner_edge(from: u16, to: u16, p: u16, edge: u16) -> u16
+    requires { p < edge }
+    ensures past { p < result }
+    ensures within { result ≤ edge }
+    ensures alike { (q : ℕ) → p ≤ q → q < result → is_between from to q ≡ is_between from to p }
+    ensures one { result < edge → (result ≡ from) ⊎ (result ≡ to) }
+{
+    sooner(p, sooner(p, edge, from), to)
+}
+
+/// The lesser of an edge and another number, if that lies past the page.
+fn sooner(p: u16, edge: u16, other: u16) -> u16
+    requires { p < edge }
+    ensures past { p < result }
+    ensures within { result ≤ edge }
+    ensures other { p < other → result ≤ other }
+    ensures one { result < edge → result ≡ other }
+{
+    if p < other && other < edge {
+        other
+    } else {
+        edge
+    }
+}
