@@ -4,6 +4,7 @@ pub mod Ends
 pub mod Arguments
 pub mod Headline
 pub mod Images
+pub mod InMemory
 pub mod Lines
 pub mod Numbers
 pub mod Parts

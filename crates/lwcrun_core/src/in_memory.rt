@@ -1,7 +1,9 @@
-ghost use Rattle.std.specs.Prelude.{◌≡◌, Some, [], map, string_bytes, unwrap_or};
-ghost use Rattle.lwc_io.specs.Memory.{bytes_of};
-ghost use Rattle.lwcrun_core.specs.Calls.{IsOrNoMemory, IsRunnable};
-ghost use Rattle.lwcrun_core.specs.Lines.{Command, command_of};
+ghost use Rattle.std.specs.Prelude.{◌≡◌, None, Some, map, string_bytes};
+ghost use Rattle.lwcrun_core.specs.Calls.{IsOrNoMemory, IsRunnable, status_by};
+ghost use Rattle.lwcrun_core.specs.Headline.{plan_of};
+ghost use Rattle.lwcrun_core.specs.InMemory.{contents};
+ghost use Rattle.lwcrun_core.specs.Lines.{Command, RunsThreads, command_of};
+ghost use Rattle.lwcrun_core.specs.Plans.{ComesToWork, outcome};
 
 use crate::call::lwcrun;
 use crate::status::ExitStatus;
@@ -11,8 +13,9 @@ use std::sync::Wait;
 use std::thread::Threads;
 
 /// What the program does over files in memory, none of which fails, and an output that takes all it is given. A
-/// name that was not given is an empty file. Inputs in their grammars and limits are run: the exit status is `Ok`,
-/// or `NoMemory`.
+/// name that was not given is an empty file. The exit status is `Usage` for a line that is not accepted, and that
+/// of where the command's plan leads for another one: so `Ok` for inputs in their grammars and limits. `NoMemory`
+/// may come in place of each.
 pub fn lwcrun_in_memory<R: Threads + Wait + Sync, E: Sink, G: Gate>(
     rt: &R,
     alloc: Global,
@@ -21,10 +24,14 @@ pub fn lwcrun_in_memory<R: Threads + Wait + Sync, E: Sink, G: Gate>(
     err: &mut E,
     gate: &G,
 ) -> ExitStatus
-    requires leave { G.leave gate.now }
+    requires leave { (command : Command) → command_of (map string_bytes words.now) ≡ Some command
+        → RunsThreads command → ComesToWork (λ name. Some (contents files.old.files name)) (plan_of command)
+        → G.leave gate.now }
+    ensures usage { command_of (map string_bytes words.now) ≡ None → IsOrNoMemory result ExitStatus.Usage }
+    ensures ends { (command : Command) → command_of (map string_bytes words.now) ≡ Some command
+        → IsOrNoMemory result (status_by (outcome (contents files.old.files) (plan_of command))) }
     ensures complete { (command : Command) → command_of (map string_bytes words.now) ≡ Some command
-        → IsRunnable command (λ name. unwrap_or (bytes_of files.old.files name) [])
-        → IsOrNoMemory result ExitStatus.Ok }
+        → IsRunnable command (contents files.old.files) → IsOrNoMemory result ExitStatus.Ok }
 {
     lwcrun(rt, alloc, words, files, &mut SureSink, err, gate)
 }

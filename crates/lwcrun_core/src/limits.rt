@@ -19,6 +19,7 @@ ghost use Rattle.lwc_base.specs.declared.descriptor.TheConstants.{SLOTS};
 ghost use Rattle.lwc_base.specs.declared.key.TheConstants.{NOBODY};
 ghost use Rattle.lwc_base.specs.declared.page.TheConstants.{PAGE_BYTES};
 ghost use Rattle.lwc_monitor.specs.declared.numbers.TheConstants.{EXIT, LW_TRAP, NOT_FRESH, TRAPPED};
+ghost use Rattle.lwc_text.specs.declared.vault.TheConstants.{MOST_VAULT_BYTES};
 ghost use Rattle.lwc_gen.specs.declared.generating.TheConstants.{PAGES, REQUESTS_FOR_EACH, SETTINGS};
 
 /// A law: the numbers behind the names that definitions use for limits, and for a generated serve. A
@@ -66,6 +67,7 @@ pub fn limits_are_as_documented()
     ensures trapped { TRAPPED ≡ 22 }
     ensures not_fresh { NOT_FRESH ≡ 23 }
     ensures vault_pages { MOST_VAULT_PAGES ≡ 64 }
+    ensures vault_bytes { MOST_VAULT_BYTES ≡ 262404 }
     ensures vault_slot { VAULT_SLOT ≡ 63 }
     ensures generated_pages { PAGES ≡ 300 }
     ensures generated_requests { REQUESTS_FOR_EACH ≡ 10 }
