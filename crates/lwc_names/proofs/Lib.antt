@@ -1,0 +1,17 @@
+mod Acts
+mod Answers
+mod Asks
+mod Clones
+mod Creates
+mod Frames
+mod Links
+mod Machines
+mod Outcomes
+mod Plains
+mod Puts
+mod Reaps
+mod Runs
+mod Steps
+mod Stores
+mod Tables
+mod Worlds
