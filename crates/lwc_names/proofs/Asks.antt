@@ -1,5 +1,5 @@
 -- What calls ask of a world, under other numbers.
-use Rattle.std.proofs.Common.{◌≡◌, ◌≢◌, ℕ, zero, suc, ◌+◌, ◌*◌, ◌/◌, ◌%◌, refl, sym, ap, ◌∙◌, Bool, true, false, cond, eqb, leb, not, ◌&&◌, Option, Some, None, List, [], ◌∷◌, map, arith}
+use Rattle.std.proofs.Common.{◌≡◌, ℕ, zero, suc, ◌+◌, ◌*◌, ◌/◌, ◌%◌, refl, sym, ap, ◌∙◌, cond, eqb, leb, not, ◌&&◌, Option, Some, None, List, [], ◌∷◌, map, arith}
 use Rattle.std.proofs.lemmas.Bool.Decides.{nat_tests}
 use Rattle.std.proofs.lemmas.List.Sums.{sum_by-cons}
 use Rattle.std.specs.Prelude.{count_by, slice_index}
@@ -8,16 +8,15 @@ use Rattle.std.specs.Ordering.{is_eq}
 use Rattle.std.specs.Option.{option_map, option_map_or}
 use Rattle.std.specs.FinMap as fm
 use Rattle.lwc_base.specs.Cells.{page_at, slot_at}
-use Rattle.lwc_base.specs.Memory.{byte_at, bytes_for, is_present, load}
+use Rattle.lwc_base.specs.Memory.{byte_at, bytes_for, load}
 use Rattle.lwc_base.specs.Names.{name_cmp}
-use Rattle.lwc_base.specs.Overlay.{ranges_after_overlay}
 use Rattle.lwc_base.specs.Pages.{bytes_of}
-use Rattle.lwc_base.specs.Ranges.{are_of_one_kind, begins_range, continues_range, has_page, is_page, ranges, ranges_of}
+use Rattle.lwc_base.specs.Ranges.{are_of_one_kind, begins_range, continues_range, ranges, ranges_of}
 use Rattle.lwc_base.specs.Rights.{same_right}
 use Rattle.lwc_base.specs.Sharing.{cloned_context, ranges_after_clone, share}
 use Rattle.lwc_base.specs.Slots.{lowest_empty}
 use Rattle.lwc_base.specs.Summaries.{is_empty}
-use Rattle.lwc_base.specs.World.{World, Context, Group, context, groups_of, live_of}
+use Rattle.lwc_base.specs.World.{World, Context, context, groups_of, live_of}
 use Rattle.lwc_base.specs.declared.cell.Cell.{Cell}
 use Rattle.lwc_base.specs.declared.cell.Cell.TheVariants.{Own, Common}
 use Rattle.lwc_base.specs.declared.descriptor.Descriptor.{Descriptor}
@@ -28,8 +27,7 @@ use Rattle.lwc_base.specs.declared.key.Key.TheVariants.{Page, Slot}
 use Rattle.lwc_base.specs.declared.name.Name.{Name}
 use Rattle.lwc_base.specs.declared.page.PageValue.{PageValue}
 use Rattle.lwc_base.specs.declared.page.TheConstants.{PAGE_BYTES}
-use Rattle.lwc_base.specs.declared.regs.Regs.{Regs}
-use Rattle.lwc_names.proofs.Clones.{cloned_context-shifted, overlay-shifted, page-shifted, share-shifted}
+use Rattle.lwc_names.proofs.Clones.{cloned_context-shifted, page-shifted, share-shifted}
 use Rattle.lwc_names.proofs.Reaps.{maps}
 use Rattle.lwc_names.proofs.Stores.{bytes-shifted, page_at-shifted, present-shifted}
 use Rattle.lwc_names.proofs.Tables as tables

@@ -18,7 +18,6 @@ use Rattle.lwc_base.specs.declared.name.Name.{Name}
 use Rattle.lwc_base.specs.declared.page.PageValue.{PageValue}
 use Rattle.lwc_base.specs.declared.regs.Regs.{Regs}
 use Rattle.lwc_base.specs.declared.right.Right.{Right}
-use Rattle.lwc_base.specs.declared.right.Right.TheVariants.{Write}
 use Rattle.lwc_names.proofs.Puts.{branch}
 use Rattle.lwc_names.proofs.Stores.{right_at-shifted}
 use Rattle.lwc_names.proofs.Worlds.{add_context-shifted, add_group-shifted, change_context-shifted, context-shifted, next_group-shifted, nothing-shifted, there-shifted, value_at-shifted}

@@ -1,5 +1,5 @@
 -- The call that makes a context, under other numbers.
-use Rattle.std.proofs.Common.{◌≡◌, ℕ, ◌*◌, refl, ap, ◌∙◌, Bool, ◌&&◌, leb, ltb, not, Option, Some, None, List, [], ◌∷◌, ◌++◌}
+use Rattle.std.proofs.Common.{◌≡◌, ℕ, ◌*◌, refl, ap, ◌∙◌, ◌&&◌, leb, ltb, not, Option, Some, None, List, [], ◌∷◌, ◌++◌}
 use Rattle.std.specs.Prelude.{is_none, slice_index, unwrap_or}
 use Rattle.call_items.specs.Asked as asked
 use Rattle.call_items.specs.Asked.{item_bytes, item_refusals}
@@ -10,8 +10,7 @@ use Rattle.lwc_base.specs.Refusals.{first_refusal}
 use Rattle.lwc_base.specs.Sharing.{clone_context}
 use Rattle.lwc_base.specs.Slots.{lowest_empty}
 use Rattle.lwc_base.specs.World.{World, next_context}
-use Rattle.lwc_base.specs.declared.answer.Answer.{Answer}
-use Rattle.lwc_base.specs.declared.answer.Answer.TheVariants.{Done, Refused}
+use Rattle.lwc_base.specs.declared.answer.Answer.TheVariants.{Done}
 use Rattle.lwc_base.specs.declared.descriptor.Descriptor.TheVariants.{Ctx}
 use Rattle.lwc_base.specs.declared.item.Item.{Item}
 use Rattle.lwc_base.specs.declared.limits.TheConstants.{MOST_CONTEXTS_OF_JOB, MOST_GROUPS_OF_JOB, MOST_ITEMS}

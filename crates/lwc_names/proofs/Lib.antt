@@ -10,7 +10,9 @@ mod Outcomes
 mod Plains
 mod Puts
 mod Reaps
+pub mod Replies
 mod Runs
+mod Starts
 mod Steps
 mod Stores
 mod Tables

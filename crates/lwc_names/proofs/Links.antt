@@ -1,11 +1,10 @@
 -- The calls that take a context by a slot, under other numbers: switches, restrictions and overlays; and how a request begins.
-use Rattle.std.proofs.Common.{◌≡◌, ℕ, suc, ◌+◌, refl, sym, ap, ◌∙◌, Bool, ◌&&◌, cond, eqb, leb, ltb, not, Option, Some, None, List, [], ◌∷◌, ◌++◌, arith}
+use Rattle.std.proofs.Common.{◌≡◌, ℕ, suc, ◌+◌, refl, ap, ◌∙◌, Bool, ◌&&◌, cond, eqb, leb, ltb, not, Option, Some, None, List, [], ◌∷◌, ◌++◌, arith}
 use Rattle.std.specs.Prelude.{is_none, slice_index, unwrap_or}
 use Rattle.std.specs.Option.{option_map}
 use Rattle.guest_call.specs.Guest.{are_too_many, descriptor_for, link_of, slot_refusals, with_answer}
 use Rattle.lwc_base.specs.Capabilities.{covers, empty_cap, restricted}
-use Rattle.lwc_base.specs.Cells.{page_at, put_slot, slot_at, uid_at}
-use Rattle.lwc_base.specs.Keys.{ValueOf}
+use Rattle.lwc_base.specs.Cells.{put_slot, slot_at}
 use Rattle.lwc_base.specs.Overlay as base
 use Rattle.lwc_base.specs.Overlay.{ranges_after_overlay}
 use Rattle.lwc_base.specs.Ranges.{ranges_of}
@@ -14,9 +13,7 @@ use Rattle.lwc_base.specs.Saved.{entered, save, with_saved}
 use Rattle.lwc_base.specs.Slots.{lowest_empty}
 use Rattle.lwc_base.specs.Summaries.{is_empty}
 use Rattle.lwc_base.specs.World.{World, Context, add_context, context}
-use Rattle.lwc_base.specs.declared.answer.Answer.{Answer}
 use Rattle.lwc_base.specs.declared.answer.Answer.TheVariants as answer
-use Rattle.lwc_base.specs.declared.answer.Moved.{Moved}
 use Rattle.lwc_base.specs.declared.answer.Moved.TheVariants as moved
 use Rattle.lwc_base.specs.declared.cell.Cell.TheVariants.{Own}
 use Rattle.lwc_base.specs.declared.descriptor.Cap.{Cap}
@@ -37,7 +34,7 @@ use Rattle.lwc_names.proofs.Clones.{needs-shifted, overlay-shifted}
 use Rattle.lwc_names.proofs.Creates.{item_refusals-shifted, items_of-shifted}
 use Rattle.lwc_names.proofs.Puts.{branch, put_slot-shifted}
 use Rattle.lwc_names.proofs.Worlds.{add_context-shifted, change_context-shifted, context-shifted, value_at-shifted}
-use Rattle.lwc_names.specs.Shifts.{shifted_cell, shifted_context, shifted_descriptor, shifted_job, shifted_name, shifted_value, shifted_world}
+use Rattle.lwc_names.specs.Shifts.{shifted_context, shifted_descriptor, shifted_job, shifted_name, shifted_value, shifted_world}
 use Rattle.lwc_overlay.specs.Named as named
 use Rattle.lwc_overlay.specs.OverlayCall as over
 use Rattle.lwc_overlay.specs.RestrictCall as restricts

@@ -1,5 +1,5 @@
 -- A step of a machine as a whole, under other numbers.
-use Rattle.std.proofs.Common.{◌≡◌, ℕ, zero, suc, ◌+◌, ◌-◌, ◌≤◌, refl, sym, ap, ◌∙◌, Bool, true, false, cond, eqb, ltb, Option, Some, None, List, [], ◌∷◌, ◌++◌, length, map, arith, length-append}
+use Rattle.std.proofs.Common.{◌≡◌, ℕ, zero, suc, ◌+◌, ◌-◌, ◌≤◌, refl, sym, ap, ◌∙◌, cond, ltb, Option, Some, None, List, [], ◌∷◌, ◌++◌, length, map, arith, length-append}
 use Rattle.std.proofs.lemmas.Bool.Decides.{nat_tests}
 use Rattle.std.proofs.lemmas.List.{length-replicate}
 use Rattle.std.specs.Prelude.{replicate, slice_get, slice_set}
@@ -7,16 +7,15 @@ use Rattle.std.specs.List.{range_with_len}
 use Rattle.std.specs.Option.{option_map}
 use Rattle.guest_isa.specs.declared.instr.Instr.{Instr}
 use Rattle.guest_machine.specs.Advances.{advanced}
-use Rattle.kernel_core.specs.Machine.{Environment, Machine, Serve, has_ended, home_of, homes, homes_of}
+use Rattle.kernel_core.specs.Machine.{Environment, Machine, Serve, has_ended, home_of, homes}
 use Rattle.kernel_core.specs.Step as steps
 use Rattle.kernel_core.specs.Step.{AfterStep, Outcome, after_outcome, after_thread, contexts_of, guest_calls, roots, step, step_by, thread_outcome}
 use Rattle.kernel_core.specs.declared.thread.Thread.{Thread}
 use Rattle.lwc_base.specs.Channels.{Channels, bytes_in}
 use Rattle.lwc_base.specs.Life as life
-use Rattle.lwc_base.specs.World.{World, Context}
+use Rattle.lwc_base.specs.World.{World}
 use Rattle.lwc_base.specs.declared.fault.ThreadStatus.{ThreadStatus}
 use Rattle.lwc_base.specs.declared.fault.ThreadStatus.TheVariants.{Idle, Running, Done, Faulted}
-use Rattle.lwc_base.specs.declared.name.Name.{Name}
 use Rattle.lwc_names.proofs.Acts.{advance-job}
 use Rattle.lwc_names.proofs.Frames.{map-append}
 use Rattle.lwc_names.proofs.Links.{begin-shifted}

@@ -1,12 +1,12 @@
 -- The plain calls, and the call that makes one over chosen contexts, under other numbers.
 use Rattle.std.proofs.Common.{◌≡◌, ℕ, zero, suc, ◌+◌, ◌*◌, ◌^◌, refl, sym, ap, ◌∙◌, Bool, true, false, ◌||◌, ◌&&◌, cond, eqb, leb, ltb, not, Option, Some, None, List, [], ◌∷◌, ◌++◌, length, arith}
-use Rattle.std.specs.Prelude.{drop, is_none, replicate, slice_get, slice_index, slice_index_or, slice_set, take, unwrap_or}
+use Rattle.std.specs.Prelude.{drop, is_none, replicate, slice_get, slice_index, slice_set, take, unwrap_or}
 use Rattle.std.specs.Option.{option_map_or}
 use Rattle.access_cap.specs.Kinds.{has_kinds, is_chosen}
 use Rattle.guest_call.specs.Guest.{descriptor_for, link_of}
 use Rattle.lwc_base.specs.Capabilities.{empty_cap}
 use Rattle.lwc_base.specs.Cells.{put_slot, put_uid, uid_at}
-use Rattle.lwc_base.specs.Channels.{Channels, bytes_in, contents, may_open, may_set}
+use Rattle.lwc_base.specs.Channels.{Channels, bytes_in, may_open, may_set}
 use Rattle.lwc_base.specs.Keys.{ValueOf}
 use Rattle.lwc_base.specs.Mapping.{map_pages, mapped_or_not, on_pages, unmap_pages, with_zeros, without_pages, writable_in}
 use Rattle.lwc_base.specs.Memory.{bytes_for}
@@ -15,17 +15,16 @@ use Rattle.lwc_base.specs.Refusals.{first_refusal}
 use Rattle.lwc_base.specs.Slots.{lowest_empty}
 use Rattle.lwc_base.specs.Store.{Stored, Absent, ReadOnly, Full, Done, store}
 use Rattle.lwc_base.specs.Summaries.{is_empty}
-use Rattle.lwc_base.specs.World.{World, Context}
+use Rattle.lwc_base.specs.World.{World}
 use Rattle.lwc_base.specs.declared.cell.Cell.{Cell}
-use Rattle.lwc_base.specs.declared.cell.Cell.TheVariants.{Own, Common}
-use Rattle.lwc_base.specs.declared.descriptor.Cap.{Cap}
+use Rattle.lwc_base.specs.declared.cell.Cell.TheVariants.{Own}
 use Rattle.lwc_base.specs.declared.descriptor.Descriptor.{Descriptor}
 use Rattle.lwc_base.specs.declared.descriptor.Descriptor.TheVariants.{Empty, Console, File, Request, Reply, Ctx}
 use Rattle.lwc_base.specs.declared.key.Key.{Key}
 use Rattle.lwc_base.specs.declared.key.Key.TheVariants.{Page, Slot, Cred}
 use Rattle.lwc_base.specs.declared.key.Kind.{Kind}
 use Rattle.lwc_base.specs.declared.key.Kind.TheVariants as kinds
-use Rattle.lwc_base.specs.declared.limits.TheConstants.{MOST_BYTES_OF_CALL, MOST_CONSOLE_BYTES, MOST_RANGES, MOST_REPLY_BYTES}
+use Rattle.lwc_base.specs.declared.limits.TheConstants.{MOST_BYTES_OF_CALL, MOST_RANGES, MOST_REPLY_BYTES}
 use Rattle.lwc_base.specs.declared.name.Name.{Name}
 use Rattle.lwc_base.specs.declared.page.PageValue.{PageValue}
 use Rattle.lwc_base.specs.declared.page.PageValue.TheVariants.{Zero}

@@ -1,8 +1,7 @@
 -- Runs of machines, and the frames that they use, under other numbers.
-use Rattle.std.proofs.Common.{◌≡◌, ◌⊎◌, inl, inr, ℕ, zero, suc, ◌+◌, ◌≤◌, refl, sym, ap, subst, ◌∙◌, Bool, true, false, cond, ltb, Option, Some, None, List, [], ◌∷◌, length, map, arith}
+use Rattle.std.proofs.Common.{◌≡◌, ◌⊎◌, inl, inr, ℕ, zero, suc, ◌≤◌, refl, sym, ap, subst, ◌∙◌, Bool, true, false, cond, ltb, Option, Some, None, List, [], ◌∷◌, length, arith}
 use Rattle.std.specs.Prelude.{max, slice_get, slice_set}
 use Rattle.std.specs.Option.{option_map}
-use Rattle.guest_isa.specs.declared.instr.Instr.{Instr}
 use Rattle.guest_machine.specs.Advances.{advanced}
 use Rattle.kernel_core.specs.Machine.{Environment, Machine, Serve, has_ended}
 use Rattle.kernel_core.specs.Runs.{frames_of, run}
@@ -17,7 +16,7 @@ use Rattle.lwc_names.proofs.Acts.{advance-job}
 use Rattle.lwc_names.proofs.Frames.{used-shifted}
 use Rattle.lwc_names.proofs.Machines.{get_map, step-shifted, thread-shifted}
 use Rattle.lwc_names.proofs.Outcomes.{shifted_after}
-use Rattle.lwc_names.specs.Machines.{EachActsForItsJob, shifted_environment, shifted_machine, shifted_serve, shifted_thread}
+use Rattle.lwc_names.specs.Machines.{EachActsForItsJob, shifted_machine, shifted_thread}
 use Rattle.lwc_names.specs.Shifts.{shifted_world}
 use Rattle.request_isolation.specs.Needs.{acted_world, most_used, world_by, world_left}
 

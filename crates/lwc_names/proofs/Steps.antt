@@ -1,48 +1,37 @@
 -- One step of a machine, under other numbers.
-use Rattle.std.proofs.Common.{◌≡◌, ℕ, zero, suc, ◌+◌, ◌-◌, ◌*◌, ◌≤◌, refl, sym, ap, subst, ◌∙◌, Bool, true, false, cond, eqb, leb, ltb, Option, Some, None, List, [], ◌∷◌, ◌++◌, length, map, arith}
-use Rattle.std.proofs.lemmas.Bool.Decides.{nat_tests}
-use Rattle.std.specs.Prelude.{replicate, slice_get, slice_index, slice_set}
-use Rattle.std.specs.Int.{w64, from_le_bytes, to_le_bytes}
-use Rattle.std.specs.List.{range_with_len}
+use Rattle.std.proofs.Common.{◌≡◌, ℕ, ◌+◌, ◌-◌, ◌*◌, refl, ap, ◌∙◌, cond, eqb, leb, Option, Some, None, length}
+use Rattle.std.specs.Prelude.{slice_index}
+use Rattle.std.specs.Int.{w64, from_le_bytes}
 use Rattle.std.specs.Option.{option_map}
 use Rattle.guest_isa.specs.declared.instr.Instr.{Instr}
 use Rattle.guest_isa.specs.declared.op.Op.{Op}
 use Rattle.guest_isa.specs.declared.op.Op.TheVariants.{Li, Lih, Mov, Add, Sub, Mul, Divu, Remu, And, Or, Xor, Shl, Shr, Ltu, Eq, Addi, Jmp, Jz, Jnz, Jal, Jr, Ldb, Ldw, Stb, Stw, Sys, Halt}
-use Rattle.guest_machine.specs.Advances.{advanced}
 use Rattle.guest_machine.specs.declared.progress.Advance.{Advance}
 use Rattle.guest_machine.specs.declared.progress.Next.{Next}
 use Rattle.guest_machine.specs.declared.progress.Next.TheVariants as next
-use Rattle.kernel_core.specs.Machine.{Environment, Machine, Serve, has_ended, home_of, homes, homes_of}
+use Rattle.kernel_core.specs.Machine.{Environment}
 use Rattle.kernel_core.specs.Step as steps
 use Rattle.kernel_core.specs.Step.{AfterStep, Outcome, address, answered, args_of, guest_calls, is_aligned, loaded, plainly, step, step_by, switched, three_times, with_regs, with_steps, with_world}
 use Rattle.kernel_core.specs.declared.thread.Thread.{Thread}
 use Rattle.kernel_core.specs.declared.calling.TheConstants.{LW_CREATE, LW_OVERLAY, LW_RESTRICT, LW_SWITCH, LW_SYSCALL}
-use Rattle.lwc_base.specs.Channels.{Channels, bytes_in}
-use Rattle.lwc_base.specs.Life as life
-use Rattle.lwc_base.specs.Memory.{bytes_for}
 use Rattle.lwc_base.specs.Store.{Piece, Stored, Absent, ReadOnly, Full, Done, store}
-use Rattle.lwc_base.specs.World.{World, Context, context}
+use Rattle.lwc_base.specs.World.{World}
 use Rattle.lwc_base.specs.declared.answer.Answer.{Answer}
 use Rattle.lwc_base.specs.declared.answer.Answer.TheVariants as answer
 use Rattle.lwc_base.specs.declared.answer.Moved.{Moved}
 use Rattle.lwc_base.specs.declared.answer.Moved.TheVariants as moved
 use Rattle.lwc_base.specs.declared.fault.Fault.TheVariants as fault
-use Rattle.lwc_base.specs.declared.fault.ThreadStatus.{ThreadStatus}
-use Rattle.lwc_base.specs.declared.fault.ThreadStatus.TheVariants as status
-use Rattle.lwc_base.specs.declared.name.Name.{Name}
 use Rattle.lwc_base.specs.declared.page.TheConstants.{PAGE_BYTES}
 use Rattle.lwc_create.specs.Create.{create}
 use Rattle.lwc_names.proofs.Answers.{shifted_end, shifted_moved, shifted_stored}
-use Rattle.lwc_names.proofs.Outcomes.{shifted_after, shifted_outcome}
+use Rattle.lwc_names.proofs.Outcomes.{shifted_outcome}
 use Rattle.lwc_names.proofs.Asks.{bytes_for-shifted}
 use Rattle.lwc_names.proofs.Creates.{create-shifted}
-use Rattle.lwc_names.proofs.Links.{begin-shifted, overlay_call-shifted, restrict-shifted, switch-shifted}
-use Rattle.lwc_names.proofs.Plains.{past, pick, plain-shifted, syscall-shifted}
-use Rattle.lwc_names.proofs.Reaps.{maps, reap-shifted}
+use Rattle.lwc_names.proofs.Links.{overlay_call-shifted, restrict-shifted, switch-shifted}
+use Rattle.lwc_names.proofs.Plains.{pick, plain-shifted, syscall-shifted}
 use Rattle.lwc_names.proofs.Stores.{store-shifted}
-use Rattle.lwc_names.proofs.Worlds.{context-shifted}
-use Rattle.lwc_names.specs.Machines.{shifted_environment, shifted_machine, shifted_reply, shifted_serve, shifted_thread}
-use Rattle.lwc_names.specs.Shifts.{shifted_channels, shifted_job, shifted_name, shifted_world}
+use Rattle.lwc_names.specs.Machines.{shifted_environment, shifted_thread}
+use Rattle.lwc_names.specs.Shifts.{shifted_name, shifted_world}
 use Rattle.lwc_overlay.specs.OverlayCall.{overlay}
 use Rattle.lwc_overlay.specs.RestrictCall.{restrict}
 use Rattle.lwc_switch.specs.Switch.{switch}
@@ -51,8 +40,6 @@ use Rattle.lwc_syscall.specs.Plain.{plain}
 use Rattle.lwc_syscall.specs.Syscall.{lw_syscall}
 use Rattle.lwc_syscall.specs.declared.answer.CallAnswer.{CallAnswer}
 use Rattle.lwc_syscall.specs.declared.answer.CallAnswer.TheVariants as ends
-use Rattle.snapshot_host.specs.Begin.{begin}
-use Rattle.snapshot_host.specs.declared.finishing.Finished.{Finished}
 
 module _ (r : ℕ) where
   -- what a thread gets

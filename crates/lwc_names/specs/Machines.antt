@@ -1,5 +1,5 @@
--- Machines under other numbers of jobs and requests.
-use Rattle.std.specs.Prelude.{◌≡◌, ℕ, ◌+◌, ◌≤◌, ◌++◌, Option, None, Some, map, replicate, slice_get}
+-- Machines under other numbers of requests and jobs.
+use Rattle.std.specs.Prelude.{◌≡◌, ℕ, ◌+◌, ◌≤◌, ◌++◌, None, Some, map, replicate, slice_get}
 use Rattle.std.specs.Option.{option_map}
 use Rattle.kernel_core.specs.Machine.{Environment, Machine, Serve}
 use Rattle.kernel_core.specs.declared.thread.Thread.{Thread}

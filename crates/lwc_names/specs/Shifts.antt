@@ -1,4 +1,4 @@
--- Jobs and requests under other numbers: each request is this many numbers further on, and so is each job but 0.
+-- Worlds and channels under other numbers: each request is this many numbers further on, and each job but 0.
 use Rattle.std.specs.Prelude.{ℕ, zero, suc, ◌+◌, ◌-◌, ◌==◌, ◌++◌, if◌then◌else◌, [], map, nat_lt, replicate}
 use Rattle.std.specs.Option.{option_map}
 use Rattle.std.specs.FinMap as fm
