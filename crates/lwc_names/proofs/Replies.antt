@@ -1,5 +1,5 @@
 -- What is recorded of a request by itself, and the frames that it takes, under every number.
-use Rattle.std.proofs.Common.{◌≡◌, ◌⊎◌, inl, inr, ℕ, zero, suc, ◌+◌, ◌-◌, refl, sym, ap, ap₂, ◌∙◌, Bool, true, false, cond, ltb, Option, Some, None, List, [], ◌∷◌, ◌++◌, length, map, get_or, arith}
+use Rattle.std.proofs.Common.{◌≡◌, ◌≤◌, ◌⊎◌, inl, inr, ℕ, zero, suc, ◌+◌, ◌-◌, refl, sym, ap, ap₂, ◌∙◌, Bool, true, false, cond, ltb, Option, Some, None, List, [], ◌∷◌, ◌++◌, length, map, get_or, arith}
 use Rattle.std.specs.Prelude.{max, replicate, slice_get, slice_set}
 use Rattle.std.specs.Option.{option_map}
 use Rattle.guest_image.specs.declared.image.Image.{Image}
@@ -125,7 +125,24 @@ extra-same image budget r bytes =
     (ap (λ (m : Machine). most_used m (steps_alone budget)) (start-shifted r image (ample image budget) budget bytes)
     ∙ most-shifted r first (steps_alone budget) (alone-acts image (ample image budget) budget bytes))
 
-pub greatest-same : (image : Image) (budget r q : ℕ) (requests : List (List ℕ)) → greatest_extra image budget r requests ≡ greatest_extra image budget q requests
+greatest-same : (image : Image) (budget r q : ℕ) (requests : List (List ℕ)) → greatest_extra image budget r requests ≡ greatest_extra image budget q requests
 greatest-same image budget r q [] = refl
 greatest-same image budget r q (bytes ∷ rest) =
     ap₂ max (extra-same image budget r bytes ∙ sym (extra-same image budget q bytes)) (greatest-same image budget (r + 1) (q + 1) rest)
+
+-- the frames of a part are those of a part of all
+greatest-begins : (image : Image) (budget r : ℕ) (part after : List (List ℕ)) → greatest_extra image budget r part ≤ greatest_extra image budget r (part ++ after)
+greatest-begins image budget r [] after = omega arith
+greatest-begins image budget r (bytes ∷ rest) after =
+    let later = greatest-begins image budget (r + 1) rest after in omega (arith, later)
+
+greatest-ends : (image : Image) (budget r : ℕ) (before part : List (List ℕ)) → greatest_extra image budget r part ≤ greatest_extra image budget r (before ++ part)
+greatest-ends image budget r [] part = omega arith
+greatest-ends image budget r (bytes ∷ rest) part =
+    let later = greatest-ends image budget (r + 1) rest part in
+    let same = greatest-same image budget r (r + 1) part in omega (arith, later, same)
+
+pub greatest-part : (image : Image) (budget : ℕ) (before part after : List (List ℕ)) → greatest_extra image budget 0 part ≤ greatest_extra image budget 0 (before ++ (part ++ after))
+greatest-part image budget before part after =
+    let begins = greatest-begins image budget 0 part after in
+    let ends = greatest-ends image budget 0 before (part ++ after) in omega (arith, begins, ends)

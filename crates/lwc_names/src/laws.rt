@@ -1,7 +1,7 @@
 //! Laws of numbers: functions with empty bodies, each with a contract that is the law.
 
 ghost use Rattle.std.specs.Option.{option_map};
-ghost use Rattle.std.specs.Prelude.{◌≡◌, ℕ, List};
+ghost use Rattle.std.specs.Prelude.{◌≡◌, ◌≤◌, ◌++◌, ℕ, List};
 ghost use Rattle.guest_image.specs.declared.image.Image.{Image};
 ghost use Rattle.kernel_core.specs.Machine.{Machine};
 ghost use Rattle.kernel_core.specs.Runs.{run};
@@ -43,13 +43,13 @@ pub fn a_request_alone_starts_as_request_0()
 {}
 
 /// The status and the bytes that a request is replied by itself, and the frames that it takes, depend on the
-/// image, the budget and the request's bytes alone: they are those of request 0 with the same bytes. So the most
-/// frames that one of some requests takes do not depend on the number of the first.
+/// image, the budget and the request's bytes alone: they are those of request 0 with the same bytes. So none of
+/// a part of some requests takes more frames, served as requests from 0 on, than one of all of them does.
 pub fn numbers_do_not_matter()
     ensures reply { (image : Image) (budget r : ℕ) (bytes : List ℕ) →
         alone image budget r bytes ≡ option_map (numbered r) (alone image budget 0 bytes) }
     ensures frames { (image : Image) (budget r : ℕ) (bytes : List ℕ) →
         extra image budget r bytes ≡ extra image budget 0 bytes }
-    ensures most_frames { (image : Image) (budget r : ℕ) (requests : List (List ℕ)) →
-        greatest_extra image budget r requests ≡ greatest_extra image budget 0 requests }
+    ensures part { (image : Image) (budget : ℕ) (before part after : List (List ℕ)) →
+        greatest_extra image budget 0 part ≤ greatest_extra image budget 0 (before ++ (part ++ after)) }
 {}

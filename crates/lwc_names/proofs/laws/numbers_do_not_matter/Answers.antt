@@ -1,4 +1,4 @@
-use Rattle.lwc_names.proofs.Replies.{alone-numbered, extra-same, greatest-same}
+use Rattle.lwc_names.proofs.Replies.{alone-numbered, extra-same, greatest-part}
 use Rattle.lwc_names.proofs.laws.numbers_do_not_matter.Goals as goal
 use Rattle.request_isolation.specs.Alone.{ample}
 
@@ -6,5 +6,5 @@ pub returns : goal.returns
 returns c = record {
   reply = λ image budget r bytes. alone-numbered (ample image budget) image budget r bytes;
   frames = λ image budget r bytes. extra-same image budget r bytes;
-  most_frames = λ image budget r requests. greatest-same image budget r 0 requests;
+  part = λ image budget before part after. greatest-part image budget before part after;
 }
