@@ -1,19 +1,19 @@
-mod Acts
-mod Answers
-mod Asks
-mod Clones
-mod Creates
-mod Frames
-mod Links
-mod Machines
-mod Outcomes
-mod Plains
-mod Puts
-mod Reaps
+pub mod Acts
+pub mod Answers
+pub mod Asks
+pub mod Clones
+pub mod Creates
+pub mod Frames
+pub mod Links
+pub mod Machines
+pub mod Outcomes
+pub mod Plains
+pub mod Puts
+pub mod Reaps
 pub mod Replies
-mod Runs
-mod Starts
-mod Steps
-mod Stores
-mod Tables
-mod Worlds
+pub mod Runs
+pub mod Starts
+pub mod Steps
+pub mod Stores
+pub mod Tables
+pub mod Worlds
