@@ -2,6 +2,7 @@
 use Rattle.std.proofs.Common.{◌≡◌, ◌≢◌, ◌⊎◌, ◌<◌, ◌≤◌, ◌+◌, inl, inr, ℕ, zero, suc, List, [], ◌∷◌, ◌++◌, map, ap₂, Option, None, Some, Result, Ok, Err, length, refl, sym, subst, ap, ◌∙◌, arith, All}
 use Rattle.std.proofs.lemmas.List.Elements.{All-append, All-nil, All-same, All-weaker}
 use Rattle.std.specs.List.{range_with_len}
+use Rattle.std.specs.Option.{option_map}
 use Rattle.byte_reading.specs.Outcomes.{Refusal}
 use Rattle.guest_asm.specs.Drafts.{assembled}
 use Rattle.guest_image.specs.Limits.{IsImage, lifted}
@@ -24,7 +25,12 @@ use Rattle.lwc_text.proofs.RequestLines.{file_is_read, is_file}
 use Rattle.lwc_text.proofs.Steps.{is_read, is_schedule}
 use Rattle.request_isolation.proofs.Isolated.{never_full, recorded_alone}
 use Rattle.request_isolation.proofs.Serves.{each_reply, requests_stay}
+use Rattle.request_isolation.specs.Alone.{ample}
 use Rattle.request_isolation.specs.Needs.{HasFrames}
+use Rattle.lwc_base.specs.Channels.{bytes_in}
+use Rattle.lwc_names.proofs.Replies.{alone-numbered}
+use Rattle.lwc_names.specs.Numbered.{numbered}
+use Rattle.snapshot_host.specs.declared.finishing.Finished.{Finished}
 use Rattle.kernel_core.specs.declared.settings.Settings.{Settings}
 use Rattle.lift_law.proofs.Lifted.{runs_lifted}
 use Rattle.lwc_monitor.proofs.Promised.{monitored_run}
@@ -268,10 +274,13 @@ runs bytes (commands.Monitor image schedule settings) (x, steps, h) = (
 )
 runs bytes (commands.Lift image) (x, is, spelled) = (works.Spelling (lifted x), over bytes _ x raised (image_accepted (bytes image) x is spelled))
 
-mapped_alike : {A : Type 0} (f g : ℕ → A) (from n : ℕ) → ((r : ℕ) → r < from + n → f r ≡ g r) → map f (range_with_len from n) ≡ map g (range_with_len from n)
-mapped_alike f g from zero same = refl
-mapped_alike f g from (suc n) same =
-    ap₂ (λ y ys. y ∷ ys) (same from (omega arith)) (mapped_alike f g (from + 1) n (λ r inside. same r (omega (arith, inside))))
+-- what is so at each place of the requests, by their bytes
+places_alike : {A : Type 0} (f : ℕ → A) (g : List ℕ → A) (from : ℕ) (asked : List (List ℕ)) → ((r : ℕ) → r < length asked → f (from + r) ≡ g (bytes_in asked r)) → map f (range_with_len from (length asked)) ≡ map g asked
+places_alike f g from [] same = refl
+places_alike f g from (bytes ∷ rest) same =
+    let first : from ≡ from + 0 = omega arith in
+    ap₂ (λ y ys. y ∷ ys) (ap f first ∙ same 0 (omega arith))
+    (places_alike f g (from + 1) rest (λ r inside. let next : from + 1 + r ≡ from + suc r = omega arith in ap f next ∙ same (suc r) (omega (arith, inside))))
 
 -- requests in a file are within the limits
 are_requests : (bytes : List ℕ) (asked : List (List ℕ)) → IsRequestFile bytes asked → AreRequests asked
@@ -299,7 +308,9 @@ each_replied inputs steps workers can job complete r inside = each_reply inputs 
 
 -- with enough frames each reply is that of its request alone
 each_alone : (inputs : Inputs) (steps : List ℕ) → CanOpen inputs → RepliesAreAlone inputs steps
-each_alone inputs steps can frames r told is = recorded_alone inputs can steps r told is frames
+each_alone inputs steps can frames r told is =
+    let bytes = bytes_in inputs.requests r in
+    sym (alone-numbered (ample inputs.image inputs.settings.budget) inputs.image inputs.settings.budget r bytes) ∙ recorded_alone inputs can steps r told is frames
 
 -- and no step finds too few
 none_short : (inputs : Inputs) (steps : List ℕ) → CanOpen inputs → NoneIsShort inputs steps
@@ -309,19 +320,26 @@ none_short inputs steps can workers job frames before rest t is short = never_fu
 wrote_serve : (o : Outside) (inputs : Inputs) (workers : ℕ) → CanOpen inputs → inputs.settings.job ≡ jobs.Serve workers → WroteSteps o inputs → WroteServe o inputs
 wrote_serve o inputs workers can job h = (h.0, h.1, each_replied inputs h.0 workers can job h.1, each_alone inputs h.0 can, none_short inputs h.0 can, run_confined inputs can h.0, h.2)
 
+-- a reply adds the same under each number
+unnumbered : (r : ℕ) (told : Option Finished) → recorded_reply (option_map (numbered r) told) ≡ recorded_reply told
+unnumbered r None = refl
+unnumbered r (Some f) = refl
+
 -- the summary of a generated serve is that of the replies that its requests get alone, with enough frames
 summed_alone : (number : ℕ) (steps : List ℕ) → number ≤ 100 → IsComplete (start (generated number)) steps → HasFrames (generated number) → summary_after (generated number) number steps ≡ summary_alone number
 unfolding replies_of
 summed_alone number steps few complete frames =
     let can = can_open number few in
     let m = run (start (generated number)) steps in
-    let one : (r : ℕ) → r < 0 + length (generated number).requests → recorded_reply (reply_of m r) ≡ recorded_reply (reply_alone (generated number) r) =
+    let one : (r : ℕ) → r < length (generated number).requests → recorded_reply (reply_of m (0 + r)) ≡ recorded_reply (reply_alone (generated number) (bytes_in (generated number).requests r)) =
     (λ r inside.
-    let told = each_reply (generated number) steps 8 r can refl complete (omega (arith, inside)) in
-    ap recorded_reply (told.recorded ∙ sym (recorded_alone (generated number) can steps r told.reply told.recorded frames))) in
+    let told = each_reply (generated number) steps 8 r can refl complete inside in
+    let place : 0 + r ≡ r = omega arith in
+    ap (λ k. recorded_reply (reply_of m k)) place ∙ ap recorded_reply (told.recorded ∙ sym (each_alone (generated number) steps can frames r told.reply told.recorded))
+    ∙ unnumbered r (reply_alone (generated number) (bytes_in (generated number).requests r))) in
     let count : length m.environment.channels.requests ≡ length (generated number).requests = requests_stay (generated number) steps 8 can refl in
     ap (λ n. summary_line number (totals_of (map (λ r. recorded_reply (reply_of m r)) (range_with_len 0 n)))) count
-    ∙ ap (λ l. summary_line number (totals_of l)) (mapped_alike (λ r. recorded_reply (reply_of m r)) (λ r. recorded_reply (reply_alone (generated number) r)) 0 (length (generated number).requests) one)
+    ∙ ap (λ l. summary_line number (totals_of l)) (places_alike (λ r. recorded_reply (reply_of m r)) (λ bytes. recorded_reply (reply_alone (generated number) bytes)) 0 (generated number).requests one)
 
 -- what was written is the headline
 
