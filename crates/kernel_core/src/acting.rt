@@ -52,8 +52,7 @@ impl Effect {
 }
 
 /// Makes a step of thread `t` in place. Answers what has changed; `None` if the thread had ended. The only
-/// error is out of memory: then the world, the channels and the serve are as before, and the thread may have
-/// changed.
+/// error is out of memory, and then nothing has changed.
 pub fn step_thread<W: World>(
     world: &mut W,
     io: &mut Channels,
@@ -81,6 +80,7 @@ pub fn step_thread<W: World>(
     ensures err { OnErr result (W.seen world.new ≡ W.seen world.old) }
     ensures err_io { OnErr result (io.new ≡ io.old) }
     ensures err_serve { OnErr result (serve.new ≡ serve.old) }
+    ensures err_thread { OnErr result (thread.new ≡ thread.old) }
     ensures ample { W.roomy ≡ true → IsOk result }
 {
     match thread.status {
@@ -150,6 +150,7 @@ fn wake<W: World>(
         Keeps effect.change (W.seen world.old) thread.old (W.seen world.new) thread.new) }
     ensures err { OnErr result (W.seen world.new ≡ W.seen world.old) }
     ensures err_serve { OnErr result (serve.new ≡ serve.old) }
+    ensures err_thread { OnErr result (thread.new ≡ thread.old) }
     ensures ample { W.roomy ≡ true → IsOk result }
 {
     match serve {
@@ -198,13 +199,22 @@ fn run_thread<W: World>(
         Keeps change (W.seen world.old) thread.old (W.seen world.new) thread.new) }
     ensures err { OnErr result (W.seen world.new ≡ W.seen world.old) }
     ensures err_io { OnErr result (io.new ≡ io.old) }
+    ensures err_thread { OnErr result (thread.new ≡ thread.old) }
     ensures ample { W.roomy ≡ true → IsOk result }
 {
     let left = thread.budget - 1;
+    let before = thread.regs;
     let next = advance_regs(text, &mut thread.regs, proposal);
-    let change = run_next(world, io, t, thread, next)?;
-    thread.set_steps(left);
-    Ok(change)
+    match run_next(world, io, t, thread, next) {
+        Ok(change) => {
+            thread.set_steps(left);
+            Ok(change)
+        }
+        Err(OutOfMemory) => {
+            thread.regs = before;
+            Err(OutOfMemory)
+        }
+    }
 }
 
 /// Does the private instructions that come first, as proposed if the proposal begins with these registers.
@@ -245,6 +255,7 @@ fn run_next<W: World>(
         Keeps change (W.seen world.old) thread.old (W.seen world.new) thread.new) }
     ensures err { OnErr result (W.seen world.new ≡ W.seen world.old) }
     ensures err_io { OnErr result (io.new ≡ io.old) }
+    ensures err_thread { OnErr result (thread.new ≡ thread.old) }
     ensures ample { W.roomy ≡ true → IsOk result }
 {
     match next {
@@ -276,6 +287,7 @@ fn execute<W: World>(
         Keeps change (W.seen world.old) thread.old (W.seen world.new) thread.new) }
     ensures err { OnErr result (W.seen world.new ≡ W.seen world.old) }
     ensures err_io { OnErr result (io.new ≡ io.old) }
+    ensures err_thread { OnErr result (thread.new ≡ thread.old) }
     ensures ample { W.roomy ≡ true → IsOk result }
 {
     let at = address_of(&thread.regs, i);

@@ -49,6 +49,7 @@ pub(crate) fn call<W: World>(
         Keeps change (W.seen world.old) thread.old (W.seen world.new) thread.new) }
     ensures err { OnErr result (W.seen world.new ≡ W.seen world.old) }
     ensures err_io { OnErr result (io.new ≡ io.old) }
+    ensures err_thread { OnErr result (thread.new ≡ thread.old) }
     ensures ample { W.roomy ≡ true → IsOk result }
 {
     match number {
@@ -69,6 +70,7 @@ fn call_create<W: World>(world: &mut W, thread: &mut Thread) -> Result<Change, O
     ensures kept { IfOk result (λ change.
         Keeps change (W.seen world.old) thread.old (W.seen world.new) thread.new) }
     ensures err { OnErr result (W.seen world.new ≡ W.seen world.old) }
+    ensures err_thread { OnErr result (thread.new ≡ thread.old) }
     ensures ample { W.roomy ≡ true → IsOk result }
 {
     let answer = create(world, thread.context, thread.job, &thread.regs)?;
@@ -116,6 +118,7 @@ fn call_overlay<W: World>(world: &mut W, thread: &mut Thread) -> Result<Change, 
     ensures kept { IfOk result (λ change.
         Keeps change (W.seen world.old) thread.old (W.seen world.new) thread.new) }
     ensures err { OnErr result (W.seen world.new ≡ W.seen world.old) }
+    ensures err_thread { OnErr result (thread.new ≡ thread.old) }
     ensures ample { W.roomy ≡ true → IsOk result }
 {
     let answer = overlay(world, thread.context, thread.job, &thread.regs)?;
@@ -137,6 +140,7 @@ fn call_syscall<W: World>(
         Keeps change (W.seen world.old) thread.old (W.seen world.new) thread.new) }
     ensures err { OnErr result (W.seen world.new ≡ W.seen world.old) }
     ensures err_io { OnErr result (io.new ≡ io.old) }
+    ensures err_thread { OnErr result (thread.new ≡ thread.old) }
     ensures ample { W.roomy ≡ true → IsOk result }
 {
     let accepted = change_by_number(thread.regs.r[3]);
@@ -160,6 +164,7 @@ fn call_plain<W: World>(
         Keeps change (W.seen world.old) thread.old (W.seen world.new) thread.new) }
     ensures err { OnErr result (W.seen world.new ≡ W.seen world.old) }
     ensures err_io { OnErr result (io.new ≡ io.old) }
+    ensures err_thread { OnErr result (thread.new ≡ thread.old) }
     ensures ample { W.roomy ≡ true → IsOk result }
 {
     let c = thread.context;

@@ -281,15 +281,13 @@ impl<W: World> Kernel<W> {
         ensures err { OnErr result (self.new ≡ self.old) }
         ensures ample { W.roomy ≡ true → IsOk result }
     {
-        let mut thread = self.threads[t as usize];
         let world = &mut self.world;
         let io = &mut self.channels;
         let serve = &mut self.serve;
-        let Some(effect) = step_thread(world, io, serve, &self.text, t, &mut thread, proposal)?
-        else {
+        let thread = &mut self.threads[t as usize];
+        let Some(effect) = step_thread(world, io, serve, &self.text, t, thread, proposal)? else {
             return Ok(None);
         };
-        self.threads[t as usize] = thread;
         let workers = worker_count(&self.serve);
         drop_unreached(
             &mut self.world,

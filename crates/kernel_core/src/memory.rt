@@ -64,6 +64,7 @@ pub(crate) fn store_byte<W: World>(
     ensures kept { IfOk result (λ change.
         Keeps change (W.seen world.old) thread.old (W.seen world.new) thread.new) }
     ensures err { OnErr result (W.seen world.new ≡ W.seen world.old) }
+    ensures err_thread { OnErr result (thread.new ≡ thread.old) }
     ensures ample { W.roomy ≡ true → IsOk result }
 {
     store_bytes(world, thread, at, &[(value % 256) as u8])
@@ -82,6 +83,7 @@ pub(crate) fn store_word<W: World>(
     ensures kept { IfOk result (λ change.
         Keeps change (W.seen world.old) thread.old (W.seen world.new) thread.new) }
     ensures err { OnErr result (W.seen world.new ≡ W.seen world.old) }
+    ensures err_thread { OnErr result (thread.new ≡ thread.old) }
     ensures ample { W.roomy ≡ true → IsOk result }
 {
     if at % WORD_BYTES != 0 {
@@ -107,6 +109,7 @@ fn store_bytes<W: World>(
     ensures kept { IfOk result (λ change.
         Keeps change (W.seen world.old) thread.old (W.seen world.new) thread.new) }
     ensures err { OnErr result (W.seen world.new ≡ W.seen world.old) }
+    ensures err_thread { OnErr result (thread.new ≡ thread.old) }
     ensures ample { W.roomy ≡ true → IsOk result }
 {
     if !is_within(world.pages(), at, bytes.len()) {
