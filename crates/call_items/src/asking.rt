@@ -1,9 +1,10 @@
-ghost use Rattle.std.specs.Prelude.{◌≡◌, ◌++◌, ℕ, Bool, List, Some, None, IfErr, IfOk};
+ghost use Rattle.std.specs.Prelude.{◌≡◌, ◌++◌, ◌≤◌, ℕ, Bool, List, Some, None, IfErr, IfOk};
 ghost use Rattle.call_items.specs.Asked as spec;
 ghost use Rattle.call_items.specs.Asked.{item_refusals, items_of};
 ghost use Rattle.lwc_base.specs.Modes.{IsSpec};
 ghost use Rattle.lwc_base.specs.Refusals.{first_refusal};
 ghost use Rattle.lwc_base.specs.World as worlds;
+ghost use Rattle.lwc_base.specs.declared.limits.TheConstants.{MOST_ITEMS};
 ghost use Rattle.lwc_base.specs.declared.name.Name as names;
 ghost use Rattle.lwc_base.specs.declared.refusal.Refusal.{Refusal};
 ghost use Rattle.res_spec.specs.declared.items.SpecCall as calls;
@@ -22,6 +23,7 @@ const BUFFER_BYTES: usize = MOST_ITEMS * ITEM_BYTES;
 ///
 /// `TooManyItems`, `BadAddress`, `BadMode`, `BadRange`, `Overlap`: the first that holds (`item_refusals`).
 /// Rows that follow these five in a call's table decide only where none of them holds.
+#[inline(always)]
 #[tactic(auto, unfolding(crate::specs::Asked::item_bytes, crate::specs::Asked::item_refusals, crate::specs::Asked::items_of, res_spec::specs::Items::read, res_spec::specs::Items::faults))]
 pub fn items_for<W: World>(
     world: &W,
@@ -41,6 +43,35 @@ pub fn items_for<W: World>(
     if count > MOST_ITEMS as u64 {
         return Err(Refusal::TooManyItems);
     }
+    if count > 0 {
+        return some_items(world, c, call, at, count);
+    }
+    if !bytes_for(world, c, at, &mut []) {
+        return Err(Refusal::BadAddress);
+    }
+    Ok(Spec::empty())
+}
+
+/// The items that a call asks for, which are not too many. It is apart from `items_for` so that a call that names
+/// no items does not pay for the buffer.
+#[inline(never)]
+#[tactic(auto, unfolding(crate::specs::Asked::item_bytes, crate::specs::Asked::item_refusals, crate::specs::Asked::items_of, res_spec::specs::Items::read, res_spec::specs::Items::faults))]
+fn some_items<W: World>(
+    world: &W,
+    c: Name,
+    call: SpecCall,
+    at: u64,
+    count: u64,
+) -> Result<Spec, Refusal>
+    requires live { IsLive (W.seen world.now) c }
+    requires few { count ≤ MOST_ITEMS }
+    ensures refused { IfErr result (λ refusal. (rows : List (Bool × Refusal)) →
+        first_refusal (item_refusals (W.seen world.now) c call at count ++ rows) ≡ Some refusal) }
+    ensures passed { IfOk result (λ items. (rows : List (Bool × Refusal)) →
+        first_refusal (item_refusals (W.seen world.now) c call at count ++ rows) ≡ first_refusal rows) }
+    ensures items { IfOk result (λ items. items ≡ items_of (W.seen world.now) c call at count) }
+    ensures valid { IfOk result (λ items. IsSpec (W.seen world.now).size.pages items) }
+{
     let mut buffer = [0; BUFFER_BYTES];
     let bytes = &mut buffer[..count as usize * ITEM_BYTES];
     if !bytes_for(world, c, at, bytes) {
