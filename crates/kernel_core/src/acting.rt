@@ -53,6 +53,7 @@ impl Effect {
 
 /// Makes a step of thread `t` in place. Answers what has changed; `None` if the thread had ended. The only
 /// error is out of memory, and then nothing has changed.
+#[inline(always)]
 pub fn step_thread<W: World>(
     world: &mut W,
     io: &mut Channels,
@@ -95,6 +96,7 @@ pub fn step_thread<W: World>(
 
 /// Ends a step of running thread `t`: in a serve its request is finished once the thread has ended, and
 /// the worker waits at home again.
+#[inline(always)]
 fn settle<W: World>(
     world: &W,
     io: &Channels,
@@ -133,6 +135,7 @@ fn settle<W: World>(
 
 /// Makes a step of idle thread `t`: it begins the next request in a copy of its home, or ends if none is
 /// left. The only error is out of memory, and then nothing has changed.
+#[inline(never)]
 fn wake<W: World>(
     world: &mut W,
     io: &Channels,
@@ -177,6 +180,7 @@ fn wake<W: World>(
 }
 
 /// Makes a step of running thread `t`.
+#[inline(always)]
 #[tactic(auto, unfolding(crate::specs::Step::advance_outcome))]
 fn run_thread<W: World>(
     world: &mut W,
@@ -219,6 +223,7 @@ fn run_thread<W: World>(
 
 /// Does the private instructions that come first, as proposed if the proposal begins with these registers.
 /// Answers what comes next.
+#[inline(always)]
 #[tactic(auto, using(guest_machine::proofs::Runs::comes_to_instruction))]
 fn advance_regs(text: &Text, regs: &mut Regs, proposal: Option<&Advance>) -> Next
     requires proposal { IfSome proposal (λ a. a.now ≡ advanced text.now a.now.before) }
@@ -237,6 +242,7 @@ fn advance_regs(text: &Text, regs: &mut Regs, proposal: Option<&Advance>) -> Nex
 }
 
 /// Does what comes after the private instructions of thread `t`.
+#[inline(always)]
 #[tactic(auto, unfolding(crate::specs::Step::next_outcome))]
 fn run_next<W: World>(
     world: &mut W,
@@ -269,6 +275,7 @@ fn run_next<W: World>(
 }
 
 /// Does a shared instruction of thread `t`.
+#[inline(always)]
 #[tactic(auto, using(guest_isa::proofs::Fields::in_range), unfolding(crate::specs::Step::shared_outcome))]
 fn execute<W: World>(
     world: &mut W,

@@ -32,6 +32,7 @@ pub const LW_SYSCALL: u32 = 20;
 
 /// Makes the call of a number for thread `t`. The only error is out of memory, and then the world and the
 /// channels are as before.
+#[inline(never)]
 #[tactic(auto, unfolding(crate::specs::Step::guest_calls))]
 pub(crate) fn call<W: World>(
     world: &mut W,
@@ -63,6 +64,7 @@ pub(crate) fn call<W: World>(
 }
 
 /// Makes the call that makes a context. The only error is out of memory, and then the world is as before.
+#[inline(never)]
 fn call_create<W: World>(world: &mut W, thread: &mut Thread) -> Result<Change, OutOfMemory>
     requires ready { CanAct (W.seen world.old) thread.old }
     ensures outcome { OnOk result (Makes (λ e x. spec.create_outcome e x)
@@ -99,6 +101,7 @@ fn call_switch<W: World>(world: &mut W, t: u32, thread: &mut Thread) -> Change
 }
 
 /// Makes the call that takes keys from a capability.
+#[inline(never)]
 fn call_restrict<W: World>(world: &mut W, thread: &mut Thread) -> Change
     requires { CanAct (W.seen world.old) thread.old }
     ensures outcome { Makes (λ e x. spec.restrict_outcome e x)
@@ -111,6 +114,7 @@ fn call_restrict<W: World>(world: &mut W, thread: &mut Thread) -> Change
 
 /// Makes the call that takes over from a context what items name. The only error is out of memory, and
 /// then the world is as before.
+#[inline(never)]
 fn call_overlay<W: World>(world: &mut W, thread: &mut Thread) -> Result<Change, OutOfMemory>
     requires { CanAct (W.seen world.old) thread.old }
     ensures outcome { OnOk result (Makes (λ e x. spec.overlay_outcome e x)
@@ -127,6 +131,7 @@ fn call_overlay<W: World>(world: &mut W, thread: &mut Thread) -> Result<Change, 
 
 /// Makes the call that makes a plain one over the contexts that a mask chooses. The only error is out of
 /// memory, and then the world and the channels are as before.
+#[inline(never)]
 fn call_syscall<W: World>(
     world: &mut W,
     io: &mut Channels,

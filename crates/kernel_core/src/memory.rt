@@ -15,6 +15,7 @@ use world_face::{StoreFault, World, bytes_for, is_within};
 const WORD_BYTES: u64 = 8;
 
 /// The address that an instruction names.
+#[inline(always)]
 pub(crate) fn address_of(regs: &Regs, i: &Instr) -> u64
     requires { i.now.ra < 16 }
     ensures { result ≡ spec.address regs.now i.now }
@@ -23,6 +24,7 @@ pub(crate) fn address_of(regs: &Regs, i: &Instr) -> u64
 }
 
 /// The byte at an address.
+#[inline(always)]
 pub(crate) fn byte_at<W: World>(world: &W, c: Name, at: u64) -> Option<u8>
     requires { IsLive (W.seen world.now) c }
     ensures { result ≡ spec.byte_for (W.seen world.now) c at }
@@ -36,6 +38,7 @@ pub(crate) fn byte_at<W: World>(world: &W, c: Name, at: u64) -> Option<u8>
 }
 
 /// The word at an address, lowest byte first.
+#[inline(always)]
 pub(crate) fn word_at<W: World>(world: &W, c: Name, at: u64) -> Option<u64>
     requires { IsLive (W.seen world.now) c }
     ensures { result ≡ spec.word_for (W.seen world.now) c at }
@@ -52,6 +55,7 @@ pub(crate) fn word_at<W: World>(world: &W, c: Name, at: u64) -> Option<u64>
 }
 
 /// Stores the lowest byte of a value.
+#[inline(always)]
 pub(crate) fn store_byte<W: World>(
     world: &mut W,
     thread: &mut Thread,
@@ -71,6 +75,7 @@ pub(crate) fn store_byte<W: World>(
 }
 
 /// Stores a word, lowest byte first.
+#[inline(always)]
 pub(crate) fn store_word<W: World>(
     world: &mut W,
     thread: &mut Thread,
@@ -94,6 +99,7 @@ pub(crate) fn store_word<W: World>(
 }
 
 /// Stores bytes for the thread's job.
+#[inline(always)]
 #[tactic(auto, unfolding(crate::specs::Step::store_outcome))]
 fn store_bytes<W: World>(
     world: &mut W,

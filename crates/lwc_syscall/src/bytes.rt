@@ -142,6 +142,7 @@ fn store_at<W: World>(
 }
 
 /// Writes `count` bytes from the address `at` through the descriptor in slot `n`.
+#[inline(never)]
 #[tactic(auto, unfolding(crate::specs::Plain::writing))]
 pub fn write<W: World>(
     world: &W,
