@@ -183,7 +183,7 @@ module _ (inputs : Inputs) (can : CanOpen inputs) where
       by_thread : (o : Option Thread) → slice_get m.threads t ≡ o → NotIn (step m t) c
       by_thread None none = no_thread_moves m t c none others
       by_thread (Some x) found =
-          stands_elsewhere inputs (length reached.steps) m t ready x found c others (goes x) (λ same. let job_is : 0 ≡ c.job = ap (λ (n : Name). n.job) same in omega (arith, some, job_is))
+          stands_elsewhere inputs (length reached.steps) m t ready x found c others (goes x) (λ serve is same. let job_is : 0 ≡ c.job = ap (λ (n : Name). n.job) same in omega (arith, some, job_is))
           (λ idle. begins)
 
   -- so none stands there after such steps
@@ -230,7 +230,7 @@ module _ (inputs : Inputs) (can : CanOpen inputs) where
         (λ d cap calls given.
         let to = went inputs (length reached.steps) m t now made.thread d cap calls given in
         not_live d (subst (λ (n : Name). is_live (world_of m) n ≡ true) (target_is inputs (length reached.steps) m t now made.thread d cap calls given) to.3.live))
-        (λ same. let job_is : 0 ≡ c.job = ap (λ (n : Name). n.job) same in let some = job_of_made in omega (arith, some, job_is))
+        (λ serve is same. let job_is : 0 ≡ c.job = ap (λ (n : Name). n.job) same in let some = job_of_made in omega (arith, some, job_is))
         (λ idle. absurd (let no : Idle ≡ Running = sym idle ∙ made.made.running in cc))
 
   pub goes_on_as_made : (m : Machine) → IsReached inputs m → (t u : ℕ) (c : Name) → Makes m t c → (since : List ℕ) → IsUntouched (step m t) since c → (x : Thread) (cap : Cap) →

@@ -150,19 +150,19 @@ module _ (inputs : Inputs) (steps : ℕ) (m : Machine) (t : ℕ) (ready : IsRead
   unfolding advance_outcome
   outcome_stands running = next_stands running (advanced m.text x.regs).next refl
 
-  -- a step leaves a context without threads, if it goes neither there nor to a home or a request's context that it is
-  module _ (c : Name) (others : NotIn m c) (goes : (d : Name) (cap : Cap) → MakesCall m t x LW_SWITCH → IsGiven m x d cap → d ≢ c) (home : home_of t ≢ c)
+  -- a step leaves a context without threads, if it goes neither there nor, in a serve, to a home or a request's context that it is
+  module _ (c : Name) (others : NotIn m c) (goes : (d : Name) (cap : Cap) → MakesCall m t x LW_SWITCH → IsGiven m x d cap → d ≢ c) (home : (s : Serve) → m.serve ≡ Some s → home_of t ≢ c)
       (begins : x.status ≡ status.Idle → (s : Serve) → m.serve ≡ Some s → request_context s.next ≢ c) where
     elsewhere : (d : Name) → Stands m t x d → d ≢ c
     elsewhere d (inl stays) is = others t x found (sym stays ∙ is)
     elsewhere d (inr went) is = goes d went.0 went.1 went.2 is
 
-    settled_elsewhere : x.status ≡ status.Running → (o : Option Serve) → (settled t o (outcome_of m t x)).thread.context ≢ c
-    settled_elsewhere running None = elsewhere _ (outcome_stands running)
-    settled_elsewhere running (Some s) = by_end (has_ended (outcome_of m t x).thread.status)
+    settled_elsewhere : x.status ≡ status.Running → (o : Option Serve) → m.serve ≡ o → (settled t o (outcome_of m t x)).thread.context ≢ c
+    settled_elsewhere running None is = elsewhere _ (outcome_stands running)
+    settled_elsewhere running (Some s) is = by_end (has_ended (outcome_of m t x).thread.status)
       where
         by_end : (b : Bool) → (cond b (finish t s (outcome_of m t x)) (only (Some s) (outcome_of m t x))).thread.context ≢ c
-        by_end true = home
+        by_end true = home s is
         by_end false = elsewhere _ (outcome_stands running)
 
     woken_elsewhere : x.status ≡ status.Idle → (o : Option Serve) → m.serve ≡ o → (woken t o m.environment x).thread.context ≢ c
@@ -174,7 +174,7 @@ module _ (inputs : Inputs) (steps : ℕ) (m : Machine) (t : ℕ) (ready : IsRead
         by_next false = others t x found
 
     by_status : (s : ThreadStatus) → x.status ≡ s → NotIn (after_outcome m t (thread_outcome guest_calls t m.environment m.serve m.text x s)) c
-    by_status status.Running is = set_not_in m c t (settled t m.serve (outcome_of m t x)) others (settled_elsewhere is m.serve)
+    by_status status.Running is = set_not_in m c t (settled t m.serve (outcome_of m t x)) others (settled_elsewhere is m.serve refl)
     by_status status.Idle is = set_not_in m c t (woken t m.serve m.environment x) others (woken_elsewhere is m.serve refl)
     by_status (status.Done code) is = others
     by_status (status.Faulted f) is = others
