@@ -20,4 +20,4 @@ pub use replaying::report_of_schedule;
 pub use reporting::{context_lines, report};
 pub use requests::read_requests;
 pub use schedule::{Schedule, read_schedule};
-pub use vault::read_vault;
+pub use vault::{MOST_VAULT_BYTES, read_vault};

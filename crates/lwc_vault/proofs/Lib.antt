@@ -3,3 +3,5 @@ pub mod Telling
 pub mod Entering
 pub mod Staying
 pub mod Shapes
+pub mod Never
+pub mod Schedules

@@ -82,7 +82,7 @@ module _ (a b : Vault) (shape : HaveOneShape a b) where
       ∙ (λ i. made w (count-shape i) (context-shape taken i))
       ∙ sym (blank-made w (length b.pages) (vault_context taken b.entry b.pages))
 
-  start-shape : (inputs : Inputs) → blank_machine (start (beside inputs a)) ≡ blank_machine (start (beside inputs b))
+  pub start-shape : (inputs : Inputs) → blank_machine (start (beside inputs a)) ≡ blank_machine (start (beside inputs b))
   unfolding start
   start-shape inputs = λ i. record (start (beside inputs a)) {
     environment = record {

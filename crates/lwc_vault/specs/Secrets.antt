@@ -1,5 +1,6 @@
 -- Runs beside a vault, and what their reports tell of its bytes.
 use Rattle.std.specs.Prelude.{◌≡◌, ◌≢◌, ℕ, List, [], ◌∷◌, Some, slice_get}
+use Rattle.confinement.specs.May.{IsGiven, MakesCall}
 use Rattle.guest_image.specs.Limits.{page_numbers}
 use Rattle.guest_image.specs.declared.image.Vault.{Vault}
 use Rattle.kernel_core.specs.Histories.{IsLegal}
@@ -7,9 +8,11 @@ use Rattle.kernel_core.specs.Machine.{Machine}
 use Rattle.kernel_core.specs.Runs.{kept}
 use Rattle.kernel_core.specs.Start.{Inputs, start, vault_name}
 use Rattle.kernel_core.specs.Step.{step, with_world}
+use Rattle.kernel_core.specs.declared.calling.TheConstants.{LW_SWITCH}
 use Rattle.kernel_core.specs.declared.thread.Thread.{Thread}
+use Rattle.lwc_base.specs.declared.descriptor.Cap.{Cap}
 use Rattle.lwc_base.specs.declared.fault.ThreadStatus.TheVariants.{Running}
-use Rattle.lwc_text.specs.Report.{report_after}
+use Rattle.lwc_text.specs.Report.{report_after, report_of_schedule}
 use Rattle.vault_calls.specs.Outside.{IsOutside}
 use Rattle.vault_view.specs.Blank.{blank}
 
@@ -33,6 +36,15 @@ abbrev pub StandOutside : Machine → List ℕ → Type 0
 StandOutside m [] = Unit {0}
 StandOutside m (t ∷ ts) = StandsOutside m t × StandOutside (step m t) ts
 
+-- the next step of the thread of a number is an accepted switch to the vault
+abbrev pub Enters : Machine → ℕ → Type 0
+Enters m t = (x : Thread) × MakesCall m t x LW_SWITCH × ((cap : Cap) × IsGiven m x vault_name cap)
+
+-- none of these steps is
+abbrev pub NoneEnters : Machine → List ℕ → Type 0
+NoneEnters m [] = Unit {0}
+NoneEnters m (t ∷ ts) = (Enters m t → ⊥) × NoneEnters (step m t) ts
+
 -- two vaults are entered at one instruction, and have pages of the same numbers
 pub record HaveOneShape (a b : Vault) : Type 0 where
   pub entry : a.entry ≡ b.entry
@@ -48,3 +60,12 @@ abbrev pub TellsNothing : Inputs → List ℕ → Vault → Type 0
 TellsNothing inputs steps v =
     (other : Vault) → HaveOneShape v other → IsLegal (start (beside inputs other)) steps
     × (report_after (beside inputs other) steps ≡ report_after (beside inputs v) steps)
+
+-- a schedule beside a vault keeps its secret: where no step that is kept is made by a thread that stands in the
+-- vault, the text is the same beside each other vault of its shape; and no thread ever stands in it where none of
+-- these steps is an accepted switch to it
+pub record KeepsSecret (inputs : Inputs) (v : Vault) (schedule : List ℕ) : Type 0 where
+  pub same : StandOutside (start (beside inputs v)) (kept (start (beside inputs v)) schedule) → (other : Vault) →
+      HaveOneShape v other → report_of_schedule (beside inputs other) schedule ≡ report_of_schedule (beside inputs v) schedule
+  pub entered : NoneEnters (start (beside inputs v)) (kept (start (beside inputs v)) schedule) →
+      StandOutside (start (beside inputs v)) (kept (start (beside inputs v)) schedule)

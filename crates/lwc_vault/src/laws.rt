@@ -14,7 +14,8 @@ ghost use Rattle.lwc_base.specs.declared.answer.Moved.TheVariants.{To};
 ghost use Rattle.lwc_base.specs.declared.regs.Regs.{Regs};
 ghost use Rattle.lwc_switch.specs.Switch.{switch};
 ghost use Rattle.lwc_text.specs.Report.{report_after, report_of};
-ghost use Rattle.lwc_vault.specs.Secrets.{ActsOutside, StandOutside, StandsOutside, TellsNothing, beside, blank_machine};
+ghost use Rattle.lwc_vault.specs.Secrets.{ActsOutside, KeepsSecret, NoneEnters, StandOutside};
+ghost use Rattle.lwc_vault.specs.Secrets.{StandsOutside, TellsNothing, beside, blank_machine};
 
 /// A step of a thread that is outside the vault is the same step where the vault is blank. That it enters the
 /// vault by an accepted switch is no exception.
@@ -54,4 +55,18 @@ pub fn only_an_accepted_switch_moves_a_thread()
     ensures { (number t : ℕ) (e : Environment) (x : Thread) →
         ((guest_calls number t e x).thread.context ≡ x.context) ⊎ ((number ≡ LW_SWITCH) × ((regs : Regs)
         × ((switch e.world x.context t x.regs).0 ≡ To (guest_calls number t e x).thread.context regs))) }
+{}
+
+/// Steps of which none is an accepted switch to the vault are made by threads that do not stand in it: at the
+/// start none does, and only such a switch takes a thread there.
+pub fn only_a_switch_enters_the_vault()
+    ensures { (inputs : Inputs) (v : Vault) (steps : List ℕ) → CanOpen (beside inputs v) →
+        NoneEnters (start (beside inputs v)) steps → StandOutside (start (beside inputs v)) steps }
+{}
+
+/// A schedule beside a vault keeps its secret, unless a thread that stands in it makes a step: beside another
+/// one of its shape the text is the same.
+pub fn schedules_keep_the_secret()
+    ensures { (inputs : Inputs) (v : Vault) (schedule : List ℕ) → CanOpen (beside inputs v) →
+        KeepsSecret inputs v schedule }
 {}
