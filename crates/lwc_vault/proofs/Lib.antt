@@ -5,3 +5,4 @@ pub mod Staying
 pub mod Shapes
 pub mod Never
 pub mod Schedules
+pub mod Slots

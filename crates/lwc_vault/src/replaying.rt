@@ -1,13 +1,15 @@
 //! The replay of a run beside a vault.
 
-ghost use Rattle.std.specs.Prelude.{◌≡◌, ◌<◌, ◌≤◌, ◌+◌, [], All, IfErr, IfOk, Some, length};
+ghost use Rattle.std.specs.Prelude.{◌≡◌, ◌≢◌, ◌<◌, ◌≤◌, ◌+◌, [], false, All, IfErr, IfOk, Some, length};
 ghost use Rattle.guest_image.specs.Limits.{IsImage};
+ghost use Rattle.guest_image.specs.declared.image.TheConstants.{VAULT_SLOT};
 ghost use Rattle.kernel_core.specs.Kernel.{CanKeep};
 ghost use Rattle.kernel_core.specs.Settings.{IsSettings};
 ghost use Rattle.lwc_base.specs.declared.limits.TheConstants.{MOST_STEPS};
 ghost use Rattle.lwc_text.specs.Report.{report_of_schedule};
+ghost use Rattle.lwc_vault.specs.Slots as spec;
 
-use guest_image::{Image, Vault};
+use guest_image::{Image, VAULT_SLOT, Vault};
 use kernel_core::{Kernel, OpenFault, Settings};
 use lwc_text::{Schedule, report_of_schedule};
 use std::alloc::Global;
@@ -49,4 +51,16 @@ pub fn vault_replay<W: World>(
         Ok(text) => Ok(text),
         Err(_) => Err(OpenFault::OutOfMemory),
     }
+}
+
+/// Whether a slot of the image is the vault's, so that no vault can stand beside it.
+pub fn takes_vault_slot(image: &Image) -> bool
+    ensures taken { result ≡ spec.takes_vault_slot image.now }
+    ensures free { result ≡ false → All (λ s. s.slot ≢ VAULT_SLOT) image.now.slots }
+{
+    image
+        .slots
+        .as_slice()
+        .iter()
+        .any(|slot| slot.slot == VAULT_SLOT)
 }

@@ -1,14 +1,21 @@
 -- What the exit status of a call says, from how the call ended.
-use Rattle.std.proofs.Common.{◌≡◌, ◌≢◌, ◌⊎◌, ◌<◌, ◌≤◌, ◌+◌, inl, inr, ℕ, zero, suc, List, [], ◌∷◌, ◌++◌, map, ap₂, Option, None, Some, Result, Ok, Err, length, refl, sym, subst, ap, ◌∙◌, arith, All}
-use Rattle.std.proofs.lemmas.List.Elements.{All-append, All-nil, All-same, All-weaker}
+use Rattle.std.proofs.Common.{◌≡◌, ◌≢◌, ◌⊎◌, ◌<◌, ◌≤◌, ◌+◌, ◌^◌, inl, inr, ℕ, zero, suc, List, [], ◌∷◌, ◌++◌, map, ap₂, get_or, Bool, true, false, Option, None, Some, Result, Ok, Err, length, refl, sym, subst, ap, ◌∙◌, arith, All}
+use Rattle.std.proofs.lemmas.Bool.{ltb-false, ltb-true}
+use Rattle.std.proofs.lemmas.List.{get_or_past}
+use Rattle.std.proofs.lemmas.List.Elements.{All-append, All-get_or, All-nil, All-same, All-weaker}
+use Rattle.std.specs.Prelude.{nat_lt}
 use Rattle.std.specs.List.{range_with_len}
 use Rattle.std.specs.Option.{option_map}
 use Rattle.byte_reading.specs.Outcomes.{Refusal}
 use Rattle.guest_asm.specs.Drafts.{assembled}
-use Rattle.guest_image.specs.Limits.{IsImage, lifted}
+use Rattle.guest_image.specs.Limits.{IsImage, lifted, pages_of}
 use Rattle.guest_image.specs.Reading.{image_at}
 use Rattle.guest_image.specs.Spelling.{spelling}
 use Rattle.guest_image.specs.declared.image.Image.{Image}
+use Rattle.guest_image.specs.declared.image.Form.{Form}
+use Rattle.guest_image.specs.declared.image.Form.TheVariants.{One, Two}
+use Rattle.guest_image.specs.declared.image.TheConstants.{VAULT_SLOT}
+use Rattle.guest_image.specs.declared.image.Vault.{Vault}
 use Rattle.kernel_core.specs.Histories.{IsComplete}
 use Rattle.kernel_core.specs.Kernel.{AreRequests, CanOpen, MayHave}
 use Rattle.kernel_core.specs.Machine.{reply_of}
@@ -23,6 +30,7 @@ use Rattle.guest_image.proofs.Answered.{reading_facts}
 use Rattle.lwc_gen.proofs.Served.{can_open}
 use Rattle.lwc_text.proofs.RequestLines.{file_is_read, is_file}
 use Rattle.lwc_text.proofs.Steps.{is_read, is_schedule}
+use Rattle.lwc_text.proofs.VaultFacts.{is_vault_file, vault_file_is_read}
 use Rattle.request_isolation.proofs.Isolated.{never_full, recorded_alone}
 use Rattle.request_isolation.proofs.Serves.{each_reply, requests_stay}
 use Rattle.request_isolation.specs.Alone.{ample}
@@ -34,27 +42,32 @@ use Rattle.snapshot_host.specs.declared.finishing.Finished.{Finished}
 use Rattle.kernel_core.specs.declared.settings.Settings.{Settings}
 use Rattle.lift_law.proofs.Lifted.{runs_lifted}
 use Rattle.lwc_monitor.proofs.Promised.{monitored_run}
+use Rattle.lwc_vault.proofs.Schedules.{keeps_secret}
+use Rattle.lwc_vault.proofs.Slots.{leaves_free, takes_none}
+use Rattle.lwc_vault.specs.Secrets.{beside}
 use Rattle.lwc_base.specs.declared.limits.TheConstants.{MOST_IMAGE_BYTES, MOST_REQUEST_FILE_BYTES, MOST_SCHEDULE_BYTES, MOST_SOURCE_BYTES, MOST_STEPS}
 use Rattle.lwc_io.specs.Outside.{Fetch, FilesView, appended}
 use Rattle.lwc_text.specs.Requests.{IsRequestFile, requests_at}
 use Rattle.lwc_text.specs.Schedules.{IsSchedule, schedule_at}
+use Rattle.lwc_text.specs.VaultFiles.{IsVaultFile, vault_at}
+use Rattle.lwc_text.specs.declared.vault.TheConstants.{MOST_VAULT_BYTES}
 use Rattle.lwcrun_core.specs.declared.ending.Rejection.{Rejection}
 use Rattle.lwcrun_core.specs.declared.ending.Rejection.TheVariants as rejections
 use Rattle.lwcrun_core.specs.declared.status.ExitStatus.{ExitStatus}
 use Rattle.lwcrun_core.specs.declared.status.ExitStatus.TheVariants as statuses
-use Rattle.lwcrun_core.specs.Calls.{AreContents, AreRequestsIn, CallEnded, FetchesNamed, FetchesPlan, FileFailed, Headline, IsFitting, IsNameIn, IsOrNoMemory, IsRejected, IsRunnable, IsUndisturbed, Names, NoFault, WroteServe, status_by}
+use Rattle.lwcrun_core.specs.Calls.{AreContents, AreRequestsIn, CallEnded, FetchesNamed, FetchesPlan, FileFailed, Headline, IsFitting, IsNameIn, IsOrNoMemory, IsRejected, IsRunnable, IsUndisturbed, IsVaultReplay, Names, NoFault, WroteServe, status_by}
 use Rattle.lwcrun_core.specs.Ends.{End, Outside, Ended, FetchFailed, IsUnhindered, IsUnwritten, NothingFailed, WriteFailed, end_by}
 use Rattle.lwcrun_core.specs.Ends as ends
 use Rattle.lwc_text.specs.Report.{report_of_schedule}
-use Rattle.lwcrun_core.specs.Headline.{IsText, Work, after_image, after_monitored, after_schedule, after_server, asm_plan, dis_plan, gen_plan, inputs_of, lift_plan, monitor_plan, plan_of, read_by, replay_plan, run_plan, serve_plan}
+use Rattle.lwcrun_core.specs.Headline.{IsText, Work, after_image, after_monitored, after_schedule, after_server, after_vault, after_vault_image, asm_plan, dis_plan, gen_plan, inputs_of, lift_plan, monitor_plan, plan_of, read_by, replay_plan, run_plan, serve_plan, vault_plan}
 use Rattle.lwcrun_core.specs.Headline as works
-use Rattle.lwcrun_core.specs.Images.{bounded, bounded_requests_of, fitted, fitting_image_of, image_of, or_rejected, requests_of, schedule_of, serve_steps, source_of, then_tested}
-use Rattle.lwcrun_core.specs.Lines.{AreReplaySettings, AreServeSettings, Command, IsWithinLimits}
+use Rattle.lwcrun_core.specs.Images.{bounded, bounded_requests_of, fitted, fitted_beside, fitting_image_of, fitting_vault_for, image_of, or_rejected, requests_of, schedule_of, serve_steps, source_of, then_tested, vault_for}
+use Rattle.lwcrun_core.specs.Lines.{AreReplaySettings, AreRunSettings, AreServeSettings, Command, IsWithinLimits}
 use Rattle.lwcrun_core.specs.Lines as commands
 use Rattle.lwcrun_core.specs.Plans.{Plan, AreFetchesOf, FileContents, LeadsTo, Reads, AreKnown, accepted, outcome}
 use Rattle.lwcrun_core.specs.Plans as plans
 use Rattle.lwcrun_core.specs.Statuses.{exit_number, status_of, status_of_rejection}
-use Rattle.lwcrun_core.proofs.Readers.{bounded_found, fitted_found, image_fits, image_read, requests_bounded, requests_read, schedule_read, source_read, tested}
+use Rattle.lwcrun_core.proofs.Readers.{beside_found, bounded_found, fits_beside, fitted_found, image_fits, image_read, requests_bounded, requests_read, schedule_read, source_read, tested, vault_read}
 use Rattle.lwcrun_core.proofs.Promises.{known_bytes, leads_known, settled}
 
 -- what follows the last input of each command
@@ -79,6 +92,9 @@ raised image = plans.Write (works.Spelling (lifted image))
 
 abbrev monitored : Settings → Image → List ℕ → Plan Rejection Work
 monitored settings image steps = plans.Write (works.Monitoring (inputs_of image [] settings) steps)
+
+abbrev kept_beside : Settings → Image → Vault → List ℕ → Plan Rejection Work
+kept_beside settings image v steps = plans.Write (works.Replaying (beside (inputs_of image [] settings) v) steps)
 
 -- the files that a plan reads are those that its command names
 
@@ -110,8 +126,18 @@ unfolding after_monitored
 reads_after_monitored files schedule settings image q h =
     reads_by files (schedule_of (threads_for image settings.job)) MOST_SCHEDULE_BYTES schedule (monitored settings image) q _ (λ is. is) (λ steps after. absurd after) h
 
+reads_after_vault : (files : FileContents) (schedule : List ℕ) (settings : Settings) (image : Image) (v : Vault) (q : List ℕ) → Reads files (after_vault schedule settings image v) q → q ≡ schedule
+unfolding after_vault
+reads_after_vault files schedule settings image v q h =
+    reads_by files (schedule_of (threads_for image settings.job)) MOST_SCHEDULE_BYTES schedule (kept_beside settings image v) q _ (λ is. is) (λ steps after. absurd after) h
+
+reads_after_vault_image : (files : FileContents) (vault schedule : List ℕ) (settings : Settings) (image : Image) (q : List ℕ) → Reads files (after_vault_image vault schedule settings image) q → (q ≡ vault) ⊎ (q ≡ schedule)
+unfolding after_vault_image
+reads_after_vault_image files vault schedule settings image q h =
+    reads_by files (fitting_vault_for settings.frames image) MOST_VAULT_BYTES vault (after_vault schedule settings image) q _ (λ is. inl is) (λ v after. inr (reads_after_vault files schedule settings image v q after)) h
+
 reads_names : (files : FileContents) (command : Command) (q : List ℕ) → Reads files (plan_of command) q → Names command q
-unfolding replay_plan run_plan serve_plan asm_plan dis_plan gen_plan lift_plan monitor_plan after_monitored
+unfolding replay_plan run_plan serve_plan asm_plan dis_plan gen_plan lift_plan monitor_plan after_monitored vault_plan
 reads_names files (commands.Replay image schedule requests settings) q h =
     reads_by files (fitting_image_of settings.frames) MOST_IMAGE_BYTES image (after_image schedule requests settings) q _ (λ is. inl is) (λ x after. inr (reads_after_image files schedule requests settings x q after)) h
 reads_names files (commands.Run image settings) q h = reads_by files (fitting_image_of settings.frames) MOST_IMAGE_BYTES image (ran settings) q _ (λ is. is) (λ x after. absurd after) h
@@ -123,6 +149,8 @@ reads_names files (commands.Dis image) q h = reads_by files image_of MOST_IMAGE_
 reads_names files (commands.Lift image) q h = reads_by files image_of MOST_IMAGE_BYTES image raised q _ (λ is. is) (λ x after. absurd after) h
 reads_names files (commands.Monitor image schedule settings) q h =
     reads_by files (fitting_image_of settings.frames) MOST_IMAGE_BYTES image (after_monitored schedule settings) q _ (λ is. inl is) (λ x after. inr (reads_after_monitored files schedule settings x q after)) h
+reads_names files (commands.Vault image vault schedule settings) q h =
+    reads_by files image_of MOST_IMAGE_BYTES image (after_vault_image vault schedule settings) q _ (λ is. inl is) (λ x after. inr (reads_after_vault_image files vault schedule settings x q after)) h
 
 are_known : (files : FileContents) (command : Command) (bytes : List ℕ → List ℕ) → AreContents files command bytes → AreKnown files (plan_of command) bytes
 are_known files command bytes h q reads = h q (reads_names files command q reads)
@@ -234,6 +262,45 @@ fitting_found settings bytes image fits e =
     let spelled = image_found bytes image fits (read.1 ∙ ap (λ x. Ok x) small.0) in
     record { image = spelled.0; spelled = spelled.1; fits = subst (λ (x : Image). length x.pages ≤ settings.frames) small.0 small.1 }
 
+is_bytes : (bytes : List ℕ) → All (λ b. b < 256) bytes → (i : ℕ) → get_or bytes i 0 < 256
+is_bytes bytes fits i = by (nat_lt i (length bytes)) refl
+  where
+    by : (b : Bool) → nat_lt i (length bytes) ≡ b → get_or bytes i 0 < 256
+    by true inside = All-get_or (λ b. b < 256) bytes i 0 (ltb-true _ _ inside) fits
+    by false past = let none : get_or bytes i 0 ≡ 0 = get_or_past bytes i 0 (ltb-false _ _ past) in omega (arith, none)
+
+few_pages : (form : Form) → pages_of form ≤ 16384
+few_pages One = omega arith
+few_pages Two = omega arith
+
+text_of_image : (x : Image) → IsImage x → length x.text ≤ 2 ^ 32
+text_of_image x is = omega (arith, is.text.bounded)
+
+fitting_vault_accepted : (bytes : List ℕ → List ℕ) (image vault schedule : List ℕ) (settings : Settings) (x : Image) (v : Vault) (steps : List ℕ) → IsVaultReplay bytes image vault schedule settings x v steps → fitting_vault_for settings.frames x (bytes vault) ≡ Ok v
+unfolding fitting_vault_for
+fitting_vault_accepted bytes image vault schedule settings x v steps is =
+    ap (λ r. then_tested r (fitted_beside settings.frames x))
+    (vault_read x (bytes vault) v (vault_file_is_read (length x.text) (pages_of x.form) (bytes vault) v (text_of_image x is.guest) (few_pages x.form) is.secret))
+    ∙ fits_beside settings.frames x v (takes_none x is.free) is.fits
+
+-- what is found beside an image: a vault file for it, in a slot that is free, whose pages fit
+record IsFoundBeside (settings : Settings) (bytes : List ℕ) (x : Image) (v : Vault) : Type 0 where
+  secret : IsVaultFile (length x.text) (pages_of x.form) bytes v
+  free : All (λ s. s.slot ≢ VAULT_SLOT) x.slots
+  fits : length x.pages + length v.pages ≤ settings.frames
+
+fitting_vault_found : (settings : Settings) (bytes : List ℕ) (x : Image) (v : Vault) → All (λ b. b < 256) bytes → fitting_vault_for settings.frames x bytes ≡ Ok v → IsFoundBeside settings bytes x v
+unfolding fitting_vault_for vault_for
+fitting_vault_found settings bytes x v fits e =
+    let read = tested (vault_for x bytes) (fitted_beside settings.frames x) v e in
+    let found = beside_found settings.frames x read.0 v read.2 in
+    let at = or_rejected_ok rejections.Input (vault_at (length x.text) (pages_of x.form) bytes) v (read.1 ∙ ap (λ w. Ok w) found.0) in
+    record {
+      secret = is_vault_file (length x.text) (pages_of x.form) bytes v (is_bytes bytes fits) at;
+      free = leaves_free x found.1;
+      fits = subst (λ (w : Vault). length x.pages + length w.pages ≤ settings.frames) found.0 found.2;
+    }
+
 schedule_found : (threads : ℕ) (bytes steps : List ℕ) → schedule_of threads bytes ≡ Ok steps → IsSchedule threads bytes steps
 unfolding schedule_of
 schedule_found threads bytes steps e = is_schedule threads bytes steps (or_rejected_ok rejections.Input (schedule_at threads bytes) steps e)
@@ -250,7 +317,7 @@ over_schedule bytes None settings image steps asked none = ap (λ a. Ok (works.R
 over_schedule bytes (Some requests) settings image steps asked is = over bytes _ asked (replayed settings image steps) (requests_accepted (bytes requests) asked is)
 
 runs : (bytes : List ℕ → List ℕ) (command : Command) → IsRunnable command bytes → (work : Work) × (outcome bytes (plan_of command) ≡ Ok work)
-unfolding replay_plan after_image run_plan serve_plan after_server asm_plan dis_plan gen_plan lift_plan monitor_plan after_monitored
+unfolding replay_plan after_image run_plan serve_plan after_server asm_plan dis_plan gen_plan lift_plan monitor_plan after_monitored vault_plan after_vault_image after_vault
 runs bytes (commands.Replay image schedule requests settings) (x, steps, asked, h) = (
   works.Replaying (inputs_of x asked settings) steps,
   over bytes _ x (after_image schedule requests settings) (fitting_accepted settings (bytes image) x h.guest)
@@ -271,6 +338,12 @@ runs bytes (commands.Monitor image schedule settings) (x, steps, h) = (
   works.Monitoring (inputs_of x [] settings) steps,
   over bytes _ x (after_monitored schedule settings) (fitting_accepted settings (bytes image) x h.guest)
       ∙ over bytes _ steps (monitored settings x) (schedule_accepted _ (bytes schedule) steps h.scheduled),
+)
+runs bytes (commands.Vault image vault schedule settings) (x, v, steps, h) = (
+  works.Replaying (beside (inputs_of x [] settings) v) steps,
+  over bytes _ x (after_vault_image vault schedule settings) (image_accepted (bytes image) x h.guest h.spelled)
+      ∙ over bytes _ v (after_vault schedule settings x) (fitting_vault_accepted bytes image vault schedule settings x v steps h)
+      ∙ over bytes _ steps (kept_beside settings x v) (schedule_accepted _ (bytes schedule) steps h.scheduled),
 )
 runs bytes (commands.Lift image) (x, is, spelled) = (works.Spelling (lifted x), over bytes _ x raised (image_accepted (bytes image) x is spelled))
 
@@ -301,6 +374,16 @@ replay_opens : (requests : Option (List ℕ)) (settings : Settings) (bytes : Lis
 replay_opens None settings bytes spelled image asked within is none =
     record { image = is.image; vault = tt; settings = within.limits; fits = is.fits; requests = subst (λ job. MayHave job asked) (sym within.job) none }
 replay_opens (Some requests) settings bytes spelled image asked within is file = serve_opens settings spelled (bytes requests) image asked within is file
+
+-- a run beside an accepted vault can be opened
+vault_opens : (settings : Settings) (bytes : List ℕ) (x : Image) (v : Vault) → AreRunSettings settings → IsImage x → IsFoundBeside settings bytes x v → CanOpen (beside (inputs_of x [] settings) v)
+vault_opens settings bytes x v within is found = record {
+  image = is;
+  vault = record { run = within.job; vault = found.secret.valid; free = found.free };
+  settings = within.limits;
+  fits = found.fits;
+  requests = subst (λ job. MayHave job []) (sym within.job) refl;
+}
 
 -- each request of a finished serve has a reply
 each_replied : (inputs : Inputs) (steps : List ℕ) (workers : ℕ) → CanOpen inputs → inputs.settings.job ≡ jobs.Serve workers → IsComplete (start inputs) steps → EachHasReply inputs steps
@@ -352,7 +435,7 @@ asked_of files (Some requests) settings image steps work bytes known h =
     (read.0, requests_found (bytes requests) read.0 read.1, work_is work _ read.3)
 
 headline_of : (o : Outside) (command : Command) (bytes : List ℕ → List ℕ) (work : Work) (text : List ℕ) → IsWithinLimits command → AreContents o.files.contents command bytes → LeadsTo o.files.contents (plan_of command) (Ok work) → IsText work text → o.out_after.taken ≡ appended o.out.taken text → Headline o command bytes
-unfolding replay_plan after_image run_plan serve_plan after_server asm_plan dis_plan gen_plan lift_plan monitor_plan after_monitored bounded_requests_of
+unfolding replay_plan after_image run_plan serve_plan after_server asm_plan dis_plan gen_plan lift_plan monitor_plan after_monitored vault_plan after_vault_image after_vault bounded_requests_of
 headline_of o (commands.Replay image schedule requests settings) bytes work text within known leads is taken =
     let files = o.files.contents in
     let read = leads_by files (fitting_image_of settings.frames) MOST_IMAGE_BYTES image (after_image schedule requests settings) work (bytes image) (known image (inl refl)) leads in
@@ -427,6 +510,32 @@ headline_of o (commands.Monitor image schedule settings) bytes work text within 
       steps.0,
       record { guest = guest; scheduled = schedule_found _ (bytes schedule) steps.0 steps.1; requested = refl },
       monitored_run inputs steps.0 can within.job,
+      taken ∙ ap (appended o.out.taken) (let P : Work → Type 0 = λ w. IsText w text in subst P (work_is work _ steps.3) is),
+    )
+headline_of o (commands.Vault image vault schedule settings) bytes work text within known leads is taken =
+    let files = o.files.contents in
+    let read = leads_by files image_of MOST_IMAGE_BYTES image (after_vault_image vault schedule settings) work (bytes image) (known image (inl refl)) leads in
+    let x = read.0 in
+    let spelled = image_found (bytes image) x read.2 read.1 in
+    let secret = leads_by files (fitting_vault_for settings.frames x) MOST_VAULT_BYTES vault (after_vault schedule settings x) work (bytes vault) (known vault (inr (inl refl))) read.3 in
+    let v = secret.0 in
+    let found = fitting_vault_found settings (bytes vault) x v secret.2 secret.1 in
+    let steps = leads_by files (schedule_of (threads_for x settings.job)) MOST_SCHEDULE_BYTES schedule (kept_beside settings x v) work (bytes schedule) (known schedule (inr (inr refl))) secret.3 in
+    let inputs = inputs_of x [] settings in
+    let can = vault_opens settings (bytes vault) x v within spelled.0 found in (
+      x,
+      v,
+      steps.0,
+      record {
+        guest = spelled.0;
+        spelled = spelled.1;
+        secret = found.secret;
+        free = found.free;
+        fits = found.fits;
+        scheduled = schedule_found _ (bytes schedule) steps.0 steps.1;
+      },
+      keeps_secret inputs v steps.0 can,
+      run_confined (beside inputs v) can (kept (start (beside inputs v)) steps.0),
       taken ∙ ap (appended o.out.taken) (let P : Work → Type 0 = λ w. IsText w text in subst P (work_is work _ steps.3) is),
     )
 

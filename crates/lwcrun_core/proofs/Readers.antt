@@ -1,5 +1,5 @@
 -- What the readers of inputs answer, one test after another.
-use Rattle.std.proofs.Common.{◌≡◌, ◌<◌, ◌≤◌, ℕ, Bool, true, false, cond, List, length, ltb, Result, Ok, Err, refl, sym, subst, ap, ◌∙◌, arith}
+use Rattle.std.proofs.Common.{◌≡◌, ◌<◌, ◌≤◌, ◌+◌, ℕ, Bool, true, false, cond, List, length, ltb, Result, Ok, Err, refl, sym, subst, ap, ◌∙◌, arith}
 use Rattle.std.specs.Prelude.{nat_lt}
 use Rattle.std.specs.Result.{IsErr, IsErrAnd}
 use Rattle.std.proofs.lemmas.Bool.{le-ltb, lt-ltb, ltb-false}
@@ -12,18 +12,23 @@ use Rattle.guest_asm.specs.declared.error.SourceRule.TheVariants as sources
 use Rattle.guest_image.specs.Reading.{image_at}
 use Rattle.guest_image.specs.declared.fault.ImageRule.TheVariants.{TooLong}
 use Rattle.guest_image.specs.declared.image.Image.{Image}
+use Rattle.guest_image.specs.declared.image.Vault.{Vault}
+use Rattle.guest_image.specs.Limits.{pages_of}
 use Rattle.kernel_core.specs.declared.settings.Settings.{Settings}
 use Rattle.lwc_base.specs.declared.limits.TheConstants.{MOST_IMAGE_BYTES, MOST_REQUEST_FILE_BYTES, MOST_SCHEDULE_BYTES, MOST_SOURCE_BYTES, MOST_STEPS}
 use Rattle.lwc_io.specs.Outside.{FilesView}
 use Rattle.lwc_text.specs.Requests.{requests_at}
 use Rattle.lwc_text.specs.Schedules.{schedule_at}
+use Rattle.lwc_text.specs.VaultFiles.{vault_at}
+use Rattle.lwc_text.specs.declared.vault.TheConstants.{MOST_VAULT_BYTES}
 use Rattle.lwc_text.specs.declared.fault.InputRule.TheVariants as inputs
+use Rattle.lwc_vault.specs.Slots.{takes_vault_slot}
 use Rattle.lwcrun_core.specs.declared.ending.Ending.{Ending}
 use Rattle.lwcrun_core.specs.declared.ending.Rejection.{Rejection}
 use Rattle.lwcrun_core.specs.declared.ending.Rejection.TheVariants as rejections
 use Rattle.lwcrun_core.specs.Ends.{End}
 use Rattle.lwcrun_core.specs.Ends as ends
-use Rattle.lwcrun_core.specs.Images.{bounded, bounded_requests_of, fitted, image_of, or_rejected, requests_of, schedule_of, serve_steps, source_of, then_tested, within_limit}
+use Rattle.lwcrun_core.specs.Images.{bounded, bounded_requests_of, fitted, fitted_beside, image_of, or_rejected, requests_of, schedule_of, serve_steps, source_of, then_tested, vault_for, within_limit}
 use Rattle.lwcrun_core.specs.Parts.{ReadsBy}
 use Rattle.lwcrun_core.specs.Parts as parts
 use Rattle.lwcrun_core.specs.Views.{end_of, error_end, found}
@@ -114,6 +119,10 @@ too_long_requests : (bytes : List ℕ) → MOST_REQUEST_FILE_BYTES < length byte
 unfolding requests_of requests_at
 too_long_requests bytes long = rw (lt-ltb MOST_REQUEST_FILE_BYTES (length bytes) long) refl
 
+too_long_vault : (image : Image) (bytes : List ℕ) → MOST_VAULT_BYTES < length bytes → vault_for image bytes ≡ Err (rejections.Input inputs.TooLong MOST_VAULT_BYTES)
+unfolding vault_for vault_at
+too_long_vault image bytes long = rw (lt-ltb MOST_VAULT_BYTES (length bytes) long) refl
+
 too_long_to_serve : (settings : Settings) (bytes : List ℕ) → MOST_REQUEST_FILE_BYTES < length bytes → bounded_requests_of settings bytes ≡ Err (rejections.Input inputs.TooLong MOST_REQUEST_FILE_BYTES)
 unfolding bounded_requests_of
 too_long_to_serve settings bytes long = ap (λ r. then_tested r (bounded settings (length bytes))) (too_long_requests bytes long)
@@ -129,6 +138,9 @@ schedule_limited threads r is = limited MOST_SCHEDULE_BYTES r (schedule_of threa
 
 pub requests_limited : (r : Rejection) → r ≡ rejections.Input inputs.TooLong MOST_REQUEST_FILE_BYTES → (bytes : List ℕ) → requests_of bytes ≡ then_tested (within_limit MOST_REQUEST_FILE_BYTES r bytes) requests_of
 requests_limited r is = limited MOST_REQUEST_FILE_BYTES r requests_of (λ bytes long. too_long_requests bytes long ∙ ap Err (sym is))
+
+pub vault_limited : (image : Image) (r : Rejection) → r ≡ rejections.Input inputs.TooLong MOST_VAULT_BYTES → (bytes : List ℕ) → vault_for image bytes ≡ then_tested (within_limit MOST_VAULT_BYTES r bytes) (vault_for image)
+vault_limited image r is = limited MOST_VAULT_BYTES r (vault_for image) (λ bytes long. too_long_vault image bytes long ∙ ap Err (sym is))
 
 pub bounded_limited : (settings : Settings) (r : Rejection) → r ≡ rejections.Input inputs.TooLong MOST_REQUEST_FILE_BYTES → (bytes : List ℕ) → bounded_requests_of settings bytes ≡ then_tested (within_limit MOST_REQUEST_FILE_BYTES r bytes) (bounded_requests_of settings)
 bounded_limited settings r is = limited MOST_REQUEST_FILE_BYTES r (bounded_requests_of settings) (λ bytes long. too_long_to_serve settings bytes long ∙ ap Err (sym is))
@@ -151,6 +163,10 @@ pub requests_read : (bytes : List ℕ) (asked : List (List ℕ)) → requests_at
 unfolding requests_of
 requests_read bytes asked is = ap (or_rejected rejections.Input) is
 
+pub vault_read : (image : Image) (bytes : List ℕ) (v : Vault) → vault_at (length image.text) (pages_of image.form) bytes ≡ Ok v → vault_for image bytes ≡ Ok v
+unfolding vault_for
+vault_read image bytes v is = ap (or_rejected rejections.Input) is
+
 -- an image that fits the frames, and one that does not
 
 pub image_fits : (frames : ℕ) (x : Image) → length x.pages ≤ frames → fitted frames x ≡ Ok x
@@ -166,6 +182,27 @@ fitted_by frames y x r false is e = (cc, ltb-false _ _ is)
 
 pub fitted_found : (frames : ℕ) (y x : Image) → fitted frames y ≡ Ok x → (y ≡ x) × (length y.pages ≤ frames)
 fitted_found frames y x e = fitted_by frames y x (rejections.TooLarge (length y.pages) frames) (nat_lt frames (length y.pages)) refl e
+
+-- a vault that can stand beside an image, and one that can not
+
+pub slot_is_taken : (frames : ℕ) (image : Image) (v : Vault) → takes_vault_slot image ≡ true → fitted_beside frames image v ≡ Err (rejections.Input inputs.SlotTaken 0)
+slot_is_taken frames image v taken = rw taken refl
+
+pub too_large_beside : (frames pages : ℕ) (image : Image) (v : Vault) → takes_vault_slot image ≡ false → pages ≡ length image.pages + length v.pages → frames < pages → fitted_beside frames image v ≡ Err (rejections.TooLarge pages frames)
+too_large_beside frames pages image v free is over =
+    let over_sum : frames < length image.pages + length v.pages = omega (arith, is, over) in
+    rw free (rw (lt-ltb _ _ over_sum) (ap (λ n. Err (rejections.TooLarge n frames)) (sym is)))
+
+pub fits_beside : (frames : ℕ) (image : Image) (v : Vault) → takes_vault_slot image ≡ false → length image.pages + length v.pages ≤ frames → fitted_beside frames image v ≡ Ok v
+fits_beside frames image v free fits = rw free (rw (le-ltb _ _ fits) refl)
+
+beside_by : (pages frames : ℕ) (y x : Vault) (r s : Rejection) (a b : Bool) → nat_lt frames pages ≡ b → cond a (Err r) (cond b (Err s) (Ok y)) ≡ Ok x → (y ≡ x) × (a ≡ false) × (pages ≤ frames)
+beside_by pages frames y x r s true b is e = absurd cc
+beside_by pages frames y x r s false true is e = absurd cc
+beside_by pages frames y x r s false false is e = (cc, refl, ltb-false _ _ is)
+
+pub beside_found : (frames : ℕ) (image : Image) (y x : Vault) → fitted_beside frames image y ≡ Ok x → (y ≡ x) × (takes_vault_slot image ≡ false) × (length image.pages + length y.pages ≤ frames)
+beside_found frames image y x e = beside_by (length image.pages + length y.pages) frames y x _ _ (takes_vault_slot image) (nat_lt frames (length image.pages + length y.pages)) refl e
 
 -- requests whose serve takes no more steps than there may be, and those of one that does
 

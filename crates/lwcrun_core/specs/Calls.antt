@@ -1,10 +1,12 @@
 -- What a call of the program promises.
-use Rattle.std.specs.Prelude.{◌≡◌, ◌⊎◌, ◌≤◌, ℕ, List, [], Option, None, Some, Result, Ok, Err, All, length}
+use Rattle.std.specs.Prelude.{◌≡◌, ◌≢◌, ◌⊎◌, ◌≤◌, ◌+◌, ℕ, List, [], Option, None, Some, Result, Ok, Err, All, length}
 use Rattle.guest_asm.specs.Drafts.{assembled}
 use Rattle.guest_dis.specs.Listing.{listing}
-use Rattle.guest_image.specs.Limits.{IsImage, lifted}
+use Rattle.guest_image.specs.Limits.{IsImage, lifted, pages_of}
 use Rattle.guest_image.specs.Spelling.{spelling}
 use Rattle.guest_image.specs.declared.image.Image.{Image}
+use Rattle.guest_image.specs.declared.image.TheConstants.{VAULT_SLOT}
+use Rattle.guest_image.specs.declared.image.Vault.{Vault}
 use Rattle.kernel_core.specs.declared.settings.Settings.{Settings}
 use Rattle.lwc_io.specs.Outside.{FilesView, SinkView, appended}
 use Rattle.kernel_core.specs.Histories.{IsComplete}
@@ -20,6 +22,8 @@ use Rattle.lwc_monitor.specs.Promises.{IsMonitoredRun}
 use Rattle.lwc_monitor.specs.Reports.{monitored_text}
 use Rattle.lwc_text.specs.Requests.{IsRequestFile}
 use Rattle.lwc_text.specs.Schedules.{IsSchedule}
+use Rattle.lwc_text.specs.VaultFiles.{IsVaultFile}
+use Rattle.lwc_vault.specs.Secrets.{KeepsSecret, beside}
 use Rattle.lwcrun_core.specs.declared.ending.Rejection.{Rejection}
 use Rattle.lwcrun_core.specs.declared.status.ExitStatus.{ExitStatus}
 use Rattle.lwcrun_core.specs.declared.status.ExitStatus.TheVariants as statuses
@@ -61,6 +65,7 @@ Names (commands.Dis image) q = q ≡ image
 Names (commands.Gen number) q = ⊥
 Names (commands.Lift image) q = q ≡ image
 Names (commands.Monitor image schedule settings) q = (q ≡ image) ⊎ (q ≡ schedule)
+Names (commands.Vault image vault schedule settings) q = (q ≡ image) ⊎ ((q ≡ vault) ⊎ (q ≡ schedule))
 
 -- a call fetched what its command's plan comes to, and nothing where the line is not accepted
 abbrev pub FetchesPlan : Option Command → FilesView → FilesView → Type 0
@@ -127,6 +132,18 @@ pub record IsReplay
   pub scheduled : IsSchedule (threads_for x settings.job) (bytes schedule) steps
   pub requested : AreRequestsIn requests bytes asked
 
+-- the files of a replay beside a vault are accepted: an image, a vault for it, whose slot it leaves free and whose
+-- pages fit the frames together with its own, and a schedule of its threads
+pub record IsVaultReplay
+    (bytes : List ℕ → List ℕ) (image vault schedule : List ℕ) (settings : Settings)
+    (x : Image) (v : Vault) (steps : List ℕ) : Type 0 where
+  pub guest : IsImage x
+  pub spelled : bytes image ≡ spelling x
+  pub secret : IsVaultFile (length x.text) (pages_of x.form) (bytes vault) v
+  pub free : All (λ s. s.slot ≢ VAULT_SLOT) x.slots
+  pub fits : length x.pages + length v.pages ≤ settings.frames
+  pub scheduled : IsSchedule (threads_for x settings.job) (bytes schedule) steps
+
 -- a serve's files are accepted: an image, and requests that take no more steps than there may be
 pub record IsServe
     (bytes : List ℕ → List ℕ) (image requests : List ℕ) (settings : Settings)
@@ -163,9 +180,10 @@ WroteSummary o number =
 -- report of the steps that are kept of the schedule, or of those that running threads made; the bytes of the
 -- source's image, or the source of the image; the summary of the steps of a generated serve; the bytes of the
 -- lifted image, which runs the same where no limit of pages is met; the report of the steps that are kept of the
--- schedule of a monitored run, in which no trapped context's slots change but by its monitor. Of the same steps:
--- with enough frames each reply is the one that its request gets alone, and no step is short of them; each step is
--- confined, and what is left alone is as it was made
+-- schedule of a monitored run, in which no trapped context's slots change but by its monitor; the report of the
+-- steps that are kept of the schedule of a run beside a vault, which is the same beside each other vault of its
+-- shape unless a thread makes a step in it. Of the same steps: with enough frames each reply is the one that its
+-- request gets alone, and no step is short of them; each step is confined, and what is left alone is as it was made
 abbrev pub Headline : Outside → Command → (List ℕ → List ℕ) → Type 0
 Headline o (commands.Replay image schedule requests settings) bytes =
     (x : Image) × (steps : List ℕ) × (asked : List (List ℕ))
@@ -191,6 +209,12 @@ Headline o (commands.Monitor image schedule settings) bytes =
     (x : Image) × (steps : List ℕ) × IsReplay bytes image schedule None settings x steps []
     × IsMonitoredRun (inputs_of x [] settings) steps
     × (o.out_after.taken ≡ appended o.out.taken (monitored_text (inputs_of x [] settings) steps))
+Headline o (commands.Vault image vault schedule settings) bytes =
+    (x : Image) × (v : Vault) × (steps : List ℕ)
+    × IsVaultReplay bytes image vault schedule settings x v steps
+    × KeepsSecret (inputs_of x [] settings) v steps
+    × IsConfinedRun (beside (inputs_of x [] settings) v) (kept (start (beside (inputs_of x [] settings) v)) steps)
+    × (o.out_after.taken ≡ appended o.out.taken (report_of_schedule (beside (inputs_of x [] settings) v) steps))
 
 -- the contents of the command's files are accepted
 abbrev pub IsRunnable : Command → (List ℕ → List ℕ) → Type 0
@@ -206,3 +230,5 @@ IsRunnable (commands.Gen number) bytes = Unit {0}
 IsRunnable (commands.Lift image) bytes = (x : Image) × IsImage x × (bytes image ≡ spelling x)
 IsRunnable (commands.Monitor image schedule settings) bytes =
     (x : Image) × (steps : List ℕ) × IsReplay bytes image schedule None settings x steps []
+IsRunnable (commands.Vault image vault schedule settings) bytes =
+    (x : Image) × (v : Vault) × (steps : List ℕ) × IsVaultReplay bytes image vault schedule settings x v steps

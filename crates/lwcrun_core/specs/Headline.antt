@@ -5,6 +5,7 @@ use Rattle.lwc_base.specs.declared.limits.TheConstants.{MOST_IMAGE_BYTES, MOST_R
 use Rattle.guest_image.specs.Limits.{lifted}
 use Rattle.guest_image.specs.Spelling.{spelling}
 use Rattle.guest_image.specs.declared.image.Image.{Image}
+use Rattle.guest_image.specs.declared.image.Vault.{Vault}
 use Rattle.kernel_core.specs.declared.settings.Settings.{Settings}
 use Rattle.kernel_core.specs.Histories.{IsComplete}
 use Rattle.kernel_core.specs.Start.{Inputs, start, threads_for}
@@ -12,13 +13,15 @@ use Rattle.lwc_gen.specs.Generated.{generated}
 use Rattle.lwc_gen.specs.Summary.{summary_after}
 use Rattle.lwc_monitor.specs.Reports.{monitored_text}
 use Rattle.lwc_text.specs.Report.{report_of_schedule}
+use Rattle.lwc_text.specs.declared.vault.TheConstants.{MOST_VAULT_BYTES}
+use Rattle.lwc_vault.specs.Secrets.{beside}
 use Rattle.lwcrun_core.specs.declared.ending.Rejection.{Rejection}
-use Rattle.lwcrun_core.specs.Images.{bounded_requests_of, fitting_image_of, image_of, requests_of, schedule_of, source_of}
+use Rattle.lwcrun_core.specs.Images.{bounded_requests_of, fitting_image_of, fitting_vault_for, image_of, requests_of, schedule_of, source_of}
 use Rattle.lwcrun_core.specs.Lines.{Command}
 use Rattle.lwcrun_core.specs.Lines as commands
 use Rattle.lwcrun_core.specs.Plans.{Plan, Read, Write, accepted}
 
--- what is done when all inputs are accepted: the steps of a schedule; all steps of threads that go on by
+-- what is done when all inputs are accepted: the steps of a schedule, beside a vault if there is one; all steps of threads that go on by
 -- themselves; the bytes of an image, or its source; all steps of a generated serve; the steps of a schedule, in
 -- which contexts may be trapped
 pub data Work : Type 0 where
@@ -107,6 +110,22 @@ unfoldable pub monitor_plan : List ℕ → List ℕ → Settings → Plan Reject
 monitor_plan image schedule settings =
     read_by (fitting_image_of settings.frames) MOST_IMAGE_BYTES image (after_monitored schedule settings)
 
+-- what follows the vault: the schedule of the image's threads is read
+unfoldable pub after_vault : List ℕ → Settings → Image → Vault → Plan Rejection Work
+after_vault schedule settings image vault =
+    read_by (schedule_of (threads_for image settings.job)) MOST_SCHEDULE_BYTES schedule (λ steps.
+    Write (Replaying (beside (inputs_of image [] settings) vault) steps))
+
+-- what follows the image of a run beside a vault: the vault is read
+unfoldable pub after_vault_image : List ℕ → List ℕ → Settings → Image → Plan Rejection Work
+after_vault_image vault schedule settings image =
+    read_by (fitting_vault_for settings.frames image) MOST_VAULT_BYTES vault (after_vault schedule settings image)
+
+-- a run beside a vault: the image is read, then the vault, with which the frames are tested, and then the schedule
+unfoldable pub vault_plan : List ℕ → List ℕ → List ℕ → Settings → Plan Rejection Work
+vault_plan image vault schedule settings =
+    read_by image_of MOST_IMAGE_BYTES image (after_vault_image vault schedule settings)
+
 -- a generated serve: no file is read
 unfoldable pub gen_plan : ℕ → Plan Rejection Work
 gen_plan number = Write (Generating number)
@@ -121,3 +140,4 @@ plan_of (commands.Dis image) = dis_plan image
 plan_of (commands.Gen number) = gen_plan number
 plan_of (commands.Lift image) = lift_plan image
 plan_of (commands.Monitor image schedule settings) = monitor_plan image schedule settings
+plan_of (commands.Vault image vault schedule settings) = vault_plan image vault schedule settings

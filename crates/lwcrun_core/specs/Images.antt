@@ -3,6 +3,8 @@ use Rattle.std.specs.Prelude.{ℕ, ◌+◌, ◌*◌, if◌then◌else◌, nat_lt
 use Rattle.byte_reading.specs.Outcomes.{Refusal}
 use Rattle.guest_asm.specs.Drafts.{assembled}
 use Rattle.guest_image.specs.declared.image.Image.{Image}
+use Rattle.guest_image.specs.declared.image.Vault.{Vault}
+use Rattle.guest_image.specs.Limits.{pages_of}
 use Rattle.guest_image.specs.Reading.{image_at}
 use Rattle.kernel_core.specs.declared.settings.Job.{Job}
 use Rattle.kernel_core.specs.declared.settings.Job.TheVariants.{Run, Serve}
@@ -10,7 +12,9 @@ use Rattle.kernel_core.specs.declared.settings.Settings.{Settings}
 use Rattle.lwc_base.specs.declared.limits.TheConstants.{MOST_STEPS}
 use Rattle.lwc_text.specs.Requests.{requests_at}
 use Rattle.lwc_text.specs.Schedules.{schedule_at}
-use Rattle.lwc_text.specs.declared.fault.InputRule.TheVariants.{TooMuchWork}
+use Rattle.lwc_text.specs.VaultFiles.{vault_at}
+use Rattle.lwc_vault.specs.Slots.{takes_vault_slot}
+use Rattle.lwc_text.specs.declared.fault.InputRule.TheVariants.{SlotTaken, TooMuchWork}
 use Rattle.lwcrun_core.specs.declared.ending.Rejection.{Rejection}
 use Rattle.lwcrun_core.specs.declared.ending.Rejection.TheVariants as rejections
 
@@ -40,6 +44,24 @@ fitted frames image =
 -- the image that bytes spell, where its pages fit the frames, or why they are rejected
 unfoldable pub fitting_image_of : ℕ → List ℕ → Result Image Rejection
 fitting_image_of frames bytes = then_tested (image_of bytes) (fitted frames)
+
+-- the vault that bytes spell for an image, or why they are rejected
+unfoldable pub vault_for : Image → List ℕ → Result Vault Rejection
+vault_for image bytes =
+    or_rejected rejections.Input (vault_at (length image.text) (pages_of image.form) bytes)
+
+-- a vault whose slot the image leaves free, and whose pages fit the frames together with the image's; else it is
+-- rejected
+abbrev pub fitted_beside : ℕ → Image → Vault → Result Vault Rejection
+fitted_beside frames image v =
+    if takes_vault_slot image then Err (rejections.Input SlotTaken 0)
+    else (if nat_lt frames (length image.pages + length v.pages)
+    then Err (rejections.TooLarge (length image.pages + length v.pages) frames)
+    else Ok v)
+
+-- the vault that bytes spell for an image, where it can stand beside the image, or why they are rejected
+unfoldable pub fitting_vault_for : ℕ → Image → List ℕ → Result Vault Rejection
+fitting_vault_for frames image bytes = then_tested (vault_for image bytes) (fitted_beside frames image)
 
 -- the image that a source makes, or why the source is rejected
 unfoldable pub source_of : List ℕ → Result Image Rejection

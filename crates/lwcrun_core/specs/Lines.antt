@@ -14,7 +14,7 @@ use Rattle.lwcrun_core.specs.Numbers.{number_within}
 -- what is asked for, each file by its name: an image under a schedule, a serve where there are requests; the
 -- run of an image; the serve of requests by an image; the image of a source; the source of an image; the
 -- serve that is generated from a number; the lifted image of an image; an image under a schedule, in whose run
--- contexts may be trapped
+-- contexts may be trapped; an image beside a vault under a schedule
 pub data Command : Type 0 where
   Replay : List ℕ → List ℕ → Option (List ℕ) → Settings → Command
   Run : List ℕ → Settings → Command
@@ -24,6 +24,7 @@ pub data Command : Type 0 where
   Gen : ℕ → Command
   Lift : List ℕ → Command
   Monitor : List ℕ → List ℕ → Settings → Command
+  Vault : List ℕ → List ℕ → List ℕ → Settings → Command
 
 -- settings of a run, within their limits
 pub record AreRunSettings (settings : Settings) : Type 0 where
@@ -106,6 +107,13 @@ monitor_of a =
     if is_some a.third || is_some a.workers then None
     else two_words a (λ image schedule. option_map (Monitor image schedule) (settings_of jobs.Run a))
 
+-- `vault` wants an image, a vault and a schedule, and takes frames and a budget
+abbrev pub vault_of : Arguments → Option Command
+vault_of a =
+    if is_some a.workers then None
+    else option_and_then (λ schedule. two_words a (λ image vault.
+    option_map (Vault image vault schedule) (settings_of jobs.Run a))) a.third
+
 -- the table of modes: what each asks for, if it takes the other arguments
 abbrev pub asked_in : List ℕ → Arguments → Option Command
 asked_in mode a =
@@ -117,6 +125,7 @@ asked_in mode a =
     else if bytes_eq mode (codes "gen") then gen_of a
     else if bytes_eq mode (codes "lift") then option_map Lift (only_word a)
     else if bytes_eq mode (codes "monitor") then monitor_of a
+    else if bytes_eq mode (codes "vault") then vault_of a
     else None
 
 -- what the words ask for, the program's name first; none where the line is not accepted
@@ -134,6 +143,8 @@ asked_by (lines.Dis image) = Dis (string_bytes image)
 asked_by (lines.Gen number) = Gen number
 asked_by (lines.Lift image) = Lift (string_bytes image)
 asked_by (lines.Monitor image schedule settings) = Monitor (string_bytes image) (string_bytes schedule) settings
+asked_by (lines.Vault image vault schedule settings) =
+    Vault (string_bytes image) (string_bytes vault) (string_bytes schedule) settings
 
 -- the settings of a replay are within their limits: those of a run, or of a serve where there are requests
 abbrev pub AreReplaySettings : {A : Type 0} → Option A → Settings → Type 0
@@ -150,6 +161,7 @@ IsWithinLimits (Dis image) = Unit {0}
 IsWithinLimits (Gen number) = (1 ≤ number) × (number ≤ 100)
 IsWithinLimits (Lift image) = Unit {0}
 IsWithinLimits (Monitor image schedule settings) = AreRunSettings settings
+IsWithinLimits (Vault image vault schedule settings) = AreRunSettings settings
 
 -- the command runs threads, which come to the gate
 abbrev pub RunsThreads : Command → Type 0
@@ -161,3 +173,4 @@ RunsThreads (Dis image) = ⊥
 RunsThreads (Gen number) = Unit {0}
 RunsThreads (Lift image) = ⊥
 RunsThreads (Monitor image schedule settings) = ⊥
+RunsThreads (Vault image vault schedule settings) = ⊥

@@ -20,6 +20,7 @@ use crate::replaying::replay;
 use crate::running::{run, serve, serve_generated};
 use crate::sources::{asm, dis, lift};
 use crate::status::ExitStatus;
+use crate::vaulting::replay_with_vault;
 use lwc_io::{Files, Gate, Sink};
 use std::alloc::Global;
 use std::sync::Wait;
@@ -54,8 +55,9 @@ pub fn lwcrun<R: Threads + Wait + Sync, F: Files, O: Sink, E: Sink, G: Gate>(
         (command_of (map string_bytes words.now)) result (E.seen err.old) (E.seen err.new) }
 
     // What was written at status 0, over known files: the report of the steps that are kept of the schedule,
-    // or that the threads made, each of which is confined, also where contexts are trapped; an image, one that was
-    // lifted too, or a source; the summary of a generated serve.
+    // or that the threads made, each of which is confined, also where contexts are trapped; beside a vault it is the
+    // same beside each other vault of its shape, unless a thread makes a step in it; an image, one that was lifted
+    // too, or a source; the summary of a generated serve.
     ensures headline { (command : Command) (bytes : List ℕ → List ℕ) → result ≡ ExitStatus.Ok
         → command_of (map string_bytes words.now) ≡ Some command
         → AreContents (F.seen files.old).contents command bytes
@@ -204,5 +206,11 @@ fn carry_out<'a, R: Threads + Wait + Sync, F: Files, O: Sink, G: Gate>(
             schedule,
             settings,
         } => monitor(alloc, files, out, image, schedule, settings),
+        Line::Vault {
+            image,
+            vault,
+            schedule,
+            settings,
+        } => replay_with_vault(alloc, files, out, image, vault, schedule, settings),
     }
 }

@@ -15,10 +15,10 @@ pub enum Rejection {
     /// The source is not in its grammar, or the image that it makes is not: the rule that it breaks first,
     /// and the offset in the source or, for a rule of images, in the image.
     Source { rule: SourceRule, at: u64 },
-    /// The schedule, or the requests, are not in their grammar or limits: the rule that they break first,
-    /// and the offset where they do.
+    /// The schedule, the requests or the vault are not in their grammar or limits: the rule that they break
+    /// first, and the offset where they do.
     Input { rule: InputRule, at: u64 },
-    /// The image has more pages than there are frames.
+    /// The image, with the vault if there is one, has more pages than there are frames.
     TooLarge { pages: u32, frames: u32 },
 }
 
@@ -64,7 +64,7 @@ impl<'a> From<SourceError> for Ending<'a> {
 impl<'a> From<InputFault> for Ending<'a> {
     ghost from_gives = { λ fault ending. end_of ending ≡ error_end rejections.Input fault };
 
-    /// The end of a call whose schedule or requests were not read.
+    /// The end of a call whose schedule, requests or vault were not read.
     fn from(fault: InputFault) -> Ending<'a> {
         match fault {
             InputFault::OutOfMemory => Ending::NoMemory,

@@ -1,12 +1,15 @@
-ghost use Rattle.std.specs.Prelude.{◌≡◌, ◌≤◌, ◌<◌, ◌^◌, All, IfOk, OnOk, length};
+ghost use Rattle.std.specs.Prelude.{◌≡◌, ◌≢◌, ◌≤◌, ◌<◌, ◌+◌, ◌^◌, All, IfOk, OnOk, length};
 ghost use Rattle.lwc_base.specs.declared.limits.TheConstants.{MOST_IMAGE_BYTES, MOST_REQUESTS};
 ghost use Rattle.lwc_base.specs.declared.limits.TheConstants.{MOST_REQUEST_FILE_BYTES, MOST_SCHEDULE_BYTES};
 ghost use Rattle.lwc_base.specs.declared.limits.TheConstants.{MOST_SOURCE_BYTES, MOST_STEPS};
-ghost use Rattle.guest_image.specs.Limits.{IsImage};
+ghost use Rattle.guest_image.specs.Limits.{IsImage, IsVault, pages_of};
+ghost use Rattle.guest_image.specs.declared.image.TheConstants.{VAULT_SLOT};
 ghost use Rattle.kernel_core.specs.Kernel.{AreRequests};
 ghost use Rattle.kernel_core.specs.Settings.{IsSettings};
-ghost use Rattle.lwcrun_core.specs.Images.{bounded_requests_of, fitting_image_of, image_of, requests_of};
-ghost use Rattle.lwcrun_core.specs.Images.{schedule_of, serve_steps, source_of, within_limit};
+ghost use Rattle.lwc_text.specs.declared.vault.TheConstants.{MOST_VAULT_BYTES};
+ghost use Rattle.lwcrun_core.specs.Images.{bounded_requests_of, fitting_image_of, fitting_vault_for, image_of};
+ghost use Rattle.lwcrun_core.specs.Images.{requests_of, schedule_of, serve_steps, source_of, vault_for};
+ghost use Rattle.lwcrun_core.specs.Images.{within_limit};
 ghost use Rattle.lwcrun_core.specs.Parts.{ReadsBy};
 ghost use Rattle.lwcrun_core.specs.Reading.{Fetched, ReadsOnward, ReadsToTheEnd};
 ghost use Rattle.lwcrun_core.specs.Views.{found};
@@ -14,14 +17,15 @@ ghost use Rattle.lwcrun_core.specs.Views.{found};
 use crate::ending::{Ending, Rejection};
 use crate::reading::{FetchError, read_whole};
 use guest_asm::{SourceRule, assemble};
-use guest_image::{Image, ImageRule, read_image};
+use guest_image::{Image, ImageRule, Vault, read_image};
 use kernel_core::{Job, Settings};
 use lwc_base::{
     MOST_IMAGE_BYTES, MOST_REQUEST_FILE_BYTES, MOST_SCHEDULE_BYTES, MOST_SOURCE_BYTES, MOST_STEPS,
     Requests,
 };
 use lwc_io::Files;
-use lwc_text::{InputRule, Schedule, read_requests, read_schedule};
+use lwc_text::{InputRule, MOST_VAULT_BYTES, Schedule, read_requests, read_schedule, read_vault};
+use lwc_vault::takes_vault_slot;
 use std::alloc::Global;
 
 /// The image in the file of that name, whose pages fit the frames, or the end of the call without it.
@@ -70,6 +74,63 @@ pub fn image_in<'a, F: Files>(
     };
     let bytes = bytes_in(alloc, files, name, MOST_IMAGE_BYTES, too_long)?;
     Ok(read_image(alloc, &bytes)?)
+}
+
+/// The vault in the file of that name, which can stand beside the image: its slot is free there, and its pages
+/// fit the frames together with the image's; or the end of the call without it.
+pub fn fitting_vault_in<'a, F: Files>(
+    alloc: Global,
+    files: &mut F,
+    name: &'a str,
+    image: &Image,
+    frames: u32,
+) -> Result<Vault, Ending<'a>>
+    requires { IsImage image.now }
+    ensures reads { ReadsBy (fitting_vault_for frames image.now) (F.seen files.old) (F.seen files.new) name.now
+        (found (λ vault. vault) result) }
+    ensures valid { IfOk result (IsVault (length image.now.text) (pages_of image.now.form)) }
+    ensures free { OnOk result (All (λ s. s.slot ≢ VAULT_SLOT) image.now.slots) }
+    ensures fits { IfOk result (λ vault. length image.now.pages + length vault.pages ≤ frames) }
+    ensures same { (F.seen files.new).contents ≡ (F.seen files.old).contents }
+    ensures fetches { Fetched (ReadsOnward name.now MOST_VAULT_BYTES)
+        (F.seen files.old).fetches (F.seen files.new).fetches }
+    ensures whole { OnOk result (Fetched (ReadsToTheEnd name.now MOST_VAULT_BYTES)
+        (F.seen files.old).fetches (F.seen files.new).fetches) }
+{
+    let vault = vault_in(alloc, files, name, image)?;
+    if takes_vault_slot(image) {
+        return Err(Ending::Refused(Rejection::Input {
+            rule: InputRule::SlotTaken,
+            at: 0,
+        }));
+    }
+    let pages = (image.pages.len() + vault.pages.len()) as u32;
+    if frames < pages {
+        return Err(Ending::Refused(Rejection::TooLarge { pages, frames }));
+    }
+    Ok(vault)
+}
+
+/// The vault for the image in the file of that name, or the end of the call without it.
+fn vault_in<'a, F: Files>(
+    alloc: Global,
+    files: &mut F,
+    name: &'a str,
+    image: &Image,
+) -> Result<Vault, Ending<'a>>
+    requires { IsImage image.now }
+    ensures reads { ReadsBy (vault_for image.now) (F.seen files.old) (F.seen files.new) name.now
+        (found (λ vault. vault) result) }
+    ensures valid { IfOk result (IsVault (length image.now.text) (pages_of image.now.form)) }
+    ensures same { (F.seen files.new).contents ≡ (F.seen files.old).contents }
+    ensures fetches { Fetched (ReadsOnward name.now MOST_VAULT_BYTES)
+        (F.seen files.old).fetches (F.seen files.new).fetches }
+    ensures whole { OnOk result (Fetched (ReadsToTheEnd name.now MOST_VAULT_BYTES)
+        (F.seen files.old).fetches (F.seen files.new).fetches) }
+{
+    let too_long = too_long_input(MOST_VAULT_BYTES);
+    let bytes = bytes_in(alloc, files, name, MOST_VAULT_BYTES, too_long)?;
+    Ok(read_vault(alloc, &bytes, image.text.len() as u32, image.form.pages())?)
 }
 
 /// The image of the source in the file of that name, or the end of the call without it.
@@ -207,7 +268,7 @@ fn bytes_in<'a, F: Files>(
     }
 }
 
-/// The rejection of a schedule or of requests with more bytes than this.
+/// The rejection of a schedule, of requests or of a vault with more bytes than this.
 fn too_long_input(limit: usize) -> Rejection
     ensures { result ≡ Rejection.Input InputRule.TooLong limit }
 {

@@ -17,6 +17,7 @@ mod replaying;
 mod running;
 mod sources;
 mod status;
+mod vaulting;
 mod writing;
 
 pub use call::lwcrun;

@@ -55,6 +55,13 @@ pub enum Line {
         schedule: String,
         settings: Settings,
     },
+    /// An image beside a vault under a schedule, each a file by its name.
+    Vault {
+        image: String,
+        vault: String,
+        schedule: String,
+        settings: Settings,
+    },
 }
 
 /// Why a line was not read.
@@ -116,6 +123,7 @@ fn line_in(alloc: Global, mode: &str, arguments: &Arguments<'_>) -> Result<Line,
             image: name_of(alloc, only_word(arguments))?,
         }),
         "monitor" => monitor_line(alloc, arguments),
+        "vault" => vault_line(alloc, arguments),
         _ => Err(LineFault::Usage),
     }
 }
@@ -247,6 +255,26 @@ fn monitor_line(alloc: Global, arguments: &Arguments<'_>) -> Result<Line, LineFa
     Ok(Line::Monitor {
         image: name_of(alloc, arguments.first)?,
         schedule: name_of(alloc, arguments.second)?,
+        settings,
+    })
+}
+
+/// The line of a run beside a vault: an image, a vault and a schedule, with frames and a budget.
+fn vault_line(alloc: Global, arguments: &Arguments<'_>) -> Result<Line, LineFault>
+    ensures accepted { IfOk result (λ line. spec.vault_of (arguments_in arguments.now) ≡ Some (asked_by line)) }
+    ensures limits { IfOk result (λ line. IsWithinLimits (asked_by line)) }
+    ensures usage { result ≡ Err LineFault.Usage → spec.vault_of (arguments_in arguments.now) ≡ None }
+{
+    if arguments.workers.is_some() {
+        return Err(LineFault::Usage);
+    }
+    let Some(settings) = settings_of(arguments, Job::Run) else {
+        return Err(LineFault::Usage);
+    };
+    Ok(Line::Vault {
+        image: name_of(alloc, arguments.first)?,
+        vault: name_of(alloc, arguments.second)?,
+        schedule: name_of(alloc, arguments.third)?,
         settings,
     })
 }

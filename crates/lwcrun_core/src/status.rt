@@ -16,9 +16,9 @@ pub enum ExitStatus {
     WriteFault,
     /// The image is not in its grammar or limits.
     ImageRefused,
-    /// The schedule, or the requests, are not in their grammar or limits.
+    /// The schedule, the requests or the vault are not in their grammar or limits.
     InputRefused,
-    /// The image has more pages than there are frames.
+    /// The image, with the vault if there is one, has more pages than there are frames.
     ImageTooLarge,
 }
 
