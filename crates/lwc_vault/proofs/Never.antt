@@ -1,9 +1,9 @@
 -- No thread stands in the vault before an accepted switch to it.
-use Rattle.std.proofs.Common.{◌≡◌, ◌≢◌, ℕ, zero, suc, ◌+◌, Option, Some, None, List, [], ◌∷◌, refl, sym, ap, subst, ◌∙◌, arith}
+use Rattle.std.proofs.Common.{◌≡◌, ℕ, zero, suc, ◌+◌, Option, Some, None, List, [], ◌∷◌, refl, sym, ap, subst, ◌∙◌, arith}
 use Rattle.std.specs.Prelude.{map, slice_get}
 use Rattle.std.specs.List.{enumerate_from}
 use Rattle.confinement.proofs.Standing.{NotIn, no_thread_moves, stands_elsewhere}
-use Rattle.confinement.specs.May.{IsGiven, MakesCall}
+use Rattle.confinement.specs.May.{IsGiven}
 use Rattle.guest_image.specs.declared.image.Vault.{Vault}
 use Rattle.kernel_core.proofs.HomeStart.{ready_start}
 use Rattle.kernel_core.proofs.ReadyRuns.{ready_run}
@@ -12,11 +12,9 @@ use Rattle.kernel_core.specs.Machine.{Machine, Serve}
 use Rattle.kernel_core.specs.Ready.{IsReady}
 use Rattle.kernel_core.specs.Start.{Inputs, first_name, first_thread, first_threads, start, threads_at, vault_name}
 use Rattle.kernel_core.specs.Step.{step}
-use Rattle.kernel_core.specs.declared.calling.TheConstants.{LW_SWITCH}
 use Rattle.kernel_core.specs.declared.settings.Job.{Job}
 use Rattle.kernel_core.specs.declared.settings.Job.TheVariants.{Run}
 use Rattle.kernel_core.specs.declared.thread.Thread.{Thread}
-use Rattle.lwc_base.specs.declared.descriptor.Cap.{Cap}
 use Rattle.lwc_base.specs.declared.name.Name.{Name}
 use Rattle.lwc_vault.proofs.Staying.{no_serve}
 use Rattle.lwc_vault.proofs.Telling.{stays_run}

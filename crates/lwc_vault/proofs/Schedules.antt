@@ -1,6 +1,5 @@
 -- A schedule beside a vault prints the same beside another one of its shape.
-use Rattle.std.proofs.Common.{◌≡◌, ℕ, Bool, true, false, cond, Option, Some, None, List, [], ◌∷◌, refl, sym, ap, subst, ◌∙◌}
-use Rattle.std.specs.Prelude.{slice_get}
+use Rattle.std.proofs.Common.{◌≡◌, ℕ, Bool, true, false, cond, Option, None, List, [], ◌∷◌, refl, sym, ap, subst, ◌∙◌}
 use Rattle.std.specs.Option.{option_map_or}
 use Rattle.guest_image.specs.declared.image.Vault.{Vault}
 use Rattle.kernel_core.proofs.Runs.{step_of_ended}
@@ -10,14 +9,12 @@ use Rattle.kernel_core.specs.Runs.{kept}
 use Rattle.kernel_core.specs.Start.{Inputs, start}
 use Rattle.kernel_core.specs.Step.{step}
 use Rattle.kernel_core.specs.declared.thread.Thread.{Thread}
-use Rattle.lwc_base.specs.declared.fault.ThreadStatus.{ThreadStatus}
-use Rattle.lwc_base.specs.declared.fault.ThreadStatus.TheVariants.{Running}
 use Rattle.lwc_text.specs.Report.{report_of_schedule}
 use Rattle.lwc_vault.proofs.Never.{outside_by_switches}
 use Rattle.lwc_vault.proofs.Shapes.{start-shape, text-shape}
 use Rattle.lwc_vault.proofs.Staying.{all-outside, no_serve}
 use Rattle.lwc_vault.proofs.Telling.{ActOutside, act-back, act-blank, kept-blank, text_of}
-use Rattle.lwc_vault.specs.Secrets.{ActsOutside, HaveOneShape, KeepsSecret, StandOutside, beside, blank_machine}
+use Rattle.lwc_vault.specs.Secrets.{ActsOutside, HaveOneShape, KeepsSecret, StandOutside, beside}
 
 -- who has ended makes no step, inside or outside
 ended_acts : (m : Machine) (t : ℕ) → is_ended m t ≡ true → ActsOutside m t
