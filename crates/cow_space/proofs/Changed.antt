@@ -18,11 +18,11 @@ use Rattle.cow_space.specs.declared.page_runs.PageRun.{PageRun}
 use Rattle.cow_space.specs.declared.cells.PageCells.{PageCells}
 use Rattle.cow_space.specs.RowSeen.{HasNoTree, maps}
 use Rattle.cow_space.specs.Seen.{cells, rights}
-use Rattle.cow_space.specs.Cells.{Place, cell_of, kinds_of, place_cells, place_of, place_rights, right_in, rights_of, segments_of}
+use Rattle.cow_space.specs.Cells.{Place, cell_of, kinds_of, place_cells, place_of, place_rights, right_in, rights_of}
 use Rattle.cow_space.specs.Changes.{IsApart, IsPageRun, cell_by, changed_place, changed_rights, changed_states, have_page, origin_cell, right_by, page_run_at}
-use Rattle.cow_space.specs.Kept.{HasNoPage, may_have}
+use Rattle.cow_space.specs.Kept.{HasNoOwnPage, may_have}
 use Rattle.cow_space.specs.Rows.{changed_row, origin_value, value_by}
-use Rattle.cow_space.proofs.Places.{none-cells}
+use Rattle.cow_space.proofs.OwnPages.{no-own-cells}
 use Rattle.cow_space.proofs.Views.{place-at, place-kinds}
 use Rattle.lwc_base.specs.declared.limits.TheConstants.{MOST_PAGES}
 
@@ -84,10 +84,6 @@ past-page_run count i p page_runs past are = by (page_run_at page_runs p) (find-
     by : (o : Option PageRun) → MatchOption o (Unit {0}) (λ s. IsPageRun count i s × (is_between s.range.from s.range.to p ≡ true)) → o ≡ None
     by None holds = refl
     by (Some s) holds = absurd (let below = ltb-true p s.range.to ((and_parts (leb s.range.from p) (ltb p s.range.to) holds.1).1) in let end = holds.0.inside in omega (arith, past, below, end))
-
-nothing : HasNoPage []
-unfolding state_at
-nothing p = refl
 
 module _ (w : PageCells) (i : ℕ) (page_runs : List PageRun) where
   -- a cell is that of its kind, and its row fits it
@@ -152,15 +148,15 @@ module _ (w : PageCells) (i : ℕ) (page_runs : List PageRun) where
     fit-changed p =
         ap (λ k. may_have k (value_by (maps w.rows) p (row_of (maps w.rows) i p) (page_run_at page_runs p))) (kind-now p) ∙ fit-by p (page_run_at page_runs p)
 
-    -- where no page is left, the place has no pages, and without page runs it had none before
-    pub none-left : segments ≡ [] → place_cells segments no_pages ≡ changed_place (cells w) i page_runs
-    none-left none = ap (λ s. place_cells s no_pages) none ∙ none-cells no_pages ∙ sym (ap (λ s. place_cells s (changed_row (maps w.rows) i page_runs)) none ∙ none-cells (changed_row (maps w.rows) i page_runs)) ∙ cells-changed
+    -- where no page of the place's own is left, its row says nothing, and without page runs it had none before
+    pub none-left : HasNoOwnPage segments → place_cells segments no_pages ≡ changed_place (cells w) i page_runs
+    none-left none = no-own-cells segments no_pages (changed_row (maps w.rows) i page_runs) none ∙ cells-changed
 
-    pub none-before : segments ≡ [] → length page_runs ≡ 0 → HasNoTree w.rows i
+    pub none-before : HasNoOwnPage segments → length page_runs ≡ 0 → HasNoTree w.rows i
     none-before none empty =
-        w.bare i (λ p.
-        no-state (state_at (segments_of w.kinds.items i) p)
-        (ap (λ (f : ℕ → Option SegmentKind). f p) (place-kinds w i)
-        ∙ sym (kept-kind (cells w) i p page_runs (no-page_run page_runs p empty))
-        ∙ sym (kind-now p)
-        ∙ ap (option_map (λ (s : PageState). s.kind)) (ap (λ s. state_at s p) none ∙ nothing p)))
+        w.bare i (λ p own.
+        none p
+        (kind-now p
+        ∙ kept-kind (cells w) i p page_runs (no-page_run page_runs p empty)
+        ∙ ap (λ (f : ℕ → Option SegmentKind). f p) (sym (place-kinds w i))
+        ∙ own))

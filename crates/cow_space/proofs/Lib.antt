@@ -1,8 +1,10 @@
 mod Changed
 mod Edges
 mod Filled
+pub mod FreeLemmas
 pub mod KindChanges
 pub mod Lists
+pub mod OwnPages
 mod OwnTags
 pub mod PieceLemmas
 pub mod Places

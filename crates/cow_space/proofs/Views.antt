@@ -14,7 +14,7 @@ use Rattle.range_map.specs.declared.segment.SegmentKind.TheVariants.{Own}
 use Rattle.range_map.specs.Kinds.{kind_at, kind_of, state_at, state_of}
 use Rattle.cow_space.specs.declared.cells.PageCells.{PageCells}
 use Rattle.cow_space.specs.Cells.{IsOwnPage, Place, all_cells, all_rights, kinds_of, no_pages, place_cells, place_of, place_rights, right_in, rights_of, segments_of, states_of}
-use Rattle.cow_space.specs.Kept.{HasNoPage, IsKept, may_have}
+use Rattle.cow_space.specs.Kept.{HasNoOwnPage, IsKept, may_have}
 use Rattle.cow_space.specs.Maps.{row_of}
 use Rattle.cow_space.specs.RowSeen.{HasNoTree, maps}
 use Rattle.cow_space.specs.Seen.{cells, rights}
@@ -81,7 +81,7 @@ module _ (w : PageCells) where
   -- a place without pages has no tree
   pub no-tree : (i : ℕ) → place_of (cells w) i ≡ no_pages → HasNoTree w.rows i
   no-tree i empty =
-      w.bare i (λ p. ap (λ (f : ℕ → Option PageState). f p) (place-states i ∙ ap (λ (place : Place). states_of place (rights_of (rights w) i)) empty))
+      w.bare i (λ p own. let kind = ap (λ (f : ℕ → Option SegmentKind). f p) (place-kinds i) ∙ ap (λ (place : Place). kind_of (place p)) empty in let same = sym kind ∙ own in cc)
 
   -- a place has other segments and another row
   module _ (i : ℕ) (segments : List Segment) (row : ℕ → Option PageValue) (rows : List (ℕ → Option PageValue)) (inside : i < length (cells w)) (are : rows ≡ set (maps w.rows) i row) where
@@ -98,7 +98,7 @@ module _ (w : PageCells) where
   unfolding rights
   rights-set i segments = set-rights w.kinds.items i segments
 
-  pub bare-still : (i : ℕ) (segments : List Segment) (after : ℕ → Type 0) → i < length (cells w) → ((j : ℕ) → j ≢ i → HasNoTree w.rows j → after j) → (HasNoPage segments → after i) →
-      (j : ℕ) → HasNoPage (segments_of (set w.kinds.items i segments) j) → after j
+  pub bare-still : (i : ℕ) (segments : List Segment) (after : ℕ → Type 0) → i < length (cells w) → ((j : ℕ) → j ≢ i → HasNoTree w.rows j → after j) → (HasNoOwnPage segments → after i) →
+      (j : ℕ) → HasNoOwnPage (segments_of (set w.kinds.items i segments) j) → after j
   bare-still i segments after inside others here =
-      by-place (maps w.rows) w.kinds.items i segments (row_of (maps w.rows) i) w.kept (row-in i inside) (λ j s _. HasNoPage s → after j) here (λ j off none. others j off (w.bare j none))
+      by-place (maps w.rows) w.kinds.items i segments (row_of (maps w.rows) i) w.kept (row-in i inside) (λ j s _. HasNoOwnPage s → after j) here (λ j off none. others j off (w.bare j none))

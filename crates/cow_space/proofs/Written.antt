@@ -18,7 +18,7 @@ use Rattle.cow_space.specs.declared.cells.PageCells.{PageCells}
 use Rattle.cow_space.specs.Cells.{IsOwnPage, Place, all_cells, cell_of, place_of, segments_of}
 use Rattle.cow_space.specs.RowSeen.{HasNoTree, maps}
 use Rattle.cow_space.specs.Seen.{cells}
-use Rattle.cow_space.specs.Kept.{HasNoPage, IsKept, may_have}
+use Rattle.cow_space.specs.Kept.{HasNoOwnPage, IsKept, may_have}
 use Rattle.cow_space.specs.Writes.{write_page, written_value}
 use Rattle.cow_space.proofs.Views.{cells-set, kept-still, own-segments, place-at}
 use Rattle.cow_space.proofs.OwnTags.{own-rows, parting-rows}
@@ -63,6 +63,6 @@ module _ (w : PageCells) (i p : ℕ) (piece : Piece) (tag : Tag) (rows : List (�
       (kept-still w i segments (put_page (row_of (maps w.rows) i) p (Some value)) rows inside written fit-put (w.kept.within i))
 
   -- a place without pages has no tree still
-  pub bare-written : (after : ℕ → Type 0) → ((j : ℕ) → j ≢ i → HasNoTree w.rows j → after j) → (j : ℕ) → HasNoPage (segments_of w.kinds.items j) → after j
+  pub bare-written : (after : ℕ → Type 0) → ((j : ℕ) → j ≢ i → HasNoTree w.rows j → after j) → (j : ℕ) → HasNoOwnPage (segments_of w.kinds.items j) → after j
   bare-written after others j none =
-      others j (λ same. absurd (let gone = subst (λ k. HasNoPage (segments_of w.kinds.items k)) same none p in let is = here p refl in cc (gone, is))) (w.bare j none)
+      others j (λ same. absurd (subst (λ k. HasNoOwnPage (segments_of w.kinds.items k)) same none p (here p refl))) (w.bare j none)

@@ -8,6 +8,8 @@ use Rattle.lwc_base.specs.Store.{Piece}
 use Rattle.cow_space.specs.declared.page_runs.PageRun.{PageRun}
 use Rattle.cow_space.specs.Changes.{IsPageRun, changed_place}
 use Rattle.cow_space.specs.Cells.{IsOwnPage, Place, kinds_of, no_pages, place_of}
+use Rattle.cow_space.specs.declared.cells.PageCells.{PageCells}
+use Rattle.cow_space.specs.Seen.{HoldsNoNode, cells, frames_of, free_frames}
 use Rattle.cow_space.specs.Tags.{IsNewTag, is_parting, taken_by, used}
 use Rattle.cow_space.specs.Writes.{write_page}
 
@@ -18,6 +20,11 @@ pub record CopyLaws : Type 0 where
       used (slice_set cells to (place_of cells from)) ≡ used cells
   pub changed : (cells : List Place) (i : ℕ) (page_runs : List PageRun) → i < length cells → place_of cells i ≡ no_pages →
       All (IsPageRun (length cells) i) page_runs → used (slice_set cells i (changed_place cells i page_runs)) ≡ used cells
+
+-- each frame is free, or that of one tag; and a place without pages of its own holds no tree node
+pub record StoreLaws : Type 0 where
+  pub frames : (w : PageCells) → free_frames w + used (cells w) ≡ frames_of w
+  pub bare : (w : PageCells) (i : ℕ) → ((p : ℕ) → IsOwnPage (place_of (cells w) i p) → ⊥) → HoldsNoNode w i
 
 -- a write takes a frame if the page parts, and none otherwise; it leaves the kinds of pages, and any other
 -- new tag stays new; another page of any place is as before, and parts as before if it is under another tag

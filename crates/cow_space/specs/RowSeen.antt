@@ -3,6 +3,7 @@ use Rattle.std.specs.Prelude.{◌≡◌, ℕ, List, Option, length, slice_index}
 use Rattle.lwc_base.specs.declared.name.Tag.{Tag}
 use Rattle.lwc_base.specs.declared.page.PageValue.{PageValue}
 use Rattle.frame_pool.specs.Frame.{frame_bytes, frame_stamp}
+use Rattle.frame_pool.specs.Frame as frames
 use Rattle.std.proofs.Math.Nat.{ℕ_set}
 use Rattle.node_pool.specs.Nodes.{free_of}
 use Rattle.page_tree.specs.Open as tree
@@ -22,6 +23,10 @@ frames_of w = length w.store.frames
 -- the stamp and the bytes of each frame, in use or free
 unfoldable pub pool : Rows → ℕ → Tag × List ℕ
 pool w f = (frame_stamp w.store.frames f, frame_bytes w.store.frames f)
+
+-- how many frames are free
+unfoldable pub free_frames : Rows → ℕ
+free_frames w = frames.free_frames w.store.frames
 
 -- how many tree nodes are free
 unfoldable pub free_nodes : Rows → ℕ

@@ -22,6 +22,14 @@ frames_of w = rows.frames_of w.rows
 unfoldable pub pool : PageCells → ℕ → Tag × List ℕ
 pool w = rows.pool w.rows
 
+-- how many frames are free
+unfoldable pub free_frames : PageCells → ℕ
+free_frames w = rows.free_frames w.rows
+
 -- how many tree nodes are free
 unfoldable pub free_nodes : PageCells → ℕ
 free_nodes w = rows.free_nodes w.rows
+
+-- a place holds no tree node
+unfoldable pub HoldsNoNode : PageCells → ℕ → Type 0
+HoldsNoNode w i = rows.HasNoTree w.rows i

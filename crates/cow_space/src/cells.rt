@@ -2,7 +2,7 @@ ghost use Rattle.std.specs.Prelude.{◌≡◌, ℕ, [], IfOk, replicate};
 ghost use Rattle.cow_space.specs.RowSeen as rows_seen;
 ghost use Rattle.std.proofs.Props.{props};
 ghost use Rattle.cow_space.specs.Cells.{segments_of};
-ghost use Rattle.cow_space.specs.Kept.{HasNoPage, IsKept};
+ghost use Rattle.cow_space.specs.Kept.{HasNoOwnPage, IsKept};
 ghost use Rattle.cow_space.specs.RowSeen.{no_tree-prop};
 
 use crate::rows::Rows;
@@ -12,13 +12,13 @@ use std::alloc::Global;
 
 /// The cells and the rights of the pages of a fixed number of places, each a context's or a group's. A page
 /// that is the place's own has its bytes in a row, if it was written; one without reads as zeros. A place
-/// without pages holds no tree node. After `open` no call takes memory.
+/// without pages of its own holds no tree node. After `open` no call takes memory.
 #[derive(Drop)]
 pub struct PageCells {
     pub(crate) rows: Rows,
     pub(crate) kinds: Vec<RangeMap>,
     ghost kept: { IsKept (rows_seen.maps rows) kinds.items },
-    ghost bare: { (i : ℕ) → HasNoPage (segments_of kinds.items i)
+    ghost bare: { (i : ℕ) → HasNoOwnPage (segments_of kinds.items i)
         → rows_seen.HasNoTree rows i } by { Prim.hlevel (props, no_tree-prop) },
 }
 

@@ -16,7 +16,8 @@ impl Rows {
     ghost use Rattle.page_tree.specs.declared.store.TheConstants.{PAGES, TREE_NODES};
     ghost use Rattle.page_tree.specs.Open.{entries_passed};
     ghost use Rattle.cow_space.specs.Maps.{no_pages, put_range, row_of, share_range};
-    ghost use Rattle.cow_space.specs.RowSeen.{HasNoTree, HasOwnRoot, IsOpen, edge_short, frames_of, free_nodes, maps, pool};
+    ghost use Rattle.cow_space.specs.RowSeen.{HasNoTree, HasOwnRoot, IsOpen, edge_short, frames_of, free_frames};
+    ghost use Rattle.cow_space.specs.RowSeen.{free_nodes, maps, pool};
 
     /// Makes the pages of a range of one row those of another. No frame is taken or written. A row that gets its
     /// pages in rising order takes few nodes and steps.
@@ -35,6 +36,7 @@ impl Rows {
         ensures maps { maps self.new ≡ share_range (maps self.old) to from range.from range.to }
         ensures frames { frames_of self.new ≡ frames_of self.old }
         ensures pool { pool self.new ≡ pool self.old }
+        ensures free { free_frames self.old ≤ free_frames self.new }
         ensures others { (j : ℕ) → j ≢ to → HasNoTree self.old j → HasNoTree self.new j }
         ensures own { HasOwnRoot self.new to }
         ensures nodes { free_nodes self.old ≤ free_nodes self.new + 5 }
@@ -62,6 +64,7 @@ impl Rows {
             (put_range (row_of (maps self.old) i) range.from range.to no_pages) }
         ensures frames { frames_of self.new ≡ frames_of self.old }
         ensures pool { pool self.new ≡ pool self.old }
+        ensures free { free_frames self.old ≤ free_frames self.new }
         ensures others { (j : ℕ) → j ≢ i → HasNoTree self.old j → HasNoTree self.new j }
         ensures own { (HasNoTree self.new i) ⊎ (HasOwnRoot self.new i) }
         ensures all { range.from ≡ 0 → range.to ≡ PAGES → HasNoTree self.new i }
@@ -87,6 +90,7 @@ impl Rows {
         ensures maps { maps self.new ≡ slice_set (maps self.old) i no_pages }
         ensures frames { frames_of self.new ≡ frames_of self.old }
         ensures pool { pool self.new ≡ pool self.old }
+        ensures free { free_frames self.old ≤ free_frames self.new }
         ensures others { (j : ℕ) → j ≢ i → HasNoTree self.old j → HasNoTree self.new j }
         ensures nodes { free_nodes self.old ≤ free_nodes self.new }
         ensures empty { HasNoTree self.new i }
@@ -105,6 +109,7 @@ impl Rows {
         ensures maps { maps self.new ≡ slice_set (maps self.old) to (row_of (maps self.old) from) }
         ensures frames { frames_of self.new ≡ frames_of self.old }
         ensures pool { pool self.new ≡ pool self.old }
+        ensures free { free_frames self.old ≤ free_frames self.new }
         ensures others { (j : ℕ) → j ≢ to → HasNoTree self.old j → HasNoTree self.new j }
         ensures nodes { free_nodes self.old ≤ free_nodes self.new }
         ensures cost { steps.new ≤ steps.old + (1 + TREE_NODES) }

@@ -4,6 +4,7 @@ ghost use Rattle.std.specs.Option.{option_copied};
 ghost use Rattle.lwc_base.specs.declared.limits.TheConstants.{MOST_PAGES, MOST_RANGES};
 ghost use Rattle.lwc_base.specs.declared.right.Right.TheVariants.{Read};
 ghost use Rattle.range_map.specs.Kinds.{given, kind_of, ranges, state_at, state_of};
+ghost use Rattle.cow_space.specs.Kept.{HasNoOwnPage, has_own};
 ghost use Rattle.cow_space.specs.Cells.{place_of, rights_of, states_of};
 ghost use Rattle.cow_space.specs.Changes as spec;
 ghost use Rattle.cow_space.specs.Changes.{IsPageRun, changed_states, is_edge, origin_cell, origin_right};
@@ -13,7 +14,7 @@ ghost use Rattle.cow_space.specs.Seen.{cells, rights};
 use crate::cells::PageCells;
 use crate::page_runs::{Origin, PageRun, ReadRange};
 use lwc_base::{MOST_PAGES, Right};
-use range_map::{Change, RangeMap, SegmentKind, sooner_edge};
+use range_map::{Change, RangeMap, Segment, SegmentKind, sooner_edge};
 
 /// The first page run that has a page.
 pub(crate) fn page_run_at(page_runs: &[PageRun], p: u16) -> Option<&PageRun>
@@ -60,12 +61,22 @@ fn range_edge(ranges: &[ReadRange], p: u16, edge: u16) -> u16
     next
 }
 
-/// Whether kinds have a page.
-pub(crate) fn has_page(kinds: &RangeMap) -> bool
-    ensures none { result ≡ false → kinds.now ≡ [] }
-    ensures some { result ≡ true → 0 < ranges MOST_PAGES (state_at kinds.now) }
+/// Whether a segment is of pages that are the place's own.
+fn has_own(segments: &[Segment]) -> bool
+    ensures { result ≡ has_own segments.now }
 {
-    !kinds.segments().is_empty()
+    segments
+        .iter()
+        .any(|segment| matches!(segment.kind, SegmentKind::Own))
+}
+
+/// Whether by these kinds a page is the place's own.
+pub(crate) fn has_own_page(kinds: &RangeMap) -> bool
+    ensures none { result ≡ false → HasNoOwnPage kinds.now }
+    ensures some { result ≡ true → HasNoOwnPage kinds.now → ⊥ }
+    ensures ranges { result ≡ true → 0 < ranges MOST_PAGES (state_at kinds.now) }
+{
+    has_own(kinds.segments())
 }
 
 impl PageCells {

@@ -4,12 +4,18 @@ ghost use Rattle.std.specs.Prelude.{◌≡◌, ◌+◌, ◌*◌};
 ghost use Rattle.lwc_base.specs.declared.limits.TheConstants.{MOST_CONTEXTS, MOST_GROUPS};
 ghost use Rattle.page_tree.specs.declared.store.TheConstants.{TREE_NODES};
 ghost use Rattle.cow_space.specs.declared.rows.TheConstants.{FREE_NODES};
-ghost use Rattle.cow_space.specs.Laws.{CopyLaws, WriteLaws};
+ghost use Rattle.cow_space.specs.Laws.{CopyLaws, StoreLaws, WriteLaws};
 ghost use Rattle.cow_space.specs.Worlds.{WorldLaws};
 
 /// A place without pages that gets what other places have takes no frame, and gives none back.
 pub fn copies_take_no_frame()
     ensures { CopyLaws }
+{}
+
+/// The frames that are free and the different tags are as many as there are frames. A place without pages of
+/// its own holds no tree node.
+pub fn places_account_for_their_frames()
+    ensures { StoreLaws }
 {}
 
 /// A write takes one frame if the page parts, and none otherwise. It leaves the kind of each page, and any

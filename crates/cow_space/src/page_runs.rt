@@ -8,10 +8,10 @@ ghost use Rattle.cow_space.specs.Cells.{all_write, no_pages, place_of, rights_of
 ghost use Rattle.cow_space.specs.Changes.{IsApart, IsPageRun, changed_place, changed_rights, changed_states};
 ghost use Rattle.cow_space.specs.Maps.{put_range, row_of};
 ghost use Rattle.cow_space.specs.Rows.{changed_row, origin_value};
-ghost use Rattle.cow_space.specs.Seen.{cells, frames_of, free_nodes, pool, rights};
+ghost use Rattle.cow_space.specs.Seen.{cells, frames_of, free_frames, free_nodes, pool, rights};
 
 use crate::cells::PageCells;
-use crate::kinds::{has_page, page_run_at, page_run_edge};
+use crate::kinds::{has_own_page, page_run_at, page_run_edge};
 use crate::rows::Rows;
 use lwc_base::{MOST_PAGES, Name, Range, Right};
 use pool_base::Steps;
@@ -77,6 +77,7 @@ fn fill_range<L: Ledger>(
         (origin_value (rows_seen.maps rows.old) origin)) }
     ensures frames { rows_seen.frames_of rows.new ≡ rows_seen.frames_of rows.old }
     ensures pool { rows_seen.pool rows.new ≡ rows_seen.pool rows.old }
+    ensures free { rows_seen.free_frames rows.old ≤ rows_seen.free_frames rows.new }
     ensures others { (j : ℕ) → j ≢ i → rows_seen.HasNoTree rows.old j → rows_seen.HasNoTree rows.new j }
     ensures own { (rows_seen.free_nodes rows.old ≤ rows_seen.free_nodes rows.new)
         ⊎ (rows_seen.HasOwnRoot rows.new i) }
@@ -106,11 +107,13 @@ fn fill_row<L: Ledger>(rows: &mut Rows, i: usize, page_runs: &[PageRun], steps: 
         ≡ slice_set (rows_seen.maps rows.old) i (changed_row (rows_seen.maps rows.old) i page_runs.now) }
     ensures frames { rows_seen.frames_of rows.new ≡ rows_seen.frames_of rows.old }
     ensures pool { rows_seen.pool rows.new ≡ rows_seen.pool rows.old }
+    ensures free { rows_seen.free_frames rows.old ≤ rows_seen.free_frames rows.new }
     ensures others { (j : ℕ) → j ≢ i → rows_seen.HasNoTree rows.old j → rows_seen.HasNoTree rows.new j }
     ensures nodes { rows_seen.free_nodes rows.old
-        ≤ rows_seen.free_nodes rows.new + (1 + 8 * length page_runs.now) }
+        ≤ rows_seen.free_nodes rows.new + (min 1 (length page_runs.now) + 8 * length page_runs.now) }
     ensures nodes_empty { rows_seen.HasNoTree rows.old i
-        → rows_seen.free_nodes rows.old ≤ rows_seen.free_nodes rows.new + (1 + 4 * length page_runs.now) }
+        → rows_seen.free_nodes rows.old ≤ rows_seen.free_nodes rows.new
+        + (min 1 (length page_runs.now) + 4 * length page_runs.now) }
     ensures cost { steps.new ≤ steps.old + 1532 * length page_runs.now }
     ensures cost_empty { rows_seen.HasNoTree rows.old i → steps.new ≤ steps.old + 128 * length page_runs.now }
 {
@@ -151,7 +154,7 @@ impl PageCells {
     /// Gives the pages of each page run of a place what its origin and its right say, and leaves all other
     /// pages. Of two page runs that have a page, the first counts. The pages of `reads` that are present then
     /// get the right `Read`, whether a page run has them or not. No frame is written.
-    #[tactic(auto, unfolding(crate::specs::Seen::frames_of, crate::specs::Seen::pool, crate::specs::Seen::free_nodes))]
+    #[tactic(auto, unfolding(crate::specs::Seen::frames_of, crate::specs::Seen::pool, crate::specs::Seen::free_frames, crate::specs::Seen::free_nodes))]
     pub fn change<L: Ledger>(
         &mut self,
         i: usize,
@@ -170,15 +173,20 @@ impl PageCells {
             (changed_rights (cells self.old) (rights self.old) i page_runs.now reads.now) }
         ensures frames { frames_of self.new ≡ frames_of self.old }
         ensures pool { pool self.new ≡ pool self.old }
-        ensures nodes { free_nodes self.old ≤ free_nodes self.new + (1 + 8 * length page_runs.now) }
+        ensures free { free_frames self.old ≤ free_frames self.new }
+        ensures free_empty { place_of (cells self.old) i ≡ no_pages
+            → free_frames self.new ≡ free_frames self.old }
+        ensures nodes { free_nodes self.old
+            ≤ free_nodes self.new + (min 1 (length page_runs.now) + 8 * length page_runs.now) }
         ensures nodes_empty { place_of (cells self.old) i ≡ no_pages
-            → free_nodes self.old ≤ free_nodes self.new + (1 + 4 * length page_runs.now) }
+            → free_nodes self.old
+            ≤ free_nodes self.new + (min 1 (length page_runs.now) + 4 * length page_runs.now) }
         ensures cost { steps.new ≤ steps.old + 1532 * length page_runs.now }
         ensures cost_empty { place_of (cells self.old) i ≡ no_pages
             → steps.new ≤ steps.old + 128 * length page_runs.now }
     {
         let kinds = self.kinds_after(i, page_runs, reads);
-        let some = has_page(&kinds);
+        let some = has_own_page(&kinds);
         self.kinds[i] = kinds;
         if some {
             fill_row(&mut self.rows, i, page_runs, steps);
@@ -189,7 +197,7 @@ impl PageCells {
 
     /// Makes all pages of a place those of another, and their rights, by one hold of the root of their tree.
     /// No frame is written.
-    #[tactic(auto, unfolding(crate::specs::Seen::frames_of, crate::specs::Seen::pool, crate::specs::Seen::free_nodes))]
+    #[tactic(auto, unfolding(crate::specs::Seen::frames_of, crate::specs::Seen::pool, crate::specs::Seen::free_frames, crate::specs::Seen::free_nodes))]
     pub fn clone_place<L: Ledger>(&mut self, to: usize, from: usize, steps: &mut Steps<L>)
         requires to { to < length (cells self.old) }
         requires from { from < length (cells self.old) }
@@ -198,13 +206,16 @@ impl PageCells {
         ensures rights { rights self.new ≡ slice_set (rights self.old) to (rights_of (rights self.old) from) }
         ensures frames { frames_of self.new ≡ frames_of self.old }
         ensures pool { pool self.new ≡ pool self.old }
+        ensures free { free_frames self.old ≤ free_frames self.new }
+        ensures free_empty { place_of (cells self.old) to ≡ no_pages
+            → free_frames self.new ≡ free_frames self.old }
         ensures nodes { free_nodes self.old ≤ free_nodes self.new }
         ensures cost { steps.new ≤ steps.old + (1 + TREE_NODES) }
         ensures cost_empty { place_of (cells self.old) to ≡ no_pages
             → steps.new ≤ steps.old + min 1 (ranges MOST_PAGES
             (states_of (place_of (cells self.old) from) (rights_of (rights self.old) from))) }
     {
-        let some = has_page(&self.kinds[from]);
+        let some = has_own_page(&self.kinds[from]);
         self.kinds[to] = self.kinds[from].copy();
         if some {
             self.rows.clone_row(to, from, steps);
@@ -214,13 +225,14 @@ impl PageCells {
     }
 
     /// Takes all pages from a place, and gives back all that no other place holds.
-    #[tactic(auto, unfolding(crate::specs::Seen::frames_of, crate::specs::Seen::pool, crate::specs::Seen::free_nodes))]
+    #[tactic(auto, unfolding(crate::specs::Seen::frames_of, crate::specs::Seen::pool, crate::specs::Seen::free_frames, crate::specs::Seen::free_nodes))]
     pub fn clear_place<L: Ledger>(&mut self, i: usize, steps: &mut Steps<L>)
         requires place { i < length (cells self.old) }
         ensures cells { cells self.new ≡ slice_set (cells self.old) i no_pages }
         ensures rights { rights self.new ≡ slice_set (rights self.old) i all_write }
         ensures frames { frames_of self.new ≡ frames_of self.old }
         ensures pool { pool self.new ≡ pool self.old }
+        ensures free { free_frames self.old ≤ free_frames self.new }
         ensures nodes { free_nodes self.old ≤ free_nodes self.new }
         ensures cost { steps.new ≤ steps.old + TREE_NODES }
         ensures cost_empty { place_of (cells self.old) i ≡ no_pages → steps.new ≡ steps.old }

@@ -24,6 +24,7 @@ pieces-init g c = record {
   maps = filled-none (maps c.args.rows.now) c.args.i (changed_row (maps c.args.rows.now) c.args.i c.args.page_runs.now);
   frames = refl;
   pool = refl;
+  free = omega arith;
   others = λ j off none. none;
   nodes = inl (omega arith);
   cost = omega arith;
@@ -33,6 +34,7 @@ pieces-init g c = record {
   cost_open = λ _ _. omega arith;
   cost_end = λ _. omega arith;
   idle = λ _. refl;
+  idle_nodes = λ _. refl;
 }
 
 pub fill_range-requires-clause-given : goal.fill_range-requires-clause-given
@@ -66,6 +68,7 @@ pieces-preserved-in-Some g c =
           (λ q low high. by-page_run before c.args.i q page_runs (Some c.in-Some.page_run.now) (edge.alike q low high ∙ found) ∙ ap (λ (f : ℕ → Option PageValue). f q) (sym kept));
       frames = mine.frames ∙ inv.frames;
       pool = mine.pool ∙ inv.pool;
+      free = omega (arith, mine.free, inv.free);
       others = λ j off none. mine.others j off (inv.others j off none);
       nodes = more-nodes _ _ _ _ _ _ _ more inv.nodes mine.own mine.nodes mine.nodes_own;
       cost = omega (arith, more, inv.cost, mine.cost);
@@ -75,6 +78,7 @@ pieces-preserved-in-Some g c =
       cost_open = λ none _. let a = inv.cost_open none (omega (arith, edge.past, edge.within)) in let b = mine.cost_open (inv.opened none) in omega (arith, a, b, more);
       cost_end = λ none. let a = inv.cost_open none (omega (arith, edge.past, edge.within)) in let b = mine.cost_open (inv.opened none) in let few = few-passed e edge.within in omega (arith, a, b, more, few);
       idle = λ empty. absurd (let off = no-page_run page_runs p empty in cc);
+      idle_nodes = λ empty. absurd (let off = no-page_run page_runs p empty in cc);
     }
 
 pub pieces-preserved : goal.pieces-preserved
@@ -95,6 +99,7 @@ pieces-preserved g c =
           (λ q low high. by-page_run before c.args.i q page_runs None (edge.alike q low high ∙ found));
       frames = inv.frames;
       pool = inv.pool;
+      free = inv.free;
       others = inv.others;
       nodes = same-nodes _ _ _ _ _ grows inv.nodes;
       cost = omega (arith, grows, inv.cost);
@@ -104,6 +109,7 @@ pieces-preserved g c =
       cost_open = λ none early. let a = inv.cost_open none (omega (arith, edge.past, edge.within)) in let b = passed-later p e (omega (arith, edge.past)) in let m = more early in omega (arith, a, b, m);
       cost_end = λ none. let a = inv.cost_end none in omega (arith, a, grows);
       idle = inv.idle;
+      idle_nodes = inv.idle_nodes;
     }
 
 pub returns-clause-maps : goal.returns-clause-maps
@@ -116,13 +122,19 @@ returns-clause-maps g c =
 pub returns-clause-nodes : goal.returns-clause-nodes
 returns-clause-nodes g c =
     let few = edges-few (λ (s : PageRun). s.range.from) (λ (s : PageRun). s.range.to) c.args.page_runs.now c.pieces.p in
-    ⊎_elim (λ a. omega (arith, a, few)) (λ b. omega (arith, b.1, few)) c.pieces.invariant.nodes
+    ⊎_elim
+    (λ empty. omega (arith, empty, c.pieces.invariant.idle_nodes empty))
+    (λ some. ⊎_elim (λ a. omega (arith, a, few, some)) (λ b. omega (arith, b.1, few, some)) c.pieces.invariant.nodes)
+    (cases_eq (length c.args.page_runs.now) 0)
 
 pub returns-clause-nodes_empty : goal.returns-clause-nodes_empty
 returns-clause-nodes_empty g c none =
     let few = edges-few (λ (s : PageRun). s.range.from) (λ (s : PageRun). s.range.to) c.args.page_runs.now c.pieces.p in
     let end = c.pieces.invariant.nodes_end none in
-    omega (arith, few, end)
+    ⊎_elim
+    (λ empty. omega (arith, empty, c.pieces.invariant.idle_nodes empty))
+    (λ some. omega (arith, few, end, some))
+    (cases_eq (length c.args.page_runs.now) 0)
 
 pub returns-clause-cost : goal.returns-clause-cost
 returns-clause-cost g c =

@@ -1,7 +1,7 @@
 use Rattle.std.proofs.Common.{◌≡◌, ◌≢◌, ℕ, ◌<◌, ◌≤◌, ◌+◌, ◌*◌, ◌-◌, ◌⊎◌, length}
 use Rattle.lwc_base.specs.declared.limits.TheConstants.{MOST_PAGES}
 use Rattle.page_tree.specs.Open.{entries_passed}
-use Rattle.cow_space.specs.RowSeen.{HasNoTree, HasOwnRoot, IsOpen, edge_short, frames_of, free_nodes, maps, pool}
+use Rattle.cow_space.specs.RowSeen.{HasNoTree, HasOwnRoot, IsOpen, edge_short, frames_of, free_frames, free_nodes, maps, pool}
 use Rattle.cow_space.specs.Rows.{changed_row}
 use Rattle.cow_space.proofs.Edges.{edges_to}
 use Rattle.cow_space.proofs.Filled.{filled}
@@ -13,6 +13,7 @@ invariant-pieces g l = record {
   maps : maps l.rows ≡ filled (maps l.fn.rows) l.fn.i (changed_row (maps l.fn.rows) l.fn.i l.page_runs) l.p;
   frames : frames_of l.rows ≡ frames_of l.fn.rows;
   pool : pool l.rows ≡ pool l.fn.rows;
+  free : free_frames l.fn.rows ≤ free_frames l.rows;
   others : (j : ℕ) → j ≢ l.fn.i → HasNoTree l.fn.rows j → HasNoTree l.rows j;
   nodes : (free_nodes l.fn.rows ≤ free_nodes l.rows + 4 * edges_to l.page_runs l.p) ⊎ (HasOwnRoot l.rows l.fn.i × (free_nodes l.fn.rows ≤ free_nodes l.rows + (1 + 4 * edges_to l.page_runs l.p)));
   cost : l.steps ≤ l.fn.steps + 766 * edges_to l.page_runs l.p;
@@ -22,6 +23,7 @@ invariant-pieces g l = record {
   cost_open : HasNoTree l.fn.rows l.fn.i → l.p < MOST_PAGES → l.steps ≤ l.fn.steps + (entries_passed l.p + 36 * edges_to l.page_runs l.p);
   cost_end : HasNoTree l.fn.rows l.fn.i → l.steps ≤ l.fn.steps + (47 + 36 * edges_to l.page_runs l.p);
   idle : length l.page_runs ≡ 0 → l.steps ≡ l.fn.steps;
+  idle_nodes : length l.page_runs ≡ 0 → free_nodes l.rows ≡ free_nodes l.fn.rows;
 }
 
 abbrev pub decreases-pieces : goal.decreases-pieces

@@ -1,8 +1,7 @@
 use Rattle.std.proofs.Common.{length, set, ap, ◌∙◌, ⊎_elim, arith, subst}
 use Rattle.std.specs.Prelude.{All}
 use Rattle.std.proofs.lemmas.Bool.{cases_eq}
-use Rattle.range_map.specs.Kinds.{kind_at, state_at}
-use Rattle.range_map.proofs.Ranges.{absent_ranges}
+use Rattle.range_map.specs.Kinds.{kind_at}
 use Rattle.cow_space.specs.Changes.{IsPageRun}
 use Rattle.cow_space.specs.Maps as rows
 use Rattle.cow_space.specs.Rows.{changed_row}
@@ -12,6 +11,9 @@ use Rattle.cow_space.specs.Seen.{cells, free_nodes, rights}
 use Rattle.cow_space.proofs.Changed.{cells-changed, fit-changed, none-before, none-left, rights-changed, states-now}
 use Rattle.cow_space.proofs.Places.{may-none}
 use Rattle.cow_space.proofs.Views.{bare-still, cells-set, kept-still, kinds-in, no-tree, rights-set, row-count, row-in}
+use Rattle.cow_space.specs.Tags.{used}
+use Rattle.cow_space.proofs.FreeLemmas.{frames-same, free-same}
+use Rattle.cow_space.proofs.Taken.{changed-used}
 use Rattle.cow_space.proofs.cells.PageCells.change.Goals as goal
 
 pub index_mut-requires : goal.index_mut-requires
@@ -28,12 +30,12 @@ invariant_of-self g c =
     let w = c.args.self.now in
     let kinds = c.kinds_after-kinds.ensures in
     let all = states-now w c.args.i c.args.page_runs.now c.args.reads.now c.kinds_after-kinds.result c.requires.page_runs kinds.states kinds.past in
-    let some = c.has_page-some.ensures.some c.if-some.true in
+    let some = c.has_own_page-some.ensures.some c.if-some.true in
     record {
       kept = kept-still w c.args.i c.kinds_after-kinds.result (changed_row (maps w.rows) c.args.i c.args.page_runs.now) (maps c.fill_row.new.rows) c.requires.place c.fill_row.ensures.maps
           (fit-changed w c.args.i c.args.page_runs.now c.args.reads.now c.kinds_after-kinds.result all) kinds.past;
       bare = bare-still w c.args.i c.kinds_after-kinds.result (HasNoTree c.fill_row.new.rows) c.requires.place c.fill_row.ensures.others
-          (λ none. absurd (omega (arith, some, absent_ranges (state_at c.kinds_after-kinds.result) none)));
+          (λ none. absurd (some none));
     }
 
 pub drop_row-requires : goal.drop_row-requires
@@ -78,7 +80,7 @@ returns-else-some-clause-cells g c =
     let kinds = c.kinds_after-kinds.ensures in
     let all = states-now w c.args.i c.args.page_runs.now c.args.reads.now c.kinds_after-kinds.result c.requires.page_runs kinds.states kinds.past in
     cells-set w c.args.i c.kinds_after-kinds.result rows.no_pages (maps c.drop_row.new.self) c.requires.place c.drop_row.ensures.maps
-    ∙ ap (set (cells w) c.args.i) (none-left w c.args.i c.args.page_runs.now c.args.reads.now c.kinds_after-kinds.result all (c.has_page-some.ensures.none c.if-some.false))
+    ∙ ap (set (cells w) c.args.i) (none-left w c.args.i c.args.page_runs.now c.args.reads.now c.kinds_after-kinds.result all (c.has_own_page-some.ensures.none c.if-some.false))
 
 pub returns-else-some-clause-cost : goal.returns-else-some-clause-cost
 returns-else-some-clause-cost g c =
@@ -86,7 +88,7 @@ returns-else-some-clause-cost g c =
     let kinds = c.kinds_after-kinds.ensures in
     let all = states-now w c.args.i c.args.page_runs.now c.args.reads.now c.kinds_after-kinds.result c.requires.page_runs kinds.states kinds.past in
     ⊎_elim
-    (λ zero. omega (arith, c.drop_row.ensures.cost_empty (none-before w c.args.i c.args.page_runs.now c.args.reads.now c.kinds_after-kinds.result all (c.has_page-some.ensures.none c.if-some.false) zero)))
+    (λ zero. omega (arith, c.drop_row.ensures.cost_empty (none-before w c.args.i c.args.page_runs.now c.args.reads.now c.kinds_after-kinds.result all (c.has_own_page-some.ensures.none c.if-some.false) zero)))
     (λ some. omega (arith, some, c.drop_row.ensures.cost))
     (cases_eq (length c.args.page_runs.now) 0)
 
@@ -100,3 +102,13 @@ returns-else-some-clause-rights g c =
 
 pub returns-else-some-clause-cost_empty : goal.returns-else-some-clause-cost_empty
 returns-else-some-clause-cost_empty g c empty = omega (arith, c.drop_row.ensures.cost_empty (no-tree c.args.self.now c.args.i empty))
+
+pub returns-then-some-clause-free_empty : goal.returns-then-some-clause-free_empty
+returns-then-some-clause-free_empty g c empty =
+    free-same c.args.self.now _ (frames-same c.args.self.now _ c.fill_row.ensures.frames)
+    (ap used (returns-then-some-clause-cells g c) ∙ changed-used (cells c.args.self.now) c.args.i c.requires.place empty c.args.page_runs.now c.requires.page_runs)
+
+pub returns-else-some-clause-free_empty : goal.returns-else-some-clause-free_empty
+returns-else-some-clause-free_empty g c empty =
+    free-same c.args.self.now _ (frames-same c.args.self.now _ c.drop_row.ensures.frames)
+    (ap used (returns-else-some-clause-cells g c) ∙ changed-used (cells c.args.self.now) c.args.i c.requires.place empty c.args.page_runs.now c.requires.page_runs)

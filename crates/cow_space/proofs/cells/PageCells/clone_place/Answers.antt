@@ -1,14 +1,17 @@
-use Rattle.std.proofs.Common.{[], set, sym, ap, ◌∙◌, arith, subst}
+use Rattle.std.proofs.Common.{set, sym, ap, ◌∙◌, arith, subst}
 use Rattle.range_map.specs.Kinds.{kind_at, ranges, state_at}
-use Rattle.range_map.proofs.Ranges.{absent_ranges}
-use Rattle.cow_space.specs.Cells.{all_cells, all_rights, place_cells, segments_of}
-use Rattle.cow_space.specs.Kept.{IsKept}
+use Rattle.cow_space.specs.Cells.{all_cells, all_rights, segments_of}
+use Rattle.cow_space.specs.Kept.{HasNoOwnPage, IsKept}
 use Rattle.cow_space.specs.Maps.{row_of}
 use Rattle.cow_space.specs.Maps as rows
 use Rattle.cow_space.specs.RowSeen.{HasNoTree, maps}
 use Rattle.cow_space.specs.Seen.{cells, rights}
-use Rattle.cow_space.proofs.Places.{may-none, none-cells}
+use Rattle.cow_space.proofs.OwnPages.{no-own-cells}
+use Rattle.cow_space.proofs.Places.{may-none}
 use Rattle.cow_space.proofs.Views.{bare-still, cells-set, kept-still, kinds-in, no-tree, place-at, read-segments, read-states, rights-at, rights-set, row-in}
+use Rattle.cow_space.specs.Tags.{used}
+use Rattle.cow_space.proofs.FreeLemmas.{frames-same, free-same}
+use Rattle.cow_space.proofs.Taken.{cloned-used}
 use Rattle.cow_space.proofs.cells.PageCells.clone_place.Goals as goal
 use Rattle.lwc_base.specs.declared.limits.TheConstants.{MOST_PAGES}
 
@@ -32,13 +35,12 @@ invariant_of-self g c =
     let w = c.args.self.now in
     let read = read-segments w c.args.from c.index.result.now c.requires.from c.index.ensures in
     let copied = c.copy.ensures ∙ read-segments w c.args.from c.index-2.result.now c.requires.from c.index-2.ensures in
-    let some = c.has_page-some.ensures.some c.if-some.true in
-    let same = ap (λ s. ranges MOST_PAGES (state_at s)) (read ∙ sym copied) in
+    let some = c.has_own_page-some.ensures.some c.if-some.true in
     record {
       kept = subst (λ s. IsKept (maps c.clone_row.new.self) (set w.kinds.items c.args.to s)) (sym copied)
           (kept-still w c.args.to (segments_of w.kinds.items c.args.from) (row_of (maps w.rows) c.args.from) (maps c.clone_row.new.self) c.requires.to c.clone_row.ensures.maps (w.kept.fit c.args.from) (w.kept.within c.args.from));
       bare = bare-still w c.args.to c.copy.result (HasNoTree c.clone_row.new.self) c.requires.to c.clone_row.ensures.others
-          (λ none. absurd (omega (arith, some, same, absent_ranges (state_at c.copy.result) none)));
+          (λ none. absurd (some (subst HasNoOwnPage (copied ∙ sym read) none)));
     }
 
 pub drop_row-requires : goal.drop_row-requires
@@ -74,7 +76,7 @@ returns-then-some-clause-rights g c =
 pub returns-then-some-clause-cost_empty : goal.returns-then-some-clause-cost_empty
 returns-then-some-clause-cost_empty g c empty =
     let w = c.args.self.now in
-    omega (arith, c.clone_row.ensures.cost_empty (no-tree w c.args.to empty), c.has_page-some.ensures.some c.if-some.true, ap (ranges MOST_PAGES) (read-states w c.args.from c.index.result.now c.requires.from c.index.ensures))
+    omega (arith, c.clone_row.ensures.cost_empty (no-tree w c.args.to empty), c.has_own_page-some.ensures.ranges c.if-some.true, ap (ranges MOST_PAGES) (read-states w c.args.from c.index.result.now c.requires.from c.index.ensures))
 
 pub returns-else-some-clause-cells : goal.returns-else-some-clause-cells
 unfolding cells
@@ -82,11 +84,11 @@ returns-else-some-clause-cells g c =
     let w = c.args.self.now in
     let read = read-segments w c.args.from c.index.result.now c.requires.from c.index.ensures in
     let copied = c.copy.ensures ∙ read-segments w c.args.from c.index-2.result.now c.requires.from c.index-2.ensures in
-    let none = sym read ∙ c.has_page-some.ensures.none c.if-some.false in
-    ap (λ s. all_cells (set w.kinds.items c.args.to s) (maps c.drop_row.new.self)) (copied ∙ none)
-    ∙ cells-set w c.args.to [] rows.no_pages (maps c.drop_row.new.self) c.requires.to c.drop_row.ensures.maps
+    let none = subst HasNoOwnPage read (c.has_own_page-some.ensures.none c.if-some.false) in
+    ap (λ s. all_cells (set w.kinds.items c.args.to s) (maps c.drop_row.new.self)) copied
+    ∙ cells-set w c.args.to (segments_of w.kinds.items c.args.from) rows.no_pages (maps c.drop_row.new.self) c.requires.to c.drop_row.ensures.maps
     ∙ ap (set (cells w) c.args.to)
-    (none-cells rows.no_pages ∙ sym (place-at w c.args.from ∙ ap (λ s. place_cells s (row_of (maps w.rows) c.args.from)) none ∙ none-cells (row_of (maps w.rows) c.args.from)))
+    (no-own-cells (segments_of w.kinds.items c.args.from) rows.no_pages (row_of (maps w.rows) c.args.from) none ∙ sym (place-at w c.args.from))
 
 pub returns-else-some-clause-rights : goal.returns-else-some-clause-rights
 unfolding rights
@@ -99,3 +101,13 @@ returns-else-some-clause-rights g c =
 
 pub returns-else-some-clause-cost_empty : goal.returns-else-some-clause-cost_empty
 returns-else-some-clause-cost_empty g c empty = omega (arith, c.drop_row.ensures.cost_empty (no-tree c.args.self.now c.args.to empty))
+
+pub returns-then-some-clause-free_empty : goal.returns-then-some-clause-free_empty
+returns-then-some-clause-free_empty g c empty =
+    free-same c.args.self.now _ (frames-same c.args.self.now _ c.clone_row.ensures.frames)
+    (ap used (returns-then-some-clause-cells g c) ∙ cloned-used (cells c.args.self.now) c.args.to c.requires.to empty c.args.from c.requires.from)
+
+pub returns-else-some-clause-free_empty : goal.returns-else-some-clause-free_empty
+returns-else-some-clause-free_empty g c empty =
+    free-same c.args.self.now _ (frames-same c.args.self.now _ c.drop_row.ensures.frames)
+    (ap used (returns-else-some-clause-cells g c) ∙ cloned-used (cells c.args.self.now) c.args.to c.requires.to empty c.args.from c.requires.from)

@@ -4,7 +4,8 @@ use Rattle.page_tree.specs.declared.cell.PageCell.TheVariants.{Absent}
 use Rattle.page_tree.specs.Open as tree
 use Rattle.page_tree.specs.Short as short
 use Rattle.page_tree.specs.Short.{link_short}
-use Rattle.cow_space.specs.RowSeen.{maps, frames_of, free_nodes, HasNoTree, HasOwnRoot, IsOpen, edge_short, pool}
+use Rattle.cow_space.specs.RowSeen.{maps, frames_of, free_nodes, HasNoTree, HasOwnRoot, IsOpen, edge_short, free_frames, pool}
+use Rattle.cow_space.proofs.FreeLemmas.{free-kept}
 use Rattle.cow_space.proofs.Trees.{kept-set, maps-range}
 use Rattle.cow_space.proofs.RowViews.{is-tree, nodes-left, tree-in, tree-read}
 use Rattle.page_tree.proofs.PageLemmas.{clear_short-le}
@@ -121,3 +122,7 @@ unfolding IsOpen
 returns-clause-cost_open g c = λ o.
     let left_is = tree-read c.args.self.now c.args.i _ c.requires.row c.index_mut.ensures.value in
     c.clear_range.ensures.cost_open (subst (λ t. tree.IsOpen c.args.self.now.store.nodes t c.args.range.from) (sym left_is) o)
+
+pub returns-clause-free : goal.returns-clause-free
+unfolding free_frames
+returns-clause-free g c = free-kept c.args.self.now.store.frames c.clear_range.new.store.frames c.clear_range.ensures.frames.size c.clear_range.ensures.frames.free

@@ -1,7 +1,8 @@
 use Rattle.std.proofs.Common.{length, sym, ap, ◌∙◌, arith, length-set, get_or-set_other}
 use Rattle.std.proofs.lemmas.List.{get_or_read}
 use Rattle.cow_space.specs.Maps.{no_pages}
-use Rattle.cow_space.specs.RowSeen.{maps, frames_of, free_nodes, HasNoTree, pool}
+use Rattle.cow_space.specs.RowSeen.{maps, frames_of, free_nodes, HasNoTree, free_frames, pool}
+use Rattle.cow_space.proofs.FreeLemmas.{free-kept}
 use Rattle.cow_space.proofs.Trees.{rows-in, length-maps, kept-tree, kept-few, kept-set, maps-clone}
 use Rattle.cow_space.proofs.rows.Rows.clone_row.Goals as goal
 
@@ -67,3 +68,9 @@ returns-clause-pool g c =
     let held = c.held_too-tree.ensures.frames in
     let dropped = c.drop_row.ensures.pool in
     λ e f. ((held.stamps f ∙ ap (λ frame. frame.0) (λ i. dropped i f)) e, (held.bytes f ∙ ap (λ frame. frame.1) (λ i. dropped i f)) e)
+
+pub returns-clause-free : goal.returns-clause-free
+unfolding free_frames
+returns-clause-free g c =
+    let held = free-kept c.drop_row.new.self.store.frames c.held_too-tree.new.store.frames c.held_too-tree.ensures.frames.size c.held_too-tree.ensures.frames.free in
+    omega (arith, held, c.drop_row.ensures.free)

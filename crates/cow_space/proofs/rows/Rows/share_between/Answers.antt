@@ -7,7 +7,8 @@ use Rattle.page_tree.specs.Short.{link_short}
 use Rattle.cow_space.specs.Trees.{cells, values, tree_maps}
 use Rattle.cow_space.specs.RowKept.{IsKept}
 use Rattle.cow_space.specs.Maps.{put_range, row_of}
-use Rattle.cow_space.specs.RowSeen.{maps, frames_of, free_nodes, HasOwnRoot, HasNoTree, IsOpen, edge_short, pool}
+use Rattle.cow_space.specs.RowSeen.{maps, frames_of, free_nodes, HasOwnRoot, HasNoTree, IsOpen, edge_short, free_frames, pool}
+use Rattle.cow_space.proofs.FreeLemmas.{free-kept}
 use Rattle.cow_space.proofs.Trees.{other-read, kept-tree, kept-both, kept-set, maps-range, row-at, cells-page}
 use Rattle.cow_space.proofs.RowViews.{nodes-left, tree-in, tree-read}
 use Rattle.page_tree.proofs.PageLemmas.{range_short-le}
@@ -148,3 +149,7 @@ unfolding IsOpen
 returns-clause-cost_open g c = λ o.
     let left_is = c.replace-tree.ensures.value ∙ tree-read c.args.self.now c.args.to _ c.requires.to c.index_mut.ensures.value in
     c.share_range.ensures.cost_open (subst (λ t. tree.IsOpen c.args.self.now.store.nodes t c.args.range.from) (sym left_is) o)
+
+pub returns-clause-free : goal.returns-clause-free
+unfolding free_frames
+returns-clause-free g c = free-kept c.args.self.now.store.frames c.share_range.new.store.frames c.share_range.ensures.frames.size c.share_range.ensures.frames.free
