@@ -1,4 +1,4 @@
-use Rattle.std.proofs.Common.{rules, ◌≡◌, ◌≢◌, ◌+◌, ◌-◌, ◌/◌, ◌%◌, ◌^◌, ◌<◌, ◌≤◌, ⊎_elim, eqb, ap, sym, subst, ◌∙◌, arith}
+use Rattle.std.proofs.Common.{rules, ℕ, ◌≡◌, ◌≢◌, ◌+◌, ◌-◌, ◌/◌, ◌%◌, ◌^◌, ◌<◌, ◌≤◌, ⊎_elim, eqb, ap, sym, subst, ◌∙◌, arith}
 use Rattle.std.proofs.lemmas.Nat.{div_below, mod_below}
 use Rattle.frame_pool.specs.Frame.{frame_count}
 use Rattle.node_pool.specs.Nodes.{entry_of, free_of}
@@ -12,7 +12,8 @@ use Rattle.page_tree.proofs.MoveLemmas.{Moves-raise, Moves-trans}
 use Rattle.page_tree.proofs.NodeLemmas.{loose-own}
 use Rattle.page_tree.proofs.UsesLemmas.{free_of-enter}
 use Rattle.page_tree.proofs.CostLemmas.{pow-pos, pow-step}
-use Rattle.page_tree.proofs.ChildLemmas.{entry-leaf, entry-step, entry-swapped, set-page, set-pages, apart-within, short-own, short-whole, short-leaf, short-swapped, left-short, all-short, child-changed}
+use Rattle.page_tree.proofs.ChildLemmas.{entry-leaf, entry-step, entry-swapped, set-page, set-pages, apart-within, short-own, short-whole, short-leaf, short-swapped, left-short, all-short, child-changed, ChildChanged}
+use Rattle.page_tree.proofs.store.Store.+set_at.Given.{Over}
 use Rattle.page_tree.proofs.store.Store.+set_at.Goals as goal
 
 pub own-node-requires-clause-free : goal.own-node-requires-clause-free
@@ -65,116 +66,84 @@ set_at-child-requires g t c =
       ),
     )
 
+-- after the last swap: where the page is below its entry, and what the change of the child made of the node
+module _ (g : Over) (t : ℕ) (c : goal.After-swap g t) where
+  up : 1 < c.args.level
+  up = omega (arith, c.requires.low, c.if-level-eq-LEAF_LEVEL.false)
+
+  some : 0 < c.args.level
+  some = omega (arith, up)
+
+  at : c.args.p / c.width-width.result ≡ c.args.p / 32 ^ (c.args.level - 1)
+  at = ap (λ x. c.args.p / x) c.width-width.ensures
+
+  within : c.args.p % c.width-width.result ≡ c.args.p % 32 ^ (c.args.level - 1)
+  within = ap (λ x. c.args.p % x) c.width-width.ensures
+
+  place : c.args.p / c.width-width.result < 32
+  place = omega (arith, at, div_below c.args.p (32 ^ (c.args.level - 1)) 32 (pow-pos (c.args.level - 1)) (let step = pow-step c.args.level some in omega (arith, step, c.requires.page)))
+
+  changed : ChildChanged c.args.level c.own-node.new.self.nodes c.swap-child.new.self.nodes c.set_at-child.new.self.nodes c.swap.new.self.nodes c.own-node.new.self.frames c.swap.new.self.frames c.own-node.result.n (c.args.p / c.width-width.result) (c.set_at-child.result.n + 1)
+  changed =
+      let one = c.swap-child.ensures in
+      let two = c.swap.ensures in
+      let rec = c.set_at-child.ensures in
+      child-changed c.args.level c.own-node.new.self.nodes c.swap-child.new.self.nodes c.set_at-child.new.self.nodes c.swap.new.self.nodes _ _ _ _ c.own-node.result.n (c.args.p / c.width-width.result) (c.set_at-child.result.n + 1) up place
+      c.own-node.ensures.sound c.own-node.ensures.own one.nodes one.sound one.own (rw one.was at one.loose) (rw one.was at one.moves)
+      rec.sound (loose-own _ _ _ rec.own) (rw one.was at rec.moves) two.nodes two.sound two.own (rw two.was at two.moves)
+
 pub returns-else-level-eq-LEAF_LEVEL-clause-sound : goal.returns-else-level-eq-LEAF_LEVEL-clause-sound
 returns-else-level-eq-LEAF_LEVEL-clause-sound g t c =
-    let up : 1 < c.args.level = omega (arith, c.requires.low, c.if-level-eq-LEAF_LEVEL.false) in
-    let some : 0 < c.args.level = omega (arith, up) in
-    let w = c.width-width.ensures in
-    let at : c.args.p / c.width-width.result ≡ c.args.p / 32 ^ (c.args.level - 1) = ap (λ x. c.args.p / x) w in
-    let within : c.args.p % c.width-width.result ≡ c.args.p % 32 ^ (c.args.level - 1) = ap (λ x. c.args.p % x) w in
-    let place : c.args.p / c.width-width.result < 32 = omega (arith, at, div_below c.args.p (32 ^ (c.args.level - 1)) 32 (pow-pos (c.args.level - 1)) (let step = pow-step c.args.level some in omega (arith, step, c.requires.page))) in
-    let one = c.swap-child.ensures in
-    let two = c.swap.ensures in
-    let rec = c.set_at-child.ensures in
-    let ch = child-changed c.args.level c.own-node.new.self.nodes c.swap-child.new.self.nodes c.set_at-child.new.self.nodes c.swap.new.self.nodes _ _ _ _ c.own-node.result.n (c.args.p / c.width-width.result) (c.set_at-child.result.n + 1) up place
-    c.own-node.ensures.sound c.own-node.ensures.own one.nodes one.sound one.own (rw one.was at one.loose) (rw one.was at one.moves)
-    rec.sound (loose-own _ _ _ rec.own) (rw one.was at rec.moves) two.nodes two.sound two.own (rw two.was at two.moves) in
+    let ch = changed g t c in
     ch.sound
 
 pub returns-else-level-eq-LEAF_LEVEL-clause-moves : goal.returns-else-level-eq-LEAF_LEVEL-clause-moves
 returns-else-level-eq-LEAF_LEVEL-clause-moves g t c =
-    let up : 1 < c.args.level = omega (arith, c.requires.low, c.if-level-eq-LEAF_LEVEL.false) in
-    let some : 0 < c.args.level = omega (arith, up) in
-    let w = c.width-width.ensures in
-    let at : c.args.p / c.width-width.result ≡ c.args.p / 32 ^ (c.args.level - 1) = ap (λ x. c.args.p / x) w in
-    let within : c.args.p % c.width-width.result ≡ c.args.p % 32 ^ (c.args.level - 1) = ap (λ x. c.args.p % x) w in
-    let place : c.args.p / c.width-width.result < 32 = omega (arith, at, div_below c.args.p (32 ^ (c.args.level - 1)) 32 (pow-pos (c.args.level - 1)) (let step = pow-step c.args.level some in omega (arith, step, c.requires.page))) in
-    let one = c.swap-child.ensures in
-    let two = c.swap.ensures in
-    let rec = c.set_at-child.ensures in
-    let ch = child-changed c.args.level c.own-node.new.self.nodes c.swap-child.new.self.nodes c.set_at-child.new.self.nodes c.swap.new.self.nodes _ _ _ _ c.own-node.result.n (c.args.p / c.width-width.result) (c.set_at-child.result.n + 1) up place
-    c.own-node.ensures.sound c.own-node.ensures.own one.nodes one.sound one.own (rw one.was at one.loose) (rw one.was at one.moves)
-    rec.sound (loose-own _ _ _ rec.own) (rw one.was at rec.moves) two.nodes two.sound two.own (rw two.was at two.moves) in
+    let ch = changed g t c in
     Moves-trans _ _ _ _ _ _ _ _ _ _ _ c.requires.sound c.own-node.ensures.moves ch.moves
 
 pub returns-else-level-eq-LEAF_LEVEL-clause-page : goal.returns-else-level-eq-LEAF_LEVEL-clause-page
 returns-else-level-eq-LEAF_LEVEL-clause-page g t c =
-    let up : 1 < c.args.level = omega (arith, c.requires.low, c.if-level-eq-LEAF_LEVEL.false) in
-    let some : 0 < c.args.level = omega (arith, up) in
-    let w = c.width-width.ensures in
-    let at : c.args.p / c.width-width.result ≡ c.args.p / 32 ^ (c.args.level - 1) = ap (λ x. c.args.p / x) w in
-    let within : c.args.p % c.width-width.result ≡ c.args.p % 32 ^ (c.args.level - 1) = ap (λ x. c.args.p % x) w in
-    let place : c.args.p / c.width-width.result < 32 = omega (arith, at, div_below c.args.p (32 ^ (c.args.level - 1)) 32 (pow-pos (c.args.level - 1)) (let step = pow-step c.args.level some in omega (arith, step, c.requires.page))) in
-    let one = c.swap-child.ensures in
-    let two = c.swap.ensures in
     let rec = c.set_at-child.ensures in
-    let ch = child-changed c.args.level c.own-node.new.self.nodes c.swap-child.new.self.nodes c.set_at-child.new.self.nodes c.swap.new.self.nodes _ _ _ _ c.own-node.result.n (c.args.p / c.width-width.result) (c.set_at-child.result.n + 1) up place
-    c.own-node.ensures.sound c.own-node.ensures.own one.nodes one.sound one.own (rw one.was at one.loose) (rw one.was at one.moves)
-    rec.sound (loose-own _ _ _ rec.own) (rw one.was at rec.moves) two.nodes two.sound two.own (rw two.was at two.moves) in
-    set-page c.args.level c.swap.new.self.nodes c.own-node.result.n (c.args.p / c.width-width.result) c.args.p (c.set_at-child.result.n + 1) _ some at ch.here
-    (ch.after (c.args.p % 32 ^ (c.args.level - 1)) ∙ ap (entry_below c.set_at-child.new.self.nodes (c.args.level - 1) (c.set_at-child.result.n + 1)) (sym within) ∙ rec.page)
+    let ch = changed g t c in
+    set-page c.args.level c.swap.new.self.nodes c.own-node.result.n (c.args.p / c.width-width.result) c.args.p (c.set_at-child.result.n + 1) _ (some g t c) (at g t c) ch.here
+    (ch.after (c.args.p % 32 ^ (c.args.level - 1)) ∙ ap (entry_below c.set_at-child.new.self.nodes (c.args.level - 1) (c.set_at-child.result.n + 1)) (sym (within g t c)) ∙ rec.page)
 
 pub returns-else-level-eq-LEAF_LEVEL-clause-pages : goal.returns-else-level-eq-LEAF_LEVEL-clause-pages
 returns-else-level-eq-LEAF_LEVEL-clause-pages g t c =
-    let up : 1 < c.args.level = omega (arith, c.requires.low, c.if-level-eq-LEAF_LEVEL.false) in
-    let some : 0 < c.args.level = omega (arith, up) in
-    let w = c.width-width.ensures in
-    let at : c.args.p / c.width-width.result ≡ c.args.p / 32 ^ (c.args.level - 1) = ap (λ x. c.args.p / x) w in
-    let within : c.args.p % c.width-width.result ≡ c.args.p % 32 ^ (c.args.level - 1) = ap (λ x. c.args.p % x) w in
-    let place : c.args.p / c.width-width.result < 32 = omega (arith, at, div_below c.args.p (32 ^ (c.args.level - 1)) 32 (pow-pos (c.args.level - 1)) (let step = pow-step c.args.level some in omega (arith, step, c.requires.page))) in
     let one = c.swap-child.ensures in
-    let two = c.swap.ensures in
     let rec = c.set_at-child.ensures in
-    let ch = child-changed c.args.level c.own-node.new.self.nodes c.swap-child.new.self.nodes c.set_at-child.new.self.nodes c.swap.new.self.nodes _ _ _ _ c.own-node.result.n (c.args.p / c.width-width.result) (c.set_at-child.result.n + 1) up place
-    c.own-node.ensures.sound c.own-node.ensures.own one.nodes one.sound one.own (rw one.was at one.loose) (rw one.was at one.moves)
-    rec.sound (loose-own _ _ _ rec.own) (rw one.was at rec.moves) two.nodes two.sound two.own (rw two.was at two.moves) in
+    let ch = changed g t c in
     λ q lt off.
-    set-pages c.args.level c.own-node.new.self.nodes c.swap.new.self.nodes c.own-node.result.n (c.args.p / c.width-width.result) (c.set_at-child.result.n + 1) q some ch.here ch.there
+    set-pages c.args.level c.own-node.new.self.nodes c.swap.new.self.nodes c.own-node.result.n (c.args.p / c.width-width.result) (c.set_at-child.result.n + 1) q (some g t c) ch.here ch.there
     (λ is.
     let r = q % 32 ^ (c.args.level - 1) in
-    let apart : r ≢ c.args.p % c.width-width.result = λ same. apart-within (32 ^ (c.args.level - 1)) c.args.p q off (is ∙ at) (same ∙ within) in
+    let apart : r ≢ c.args.p % c.width-width.result = λ same. apart-within (32 ^ (c.args.level - 1)) c.args.p q off (is ∙ (at g t c)) (same ∙ (within g t c)) in
     ch.after r ∙ rec.pages r (mod_below q (32 ^ (c.args.level - 1)) (pow-pos (c.args.level - 1))) apart
     ∙ ap (λ l. entry_below c.swap-child.new.self.nodes (c.args.level - 1) l r) one.was ∙ ch.before r)
     ∙ c.own-node.ensures.maps q
 
 pub returns-else-level-eq-LEAF_LEVEL-clause-alone : goal.returns-else-level-eq-LEAF_LEVEL-clause-alone
 returns-else-level-eq-LEAF_LEVEL-clause-alone g t c =
-    let up : 1 < c.args.level = omega (arith, c.requires.low, c.if-level-eq-LEAF_LEVEL.false) in
-    let some : 0 < c.args.level = omega (arith, up) in
-    let w = c.width-width.ensures in
-    let at : c.args.p / c.width-width.result ≡ c.args.p / 32 ^ (c.args.level - 1) = ap (λ x. c.args.p / x) w in
-    let within : c.args.p % c.width-width.result ≡ c.args.p % 32 ^ (c.args.level - 1) = ap (λ x. c.args.p % x) w in
-    let place : c.args.p / c.width-width.result < 32 = omega (arith, at, div_below c.args.p (32 ^ (c.args.level - 1)) 32 (pow-pos (c.args.level - 1)) (let step = pow-step c.args.level some in omega (arith, step, c.requires.page))) in
-    let one = c.swap-child.ensures in
     let two = c.swap.ensures in
     let rec = c.set_at-child.ensures in
-    let ch = child-changed c.args.level c.own-node.new.self.nodes c.swap-child.new.self.nodes c.set_at-child.new.self.nodes c.swap.new.self.nodes _ _ _ _ c.own-node.result.n (c.args.p / c.width-width.result) (c.set_at-child.result.n + 1) up place
-    c.own-node.ensures.sound c.own-node.ensures.own one.nodes one.sound one.own (rw one.was at one.loose) (rw one.was at one.moves)
-    rec.sound (loose-own _ _ _ rec.own) (rw one.was at rec.moves) two.nodes two.sound two.own (rw two.was at two.moves) in
+    let ch = changed g t c in
     let own = link_short-once c.swap.new.self.nodes c.own-node.result.n two.own.once in
-    short-own c.args.level c.swap.new.self.nodes (c.own-node.result.n + 1) c.args.p some own
-    ∙ ap (λ l. short_below c.swap.new.self.nodes (c.args.level - 1) l (c.args.p % 32 ^ (c.args.level - 1))) (link_of-node c.swap.new.self.nodes c.own-node.result.n (c.args.p / 32 ^ (c.args.level - 1)) ∙ ap (entry_of c.swap.new.self.nodes c.own-node.result.n) (sym at) ∙ ch.here)
+    short-own c.args.level c.swap.new.self.nodes (c.own-node.result.n + 1) c.args.p (some g t c) own
+    ∙ ap (λ l. short_below c.swap.new.self.nodes (c.args.level - 1) l (c.args.p % 32 ^ (c.args.level - 1))) (link_of-node c.swap.new.self.nodes c.own-node.result.n (c.args.p / 32 ^ (c.args.level - 1)) ∙ ap (entry_of c.swap.new.self.nodes c.own-node.result.n) (sym (at g t c)) ∙ ch.here)
     ∙ ch.short_after (c.args.p % 32 ^ (c.args.level - 1))
-    ∙ ap (short_below c.set_at-child.new.self.nodes (c.args.level - 1) (c.set_at-child.result.n + 1)) (sym within) ∙ rec.alone
+    ∙ ap (short_below c.set_at-child.new.self.nodes (c.args.level - 1) (c.set_at-child.result.n + 1)) (sym (within g t c)) ∙ rec.alone
 
 pub returns-else-level-eq-LEAF_LEVEL-clause-free : goal.returns-else-level-eq-LEAF_LEVEL-clause-free
 returns-else-level-eq-LEAF_LEVEL-clause-free g t c =
-    let up : 1 < c.args.level = omega (arith, c.requires.low, c.if-level-eq-LEAF_LEVEL.false) in
-    let some : 0 < c.args.level = omega (arith, up) in
-    let w = c.width-width.ensures in
-    let at : c.args.p / c.width-width.result ≡ c.args.p / 32 ^ (c.args.level - 1) = ap (λ x. c.args.p / x) w in
-    let within : c.args.p % c.width-width.result ≡ c.args.p % 32 ^ (c.args.level - 1) = ap (λ x. c.args.p % x) w in
-    let place : c.args.p / c.width-width.result < 32 = omega (arith, at, div_below c.args.p (32 ^ (c.args.level - 1)) 32 (pow-pos (c.args.level - 1)) (let step = pow-step c.args.level some in omega (arith, step, c.requires.page))) in
     let one = c.swap-child.ensures in
     let two = c.swap.ensures in
     let rec = c.set_at-child.ensures in
-    let ch = child-changed c.args.level c.own-node.new.self.nodes c.swap-child.new.self.nodes c.set_at-child.new.self.nodes c.swap.new.self.nodes _ _ _ _ c.own-node.result.n (c.args.p / c.width-width.result) (c.set_at-child.result.n + 1) up place
-    c.own-node.ensures.sound c.own-node.ensures.own one.nodes one.sound one.own (rw one.was at one.loose) (rw one.was at one.moves)
-    rec.sound (loose-own _ _ _ rec.own) (rw one.was at rec.moves) two.nodes two.sound two.own (rw two.was at two.moves) in
-    let all = all-short c.args.level c.args.self.now.nodes c.own-node.new.self.nodes c.swap-child.new.self.nodes c.set_at-child.new.self.nodes c.args.link c.args.p c.swap-child.result some c.own-node.ensures.same
-    (λ own. sym (c.own-node.ensures.entries (c.args.p / 32 ^ (c.args.level - 1))) ∙ ap (entry_of c.own-node.new.self.nodes c.own-node.result.n) (sym at) ∙ sym one.was)
+    let ch = changed g t c in
+    let all = all-short c.args.level c.args.self.now.nodes c.own-node.new.self.nodes c.swap-child.new.self.nodes c.set_at-child.new.self.nodes c.args.link c.args.p c.swap-child.result (some g t c) c.own-node.ensures.same
+    (λ own. sym (c.own-node.ensures.entries (c.args.p / 32 ^ (c.args.level - 1))) ∙ ap (entry_of c.own-node.new.self.nodes c.own-node.result.n) (sym (at g t c)) ∙ sym one.was)
     (rw one.was ch.short_before)
-    c.own-node.ensures.free one.free (subst (λ x. free_of c.swap-child.new.self.nodes ≤ free_of c.set_at-child.new.self.nodes + short_below c.swap-child.new.self.nodes (c.args.level - 1) c.swap-child.result x) within rec.free) in
+    c.own-node.ensures.free one.free (subst (λ x. free_of c.swap-child.new.self.nodes ≤ free_of c.set_at-child.new.self.nodes + short_below c.swap-child.new.self.nodes (c.args.level - 1) c.swap-child.result x) (within g t c) rec.free) in
     omega (arith, all, two.free)
 
 pub returns-then-level-eq-LEAF_LEVEL-clause-moves : goal.returns-then-level-eq-LEAF_LEVEL-clause-moves
@@ -245,19 +214,14 @@ returns-then-level-eq-LEAF_LEVEL-clause-grows g t c = λ same f.
 
 pub returns-else-level-eq-LEAF_LEVEL-clause-grows : goal.returns-else-level-eq-LEAF_LEVEL-clause-grows
 returns-else-level-eq-LEAF_LEVEL-clause-grows g t c = λ same f.
-    let up : 1 < c.args.level = omega (arith, c.requires.low, c.if-level-eq-LEAF_LEVEL.false) in
-    let some : 0 < c.args.level = omega (arith, up) in
     let w = c.width-width.ensures in
     let a = c.own-node.new.self.nodes in
     let b = c.swap-child.new.self.nodes in
     let n = c.own-node.result.n in
     let one = c.swap-child.ensures in
-    let at : c.args.p / c.width-width.result ≡ c.args.p / 32 ^ (c.args.level - 1) = ap (λ x. c.args.p / x) w in
-    let within : c.args.p % c.width-width.result ≡ c.args.p % 32 ^ (c.args.level - 1) = ap (λ x. c.args.p % x) w in
-    let place : c.args.p / c.width-width.result < 32 = omega (arith, at, div_below c.args.p (32 ^ (c.args.level - 1)) 32 (pow-pos (c.args.level - 1)) (let step = pow-step c.args.level some in omega (arith, step, c.requires.page))) in
-    let before = entry-swapped c.args.level a b _ n (c.args.p / c.width-width.result) up place c.own-node.ensures.sound c.own-node.ensures.own one.nodes (c.args.p % c.width-width.result) in
+    let before = entry-swapped c.args.level a b _ n (c.args.p / c.width-width.result) (up g t c) (place g t c) c.own-node.ensures.sound c.own-node.ensures.own one.nodes (c.args.p % c.width-width.result) in
     let there : entry_for c.args.cell ≡ entry_below b (c.args.level - 1) c.swap-child.result (c.args.p % c.width-width.result) =
-    same ∙ sym (c.own-node.ensures.maps c.args.p) ∙ entry-step a c.args.level (n + 1) c.args.p some
+    same ∙ sym (c.own-node.ensures.maps c.args.p) ∙ entry-step a c.args.level (n + 1) c.args.p (some g t c)
     ∙ ap (λ l. entry_below a (c.args.level - 1) l (c.args.p % 32 ^ (c.args.level - 1))) (link_of-node a n (c.args.p / 32 ^ (c.args.level - 1)))
     ∙ ap (λ x. entry_below a (c.args.level - 1) (entry_of a n (c.args.p / x)) (c.args.p % x)) (sym w)
     ∙ sym before ∙ ap (λ l. entry_below b (c.args.level - 1) l (c.args.p % c.width-width.result)) (sym one.was) in

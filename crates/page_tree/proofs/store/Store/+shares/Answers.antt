@@ -18,11 +18,12 @@ use Rattle.page_tree.proofs.LoneLemmas.{lone-less, lone-same, lone-trans, way-ap
 use Rattle.page_tree.proofs.LoneNodes.{below-link, lone-child, range-swapped, rest-child, way-entry}
 use Rattle.page_tree.proofs.RangeShort.{part-le, part-some, range-own, range-root, sum-total, total-more, total-next}
 use Rattle.page_tree.proofs.CostLemmas.{pow-pos, pow-step, put-steps, share-step, steps-all, steps-next}
-use Rattle.page_tree.proofs.ChildLemmas.{child-changed}
+use Rattle.page_tree.proofs.ChildLemmas.{ChildChanged, child-changed}
 use Rattle.page_tree.proofs.OpenLemmas.{open-first}
 use Rattle.page_tree.proofs.OpenRange.{node-open, open_steps-some, opens-next, opens-start, own-cost, own-free, own-free_none, own-open, passed-first}
 use Rattle.page_tree.proofs.RangeLemmas.{beside-back, beside-less, beside-map, beside-moved, beside-held, beside-entry, InRange, not-whole, part-whole, width-le, in-range, range-within, range-rest, part-order, root-entries, named-of}
 use Rattle.page_tree.proofs.store.Store.+shares.Goals.{share_entry-else-first-eq0-via-then-first-eq0+else-end-width, share_entry-else-first-eq0-via-else-first-eq0}
+use Rattle.page_tree.proofs.store.Store.+shares.Given.{Over}
 use Rattle.page_tree.proofs.store.Store.+shares.Goals as goal
 
 order-div : (p q w : ℕ) → 0 < w → p ≤ q → p / w ≤ q / w
@@ -84,124 +85,79 @@ share_entry-returns-then-end-width-clause-within g t c =
     beside-map c.args.level c.args.level (c.args.level - 1) old new _ _ (is_root (c.args.node.n + 1)) (is_root (c.args.node.n + 1)) c.args.link (omega (arith, up)) c.requires.sound c.put.ensures.moves (c.requires.beside up) q)
     (cases_eq c.args.level 1)
 
+-- at an entry that the range does not have whole: why, and what the change of the child made of the node
+module _ (g : Over) (t : ℕ) (c : goal.share_entry-After-swap g t) where
+  why : (c.args.first ≢ 0) ⊎ (c.args.end ≢ 32 ^ (c.args.level - 1))
+  why = elim c.else-first-eq0.branch [
+    | share_entry-else-first-eq0-via-then-first-eq0+else-end-width w ↦ inr (λ is. w.if-end-width.false (is ∙ sym w.width.ensures))
+    | share_entry-else-first-eq0-via-else-first-eq0 w ↦ inl w.if-first-eq0.false
+  ]
+
+  up : 1 < c.args.level
+  up = not-whole c.args.level c.args.first c.args.end why c.requires.order c.requires.page c.requires.low
+
+  mine : IsBeside c.args.self.now.nodes (λ x. is_root (c.args.node.n + 1) x + is_root 0 x) (c.args.level - 1) c.args.link
+  mine =
+      let a = c.args.self.now.nodes in
+      let n = c.args.node.n in
+      beside-less a (is_root (n + 1)) (λ x. is_root (n + 1) x + is_root 0 x) (c.args.level - 1) c.args.link (λ x. let z = is_root-none x in omega (arith, z)) (c.requires.beside up)
+
+  changed : ChildChanged c.args.level c.args.self.now.nodes c.swap-child.new.self.nodes c.share_at-child.new.self.nodes c.swap.new.self.nodes c.args.self.now.frames c.swap.new.self.frames c.args.node.n c.args.i (c.share_at-child.result.n + 1)
+  changed =
+      let one = c.swap-child.ensures in
+      let two = c.swap.ensures in
+      let rec = c.share_at-child.ensures in
+      child-changed c.args.level c.args.self.now.nodes c.swap-child.new.self.nodes c.share_at-child.new.self.nodes c.swap.new.self.nodes _ _ _ _ c.args.node.n c.args.i (c.share_at-child.result.n + 1) up c.requires.place
+      c.requires.sound c.requires.own one.nodes one.sound one.own (rw one.was at one.loose) (rw one.was at one.moves)
+      rec.sound (loose-own _ _ _ rec.own) (rw one.was at rec.moves) two.nodes two.sound two.own (rw two.was at two.moves)
+
 pub share_entry-returns-else-first-eq0-clause-sound : goal.share_entry-returns-else-first-eq0-clause-sound
 share_entry-returns-else-first-eq0-clause-sound g t c =
-    let why : (c.args.first ≢ 0) ⊎ (c.args.end ≢ 32 ^ (c.args.level - 1)) = elim c.else-first-eq0.branch [
-      | share_entry-else-first-eq0-via-then-first-eq0+else-end-width w ↦ inr (λ is. w.if-end-width.false (is ∙ sym w.width.ensures))
-      | share_entry-else-first-eq0-via-else-first-eq0 w ↦ inl w.if-first-eq0.false
-    ] in
-    let up : 1 < c.args.level = not-whole c.args.level c.args.first c.args.end why c.requires.order c.requires.page c.requires.low in
-    let one = c.swap-child.ensures in
-    let a = c.args.self.now.nodes in
-    let b = c.swap-child.new.self.nodes in
-    let n = c.args.node.n in
-    let mine = beside-less a (is_root (n + 1)) (λ x. is_root (n + 1) x + is_root 0 x) (c.args.level - 1) c.args.link (λ x. let z = is_root-none x in omega (arith, z)) (c.requires.beside up) in
-    let two = c.swap.ensures in
-    let rec = c.share_at-child.ensures in
-    let ch = child-changed c.args.level a b c.share_at-child.new.self.nodes c.swap.new.self.nodes _ _ _ _ n c.args.i (c.share_at-child.result.n + 1) up c.requires.place
-    c.requires.sound c.requires.own one.nodes one.sound one.own (rw one.was at one.loose) (rw one.was at one.moves)
-    rec.sound (loose-own _ _ _ rec.own) (rw one.was at rec.moves) two.nodes two.sound two.own (rw two.was at two.moves) in
+    let ch = changed g t c in
     ch.sound
 
 pub share_entry-returns-else-first-eq0-clause-moves : goal.share_entry-returns-else-first-eq0-clause-moves
 share_entry-returns-else-first-eq0-clause-moves g t c =
-    let why : (c.args.first ≢ 0) ⊎ (c.args.end ≢ 32 ^ (c.args.level - 1)) = elim c.else-first-eq0.branch [
-      | share_entry-else-first-eq0-via-then-first-eq0+else-end-width w ↦ inr (λ is. w.if-end-width.false (is ∙ sym w.width.ensures))
-      | share_entry-else-first-eq0-via-else-first-eq0 w ↦ inl w.if-first-eq0.false
-    ] in
-    let up : 1 < c.args.level = not-whole c.args.level c.args.first c.args.end why c.requires.order c.requires.page c.requires.low in
-    let one = c.swap-child.ensures in
-    let a = c.args.self.now.nodes in
-    let b = c.swap-child.new.self.nodes in
-    let n = c.args.node.n in
-    let mine = beside-less a (is_root (n + 1)) (λ x. is_root (n + 1) x + is_root 0 x) (c.args.level - 1) c.args.link (λ x. let z = is_root-none x in omega (arith, z)) (c.requires.beside up) in
-    let two = c.swap.ensures in
-    let rec = c.share_at-child.ensures in
-    let ch = child-changed c.args.level a b c.share_at-child.new.self.nodes c.swap.new.self.nodes _ _ _ _ n c.args.i (c.share_at-child.result.n + 1) up c.requires.place
-    c.requires.sound c.requires.own one.nodes one.sound one.own (rw one.was at one.loose) (rw one.was at one.moves)
-    rec.sound (loose-own _ _ _ rec.own) (rw one.was at rec.moves) two.nodes two.sound two.own (rw two.was at two.moves) in
+    let ch = changed g t c in
     ch.moves
 
 pub share_entry-returns-else-first-eq0-clause-there : goal.share_entry-returns-else-first-eq0-clause-there
 share_entry-returns-else-first-eq0-clause-there g t c =
-    let why : (c.args.first ≢ 0) ⊎ (c.args.end ≢ 32 ^ (c.args.level - 1)) = elim c.else-first-eq0.branch [
-      | share_entry-else-first-eq0-via-then-first-eq0+else-end-width w ↦ inr (λ is. w.if-end-width.false (is ∙ sym w.width.ensures))
-      | share_entry-else-first-eq0-via-else-first-eq0 w ↦ inl w.if-first-eq0.false
-    ] in
-    let up : 1 < c.args.level = not-whole c.args.level c.args.first c.args.end why c.requires.order c.requires.page c.requires.low in
-    let one = c.swap-child.ensures in
-    let a = c.args.self.now.nodes in
-    let b = c.swap-child.new.self.nodes in
-    let n = c.args.node.n in
-    let mine = beside-less a (is_root (n + 1)) (λ x. is_root (n + 1) x + is_root 0 x) (c.args.level - 1) c.args.link (λ x. let z = is_root-none x in omega (arith, z)) (c.requires.beside up) in
-    let two = c.swap.ensures in
-    let rec = c.share_at-child.ensures in
-    let ch = child-changed c.args.level a b c.share_at-child.new.self.nodes c.swap.new.self.nodes _ _ _ _ n c.args.i (c.share_at-child.result.n + 1) up c.requires.place
-    c.requires.sound c.requires.own one.nodes one.sound one.own (rw one.was at one.loose) (rw one.was at one.moves)
-    rec.sound (loose-own _ _ _ rec.own) (rw one.was at rec.moves) two.nodes two.sound two.own (rw two.was at two.moves) in
+    let ch = changed g t c in
     ch.there
 
 pub share_entry-returns-else-first-eq0-clause-within : goal.share_entry-returns-else-first-eq0-clause-within
 share_entry-returns-else-first-eq0-clause-within g t c =
-    let why : (c.args.first ≢ 0) ⊎ (c.args.end ≢ 32 ^ (c.args.level - 1)) = elim c.else-first-eq0.branch [
-      | share_entry-else-first-eq0-via-then-first-eq0+else-end-width w ↦ inr (λ is. w.if-end-width.false (is ∙ sym w.width.ensures))
-      | share_entry-else-first-eq0-via-else-first-eq0 w ↦ inl w.if-first-eq0.false
-    ] in
-    let up : 1 < c.args.level = not-whole c.args.level c.args.first c.args.end why c.requires.order c.requires.page c.requires.low in
     let one = c.swap-child.ensures in
     let a = c.args.self.now.nodes in
     let b = c.swap-child.new.self.nodes in
     let n = c.args.node.n in
-    let mine = beside-less a (is_root (n + 1)) (λ x. is_root (n + 1) x + is_root 0 x) (c.args.level - 1) c.args.link (λ x. let z = is_root-none x in omega (arith, z)) (c.requires.beside up) in
-    let two = c.swap.ensures in
     let rec = c.share_at-child.ensures in
-    let ch = child-changed c.args.level a b c.share_at-child.new.self.nodes c.swap.new.self.nodes _ _ _ _ n c.args.i (c.share_at-child.result.n + 1) up c.requires.place
-    c.requires.sound c.requires.own one.nodes one.sound one.own (rw one.was at one.loose) (rw one.was at one.moves)
-    rec.sound (loose-own _ _ _ rec.own) (rw one.was at rec.moves) two.nodes two.sound two.own (rw two.was at two.moves) in
+    let ch = changed g t c in
     λ q low high.
     ap (λ l. entry_below c.swap.new.self.nodes (c.args.level - 1) l q) ch.here ∙ ch.after q ∙ rec.within q low high
-    ∙ beside-map c.args.level c.args.level (c.args.level - 1) a b _ _ (λ x. is_root (n + 1) x + is_root 0 x) (λ x. is_root (n + 1) x + is_root c.swap-child.result x) c.args.link (omega (arith, up)) c.requires.sound one.moves mine q
+    ∙ beside-map c.args.level c.args.level (c.args.level - 1) a b _ _ (λ x. is_root (n + 1) x + is_root 0 x) (λ x. is_root (n + 1) x + is_root c.swap-child.result x) c.args.link (omega (arith, (up g t c))) c.requires.sound one.moves (mine g t c) q
 
 pub share_entry-returns-else-first-eq0-clause-outside : goal.share_entry-returns-else-first-eq0-clause-outside
 share_entry-returns-else-first-eq0-clause-outside g t c =
-    let why : (c.args.first ≢ 0) ⊎ (c.args.end ≢ 32 ^ (c.args.level - 1)) = elim c.else-first-eq0.branch [
-      | share_entry-else-first-eq0-via-then-first-eq0+else-end-width w ↦ inr (λ is. w.if-end-width.false (is ∙ sym w.width.ensures))
-      | share_entry-else-first-eq0-via-else-first-eq0 w ↦ inl w.if-first-eq0.false
-    ] in
-    let up : 1 < c.args.level = not-whole c.args.level c.args.first c.args.end why c.requires.order c.requires.page c.requires.low in
     let one = c.swap-child.ensures in
-    let a = c.args.self.now.nodes in
     let b = c.swap-child.new.self.nodes in
-    let n = c.args.node.n in
-    let mine = beside-less a (is_root (n + 1)) (λ x. is_root (n + 1) x + is_root 0 x) (c.args.level - 1) c.args.link (λ x. let z = is_root-none x in omega (arith, z)) (c.requires.beside up) in
-    let two = c.swap.ensures in
     let rec = c.share_at-child.ensures in
-    let ch = child-changed c.args.level a b c.share_at-child.new.self.nodes c.swap.new.self.nodes _ _ _ _ n c.args.i (c.share_at-child.result.n + 1) up c.requires.place
-    c.requires.sound c.requires.own one.nodes one.sound one.own (rw one.was at one.loose) (rw one.was at one.moves)
-    rec.sound (loose-own _ _ _ rec.own) (rw one.was at rec.moves) two.nodes two.sound two.own (rw two.was at two.moves) in
+    let ch = changed g t c in
     λ q lt out.
     ap (λ l. entry_below c.swap.new.self.nodes (c.args.level - 1) l q) ch.here ∙ ch.after q ∙ rec.outside q lt out
     ∙ ap (λ l. entry_below b (c.args.level - 1) l q) one.was ∙ ch.before q
 
 pub share_entry-returns-else-first-eq0-clause-free : goal.share_entry-returns-else-first-eq0-clause-free
 share_entry-returns-else-first-eq0-clause-free g t c =
-    let why : (c.args.first ≢ 0) ⊎ (c.args.end ≢ 32 ^ (c.args.level - 1)) = elim c.else-first-eq0.branch [
-      | share_entry-else-first-eq0-via-then-first-eq0+else-end-width w ↦ inr (λ is. w.if-end-width.false (is ∙ sym w.width.ensures))
-      | share_entry-else-first-eq0-via-else-first-eq0 w ↦ inl w.if-first-eq0.false
-    ] in
-    let up : 1 < c.args.level = not-whole c.args.level c.args.first c.args.end why c.requires.order c.requires.page c.requires.low in
     let one = c.swap-child.ensures in
     let a = c.args.self.now.nodes in
     let b = c.swap-child.new.self.nodes in
     let n = c.args.node.n in
-    let mine = beside-less a (is_root (n + 1)) (λ x. is_root (n + 1) x + is_root 0 x) (c.args.level - 1) c.args.link (λ x. let z = is_root-none x in omega (arith, z)) (c.requires.beside up) in
     let two = c.swap.ensures in
     let rec = c.share_at-child.ensures in
-    let ch = child-changed c.args.level a b c.share_at-child.new.self.nodes c.swap.new.self.nodes _ _ _ _ n c.args.i (c.share_at-child.result.n + 1) up c.requires.place
-    c.requires.sound c.requires.own one.nodes one.sound one.own (rw one.was at one.loose) (rw one.was at one.moves)
-    rec.sound (loose-own _ _ _ rec.own) (rw one.was at rec.moves) two.nodes two.sound two.own (rw two.was at two.moves) in
-    let part = part-some a (c.args.level - 1) (entry_of a n c.args.i) c.args.first c.args.end c.requires.order why in
-    let out = range-swapped c.args.level a b _ n c.args.i up c.requires.place c.requires.sound c.requires.own one.nodes c.args.first c.args.end in
+    let part = part-some a (c.args.level - 1) (entry_of a n c.args.i) c.args.first c.args.end c.requires.order (why g t c) in
+    let out = range-swapped c.args.level a b _ n c.args.i (up g t c) c.requires.place c.requires.sound c.requires.own one.nodes c.args.first c.args.end in
     let same = ap (λ l. range_below b (c.args.level - 1) l c.args.first c.args.end) one.was in
     omega (arith, rec.free, one.free, two.free, part, out, same)
 
@@ -345,99 +301,39 @@ share_entries-entries-preserved g t c =
 
 pub share_entry-returns-else-first-eq0-clause-others : goal.share_entry-returns-else-first-eq0-clause-others
 share_entry-returns-else-first-eq0-clause-others g t c =
-    let why : (c.args.first ≢ 0) ⊎ (c.args.end ≢ 32 ^ (c.args.level - 1)) = elim c.else-first-eq0.branch [
-      | share_entry-else-first-eq0-via-then-first-eq0+else-end-width w ↦ inr (λ is. w.if-end-width.false (is ∙ sym w.width.ensures))
-      | share_entry-else-first-eq0-via-else-first-eq0 w ↦ inl w.if-first-eq0.false
-    ] in
-    let up : 1 < c.args.level = not-whole c.args.level c.args.first c.args.end why c.requires.order c.requires.page c.requires.low in
-    let one = c.swap-child.ensures in
-    let a = c.args.self.now.nodes in
-    let b = c.swap-child.new.self.nodes in
-    let n = c.args.node.n in
-    let mine = beside-less a (is_root (n + 1)) (λ x. is_root (n + 1) x + is_root 0 x) (c.args.level - 1) c.args.link (λ x. let z = is_root-none x in omega (arith, z)) (c.requires.beside up) in
-    let two = c.swap.ensures in
-    let rec = c.share_at-child.ensures in
-    let ch = child-changed c.args.level a b c.share_at-child.new.self.nodes c.swap.new.self.nodes _ _ _ _ n c.args.i (c.share_at-child.result.n + 1) up c.requires.place
-    c.requires.sound c.requires.own one.nodes one.sound one.own (rw one.was at one.loose) (rw one.was at one.moves)
-    rec.sound (loose-own _ _ _ rec.own) (rw one.was at rec.moves) two.nodes two.sound two.own (rw two.was at two.moves) in
+    let ch = changed g t c in
     ch.entries
 
 pub share_entry-returns-else-first-eq0-clause-cost : goal.share_entry-returns-else-first-eq0-clause-cost
 share_entry-returns-else-first-eq0-clause-cost g t c =
-    let why : (c.args.first ≢ 0) ⊎ (c.args.end ≢ 32 ^ (c.args.level - 1)) = elim c.else-first-eq0.branch [
-      | share_entry-else-first-eq0-via-then-first-eq0+else-end-width w ↦ inr (λ is. w.if-end-width.false (is ∙ sym w.width.ensures))
-      | share_entry-else-first-eq0-via-else-first-eq0 w ↦ inl w.if-first-eq0.false
-    ] in
-    let up : 1 < c.args.level = not-whole c.args.level c.args.first c.args.end why c.requires.order c.requires.page c.requires.low in
-    let one = c.swap-child.ensures in
-    let a = c.args.self.now.nodes in
-    let b = c.swap-child.new.self.nodes in
-    let n = c.args.node.n in
-    let mine = beside-less a (is_root (n + 1)) (λ x. is_root (n + 1) x + is_root 0 x) (c.args.level - 1) c.args.link (λ x. let z = is_root-none x in omega (arith, z)) (c.requires.beside up) in
-    let two = c.swap.ensures in
     let rec = c.share_at-child.ensures in
-    let ch = child-changed c.args.level a b c.share_at-child.new.self.nodes c.swap.new.self.nodes _ _ _ _ n c.args.i (c.share_at-child.result.n + 1) up c.requires.place
-    c.requires.sound c.requires.own one.nodes one.sound one.own (rw one.was at one.loose) (rw one.was at one.moves)
-    rec.sound (loose-own _ _ _ rec.own) (rw one.was at rec.moves) two.nodes two.sound two.own (rw two.was at two.moves) in
     omega (arith, rec.cost)
 
 pub share_entry-returns-else-first-eq0-clause-open : goal.share_entry-returns-else-first-eq0-clause-open
 share_entry-returns-else-first-eq0-clause-open g t c =
-    let why : (c.args.first ≢ 0) ⊎ (c.args.end ≢ 32 ^ (c.args.level - 1)) = elim c.else-first-eq0.branch [
-      | share_entry-else-first-eq0-via-then-first-eq0+else-end-width w ↦ inr (λ is. w.if-end-width.false (is ∙ sym w.width.ensures))
-      | share_entry-else-first-eq0-via-else-first-eq0 w ↦ inl w.if-first-eq0.false
-    ] in
-    let up : 1 < c.args.level = not-whole c.args.level c.args.first c.args.end why c.requires.order c.requires.page c.requires.low in
     let one = c.swap-child.ensures in
-    let a = c.args.self.now.nodes in
     let b = c.swap-child.new.self.nodes in
-    let n = c.args.node.n in
-    let mine = beside-less a (is_root (n + 1)) (λ x. is_root (n + 1) x + is_root 0 x) (c.args.level - 1) c.args.link (λ x. let z = is_root-none x in omega (arith, z)) (c.requires.beside up) in
-    let two = c.swap.ensures in
     let rec = c.share_at-child.ensures in
-    let ch = child-changed c.args.level a b c.share_at-child.new.self.nodes c.swap.new.self.nodes _ _ _ _ n c.args.i (c.share_at-child.result.n + 1) up c.requires.place
-    c.requires.sound c.requires.own one.nodes one.sound one.own (rw one.was at one.loose) (rw one.was at one.moves)
-    rec.sound (loose-own _ _ _ rec.own) (rw one.was at rec.moves) two.nodes two.sound two.own (rw two.was at two.moves) in
+    let ch = changed g t c in
     λ is_open inner. subst (λ l. IsOpenBelow c.swap.new.self.nodes (c.args.level - 1) l c.args.end) (sym ch.here)
     (ch.open_after c.args.end (rec.open (subst (λ l. IsOpenBelow b (c.args.level - 1) l c.args.first) (sym one.was) (ch.open_before c.args.first is_open)) c.requires.order))
 
 pub share_entry-returns-else-first-eq0-clause-edge : goal.share_entry-returns-else-first-eq0-clause-edge
 share_entry-returns-else-first-eq0-clause-edge g t c =
-    let why : (c.args.first ≢ 0) ⊎ (c.args.end ≢ 32 ^ (c.args.level - 1)) = elim c.else-first-eq0.branch [
-      | share_entry-else-first-eq0-via-then-first-eq0+else-end-width w ↦ inr (λ is. w.if-end-width.false (is ∙ sym w.width.ensures))
-      | share_entry-else-first-eq0-via-else-first-eq0 w ↦ inl w.if-first-eq0.false
-    ] in
-    let up : 1 < c.args.level = not-whole c.args.level c.args.first c.args.end why c.requires.order c.requires.page c.requires.low in
     let one = c.swap-child.ensures in
-    let a = c.args.self.now.nodes in
     let b = c.swap-child.new.self.nodes in
-    let n = c.args.node.n in
-    let mine = beside-less a (is_root (n + 1)) (λ x. is_root (n + 1) x + is_root 0 x) (c.args.level - 1) c.args.link (λ x. let z = is_root-none x in omega (arith, z)) (c.requires.beside up) in
-    let two = c.swap.ensures in
     let rec = c.share_at-child.ensures in
-    let ch = child-changed c.args.level a b c.share_at-child.new.self.nodes c.swap.new.self.nodes _ _ _ _ n c.args.i (c.share_at-child.result.n + 1) up c.requires.place
-    c.requires.sound c.requires.own one.nodes one.sound one.own (rw one.was at one.loose) (rw one.was at one.moves)
-    rec.sound (loose-own _ _ _ rec.own) (rw one.was at rec.moves) two.nodes two.sound two.own (rw two.was at two.moves) in
+    let ch = changed g t c in
     λ is_open inner. ap (λ l. edge_below c.swap.new.self.nodes (c.args.level - 1) l c.args.end) ch.here
     ∙ ch.edge_after c.args.end ∙ rec.edge (subst (λ l. IsOpenBelow b (c.args.level - 1) l c.args.first) (sym one.was) (ch.open_before c.args.first is_open)) c.requires.order
 
 pub share_entry-returns-else-first-eq0-clause-free_open : goal.share_entry-returns-else-first-eq0-clause-free_open
 share_entry-returns-else-first-eq0-clause-free_open g t c =
-    let why : (c.args.first ≢ 0) ⊎ (c.args.end ≢ 32 ^ (c.args.level - 1)) = elim c.else-first-eq0.branch [
-      | share_entry-else-first-eq0-via-then-first-eq0+else-end-width w ↦ inr (λ is. w.if-end-width.false (is ∙ sym w.width.ensures))
-      | share_entry-else-first-eq0-via-else-first-eq0 w ↦ inl w.if-first-eq0.false
-    ] in
-    let up : 1 < c.args.level = not-whole c.args.level c.args.first c.args.end why c.requires.order c.requires.page c.requires.low in
     let one = c.swap-child.ensures in
-    let a = c.args.self.now.nodes in
     let b = c.swap-child.new.self.nodes in
-    let n = c.args.node.n in
-    let mine = beside-less a (is_root (n + 1)) (λ x. is_root (n + 1) x + is_root 0 x) (c.args.level - 1) c.args.link (λ x. let z = is_root-none x in omega (arith, z)) (c.requires.beside up) in
     let two = c.swap.ensures in
     let rec = c.share_at-child.ensures in
-    let ch = child-changed c.args.level a b c.share_at-child.new.self.nodes c.swap.new.self.nodes _ _ _ _ n c.args.i (c.share_at-child.result.n + 1) up c.requires.place
-    c.requires.sound c.requires.own one.nodes one.sound one.own (rw one.was at one.loose) (rw one.was at one.moves)
-    rec.sound (loose-own _ _ _ rec.own) (rw one.was at rec.moves) two.nodes two.sound two.own (rw two.was at two.moves) in
+    let ch = changed g t c in
     λ is_open.
     let takes = rec.free_open (subst (λ l. IsOpenBelow b (c.args.level - 1) l c.args.first) (sym one.was) (ch.open_before c.args.first is_open)) in
     let same = ap (λ l. edge_below b (c.args.level - 1) l c.args.first) one.was ∙ ch.edge_before c.args.first in
@@ -445,21 +341,10 @@ share_entry-returns-else-first-eq0-clause-free_open g t c =
 
 pub share_entry-returns-else-first-eq0-clause-cost_open : goal.share_entry-returns-else-first-eq0-clause-cost_open
 share_entry-returns-else-first-eq0-clause-cost_open g t c =
-    let why : (c.args.first ≢ 0) ⊎ (c.args.end ≢ 32 ^ (c.args.level - 1)) = elim c.else-first-eq0.branch [
-      | share_entry-else-first-eq0-via-then-first-eq0+else-end-width w ↦ inr (λ is. w.if-end-width.false (is ∙ sym w.width.ensures))
-      | share_entry-else-first-eq0-via-else-first-eq0 w ↦ inl w.if-first-eq0.false
-    ] in
-    let up : 1 < c.args.level = not-whole c.args.level c.args.first c.args.end why c.requires.order c.requires.page c.requires.low in
     let one = c.swap-child.ensures in
-    let a = c.args.self.now.nodes in
     let b = c.swap-child.new.self.nodes in
-    let n = c.args.node.n in
-    let mine = beside-less a (is_root (n + 1)) (λ x. is_root (n + 1) x + is_root 0 x) (c.args.level - 1) c.args.link (λ x. let z = is_root-none x in omega (arith, z)) (c.requires.beside up) in
-    let two = c.swap.ensures in
     let rec = c.share_at-child.ensures in
-    let ch = child-changed c.args.level a b c.share_at-child.new.self.nodes c.swap.new.self.nodes _ _ _ _ n c.args.i (c.share_at-child.result.n + 1) up c.requires.place
-    c.requires.sound c.requires.own one.nodes one.sound one.own (rw one.was at one.loose) (rw one.was at one.moves)
-    rec.sound (loose-own _ _ _ rec.own) (rw one.was at rec.moves) two.nodes two.sound two.own (rw two.was at two.moves) in
+    let ch = changed g t c in
     λ is_open. rec.cost_open (subst (λ l. IsOpenBelow b (c.args.level - 1) l c.args.first) (sym one.was) (ch.open_before c.args.first is_open))
 
 pub share_entry-returns-else-first-eq0-clause-cost_whole : goal.share_entry-returns-else-first-eq0-clause-cost_whole
