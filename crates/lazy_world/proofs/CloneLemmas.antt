@@ -112,7 +112,7 @@ module _ (w : World) (c : Name) (job : ℕ) (items : List Item) (spec : IsSpec w
         let old = (changes.shared w c job items).live c ∙ live in
         let both = sym old ∙ ap (is_live s) same ∙ new in cc
 
-    same_context : context added c ≡ context s c
+    pub same_context : context added c ≡ context s c
     same_context = (changes.context_added s job (new_context uid entry)).others c other_name
 
     -- nor once the new context is there

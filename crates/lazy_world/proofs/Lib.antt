@@ -6,6 +6,7 @@ mod ClearLemmas
 mod CloneLemmas
 mod CloneOrigins
 mod CopyLemmas
+mod CostLemmas
 mod CountLemmas
 mod DropLemmas
 mod EdgeLemmas

@@ -41,6 +41,13 @@ module _ (states : ℕ → Option PageState) (items : List Item) where
       let edges = edges-few (λ (item : Item). item.from) (λ (item : Item). item.to) items p in
       omega (arith, grow, edges, few, short, sofar)
 
+  -- there are at most twice as many as ranges and items
+  pub most-turns : (p n : ℕ) → p < MOST_PAGES → n + present (states p) ≤ 2 * ranges (p + 1) states + turns items p → n ≤ 2 * (ranges MOST_PAGES states + length items)
+  most-turns p n inside sofar =
+      let grow = ranges_grow states (p + 1) (MOST_PAGES - (p + 1)) MOST_PAGES (omega (arith, inside)) in
+      let edges = edges-few (λ (item : Item). item.from) (λ (item : Item). item.to) items p in
+      omega (arith, grow, edges, sofar)
+
   -- at first there is none
   pub no-turns : present (states 0) ≤ 2 * ranges 1 states + turns items 0
   no-turns =

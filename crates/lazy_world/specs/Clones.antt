@@ -1,4 +1,4 @@
--- Where the pages of a clone come from, and what they cost.
+-- Where the pages of a clone come from, and what pages cost.
 use Rattle.std.specs.Prelude.{◌≡◌, ◌≤◌, ℕ, ◌+◌, ◌*◌, List, Option, None, Some, length, min}
 use Rattle.std.specs.FinMap as fm
 use Rattle.std.specs.Option.{option_map, option_or}
@@ -16,17 +16,12 @@ use Rattle.range_map.specs.declared.segment.SegmentKind.{SegmentKind}
 use Rattle.range_map.specs.declared.segment.SegmentKind.TheVariants.{Own, Common}
 use Rattle.cow_space.specs.declared.page_runs.Origin.{Origin}
 use Rattle.cow_space.specs.declared.page_runs.Origin.TheVariants.{Absent, CopyOf}
-use Rattle.lwc_base.specs.Ranges.{ranges_of}
-use Rattle.lwc_base.specs.World.{context}
-use Rattle.lazy_world.specs.declared.world.PlacedWorld.{PlacedWorld}
 use Rattle.lazy_world.specs.Cells.{HasOwnPages, Row, states_of}
 use Rattle.lazy_world.specs.Transfers.{copied_origin}
-use Rattle.lazy_world.specs.Seen.{free_nodes, pool, used_frames}
 use Rattle.lazy_world.specs.Origins.{Gift, most_nodes, most_steps}
 use Rattle.lazy_world.specs.declared.pieces.PageOrigins.{PageOrigins}
 use Rattle.lazy_world.specs.declared.pieces.PageOrigins.TheVariants.{AllOf}
 use Rattle.lazy_world.specs.States.{Parts}
-use Rattle.lazy_world.specs.Worlds.{seen}
 
 -- the place of a group, if it is live
 abbrev pub place_of_group : Parts → Name → Option ℕ
@@ -56,30 +51,32 @@ clone_gift s items from q =
     option_or (item_gift from (mode items (Page q)))
     (option_map (state_gift s from) (states_of (s.rows from) (s.rights from) q))
 
+-- the most free nodes that a copy takes for this number of ranges and items
+abbrev pub copy_nodes : ℕ → ℕ
+copy_nodes pieces = min 1 pieces + 4 * pieces
+
+-- the most node steps
+abbrev pub copy_steps : ℕ → ℕ
+copy_steps pieces = 128 * pieces
+
+-- the most free nodes that a change of pages takes for this number of ranges and items
+abbrev pub change_nodes : ℕ → ℕ
+change_nodes pieces = 9 + 16 * pieces
+
+-- the most node steps
+abbrev pub change_steps : ℕ → ℕ
+change_steps pieces = 1532 + 3064 * pieces
+
 -- items share no page, leave none out, and copy none read-only
 abbrev pub CopiesPages : List Item → Type 0
 CopiesPages items = (p : ℕ) → mode_or_copy items (Page p) ≡ Copy
 
 -- the pages of a clone of a place take at most 128 node steps and 4 free nodes for each range of the place and
--- each item, and one free node besides; those that are all copied and all the place's own are taken whole
+-- each item, and one free node besides if there is one; those that are all copied and all the place's own are
+-- taken whole
 pub record AreBounded (rows : ℕ → Row) (rights : ℕ → ℕ → Right) (from : ℕ) (items : List Item)
     (pages : PageOrigins) : Type 0 where
-  pub nodes : most_nodes pages
-      ≤ 1 + 4 * (ranges MOST_PAGES (states_of (rows from) (rights from)) + length items)
+  pub nodes : most_nodes pages ≤ copy_nodes (ranges MOST_PAGES (states_of (rows from) (rights from)) + length items)
   pub steps : most_steps rows rights pages
-      ≤ 128 * (ranges MOST_PAGES (states_of (rows from) (rights from)) + length items)
+      ≤ copy_steps (ranges MOST_PAGES (states_of (rows from) (rights from)) + length items)
   pub whole : CopiesPages items → HasOwnPages (rows from) → pages ≡ AllOf from
-
--- what a clone of a context takes: the frames in use are as many as before, and each frame keeps its stamp
--- and its bytes; for each range of the context and each item at most 128 node steps and 4 free nodes, and one
--- free node besides; where all pages are copied and all are the context's own, at most one node step and no
--- free node
-pub record CloneCost (old new : PlacedWorld) (before after : ℕ) (c : Name) (items : List Item) : Type 0 where
-  pub used : used_frames new.places ≡ used_frames old.places
-  pub pool : pool new.places ≡ pool old.places
-  pub nodes : free_nodes old.places ≤ free_nodes new.places + (1 + 4 * (ranges_of (seen old) c + length items))
-  pub steps : after ≤ before + 128 * (ranges_of (seen old) c + length items)
-  pub whole_nodes : CopiesPages items → HasOwnPages (context (seen old) c).cell
-      → free_nodes old.places ≤ free_nodes new.places
-  pub whole_steps : CopiesPages items → HasOwnPages (context (seen old) c).cell
-      → after ≤ before + min 1 (ranges_of (seen old) c)

@@ -1,6 +1,7 @@
 pub mod CachedRoots
 pub mod Cells
 pub mod Clones
+pub mod Costs
 pub mod Followed
 pub mod Kept
 pub mod KeyValues

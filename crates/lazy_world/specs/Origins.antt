@@ -77,12 +77,22 @@ with_states rows rights i pages = states_of (with_pages rows pages (rows i)) (wi
 -- the most free nodes that pages take of a place that had none
 abbrev pub most_nodes : PageOrigins → ℕ
 most_nodes (AllOf j) = 0
-most_nodes (PageRuns page_runs reads) = 1 + 4 * length page_runs.items
+most_nodes (PageRuns page_runs reads) = min 1 (length page_runs.items) + 4 * length page_runs.items
 
 -- the most node steps that pages take of a place that had none
 abbrev pub most_steps : (ℕ → Row) → (ℕ → ℕ → Right) → PageOrigins → ℕ
 most_steps rows rights (AllOf j) = min 1 (ranges MOST_PAGES (states_of (rows j) (rights j)))
 most_steps rows rights (PageRuns page_runs reads) = 128 * length page_runs.items
+
+-- the most free nodes that pages take of any place
+abbrev pub any_nodes : PageOrigins → ℕ
+any_nodes (AllOf j) = 0
+any_nodes (PageRuns page_runs reads) = min 1 (length page_runs.items) + 8 * length page_runs.items
+
+-- the most node steps that pages take of any place, which gives up at most 529 nodes
+abbrev pub any_steps : PageOrigins → ℕ
+any_steps (AllOf j) = 530
+any_steps (PageRuns page_runs reads) = 1532 * length page_runs.items
 
 -- the origin of a slot
 abbrev pub slot_origin : List (Option Origin) → ℕ → Option Origin

@@ -5,7 +5,6 @@ use Rattle.lwc_base.specs.declared.right.Right.{Right}
 use Rattle.fd_table.specs.Seen as slots_seen
 use Rattle.cow_space.specs.Cells.{Place, rights_of}
 use Rattle.cow_space.specs.Seen as pages_seen
-use Rattle.cow_space.specs.Tags.{used}
 use Rattle.lazy_world.specs.declared.places.Places.{Places}
 use Rattle.lazy_world.specs.Cells.{Row, rows_of}
 
@@ -33,18 +32,18 @@ count w = length (pages_seen.cells w.pages)
 unfoldable pub free_nodes : Places → ℕ
 free_nodes w = pages_seen.free_nodes w.pages
 
--- how many frames are in use
-unfoldable pub used_frames : Places → ℕ
-used_frames w = used (pages_seen.cells w.pages)
+-- how many frames are free
+unfoldable pub free_frames : Places → ℕ
+free_frames w = pages_seen.free_frames w.pages
 
 -- the stamp and the bytes of each frame, in use or free
 unfoldable pub pool : Places → ℕ → Tag × List ℕ
 pool w = pages_seen.pool w.pages
 
--- the pages keep their rights, as many tree nodes are free as before, as many frames are in use, and each
--- frame is as it was
+-- the pages keep their rights, as many tree nodes and frames are free as before, and each frame is as it
+-- was
 pub record KeepsStore (old new : Places) : Type 0 where
   pub rights : rights new ≡ rights old
   pub nodes : free_nodes new ≡ free_nodes old
-  pub used : used_frames new ≡ used_frames old
+  pub free : free_frames new ≡ free_frames old
   pub pool : pool new ≡ pool old

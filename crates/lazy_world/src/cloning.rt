@@ -13,7 +13,8 @@ ghost use Rattle.cow_space.specs.Changes.{IsPageRun};
 ghost use Rattle.world_face.specs.Calls.{AreFew, HasGroupPlace, HasPlace, IsLive, MayName};
 ghost use Rattle.lwc_base.specs.declared.right.Right.{Right};
 ghost use Rattle.lazy_world.specs.Cells.{HasNoPages, Row, states_of};
-ghost use Rattle.lazy_world.specs.Clones.{AreBounded, CloneCost, CopiesPages};
+ghost use Rattle.lazy_world.specs.Clones.{AreBounded, CopiesPages};
+ghost use Rattle.lazy_world.specs.Costs.{CloneSteps, CloneStore, CopySteps, CopyStore};
 ghost use Rattle.lazy_world.specs.Clones.{clone_gift, item_gift, kind_origin};
 ghost use Rattle.lazy_world.specs.Transfers.{given_or, moves, transferred_rights, transferred_row};
 ghost use Rattle.lazy_world.specs.Seen.{count, rights, rows};
@@ -30,8 +31,7 @@ use cow_space::{Origin, PageRun};
 use lwc_base::{Item, Kind, MOST_PAGE_RUNS, Mode, NOBODY, Name, Range, Regs, Spec};
 use pool_base::Steps;
 use range_map::SegmentKind;
-use std::marker::Brand;
-use std::sync::ledger::{Blank, Ledger};
+use std::sync::ledger::Ledger;
 
 /// The page run of the pages of an item in a clone of the place `from`: they are shared, or left out. Pages
 /// that are copied have theirs by segments.
@@ -207,7 +207,8 @@ impl PlacedWorld {
         requires fresh { IsFresh (followed (seen self.old) (Clone made) spec.now c made) }
         requires few { ranges_of (followed (seen self.old) (Clone made) spec.now c made) made ≤ MOST_RANGES }
         ensures world { seen self.new ≡ followed (seen self.old) (Clone made) spec.now c made }
-        ensures cost { CloneCost self.old self.new steps.old steps.new c spec.now }
+        ensures store { CopyStore self.old self.new c spec.now }
+        ensures steps { CopySteps (seen self.old) c spec.now steps.old steps.new }
     {
         let from = self.place(c);
         let to = self.place(made);
@@ -235,7 +236,8 @@ impl PlacedWorld {
         requires fresh { IsFresh (followed (seen self.old) (Clone made) spec.now c made) }
         requires few { ranges_of (followed (seen self.old) (Clone made) spec.now c made) made ≤ MOST_RANGES }
         ensures world { seen self.new ≡ followed (seen self.old) (Clone made) spec.now c made }
-        ensures cost { CloneCost self.old self.new steps.old steps.new c spec.now }
+        ensures store { CopyStore self.old self.new c spec.now }
+        ensures steps { CopySteps (seen self.old) c spec.now steps.old steps.new }
     {
         let from = self.place(c);
         let to = self.place(made);
@@ -246,15 +248,20 @@ impl PlacedWorld {
         }
     }
 
-    /// Makes a new context of a job from another one, on a counter of its own.
+    /// Makes a new context of a job from another one. Values of mode share that are the other's own move
+    /// into one new group, and both contexts have them in common from then on; what was common already
+    /// stays so. Values of mode copy and values that no item names are copied, and those of mode unmap are
+    /// left out. Pages keep their rights; those of mode copy read-only are copied with the right Read. The
+    /// new context begins with these registers and has no saved ones. Answers its name. No frame is taken or
+    /// written.
     #[tactic(auto, using(lwc_base::proofs::Facts::changes))]
-    fn clone_counted<L: Ledger>(
+    pub(crate) fn clone_counted<L: Ledger>(
         &mut self,
         c: Name,
         spec: &Spec,
         job: u32,
         entry: &Regs,
-        blank: Blank,
+        steps: &mut Steps<L>,
     ) -> Name
         requires live { IsLive (seen self.old) c }
         requires within { IsSpec (seen self.old).size.pages spec.now }
@@ -262,35 +269,15 @@ impl PlacedWorld {
         requires place { HasPlace (seen self.old) }
         requires group { needs_group (seen self.old) c spec.now ≡ true → HasGroupPlace (seen self.old) }
         requires few { AreFew (ranges_after_clone (seen self.old) c job spec.now) }
-        requires name { blank.name ≡ L.name }
-        requires parts { blank.parts ≡ L.parts }
-        requires some { 0 < blank.parts }
         ensures name { result ≡ next_context (seen self.old) job }
         ensures cloned { seen self.new ≡ clone_context (seen self.old) c job spec.now entry.now }
+        ensures store { CloneStore self.old self.new c job spec.now }
+        ensures steps { CloneSteps (seen self.old) c job spec.now steps.old steps.new }
     {
-        let mut steps = Steps::<L>::new(blank);
-        self.share(c, spec, job, &mut steps);
+        self.share(c, spec, job, steps);
         let made = self.add_context(job, NOBODY, entry);
         // Nothing is left that moves, so that no value of the new context becomes common by this name.
-        self.clone_by(spec, c, made, &mut steps);
+        self.clone_by(spec, c, made, steps);
         made
-    }
-
-    /// Makes a new context of a job from another one. Values of mode share that are the other's own move
-    /// into one new group, and both contexts have them in common from then on; what was common already
-    /// stays so. Values of mode copy and values that no item names are copied, and those of mode unmap are
-    /// left out. Pages keep their rights; those of mode copy read-only are copied with the right Read. The
-    /// new context begins with these registers and has no saved ones. Answers its name.
-    pub(crate) fn clone_context(&mut self, c: Name, spec: &Spec, job: u32, entry: &Regs) -> Name
-        requires live { IsLive (seen self.old) c }
-        requires within { IsSpec (seen self.old).size.pages spec.now }
-        requires may { MayName (seen self.old) job }
-        requires place { HasPlace (seen self.old) }
-        requires group { needs_group (seen self.old) c spec.now ≡ true → HasGroupPlace (seen self.old) }
-        requires few { AreFew (ranges_after_clone (seen self.old) c job spec.now) }
-        ensures name { result ≡ next_context (seen self.old) job }
-        ensures cloned { seen self.new ≡ clone_context (seen self.old) c job spec.now entry.now }
-    {
-        self.clone_counted::<Brand>(c, spec, job, entry, Blank::new(1))
     }
 }

@@ -9,7 +9,7 @@ ghost use Rattle.lwc_base.specs.declared.right.Right.{Right};
 ghost use Rattle.lazy_world.specs.Cells.{HasNoPages, HasOwnPages, Row, is_own, put_rights, put_row};
 ghost use Rattle.lazy_world.specs.Cells.{states_of};
 ghost use Rattle.lazy_world.specs.Transfers.{transferred_rights, transferred_row};
-ghost use Rattle.lazy_world.specs.Seen.{count, frame_count, free_nodes, pool, rights, rows, used_frames};
+ghost use Rattle.lazy_world.specs.Seen.{count, frame_count, free_frames, free_nodes, pool, rights, rows};
 
 use crate::places::Places;
 use crate::transfer::Transfer;
@@ -33,7 +33,7 @@ impl Places {
         ensures count { count self.new ≡ count self.old }
         ensures frames { frame_count self.new ≡ frame_count self.old }
         ensures nodes { free_nodes self.old ≤ free_nodes self.new }
-        ensures used { HasNoPages (rows self.old to) → used_frames self.new ≡ used_frames self.old }
+        ensures free_empty { HasNoPages (rows self.old to) → free_frames self.new ≡ free_frames self.old }
         ensures pool { pool self.new ≡ pool self.old }
         ensures cost { HasNoPages (rows self.old to)
             → steps.new ≤ steps.old

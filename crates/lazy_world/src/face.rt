@@ -3,13 +3,21 @@ use crate::world::PlacedWorld;
 use arrayvec::ArrayVec;
 use lwc_base::{Lent, Name, OutOfMemory, Range, Regs, Spec, StoreFault, Summary, WorldSize};
 use std::alloc::Global;
+use std::marker::Brand;
+use std::sync::ledger::Blank;
 use world_face::World;
 
 impl World for LazyWorld {
-    ghost use Rattle.std.specs.Prelude.{true};
-    ghost use Rattle.lazy_world.specs.Lazy as spec;
+    ghost use Rattle.std.specs.Prelude.{◌≡◌, IfOk, IsOk, OnErr, OnOk, true};
+    ghost use Rattle.lwc_base.specs.Modes.{IsSpec};
+    ghost use Rattle.lwc_base.specs.Overlay.{overlay, ranges_after_overlay};
+    ghost use Rattle.lwc_base.specs.Sharing.{clone_context, needs_group, ranges_after_clone};
+    ghost use Rattle.lwc_base.specs.World.{next_context};
+    ghost use Rattle.world_face.specs.Calls.{AreFew, HasGroupPlace, HasPlace, IsLive, MayName};
+    ghost use Rattle.lazy_world.specs.Costs.{CloneStore, OverlayStore};
+    ghost use Rattle.lazy_world.specs.Lazy as lazy;
 
-    ghost seen = { spec.seen_lazy };
+    ghost seen = { lazy.seen_lazy };
 
     ghost roomy = { true };
 
@@ -99,19 +107,39 @@ impl World for LazyWorld {
         spec: &Spec,
         job: u32,
         entry: &Regs,
-    ) -> Result<Name, OutOfMemory> {
-        if !spec.items().is_empty() {
-            self.known = false;
-            return Ok(self.world.clone_context(c, spec, job, entry));
-        }
-        let next = self.world.next_name(job);
-        self.add_cached_root(Some(next));
-        Ok(self.world.clone_context(c, spec, job, entry))
+    ) -> Result<Name, OutOfMemory>
+        requires live { IsLive (lazy.seen_lazy self.old) c }
+        requires within { IsSpec (lazy.seen_lazy self.old).size.pages spec.now }
+        requires may { MayName (lazy.seen_lazy self.old) job }
+        requires place { HasPlace (lazy.seen_lazy self.old) }
+        requires group { needs_group (lazy.seen_lazy self.old) c spec.now ≡ true
+            → HasGroupPlace (lazy.seen_lazy self.old) }
+        requires few { AreFew (ranges_after_clone (lazy.seen_lazy self.old) c job spec.now) }
+        ensures name { IfOk result (λ made. made ≡ next_context (lazy.seen_lazy self.old) job) }
+        ensures cloned { OnOk result (lazy.seen_lazy self.new
+            ≡ clone_context (lazy.seen_lazy self.old) c job spec.now entry.now) }
+        ensures err { OnErr result (lazy.seen_lazy self.new ≡ lazy.seen_lazy self.old) }
+        ensures ample { IsOk result }
+        ensures store { CloneStore (lazy.placed self.old) (lazy.placed self.new) c job spec.now }
+    {
+        Ok(self.clone_on::<Brand>(c, spec, job, entry, Blank::new(1)))
     }
 
-    fn overlay(&mut self, to: Name, from: Name, spec: &Spec, job: u32) -> Result<(), OutOfMemory> {
-        self.known = false;
-        self.world.overlay(to, from, spec, job);
+    fn overlay(&mut self, to: Name, from: Name, spec: &Spec, job: u32) -> Result<(), OutOfMemory>
+        requires to { IsLive (lazy.seen_lazy self.old) to }
+        requires from { IsLive (lazy.seen_lazy self.old) from }
+        requires within { IsSpec (lazy.seen_lazy self.old).size.pages spec.now }
+        requires may { MayName (lazy.seen_lazy self.old) job }
+        requires group { needs_group (lazy.seen_lazy self.old) from spec.now ≡ true
+            → HasGroupPlace (lazy.seen_lazy self.old) }
+        requires few { AreFew (ranges_after_overlay (lazy.seen_lazy self.old) to from job spec.now) }
+        ensures overlaid { OnOk result (lazy.seen_lazy self.new
+            ≡ overlay (lazy.seen_lazy self.old) to from job spec.now) }
+        ensures err { OnErr result (lazy.seen_lazy self.new ≡ lazy.seen_lazy self.old) }
+        ensures ample { IsOk result }
+        ensures store { OverlayStore (lazy.placed self.old) (lazy.placed self.new) from job spec.now }
+    {
+        self.overlay_on::<Brand>(to, from, spec, job, Blank::new(1));
         Ok(())
     }
 

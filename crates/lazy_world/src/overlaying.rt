@@ -8,10 +8,10 @@ use crate::transfer::Transfer;
 use crate::world::PlacedWorld;
 use lwc_base::{Name, Spec};
 use pool_base::Steps;
-use std::marker::Brand;
-use std::sync::ledger::{Blank, Ledger};
+use std::sync::ledger::Ledger;
 
 impl PlacedWorld {
+    ghost use Rattle.lazy_world.specs.Costs.{OverlaySteps, OverlayStore};
     ghost use Rattle.lazy_world.specs.Worlds.{seen};
 
     /// Takes over what the items name from another context.
@@ -31,7 +31,9 @@ impl PlacedWorld {
         requires may { MayName (seen self.old) job }
         requires group { needs_group (seen self.old) from spec.now ≡ true → HasGroupPlace (seen self.old) }
         requires few { AreFew (ranges_after_overlay (seen self.old) to from job spec.now) }
-        ensures { seen self.new ≡ overlay (seen self.old) to from job spec.now }
+        ensures overlaid { seen self.new ≡ overlay (seen self.old) to from job spec.now }
+        ensures store { OverlayStore self.old self.new from job spec.now }
+        ensures steps { OverlaySteps (seen self.old) from job spec.now steps.old steps.new }
     {
         self.share(from, spec, job, steps);
         // Nothing is left that moves, so that no value becomes common by this name.
@@ -47,7 +49,9 @@ impl PlacedWorld {
         requires may { MayName (seen self.old) job }
         requires group { needs_group (seen self.old) c spec.now ≡ true → HasGroupPlace (seen self.old) }
         requires few { AreFew (ranges_after_overlay (seen self.old) c c job spec.now) }
-        ensures { seen self.new ≡ overlay (seen self.old) c c job spec.now }
+        ensures overlaid { seen self.new ≡ overlay (seen self.old) c c job spec.now }
+        ensures store { OverlayStore self.old self.new c job spec.now }
+        ensures steps { OverlaySteps (seen self.old) c job spec.now steps.old steps.new }
     {
         if self.needs_group(c, spec) {
             let g = self.add_group(job);
@@ -59,14 +63,18 @@ impl PlacedWorld {
         }
     }
 
-    /// Takes over what the items name, on a counter of its own.
-    fn overlay_counted<L: Ledger>(
+    /// Takes over what the items name from the context `from` into the context `to`, for a job; both may
+    /// be the same. First the values of mode share that are `from`'s own move into one new group. Then
+    /// `to` gets a copy of each value of mode copy, has each value of mode share in common with `from`,
+    /// and nothing under a key of mode unmap. An absent page of `from` becomes absent in `to`. No frame is taken
+    /// or written.
+    pub(crate) fn overlay_counted<L: Ledger>(
         &mut self,
         to: Name,
         from: Name,
         spec: &Spec,
         job: u32,
-        blank: Blank,
+        steps: &mut Steps<L>,
     )
         requires to { IsLive (seen self.old) to }
         requires from { IsLive (seen self.old) from }
@@ -74,32 +82,14 @@ impl PlacedWorld {
         requires may { MayName (seen self.old) job }
         requires group { needs_group (seen self.old) from spec.now ≡ true → HasGroupPlace (seen self.old) }
         requires few { AreFew (ranges_after_overlay (seen self.old) to from job spec.now) }
-        requires name { blank.name ≡ L.name }
-        requires parts { blank.parts ≡ L.parts }
-        requires some { 0 < blank.parts }
-        ensures { seen self.new ≡ overlay (seen self.old) to from job spec.now }
-    {
-        let mut steps = Steps::<L>::new(blank);
-        if to == from {
-            self.overlay_itself(from, spec, job, &mut steps);
-        } else {
-            self.overlay_other(to, from, spec, job, &mut steps);
-        }
-    }
-
-    /// Takes over what the items name from the context `from` into the context `to`, for a job; both may
-    /// be the same. First the values of mode share that are `from`'s own move into one new group. Then
-    /// `to` gets a copy of each value of mode copy, has each value of mode share in common with `from`,
-    /// and nothing under a key of mode unmap. An absent page of `from` becomes absent in `to`.
-    pub(crate) fn overlay(&mut self, to: Name, from: Name, spec: &Spec, job: u32)
-        requires to { IsLive (seen self.old) to }
-        requires from { IsLive (seen self.old) from }
-        requires within { IsSpec (seen self.old).size.pages spec.now }
-        requires may { MayName (seen self.old) job }
-        requires group { needs_group (seen self.old) from spec.now ≡ true → HasGroupPlace (seen self.old) }
-        requires few { AreFew (ranges_after_overlay (seen self.old) to from job spec.now) }
         ensures overlaid { seen self.new ≡ overlay (seen self.old) to from job spec.now }
+        ensures store { OverlayStore self.old self.new from job spec.now }
+        ensures steps { OverlaySteps (seen self.old) from job spec.now steps.old steps.new }
     {
-        self.overlay_counted::<Brand>(to, from, spec, job, Blank::new(1));
+        if to == from {
+            self.overlay_itself(from, spec, job, steps);
+        } else {
+            self.overlay_other(to, from, spec, job, steps);
+        }
     }
 }

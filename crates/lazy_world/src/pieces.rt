@@ -34,12 +34,13 @@ impl Places {
     ghost use Rattle.cow_space.specs.declared.page_runs.Origin.TheVariants.{CopyOf};
     ghost use Rattle.lazy_world.specs.Cells.{HasNoPages, put_rights, put_row, states_of};
     ghost use Rattle.lazy_world.specs.Transfers.{CanGet, given, given_or};
-    ghost use Rattle.lazy_world.specs.Origins.{AreGiven, ArePagesGiven, most_nodes, most_steps, slot_origin};
+    ghost use Rattle.lazy_world.specs.Origins.{AreGiven, ArePagesGiven, any_nodes, any_steps, most_nodes};
+    ghost use Rattle.lazy_world.specs.Origins.{most_steps, slot_origin};
     ghost use Rattle.lazy_world.specs.Origins.{origin_row, origin_states, with_pages, with_rights};
     ghost use Rattle.lazy_world.specs.Origins.{with_slots, with_states};
     ghost use Rattle.lazy_world.specs.declared.pieces.PageOrigins.TheVariants.{AllOf, PageRuns};
-    ghost use Rattle.lazy_world.specs.Seen.{KeepsStore, count, frame_count, free_nodes, pool, rights};
-    ghost use Rattle.lazy_world.specs.Seen.{rows, used_frames};
+    ghost use Rattle.lazy_world.specs.Seen.{KeepsStore, count, frame_count, free_frames, free_nodes};
+    ghost use Rattle.lazy_world.specs.Seen.{pool, rights, rows};
 
     /// Gives a place all pages of another one, and their rights, by a hold of the root of their tree.
     pub(crate) fn copy_pages<L: Ledger>(&mut self, i: usize, j: usize, steps: &mut Steps<L>)
@@ -52,11 +53,13 @@ impl Places {
         ensures count { count self.new ≡ count self.old }
         ensures frames { frame_count self.new ≡ frame_count self.old }
         ensures nodes { free_nodes self.old ≤ free_nodes self.new }
-        ensures used { HasNoPages (rows self.old i) → used_frames self.new ≡ used_frames self.old }
+        ensures free { free_frames self.old ≤ free_frames self.new }
+        ensures free_empty { HasNoPages (rows self.old i) → free_frames self.new ≡ free_frames self.old }
         ensures pool { pool self.new ≡ pool self.old }
         ensures cost { HasNoPages (rows self.old i)
             → steps.new ≤ steps.old
             + min 1 (ranges MOST_PAGES (states_of (rows self.old j) (rights self.old j))) }
+        ensures cost_any { steps.new ≤ steps.old + any_steps (AllOf j) }
     {
         self.pages.clone_place(i, j, steps);
     }
@@ -82,11 +85,15 @@ impl Places {
         ensures count { count self.new ≡ count self.old }
         ensures frames { frame_count self.new ≡ frame_count self.old }
         ensures nodes { HasNoPages (rows self.old i)
-            → free_nodes self.old ≤ free_nodes self.new + (1 + 4 * length page_runs.now.items) }
-        ensures used { HasNoPages (rows self.old i) → used_frames self.new ≡ used_frames self.old }
+            → free_nodes self.old ≤ free_nodes self.new + most_nodes (PageRuns page_runs.now reads.now) }
+        ensures nodes_any { free_nodes self.old
+            ≤ free_nodes self.new + any_nodes (PageRuns page_runs.now reads.now) }
+        ensures free { free_frames self.old ≤ free_frames self.new }
+        ensures free_empty { HasNoPages (rows self.old i) → free_frames self.new ≡ free_frames self.old }
         ensures pool { pool self.new ≡ pool self.old }
         ensures cost { HasNoPages (rows self.old i)
             → steps.new ≤ steps.old + 128 * length page_runs.now.items }
+        ensures cost_any { steps.new ≤ steps.old + any_steps (PageRuns page_runs.now reads.now) }
     {
         self.pages
             .change(i, page_runs.as_slice(), reads.as_slice(), steps);
@@ -106,10 +113,13 @@ impl Places {
         ensures frames { frame_count self.new ≡ frame_count self.old }
         ensures nodes { HasNoPages (rows self.old i)
             → free_nodes self.old ≤ free_nodes self.new + most_nodes pages.now }
-        ensures used { HasNoPages (rows self.old i) → used_frames self.new ≡ used_frames self.old }
+        ensures nodes_any { free_nodes self.old ≤ free_nodes self.new + any_nodes pages.now }
+        ensures free { free_frames self.old ≤ free_frames self.new }
+        ensures free_empty { HasNoPages (rows self.old i) → free_frames self.new ≡ free_frames self.old }
         ensures pool { pool self.new ≡ pool self.old }
         ensures cost { HasNoPages (rows self.old i)
             → steps.new ≤ steps.old + most_steps (rows self.old) (rights self.old) pages.now }
+        ensures cost_any { steps.new ≤ steps.old + any_steps pages.now }
     {
         match pages {
             PageOrigins::AllOf(j) => self.copy_pages(i, *j, steps),
@@ -219,7 +229,8 @@ impl Places {
 
     /// Makes the cells of a place what their origins say. A place without pages takes at most 128 node steps
     /// and 4 free nodes for each page run, and one free node besides, or one step if it gets all pages of another
-    /// one; and no frame. No frame is written.
+    /// one. Any other place takes at most 1532 node steps and 8 free nodes for each page run, and one free node
+    /// besides. No frame is taken or written.
     pub fn take<L: Ledger>(&mut self, i: usize, origins: &Origins, steps: &mut Steps<L>)
         requires place { i < count self.old }
         requires given { AreGiven (count self.old) i origins.now }
@@ -232,10 +243,13 @@ impl Places {
         ensures frames { frame_count self.new ≡ frame_count self.old }
         ensures nodes { HasNoPages (rows self.old i)
             → free_nodes self.old ≤ free_nodes self.new + most_nodes origins.now.pages }
-        ensures used { HasNoPages (rows self.old i) → used_frames self.new ≡ used_frames self.old }
+        ensures nodes_any { free_nodes self.old ≤ free_nodes self.new + any_nodes origins.now.pages }
+        ensures free { free_frames self.old ≤ free_frames self.new }
+        ensures free_empty { HasNoPages (rows self.old i) → free_frames self.new ≡ free_frames self.old }
         ensures pool { pool self.new ≡ pool self.old }
         ensures cost { HasNoPages (rows self.old i)
             → steps.new ≤ steps.old + most_steps (rows self.old) (rights self.old) origins.now.pages }
+        ensures cost_any { steps.new ≤ steps.old + any_steps origins.now.pages }
     {
         self.take_pages(i, &origins.pages, steps);
         self.take_slots(i, &origins.slots);

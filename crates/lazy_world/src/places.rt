@@ -277,9 +277,9 @@ impl Places {
         requires slot { HasSlot value }
         ensures rows { rows self.new ≡ put_row (rows self.old) i
             (with_key Cell (key_in value.entry) (Own (value_in value.entry)) (rows self.old i)) }
-        ensures rights { rights self.new ≡ rights self.old }
         ensures count { count self.new ≡ count self.old }
         ensures frames { frame_count self.new ≡ frame_count self.old }
+        ensures store { KeepsStore self.old self.new }
     {
         match value {
             KeyValue::Slot(n, descriptor) => self.put_slot(i, n, Cell::Own(descriptor)),

@@ -1,4 +1,4 @@
-ghost use Rattle.std.specs.Prelude.{◌≡◌, ◌≢◌, ◌==◌, ◌||◌, ◌<◌, ◌≤◌, ◌⊎◌, ℕ, All, IfSome, None, true};
+ghost use Rattle.std.specs.Prelude.{◌≡◌, ◌≢◌, ◌==◌, ◌||◌, ◌<◌, ◌≤◌, ◌+◌, ◌*◌, ◌⊎◌, ℕ, All, IfSome, None, length, true};
 ghost use Rattle.std.specs.List.{list_any};
 ghost use Rattle.std.specs.Option.{option_map};
 ghost use Rattle.lwc_base.specs.declared.descriptor.TheConstants.{SLOTS};
@@ -83,7 +83,8 @@ impl PlacedWorld {
     ghost use Rattle.lazy_world.specs.Transfers.{CanGet, Gives, IsFor, IsFound, given_or, reads};
     ghost use Rattle.lazy_world.specs.Seen.{count, rights, rows};
     ghost use Rattle.lazy_world.specs.Origins.{AreGiven, gift_at, gift_of, gift_right, origin_at, origin_row};
-    ghost use Rattle.lazy_world.specs.Origins.{shown_right, slot_origin, with_rights};
+    ghost use Rattle.lazy_world.specs.Origins.{any_nodes, any_steps, shown_right, slot_origin, with_rights};
+    ghost use Rattle.lazy_world.specs.Clones.{change_nodes, change_steps};
     ghost use Rattle.lazy_world.specs.Worlds.{parts, right_transferred, transferred, seen};
 
     /// What is found under a key where the cell is of a kind; a page has a right.
@@ -208,6 +209,9 @@ impl PlacedWorld {
             ≡ right_transferred self.now transfer spec.now from to q }
         ensures past { (q : ℕ) → MOST_PAGES ≤ q → gift_at result.items q ≡ None }
         ensures given { All (IsPageRun (count self.now.places) to) result.items }
+        ensures few { length result.items ≤ 1
+            + 2 * (ranges MOST_PAGES (states_of (rows self.now.places from) (rights self.now.places from))
+            + length spec.now) }
     {
         let mut page_runs = ArrayVec::new();
         let mut p = 0u16;
@@ -305,6 +309,12 @@ impl PlacedWorld {
         ensures rights { with_rights (rows self.now.places) (rights self.now.places) to result.pages
             ≡ right_transferred self.now transfer spec.now from to }
         ensures given { AreGiven (count self.now.places) to result }
+        ensures nodes { any_nodes result.pages ≤ change_nodes
+            (ranges MOST_PAGES (states_of (rows self.now.places from) (rights self.now.places from))
+            + length spec.now) }
+        ensures steps { any_steps result.pages ≤ change_steps
+            (ranges MOST_PAGES (states_of (rows self.now.places from) (rights self.now.places from))
+            + length spec.now) }
     {
         Origins {
             pages: PageOrigins::PageRuns(

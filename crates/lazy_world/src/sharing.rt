@@ -1,4 +1,4 @@
-ghost use Rattle.std.specs.Prelude.{◌≡◌, ◌<◌, ◌≤◌, ◌^◌, ℕ, false, true};
+ghost use Rattle.std.specs.Prelude.{◌≡◌, ◌<◌, ◌≤◌, ◌+◌, ◌*◌, ◌^◌, ℕ, false, true};
 ghost use Rattle.lwc_base.specs.declared.descriptor.TheConstants.{SLOTS};
 ghost use Rattle.lwc_base.specs.declared.key.Key.TheVariants.{Page, Slot, Cred};
 ghost use Rattle.lwc_base.specs.declared.limits.TheConstants.{MOST_PAGES, MOST_RANGES};
@@ -26,7 +26,9 @@ impl PlacedWorld {
     ghost use Rattle.lazy_world.specs.Transfers.{transferred_rights, transferred_row};
     ghost use Rattle.lazy_world.specs.declared.transfer.Transfer.TheVariants.{Move};
     ghost use Rattle.lazy_world.specs.Followed.{IsOfContexts, IsReady, followed};
-    ghost use Rattle.lazy_world.specs.Seen.{count, rows};
+    ghost use Rattle.lazy_world.specs.Clones.{change_nodes, change_steps};
+    ghost use Rattle.lazy_world.specs.Costs.{TakesNodes, pieces};
+    ghost use Rattle.lazy_world.specs.Seen.{KeepsStore, count, rows};
     ghost use Rattle.lazy_world.specs.Worlds.{parts, seen};
 
     /// Whether a page of a place moves.
@@ -91,33 +93,11 @@ impl PlacedWorld {
         self.moves_uid(i, spec)
     }
 
-    /// A context gets the cells that a transfer gives it of another one, which may be the same, key by key.
+    /// A context gets the cells that a transfer gives it of another one, which may be the same, key by key. For
+    /// each range of the other one and for each item it takes at most 3064 node steps and 16 free nodes, and 1532
+    /// steps and 9 nodes besides. No frame is taken or written.
     // The origins are a large value, which each caller would clear if this were a part of it.
     #[inline(never)]
-    fn follow_origins<L: Ledger>(
-        &mut self,
-        transfer: Transfer,
-        spec: &Spec,
-        d: Name,
-        c: Name,
-        steps: &mut Steps<L>,
-    )
-        requires from { IsLive (seen self.old) d }
-        requires to { IsLive (seen self.old) c }
-        requires transfer { IsOfContexts transfer d c }
-        requires within { IsSpec (seen self.old).size.pages spec.now }
-        requires ready { IsReady (seen self.old) transfer spec.now (context (seen self.old) d) }
-        requires fresh { IsFresh (followed (seen self.old) transfer spec.now d c) }
-        requires few { ranges_of (followed (seen self.old) transfer spec.now d c) c ≤ MOST_RANGES }
-        ensures { seen self.new ≡ followed (seen self.old) transfer spec.now d c }
-    {
-        let from = self.place(d);
-        let to = self.place(c);
-        let origins = self.origins(transfer, spec, from, to);
-        self.places.take(to, &origins, steps);
-    }
-
-    /// A context gets the cells that a transfer gives it of another one, which may be the same.
     pub(crate) fn follow<L: Ledger>(
         &mut self,
         transfer: Transfer,
@@ -133,15 +113,14 @@ impl PlacedWorld {
         requires ready { IsReady (seen self.old) transfer spec.now (context (seen self.old) d) }
         requires fresh { IsFresh (followed (seen self.old) transfer spec.now d c) }
         requires few { ranges_of (followed (seen self.old) transfer spec.now d c) c ≤ MOST_RANGES }
-        ensures { seen self.new ≡ followed (seen self.old) transfer spec.now d c }
+        ensures world { seen self.new ≡ followed (seen self.old) transfer spec.now d c }
+        ensures store { TakesNodes self.old self.new (change_nodes (pieces (seen self.old) d spec.now)) }
+        ensures steps { steps.new ≤ steps.old + change_steps (pieces (seen self.old) d spec.now) }
     {
         let from = self.place(d);
         let to = self.place(c);
-        if self.can_copy(transfer, spec, from, to) {
-            self.places.copy_place(to, from, steps);
-        } else {
-            self.follow_origins(transfer, spec, d, c, steps);
-        }
+        let origins = self.origins(transfer, spec, from, to);
+        self.places.take(to, &origins, steps);
     }
 
     /// A job makes its next group, which has nothing in it, and answers its name.
@@ -151,6 +130,7 @@ impl PlacedWorld {
         requires place { HasGroupPlace (seen self.old) }
         ensures name { result ≡ next_group (seen self.old) job }
         ensures world { seen self.new ≡ add_group (seen self.old) job new_group }
+        ensures store { KeepsStore self.old.places self.new.places }
     {
         let counts = self.counts[job as usize];
         let name = Name {
@@ -182,8 +162,10 @@ impl PlacedWorld {
             (transferred_row (seen self.old) Move spec.now (context (seen self.old) c).cell no_row)
             (transferred_rights Move spec.now (context (seen self.old) c).cell
             (context (seen self.old) c).right all_write)) ≤ MOST_RANGES }
-        ensures { seen self.new ≡ change_group (seen self.old) g
+        ensures world { seen self.new ≡ change_group (seen self.old) g
             (λ x. moved_values spec.now (context (seen self.old) c)) }
+        ensures store { TakesNodes self.old self.new (change_nodes (pieces (seen self.old) c spec.now)) }
+        ensures steps { steps.new ≤ steps.old + change_steps (pieces (seen self.old) c spec.now) }
     {
         let from = self.place(c);
         match self.groups.place(g) {
@@ -196,7 +178,8 @@ impl PlacedWorld {
         }
     }
 
-    /// Moves a context's own values under share into a new group of the job, if there are any.
+    /// Moves a context's own values under share into a new group of the job, if there are any; else nothing
+    /// changes.
     #[tactic(auto, using(lwc_base::proofs::Facts::changes))]
     pub(crate) fn share<L: Ledger>(&mut self, c: Name, spec: &Spec, job: u32, steps: &mut Steps<L>)
         requires live { IsLive (seen self.old) c }
@@ -204,7 +187,12 @@ impl PlacedWorld {
         requires may { MayName (seen self.old) job }
         requires group { needs_group (seen self.old) c spec.now ≡ true → HasGroupPlace (seen self.old) }
         requires few { ranges_of (share (seen self.old) c job spec.now) c ≤ MOST_RANGES }
-        ensures { seen self.new ≡ share (seen self.old) c job spec.now }
+        ensures world { seen self.new ≡ share (seen self.old) c job spec.now }
+        ensures none { needs_group (seen self.old) c spec.now ≡ false → self.new ≡ self.old }
+        ensures none_steps { needs_group (seen self.old) c spec.now ≡ false → steps.new ≡ steps.old }
+        ensures store { TakesNodes self.old self.new
+            (2 * change_nodes (pieces (seen self.old) c spec.now)) }
+        ensures steps { steps.new ≤ steps.old + 2 * change_steps (pieces (seen self.old) c spec.now) }
     {
         if self.needs_group(c, spec) {
             let g = self.add_group(job);

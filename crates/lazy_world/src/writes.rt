@@ -15,6 +15,7 @@ impl PlacedWorld {
     ghost use Rattle.lwc_base.specs.World.{add_context, change_group, new_context, next_context};
     ghost use Rattle.world_face.specs.Calls.{HasPlace, IsLive};
     ghost use Rattle.lazy_world.specs.KeyValues.{HasSlot, key_in, value_in};
+    ghost use Rattle.lazy_world.specs.Seen.{KeepsStore};
     ghost use Rattle.lazy_world.specs.Worlds.{seen};
 
     /// Puts a value under a key of a group.
@@ -104,6 +105,7 @@ impl PlacedWorld {
         requires place { HasPlace (seen self.old) }
         ensures name { result ≡ next_context (seen self.old) job }
         ensures world { seen self.new ≡ add_context (seen self.old) job (new_context uid entry.now) }
+        ensures store { KeepsStore self.old.places self.new.places }
     {
         let counts = self.counts[job as usize];
         let name = Name {

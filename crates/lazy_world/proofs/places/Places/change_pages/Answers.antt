@@ -7,12 +7,10 @@ use Rattle.cow_space.specs.Seen as pages_seen
 use Rattle.cow_space.specs.Cells.{rights_of}
 use Rattle.cow_space.specs.declared.page_runs.PageRun.{PageRun}
 use Rattle.cow_space.specs.Changes.{IsPageRun, changed_place, changed_rights, changed_states}
-use Rattle.cow_space.specs.Tags.{used}
 use Rattle.lazy_world.specs.Cells.{put_rights, rows_of}
-use Rattle.lazy_world.specs.Seen.{count, frame_count, free_nodes, rights, rows, used_frames, pool}
+use Rattle.lazy_world.specs.Seen.{count, frame_count, free_nodes, rights, rows, free_frames, pool}
 use Rattle.lazy_world.specs.declared.pieces.PageOrigins.TheVariants.{PageRuns}
 use Rattle.lazy_world.proofs.TakeLemmas.{rights-given, row-given, states-given, page_runs-given}
-use Rattle.cow_space.proofs.Taken.{changed-used}
 use Rattle.lazy_world.proofs.PlaceLemmas.{rights-set}
 use Rattle.lazy_world.proofs.AbsentLemmas.{rights-in}
 use Rattle.lazy_world.proofs.places.Places.change_pages.Goals as goal
@@ -82,13 +80,20 @@ pub returns-clause-cost : goal.returns-clause-cost
 unfolding rows rows_of
 returns-clause-cost g c = λ empty. omega (arith, c.change.ensures.cost_empty (λ e p. empty p e), ap length c.as_slice.ensures.value)
 
-pub returns-clause-used : goal.returns-clause-used
-unfolding rows rows_of count used_frames
-returns-clause-used g c empty =
-    let w = c.args.self.now in
-    ap used c.change.ensures.cells
-    ∙ changed-used (pages_seen.cells w.pages) c.args.i c.requires.place (λ e p. empty p e) c.as_slice.result.now
-    (subst (All (IsPageRun (count w) c.args.i)) (sym c.as_slice.ensures.value) c.requires.given)
+pub returns-clause-free : goal.returns-clause-free
+unfolding free_frames
+returns-clause-free g c = c.change.ensures.free
+
+pub returns-clause-free_empty : goal.returns-clause-free_empty
+unfolding rows rows_of free_frames
+returns-clause-free_empty g c empty = c.change.ensures.free_empty (λ e p. empty p e)
+
+pub returns-clause-nodes_any : goal.returns-clause-nodes_any
+unfolding free_nodes
+returns-clause-nodes_any g c = omega (arith, c.change.ensures.nodes, ap length c.as_slice.ensures.value)
+
+pub returns-clause-cost_any : goal.returns-clause-cost_any
+returns-clause-cost_any g c = omega (arith, c.change.ensures.cost, ap length c.as_slice.ensures.value)
 
 pub returns-clause-pool : goal.returns-clause-pool
 unfolding pool

@@ -2,12 +2,10 @@ use Rattle.std.proofs.Common.{◌∙◌, ap, length, length-set, sym}
 use Rattle.fd_table.specs.Seen as slots_seen
 use Rattle.cow_space.specs.Cells.{place_of, rights_of}
 use Rattle.cow_space.specs.Seen as pages_seen
-use Rattle.cow_space.specs.Tags.{used}
 use Rattle.lazy_world.specs.Cells.{rows_of}
-use Rattle.lazy_world.specs.Seen.{count, frame_count, free_nodes, rights, rows, used_frames, pool}
+use Rattle.lazy_world.specs.Seen.{count, frame_count, free_nodes, rights, rows, free_frames, pool}
 use Rattle.lazy_world.specs.declared.pieces.PageOrigins.TheVariants.{AllOf}
 use Rattle.lazy_world.proofs.TakeLemmas.{all-given, row-given}
-use Rattle.cow_space.proofs.Taken.{cloned-used}
 use Rattle.lazy_world.proofs.PlaceLemmas.{rights-set}
 use Rattle.lazy_world.proofs.AbsentLemmas.{rights-in}
 use Rattle.lazy_world.proofs.places.Places.copy_pages.Goals as goal
@@ -56,11 +54,13 @@ pub returns-clause-cost : goal.returns-clause-cost
 unfolding rows rows_of rights
 returns-clause-cost g c = λ empty. c.clone_place.ensures.cost_empty (λ e p. empty p e)
 
-pub returns-clause-used : goal.returns-clause-used
-unfolding rows rows_of count used_frames
-returns-clause-used g c empty =
-    ap used c.clone_place.ensures.cells
-    ∙ cloned-used (pages_seen.cells c.args.self.now.pages) c.args.i c.requires.place (λ e p. empty p e) c.args.j c.requires.origin
+pub returns-clause-free : goal.returns-clause-free
+unfolding free_frames
+returns-clause-free g c = c.clone_place.ensures.free
+
+pub returns-clause-free_empty : goal.returns-clause-free_empty
+unfolding rows rows_of free_frames
+returns-clause-free_empty g c empty = c.clone_place.ensures.free_empty (λ e p. empty p e)
 
 pub returns-clause-pool : goal.returns-clause-pool
 unfolding pool

@@ -5,7 +5,7 @@ use Rattle.fd_table.specs.Slots as slots
 use Rattle.cow_space.specs.Seen as pages_seen
 use Rattle.lazy_world.specs.Cells.{Row, rows_of}
 use Rattle.lazy_world.specs.Kept.{IsNumbered}
-use Rattle.lazy_world.specs.Seen.{count, frame_count, free_nodes, rights, rows, used_frames, pool}
+use Rattle.lazy_world.specs.Seen.{count, frame_count, free_nodes, rights, rows, free_frames, pool}
 use Rattle.lazy_world.proofs.ClearLemmas.{no-slots, rows-copied}
 use Rattle.lazy_world.proofs.PlaceLemmas.{choose, numbered-set}
 use Rattle.lazy_world.proofs.places.Places.copy_place.Goals as goal
@@ -68,9 +68,9 @@ pub returns-clause-nodes : goal.returns-clause-nodes
 unfolding free_nodes
 returns-clause-nodes g c = c.copy_pages.ensures.nodes
 
-pub returns-clause-used : goal.returns-clause-used
-unfolding used_frames
-returns-clause-used g c = c.copy_pages.ensures.used
+pub returns-clause-free_empty : goal.returns-clause-free_empty
+unfolding free_frames
+returns-clause-free_empty g c = c.copy_pages.ensures.free_empty
 
 pub returns-clause-pool : goal.returns-clause-pool
 unfolding pool

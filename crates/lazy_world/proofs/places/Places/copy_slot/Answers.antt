@@ -4,7 +4,7 @@ use Rattle.fd_table.specs.Seen as slots_seen
 use Rattle.cow_space.specs.Seen as pages_seen
 use Rattle.lazy_world.specs.Cells.{rows_of}
 use Rattle.lazy_world.specs.Kept.{IsNumbered}
-use Rattle.lazy_world.specs.Seen.{count, frame_count, free_nodes, pool, rights, rows, used_frames}
+use Rattle.lazy_world.specs.Seen.{count, frame_count, free_nodes, pool, rights, rows, free_frames}
 use Rattle.lazy_world.proofs.PlaceLemmas.{numbered-put, numbered-set, slot-put}
 use Rattle.lazy_world.proofs.places.Places.copy_slot.Goals as goal
 
@@ -45,5 +45,5 @@ unfolding frame_count
 returns-clause-frames c = refl
 
 pub returns-clause-store : goal.returns-clause-store
-unfolding rights free_nodes used_frames pool
-returns-clause-store c = record { rights = refl; nodes = refl; used = refl; pool = refl }
+unfolding rights free_nodes free_frames pool
+returns-clause-store c = record { rights = refl; nodes = refl; free = refl; pool = refl }

@@ -4,7 +4,7 @@ use Rattle.fd_table.specs.Seen as slots_seen
 use Rattle.cow_space.specs.Seen as pages_seen
 use Rattle.lazy_world.specs.Cells.{rows_of}
 use Rattle.lazy_world.specs.Kept.{IsNumbered, target_of}
-use Rattle.lazy_world.specs.Seen.{count, free_nodes, rights, rows, used_frames, pool, frame_count}
+use Rattle.lazy_world.specs.Seen.{count, free_nodes, rights, rows, free_frames, pool, frame_count}
 use Rattle.lazy_world.proofs.PlaceLemmas.{slot-put, numbered-put, numbered-set}
 use Rattle.lazy_world.proofs.places.Places.put_slot.Goals as goal
 
@@ -36,8 +36,8 @@ pub put-requires-clause-named : goal.put-requires-clause-named
 put-requires-clause-named c empty = c.target_of-target.ensures.target ∙ ap target_of empty
 
 pub returns-clause-store : goal.returns-clause-store
-unfolding rights free_nodes used_frames pool
-returns-clause-store c = record { rights = refl; nodes = refl; used = refl; pool = refl }
+unfolding rights free_nodes free_frames pool
+returns-clause-store c = record { rights = refl; nodes = refl; free = refl; pool = refl }
 
 pub returns-clause-frames : goal.returns-clause-frames
 unfolding frame_count

@@ -1,5 +1,5 @@
 use Rattle.std.proofs.Common.{refl, arith, length-set, ◌∙◌}
-use Rattle.lazy_world.specs.Seen.{count, free_nodes, rights, rows, used_frames, pool, frame_count}
+use Rattle.lazy_world.specs.Seen.{count, free_nodes, rights, rows, free_frames, pool, frame_count}
 use Rattle.lazy_world.proofs.PlaceLemmas.{uid-put}
 use Rattle.lazy_world.proofs.places.Places.put_uid.Goals as goal
 
@@ -21,8 +21,8 @@ unfolding rows count
 returns-clause-rows c = uid-put _ _ _ c.args.i c.args.cell (omega (arith, c.args.self.now.kept.uid_count, c.requires))
 
 pub returns-clause-store : goal.returns-clause-store
-unfolding rights free_nodes used_frames pool
-returns-clause-store c = record { rights = refl; nodes = refl; used = refl; pool = refl }
+unfolding rights free_nodes free_frames pool
+returns-clause-store c = record { rights = refl; nodes = refl; free = refl; pool = refl }
 
 pub returns-clause-frames : goal.returns-clause-frames
 unfolding frame_count

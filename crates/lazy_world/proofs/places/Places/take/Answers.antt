@@ -27,8 +27,15 @@ returns-clause-nodes g c =
 pub returns-clause-cost : goal.returns-clause-cost
 returns-clause-cost g c empty = c.take_pages.ensures.cost empty
 
-pub returns-clause-used : goal.returns-clause-used
-returns-clause-used g c empty = c.take_uid.ensures.store.used ∙ c.take_slots.ensures.store.used ∙ c.take_pages.ensures.used empty
+pub returns-clause-nodes_any : goal.returns-clause-nodes_any
+returns-clause-nodes_any g c =
+    omega (arith, c.take_pages.ensures.nodes_any, c.take_slots.ensures.store.nodes, c.take_uid.ensures.store.nodes)
+
+pub returns-clause-free : goal.returns-clause-free
+returns-clause-free g c = omega (arith, c.take_pages.ensures.free, c.take_slots.ensures.store.free, c.take_uid.ensures.store.free)
+
+pub returns-clause-free_empty : goal.returns-clause-free_empty
+returns-clause-free_empty g c empty = c.take_uid.ensures.store.free ∙ c.take_slots.ensures.store.free ∙ c.take_pages.ensures.free_empty empty
 
 pub returns-clause-pool : goal.returns-clause-pool
 returns-clause-pool g c = c.take_uid.ensures.store.pool ∙ c.take_slots.ensures.store.pool ∙ c.take_pages.ensures.pool

@@ -103,7 +103,7 @@ invariant_of-self c = record {
   count = c.put.ensures.count ∙ c.args.self.now.count;
   frames = c.put.ensures.frames ∙ c.args.self.now.frames;
   sound = sound-later c.args.self.now c.args.job c.requires.known c.index-counts.result.now c.index-counts.ensures
-      c.insert-i.result c.insert-i.ensures.within c.insert-i.ensures.place c.insert-i.new.self c.insert-i.ensures.map c.insert-i.ensures.places c.args.uid c.args.entry.now c.put.new.self c.put.ensures.rows c.put.ensures.rights c.begin.new.self c.begin.ensures;
+      c.insert-i.result c.insert-i.ensures.within c.insert-i.ensures.place c.insert-i.new.self c.insert-i.ensures.map c.insert-i.ensures.places c.args.uid c.args.entry.now c.put.new.self c.put.ensures.rows c.put.ensures.store.rights c.begin.new.self c.begin.ensures;
 }
 
 pub returns-clause-name : goal.returns-clause-name
@@ -113,4 +113,7 @@ pub returns-clause-world : goal.returns-clause-world
 unfolding seen parts
 returns-clause-world c =
     world-later c.args.self.now c.args.job c.requires.known c.index-counts.result.now c.index-counts.ensures
-    c.insert-i.result c.insert-i.ensures.within c.insert-i.ensures.place c.insert-i.new.self c.insert-i.ensures.map c.insert-i.ensures.places c.args.uid c.args.entry.now c.put.new.self c.put.ensures.rows c.put.ensures.rights c.begin.new.self c.begin.ensures
+    c.insert-i.result c.insert-i.ensures.within c.insert-i.ensures.place c.insert-i.new.self c.insert-i.ensures.map c.insert-i.ensures.places c.args.uid c.args.entry.now c.put.new.self c.put.ensures.rows c.put.ensures.store.rights c.begin.new.self c.begin.ensures
+
+pub returns-clause-store : goal.returns-clause-store
+returns-clause-store c = c.put.ensures.store

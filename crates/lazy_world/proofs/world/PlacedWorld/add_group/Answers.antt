@@ -108,3 +108,6 @@ unfolding seen parts
 returns-clause-world c =
     world-later c.args.self.now c.args.job c.requires.known c.index-counts.result.now c.index-counts.ensures
     c.insert-j.result c.insert-j.ensures.within c.insert-j.ensures.place c.insert-j.new.self c.insert-j.ensures.map c.insert-j.ensures.places c.put_uid.new.self c.put_uid.ensures.rows c.put_uid.ensures.store.rights
+
+pub returns-clause-store : goal.returns-clause-store
+returns-clause-store c = c.put_uid.ensures.store

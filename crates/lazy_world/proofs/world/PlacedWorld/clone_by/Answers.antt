@@ -44,23 +44,22 @@ returns-then-can_copy-clause-world g c =
     followed-world (parts w) w.sound w.placed (Clone c.args.made) c.args.spec.now c.requires.within c.args.c c.args.made c.place-from.result to c.place-from.ensures.context c.place-to.ensures.found
     _ _ (c.copy_place.ensures.rows ∙ ap (put_row (rows w.places) to) (sym same)) (c.copy_place.ensures.rights ∙ ap (put_rights (rights w.places) to) (sym same_rights))
 
-pub returns-then-can_copy-clause-cost : goal.returns-then-can_copy-clause-cost
+pub returns-then-can_copy-clause-store : goal.returns-then-can_copy-clause-store
 unfolding seen parts rows rights
-returns-then-can_copy-clause-cost g c =
+returns-then-can_copy-clause-store g c =
+    let copied = c.copy_place.ensures in
+    let empty : HasNoPages ((parts c.args.self.now).rows c.place-to.result) = λ p. sym (ap (λ (x : Context). x.cell (Page p)) c.place-to.ensures.context) ∙ no_page _ p (c.requires.empty (Page p)) in
+    record { frames = copied.free_empty empty; pool = copied.pool; nodes = omega (arith, copied.nodes); whole = λ copies own. copied.nodes }
+
+pub returns-then-can_copy-clause-steps : goal.returns-then-can_copy-clause-steps
+unfolding seen parts rows rights
+returns-then-can_copy-clause-steps g c =
     let w = c.args.self.now in
     let s = parts w in
-    let copied = c.copy_place.ensures in
     let here = ranges-here s w.sound c.args.c c.place-from.result c.place-from.ensures.found in
     let empty : HasNoPages (s.rows c.place-to.result) = λ p. sym (ap (λ (x : Context). x.cell (Page p)) c.place-to.ensures.context) ∙ no_page _ p (c.requires.empty (Page p)) in
-    let steps : c.copy_place.new.steps ≤ c.args.steps.now + min 1 (ranges_of (seen w) c.args.c) = omega (arith, copied.cost empty, ap (min 1) here) in
-    record {
-      used = copied.used empty;
-      pool = copied.pool;
-      nodes = omega (arith, copied.nodes);
-      steps = omega (arith, steps, min-le_right 1 (ranges_of (seen w) c.args.c));
-      whole_nodes = λ copies own. copied.nodes;
-      whole_steps = λ copies own. steps;
-    }
+    let steps : c.copy_place.new.steps ≤ c.args.steps.now + min 1 (ranges_of (seen w) c.args.c) = omega (arith, c.copy_place.ensures.cost empty, ap (min 1) here) in
+    record { all = omega (arith, steps, min-le_right 1 (ranges_of (seen w) c.args.c)); whole = λ copies own. steps }
 
 pub clone_pieces-requires-clause-empty : goal.clone_pieces-requires-clause-empty
 clone_pieces-requires-clause-empty g c p = no_page _ p (c.requires.empty (Page p))

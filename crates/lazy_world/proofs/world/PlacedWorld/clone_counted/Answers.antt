@@ -1,17 +1,22 @@
-use Rattle.std.proofs.Common.{◌≡◌, ◌<◌, ◌≤◌, ◌∙◌, ap, sym, subst, true}
+use Rattle.std.proofs.Common.{◌≡◌, ◌+◌, ◌<◌, ◌≤◌, ◌∙◌, ap, arith, false, length, sym, subst, true}
 use Rattle.std.specs.FinMap as fm
 use Rattle.lwc_base.specs.declared.key.TheConstants.{NOBODY}
 use Rattle.lwc_base.specs.declared.limits.TheConstants.{MOST_RANGES}
 use Rattle.lwc_base.specs.declared.size.WorldSize.{WorldSize}
 use Rattle.lwc_base.specs.Fresh.{IsFresh}
 use Rattle.lwc_base.specs.Ranges.{ranges_of}
-use Rattle.lwc_base.specs.Sharing.{ranges_after_clone, share}
+use Rattle.lwc_base.specs.Sharing.{needs_group, ranges_after_clone, share}
 use Rattle.lwc_base.specs.World.{Context, add_context, context, is_live, new_context, next_context}
 use Rattle.world_face.specs.Calls.{HasPlace}
 use Rattle.lazy_world.specs.Cells.{is_nothing}
 use Rattle.lazy_world.specs.Worlds.{parts, seen}
-use Rattle.lazy_world.proofs.CloneLemmas.{clone-few, cloned-is, new-nothing, other_name, still-settled}
+use Rattle.lazy_world.proofs.CloneLemmas.{clone-few, cloned-is, new-nothing, other_name, same_context, still-settled}
+use Rattle.lazy_world.specs.Costs.{CopySteps}
+use Rattle.lazy_world.specs.Seen.{KeepsStore}
+use Rattle.lazy_world.specs.declared.world.PlacedWorld.{PlacedWorld}
+use Rattle.lazy_world.proofs.CostLemmas.{added-ranges, clone-takes, copy-before, steps-before}
 use Rattle.lwc_base.proofs.Facts.{changes, counts, stays_fresh}
+use Rattle.lazy_world.proofs.world.PlacedWorld.clone_counted.Given.{Over}
 use Rattle.lazy_world.proofs.world.PlacedWorld.clone_counted.Goals as goal
 
 pub share-requires-clause-few : goal.share-requires-clause-few
@@ -24,7 +29,7 @@ add_context-made-requires-clause-place g c =
     let s = share w c.args.c c.args.job c.args.spec.now in
     let shared = changes.shared w c.args.c c.args.job c.args.spec.now in
     let many = (counts.same_contexts w s c.args.job shared.live).1 in
-    subst HasPlace (sym c.share.ensures)
+    subst HasPlace (sym c.share.ensures.world)
     (subst (λ (size : WorldSize). fm.len s.contexts < size.contexts) (sym shared.size) (subst (λ n. n < w.size.contexts) (sym many) c.requires.place))
 
 pub clone_by-requires-clause-from : goal.clone_by-requires-clause-from
@@ -33,7 +38,7 @@ clone_by-requires-clause-from g c =
     let w = seen c.args.self.now in
     let x = new_context NOBODY c.args.entry.now in
     let s = share w c.args.c c.args.job c.args.spec.now in
-    let added = c.add_context-made.ensures.world ∙ ap (λ v. add_context v c.args.job x) c.share.ensures in
+    let added = c.add_context-made.ensures.world ∙ ap (λ v. add_context v c.args.job x) c.share.ensures.world in
     let shared = changes.shared w c.args.c c.args.job c.args.spec.now in
     subst (λ v. is_live v c.args.c ≡ true) (sym added)
     ((changes.context_added s c.args.job x).still_live c.args.c
@@ -44,8 +49,8 @@ pub clone_by-requires-clause-fresh : goal.clone_by-requires-clause-fresh
 unfolding seen parts
 clone_by-requires-clause-fresh g c =
     let w = seen c.args.self.now in
-    let added = c.add_context-made.ensures.world ∙ ap (λ v. add_context v c.args.job (new_context NOBODY c.args.entry.now)) c.share.ensures in
-    let named = c.add_context-made.ensures.name ∙ ap (λ v. next_context v c.args.job) c.share.ensures in
+    let added = c.add_context-made.ensures.world ∙ ap (λ v. add_context v c.args.job (new_context NOBODY c.args.entry.now)) c.share.ensures.world in
+    let named = c.add_context-made.ensures.name ∙ ap (λ v. next_context v c.args.job) c.share.ensures.world in
     subst IsFresh
     (sym (cloned-is w c.args.c c.args.job c.args.spec.now c.requires.within c.requires.live c.args.self.now.sound.fresh NOBODY c.args.entry.now
     c.add_context-made.result (seen c.add_context-made.new.self) c.add_context-made.result added named))
@@ -55,8 +60,8 @@ pub clone_by-requires-clause-few : goal.clone_by-requires-clause-few
 unfolding seen parts
 clone_by-requires-clause-few g c =
     let w = seen c.args.self.now in
-    let added = c.add_context-made.ensures.world ∙ ap (λ v. add_context v c.args.job (new_context NOBODY c.args.entry.now)) c.share.ensures in
-    let named = c.add_context-made.ensures.name ∙ ap (λ v. next_context v c.args.job) c.share.ensures in
+    let added = c.add_context-made.ensures.world ∙ ap (λ v. add_context v c.args.job (new_context NOBODY c.args.entry.now)) c.share.ensures.world in
+    let named = c.add_context-made.ensures.name ∙ ap (λ v. next_context v c.args.job) c.share.ensures.world in
     subst (λ v. ranges_of v c.add_context-made.result ≤ MOST_RANGES)
     (sym (cloned-is w c.args.c c.args.job c.args.spec.now c.requires.within c.requires.live c.args.self.now.sound.fresh NOBODY c.args.entry.now
     c.add_context-made.result (seen c.add_context-made.new.self) c.add_context-made.result added named))
@@ -67,8 +72,8 @@ pub returns-clause-cloned : goal.returns-clause-cloned
 unfolding seen parts
 returns-clause-cloned g c =
     let w = seen c.args.self.now in
-    let added = c.add_context-made.ensures.world ∙ ap (λ v. add_context v c.args.job (new_context NOBODY c.args.entry.now)) c.share.ensures in
-    let named = c.add_context-made.ensures.name ∙ ap (λ v. next_context v c.args.job) c.share.ensures in
+    let added = c.add_context-made.ensures.world ∙ ap (λ v. add_context v c.args.job (new_context NOBODY c.args.entry.now)) c.share.ensures.world in
+    let named = c.add_context-made.ensures.name ∙ ap (λ v. next_context v c.args.job) c.share.ensures.world in
     c.clone_by.ensures.world
     ∙ cloned-is w c.args.c c.args.job c.args.spec.now c.requires.within c.requires.live c.args.self.now.sound.fresh NOBODY c.args.entry.now
     c.add_context-made.result (seen c.add_context-made.new.self) c.add_context-made.result added named
@@ -77,7 +82,7 @@ pub clone_by-requires-clause-apart : goal.clone_by-requires-clause-apart
 unfolding seen parts
 clone_by-requires-clause-apart g c same =
     let w = seen c.args.self.now in
-    let named = c.add_context-made.ensures.name ∙ ap (λ v. next_context v c.args.job) c.share.ensures in
+    let named = c.add_context-made.ensures.name ∙ ap (λ v. next_context v c.args.job) c.share.ensures.world in
     other_name w c.args.c c.args.job c.args.spec.now c.requires.within c.requires.live c.args.self.now.sound.fresh NOBODY c.args.entry.now
     (same ∙ named)
 
@@ -85,7 +90,7 @@ pub clone_by-requires-clause-settled : goal.clone_by-requires-clause-settled
 unfolding seen parts
 clone_by-requires-clause-settled g c =
     let w = seen c.args.self.now in
-    let added = c.add_context-made.ensures.world ∙ ap (λ v. add_context v c.args.job (new_context NOBODY c.args.entry.now)) c.share.ensures in
+    let added = c.add_context-made.ensures.world ∙ ap (λ v. add_context v c.args.job (new_context NOBODY c.args.entry.now)) c.share.ensures.world in
     still-settled w c.args.c c.args.job c.args.spec.now c.requires.within c.requires.live c.args.self.now.sound.fresh NOBODY c.args.entry.now
     (seen c.add_context-made.new.self) added
 
@@ -95,6 +100,40 @@ clone_by-requires-clause-empty g c k =
     let w = seen c.args.self.now in
     let x = new_context NOBODY c.args.entry.now in
     let s = share w c.args.c c.args.job c.args.spec.now in
-    let added = c.add_context-made.ensures.world ∙ ap (λ v. add_context v c.args.job x) c.share.ensures in
-    let named = c.add_context-made.ensures.name ∙ ap (λ v. next_context v c.args.job) c.share.ensures in
+    let added = c.add_context-made.ensures.world ∙ ap (λ v. add_context v c.args.job x) c.share.ensures.world in
+    let named = c.add_context-made.ensures.name ∙ ap (λ v. next_context v c.args.job) c.share.ensures.world in
     (λ e. is_nothing k ((context (added e) (named e)).cell k)) ∙ ap (λ (y : Context). is_nothing k (y.cell k)) (changes.context_added s c.args.job x).added ∙ new-nothing NOBODY c.args.entry.now k
+
+-- the context has its ranges and its cells once the new one is there
+module _ (g : Over) (c : goal.After-clone_by g) where
+  here : context (seen c.add_context-made.new.self) c.args.c ≡ context (share (seen c.args.self.now) c.args.c c.args.job c.args.spec.now) c.args.c
+  unfolding seen parts
+  here =
+      let added = c.add_context-made.ensures.world ∙ ap (λ v. add_context v c.args.job (new_context NOBODY c.args.entry.now)) c.share.ensures.world in
+      ap (λ v. context v c.args.c) added ∙ same_context (seen c.args.self.now) c.args.c c.args.job c.args.spec.now c.requires.within c.requires.live c.args.self.now.sound.fresh NOBODY c.args.entry.now
+
+  counted : ranges_of (seen c.add_context-made.new.self) c.args.c ≡ ranges_of (share (seen c.args.self.now) c.args.c c.args.job c.args.spec.now) c.args.c
+  counted =
+      let added = c.add_context-made.ensures.world ∙ ap (λ v. add_context v c.args.job (new_context NOBODY c.args.entry.now)) c.share.ensures.world in
+      ap (λ v. ranges_of v c.args.c) added ∙ added-ranges (share (seen c.args.self.now) c.args.c c.args.job c.args.spec.now) c.args.c c.args.job NOBODY c.args.entry.now (sym (ap (λ v. context v c.args.c) added) ∙ here)
+
+  still : needs_group (seen c.args.self.now) c.args.c c.args.spec.now ≡ false → share (seen c.args.self.now) c.args.c c.args.job c.args.spec.now ≡ seen c.args.self.now
+  still none = (changes.shared (seen c.args.self.now) c.args.c c.args.job c.args.spec.now).none none
+
+pub returns-clause-store : goal.returns-clause-store
+returns-clause-store g c = record {
+  all = clone-takes c.args.self.now c.share.new.self c.add_context-made.new.self c.clone_by.new.self c.args.c c.args.spec.now _ _ c.share.ensures.store c.add_context-made.ensures.store (ap (λ n. n + length c.args.spec.now) (counted g c)) c.clone_by.ensures.store;
+  alone = λ none.
+      copy-before c.args.self.now c.add_context-made.new.self c.clone_by.new.self c.args.c c.args.spec.now
+      (here g c ∙ ap (λ v. context v c.args.c) (still g c none)) (ap (λ n. n + length c.args.spec.now) (counted g c ∙ ap (λ v. ranges_of v c.args.c) (still g c none)))
+      (subst (λ (v : PlacedWorld). KeepsStore v.places c.add_context-made.new.self.places) (c.share.ensures.none none) c.add_context-made.ensures.store) c.clone_by.ensures.store;
+}
+
+pub returns-clause-steps : goal.returns-clause-steps
+returns-clause-steps g c = record {
+  all = omega (arith, c.share.ensures.steps, c.clone_by.ensures.steps.all, counted g c);
+  alone = λ none.
+      subst (λ n. CopySteps (seen c.args.self.now) c.args.c c.args.spec.now n c.clone_by.new.steps) (c.share.ensures.none_steps none)
+      (steps-before (seen c.args.self.now) (seen c.add_context-made.new.self) c.args.c c.args.spec.now _ _
+      (here g c ∙ ap (λ v. context v c.args.c) (still g c none)) (counted g c ∙ ap (λ v. ranges_of v c.args.c) (still g c none)) c.clone_by.ensures.steps);
+}

@@ -69,9 +69,9 @@ returns-clause-world g c =
     followed-world (parts w) w.sound w.placed (Clone c.args.made) c.args.spec.now c.requires.within c.args.c c.args.made c.place-from.result to c.place-from.ensures.context c.place-to.ensures.found
     _ _ (c.take.ensures.rows ∙ ap (put_row (rows w.places) to) origins.row) (c.take.ensures.rights ∙ ap (put_rights (rights w.places) to) origins.rights)
 
-pub returns-clause-cost : goal.returns-clause-cost
+pub returns-clause-store : goal.returns-clause-store
 unfolding seen parts rows rights
-returns-clause-cost g c =
+returns-clause-store g c =
     let w = c.args.self.now in
     let s = parts w in
     let bounded = c.clone_origins-origins.ensures.bounded in
@@ -79,10 +79,22 @@ returns-clause-cost g c =
     let empty : HasNoPages (s.rows c.place-to.result) = λ p. sym (ap (λ (x : Context). x.cell (Page p)) c.place-to.ensures.context) ∙ c.requires.empty p in
     let whole : CopiesPages c.args.spec.now → HasOwnPages (context (seen w) c.args.c).cell → c.clone_origins-origins.result.pages ≡ AllOf c.place-from.result = λ copies own. bounded.whole copies (λ p. sym (ap (λ (x : Context). is_own (x.cell (Page p))) c.place-from.ensures.context) ∙ own p) in
     record {
-      used = c.take.ensures.used empty;
+      frames = c.take.ensures.free_empty empty;
       pool = c.take.ensures.pool;
       nodes = omega (arith, c.take.ensures.nodes empty, bounded.nodes, here);
-      steps = omega (arith, c.take.ensures.cost empty, bounded.steps, here);
-      whole_nodes = λ copies own. omega (arith, c.take.ensures.nodes empty, ap most_nodes (whole copies own));
-      whole_steps = λ copies own. omega (arith, c.take.ensures.cost empty, ap (most_steps (rows w.places) (rights w.places)) (whole copies own) ∙ ap (min 1) (sym here));
+      whole = λ copies own. omega (arith, c.take.ensures.nodes empty, ap most_nodes (whole copies own));
+    }
+
+pub returns-clause-steps : goal.returns-clause-steps
+unfolding seen parts rows rights
+returns-clause-steps g c =
+    let w = c.args.self.now in
+    let s = parts w in
+    let bounded = c.clone_origins-origins.ensures.bounded in
+    let here = ranges-here s w.sound c.args.c c.place-from.result c.place-from.ensures.found in
+    let empty : HasNoPages (s.rows c.place-to.result) = λ p. sym (ap (λ (x : Context). x.cell (Page p)) c.place-to.ensures.context) ∙ c.requires.empty p in
+    let whole : CopiesPages c.args.spec.now → HasOwnPages (context (seen w) c.args.c).cell → c.clone_origins-origins.result.pages ≡ AllOf c.place-from.result = λ copies own. bounded.whole copies (λ p. sym (ap (λ (x : Context). is_own (x.cell (Page p))) c.place-from.ensures.context) ∙ own p) in
+    record {
+      all = omega (arith, c.take.ensures.cost empty, bounded.steps, here);
+      whole = λ copies own. omega (arith, c.take.ensures.cost empty, ap (most_steps (rows w.places) (rights w.places)) (whole copies own) ∙ ap (min 1) (sym here));
     }

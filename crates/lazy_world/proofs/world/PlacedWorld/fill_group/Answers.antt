@@ -1,4 +1,4 @@
-use Rattle.std.proofs.Common.{◌≡◌, ◌+◌, ◌≤◌, ◌∙◌, ℕ, ap, arith, sym, subst}
+use Rattle.std.proofs.Common.{◌≡◌, ◌+◌, ◌≤◌, ◌∙◌, ℕ, ap, arith, refl, sym, subst}
 use Rattle.lwc_base.specs.declared.limits.TheConstants.{MOST_PAGES, MOST_RANGES}
 use Rattle.lwc_base.specs.World.{Context}
 use Rattle.range_map.specs.Kinds.{ranges}
@@ -12,7 +12,7 @@ use Rattle.lazy_world.specs.Sound.{HasOldTags, HasOneHome, IsSound}
 use Rattle.lazy_world.specs.States.{world_of}
 use Rattle.lazy_world.specs.Worlds.{parts, seen}
 use Rattle.lazy_world.specs.declared.transfer.Transfer.TheVariants.{Move}
-use Rattle.lazy_world.proofs.FollowLemmas.{origin-homes, origin-tags}
+use Rattle.lazy_world.proofs.FollowLemmas.{origin-homes, origin-tags, ranges-here}
 use Rattle.lazy_world.proofs.GroupLemmas.{filled-sound, filled-world}
 use Rattle.lazy_world.proofs.PastLemmas.{transferred-within}
 use Rattle.lazy_world.proofs.PlaceLemmas.{pass}
@@ -57,9 +57,9 @@ invariant_of-self g c =
           (subst (λ row. HasOneHome (put_row (rows w.places) to row)) c.origins-origins.ensures.row (origin-homes (rows w.places) to c.origins-origins.result w.sound.homes)));
     }
 
-pub returns-in-Some : goal.returns-in-Some
+pub returns-in-Some-clause-world : goal.returns-in-Some-clause-world
 unfolding seen parts
-returns-in-Some g c =
+returns-in-Some-clause-world g c =
     let w = c.args.self.now in
     let s = parts w in
     let to = w.size.contexts + c.in-Some.j in
@@ -67,6 +67,21 @@ returns-in-Some g c =
     ∙ filled-world s w.sound w.placed w.placed_groups c.args.g c.in-Some.j (sym c.place.ensures.place ∙ c.in-Some.is) c.args.spec.now c.args.c c.place-from.result c.place-from.ensures.context
     (rights c.take.new.self) (others_kept w to _ _ c.take.ensures.rights)
 
-pub returns-in-None : goal.returns-in-None
+pub returns-in-None-clause-world : goal.returns-in-None-clause-world
 unfolding seen parts
-returns-in-None g c = change_group-missed (parts c.args.self.now) c.args.g _ (sym c.place.ensures.place ∙ c.in-None.is)
+returns-in-None-clause-world g c = change_group-missed (parts c.args.self.now) c.args.g _ (sym c.place.ensures.place ∙ c.in-None.is)
+
+pub returns-in-Some-clause-store : goal.returns-in-Some-clause-store
+unfolding seen parts rows rights
+returns-in-Some-clause-store g c =
+    let here = ranges-here (parts c.args.self.now) c.args.self.now.sound c.args.c c.place-from.result c.place-from.ensures.found in
+    record { frames = c.take.ensures.free; pool = c.take.ensures.pool; nodes = omega (arith, c.take.ensures.nodes_any, c.origins-origins.ensures.nodes, here) }
+
+pub returns-in-Some-clause-steps : goal.returns-in-Some-clause-steps
+unfolding seen parts rows rights
+returns-in-Some-clause-steps g c =
+    let here = ranges-here (parts c.args.self.now) c.args.self.now.sound c.args.c c.place-from.result c.place-from.ensures.found in
+    omega (arith, c.take.ensures.cost_any, c.origins-origins.ensures.steps, here)
+
+pub returns-in-None-clause-store : goal.returns-in-None-clause-store
+returns-in-None-clause-store g c = record { frames = omega arith; pool = refl; nodes = omega arith }

@@ -1,38 +1,64 @@
-use Rattle.std.proofs.Common.{◌∙◌, ap, sym, subst}
-use Rattle.lazy_world.specs.Cells.{put_rights, put_row}
+use Rattle.std.proofs.Common.{arith, ◌≤◌, ◌∙◌, ℕ, ap, sym, subst}
+use Rattle.lwc_base.specs.declared.limits.TheConstants.{MOST_PAGES, MOST_RANGES}
+use Rattle.range_map.specs.Kinds.{ranges}
+use Rattle.lazy_world.specs.Cells.{put_rights, put_row, states_of}
 use Rattle.lazy_world.specs.Seen.{rights, rows}
 use Rattle.lazy_world.specs.Sound.{HasOldTags, HasOneHome}
 use Rattle.lazy_world.specs.States.{world_of}
 use Rattle.lazy_world.specs.Worlds.{parts, seen}
-use Rattle.lazy_world.proofs.FollowLemmas.{copied-homes, followed-sound, followed-world}
+use Rattle.lazy_world.proofs.FollowLemmas.{followed-few, followed-sound, followed-world, origin-homes, origin-tags, ranges-here, same-place, transfer-for}
 use Rattle.lazy_world.proofs.world.PlacedWorld.follow.Goals as goal
+
+pub origins-origins-requires-clause-transfer : goal.origins-origins-requires-clause-transfer
+origins-origins-requires-clause-transfer g c =
+    transfer-for c.args.transfer (parts c.args.self.now).size.contexts c.args.d c.args.c c.place-from.result c.place-to.result c.requires.transfer
+    (λ same. same-place (parts c.args.self.now).contexts.map c.args.d c.args.c c.place-from.result c.place-to.result same c.place-from.ensures.found c.place-to.ensures.found) c.place-to.ensures.low
+
+pub take-requires-clause-few : goal.take-requires-clause-few
+unfolding seen parts world_of
+take-requires-clause-few g c =
+    let w = c.args.self.now in
+    let origins = c.origins-origins.ensures in
+    subst (λ (n : ℕ). n ≤ MOST_RANGES)
+    (followed-few (parts w) w.sound w.placed c.args.transfer c.args.spec.now c.requires.within c.args.d c.args.c c.place-from.result c.place-to.result c.place-from.ensures.context c.place-to.ensures.found
+    ∙ sym (λ e. ranges MOST_PAGES (states_of (origins.row e) (origins.rights e)))) c.requires.few
 
 pub invariant_of-self : goal.invariant_of-self
 unfolding seen parts world_of
 invariant_of-self g c =
     let w = c.args.self.now in
     let to = c.place-to.result in
-    let same = c.can_copy.ensures.row c.if-can_copy.true (rows w.places to) in
-    let same_rights = c.can_copy.ensures.rights c.if-can_copy.true (rights w.places to) in
+    let origins = c.origins-origins.ensures in
     record {
       placed = w.placed;
       placed_groups = w.placed_groups;
-      count = c.copy_place.ensures.count ∙ w.count;
-      frames = c.copy_place.ensures.frames ∙ w.frames;
+      count = c.take.ensures.count ∙ w.count;
+      frames = c.take.ensures.frames ∙ w.frames;
       sound = followed-sound (parts w) w.sound w.placed c.args.transfer c.args.spec.now c.requires.within c.args.d c.args.c c.place-from.result to c.place-from.ensures.context c.place-to.ensures.found
-          _ _ (c.copy_place.ensures.rows ∙ ap (put_row (rows w.places) to) (sym same)) (c.copy_place.ensures.rights ∙ ap (put_rights (rights w.places) to) (sym same_rights))
+          _ _ (c.take.ensures.rows ∙ ap (put_row (rows w.places) to) origins.row) (c.take.ensures.rights ∙ ap (put_rights (rights w.places) to) origins.rights)
           c.requires.ready
-          (subst (HasOldTags (seen w).next) (sym same) (w.sound.tags c.place-from.result))
+          (subst (HasOldTags (seen w).next) origins.row (origin-tags (seen w).next (rows w.places) to c.origins-origins.result w.sound.tags))
           c.requires.fresh
-          (subst (λ row. HasOneHome (put_row (rows w.places) to row)) (sym same) (copied-homes (rows w.places) to c.place-from.result w.sound.homes));
+          (subst (λ row. HasOneHome (put_row (rows w.places) to row)) origins.row (origin-homes (rows w.places) to c.origins-origins.result w.sound.homes));
     }
 
-pub returns-then-can_copy : goal.returns-then-can_copy
+pub returns-clause-world : goal.returns-clause-world
 unfolding seen parts world_of
-returns-then-can_copy g c =
+returns-clause-world g c =
     let w = c.args.self.now in
     let to = c.place-to.result in
-    let same = c.can_copy.ensures.row c.if-can_copy.true (rows w.places to) in
-    let same_rights = c.can_copy.ensures.rights c.if-can_copy.true (rights w.places to) in
+    let origins = c.origins-origins.ensures in
     followed-world (parts w) w.sound w.placed c.args.transfer c.args.spec.now c.requires.within c.args.d c.args.c c.place-from.result to c.place-from.ensures.context c.place-to.ensures.found
-    _ _ (c.copy_place.ensures.rows ∙ ap (put_row (rows w.places) to) (sym same)) (c.copy_place.ensures.rights ∙ ap (put_rights (rights w.places) to) (sym same_rights))
+    _ _ (c.take.ensures.rows ∙ ap (put_row (rows w.places) to) origins.row) (c.take.ensures.rights ∙ ap (put_rights (rights w.places) to) origins.rights)
+
+pub returns-clause-store : goal.returns-clause-store
+unfolding seen parts rows rights
+returns-clause-store g c =
+    let here = ranges-here (parts c.args.self.now) c.args.self.now.sound c.args.d c.place-from.result c.place-from.ensures.found in
+    record { frames = c.take.ensures.free; pool = c.take.ensures.pool; nodes = omega (arith, c.take.ensures.nodes_any, c.origins-origins.ensures.nodes, here) }
+
+pub returns-clause-steps : goal.returns-clause-steps
+unfolding seen parts rows rights
+returns-clause-steps g c =
+    let here = ranges-here (parts c.args.self.now) c.args.self.now.sound c.args.d c.place-from.result c.place-from.ensures.found in
+    omega (arith, c.take.ensures.cost_any, c.origins-origins.ensures.steps, here)

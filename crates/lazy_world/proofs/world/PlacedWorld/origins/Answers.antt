@@ -41,3 +41,9 @@ returns-clause-rights c =
 
 pub returns-clause-given : goal.returns-clause-given
 returns-clause-given c = record { pages = c.runs_of_pages.ensures.given; slots = λ n low. (c.slot_origins.ensures n low).can; uid = c.uid_origin.ensures.can }
+
+pub returns-clause-nodes : goal.returns-clause-nodes
+returns-clause-nodes c = omega (arith, c.runs_of_pages.ensures.few)
+
+pub returns-clause-steps : goal.returns-clause-steps
+returns-clause-steps c = omega (arith, c.runs_of_pages.ensures.few)

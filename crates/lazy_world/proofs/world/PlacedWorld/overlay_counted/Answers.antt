@@ -14,7 +14,7 @@ overlay_itself-requires-clause-few g c =
 pub overlay_other-requires-clause-apart : goal.overlay_other-requires-clause-apart
 overlay_other-requires-clause-apart g c = names-differ c.args.to c.args.from (sym c.eq.ensures ∙ c.if-eq.false)
 
-pub returns-then-eq : goal.returns-then-eq
-returns-then-eq g c =
+pub returns-then-eq-clause-overlaid : goal.returns-then-eq-clause-overlaid
+returns-then-eq-clause-overlaid g c =
     let same : c.args.to ≡ c.args.from = search rules in
-    c.overlay_itself.ensures ∙ ap (λ (n : Name). overlay (seen c.args.self.now) n c.args.from c.args.job c.args.spec.now) (sym same)
+    c.overlay_itself.ensures.overlaid ∙ ap (λ (n : Name). overlay (seen c.args.self.now) n c.args.from c.args.job c.args.spec.now) (sym same)

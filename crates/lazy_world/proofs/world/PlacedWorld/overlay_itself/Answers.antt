@@ -1,4 +1,4 @@
-use Rattle.std.proofs.Common.{◌≤◌, ◌∙◌, subst, sym}
+use Rattle.std.proofs.Common.{◌≤◌, ◌∙◌, arith, subst, sym}
 use Rattle.lwc_base.specs.declared.limits.TheConstants.{MOST_RANGES}
 use Rattle.lwc_base.specs.Fresh.{IsFresh}
 use Rattle.lwc_base.specs.Overlay.{ranges_after_overlay}
@@ -7,6 +7,8 @@ use Rattle.lwc_base.specs.declared.key.Key.TheVariants.{Page}
 use Rattle.lwc_base.specs.World.{context}
 use Rattle.lazy_world.specs.States.{world_of}
 use Rattle.lazy_world.specs.Worlds.{parts, seen}
+use Rattle.lazy_world.specs.Costs.{pieces}
+use Rattle.lazy_world.proofs.CostLemmas.{added-pieces, filled-pieces, takes-both}
 use Rattle.lazy_world.proofs.ItselfLemmas.{itself-few, itself-is}
 use Rattle.lazy_world.proofs.MovedLemmas.{live-past}
 use Rattle.lazy_world.proofs.OverlayLemmas.{overlaid-is}
@@ -30,7 +32,7 @@ fill_group-requires-clause-empty g c =
 pub follow-requires-clause-ready : goal.follow-requires-clause-ready
 follow-requires-clause-ready g c =
     moved-has (seen c.args.self.now) c.args.c c.args.job c.args.spec.now c.add_group-g.result (seen c.add_group-g.new.self) (seen c.fill_group.new.self)
-    c.add_group-g.ensures.name c.add_group-g.ensures.world c.fill_group.ensures
+    c.add_group-g.ensures.name c.add_group-g.ensures.world c.fill_group.ensures.world
 
 pub follow-requires-else-needs_group-clause-ready : goal.follow-requires-else-needs_group-clause-ready
 follow-requires-else-needs_group-clause-ready g c =
@@ -45,7 +47,7 @@ follow-requires-clause-fresh g c =
     subst IsFresh
     (sym (itself-is (seen w) w.sound.fresh c.args.spec.now c.requires.within c.args.c c.requires.live c.args.job
     (sym c.needs_group.ensures.value ∙ c.if-needs_group.true) c.add_group-g.result (seen c.add_group-g.new.self) (seen c.fill_group.new.self)
-    c.add_group-g.ensures.name c.add_group-g.ensures.world c.fill_group.ensures))
+    c.add_group-g.ensures.name c.add_group-g.ensures.world c.fill_group.ensures.world))
     (stays_fresh.overlaid (seen w) c.args.c c.args.c c.args.job c.args.spec.now c.requires.live c.requires.live w.sound.fresh)
 
 pub follow-requires-clause-few : goal.follow-requires-clause-few
@@ -55,7 +57,7 @@ follow-requires-clause-few g c =
     subst (λ v. ranges_of v c.args.c ≤ MOST_RANGES)
     (sym (itself-is (seen w) w.sound.fresh c.args.spec.now c.requires.within c.args.c c.requires.live c.args.job
     (sym c.needs_group.ensures.value ∙ c.if-needs_group.true) c.add_group-g.result (seen c.add_group-g.new.self) (seen c.fill_group.new.self)
-    c.add_group-g.ensures.name c.add_group-g.ensures.world c.fill_group.ensures))
+    c.add_group-g.ensures.name c.add_group-g.ensures.world c.fill_group.ensures.world))
     c.requires.few.1
 
 pub follow-requires-else-needs_group-clause-fresh : goal.follow-requires-else-needs_group-clause-fresh
@@ -76,18 +78,53 @@ follow-requires-else-needs_group-clause-few g c =
     c.args.c (seen w) (sym ((changes.shared (seen w) c.args.c c.args.job c.args.spec.now).none (sym c.needs_group.ensures.value ∙ c.if-needs_group.false)))))
     c.requires.few.1
 
-pub returns-then-needs_group : goal.returns-then-needs_group
+pub returns-then-needs_group-clause-overlaid : goal.returns-then-needs_group-clause-overlaid
 unfolding seen parts
-returns-then-needs_group g c =
+returns-then-needs_group-clause-overlaid g c =
     let w = c.args.self.now in
-    c.follow.ensures
+    c.follow.ensures.world
     ∙ itself-is (seen w) w.sound.fresh c.args.spec.now c.requires.within c.args.c c.requires.live c.args.job
     (sym c.needs_group.ensures.value ∙ c.if-needs_group.true) c.add_group-g.result (seen c.add_group-g.new.self) (seen c.fill_group.new.self)
-    c.add_group-g.ensures.name c.add_group-g.ensures.world c.fill_group.ensures
+    c.add_group-g.ensures.name c.add_group-g.ensures.world c.fill_group.ensures.world
 
-pub returns-else-needs_group : goal.returns-else-needs_group
-returns-else-needs_group g c =
+pub returns-else-needs_group-clause-overlaid : goal.returns-else-needs_group-clause-overlaid
+returns-else-needs_group-clause-overlaid g c =
     let w = c.args.self.now in
-    c.follow-else-needs_group.ensures
+    c.follow-else-needs_group.ensures.world
     ∙ overlaid-is (seen w) c.args.c c.args.c c.args.job c.args.spec.now c.requires.within c.requires.live
     c.args.c (seen w) (sym ((changes.shared (seen w) c.args.c c.args.job c.args.spec.now).none (sym c.needs_group.ensures.value ∙ c.if-needs_group.false)))
+
+pub returns-then-needs_group-clause-store : goal.returns-then-needs_group-clause-store
+returns-then-needs_group-clause-store g c =
+    let w = seen c.args.self.now in
+    let first = added-pieces w c.args.c c.args.job c.args.spec.now (seen c.add_group-g.new.self) c.add_group-g.ensures.world in
+    let second = filled-pieces (seen c.add_group-g.new.self) c.args.c c.args.spec.now c.add_group-g.result _ (seen c.fill_group.new.self) c.fill_group.ensures.world in
+    let both = takes-both c.args.self.now c.add_group-g.new.self c.fill_group.new.self c.follow.new.self (pieces w c.args.c c.args.spec.now) _ _ first (second ∙ first) c.add_group-g.ensures.store c.fill_group.ensures.store c.follow.ensures.store in
+    record {
+      all = record { frames = both.frames; pool = both.pool; nodes = omega (arith, both.nodes) };
+      alone = λ none. absurd (let clash = sym none ∙ sym c.needs_group.ensures.value ∙ c.if-needs_group.true in cc);
+    }
+
+pub returns-then-needs_group-clause-steps : goal.returns-then-needs_group-clause-steps
+returns-then-needs_group-clause-steps g c =
+    let w = seen c.args.self.now in
+    let first = added-pieces w c.args.c c.args.job c.args.spec.now (seen c.add_group-g.new.self) c.add_group-g.ensures.world in
+    let second = filled-pieces (seen c.add_group-g.new.self) c.args.c c.args.spec.now c.add_group-g.result _ (seen c.fill_group.new.self) c.fill_group.ensures.world in
+    record {
+      all = omega (arith, c.fill_group.ensures.steps, c.follow.ensures.steps, first, second);
+      alone = λ none. absurd (let clash = sym none ∙ sym c.needs_group.ensures.value ∙ c.if-needs_group.true in cc);
+    }
+
+pub returns-else-needs_group-clause-store : goal.returns-else-needs_group-clause-store
+returns-else-needs_group-clause-store g c =
+    let kept = c.follow-else-needs_group.ensures.store in
+    record {
+      all = record { frames = kept.frames; pool = kept.pool; nodes = omega (arith, kept.nodes) };
+      alone = λ none. kept;
+    }
+
+pub returns-else-needs_group-clause-steps : goal.returns-else-needs_group-clause-steps
+returns-else-needs_group-clause-steps g c = record {
+  all = omega (arith, c.follow-else-needs_group.ensures.steps);
+  alone = λ none. c.follow-else-needs_group.ensures.steps;
+}

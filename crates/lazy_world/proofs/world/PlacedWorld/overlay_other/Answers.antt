@@ -1,10 +1,13 @@
-use Rattle.std.proofs.Common.{◌≡◌, ◌≤◌, ◌∙◌, ap, subst, sym, true}
+use Rattle.std.proofs.Common.{arith, ◌≡◌, ◌≤◌, ◌∙◌, ap, subst, sym, true}
 use Rattle.lwc_base.specs.declared.limits.TheConstants.{MOST_RANGES}
 use Rattle.lwc_base.specs.Fresh.{IsFresh}
 use Rattle.lwc_base.specs.Overlay.{ranges_after_overlay}
 use Rattle.lwc_base.specs.Ranges.{ranges_of}
 use Rattle.lwc_base.specs.declared.key.Key.TheVariants.{Page}
 use Rattle.lwc_base.specs.World.{World, context, is_live}
+use Rattle.lazy_world.specs.Clones.{change_nodes}
+use Rattle.lazy_world.specs.Costs.{TakesNodes, pieces}
+use Rattle.lazy_world.specs.declared.world.PlacedWorld.{PlacedWorld}
 use Rattle.lazy_world.specs.Transfers.{moves}
 use Rattle.lazy_world.specs.Worlds.{parts, seen}
 use Rattle.lazy_world.proofs.AfterLemmas.{left-ranges}
@@ -26,19 +29,19 @@ share-requires-clause-few g c =
 pub follow-requires-clause-from : goal.follow-requires-clause-from
 follow-requires-clause-from g c =
     let w = seen c.args.self.now in
-    subst (λ v. is_live v c.args.from ≡ true) (sym c.share.ensures) ((changes.shared w c.args.from c.args.job c.args.spec.now).live c.args.from ∙ c.requires.from)
+    subst (λ v. is_live v c.args.from ≡ true) (sym c.share.ensures.world) ((changes.shared w c.args.from c.args.job c.args.spec.now).live c.args.from ∙ c.requires.from)
 
 pub follow-requires-clause-to : goal.follow-requires-clause-to
 follow-requires-clause-to g c =
     let w = seen c.args.self.now in
-    subst (λ v. is_live v c.args.to ≡ true) (sym c.share.ensures) ((changes.shared w c.args.from c.args.job c.args.spec.now).live c.args.to ∙ c.requires.to)
+    subst (λ v. is_live v c.args.to ≡ true) (sym c.share.ensures.world) ((changes.shared w c.args.from c.args.job c.args.spec.now).live c.args.to ∙ c.requires.to)
 
 pub follow-requires-clause-ready : goal.follow-requires-clause-ready
 follow-requires-clause-ready g c =
     let w = seen c.args.self.now in
     none-moved (seen c.share.new.self) c.args.spec.now (context (seen c.share.new.self) c.args.from) c.args.to
     (λ p.
-    ap (λ (v : World). moves c.args.spec.now (Page p) (context v c.args.from).cell) c.share.ensures
+    ap (λ (v : World). moves c.args.spec.now (Page p) (context v c.args.from).cell) c.share.ensures.world
     ∙ settled w c.args.from c.args.job c.args.spec.now c.requires.within c.requires.from (Page p))
 
 pub follow-requires-clause-fresh : goal.follow-requires-clause-fresh
@@ -47,7 +50,7 @@ follow-requires-clause-fresh g c =
     let w = seen c.args.self.now in
     subst IsFresh
     (sym (overlaid-is w c.args.from c.args.to c.args.job c.args.spec.now c.requires.within c.requires.from
-    c.args.to (seen c.share.new.self) c.share.ensures))
+    c.args.to (seen c.share.new.self) c.share.ensures.world))
     (stays_fresh.overlaid w c.args.to c.args.from c.args.job c.args.spec.now c.requires.to c.requires.from c.args.self.now.sound.fresh)
 
 pub follow-requires-clause-few : goal.follow-requires-clause-few
@@ -56,12 +59,28 @@ follow-requires-clause-few g c =
     let w = seen c.args.self.now in
     subst (λ v. ranges_of v c.args.to ≤ MOST_RANGES)
     (sym (overlaid-is w c.args.from c.args.to c.args.job c.args.spec.now c.requires.within c.requires.from
-    c.args.to (seen c.share.new.self) c.share.ensures))
+    c.args.to (seen c.share.new.self) c.share.ensures.world))
     c.requires.few.1
 
-pub returns : goal.returns
-returns g c =
+pub returns-clause-overlaid : goal.returns-clause-overlaid
+returns-clause-overlaid g c =
     let w = seen c.args.self.now in
-    c.follow.ensures
+    c.follow.ensures.world
     ∙ overlaid-is w c.args.from c.args.to c.args.job c.args.spec.now c.requires.within c.requires.from
-    c.args.to (seen c.share.new.self) c.share.ensures
+    c.args.to (seen c.share.new.self) c.share.ensures.world
+
+pub returns-clause-store : goal.returns-clause-store
+returns-clause-store g c = record {
+  all = record {
+    frames = omega (arith, c.share.ensures.store.frames, c.follow.ensures.store.frames);
+    pool = c.follow.ensures.store.pool ∙ c.share.ensures.store.pool;
+    nodes = omega (arith, c.share.ensures.store.nodes, c.follow.ensures.store.nodes, ap (λ v. pieces v c.args.from c.args.spec.now) c.share.ensures.world);
+  };
+  alone = λ none. subst (λ (v : PlacedWorld). TakesNodes v c.follow.new.self (change_nodes (pieces (seen v) c.args.from c.args.spec.now))) (c.share.ensures.none none) c.follow.ensures.store;
+}
+
+pub returns-clause-steps : goal.returns-clause-steps
+returns-clause-steps g c = record {
+  all = omega (arith, c.share.ensures.steps, c.follow.ensures.steps, ap (λ v. pieces v c.args.from c.args.spec.now) c.share.ensures.world);
+  alone = λ none. omega (arith, c.share.ensures.none_steps none, c.follow.ensures.steps, ap (λ (v : PlacedWorld). pieces (seen v) c.args.from c.args.spec.now) (c.share.ensures.none none));
+}

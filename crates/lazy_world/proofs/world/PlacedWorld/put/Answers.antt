@@ -20,7 +20,7 @@ invariant_of-self c =
       placed_groups = c.args.self.now.placed_groups;
       count = c.put.ensures.count ∙ c.args.self.now.count;
       frames = c.put.ensures.frames ∙ c.args.self.now.frames;
-      sound = subst IsSound (sym (λ e. record s { rows = c.put.ensures.rows e; rights = c.put.ensures.rights e }))
+      sound = subst IsSound (sym (λ e. record s { rows = c.put.ensures.rows e; rights = c.put.ensures.store.rights e }))
           (sound-own s c.args.self.now.sound c.args.self.now.placed c.args.c c.place-i.result c.place-i.ensures.found c.args.value c.requires.slot (sym c.group.ensures ∙ c.in-None.is));
     }
 
@@ -28,7 +28,7 @@ pub returns-in-None : goal.returns-in-None
 unfolding seen parts
 returns-in-None c =
     let s = parts c.args.self.now in
-    (λ e. world_of (record s { rows = c.put.ensures.rows e; rights = c.put.ensures.rights e }))
+    (λ e. world_of (record s { rows = c.put.ensures.rows e; rights = c.put.ensures.store.rights e }))
     ∙ put-own s c.args.self.now.sound c.args.self.now.placed c.args.c c.place-i.result c.place-i.ensures.found c.args.value c.requires.slot (sym c.group.ensures ∙ c.in-None.is)
 
 common_cell : {T : Type 0} (cell : Cell T) (g : Name) → group_in cell ≡ Some g → cell ≡ Common g

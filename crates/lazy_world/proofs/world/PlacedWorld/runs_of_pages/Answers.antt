@@ -12,7 +12,7 @@ use Rattle.lazy_world.specs.Seen.{count, rights, rows}
 use Rattle.lazy_world.specs.Worlds.{transferred}
 use Rattle.lazy_world.proofs.FitLemmas.{fits}
 use Rattle.lazy_world.proofs.OriginLemmas.{HasGiven, given_kept, given_more, none_given}
-use Rattle.lazy_world.proofs.TurnLemmas.{few-turns, more-turns, no-turns}
+use Rattle.lazy_world.proofs.TurnLemmas.{few-turns, more-turns, most-turns, no-turns}
 use Rattle.lazy_world.proofs.world.PlacedWorld.runs_of_pages.Goals as goal
 
 pub pages-init : goal.pages-init
@@ -22,6 +22,7 @@ pages-init c =
       inside = omega arith;
       has = subst (HasGiven (count w.places) c.args.to (fits w c.args.transfer c.args.spec.now c.args.from c.args.to) 0) (sym c.new-page_runs.ensures) (none_given (count w.places) c.args.to (fits w c.args.transfer c.args.spec.now c.args.from c.args.to));
       few = λ _. omega (arith, ap length c.new-page_runs.ensures, no-turns (states_of (rows w.places c.args.from) (rights w.places c.args.from)) c.args.spec.now);
+      most = omega (arith, ap length c.new-page_runs.ensures);
     }
 
 pub push-requires : goal.push-requires
@@ -49,6 +50,10 @@ pages-preserved-in-Some c =
           (subst (λ o. CanGet (count w.places) c.args.to (option_map (λ (s : PageRun). s.origin) o)) is got.can));
       few = λ early. more-turns (states_of (rows w.places c.args.from) (rights w.places c.args.from)) c.args.spec.now c.pages.p c.run_from_page-page_run.result.1 (length c.pages.page_runs.items) (length c.push.new.self.items) got.past got.alike (got.edge early)
           (omega (arith, ap length c.push.ensures.items, length-append c.pages.page_runs.items (c.in-Some.page_run ∷ []))) (c.pages.invariant.few (omega (arith, c.pages-test.true, c.from.ensures)));
+      most =
+          let inside : c.pages.p < MOST_PAGES = omega (arith, c.pages-test.true, c.from.ensures) in
+          let all = most-turns (states_of (rows w.places c.args.from) (rights w.places c.args.from)) c.args.spec.now c.pages.p (length c.pages.page_runs.items) inside (c.pages.invariant.few inside) in
+          omega (arith, all, ap length c.push.ensures.items, length-append c.pages.page_runs.items (c.in-Some.page_run ∷ []));
     }
 
 pub pages-preserved : goal.pages-preserved
@@ -67,6 +72,7 @@ pages-preserved c =
           });
       few = λ early. more-turns (states_of (rows w.places c.args.from) (rights w.places c.args.from)) c.args.spec.now c.pages.p c.run_from_page-page_run.result.1 (length c.pages.page_runs.items) (length c.pages.page_runs.items) got.past got.alike (got.edge early)
           (omega arith) (c.pages.invariant.few (omega (arith, c.pages-test.true, c.from.ensures)));
+      most = c.pages.invariant.most;
     }
 
 pub returns-clause-gives : goal.returns-clause-gives
@@ -80,3 +86,6 @@ returns-clause-past c q low = c.pages.invariant.has.rest q (omega (arith, c.page
 
 pub returns-clause-given : goal.returns-clause-given
 returns-clause-given c = c.pages.invariant.has.each
+
+pub returns-clause-few : goal.returns-clause-few
+returns-clause-few c = c.pages.invariant.most

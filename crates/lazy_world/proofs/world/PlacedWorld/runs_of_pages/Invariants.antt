@@ -14,6 +14,7 @@ invariant-pages l = record {
   has : HasGiven (count l.self.places) l.to (fits l.self l.transfer l.spec l.from l.to) l.p l.page_runs.items;
   few : l.p < MOST_PAGES → length l.page_runs.items + present (states_of (rows l.self.places l.from) (rights l.self.places l.from) l.p)
       ≤ 2 * ranges (l.p + 1) (states_of (rows l.self.places l.from) (rights l.self.places l.from)) + edges_to (λ item. item.from) (λ item. item.to) l.spec l.p;
+  most : length l.page_runs.items ≤ 1 + 2 * (ranges MOST_PAGES (states_of (rows l.self.places l.from) (rights l.self.places l.from)) + length l.spec);
 }
 
 abbrev pub decreases-pages : goal.decreases-pages

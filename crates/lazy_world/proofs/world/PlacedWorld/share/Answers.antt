@@ -1,4 +1,4 @@
-use Rattle.std.proofs.Common.{◌≤◌, ◌∙◌, sym, subst}
+use Rattle.std.proofs.Common.{◌≤◌, ◌∙◌, arith, refl, sym, subst}
 use Rattle.lwc_base.specs.declared.limits.TheConstants.{MOST_RANGES}
 use Rattle.lwc_base.specs.Fresh.{IsFresh}
 use Rattle.lwc_base.specs.Ranges.{ranges_of}
@@ -7,6 +7,8 @@ use Rattle.lazy_world.specs.Worlds.{parts, seen}
 use Rattle.lazy_world.proofs.MovedLemmas.{live-past, moved-few}
 use Rattle.lazy_world.proofs.ShareLemmas.{added-context, added-empty, followed-is, moved-has}
 use Rattle.lwc_base.proofs.Facts.{changes, stays_fresh}
+use Rattle.lazy_world.specs.Costs.{pieces}
+use Rattle.lazy_world.proofs.CostLemmas.{added-pieces, filled-pieces, takes-both}
 use Rattle.lazy_world.proofs.world.PlacedWorld.share.Goals as goal
 
 pub fill_group-requires-clause-few : goal.fill_group-requires-clause-few
@@ -25,7 +27,7 @@ fill_group-requires-clause-empty g c =
 pub follow-requires-clause-ready : goal.follow-requires-clause-ready
 follow-requires-clause-ready g c =
     moved-has (seen c.args.self.now) c.args.c c.args.job c.args.spec.now c.add_group-g.result (seen c.add_group-g.new.self) (seen c.fill_group.new.self)
-    c.add_group-g.ensures.name c.add_group-g.ensures.world c.fill_group.ensures
+    c.add_group-g.ensures.name c.add_group-g.ensures.world c.fill_group.ensures.world
 
 pub follow-requires-clause-fresh : goal.follow-requires-clause-fresh
 unfolding seen parts
@@ -34,7 +36,7 @@ follow-requires-clause-fresh g c =
     let needs = sym c.needs_group.ensures.value ∙ c.if-needs_group.true in
     subst IsFresh
     (sym (followed-is (seen w) c.args.c c.args.job c.args.spec.now needs c.add_group-g.result (seen c.add_group-g.new.self) (seen c.fill_group.new.self)
-    c.add_group-g.ensures.name c.add_group-g.ensures.world c.fill_group.ensures))
+    c.add_group-g.ensures.name c.add_group-g.ensures.world c.fill_group.ensures.world))
     (stays_fresh.shared (seen w) c.args.c c.args.job c.args.spec.now c.requires.live w.sound.fresh)
 
 pub follow-requires-clause-few : goal.follow-requires-clause-few
@@ -43,18 +45,41 @@ follow-requires-clause-few g c =
     let needs = sym c.needs_group.ensures.value ∙ c.if-needs_group.true in
     subst (λ v. ranges_of v c.args.c ≤ MOST_RANGES)
     (sym (followed-is (seen w) c.args.c c.args.job c.args.spec.now needs c.add_group-g.result (seen c.add_group-g.new.self) (seen c.fill_group.new.self)
-    c.add_group-g.ensures.name c.add_group-g.ensures.world c.fill_group.ensures))
+    c.add_group-g.ensures.name c.add_group-g.ensures.world c.fill_group.ensures.world))
     c.requires.few
 
-pub returns-then-needs_group : goal.returns-then-needs_group
-returns-then-needs_group g c =
+pub returns-then-needs_group-clause-world : goal.returns-then-needs_group-clause-world
+returns-then-needs_group-clause-world g c =
     let w = c.args.self.now in
     let needs = sym c.needs_group.ensures.value ∙ c.if-needs_group.true in
-    c.follow.ensures
+    c.follow.ensures.world
     ∙ followed-is (seen w) c.args.c c.args.job c.args.spec.now needs c.add_group-g.result (seen c.add_group-g.new.self) (seen c.fill_group.new.self)
-    c.add_group-g.ensures.name c.add_group-g.ensures.world c.fill_group.ensures
+    c.add_group-g.ensures.name c.add_group-g.ensures.world c.fill_group.ensures.world
 
-pub returns-else-needs_group : goal.returns-else-needs_group
-returns-else-needs_group g c =
+pub returns-else-needs_group-clause-world : goal.returns-else-needs_group-clause-world
+returns-else-needs_group-clause-world g c =
     let w = c.args.self.now in
     sym ((changes.shared (seen w) c.args.c c.args.job c.args.spec.now).none (sym c.needs_group.ensures.value ∙ c.if-needs_group.false))
+
+pub returns-then-needs_group-clause-none : goal.returns-then-needs_group-clause-none
+returns-then-needs_group-clause-none g c none = absurd (let both = sym none ∙ sym c.needs_group.ensures.value ∙ c.if-needs_group.true in cc)
+
+pub returns-then-needs_group-clause-none_steps : goal.returns-then-needs_group-clause-none_steps
+returns-then-needs_group-clause-none_steps g c none = absurd (let both = sym none ∙ sym c.needs_group.ensures.value ∙ c.if-needs_group.true in cc)
+
+pub returns-then-needs_group-clause-store : goal.returns-then-needs_group-clause-store
+returns-then-needs_group-clause-store g c =
+    let w = seen c.args.self.now in
+    let first = added-pieces w c.args.c c.args.job c.args.spec.now (seen c.add_group-g.new.self) c.add_group-g.ensures.world in
+    let second = filled-pieces (seen c.add_group-g.new.self) c.args.c c.args.spec.now c.add_group-g.result _ (seen c.fill_group.new.self) c.fill_group.ensures.world in
+    takes-both c.args.self.now c.add_group-g.new.self c.fill_group.new.self c.follow.new.self (pieces w c.args.c c.args.spec.now) _ _ first (second ∙ first) c.add_group-g.ensures.store c.fill_group.ensures.store c.follow.ensures.store
+
+pub returns-then-needs_group-clause-steps : goal.returns-then-needs_group-clause-steps
+returns-then-needs_group-clause-steps g c =
+    let w = seen c.args.self.now in
+    let first = added-pieces w c.args.c c.args.job c.args.spec.now (seen c.add_group-g.new.self) c.add_group-g.ensures.world in
+    let second = filled-pieces (seen c.add_group-g.new.self) c.args.c c.args.spec.now c.add_group-g.result _ (seen c.fill_group.new.self) c.fill_group.ensures.world in
+    omega (arith, c.fill_group.ensures.steps, c.follow.ensures.steps, first, second)
+
+pub returns-else-needs_group-clause-store : goal.returns-else-needs_group-clause-store
+returns-else-needs_group-clause-store g c = record { frames = omega arith; pool = refl; nodes = omega arith }
