@@ -44,10 +44,6 @@ kind-in : (kind : Option SegmentKind) (right : Right) → option_map (λ s. s.ki
 kind-in None right = refl
 kind-in (Some kind) right = refl
 
-no-state : (state : Option PageState) → option_map (λ s. s.kind) state ≡ None → state ≡ None
-no-state None is = refl
-no-state (Some s) is = absurd cc
-
 -- where no page run is found the kind stays
 kept-kind : (cells : List Place) (i q : ℕ) (page_runs : List PageRun) → page_run_at page_runs q ≡ None → kinds_of (changed_place cells i page_runs) q ≡ kinds_of (place_of cells i) q
 unfolding changed_place

@@ -99,8 +99,8 @@ impl PageCells {
         self.kinds[i].state_at(p)
     }
 
-    /// The first page after one that has another kind or another right, or the end of all pages. There are at most
-    /// 64 ranges, so that a walk from edge to edge is short.
+    /// The first page after one that has another kind or another right, or the end of all pages. There are
+    /// at most 64 ranges, so that a walk from edge to edge is short.
     pub fn next_edge(&self, i: usize, p: u16) -> u16
         requires place { i < length (cells self.now) }
         requires page { p < MOST_PAGES }
@@ -112,8 +112,8 @@ impl PageCells {
         ensures other { result < MOST_PAGES
             → states_of (place_of (cells self.now) i) (rights_of (rights self.now) i) result
             ≢ states_of (place_of (cells self.now) i) (rights_of (rights self.now) i) p }
-        ensures few { ranges MOST_PAGES (states_of (place_of (cells self.now) i) (rights_of (rights self.now) i))
-            ≤ MOST_RANGES }
+        ensures few { ranges MOST_PAGES
+            (states_of (place_of (cells self.now) i) (rights_of (rights self.now) i)) ≤ MOST_RANGES }
     {
         self.kinds[i].next_edge(p)
     }

@@ -19,8 +19,8 @@ impl Rows {
     ghost use Rattle.cow_space.specs.RowSeen.{HasNoTree, HasOwnRoot, IsOpen, edge_short, frames_of, free_frames};
     ghost use Rattle.cow_space.specs.RowSeen.{free_nodes, maps, pool};
 
-    /// Makes the pages of a range of one row those of another. No frame is taken or written. A row that gets its
-    /// pages in rising order takes few nodes and steps.
+    /// Makes the pages of a range of one row those of another. No frame is taken or written. A row that gets
+    /// its pages in rising order takes few nodes and steps.
     pub fn share_between<L: Ledger>(
         &mut self,
         to: usize,

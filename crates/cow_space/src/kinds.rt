@@ -127,8 +127,8 @@ impl PageCells {
         }
     }
 
-    /// The change that leaves the kind of a page and of later ones, up to an edge at the most; they all get the
-    /// right `Read`, or each keeps its own.
+    /// The change that leaves the kind of a page and of later ones, up to an edge at the most; they all get
+    /// the right `Read`, or each keeps its own.
     fn change_left(&self, i: usize, read: bool, p: u16, edge: u16) -> Change
         requires place { i < length (cells self.now) }
         requires page { p < edge }
@@ -150,8 +150,8 @@ impl PageCells {
         }
     }
 
-    /// The kind and the right that a page of a place, and all up to a later one, have after page runs and ranges
-    /// that may only be read.
+    /// The kind and the right that a page of a place, and all up to a later one, have after page runs and
+    /// ranges that may only be read.
     pub(crate) fn piece_at(
         &self,
         i: usize,

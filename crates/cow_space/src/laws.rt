@@ -31,8 +31,8 @@ pub fn places_have_the_tags_of_their_world()
     ensures { WorldLaws }
 {}
 
-/// A tree has at most this number of nodes, a call finds nodes for two trees free, and a world opens with nodes
-/// for a tree in each context and group, and for a call.
+/// A tree has at most this number of nodes, a call finds nodes for two trees free, and a world opens with
+/// nodes for a tree in each context and group, and for a call.
 pub fn nodes_are_as_documented()
     ensures tree { TREE_NODES ≡ 529 }
     ensures free { FREE_NODES ≡ 1058 }

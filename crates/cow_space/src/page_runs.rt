@@ -1,3 +1,5 @@
+#![tactic(auto, unfolding(crate::specs::Seen::frames_of, crate::specs::Seen::pool, crate::specs::Seen::free_frames, crate::specs::Seen::free_nodes))]
+
 ghost use Rattle.std.specs.Prelude.{◌≡◌, ◌≢◌, ◌<◌, ◌≤◌, ◌+◌, ◌*◌, ◌⊎◌, ℕ, All, length, min, slice_set};
 ghost use Rattle.page_tree.specs.declared.store.TheConstants.{PAGES, TREE_NODES};
 ghost use Rattle.page_tree.specs.Open.{entries_passed};
@@ -98,8 +100,8 @@ fn fill_range<L: Ledger>(
     }
 }
 
-/// Puts what page runs copy into a row, and clears the other pages that they have: in rising order, and each page
-/// once, so that a row without a tree takes few nodes and steps.
+/// Puts what page runs copy into a row, and clears the other pages that they have: in rising order, and each
+/// page once, so that a row without a tree takes few nodes and steps.
 fn fill_row<L: Ledger>(rows: &mut Rows, i: usize, page_runs: &[PageRun], steps: &mut Steps<L>)
     requires row { i < length (rows_seen.maps rows.old) }
     requires page_runs { All (IsPageRun (length (rows_seen.maps rows.old)) i) page_runs.now }
@@ -154,7 +156,6 @@ impl PageCells {
     /// Gives the pages of each page run of a place what its origin and its right say, and leaves all other
     /// pages. Of two page runs that have a page, the first counts. The pages of `reads` that are present then
     /// get the right `Read`, whether a page run has them or not. No frame is written.
-    #[tactic(auto, unfolding(crate::specs::Seen::frames_of, crate::specs::Seen::pool, crate::specs::Seen::free_frames, crate::specs::Seen::free_nodes))]
     pub fn change<L: Ledger>(
         &mut self,
         i: usize,
@@ -197,7 +198,6 @@ impl PageCells {
 
     /// Makes all pages of a place those of another, and their rights, by one hold of the root of their tree.
     /// No frame is written.
-    #[tactic(auto, unfolding(crate::specs::Seen::frames_of, crate::specs::Seen::pool, crate::specs::Seen::free_frames, crate::specs::Seen::free_nodes))]
     pub fn clone_place<L: Ledger>(&mut self, to: usize, from: usize, steps: &mut Steps<L>)
         requires to { to < length (cells self.old) }
         requires from { from < length (cells self.old) }
@@ -225,7 +225,6 @@ impl PageCells {
     }
 
     /// Takes all pages from a place, and gives back all that no other place holds.
-    #[tactic(auto, unfolding(crate::specs::Seen::frames_of, crate::specs::Seen::pool, crate::specs::Seen::free_frames, crate::specs::Seen::free_nodes))]
     pub fn clear_place<L: Ledger>(&mut self, i: usize, steps: &mut Steps<L>)
         requires place { i < length (cells self.old) }
         ensures cells { cells self.new ≡ slice_set (cells self.old) i no_pages }

@@ -82,8 +82,8 @@ impl Rows {
     pub(crate) fn lone_frame(&self, i: usize, p: u16) -> Option<FrameNo>
         requires row { i < length (maps self.now) }
         requires page { p < PAGES }
-        ensures frame { IfSome result (λ frame. page self.now.store.nodes (slice_index self.now.trees.items i) p
-            ≡ cell.Frame frame) }
+        ensures frame { IfSome result (λ frame. page self.now.store.nodes
+            (slice_index self.now.trees.items i) p ≡ cell.Frame frame) }
         ensures alone { IfSome result
             (λ frame. parts (row_tags (maps self.now)) (row_of (maps self.now) i p) ≡ false) }
         ensures parts { IfNone result (parts (row_tags (maps self.now)) (row_of (maps self.now) i p) ≡ true) }

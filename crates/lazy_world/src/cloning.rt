@@ -217,9 +217,10 @@ impl PlacedWorld {
     }
 
     /// A context with nothing but a credential gets the cells of a clone of another one, once that one's
-    /// values of mode share have moved. For each range of the other one and for each item it takes at most 128
-    /// node steps and 4 free nodes, and one free node besides; at most one node step and no node where all
-    /// pages are the other one's own, and items share none and leave none out. No frame is taken or written.
+    /// values of mode share have moved. For each range of the other one and for each item it takes at most
+    /// 128 node steps and 4 free nodes, and one free node besides; at most one node step and no node where
+    /// all pages are the other one's own, and items share none and leave none out. No frame is taken or
+    /// written.
     pub(crate) fn clone_by<L: Ledger>(
         &mut self,
         spec: &Spec,

@@ -49,10 +49,10 @@ impl LazyWorld {
     ghost use Rattle.lazy_world.specs.Costs.{CloneSteps, CloneStore, OverlaySteps, OverlayStore};
     ghost use Rattle.lazy_world.specs.Lazy.{placed, seen_lazy};
 
-    /// `clone_context` on a counter of node steps. No frame is taken or written. Where no group is needed, each
-    /// range of the context and each item takes at most 128 node steps and 4 free nodes, and one free node
-    /// besides if there is one; or one step and no node in all, where each page is copied and is the context's
-    /// own.
+    /// `clone_context` on a counter of node steps. No frame is taken or written. Where no group is needed,
+    /// each range of the context and each item takes at most 128 node steps and 4 free nodes, and one free
+    /// node besides if there is one; or one step and no node in all, where each page is copied and is the
+    /// context's own.
     pub fn clone_counted<L: Ledger>(
         &mut self,
         c: Name,
@@ -109,9 +109,9 @@ impl LazyWorld {
         self.clone_counted(c, spec, job, entry, &mut steps)
     }
 
-    /// `overlay` on a counter of node steps. No frame is taken or written. Where no group is needed, each range
-    /// of `from` and each item takes at most 3064 node steps and 16 free nodes, and 1532 steps and 9 nodes
-    /// besides.
+    /// `overlay` on a counter of node steps. No frame is taken or written. Where no group is needed, each
+    /// range of `from` and each item takes at most 3064 node steps and 16 free nodes, and 1532 steps and 9
+    /// nodes besides.
     pub fn overlay_counted<L: Ledger>(
         &mut self,
         to: Name,

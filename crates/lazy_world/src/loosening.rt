@@ -1,4 +1,4 @@
-ghost use Rattle.std.specs.Prelude.{◌≡◌, ◌<◌, ◌≤◌, ℕ, length, All, IfSome, Some, true, false};
+ghost use Rattle.std.specs.Prelude.{◌≡◌, ◌<◌, ◌≤◌, ℕ, length, All, IfSome, None, Some, true, false};
 ghost use Rattle.std.specs.FinMap as fm;
 ghost use Rattle.fd_table.specs.Slots.{context_of};
 ghost use Rattle.lwc_base.specs.declared.descriptor.TheConstants.{SLOTS};
@@ -10,12 +10,24 @@ ghost use Rattle.lwc_base.specs.Life.{Reaches, is_among, is_reached, links, reap
 ghost use Rattle.lwc_base.specs.World.{is_live};
 ghost use Rattle.world_face.specs.Calls.{IsLive};
 ghost use Rattle.lazy_world.specs.CachedRoots.{AreReached, HasLoose, HasRoot, IsLoose};
+ghost use Rattle.lazy_world.specs.declared.loosening.Garbage.TheVariants as garbage;
 ghost use Rattle.lazy_world.specs.Seen.{count, rows};
 ghost use Rattle.lazy_world.specs.Worlds.{parts, seen};
 
 use crate::world::PlacedWorld;
 use fd_table::lowest_bit;
 use lwc_base::{Lent, Name};
+
+/// The garbage among some contexts, which is what no root reaches, as far as that is seen without a search.
+#[derive(Clone, Copy, Debug, PartialEq, Eq)]
+pub enum Garbage {
+    /// The roots reach each context that is live.
+    Nothing,
+    /// They reach each one but this.
+    One(Name),
+    /// It takes a search.
+    Unknown,
+}
 
 /// Whether a name is among some.
 fn is_among(names: &[Name], c: Name) -> bool
@@ -192,10 +204,12 @@ impl PlacedWorld {
         self.places.may_name(c) && self.is_next(roots, c)
     }
 
-    /// The one of some names that is loose, if one is; `None` where that takes a search.
-    fn loose_of(&self, names: &[Name], roots: &[Name]) -> Option<Option<Name>>
+    /// The garbage among contexts of some names.
+    fn garbage(&self, names: &[Name], roots: &[Name]) -> Garbage
         requires { All (λ root. IsLive (seen self.now) root) roots.now }
-        ensures { IfSome result (λ loose. HasLoose (seen self.now) names.now roots.now loose) }
+        ensures nothing { result ≡ garbage.Nothing → HasLoose (seen self.now) names.now roots.now None }
+        ensures one { (c : Name) → result ≡ garbage.One c
+            → HasLoose (seen self.now) names.now roots.now (Some c) }
     {
         let mut loose = None;
         for k in 0..names.len() {
@@ -204,11 +218,14 @@ impl PlacedWorld {
                 continue;
             }
             if loose.is_some() || !self.is_live(c) || !self.is_loose(roots, c) {
-                return None;
+                return Garbage::Unknown;
             }
             loose = Some(c);
         }
-        Some(loose)
+        match loose {
+            None => Garbage::Nothing,
+            Some(c) => Garbage::One(c),
+        }
     }
 
     /// Drops the contexts that are not reached from the roots, where each live one is reached from the
@@ -221,13 +238,13 @@ impl PlacedWorld {
         } }
         ensures same { result ≡ false → seen self.new ≡ seen self.old }
     {
-        match self.loose_of(cached_roots, roots) {
-            Some(Some(c)) => {
+        match self.garbage(cached_roots, roots) {
+            Garbage::One(c) => {
                 self.drop_context(c);
                 true
             }
-            Some(None) => true,
-            None => false,
+            Garbage::Nothing => true,
+            Garbage::Unknown => false,
         }
     }
 

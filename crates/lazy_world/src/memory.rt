@@ -59,8 +59,8 @@ impl PlacedWorld {
         }
     }
 
-    /// Copies the bytes of the context at a place from an address on; 0 where a page is absent. Each touched page
-    /// is found once.
+    /// Copies the bytes of the context at a place from an address on; 0 where a page is absent. Each touched
+    /// page is found once.
     fn copy_to(&self, i: usize, at: usize, out: &mut [u8])
         requires place { i < count self.now.places }
         requires within { at + length out.old ≤ MOST_PAGES * PAGE_BYTES }
@@ -77,8 +77,8 @@ impl PlacedWorld {
         }
     }
 
-    /// Copies bytes of the context at a place from an address on, if they are in one page, which is its own, and
-    /// tells whether it did. If it did not, nothing changes.
+    /// Copies bytes of the context at a place from an address on, if they are in one page, which is its own,
+    /// and tells whether it did. If it did not, nothing changes.
     fn copy_own(&self, i: usize, at: usize, out: &mut [u8]) -> bool
         requires place { i < count self.now.places }
         requires within { at + length out.old ≤ MOST_PAGES * PAGE_BYTES }

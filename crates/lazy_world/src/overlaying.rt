@@ -63,10 +63,10 @@ impl PlacedWorld {
         }
     }
 
-    /// Takes over what the items name from the context `from` into the context `to`, for a job; both may
-    /// be the same. First the values of mode share that are `from`'s own move into one new group. Then
-    /// `to` gets a copy of each value of mode copy, has each value of mode share in common with `from`,
-    /// and nothing under a key of mode unmap. An absent page of `from` becomes absent in `to`. No frame is taken
+    /// Takes over what the items name from the context `from` into the context `to`, for a job; both may be
+    /// the same. First the values of mode share that are `from`'s own move into one new group. Then `to`
+    /// gets a copy of each value of mode copy, has each value of mode share in common with `from`, and
+    /// nothing under a key of mode unmap. An absent page of `from` becomes absent in `to`. No frame is taken
     /// or written.
     pub(crate) fn overlay_counted<L: Ledger>(
         &mut self,

@@ -5,8 +5,8 @@ use lwc_base::{Cell, Lent, MOST_ITEMS, MOST_PAGE_RUNS, NOBODY, SLOTS};
 use pool_base::Steps;
 use std::sync::ledger::Ledger;
 
-/// Where a place gets its pages: all that another place has, or by page runs. Pages of no page run stay. Those
-/// of the ranges may only be read then.
+/// Where a place gets its pages: all that another place has, or by page runs. Pages of no page run stay.
+/// Those of the ranges may only be read then.
 #[derive(Drop)]
 pub enum PageOrigins {
     AllOf(usize),
@@ -64,8 +64,8 @@ impl Places {
         self.pages.clone_place(i, j, steps);
     }
 
-    /// Makes the pages of each page run of a place what their origin says, and those of the ranges such as may
-    /// only be read.
+    /// Makes the pages of each page run of a place what their origin says, and those of the ranges such as
+    /// may only be read.
     fn change_pages<L: Ledger>(
         &mut self,
         i: usize,
@@ -228,9 +228,9 @@ impl Places {
     }
 
     /// Makes the cells of a place what their origins say. A place without pages takes at most 128 node steps
-    /// and 4 free nodes for each page run, and one free node besides, or one step if it gets all pages of another
-    /// one. Any other place takes at most 1532 node steps and 8 free nodes for each page run, and one free node
-    /// besides. No frame is taken or written.
+    /// and 4 free nodes for each page run, and one free node besides, or one step if it gets all pages of
+    /// another one. Any other place takes at most 1532 node steps and 8 free nodes for each page run, and
+    /// one free node besides. No frame is taken or written.
     pub fn take<L: Ledger>(&mut self, i: usize, origins: &Origins, steps: &mut Steps<L>)
         requires place { i < count self.old }
         requires given { AreGiven (count self.old) i origins.now }

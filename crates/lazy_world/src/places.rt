@@ -107,8 +107,8 @@ impl Places {
         self.pages.state(i, p)
     }
 
-    /// The first page of a place after one that has another kind or another right, or the end of all pages. There
-    /// are at most 64 ranges, so that a walk from edge to edge is short.
+    /// The first page of a place after one that has another kind or another right, or the end of all pages.
+    /// There are at most 64 ranges, so that a walk from edge to edge is short.
     pub fn next_edge(&self, i: usize, p: u16) -> u16
         requires place { i < count self.now }
         requires page { p < MOST_PAGES }

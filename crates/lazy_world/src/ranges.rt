@@ -34,8 +34,8 @@ fn item_edge(item: &Item, p: u16, edge: u16) -> u16
     }
 }
 
-/// Where an item of pages first begins or ends past a page, if that is before the edge; else the edge. Up to there
-/// the pages have the mode of this one.
+/// Where an item of pages first begins or ends past a page, if that is before the edge; else the edge. Up to
+/// there the pages have the mode of this one.
 pub(crate) fn mode_edge(spec: &Spec, p: u16, edge: u16) -> u16
     requires { p < edge }
     ensures past { p < result }
@@ -120,7 +120,8 @@ impl PlacedWorld {
         }
     }
 
-    /// What is found at a page of a place, and the first later page of another state, or the end of all pages.
+    /// What is found at a page of a place, and the first later page of another state, or the end of all
+    /// pages.
     pub(crate) fn found_page(&self, i: usize, p: u16) -> (Found, u16)
         requires place { i < count self.now.places }
         requires page { p < MOST_PAGES }
@@ -144,8 +145,8 @@ impl PlacedWorld {
         (found, self.places.next_edge(i, p))
     }
 
-    /// The page run by a transfer of a page and of all up to a later one, where a range or an item begins or ends;
-    /// none where these pages stay.
+    /// The page run by a transfer of a page and of all up to a later one, where a range or an item begins or
+    /// ends; none where these pages stay.
     fn run_from_page(
         &self,
         transfer: Transfer,
@@ -188,7 +189,8 @@ impl PlacedWorld {
         (page_run_of(origin, range, found.right), end)
     }
 
-    /// The page runs that give a place its pages by a transfer: at most one from each edge of a range or of an item.
+    /// The page runs that give a place its pages by a transfer: at most one from each edge of a range or of
+    /// an item.
     fn runs_of_pages(
         &self,
         transfer: Transfer,
@@ -305,7 +307,8 @@ impl PlacedWorld {
         requires from { from < count self.now.places }
         requires transfer { IsFor (parts self.now).size.contexts from to transfer }
         requires within { IsSpec (seen self.now).size.pages spec.now }
-        ensures row { origin_row (rows self.now.places) to result ≡ transferred self.now transfer spec.now from to }
+        ensures row { origin_row (rows self.now.places) to result
+            ≡ transferred self.now transfer spec.now from to }
         ensures rights { with_rights (rows self.now.places) (rights self.now.places) to result.pages
             ≡ right_transferred self.now transfer spec.now from to }
         ensures given { AreGiven (count self.now.places) to result }

@@ -77,7 +77,8 @@ impl PlacedWorld {
         }
     }
 
-    /// The number of ranges of the place `to` once it got the cells that a transfer gives it of the place `from`.
+    /// The number of ranges of the place `to` once it got the cells that a transfer gives it of the place
+    /// `from`.
     // The origins are a large value, which each caller would clear if this were a part of it.
     #[inline(never)]
     fn count_origins(&self, transfer: Transfer, spec: &Spec, from: usize, to: usize) -> u32

@@ -3,8 +3,8 @@ ghost use Rattle.std.specs.Prelude.{◌≡◌, ◌<◌, None, Some, length, repl
 use lwc_base::Regs;
 use std::marker::Model;
 
-/// The registers of a context: those that it begins with, and those that it keeps for each thread. Only what is
-/// marked as kept is there, so that a new context writes none of the others.
+/// The registers of a context: those that it begins with, and those that it keeps for each thread. Only what
+/// is marked as kept is there, so that a new context writes none of the others.
 #[derive(Drop)]
 pub struct Registers {
     entry: Regs,

@@ -93,9 +93,9 @@ impl PlacedWorld {
         self.moves_uid(i, spec)
     }
 
-    /// A context gets the cells that a transfer gives it of another one, which may be the same, key by key. For
-    /// each range of the other one and for each item it takes at most 3064 node steps and 16 free nodes, and 1532
-    /// steps and 9 nodes besides. No frame is taken or written.
+    /// A context gets the cells that a transfer gives it of another one, which may be the same, key by key.
+    /// For each range of the other one and for each item it takes at most 3064 node steps and 16 free nodes,
+    /// and 1532 steps and 9 nodes besides. No frame is taken or written.
     // The origins are a large value, which each caller would clear if this were a part of it.
     #[inline(never)]
     pub(crate) fn follow<L: Ledger>(

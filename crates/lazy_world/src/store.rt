@@ -48,8 +48,8 @@ impl Places {
         }
     }
 
-    /// Writes what a piece has of a page, if the page is the place's own, may be stored to and does not part, and
-    /// tells whether it did. If it did not, nothing changes.
+    /// Writes what a piece has of a page, if the page is the place's own, may be stored to and does not
+    /// part, and tells whether it did. If it did not, nothing changes.
     #[tactic(auto, unfolding(crate::specs::Seen::pages, crate::specs::Seen::count, crate::specs::Seen::frame_count))]
     pub fn write_in_place(&mut self, i: usize, p: u16, at: u32, piece: &[u8]) -> bool
         requires { i < count self.old }
@@ -57,8 +57,9 @@ impl Places {
         ensures may { result ≡ true → rights self.old i p ≡ Write }
         ensures alone { result ≡ true → places.is_parting (pages self.old) i p ≡ false }
         ensures enough { result ≡ true → places.used (pages self.old) ≤ frame_count self.old }
-        ensures rows { result ≡ true → (tag : Tag) → rows self.new ≡ put_row (rows self.old) i (with_key Cell
-            (Page p) (Own (Some (written_value (pages self.old) i p (record { at = at; bytes = piece.now }) tag)))
+        ensures rows { result ≡ true → (tag : Tag) → rows self.new ≡ put_row (rows self.old) i
+            (with_key Cell (Page p)
+            (Own (Some (written_value (pages self.old) i p (record { at = at; bytes = piece.now }) tag)))
             (rows self.old i)) }
         ensures same { result ≡ false → rows self.new ≡ rows self.old }
         ensures rights { rights self.new ≡ rights self.old }
@@ -174,8 +175,8 @@ impl PlacedWorld {
             .count()
     }
 
-    /// Whether the frames in use and the pages that a store to some pages of the context at a place parts are more
-    /// than the frames. These pages are looked at only where all of them could not part.
+    /// Whether the frames in use and the pages that a store to some pages of the context at a place parts
+    /// are more than the frames. These pages are looked at only where all of them could not part.
     #[tactic(auto, using(lwc_base::proofs::Small::count_of_range))]
     fn lacks_frames(&self, i: usize, pages: Touched) -> bool
         requires place { i < count self.now.places }
@@ -262,8 +263,8 @@ impl PlacedWorld {
         }
     }
 
-    /// Stores bytes in the context's memory from the address `at` on, if they are in one page, which is its own, may
-    /// be stored to and does not part, and tells whether it did. If it did not, nothing changes.
+    /// Stores bytes in the context's memory from the address `at` on, if they are in one page, which is its
+    /// own, may be stored to and does not part, and tells whether it did. If it did not, nothing changes.
     pub(crate) fn store_in_place(&mut self, c: Name, at: u32, piece: &[u8]) -> bool
         requires live { IsLive (seen self.old) c }
         requires within { at + length piece.now ≤ (seen self.old).size.pages * PAGE_BYTES }

@@ -94,8 +94,8 @@ impl RangeMap {
         self.state_at(p).map(|state| state.right)
     }
 
-    /// The first page after one that has another state, or the end of all pages. There are at most 64 ranges, so
-    /// that a walk from edge to edge is short.
+    /// The first page after one that has another state, or the end of all pages. There are at most 64
+    /// ranges, so that a walk from edge to edge is short.
     pub fn next_edge(&self, p: u16) -> u16
         requires { p < MOST_PAGES }
         ensures past { p < result }
@@ -107,8 +107,8 @@ impl RangeMap {
         page_runs::segment_edge(self.segments.as_slice(), p)
     }
 
-    /// Gives a state to the pages from `from` up to and without `to`, where no page from `from` on is present.
-    /// The last segment grows if it ends there and its pages have that state.
+    /// Gives a state to the pages from `from` up to and without `to`, where no page from `from` on is
+    /// present. The last segment grows if it ends there and its pages have that state.
     pub fn append(&mut self, from: u16, to: u16, state: PageState)
         requires order { from < to }
         requires inside { to ≤ MOST_PAGES }
@@ -126,7 +126,8 @@ impl RangeMap {
         }
     }
 
-    /// Lets the last segment end at `to` if it ends at `from` and its pages have a state. Tells whether it did.
+    /// Lets the last segment end at `to` if it ends at `from` and its pages have a state. Tells whether it
+    /// did.
     fn grow_last(&mut self, from: u16, to: u16, state: PageState) -> bool
         requires order { from < to }
         requires inside { to ≤ MOST_PAGES }
