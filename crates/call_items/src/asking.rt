@@ -1,4 +1,4 @@
-ghost use Rattle.std.specs.Prelude.{◌≡◌, ◌++◌, ◌≤◌, ℕ, Bool, List, Some, None, IfErr, IfOk};
+ghost use Rattle.std.specs.Prelude.{◌≡◌, ◌++◌, ◌≤◌, [], ℕ, Bool, List, Some, None, IfErr, IfOk, OnOk};
 ghost use Rattle.call_items.specs.Asked as spec;
 ghost use Rattle.call_items.specs.Asked.{item_refusals, items_of};
 ghost use Rattle.lwc_base.specs.Modes.{IsSpec};
@@ -17,7 +17,8 @@ use world_face::{World, bytes_for};
 /// The number of bytes of the most items.
 const BUFFER_BYTES: usize = MOST_ITEMS * ITEM_BYTES;
 
-/// The items that a call of a guest asks for: `count` of them, from the address `at` on.
+/// Reads the items that a call of a guest asks for into `items`: `count` of them, from the address `at` on. They are
+/// not answered, since a specifier is copied wherever it is moved.
 ///
 /// # Errors
 ///
@@ -31,25 +32,28 @@ pub fn items_for<W: World>(
     call: SpecCall,
     at: u64,
     count: u64,
-) -> Result<Spec, Refusal>
+    items: &mut Spec,
+) -> Result<(), Refusal>
     requires live { IsLive (W.seen world.now) c }
+    requires none { items.old ≡ [] }
     ensures refused { IfErr result (λ refusal. (rows : List (Bool × Refusal)) →
         first_refusal (item_refusals (W.seen world.now) c call at count ++ rows) ≡ Some refusal) }
-    ensures passed { IfOk result (λ items. (rows : List (Bool × Refusal)) →
+    ensures passed { OnOk result ((rows : List (Bool × Refusal)) →
         first_refusal (item_refusals (W.seen world.now) c call at count ++ rows) ≡ first_refusal rows) }
-    ensures items { IfOk result (λ items. items ≡ items_of (W.seen world.now) c call at count) }
-    ensures valid { IfOk result (λ items. IsSpec (W.seen world.now).size.pages items) }
+    ensures items { OnOk result (items.new ≡ items_of (W.seen world.now) c call at count) }
+    ensures valid { OnOk result (IsSpec (W.seen world.now).size.pages items.new) }
 {
     if count > MOST_ITEMS as u64 {
         return Err(Refusal::TooManyItems);
     }
     if count > 0 {
-        return some_items(world, c, call, at, count);
+        *items = some_items(world, c, call, at, count)?;
+        return Ok(());
     }
     if !bytes_for(world, c, at, &mut []) {
         return Err(Refusal::BadAddress);
     }
-    Ok(Spec::empty())
+    Ok(())
 }
 
 /// The items that a call asks for, which are not too many. It is apart from `items_for` so that a call that names

@@ -94,6 +94,7 @@ impl Names {
     }
 
     /// The place of a name, if it has one.
+    #[inline(always)]
     pub fn place(&self, name: Name) -> Option<usize>
         ensures place { result ≡ fm.get self.now.map name }
         ensures within { IfSome result (λ place. place < length self.now.places) }

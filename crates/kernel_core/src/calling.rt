@@ -8,7 +8,7 @@ ghost use Rattle.lwc_base.specs.declared.limits.TheConstants.{MOST_THREADS};
 
 use crate::acting::Change;
 use crate::thread::Thread;
-use lwc_base::{Answer, Channels, Moved, OutOfMemory};
+use lwc_base::{Answer, Channels, Moved, OutOfMemory, Regs};
 use lwc_create::create;
 use lwc_overlay::{overlay, restrict};
 use lwc_switch::switch;
@@ -88,9 +88,12 @@ fn call_switch<W: World>(world: &mut W, t: u32, thread: &mut Thread) -> Change
     ensures kept { Keeps result (W.seen world.old) thread.old (W.seen world.new) thread.new }
 {
     match switch(world, thread.context, t, &thread.regs) {
-        Moved::To { context, regs } => {
+        Moved::To {
+            context,
+            regs: Regs { r, pc },
+        } => {
             thread.context = context;
-            thread.regs = regs;
+            thread.regs = Regs { r, pc };
             Change::World
         }
         Moved::Refused(refusal) => {

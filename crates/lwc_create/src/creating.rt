@@ -1,4 +1,4 @@
-ghost use Rattle.std.specs.Prelude.{◌≡◌, Some, true, IfErr, IfOk, IsOk, OnErr};
+ghost use Rattle.std.specs.Prelude.{◌≡◌, [], Some, true, IfErr, IfOk, IsOk, OnErr};
 ghost use Rattle.lwc_base.specs.Modes.{IsSpec};
 ghost use Rattle.lwc_base.specs.Refusals.{first_refusal};
 ghost use Rattle.lwc_create.specs.Create as spec;
@@ -36,8 +36,9 @@ pub fn create<W: World>(
     ensures err { OnErr result (W.seen world.new ≡ W.seen world.old) }
     ensures ample { W.roomy ≡ true → IsOk result }
 {
-    let (items, slot) = match allowed(world, c, job, regs) {
-        Ok(made) => made,
+    let mut items = Spec::empty();
+    let slot = match allowed(world, c, job, regs, &mut items) {
+        Ok(slot) => slot,
         Err(refusal) => return Ok(Answer::Refused(refusal)),
     };
     let keys = Grant::All {
@@ -48,16 +49,23 @@ pub fn create<W: World>(
     Ok(Answer::Done(after_call(regs, u64::from(slot))))
 }
 
-/// The items and the slot that the new context is made with, or the first refusal.
-fn allowed<W: World>(world: &W, c: Name, job: u32, regs: &Regs) -> Result<(Spec, u8), Refusal>
+/// The slot for the descriptor of the new context, or the first refusal; the items that it is made with are read
+/// into `items`.
+fn allowed<W: World>(
+    world: &W,
+    c: Name,
+    job: u32,
+    regs: &Regs,
+    items: &mut Spec,
+) -> Result<u8, Refusal>
     requires live { IsLive (W.seen world.now) c }
+    requires none { items.old ≡ [] }
     ensures refused { IfErr result (λ refusal.
         first_refusal (spec.refusals (W.seen world.now) c job regs.now) ≡ Some refusal) }
-    ensures passed { IfOk result (λ made. IsAllowed (W.seen world.now) c job regs.now made.0 made.1) }
+    ensures passed { IfOk result (λ slot. IsAllowed (W.seen world.now) c job regs.now items.new slot) }
 {
-    let items = items_for(world, c, SpecCall::Create, regs.r[1], regs.r[2])?;
-    let slot = room_for(world, c, job, &items)?;
-    Ok((items, slot))
+    items_for(world, c, SpecCall::Create, regs.r[1], regs.r[2], items)?;
+    room_for(world, c, job, items)
 }
 
 /// The slot for the descriptor of a context that is made by these items, or the first refusal.

@@ -37,6 +37,7 @@ pub(crate) fn named<'w, W: World>(
     ensures valid { IfOk result (λ found. IsSpec (W.seen world.now).size.pages found.1) }
 {
     let link = context_for(world, c, regs.r[1])?;
-    let items = items_for(world, c, call, regs.r[2], regs.r[3])?;
+    let mut items = Spec::empty();
+    items_for(world, c, call, regs.r[2], regs.r[3], &mut items)?;
     Ok((link, items))
 }

@@ -7,7 +7,7 @@ ghost use Rattle.world_face.specs.Calls.{IsLive};
 use crate::traps::Traps;
 use call_items::items_for;
 use guest_call::context_for;
-use lwc_base::{Item, Kind, Mode, Name, Regs};
+use lwc_base::{Item, Kind, Mode, Name, Regs, Spec};
 use res_spec::SpecCall;
 use world_face::World;
 
@@ -35,8 +35,16 @@ pub fn forbids_overlay<W: World>(traps: &Traps, world: &W, c: Name, regs: &Regs)
     let Some(monitor) = monitor_of_named(traps, world, c, regs) else {
         return false;
     };
-    match items_for(world, c, SpecCall::Overlay, regs.r[2], regs.r[3]) {
-        Ok(items) => monitor != c || share_slots(items.items()),
+    let mut items = Spec::empty();
+    match items_for(
+        world,
+        c,
+        SpecCall::Overlay,
+        regs.r[2],
+        regs.r[3],
+        &mut items,
+    ) {
+        Ok(()) => monitor != c || share_slots(items.items()),
         Err(_) => false,
     }
 }

@@ -11,5 +11,5 @@ returns-clause-passed g c rows =
 
 pub returns-clause-items : goal.returns-clause-items
 returns-clause-items g c =
-    subst (λ count. c.empty.result ≡ items_of (g.W.World.seen c.args.world.now) c.args.c c.args.call c.args.at count)
-    (omega (arith, c.if-count-gt0.false)) (c.empty.ensures ∙ sym (no_items (g.W.World.seen c.args.world.now) c.args.c c.args.call c.args.at (sym c.bytes_for.ensures.present ∙ c.if-not-bytes_for.false)))
+    subst (λ count. c.args.items.now ≡ items_of (g.W.World.seen c.args.world.now) c.args.c c.args.call c.args.at count)
+    (omega (arith, c.if-count-gt0.false)) (c.requires.none ∙ sym (no_items (g.W.World.seen c.args.world.now) c.args.c c.args.call c.args.at (sym c.bytes_for.ensures.present ∙ c.if-not-bytes_for.false)))
