@@ -14,7 +14,8 @@ use Rattle.lwc_vault.proofs.Never.{outside_by_switches}
 use Rattle.lwc_vault.proofs.Shapes.{start-shape, text-shape}
 use Rattle.lwc_vault.proofs.Staying.{all-outside, no_serve}
 use Rattle.lwc_vault.proofs.Telling.{ActOutside, act-back, act-blank, kept-blank, text_of}
-use Rattle.lwc_vault.specs.Secrets.{ActsOutside, HaveOneShape, KeepsSecret, StandOutside, beside}
+use Rattle.lwc_vault.specs.Blanks.{ActsOutside}
+use Rattle.lwc_vault.specs.Secrets.{HaveOneShape, KeepsSecret, StandOutside, beside}
 
 -- who has ended makes no step, inside or outside
 ended_acts : (m : Machine) (t : ℕ) → is_ended m t ≡ true → ActsOutside m t

@@ -25,7 +25,8 @@ use Rattle.lwc_base.specs.declared.right.Right.TheVariants.{Write}
 use Rattle.lwc_text.specs.Report.{report_after}
 use Rattle.lwc_vault.proofs.Staying.{all-outside, no_serve}
 use Rattle.lwc_vault.proofs.Telling.{ActOutside, act-back, act-blank, legal-back, legal-blank, text-blank, text_of}
-use Rattle.lwc_vault.specs.Secrets.{HaveOneShape, StandOutside, TellsNothing, beside, blank_machine}
+use Rattle.lwc_vault.specs.Blanks.{blank_machine}
+use Rattle.lwc_vault.specs.Secrets.{HaveOneShape, StandOutside, TellsNothing, beside}
 use Rattle.vault_view.proofs.Changes.{blanks-alike}
 use Rattle.vault_view.specs.Blank.{blank, blank_context, blank_page, blank_value}
 

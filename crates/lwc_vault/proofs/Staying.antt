@@ -35,7 +35,8 @@ use Rattle.lwc_base.specs.Life.{is_of}
 use Rattle.lwc_base.proofs.Lookups.{context-dead}
 use Rattle.lwc_base.proofs.Slots.{put_slot-reads}
 use Rattle.lwc_vault.proofs.Telling.{ActOutside}
-use Rattle.lwc_vault.specs.Secrets.{ActsOutside, StandOutside, StandsOutside, beside}
+use Rattle.lwc_vault.specs.Blanks.{ActsOutside}
+use Rattle.lwc_vault.specs.Secrets.{StandOutside, StandsOutside, beside}
 use Rattle.vault_calls.specs.Outside.{IsShut, LacksKeys}
 
 -- each descriptor of the vault has no key

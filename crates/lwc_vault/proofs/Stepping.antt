@@ -19,7 +19,7 @@ use Rattle.lwc_base.specs.declared.fault.ThreadStatus.{ThreadStatus}
 use Rattle.lwc_base.specs.declared.fault.ThreadStatus.TheVariants as status
 use Rattle.lwc_base.specs.declared.name.Name.{Name}
 use Rattle.lwc_base.specs.declared.page.TheConstants.{PAGE_BYTES}
-use Rattle.lwc_vault.specs.Secrets.{ActsOutside, blank_machine}
+use Rattle.lwc_vault.specs.Blanks.{ActsOutside, blank_machine}
 use Rattle.vault_calls.specs.Outside.{CallsAlike, IsOutside}
 use Rattle.kernel_core.specs.Start.{vault_name}
 use Rattle.vault_calls.proofs.Alike.{calls-alike}

@@ -19,7 +19,7 @@ use Rattle.lwc_base.specs.declared.fault.ThreadStatus.TheVariants as status
 use Rattle.lwc_base.specs.declared.name.Name.{Name}
 use Rattle.lwc_text.specs.Lines.{context_line, groups_line, tail_lines}
 use Rattle.lwc_text.specs.Report.{contexts_text, replies_text, report_of, threads_text}
-use Rattle.lwc_vault.specs.Secrets.{ActsOutside, blank_machine}
+use Rattle.lwc_vault.specs.Blanks.{ActsOutside, blank_machine}
 use Rattle.vault_calls.specs.Outside.{IsOutside}
 use Rattle.kernel_core.proofs.Runs.{step_of_ended}
 use Rattle.kernel_core.specs.Start.{vault_name}

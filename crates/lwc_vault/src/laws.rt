@@ -14,8 +14,10 @@ ghost use Rattle.lwc_base.specs.declared.answer.Moved.TheVariants.{To};
 ghost use Rattle.lwc_base.specs.declared.regs.Regs.{Regs};
 ghost use Rattle.lwc_switch.specs.Switch.{switch};
 ghost use Rattle.lwc_text.specs.Report.{report_after, report_of};
-ghost use Rattle.lwc_vault.specs.Secrets.{ActsOutside, KeepsSecret, NoneEnters, StandOutside};
-ghost use Rattle.lwc_vault.specs.Secrets.{StandsOutside, TellsNothing, beside, blank_machine};
+ghost use Rattle.lwc_vault.specs.Blanks.{ActsOutside};
+ghost use Rattle.lwc_vault.specs.Secrets.{KeepsSecret, NoneEnters, StandOutside};
+ghost use Rattle.lwc_vault.specs.Blanks.{blank_machine};
+ghost use Rattle.lwc_vault.specs.Secrets.{StandsOutside, TellsNothing, beside};
 
 /// A step of a thread that is outside the vault is the same step where the vault is blank. That it enters the
 /// vault by an accepted switch is no exception.

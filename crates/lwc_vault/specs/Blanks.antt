@@ -1,0 +1,19 @@
+-- Machines in which the vault is blank, and threads to which that makes no difference.
+use Rattle.std.specs.Prelude.{◌≡◌, ℕ, Some, slice_get}
+use Rattle.kernel_core.specs.Machine.{Machine}
+use Rattle.kernel_core.specs.Start.{vault_name}
+use Rattle.kernel_core.specs.Step.{with_world}
+use Rattle.kernel_core.specs.declared.thread.Thread.{Thread}
+use Rattle.lwc_base.specs.declared.fault.ThreadStatus.TheVariants.{Running}
+use Rattle.vault_calls.specs.Outside.{IsOutside}
+use Rattle.vault_view.specs.Blank.{blank}
+
+-- the machine with zero bytes in each page of the vault, the tags kept
+abbrev pub blank_machine : Machine → Machine
+blank_machine m = record m { environment = with_world m.environment (blank vault_name m.environment.world) }
+
+-- the thread of a number, if it runs, is outside the vault, and none of its descriptors opens the vault
+abbrev pub ActsOutside : Machine → ℕ → Type 0
+ActsOutside m t =
+    (x : Thread) → slice_get m.threads t ≡ Some x → x.status ≡ Running →
+    IsOutside vault_name x.context x.job m.environment.world
