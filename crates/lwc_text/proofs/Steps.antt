@@ -11,7 +11,7 @@ use Rattle.byte_reading.specs.Outcomes.{Fails, IsFound, unless_refused}
 use Rattle.byte_reading.specs.declared.error.ReadError.{ReadError}
 use Rattle.byte_reading.specs.declared.error.ReadError.TheVariants as errors
 use Rattle.lwc_text.specs.declared.fault.InputRule.{InputRule}
-use Rattle.lwc_base.specs.declared.limits.TheConstants.{MOST_SCHEDULE_BYTES, MOST_STEPS, MOST_THREADS}
+use Rattle.lwc_base.specs.declared.limits.TheConstants.{MOST_SCHEDULE_BYTES, MOST_THREADS}
 use Rattle.lwc_text.proofs.Refusals.{clear_next, first_refused, none_refused, nothing_refused, read_by, unless_none}
 use Rattle.lwc_text.specs.Schedules.{IsSchedule, digit_number, is_blank, names_thread, numbers, refusal_at, refusal_of, refusals, rule_broken, schedule_at}
 
@@ -37,19 +37,19 @@ pub named_adds : (b t : ℕ) → digit_number b ≡ Some t → numbers (b ∷ []
 named_adds b t h = ap (λ o. cons_option o []) h
 
 -- a byte that breaks no rule
-record IsKept (threads before b : ℕ) : Type 0 where
+record IsKept (threads most before b : ℕ) : Type 0 where
   fits : Fits threads b
-  few : before ≤ MOST_STEPS → before + length (numbers (b ∷ [])) ≤ MOST_STEPS
+  few : before ≤ most → before + length (numbers (b ∷ [])) ≤ most
 
-kept : (threads before b : ℕ) → rule_broken threads before b ≡ None → IsKept threads before b
-kept threads before b h = record {
+kept : (threads most before b : ℕ) → rule_broken threads most before b ≡ None → IsKept threads most before b
+kept threads most before b h = record {
   fits = grind (arith, nat_tests);
   few = λ short. grind (arith, nat_tests, blank_has_none, named_has_number);
 }
 
 -- a byte that fits breaks no rule where there is room for what it adds
-keeps : (threads before b : ℕ) → Fits threads b → before + length (numbers (b ∷ [])) ≤ MOST_STEPS → rule_broken threads before b ≡ None
-keeps threads before b fits few = grind (arith, nat_tests, blank_has_none, named_has_number)
+keeps : (threads most before b : ℕ) → Fits threads b → before + length (numbers (b ∷ [])) ≤ most → rule_broken threads most before b ≡ None
+keeps threads most before b fits few = grind (arith, nat_tests, blank_has_none, named_has_number)
 
 numbers-cons : (b : ℕ) (bytes : List ℕ) → numbers (b ∷ bytes) ≡ numbers (b ∷ []) ++ numbers bytes
 numbers-cons b bytes = elim (digit_number b) as (λ (o : Option ℕ). cons_option o (numbers bytes) ≡ cons_option o [] ++ numbers bytes) [ None ↦ refl | Some t ↦ refl ]
@@ -64,27 +64,27 @@ numbers-append (b ∷ xs) ys =
 numbers-next : (bytes : List ℕ) (at : ℕ) → at < length bytes → numbers (take (at + 1) bytes) ≡ numbers (take at bytes) ++ numbers (get_or bytes at 0 ∷ [])
 numbers-next bytes at within = ap numbers (take_more bytes at 0 within) ∙ numbers-append (take at bytes) (get_or bytes at 0 ∷ [])
 
--- the steps so far are the digits of the bytes so far, at most MOST_STEPS, and none of these bytes is refused
-pub record IsSoFar (threads : ℕ) (bytes : List ℕ) (at : ℕ) (steps : List ℕ) : Type 0 where
+-- the steps so far are the digits of the bytes so far, no more than there may be, and none of these bytes is refused
+pub record IsSoFar (threads most : ℕ) (bytes : List ℕ) (at : ℕ) (steps : List ℕ) : Type 0 where
   pub named : steps ≡ numbers (take at bytes)
-  pub few : length steps ≤ MOST_STEPS
-  pub clear : (i : ℕ) → i < at → refusal_at threads bytes i ≡ None
+  pub few : length steps ≤ most
+  pub clear : (i : ℕ) → i < at → refusal_at threads most bytes i ≡ None
 
-refusal_here : (threads : ℕ) (bytes : List ℕ) (at before : ℕ) → before ≡ length (numbers (take at bytes)) →
-    option_map (refusal_of at) (rule_broken threads before (get_or bytes at 0)) ≡ refusal_at threads bytes at
+refusal_here : (threads most : ℕ) (bytes : List ℕ) (at before : ℕ) → before ≡ length (numbers (take at bytes)) →
+    option_map (refusal_of at) (rule_broken threads most before (get_or bytes at 0)) ≡ refusal_at threads most bytes at
 unfolding refusal_at
-refusal_here threads bytes at before is = ap (λ n. option_map (refusal_of at) (rule_broken threads n (get_or bytes at 0))) is
+refusal_here threads most bytes at before is = ap (λ n. option_map (refusal_of at) (rule_broken threads most n (get_or bytes at 0))) is
 
 -- a loop continues after a byte
-pub continues : (threads at : ℕ) (before after bytes : List ℕ) → at < length bytes → rule_broken threads (length before) (get_or bytes at 0) ≡ None →
-    after ≡ before ++ numbers (get_or bytes at 0 ∷ []) → length after ≤ MOST_STEPS → IsSoFar threads bytes at before → IsSoFar threads bytes (at + 1) after
-continues threads at before after bytes within unbroken added few so_far =
-    let here : refusal_at threads bytes at ≡ None =
-    sym (refusal_here threads bytes at (length before) (ap length so_far.named)) ∙ ap (option_map (refusal_of at)) unbroken in
+pub continues : (threads most at : ℕ) (before after bytes : List ℕ) → at < length bytes → rule_broken threads most (length before) (get_or bytes at 0) ≡ None →
+    after ≡ before ++ numbers (get_or bytes at 0 ∷ []) → length after ≤ most → IsSoFar threads most bytes at before → IsSoFar threads most bytes (at + 1) after
+continues threads most at before after bytes within unbroken added few so_far =
+    let here : refusal_at threads most bytes at ≡ None =
+    sym (refusal_here threads most bytes at (length before) (ap length so_far.named)) ∙ ap (option_map (refusal_of at)) unbroken in
     record {
       named = added ∙ ap (λ l. l ++ numbers (get_or bytes at 0 ∷ [])) so_far.named ∙ sym (numbers-next bytes at within);
       few = few;
-      clear = clear_next (refusal_at threads bytes) at so_far.clear here;
+      clear = clear_next (refusal_at threads most bytes) at so_far.clear here;
     }
 
 -- the decimal digit of a thread
@@ -123,31 +123,31 @@ plain_fits : (threads b : ℕ) → IsPlain threads b → Fits threads b
 plain_fits threads b is = grind (arith, nat_tests)
 
 -- a loop over plain digits continues after each
-pub plain_continues : (threads at : ℕ) (steps bytes : List ℕ) → at < length bytes → at < MOST_STEPS → length steps ≡ at → IsPlain threads (get_or bytes at 0) →
-    IsSoFar threads bytes at steps → IsSoFar threads bytes (at + 1) (steps ++ (get_or bytes at 0 - 48) ∷ [])
-plain_continues threads at steps bytes within few long is so_far =
+pub plain_continues : (threads most at : ℕ) (steps bytes : List ℕ) → at < length bytes → at < most → length steps ≡ at → IsPlain threads (get_or bytes at 0) →
+    IsSoFar threads most bytes at steps → IsSoFar threads most bytes (at + 1) (steps ++ (get_or bytes at 0 - 48) ∷ [])
+plain_continues threads most at steps bytes within few long is so_far =
     let b = get_or bytes at 0 in
     let one : numbers (b ∷ []) ≡ (b - 48) ∷ [] = named_adds b (b - 48) (plain_number threads b is) in
-    continues threads at steps (steps ++ (b - 48) ∷ []) bytes within
-    (keeps threads (length steps) b (plain_fits threads b is) (omega (arith, long, few, ap length one)))
+    continues threads most at steps (steps ++ (b - 48) ∷ []) bytes within
+    (keeps threads most (length steps) b (plain_fits threads b is) (omega (arith, long, few, ap length one)))
     (ap (λ l. steps ++ l) (sym one)) (omega (arith, long, few, length-append steps ((b - 48) ∷ []))) so_far
 
 -- a loop ends at a byte
-pub ends : (e : ReadError InputRule) (threads at : ℕ) (before bytes : List ℕ) → at < length bytes → IsFound e (option_map (refusal_of at) (rule_broken threads (length before) (get_or bytes at 0))) →
-    IsSoFar threads bytes at before → Fails e (unless_refused (numbers bytes) (refusals threads bytes))
+pub ends : (e : ReadError InputRule) (threads most at : ℕ) (before bytes : List ℕ) → at < length bytes → IsFound e (option_map (refusal_of at) (rule_broken threads most (length before) (get_or bytes at 0))) →
+    IsSoFar threads most bytes at before → Fails e (unless_refused (numbers bytes) (refusals threads most bytes))
 unfolding refusals
-ends errors.OutOfMemory threads at before bytes within found so_far = tt
-ends (errors.Refused rule offset) threads at before bytes within found so_far =
-    first_refused (refusal_at threads bytes) (numbers bytes) 0 (length bytes) at (record { rule = rule; at = offset }) (omega arith) (omega arith)
-    (λ i low below. so_far.clear i below) (sym (refusal_here threads bytes at (length before) (ap length so_far.named)) ∙ found)
+ends errors.OutOfMemory threads most at before bytes within found so_far = tt
+ends (errors.Refused rule offset) threads most at before bytes within found so_far =
+    first_refused (refusal_at threads most bytes) (numbers bytes) 0 (length bytes) at (record { rule = rule; at = offset }) (omega arith) (omega arith)
+    (λ i low below. so_far.clear i below) (sym (refusal_here threads most bytes at (length before) (ap length so_far.named)) ∙ found)
 
 -- a loop is done after the last byte
-pub is_done : (threads at : ℕ) (before bytes : List ℕ) → length bytes ≡ at → IsSoFar threads bytes at before → unless_refused (numbers bytes) (refusals threads bytes) ≡ Ok before
+pub is_done : (threads most at : ℕ) (before bytes : List ℕ) → length bytes ≡ at → IsSoFar threads most bytes at before → unless_refused (numbers bytes) (refusals threads most bytes) ≡ Ok before
 unfolding refusals
-is_done threads at before bytes end so_far =
+is_done threads most at before bytes end so_far =
     let whole : before ≡ numbers bytes = so_far.named ∙ ap (λ n. numbers (take n bytes)) (sym end) ∙ ap numbers (take-length bytes) in
-    unless_none (numbers bytes) (filter_map (refusal_at threads bytes) (range_with_len 0 (length bytes)))
-    (none_refused (refusal_at threads bytes) 0 (length bytes) (λ i low below. so_far.clear i (omega (arith, end))))
+    unless_none (numbers bytes) (filter_map (refusal_at threads most bytes) (range_with_len 0 (length bytes)))
+    (none_refused (refusal_at threads most bytes) 0 (length bytes) (λ i low below. so_far.clear i (omega (arith, end))))
     ∙ ap Ok (sym whole)
 
 -- the first number, if there is one, and the rest
@@ -173,21 +173,21 @@ are_there threads [] each = All-nil (λ t. t < threads)
 are_there threads (b ∷ bytes) each =
     numbers_hold (λ t. t < threads) b bytes (λ t e. digit_is_there threads b t (All-head (Fits threads) b bytes each) e) (are_there threads bytes (All-tail (Fits threads) b bytes each))
 
-pub digits_are_read : (threads : ℕ) (bytes steps : List ℕ) → unless_refused (numbers bytes) (refusals threads bytes) ≡ Ok steps → All (λ t. t < MOST_THREADS) steps
-digits_are_read threads bytes steps h =
-    subst (λ (xs : List ℕ). All (λ t. t < MOST_THREADS) xs) (read_by steps (numbers bytes) (refusals threads bytes) h).1 (digits_are_below bytes)
+pub digits_are_read : (threads most : ℕ) (bytes steps : List ℕ) → unless_refused (numbers bytes) (refusals threads most bytes) ≡ Ok steps → All (λ t. t < MOST_THREADS) steps
+digits_are_read threads most bytes steps h =
+    subst (λ (xs : List ℕ). All (λ t. t < MOST_THREADS) xs) (read_by steps (numbers bytes) (refusals threads most bytes) h).1 (digits_are_below bytes)
 
 unbroken : (at : ℕ) (rule : Option InputRule) → option_map (refusal_of at) rule ≡ None → rule ≡ None
 unbroken at None none = refl
 unbroken at (Some r) none = absurd (cc)
 
 -- bytes of which none is refused
-module _ (threads : ℕ) (bytes : List ℕ) (clear : (i : ℕ) → i < length bytes → refusal_at threads bytes i ≡ None) where
-  kept_at : (i : ℕ) → i < length bytes → IsKept threads (length (numbers (take i bytes))) (get_or bytes i 0)
+module _ (threads most : ℕ) (bytes : List ℕ) (clear : (i : ℕ) → i < length bytes → refusal_at threads most bytes i ≡ None) where
+  kept_at : (i : ℕ) → i < length bytes → IsKept threads most (length (numbers (take i bytes))) (get_or bytes i 0)
   unfolding refusal_at
-  kept_at i within = kept threads (length (numbers (take i bytes))) (get_or bytes i 0) (unbroken i _ (clear i within))
+  kept_at i within = kept threads most (length (numbers (take i bytes))) (get_or bytes i 0) (unbroken i _ (clear i within))
 
-  few_so_far : (at : ℕ) → at ≤ length bytes → length (numbers (take at bytes)) ≤ MOST_STEPS
+  few_so_far : (at : ℕ) → at ≤ length bytes → length (numbers (take at bytes)) ≤ most
   few_so_far zero within = omega arith
   few_so_far (suc at) within =
       let next : suc at ≡ at + 1 = omega arith in
@@ -197,63 +197,63 @@ module _ (threads : ℕ) (bytes : List ℕ) (clear : (i : ℕ) → i < length by
   each_fits : All (Fits threads) bytes
   each_fits = All-from_get_or (Fits threads) bytes 0 (λ i within. (kept_at i within).fits)
 
-  few_steps : length (numbers bytes) ≤ MOST_STEPS
-  few_steps = subst (λ (l : List ℕ). length (numbers l) ≤ MOST_STEPS) (take-length bytes) (few_so_far (length bytes) (omega arith))
+  few_steps : length (numbers bytes) ≤ most
+  few_steps = subst (λ (l : List ℕ). length (numbers l) ≤ most) (take-length bytes) (few_so_far (length bytes) (omega arith))
 
-short_is_read : (threads : ℕ) (bytes steps : List ℕ) → schedule_at threads bytes ≡ Ok steps → (length bytes ≤ MOST_SCHEDULE_BYTES) × (unless_refused (numbers bytes) (refusals threads bytes) ≡ Ok steps)
+short_is_read : (threads most : ℕ) (bytes steps : List ℕ) → schedule_at threads most bytes ≡ Ok steps → (length bytes ≤ MOST_SCHEDULE_BYTES) × (unless_refused (numbers bytes) (refusals threads most bytes) ≡ Ok steps)
 unfolding schedule_at
-short_is_read threads bytes steps h = grind arith
+short_is_read threads most bytes steps h = grind arith
 
 -- what is read is a schedule
-pub is_schedule : (threads : ℕ) (bytes steps : List ℕ) → schedule_at threads bytes ≡ Ok steps → IsSchedule threads bytes steps
+pub is_schedule : (threads most : ℕ) (bytes steps : List ℕ) → schedule_at threads most bytes ≡ Ok steps → IsSchedule threads most bytes steps
 unfolding refusals
-is_schedule threads bytes steps h =
-    let short : (length bytes ≤ MOST_SCHEDULE_BYTES) × (unless_refused (numbers bytes) (refusals threads bytes) ≡ Ok steps) = short_is_read threads bytes steps h in
-    let read : (refusals threads bytes ≡ []) × (numbers bytes ≡ steps) = read_by steps (numbers bytes) (refusals threads bytes) short.1 in
-    let clear : (i : ℕ) → i < length bytes → refusal_at threads bytes i ≡ None =
-    λ i within. nothing_refused (refusal_at threads bytes) 0 (length bytes) read.0 i (omega arith) (omega arith) in
+is_schedule threads most bytes steps h =
+    let short : (length bytes ≤ MOST_SCHEDULE_BYTES) × (unless_refused (numbers bytes) (refusals threads most bytes) ≡ Ok steps) = short_is_read threads most bytes steps h in
+    let read : (refusals threads most bytes ≡ []) × (numbers bytes ≡ steps) = read_by steps (numbers bytes) (refusals threads most bytes) short.1 in
+    let clear : (i : ℕ) → i < length bytes → refusal_at threads most bytes i ≡ None =
+    λ i within. nothing_refused (refusal_at threads most bytes) 0 (length bytes) read.0 i (omega arith) (omega arith) in
     record {
       short = short.0;
-      each = each_fits threads bytes clear;
+      each = each_fits threads most bytes clear;
       named = sym read.1;
-      few = subst (λ (l : List ℕ). length l ≤ MOST_STEPS) read.1 (few_steps threads bytes clear);
+      few = subst (λ (l : List ℕ). length l ≤ most) read.1 (few_steps threads most bytes clear);
     }
 
 -- each step of a schedule is of one of the threads
-pub threads_are_there : (threads : ℕ) (bytes steps : List ℕ) → schedule_at threads bytes ≡ Ok steps → All (λ t. t < threads) steps
-threads_are_there threads bytes steps h =
-    let is : IsSchedule threads bytes steps = is_schedule threads bytes steps h in
+pub threads_are_there : (threads most : ℕ) (bytes steps : List ℕ) → schedule_at threads most bytes ≡ Ok steps → All (λ t. t < threads) steps
+threads_are_there threads most bytes steps h =
+    let is : IsSchedule threads most bytes steps = is_schedule threads most bytes steps h in
     subst (λ (xs : List ℕ). All (λ t. t < threads) xs) (sym is.named) (are_there threads bytes is.each)
 
-short_reads : (threads : ℕ) (bytes : List ℕ) → length bytes ≤ MOST_SCHEDULE_BYTES → schedule_at threads bytes ≡ unless_refused (numbers bytes) (refusals threads bytes)
+short_reads : (threads most : ℕ) (bytes : List ℕ) → length bytes ≤ MOST_SCHEDULE_BYTES → schedule_at threads most bytes ≡ unless_refused (numbers bytes) (refusals threads most bytes)
 unfolding schedule_at
-short_reads threads bytes h = grind arith
+short_reads threads most bytes h = grind arith
 
 -- the bytes so far have no more digits than all bytes
 fewer_so_far : (bytes : List ℕ) (at : ℕ) → length (numbers (take at bytes)) ≤ length (numbers bytes)
 fewer_so_far bytes at =
     omega (arith, ap length (ap numbers (sym (take-append-drop at bytes)) ∙ numbers-append (take at bytes) (drop at bytes)), length-append (numbers (take at bytes)) (numbers (drop at bytes)))
 
-clear_of_schedule : (threads : ℕ) (bytes steps : List ℕ) → IsSchedule threads bytes steps → (i : ℕ) → i < length bytes → refusal_at threads bytes i ≡ None
+clear_of_schedule : (threads most : ℕ) (bytes steps : List ℕ) → IsSchedule threads most bytes steps → (i : ℕ) → i < length bytes → refusal_at threads most bytes i ≡ None
 unfolding refusal_at
-clear_of_schedule threads bytes steps is i within =
+clear_of_schedule threads most bytes steps is i within =
     let fits : Fits threads (get_or bytes i 0) = All-get_or (Fits threads) bytes i 0 within is.each in
-    let room : length (numbers (take i bytes)) + length (numbers (get_or bytes i 0 ∷ [])) ≤ MOST_STEPS =
+    let room : length (numbers (take i bytes)) + length (numbers (get_or bytes i 0 ∷ [])) ≤ most =
     omega (arith, ap length (numbers-next bytes i within), length-append (numbers (take i bytes)) (numbers (get_or bytes i 0 ∷ [])), fewer_so_far bytes (i + 1), ap length is.named, is.few) in
-    ap (option_map (refusal_of i)) (keeps threads (length (numbers (take i bytes))) (get_or bytes i 0) fits room)
+    ap (option_map (refusal_of i)) (keeps threads most (length (numbers (take i bytes))) (get_or bytes i 0) fits room)
 
 -- a schedule is read whole
-pub is_read : (threads : ℕ) (bytes steps : List ℕ) → IsSchedule threads bytes steps → schedule_at threads bytes ≡ Ok steps
+pub is_read : (threads most : ℕ) (bytes steps : List ℕ) → IsSchedule threads most bytes steps → schedule_at threads most bytes ≡ Ok steps
 unfolding refusals
-is_read threads bytes steps is =
-    short_reads threads bytes is.short
-    ∙ unless_none (numbers bytes) (filter_map (refusal_at threads bytes) (range_with_len 0 (length bytes)))
-    (none_refused (refusal_at threads bytes) 0 (length bytes) (λ i low high. clear_of_schedule threads bytes steps is i (omega arith)))
+is_read threads most bytes steps is =
+    short_reads threads most bytes is.short
+    ∙ unless_none (numbers bytes) (filter_map (refusal_at threads most bytes) (range_with_len 0 (length bytes)))
+    (none_refused (refusal_at threads most bytes) 0 (length bytes) (λ i low high. clear_of_schedule threads most bytes steps is i (omega arith)))
     ∙ ap Ok (sym is.named)
 
 -- so the only error is out of memory
-pub is_answered : (threads : ℕ) (bytes steps : List ℕ) (e : ReadError InputRule) → IsSchedule threads bytes steps → Fails e (schedule_at threads bytes) → e ≡ errors.OutOfMemory
-is_answered threads bytes steps errors.OutOfMemory is fails = refl
-is_answered threads bytes steps (errors.Refused rule offset) is fails = let read : schedule_at threads bytes ≡ Ok steps = is_read threads bytes steps is in absurd (cc)
+pub is_answered : (threads most : ℕ) (bytes steps : List ℕ) (e : ReadError InputRule) → IsSchedule threads most bytes steps → Fails e (schedule_at threads most bytes) → e ≡ errors.OutOfMemory
+is_answered threads most bytes steps errors.OutOfMemory is fails = refl
+is_answered threads most bytes steps (errors.Refused rule offset) is fails = let read : schedule_at threads most bytes ≡ Ok steps = is_read threads most bytes steps is in absurd (cc)
 
 pub ruleset schedule_reading = (is_schedule, is_answered, threads_are_there)

@@ -8,10 +8,10 @@ use Rattle.lwc_text.specs.Schedules.{IsSchedule, schedule_at}
 
 -- what is read of a schedule is its steps, and a schedule is read
 pub record ScheduleFacts : Type 0 where
-  pub found : (threads : ℕ) (bytes steps : List ℕ) → schedule_at threads bytes ≡ Ok steps
-      → IsSchedule threads bytes steps
-  pub reads : (threads : ℕ) (bytes steps : List ℕ) → IsSchedule threads bytes steps
-      → schedule_at threads bytes ≡ Ok steps
+  pub found : (threads most : ℕ) (bytes steps : List ℕ) → schedule_at threads most bytes ≡ Ok steps
+      → IsSchedule threads most bytes steps
+  pub reads : (threads most : ℕ) (bytes steps : List ℕ) → IsSchedule threads most bytes steps
+      → schedule_at threads most bytes ≡ Ok steps
 
 -- what is read of a request file is its requests, and a request file is read
 pub record RequestFacts : Type 0 where

@@ -10,6 +10,7 @@ pub use Rattle.lwc_base.specs.Summaries
 pub use Rattle.lwc_base.specs.World
 pub mod Facts
 pub mod Glyphs
+pub mod Numbers
 pub mod Rules
 pub mod Schedules
 pub mod Requests

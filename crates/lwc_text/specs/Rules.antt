@@ -1,7 +1,7 @@
 -- The names of the rules.
 use Rattle.std.specs.Prelude.{ℕ, List, codes}
 use Rattle.lwc_text.specs.declared.fault.InputRule.{InputRule}
-use Rattle.lwc_text.specs.declared.fault.InputRule.TheVariants.{TooLong, BadThread, TooManySteps, TooManyRequests, BadHex, RequestTooLong, OddLength, TooMuchWork, Truncated, BadEntry, BadPage, SlotTaken}
+use Rattle.lwc_text.specs.declared.fault.InputRule.TheVariants.{TooLong, BadThread, TooManySteps, TooManyRequests, BadHex, RequestTooLong, OddLength, TooMuchWork, Truncated, BadEntry, BadPage, SlotTaken, BadCommand, TooManyCommands}
 
 -- the bytes of a rule's name
 abbrev pub rule_name : InputRule → List ℕ
@@ -17,3 +17,5 @@ rule_name Truncated = codes "Truncated"
 rule_name BadEntry = codes "BadEntry"
 rule_name BadPage = codes "BadPage"
 rule_name SlotTaken = codes "SlotTaken"
+rule_name BadCommand = codes "BadCommand"
+rule_name TooManyCommands = codes "TooManyCommands"

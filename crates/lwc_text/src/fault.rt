@@ -12,7 +12,7 @@ pub enum InputRule {
     TooLong,
     /// A byte is neither blank nor the digit of a thread that is there.
     BadThread,
-    /// There are more than `MOST_STEPS` steps.
+    /// There are more steps than there may be: `MOST_STEPS`, or fewer where the reader says so.
     TooManySteps,
     /// There are more than `MOST_REQUESTS` requests.
     TooManyRequests,
@@ -32,6 +32,10 @@ pub enum InputRule {
     BadPage,
     /// The image has a file in the vault's slot.
     SlotTaken,
+    /// A line of a script is not a command.
+    BadCommand,
+    /// A script has more commands than it may have.
+    TooManyCommands,
 }
 
 impl InputRule {
@@ -52,6 +56,8 @@ impl InputRule {
             InputRule::BadEntry => "BadEntry",
             InputRule::BadPage => "BadPage",
             InputRule::SlotTaken => "SlotTaken",
+            InputRule::BadCommand => "BadCommand",
+            InputRule::TooManyCommands => "TooManyCommands",
         }
     }
 }

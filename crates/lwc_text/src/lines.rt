@@ -6,7 +6,7 @@ ghost use Rattle.std.specs.List.{flat_map};
 ghost use Rattle.std.specs.Option.{option_map};
 ghost use Rattle.lwc_text.specs.Lines.{bytes_text, context_line, groups_line, name_text, regs_line};
 ghost use Rattle.lwc_text.specs.Lines.{reply_line, reply_text, status_text, steps_text, tail_lines};
-ghost use Rattle.lwc_text.specs.Lines.{thread_line, thread_lines, trap_line};
+ghost use Rattle.lwc_text.specs.Lines.{thread_line, thread_lines, trap_line, used_line};
 
 use crate::digits::digits_of;
 use kernel_core::ThreadView;
@@ -52,6 +52,15 @@ pub fn groups_line(out: &mut Vec<u8>, groups: u32) -> Result<(), OutOfMemory>
     ensures err { OnErr result (out.new.items ≡ out.old.items) }
 {
     let line = format!(in *out.allocator(); "groups {groups}\n")?;
+    append(out, line.as_str())
+}
+
+/// Appends the line of the number of frames in use (`used_line`). The only error is out of memory.
+pub fn used_line(out: &mut Vec<u8>, used: u32) -> Result<(), OutOfMemory>
+    ensures ok { OnOk result (out.new.items ≡ out.old.items ++ used_line used) }
+    ensures err { OnErr result (out.new.items ≡ out.old.items) }
+{
+    let line = format!(in *out.allocator(); "used {used}\n")?;
     append(out, line.as_str())
 }
 
@@ -173,18 +182,18 @@ fn context_text(alloc: Global, name: Name, summary: &Summary) -> Result<String, 
     Ok(format!(in alloc; "context {name} pages {pages} slots {slots} uid {uid}\n")?)
 }
 
-/// A context's name.
+/// A context's name (`name_text`). The only error is out of memory.
 #[tactic(auto, unfolding(crate::specs::Lines::name_text))]
-fn name_text(alloc: Global, name: Name) -> Result<String, OutOfMemory>
+pub fn name_text(alloc: Global, name: Name) -> Result<String, OutOfMemory>
     ensures { IfOk result (λ text. string_bytes text ≡ name_text name) }
 {
     let Name { job, k } = name;
     Ok(format!(in alloc; "{job}.{k}")?)
 }
 
-/// Bytes as lower-case hexadecimal, or a dash.
+/// Bytes as lower-case hexadecimal, or a dash (`bytes_text`). The only error is out of memory.
 #[tactic(auto, unfolding(crate::specs::Lines::bytes_text))]
-fn bytes_text(alloc: Global, bytes: &[u8]) -> Result<String, OutOfMemory>
+pub fn bytes_text(alloc: Global, bytes: &[u8]) -> Result<String, OutOfMemory>
     ensures { IfOk result (λ text. string_bytes text ≡ bytes_text bytes.now) }
 {
     if bytes.is_empty() {

@@ -80,21 +80,48 @@ impl Schedule {
 /// Out of memory, or the first refusal (`schedule_at`): `TooLong` at `MOST_SCHEDULE_BYTES` if there are
 /// more bytes; else, at the first byte that breaks a rule, `BadThread` if it is neither skipped nor the
 /// digit of one of the threads, and `TooManySteps` if it is a digit after `MOST_STEPS` others.
-#[tactic(auto, using(crate::proofs::Steps::schedule_reading))]
 pub fn read_schedule(alloc: Global, bytes: &[u8], threads: u32) -> Result<Schedule, InputFault>
-    ensures exact { Answers (λ schedule. schedule) result (schedule_at threads bytes.now) }
-    ensures found { IfOk result (λ schedule. IsSchedule threads bytes.now schedule) }
+    ensures exact { Answers (λ schedule. schedule) result (schedule_at threads MOST_STEPS bytes.now) }
+    ensures found { IfOk result (λ schedule. IsSchedule threads MOST_STEPS bytes.now schedule) }
     ensures there { IfOk result (λ schedule. All (λ t. t < threads) schedule) }
-    ensures only { (steps : List ℕ) → IsSchedule threads bytes.now steps
+    ensures only { (steps : List ℕ) → IsSchedule threads MOST_STEPS bytes.now steps
         → IfErr result (λ e. e ≡ OutOfMemory) }
 {
-    read_limited(alloc, bytes, threads)
+    read_schedule_within(alloc, bytes, threads, MOST_STEPS)
+}
+
+/// Reads a schedule of at most this number of steps, as `read_schedule` does.
+///
+/// # Errors
+///
+/// Those of `read_schedule`, but `TooManySteps` comes at a digit after `most` others.
+#[tactic(auto, using(crate::proofs::Steps::schedule_reading))]
+pub fn read_schedule_within(
+    alloc: Global,
+    bytes: &[u8],
+    threads: u32,
+    most: u32,
+) -> Result<Schedule, InputFault>
+    requires { most ≤ MOST_STEPS }
+    ensures exact { Answers (λ schedule. schedule) result (schedule_at threads most bytes.now) }
+    ensures found { IfOk result (λ schedule. IsSchedule threads most bytes.now schedule) }
+    ensures there { IfOk result (λ schedule. All (λ t. t < threads) schedule) }
+    ensures only { (steps : List ℕ) → IsSchedule threads most bytes.now steps
+        → IfErr result (λ e. e ≡ OutOfMemory) }
+{
+    read_limited(alloc, bytes, threads, most)
 }
 
 /// Reads a schedule that may be too long.
 #[tactic(auto, using(crate::proofs::Steps::digits_are_read), unfolding(crate::specs::Schedules::schedule_at))]
-fn read_limited(alloc: Global, bytes: &[u8], threads: u32) -> Result<Schedule, InputFault>
-    ensures { Answers (λ schedule. schedule) result (schedule_at threads bytes.now) }
+fn read_limited(
+    alloc: Global,
+    bytes: &[u8],
+    threads: u32,
+    most: u32,
+) -> Result<Schedule, InputFault>
+    requires { most ≤ MOST_STEPS }
+    ensures { Answers (λ schedule. schedule) result (schedule_at threads most bytes.now) }
 {
     if bytes.len() > MOST_SCHEDULE_BYTES {
         return Err(ReadError::Refused {
@@ -102,38 +129,38 @@ fn read_limited(alloc: Global, bytes: &[u8], threads: u32) -> Result<Schedule, I
             at: MOST_SCHEDULE_BYTES as u64,
         });
     }
-    Ok(Schedule::of(read_steps(alloc, bytes, threads)?))
+    Ok(Schedule::of(read_steps(alloc, bytes, threads, most)?))
 }
 
 /// Reads the steps of all bytes.
-fn read_steps(alloc: Global, bytes: &[u8], threads: u32) -> Result<Vec<u8>, InputFault>
+fn read_steps(alloc: Global, bytes: &[u8], threads: u32, most: u32) -> Result<Vec<u8>, InputFault>
     ensures read { IfOk result (λ steps.
-        unless_refused (numbers bytes.now) (refusals threads bytes.now) ≡ Ok steps.items) }
+        unless_refused (numbers bytes.now) (refusals threads most bytes.now) ≡ Ok steps.items) }
     ensures refused { IfErr result (λ e.
-        Fails e (unless_refused (numbers bytes.now) (refusals threads bytes.now))) }
-    ensures few { IfOk result (λ steps. length steps.items ≤ MOST_STEPS) }
+        Fails e (unless_refused (numbers bytes.now) (refusals threads most bytes.now))) }
+    ensures few { IfOk result (λ steps. length steps.items ≤ most) }
 {
     let mut steps = Vec::with_capacity(alloc, bytes.len())?;
-    let first = &bytes[..plain_count(bytes, threads)];
+    let first = &bytes[..plain_count(bytes, threads, most)];
     'first: for byte in first {
         steps.push_reserved(*byte - b'0');
     }
     'bytes: for at in first.len()..bytes.len() {
-        read_byte(&mut steps, threads, at as u64, bytes[at])?;
+        read_byte(&mut steps, threads, most, at as u64, bytes[at])?;
     }
     Ok(steps)
 }
 
-/// How many of the first bytes, at most `MOST_STEPS` and in whole chunks, are decimal digits of threads.
-fn plain_count(bytes: &[u8], threads: u32) -> usize
+/// How many of the first bytes, at most `most` and in whole chunks, are decimal digits of threads.
+fn plain_count(bytes: &[u8], threads: u32, most: u32) -> usize
     ensures within { result ≤ length bytes.now }
-    ensures few { result ≤ MOST_STEPS }
+    ensures few { result ≤ most }
     ensures plain { All (λ b. (48 ≤ b) × (b < 58) × (b < 48 + threads)) (take result bytes.now) }
 {
-    let most = bytes.len().min(MOST_STEPS as usize);
+    let limit = bytes.len().min(most as usize);
     let end = b'0' + threads.min(10) as u8;
     let mut count = 0;
-    'chunks: while most - count >= CHUNK && are_plain(&bytes[count..count + CHUNK], end) {
+    'chunks: while limit - count >= CHUNK && are_plain(&bytes[count..count + CHUNK], end) {
         count += CHUNK;
     }
     count
@@ -152,13 +179,19 @@ fn are_plain(bytes: &[u8], end: u8) -> bool
 
 /// Reads the byte at an offset, after the bytes of these steps.
 #[tactic(auto, using(crate::proofs::Steps::blank_adds_nothing, crate::proofs::Steps::named_adds))]
-fn read_byte(steps: &mut Vec<u8>, threads: u32, at: u64, byte: u8) -> Result<(), InputFault>
-    requires { length steps.old.items ≤ MOST_STEPS }
-    ensures kept { OnOk result (rule_broken threads (length steps.old.items) byte ≡ None) }
+fn read_byte(
+    steps: &mut Vec<u8>,
+    threads: u32,
+    most: u32,
+    at: u64,
+    byte: u8,
+) -> Result<(), InputFault>
+    requires { length steps.old.items ≤ most }
+    ensures kept { OnOk result (rule_broken threads most (length steps.old.items) byte ≡ None) }
     ensures added { OnOk result (steps.new.items ≡ steps.old.items ++ numbers (byte ∷ [])) }
-    ensures few { OnOk result (length steps.new.items ≤ MOST_STEPS) }
+    ensures few { OnOk result (length steps.new.items ≤ most) }
     ensures refused { IfErr result (λ e.
-        IsFound e (option_map (refusal_of at) (rule_broken threads (length steps.old.items) byte))) }
+        IsFound e (option_map (refusal_of at) (rule_broken threads most (length steps.old.items) byte))) }
 {
     if is_blank(byte) {
         return Ok(());
@@ -172,7 +205,7 @@ fn read_byte(steps: &mut Vec<u8>, threads: u32, at: u64, byte: u8) -> Result<(),
             });
         }
     };
-    if steps.len() == MOST_STEPS as usize {
+    if steps.len() == most as usize {
         return Err(ReadError::Refused {
             rule: InputRule::TooManySteps,
             at,
@@ -232,6 +265,16 @@ mod tests {
                 "in {text:?}"
             );
         }
+    }
+
+    #[test]
+    fn fewer_steps_may_be_asked_for(rt: HostRuntime) -> Result<(), Fail> {
+        let schedule = read_schedule_within(rt.alloc(), b"0 0", 1, 2)?;
+        assert_eq!(rt; schedule.len(), 2);
+        let rule = InputRule::TooManySteps;
+        let fault = read_schedule_within(rt.alloc(), b"0 00", 1, 2).err();
+        assert_eq!(rt; fault, Some(InputFault::Refused { rule, at: 3 }));
+        Ok(())
     }
 
     #[test]

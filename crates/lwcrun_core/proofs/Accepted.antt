@@ -12,7 +12,8 @@ use Rattle.lwc_base.specs.declared.limits.TheConstants.{MOST_BUDGET, MOST_FRAMES
 use Rattle.lwcrun_core.specs.Arguments.{Arguments, arguments_of}
 use Rattle.lwcrun_core.specs.Lines.{AreRunSettings, AreServeSettings, Command, IsWithinLimits, asked_in, budget_of, command_of, frames_of, gen_of, monitor_of, number_or, only_word, replay_with, run_of, serve_of, serve_settings_of, settings_for, settings_of, two_words, vault_of, workers_of}
 use Rattle.lwcrun_core.specs.Lines as commands
-use Rattle.lwcrun_core.specs.Numbers.{kept_within, number_of, number_within}
+use Rattle.lwc_text.specs.Numbers.{number_of}
+use Rattle.lwcrun_core.specs.Numbers.{kept_within, number_within}
 
 -- an option whose value is mapped has one
 mapped_some : {A B : Type 0} (f : A → B) (o : Option A) (y : B) → option_map f o ≡ Some y → (x : A) × (o ≡ Some x) × (f x ≡ y)

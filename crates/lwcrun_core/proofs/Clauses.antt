@@ -236,8 +236,8 @@ wrote o inputs work text is_work is taken =
     let h : IsText (works.Running inputs) text = (let P : Work → Type 0 = λ w. IsText w text in subst P is_work is) in
     (h.0, h.1, taken ∙ ap (appended o.out.taken) h.2)
 
-schedule_accepted : (threads : ℕ) (bytes steps : List ℕ) → IsSchedule threads bytes steps → schedule_of threads bytes ≡ Ok steps
-schedule_accepted threads bytes steps is = schedule_read threads bytes steps (is_read threads bytes steps is)
+schedule_accepted : (threads : ℕ) (bytes steps : List ℕ) → IsSchedule threads MOST_STEPS bytes steps → schedule_of threads bytes ≡ Ok steps
+schedule_accepted threads bytes steps is = schedule_read threads bytes steps (is_read threads MOST_STEPS bytes steps is)
 
 requests_accepted : (bytes : List ℕ) (asked : List (List ℕ)) → IsRequestFile bytes asked → requests_of bytes ≡ Ok asked
 requests_accepted bytes asked is = requests_read bytes asked (file_is_read bytes asked is)
@@ -301,9 +301,9 @@ fitting_vault_found settings bytes x v fits e =
       fits = subst (λ (w : Vault). length x.pages + length w.pages ≤ settings.frames) found.0 found.2;
     }
 
-schedule_found : (threads : ℕ) (bytes steps : List ℕ) → schedule_of threads bytes ≡ Ok steps → IsSchedule threads bytes steps
+schedule_found : (threads : ℕ) (bytes steps : List ℕ) → schedule_of threads bytes ≡ Ok steps → IsSchedule threads MOST_STEPS bytes steps
 unfolding schedule_of
-schedule_found threads bytes steps e = is_schedule threads bytes steps (or_rejected_ok rejections.Input (schedule_at threads bytes) steps e)
+schedule_found threads bytes steps e = is_schedule threads MOST_STEPS bytes steps (or_rejected_ok rejections.Input (schedule_at threads MOST_STEPS bytes) steps e)
 
 requests_found : (bytes : List ℕ) (asked : List (List ℕ)) → requests_of bytes ≡ Ok asked → IsRequestFile bytes asked
 unfolding requests_of

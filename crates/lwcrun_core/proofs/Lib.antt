@@ -1,7 +1,6 @@
 pub mod Accepted
 pub mod Answered
 pub mod Clauses
-pub mod Decimals
 pub mod TakenWords
 pub mod Fetches
 pub mod Follows

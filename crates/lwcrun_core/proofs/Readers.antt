@@ -155,7 +155,7 @@ pub source_read : (bytes : List ℕ) (x : Image) → assembled bytes ≡ Ok x �
 unfolding source_of
 source_read bytes x is = ap (or_rejected rejections.Source) is
 
-pub schedule_read : (threads : ℕ) (bytes steps : List ℕ) → schedule_at threads bytes ≡ Ok steps → schedule_of threads bytes ≡ Ok steps
+pub schedule_read : (threads : ℕ) (bytes steps : List ℕ) → schedule_at threads MOST_STEPS bytes ≡ Ok steps → schedule_of threads bytes ≡ Ok steps
 unfolding schedule_of
 schedule_read threads bytes steps is = ap (or_rejected rejections.Input) is
 

@@ -129,7 +129,7 @@ pub record IsReplay
     (bytes : List ℕ → List ℕ) (image schedule : List ℕ) (requests : Option (List ℕ)) (settings : Settings)
     (x : Image) (steps : List ℕ) (asked : List (List ℕ)) : Type 0 where
   pub guest : IsFitting settings (bytes image) x
-  pub scheduled : IsSchedule (threads_for x settings.job) (bytes schedule) steps
+  pub scheduled : IsSchedule (threads_for x settings.job) MOST_STEPS (bytes schedule) steps
   pub requested : AreRequestsIn requests bytes asked
 
 -- the files of a replay beside a vault are accepted: an image, a vault for it, whose slot it leaves free and whose

@@ -69,7 +69,7 @@ source_of bytes = or_rejected rejections.Source (assembled bytes)
 
 -- the steps that bytes name for a number of threads, or why they are rejected
 unfoldable pub schedule_of : ℕ → List ℕ → Result (List ℕ) Rejection
-schedule_of threads bytes = or_rejected rejections.Input (schedule_at threads bytes)
+schedule_of threads bytes = or_rejected rejections.Input (schedule_at threads MOST_STEPS bytes)
 
 -- the requests that bytes spell, or why they are rejected
 unfoldable pub requests_of : List ℕ → Result (List (List ℕ)) Rejection

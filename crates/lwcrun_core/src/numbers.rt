@@ -1,9 +1,7 @@
-ghost use Rattle.std.specs.Prelude.{◌≡◌, ◌≤◌, IfSome, true, length};
-ghost use Rattle.std.specs.List.{list_all};
-ghost use Rattle.lwcrun_core.specs.Numbers.{is_digit, is_number, decimal_value, number_of, number_within};
+ghost use Rattle.std.specs.Prelude.{◌≡◌, ◌≤◌, IfSome};
+ghost use Rattle.lwcrun_core.specs.Numbers.{number_within};
 
-/// The most digits of a number.
-const MOST_DIGITS: usize = 9;
+use lwc_text::number_of;
 
 /// The number that the word spells, if it is one and in the range.
 #[tactic(auto, unfolding(crate::specs::Numbers::number_within))]
@@ -11,51 +9,10 @@ pub fn number_within(least: u32, most: u32, word: &str) -> Option<u32>
     ensures value { result ≡ number_within least most word.now }
     ensures within { IfSome result (λ number. (least ≤ number) × (number ≤ most)) }
 {
-    let number = number_of(word)?;
+    let number = number_of(word.as_bytes())?;
     if least <= number && number <= most {
         Some(number)
     } else {
         None
     }
-}
-
-/// The number that the word spells, if it is one.
-#[tactic(auto, unfolding(crate::specs::Numbers::number_of))]
-fn number_of(word: &str) -> Option<u32>
-    ensures { result ≡ number_of word.now }
-{
-    let digits = word.as_bytes();
-    if is_number(digits) {
-        Some(decimal_value(digits))
-    } else {
-        None
-    }
-}
-
-/// Whether the word is a number: one to nine decimal digits, and nothing else.
-fn is_number(word: &[u8]) -> bool
-    ensures { result ≡ is_number word.now }
-{
-    1 <= word.len() && word.len() <= MOST_DIGITS && are_digits(word)
-}
-
-/// Whether each byte is a decimal digit.
-fn are_digits(word: &[u8]) -> bool
-    ensures { result ≡ list_all is_digit word.now }
-{
-    word.iter().all(|&byte| b'0' <= byte && byte <= b'9')
-}
-
-/// The number that the digits spell, the highest first.
-#[tactic(auto, unfolding(crate::specs::Numbers::decimal_value))]
-fn decimal_value(digits: &[u8]) -> u32
-    requires short { length digits.now ≤ 9 }
-    requires digits { list_all is_digit digits.now ≡ true }
-    ensures { result ≡ decimal_value digits.now }
-{
-    let mut value = 0;
-    for &digit in digits {
-        value = 10 * value + u32::from(digit - b'0');
-    }
-    value
 }

@@ -5,12 +5,12 @@ use Rattle.lwc_text.proofs.schedule.read_steps.Goals as goal
 
 pub bytes-preserved : goal.bytes-preserved
 bytes-preserved c =
-    continues c.args.threads c.bytes.at c.bytes.steps.items c.read_byte.new.steps.items c.args.bytes.now (omega arith)
+    continues c.args.threads c.args.most c.bytes.at c.bytes.steps.items c.read_byte.new.steps.items c.args.bytes.now (omega arith)
     c.in_ok-read_byte.ensures.kept c.in_ok-read_byte.ensures.added c.in_ok-read_byte.ensures.few c.bytes.invariant
 
 pub returns-in_err-read_byte-clause-refused : goal.returns-in_err-read_byte-clause-refused
 returns-in_err-read_byte-clause-refused c =
-    let ended = ends c.in_err-read_byte.field-0.0 c.args.threads c.bytes.at c.bytes.steps.items c.args.bytes.now (omega arith) c.in_err-read_byte.ensures.refused c.bytes.invariant in
+    let ended = ends c.in_err-read_byte.field-0.0 c.args.threads c.args.most c.bytes.at c.bytes.steps.items c.args.bytes.now (omega arith) c.in_err-read_byte.ensures.refused c.bytes.invariant in
     grind (arith, ended)
 
 pub returns-clause-read : goal.returns-clause-read
@@ -26,9 +26,9 @@ first-preserved c =
     let plain : IsPlain c.args.threads (get_or bytes at 0) = subst (IsPlain c.args.threads) here (c.plain_count.ensures.plain at 0 c.first-test.true) in
     let grown : c.push_reserved.new.self.items ≡ c.first.steps.items ++ (get_or bytes at 0 - 48) ∷ [] =
     c.push_reserved.ensures.items ∙ ap (λ b. c.first.steps.items ++ (b - 48) ∷ []) here in
-    let next = plain_continues c.args.threads at c.first.steps.items bytes (omega (arith, inside, c.plain_count.ensures.within)) (omega (arith, inside, c.plain_count.ensures.few)) c.first.invariant.count plain c.first.invariant.so_far in
+    let next = plain_continues c.args.threads c.args.most at c.first.steps.items bytes (omega (arith, inside, c.plain_count.ensures.within)) (omega (arith, inside, c.plain_count.ensures.few)) c.first.invariant.count plain c.first.invariant.so_far in
     record {
-      so_far = subst (λ (l : List ℕ). IsSoFar c.args.threads bytes (at + 1) l) (sym grown) next;
+      so_far = subst (λ (l : List ℕ). IsSoFar c.args.threads c.args.most bytes (at + 1) l) (sym grown) next;
       count = omega (arith, ap length grown, length-append c.first.steps.items ((get_or bytes at 0 - 48) ∷ []), c.first.invariant.count);
       room = omega (arith, c.first.invariant.room, c.push_reserved.ensures.capacity);
     }

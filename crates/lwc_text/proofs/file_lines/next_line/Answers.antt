@@ -1,6 +1,6 @@
 use Rattle.std.proofs.Common.{arith, ◌+◌}
 use Rattle.lwc_text.proofs.RequestLines.{line_ended, line_open, whole_rest}
-use Rattle.lwc_text.proofs.requests.next_line.Goals as goal
+use Rattle.lwc_text.proofs.file_lines.next_line.Goals as goal
 
 pub returns-then-end-bytes-clause-lines : goal.returns-then-end-bytes-clause-lines
 returns-then-end-bytes-clause-lines c =

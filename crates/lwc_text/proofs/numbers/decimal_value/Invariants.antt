@@ -1,5 +1,5 @@
-use Rattle.lwcrun_core.proofs.Decimals.{IsValueOf}
-use Rattle.lwcrun_core.proofs.numbers.decimal_value.Given as goal
+use Rattle.lwc_text.proofs.Decimals.{IsValueOf}
+use Rattle.lwc_text.proofs.numbers.decimal_value.Given as goal
 
 -- the value is that of the digits so far
 abbrev pub invariant-loop-digit : goal.invariant-loop-digit

@@ -1,6 +1,6 @@
 use Rattle.std.proofs.Common.{◌<◌, arith}
-use Rattle.lwcrun_core.proofs.Decimals.{small}
-use Rattle.lwcrun_core.proofs.numbers.decimal_value.Goals as goal
+use Rattle.lwc_text.proofs.Decimals.{small}
+use Rattle.lwc_text.proofs.numbers.decimal_value.Goals as goal
 
 pub overflow_mul-value : goal.overflow_mul-value
 overflow_mul-value c =

@@ -1,7 +1,7 @@
 -- The values of decimal digits.
 use Rattle.std.proofs.Common.{◌≡◌, ◌≤◌, ◌<◌, ℕ, ◌+◌, ◌^◌, List, take, arith}
 use Rattle.std.proofs.Math.Nat.{pow-le-pow_right}
-use Rattle.lwcrun_core.specs.Numbers.{decimal_value}
+use Rattle.lwc_text.specs.Numbers.{decimal_value}
 
 -- the value of the first i digits, and that it has no more digits than these
 pub record IsValueOf (n i : ℕ) (digits : List ℕ) : Type 0 where
