@@ -4,8 +4,8 @@ ghost use Rattle.std.specs.Prelude.{◌≡◌, ◌<◌, ◌≤◌, ◌∷◌, �
 ghost use Rattle.std.specs.List.{after_first, position_or_len};
 ghost use Rattle.std.specs.Str.Lines.{lines, strip_carriage_return};
 
-/// The first line, without its end, and what follows it. A line feed ends a line, and a carriage return directly
-/// before it is no part of the line; the last line may have no end.
+/// The first line, without its end, and what follows it. A line feed ends a line, and a carriage return
+/// directly before it is no part of the line; the last line may have no end.
 pub fn next_line(bytes: &[u8]) -> (&[u8], &[u8])
     requires { 0 < length bytes.now }
     ensures lines { lines bytes.now ≡ result.0.now ∷ lines result.1.now }

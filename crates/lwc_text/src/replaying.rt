@@ -28,8 +28,8 @@ pub fn report_of_schedule<W: World>(
     Ok(text)
 }
 
-/// Makes the steps of the schedule, one after another, and keeps those of threads that had not ended. The only error
-/// is out of memory.
+/// Makes the steps of the schedule, one after another, and keeps those of threads that had not ended. The
+/// only error is out of memory.
 pub fn make_steps<W: World>(kernel: &mut Kernel<W>, schedule: &Schedule) -> Result<(), OutOfMemory>
     requires fresh { kernel.old.steps ≡ [] }
     requires room { length schedule.now ≤ kernel.old.room }
