@@ -1,13 +1,12 @@
 -- Reading requests line by line.
-use Rattle.std.proofs.Common.{◌≡◌, ℕ, zero, suc, get_or, ◌+◌, ◌-◌, ◌*◌, ◌%◌, ◌≤◌, ◌<◌, Bool, true, false, not, eqb, List, [], ◌∷◌, ◌++◌, length, take, drop, map, All, Option, Some, None, Ok, Err, refl, sym, ap, subst, ◌∙◌, arith, add-one, length-append, length-drop}
+use Rattle.std.proofs.Common.{◌≡◌, ℕ, zero, suc, get_or, ◌+◌, ◌-◌, ◌*◌, ◌%◌, ◌≤◌, ◌<◌, Bool, true, false, not, List, [], ◌∷◌, ◌++◌, length, take, drop, map, All, Option, Some, None, Ok, Err, refl, sym, ap, subst, ◌∙◌, arith, length-append}
 use Rattle.std.proofs.lemmas.Bool.Decides.{nat_tests}
 use Rattle.std.proofs.lemmas.List.{take_more, take_all}
 use Rattle.std.proofs.lemmas.List.Elements.{All-nil, All-cons, All-head, All-tail, All-from_get_or, All-get_or, filter_map-append}
-use Rattle.std.proofs.lemmas.List.Splits.{slice_split_first, slice_split_none, length-slice_split}
 use Rattle.std.proofs.lemmas.List.Sums.{fails_before_first, position_or_len_is, prefix_len-le-length}
-use Rattle.std.specs.List.{AllPass, after_first, before_first, cons_option, filter_map, position_or_len, range_with_len, slice_split}
+use Rattle.std.specs.List.{AllPass, after_first, cons_option, filter_map, range_with_len}
 use Rattle.std.specs.Option.{option_map}
-use Rattle.std.specs.Str.Lines.{lines, lines_of_parts, strip_carriage_return}
+use Rattle.std.specs.Str.Lines.{lines}
 use Rattle.hex.specs.Hex.{decode_of, is_hex_digit}
 use Rattle.hex.specs.declared.error.FromHexError.{FromHexError}
 use Rattle.hex.proofs.HexLemmas.{decode_of-digits, decode_of-ok}
@@ -18,36 +17,11 @@ use Rattle.lwc_base.specs.declared.limits.TheConstants.{MOST_REQUESTS, MOST_REQU
 use Rattle.lwc_text.specs.declared.fault.InputRule.{InputRule}
 use Rattle.lwc_text.specs.Requests.{IsRequestFile, after_lines, digits_end, line_refusal, line_refusals, refusal_of_line, request_of, requests_at, requests_in, rule_in}
 use Rattle.lwc_text.specs.Schedules.{refusal_of}
+use Rattle.lwc_text.proofs.FileLines.{IsAt, all_taken, is_at, is_feed, one_more}
 use Rattle.lwc_text.proofs.Refusals.{clear_next, first_refused, none_refused, nothing_refused, read_by, unless_none}
-
-abbrev is_feed : ℕ → Bool
-is_feed b = eqb b 10
 
 abbrev is_other : ℕ → Bool
 is_other b = not (is_hex_digit b)
-
--- the first line of some, where a line feed ends it
-with_next : (x : List ℕ) (parts : List (List ℕ)) → 0 < length parts → lines_of_parts (x ∷ parts) ≡ strip_carriage_return x ∷ lines_of_parts parts
-with_next x [] some = absurd (omega arith)
-with_next x (y ∷ more) some = refl
-
-pub line_ended : (bs : List ℕ) → position_or_len is_feed bs < length bs → lines bs ≡ strip_carriage_return (before_first is_feed bs) ∷ lines (after_first is_feed bs)
-line_ended bs within =
-    ap lines_of_parts (slice_split_first is_feed bs 0 within)
-    ∙ with_next (before_first is_feed bs) (slice_split is_feed (after_first is_feed bs)) (omega (arith, length-slice_split is_feed (after_first is_feed bs)))
-
--- what is left of a list from a place on is all of it
-pub whole_rest : (n : ℕ) (bs : List ℕ) → take (length bs - n) (drop n bs) ≡ drop n bs
-whole_rest n bs = take_all (length bs - n) (drop n bs) (omega (arith, length-drop n bs))
-
-last_line : (bs : List ℕ) → 0 < length bs → lines_of_parts (bs ∷ []) ≡ bs ∷ []
-last_line [] some = absurd (omega arith)
-last_line (b ∷ bs) some = grind (arith, nat_tests)
-
-pub line_open : (bs : List ℕ) → length bs ≤ position_or_len is_feed bs → 0 < length bs → lines bs ≡ bs ∷ []
-line_open bs none some =
-    ap lines_of_parts (slice_split_none is_feed bs (All-from_get_or (λ b. is_feed b ≡ false) bs 0 (λ i within. fails_before_first is_feed bs i 0 (omega arith))))
-    ∙ last_line bs some
 
 -- a line that breaks no rule is the digits of a request
 record IsGood (line : List ℕ) : Type 0 where
@@ -96,21 +70,6 @@ pub record IsSoFar (bytes rest : List ℕ) (n : ℕ) (requests : List (List ℕ)
   pub named : requests ≡ filter_map request_of (take n (lines bytes))
   pub clear : (i : ℕ) → i < n → refusal_of_line bytes i ≡ None
 
--- where a list goes on with an element
-record IsAt (xs : List (List ℕ)) (n : ℕ) (x : List ℕ) (more : List (List ℕ)) : Type 0 where
-  below : n < length xs
-  here : get_or xs n [] ≡ x
-  next : drop (n + 1) xs ≡ more
-
-is_at : (xs : List (List ℕ)) (n : ℕ) (x : List ℕ) (more : List (List ℕ)) → drop n xs ≡ x ∷ more → IsAt xs n x more
-is_at [] zero x more h = absurd cc
-is_at [] (suc n) x more h = absurd cc
-is_at (y ∷ ys) zero x more h = record { below = omega arith; here = cc; next = cc }
-is_at (y ∷ ys) (suc n) x more h =
-    let later : IsAt ys n x more = is_at ys n x more h in
-    let e : suc n + 1 ≡ suc (n + 1) = omega arith in
-    record { below = omega (arith, later.below); here = later.here; next = rw e later.next }
-
 pub starts : (bytes : List ℕ) → IsSoFar bytes bytes 0 []
 unfolding after_lines
 starts bytes = record { left = refl; within = omega arith; others = refl; named = refl; clear = λ i below. absurd (omega (arith, below)) }
@@ -118,10 +77,6 @@ starts bytes = record { left = refl; within = omega arith; others = refl; named 
 refusal_here : (bytes rest line : List ℕ) (n : ℕ) → rest ≡ after_lines bytes n → get_or (lines bytes) n [] ≡ line → line_refusal n (length bytes - length rest) line ≡ refusal_of_line bytes n
 unfolding refusal_of_line
 refusal_here bytes rest line n left here = ap (λ k. line_refusal n (length bytes - k) line) (ap length left) ∙ ap (line_refusal n (length bytes - length (after_lines bytes n))) (sym here)
-
-one_more : (bytes : List ℕ) (n : ℕ) → after_lines bytes (n + 1) ≡ after_first is_feed (after_lines bytes n)
-unfolding after_lines
-one_more bytes n = rw add-one refl
 
 one_request : (line request : List ℕ) → request_of line ≡ Some request → filter_map request_of (line ∷ []) ≡ request ∷ []
 one_request line request read = ap (λ o. cons_option o []) read
@@ -158,11 +113,6 @@ ends (errors.Refused rule offset) bytes rest line more requests before counted f
     let place : IsAt (lines bytes) n line more = is_at (lines bytes) n line more (so_far.others ∙ first) in
     first_refused (refusal_of_line bytes) (requests_in bytes) 0 (length (lines bytes)) n (record { rule = rule; at = offset }) (omega arith) (omega (arith, place.below))
     (λ i low below. so_far.clear i below) (sym (refusal_here bytes rest line n so_far.left place.here) ∙ ap (λ k. line_refusal k (length bytes - length rest) line) (sym counted) ∙ found)
-
-all_taken : (xs : List (List ℕ)) (n : ℕ) → drop n xs ≡ [] → length xs ≤ n
-all_taken [] n h = omega arith
-all_taken (x ∷ xs) zero h = absurd cc
-all_taken (x ∷ xs) (suc n) h = omega (arith, all_taken xs n h)
 
 -- a loop is done where nothing is left
 pub is_done : (bytes rest : List ℕ) (requests : List (List ℕ)) → rest ≡ [] → IsSoFar bytes rest (length requests) requests → unless_refused (requests_in bytes) (line_refusals bytes) ≡ Ok requests

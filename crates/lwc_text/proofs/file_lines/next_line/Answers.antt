@@ -1,5 +1,5 @@
 use Rattle.std.proofs.Common.{arith, ◌+◌}
-use Rattle.lwc_text.proofs.RequestLines.{line_ended, line_open, whole_rest}
+use Rattle.lwc_text.proofs.FileLines.{line_ended, line_open, whole_rest}
 use Rattle.lwc_text.proofs.file_lines.next_line.Goals as goal
 
 pub returns-then-end-bytes-clause-lines : goal.returns-then-end-bytes-clause-lines
