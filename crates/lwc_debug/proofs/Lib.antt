@@ -1,0 +1,5 @@
+mod Going
+mod Legal
+mod Living
+mod ScriptLines
+mod Telling

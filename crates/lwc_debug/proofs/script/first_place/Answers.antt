@@ -1,0 +1,11 @@
+use Rattle.std.proofs.Common.{◌≡◌, eqb, tests, rules, arith}
+use Rattle.std.specs.List.{position}
+use Rattle.std.proofs.lemmas.Iterator.{YieldsList-from_slice}
+use Rattle.std.proofs.lemmas.Iterator.Search.{position_from_yields_List}
+use Rattle.lwc_debug.proofs.script.first_place.Goals as goal
+use Rattle.lwc_base.proofs.Small.{or_len}
+
+pub returns-clause-place : goal.returns-clause-place
+returns-clause-place c =
+    let found : c.position.result ≡ position (λ b. eqb b c.args.byte) c.args.bytes.now = position_from_yields_List (λ b. eqb b c.args.byte) _ _ c.position.result c.position.ensures.ran (YieldsList-from_slice c.args.bytes.now cc) (λ x b q k. search (rules, tests)) in
+    grind (arith, or_len (λ b. eqb b c.args.byte) c.args.bytes.now c.position.result found)

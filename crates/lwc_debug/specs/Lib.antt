@@ -1,0 +1,10 @@
+pub use Rattle.byte_reading.specs.Outcomes
+pub use Rattle.kernel_core.specs.Histories
+pub use Rattle.kernel_core.specs.Kernel
+pub use Rattle.kernel_core.specs.Machine
+pub use Rattle.kernel_core.specs.Runs
+pub use Rattle.kernel_core.specs.Start
+pub use Rattle.lwc_base.specs.World
+pub mod Scripts
+pub mod Telling
+pub mod Transcript

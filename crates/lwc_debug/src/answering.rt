@@ -1,0 +1,184 @@
+//! The answers to commands.
+
+ghost use Rattle.std.specs.Prelude.{◌≡◌, ◌++◌, ◌*◌, ◌≤◌, if◌then◌else◌, IfOk, OnOk, codes};
+ghost use Rattle.std.specs.Prelude.{nat_lt, string_bytes};
+ghost use Rattle.std.specs.Option.{option_map_or};
+ghost use Rattle.lwc_base.specs.declared.descriptor.TheConstants.{SLOTS};
+ghost use Rattle.lwc_base.specs.declared.page.TheConstants.{PAGE_BYTES};
+ghost use Rattle.lwc_base.specs.Cells.{slot_at};
+ghost use Rattle.lwc_base.specs.Lending.{descriptor_of};
+ghost use Rattle.lwc_base.specs.Memory.{load};
+ghost use Rattle.lwc_base.specs.Summaries.{summary_of};
+ghost use Rattle.lwc_base.specs.World.{is_live};
+ghost use Rattle.kernel_core.specs.Kernel.{machine_of, view_of};
+ghost use Rattle.lwc_text.specs.Lines as spec_lines;
+ghost use Rattle.lwc_debug.specs.Transcript as spec;
+
+use crate::command::Command;
+use crate::moving::place_for;
+use kernel_core::Kernel;
+use lwc_base::{Lent, Name, OutOfMemory, PAGE_BYTES, SLOTS};
+use lwc_text::{bytes_text, context_line, name_text, thread_lines, used_line};
+use std::alloc::Global;
+use world_face::World;
+
+/// Appends the answer to a command that is given at this place, one of this number of steps and one more, where
+/// the kernel is (`answer`). The only error is out of memory.
+#[tactic(auto, unfolding(crate::specs::Transcript::answer))]
+pub fn answer<W: World>(
+    out: &mut Vec<u8>,
+    kernel: &Kernel<W>,
+    count: usize,
+    at: usize,
+    command: Command,
+) -> Result<(), OutOfMemory>
+    requires { at ≤ count }
+    ensures { OnOk result (out.new.items ≡ out.old.items ++ spec.answer (machine_of kernel.now) count at command) }
+{
+    let world = kernel.world();
+    match command {
+        Command::Goto { .. } | Command::Forward { .. } | Command::Back { .. } => {
+            move_line(out, place_for(count, at, command))
+        }
+        Command::Thread { t } => thread_answer(out, kernel, t),
+        Command::Context { name } => context_answer(out, world, name),
+        Command::Page { name, p } => page_answer(out, world, name, p),
+        Command::Slot { name, n } => slot_answer(out, world, name, n),
+        Command::Used => used_line(out, world.used()),
+    }
+}
+
+/// Appends the line of a move to this place, or that there is none.
+fn move_line(out: &mut Vec<u8>, place: Option<usize>) -> Result<(), OutOfMemory>
+    ensures { OnOk result (out.new.items ≡ out.old.items ++ spec.move_line place) }
+{
+    match place {
+        None => append(out, "no step\n"),
+        Some(n) => {
+            let line = format!(in *out.allocator(); "at {n}\n")?;
+            append(out, line.as_str())
+        }
+    }
+}
+
+/// Appends the lines of a thread, or that there is no such thread.
+#[tactic(auto, using(crate::proofs::Living::no_view))]
+fn thread_answer<W: World>(out: &mut Vec<u8>, kernel: &Kernel<W>, t: u32) -> Result<(), OutOfMemory>
+    ensures { OnOk result (out.new.items ≡ out.old.items
+        ++ option_map_or (spec_lines.thread_lines t) (view_of (machine_of kernel.now) t) (codes "no thread\n")) }
+{
+    if t >= kernel.thread_count() {
+        return append(out, "no thread\n");
+    }
+    thread_lines(out, t, &kernel.thread(t))
+}
+
+/// Appends the line of a context, or that it is not live.
+fn context_answer<W: World>(out: &mut Vec<u8>, world: &W, name: Name) -> Result<(), OutOfMemory>
+    ensures { OnOk result (out.new.items ≡ out.old.items
+        ++ spec.of_live (W.seen world.now) name
+        (spec_lines.context_line name (summary_of (W.seen world.now) name))) }
+{
+    if !is_live(world, name) {
+        return append(out, "no context\n");
+    }
+    context_line(out, name, &world.summary(name))
+}
+
+/// Appends the line of a page of a context, or that the context is not live, or that there is no such page.
+fn page_answer<W: World>(
+    out: &mut Vec<u8>,
+    world: &W,
+    name: Name,
+    p: u32,
+) -> Result<(), OutOfMemory>
+    ensures { OnOk result (out.new.items ≡ out.old.items
+        ++ spec.of_live (W.seen world.now) name
+        (if nat_lt p (W.seen world.now).size.pages
+        then spec.page_line name p (load (W.seen world.now) name (p * PAGE_BYTES) PAGE_BYTES)
+        else codes "no page\n")) }
+{
+    if !is_live(world, name) {
+        return append(out, "no context\n");
+    }
+    if p >= world.pages() {
+        return append(out, "no page\n");
+    }
+    let alloc = *out.allocator();
+    let mut bytes = [0; PAGE_BYTES];
+    let text = if world.bytes(name, p * PAGE_BYTES as u32, &mut bytes) {
+        bytes_text(alloc, &bytes)?
+    } else {
+        String::from_str(alloc, "absent")?
+    };
+    let name = name_text(alloc, name)?;
+    let line = format!(in alloc; "page {name} {p} {text}\n")?;
+    append(out, line.as_str())
+}
+
+/// Appends the line of a slot of a context, or that the context is not live, or that there is no such slot.
+fn slot_answer<W: World>(
+    out: &mut Vec<u8>,
+    world: &W,
+    name: Name,
+    n: u32,
+) -> Result<(), OutOfMemory>
+    ensures { OnOk result (out.new.items ≡ out.old.items
+        ++ spec.of_live (W.seen world.now) name
+        (if nat_lt n SLOTS then spec.slot_line name n (slot_at (W.seen world.now) name n)
+        else codes "no slot\n")) }
+{
+    if !is_live(world, name) {
+        return append(out, "no context\n");
+    }
+    if n >= u32::from(SLOTS) {
+        return append(out, "no slot\n");
+    }
+    let alloc = *out.allocator();
+    let text = slot_text(alloc, world.slot(name, n as u8))?;
+    let name = name_text(alloc, name)?;
+    let line = format!(in alloc; "slot {name} {n} {text}\n")?;
+    append(out, line.as_str())
+}
+
+/// Whether a context has the name.
+#[tactic(auto, using(crate::proofs::Living::living))]
+fn is_live<W: World>(world: &W, name: Name) -> bool
+    ensures { result ≡ is_live (W.seen world.now) name }
+{
+    'contexts: for i in 0..world.context_count() {
+        let Some(found) = world.nth_context(i) else {
+            unreachable!();
+        };
+        if found == name {
+            return true;
+        }
+    }
+    false
+}
+
+/// What is in a slot.
+#[tactic(auto, unfolding(crate::specs::Transcript::slot_text))]
+fn slot_text(alloc: Global, value: Lent<'_>) -> Result<String, OutOfMemory>
+    ensures { IfOk result (λ text. string_bytes text ≡ spec.slot_text (descriptor_of value.entry)) }
+{
+    match value {
+        Lent::Empty => Ok(String::from_str(alloc, "empty")?),
+        Lent::Console => Ok(String::from_str(alloc, "console")?),
+        Lent::File { file, at } => Ok(format!(in alloc; "file {file} at {at}")?),
+        Lent::Request { r, at } => Ok(format!(in alloc; "request {r} at {at}")?),
+        Lent::Reply { r } => Ok(format!(in alloc; "reply {r}")?),
+        Lent::Ctx { name, .. } => {
+            let name = name_text(alloc, name)?;
+            Ok(format!(in alloc; "context {name}")?)
+        }
+    }
+}
+
+/// Appends a text.
+fn append(out: &mut Vec<u8>, text: &str) -> Result<(), OutOfMemory>
+    ensures { OnOk result (out.new.items ≡ out.old.items ++ text.now) }
+{
+    out.extend_from_slice(text.as_bytes())?;
+    Ok(())
+}
