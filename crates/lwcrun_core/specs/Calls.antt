@@ -142,7 +142,7 @@ pub record IsVaultReplay
   pub secret : IsVaultFile (length x.text) (pages_of x.form) (bytes vault) v
   pub free : All (λ s. s.slot ≢ VAULT_SLOT) x.slots
   pub fits : length x.pages + length v.pages ≤ settings.frames
-  pub scheduled : IsSchedule (threads_for x settings.job) (bytes schedule) steps
+  pub scheduled : IsSchedule (threads_for x settings.job) MOST_STEPS (bytes schedule) steps
 
 -- a serve's files are accepted: an image, and requests that take no more steps than there may be
 pub record IsServe
