@@ -97,6 +97,7 @@ impl Rows {
 
     /// Writes what a piece at an address has of page p of a row if the page does not part, and tells whether
     /// it did. If the page parts, nothing changes.
+    #[inline(always)]
     pub(crate) fn write_in_place(&mut self, i: usize, p: u16, at: u32, piece: &[u8]) -> bool
         requires row { i < length (maps self.old) }
         requires page { p < PAGES }

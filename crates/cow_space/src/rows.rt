@@ -79,6 +79,7 @@ impl Rows {
     }
 
     /// The frame of a page that does not part when it is written: no other page has its tag.
+    #[inline(always)]
     pub(crate) fn lone_frame(&self, i: usize, p: u16) -> Option<FrameNo>
         requires row { i < length (maps self.now) }
         requires page { p < PAGES }

@@ -65,6 +65,7 @@ impl PageCells {
     /// Writes what a piece at an address has of page p of a place, if the page is the place's own, may be
     /// written and does not part, and tells whether it did. No other page of any place changes, and no right
     /// does. If it did not, nothing changes.
+    #[inline(always)]
     #[tactic(auto, unfolding(crate::specs::Seen::rights, crate::specs::Seen::frames_of, crate::specs::Seen::free_nodes))]
     pub fn write_in_place(&mut self, i: usize, p: u16, at: u32, piece: &[u8]) -> bool
         requires place { i < length (cells self.old) }

@@ -48,10 +48,12 @@ impl World for LazyWorld {
         Ok(())
     }
 
+    #[inline(always)]
     fn bytes(&self, c: Name, at: u32, out: &mut [u8]) -> bool {
         self.world.bytes(c, at, out)
     }
 
+    #[inline(always)]
     fn store(&mut self, c: Name, at: u32, piece: &[u8], job: u32) -> Result<(), StoreFault> {
         if self.world.store_in_place(c, at, piece) {
             return Ok(());

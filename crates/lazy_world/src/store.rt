@@ -50,6 +50,7 @@ impl Places {
 
     /// Writes what a piece has of a page, if the page is the place's own, may be stored to and does not
     /// part, and tells whether it did. If it did not, nothing changes.
+    #[inline(always)]
     #[tactic(auto, unfolding(crate::specs::Seen::pages, crate::specs::Seen::count, crate::specs::Seen::frame_count))]
     pub fn write_in_place(&mut self, i: usize, p: u16, at: u32, piece: &[u8]) -> bool
         requires { i < count self.old }
@@ -265,6 +266,7 @@ impl PlacedWorld {
 
     /// Stores bytes in the context's memory from the address `at` on, if they are in one page, which is its
     /// own, may be stored to and does not part, and tells whether it did. If it did not, nothing changes.
+    #[inline(always)]
     pub(crate) fn store_in_place(&mut self, c: Name, at: u32, piece: &[u8]) -> bool
         requires live { IsLive (seen self.old) c }
         requires within { at + length piece.now ≤ (seen self.old).size.pages * PAGE_BYTES }
@@ -286,6 +288,7 @@ impl PlacedWorld {
     ///
     /// `BadAddress` if a touched page is absent; else `ReadOnly` if one has the right Read; else `NoFrame` if
     /// the frames in use and the pages that part are more than the frames. Never `OutOfMemory`.
+    #[inline(never)]
     pub(crate) fn store(
         &mut self,
         c: Name,
