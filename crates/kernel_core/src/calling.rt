@@ -88,10 +88,9 @@ fn call_switch<W: World>(world: &mut W, t: u32, thread: &mut Thread) -> Change
     ensures kept { Keeps result (W.seen world.old) thread.old (W.seen world.new) thread.new }
 {
     match switch(world, thread.context, t, &thread.regs) {
-        Moved::To {
-            context,
-            regs: Regs { r, pc },
-        } => {
+        Moved::To { context, regs } => {
+            // In two parts, as in `run_thread`.
+            let Regs { r, pc } = regs;
             thread.context = context;
             thread.regs = Regs { r, pc };
             Change::World
