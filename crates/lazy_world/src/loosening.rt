@@ -184,6 +184,7 @@ impl PlacedWorld {
     }
 
     /// Whether a context is live.
+    #[inline(always)]
     pub(crate) fn is_live(&self, c: Name) -> bool
         ensures { result ≡ is_live (seen self.now) c }
     {

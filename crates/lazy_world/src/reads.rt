@@ -34,6 +34,7 @@ impl PlacedWorld {
     }
 
     /// The place of a live context.
+    #[inline(always)]
     pub(crate) fn place(&self, c: Name) -> usize
         requires { IsLive (seen self.now) c }
         ensures found { fm.get (parts self.now).contexts.map c ≡ Some result }

@@ -31,6 +31,7 @@ impl PlacedWorld {
     }
 
     /// Puts a value under a key of a context, where the old one is.
+    #[inline(always)]
     fn put(&mut self, c: Name, value: KeyValue<'_>)
         requires live { IsLive (seen self.old) c }
         requires slot { HasSlot value }

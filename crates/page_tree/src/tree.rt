@@ -84,6 +84,7 @@ impl PageTree {
 
     /// What the tree has for a page, and whether nobody else holds the nodes on the way there, and all of
     /// them are there.
+    #[inline(always)]
     pub fn look(&self, store: &Store, p: u16) -> (PageCell, bool)
         requires sound { IsSound store.now.nodes store.now.frames }
         requires tree { IsTree store.now.nodes self.now }
