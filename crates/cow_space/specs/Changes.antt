@@ -76,7 +76,7 @@ IsApart count i Zeros = Unit {0}
 IsApart count i (Common g) = Unit {0}
 IsApart count i (CopyOf j) = (j < count) × (j ≢ i)
 
--- a page run of the pages of one of this number of places
+-- a page run of one of this number of places
 pub record IsPageRun (count i : ℕ) (page_run : PageRun) : Type 0 where
   pub order : page_run.range.from ≤ page_run.range.to
   pub inside : page_run.range.to ≤ MOST_PAGES

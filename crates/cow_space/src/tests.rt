@@ -12,7 +12,7 @@ use std::process::Abort;
 use std::sync::ledger::{Blank, Ledger};
 use std::test::Fail;
 
-/// A page run of pages from one up to and without another.
+/// A page run from one page up to and without another.
 fn page_run(from: u16, to: u16, origin: Origin) -> PageRun
     ensures { result ≡ record { range = record { from = from; to = to }; origin = origin; right = None } }
 {

@@ -33,8 +33,8 @@ use pool_base::Steps;
 use range_map::SegmentKind;
 use std::sync::ledger::Ledger;
 
-/// The page run of the pages of an item in a clone of the place `from`: they are shared, or left out. Pages
-/// that are copied have theirs by segments.
+/// The page run of an item in a clone of the place `from`: its pages are shared, or left out. Pages that are
+/// copied have theirs by segments.
 fn item_run(item: &Item, from: usize) -> Option<PageRun>
     requires { IsItem MOST_PAGES item.now }
     ensures none { IfNone result ((q : ℕ) → names item.now (Page q) ≡ true
@@ -61,7 +61,7 @@ fn item_run(item: &Item, from: usize) -> Option<PageRun>
     })
 }
 
-/// The page runs of the pages of items in a clone of the place `from`.
+/// The page runs of items in a clone of the place `from`.
 fn item_runs(spec: &Spec, from: usize) -> ArrayVec<PageRun, MOST_PAGE_RUNS>
     ensures gifts { (q : ℕ) → gift_at result.items q ≡ item_gift from (mode spec.now (Page q)) }
     ensures few { length result.items ≤ length spec.now }

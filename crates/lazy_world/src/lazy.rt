@@ -22,7 +22,7 @@ pub struct LazyWorld {
 impl LazyWorld {
     ghost use Rattle.lazy_world.specs.CachedRoots.{with_cached_root};
 
-    /// Has one more cached root, if one is given; they are not known any more if there is no room.
+    /// Adds a cached root, if one is given. Without room for it they are not known any more.
     pub(crate) fn add_cached_root(&mut self, c: Option<Name>)
         ensures world { self.new.world ≡ self.old.world }
         ensures kept { self.new.known ≡ true → self.old.known ≡ true }
@@ -162,7 +162,7 @@ impl LazyWorld {
     }
 }
 
-/// Lets cached roots be roots.
+/// Makes these roots the cached ones.
 pub(crate) fn set_cached_roots(cached_roots: &mut ArrayVec<Name, MOST_KEPT_ROOTS>, roots: &[Name])
     requires { length roots.now ≤ MOST_ROOTS }
     ensures { cached_roots.new.items ≡ roots.now }

@@ -13,7 +13,7 @@ use pool_base::Steps;
 use std::marker::Brand;
 use std::sync::ledger::{Blank, Ledger};
 
-/// The page run of pages that become zeros that may be stored to, or absent.
+/// The page run by which pages become zeros that may be stored to, or absent.
 fn page_run_of(range: Range, present: bool) -> PageRun
     ensures { result ≡ record { range = range; origin = origin_of present; right = None } }
 {

@@ -106,7 +106,7 @@ impl PlacedWorld {
         }
     }
 
-    /// Marks the groups that pages of a place are common of, by page_runs of pages of one kind.
+    /// Marks the groups that pages of a place are common of, by runs of pages of one kind.
     fn mark_pages(&self, i: usize, marks: &mut [bool; 1024])
         requires { i < count self.now.places }
         ensures { AddsMarks self.now.groups.places
@@ -116,7 +116,7 @@ impl PlacedWorld {
     {
         let pages = self.pages() as u16;
         let mut p = 0u16;
-        'page_runs: while p < pages {
+        'runs: while p < pages {
             self.mark_group(self.places.page_group(i, p), marks);
             p = self.places.next_edge(i, p).min(pages);
         }

@@ -1,4 +1,4 @@
--- The pages of a page run have one state.
+-- The pages of a run have one state.
 use Rattle.std.proofs.Common.{◌≡◌, ℕ, suc, ◌+◌, get_or, length, take, ◌<◌, ◌≤◌, Bool, List, [], ◌∷◌, ◌&&◌, arith, cond, leb, ltb, refl, subst, sym, ◌∙◌, ⊎_elim, ◌⊎◌, ◌||◌, ap, true, Some}
 use Rattle.std.specs.Prelude.{All, ◌==◌}
 use Rattle.std.specs.List.{find, list_any}
@@ -59,16 +59,16 @@ pub find_alike : {X : Type 0} (from to : X → ℕ) (p edge q : ℕ) (xs : List 
 find_alike from to p edge q xs none low high =
     find_same (λ x. is_between (from x) (to x) q) (λ x. is_between (from x) (to x) p) xs (λ k d inside. (none k d inside).alike q low high)
 
--- the pages of a page run have one state before the changes, and after them
+-- the pages of a run have one state before the changes, and after them
 pub segments_alike : (segments : List Segment) (p edge q : ℕ) → All (λ s. HasNoEdge p edge s.from s.to) segments →
     p ≤ q → q < edge → state_at segments q ≡ state_at segments p
 unfolding state_at
 segments_alike segments p edge q none low high = rw (find_alike (λ s. s.from) (λ s. s.to) p edge q segments none low high) refl
 
-pub page_run_alike : (changes : List Change) (segments : List Segment) (p edge q : ℕ) → state_at segments q ≡ state_at segments p →
+pub run_alike : (changes : List Change) (segments : List Segment) (p edge q : ℕ) → state_at segments q ≡ state_at segments p →
     All (λ c. HasNoEdge p edge c.from c.to) changes → p ≤ q → q < edge → state_after changes segments q ≡ state_after changes segments p
 unfolding state_after
-page_run_alike changes segments p edge q same clear low high =
+run_alike changes segments p edge q same clear low high =
     let of_changes = find_alike (λ c. c.from) (λ c. c.to) p edge q changes clear low high in
     rw (same, of_changes) refl
 

@@ -4,10 +4,10 @@
 
 pub mod laws;
 pub mod map;
-pub(crate) mod page_runs;
+pub(crate) mod runs;
 pub mod segment;
 
 pub use laws::{ranges_are_those_of_the_context, ranges_go_by_states};
 pub use map::{RangeMap, TooManyRanges};
-pub use page_runs::sooner_edge;
+pub use runs::sooner_edge;
 pub use segment::{Change, PageState, Segment, SegmentKind};

@@ -3,7 +3,7 @@ ghost use Rattle.lwc_base.specs.declared.limits.TheConstants.{MOST_PAGES, MOST_R
 ghost use Rattle.range_map.specs.Kinds as spec;
 ghost use Rattle.range_map.specs.Kinds.{IsCanonical, IsSegment, are_alike, put_state, ranges, state_in};
 
-use crate::page_runs;
+use crate::runs;
 use crate::segment::{Change, PageState, Segment, SegmentKind};
 use arrayvec::ArrayVec;
 use lwc_base::{MOST_PAGES, MOST_RANGES, Right};
@@ -75,7 +75,7 @@ impl RangeMap {
         ensures state { result ≡ spec.state_at self.now p }
         ensures past { MOST_PAGES ≤ p → result ≡ None }
     {
-        page_runs::state_at(self.segments.as_slice(), p)
+        runs::state_at(self.segments.as_slice(), p)
     }
 
     /// The kind of a page; `None` where it is absent.
@@ -104,7 +104,7 @@ impl RangeMap {
         ensures other { result < MOST_PAGES → spec.state_at self.now result ≢ spec.state_at self.now p }
         ensures few { ranges MOST_PAGES (spec.state_at self.now) ≤ MOST_RANGES }
     {
-        page_runs::segment_edge(self.segments.as_slice(), p)
+        runs::segment_edge(self.segments.as_slice(), p)
     }
 
     /// Gives a state to the pages from `from` up to and without `to`, where no page from `from` on is
@@ -167,11 +167,11 @@ impl RangeMap {
         let segments = self.segments.as_slice();
         let mut count = 0u32;
         let mut p = 0u16;
-        'page_runs: while u32::from(p) < MOST_PAGES {
-            if page_runs::state_after(segments, changes, p).is_some() {
+        'runs: while u32::from(p) < MOST_PAGES {
+            if runs::state_after(segments, changes, p).is_some() {
                 count += 1;
             }
-            p = page_runs::run_end(segments, changes, p);
+            p = runs::run_end(segments, changes, p);
         }
         count
     }
@@ -207,9 +207,9 @@ fn segments_after(segments: &[Segment], changes: &[Change]) -> ArrayVec<Segment,
 {
     let mut after = ArrayVec::new();
     let mut p = 0u16;
-    'page_runs: while u32::from(p) < MOST_PAGES {
-        let end = page_runs::run_end(segments, changes, p);
-        if let Some(state) = page_runs::state_after(segments, changes, p) {
+    'runs: while u32::from(p) < MOST_PAGES {
+        let end = runs::run_end(segments, changes, p);
+        if let Some(state) = runs::state_after(segments, changes, p) {
             after.push(Segment {
                 from: p,
                 to: end,

@@ -6,11 +6,11 @@ use Rattle.lazy_world.specs.Reaping.{AddsMarks}
 use Rattle.lazy_world.specs.Seen.{rows}
 use Rattle.lazy_world.proofs.world.PlacedWorld.mark_pages.Given as goal
 
-abbrev pub invariant-page_runs : goal.invariant-page_runs
-invariant-page_runs l = record {
+abbrev pub invariant-runs : goal.invariant-runs
+invariant-runs l = record {
   low : l.p ≤ l.pages;
   marked : AddsMarks l.self.groups.places (λ g. list_any (λ k. is_in g (rows l.self.places l.i (Page k))) (range_with_len 0 l.p)) l.initial.marks l.marks;
 }
 
-abbrev pub decreases-page_runs : goal.decreases-page_runs
-decreases-page_runs l = l.pages - l.p
+abbrev pub decreases-runs : goal.decreases-runs
+decreases-runs l = l.pages - l.p

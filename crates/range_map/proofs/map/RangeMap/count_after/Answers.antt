@@ -5,24 +5,24 @@ use Rattle.range_map.proofs.Ranges.{few_ranges, first_begins, one_more}
 use Rattle.range_map.proofs.map.RangeMap.count_after.Goals as goal
 use Rattle.range_map.proofs.map.RangeMap.count_after.Goals.{then-is_some, else-is_some}
 
-pub page_runs-init : goal.page_runs-init
+pub runs-init : goal.runs-init
 unfolding ranges
-page_runs-init c = record {
+runs-init c = record {
   inside = omega arith;
   begins = λ inside. first_begins (state_after c.args.changes.now c.as_slice-segments.result.now);
   counted = refl;
 }
 
 pub overflow_add-count : goal.overflow_add-count
-overflow_add-count c = let few = few_ranges (state_after c.args.changes.now c.as_slice-segments.result.now) c.page_runs.p in omega (arith, c.page_runs.invariant.counted, c.page_runs.invariant.inside)
+overflow_add-count c = let few = few_ranges (state_after c.args.changes.now c.as_slice-segments.result.now) c.runs.p in omega (arith, c.runs.invariant.counted, c.runs.invariant.inside)
 
-pub page_runs-preserved : goal.page_runs-preserved
-page_runs-preserved c =
+pub runs-preserved : goal.runs-preserved
+runs-preserved c =
     let kinds = state_after c.args.changes.now c.as_slice-segments.result.now in
     let end = c.run_end-p.ensures in
-    let inside : c.page_runs.p < MOST_PAGES = omega (arith, c.page_runs-test.true, c.from.ensures) in
-    let counted = c.page_runs.invariant.counted in
-    let more = one_more kinds c.page_runs.p (c.run_end-p.result - c.page_runs.p - 1) c.run_end-p.result (omega arith) end.alike (c.page_runs.invariant.begins inside) in
+    let inside : c.runs.p < MOST_PAGES = omega (arith, c.runs-test.true, c.from.ensures) in
+    let counted = c.runs.invariant.counted in
+    let more = one_more kinds c.runs.p (c.run_end-p.result - c.runs.p - 1) c.run_end-p.result (omega arith) end.alike (c.runs.invariant.begins inside) in
     record {
       inside = end.within;
       begins = end.begins;

@@ -4,12 +4,12 @@ use Rattle.lwc_base.specs.declared.limits.TheConstants.{MOST_PAGES}
 use Rattle.range_map.specs.Kinds.{begins_range, ranges, state_after}
 use Rattle.range_map.proofs.map.RangeMap.count_after.Given as goal
 
-abbrev pub invariant-page_runs : goal.invariant-page_runs
-invariant-page_runs l = record {
+abbrev pub invariant-runs : goal.invariant-runs
+invariant-runs l = record {
   inside : l.p ≤ MOST_PAGES;
   begins : l.p < MOST_PAGES → begins_range (state_after l.changes l.segments) l.p ≡ is_some (state_after l.changes l.segments l.p);
   counted : l.count ≡ ranges l.p (state_after l.changes l.segments);
 }
 
-abbrev pub decreases-page_runs : goal.decreases-page_runs
-decreases-page_runs l = MOST_PAGES - l.p
+abbrev pub decreases-runs : goal.decreases-runs
+decreases-runs l = MOST_PAGES - l.p

@@ -1,8 +1,8 @@
 use Rattle.std.proofs.Common.{arith, subst}
 use Rattle.std.proofs.lemmas.List.{take_all}
 use Rattle.std.specs.Prelude.{All}
-use Rattle.range_map.proofs.Alike.{HasNoEdge, no_edge_more, page_run_alike}
-use Rattle.range_map.proofs.page_runs.next_edge.Goals as goal
+use Rattle.range_map.proofs.Alike.{HasNoEdge, no_edge_more, run_alike}
+use Rattle.range_map.proofs.runs.next_edge.Goals as goal
 
 pub loop-change-preserved : goal.loop-change-preserved
 loop-change-preserved c =
@@ -19,5 +19,5 @@ loop-change-preserved c =
 pub returns-clause-alike : goal.returns-clause-alike
 returns-clause-alike c q low high =
     let inv = c.loop-change.invariant in
-    page_run_alike c.args.changes.now c.args.segments.now c.args.p c.loop-change.edge q (inv.alike q low high)
+    run_alike c.args.changes.now c.args.segments.now c.args.p c.loop-change.edge q (inv.alike q low high)
     (subst (All (λ s. HasNoEdge c.args.p c.loop-change.edge s.from s.to)) (take_all c.loop-change.change-index c.args.changes.now c.loop-change-test.false) inv.clear) low high

@@ -1,6 +1,6 @@
 use Rattle.std.proofs.Common.{arith}
 use Rattle.range_map.proofs.Alike.{between_same}
-use Rattle.range_map.proofs.page_runs.sooner_edge.Goals as goal
+use Rattle.range_map.proofs.runs.sooner_edge.Goals as goal
 
 pub returns-clause-alike : goal.returns-clause-alike
 returns-clause-alike c q low high =

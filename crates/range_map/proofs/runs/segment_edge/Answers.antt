@@ -4,7 +4,7 @@ use Rattle.std.proofs.lemmas.List.{take_all}
 use Rattle.lwc_base.specs.declared.limits.TheConstants.{MOST_PAGES}
 use Rattle.range_map.specs.Kinds.{is_edge}
 use Rattle.range_map.proofs.Alike.{HasNoEdge, edge_more, no_edge_more, segments_alike}
-use Rattle.range_map.proofs.page_runs.segment_edge.Goals as goal
+use Rattle.range_map.proofs.runs.segment_edge.Goals as goal
 
 pub loop-segment-preserved : goal.loop-segment-preserved
 loop-segment-preserved c =

@@ -3,7 +3,7 @@ use Rattle.std.specs.Prelude.{All}
 use Rattle.lwc_base.specs.declared.limits.TheConstants.{MOST_PAGES}
 use Rattle.range_map.specs.Kinds.{state_at}
 use Rattle.range_map.proofs.Alike.{HasNoEdge}
-use Rattle.range_map.proofs.page_runs.next_edge.Given as goal
+use Rattle.range_map.proofs.runs.next_edge.Given as goal
 
 abbrev pub invariant-loop-change : goal.invariant-loop-change
 invariant-loop-change l = record {

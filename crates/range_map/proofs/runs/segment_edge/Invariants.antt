@@ -3,7 +3,7 @@ use Rattle.std.specs.Prelude.{All}
 use Rattle.lwc_base.specs.declared.limits.TheConstants.{MOST_PAGES}
 use Rattle.range_map.specs.Kinds.{is_edge}
 use Rattle.range_map.proofs.Alike.{HasNoEdge}
-use Rattle.range_map.proofs.page_runs.segment_edge.Given as goal
+use Rattle.range_map.proofs.runs.segment_edge.Given as goal
 
 abbrev pub invariant-loop-segment : goal.invariant-loop-segment
 invariant-loop-segment l = record {

@@ -52,7 +52,7 @@ pub(crate) fn run_end(segments: &[Segment], changes: &[Change], p: u16) -> u16
 {
     let state = state_after(segments, changes, p);
     let mut end = next_edge(segments, changes, p);
-    'page_runs: while u32::from(end) < MOST_PAGES && state == state_after(segments, changes, end) {
+    'runs: while u32::from(end) < MOST_PAGES && state == state_after(segments, changes, end) {
         end = next_edge(segments, changes, end);
     }
     end
