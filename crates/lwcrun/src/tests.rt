@@ -7,6 +7,7 @@ mod passes;
 mod replaying;
 mod running;
 mod stepping;
+mod vaults;
 
 use crate::words_or_none;
 use lwc_io::{Gate, MemoryFiles, MemorySink, NamedFile, OpenGate};
@@ -81,7 +82,7 @@ fn append_page(bytes: &mut Vec<u8>, page: PageOf) -> Result<(), AllocError> {
 }
 
 /// Appends a number of four bytes, the lowest first.
-fn append(bytes: &mut Vec<u8>, number: u32) -> Result<(), AllocError> {
+pub fn append(bytes: &mut Vec<u8>, number: u32) -> Result<(), AllocError> {
     bytes.extend_from_slice(&number.to_le_bytes())?;
     Ok(())
 }
@@ -179,7 +180,8 @@ pub const STORED: &str =
 /// The message of a line that is not accepted.
 pub const USAGE: &str =
     "lwcrun: usage: lwcrun replay IMAGE SCHEDULE [REQUESTS], run IMAGE, serve IMAGE REQUESTS, asm SOURCE, \
-    dis IMAGE, gen NUMBER, lift IMAGE, monitor IMAGE SCHEDULE; --frames F --budget B --workers W\n";
+    dis IMAGE, gen NUMBER, lift IMAGE, monitor IMAGE SCHEDULE, vault IMAGE VAULT SCHEDULE; \
+    --frames F --budget B --workers W\n";
 
 #[test]
 fn guests_run_as_their_schedules_say(rt: HostRuntime) -> Result<(), Fail> {

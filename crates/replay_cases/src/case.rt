@@ -2,13 +2,14 @@ use std::alloc::Global;
 use std::io;
 
 /// A guest that is replayed: what it shows, the words after the program's name, the schedule, the file of
-/// requests, and the source.
+/// requests, the vault's file, and the source.
 #[derive(Drop)]
 pub struct Case {
     pub title: String,
     pub line: String,
     pub schedule: String,
     pub requests: String,
+    pub vault: Vec<u8>,
     pub source: String,
 }
 
@@ -20,12 +21,13 @@ impl Case {
             line: String::new(alloc),
             schedule: String::new(alloc),
             requests: String::new(alloc),
+            vault: Vec::new(alloc),
             source: String::new(alloc),
         })
     }
 
-    /// Takes one more line: the words, the schedule, the requests, or else a line of the source.
-    fn take(&mut self, line: &str) -> io::Result<()> {
+    /// Takes one more line: the words, the schedule, the requests, the vault, or else a line of the source.
+    fn take(&mut self, alloc: Global, line: &str) -> io::Result<()> {
         if let Some(words) = line.strip_prefix("line ") {
             self.line.push_str(words)?;
         } else if let Some(digits) = line.strip_prefix("schedule ") {
@@ -35,6 +37,8 @@ impl Case {
                 self.requests.push_str(request)?;
                 self.requests.push_str("\n")?;
             }
+        } else if let Some(parts) = line.strip_prefix("vault ") {
+            self.vault = vault_bytes(alloc, parts)?;
         } else {
             self.source.push_str(line)?;
             self.source.push_str("\n")?;
@@ -49,7 +53,37 @@ pub fn take_line(alloc: Global, cases: &mut Vec<Case>, line: &str) -> io::Result
     if let Some(title) = line.strip_prefix("# ") {
         cases.push(Case::new(alloc, title)?)?;
     } else if let Some(case) = cases.last_mut() {
-        case.take(line)?;
+        case.take(alloc, line)?;
     }
+    Ok(())
+}
+
+/// The bytes of a vault's file: its entry, and then each page, a number and a colon and the page's first bytes.
+fn vault_bytes(alloc: Global, parts: &str) -> io::Result<Vec<u8>> {
+    let mut bytes = Vec::new(alloc);
+    for part in parts.split(' ') {
+        match part.split_once(':') {
+            Some((number, first)) => {
+                append_number(&mut bytes, number)?;
+                append_page(&mut bytes, first)?;
+            }
+            None => append_number(&mut bytes, part)?,
+        }
+    }
+    Ok(bytes)
+}
+
+/// Appends a number of four bytes, the lowest first.
+fn append_number(bytes: &mut Vec<u8>, digits: &str) -> io::Result<()> {
+    let number: u32 = digits.parse().unwrap_or(u32::MAX);
+    bytes.extend_from_slice(&number.to_le_bytes())?;
+    Ok(())
+}
+
+/// Appends a page of these first bytes, in hexadecimal digits, and zeros.
+fn append_page(bytes: &mut Vec<u8>, digits: &str) -> io::Result<()> {
+    let mut page = [0; 4096];
+    let _ = hex::decode_to_slice(digits, page.split_at_mut(digits.len() / 2).0);
+    bytes.extend_from_slice(&page)?;
     Ok(())
 }

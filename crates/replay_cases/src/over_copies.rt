@@ -9,7 +9,8 @@ use guest_image::{Image, read_image};
 use kernel_core::{Kernel, OpenFault, Settings};
 use lwc_base::{OutOfMemory, Requests};
 use lwc_monitor::monitor_replay;
-use lwc_text::{read_requests, read_schedule, report};
+use lwc_text::{read_requests, read_schedule, read_vault, report};
+use lwc_vault::{takes_vault_slot, vault_replay};
 use lwcrun_core::{Line, read_line};
 use std::alloc::{AllocError, Global};
 use whole_world::WholeWorld;
@@ -46,6 +47,9 @@ pub fn text_over_copies(alloc: Global, guest: &[u8], case: &Case) -> Result<Vec<
         }
         Ok(Line::Monitor { settings, .. }) => {
             Ok(monitored_over_copies(alloc, &image, &settings, schedule)?)
+        }
+        Ok(Line::Vault { settings, .. }) => {
+            Ok(vaulted_over_copies(alloc, &image, &case.vault, &settings, schedule)?)
         }
         _ => Ok(Vec::new(alloc)),
     }
@@ -93,5 +97,31 @@ fn monitored_over_copies(
             |_| Ok(Vec::new(alloc)),
         ),
         _ => Ok(Vec::new(alloc)),
+    }
+}
+
+/// The report of the schedule's steps beside the vault of a file, over a world by whole copies.
+fn vaulted_over_copies(
+    alloc: Global,
+    image: &Image,
+    vault: &[u8],
+    settings: &Settings,
+    schedule: &[u8],
+) -> Result<Vec<u8>, AllocError>
+    requires image { IsImage image.now }
+    requires settings { AreRunSettings settings.now }
+{
+    let instructions = image.text.len() as u32;
+    let Ok(vault) = read_vault(alloc, vault, instructions, image.form.pages()) else {
+        return Ok(Vec::new(alloc));
+    };
+    if takes_vault_slot(image) {
+        return Ok(Vec::new(alloc));
+    }
+    match read_schedule(alloc, schedule, image.entries.len() as u32) {
+        Ok(steps) => vault_replay::<WholeWorld>(alloc, image, &vault, &steps, settings).or_else(
+            |_| Ok(Vec::new(alloc)),
+        ),
+        Err(_) => Ok(Vec::new(alloc)),
     }
 }
