@@ -1,4 +1,4 @@
-//! Tests of what is read and written: instructions, the machine that runs them, images, sources and listings.
+//! Tests of what is read and written: instructions, the machine that runs them, images, sources, listings and scripts.
 #![tactic(auto)]
 
 #[cfg(test)]
@@ -9,5 +9,7 @@ mod instructions;
 mod listings;
 #[cfg(test)]
 mod machine;
+#[cfg(test)]
+mod scripts;
 #[cfg(test)]
 mod sources;

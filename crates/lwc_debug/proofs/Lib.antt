@@ -1,5 +1,5 @@
 mod Going
 mod Legal
 mod Living
-mod ScriptLines
+pub mod ScriptLines
 mod Telling

@@ -42,6 +42,11 @@ use Rattle.snapshot_host.specs.declared.finishing.Finished.{Finished}
 use Rattle.kernel_core.specs.declared.settings.Settings.{Settings}
 use Rattle.lift_law.proofs.Lifted.{runs_lifted}
 use Rattle.lwc_monitor.proofs.Promised.{monitored_run}
+use Rattle.lwc_debug.proofs.ScriptLines as scripts
+use Rattle.lwc_debug.specs.Scripts.{IsScript, script_at}
+use Rattle.lwc_debug.specs.declared.command.Command as debug
+use Rattle.lwc_debug.specs.declared.debugging.TheConstants.{MOST_DEBUGGED_STEPS}
+use Rattle.lwc_debug.specs.declared.script.TheConstants.{MOST_SCRIPT_BYTES}
 use Rattle.lwc_vault.proofs.Schedules.{keeps_secret}
 use Rattle.lwc_vault.proofs.Slots.{leaves_free, takes_none}
 use Rattle.lwc_vault.specs.Secrets.{beside}
@@ -59,15 +64,15 @@ use Rattle.lwcrun_core.specs.Calls.{AreContents, AreRequestsIn, CallEnded, Fetch
 use Rattle.lwcrun_core.specs.Ends.{End, Outside, Ended, FetchFailed, IsUnhindered, IsUnwritten, NothingFailed, WriteFailed, end_by}
 use Rattle.lwcrun_core.specs.Ends as ends
 use Rattle.lwc_text.specs.Report.{report_of_schedule}
-use Rattle.lwcrun_core.specs.Headline.{IsText, Work, after_image, after_monitored, after_schedule, after_server, after_vault, after_vault_image, asm_plan, dis_plan, gen_plan, inputs_of, lift_plan, monitor_plan, plan_of, read_by, replay_plan, run_plan, serve_plan, vault_plan}
+use Rattle.lwcrun_core.specs.Headline.{IsText, Work, after_image, after_monitored, after_schedule, after_server, after_debugged, after_debugged_image, after_vault, after_vault_image, asm_plan, debug_plan, dis_plan, gen_plan, inputs_of, lift_plan, monitor_plan, plan_of, read_by, replay_plan, run_plan, serve_plan, vault_plan}
 use Rattle.lwcrun_core.specs.Headline as works
-use Rattle.lwcrun_core.specs.Images.{bounded, bounded_requests_of, fitted, fitted_beside, fitting_image_of, fitting_vault_for, image_of, or_rejected, requests_of, schedule_of, serve_steps, source_of, then_tested, vault_for}
+use Rattle.lwcrun_core.specs.Images.{bounded, bounded_requests_of, fitted, fitted_beside, fitting_image_of, fitting_vault_for, image_of, or_rejected, requests_of, schedule_of, script_of, serve_steps, source_of, then_tested, vault_for}
 use Rattle.lwcrun_core.specs.Lines.{AreReplaySettings, AreRunSettings, AreServeSettings, Command, IsWithinLimits}
 use Rattle.lwcrun_core.specs.Lines as commands
 use Rattle.lwcrun_core.specs.Plans.{Plan, AreFetchesOf, FileContents, LeadsTo, Reads, AreKnown, accepted, outcome}
 use Rattle.lwcrun_core.specs.Plans as plans
 use Rattle.lwcrun_core.specs.Statuses.{exit_number, status_of, status_of_rejection}
-use Rattle.lwcrun_core.proofs.Readers.{beside_found, bounded_found, fits_beside, fitted_found, image_fits, image_read, requests_bounded, requests_read, schedule_read, source_read, tested, vault_read}
+use Rattle.lwcrun_core.proofs.Readers.{beside_found, bounded_found, fits_beside, fitted_found, image_fits, image_read, requests_bounded, requests_read, schedule_read, script_read, source_read, tested, vault_read}
 use Rattle.lwcrun_core.proofs.Promises.{known_bytes, leads_known, settled}
 
 -- what follows the last input of each command
@@ -96,6 +101,9 @@ monitored settings image steps = plans.Write (works.Monitoring (inputs_of image 
 abbrev kept_beside : Settings → Image → Vault → List ℕ → Plan Rejection Work
 kept_beside settings image v steps = plans.Write (works.Replaying (beside (inputs_of image [] settings) v) steps)
 
+abbrev answered : Settings → Image → List ℕ → List debug.Command → Plan Rejection Work
+answered settings image steps script = plans.Write (works.Debugging (inputs_of image [] settings) steps script)
+
 -- the files that a plan reads are those that its command names
 
 reads_accepted : {A : Type 0} (files : FileContents) (r : Result A Rejection) (next : A → Plan Rejection Work) (q : List ℕ) (P : Type 0) → ((x : A) → Reads files (next x) q → P) → Reads files (accepted r next) q → P
@@ -115,7 +123,7 @@ reads_after_schedule files (Some requests) settings image steps q h = reads_by f
 reads_after_image : (files : FileContents) (schedule : List ℕ) (requests : Option (List ℕ)) (settings : Settings) (image : Image) (q : List ℕ) → Reads files (after_image schedule requests settings image) q → (q ≡ schedule) ⊎ IsNameIn requests q
 unfolding after_image
 reads_after_image files schedule requests settings image q h =
-    reads_by files (schedule_of (threads_for image settings.job)) MOST_SCHEDULE_BYTES schedule (after_schedule requests settings image) q _ (λ is. inl is) (λ steps after. inr (reads_after_schedule files requests settings image steps q after)) h
+    reads_by files (schedule_of (threads_for image settings.job) MOST_STEPS) MOST_SCHEDULE_BYTES schedule (after_schedule requests settings image) q _ (λ is. inl is) (λ steps after. inr (reads_after_schedule files requests settings image steps q after)) h
 
 reads_after_server : (files : FileContents) (requests : List ℕ) (settings : Settings) (image : Image) (q : List ℕ) → Reads files (after_server requests settings image) q → q ≡ requests
 unfolding after_server
@@ -124,20 +132,29 @@ reads_after_server files requests settings image q h = reads_by files (bounded_r
 reads_after_monitored : (files : FileContents) (schedule : List ℕ) (settings : Settings) (image : Image) (q : List ℕ) → Reads files (after_monitored schedule settings image) q → q ≡ schedule
 unfolding after_monitored
 reads_after_monitored files schedule settings image q h =
-    reads_by files (schedule_of (threads_for image settings.job)) MOST_SCHEDULE_BYTES schedule (monitored settings image) q _ (λ is. is) (λ steps after. absurd after) h
+    reads_by files (schedule_of (threads_for image settings.job) MOST_STEPS) MOST_SCHEDULE_BYTES schedule (monitored settings image) q _ (λ is. is) (λ steps after. absurd after) h
 
 reads_after_vault : (files : FileContents) (schedule : List ℕ) (settings : Settings) (image : Image) (v : Vault) (q : List ℕ) → Reads files (after_vault schedule settings image v) q → q ≡ schedule
 unfolding after_vault
 reads_after_vault files schedule settings image v q h =
-    reads_by files (schedule_of (threads_for image settings.job)) MOST_SCHEDULE_BYTES schedule (kept_beside settings image v) q _ (λ is. is) (λ steps after. absurd after) h
+    reads_by files (schedule_of (threads_for image settings.job) MOST_STEPS) MOST_SCHEDULE_BYTES schedule (kept_beside settings image v) q _ (λ is. is) (λ steps after. absurd after) h
 
 reads_after_vault_image : (files : FileContents) (vault schedule : List ℕ) (settings : Settings) (image : Image) (q : List ℕ) → Reads files (after_vault_image vault schedule settings image) q → (q ≡ vault) ⊎ (q ≡ schedule)
 unfolding after_vault_image
 reads_after_vault_image files vault schedule settings image q h =
     reads_by files (fitting_vault_for settings.frames image) MOST_VAULT_BYTES vault (after_vault schedule settings image) q _ (λ is. inl is) (λ v after. inr (reads_after_vault files schedule settings image v q after)) h
 
+reads_after_debugged : (files : FileContents) (script : List ℕ) (settings : Settings) (image : Image) (steps q : List ℕ) → Reads files (after_debugged script settings image steps) q → q ≡ script
+unfolding after_debugged
+reads_after_debugged files script settings image steps q h = reads_by files script_of MOST_SCRIPT_BYTES script (answered settings image steps) q _ (λ is. is) (λ asked after. absurd after) h
+
+reads_after_debugged_image : (files : FileContents) (schedule script : List ℕ) (settings : Settings) (image : Image) (q : List ℕ) → Reads files (after_debugged_image schedule script settings image) q → (q ≡ schedule) ⊎ (q ≡ script)
+unfolding after_debugged_image
+reads_after_debugged_image files schedule script settings image q h =
+    reads_by files (schedule_of (threads_for image settings.job) MOST_DEBUGGED_STEPS) MOST_SCHEDULE_BYTES schedule (after_debugged script settings image) q _ (λ is. inl is) (λ steps after. inr (reads_after_debugged files script settings image steps q after)) h
+
 reads_names : (files : FileContents) (command : Command) (q : List ℕ) → Reads files (plan_of command) q → Names command q
-unfolding replay_plan run_plan serve_plan asm_plan dis_plan gen_plan lift_plan monitor_plan after_monitored vault_plan
+unfolding replay_plan run_plan serve_plan asm_plan dis_plan gen_plan lift_plan monitor_plan after_monitored vault_plan debug_plan
 reads_names files (commands.Replay image schedule requests settings) q h =
     reads_by files (fitting_image_of settings.frames) MOST_IMAGE_BYTES image (after_image schedule requests settings) q _ (λ is. inl is) (λ x after. inr (reads_after_image files schedule requests settings x q after)) h
 reads_names files (commands.Run image settings) q h = reads_by files (fitting_image_of settings.frames) MOST_IMAGE_BYTES image (ran settings) q _ (λ is. is) (λ x after. absurd after) h
@@ -151,6 +168,8 @@ reads_names files (commands.Monitor image schedule settings) q h =
     reads_by files (fitting_image_of settings.frames) MOST_IMAGE_BYTES image (after_monitored schedule settings) q _ (λ is. inl is) (λ x after. inr (reads_after_monitored files schedule settings x q after)) h
 reads_names files (commands.Vault image vault schedule settings) q h =
     reads_by files image_of MOST_IMAGE_BYTES image (after_vault_image vault schedule settings) q _ (λ is. inl is) (λ x after. inr (reads_after_vault_image files vault schedule settings x q after)) h
+reads_names files (commands.Debug image schedule script settings) q h =
+    reads_by files (fitting_image_of settings.frames) MOST_IMAGE_BYTES image (after_debugged_image schedule script settings) q _ (λ is. inl is) (λ x after. inr (reads_after_debugged_image files schedule script settings x q after)) h
 
 are_known : (files : FileContents) (command : Command) (bytes : List ℕ → List ℕ) → AreContents files command bytes → AreKnown files (plan_of command) bytes
 are_known files command bytes h q reads = h q (reads_names files command q reads)
@@ -236,8 +255,11 @@ wrote o inputs work text is_work is taken =
     let h : IsText (works.Running inputs) text = (let P : Work → Type 0 = λ w. IsText w text in subst P is_work is) in
     (h.0, h.1, taken ∙ ap (appended o.out.taken) h.2)
 
-schedule_accepted : (threads : ℕ) (bytes steps : List ℕ) → IsSchedule threads MOST_STEPS bytes steps → schedule_of threads bytes ≡ Ok steps
-schedule_accepted threads bytes steps is = schedule_read threads bytes steps (is_read threads MOST_STEPS bytes steps is)
+schedule_accepted : (threads most : ℕ) (bytes steps : List ℕ) → IsSchedule threads most bytes steps → schedule_of threads most bytes ≡ Ok steps
+schedule_accepted threads most bytes steps is = schedule_read threads most bytes steps (is_read threads most bytes steps is)
+
+script_accepted : (bytes : List ℕ) (script : List debug.Command) → IsScript bytes script → script_of bytes ≡ Ok script
+script_accepted bytes script is = script_read bytes script (scripts.is_read bytes script is)
 
 requests_accepted : (bytes : List ℕ) (asked : List (List ℕ)) → IsRequestFile bytes asked → requests_of bytes ≡ Ok asked
 requests_accepted bytes asked is = requests_read bytes asked (file_is_read bytes asked is)
@@ -301,9 +323,13 @@ fitting_vault_found settings bytes x v fits e =
       fits = subst (λ (w : Vault). length x.pages + length w.pages ≤ settings.frames) found.0 found.2;
     }
 
-schedule_found : (threads : ℕ) (bytes steps : List ℕ) → schedule_of threads bytes ≡ Ok steps → IsSchedule threads MOST_STEPS bytes steps
+schedule_found : (threads most : ℕ) (bytes steps : List ℕ) → schedule_of threads most bytes ≡ Ok steps → IsSchedule threads most bytes steps
 unfolding schedule_of
-schedule_found threads bytes steps e = is_schedule threads MOST_STEPS bytes steps (or_rejected_ok rejections.Input (schedule_at threads MOST_STEPS bytes) steps e)
+schedule_found threads most bytes steps e = is_schedule threads most bytes steps (or_rejected_ok rejections.Input (schedule_at threads most bytes) steps e)
+
+script_found : (bytes : List ℕ) (script : List debug.Command) → script_of bytes ≡ Ok script → IsScript bytes script
+unfolding script_of
+script_found bytes script e = scripts.is_script bytes script (or_rejected_ok rejections.Input (script_at bytes) script e)
 
 requests_found : (bytes : List ℕ) (asked : List (List ℕ)) → requests_of bytes ≡ Ok asked → IsRequestFile bytes asked
 unfolding requests_of
@@ -317,11 +343,11 @@ over_schedule bytes None settings image steps asked none = ap (λ a. Ok (works.R
 over_schedule bytes (Some requests) settings image steps asked is = over bytes _ asked (replayed settings image steps) (requests_accepted (bytes requests) asked is)
 
 runs : (bytes : List ℕ → List ℕ) (command : Command) → IsRunnable command bytes → (work : Work) × (outcome bytes (plan_of command) ≡ Ok work)
-unfolding replay_plan after_image run_plan serve_plan after_server asm_plan dis_plan gen_plan lift_plan monitor_plan after_monitored vault_plan after_vault_image after_vault
+unfolding replay_plan after_image run_plan serve_plan after_server asm_plan dis_plan gen_plan lift_plan monitor_plan after_monitored vault_plan after_vault_image after_vault debug_plan after_debugged_image after_debugged
 runs bytes (commands.Replay image schedule requests settings) (x, steps, asked, h) = (
   works.Replaying (inputs_of x asked settings) steps,
   over bytes _ x (after_image schedule requests settings) (fitting_accepted settings (bytes image) x h.guest)
-      ∙ over bytes _ steps (after_schedule requests settings x) (schedule_accepted _ (bytes schedule) steps h.scheduled)
+      ∙ over bytes _ steps (after_schedule requests settings x) (schedule_accepted _ _ (bytes schedule) steps h.scheduled)
       ∙ over_schedule bytes requests settings x steps asked h.requested,
 )
 runs bytes (commands.Run image settings) (x, h) =
@@ -337,13 +363,19 @@ runs bytes (commands.Gen number) runnable = (works.Generating number, refl)
 runs bytes (commands.Monitor image schedule settings) (x, steps, h) = (
   works.Monitoring (inputs_of x [] settings) steps,
   over bytes _ x (after_monitored schedule settings) (fitting_accepted settings (bytes image) x h.guest)
-      ∙ over bytes _ steps (monitored settings x) (schedule_accepted _ (bytes schedule) steps h.scheduled),
+      ∙ over bytes _ steps (monitored settings x) (schedule_accepted _ _ (bytes schedule) steps h.scheduled),
 )
 runs bytes (commands.Vault image vault schedule settings) (x, v, steps, h) = (
   works.Replaying (beside (inputs_of x [] settings) v) steps,
   over bytes _ x (after_vault_image vault schedule settings) (image_accepted (bytes image) x h.guest h.spelled)
       ∙ over bytes _ v (after_vault schedule settings x) (fitting_vault_accepted bytes image vault schedule settings x v steps h)
-      ∙ over bytes _ steps (kept_beside settings x v) (schedule_accepted _ (bytes schedule) steps h.scheduled),
+      ∙ over bytes _ steps (kept_beside settings x v) (schedule_accepted _ _ (bytes schedule) steps h.scheduled),
+)
+runs bytes (commands.Debug image schedule script settings) (x, steps, asked, h) = (
+  works.Debugging (inputs_of x [] settings) steps asked,
+  over bytes _ x (after_debugged_image schedule script settings) (fitting_accepted settings (bytes image) x h.guest)
+      ∙ over bytes _ steps (after_debugged script settings x) (schedule_accepted _ _ (bytes schedule) steps h.scheduled)
+      ∙ over bytes _ asked (answered settings x steps) (script_accepted (bytes script) asked h.scripted),
 )
 runs bytes (commands.Lift image) (x, is, spelled) = (works.Spelling (lifted x), over bytes _ x raised (image_accepted (bytes image) x is spelled))
 
@@ -435,11 +467,11 @@ asked_of files (Some requests) settings image steps work bytes known h =
     (read.0, requests_found (bytes requests) read.0 read.1, work_is work _ read.3)
 
 headline_of : (o : Outside) (command : Command) (bytes : List ℕ → List ℕ) (work : Work) (text : List ℕ) → IsWithinLimits command → AreContents o.files.contents command bytes → LeadsTo o.files.contents (plan_of command) (Ok work) → IsText work text → o.out_after.taken ≡ appended o.out.taken text → Headline o command bytes
-unfolding replay_plan after_image run_plan serve_plan after_server asm_plan dis_plan gen_plan lift_plan monitor_plan after_monitored vault_plan after_vault_image after_vault bounded_requests_of
+unfolding replay_plan after_image run_plan serve_plan after_server asm_plan dis_plan gen_plan lift_plan monitor_plan after_monitored vault_plan after_vault_image after_vault debug_plan after_debugged_image after_debugged bounded_requests_of
 headline_of o (commands.Replay image schedule requests settings) bytes work text within known leads is taken =
     let files = o.files.contents in
     let read = leads_by files (fitting_image_of settings.frames) MOST_IMAGE_BYTES image (after_image schedule requests settings) work (bytes image) (known image (inl refl)) leads in
-    let steps = leads_by files (schedule_of (threads_for read.0 settings.job)) MOST_SCHEDULE_BYTES schedule (after_schedule requests settings read.0) work (bytes schedule) (known schedule (inr (inl refl))) read.3 in
+    let steps = leads_by files (schedule_of (threads_for read.0 settings.job) MOST_STEPS) MOST_SCHEDULE_BYTES schedule (after_schedule requests settings read.0) work (bytes schedule) (known schedule (inr (inl refl))) read.3 in
     let asked = asked_of files requests settings read.0 steps.0 work bytes (λ q named. known q (inr (inr named))) steps.3 in
     let guest = fitting_found settings (bytes image) read.0 read.2 read.1 in
     let inputs = inputs_of read.0 asked.0 settings in
@@ -448,7 +480,7 @@ headline_of o (commands.Replay image schedule requests settings) bytes work text
       read.0,
       steps.0,
       asked.0,
-      record { guest = guest; scheduled = schedule_found _ (bytes schedule) steps.0 steps.1; requested = asked.1 },
+      record { guest = guest; scheduled = schedule_found _ _ (bytes schedule) steps.0 steps.1; requested = asked.1 },
       each_alone inputs steps_kept can,
       none_short inputs steps_kept can,
       run_confined inputs can steps_kept,
@@ -502,13 +534,13 @@ headline_of o (commands.Lift image) bytes work text within known leads is taken 
 headline_of o (commands.Monitor image schedule settings) bytes work text within known leads is taken =
     let files = o.files.contents in
     let read = leads_by files (fitting_image_of settings.frames) MOST_IMAGE_BYTES image (after_monitored schedule settings) work (bytes image) (known image (inl refl)) leads in
-    let steps = leads_by files (schedule_of (threads_for read.0 settings.job)) MOST_SCHEDULE_BYTES schedule (monitored settings read.0) work (bytes schedule) (known schedule (inr refl)) read.3 in
+    let steps = leads_by files (schedule_of (threads_for read.0 settings.job) MOST_STEPS) MOST_SCHEDULE_BYTES schedule (monitored settings read.0) work (bytes schedule) (known schedule (inr refl)) read.3 in
     let guest = fitting_found settings (bytes image) read.0 read.2 read.1 in
     let inputs = inputs_of read.0 [] settings in
     let can = replay_opens None settings bytes (bytes image) read.0 [] within guest refl in (
       read.0,
       steps.0,
-      record { guest = guest; scheduled = schedule_found _ (bytes schedule) steps.0 steps.1; requested = refl },
+      record { guest = guest; scheduled = schedule_found _ _ (bytes schedule) steps.0 steps.1; requested = refl },
       monitored_run inputs steps.0 can within.job,
       taken ∙ ap (appended o.out.taken) (let P : Work → Type 0 = λ w. IsText w text in subst P (work_is work _ steps.3) is),
     )
@@ -520,7 +552,7 @@ headline_of o (commands.Vault image vault schedule settings) bytes work text wit
     let secret = leads_by files (fitting_vault_for settings.frames x) MOST_VAULT_BYTES vault (after_vault schedule settings x) work (bytes vault) (known vault (inr (inl refl))) read.3 in
     let v = secret.0 in
     let found = fitting_vault_found settings (bytes vault) x v secret.2 secret.1 in
-    let steps = leads_by files (schedule_of (threads_for x settings.job)) MOST_SCHEDULE_BYTES schedule (kept_beside settings x v) work (bytes schedule) (known schedule (inr (inr refl))) secret.3 in
+    let steps = leads_by files (schedule_of (threads_for x settings.job) MOST_STEPS) MOST_SCHEDULE_BYTES schedule (kept_beside settings x v) work (bytes schedule) (known schedule (inr (inr refl))) secret.3 in
     let inputs = inputs_of x [] settings in
     let can = vault_opens settings (bytes vault) x v within spelled.0 found in (
       x,
@@ -532,11 +564,26 @@ headline_of o (commands.Vault image vault schedule settings) bytes work text wit
         secret = found.secret;
         free = found.free;
         fits = found.fits;
-        scheduled = schedule_found _ (bytes schedule) steps.0 steps.1;
+        scheduled = schedule_found _ _ (bytes schedule) steps.0 steps.1;
       },
       keeps_secret inputs v steps.0 can,
       run_confined (beside inputs v) can (kept (start (beside inputs v)) steps.0),
       taken ∙ ap (appended o.out.taken) (let P : Work → Type 0 = λ w. IsText w text in subst P (work_is work _ steps.3) is),
+    )
+headline_of o (commands.Debug image schedule script settings) bytes work text within known leads is taken =
+    let files = o.files.contents in
+    let read = leads_by files (fitting_image_of settings.frames) MOST_IMAGE_BYTES image (after_debugged_image schedule script settings) work (bytes image) (known image (inl refl)) leads in
+    let steps = leads_by files (schedule_of (threads_for read.0 settings.job) MOST_DEBUGGED_STEPS) MOST_SCHEDULE_BYTES schedule (after_debugged script settings read.0) work (bytes schedule) (known schedule (inr (inl refl))) read.3 in
+    let asked = leads_by files script_of MOST_SCRIPT_BYTES script (answered settings read.0 steps.0) work (bytes script) (known script (inr (inr refl))) steps.3 in
+    let guest = fitting_found settings (bytes image) read.0 read.2 read.1 in
+    let inputs = inputs_of read.0 [] settings in
+    let can = replay_opens None settings bytes (bytes image) read.0 [] within guest refl in (
+      read.0,
+      steps.0,
+      asked.0,
+      record { guest = guest; scheduled = schedule_found _ _ (bytes schedule) steps.0 steps.1; scripted = script_found (bytes script) asked.0 asked.1 },
+      run_confined inputs can (kept (start inputs) steps.0),
+      taken ∙ ap (appended o.out.taken) (let P : Work → Type 0 = λ w. IsText w text in subst P (work_is work _ asked.3) is),
     )
 
 -- a line that is not accepted reads no file and writes no text

@@ -19,6 +19,9 @@ use Rattle.lwc_base.specs.declared.limits.TheConstants.{MOST_IMAGE_BYTES, MOST_R
 use Rattle.lwc_io.specs.Outside.{FilesView}
 use Rattle.lwc_text.specs.Requests.{requests_at}
 use Rattle.lwc_text.specs.Schedules.{schedule_at}
+use Rattle.lwc_debug.specs.Scripts.{script_at}
+use Rattle.lwc_debug.specs.declared.command.Command.{Command}
+use Rattle.lwc_debug.specs.declared.script.TheConstants.{MOST_SCRIPT_BYTES}
 use Rattle.lwc_text.specs.VaultFiles.{vault_at}
 use Rattle.lwc_text.specs.declared.vault.TheConstants.{MOST_VAULT_BYTES}
 use Rattle.lwc_text.specs.declared.fault.InputRule.TheVariants as inputs
@@ -28,7 +31,7 @@ use Rattle.lwcrun_core.specs.declared.ending.Rejection.{Rejection}
 use Rattle.lwcrun_core.specs.declared.ending.Rejection.TheVariants as rejections
 use Rattle.lwcrun_core.specs.Ends.{End}
 use Rattle.lwcrun_core.specs.Ends as ends
-use Rattle.lwcrun_core.specs.Images.{bounded, bounded_requests_of, fitted, fitted_beside, image_of, or_rejected, requests_of, schedule_of, serve_steps, source_of, then_tested, vault_for, within_limit}
+use Rattle.lwcrun_core.specs.Images.{bounded, bounded_requests_of, fitted, fitted_beside, image_of, or_rejected, requests_of, schedule_of, script_of, serve_steps, source_of, then_tested, vault_for, within_limit}
 use Rattle.lwcrun_core.specs.Parts.{ReadsBy}
 use Rattle.lwcrun_core.specs.Parts as parts
 use Rattle.lwcrun_core.specs.Views.{end_of, error_end, found}
@@ -111,13 +114,17 @@ too_long_source : (bytes : List ℕ) → MOST_SOURCE_BYTES < length bytes → so
 unfolding source_of assembled draft_at
 too_long_source bytes long = rw (lt-ltb MOST_SOURCE_BYTES (length bytes) long) refl
 
-too_long_schedule : (threads : ℕ) (bytes : List ℕ) → MOST_SCHEDULE_BYTES < length bytes → schedule_of threads bytes ≡ Err (rejections.Input inputs.TooLong MOST_SCHEDULE_BYTES)
+too_long_schedule : (threads most : ℕ) (bytes : List ℕ) → MOST_SCHEDULE_BYTES < length bytes → schedule_of threads most bytes ≡ Err (rejections.Input inputs.TooLong MOST_SCHEDULE_BYTES)
 unfolding schedule_of schedule_at
-too_long_schedule threads bytes long = rw (lt-ltb MOST_SCHEDULE_BYTES (length bytes) long) refl
+too_long_schedule threads most bytes long = rw (lt-ltb MOST_SCHEDULE_BYTES (length bytes) long) refl
 
 too_long_requests : (bytes : List ℕ) → MOST_REQUEST_FILE_BYTES < length bytes → requests_of bytes ≡ Err (rejections.Input inputs.TooLong MOST_REQUEST_FILE_BYTES)
 unfolding requests_of requests_at
 too_long_requests bytes long = rw (lt-ltb MOST_REQUEST_FILE_BYTES (length bytes) long) refl
+
+too_long_script : (bytes : List ℕ) → MOST_SCRIPT_BYTES < length bytes → script_of bytes ≡ Err (rejections.Input inputs.TooLong MOST_SCRIPT_BYTES)
+unfolding script_of script_at
+too_long_script bytes long = rw (lt-ltb MOST_SCRIPT_BYTES (length bytes) long) refl
 
 too_long_vault : (image : Image) (bytes : List ℕ) → MOST_VAULT_BYTES < length bytes → vault_for image bytes ≡ Err (rejections.Input inputs.TooLong MOST_VAULT_BYTES)
 unfolding vault_for vault_at
@@ -133,11 +140,14 @@ image_limited = limited MOST_IMAGE_BYTES _ image_of too_long_image
 pub source_limited : (bytes : List ℕ) → source_of bytes ≡ then_tested (within_limit MOST_SOURCE_BYTES (rejections.Source sources.TooLong MOST_SOURCE_BYTES) bytes) source_of
 source_limited = limited MOST_SOURCE_BYTES _ source_of too_long_source
 
-pub schedule_limited : (threads : ℕ) (r : Rejection) → r ≡ rejections.Input inputs.TooLong MOST_SCHEDULE_BYTES → (bytes : List ℕ) → schedule_of threads bytes ≡ then_tested (within_limit MOST_SCHEDULE_BYTES r bytes) (schedule_of threads)
-schedule_limited threads r is = limited MOST_SCHEDULE_BYTES r (schedule_of threads) (λ bytes long. too_long_schedule threads bytes long ∙ ap Err (sym is))
+pub schedule_limited : (threads most : ℕ) (r : Rejection) → r ≡ rejections.Input inputs.TooLong MOST_SCHEDULE_BYTES → (bytes : List ℕ) → schedule_of threads most bytes ≡ then_tested (within_limit MOST_SCHEDULE_BYTES r bytes) (schedule_of threads most)
+schedule_limited threads most r is = limited MOST_SCHEDULE_BYTES r (schedule_of threads most) (λ bytes long. too_long_schedule threads most bytes long ∙ ap Err (sym is))
 
 pub requests_limited : (r : Rejection) → r ≡ rejections.Input inputs.TooLong MOST_REQUEST_FILE_BYTES → (bytes : List ℕ) → requests_of bytes ≡ then_tested (within_limit MOST_REQUEST_FILE_BYTES r bytes) requests_of
 requests_limited r is = limited MOST_REQUEST_FILE_BYTES r requests_of (λ bytes long. too_long_requests bytes long ∙ ap Err (sym is))
+
+pub script_limited : (r : Rejection) → r ≡ rejections.Input inputs.TooLong MOST_SCRIPT_BYTES → (bytes : List ℕ) → script_of bytes ≡ then_tested (within_limit MOST_SCRIPT_BYTES r bytes) script_of
+script_limited r is = limited MOST_SCRIPT_BYTES r script_of (λ bytes long. too_long_script bytes long ∙ ap Err (sym is))
 
 pub vault_limited : (image : Image) (r : Rejection) → r ≡ rejections.Input inputs.TooLong MOST_VAULT_BYTES → (bytes : List ℕ) → vault_for image bytes ≡ then_tested (within_limit MOST_VAULT_BYTES r bytes) (vault_for image)
 vault_limited image r is = limited MOST_VAULT_BYTES r (vault_for image) (λ bytes long. too_long_vault image bytes long ∙ ap Err (sym is))
@@ -155,13 +165,17 @@ pub source_read : (bytes : List ℕ) (x : Image) → assembled bytes ≡ Ok x �
 unfolding source_of
 source_read bytes x is = ap (or_rejected rejections.Source) is
 
-pub schedule_read : (threads : ℕ) (bytes steps : List ℕ) → schedule_at threads MOST_STEPS bytes ≡ Ok steps → schedule_of threads bytes ≡ Ok steps
+pub schedule_read : (threads most : ℕ) (bytes steps : List ℕ) → schedule_at threads most bytes ≡ Ok steps → schedule_of threads most bytes ≡ Ok steps
 unfolding schedule_of
-schedule_read threads bytes steps is = ap (or_rejected rejections.Input) is
+schedule_read threads most bytes steps is = ap (or_rejected rejections.Input) is
 
 pub requests_read : (bytes : List ℕ) (asked : List (List ℕ)) → requests_at bytes ≡ Ok asked → requests_of bytes ≡ Ok asked
 unfolding requests_of
 requests_read bytes asked is = ap (or_rejected rejections.Input) is
+
+pub script_read : (bytes : List ℕ) (script : List Command) → script_at bytes ≡ Ok script → script_of bytes ≡ Ok script
+unfolding script_of
+script_read bytes script is = ap (or_rejected rejections.Input) is
 
 pub vault_read : (image : Image) (bytes : List ℕ) (v : Vault) → vault_at (length image.text) (pages_of image.form) bytes ≡ Ok v → vault_for image bytes ≡ Ok v
 unfolding vault_for

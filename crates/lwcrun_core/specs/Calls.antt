@@ -18,6 +18,10 @@ use Rattle.confinement.specs.EachStep.{IsConfinedRun}
 use Rattle.request_isolation.specs.Needs.{HasFrames}
 use Rattle.lwc_gen.specs.Generated.{generated}
 use Rattle.lwc_gen.specs.Summary.{summary_after}
+use Rattle.lwc_debug.specs.Scripts.{IsScript}
+use Rattle.lwc_debug.specs.Transcript.{transcript_of_schedule}
+use Rattle.lwc_debug.specs.declared.command.Command as debug
+use Rattle.lwc_debug.specs.declared.debugging.TheConstants.{MOST_DEBUGGED_STEPS}
 use Rattle.lwc_monitor.specs.Promises.{IsMonitoredRun}
 use Rattle.lwc_monitor.specs.Reports.{monitored_text}
 use Rattle.lwc_text.specs.Requests.{IsRequestFile}
@@ -66,6 +70,7 @@ Names (commands.Gen number) q = ⊥
 Names (commands.Lift image) q = q ≡ image
 Names (commands.Monitor image schedule settings) q = (q ≡ image) ⊎ (q ≡ schedule)
 Names (commands.Vault image vault schedule settings) q = (q ≡ image) ⊎ ((q ≡ vault) ⊎ (q ≡ schedule))
+Names (commands.Debug image schedule script settings) q = (q ≡ image) ⊎ ((q ≡ schedule) ⊎ (q ≡ script))
 
 -- a call fetched what its command's plan comes to, and nothing where the line is not accepted
 abbrev pub FetchesPlan : Option Command → FilesView → FilesView → Type 0
@@ -144,6 +149,14 @@ pub record IsVaultReplay
   pub fits : length x.pages + length v.pages ≤ settings.frames
   pub scheduled : IsSchedule (threads_for x settings.job) MOST_STEPS (bytes schedule) steps
 
+-- a debugged run's files are accepted: an image, a schedule of its threads, and a script
+pub record IsDebugged
+    (bytes : List ℕ → List ℕ) (image schedule script : List ℕ) (settings : Settings)
+    (x : Image) (steps : List ℕ) (asked : List debug.Command) : Type 0 where
+  pub guest : IsFitting settings (bytes image) x
+  pub scheduled : IsSchedule (threads_for x settings.job) MOST_DEBUGGED_STEPS (bytes schedule) steps
+  pub scripted : IsScript (bytes script) asked
+
 -- a serve's files are accepted: an image, and requests that take no more steps than there may be
 pub record IsServe
     (bytes : List ℕ → List ℕ) (image requests : List ℕ) (settings : Settings)
@@ -182,7 +195,8 @@ WroteSummary o number =
 -- lifted image, which runs the same where no limit of pages is met; the report of the steps that are kept of the
 -- schedule of a monitored run, in which no trapped context's slots change but by its monitor; the report of the
 -- steps that are kept of the schedule of a run beside a vault, which is the same beside each other vault of its
--- shape unless a thread makes a step in it. Of the same steps: with enough frames each reply is the one that its
+-- shape unless a thread makes a step in it; the answers to a script, each at its place of the steps that are kept of
+-- the schedule. Of the same steps: with enough frames each reply is the one that its
 -- request gets alone, and no step is short of them; each step is confined, and what is left alone is as it was made
 abbrev pub Headline : Outside → Command → (List ℕ → List ℕ) → Type 0
 Headline o (commands.Replay image schedule requests settings) bytes =
@@ -215,6 +229,11 @@ Headline o (commands.Vault image vault schedule settings) bytes =
     × KeepsSecret (inputs_of x [] settings) v steps
     × IsConfinedRun (beside (inputs_of x [] settings) v) (kept (start (beside (inputs_of x [] settings) v)) steps)
     × (o.out_after.taken ≡ appended o.out.taken (report_of_schedule (beside (inputs_of x [] settings) v) steps))
+Headline o (commands.Debug image schedule script settings) bytes =
+    (x : Image) × (steps : List ℕ) × (asked : List debug.Command)
+    × IsDebugged bytes image schedule script settings x steps asked
+    × IsConfinedRun (inputs_of x [] settings) (kept (start (inputs_of x [] settings)) steps)
+    × (o.out_after.taken ≡ appended o.out.taken (transcript_of_schedule (inputs_of x [] settings) steps asked))
 
 -- the contents of the command's files are accepted
 abbrev pub IsRunnable : Command → (List ℕ → List ℕ) → Type 0
@@ -232,3 +251,6 @@ IsRunnable (commands.Monitor image schedule settings) bytes =
     (x : Image) × (steps : List ℕ) × IsReplay bytes image schedule None settings x steps []
 IsRunnable (commands.Vault image vault schedule settings) bytes =
     (x : Image) × (v : Vault) × (steps : List ℕ) × IsVaultReplay bytes image vault schedule settings x v steps
+IsRunnable (commands.Debug image schedule script settings) bytes =
+    (x : Image) × (steps : List ℕ) × (asked : List debug.Command)
+    × IsDebugged bytes image schedule script settings x steps asked

@@ -1,7 +1,7 @@
 -- What a call does: its work, its plan, and the text that it writes.
 use Rattle.std.specs.Prelude.{◌≡◌, ℕ, List, [], Option, None, Some, Result}
 use Rattle.guest_dis.specs.Listing.{listing}
-use Rattle.lwc_base.specs.declared.limits.TheConstants.{MOST_IMAGE_BYTES, MOST_REQUEST_FILE_BYTES, MOST_SCHEDULE_BYTES, MOST_SOURCE_BYTES}
+use Rattle.lwc_base.specs.declared.limits.TheConstants.{MOST_IMAGE_BYTES, MOST_REQUEST_FILE_BYTES, MOST_SCHEDULE_BYTES, MOST_SOURCE_BYTES, MOST_STEPS}
 use Rattle.guest_image.specs.Limits.{lifted}
 use Rattle.guest_image.specs.Spelling.{spelling}
 use Rattle.guest_image.specs.declared.image.Image.{Image}
@@ -11,19 +11,23 @@ use Rattle.kernel_core.specs.Histories.{IsComplete}
 use Rattle.kernel_core.specs.Start.{Inputs, start, threads_for}
 use Rattle.lwc_gen.specs.Generated.{generated}
 use Rattle.lwc_gen.specs.Summary.{summary_after}
+use Rattle.lwc_debug.specs.Transcript.{transcript_of_schedule}
+use Rattle.lwc_debug.specs.declared.command.Command as debug
+use Rattle.lwc_debug.specs.declared.debugging.TheConstants.{MOST_DEBUGGED_STEPS}
+use Rattle.lwc_debug.specs.declared.script.TheConstants.{MOST_SCRIPT_BYTES}
 use Rattle.lwc_monitor.specs.Reports.{monitored_text}
 use Rattle.lwc_text.specs.Report.{report_of_schedule}
 use Rattle.lwc_text.specs.declared.vault.TheConstants.{MOST_VAULT_BYTES}
 use Rattle.lwc_vault.specs.Secrets.{beside}
 use Rattle.lwcrun_core.specs.declared.ending.Rejection.{Rejection}
-use Rattle.lwcrun_core.specs.Images.{bounded_requests_of, fitting_image_of, fitting_vault_for, image_of, requests_of, schedule_of, source_of}
+use Rattle.lwcrun_core.specs.Images.{bounded_requests_of, fitting_image_of, fitting_vault_for, image_of, requests_of, schedule_of, script_of, source_of}
 use Rattle.lwcrun_core.specs.Lines.{Command}
 use Rattle.lwcrun_core.specs.Lines as commands
 use Rattle.lwcrun_core.specs.Plans.{Plan, Read, Write, accepted}
 
--- what is done when all inputs are accepted: the steps of a schedule, beside a vault if there is one; all steps of threads that go on by
--- themselves; the bytes of an image, or its source; all steps of a generated serve; the steps of a schedule, in
--- which contexts may be trapped
+-- what is done when all inputs are accepted: the steps of a schedule, beside a vault if there is one; all steps of
+-- threads that go on by themselves; the bytes of an image, or its source; all steps of a generated serve; the steps
+-- of a schedule, in which contexts may be trapped; the answers to a script in the steps of a schedule
 pub data Work : Type 0 where
   Replaying : Inputs → List ℕ → Work
   Running : Inputs → Work
@@ -31,6 +35,7 @@ pub data Work : Type 0 where
   Disassembling : Image → Work
   Generating : ℕ → Work
   Monitoring : Inputs → List ℕ → Work
+  Debugging : Inputs → List ℕ → List debug.Command → Work
 
 -- the texts that a work may have; threads that go on by themselves may make any complete history
 abbrev pub IsText : Work → List ℕ → Type 0
@@ -43,6 +48,7 @@ IsText (Generating number) text =
     (steps : List ℕ) × IsComplete (start (generated number)) steps
     × (text ≡ summary_after (generated number) number steps)
 IsText (Monitoring inputs schedule) text = text ≡ monitored_text inputs schedule
+IsText (Debugging inputs schedule script) text = text ≡ transcript_of_schedule inputs schedule script
 
 -- what a kernel is opened with
 abbrev pub inputs_of : Image → List (List ℕ) → Settings → Inputs
@@ -63,7 +69,7 @@ after_schedule (Some requests) settings image steps =
 -- what follows the image of a replay: the schedule of its threads is read
 unfoldable pub after_image : List ℕ → Option (List ℕ) → Settings → Image → Plan Rejection Work
 after_image schedule requests settings image =
-    read_by (schedule_of (threads_for image settings.job)) MOST_SCHEDULE_BYTES schedule
+    read_by (schedule_of (threads_for image settings.job) MOST_STEPS) MOST_SCHEDULE_BYTES schedule
     (after_schedule requests settings image)
 
 -- a replay: the image is read, then the schedule, and then the requests of a serve
@@ -102,7 +108,7 @@ lift_plan image = read_by image_of MOST_IMAGE_BYTES image (λ x. Write (Spelling
 -- what follows the image of a monitored run: the schedule of its threads is read
 unfoldable pub after_monitored : List ℕ → Settings → Image → Plan Rejection Work
 after_monitored schedule settings image =
-    read_by (schedule_of (threads_for image settings.job)) MOST_SCHEDULE_BYTES schedule (λ steps.
+    read_by (schedule_of (threads_for image settings.job) MOST_STEPS) MOST_SCHEDULE_BYTES schedule (λ steps.
     Write (Monitoring (inputs_of image [] settings) steps))
 
 -- a monitored run: the image is read, and then the schedule
@@ -113,7 +119,7 @@ monitor_plan image schedule settings =
 -- what follows the vault: the schedule of the image's threads is read
 unfoldable pub after_vault : List ℕ → Settings → Image → Vault → Plan Rejection Work
 after_vault schedule settings image vault =
-    read_by (schedule_of (threads_for image settings.job)) MOST_SCHEDULE_BYTES schedule (λ steps.
+    read_by (schedule_of (threads_for image settings.job) MOST_STEPS) MOST_SCHEDULE_BYTES schedule (λ steps.
     Write (Replaying (beside (inputs_of image [] settings) vault) steps))
 
 -- what follows the image of a run beside a vault: the vault is read
@@ -125,6 +131,23 @@ after_vault_image vault schedule settings image =
 unfoldable pub vault_plan : List ℕ → List ℕ → List ℕ → Settings → Plan Rejection Work
 vault_plan image vault schedule settings =
     read_by image_of MOST_IMAGE_BYTES image (after_vault_image vault schedule settings)
+
+-- what follows the schedule of a debugged run: the script is read
+unfoldable pub after_debugged : List ℕ → Settings → Image → List ℕ → Plan Rejection Work
+after_debugged script settings image steps =
+    read_by script_of MOST_SCRIPT_BYTES script (λ commands.
+    Write (Debugging (inputs_of image [] settings) steps commands))
+
+-- what follows the image of a debugged run: the schedule of its threads is read, which has fewer steps than others
+unfoldable pub after_debugged_image : List ℕ → List ℕ → Settings → Image → Plan Rejection Work
+after_debugged_image schedule script settings image =
+    read_by (schedule_of (threads_for image settings.job) MOST_DEBUGGED_STEPS) MOST_SCHEDULE_BYTES schedule
+    (after_debugged script settings image)
+
+-- a debugged run: the image is read, then the schedule, and then the script
+unfoldable pub debug_plan : List ℕ → List ℕ → List ℕ → Settings → Plan Rejection Work
+debug_plan image schedule script settings =
+    read_by (fitting_image_of settings.frames) MOST_IMAGE_BYTES image (after_debugged_image schedule script settings)
 
 -- a generated serve: no file is read
 unfoldable pub gen_plan : ℕ → Plan Rejection Work
@@ -141,3 +164,4 @@ plan_of (commands.Gen number) = gen_plan number
 plan_of (commands.Lift image) = lift_plan image
 plan_of (commands.Monitor image schedule settings) = monitor_plan image schedule settings
 plan_of (commands.Vault image vault schedule settings) = vault_plan image vault schedule settings
+plan_of (commands.Debug image schedule script settings) = debug_plan image schedule script settings

@@ -10,6 +10,8 @@ use Rattle.kernel_core.specs.declared.settings.Job.{Job}
 use Rattle.kernel_core.specs.declared.settings.Job.TheVariants.{Run, Serve}
 use Rattle.kernel_core.specs.declared.settings.Settings.{Settings}
 use Rattle.lwc_base.specs.declared.limits.TheConstants.{MOST_STEPS}
+use Rattle.lwc_debug.specs.Scripts.{script_at}
+use Rattle.lwc_debug.specs.declared.command.Command.{Command}
 use Rattle.lwc_text.specs.Requests.{requests_at}
 use Rattle.lwc_text.specs.Schedules.{schedule_at}
 use Rattle.lwc_text.specs.VaultFiles.{vault_at}
@@ -67,9 +69,13 @@ fitting_vault_for frames image bytes = then_tested (vault_for image bytes) (fitt
 unfoldable pub source_of : List ℕ → Result Image Rejection
 source_of bytes = or_rejected rejections.Source (assembled bytes)
 
--- the steps that bytes name for a number of threads, or why they are rejected
-unfoldable pub schedule_of : ℕ → List ℕ → Result (List ℕ) Rejection
-schedule_of threads bytes = or_rejected rejections.Input (schedule_at threads MOST_STEPS bytes)
+-- the steps that bytes name for a number of threads, at most this number, or why they are rejected
+unfoldable pub schedule_of : ℕ → ℕ → List ℕ → Result (List ℕ) Rejection
+schedule_of threads most bytes = or_rejected rejections.Input (schedule_at threads most bytes)
+
+-- the commands that bytes spell, or why they are rejected
+unfoldable pub script_of : List ℕ → Result (List Command) Rejection
+script_of bytes = or_rejected rejections.Input (script_at bytes)
 
 -- the requests that bytes spell, or why they are rejected
 unfoldable pub requests_of : List ℕ → Result (List (List ℕ)) Rejection

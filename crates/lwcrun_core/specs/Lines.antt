@@ -14,7 +14,8 @@ use Rattle.lwcrun_core.specs.Numbers.{number_within}
 -- what is asked for, each file by its name: an image under a schedule, a serve where there are requests; the
 -- run of an image; the serve of requests by an image; the image of a source; the source of an image; the
 -- serve that is generated from a number; the lifted image of an image; an image under a schedule, in whose run
--- contexts may be trapped; an image beside a vault under a schedule
+-- contexts may be trapped; an image beside a vault under a schedule; an image under a schedule, of whose run a script
+-- is answered
 pub data Command : Type 0 where
   Replay : List ℕ → List ℕ → Option (List ℕ) → Settings → Command
   Run : List ℕ → Settings → Command
@@ -25,6 +26,7 @@ pub data Command : Type 0 where
   Lift : List ℕ → Command
   Monitor : List ℕ → List ℕ → Settings → Command
   Vault : List ℕ → List ℕ → List ℕ → Settings → Command
+  Debug : List ℕ → List ℕ → List ℕ → Settings → Command
 
 -- settings of a run, within their limits
 pub record AreRunSettings (settings : Settings) : Type 0 where
@@ -114,6 +116,13 @@ vault_of a =
     else option_and_then (λ schedule. two_words a (λ image vault.
     option_map (Vault image vault schedule) (settings_of jobs.Run a))) a.third
 
+-- `debug` wants an image, a schedule and a script, and takes frames and a budget
+abbrev pub debug_of : Arguments → Option Command
+debug_of a =
+    if is_some a.workers then None
+    else option_and_then (λ script. two_words a (λ image schedule.
+    option_map (Debug image schedule script) (settings_of jobs.Run a))) a.third
+
 -- the table of modes: what each asks for, if it takes the other arguments
 abbrev pub asked_in : List ℕ → Arguments → Option Command
 asked_in mode a =
@@ -126,6 +135,7 @@ asked_in mode a =
     else if bytes_eq mode (codes "lift") then option_map Lift (only_word a)
     else if bytes_eq mode (codes "monitor") then monitor_of a
     else if bytes_eq mode (codes "vault") then vault_of a
+    else if bytes_eq mode (codes "debug") then debug_of a
     else None
 
 -- what the words ask for, the program's name first; none where the line is not accepted
@@ -145,6 +155,8 @@ asked_by (lines.Lift image) = Lift (string_bytes image)
 asked_by (lines.Monitor image schedule settings) = Monitor (string_bytes image) (string_bytes schedule) settings
 asked_by (lines.Vault image vault schedule settings) =
     Vault (string_bytes image) (string_bytes vault) (string_bytes schedule) settings
+asked_by (lines.Debug image schedule script settings) =
+    Debug (string_bytes image) (string_bytes schedule) (string_bytes script) settings
 
 -- the settings of a replay are within their limits: those of a run, or of a serve where there are requests
 abbrev pub AreReplaySettings : {A : Type 0} → Option A → Settings → Type 0
@@ -162,6 +174,7 @@ IsWithinLimits (Gen number) = (1 ≤ number) × (number ≤ 100)
 IsWithinLimits (Lift image) = Unit {0}
 IsWithinLimits (Monitor image schedule settings) = AreRunSettings settings
 IsWithinLimits (Vault image vault schedule settings) = AreRunSettings settings
+IsWithinLimits (Debug image schedule script settings) = AreRunSettings settings
 
 -- the command runs threads, which come to the gate
 abbrev pub RunsThreads : Command → Type 0
@@ -174,3 +187,4 @@ RunsThreads (Gen number) = Unit {0}
 RunsThreads (Lift image) = ⊥
 RunsThreads (Monitor image schedule settings) = ⊥
 RunsThreads (Vault image vault schedule settings) = ⊥
+RunsThreads (Debug image schedule script settings) = ⊥

@@ -12,6 +12,7 @@ ghost use Rattle.lwcrun_core.specs.Reading.{Fetched};
 ghost use Rattle.lwcrun_core.specs.Statuses.{status_of_rejection};
 ghost use Rattle.lwcrun_core.specs.Views.{end_of, outside};
 
+use crate::debugging::debug_run;
 use crate::ending::Ending;
 use crate::line::{Line, LineFault, read_line};
 use crate::messages::write_message;
@@ -56,8 +57,9 @@ pub fn lwcrun<R: Threads + Wait + Sync, F: Files, O: Sink, E: Sink, G: Gate>(
 
     // What was written at status 0, over known files: the report of the steps that are kept of the schedule,
     // or that the threads made, each of which is confined, also where contexts are trapped; beside a vault it is the
-    // same beside each other vault of its shape, unless a thread makes a step in it; an image, one that was lifted
-    // too, or a source; the summary of a generated serve.
+    // same beside each other vault of its shape, unless a thread makes a step in it; the answers to a script, each at
+    // its place of the steps that are kept; an image, one that was lifted too, or a source; the summary of a
+    // generated serve.
     ensures headline { (command : Command) (bytes : List ℕ → List ℕ) → result ≡ ExitStatus.Ok
         → command_of (map string_bytes words.now) ≡ Some command
         → AreContents (F.seen files.old).contents command bytes
@@ -212,5 +214,11 @@ fn carry_out<'a, R: Threads + Wait + Sync, F: Files, O: Sink, G: Gate>(
             schedule,
             settings,
         } => replay_with_vault(alloc, files, out, image, vault, schedule, settings),
+        Line::Debug {
+            image,
+            schedule,
+            script,
+            settings,
+        } => debug_run(alloc, files, out, image, schedule, script, settings),
     }
 }

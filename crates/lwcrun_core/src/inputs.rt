@@ -6,9 +6,10 @@ ghost use Rattle.guest_image.specs.Limits.{IsImage, IsVault, pages_of};
 ghost use Rattle.guest_image.specs.declared.image.TheConstants.{VAULT_SLOT};
 ghost use Rattle.kernel_core.specs.Kernel.{AreRequests};
 ghost use Rattle.kernel_core.specs.Settings.{IsSettings};
+ghost use Rattle.lwc_debug.specs.declared.script.TheConstants.{MOST_SCRIPT_BYTES};
 ghost use Rattle.lwc_text.specs.declared.vault.TheConstants.{MOST_VAULT_BYTES};
 ghost use Rattle.lwcrun_core.specs.Images.{bounded_requests_of, fitting_image_of, fitting_vault_for, image_of};
-ghost use Rattle.lwcrun_core.specs.Images.{requests_of, schedule_of, serve_steps, source_of, vault_for};
+ghost use Rattle.lwcrun_core.specs.Images.{requests_of, schedule_of, script_of, serve_steps, source_of, vault_for};
 ghost use Rattle.lwcrun_core.specs.Images.{within_limit};
 ghost use Rattle.lwcrun_core.specs.Parts.{ReadsBy};
 ghost use Rattle.lwcrun_core.specs.Reading.{Fetched, ReadsOnward, ReadsToTheEnd};
@@ -23,8 +24,11 @@ use lwc_base::{
     MOST_IMAGE_BYTES, MOST_REQUEST_FILE_BYTES, MOST_SCHEDULE_BYTES, MOST_SOURCE_BYTES, MOST_STEPS,
     Requests,
 };
+use lwc_debug::{MOST_SCRIPT_BYTES, Script, read_script};
 use lwc_io::Files;
-use lwc_text::{InputRule, MOST_VAULT_BYTES, Schedule, read_requests, read_schedule, read_vault};
+use lwc_text::{
+    InputRule, MOST_VAULT_BYTES, Schedule, read_requests, read_schedule_within, read_vault,
+};
 use lwc_vault::takes_vault_slot;
 use std::alloc::Global;
 
@@ -156,17 +160,20 @@ pub fn source_in<'a, F: Files>(
     Ok(assemble(alloc, &bytes)?)
 }
 
-/// The schedule in the file of that name for a number of threads, or the end of the call without it.
+/// The schedule in the file of that name for a number of threads, of at most this number of steps, or the end
+/// of the call without it.
 pub fn schedule_in<'a, F: Files>(
     alloc: Global,
     files: &mut F,
     name: &'a str,
     threads: u32,
+    most: u32,
 ) -> Result<Schedule, Ending<'a>>
-    ensures reads { ReadsBy (schedule_of threads) (F.seen files.old) (F.seen files.new) name.now
+    requires { most ≤ MOST_STEPS }
+    ensures reads { ReadsBy (schedule_of threads most) (F.seen files.old) (F.seen files.new) name.now
         (found (λ steps. steps) result) }
     ensures there { IfOk result (λ steps. All (λ t. t < threads) steps) }
-    ensures short { IfOk result (λ steps. length steps ≤ MOST_STEPS) }
+    ensures short { IfOk result (λ steps. length steps ≤ most) }
     ensures same { (F.seen files.new).contents ≡ (F.seen files.old).contents }
     ensures fetches { Fetched (ReadsOnward name.now MOST_SCHEDULE_BYTES)
         (F.seen files.old).fetches (F.seen files.new).fetches }
@@ -175,7 +182,26 @@ pub fn schedule_in<'a, F: Files>(
 {
     let too_long = too_long_input(MOST_SCHEDULE_BYTES);
     let bytes = bytes_in(alloc, files, name, MOST_SCHEDULE_BYTES, too_long)?;
-    Ok(read_schedule(alloc, &bytes, threads)?)
+    Ok(read_schedule_within(alloc, &bytes, threads, most)?)
+}
+
+/// The script in the file of that name, or the end of the call without it.
+pub fn script_in<'a, F: Files>(
+    alloc: Global,
+    files: &mut F,
+    name: &'a str,
+) -> Result<Script, Ending<'a>>
+    ensures reads { ReadsBy script_of (F.seen files.old) (F.seen files.new) name.now
+        (found (λ script. script) result) }
+    ensures same { (F.seen files.new).contents ≡ (F.seen files.old).contents }
+    ensures fetches { Fetched (ReadsOnward name.now MOST_SCRIPT_BYTES)
+        (F.seen files.old).fetches (F.seen files.new).fetches }
+    ensures whole { OnOk result (Fetched (ReadsToTheEnd name.now MOST_SCRIPT_BYTES)
+        (F.seen files.old).fetches (F.seen files.new).fetches) }
+{
+    let too_long = too_long_input(MOST_SCRIPT_BYTES);
+    let bytes = bytes_in(alloc, files, name, MOST_SCRIPT_BYTES, too_long)?;
+    Ok(read_script(alloc, &bytes)?)
 }
 
 /// The requests in the file of that name, or the end of the call without them.
@@ -268,7 +294,7 @@ fn bytes_in<'a, F: Files>(
     }
 }
 
-/// The rejection of a schedule, of requests or of a vault with more bytes than this.
+/// The rejection of a schedule, of requests, of a vault or of a script with more bytes than this.
 fn too_long_input(limit: usize) -> Rejection
     ensures { result ≡ Rejection.Input InputRule.TooLong limit }
 {

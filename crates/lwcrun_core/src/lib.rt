@@ -4,6 +4,7 @@
 
 mod arguments;
 mod call;
+mod debugging;
 mod ending;
 mod in_memory;
 mod inputs;

@@ -18,6 +18,9 @@ ghost use Rattle.kernel_core.specs.declared.settings.Job.TheVariants.{Serve};
 ghost use Rattle.lwc_base.specs.declared.descriptor.TheConstants.{SLOTS};
 ghost use Rattle.lwc_base.specs.declared.key.TheConstants.{NOBODY};
 ghost use Rattle.lwc_base.specs.declared.page.TheConstants.{PAGE_BYTES};
+ghost use Rattle.lwc_debug.specs.declared.command.TheConstants.{MOST_COMMANDS};
+ghost use Rattle.lwc_debug.specs.declared.debugging.TheConstants.{MOST_DEBUGGED_STEPS};
+ghost use Rattle.lwc_debug.specs.declared.script.TheConstants.{MOST_SCRIPT_BYTES};
 ghost use Rattle.lwc_monitor.specs.declared.numbers.TheConstants.{EXIT, LW_TRAP, NOT_FRESH, TRAPPED};
 ghost use Rattle.lwc_text.specs.declared.vault.TheConstants.{MOST_VAULT_BYTES};
 ghost use Rattle.lwc_gen.specs.declared.generating.TheConstants.{PAGES, REQUESTS_FOR_EACH, SETTINGS};
@@ -69,6 +72,9 @@ pub fn limits_are_as_documented()
     ensures vault_pages { MOST_VAULT_PAGES ≡ 64 }
     ensures vault_bytes { MOST_VAULT_BYTES ≡ 262404 }
     ensures vault_slot { VAULT_SLOT ≡ 63 }
+    ensures commands { MOST_COMMANDS ≡ 64 }
+    ensures script_bytes { MOST_SCRIPT_BYTES ≡ 65536 }
+    ensures debugged_steps { MOST_DEBUGGED_STEPS ≡ 100000 }
     ensures generated_pages { PAGES ≡ 300 }
     ensures generated_requests { REQUESTS_FOR_EACH ≡ 10 }
     ensures generated_frames { SETTINGS.frames ≡ 324 }

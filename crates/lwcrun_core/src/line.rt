@@ -62,6 +62,13 @@ pub enum Line {
         schedule: String,
         settings: Settings,
     },
+    /// An image under a schedule, of whose run a script is answered, each a file by its name.
+    Debug {
+        image: String,
+        schedule: String,
+        script: String,
+        settings: Settings,
+    },
 }
 
 /// Why a line was not read.
@@ -124,6 +131,7 @@ fn line_in(alloc: Global, mode: &str, arguments: &Arguments<'_>) -> Result<Line,
         }),
         "monitor" => monitor_line(alloc, arguments),
         "vault" => vault_line(alloc, arguments),
+        "debug" => debug_line(alloc, arguments),
         _ => Err(LineFault::Usage),
     }
 }
@@ -275,6 +283,26 @@ fn vault_line(alloc: Global, arguments: &Arguments<'_>) -> Result<Line, LineFaul
         image: name_of(alloc, arguments.first)?,
         vault: name_of(alloc, arguments.second)?,
         schedule: name_of(alloc, arguments.third)?,
+        settings,
+    })
+}
+
+/// The line of a debugged run: an image, a schedule and a script, with frames and a budget.
+fn debug_line(alloc: Global, arguments: &Arguments<'_>) -> Result<Line, LineFault>
+    ensures accepted { IfOk result (λ line. spec.debug_of (arguments_in arguments.now) ≡ Some (asked_by line)) }
+    ensures limits { IfOk result (λ line. IsWithinLimits (asked_by line)) }
+    ensures usage { result ≡ Err LineFault.Usage → spec.debug_of (arguments_in arguments.now) ≡ None }
+{
+    if arguments.workers.is_some() {
+        return Err(LineFault::Usage);
+    }
+    let Some(settings) = settings_of(arguments, Job::Run) else {
+        return Err(LineFault::Usage);
+    };
+    Ok(Line::Debug {
+        image: name_of(alloc, arguments.first)?,
+        schedule: name_of(alloc, arguments.second)?,
+        script: name_of(alloc, arguments.third)?,
         settings,
     })
 }

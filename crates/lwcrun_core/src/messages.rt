@@ -15,7 +15,8 @@ use std::alloc::Global;
 /// The message of a line that is not accepted.
 const USAGE: &str =
     "lwcrun: usage: lwcrun replay IMAGE SCHEDULE [REQUESTS], run IMAGE, serve IMAGE REQUESTS, \
-     asm SOURCE, dis IMAGE, gen NUMBER, lift IMAGE, monitor IMAGE SCHEDULE, vault IMAGE VAULT SCHEDULE; \
+     asm SOURCE, dis IMAGE, gen NUMBER, lift IMAGE, monitor IMAGE SCHEDULE, vault IMAGE VAULT SCHEDULE, \
+     debug IMAGE SCHEDULE SCRIPT; \
      --frames F --budget B --workers W\n";
 
 /// Writes the message of an ending and returns its exit status. If there is no memory for the message, the

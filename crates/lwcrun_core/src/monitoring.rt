@@ -14,6 +14,7 @@ use crate::writing::write_work;
 use guest_image::Image;
 use kernel_core::Settings;
 use lazy_world::LazyWorld;
+use lwc_base::MOST_STEPS;
 use lwc_io::{Files, Sink};
 use lwc_monitor::monitor_replay;
 use std::alloc::Global;
@@ -61,7 +62,13 @@ fn monitor_image<'a, F: Files, O: Sink>(
         (AreFetchesOf (F.seen files.old).contents (after_monitored schedule.now settings.now image.now))
         (F.seen files.old).fetches (F.seen files.new).fetches }
 {
-    match schedule_in(alloc, files, schedule, thread_count(image, settings.job)) {
+    match schedule_in(
+        alloc,
+        files,
+        schedule,
+        thread_count(image, settings.job),
+        MOST_STEPS,
+    ) {
         Ok(steps) => write_work(
             out,
             monitor_replay::<LazyWorld>(alloc, image, &steps, settings),

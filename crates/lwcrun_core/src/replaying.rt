@@ -20,7 +20,7 @@ use crate::writing::write_work;
 use guest_image::Image;
 use kernel_core::{Job, Kernel, Settings};
 use lazy_world::LazyWorld;
-use lwc_base::{OutOfMemory, Requests};
+use lwc_base::{MOST_STEPS, OutOfMemory, Requests};
 use lwc_io::{Files, Sink};
 use lwc_text::{Schedule, report_of_schedule};
 use std::alloc::Global;
@@ -72,7 +72,13 @@ fn replay_image<'a, F: Files, O: Sink>(
         (after_image schedule.now (option_map (λ s. s.now) requests.entry) settings.now image.now))
         (F.seen files.old).fetches (F.seen files.new).fetches }
 {
-    match schedule_in(alloc, files, schedule, thread_count(image, settings.job)) {
+    match schedule_in(
+        alloc,
+        files,
+        schedule,
+        thread_count(image, settings.job),
+        MOST_STEPS,
+    ) {
         Ok(steps) => replay_schedule(alloc, files, out, image, &steps, requests, settings),
         Err(ending) => ending,
     }

@@ -19,7 +19,7 @@ use crate::writing::write_work;
 use guest_image::{Image, Vault};
 use kernel_core::Settings;
 use lazy_world::LazyWorld;
-use lwc_base::OutOfMemory;
+use lwc_base::{MOST_STEPS, OutOfMemory};
 use lwc_io::{Files, Sink};
 use lwc_text::Schedule;
 use lwc_vault::vault_replay;
@@ -96,7 +96,13 @@ fn replay_beside<'a, F: Files, O: Sink>(
         (after_vault schedule.now settings.now image.now vault.now))
         (F.seen files.old).fetches (F.seen files.new).fetches }
 {
-    match schedule_in(alloc, files, schedule, thread_count(image, settings.job)) {
+    match schedule_in(
+        alloc,
+        files,
+        schedule,
+        thread_count(image, settings.job),
+        MOST_STEPS,
+    ) {
         Ok(steps) => write_work(out, vault_text(alloc, image, vault, &steps, settings)),
         Err(ending) => ending,
     }
