@@ -262,6 +262,7 @@ impl<W: World> Kernel<W> {
 
     /// The step of `step`, which answers the number of the request that it has finished, if it has, in
     /// place of the turn. `note_turn` tells the turn by that number.
+    #[inline(always)]
     pub fn make_step(
         &mut self,
         t: u32,
