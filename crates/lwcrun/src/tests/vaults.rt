@@ -22,19 +22,16 @@ fn vault(alloc: Global, entry: u32, pages: &[u32], byte: u8) -> Result<Vec<u8>, 
     Ok(bytes)
 }
 
-/// Calls the program on the words of a line, which blanks part, over an image and a vault.
-fn call_beside<R: AllocGlobal + Threads + Wait + Sync>(
+/// Calls the program on the words of a line, which blanks part, over an image, a vault and a schedule.
+fn call_beside<'a, R: AllocGlobal + Threads + Wait + Sync>(
     rt: &R,
-    guest: &[u8],
-    vault: &[u8],
+    guest: &'a [u8],
+    vault: &'a [u8],
+    schedule: &'a [u8],
     line: &str,
 ) -> Result<Left, AllocError> {
     let words: Vec<&str> = line.split(' ').collect(rt.alloc())?;
-    let files = [
-        ("guest", guest),
-        ("vault", vault),
-        ("schedule", b"000".as_slice()),
-    ];
+    let files = [("guest", guest), ("vault", vault), ("schedule", schedule)];
     call_over(rt, &files, words.as_slice(), SURE, &OpenGate)
 }
 
@@ -119,7 +116,8 @@ fn vaults_are_tested_before_the_schedule(rt: HostRuntime) -> Result<(), Fail> {
     ];
     for (guest, entry, pages, rest, said) in cases {
         let line = format!(in alloc; "vault guest vault {rest}")?;
-        let left = call_beside(&rt, guest, &vault(alloc, entry, pages, 1)?, line.as_str())?;
+        let vault = vault(alloc, entry, pages, 1)?;
+        let left = call_beside(&rt, guest, &vault, b"000", line.as_str())?;
         assert_eq!(rt; left.err.bytes(), said.as_bytes(), "{line}");
         assert_eq!(rt; left.out.bytes().is_empty(), !said.is_empty(), "{line}");
     }
@@ -132,7 +130,7 @@ fn a_vault_of_other_bytes_has_the_same_text(rt: HostRuntime) -> Result<(), Fail>
     let guest = image(alloc, &STORE_LOAD, &[ZEROS], &[0])?;
     for byte in [0, 1, 255] {
         let vault = vault(alloc, 0, &[0], byte)?;
-        let left = call_beside(&rt, &guest, &vault, "vault guest vault schedule")?;
+        let left = call_beside(&rt, &guest, &vault, b"000", "vault guest vault schedule")?;
         assert_eq!(rt; left.status, ExitStatus::Ok);
         assert_eq!(rt;
             left.out.bytes(),
