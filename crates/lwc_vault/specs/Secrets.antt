@@ -49,8 +49,8 @@ TellsNothing inputs steps v =
     × (report_after (beside inputs other) steps ≡ report_after (beside inputs v) steps)
 
 -- a schedule beside a vault keeps its secret: where no step that is kept is made by a thread that stands in the
--- vault, the text is the same beside each other vault of its shape; and no thread ever stands in it where none of
--- these steps is an accepted switch to it
+-- vault, the text is the same beside each other vault of its shape; and none is made by such a thread, where none
+-- is an accepted switch to the vault
 pub record KeepsSecret (inputs : Inputs) (v : Vault) (schedule : List ℕ) : Type 0 where
   pub same : StandOutside (start (beside inputs v)) (kept (start (beside inputs v)) schedule) → (other : Vault) →
       HaveOneShape v other → report_of_schedule (beside inputs other) schedule ≡ report_of_schedule (beside inputs v) schedule
