@@ -180,8 +180,8 @@ pub const STORED: &str =
 /// The message of a line that is not accepted.
 pub const USAGE: &str =
     "lwcrun: usage: lwcrun replay IMAGE SCHEDULE [REQUESTS], run IMAGE, serve IMAGE REQUESTS, asm SOURCE, \
-    dis IMAGE, gen NUMBER, lift IMAGE, monitor IMAGE SCHEDULE, vault IMAGE VAULT SCHEDULE; \
-    --frames F --budget B --workers W\n";
+    dis IMAGE, gen NUMBER, lift IMAGE, monitor IMAGE SCHEDULE, vault IMAGE VAULT SCHEDULE, \
+    debug IMAGE SCHEDULE SCRIPT; --frames F --budget B --workers W\n";
 
 #[test]
 fn guests_run_as_their_schedules_say(rt: HostRuntime) -> Result<(), Fail> {

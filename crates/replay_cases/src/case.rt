@@ -2,7 +2,7 @@ use std::alloc::Global;
 use std::io;
 
 /// A guest that is replayed: what it shows, the words after the program's name, the schedule, the file of
-/// requests, the vault's file, and the source.
+/// requests, the vault's file, the script, and the source.
 #[derive(Drop)]
 pub struct Case {
     pub title: String,
@@ -10,6 +10,7 @@ pub struct Case {
     pub schedule: String,
     pub requests: String,
     pub vault: Vec<u8>,
+    pub script: String,
     pub source: String,
 }
 
@@ -22,11 +23,13 @@ impl Case {
             schedule: String::new(alloc),
             requests: String::new(alloc),
             vault: Vec::new(alloc),
+            script: String::new(alloc),
             source: String::new(alloc),
         })
     }
 
-    /// Takes one more line: the words, the schedule, the requests, the vault, or else a line of the source.
+    /// Takes one more line: the words, the schedule, the requests, the vault, the script, or else a line of the
+    /// source.
     fn take(&mut self, alloc: Global, line: &str) -> io::Result<()> {
         if let Some(words) = line.strip_prefix("line ") {
             self.line.push_str(words)?;
@@ -39,6 +42,11 @@ impl Case {
             }
         } else if let Some(parts) = line.strip_prefix("vault ") {
             self.vault = vault_bytes(alloc, parts)?;
+        } else if let Some(commands) = line.strip_prefix("script ") {
+            for command in commands.split(", ") {
+                self.script.push_str(command)?;
+                self.script.push_str("\n")?;
+            }
         } else {
             self.source.push_str(line)?;
             self.source.push_str("\n")?;

@@ -3,7 +3,8 @@
 //!
 //! The input is a list of cases. Each begins with a line `# ` and what it shows; then come the lines `line`
 //! with the words after the program's name, `schedule` with the schedule, in a serve `requests` with its
-//! requests, parted by blanks, beside a vault `vault` with its entry and its pages, and the source of the guest.
+//! requests, parted by blanks, beside a vault `vault` with its entry and its pages, for a debugger `script` with its
+//! commands, parted by commas, and the source of the guest.
 #![tactic(auto)]
 
 mod case;
@@ -73,7 +74,8 @@ fn report_of<R: AllocGlobal + Threads + Wait + Sync>(
     let schedule = NamedFile::new(alloc, "schedule", case.schedule.as_bytes())?;
     let requests = NamedFile::new(alloc, "requests", case.requests.as_bytes())?;
     let vault = NamedFile::new(alloc, "vault", &case.vault)?;
-    let files = vec![in alloc; image, schedule, requests, vault]?;
+    let script = NamedFile::new(alloc, "script", case.script.as_bytes())?;
+    let files = vec![in alloc; image, schedule, requests, vault, script]?;
     let text = written(rt, case.line.as_str(), files)?;
     let other = text_over_copies(alloc, &guest, case)?;
     let same = text.as_slice() == other.as_slice();

@@ -8,6 +8,7 @@ use crate::line_of;
 use guest_image::{Image, read_image};
 use kernel_core::{Kernel, OpenFault, Settings};
 use lwc_base::{OutOfMemory, Requests};
+use lwc_debug::{debug, read_script};
 use lwc_monitor::monitor_replay;
 use lwc_text::{read_requests, read_schedule, read_vault, report};
 use lwc_vault::{takes_vault_slot, vault_replay};
@@ -50,6 +51,10 @@ pub fn text_over_copies(alloc: Global, guest: &[u8], case: &Case) -> Result<Vec<
         }
         Ok(Line::Vault { settings, .. }) => {
             Ok(vaulted_over_copies(alloc, &image, &case.vault, &settings, schedule)?)
+        }
+        Ok(Line::Debug { settings, .. }) => {
+            let script = case.script.as_bytes();
+            Ok(debugged_over_copies(alloc, &image, script, &settings, schedule)?)
         }
         _ => Ok(Vec::new(alloc)),
     }
@@ -122,6 +127,28 @@ fn vaulted_over_copies(
         Ok(steps) => vault_replay::<WholeWorld>(alloc, image, &vault, &steps, settings).or_else(
             |_| Ok(Vec::new(alloc)),
         ),
+        Err(_) => Ok(Vec::new(alloc)),
+    }
+}
+
+/// The answers to a script in the schedule's steps, over a world by whole copies.
+fn debugged_over_copies(
+    alloc: Global,
+    image: &Image,
+    script: &[u8],
+    settings: &Settings,
+    schedule: &[u8],
+) -> Result<Vec<u8>, AllocError>
+    requires image { IsImage image.now }
+    requires settings { AreRunSettings settings.now }
+{
+    let Ok(script) = read_script(alloc, script) else {
+        return Ok(Vec::new(alloc));
+    };
+    match read_schedule(alloc, schedule, image.entries.len() as u32) {
+        Ok(steps) => debug::<WholeWorld>(alloc, image, &steps, &script, settings).or_else(|_| Ok(
+            Vec::new(alloc),
+        )),
         Err(_) => Ok(Vec::new(alloc)),
     }
 }
