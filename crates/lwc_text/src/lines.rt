@@ -1,7 +1,9 @@
 //! The lines of a report. Each public function appends its lines to a text; if memory runs out, the text is
 //! as before.
 
-ghost use Rattle.std.specs.Prelude.{◌≡◌, ◌++◌, IfOk, OnOk, OnErr, string_bytes, codes, decimal};
+ghost use Rattle.std.specs.Prelude.{◌≡◌, ◌+◌, ◌≤◌, ◌++◌, IfOk, IsOk, OnOk, OnErr, length, vec_capacity};
+ghost use Rattle.std.specs.Prelude.{string_bytes, codes, decimal};
+ghost use Rattle.lwc_base.specs.declared.limits.TheConstants.{MOST_REPLY_BYTES};
 ghost use Rattle.std.specs.List.{flat_map};
 ghost use Rattle.std.specs.Option.{option_map};
 ghost use Rattle.lwc_text.specs.Lines.{bytes_text, context_line, groups_line, name_text, regs_line};
@@ -9,6 +11,7 @@ ghost use Rattle.lwc_text.specs.Lines.{reply_line, reply_text, status_text, step
 ghost use Rattle.lwc_text.specs.Lines.{thread_line, thread_lines, trap_line, used_line};
 
 use crate::digits::digits_of;
+use itoa::Buffer;
 use kernel_core::ThreadView;
 use lwc_base::{Name, OutOfMemory, Summary, ThreadStatus};
 use snapshot_host::Finished;
@@ -64,17 +67,26 @@ pub fn used_line(out: &mut Vec<u8>, used: u32) -> Result<(), OutOfMemory>
     append(out, line.as_str())
 }
 
-/// Appends the line of a request's reply (`reply_line`). The only error is out of memory.
+/// Room for the line of any reply, in bytes.
+pub const REPLY_LINE_BYTES: usize = 8300;
+
+/// Appends the line of a request's reply (`reply_line`). The only error is out of memory. Where the text has
+/// room for `REPLY_LINE_BYTES` more bytes, it takes no memory.
 #[tactic(auto, unfolding(crate::specs::Lines::reply_line))]
 pub fn reply_line(out: &mut Vec<u8>, r: u16, finished: Option<&Finished>) -> Result<(), OutOfMemory>
     ensures ok { OnOk result (out.new.items
         ≡ out.old.items ++ reply_line r (option_map (λ x. x.now) finished.entry)) }
     ensures err { OnErr result (out.new.items ≡ out.old.items) }
+    ensures room { length out.old.items + REPLY_LINE_BYTES ≤ vec_capacity out.old → IsOk result }
+    ensures capacity { vec_capacity out.old ≤ vec_capacity out.new }
 {
-    let alloc = *out.allocator();
-    let reply = reply_text(alloc, finished)?;
-    let line = format!(in alloc; "reply {r} {reply}\n")?;
-    append(out, line.as_str())
+    out.reserve(REPLY_LINE_BYTES)?;
+    append_reserved(out, b"reply ");
+    append_number(out, u64::from(r));
+    append_reserved(out, b" ");
+    append_reply(out, finished);
+    append_reserved(out, b"\n");
+    Ok(())
 }
 
 /// Appends the last lines (`tail_lines`): what was written to the console, the frames in use and the most
@@ -157,18 +169,87 @@ fn status_text(alloc: Global, status: ThreadStatus) -> Result<String, OutOfMemor
     }
 }
 
-/// What a report says of a reply.
+/// Appends what a report says of a reply, at most 8239 bytes.
 #[tactic(auto, unfolding(crate::specs::Lines::reply_text))]
-fn reply_text(alloc: Global, finished: Option<&Finished>) -> Result<String, OutOfMemory>
-    ensures { IfOk result (λ text. string_bytes text ≡ reply_text (option_map (λ x. x.now) finished.entry)) }
+fn append_reply(out: &mut Vec<u8>, finished: Option<&Finished>)
+    requires room { length out.old.items + 8239 ≤ vec_capacity out.old }
+    ensures text { out.new.items ≡ out.old.items ++ reply_text (option_map (λ x. x.now) finished.entry) }
+    ensures short { length out.new.items ≤ length out.old.items + 8239 }
+    ensures capacity { vec_capacity out.old ≤ vec_capacity out.new }
 {
     match finished {
-        None => Ok(String::from_str(alloc, "none")?),
+        None => append_reserved(out, b"none"),
         Some(finished) => {
-            let status = status_text(alloc, finished.status)?;
-            let bytes = bytes_text(alloc, finished.bytes.as_slice())?;
-            Ok(format!(in alloc; "{status} {bytes}")?)
+            append_status(out, finished.status);
+            append_reserved(out, b" ");
+            append_bytes(out, finished.bytes.as_slice());
         }
+    }
+}
+
+/// Appends the status of a thread, at most 46 bytes.
+#[tactic(auto, unfolding(crate::specs::Lines::status_text))]
+fn append_status(out: &mut Vec<u8>, status: ThreadStatus)
+    requires room { length out.old.items + 46 ≤ vec_capacity out.old }
+    ensures text { out.new.items ≡ out.old.items ++ status_text status }
+    ensures short { length out.new.items ≤ length out.old.items + 46 }
+    ensures capacity { vec_capacity out.old ≤ vec_capacity out.new }
+{
+    match status {
+        ThreadStatus::Idle => append_reserved(out, b"idle"),
+        ThreadStatus::Running => append_reserved(out, b"running"),
+        ThreadStatus::Done { code } => {
+            append_reserved(out, b"done ");
+            append_number(out, code);
+        }
+        ThreadStatus::Faulted { fault } => {
+            append_reserved(out, b"fault ");
+            append_number(out, fault.number());
+        }
+    }
+}
+
+/// Appends the bytes of a reply as lower-case hexadecimal, or a dash: at most 8192 bytes.
+#[tactic(auto, unfolding(crate::specs::Lines::bytes_text))]
+fn append_bytes(out: &mut Vec<u8>, bytes: &[u8])
+    requires few { length bytes.now ≤ MOST_REPLY_BYTES }
+    requires room { length out.old.items + 8192 ≤ vec_capacity out.old }
+    ensures text { out.new.items ≡ out.old.items ++ bytes_text bytes.now }
+    ensures short { length out.new.items ≤ length out.old.items + 8192 }
+    ensures capacity { vec_capacity out.old ≤ vec_capacity out.new }
+{
+    if bytes.is_empty() {
+        append_reserved(out, b"-");
+        return;
+    }
+    let mut digits = [0u8; 8192];
+    let digits = &mut digits[..2 * bytes.len()];
+    match hex::encode_to_slice(bytes, digits) {
+        Ok(()) => append_reserved(out, digits),
+        Err(_) => unreachable!(),
+    }
+}
+
+/// Appends a number in decimal, at most 40 bytes.
+fn append_number(out: &mut Vec<u8>, number: u64)
+    requires room { length out.old.items + 40 ≤ vec_capacity out.old }
+    ensures text { out.new.items ≡ out.old.items ++ decimal number }
+    ensures short { length out.new.items ≤ length out.old.items + 40 }
+    ensures capacity { vec_capacity out.old ≤ vec_capacity out.new }
+{
+    let mut buffer = Buffer::new();
+    append_reserved(out, buffer.format(number).as_bytes());
+}
+
+/// Appends bytes for which there is room.
+fn append_reserved(out: &mut Vec<u8>, bytes: &[u8])
+    requires room { length out.old.items + length bytes.now ≤ vec_capacity out.old }
+    ensures text { out.new.items ≡ out.old.items ++ bytes.now }
+    ensures capacity { vec_capacity out.old ≤ vec_capacity out.new }
+{
+    match out.extend_from_slice(bytes) {
+        Ok(()) => {}
+        Err(_) => unreachable!(),
     }
 }
 
