@@ -54,3 +54,7 @@ appended known piece = option_map (λ bytes. bytes ++ piece) known
 -- the contents may be these bytes: where they are known, they are these
 abbrev pub MayBeContents : Option (List ℕ) → List ℕ → Type 0
 MayBeContents contents bytes = IfSome contents (λ known. known ≡ bytes)
+
+-- the first bytes of the text were taken, and nothing else
+abbrev pub IsPartTaken : Option (List ℕ) → Option (List ℕ) → List ℕ → Type 0
+IsPartTaken before after text = (n : ℕ) × (after ≡ appended before (take n text))

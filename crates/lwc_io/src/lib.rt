@@ -8,8 +8,10 @@ mod real;
 mod sure;
 #[cfg(test)]
 mod tests;
+mod writing;
 
 pub use memory::{MemoryFiles, MemorySink, NamedFile};
 pub use outside::{Failed, Files, Gate, OpenGate, Sink};
 pub use real::{RealFiles, RealSink};
 pub use sure::{SureFiles, SureSink};
+pub use writing::write_whole;

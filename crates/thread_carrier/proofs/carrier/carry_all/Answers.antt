@@ -1,7 +1,7 @@
 use denote.Param.Send.{sendable}
 use Rattle.std.proofs.Common.{◌∙◌, sym, ap, arith}
 use Rattle.thread_carrier.proofs.Offers.{same_map}
-use Rattle.thread_carrier.proofs.Sent.{carried_send, process_sync}
+use Rattle.process_core.proofs.Sends.{carried_send, process_sync}
 use Rattle.thread_carrier.proofs.carrier.carry_all.Goals as goal
 
 pub for_each_mut-requires-send-T : goal.for_each_mut-requires-send-T
