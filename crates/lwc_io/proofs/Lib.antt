@@ -1,2 +1,2 @@
-mod Outputs
+pub mod Outputs
 mod Walks

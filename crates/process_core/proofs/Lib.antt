@@ -3,3 +3,5 @@ pub mod Handing
 pub mod Stepping
 pub mod Completed
 pub mod Sends
+pub mod Carrying
+pub mod Offers

@@ -1,7 +1,7 @@
 use Rattle.std.proofs.Common.{rules, ◌≡◌, ◌+◌, ◌∙◌, ℕ, List, false, arith, subst}
 use Rattle.kernel_core.specs.Histories.{steps_by}
 use Rattle.kernel_core.specs.Machine.{has_ended}
-use Rattle.thread_carrier.proofs.Offers.{longer, one_more}
+use Rattle.process_core.proofs.Offers.{longer, one_more}
 use Rattle.thread_carrier.proofs.carrier.carry.Goals as goal
 
 pub turns-preserved : goal.turns-preserved

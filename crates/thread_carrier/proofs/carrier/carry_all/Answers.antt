@@ -1,6 +1,6 @@
 use denote.Param.Send.{sendable}
 use Rattle.std.proofs.Common.{◌∙◌, sym, ap, arith}
-use Rattle.thread_carrier.proofs.Offers.{same_map}
+use Rattle.process_core.proofs.Offers.{same_map}
 use Rattle.process_core.proofs.Sends.{carried_send, process_sync}
 use Rattle.thread_carrier.proofs.carrier.carry_all.Goals as goal
 

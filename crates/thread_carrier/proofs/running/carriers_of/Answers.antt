@@ -1,7 +1,7 @@
 use Rattle.std.proofs.Common.{◌≡◌, ◌<◌, ◌^◌, ◌++◌, ◌∷◌, All, length, map, sym, ap, subst, arith}
 use Rattle.std.proofs.lemmas.Bool.Decides.{nat_tests}
 use Rattle.std.proofs.lemmas.List.Elements.{All-push}
-use Rattle.thread_carrier.proofs.Carrying.{one_made}
+use Rattle.process_core.proofs.Carrying.{one_made}
 use Rattle.thread_carrier.proofs.running.carriers_of.Goals as goal
 use Rattle.process_core.proofs.Handing.{first_of}
 

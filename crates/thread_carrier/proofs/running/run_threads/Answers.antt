@@ -2,7 +2,7 @@ use Rattle.std.proofs.Common.{◌≡◌, ◌∙◌, All, map, sym, ap, subst, tr
 use Rattle.std.proofs.lemmas.List.Elements.{All-map}
 use Rattle.kernel_core.specs.Machine.{has_ended}
 use Rattle.process_core.specs.Running.{AreAllOf, IsPassOf}
-use Rattle.thread_carrier.proofs.Carrying.{all_made, still_all, written_back}
+use Rattle.process_core.proofs.Carrying.{all_made, still_all, written_back}
 use Rattle.thread_carrier.proofs.running.run_threads.Goals as goal
 
 pub carry_all-requires-clause-ours : goal.carry_all-requires-clause-ours

@@ -1,4 +1,4 @@
--- What is offered to a turn, what a turn adds, and lists of carriers.
+-- What a turn adds to a history, and lists that agree at each place.
 use Rattle.std.proofs.Common.{◌≡◌, ◌+◌, ◌<◌, ◌==◌, ℕ, suc, cond, List, [], ◌∷◌, ◌++◌, length, get_or, map, refl, ap, ◌∙◌, arith, length-append}
 use Rattle.std.proofs.lemmas.Bool.Decides.{nat_tests}
 use Rattle.std.proofs.lemmas.List.Sums.{sum_by-append}
@@ -20,7 +20,7 @@ longer t before after on =
     omega (arith, ap length on.after_is, length-append before (on.others ++ t ∷ []), length-append on.others (t ∷ []))
 
 -- lists that agree at each place
-pub same_map : {A : Type 0} (f : A → ℕ) (ys xs : List A) → length ys ≡ length xs → ((i : ℕ) (d : A) → i < length xs → f (get_or ys i d) ≡ f (get_or xs i d)) → map f ys ≡ map f xs
+pub same_map : {A B : Type 0} (f : A → B) (ys xs : List A) → length ys ≡ length xs → ((i : ℕ) (d : A) → i < length xs → f (get_or ys i d) ≡ f (get_or xs i d)) → map f ys ≡ map f xs
 same_map f [] [] long each = refl
 same_map f [] (x ∷ xs) long each = absurd (omega arith)
 same_map f (y ∷ ys) [] long each = absurd (omega arith)

@@ -1,0 +1,29 @@
+-- Workers may go from thread to thread, and threads may share queues.
+use Rattle.std.proofs.Crossing.{crosses}
+use denote.RattleType.{RattleType}
+use denote.Param.Send.{IsSend, IsSync, sendable}
+use Rattle.atomic_table.proofs.send_lease.SendLease.TheSendSync as lease
+use Rattle.atomic_table.proofs.shared.Seat.TheSendSync as seat
+use Rattle.atomic_table.proofs.shared.Shared.TheSendSync as shared
+use Rattle.lwc_stream.specs.contracts.ends.Puts as puts
+use Rattle.lwc_stream.specs.contracts.news.News as news
+use Rattle.lwc_stream.specs.contracts.queue.ReplyQueue as queue
+use Rattle.lwc_stream.specs.contracts.worker.Worker as worker
+use Rattle.process_core.proofs.Sends.{carried_send}
+use Rattle.snapshot_host.specs.contracts.finishing.Finished as finished
+use Rattle.world_face.specs.declared.world.World as world
+
+pub finished_send : IsSend finished.the_row
+finished_send = search (sendable, crosses) depth 80 fits 20000
+
+puts_send : (T : RattleType) → IsSend T → IsSend (puts.the_row T)
+puts_send T s = search (sendable, crosses, seat.the_send) depth 80 fits 20000
+
+pub worker_send : (W : RattleType) (g : world.Ghosts W.Denot) → IsSend W → IsSend (worker.the_row W g)
+worker_send W g s = search (sendable, crosses, carried_send, puts_send, finished_send) depth 80 fits 20000
+
+pub queue_sync : (T : RattleType) → IsSend T → IsSync (queue.the_row T)
+queue_sync T s = search (sendable, crosses, shared.the_sync, lease.the_sync) depth 80 fits 20000
+
+pub news_sync : IsSync news.the_row
+news_sync = search (sendable, crosses) depth 80 fits 20000

@@ -1,0 +1,54 @@
+use Rattle.std.proofs.Common.{◌≡◌, ◌<◌, ◌∙◌, ◌++◌, ◌∷◌, [], length, map, sym, ap, subst, arith, append_assoc, length-append}
+use Rattle.std.proofs.Math.ListN.{length-map}
+use Rattle.std.proofs.lemmas.Bool.Decides.{nat_tests}
+use Rattle.lwc_stream.proofs.Lists.{heads, none_left}
+use Rattle.lwc_stream.specs.Streams.{HasShown}
+use Rattle.process_core.proofs.Handing.{first_of}
+use Rattle.lwc_stream.proofs.streaming.take_left.Goals as goal
+
+pub workers-preserved : goal.workers-preserved
+workers-preserved g c =
+    let inv = c.workers.invariant in
+    let ws = c.workers.workers.items in
+    let qs = c.workers.queues.items in
+    let es = c.workers.ends.items in
+    let w = c.remove-pass.result in
+    let q = c.remove-queue.result in
+    let e = c.remove-takes.result in
+    let ws' = c.remove-pass.new.self.items in
+    let qs' = c.remove-queue.new.self.items in
+    let es' = c.remove-takes.new.self.items in
+    let some : 0 < length ws = grind (arith, nat_tests) in
+    let some_q : 0 < length qs = omega (arith, some, ap length inv.queues, length-map ws (λ x. x.puts.queue)) in
+    let some_e : 0 < length es = omega (arith, some_q, ap length inv.takes, length-map es (λ x. x.queue)) in
+    let first_w : ws ≡ w ∷ ws' = first_of ws w ws' some c.remove-pass.ensures.value c.remove-pass.ensures.by_index.2 in
+    let first_q : qs ≡ q ∷ qs' = first_of qs q qs' some_q c.remove-queue.ensures.value c.remove-queue.ensures.by_index.2 in
+    let first_e : es ≡ e ∷ es' = first_of es e es' some_e c.remove-takes.ensures.value c.remove-takes.ensures.by_index.2 in
+    let new = c.take_rest.new.waiting in
+    record {
+      queues = (heads (λ x. x.puts.queue) ws ws' w qs qs' q inv.queues first_w first_q).others;
+      takes = (heads (λ x. x.queue) es es' e qs qs' q inv.takes first_e first_q).others;
+      passes = ap (λ l. l ++ map (λ x. x.pass) ws') c.push_reserved.ensures.items
+          ∙ (append_assoc c.workers.taken.items (w.pass ∷ []) (map (λ x. x.pass) ws')
+          ∙ (ap (λ l. c.workers.taken.items ++ map (λ x. x.pass) l) (sym first_w) ∙ inv.passes));
+      room = omega (arith, inv.room, c.push_reserved.ensures.len, c.push_reserved.ensures.capacity, ap length c.push_reserved.ensures.items, length-append c.workers.taken.items (w.pass ∷ []), c.remove-pass.ensures.len, ap length first_w);
+      done = inv.done ++ w.puts.values ∷ [];
+      all = append_assoc inv.done (w.puts.values ∷ []) (map (λ x. x.puts.values) ws') ∙ (ap (λ l. inv.done ++ map (λ x. x.puts.values) l) (sym first_w) ∙ inv.all);
+      shown = λ failed before now h.
+          subst (λ l. HasShown l new failed before now) (sym (append_assoc inv.done (w.puts.values ∷ []) (map (λ x. x.values) es')))
+          (c.take_rest.ensures.shown inv.done (map (λ x. x.values) es') failed before now
+          (subst (λ l. HasShown (inv.done ++ map (λ x. x.values) l) c.workers.waiting failed before now) first_e (inv.shown failed before now h)));
+      places = c.take_rest.ensures.places ∙ inv.places;
+    }
+
+pub returns-clause-shown : goal.returns-clause-shown
+returns-clause-shown g c =
+    let inv = c.workers.invariant in
+    let ws = c.workers.workers.items in
+    let es = c.workers.ends.items in
+    let none : length ws ≡ 0 = grind (arith, nat_tests) in
+    let none_e : length es ≡ 0 = omega (arith, none, ap length inv.queues, ap length inv.takes, length-map ws (λ x. x.puts.queue), length-map es (λ x. x.queue)) in
+    λ failed before now h.
+    subst (λ l. HasShown l c.workers.waiting failed before now)
+    (ap (λ l. inv.done ++ map (λ x. x.values) l) (none_left es none_e) ∙ (sym (ap (λ l. inv.done ++ map (λ x. x.puts.values) l) (none_left ws none)) ∙ inv.all))
+    (inv.shown failed before now h)

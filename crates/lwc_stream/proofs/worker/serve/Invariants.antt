@@ -1,0 +1,18 @@
+use Rattle.std.proofs.Common.{◌≡◌, ◌≤◌, ◌-◌, length}
+use Rattle.lwc_base.specs.declared.limits.TheConstants.{MOST_STEPS}
+use Rattle.lwc_stream.specs.Replies.{finished_by}
+use Rattle.process_core.specs.Running.{IsPassOf}
+use Rattle.lwc_stream.proofs.worker.serve.Given as goal
+
+-- what the thread has finished so far was put in
+abbrev pub invariant-turns : goal.invariant-turns
+invariant-turns g l = record {
+  ours : IsPassOf l.process l.worker.pass;
+  number : l.worker.pass.held.number ≡ l.initial.worker.pass.held.number;
+  queue : l.worker.puts.queue ≡ l.queue;
+  put : l.worker.puts.values ≡ finished_by l.process.name l.worker.pass;
+  turns : l.turns ≤ length l.worker.pass.held.seen;
+}
+
+abbrev pub decreases-turns : goal.decreases-turns
+decreases-turns g l = MOST_STEPS - length l.worker.pass.held.seen

@@ -1,0 +1,11 @@
+pub use Rattle.atomic_table.specs.Seated
+pub use Rattle.kernel_core.specs.Histories
+pub use Rattle.kernel_core.specs.Machine
+pub use Rattle.kernel_core.specs.Start
+pub use Rattle.lwc_io.specs.Outside
+pub use Rattle.lwc_text.specs.Lines
+pub use Rattle.process_core.specs.Running
+pub mod Queues
+pub mod Replies
+pub mod Streams
+pub mod Crews

@@ -1,0 +1,238 @@
+//! The workers in threads of their own, and the caller beside them.
+ghost use Rattle.std.specs.Prelude.{◌≡◌, List, All, length, map, Some, slice_get};
+ghost use Rattle.atomic_table.specs.Seated.{TableId};
+ghost use Rattle.lwc_io.specs.Outside.{SinkView};
+ghost use Rattle.lwc_stream.specs.Crews.{HasServed, HaveServed, IsFresh};
+ghost use Rattle.lwc_stream.specs.Streams.{HasShown};
+
+use crate::desk::Desk;
+use crate::news::News;
+use crate::queue::ReplyQueue;
+use crate::worker::{Worker, serve};
+use lwc_base::MOST_THREADS;
+use lwc_io::{Gate, Sink};
+use process_core::Process;
+use snapshot_host::Finished;
+use std::snapshot::Snapshot;
+use std::sync::Wait;
+use std::thread;
+use std::thread::{Promise, Scope, Threads};
+use world_face::World;
+
+/// Carries all threads to their ends, each in a thread of the host's own where one can be made. It may wait.
+fn serve_all<R: Threads + Wait + Sync, W: World, G: Gate>(
+    rt: &R,
+    process: &Process<W>,
+    queues: &[ReplyQueue<Finished>],
+    news: &News,
+    gate: &G,
+    mut workers: Vec<Worker<W>>,
+) -> Vec<Worker<W>>
+    requires leave { G.leave gate.now }
+    requires fresh { All (λ w. IsFresh process.now w.pass w.puts) workers.items }
+    requires queues { map (λ w. w.puts.queue) workers.items ≡ queues.now }
+    ensures { HaveServed (λ w. w.pass) (λ w. w.puts) process.now workers.items result.items }
+{
+    thread::for_each_mut(
+        rt,
+        workers.as_mut_slice(),
+        MOST_THREADS as usize,
+        &|i: usize, worker: &mut Worker<W>|
+            requires { G.leave gate.now × IsFresh process.now worker.now.pass worker.now.puts
+                × (slice_get queues.now i ≡ Some worker.now.puts.queue) }
+            ensures { HasServed process.entry.now worker.exit.now.pass worker.exit.now.puts
+                × (worker.exit.now.pass.held.number ≡ worker.entry.now.pass.held.number)
+                × (worker.exit.now.puts.queue ≡ worker.entry.now.puts.queue) }
+        {
+            let Some(queue) = queues.get(i) else {
+                unreachable!();
+            };
+            serve(rt, process, queue, news, gate, worker);
+            news.end();
+        },
+    );
+    workers
+}
+
+/// What workers return has served.
+#[derive(Drop)]
+struct Service<W: World> {
+    process: Snapshot<Process<W>>,
+    before: Snapshot<Vec<Worker<W>>>,
+}
+
+impl<W: World> Promise<Vec<Worker<W>>> for Service<W> {
+    ghost use Rattle.lwc_stream.specs.Crews.{HaveServed};
+
+    ghost kept_by = { λ p r. HaveServed (λ w. w.pass) (λ w. w.puts) p.process.value p.before.value.items r.items };
+}
+
+/// What the caller does while workers go on.
+trait Beside {
+    type Output;
+
+    ghost can_go: { Self → List TableId → Type 0 };
+
+    ghost gives: { Self → Self.Output → Type 0 };
+
+    fn go<R: Wait>(
+        self,
+        rt: &R,
+        queues: &[ReplyQueue<Finished>],
+        news: &News,
+        workers: usize,
+    ) -> Self::Output
+        requires { can_go self queues.now }
+        ensures { gives self result };
+}
+
+/// The desk, and the sink that it shows replies to.
+#[derive(Drop)]
+struct Counter<'a, O> {
+    out: &'a mut O,
+    desk: Desk,
+}
+
+impl<'a, O: Sink> Beside for Counter<'a, O> {
+    type Output = (&'a mut O, Desk);
+
+    ghost can_go = { λ c queues. map (λ e. e.queue) c.desk.takes.items ≡ queues };
+
+    ghost gives = { λ c r. (r.0.ghost_name ≡ c.out.ghost_name)
+        × (map (λ e. e.queue) r.1.takes.items ≡ map (λ e. e.queue) c.desk.takes.items)
+        × (length r.1.waiting.places ≡ length c.desk.waiting.places)
+        × ((before : SinkView) →
+        HasShown (map (λ e. e.values) c.desk.takes.items) c.desk.waiting c.desk.writer before (O.seen c.out.now) →
+        HasShown (map (λ e. e.values) r.1.takes.items) r.1.waiting r.1.writer before (O.seen r.0.now)) };
+
+    fn go<R: Wait>(
+        self,
+        rt: &R,
+        queues: &[ReplyQueue<Finished>],
+        news: &News,
+        workers: usize,
+    ) -> (&'a mut O, Desk) {
+        let Counter { out, desk } = self;
+        let mut desk = desk;
+        desk.follow(rt, queues, news, workers, out);
+        (out, desk)
+    }
+}
+
+/// Starts the workers in threads of a scope, and goes on beside them. Where they cannot be started, the caller
+/// does their work first.
+fn go_in<
+    's,
+    E,
+    R: Threads + Wait + Sync + 's,
+    W: World + 's,
+    G: Gate + 's,
+    S: Beside<Output = A> + Drop,
+    A,
+>(
+    scope: &Scope<'s, E>,
+    rt: &'s R,
+    process: &'s Process<W>,
+    queues: &'s [ReplyQueue<Finished>],
+    news: &'s News,
+    gate: &'s G,
+    caller: S,
+    workers: Vec<Worker<W>>,
+) -> (Vec<Worker<W>>, A)
+    requires leave { G.leave gate.now }
+    requires fresh { All (λ w. IsFresh process.now w.pass w.puts) workers.items }
+    requires queues { map (λ w. w.puts.queue) workers.items ≡ queues.now }
+    requires can { S.can_go caller queues.now }
+    ensures served { HaveServed (λ w. w.pass) (λ w. w.puts) process.now workers.items result.0.items }
+    ensures gives { S.gives caller result.1 }
+{
+    let count = workers.len();
+    let promise = Service {
+        process: Snapshot::of(process),
+        before: Snapshot::of(&workers),
+    };
+    let started = scope.spawn_with(
+        promise,
+        move || -> Vec<Worker<W>>
+            requires { G.leave gate.now
+                × All (λ w. IsFresh process.now w.pass w.puts) workers.items
+                × (map (λ w. w.puts.queue) workers.items ≡ queues.now) }
+            ensures { HaveServed (λ w. w.pass) (λ w. w.puts) process.entry.now workers.items result.items }
+        { serve_all(rt, process, queues, news, gate, workers) },
+    );
+    match started {
+        Ok(handle) => {
+            let given = caller.go(rt, queues, news, count);
+            (handle.join(rt), given)
+        }
+        Err(refused) => {
+            let workers = (refused.value)();
+            let given = caller.go(rt, queues, news, count);
+            (workers, given)
+        }
+    }
+}
+
+/// Carries all threads to their ends beside the caller.
+fn go_beside<R: Threads + Wait + Sync, W: World, G: Gate, S: Beside<Output = A> + Drop, A>(
+    rt: &R,
+    process: &Process<W>,
+    queues: &[ReplyQueue<Finished>],
+    gate: &G,
+    caller: S,
+    workers: Vec<Worker<W>>,
+) -> (Vec<Worker<W>>, A)
+    requires leave { G.leave gate.now }
+    requires fresh { All (λ w. IsFresh process.now w.pass w.puts) workers.items }
+    requires queues { map (λ w. w.puts.queue) workers.items ≡ queues.now }
+    requires can { S.can_go caller queues.now }
+    ensures served { HaveServed (λ w. w.pass) (λ w. w.puts) process.now workers.items result.0.items }
+    ensures gives { S.gives caller result.1 }
+{
+    let news = News::new();
+    let news = &news;
+    thread::scope(
+        thread::scope_env(),
+        rt,
+        move |scope| -> (Vec<Worker<W>>, A)
+            requires { G.leave gate.now
+                × All (λ w. IsFresh process.now w.pass w.puts) workers.items
+                × (map (λ w. w.puts.queue) workers.items ≡ queues.now)
+                × S.can_go caller queues.now }
+            ensures { HaveServed (λ w. w.pass) (λ w. w.puts) process.entry.now workers.items result.0.items
+                × S.gives caller result.1 }
+        { go_in(scope, rt, process, queues, news, gate, caller, workers) },
+    )
+}
+
+/// Ends a loan that was handed on.
+fn take_back<T>(x: &mut T)
+    ensures { x.new ≡ x.old }
+{}
+
+/// Carries all threads to their ends, and shows replies to the sink meanwhile. It may wait.
+pub(crate) fn serve_beside<R: Threads + Wait + Sync, W: World, G: Gate, O: Sink>(
+    rt: &R,
+    process: &Process<W>,
+    queues: &[ReplyQueue<Finished>],
+    gate: &G,
+    out: &mut O,
+    desk: Desk,
+    workers: Vec<Worker<W>>,
+) -> (Vec<Worker<W>>, Desk)
+    requires leave { G.leave gate.now }
+    requires fresh { All (λ w. IsFresh process.now w.pass w.puts) workers.items }
+    requires queues { map (λ w. w.puts.queue) workers.items ≡ queues.now }
+    requires takes { map (λ e. e.queue) desk.takes.items ≡ queues.now }
+    ensures served { HaveServed (λ w. w.pass) (λ w. w.puts) process.now workers.items result.0.items }
+    ensures queues { map (λ e. e.queue) result.1.takes.items ≡ queues.now }
+    ensures places { length result.1.waiting.places ≡ length desk.waiting.places }
+    ensures shown { (before : SinkView) →
+        HasShown (map (λ e. e.values) desk.takes.items) desk.waiting desk.writer before (O.seen out.old) →
+        HasShown (map (λ e. e.values) result.1.takes.items) result.1.waiting result.1.writer before (O.seen out.new) }
+{
+    let caller = Counter { out, desk };
+    let (workers, (out, desk)) = go_beside(rt, process, queues, gate, caller, workers);
+    take_back(out);
+    (workers, desk)
+}

@@ -1,0 +1,67 @@
+//! A worker that carries a thread, and hands on what its steps finish.
+ghost use Rattle.std.specs.Prelude.{◌≡◌, ◌++◌, [], MatchOption};
+ghost use Rattle.lwc_stream.specs.Crews.{HasServed, IsFresh};
+ghost use Rattle.lwc_stream.specs.Queues.{end_of};
+ghost use Rattle.lwc_stream.specs.Replies.{replies_of};
+
+use crate::ends::Puts;
+use crate::news::News;
+use crate::queue::ReplyQueue;
+use lwc_io::Gate;
+use process_core::{Process, ProcessPass};
+use snapshot_host::Finished;
+use std::sync::Wait;
+use world_face::World;
+
+/// The pass of a thread, and the end of a queue into which its replies are put.
+#[derive(Drop)]
+pub(crate) struct Worker<W: World> {
+    pub(crate) pass: ProcessPass<W>,
+    pub(crate) puts: Puts<Finished>,
+}
+
+/// Carries the thread to its end. Before each turn it comes to the gate. A reply that the turn finished is put
+/// into the queue and the caller is called, and then the worker comes to the gate again. It may wait.
+pub(crate) fn serve<R: Wait, W: World, G: Gate>(
+    rt: &R,
+    process: &Process<W>,
+    queue: &ReplyQueue<Finished>,
+    news: &News,
+    gate: &G,
+    worker: &mut Worker<W>,
+)
+    requires leave { G.leave gate.now }
+    requires fresh { IsFresh process.now worker.old.pass worker.old.puts }
+    requires queue { worker.old.puts.queue ≡ queue.now }
+    ensures served { HasServed process.now worker.new.pass worker.new.puts }
+    ensures number { worker.new.pass.held.number ≡ worker.old.pass.held.number }
+    ensures queue { worker.new.puts.queue ≡ queue.now }
+{
+    let mut turns = 0u64;
+    'turns: while !worker.pass.last().has_ended() {
+        gate.before(rt, worker.pass.thread(), turns);
+        process.make_turn(rt, &mut worker.pass, None);
+        hand_on(rt, queue, news, gate, &worker.pass, &mut worker.puts);
+        turns += 1;
+    }
+}
+
+/// Puts the reply that the last turn finished into the queue, if it did, and then tells the gate of it.
+fn hand_on<R: Wait, W: World, G: Gate>(
+    rt: &R,
+    queue: &ReplyQueue<Finished>,
+    news: &News,
+    gate: &G,
+    pass: &ProcessPass<W>,
+    puts: &mut Puts<Finished>,
+)
+    requires leave { G.leave gate.now }
+    requires queue { puts.old.queue ≡ queue.now }
+    ensures { puts.new ≡ end_of queue.now (puts.old.values ++ replies_of pass.now.last.finished) }
+{
+    if let Some(finished) = &pass.last().finished {
+        queue.put(rt, puts, finished.same());
+        news.call();
+        gate.finished(rt, pass.thread(), finished.request);
+    }
+}
