@@ -14,8 +14,8 @@ use Rattle.lwc_base.specs.World.{World, next_context}
 use Rattle.confinement.specs.May.{MakesCall}
 
 -- the next step of a thread is none of the three accepted calls that reach another context
-abbrev pub MakesNoneOfItsContexts : Machine → ℕ → Type 0
-MakesNoneOfItsContexts m t = (number : ℕ) (x : Thread) → MakesCall m t x number →
+abbrev pub ReachesNoOther : Machine → ℕ → Type 0
+ReachesNoOther m t = (number : ℕ) (x : Thread) → MakesCall m t x number →
     (number ≢ LW_SWITCH) × (number ≢ LW_OVERLAY) × (number ≢ LW_SYSCALL)
 
 -- no slot has a capability with this key for a context, and this is not one that a call would make next

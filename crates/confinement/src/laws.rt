@@ -6,7 +6,7 @@ ghost use Rattle.confinement.specs.Confined.{IsConfined, IsLiveInBoth};
 ghost use Rattle.confinement.specs.Faults.{EndsByFault};
 ghost use Rattle.confinement.specs.May.{IsGiven, MakesCall, MayChange, regs_at, world_of};
 ghost use Rattle.confinement.specs.One.{IsOneValue};
-ghost use Rattle.confinement.specs.Rest.{LacksKey, MakesNoneOfItsContexts};
+ghost use Rattle.confinement.specs.Rest.{LacksKey, ReachesNoOther};
 ghost use Rattle.confinement.specs.EachStep.{IsConfinedRun};
 ghost use Rattle.confinement.specs.Snapshots.{IsAsMade, IsResumed, IsUntouched, Makes, Touches};
 ghost use Rattle.kernel_core.specs.Kernel.{CanOpen};
@@ -77,11 +77,12 @@ pub fn what_may_change_is_touched()
 /// another context changes no value but those that its own context has, alone or in common with others.
 /// Registers that are kept for other threads stay. An overlay leaves its giver under keys that the
 /// capability lacks, and a call over chosen contexts leaves the other context's keys of kinds that are not
-/// chosen, each cell with the right of a page. Where no slot had a capability with a key for a context, none has one afterwards.
+/// chosen, each cell with the right of a page. Where no slot had a capability with a key for a context, none has
+/// one afterwards.
 pub fn a_confined_step_leaves_the_rest()
     ensures values { (m after : Machine) (t : ℕ) (x : Thread) (e : Name) (k : Key) → IsConfined m t after →
-        slice_get m.threads t ≡ Some x → MakesNoneOfItsContexts m t → IsLiveInBoth (world_of m) (world_of after) e →
-        IsKey (world_of m).size.pages k →
+        slice_get m.threads t ≡ Some x → ReachesNoOther m t →
+        IsLiveInBoth (world_of m) (world_of after) e → IsKey (world_of m).size.pages k →
         (value_at (world_of after) e k ≡ value_at (world_of m) e k) ⊎ IsOneValue (world_of m) x.context e k }
     ensures registers { (m after : Machine) (t s : ℕ) (e : Name) → IsConfined m t after → s ≢ t →
         IsLiveInBoth (world_of m) (world_of after) e →

@@ -35,13 +35,9 @@ use Rattle.lwc_base.specs.Life.{is_of}
 use Rattle.lwc_base.proofs.Lookups.{context-dead}
 use Rattle.lwc_base.proofs.Slots.{put_slot-reads}
 use Rattle.lwc_vault.proofs.Telling.{ActOutside}
-use Rattle.lwc_vault.specs.Blanks.{ActsOutside}
+use Rattle.lwc_vault.specs.Blanks.{ActsOutside, IsShutWorld}
 use Rattle.lwc_vault.specs.Secrets.{StandOutside, StandsOutside, beside}
 use Rattle.vault_calls.specs.Outside.{IsShut, LacksKeys}
-
--- each descriptor of the vault has no key
-abbrev pub IsShutWorld : World → Type 0
-IsShutWorld w = (e : Name) (n : ℕ) (cap : Cap) → n < SLOTS → slot_at w e n ≡ Ctx vault_name cap → LacksKeys cap
 
 -- a context that is not live has no descriptor
 none_of_dead : (w : World) (e : Name) (n : ℕ) (cap : Cap) → is_live w e ≡ false → slot_at w e n ≡ Ctx vault_name cap → ⊥
@@ -128,11 +124,15 @@ module _ (inputs : Inputs) (v : Vault) (can : CanOpen (beside inputs v)) where
   unfolding start
   start-shut = subst (λ job. IsShutWorld (with_vault (world_for inputs.image inputs.settings.frames job) v)) (sym can.vault.run) shut_there
 
+-- no descriptor opens the vault after any steps
+pub stays-shut : (inputs : Inputs) (v : Vault) (steps : List ℕ) → CanOpen (beside inputs v) → IsShutWorld (run (start (beside inputs v)) steps).environment.world
+stays-shut inputs v steps can = run-shut (beside inputs v) 0 (start (beside inputs v)) steps (ready_start (beside inputs v) can) (start-shut inputs v can)
+
 pub acts-outside : (inputs : Inputs) (v : Vault) (steps : List ℕ) (t : ℕ) → CanOpen (beside inputs v) → StandsOutside (run (start (beside inputs v)) steps) t →
     ActsOutside (run (start (beside inputs v)) steps) t
 acts-outside inputs v steps t can stands =
     outside-at (beside inputs v) _ t (run (start (beside inputs v)) steps) (ready_machine (beside inputs v) steps can)
-    (run-shut (beside inputs v) 0 (start (beside inputs v)) steps (ready_start (beside inputs v) can) (start-shut inputs v can)) stands
+    (stays-shut inputs v steps can) stands
 
 -- a run's start is no serve
 pub no_serve : (inputs : Inputs) (v : Vault) → CanOpen (beside inputs v) → (start (beside inputs v)).serve ≡ None

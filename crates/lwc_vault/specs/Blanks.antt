@@ -1,11 +1,17 @@
--- Machines in which the vault is blank, and threads to which that makes no difference.
-use Rattle.std.specs.Prelude.{◌≡◌, ℕ, Some, slice_get}
+-- Machines in which the vault is blank, threads to which that makes no difference, and worlds in which it is shut.
+use Rattle.std.specs.Prelude.{◌≡◌, ◌<◌, ℕ, Some, slice_get}
 use Rattle.kernel_core.specs.Machine.{Machine}
 use Rattle.kernel_core.specs.Start.{vault_name}
 use Rattle.kernel_core.specs.Step.{with_world}
 use Rattle.kernel_core.specs.declared.thread.Thread.{Thread}
+use Rattle.lwc_base.specs.Cells.{slot_at}
+use Rattle.lwc_base.specs.World.{World}
+use Rattle.lwc_base.specs.declared.descriptor.Cap.{Cap}
+use Rattle.lwc_base.specs.declared.descriptor.Descriptor.TheVariants.{Ctx}
+use Rattle.lwc_base.specs.declared.descriptor.TheConstants.{SLOTS}
 use Rattle.lwc_base.specs.declared.fault.ThreadStatus.TheVariants.{Running}
-use Rattle.vault_calls.specs.Outside.{IsOutside}
+use Rattle.lwc_base.specs.declared.name.Name.{Name}
+use Rattle.vault_calls.specs.Outside.{IsOutside, LacksKeys}
 use Rattle.vault_view.specs.Blank.{blank}
 
 -- the machine with zero bytes in each page of the vault, the tags kept
@@ -17,3 +23,8 @@ abbrev pub ActsOutside : Machine → ℕ → Type 0
 ActsOutside m t =
     (x : Thread) → slice_get m.threads t ≡ Some x → x.status ≡ Running →
     IsOutside vault_name x.context x.job m.environment.world
+
+-- no descriptor opens the vault: in no slot of any context has one of the vault a key
+abbrev pub IsShutWorld : World → Type 0
+IsShutWorld w =
+    (e : Name) (n : ℕ) (cap : Cap) → n < SLOTS → slot_at w e n ≡ Ctx vault_name cap → LacksKeys cap

@@ -14,7 +14,7 @@ ghost use Rattle.lwc_base.specs.declared.answer.Moved.TheVariants.{To};
 ghost use Rattle.lwc_base.specs.declared.regs.Regs.{Regs};
 ghost use Rattle.lwc_switch.specs.Switch.{switch};
 ghost use Rattle.lwc_text.specs.Report.{report_after, report_of};
-ghost use Rattle.lwc_vault.specs.Blanks.{ActsOutside};
+ghost use Rattle.lwc_vault.specs.Blanks.{ActsOutside, IsShutWorld};
 ghost use Rattle.lwc_vault.specs.Secrets.{KeepsSecret, NoneEnters, StandOutside};
 ghost use Rattle.lwc_vault.specs.Blanks.{blank_machine};
 ghost use Rattle.lwc_vault.specs.Secrets.{StandsOutside, TellsNothing, beside};
@@ -26,7 +26,13 @@ pub fn a_step_outside_is_the_same_step()
         step (blank_machine m) t ≡ blank_machine (step m t) }
 {}
 
-/// In a run beside a vault no descriptor ever opens the vault: who does not stand in it is outside it.
+/// In a run beside a vault no descriptor ever opens the vault: none that any context has of it has a key.
+pub fn no_descriptor_opens_the_vault()
+    ensures { (inputs : Inputs) (v : Vault) (steps : List ℕ) → CanOpen (beside inputs v) →
+        IsShutWorld (run (start (beside inputs v)) steps).environment.world }
+{}
+
+/// So who does not stand in the vault is outside it.
 pub fn who_stands_outside_is_outside()
     ensures { (inputs : Inputs) (v : Vault) (steps : List ℕ) (t : ℕ) → CanOpen (beside inputs v) →
         StandsOutside (run (start (beside inputs v)) steps) t →
