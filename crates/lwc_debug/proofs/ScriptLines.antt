@@ -203,4 +203,6 @@ pub is_answered : (bytes : List ℕ) (script : List Command) (e : ReadError Inpu
 is_answered bytes script errors.OutOfMemory is fails = refl
 is_answered bytes script (errors.Refused rule offset) is fails = let read : script_at bytes ≡ Ok script = is_read bytes script is in absurd cc
 
+pub ruleset line_reading = (empty_adds_nothing, command_adds)
+
 pub ruleset script_reading = (is_script, is_answered)

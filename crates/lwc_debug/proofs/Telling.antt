@@ -13,19 +13,21 @@ use Rattle.kernel_core.specs.Kernel.{History, machine_of}
 use Rattle.kernel_core.specs.Machine.{Machine}
 use Rattle.kernel_core.specs.Runs.{kept, run}
 use Rattle.kernel_core.specs.Start.{Inputs, start}
-use Rattle.lwc_debug.specs.Telling.{Told, placed, told_before, told_by, told_here}
+use Rattle.lwc_debug.specs.Telling.{Told, placed, told_by, told_here}
 use Rattle.lwc_debug.specs.Transcript.{answer, asked_place, moved_to, place_after, place_in, transcript, transcript_of_schedule}
 use Rattle.lwc_debug.specs.declared.command.Command.{Command}
 use Rattle.lwc_debug.specs.declared.debugging.Answer.{Answer}
+
+-- a command that is told if its place is before this one
+unfoldable pub told_before : Machine → List ℕ → ℕ → Told → Told
+told_before m steps from x =
+    cond (ltb x.place from) (record x { text = answer (run m (take x.place steps)) (length steps) x.place x.command }) x
 
 -- the next place at which an answer is given, from a place on
 pub record IsNext (from : ℕ) (answers : List Answer) (next : Option ℕ) : Type 0 where
   pub first : MatchOption next (All (λ a. a.place < from) answers) (λ n. All (λ a. (a.place < from) ⊎ (n ≤ a.place)) answers)
   pub onward : IfSome next (λ n. from ≤ n)
   pub there : (most : ℕ) → All (λ a. a.place ≤ most) answers → IfSome next (λ n. n ≤ most)
-
-pub no_next : (from : ℕ) → IsNext from [] None
-no_next from = record { first = All-nil (λ (a : Answer). a.place < from); onward = tt; there = λ most each. tt }
 
 module _ (from : ℕ) (answers : List Answer) (i : ℕ) (a : Answer) (inside : i < length answers) (is : get_or answers i a ≡ a) where
   more : (P : Answer → Type 0) → All P (take i answers) → P a → All P (take (i + 1) answers)
@@ -125,30 +127,11 @@ places_next count script answers next i place after c a is command at none pushe
   there = there;
 }
 
-none_left : (script : List Command) (i : ℕ) → length script ≤ i → drop i script ≡ []
-none_left [] zero all = refl
-none_left [] (suc i) all = refl
-none_left (c ∷ cs) zero all = absurd (omega (arith, all))
-none_left (c ∷ cs) (suc i) all = none_left cs i (omega (arith, all))
-
--- all have their places
-pub all_placed : (count : ℕ) (script : List Command) (answers : List Answer) (i place : ℕ) → length script ≤ i → IsPlaced count script answers i place → map told_by answers ≡ placed count 0 script
-all_placed count script answers i place all so_far =
-    sym (append-nil (map told_by answers)) ∙ ap (λ cs. map told_by answers ++ placed count place cs) (sym (none_left script i all)) ∙ so_far.made
-
 -- the first answers have been told at a place, and the others are as they were
 pub record IsToldUpTo (m : Machine) (count place : ℕ) (olds answers : List Answer) (i : ℕ) : Type 0 where
   pub count_is : length answers ≡ length olds
   pub told : map told_by (take i answers) ≡ map (told_here m count place) (map told_by (take i olds))
   pub rest : (k : ℕ) (d : Answer) → i ≤ k → get_or answers k d ≡ get_or olds k d
-
-pub none_told : (m : Machine) (count place : ℕ) (olds : List Answer) → IsToldUpTo m count place olds olds 0
-none_told m count place olds = record { count_is = refl; told = refl; rest = λ k d later. refl }
-
-pub all_told_here : (m : Machine) (count place : ℕ) (olds answers : List Answer) (i : ℕ) → length answers ≤ i → IsToldUpTo m count place olds answers i → map told_by answers ≡ map (told_here m count place) (map told_by olds)
-all_told_here m count place olds answers i all so_far =
-    sym (ap (map told_by) (take_all i answers all)) ∙ so_far.told
-    ∙ ap (λ l. map (told_here m count place) (map told_by l)) (take_all i olds (omega (arith, all, so_far.count_is)))
 
 module _ (m : Machine) (count place : ℕ) (olds answers : List Answer) (i : ℕ) (so_far : IsToldUpTo m count place olds answers i) (inside : i < length answers) where
   map-more : (xs : List Answer) (x : Answer) → map told_by (xs ++ x ∷ []) ≡ map told_by xs ++ told_by x ∷ []

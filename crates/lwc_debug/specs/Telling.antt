@@ -1,7 +1,6 @@
 -- How the answers come about: each is made when its place has come.
-use Rattle.std.specs.Prelude.{ℕ, ◌++◌, ◌==◌, if◌then◌else◌, List, [], ◌∷◌, length, nat_lt, take}
+use Rattle.std.specs.Prelude.{ℕ, ◌++◌, ◌==◌, if◌then◌else◌, List, [], ◌∷◌}
 use Rattle.kernel_core.specs.Machine.{Machine}
-use Rattle.kernel_core.specs.Runs.{run}
 use Rattle.lwc_debug.specs.Transcript.{answer, place_after}
 use Rattle.lwc_debug.specs.declared.command.Command.{Command}
 use Rattle.lwc_debug.specs.declared.debugging.Answer.{Answer}
@@ -26,9 +25,3 @@ placed count at (c ∷ cs) =
 unfoldable pub told_here : Machine → ℕ → ℕ → Told → Told
 told_here m count place x =
     if x.place == place then record x { text = x.text ++ answer m count place x.command } else x
-
--- a command that is told if its place is before this one
-unfoldable pub told_before : Machine → List ℕ → ℕ → Told → Told
-told_before m steps from x =
-    if nat_lt x.place from
-    then record x { text = answer (run m (take x.place steps)) (length steps) x.place x.command } else x

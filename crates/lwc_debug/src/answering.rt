@@ -11,7 +11,7 @@ ghost use Rattle.lwc_base.specs.Memory.{load};
 ghost use Rattle.lwc_base.specs.Summaries.{summary_of};
 ghost use Rattle.lwc_base.specs.World.{is_live};
 ghost use Rattle.kernel_core.specs.Kernel.{machine_of, view_of};
-ghost use Rattle.lwc_text.specs.Lines as spec_lines;
+ghost use Rattle.lwc_text.specs.Lines as lines;
 ghost use Rattle.lwc_debug.specs.Transcript as spec;
 
 use crate::command::Command;
@@ -22,8 +22,8 @@ use lwc_text::{bytes_text, context_line, name_text, thread_lines, used_line};
 use std::alloc::Global;
 use world_face::World;
 
-/// Appends the answer to a command that is given at this place, one of this number of steps and one more, where
-/// the kernel is (`answer`). The only error is out of memory.
+/// Appends the answer to a command that is given at this place, one of this number of steps and one more,
+/// where the kernel is (`answer`). The only error is out of memory.
 #[tactic(auto, unfolding(crate::specs::Transcript::answer))]
 pub fn answer<W: World>(
     out: &mut Vec<u8>,
@@ -33,7 +33,8 @@ pub fn answer<W: World>(
     command: Command,
 ) -> Result<(), OutOfMemory>
     requires { at ≤ count }
-    ensures { OnOk result (out.new.items ≡ out.old.items ++ spec.answer (machine_of kernel.now) count at command) }
+    ensures { OnOk result (out.new.items
+        ≡ out.old.items ++ spec.answer (machine_of kernel.now) count at command) }
 {
     let world = kernel.world();
     match command {
@@ -65,7 +66,8 @@ fn move_line(out: &mut Vec<u8>, place: Option<usize>) -> Result<(), OutOfMemory>
 #[tactic(auto, using(crate::proofs::Living::no_view))]
 fn thread_answer<W: World>(out: &mut Vec<u8>, kernel: &Kernel<W>, t: u32) -> Result<(), OutOfMemory>
     ensures { OnOk result (out.new.items ≡ out.old.items
-        ++ option_map_or (spec_lines.thread_lines t) (view_of (machine_of kernel.now) t) (codes "no thread\n")) }
+        ++ option_map_or (lines.thread_lines t) (view_of (machine_of kernel.now) t)
+        (codes "no thread\n")) }
 {
     if t >= kernel.thread_count() {
         return append(out, "no thread\n");
@@ -77,7 +79,7 @@ fn thread_answer<W: World>(out: &mut Vec<u8>, kernel: &Kernel<W>, t: u32) -> Res
 fn context_answer<W: World>(out: &mut Vec<u8>, world: &W, name: Name) -> Result<(), OutOfMemory>
     ensures { OnOk result (out.new.items ≡ out.old.items
         ++ spec.of_live (W.seen world.now) name
-        (spec_lines.context_line name (summary_of (W.seen world.now) name))) }
+        (lines.context_line name (summary_of (W.seen world.now) name))) }
 {
     if !is_live(world, name) {
         return append(out, "no context\n");

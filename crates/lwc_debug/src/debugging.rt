@@ -39,8 +39,8 @@ pub(crate) struct Answer {
 }
 
 /// The answers to a script's commands in the run of the steps that are kept of a schedule
-/// (`transcript_of_schedule`). It makes the schedule's steps twice, whatever the script: once for their number,
-/// from which the place of each command follows, and once to answer each command at its place.
+/// (`transcript_of_schedule`). It makes the steps twice, whatever the script: once for their number, from which
+/// the place of each command follows, and once to answer each command at its place.
 ///
 /// # Errors
 ///
@@ -117,8 +117,8 @@ fn kept_steps<W: World>(
     Ok(Vec::from_slice(alloc, kernel.schedule())?)
 }
 
-/// The answers to a script's commands in the run of these steps, which are made once, and no further than to the
-/// last place of a command.
+/// The answers to a script's commands in the run of these steps, which are made once, and no further than to
+/// the last place of a command.
 fn answers<W: World>(
     alloc: Global,
     mut kernel: Kernel<W>,

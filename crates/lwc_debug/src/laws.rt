@@ -6,8 +6,8 @@ ghost use Rattle.kernel_core.specs.Machine.{Machine, is_ended};
 ghost use Rattle.kernel_core.specs.Runs.{run};
 ghost use Rattle.lwc_debug.specs.Scripts.{ScriptFacts};
 
-/// A law: each step of a legal history is made by a thread that has not ended, so each place between two of its
-/// steps is a moment of the run.
+/// A law: each step of a legal history is made by a thread that has not ended, so each place between two of
+/// its steps is a moment of the run.
 #[tactic(auto, using(crate::proofs::Legal::goes_on))]
 pub fn each_step_of_a_legal_history_is_made()
     ensures { (m : Machine) (steps : List ℕ) (i t : ℕ) → IsLegal m steps → slice_get steps i ≡ Some t →

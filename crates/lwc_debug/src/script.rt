@@ -21,15 +21,15 @@ pub const MOST_SCRIPT_BYTES: usize = 65536;
 
 /// Reads a script, one command a line (`IsScript`): a word, and behind it, each behind one space, what the
 /// command takes. That is a number, one to nine decimal digits, for `goto`, `forward`, `back` and `thread`; a
-/// name, two numbers with a dot between, for `context`; a name and a number for `page` and `slot`; and nothing
-/// for `used`. An empty line is skipped. A line feed ends a line, and a carriage return directly before it is
-/// skipped.
+/// name, two numbers with a dot between, for `context`; a name and a number for `page` and `slot`; and
+/// nothing for `used`. An empty line is skipped. A line feed ends a line, and a carriage return directly
+/// before it is skipped.
 ///
 /// # Errors
 ///
-/// Out of memory, or the first refusal (`script_at`): `TooLong` at `MOST_SCRIPT_BYTES` if there are more bytes;
-/// else, at the first byte of the first line that breaks a rule, `BadCommand` if it is neither empty nor a
-/// command, and `TooManyCommands` if it is one after `MOST_COMMANDS` others.
+/// Out of memory, or the first refusal (`script_at`): `TooLong` at `MOST_SCRIPT_BYTES` if there are more
+/// bytes; else, at the first byte of the first line that breaks a rule, `BadCommand` if it is neither empty
+/// nor a command, and `TooManyCommands` if it is one after `MOST_COMMANDS` others.
 #[tactic(auto, using(crate::proofs::ScriptLines::script_reading))]
 pub fn read_script(alloc: Global, bytes: &[u8]) -> Result<Script, InputFault>
     ensures exact { Answers (λ script. script) result (spec.script_at bytes.now) }
@@ -74,7 +74,7 @@ fn read_lines(alloc: Global, bytes: &[u8]) -> Result<Vec<Command>, InputFault>
 }
 
 /// Reads the line at an offset, after the lines of these commands.
-#[tactic(auto, using(crate::proofs::ScriptLines::empty_adds_nothing, crate::proofs::ScriptLines::command_adds))]
+#[tactic(auto, using(crate::proofs::ScriptLines::line_reading))]
 fn read_line(commands: &mut Vec<Command>, start: u64, line: &[u8]) -> Result<(), InputFault>
     requires { length commands.old.items ≤ MOST_COMMANDS }
     ensures kept { OnOk result (spec.rule_broken (length commands.old.items) line.now ≡ None) }

@@ -23,8 +23,8 @@ use lwc_io::{Files, Sink};
 use lwc_text::Schedule;
 use std::alloc::Global;
 
-/// Reads the image, the schedule and the script of these names, and writes the answers to the script, each at its
-/// place of the schedule's steps.
+/// Reads the image, the schedule and the script of these names, and writes the answers to the script, each at
+/// its place of the schedule's steps.
 pub fn debug_run<'a, F: Files, O: Sink>(
     alloc: Global,
     files: &mut F,
