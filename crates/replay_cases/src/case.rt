@@ -91,7 +91,8 @@ fn append_number(bytes: &mut Vec<u8>, digits: &str) -> io::Result<()> {
 /// Appends a page of these first bytes, in hexadecimal digits, and zeros.
 fn append_page(bytes: &mut Vec<u8>, digits: &str) -> io::Result<()> {
     let mut page = [0; 4096];
-    let _ = hex::decode_to_slice(digits, page.split_at_mut(digits.len() / 2).0);
+    let count = page.len().min(digits.len() / 2);
+    let _ = hex::decode_to_slice(digits, page.split_at_mut(count).0);
     bytes.extend_from_slice(&page)?;
     Ok(())
 }
