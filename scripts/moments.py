@@ -2,9 +2,10 @@
 
 import os
 import re
+import sys
 import tempfile
 
-from program import run_program
+from program import give_up, run_program
 
 MOST_COMMANDS = 64
 
@@ -15,6 +16,15 @@ def schedule_in(text):
     if not found:
         return text
     return "" if found[1] == "-" else found[1]
+
+
+def read_schedule(name):
+    """The schedule in a file, or in the standard input under the name `-`."""
+    try:
+        with sys.stdin if name == "-" else open(name, encoding="ascii", errors="replace") as file:
+            return schedule_in(file.read())
+    except OSError:
+        return give_up(f"{os.path.basename(sys.argv[0])}: cannot read {name}", 3)
 
 
 class Moments:
