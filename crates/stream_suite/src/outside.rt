@@ -1,0 +1,121 @@
+//! A sink that shows how many lines it has taken, and gates that hold threads.
+
+use lwc_io::{Failed, Gate, MemorySink, Sink};
+use std::hint::spin_loop;
+use std::sync::Wait;
+use std::sync::atomic::{AtomicBool, AtomicU64, Ordering};
+
+/// How often a thread that is held looks.
+const LOOKS: u32 = 1_000_000_000;
+
+/// A sink in memory that counts the lines that it has taken.
+#[derive(Drop)]
+pub struct CountingSink<'a> {
+    pub sink: MemorySink,
+    pub lines: &'a AtomicU64,
+}
+
+impl<'a> Sink for CountingSink<'a> {
+    ghost use Rattle.std.specs.Prelude.{Some};
+
+    ghost seen = { λ s. record { taken = Some s.sink.bytes; faults = s.sink.faults } };
+
+    /// Writes to the sink in memory, and counts a piece that ends a line.
+    fn write(&mut self, piece: &[u8]) -> Result<usize, Failed> {
+        let count = self.sink.write(piece)?;
+        if piece
+            .get(..count)
+            .is_some_and(|taken| taken.ends_with(b"\n"))
+        {
+            self.lines.fetch_add(1, Ordering::SeqCst);
+        }
+        Ok(count)
+    }
+}
+
+/// A gate that holds the first turn of thread 1 until a sink has taken a line.
+#[derive(Drop)]
+pub struct LineGate {
+    pub lines: AtomicU64,
+    pub ran_out: AtomicBool,
+}
+
+impl LineGate {
+    /// A gate of a sink that has taken no line.
+    pub fn new() -> LineGate {
+        LineGate {
+            lines: AtomicU64::new(0),
+            ran_out: AtomicBool::new(false),
+        }
+    }
+
+    /// Whether the thread that is held looked until its looks ran out.
+    pub fn has_run_out(&self) -> bool {
+        self.ran_out.load(Ordering::SeqCst)
+    }
+}
+
+impl Gate for LineGate {
+    ghost leave = { λ _. Unit {0} };
+
+    /// Holds the first turn of thread 1.
+    fn before<R: Wait>(&self, _rt: &R, thread: u32, turn: u64) {
+        if thread != 1 || turn != 0 {
+            return;
+        }
+        for _look in 0..LOOKS {
+            if self.lines.load(Ordering::SeqCst) > 0 {
+                return;
+            }
+            spin_loop();
+        }
+        self.ran_out.store(true, Ordering::SeqCst);
+    }
+}
+
+/// A gate that holds the first turn of one thread until it has seen another come for its second.
+#[derive(Drop)]
+pub struct HoldingGate {
+    held: u32,
+    awaited: u32,
+    came: AtomicBool,
+    ran_out: AtomicBool,
+}
+
+impl HoldingGate {
+    /// A gate to which nobody has come.
+    pub fn new(held: u32, awaited: u32) -> HoldingGate {
+        HoldingGate {
+            held,
+            awaited,
+            came: AtomicBool::new(false),
+            ran_out: AtomicBool::new(false),
+        }
+    }
+
+    /// Whether the thread that is held looked until its looks ran out.
+    pub fn has_run_out(&self) -> bool {
+        self.ran_out.load(Ordering::SeqCst)
+    }
+}
+
+impl Gate for HoldingGate {
+    ghost leave = { λ _. Unit {0} };
+
+    /// Notes the second turn of the awaited thread, and holds the first turn of the other.
+    fn before<R: Wait>(&self, _rt: &R, thread: u32, turn: u64) {
+        if thread == self.awaited && turn == 1 {
+            self.came.store(true, Ordering::SeqCst);
+        }
+        if thread != self.held || turn != 0 {
+            return;
+        }
+        for _look in 0..LOOKS {
+            if self.came.load(Ordering::SeqCst) {
+                return;
+            }
+            spin_loop();
+        }
+        self.ran_out.store(true, Ordering::SeqCst);
+    }
+}
