@@ -1,10 +1,10 @@
 -- What a context has once it has taken over from another one, and what each other context still has.
-use Rattle.std.proofs.Common.{◌≡◌, ◌≢◌, refl, sym, ap, subst, ◌∙◌, true, List, Some, None, arith}
+use Rattle.std.proofs.Common.{◌≡◌, ◌≢◌, ◌⊎◌, inl, inr, refl, sym, ap, subst, ◌∙◌, true, List, Option, Some, None, arith}
 use Rattle.lwc_base.specs.declared.cell.Cell.{Cell}
 use Rattle.lwc_base.specs.declared.cell.Cell.TheVariants.{Own, Common}
 use Rattle.lwc_base.specs.declared.item.Item.{Item}
 use Rattle.lwc_base.specs.declared.item.Mode.{Mode}
-use Rattle.lwc_base.specs.declared.item.Mode.TheVariants.{Share}
+use Rattle.lwc_base.specs.declared.item.Mode.TheVariants.{Copy, CopyRead, Share, Unmap}
 use Rattle.lwc_base.specs.declared.key.Key.{Key}
 use Rattle.lwc_base.specs.declared.name.Name.{Name}
 use Rattle.lwc_base.specs.Cells.{value_at, value_of}
@@ -16,7 +16,7 @@ use Rattle.lwc_base.specs.Modes.{IsKey, copies, mode, mode_or_copy}
 use Rattle.lwc_base.specs.Overlay.{IsOverlay, overlaid_cell, overlay, with_overlay}
 use Rattle.lwc_base.specs.Sharing.{cloned_cell, is_moved, share}
 use Rattle.lwc_base.specs.World.{World, Context, context, is_live, next_group}
-use Rattle.lwc_base.proofs.Clones.{cell-moves, cloned-copied, named-after}
+use Rattle.lwc_base.proofs.Clones.{cell-moves, cloned-copied, named-after, named-before}
 use Rattle.lwc_base.proofs.Common.{group_of_cell, value_at-cell, value_at-same}
 use Rattle.lwc_base.proofs.Lookups.{changes-change_context}
 use Rattle.lwc_base.proofs.Needs.{needed-key}
@@ -95,3 +95,49 @@ module _ (w v : World) (c d : Name) (items : List Item) (made : IsOverlay w v c 
   overlay-common k is within there =
       let group = common_in k is within there in
       record { group = group.0; live = takes.names.groups group.0 ∙ group.1; first = giver-cell k is ∙ group.2; second = cell-by k Share is ∙ group.2 }
+
+  -- a cell that no item names, and each cell of another context, is as once the values are shared
+  stays_between : (a : Name) (k : Key) → (mode items k ≡ None) ⊎ (a ≢ c) → (context v a).cell k ≡ (context between a).cell k
+  stays_between a k (inl none) =
+      cases_name a c
+      (λ same. ap (λ e. (context v e).cell k) same ∙ cell-overlaid k ∙ ap (λ m. overlaid_cell between d k m ((context between c).cell k)) none ∙ ap (λ e. (context between e).cell k) (sym same))
+      (λ other. ap (λ (x : Context). x.cell k) (takes.others a other))
+  stays_between a k (inr other) = ap (λ (x : Context). x.cell k) (takes.others a other)
+
+  -- a group that a cell names afterwards was named by it before, or is new; where items share, this is said of other contexts alone
+  named_still : (a : Name) (k : Key) (g : Name) → (mode items k ≢ Some Share) ⊎ (a ≢ c) → (context v a).cell k ≡ Common g → (context between a).cell k ≡ Common g
+  named_still a k g (inr other) names = sym (stays_between a k (inr other)) ∙ names
+  named_still a k g (inl unshared) names = cases_name a c (λ same. at_taker same (mode items k) refl) (λ other. sym (stays_between a k (inr other)) ∙ names)
+    where
+      own : (m : Mode) → mode items k ≡ Some m → copies m ≡ true → a ≡ c → (context between a).cell k ≡ Common g
+      own m is copied same = let cell = overlay-copied k m is copied in let taker : (context v c).cell k ≡ Common g = ap (λ e. (context v e).cell k) (sym same) ∙ names in grind arith
+
+      at_taker : a ≡ c → (o : Option Mode) → mode items k ≡ o → (context between a).cell k ≡ Common g
+      at_taker same None is = sym (stays_between a k (inl is)) ∙ names
+      at_taker same (Some Copy) is = own Copy is refl same
+      at_taker same (Some CopyRead) is = own CopyRead is refl same
+      at_taker same (Some Share) is = absurd (unshared is)
+      at_taker same (Some Unmap) is = let cell = cell-by k Unmap is in let taker : (context v c).cell k ≡ Common g = ap (λ e. (context v e).cell k) (sym same) ∙ names in grind arith
+
+  -- what live contexts have apart stays so, but under a key that is shared with one of them
+  pub overlay-keeps_apart : (a b : Name) (k : Key) → is_live w a ≡ true → is_live w b ≡ true → (mode items k ≢ Some Share) ⊎ ((a ≢ c) × (b ≢ c)) → AreApart w a b k → AreApart v a b k
+  overlay-keeps_apart a b k live_a live_b stays apart = record {
+    differ = apart.differ;
+    no_group = λ g one two.
+        let in_a = named_still a k g (elim stays [ | inl unshared ↦ inl unshared | inr others ↦ inr others.0 ]) one in
+        let in_b = named_still b k g (elim stays [ | inl unshared ↦ inl unshared | inr others ↦ inr others.1 ]) two in
+        let old_a = named-not-next w a made.job k g made.fresh in
+        let old_b = named-not-next w b made.job k g made.fresh in
+        let was_a = named-before w d made.job items a k g in_a in
+        let was_b = named-before w d made.job items b k g in_b in
+        grind (arith, cases_name, apart.differ, apart.no_group g, shares.others a, shares.others b);
+  }
+
+  -- what contexts have in common stays so, but under a key that an item names in the one that takes over
+  pub overlay-keeps_common : (a b : Name) (k : Key) → (mode items k ≡ None) ⊎ ((a ≢ c) × (b ≢ c)) → HaveInCommon w a b k → HaveInCommon v a b k
+  overlay-keeps_common a b k stays both = record {
+    group = both.group;
+    live = takes.names.groups both.group ∙ shares.still_live both.group (named-not-next w a made.job k both.group made.fresh both.first) ∙ both.live;
+    first = stays_between a k (elim stays [ | inl none ↦ inl none | inr others ↦ inr others.0 ]) ∙ named-after w d made.job items a k both.group both.first;
+    second = stays_between b k (elim stays [ | inl none ↦ inl none | inr others ↦ inr others.1 ]) ∙ named-after w d made.job items b k both.group both.second;
+  }

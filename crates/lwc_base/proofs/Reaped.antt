@@ -13,6 +13,7 @@ use Rattle.lwc_base.specs.declared.key.Key.{Key}
 use Rattle.lwc_base.specs.declared.key.Key.TheVariants.{Page, Slot, Cred}
 use Rattle.lwc_base.specs.declared.name.Name.{Name}
 use Rattle.lwc_base.specs.Cells.{slot_at, value_at, value_of}
+use Rattle.lwc_base.specs.Clones.{AreApart, HaveInCommon}
 use Rattle.lwc_base.specs.Keys.{ValueOf}
 use Rattle.lwc_base.specs.Life.{IsReaped, is_of, links, is_reached, is_in, names_group, reap, Reaches, Root, Link}
 use Rattle.lwc_base.specs.Modes.{IsKey}
@@ -140,6 +141,22 @@ module _ (w : World) (roots : List Name) where
 
   pub context-kept : (c : Name) → is_live (reap w roots) c ≡ true → context (reap w roots) c ≡ context w c
   context-kept c live = same-context c (live-was_reached c live)
+
+  -- what contexts that are left have apart and in common stays
+  pub reap-apart : (a b : Name) (k : Key) → is_live (reap w roots) a ≡ true → is_live (reap w roots) b ≡ true → AreApart w a b k → AreApart (reap w roots) a b k
+  reap-apart a b k live_a live_b apart = record {
+    differ = apart.differ;
+    no_group = λ g one two. apart.no_group g (ap (λ (x : Context). x.cell k) (sym (context-kept a live_a)) ∙ one) (ap (λ (x : Context). x.cell k) (sym (context-kept b live_b)) ∙ two);
+  }
+
+  pub reap-common : (a b : Name) (k : Key) → IsKey w.size.pages k → is_live (reap w roots) a ≡ true → is_live (reap w roots) b ≡ true → HaveInCommon w a b k →
+      HaveInCommon (reap w roots) a b k
+  reap-common a b k within live_a live_b both = record {
+    group = both.group;
+    live = group-left a both.group k within live_a both.first both.live;
+    first = ap (λ (x : Context). x.cell k) (context-kept a live_a) ∙ both.first;
+    second = ap (λ (x : Context). x.cell k) (context-kept b live_b) ∙ both.second;
+  }
 
   pub group-kept : (g : Name) → fm.contains_key (reap w roots).groups g ≡ true → group (reap w roots) g ≡ group w g
   group-kept g live = same-group g (was_reached (named g) (fm.get w.groups g) (sym (ap is_some (get-group g)) ∙ live))
