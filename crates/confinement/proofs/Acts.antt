@@ -35,7 +35,7 @@ use Rattle.lwc_overlay.specs.RestrictCall.{IsRestriction}
 use Rattle.lwc_switch.specs.Switch as switching
 use Rattle.guest_call.specs.Guest.{with_answer}
 use Rattle.lwc_syscall.specs.Changes.{holder}
-use Rattle.lwc_syscall.specs.Plain.{plain}
+use Rattle.lwc_syscall.specs.Plain.{plain, plain_call}
 use Rattle.lwc_syscall.specs.Syscall as syscalls
 use Rattle.lwc_syscall.specs.Syscall.{inner_args, inner_call, link, mask_in, taken_from, targets_of}
 use Rattle.res_spec.specs.declared.items.SpecCall.TheVariants as call
@@ -189,14 +189,14 @@ module _ (m : Machine) (t : ℕ) (x : Thread) (found : slice_get m.threads t ≡
   one_holder Cred = refl
 
   pub plainly : HasItsContexts w → HasItsFiles m.environment.channels w → (number : ℕ) → MakesCall m t x number →
-      Allowed (plain w m.environment.channels (three_times c) x.job number (args_of regs)).world
+      Allowed (plain w m.environment.channels (three_times c) x.job (plain_call number) (args_of regs)).world
   plainly named files number calls = record {
     confines =
         plain_on r w sound.groups m.environment.channels (three_times c) x.job
         (record { memory = live; slots = live; cred = live; each = λ k key. subst (λ (n : Name). MayChange m t n k) (sym (one_holder k)) (own k); had = stood }) _ _
-        (does-one_thing w m.environment.channels (three_times c) x.job number (args_of regs) named files live);
-    read_only = left_plain w Shares Replaces _ (three_times c) number (args_of regs) (λ p maps. ByMapping x number p calls maps)
-        (plain_keeps w m.environment.channels (three_times c) x.job number (args_of regs));
+        (does-one_thing w m.environment.channels (three_times c) x.job (plain_call number) (args_of regs) named files live);
+    read_only = left_plain w Shares Replaces _ (three_times c) (plain_call number) (args_of regs) (λ p maps. ByMapping x number p calls maps)
+        (plain_keeps w m.environment.channels (three_times c) x.job (plain_call number) (args_of regs));
   }
 
   -- of three contexts that a mask chooses

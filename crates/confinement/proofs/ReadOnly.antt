@@ -23,6 +23,7 @@ use Rattle.lwc_base.specs.Store.{Done, Piece, store}
 use Rattle.lwc_base.specs.World.{World, Context, context, is_live, next_context, next_group}
 use Rattle.lwc_syscall.specs.Changes.{IsMapped, KeepsReadOnly, maps_page}
 use Rattle.lwc_syscall.specs.declared.calls.CallContexts.{CallContexts}
+use Rattle.lwc_syscall.specs.declared.plain_call.PlainCall.{PlainCall}
 use Rattle.confinement.specs.Confined.{IsLeftToRead}
 use Rattle.confinement.proofs.Decide.{name_or_not, value_same}
 use Rattle.guest_call.proofs.Changes.{saving}
@@ -81,7 +82,7 @@ module _ (w : World) (Shared May : Name → ℕ → Type 0) where
       inl (here v e p value own (store-kept w v c job piece is e p value read own) (store-right w v c job piece is e p ∙ read))
 
   -- a plain call leaves such pages, where those that it maps may be replaced
-  pub left_plain : (v : World) (targets : CallContexts) (call : ℕ) (args : List ℕ) → ((p : ℕ) → maps_page call args p ≡ true → May targets.memory p) →
+  pub left_plain : (v : World) (targets : CallContexts) (call : Option PlainCall) (args : List ℕ) → ((p : ℕ) → maps_page call args p ≡ true → May targets.memory p) →
       KeepsReadOnly w v (IsMapped targets call args) → LeavesToRead w v Shared May
   left_plain v targets call args may keeps e p value live own read = elim (name_or_not e targets.memory) [
     | inr other ↦ let kept = keeps e p value (λ is. other is.0) own read in inl (here v e p value own kept.0 kept.1)

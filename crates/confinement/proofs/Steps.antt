@@ -39,7 +39,7 @@ use Rattle.lwc_overlay.specs.RestrictCall as restricting
 use Rattle.lwc_overlay.specs.RestrictCall.{IsRestriction}
 use Rattle.lwc_switch.specs.Switch.{IsSwitch, switch}
 use Rattle.lwc_syscall.specs.Plain as plains
-use Rattle.lwc_syscall.specs.Plain.{plain, refused_or}
+use Rattle.lwc_syscall.specs.Plain.{plain, refused_or, plain_call}
 use Rattle.lwc_syscall.specs.Syscall as syscalls
 use Rattle.lwc_syscall.specs.Syscall.{inner_args, inner_call, lw_syscall, targets_of}
 use Rattle.confinement.proofs.Acts.{IsAllowed, chosen, created, overlaid, plainly, restricts, same, stored, switched}
@@ -189,7 +189,7 @@ module _ (m : Machine) (t : ℕ) (x : Thread) (found : slice_get m.threads t ≡
           ] refl
 
       plain_world : eqb number LW_CREATE ≡ false → eqb number LW_SWITCH ≡ false → eqb number LW_RESTRICT ≡ false → eqb number LW_OVERLAY ≡ false → eqb number LW_SYSCALL ≡ false →
-          world_by number ≡ (plain w m.environment.channels (three_times x.context) x.job number (args_of regs)).world
+          world_by number ≡ (plain w m.environment.channels (three_times x.context) x.job (plain_call number) (args_of regs)).world
       plain_world a b c d e = ap (λ (o : Outcome). o.environment.world) (last_row number t m.environment y a b c d e)
 
   -- a call of any number

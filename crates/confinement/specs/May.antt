@@ -28,6 +28,7 @@ use Rattle.lwc_create.specs.Create as create
 use Rattle.lwc_overlay.specs.Named.{items_of}
 use Rattle.lwc_syscall.specs.Changes.{maps_page}
 use Rattle.lwc_syscall.specs.Syscall.{inner_args, inner_call, mask_in, targets_of}
+use Rattle.lwc_syscall.specs.Plain.{plain_call}
 use Rattle.confinement.specs.One.{IsOneValue}
 use Rattle.res_spec.specs.declared.items.SpecCall.TheVariants as call
 
@@ -80,7 +81,7 @@ pub data MayShare (m : Machine) (t : ℕ) : Name → ℕ → Type 0 where
 -- thread's own context names it
 pub data MayReplace (m : Machine) (t : ℕ) : Name → ℕ → Type 0 where
   ByMapping : (x : Thread) (number p : ℕ) → MakesCall m t x number →
-      maps_page number (args_of (regs_at m x)) p ≡ true → MayReplace m t x.context p
+      maps_page (plain_call number) (args_of (regs_at m x)) p ≡ true → MayReplace m t x.context p
   ByMappingFor : (x : Thread) (p : ℕ) → MakesCall m t x LW_SYSCALL →
       maps_page (inner_call (regs_at m x)) (inner_args (regs_at m x)) p ≡ true →
       MayReplace m t (targets_of (world_of m) x.context (regs_at m x)).memory p

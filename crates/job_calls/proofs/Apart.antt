@@ -37,6 +37,7 @@ use Rattle.lwc_syscall.specs.Plain as calls
 use Rattle.lwc_syscall.specs.Syscall as syscalls
 use Rattle.lwc_syscall.specs.declared.answer.CallAnswer.{CallAnswer}
 use Rattle.lwc_syscall.specs.declared.calls.CallContexts.{CallContexts}
+use Rattle.lwc_syscall.specs.declared.plain_call.PlainCall.{PlainCall}
 use Rattle.res_spec.specs.declared.items.SpecCall.TheVariants as spec_call
 use Rattle.job_view.proofs.Keeping.{changes-hidden, changes-keep}
 
@@ -188,7 +189,7 @@ module _ (home : Home) where
         (subst (λ j. LeavesOthers home j (world_after w (store_at w targets.memory own at bytes)) (put_slot (world_after w (store_at w targets.memory own at bytes)) targets.slots n (read_on (length bytes) value))) of.slots
         (leaves_slot targets.slots _ (λ none. some (sym of.slots ∙ none)) stored.kept n (read_on (length bytes) value) (read_fits targets.slots.job (length bytes) value (slot_of n)))))
 
-    pub plain-leaves : (call : ℕ) (args : List ℕ) → LeavesOthers home own w (plain w io targets own call args).world
+    pub plain-leaves : (call : Option PlainCall) (args : List ℕ) → LeavesOthers home own w (plain w io targets own call args).world
     unfolding Leaves calls.writing
     plain-leaves call args =
         let same : LeavesOthers home own w w = record { kept = keeps; hidden = λ job t other. refl } in
@@ -232,7 +233,7 @@ module _ (home : Home) where
     unfolding Same
     writes_io answer v value bytes fits = written_same value bytes fits
 
-    plain_same : (call : ℕ) (args : List ℕ) → Same (plain w io targets own call args)
+    plain_same : (call : Option PlainCall) (args : List ℕ) → Same (plain w io targets own call args)
     unfolding calls.reading calls.writing
     plain_same call args =
         let fits : IsSlotOf own (descriptor_for w targets.slots (slice_index args 0)) =
@@ -250,7 +251,7 @@ module _ (home : Home) where
           refuses = search keeps_io;
         })
 
-    pub plain-same : (call : ℕ) (args : List ℕ) → channel_view r (plain w io targets own call args).io ≡ channel_view r io
+    pub plain-same : (call : Option PlainCall) (args : List ℕ) → channel_view r (plain w io targets own call args).io ≡ channel_view r io
     unfolding Same
     plain-same call args = plain_same call args
 

@@ -1,5 +1,5 @@
 -- Only a read is refused for want of frames, where there are fewer than its bytes need.
-use Rattle.std.proofs.Common.{◌≡◌, ◌≢◌, ℕ, ◌+◌, ◌*◌, ◌<◌, refl, ap, ◌∙◌, Bool, true, false, cond, eqb, Some, List, [], ◌∷◌, length, arith}
+use Rattle.std.proofs.Common.{◌≡◌, ◌≢◌, ℕ, ◌+◌, ◌*◌, ◌<◌, refl, ap, ◌∙◌, Bool, true, false, cond, eqb, Some, List, [], ◌∷◌, length, arith, Option}
 use Rattle.std.proofs.lemmas.Bool.Decides.{nat_tests}
 use Rattle.std.specs.List.{AllByRecursion}
 use Rattle.std.specs.Prelude.{nat_le, nat_lt, not, slice_index}
@@ -24,6 +24,8 @@ use Rattle.lwc_syscall.specs.Plain as calls
 use Rattle.lwc_syscall.specs.Syscall as syscalls
 use Rattle.lwc_syscall.specs.declared.answer.CallAnswer.TheVariants.{Refused, Value}
 use Rattle.lwc_syscall.specs.declared.calls.CallContexts.{CallContexts}
+use Rattle.lwc_syscall.specs.declared.plain_call.PlainCall.{PlainCall}
+use Rattle.lwc_syscall.specs.declared.plain_call.PlainCall.TheVariants as plain_calls
 
 -- no row of a table means this refusal
 abbrev pub NoneIs : Refusal → List (Bool × Refusal) → Type 0
@@ -75,17 +77,17 @@ module _ (w : World) (m : Name) (job : ℕ) where
       by_tests false true is = store_full (record { at = from; bytes = bytes }) is
       by_tests false false is = cc
 
-module _ (w : World) (io : Channels) (targets : CallContexts) (job call : ℕ) (args : List ℕ) where
+module _ (w : World) (io : Channels) (targets : CallContexts) (job : ℕ) (call : Option PlainCall) (args : List ℕ) where
   -- an outcome that is no such refusal, or has the reason for it
   HasReason : Outcome → Type 0
-  HasReason outcome = outcome.answer ≡ Refused NoFrame → (call ≡ 4) × (w.size.frames < used w + parting_count w targets.memory (read_piece w io targets args))
+  HasReason outcome = outcome.answer ≡ Refused NoFrame → (call ≡ Some plain_calls.Read) × (w.size.frames < used w + parting_count w targets.memory (read_piece w io targets args))
 
   end_reason : (rows : List (Bool × Refusal)) → NoneIs NoFrame rows → (n : ℕ) (v : World) (after : Channels) → HasReason (refused_or w io (record { answer = Value n; world = v; io = after }) (first_refusal rows))
   unfolding HasReason
   end_reason rows none n v after =
       by_refusal HasReason w io (record { answer = Value n; world = v; io = after }) (first_refusal rows) (λ refusal first is. absurd (not_first NoFrame rows none (first ∙ ap Some (refused_is refusal is)))) (λ first is. cc)
 
-  read_reason : call ≡ 4 → HasReason (calls.reading w io targets job (slice_index args 0) (slice_index args 1) (slice_index args 2))
+  read_reason : call ≡ Some plain_calls.Read → HasReason (calls.reading w io targets job (slice_index args 0) (slice_index args 1) (slice_index args 2))
   unfolding HasReason calls.reading
   read_reason four =
       let value = descriptor_for w targets.slots (slice_index args 0) in
@@ -98,7 +100,7 @@ module _ (w : World) (io : Channels) (targets : CallContexts) (job call : ℕ) (
       ))
       (λ first is. cc)
 
-  pub plain-reason : (plain w io targets job call args).answer ≡ Refused NoFrame → (call ≡ 4) × (w.size.frames < used w + parting_count w targets.memory (read_piece w io targets args))
+  pub plain-reason : (plain w io targets job call args).answer ≡ Refused NoFrame → (call ≡ Some plain_calls.Read) × (w.size.frames < used w + parting_count w targets.memory (read_piece w io targets args))
   unfolding HasReason calls.writing
   plain-reason =
       let arg = slice_index args in
@@ -116,10 +118,10 @@ module _ (w : World) (io : Channels) (targets : CallContexts) (job call : ℕ) (
       })
 
 pub syscall-reason : (w : World) (io : Channels) (c : Name) (job : ℕ) (regs : Regs) → (syscalls.lw_syscall w io c job regs).answer ≡ Refused NoFrame →
-    (syscalls.inner_call regs ≡ 4) × (w.size.frames < used w + parting_count w (syscalls.targets_of w c regs).memory (read_piece w io (syscalls.targets_of w c regs) (syscalls.inner_args regs)))
+    (syscalls.inner_call regs ≡ Some plain_calls.Read) × (w.size.frames < used w + parting_count w (syscalls.targets_of w c regs).memory (read_piece w io (syscalls.targets_of w c regs) (syscalls.inner_args regs)))
 unfolding syscalls.lw_syscall syscalls.refusals slot_refusals
 syscall-reason w io c job regs =
-    by_refusal (λ outcome. outcome.answer ≡ Refused NoFrame → (syscalls.inner_call regs ≡ 4)
+    by_refusal (λ outcome. outcome.answer ≡ Refused NoFrame → (syscalls.inner_call regs ≡ Some plain_calls.Read)
     × (w.size.frames < used w + parting_count w (syscalls.targets_of w c regs).memory (read_piece w io (syscalls.targets_of w c regs) (syscalls.inner_args regs))))
     w io _ (first_refusal (syscalls.refusals w c regs))
     (λ refusal first is. absurd (not_first NoFrame (syscalls.refusals w c regs) ((λ e. cc), ((λ e. cc), ((λ e. cc), ((λ e. cc), ((λ e. cc), tt))))) (first ∙ ap Some (refused_is refusal is))))

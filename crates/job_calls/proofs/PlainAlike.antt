@@ -36,6 +36,7 @@ use Rattle.lwc_syscall.specs.Plain as calls
 use Rattle.lwc_syscall.specs.Syscall as syscalls
 use Rattle.lwc_syscall.specs.declared.answer.CallAnswer.TheVariants.{Value}
 use Rattle.lwc_syscall.specs.declared.calls.CallContexts.{CallContexts}
+use Rattle.lwc_syscall.specs.declared.plain_call.PlainCall.{PlainCall}
 use Rattle.job_view.proofs.Together.{answers-alike, changes-alike}
 
 -- two stores end alike, or one of them finds too few frames
@@ -246,7 +247,7 @@ module _ (home : Home) (r t s : ℕ) (targets : CallContexts) (w v : World) (io 
       by_first _ _ _ _ (ap first_refusal (λ i. (is_empty (value_alike n i), BadFd) ∷ (is_none (slots i), NoSlot) ∷ []))
       (λ one two. placed_alike _ _ (value_alike n) (value_fits n))
 
-  pub plain-alike : (call : ℕ) (args : List ℕ) → EndAlike (plain w io targets (r + 1) call args) (plain v other targets (r + 1) call args)
+  pub plain-alike : (call : Option PlainCall) (args : List ℕ) → EndAlike (plain w io targets (r + 1) call args) (plain v other targets (r + 1) call args)
   plain-alike call args =
       all_calls EndAlike w v io other targets (r + 1) call args (record {
         opens = opens_alike (slice_index args 0);
@@ -285,7 +286,7 @@ module _ (home : Home) (r t s : ℕ) (c : Name) (w v : World) (io other : Channe
       slot_refusals-alike home t s c w v of_caller (slice_index regs.r 1) i
       ++ ((nat_lt 7 (syscalls.mask_in regs), BadMode)
       ∷ (not (has_kinds (pages i) (links i).1 (syscalls.mask_in regs)), NotCovered)
-      ∷ (nat_lt (syscalls.inner_call regs) 1 || nat_lt 9 (syscalls.inner_call regs), BadCall) ∷ [])
+      ∷ (nat_lt (syscalls.inner_number regs) 1 || nat_lt 9 (syscalls.inner_number regs), BadCall) ∷ [])
 
   pub syscall-alike : HasFrames (syscalls.lw_syscall w io c (r + 1) regs) → HasFrames (syscalls.lw_syscall v other c (r + 1) regs) →
       OutcomesAlike home r t s (syscalls.lw_syscall w io c (r + 1) regs) (syscalls.lw_syscall v other c (r + 1) regs)

@@ -1,4 +1,4 @@
--- Plain calls, taken apart: what is so of each by its number is so of all; and how their tables of refusals end.
+-- Plain calls, taken apart: what is so of each is so of all; and how their tables of refusals end.
 use Rattle.std.proofs.Common.{◌≡◌, ◌≢◌, ℕ, zero, suc, ◌+◌, ◌*◌, refl, ap, Bool, true, false, cond, eqb, Option, Some, None, List, [], ◌∷◌, length}
 use Rattle.std.specs.Prelude.{nat_le, nat_lt, not, slice_get, slice_index, slice_set}
 use Rattle.std.proofs.lemmas.Bool.{eqb-true}
@@ -17,18 +17,15 @@ use Rattle.lwc_base.specs.declared.refusal.Refusal.TheVariants.{BadCall}
 use Rattle.lwc_syscall.specs.Plain.{Outcome, answering, becoming, closing, copying, mapping, opening, plain, reading, refused_or, store_at, writing}
 use Rattle.lwc_syscall.specs.declared.answer.CallAnswer.TheVariants.{Exit, Refused}
 use Rattle.lwc_syscall.specs.declared.calls.CallContexts.{CallContexts}
+use Rattle.lwc_syscall.specs.declared.plain_call.PlainCall.{PlainCall}
+use Rattle.lwc_syscall.specs.declared.plain_call.PlainCall.TheVariants as plain_calls
 
--- two outcomes by the same test
-pub by_test : (R : Outcome → Outcome → Type 0) (b : Bool) (x y u v : Outcome) → (b ≡ true → R x u) → (b ≡ false → R y v) → R (cond b x y) (cond b u v)
-by_test R true x y u v first second = first refl
-by_test R false x y u v first second = second refl
-
--- what is so of each plain call in two worlds, by its number, is so of all
-pub record EachCall (R : Outcome → Outcome → Type 0) (w v : World) (io other : Channels) (targets : CallContexts) (job call : ℕ) (args : List ℕ) : Type 0 where
+-- what is so of each plain call in two worlds is so of all
+pub record EachCall (R : Outcome → Outcome → Type 0) (w v : World) (io other : Channels) (targets : CallContexts) (job : ℕ) (call : Option PlainCall) (args : List ℕ) : Type 0 where
   pub opens : R (opening w io targets (slice_index args 0)) (opening v other targets (slice_index args 0))
   pub closes : R (closing w io targets.slots (slice_index args 0)) (closing v other targets.slots (slice_index args 0))
   pub copies : R (copying w io targets.slots (slice_index args 0)) (copying v other targets.slots (slice_index args 0))
-  pub reads : call ≡ 4 → R (reading w io targets job (slice_index args 0) (slice_index args 1) (slice_index args 2)) (reading v other targets job (slice_index args 0) (slice_index args 1) (slice_index args 2))
+  pub reads : call ≡ Some plain_calls.Read → R (reading w io targets job (slice_index args 0) (slice_index args 1) (slice_index args 2)) (reading v other targets job (slice_index args 0) (slice_index args 1) (slice_index args 2))
   pub writes : R (writing w io targets (slice_index args 0) (slice_index args 1) (slice_index args 2)) (writing v other targets (slice_index args 0) (slice_index args 1) (slice_index args 2))
   pub maps : (present : Bool) → R (mapping w io targets.memory (slice_index args 0) (slice_index args 1) present) (mapping v other targets.memory (slice_index args 0) (slice_index args 1) present)
   pub tells : R (answering (uid_at w targets.cred) w io) (answering (uid_at v targets.cred) v other)
@@ -36,20 +33,20 @@ pub record EachCall (R : Outcome → Outcome → Type 0) (w v : World) (io other
   pub exits : R (record { answer = Exit (slice_index args 0); world = w; io = io }) (record { answer = Exit (slice_index args 0); world = v; io = other })
   pub refuses : R (record { answer = Refused BadCall; world = w; io = io }) (record { answer = Refused BadCall; world = v; io = other })
 
-pub all_calls : (R : Outcome → Outcome → Type 0) (w v : World) (io other : Channels) (targets : CallContexts) (job call : ℕ) (args : List ℕ) → EachCall R w v io other targets job call args →
-    R (plain w io targets job call args) (plain v other targets job call args)
+pub all_calls : (R : Outcome → Outcome → Type 0) (w v : World) (io other : Channels) (targets : CallContexts) (job : ℕ) (call : Option PlainCall) (args : List ℕ) →
+    EachCall R w v io other targets job call args → R (plain w io targets job call args) (plain v other targets job call args)
 unfolding plain
-all_calls R w v io other targets job call args each =
-    by_test R (eqb call 1) _ _ _ _ (λ _. each.opens)
-    (λ _. by_test R (eqb call 2) _ _ _ _ (λ _. each.closes)
-    (λ _. by_test R (eqb call 3) _ _ _ _ (λ _. each.copies)
-    (λ _. by_test R (eqb call 4) _ _ _ _ (λ is. each.reads (eqb-true call 4 is))
-    (λ _. by_test R (eqb call 5) _ _ _ _ (λ _. each.writes)
-    (λ _. by_test R (eqb call 6) _ _ _ _ (λ _. each.maps true)
-    (λ _. by_test R (eqb call 7) _ _ _ _ (λ _. each.maps false)
-    (λ _. by_test R (eqb call 8) _ _ _ _ (λ _. each.tells)
-    (λ _. by_test R (eqb call 9) _ _ _ _ (λ _. each.becomes)
-    (λ _. by_test R (eqb call 10) _ _ _ _ (λ _. each.exits) (λ _. each.refuses))))))))))
+all_calls R w v io other targets job None args each = each.refuses
+all_calls R w v io other targets job (Some plain_calls.Open) args each = each.opens
+all_calls R w v io other targets job (Some plain_calls.Close) args each = each.closes
+all_calls R w v io other targets job (Some plain_calls.Dup) args each = each.copies
+all_calls R w v io other targets job (Some plain_calls.Read) args each = each.reads refl
+all_calls R w v io other targets job (Some plain_calls.Write) args each = each.writes
+all_calls R w v io other targets job (Some plain_calls.Map) args each = each.maps true
+all_calls R w v io other targets job (Some plain_calls.Unmap) args each = each.maps false
+all_calls R w v io other targets job (Some plain_calls.GetUid) args each = each.tells
+all_calls R w v io other targets job (Some plain_calls.SetUid) args each = each.becomes
+all_calls R w v io other targets job (Some plain_calls.Exit) args each = each.exits
 
 -- what is so of a refusal, and of the call where it is done, is so of its end
 pub by_refusal : (P : Outcome → Type 0) (w : World) (io : Channels) (done : Outcome) (first : Option Refusal) → ((refusal : Refusal) → first ≡ Some refusal → P (record { answer = Refused refusal; world = w; io = io })) →

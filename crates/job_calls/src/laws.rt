@@ -1,6 +1,6 @@
 //! Laws of calls as one job sees them: functions with empty bodies, each with a contract that is the law.
 
-ghost use Rattle.std.specs.Prelude.{◌≡◌, ◌≢◌, ◌<◌, ◌+◌, ℕ, List};
+ghost use Rattle.std.specs.Prelude.{◌≡◌, ◌≢◌, ◌<◌, ◌+◌, ℕ, List, Option, Some};
 ghost use Rattle.job_calls.specs.Ends.{AreOf, EndsAlike, HasFrames, OutcomesAlike, read_piece};
 ghost use Rattle.job_view.specs.ByJob.{Home, KeepsJobs, LooksAlike, by_job};
 ghost use Rattle.job_view.specs.Views.{channel_view, view};
@@ -21,6 +21,8 @@ ghost use Rattle.lwc_syscall.specs.Plain.{plain};
 ghost use Rattle.lwc_syscall.specs.Syscall.{inner_args, inner_call, lw_syscall, targets_of};
 ghost use Rattle.lwc_syscall.specs.declared.answer.CallAnswer.TheVariants.{Refused};
 ghost use Rattle.lwc_syscall.specs.declared.calls.CallContexts.{CallContexts};
+ghost use Rattle.lwc_syscall.specs.declared.plain_call.PlainCall.{PlainCall};
+ghost use Rattle.lwc_syscall.specs.declared.plain_call.PlainCall.TheVariants as plain_calls;
 ghost use Rattle.snapshot_host.specs.Begin.{begin, begun_context};
 
 /// A call does the same in two worlds that look alike to its job: it gives the same answer, and leaves worlds
@@ -38,7 +40,8 @@ pub fn calls_do_the_same_in_worlds_that_look_alike()
     ensures overlay { (home : Home) (t s : ℕ) (c : Name) (w v : World) (regs : Regs) →
         LooksAlike home c.job t s w v →
         EndsAlike home c.job t s (overlay w c c.job regs) (overlay v c c.job regs) }
-    ensures plain { (home : Home) (r t s : ℕ) (targets : CallContexts) (w v : World) (io other : Channels) (call : ℕ)
+    ensures plain { (home : Home) (r t s : ℕ) (targets : CallContexts) (w v : World) (io other : Channels)
+        (call : Option PlainCall)
         (args : List ℕ) → AreOf (r + 1) targets → LooksAlike home (r + 1) t s w v →
         channel_view r io ≡ channel_view r other → HasFrames (plain w io targets (r + 1) call args) →
         HasFrames (plain v other targets (r + 1) call args) →
@@ -65,7 +68,8 @@ pub fn calls_keep_each_job_what_is_its_own()
         KeepsJobs home (restrict w c regs).1 }
     ensures overlay { (home : Home) (c : Name) (w : World) (regs : Regs) → c.job ≢ 0 → KeepsJobs home w →
         KeepsJobs home (overlay w c c.job regs).1 }
-    ensures plain { (home : Home) (job : ℕ) (targets : CallContexts) (w : World) (io : Channels) (call : ℕ)
+    ensures plain { (home : Home) (job : ℕ) (targets : CallContexts) (w : World) (io : Channels)
+        (call : Option PlainCall)
         (args : List ℕ) → job ≢ 0 → AreOf job targets → KeepsJobs home w →
         KeepsJobs home (plain w io targets job call args).world }
     ensures syscall { (home : Home) (c : Name) (w : World) (io : Channels) (regs : Regs) → c.job ≢ 0 →
@@ -85,10 +89,12 @@ pub fn no_job_sees_calls_of_another_one()
         c.job ≢ job → KeepsJobs home w → view job t (restrict w c regs).1 ≡ view job t w }
     ensures overlay { (home : Home) (job t : ℕ) (c : Name) (w : World) (regs : Regs) → c.job ≢ 0 →
         c.job ≢ job → KeepsJobs home w → view job t (overlay w c c.job regs).1 ≡ view job t w }
-    ensures plain { (home : Home) (own job t : ℕ) (targets : CallContexts) (w : World) (io : Channels) (call : ℕ)
+    ensures plain { (home : Home) (own job t : ℕ) (targets : CallContexts) (w : World) (io : Channels)
+        (call : Option PlainCall)
         (args : List ℕ) → own ≢ 0 → own ≢ job → AreOf own targets → KeepsJobs home w →
         view job t (plain w io targets own call args).world ≡ view job t w }
-    ensures plain_channels { (home : Home) (own r : ℕ) (targets : CallContexts) (w : World) (io : Channels) (call : ℕ)
+    ensures plain_channels { (home : Home) (own r : ℕ) (targets : CallContexts) (w : World) (io : Channels)
+        (call : Option PlainCall)
         (args : List ℕ) → own ≢ r + 1 → AreOf own targets → KeepsJobs home w →
         channel_view r (plain w io targets own call args).io ≡ channel_view r io }
     ensures syscall { (home : Home) (job t : ℕ) (c : Name) (w : World) (io : Channels) (regs : Regs) →
@@ -103,11 +109,12 @@ pub fn no_job_sees_calls_of_another_one()
 
 /// A call is refused for want of frames only where it is a read whose bytes need more than there are.
 pub fn a_read_alone_wants_frames()
-    ensures plain { (w : World) (io : Channels) (targets : CallContexts) (job call : ℕ) (args : List ℕ) →
-        (plain w io targets job call args).answer ≡ Refused NoFrame → (call ≡ 4)
+    ensures plain { (w : World) (io : Channels) (targets : CallContexts) (job : ℕ)
+        (call : Option PlainCall) (args : List ℕ) →
+        (plain w io targets job call args).answer ≡ Refused NoFrame → (call ≡ Some plain_calls.Read)
         × (w.size.frames < used w + parting_count w targets.memory (read_piece w io targets args)) }
     ensures syscall { (w : World) (io : Channels) (c : Name) (job : ℕ) (regs : Regs) →
-        (lw_syscall w io c job regs).answer ≡ Refused NoFrame → (inner_call regs ≡ 4)
+        (lw_syscall w io c job regs).answer ≡ Refused NoFrame → (inner_call regs ≡ Some plain_calls.Read)
         × (w.size.frames < used w + parting_count w (targets_of w c regs).memory
         (read_piece w io (targets_of w c regs) (inner_args regs))) }
 {}

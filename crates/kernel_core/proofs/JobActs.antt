@@ -30,7 +30,7 @@ use Rattle.lwc_switch.specs.Switch.{switch}
 use Rattle.lwc_syscall.specs.Changes.{IsWell}
 use Rattle.lwc_syscall.specs.declared.answer.CallAnswer.{CallAnswer}
 use Rattle.lwc_syscall.specs.declared.answer.CallAnswer.TheVariants as call_answers
-use Rattle.lwc_syscall.specs.Plain.{plain}
+use Rattle.lwc_syscall.specs.Plain.{plain, plain_call}
 use Rattle.lwc_syscall.specs.Syscall.{lw_syscall}
 
 -- an outcome stays in its thread's job
@@ -115,8 +115,8 @@ module _ (e : Environment) (x : Thread) (names : NamesKeepToJobs e.world) (well 
       (local_chosen (eqb number LW_OVERLAY) (overlay_outcome e x) _ local_overlay
       (local_chosen (eqb number LW_SYSCALL) (syscall_outcome e x) (plain_outcome number e x)
       (local_plainly (beside (lw_syscall e.world e.channels x.context x.job x.regs).world (lw_syscall e.world e.channels x.context x.job x.regs).io) _ (stays_syscalled x.context e.world live names e.channels well x.job ours x.regs))
-      (local_plainly (beside (plain e.world e.channels (record { memory = x.context; slots = x.context; cred = x.context }) x.job number (args_of x.regs)).world (plain e.world e.channels (record { memory = x.context; slots = x.context; cred = x.context }) x.job number (args_of x.regs)).io) _
-      (stays_plain_here x.context e.world live names e.channels well x.job ours number (args_of x.regs)))))))
+      (local_plainly (beside (plain e.world e.channels (record { memory = x.context; slots = x.context; cred = x.context }) x.job (plain_call number) (args_of x.regs)).world (plain e.world e.channels (record { memory = x.context; slots = x.context; cred = x.context }) x.job (plain_call number) (args_of x.regs)).io) _
+      (stays_plain_here x.context e.world live names e.channels well x.job ours (plain_call number) (args_of x.regs)))))))
 
   module _ (calls : Calls) (local : AllLocal calls) where
     local_shared : (t : ℕ) (i : Instr) (op : Op) → IsLocal e x (shared_outcome calls t e x i op)

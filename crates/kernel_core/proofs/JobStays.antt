@@ -60,6 +60,7 @@ use Rattle.lwc_overlay.proofs.Accepted.{restriction, taken}
 use Rattle.lwc_switch.proofs.Accepted.{accepted}
 use Rattle.lwc_syscall.proofs.Does.{does-one_thing}
 use Rattle.lwc_syscall.proofs.Syscalls.{allowed}
+use Rattle.lwc_syscall.specs.declared.plain_call.PlainCall.{PlainCall}
 
 -- a change leaves the contexts of other names than one, and the counters of other jobs
 record Leaves (c : Name) (job : ℕ) (w v : World) : Type 0 where
@@ -317,7 +318,7 @@ module _ (c : Name) (w : World) (live : is_live w c ≡ true) (keeps : NamesKeep
     pub stays_syscalled : (job : ℕ) → c.job ≡ job → (regs : Regs) → StaysInJob job w (lw_syscall w io c job regs).world
     stays_syscalled job ours regs = subst (λ (j : ℕ). StaysInJob j w (lw_syscall w io c j regs).world) ours (syscalled_here regs)
 
-    pub stays_plain_here : (job : ℕ) → c.job ≡ job → (call : ℕ) (args : List ℕ) → StaysInJob job w (plain w io (record { memory = c; slots = c; cred = c }) job call args).world
+    pub stays_plain_here : (job : ℕ) → c.job ≡ job → (call : Option PlainCall) (args : List ℕ) → StaysInJob job w (plain w io (record { memory = c; slots = c; cred = c }) job call args).world
     stays_plain_here job ours call args =
         stays_plain (record { memory = c; slots = c; cred = c }) job w io _ _ ours ours ours (does-one_thing w io (record { memory = c; slots = c; cred = c }) job call args well.named well.files live) keeps
 

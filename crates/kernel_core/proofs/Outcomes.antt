@@ -40,7 +40,7 @@ use Rattle.lwc_overlay.specs.RestrictCall.{IsRestriction}
 use Rattle.lwc_switch.specs.Switch as switching
 use Rattle.lwc_switch.specs.Switch.{IsSwitch, switch}
 use Rattle.lwc_syscall.specs.Changes.{IsPlainChange, IsWell}
-use Rattle.lwc_syscall.specs.Plain.{plain}
+use Rattle.lwc_syscall.specs.Plain.{plain, plain_call}
 use Rattle.lwc_syscall.specs.Syscall.{lw_syscall}
 use Rattle.lwc_syscall.specs.declared.answer.CallAnswer.{CallAnswer}
 use Rattle.lwc_syscall.specs.declared.answer.CallAnswer.TheVariants.{Value, Exit}
@@ -272,10 +272,10 @@ acts_plainly e f x (call_answers.Refused r) changes = record {
 
 acts_plain : (number : ℕ) (e : Environment) (x : Thread) → Acts e x (plain_outcome number e x)
 acts_plain number e x =
-    let ended = plain e.world e.channels (three_times x.context) x.job number (args_of x.regs) in
+    let ended = plain e.world e.channels (three_times x.context) x.job (plain_call number) (args_of x.regs) in
     acts_plainly e (beside ended.world ended.io) x ended.answer
     (λ well live. plain_changes e (beside ended.world ended.io) x.job (three_times x.context)
-    (does-one_thing e.world e.channels (three_times x.context) x.job number (args_of x.regs) well.named well.files live) well live)
+    (does-one_thing e.world e.channels (three_times x.context) x.job (plain_call number) (args_of x.regs) well.named well.files live) well live)
 
 acts_syscall : (e : Environment) (x : Thread) → Acts e x (syscall_outcome e x)
 acts_syscall e x =

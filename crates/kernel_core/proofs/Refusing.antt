@@ -24,7 +24,7 @@ use Rattle.lwc_create.specs.Create as create
 use Rattle.lwc_overlay.specs.OverlayCall as overlaying
 use Rattle.lwc_overlay.specs.RestrictCall as restricting
 use Rattle.lwc_switch.specs.Switch as switching
-use Rattle.lwc_syscall.specs.Plain.{plain}
+use Rattle.lwc_syscall.specs.Plain.{plain, plain_call}
 use Rattle.lwc_syscall.specs.Syscall.{lw_syscall}
 use Rattle.lwc_syscall.specs.declared.answer.CallAnswer.{CallAnswer}
 use Rattle.lwc_syscall.specs.declared.answer.CallAnswer.TheVariants as ends
@@ -91,8 +91,8 @@ module _ (e : Environment) (x : Thread) (r : Refusal) where
       (by_row (eqb number LW_OVERLAY) _ _ (overlay_outcome e x) _ overlay-row
       (by_row (eqb number LW_SYSCALL) _ _ (syscall_outcome e x) (plain_outcome number e x)
       (end-refused (lw_syscall e.world e.channels x.context x.job x.regs).answer _ _ (syscall-done e.world e.channels x.context x.job x.regs))
-      (end-refused (plain e.world e.channels (three_times x.context) x.job number (args_of x.regs)).answer _ _
-      (plain-done e.world e.channels (three_times x.context) x.job number (args_of x.regs))))))) is
+      (end-refused (plain e.world e.channels (three_times x.context) x.job (plain_call number) (args_of x.regs)).answer _ _
+      (plain-done e.world e.channels (three_times x.context) x.job (plain_call number) (args_of x.regs))))))) is
 
 module _ (m : Machine) (t : ℕ) (x : Thread) (i : Instr) (r : Refusal) (comes : ComesToRefusal m t x i r) where
   made : thread_outcome guest_calls t m.environment m.serve m.text x x.status ≡ Some (settled t m.serve (unchanged m.environment (thread_refused m x r)))

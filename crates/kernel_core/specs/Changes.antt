@@ -17,6 +17,7 @@ use Rattle.lwc_syscall.specs.Changes.{cuts_none, leaves_world}
 use Rattle.lwc_syscall.specs.declared.answer.CallAnswer.{CallAnswer}
 use Rattle.lwc_syscall.specs.declared.answer.CallAnswer.TheVariants.{Value, Exit}
 use Rattle.lwc_syscall.specs.declared.answer.CallAnswer.TheVariants as answers
+use Rattle.lwc_syscall.specs.declared.plain_call.PlainCall.{PlainCall}
 
 -- an outcome of the first world, channels and thread is the second ones
 abbrev pub MakesAll :
@@ -44,9 +45,9 @@ abbrev pub change_by : Answer → Change → Change
 change_by (Done regs) accepted = accepted
 change_by (Refused refusal) accepted = change.Thread
 
--- what an accepted plain call may have changed, by its number
-abbrev pub change_by_number : ℕ → Change
-change_by_number call =
+-- what a plain call may have changed where it is accepted
+abbrev pub change_by_plain : Option PlainCall → Change
+change_by_plain call =
     if leaves_world call then change.Thread else (if cuts_none call then change.World else change.Links)
 
 -- and what a plain call has changed by its answer

@@ -18,7 +18,7 @@ use Rattle.lwc_create.specs.Create.{create}
 use Rattle.lwc_overlay.specs.OverlayCall.{overlay}
 use Rattle.lwc_overlay.specs.RestrictCall.{restrict}
 use Rattle.lwc_switch.specs.Switch.{switch}
-use Rattle.lwc_syscall.specs.Plain.{plain}
+use Rattle.lwc_syscall.specs.Plain.{plain, plain_call}
 use Rattle.lwc_syscall.specs.Syscall.{lw_syscall}
 use Rattle.lwc_syscall.specs.declared.answer.CallAnswer.{CallAnswer}
 use Rattle.lwc_syscall.specs.declared.answer.CallAnswer.TheVariants as ends
@@ -49,7 +49,7 @@ refusal_of number t e x =
     else (if number == LW_SYSCALL
     then refusal_at_end (lw_syscall e.world e.channels x.context x.job x.regs).answer
     else refusal_at_end
-    (plain e.world e.channels (three_times x.context) x.job number (args_of x.regs)).answer))))
+    (plain e.world e.channels (three_times x.context) x.job (plain_call number) (args_of x.regs)).answer))))
 
 -- a thread as it is when its next shared instruction comes
 abbrev pub advanced_thread : Machine → Thread → Thread

@@ -37,7 +37,7 @@ use Rattle.lwc_overlay.specs.OverlayCall.{overlay}
 use Rattle.lwc_overlay.specs.RestrictCall.{restrict}
 use Rattle.lwc_switch.specs.Switch.{switch}
 use Rattle.lwc_syscall.specs.Plain as calls
-use Rattle.lwc_syscall.specs.Plain.{plain}
+use Rattle.lwc_syscall.specs.Plain.{plain, plain_call}
 use Rattle.lwc_syscall.specs.Syscall.{lw_syscall}
 use Rattle.lwc_syscall.specs.declared.answer.CallAnswer.{CallAnswer}
 use Rattle.lwc_syscall.specs.declared.answer.CallAnswer.TheVariants as ends
@@ -187,7 +187,7 @@ args_of regs = slice_index regs.r 1 ∷ slice_index regs.r 2 ∷ slice_index reg
 -- the outcome of the plain call of a number over the thread's own context
 abbrev pub plain_outcome : ℕ → Environment → Thread → Outcome
 plain_outcome number e x =
-    ended_outcome x (plain e.world e.channels (three_times x.context) x.job number (args_of x.regs))
+    ended_outcome x (plain e.world e.channels (three_times x.context) x.job (plain_call number) (args_of x.regs))
 
 -- the outcome of the call that makes a plain one over the contexts that a mask chooses
 abbrev pub syscall_outcome : Environment → Thread → Outcome

@@ -12,7 +12,7 @@ use lwc_base::{Answer, Channels, Moved, OutOfMemory, Regs};
 use lwc_create::create;
 use lwc_overlay::{overlay, restrict};
 use lwc_switch::switch;
-use lwc_syscall::{CallAnswer, CallContexts, lw_syscall, plain};
+use lwc_syscall::{CallAnswer, CallContexts, PlainCall, lw_syscall, plain};
 use world_face::World;
 
 /// The number of the call that makes a context.
@@ -150,7 +150,7 @@ fn call_syscall<W: World>(
     ensures err_thread { OnErr result (thread.new ≡ thread.old) }
     ensures ample { W.roomy ≡ true → IsOk result }
 {
-    let accepted = change_by_number(thread.regs.r[3]);
+    let accepted = change_by_plain(PlainCall::of(thread.regs.r[3]));
     let answer = lw_syscall(world, io, thread.context, thread.job, &thread.regs)?;
     Ok(end_plain(thread, answer, accepted))
 }
@@ -181,18 +181,19 @@ fn call_plain<W: World>(
         cred: c,
     };
     let args = [thread.regs.r[1], thread.regs.r[2], thread.regs.r[3]];
-    let answer = plain(world, io, &targets, thread.job, number, args)?;
-    Ok(end_plain(thread, answer, change_by_number(u64::from(number))))
+    let call = PlainCall::of(u64::from(number));
+    let answer = plain(world, io, &targets, thread.job, call, args)?;
+    Ok(end_plain(thread, answer, change_by_plain(call)))
 }
 
-/// What an accepted plain call of a number may change: a write, a getuid and an exit leave the world, and an
-/// open, a dup and a read cut no link.
-fn change_by_number(number: u64) -> Change
-    ensures { result ≡ spec_changes.change_by_number number }
+/// What a plain call may change where it is accepted: a write, a getuid and an exit leave the world, and an open,
+/// a dup and a read cut no link.
+fn change_by_plain(call: Option<PlainCall>) -> Change
+    ensures { result ≡ spec_changes.change_by_plain call }
 {
-    match number {
-        5 | 8 | 10 => Change::Thread,
-        1 | 3 | 4 => Change::World,
+    match call {
+        Some(PlainCall::Write) | Some(PlainCall::GetUid) | Some(PlainCall::Exit) => Change::Thread,
+        Some(PlainCall::Open) | Some(PlainCall::Dup) | Some(PlainCall::Read) => Change::World,
         _ => Change::Links,
     }
 }

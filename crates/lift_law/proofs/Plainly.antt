@@ -28,9 +28,11 @@ use Rattle.lwc_base.specs.declared.refusal.Refusal.{Refusal}
 use Rattle.lwc_base.specs.declared.refusal.Refusal.TheVariants.{BadAddress, BadCall, BadFd, BadMode, BadRange, NoFile, NoFrame, NoSlot, NotCovered, NotPermitted, ReadOnly, ReplyFull, TooLong, TooManyRanges, WrongKind}
 use Rattle.lwc_base.specs.declared.regs.Regs.{Regs}
 use Rattle.lwc_syscall.specs.Plain.{Outcome, answering, becoming, close_refusals, closing, copy_refusals, copying, ended, is_absent, is_full, is_read_only, is_written, left, map_refusals, mapping, moved, open_refusals, opening, passes_limit, place_refusals, placed, plain, read_on, read_refusals, reading, refused_or, store_at, uid_refusals, world_after, write_refusals, writing, written}
-use Rattle.lwc_syscall.specs.Syscall.{inner_args, inner_call, link, lw_syscall, mask_in, refusals, targets_of}
+use Rattle.lwc_syscall.specs.Syscall.{inner_args, inner_call, inner_number, link, lw_syscall, mask_in, refusals, targets_of}
 use Rattle.lwc_syscall.specs.declared.answer.CallAnswer.TheVariants.{Exit, Refused}
 use Rattle.lwc_syscall.specs.declared.calls.CallContexts.{CallContexts}
+use Rattle.lwc_syscall.specs.declared.plain_call.PlainCall.{PlainCall}
+use Rattle.lwc_syscall.specs.declared.plain_call.PlainCall.TheVariants as plain_calls
 use Rattle.lift_law.proofs.Calls.{MayAct, whole_link}
 use Rattle.lift_law.proofs.Changes.{map-wide, put_slot-wide, put_uid-wide, store-wide, wide_stored}
 use Rattle.lift_law.proofs.Counts.{ranges-wide}
@@ -47,26 +49,6 @@ wide_outcome o = record o { world = wide o.world }
 -- a call that is not refused for a range is followed by the call in the world with more pages
 abbrev pub Follows : Outcome → Outcome → Type 0
 Follows o wider = refusal_at_end o.answer ≢ Some BadRange → wider ≡ wide_outcome o
-
-either : (b : Bool) (x y u v : Outcome) → Follows x u → Follows y v → Follows (cond b x y) (cond b u v)
-either true x y u v first second = first
-either false x y u v first second = second
-
-by_call : (call : ℕ) (a b c d e f g h i j k : Outcome) (l m n o p q r s t u v : Outcome) → Follows a l → Follows b m → Follows c n → Follows d o → Follows e p → Follows f q →
-    Follows g r → Follows h s → Follows i t → Follows j u → Follows k v →
-    Follows (cond (eqb call 1) a (cond (eqb call 2) b (cond (eqb call 3) c (cond (eqb call 4) d (cond (eqb call 5) e (cond (eqb call 6) f (cond (eqb call 7) g (cond (eqb call 8) h (cond (eqb call 9) i (cond (eqb call 10) j k))))))))))
-    (cond (eqb call 1) l (cond (eqb call 2) m (cond (eqb call 3) n (cond (eqb call 4) o (cond (eqb call 5) p (cond (eqb call 6) q (cond (eqb call 7) r (cond (eqb call 8) s (cond (eqb call 9) t (cond (eqb call 10) u v))))))))))
-by_call call a b c d e f g h i j k l m n o p q r s t u v is_a is_b is_c is_d is_e is_f is_g is_h is_i is_j is_k =
-    let at_10 = either (eqb call 10) j k u v is_j is_k in
-    let at_9 = either (eqb call 9) i _ t _ is_i at_10 in
-    let at_8 = either (eqb call 8) h _ s _ is_h at_9 in
-    let at_7 = either (eqb call 7) g _ r _ is_g at_8 in
-    let at_6 = either (eqb call 6) f _ q _ is_f at_7 in
-    let at_5 = either (eqb call 5) e _ p _ is_e at_6 in
-    let at_4 = either (eqb call 4) d _ o _ is_d at_5 in
-    let at_3 = either (eqb call 3) c _ n _ is_c at_4 in
-    let at_2 = either (eqb call 2) b _ m _ is_b at_3 in
-    either (eqb call 1) a _ l _ is_a at_2
 
 module _ (w : World) (io : Channels) where
   -- a call ends the same where its first refusal is the same and what it does is
@@ -259,23 +241,19 @@ module _ (w : World) (ends : HasNoMore w) (io : Channels) where
       (λ i. first_refusal ((nat_le (2 ^ 32) uid, BadRange) ∷ (not (may_set (uid-wide w c i) uid), NotPermitted) ∷ []))
       (λ none. ap (λ u. answering 0 u io) (put_uid-wide w c uid))
 
-  pub plain-wide : (targets : CallContexts) (job call : ℕ) (args : List ℕ) → Follows (plain w io targets job call args) (plain (wide w) io targets job call args)
+  pub plain-wide : (targets : CallContexts) (job : ℕ) (call : Option PlainCall) (args : List ℕ) → Follows (plain w io targets job call args) (plain (wide w) io targets job call args)
   unfolding plain
-  plain-wide targets job call args =
-      let arg = slice_index args in
-      by_call call
-      (opening w io targets (arg 0)) (closing w io targets.slots (arg 0)) (copying w io targets.slots (arg 0)) (reading w io targets job (arg 0) (arg 1) (arg 2))
-      (writing w io targets (arg 0) (arg 1) (arg 2)) (mapping w io targets.memory (arg 0) (arg 1) true) (mapping w io targets.memory (arg 0) (arg 1) false)
-      (answering (uid_at w targets.cred) w io) (becoming w io targets.cred (arg 0)) (record { answer = Exit (arg 0); world = w; io = io })
-      (record { answer = Refused BadCall; world = w; io = io })
-      (opening (wide w) io targets (arg 0)) (closing (wide w) io targets.slots (arg 0)) (copying (wide w) io targets.slots (arg 0)) (reading (wide w) io targets job (arg 0) (arg 1) (arg 2))
-      (writing (wide w) io targets (arg 0) (arg 1) (arg 2)) (mapping (wide w) io targets.memory (arg 0) (arg 1) true) (mapping (wide w) io targets.memory (arg 0) (arg 1) false)
-      (answering (uid_at (wide w) targets.cred) (wide w) io) (becoming (wide w) io targets.cred (arg 0)) (record { answer = Exit (arg 0); world = wide w; io = io })
-      (record { answer = Refused BadCall; world = wide w; io = io })
-      (λ free. opening-wide w io targets (arg 0)) (λ free. closing-wide w io targets.slots (arg 0)) (λ free. copying-wide w io targets.slots (arg 0))
-      (λ free. reading-wide targets job (arg 0) (arg 1) (arg 2)) (λ free. writing-wide targets (arg 0) (arg 1) (arg 2))
-      (mapping-wide targets.memory (arg 0) (arg 1) true) (mapping-wide targets.memory (arg 0) (arg 1) false)
-      (λ free. ap (λ n. answering n (wide w) io) (uid-wide w targets.cred)) (λ free. becoming-wide targets.cred (arg 0)) (λ free. refl) (λ free. refl)
+  plain-wide targets job None args = λ free. refl
+  plain-wide targets job (Some plain_calls.Open) args = λ free. opening-wide w io targets (slice_index args 0)
+  plain-wide targets job (Some plain_calls.Close) args = λ free. closing-wide w io targets.slots (slice_index args 0)
+  plain-wide targets job (Some plain_calls.Dup) args = λ free. copying-wide w io targets.slots (slice_index args 0)
+  plain-wide targets job (Some plain_calls.Read) args = λ free. reading-wide targets job (slice_index args 0) (slice_index args 1) (slice_index args 2)
+  plain-wide targets job (Some plain_calls.Write) args = λ free. writing-wide targets (slice_index args 0) (slice_index args 1) (slice_index args 2)
+  plain-wide targets job (Some plain_calls.Map) args = mapping-wide targets.memory (slice_index args 0) (slice_index args 1) true
+  plain-wide targets job (Some plain_calls.Unmap) args = mapping-wide targets.memory (slice_index args 0) (slice_index args 1) false
+  plain-wide targets job (Some plain_calls.GetUid) args = λ free. ap (λ n. answering n (wide w) io) (uid-wide w targets.cred)
+  plain-wide targets job (Some plain_calls.SetUid) args = λ free. becoming-wide targets.cred (slice_index args 0)
+  plain-wide targets job (Some plain_calls.Exit) args = λ free. refl
 
 -- a call over chosen contexts
 module _ (w : World) (io : Channels) (c : Name) (may : MayAct w c) (job : ℕ) (regs : Regs) where
@@ -296,11 +274,11 @@ module _ (w : World) (io : Channels) (c : Name) (may : MayAct w c) (job : ℕ) (
   unfolding refusals
   refusals-wide =
       ap (λ link. slot_refusals (wide w) c (slice_index regs.r 1)
-      ++ ((nat_lt 7 (mask_in regs), BadMode) ∷ (not (has_kinds MOST_PAGES link.1 (mask_in regs)), NotCovered) ∷ (nat_lt (inner_call regs) 1 || nat_lt 9 (inner_call regs), BadCall) ∷ [])) link_is
+      ++ ((nat_lt 7 (mask_in regs), BadMode) ∷ (not (has_kinds MOST_PAGES link.1 (mask_in regs)), NotCovered) ∷ (nat_lt (inner_number regs) 1 || nat_lt 9 (inner_number regs), BadCall) ∷ [])) link_is
       ∙ (λ i. slot_refusals-wide w c (slice_index regs.r 1) i
       ++ ((nat_lt 7 (mask_in regs), BadMode)
       ∷ (not (kinds-wide w.size.pages may.ends.few may.some l.1 (whole_link w c may (slice_index regs.r 1)) (mask_in regs) i), NotCovered)
-      ∷ (nat_lt (inner_call regs) 1 || nat_lt 9 (inner_call regs), BadCall) ∷ []))
+      ∷ (nat_lt (inner_number regs) 1 || nat_lt 9 (inner_number regs), BadCall) ∷ []))
 
   pub syscall-wide : refusal_at_end (lw_syscall w io c job regs).answer ≢ Some BadRange → lw_syscall (wide w) io c job regs ≡ wide_outcome (lw_syscall w io c job regs)
   unfolding lw_syscall

@@ -40,7 +40,7 @@ use Rattle.lwc_base.specs.declared.size.WorldSize.{WorldSize}
 use Rattle.lwc_base.proofs.Small.{same_some}
 use Rattle.lwc_base.proofs.Holders.{keeps-add_context}
 use Rattle.lwc_overlay.specs.RestrictCall.{restrict}
-use Rattle.lwc_syscall.specs.Plain.{world_after}
+use Rattle.lwc_syscall.specs.Plain.{world_after, plain_call}
 use Rattle.snapshot_host.specs.Begin.{begin, begun_context}
 use Rattle.lift_law.proofs.Calls.{MayAct}
 use Rattle.lift_law.proofs.Ends.{ends-begin}
@@ -67,7 +67,7 @@ module _ (t : ℕ) (e : Environment) (x : Thread) (keeps : KeepsWhole e.world.si
       either (eqb number LW_RESTRICT) _ _ (λ is. restrict-whole x.context x.job t e.world e.channels keeps live named x.regs (refused (eqb-true number LW_RESTRICT is))) (λ no_restriction.
       either (eqb number LW_OVERLAY) _ _ (λ is. overlay-whole x.context x.job t e.world e.channels keeps live named x.regs) (λ no_overlay.
       either (eqb number LW_SYSCALL) _ _ (λ is. syscall-whole x.context x.job t e.world e.channels keeps live named x.regs) (λ no_syscall.
-      plain-whole e.world.size.pages e.world keeps e.channels x.job (three_times x.context) live number (args_of x.regs))))))
+      plain-whole e.world.size.pages e.world keeps e.channels x.job (three_times x.context) live (plain_call number) (args_of x.regs))))))
     where
       refused : number ≡ LW_RESTRICT → refusal_in (restrict e.world x.context x.regs).0 ≢ None
       refused is = subst (λ n. refusal_of n t e x ≢ None → refusal_in (restrict e.world x.context x.regs).0 ≢ None) (sym is) at_restrict (kept is)

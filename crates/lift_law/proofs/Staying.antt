@@ -34,6 +34,8 @@ use Rattle.lwc_syscall.specs.Plain as calls
 use Rattle.lwc_syscall.specs.Plain.{Outcome, moved, placed, plain, read_on, refused_or, store_at, world_after}
 use Rattle.lwc_syscall.specs.Syscall as syscalls
 use Rattle.lwc_syscall.specs.declared.calls.CallContexts.{CallContexts}
+use Rattle.lwc_syscall.specs.declared.plain_call.PlainCall.{PlainCall}
+use Rattle.lwc_syscall.specs.declared.plain_call.PlainCall.TheVariants as plain_calls
 use Rattle.res_spec.specs.declared.items.SpecCall.TheVariants as spec_call
 use Rattle.lift_law.proofs.Whole.{IsWhole, whole, whole-at, whole-clone, whole-map, whole-overlay, whole-save, whole-slot, whole-store, whole-uid}
 
@@ -97,23 +99,19 @@ module _ (pages : ℕ) where
       unfolding calls.writing
       writing-whole n from count = ends _ _ keeps
 
-      either : (b : Bool) (x y : Outcome) → KeepsWhole x.world → KeepsWhole y.world → KeepsWhole (cond b x y).world
-      either true x y first second = first
-      either false x y first second = second
-
-      pub plain-whole : (call : ℕ) (args : List ℕ) → KeepsWhole (plain w io targets job call args).world
+      pub plain-whole : (call : Option PlainCall) (args : List ℕ) → KeepsWhole (plain w io targets job call args).world
       unfolding plain
-      plain-whole call args =
-          either (eqb call 1) _ _ (ends _ _ (placed-whole (File (slice_index args 0) 0) tt))
-          (either (eqb call 2) _ _ (ends _ _ (whole-slot pages w keeps targets.slots (slice_index args 0) Empty tt))
-          (either (eqb call 3) _ _ (ends _ _ (placed-whole _ (descriptor-whole targets.slots (slice_index args 0) live)))
-          (either (eqb call 4) _ _ (reading-whole (slice_index args 0) (slice_index args 1) (slice_index args 2))
-          (either (eqb call 5) _ _ (writing-whole (slice_index args 0) (slice_index args 1) (slice_index args 2))
-          (either (eqb call 6) _ _ (ends _ _ (whole-map pages w keeps targets.memory (slice_index args 0) (slice_index args 1) true))
-          (either (eqb call 7) _ _ (ends _ _ (whole-map pages w keeps targets.memory (slice_index args 0) (slice_index args 1) false))
-          (either (eqb call 8) _ _ keeps
-          (either (eqb call 9) _ _ (ends _ _ (whole-uid pages w keeps targets.cred (slice_index args 0)))
-          (either (eqb call 10) _ _ keeps keeps)))))))))
+      plain-whole None args = keeps
+      plain-whole (Some plain_calls.Open) args = ends _ _ (placed-whole (File (slice_index args 0) 0) tt)
+      plain-whole (Some plain_calls.Close) args = ends _ _ (whole-slot pages w keeps targets.slots (slice_index args 0) Empty tt)
+      plain-whole (Some plain_calls.Dup) args = ends _ _ (placed-whole _ (descriptor-whole targets.slots (slice_index args 0) live))
+      plain-whole (Some plain_calls.Read) args = reading-whole (slice_index args 0) (slice_index args 1) (slice_index args 2)
+      plain-whole (Some plain_calls.Write) args = writing-whole (slice_index args 0) (slice_index args 1) (slice_index args 2)
+      plain-whole (Some plain_calls.Map) args = ends _ _ (whole-map pages w keeps targets.memory (slice_index args 0) (slice_index args 1) true)
+      plain-whole (Some plain_calls.Unmap) args = ends _ _ (whole-map pages w keeps targets.memory (slice_index args 0) (slice_index args 1) false)
+      plain-whole (Some plain_calls.GetUid) args = keeps
+      plain-whole (Some plain_calls.SetUid) args = ends _ _ (whole-uid pages w keeps targets.cred (slice_index args 0))
+      plain-whole (Some plain_calls.Exit) args = keeps
 
 -- the context that a descriptor names, and else another one
 abbrev link_or : Name → Descriptor → Name × Cap

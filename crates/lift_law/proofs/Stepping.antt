@@ -36,7 +36,7 @@ use Rattle.lwc_create.specs.Create.{create}
 use Rattle.lwc_overlay.specs.OverlayCall.{overlay}
 use Rattle.lwc_overlay.specs.RestrictCall.{restrict}
 use Rattle.lwc_switch.specs.Switch.{switch}
-use Rattle.lwc_syscall.specs.Plain.{plain}
+use Rattle.lwc_syscall.specs.Plain.{plain, plain_call}
 use Rattle.lwc_syscall.specs.Syscall.{lw_syscall}
 use Rattle.snapshot_host.specs.Begin.{begin, begun_context, begun_value}
 use Rattle.lift_law.proofs.Calls.{MayAct, create-wide, overlay_call-wide, restrict-wide, switch-wide}
@@ -87,19 +87,19 @@ module _ (t : ℕ) (e : Environment) (x : Thread) (may : MayAct e.world x.contex
       let c : Name = x.context in
       by_row number
       (refusal_in (create e.world c x.job x.regs).0) (refusal_to_move (switch e.world c t x.regs).0) (refusal_in (restrict e.world c x.regs).0) (refusal_in (overlay e.world c x.job x.regs).0)
-      (refusal_at_end (lw_syscall e.world e.channels c x.job x.regs).answer) (refusal_at_end (plain e.world e.channels (three_times c) x.job number (args_of x.regs)).answer)
+      (refusal_at_end (lw_syscall e.world e.channels c x.job x.regs).answer) (refusal_at_end (plain e.world e.channels (three_times c) x.job (plain_call number) (args_of x.regs)).answer)
       (call_outcome e x (create e.world c x.job x.regs)) (unchanged (with_world e (switch e.world c t x.regs).1) (switched x (switch e.world c t x.regs).0))
       (call_outcome e x (restrict e.world c x.regs)) (call_outcome e x (overlay e.world c x.job x.regs)) (ended_outcome x (lw_syscall e.world e.channels c x.job x.regs))
-      (ended_outcome x (plain e.world e.channels (three_times c) x.job number (args_of x.regs)))
+      (ended_outcome x (plain e.world e.channels (three_times c) x.job (plain_call number) (args_of x.regs)))
       (call_outcome (wide_env e) x (create (wide e.world) c x.job x.regs)) (unchanged (with_world (wide_env e) (switch (wide e.world) c t x.regs).1) (switched x (switch (wide e.world) c t x.regs).0))
       (call_outcome (wide_env e) x (restrict (wide e.world) c x.regs)) (call_outcome (wide_env e) x (overlay (wide e.world) c x.job x.regs)) (ended_outcome x (lw_syscall (wide e.world) e.channels c x.job x.regs))
-      (ended_outcome x (plain (wide e.world) e.channels (three_times c) x.job number (args_of x.regs)))
+      (ended_outcome x (plain (wide e.world) e.channels (three_times c) x.job (plain_call number) (args_of x.regs)))
       (λ free kept. ap (call_outcome (wide_env e) x) (create-wide c x.job e.world may x.regs free))
       (λ free kept. ap (λ r. unchanged (with_world (wide_env e) r.1) (switched x r.0)) (switch-wide c x.job e.world may x.regs t))
       (λ is free kept. ap (call_outcome (wide_env e) x) (restrict-wide c x.job e.world may x.regs free (kept is)))
       (λ free kept. ap (call_outcome (wide_env e) x) (overlay_call-wide c x.job e.world may x.regs free))
       (λ free kept. ap (ended_outcome x) (syscall-wide e.world e.channels c may x.job x.regs free))
-      (λ free kept. ap (ended_outcome x) (plain-wide e.world may.ends e.channels (three_times c) x.job number (args_of x.regs) free))
+      (λ free kept. ap (ended_outcome x) (plain-wide e.world may.ends e.channels (three_times c) x.job (plain_call number) (args_of x.regs) free))
 
   stored-wide : (s : Stored) → stored_outcome (wide_env e) x (wide_stored s) ≡ wide_out (stored_outcome e x s)
   stored-wide stores.Absent = refl

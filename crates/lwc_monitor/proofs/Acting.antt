@@ -24,7 +24,7 @@ use Rattle.lwc_base.specs.declared.page.TheConstants.{PAGE_BYTES}
 use Rattle.lwc_monitor.specs.Calls.{by_monitor, calls_under, is_forbidden, trapped_outcome, trapped_to}
 use Rattle.lwc_monitor.specs.declared.numbers.TheConstants.{EXIT, LW_TRAP}
 use Rattle.lwc_syscall.specs.Changes.{IsWell}
-use Rattle.lwc_syscall.specs.Plain.{plain}
+use Rattle.lwc_syscall.specs.Plain.{plain, plain_call}
 use Rattle.trap_calls.proofs.Leaving.{free-leaves, leaves-itself, stored-leaves, trapped-leaves}
 use Rattle.trap_calls.specs.Guards.{AreGuarded, LeavesToMonitors}
 use Rattle.trap_calls.specs.Traps.{Traps, forbids_overlay, is_trapped, names_anothers}
@@ -87,7 +87,7 @@ module _ (traps : Traps) (t : ℕ) (e : Environment) (x : Thread) (guarded : Are
         (λ _. either (eqb number LW_RESTRICT) _ _ (λ _. calls.restrict x.regs)
         (λ _. either (eqb number LW_OVERLAY) _ _ (λ is. calls.overlay x.regs (overlay_allowed is))
         (λ _. either (eqb number LW_SYSCALL) _ _ (λ is. calls.syscall x.regs (syscall_allowed is))
-        (λ _. calls.plain number (args_of x.regs))))))
+        (λ _. calls.plain (plain_call number) (args_of x.regs))))))
 
   exits : Leaves (guest_calls EXIT t e x)
   unfolding guest_calls plain

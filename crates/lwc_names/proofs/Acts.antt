@@ -21,7 +21,7 @@ use Rattle.lwc_create.specs.Create.{create}
 use Rattle.lwc_overlay.specs.OverlayCall.{overlay}
 use Rattle.lwc_overlay.specs.RestrictCall.{restrict}
 use Rattle.lwc_switch.specs.Switch.{switch}
-use Rattle.lwc_syscall.specs.Plain.{plain}
+use Rattle.lwc_syscall.specs.Plain.{plain, plain_call}
 use Rattle.lwc_syscall.specs.Syscall.{lw_syscall}
 use Rattle.lwc_syscall.specs.declared.answer.CallAnswer.{CallAnswer}
 use Rattle.lwc_syscall.specs.declared.answer.CallAnswer.TheVariants as ends
@@ -66,7 +66,7 @@ module _ (t : ℕ) (e : Environment) where
       (either x.job (eqb number LW_RESTRICT) _ _ (answered-job x (restrict e.world x.context x.regs).0)
       (either x.job (eqb number LW_OVERLAY) _ _ (answered-job x (overlay e.world x.context x.job x.regs).0)
       (either x.job (eqb number LW_SYSCALL) _ _ (plainly-job x (lw_syscall e.world e.channels x.context x.job x.regs).answer)
-      (plainly-job x (plain e.world e.channels (three_times x.context) x.job number (args_of x.regs)).answer)))))
+      (plainly-job x (plain e.world e.channels (three_times x.context) x.job (plain_call number) (args_of x.regs)).answer)))))
 
   shared-job : (x : Thread) (j : Instr) (op : Op) → (steps.shared_outcome guest_calls t e x j op).thread.job ≡ x.job
   unfolding steps.shared_outcome

@@ -44,6 +44,8 @@ use Rattle.lwc_syscall.specs.Plain as calls
 use Rattle.lwc_syscall.specs.Plain.{Outcome}
 use Rattle.lwc_syscall.specs.Syscall as chosen
 use Rattle.lwc_syscall.specs.declared.calls.CallContexts.{CallContexts}
+use Rattle.lwc_syscall.specs.declared.plain_call.PlainCall.{PlainCall}
+use Rattle.lwc_syscall.specs.declared.plain_call.PlainCall.TheVariants as plain_calls
 
 -- lists behind so many empty ones
 pub past : (r q : ℕ) (lists : List (List ℕ)) → bytes_in (replicate r [] ++ lists) (q + r) ≡ bytes_in lists q
@@ -263,20 +265,20 @@ module _ (r : ℕ) where
           (λ i. (leb (2 ^ 32) uid, BadRange) ∷ (not (may_set (uid-shifted c i) uid), NotPermitted) ∷ [])
           (answering-shifted 0 (put_uid w c uid) _ (put_uid-shifted r w c uid))
 
-      pub plain-shifted : (targets : CallContexts) (job call : ℕ) (args : List ℕ) → calls.plain (shifted_world r w) (shifted_channels r io) (shifted_targets r targets) (shifted_job r job) call args ≡ shifted_end r (calls.plain w io targets job call args)
+      pub plain-shifted : (targets : CallContexts) (job : ℕ) (call : Option PlainCall) (args : List ℕ) →
+          calls.plain (shifted_world r w) (shifted_channels r io) (shifted_targets r targets) (shifted_job r job) call args ≡ shifted_end r (calls.plain w io targets job call args)
       unfolding calls.plain
-      plain-shifted targets job call args =
-          let arg = slice_index args in
-          pick (shifted_end r) (eqb call 1) _ _ _ _ (opening-shifted targets (arg 0))
-          (pick (shifted_end r) (eqb call 2) _ _ _ _ (closing-shifted targets.slots (arg 0))
-          (pick (shifted_end r) (eqb call 3) _ _ _ _ (copying-shifted targets.slots (arg 0))
-          (pick (shifted_end r) (eqb call 4) _ _ _ _ (reading-shifted targets job (arg 0) (arg 1) (arg 2))
-          (pick (shifted_end r) (eqb call 5) _ _ _ _ (writing-shifted targets (arg 0) (arg 1) (arg 2))
-          (pick (shifted_end r) (eqb call 6) _ _ _ _ (mapping-shifted targets.memory (arg 0) (arg 1) true)
-          (pick (shifted_end r) (eqb call 7) _ _ _ _ (mapping-shifted targets.memory (arg 0) (arg 1) false)
-          (pick (shifted_end r) (eqb call 8) _ _ _ _ (λ i. calls.answering (uid-shifted targets.cred i) (shifted_world r w) (shifted_channels r io))
-          (pick (shifted_end r) (eqb call 9) _ _ _ _ (becoming-shifted targets.cred (arg 0))
-          (pick (shifted_end r) (eqb call 10) _ _ _ _ refl refl)))))))))
+      plain-shifted targets job None args = refl
+      plain-shifted targets job (Some plain_calls.Open) args = opening-shifted targets (slice_index args 0)
+      plain-shifted targets job (Some plain_calls.Close) args = closing-shifted targets.slots (slice_index args 0)
+      plain-shifted targets job (Some plain_calls.Dup) args = copying-shifted targets.slots (slice_index args 0)
+      plain-shifted targets job (Some plain_calls.Read) args = reading-shifted targets job (slice_index args 0) (slice_index args 1) (slice_index args 2)
+      plain-shifted targets job (Some plain_calls.Write) args = writing-shifted targets (slice_index args 0) (slice_index args 1) (slice_index args 2)
+      plain-shifted targets job (Some plain_calls.Map) args = mapping-shifted targets.memory (slice_index args 0) (slice_index args 1) true
+      plain-shifted targets job (Some plain_calls.Unmap) args = mapping-shifted targets.memory (slice_index args 0) (slice_index args 1) false
+      plain-shifted targets job (Some plain_calls.GetUid) args = λ i. calls.answering (uid-shifted targets.cred i) (shifted_world r w) (shifted_channels r io)
+      plain-shifted targets job (Some plain_calls.SetUid) args = becoming-shifted targets.cred (slice_index args 0)
+      plain-shifted targets job (Some plain_calls.Exit) args = refl
 
       -- over chosen contexts
       module _ (c : Name) (regs : Regs) where
@@ -297,7 +299,7 @@ module _ (r : ℕ) where
         chosen_refusals-shifted =
             λ i. slot_refusals-shifted r w c (slice_index regs.r 1) i
             ++ ((ltb 7 (chosen.mask_in regs), BadMode) ∷ (not (has_kinds ((size-shifted i).pages) ((chosen-shifted i).1) (chosen.mask_in regs)), NotCovered)
-            ∷ (ltb (chosen.inner_call regs) 1 || ltb 9 (chosen.inner_call regs), BadCall) ∷ [])
+            ∷ (ltb (chosen.inner_number regs) 1 || ltb 9 (chosen.inner_number regs), BadCall) ∷ [])
 
         pub syscall-shifted : (job : ℕ) → chosen.lw_syscall (shifted_world r w) (shifted_channels r io) (shifted_name r c) (shifted_job r job) regs ≡ shifted_end r (chosen.lw_syscall w io c job regs)
         unfolding chosen.lw_syscall

@@ -36,7 +36,7 @@ use Rattle.lwc_overlay.specs.OverlayCall.{overlay}
 use Rattle.lwc_overlay.specs.RestrictCall.{restrict}
 use Rattle.lwc_switch.specs.Switch.{switch}
 use Rattle.lwc_syscall.specs.Plain as calls
-use Rattle.lwc_syscall.specs.Plain.{plain}
+use Rattle.lwc_syscall.specs.Plain.{plain, plain_call}
 use Rattle.lwc_syscall.specs.Syscall.{lw_syscall}
 use Rattle.lwc_syscall.specs.declared.answer.CallAnswer.{CallAnswer}
 use Rattle.lwc_syscall.specs.declared.answer.CallAnswer.TheVariants as ends
@@ -102,7 +102,7 @@ module _ (r : ℕ) where
         (pick (shifted_outcome r) (eqb number LW_RESTRICT) _ _ _ _ (call-of x (restrict e.world x.context x.regs) _ (restrict-shifted r e.world x.context x.regs))
         (pick (shifted_outcome r) (eqb number LW_OVERLAY) _ _ _ _ (call-of x (overlay e.world x.context x.job x.regs) _ (overlay_call-shifted r e.world x.context x.regs x.job))
         (pick (shifted_outcome r) (eqb number LW_SYSCALL) _ _ _ _ (ended-of x (lw_syscall e.world e.channels x.context x.job x.regs) _ (syscall-shifted r e.channels e.world x.context x.regs x.job))
-        (ended-of x (plain e.world e.channels (three_times x.context) x.job number (args_of x.regs)) _ (plain-shifted r e.channels e.world (three_times x.context) x.job number (args_of x.regs)))))))
+        (ended-of x (plain e.world e.channels (three_times x.context) x.job (plain_call number) (args_of x.regs)) _ (plain-shifted r e.channels e.world (three_times x.context) x.job (plain_call number) (args_of x.regs)))))))
 
     -- instructions
     byte-of : (x : Thread) (at : ℕ) → steps.byte_for (shifted_world r e.world) (shifted_name r x.context) at ≡ steps.byte_for e.world x.context at

@@ -1,5 +1,5 @@
 -- What each plain call does.
-use Rattle.std.proofs.Common.{◌≡◌, ◌⊎◌, inl, inr, ◌<◌, ◌≤◌, ℕ, Bool, true, false, List, [], None, Some, refl, length, length-drop, sym, subst, arith}
+use Rattle.std.proofs.Common.{◌≡◌, ◌⊎◌, inl, inr, ◌<◌, ◌≤◌, ℕ, Bool, true, false, List, [], None, Some, refl, length, length-drop, sym, subst, arith, Option}
 use Rattle.std.proofs.lemmas.Bool.Decides.{nat_tests}
 use Rattle.std.proofs.lemmas.List.{length-map, length-take}
 use Rattle.std.specs.Prelude.{◌==◌, if◌then◌else◌, slice_index, is_none, unwrap_or}
@@ -25,6 +25,8 @@ use Rattle.lwc_syscall.specs.Changes.{IsKnown, IsPlainChange, Mapped, Nothing, R
 use Rattle.lwc_syscall.specs.Plain.{Outcome, answering, becoming, close_refusals, closing, copy_refusals, copying, ended, is_absent, is_read_only, is_full, left, map_refusals, mapping, moved, open_refusals, opening, placed, plain, read_on, read_refusals, reading, refused_or, store_at, uid_refusals, world_after, write_refusals, writing, written}
 use Rattle.lwc_syscall.specs.declared.answer.CallAnswer.TheVariants.{Exit, Refused}
 use Rattle.lwc_syscall.specs.declared.calls.CallContexts.{CallContexts}
+use Rattle.lwc_syscall.specs.declared.plain_call.PlainCall.{PlainCall}
+use Rattle.lwc_syscall.specs.declared.plain_call.PlainCall.TheVariants as calls
 use Rattle.lwc_base.proofs.InRange.{files-slot_at}
 use Rattle.lwc_base.proofs.Jobs.{jobs-slot_at}
 use Rattle.lwc_base.proofs.NamedContexts.{named-live}
@@ -39,12 +41,6 @@ ended-cases P w io rows done refused all =
       | Some refusal ↦ λ _. refused refusal
       | None ↦ all
     ] refl
-
--- what is so of each of eleven outcomes is so of the one of a call's number
-pub by_number : (P : Outcome → Type 0) (call : ℕ) (a b c d e f g h i j k : Outcome) → P a → P b → P c → P d → P e → P f → P g → P h → P i → P j → P k →
-    P (if call == 1 then a else (if call == 2 then b else (if call == 3 then c else (if call == 4 then d else (if call == 5 then e else (if call == 6 then f
-    else (if call == 7 then g else (if call == 8 then h else (if call == 9 then i else (if call == 10 then j else k))))))))))
-by_number P call a b c d e f g h i j k pa pb pc pd pe pf pg ph pi pj pk = grind arith
 
 -- bytes are stored at a guest's address if there are some
 pub stored-cases : (w : World) (m : Name) (job at : ℕ) (bytes : List ℕ) → (store_at w m job at bytes ≡ stores.Done w) ⊎ ((store_at w m job at bytes ≡ stores.Absent)
@@ -161,18 +157,22 @@ module _ (w : World) (io : Channels) (targets : CallContexts) (job : ℕ) (ready
       done-does stored (record { at = at; bytes = bytes }) n (read_on (length bytes) value) (grind arith) (grind arith) (grind arith) (stored-cases w targets.memory job at bytes) (omega arith) (found-slot n (grind arith))
       (on-known value (length bytes) within (found-known n)))
 
-  pub plain-does : (call : ℕ) (args : List ℕ) → Does w io targets job (plain w io targets job call args)
+  pub plain-does : (call : Option PlainCall) (args : List ℕ) → Does w io targets job (plain w io targets job call args)
   unfolding plain
-  plain-does call args =
-      let arg = λ (i : ℕ). slice_index args i in
-      by_number (Does w io targets job) call (opening w io targets (arg 0)) (closing w io targets.slots (arg 0)) (copying w io targets.slots (arg 0)) (reading w io targets job (arg 0) (arg 1) (arg 2))
-      (writing w io targets (arg 0) (arg 1) (arg 2)) (mapping w io targets.memory (arg 0) (arg 1) true) (mapping w io targets.memory (arg 0) (arg 1) false)
-      (answering (uid_at w targets.cred) w io) (becoming w io targets.cred (arg 0)) (record { answer = Exit (arg 0); world = w; io = io }) (record { answer = Refused BadCall; world = w; io = io })
-      (opening-does (arg 0)) (closing-does (arg 0)) (copying-does (arg 0)) (reading-does (arg 0) (arg 1) (arg 2)) (writing-does (arg 0) (arg 1) (arg 2))
-      (mapping-does (arg 0) (arg 1) true) (mapping-does (arg 0) (arg 1) false) Nothing (becoming-does (arg 0)) Nothing Nothing
+  plain-does None args = Nothing
+  plain-does (Some calls.Open) args = opening-does (slice_index args 0)
+  plain-does (Some calls.Close) args = closing-does (slice_index args 0)
+  plain-does (Some calls.Dup) args = copying-does (slice_index args 0)
+  plain-does (Some calls.Read) args = reading-does (slice_index args 0) (slice_index args 1) (slice_index args 2)
+  plain-does (Some calls.Write) args = writing-does (slice_index args 0) (slice_index args 1) (slice_index args 2)
+  plain-does (Some calls.Map) args = mapping-does (slice_index args 0) (slice_index args 1) true
+  plain-does (Some calls.Unmap) args = mapping-does (slice_index args 0) (slice_index args 1) false
+  plain-does (Some calls.GetUid) args = Nothing
+  plain-does (Some calls.SetUid) args = becoming-does (slice_index args 0)
+  plain-does (Some calls.Exit) args = Nothing
 
 -- where the contexts and the files that slots name are there, so are those of the caller's slots
-pub does-one_thing : (w : World) (io : Channels) (targets : CallContexts) (job call : ℕ) (args : List ℕ) → HasItsContexts w → HasItsFiles io w → is_live w targets.slots ≡ true →
+pub does-one_thing : (w : World) (io : Channels) (targets : CallContexts) (job : ℕ) (call : Option PlainCall) (args : List ℕ) → HasItsContexts w → HasItsFiles io w → is_live w targets.slots ≡ true →
     IsPlainChange w io targets job (plain w io targets job call args).world (plain w io targets job call args).io
 does-one_thing w io targets job call args named files live =
     plain-does w io targets job (record {

@@ -25,18 +25,9 @@ use Rattle.lwc_syscall.specs.Plain.{Outcome, answering, becoming, closing, copy_
 use Rattle.lwc_syscall.specs.Syscall.{inner_args, inner_call, lw_syscall, refusals, targets_of}
 use Rattle.lwc_syscall.specs.declared.answer.CallAnswer.TheVariants.{Exit, Refused}
 use Rattle.lwc_syscall.specs.declared.calls.CallContexts.{CallContexts}
+use Rattle.lwc_syscall.specs.declared.plain_call.PlainCall.{PlainCall}
+use Rattle.lwc_syscall.specs.declared.plain_call.PlainCall.TheVariants as calls
 use Rattle.lwc_base.proofs.Slots.{lowest_is_empty_slot, slot_at-after_store}
-
--- an outcome by a number that is one of three, in the order of the calls
-one_of_cutting : (Q : Outcome → Type 0) (call : ℕ) (a b c d e f g h i j k : Outcome) → cuts_none call ≡ true → Q a → Q c → Q d →
-    Q (if call == 1 then a else (if call == 2 then b else (if call == 3 then c else (if call == 4 then d else (if call == 5 then e else (if call == 6 then f
-    else (if call == 7 then g else (if call == 8 then h else (if call == 9 then i else (if call == 10 then j else k))))))))))
-one_of_cutting Q call a b c d e f g h i j k is qa qc qd = grind (arith, nat_tests)
-
-one_of_leaving : (Q : Outcome → Type 0) (call : ℕ) (a b c d e f g h i j k : Outcome) → leaves_world call ≡ true → Q e → Q h → Q j →
-    Q (if call == 1 then a else (if call == 2 then b else (if call == 3 then c else (if call == 4 then d else (if call == 5 then e else (if call == 6 then f
-    else (if call == 7 then g else (if call == 8 then h else (if call == 9 then i else (if call == 10 then j else k))))))))))
-one_of_leaving Q call a b c d e f g h i j k is qe qh qj = grind (arith, nat_tests)
 
 -- an empty slot is of no context, and what can be read is of none
 empty-of-none : (d : Name) (value : Descriptor) → is_empty value ≡ true → is_of d value ≡ false
@@ -109,26 +100,33 @@ module _ (w : World) (io : Channels) (targets : CallContexts) (job : ℕ) where
       let bytes = bytes_for w targets.memory at count in
       ended-cases (λ o. o.world ≡ w) w io (write_refusals io value count bytes) (answering count w (written io value (unwrap_or bytes []))) (λ _. refl) (λ _. refl)
 
-  pub plain-cuts : (call : ℕ) (args : List ℕ) → cuts_none call ≡ true → CutsNone w targets job (plain w io targets job call args).world
+  pub plain-cuts : (call : Option PlainCall) (args : List ℕ) → cuts_none call ≡ true → CutsNone w targets job (plain w io targets job call args).world
   unfolding plain
-  plain-cuts call args is =
-      let arg = λ (i : ℕ). slice_index args i in
-      one_of_cutting (λ o. CutsNone w targets job o.world) call (opening w io targets (arg 0)) (closing w io targets.slots (arg 0)) (copying w io targets.slots (arg 0))
-      (reading w io targets job (arg 0) (arg 1) (arg 2)) (writing w io targets (arg 0) (arg 1) (arg 2)) (mapping w io targets.memory (arg 0) (arg 1) true)
-      (mapping w io targets.memory (arg 0) (arg 1) false) (answering (uid_at w targets.cred) w io) (becoming w io targets.cred (arg 0))
-      (record { answer = Exit (arg 0); world = w; io = io }) (record { answer = Refused BadCall; world = w; io = io }) is
-      (placed-cuts (File (arg 0) 0) (open_refusals w io targets (arg 0)) (λ passed. grind arith))
-      (placed-cuts (descriptor_for w targets.slots (arg 0)) (copy_refusals w targets.slots (arg 0)) (λ passed. grind arith)) (reading-cuts (arg 0) (arg 1) (arg 2))
+  plain-cuts None args is = absurd cc
+  plain-cuts (Some calls.Open) args is = placed-cuts (File (slice_index args 0) 0) (open_refusals w io targets (slice_index args 0)) (λ passed. grind arith)
+  plain-cuts (Some calls.Close) args is = absurd cc
+  plain-cuts (Some calls.Dup) args is = placed-cuts (descriptor_for w targets.slots (slice_index args 0)) (copy_refusals w targets.slots (slice_index args 0)) (λ passed. grind arith)
+  plain-cuts (Some calls.Read) args is = reading-cuts (slice_index args 0) (slice_index args 1) (slice_index args 2)
+  plain-cuts (Some calls.Write) args is = absurd cc
+  plain-cuts (Some calls.Map) args is = absurd cc
+  plain-cuts (Some calls.Unmap) args is = absurd cc
+  plain-cuts (Some calls.GetUid) args is = absurd cc
+  plain-cuts (Some calls.SetUid) args is = absurd cc
+  plain-cuts (Some calls.Exit) args is = absurd cc
 
-  pub plain-leaves : (call : ℕ) (args : List ℕ) → leaves_world call ≡ true → (plain w io targets job call args).world ≡ w
+  pub plain-leaves : (call : Option PlainCall) (args : List ℕ) → leaves_world call ≡ true → (plain w io targets job call args).world ≡ w
   unfolding plain
-  plain-leaves call args is =
-      let arg = λ (i : ℕ). slice_index args i in
-      one_of_leaving (λ o. o.world ≡ w) call (opening w io targets (arg 0)) (closing w io targets.slots (arg 0)) (copying w io targets.slots (arg 0))
-      (reading w io targets job (arg 0) (arg 1) (arg 2)) (writing w io targets (arg 0) (arg 1) (arg 2)) (mapping w io targets.memory (arg 0) (arg 1) true)
-      (mapping w io targets.memory (arg 0) (arg 1) false) (answering (uid_at w targets.cred) w io) (becoming w io targets.cred (arg 0))
-      (record { answer = Exit (arg 0); world = w; io = io }) (record { answer = Refused BadCall; world = w; io = io }) is
-      (writing-leaves (arg 0) (arg 1) (arg 2)) refl refl
+  plain-leaves None args is = absurd cc
+  plain-leaves (Some calls.Open) args is = absurd cc
+  plain-leaves (Some calls.Close) args is = absurd cc
+  plain-leaves (Some calls.Dup) args is = absurd cc
+  plain-leaves (Some calls.Read) args is = absurd cc
+  plain-leaves (Some calls.Write) args is = writing-leaves (slice_index args 0) (slice_index args 1) (slice_index args 2)
+  plain-leaves (Some calls.Map) args is = absurd cc
+  plain-leaves (Some calls.Unmap) args is = absurd cc
+  plain-leaves (Some calls.GetUid) args is = refl
+  plain-leaves (Some calls.SetUid) args is = absurd cc
+  plain-leaves (Some calls.Exit) args is = refl
 
 -- and so over the contexts that a mask chooses
 pub syscall-cuts : (w : World) (io : Channels) (c : Name) (job : ℕ) (regs : Regs) → cuts_none (inner_call regs) ≡ true → CutsNone w (targets_of w c regs) job (lw_syscall w io c job regs).world

@@ -1,6 +1,7 @@
 -- What plain calls leave as it was.
-use Rattle.std.proofs.Common.{◌≡◌, ◌≢◌, ◌⊎◌, inl, inr, ◌∙◌, ◌+◌, ℕ, Bool, true, false, List, [], ◌∷◌, None, Some, ap, refl, length, subst, sym, arith}
+use Rattle.std.proofs.Common.{◌≡◌, ◌≢◌, ◌⊎◌, inl, inr, ◌∙◌, ◌+◌, ℕ, Bool, true, false, List, [], ◌∷◌, Option, None, Some, ap, refl, length, subst, sym, arith}
 use Rattle.std.proofs.lemmas.Bool.Decides.{nat_tests}
+use Rattle.std.specs.Option.{option_map_or}
 use Rattle.std.specs.Prelude.{◌==◌, ◌&&◌, if◌then◌else◌, is_none, map, nat_le, nat_lt, slice_index, unwrap_or}
 use Rattle.guest_call.specs.Changes.{IsUntouched}
 use Rattle.guest_call.specs.Guest.{descriptor_for}
@@ -29,22 +30,17 @@ use Rattle.lwc_base.specs.declared.refusal.Refusal.TheVariants.{BadCall}
 use Rattle.lwc_base.specs.declared.regs.Regs.{Regs}
 use Rattle.lwc_base.specs.declared.right.Right.TheVariants.{Write}
 use Rattle.lwc_syscall.proofs.Does.{ended-cases, stored-cases}
-use Rattle.lwc_syscall.specs.Changes.{ChangesOnly, has_page, holder, may_change, read_pages}
+use Rattle.lwc_syscall.specs.Changes.{ChangesOnly, has_page, holder, in_range, is_lowest, may_change, read_pages}
 use Rattle.lwc_syscall.specs.Plain.{Outcome, answering, becoming, close_refusals, closing, copy_refusals, copying, ended, is_absent, is_read_only, is_full, map_refusals, mapping, moved, open_refusals, opening, placed, plain, read_on, read_refusals, reading, store_at, uid_refusals, world_after, write_refusals, writing, written}
 use Rattle.lwc_syscall.specs.Syscall.{inner_args, inner_call, lw_syscall, refusals, targets_of}
 use Rattle.lwc_syscall.specs.declared.answer.CallAnswer.TheVariants.{Exit, Refused}
 use Rattle.lwc_syscall.specs.declared.calls.CallContexts.{CallContexts}
+use Rattle.lwc_syscall.specs.declared.plain_call.PlainCall.{PlainCall}
+use Rattle.lwc_syscall.specs.declared.plain_call.PlainCall.TheVariants as calls
 use Rattle.guest_call.proofs.Changes.{putting}
 use Rattle.lwc_base.proofs.Common.{apart-put_at}
 use Rattle.lwc_base.proofs.Facts.{changes}
 use Rattle.lwc_base.proofs.Orders.{cases_name}
-
--- what is so of each outcome under its number is so of the one of a call's number
-by_call : (P : Outcome → Type 0) (call : ℕ) (a b c d e f g h i j k : Outcome) → (call ≡ 1 → P a) → (call ≡ 2 → P b) → (call ≡ 3 → P c) → (call ≡ 4 → P d) → P e →
-    (call ≡ 6 → P f) → (call ≡ 7 → P g) → P h → (call ≡ 9 → P i) → P j → P k →
-    P (if call == 1 then a else (if call == 2 then b else (if call == 3 then c else (if call == 4 then d else (if call == 5 then e else (if call == 6 then f
-    else (if call == 7 then g else (if call == 8 then h else (if call == 9 then i else (if call == 10 then j else k))))))))))
-by_call P call a b c d e f g h i j k pa pb pc pd pe pf pg ph pi pj pk = grind (arith, nat_tests)
 
 -- what is apart in one world is apart in another
 abbrev KeepsApart : World → World → Type 0
@@ -181,104 +177,114 @@ module _ (w : World) (targets : CallContexts) (keys : Key → Bool) where
     mapped_on : ChangesOnly w v targets keys
     mapped_on = record { values = values_on; cells = cells_on; rights = λ e p out. each (λ x. x.right p) e (λ is x. turns.right x p (unnamed e p out is)); entries = λ e. each (λ x. x.entry) e (λ is. turns.entry); saved = λ e t. each (λ x. x.saved t) e (λ is x. turns.saved x t) }
 
-module _ (w : World) (io : Channels) (targets : CallContexts) (job : ℕ) (call : ℕ) (args : List ℕ) where
-  abbrev keys : Key → Bool
-  keys = may_change w io targets call args
+module _ (w : World) (io : Channels) (targets : CallContexts) (job : ℕ) (args : List ℕ) where
+  abbrev keys : Option PlainCall → Key → Bool
+  keys call = may_change w io targets call args
 
   abbrev arg : ℕ → ℕ
   arg = slice_index args
 
-  abbrev Only : Outcome → Type 0
-  Only o = ChangesOnly w o.world targets keys
+  abbrev Only : Option PlainCall → Outcome → Type 0
+  Only call o = ChangesOnly w o.world targets (keys call)
 
-  none : ChangesOnly w w targets keys
-  none = (same w targets keys).only
+  none : (call : Option PlainCall) → ChangesOnly w w targets (keys call)
+  none call = (same w targets (keys call)).only
 
-  slot_on : (n : ℕ) (value : Descriptor) → keys (Slot n) ≡ true → ChangesOnly w (put_slot w targets.slots n value) targets keys
-  slot_on n value is = (put_on w targets keys w (Slot n) value is (same w targets keys)).only
+  slot_on : (call : Option PlainCall) (n : ℕ) (value : Descriptor) → keys call (Slot n) ≡ true → ChangesOnly w (put_slot w targets.slots n value) targets (keys call)
+  slot_on call n value is = (put_on w targets (keys call) w (Slot n) value is (same w targets (keys call))).only
 
-  closing_only : call ≡ 2 → Only (closing w io targets.slots (arg 0))
+  named-itself : (n : ℕ) → (n == n) ≡ true
+  named-itself n = grind (arith, nat_tests)
+
+  closing_only : Only (Some calls.Close) (closing w io targets.slots (arg 0))
   unfolding may_change
-  closing_only is =
-      ended-cases Only w io (close_refusals w targets.slots (arg 0)) (answering 0 (put_slot w targets.slots (arg 0) Empty) io) (λ _. none)
-      (λ passed. slot_on (arg 0) Empty (grind (arith, nat_tests)))
+  closing_only =
+      ended-cases (Only (Some calls.Close)) w io (close_refusals w targets.slots (arg 0)) (answering 0 (put_slot w targets.slots (arg 0) Empty) io) (λ _. none (Some calls.Close))
+      (λ passed. slot_on (Some calls.Close) (arg 0) Empty (named-itself (arg 0)))
 
-  placed_only : (value : Descriptor) (rows : List (Bool × Refusal)) → (call ≡ 1) ⊎ (call ≡ 3) → (first_refusal rows ≡ None → is_none (lowest_empty w targets.slots) ≡ false) →
-      Only (ended w io rows (placed w io targets.slots value))
+  lowest-itself : (lowest : Option ℕ) → is_none lowest ≡ false → option_map_or (λ m. m == unwrap_or lowest 0) lowest false ≡ true
+  lowest-itself None some = absurd cc
+  lowest-itself (Some n) some = named-itself n
+
+  placed_only : (call : Option PlainCall) (value : Descriptor) (rows : List (Bool × Refusal)) → ((n : ℕ) → is_lowest w targets.slots n ≡ true → keys call (Slot n) ≡ true) →
+      (first_refusal rows ≡ None → is_none (lowest_empty w targets.slots) ≡ false) → Only call (ended w io rows (placed w io targets.slots value))
+  placed_only call value rows fills some =
+      ended-cases (Only call) w io rows (placed w io targets.slots value) (λ _. none call)
+      (λ passed. let n = unwrap_or (lowest_empty w targets.slots) 0 in slot_on call n value (fills n (lowest-itself (lowest_empty w targets.slots) (some passed))))
+
+  uid_only : (uid : ℕ) → Only (Some calls.SetUid) (becoming w io targets.cred uid)
   unfolding may_change
-  placed_only value rows is some =
-      ended-cases Only w io rows (placed w io targets.slots value) (λ _. none)
-      (λ passed. let there = some passed in slot_on (unwrap_or (lowest_empty w targets.slots) 0) value (grind (arith, nat_tests)))
+  uid_only uid =
+      ended-cases (Only (Some calls.SetUid)) w io (uid_refusals w targets.cred uid) (answering 0 (put_uid w targets.cred uid) io) (λ _. none (Some calls.SetUid))
+      (λ passed. (put_on w targets (keys (Some calls.SetUid)) w Cred uid refl (same w targets (keys (Some calls.SetUid)))).only)
 
-  uid_only : (uid : ℕ) → call ≡ 9 → Only (becoming w io targets.cred uid)
-  unfolding may_change
-  uid_only uid is =
-      ended-cases Only w io (uid_refusals w targets.cred uid) (answering 0 (put_uid w targets.cred uid) io) (λ _. none)
-      (λ passed. (put_on w targets keys w Cred uid (grind (arith, nat_tests)) (same w targets keys)).only)
-
-  range_in : (call ≡ 6) ⊎ (call ≡ 7) → (p : ℕ) → (nat_le (arg 0) p && nat_lt p (arg 1)) ≡ true → keys (Page p) ≡ true
-  unfolding may_change
-  range_in is p within = grind (arith, nat_tests)
-
-  mapping_only : (present : Bool) → (call ≡ 6) ⊎ (call ≡ 7) → Only (mapping w io targets.memory (arg 0) (arg 1) present)
-  mapping_only present is =
-      ended-cases Only w io (map_refusals w targets.memory (arg 0) (arg 1) present) (answering 0 (mapped_or_not w targets.memory (arg 0) (arg 1) present) io) (λ _. none)
-      (λ passed. elim present as (λ b. ChangesOnly w (mapped_or_not w targets.memory (arg 0) (arg 1) b) targets keys) [
-        | true ↦ mapped_on w targets keys (arg 0) (arg 1) _ _ (zeros_turn w targets keys (arg 0) (arg 1)) (changes.mapped w targets.memory (arg 0) (arg 1)) (range_in is)
-        | false ↦ mapped_on w targets keys (arg 0) (arg 1) _ _ (absent_turn w targets keys (arg 0) (arg 1)) (changes.unmapped w targets.memory (arg 0) (arg 1)) (range_in is)
+  mapping_only : (call : Option PlainCall) (present : Bool) → ((p : ℕ) → in_range args p ≡ true → keys call (Page p) ≡ true) → Only call (mapping w io targets.memory (arg 0) (arg 1) present)
+  mapping_only call present within =
+      ended-cases (Only call) w io (map_refusals w targets.memory (arg 0) (arg 1) present) (answering 0 (mapped_or_not w targets.memory (arg 0) (arg 1) present) io) (λ _. none call)
+      (λ passed. elim present as (λ b. ChangesOnly w (mapped_or_not w targets.memory (arg 0) (arg 1) b) targets (keys call)) [
+        | true ↦ mapped_on w targets (keys call) (arg 0) (arg 1) _ _ (zeros_turn w targets (keys call) (arg 0) (arg 1)) (changes.mapped w targets.memory (arg 0) (arg 1)) within
+        | false ↦ mapped_on w targets (keys call) (arg 0) (arg 1) _ _ (absent_turn w targets (keys call) (arg 0) (arg 1)) (changes.unmapped w targets.memory (arg 0) (arg 1)) within
       ])
 
-  writing_only : (n at count : ℕ) → Only (writing w io targets n at count)
+  writing_only : (n at count : ℕ) → Only (Some calls.Write) (writing w io targets n at count)
   unfolding writing
   writing_only n at count =
       let value = descriptor_for w targets.slots n in
       let bytes = bytes_for w targets.memory at count in
-      ended-cases Only w io (write_refusals io value count bytes) (answering count w (written io value (unwrap_or bytes []))) (λ _. none) (λ _. none)
+      let same_world = none (Some calls.Write) in
+      ended-cases (Only (Some calls.Write)) w io (write_refusals io value count bytes) (answering count w (written io value (unwrap_or bytes []))) (λ _. same_world) (λ _. same_world)
 
-  pages_in : call ≡ 4 → (p : ℕ) → has_page (read_pages w io targets args) p ≡ true → keys (Page p) ≡ true
-  unfolding may_change
-  pages_in is p within = grind (arith, nat_tests)
+  abbrev read_keys : Key → Bool
+  read_keys = keys (Some calls.Read)
 
-  slot_in : call ≡ 4 → keys (Slot (arg 0)) ≡ true
+  pages_in : (p : ℕ) → has_page (read_pages w io targets args) p ≡ true → read_keys (Page p) ≡ true
   unfolding may_change
-  slot_in is = grind (arith, nat_tests)
+  pages_in p within = within
+
+  slot_in : read_keys (Slot (arg 0)) ≡ true
+  unfolding may_change
+  slot_in = named-itself (arg 0)
 
   done_only : (stored : Stored) (piece : Piece) (value : Descriptor) → is_absent stored ≡ false → is_read_only stored ≡ false → is_full stored ≡ false →
-      (stored ≡ stores.Done w) ⊎ ((stored ≡ stores.Absent) ⊎ (stored ≡ store w targets.memory job piece)) → keys (Slot (arg 0)) ≡ true → PagesIn keys (touched piece.at (length piece.bytes)) →
-      ChangesOnly w (put_slot (world_after w stored) targets.slots (arg 0) value) targets keys
-  done_only stores.Absent piece value there writable room by slot pages = absurd (grind arith)
-  done_only stores.ReadOnly piece value there writable room by slot pages = absurd (grind arith)
-  done_only stores.Full piece value there writable room by slot pages = absurd (grind arith)
-  done_only (stores.Done v) piece value there writable room (inl is) slot pages =
-      let one : w ≡ v = grind arith in subst (λ (u : World). ChangesOnly w (put_slot u targets.slots (arg 0) value) targets keys) one (slot_on (arg 0) value slot)
-  done_only (stores.Done v) piece value there writable room (inr (inl is)) slot pages = absurd (grind arith)
-  done_only (stores.Done v) piece value there writable room (inr (inr is)) slot pages =
-      (put_on w targets keys v (Slot (arg 0)) value slot (store_on w targets keys job piece pages v (sym is))).only
+      (stored ≡ stores.Done w) ⊎ ((stored ≡ stores.Absent) ⊎ (stored ≡ store w targets.memory job piece)) → PagesIn read_keys (touched piece.at (length piece.bytes)) →
+      ChangesOnly w (put_slot (world_after w stored) targets.slots (arg 0) value) targets read_keys
+  done_only stores.Absent piece value there writable room by pages = absurd (grind arith)
+  done_only stores.ReadOnly piece value there writable room by pages = absurd (grind arith)
+  done_only stores.Full piece value there writable room by pages = absurd (grind arith)
+  done_only (stores.Done v) piece value there writable room (inl is) pages =
+      let one : w ≡ v = grind arith in subst (λ (u : World). ChangesOnly w (put_slot u targets.slots (arg 0) value) targets read_keys) one (slot_on (Some calls.Read) (arg 0) value slot_in)
+  done_only (stores.Done v) piece value there writable room (inr (inl is)) pages = absurd (grind arith)
+  done_only (stores.Done v) piece value there writable room (inr (inr is)) pages =
+      (put_on w targets read_keys v (Slot (arg 0)) value slot_in (store_on w targets read_keys job piece pages v (sym is))).only
 
-  reading_only : call ≡ 4 → Only (reading w io targets job (arg 0) (arg 1) (arg 2))
+  reading_only : Only (Some calls.Read) (reading w io targets job (arg 0) (arg 1) (arg 2))
   unfolding reading
-  reading_only is =
+  reading_only =
       let value = descriptor_for w targets.slots (arg 0) in
       let bytes = moved io value (arg 2) in
       let stored = store_at w targets.memory job (arg 1) bytes in
-      ended-cases Only w io (read_refusals io value (arg 2) stored)
-      (answering (length bytes) (put_slot (world_after w stored) targets.slots (arg 0) (read_on (length bytes) value)) io) (λ _. none)
-      (λ passed. done_only stored (record { at = arg 1; bytes = bytes }) (read_on (length bytes) value) (grind arith) (grind arith) (grind arith) (stored-cases w targets.memory job (arg 1) bytes) (slot_in is) (pages_in is))
+      ended-cases (Only (Some calls.Read)) w io (read_refusals io value (arg 2) stored)
+      (answering (length bytes) (put_slot (world_after w stored) targets.slots (arg 0) (read_on (length bytes) value)) io) (λ _. none (Some calls.Read))
+      (λ passed. done_only stored (record { at = arg 1; bytes = bytes }) (read_on (length bytes) value) (grind arith) (grind arith) (grind arith) (stored-cases w targets.memory job (arg 1) bytes) pages_in)
 
-  pub plain_only : Only (plain w io targets job call args)
-  unfolding plain
-  plain_only =
-      by_call Only call (opening w io targets (arg 0)) (closing w io targets.slots (arg 0)) (copying w io targets.slots (arg 0)) (reading w io targets job (arg 0) (arg 1) (arg 2))
-      (writing w io targets (arg 0) (arg 1) (arg 2)) (mapping w io targets.memory (arg 0) (arg 1) true) (mapping w io targets.memory (arg 0) (arg 1) false)
-      (answering (uid_at w targets.cred) w io) (becoming w io targets.cred (arg 0)) (record { answer = Exit (arg 0); world = w; io = io }) (record { answer = Refused BadCall; world = w; io = io })
-      (λ is. placed_only (File (arg 0) 0) (open_refusals w io targets (arg 0)) (inl is) (λ passed. grind arith)) closing_only
-      (λ is. placed_only (descriptor_for w targets.slots (arg 0)) (copy_refusals w targets.slots (arg 0)) (inr is) (λ passed. grind arith)) reading_only (writing_only (arg 0) (arg 1) (arg 2))
-      (λ is. mapping_only true (inl is)) (λ is. mapping_only false (inr is)) none (uid_only (arg 0)) none none
+  pub plain_only : (call : Option PlainCall) → Only call (plain w io targets job call args)
+  unfolding plain may_change
+  plain_only None = none None
+  plain_only (Some calls.Open) = placed_only (Some calls.Open) (File (arg 0) 0) (open_refusals w io targets (arg 0)) (λ n is. is) (λ passed. grind arith)
+  plain_only (Some calls.Close) = closing_only
+  plain_only (Some calls.Dup) = placed_only (Some calls.Dup) (descriptor_for w targets.slots (arg 0)) (copy_refusals w targets.slots (arg 0)) (λ n is. is) (λ passed. grind arith)
+  plain_only (Some calls.Read) = reading_only
+  plain_only (Some calls.Write) = writing_only (arg 0) (arg 1) (arg 2)
+  plain_only (Some calls.Map) = mapping_only (Some calls.Map) true (λ p is. is)
+  plain_only (Some calls.Unmap) = mapping_only (Some calls.Unmap) false (λ p is. is)
+  plain_only (Some calls.GetUid) = none (Some calls.GetUid)
+  plain_only (Some calls.SetUid) = uid_only (arg 0)
+  plain_only (Some calls.Exit) = none (Some calls.Exit)
 
 pub syscall_only : (w : World) (io : Channels) (c : Name) (job : ℕ) (regs : Regs) →
     ChangesOnly w (lw_syscall w io c job regs).world (targets_of w c regs) (may_change w io (targets_of w c regs) (inner_call regs) (inner_args regs))
 unfolding lw_syscall
 syscall_only w io c job regs =
     ended-cases (λ o. ChangesOnly w o.world (targets_of w c regs) (may_change w io (targets_of w c regs) (inner_call regs) (inner_args regs))) w io (refusals w c regs)
-    (plain w io (targets_of w c regs) job (inner_call regs) (inner_args regs)) (λ _. none w io (targets_of w c regs) job (inner_call regs) (inner_args regs))
-    (λ _. plain_only w io (targets_of w c regs) job (inner_call regs) (inner_args regs))
+    (plain w io (targets_of w c regs) job (inner_call regs) (inner_args regs)) (λ _. none w io (targets_of w c regs) job (inner_args regs) (inner_call regs))
+    (λ _. plain_only w io (targets_of w c regs) job (inner_args regs) (inner_call regs))

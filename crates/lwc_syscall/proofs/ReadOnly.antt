@@ -1,5 +1,5 @@
 -- Plain calls leave pages of a context's own that have the right Read.
-use Rattle.std.proofs.Common.{◌≡◌, ◌≢◌, ◌⊎◌, inl, inr, ◌∙◌, ℕ, true, false, List, ap, refl, length, subst, sym, arith}
+use Rattle.std.proofs.Common.{◌≡◌, ◌≢◌, ◌⊎◌, inl, inr, ◌∙◌, ℕ, true, false, List, ap, refl, length, subst, sym, arith, Option, Some, None}
 use Rattle.std.proofs.lemmas.Bool.Decides.{nat_tests}
 use Rattle.std.specs.Prelude.{◌==◌, slice_index}
 use Rattle.guest_call.specs.Guest.{descriptor_for}
@@ -13,10 +13,12 @@ use Rattle.lwc_base.specs.Clones.{AreApart}
 use Rattle.lwc_base.specs.Store.{Piece, Stored, store}
 use Rattle.lwc_base.specs.Store as stores
 use Rattle.lwc_base.specs.World.{World}
-use Rattle.lwc_syscall.specs.Changes.{IsMapped, KeepsReadOnly, may_change}
+use Rattle.lwc_syscall.specs.Changes.{IsMapped, KeepsReadOnly, maps_page, may_change}
 use Rattle.lwc_syscall.specs.Plain.{answering, is_absent, is_full, is_read_only, moved, plain, read_on, read_refusals, reading, store_at, world_after}
 use Rattle.lwc_syscall.specs.Syscall.{inner_args, inner_call, lw_syscall, refusals, targets_of}
 use Rattle.lwc_syscall.specs.declared.calls.CallContexts.{CallContexts}
+use Rattle.lwc_syscall.specs.declared.plain_call.PlainCall.{PlainCall}
+use Rattle.lwc_syscall.specs.declared.plain_call.PlainCall.TheVariants as calls
 use Rattle.lwc_base.proofs.Common.{put-other_cell}
 use Rattle.lwc_base.proofs.Rights.{rights-put_at, store-kept, store-right}
 use Rattle.lwc_syscall.proofs.Does.{ended-cases, stored-cases}
@@ -55,26 +57,29 @@ module _ (w : World) (io : Channels) (targets : CallContexts) (job : ℕ) where
       (answering (length bytes) (put_slot (world_after w stored) targets.slots n (read_on (length bytes) value)) io) (λ _. none_keeps w Out)
       (λ passed. done_keeps Out stored (record { at = at; bytes = bytes }) n (read_on (length bytes) value) (grind arith) (grind arith) (grind arith) (stored-cases w targets.memory job at bytes))
 
-  -- a call that is no read changes no page but those that it maps
-  other_keeps : (call : ℕ) (args : List ℕ) → (call == 4) ≡ false → KeepsReadOnly w (plain w io targets job call args).world (IsMapped targets call args)
-  unfolding may_change
-  other_keeps call args no_read e p value out own read =
-      let only = plain_only w io targets job call args in
-      let elsewhere : may_change w io targets call args (Page p) ≡ true → e ≢ targets.memory = λ may same. out (same, grind arith) in
+  -- a call that changes no page but those that it maps
+  other_keeps : (call : Option PlainCall) (args : List ℕ) → ((p : ℕ) → may_change w io targets call args (Page p) ≡ maps_page call args p) →
+      KeepsReadOnly w (plain w io targets job call args).world (IsMapped targets call args)
+  other_keeps call args mapped e p value out own read =
+      let only = plain_only w io targets job args call in
+      let elsewhere : may_change w io targets call args (Page p) ≡ true → e ≢ targets.memory = λ may same. out (same, sym (mapped p) ∙ may) in
       let apart : may_change w io targets call args (Page p) ≡ true → AreApart w targets.memory e (Page p) =
       λ may. record { differ = λ same. elsewhere may (sym same); no_group = λ g one two. absurd (cc (own, two)) } in
       (only.cells e (Page p) apart ∙ own, only.rights e p elsewhere ∙ read)
 
-  pub plain_keeps : (call : ℕ) (args : List ℕ) → KeepsReadOnly w (plain w io targets job call args).world (IsMapped targets call args)
-  unfolding plain
-  plain_keeps call args =
-      elim (call == 4) as (λ b. (call == 4) ≡ b → KeepsReadOnly w (plain w io targets job call args).world (IsMapped targets call args)) [
-        | false ↦ other_keeps call args
-        | true ↦ λ is.
-            let four : call ≡ 4 = grind (arith, nat_tests) in
-            subst (λ (n : ℕ). KeepsReadOnly w (plain w io targets job n args).world (IsMapped targets n args)) (sym four)
-            (reading_keeps (IsMapped targets 4 args) (slice_index args 0) (slice_index args 1) (slice_index args 2))
-      ] refl
+  pub plain_keeps : (call : Option PlainCall) (args : List ℕ) → KeepsReadOnly w (plain w io targets job call args).world (IsMapped targets call args)
+  unfolding plain may_change
+  plain_keeps None args = other_keeps None args (λ p. refl)
+  plain_keeps (Some calls.Open) args = other_keeps (Some calls.Open) args (λ p. refl)
+  plain_keeps (Some calls.Close) args = other_keeps (Some calls.Close) args (λ p. refl)
+  plain_keeps (Some calls.Dup) args = other_keeps (Some calls.Dup) args (λ p. refl)
+  plain_keeps (Some calls.Read) args = reading_keeps (IsMapped targets (Some calls.Read) args) (slice_index args 0) (slice_index args 1) (slice_index args 2)
+  plain_keeps (Some calls.Write) args = other_keeps (Some calls.Write) args (λ p. refl)
+  plain_keeps (Some calls.Map) args = other_keeps (Some calls.Map) args (λ p. refl)
+  plain_keeps (Some calls.Unmap) args = other_keeps (Some calls.Unmap) args (λ p. refl)
+  plain_keeps (Some calls.GetUid) args = other_keeps (Some calls.GetUid) args (λ p. refl)
+  plain_keeps (Some calls.SetUid) args = other_keeps (Some calls.SetUid) args (λ p. refl)
+  plain_keeps (Some calls.Exit) args = other_keeps (Some calls.Exit) args (λ p. refl)
 
 pub syscall_keeps : (w : World) (io : Channels) (c : Name) (job : ℕ) (regs : Regs) →
     KeepsReadOnly w (lw_syscall w io c job regs).world (IsMapped (targets_of w c regs) (inner_call regs) (inner_args regs))

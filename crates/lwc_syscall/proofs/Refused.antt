@@ -1,5 +1,5 @@
 -- A call that is refused changes nothing.
-use Rattle.std.proofs.Common.{ℕ, true, false, Bool, List, [], length, refl, arith}
+use Rattle.std.proofs.Common.{ℕ, true, false, Bool, List, [], length, refl, arith, Option, Some, None}
 use Rattle.std.specs.Prelude.{slice_index, unwrap_or}
 use Rattle.guest_call.specs.Guest.{descriptor_for}
 use Rattle.lwc_base.specs.Cells.{put_slot, put_uid, uid_at}
@@ -19,7 +19,9 @@ use Rattle.lwc_syscall.specs.Plain.{answering, becoming, close_refusals, closing
 use Rattle.lwc_syscall.specs.Syscall.{inner_args, inner_call, lw_syscall, refusals, targets_of}
 use Rattle.lwc_syscall.specs.declared.answer.CallAnswer.TheVariants.{Exit, Refused}
 use Rattle.lwc_syscall.specs.declared.calls.CallContexts.{CallContexts}
-use Rattle.lwc_syscall.proofs.Does.{by_number, ended-cases}
+use Rattle.lwc_syscall.specs.declared.plain_call.PlainCall.{PlainCall}
+use Rattle.lwc_syscall.specs.declared.plain_call.PlainCall.TheVariants as calls
+use Rattle.lwc_syscall.proofs.Does.{ended-cases}
 
 -- an outcome that answers with a value is not refused
 value-done : (w v : World) (io j : Channels) (value : ℕ) → ChangesIfDone w io (answering value v j)
@@ -51,17 +53,20 @@ module _ (w : World) (io : Channels) (targets : CallContexts) (job : ℕ) where
   mapping-done : (from to : ℕ) (present : Bool) → ChangesIfDone w io (mapping w io targets.memory from to present)
   mapping-done from to present = ended-done w (mapped_or_not w targets.memory from to present) io io (map_refusals w targets.memory from to present) 0
 
-  pub plain-done : (call : ℕ) (args : List ℕ) → ChangesIfDone w io (plain w io targets job call args)
+  pub plain-done : (call : Option PlainCall) (args : List ℕ) → ChangesIfDone w io (plain w io targets job call args)
   unfolding plain
-  plain-done call args =
-      let arg = λ (i : ℕ). slice_index args i in
-      by_number (ChangesIfDone w io) call (opening w io targets (arg 0)) (closing w io targets.slots (arg 0)) (copying w io targets.slots (arg 0)) (reading w io targets job (arg 0) (arg 1) (arg 2))
-      (writing w io targets (arg 0) (arg 1) (arg 2)) (mapping w io targets.memory (arg 0) (arg 1) true) (mapping w io targets.memory (arg 0) (arg 1) false)
-      (answering (uid_at w targets.cred) w io) (becoming w io targets.cred (arg 0)) (record { answer = Exit (arg 0); world = w; io = io }) (record { answer = Refused BadCall; world = w; io = io })
-      (placed-done (File (arg 0) 0) (open_refusals w io targets (arg 0))) (ended-done w (put_slot w targets.slots (arg 0) Empty) io io (close_refusals w targets.slots (arg 0)) 0)
-      (placed-done (descriptor_for w targets.slots (arg 0)) (copy_refusals w targets.slots (arg 0))) (reading-done (arg 0) (arg 1) (arg 2)) (writing-done (arg 0) (arg 1) (arg 2))
-      (mapping-done (arg 0) (arg 1) true) (mapping-done (arg 0) (arg 1) false) (value-done w w io io (uid_at w targets.cred))
-      (ended-done w (put_uid w targets.cred (arg 0)) io io (uid_refusals w targets.cred (arg 0)) 0) (λ refusal is. absurd (grind arith)) (λ _ _. (refl, refl))
+  plain-done None args = λ _ _. (refl, refl)
+  plain-done (Some calls.Open) args = placed-done (File (slice_index args 0) 0) (open_refusals w io targets (slice_index args 0))
+  plain-done (Some calls.Close) args =
+      ended-done w (put_slot w targets.slots (slice_index args 0) Empty) io io (close_refusals w targets.slots (slice_index args 0)) 0
+  plain-done (Some calls.Dup) args = placed-done (descriptor_for w targets.slots (slice_index args 0)) (copy_refusals w targets.slots (slice_index args 0))
+  plain-done (Some calls.Read) args = reading-done (slice_index args 0) (slice_index args 1) (slice_index args 2)
+  plain-done (Some calls.Write) args = writing-done (slice_index args 0) (slice_index args 1) (slice_index args 2)
+  plain-done (Some calls.Map) args = mapping-done (slice_index args 0) (slice_index args 1) true
+  plain-done (Some calls.Unmap) args = mapping-done (slice_index args 0) (slice_index args 1) false
+  plain-done (Some calls.GetUid) args = value-done w w io io (uid_at w targets.cred)
+  plain-done (Some calls.SetUid) args = ended-done w (put_uid w targets.cred (slice_index args 0)) io io (uid_refusals w targets.cred (slice_index args 0)) 0
+  plain-done (Some calls.Exit) args = λ refusal is. absurd cc
 
 pub syscall-done : (w : World) (io : Channels) (c : Name) (job : ℕ) (regs : Regs) → ChangesIfDone w io (lw_syscall w io c job regs)
 unfolding lw_syscall

@@ -1,5 +1,5 @@
 -- What plain calls do to the world and the channels.
-use Rattle.std.specs.Prelude.{◌≡◌, ◌≢◌, ◌<◌, ◌≤◌, ℕ, ◌+◌, ◌==◌, ◌&&◌, ◌||◌, Bool, List, Option, true, false, length, nat_le, nat_lt, slice_index}
+use Rattle.std.specs.Prelude.{◌≡◌, ◌≢◌, ◌<◌, ◌≤◌, ℕ, ◌+◌, ◌==◌, ◌&&◌, Bool, List, Option, Some, true, false, length, nat_le, nat_lt, slice_index}
 use Rattle.std.specs.FinMap as fm
 use Rattle.std.specs.List.{list_any}
 use Rattle.std.specs.Option.{option_map_or}
@@ -29,6 +29,8 @@ use Rattle.lwc_base.specs.declared.page.PageValue.{PageValue}
 use Rattle.lwc_base.specs.declared.refusal.Refusal.{Refusal}
 use Rattle.lwc_base.specs.declared.right.Right.TheVariants.{Read as MayRead}
 use Rattle.lwc_syscall.specs.declared.calls.CallContexts.{CallContexts}
+use Rattle.lwc_syscall.specs.declared.plain_call.PlainCall.{PlainCall}
+use Rattle.lwc_syscall.specs.declared.plain_call.PlainCall.TheVariants as calls
 use Rattle.lwc_syscall.specs.Plain.{Outcome, moved, written}
 use Rattle.lwc_syscall.specs.declared.answer.CallAnswer.TheVariants.{Refused}
 
@@ -79,21 +81,33 @@ read_pages w io targets args =
     touched (slice_index args 1)
     (length (moved io (descriptor_for w targets.slots (slice_index args 0)) (slice_index args 2)))
 
+-- whether a page is in the range of a map or an unmap with these arguments
+abbrev pub in_range : List ℕ → ℕ → Bool
+in_range args p = nat_le (slice_index args 0) p && nat_lt p (slice_index args 1)
+
 -- whether a plain call is a map or an unmap that has a page in its range
-abbrev pub maps_page : ℕ → List ℕ → ℕ → Bool
-maps_page call args p = (call == 6 || call == 7) && nat_le (slice_index args 0) p && nat_lt p (slice_index args 1)
+abbrev pub maps_page : Option PlainCall → List ℕ → ℕ → Bool
+maps_page (Some calls.Map) args p = in_range args p
+maps_page (Some calls.Unmap) args p = in_range args p
+maps_page call args p = false
+
+-- whether a slot is the lowest empty one of a context
+abbrev pub is_lowest : World → Name → ℕ → Bool
+is_lowest w c n = option_map_or (λ m. m == n) (lowest_empty w c) false
 
 -- whether a plain call may change what is under a key: a page that a read touches or that is in the range of
 -- a map or unmap, the slot that an open or a dup fills or that a close or a read names, and the uid by a
 -- setuid
-unfoldable pub may_change : World → Channels → CallContexts → ℕ → List ℕ → Key → Bool
-may_change w io targets call args (Page p) =
-    call == 4 && has_page (read_pages w io targets args) p
-    || maps_page call args p
-may_change w io targets call args (Slot n) =
-    (call == 1 || call == 3) && option_map_or (λ m. m == n) (lowest_empty w targets.slots) false
-    || (call == 2 || call == 4) && n == slice_index args 0
-may_change w io targets call args Cred = call == 9
+unfoldable pub may_change : World → Channels → CallContexts → Option PlainCall → List ℕ → Key → Bool
+may_change w io targets (Some calls.Open) args (Slot n) = is_lowest w targets.slots n
+may_change w io targets (Some calls.Close) args (Slot n) = n == slice_index args 0
+may_change w io targets (Some calls.Dup) args (Slot n) = is_lowest w targets.slots n
+may_change w io targets (Some calls.Read) args (Slot n) = n == slice_index args 0
+may_change w io targets (Some calls.Read) args (Page p) = has_page (read_pages w io targets args) p
+may_change w io targets (Some calls.Map) args (Page p) = in_range args p
+may_change w io targets (Some calls.Unmap) args (Page p) = in_range args p
+may_change w io targets (Some calls.SetUid) args Cred = true
+may_change w io targets call args k = false
 
 -- nothing has changed but what is under some keys of the three contexts, and of each context that has it in
 -- common
@@ -113,7 +127,7 @@ KeepsReadOnly w v IsLeftOut =
     (context w e).cell (Page p) ≡ Own value → right_at w e p ≡ MayRead → ((context v e).cell (Page p) ≡ Own value) × (right_at v e p ≡ MayRead)
 
 -- the memory of three contexts is this one, and a call maps or unmaps this page of it
-abbrev pub IsMapped : CallContexts → ℕ → List ℕ → Name → ℕ → Type 0
+abbrev pub IsMapped : CallContexts → Option PlainCall → List ℕ → Name → ℕ → Type 0
 IsMapped targets call args e p = (e ≡ targets.memory) × (maps_page call args p ≡ true)
 
 -- what runs keep: the world is sound, and has the contexts and files that its slots name
@@ -140,10 +154,16 @@ pub data CutsNone (w : World) (targets : CallContexts) (job : ℕ) : World → T
       store w targets.memory job piece ≡ Done v → LosesNone (slot_at v targets.slots n) value →
       CutsNone w targets job (put_slot v targets.slots n value)
 
--- the plain calls that cut no link: open, dup, read, and those that leave the world
-abbrev pub cuts_none : ℕ → Bool
-cuts_none call = call == 1 || call == 3 || call == 4
+-- whether a plain call cuts no link, though it changes the world: an open, a dup, a read
+abbrev pub cuts_none : Option PlainCall → Bool
+cuts_none (Some calls.Open) = true
+cuts_none (Some calls.Dup) = true
+cuts_none (Some calls.Read) = true
+cuts_none call = false
 
--- the plain calls that leave the world: write, getuid and exit
-abbrev pub leaves_world : ℕ → Bool
-leaves_world call = call == 5 || call == 8 || call == 10
+-- whether a plain call leaves the world: a write, a getuid, an exit
+abbrev pub leaves_world : Option PlainCall → Bool
+leaves_world (Some calls.Write) = true
+leaves_world (Some calls.GetUid) = true
+leaves_world (Some calls.Exit) = true
+leaves_world call = false

@@ -1,4 +1,4 @@
--- The plain calls, 1 to 10, over a context for the memory, one for the slots and one for the credential.
+-- The plain calls over a context for the memory, one for the slots and one for the credential.
 use Rattle.std.specs.Prelude.{ℕ, ◌+◌, ◌*◌, ◌==◌, ◌||◌, ◌^◌, if◌then◌else◌, Bool, true, false, not, List, [], ◌∷◌, ◌++◌, Option, None, Some, drop, is_none, length, nat_le, nat_lt, slice_get, slice_index, slice_set, take, unwrap_or}
 use Rattle.std.specs.Option.{option_map_or}
 use Rattle.guest_call.specs.Guest.{descriptor_for}
@@ -23,6 +23,8 @@ use Rattle.lwc_base.specs.declared.refusal.Refusal.TheVariants.{BadCall, BadFd, 
 use Rattle.lwc_syscall.specs.declared.answer.CallAnswer.{CallAnswer}
 use Rattle.lwc_syscall.specs.declared.answer.CallAnswer.TheVariants.{Value, Exit, Refused}
 use Rattle.lwc_syscall.specs.declared.calls.CallContexts.{CallContexts}
+use Rattle.lwc_syscall.specs.declared.plain_call.PlainCall.{PlainCall}
+use Rattle.lwc_syscall.specs.declared.plain_call.PlainCall.TheVariants as calls
 
 -- how a call ends: its answer, and the world and the channels afterwards
 pub record Outcome : Type 0 where
@@ -206,18 +208,36 @@ uid_refusals w c uid = (nat_le (2 ^ 32) uid, BadRange) ∷ (not (may_set (uid_at
 abbrev pub becoming : World → Channels → Name → ℕ → Outcome
 becoming w io c uid = ended w io (uid_refusals w c uid) (answering 0 (put_uid w c uid) io)
 
--- a plain call by its number: calls 8 and 10 answer with the uid, and with the code of an exit
-unfoldable pub plain : World → Channels → CallContexts → ℕ → ℕ → List ℕ → Outcome
-plain w io targets job call args =
-    let arg = slice_index args in
-    if call == 1 then opening w io targets (arg 0)
-    else (if call == 2 then closing w io targets.slots (arg 0)
-    else (if call == 3 then copying w io targets.slots (arg 0)
-    else (if call == 4 then reading w io targets job (arg 0) (arg 1) (arg 2)
-    else (if call == 5 then writing w io targets (arg 0) (arg 1) (arg 2)
-    else (if call == 6 then mapping w io targets.memory (arg 0) (arg 1) true
-    else (if call == 7 then mapping w io targets.memory (arg 0) (arg 1) false
-    else (if call == 8 then answering (uid_at w targets.cred) w io
-    else (if call == 9 then becoming w io targets.cred (arg 0)
-    else (if call == 10 then record { answer = Exit (arg 0); world = w; io = io }
-    else record { answer = Refused BadCall; world = w; io = io })))))))))
+-- the plain call of a number, if one has it
+abbrev pub plain_call : ℕ → Option PlainCall
+plain_call number =
+    if number == 1 then Some calls.Open
+    else (if number == 2 then Some calls.Close
+    else (if number == 3 then Some calls.Dup
+    else (if number == 4 then Some calls.Read
+    else (if number == 5 then Some calls.Write
+    else (if number == 6 then Some calls.Map
+    else (if number == 7 then Some calls.Unmap
+    else (if number == 8 then Some calls.GetUid
+    else (if number == 9 then Some calls.SetUid
+    else (if number == 10 then Some calls.Exit
+    else None)))))))))
+
+-- a plain call with its arguments: a getuid answers with the uid, an exit with the thread's code, and no call is
+-- refused
+unfoldable pub plain : World → Channels → CallContexts → ℕ → Option PlainCall → List ℕ → Outcome
+plain w io targets job None args = record { answer = Refused BadCall; world = w; io = io }
+plain w io targets job (Some calls.Open) args = opening w io targets (slice_index args 0)
+plain w io targets job (Some calls.Close) args = closing w io targets.slots (slice_index args 0)
+plain w io targets job (Some calls.Dup) args = copying w io targets.slots (slice_index args 0)
+plain w io targets job (Some calls.Read) args =
+    reading w io targets job (slice_index args 0) (slice_index args 1) (slice_index args 2)
+plain w io targets job (Some calls.Write) args =
+    writing w io targets (slice_index args 0) (slice_index args 1) (slice_index args 2)
+plain w io targets job (Some calls.Map) args =
+    mapping w io targets.memory (slice_index args 0) (slice_index args 1) true
+plain w io targets job (Some calls.Unmap) args =
+    mapping w io targets.memory (slice_index args 0) (slice_index args 1) false
+plain w io targets job (Some calls.GetUid) args = answering (uid_at w targets.cred) w io
+plain w io targets job (Some calls.SetUid) args = becoming w io targets.cred (slice_index args 0)
+plain w io targets job (Some calls.Exit) args = record { answer = Exit (slice_index args 0); world = w; io = io }

@@ -1,5 +1,5 @@
 -- The call that makes a plain call over contexts that a mask chooses.
-use Rattle.std.specs.Prelude.{◌≡◌, ◌≤◌, true, Some, ℕ, if◌then◌else◌, ◌||◌, ◌++◌, Bool, not, List, [], ◌∷◌, nat_lt, slice_index, unwrap_or}
+use Rattle.std.specs.Prelude.{◌≡◌, ◌≤◌, true, Option, Some, ℕ, if◌then◌else◌, ◌||◌, ◌++◌, Bool, not, List, [], ◌∷◌, nat_lt, slice_index, unwrap_or}
 use Rattle.access_cap.specs.Kinds.{has_kinds, is_chosen}
 use Rattle.guest_call.specs.Guest.{descriptor_for, link_of, slot_refusals}
 use Rattle.lwc_base.specs.Capabilities.{empty_cap}
@@ -12,8 +12,9 @@ use Rattle.lwc_base.specs.declared.name.Name.{Name}
 use Rattle.lwc_base.specs.declared.refusal.Refusal.{Refusal}
 use Rattle.lwc_base.specs.declared.refusal.Refusal.TheVariants.{BadCall, BadMode, NotCovered}
 use Rattle.lwc_base.specs.declared.regs.Regs.{Regs}
-use Rattle.lwc_syscall.specs.Plain.{Outcome, ended, plain}
+use Rattle.lwc_syscall.specs.Plain.{Outcome, ended, plain, plain_call}
 use Rattle.lwc_syscall.specs.declared.calls.CallContexts.{CallContexts}
+use Rattle.lwc_syscall.specs.declared.plain_call.PlainCall.{PlainCall}
 
 -- the context that the slot in r1 has a descriptor of, with the capability
 abbrev pub link : World → Name → Regs → Name × Cap
@@ -24,8 +25,12 @@ abbrev pub mask_in : Regs → ℕ
 mask_in regs = slice_index regs.r 2
 
 -- the number of the inner call, in r3
-abbrev pub inner_call : Regs → ℕ
-inner_call regs = slice_index regs.r 3
+abbrev pub inner_number : Regs → ℕ
+inner_number regs = slice_index regs.r 3
+
+-- the inner call, if a plain one has that number
+abbrev pub inner_call : Regs → Option PlainCall
+inner_call regs = plain_call (inner_number regs)
 
 -- the arguments of the inner call, in r4 to r6
 abbrev pub inner_args : Regs → List ℕ
@@ -49,7 +54,7 @@ refusals w c regs =
     slot_refusals w c (slice_index regs.r 1)
     ++ ((nat_lt 7 (mask_in regs), BadMode)
     ∷ (not (has_kinds w.size.pages (link w c regs).1 (mask_in regs)), NotCovered)
-    ∷ (nat_lt (inner_call regs) 1 || nat_lt 9 (inner_call regs), BadCall) ∷ [])
+    ∷ (nat_lt (inner_number regs) 1 || nat_lt 9 (inner_number regs), BadCall) ∷ [])
 
 -- the call: the inner one over the three contexts, with its own refusals
 unfoldable pub lw_syscall : World → Channels → Name → ℕ → Regs → Outcome
@@ -61,4 +66,4 @@ pub record IsAllowed (w : World) (c : Name) (regs : Regs) : Type 0 where
   pub found : link_of (descriptor_for w c (slice_index regs.r 1)) ≡ Some (link w c regs)
   pub live : (kind : Kind) → is_live w (taken_from w c regs kind) ≡ true
   pub covered : has_kinds w.size.pages (link w c regs).1 (mask_in regs) ≡ true
-  pub inner : (1 ≤ inner_call regs) × (inner_call regs ≤ 9)
+  pub inner : (1 ≤ inner_number regs) × (inner_number regs ≤ 9)

@@ -6,6 +6,7 @@ ghost use Rattle.world_face.specs.Calls.{IsLive, MayName};
 use crate::answer::CallAnswer;
 use crate::bytes::{read, write};
 use crate::pages::map;
+use crate::plain_call::PlainCall;
 use crate::slots::{close, dup, open};
 use crate::uids::set_uid;
 use lwc_base::{Channels, Name, OutOfMemory, Refusal};
@@ -19,15 +20,15 @@ pub struct CallContexts {
     pub cred: Name,
 }
 
-/// Makes the call of a number over three contexts, for a job, with its three arguments (`plain`). The only
-/// error is out of memory, and then nothing has changed.
+/// Makes a plain call over three contexts, for a job, with its three arguments (`plain`); no call is refused. The
+/// only error is out of memory, and then nothing has changed.
 #[tactic(auto, unfolding(crate::specs::Plain::plain))]
 pub fn plain<W: World>(
     world: &mut W,
     io: &mut Channels,
     targets: &CallContexts,
     job: u32,
-    call: u32,
+    call: Option<PlainCall>,
     args: [u64; 3],
 ) -> Result<CallAnswer, OutOfMemory>
     requires memory { IsLive (W.seen world.old) targets.now.memory }
@@ -43,16 +44,16 @@ pub fn plain<W: World>(
 {
     let [first, second, third] = args;
     match call {
-        1 => Ok(open(world, io.files(), targets, first)),
-        2 => Ok(close(world, targets.slots, first)),
-        3 => Ok(dup(world, targets.slots, first)),
-        4 => read(world, io, targets, job, first, second, third),
-        5 => Ok(write(world, io, targets, first, second, third)),
-        6 => map(world, targets.memory, first, second, true),
-        7 => map(world, targets.memory, first, second, false),
-        8 => Ok(CallAnswer::Value(u64::from(world.uid(targets.cred)))),
-        9 => Ok(set_uid(world, targets.cred, first)),
-        10 => Ok(CallAnswer::Exit(first)),
-        _ => Ok(CallAnswer::Refused(Refusal::BadCall)),
+        Some(PlainCall::Open) => Ok(open(world, io.files(), targets, first)),
+        Some(PlainCall::Close) => Ok(close(world, targets.slots, first)),
+        Some(PlainCall::Dup) => Ok(dup(world, targets.slots, first)),
+        Some(PlainCall::Read) => read(world, io, targets, job, first, second, third),
+        Some(PlainCall::Write) => Ok(write(world, io, targets, first, second, third)),
+        Some(PlainCall::Map) => map(world, targets.memory, first, second, true),
+        Some(PlainCall::Unmap) => map(world, targets.memory, first, second, false),
+        Some(PlainCall::GetUid) => Ok(CallAnswer::Value(u64::from(world.uid(targets.cred)))),
+        Some(PlainCall::SetUid) => Ok(set_uid(world, targets.cred, first)),
+        Some(PlainCall::Exit) => Ok(CallAnswer::Exit(first)),
+        None => Ok(CallAnswer::Refused(Refusal::BadCall)),
     }
 }

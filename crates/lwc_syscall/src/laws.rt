@@ -1,6 +1,6 @@
 //! Laws of the calls: functions with empty bodies, each with a contract that is the law.
 
-ghost use Rattle.std.specs.Prelude.{◌≡◌, ◌⊎◌, ℕ, List, None, true};
+ghost use Rattle.std.specs.Prelude.{◌≡◌, ◌⊎◌, ℕ, List, None, Option, true};
 ghost use Rattle.lwc_base.specs.Capabilities.{has_key};
 ghost use Rattle.lwc_base.specs.Channels.{Channels, HasItsFiles};
 ghost use Rattle.lwc_base.specs.Jobs.{NamesKeepToJobs};
@@ -18,12 +18,14 @@ ghost use Rattle.lwc_syscall.specs.Plain.{plain};
 ghost use Rattle.lwc_syscall.specs.Syscall.{IsAllowed, inner_args, inner_call, link, lw_syscall, refusals};
 ghost use Rattle.lwc_syscall.specs.Syscall.{targets_of};
 ghost use Rattle.lwc_syscall.specs.declared.calls.CallContexts.{CallContexts};
+ghost use Rattle.lwc_syscall.specs.declared.plain_call.PlainCall.{PlainCall};
 
 /// A plain call does at most one thing: a put under a slot or of the credential, a mapping, a store and
 /// then a put, or a write. A descriptor that it puts is in range, and of a live context if it is of one;
 /// of the job's own, where names keep to their jobs.
 pub fn a_plain_call_does_one_thing()
-    ensures { (w : World) (io : Channels) (targets : CallContexts) (job call : ℕ) (args : List ℕ) → HasItsContexts w →
+    ensures { (w : World) (io : Channels) (targets : CallContexts) (job : ℕ)
+        (call : Option PlainCall) (args : List ℕ) → HasItsContexts w →
         HasItsFiles io w → is_live w targets.slots ≡ true → IsPlainChange w io targets job
         (plain w io targets job call args).world (plain w io targets job call args).io }
 {}
@@ -31,7 +33,8 @@ pub fn a_plain_call_does_one_thing()
 /// A plain call changes what it may: a page, a slot or the uid of one of its three contexts, also for the
 /// contexts that have it in common. It changes nothing else.
 pub fn a_plain_call_changes_what_it_may()
-    ensures plain { (w : World) (io : Channels) (targets : CallContexts) (job call : ℕ) (args : List ℕ) →
+    ensures plain { (w : World) (io : Channels) (targets : CallContexts) (job : ℕ)
+        (call : Option PlainCall) (args : List ℕ) →
         ChangesOnly w (plain w io targets job call args).world targets (may_change w io targets call args) }
     ensures syscall { (w : World) (io : Channels) (c : Name) (job : ℕ) (regs : Regs) →
         ChangesOnly w (lw_syscall w io c job regs).world (targets_of w c regs)
@@ -41,7 +44,8 @@ pub fn a_plain_call_changes_what_it_may()
 /// A plain call leaves each page of a context's own that has the right Read as it is, with its right, but for
 /// those that it maps or unmaps.
 pub fn a_plain_call_leaves_what_is_read_only()
-    ensures plain { (w : World) (io : Channels) (targets : CallContexts) (job call : ℕ) (args : List ℕ) →
+    ensures plain { (w : World) (io : Channels) (targets : CallContexts) (job : ℕ)
+        (call : Option PlainCall) (args : List ℕ) →
         KeepsReadOnly w (plain w io targets job call args).world (IsMapped targets call args) }
     ensures syscall { (w : World) (io : Channels) (c : Name) (job : ℕ) (regs : Regs) →
         KeepsReadOnly w (lw_syscall w io c job regs).world
@@ -96,7 +100,8 @@ pub fn calls_keep_names_to_their_jobs()
 
 /// A call that is refused changes nothing.
 pub fn a_refused_call_changes_nothing()
-    ensures plain { (w : World) (io : Channels) (targets : CallContexts) (job call : ℕ) (args : List ℕ) →
+    ensures plain { (w : World) (io : Channels) (targets : CallContexts) (job : ℕ)
+        (call : Option PlainCall) (args : List ℕ) →
         ChangesIfDone w io (plain w io targets job call args) }
     ensures syscall { (w : World) (io : Channels) (c : Name) (job : ℕ) (regs : Regs) →
         ChangesIfDone w io (lw_syscall w io c job regs) }
@@ -105,9 +110,11 @@ pub fn a_refused_call_changes_nothing()
 /// What an open, a dup and a read change loses no descriptor of a context, and a write, a getuid and an
 /// exit leave the world: no link is cut. So it is where they are made over chosen contexts.
 pub fn some_plain_calls_cut_no_link()
-    ensures none { (w : World) (io : Channels) (targets : CallContexts) (job call : ℕ) (args : List ℕ) →
+    ensures none { (w : World) (io : Channels) (targets : CallContexts) (job : ℕ)
+        (call : Option PlainCall) (args : List ℕ) →
         cuts_none call ≡ true → CutsNone w targets job (plain w io targets job call args).world }
-    ensures same { (w : World) (io : Channels) (targets : CallContexts) (job call : ℕ) (args : List ℕ) →
+    ensures same { (w : World) (io : Channels) (targets : CallContexts) (job : ℕ)
+        (call : Option PlainCall) (args : List ℕ) →
         leaves_world call ≡ true → (plain w io targets job call args).world ≡ w }
     ensures chosen_none { (w : World) (io : Channels) (c : Name) (job : ℕ) (regs : Regs) →
         cuts_none (inner_call regs) ≡ true

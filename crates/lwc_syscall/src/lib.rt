@@ -8,9 +8,11 @@ pub mod calls;
 pub mod laws;
 pub mod over;
 pub mod pages;
+pub mod plain_call;
 pub mod slots;
 pub mod uids;
 
 pub use answer::CallAnswer;
 pub use calls::{CallContexts, plain};
 pub use over::lw_syscall;
+pub use plain_call::PlainCall;

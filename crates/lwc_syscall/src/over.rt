@@ -1,4 +1,4 @@
-ghost use Rattle.std.specs.Prelude.{◌≡◌, ◌≤◌, None, Some, true, IfErr, IfOk, IsOk, OnErr, slice_index};
+ghost use Rattle.std.specs.Prelude.{◌≡◌, None, Some, true, IfErr, IfOk, IsOk, OnErr, slice_index};
 ghost use Rattle.lwc_base.specs.Channels.{HasItsFiles};
 ghost use Rattle.lwc_base.specs.Life.{HasItsContexts};
 ghost use Rattle.lwc_base.specs.Refusals.{first_refusal};
@@ -7,6 +7,7 @@ ghost use Rattle.world_face.specs.Calls.{IsLive, MayName};
 
 use crate::answer::CallAnswer;
 use crate::calls::{CallContexts, plain};
+use crate::plain_call::PlainCall;
 use access_cap::{Mask, grants_kinds};
 use guest_call::context_for;
 use lwc_base::{Channels, Kind, Name, OutOfMemory, Refusal, Regs};
@@ -38,7 +39,7 @@ pub fn lw_syscall<W: World>(
         Err(refusal) => return Ok(CallAnswer::Refused(refusal)),
     };
     let args = [regs.r[4], regs.r[5], regs.r[6]];
-    plain(world, io, &targets, job, regs.r[3] as u32, args)
+    plain(world, io, &targets, job, PlainCall::of(regs.r[3]), args)
 }
 
 /// The contexts of the inner call, or the first refusal before it is looked at.
@@ -51,7 +52,6 @@ fn chosen<W: World>(world: &W, c: Name, regs: &Regs) -> Result<CallContexts, Ref
     ensures passed { IfOk result (λ targets.
         first_refusal (spec.refusals (W.seen world.now) c regs.now) ≡ None) }
     ensures targets { IfOk result (λ targets. targets ≡ spec.targets_of (W.seen world.now) c regs.now) }
-    ensures call { IfOk result (λ targets. spec.inner_call regs.now ≤ 9) }
     ensures memory { IfOk result (λ targets. IsLive (W.seen world.now) targets.memory) }
     ensures slots { IfOk result (λ targets. IsLive (W.seen world.now) targets.slots) }
     ensures cred { IfOk result (λ targets. IsLive (W.seen world.now) targets.cred) }

@@ -26,6 +26,7 @@ use Rattle.vault_calls.proofs.Alike.{calls-alike}
 use Rattle.vault_view.proofs.Changes.{asks-alike, blanks-alike, changes-alike}
 use Rattle.vault_view.specs.Blank.{blank, blank_stored}
 use Rattle.vault_view.specs.Facts.{AsksAlike}
+use Rattle.lwc_syscall.specs.Plain.{plain_call}
 
 abbrev pub blank_env : Environment → Environment
 blank_env e = with_world e (blank vault_name e.world)
@@ -56,7 +57,7 @@ module _ (t : ℕ) (e : Environment) (x : Thread) (outside : IsOutside vault_nam
       (either-out (eqb number LW_RESTRICT) _ _ _ _ (ap (call_outcome (blank_env e) x) (alike.restrict x.regs))
       (either-out (eqb number LW_OVERLAY) _ _ _ _ (ap (call_outcome (blank_env e) x) (alike.overlay x.regs))
       (either-out (eqb number LW_SYSCALL) _ _ _ _ (ap (ended_outcome x) (alike.syscall x.regs))
-      (ap (ended_outcome x) (alike.plain (three_times c) number (args_of x.regs) (record { memory = outside.context; slots = outside.context; cred = outside.context })))))))
+      (ap (ended_outcome x) (alike.plain (three_times c) (plain_call number) (args_of x.regs) (record { memory = outside.context; slots = outside.context; cred = outside.context })))))))
 
   stored-blank : (s : Stored) → stored_outcome (blank_env e) x (blank_stored vault_name s) ≡ blank_out (stored_outcome e x s)
   stored-blank Absent = refl

@@ -29,9 +29,10 @@ use Rattle.lwc_create.specs.Create.{create}
 use Rattle.lwc_overlay.specs.OverlayCall.{overlay}
 use Rattle.lwc_overlay.specs.RestrictCall.{restrict}
 use Rattle.lwc_syscall.specs.Plain as calls
-use Rattle.lwc_syscall.specs.Plain.{plain}
+use Rattle.lwc_syscall.specs.Plain.{plain, plain_call}
 use Rattle.lwc_syscall.specs.Syscall.{lw_syscall}
 use Rattle.lwc_syscall.specs.declared.answer.CallAnswer.TheVariants as ends
+use Rattle.lwc_syscall.specs.declared.plain_call.PlainCall.{PlainCall}
 use Rattle.request_isolation.specs.Needs.{CallIsFull, IsFull, StoreIsFull, WantsFrames}
 use Rattle.job_calls.proofs.Calling.{create-alike, overlay-alike, restrict-alike, switch-alike}
 use Rattle.job_calls.proofs.PlainAlike.{plain-alike, syscall-alike}
@@ -127,13 +128,13 @@ module _ (home : Home) (r t s : ℕ) (e f : Environment) (x : Thread) (here : x.
   alike_ended : (first second : calls.Outcome) → OutcomesAlike home r t s first second → ActsAlike home r t s (ended_outcome x first) (ended_outcome x second)
   alike_ended first second both = record { thread = ap (plainly x) both.answer; worlds = both.worlds; channels = both.channels }
 
-  alike_plain : (number : ℕ) (args : List ℕ) → (plain e.world e.channels (three_times x.context) x.job number args).answer ≢ ends.Refused NoFrame →
-      (plain f.world f.channels (three_times x.context) x.job number args).answer ≢ ends.Refused NoFrame →
-      ActsAlike home r t s (ended_outcome x (plain e.world e.channels (three_times x.context) x.job number args)) (ended_outcome x (plain f.world f.channels (three_times x.context) x.job number args))
-  alike_plain number args first second =
-      subst (λ (j : ℕ). (plain e.world e.channels (three_times x.context) j number args).answer ≢ ends.Refused NoFrame → (plain f.world f.channels (three_times x.context) j number args).answer ≢ ends.Refused NoFrame →
-      ActsAlike home r t s (ended_outcome x (plain e.world e.channels (three_times x.context) j number args)) (ended_outcome x (plain f.world f.channels (three_times x.context) j number args))) (sym job)
-      (λ one two. alike_ended _ _ (plain-alike home r t s (three_times x.context) e.world f.world e.channels f.channels (record { memory = here; slots = here; cred = here }) like same number args one two))
+  alike_plain : (call : Option PlainCall) (args : List ℕ) → (plain e.world e.channels (three_times x.context) x.job call args).answer ≢ ends.Refused NoFrame →
+      (plain f.world f.channels (three_times x.context) x.job call args).answer ≢ ends.Refused NoFrame →
+      ActsAlike home r t s (ended_outcome x (plain e.world e.channels (three_times x.context) x.job call args)) (ended_outcome x (plain f.world f.channels (three_times x.context) x.job call args))
+  alike_plain call args first second =
+      subst (λ (j : ℕ). (plain e.world e.channels (three_times x.context) j call args).answer ≢ ends.Refused NoFrame → (plain f.world f.channels (three_times x.context) j call args).answer ≢ ends.Refused NoFrame →
+      ActsAlike home r t s (ended_outcome x (plain e.world e.channels (three_times x.context) j call args)) (ended_outcome x (plain f.world f.channels (three_times x.context) j call args))) (sym job)
+      (λ one two. alike_ended _ _ (plain-alike home r t s (three_times x.context) e.world f.world e.channels f.channels (record { memory = here; slots = here; cred = here }) like same call args one two))
       first second
 
   alike_syscall : (lw_syscall e.world e.channels x.context x.job x.regs).answer ≢ ends.Refused NoFrame → (lw_syscall f.world f.channels x.context x.job x.regs).answer ≢ ends.Refused NoFrame →
@@ -146,9 +147,9 @@ module _ (home : Home) (r t s : ℕ) (e f : Environment) (x : Thread) (here : x.
 
   -- a call that is not refused for want of frames
   chosen_call : (number : ℕ) (env : Environment) → (CallIsFull number env x → ⊥) → (b : Bool) → eqb number LW_SYSCALL ≡ b →
-      (cond b (lw_syscall env.world env.channels x.context x.job x.regs) (plain env.world env.channels (three_times x.context) x.job number (args_of x.regs))).answer ≢ ends.Refused NoFrame
+      (cond b (lw_syscall env.world env.channels x.context x.job x.regs) (plain env.world env.channels (three_times x.context) x.job (plain_call number) (args_of x.regs))).answer ≢ ends.Refused NoFrame
   chosen_call number env spared b is full =
-      spared (ap (λ c. (cond c (lw_syscall env.world env.channels x.context x.job x.regs) (plain env.world env.channels (three_times x.context) x.job number (args_of x.regs))).answer) is ∙ full)
+      spared (ap (λ c. (cond c (lw_syscall env.world env.channels x.context x.job x.regs) (plain env.world env.channels (three_times x.context) x.job (plain_call number) (args_of x.regs))).answer) is ∙ full)
 
   alike_guest : (number : ℕ) → (CallIsFull number e x → ⊥) → (CallIsFull number f x → ⊥) → ActsAlike home r t s (guest_calls number t e x) (guest_calls number s f x)
   unfolding guest_calls
@@ -158,7 +159,7 @@ module _ (home : Home) (r t s : ℕ) (e f : Environment) (x : Thread) (here : x.
       (λ is. chosen (eqb number LW_RESTRICT) _ _ _ _ (λ is. alike_restrict)
       (λ is. chosen (eqb number LW_OVERLAY) _ _ _ _ (λ is. alike_overlay)
       (λ is. chosen (eqb number LW_SYSCALL) _ _ _ _ (λ is. alike_syscall (chosen_call number e first true is) (chosen_call number f second true is))
-      (λ is. alike_plain number (args_of x.regs) (chosen_call number e first false is) (chosen_call number f second false is))))))
+      (λ is. alike_plain (plain_call number) (args_of x.regs) (chosen_call number e first false is) (chosen_call number f second false is))))))
 
   alike_shared : (i : Instr) (op : Op) → (IsFull e x i op → ⊥) → (IsFull f x i op → ⊥) → ActsAlike home r t s (shared_outcome guest_calls t e x i op) (shared_outcome guest_calls s f x i op)
   unfolding shared_outcome

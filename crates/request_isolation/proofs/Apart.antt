@@ -28,10 +28,11 @@ use Rattle.lwc_create.specs.Create.{create}
 use Rattle.lwc_overlay.specs.OverlayCall.{overlay}
 use Rattle.lwc_overlay.specs.RestrictCall.{restrict}
 use Rattle.lwc_switch.specs.Switch.{switch}
-use Rattle.lwc_syscall.specs.Plain.{plain}
+use Rattle.lwc_syscall.specs.Plain.{plain, plain_call}
 use Rattle.lwc_syscall.specs.Syscall.{lw_syscall}
 use Rattle.lwc_syscall.specs.declared.answer.CallAnswer.{CallAnswer}
 use Rattle.lwc_syscall.specs.declared.answer.CallAnswer.TheVariants as ends
+use Rattle.lwc_syscall.specs.declared.plain_call.PlainCall.{PlainCall}
 use Rattle.job_calls.proofs.Apart.{LeavesOthers, create-leaves, leaves_stored, overlay-leaves, plain-leaves, plain-same, restrict-leaves, switch-leaves, switch-target, syscall-leaves, syscall-same}
 
 -- an environment after a change for a job
@@ -119,14 +120,14 @@ module _ (home : Home) (e : Environment) (x : Thread) (here : x.context.job ≡ 
   apart_switch : (t : ℕ) → Apart home x.job e (with_world e (switch e.world x.context t x.regs).1)
   apart_switch s = apart_world _ (switch-leaves home x.context e.world not_nobody jobs x.regs s)
 
-  acts_plain : (number : ℕ) (args : List ℕ) → ActsApart home x.job e (ended_outcome x (plain e.world e.channels (three_times x.context) x.job number args))
-  acts_plain number args =
+  acts_plain : (call : Option PlainCall) (args : List ℕ) → ActsApart home x.job e (ended_outcome x (plain e.world e.channels (three_times x.context) x.job call args))
+  acts_plain call args =
       let of_job : AreOf x.job (three_times x.context) = record { memory = here; slots = here; cred = here } in
-      let leaves = plain-leaves home x.job (three_times x.context) e.world e.channels some_job of_job jobs number args in
+      let leaves = plain-leaves home x.job (three_times x.context) e.world e.channels some_job of_job jobs call args in
       acts_answer _ _ (record {
         jobs = leaves.kept;
         hidden = leaves.hidden;
-        channels = λ r apart. plain-same home x.job r (three_times x.context) e.world e.channels apart of_job jobs number args;
+        channels = λ r apart. plain-same home x.job r (three_times x.context) e.world e.channels apart of_job jobs call args;
       })
 
   acts_syscall : ActsApart home x.job e (ended_outcome x (lw_syscall e.world e.channels x.context x.job x.regs))
@@ -145,7 +146,7 @@ module _ (home : Home) (e : Environment) (x : Thread) (here : x.context.job ≡ 
       (acts_chosen (eqb number LW_SWITCH) _ _ (acts_moved _ _ (apart_switch t) (λ d arrived is. switch-target home x.context d t e.world x.regs arrived jobs is))
       (acts_chosen (eqb number LW_RESTRICT) _ _ (acts_call _ _ apart_restrict)
       (acts_chosen (eqb number LW_OVERLAY) _ _ (acts_call _ _ apart_overlay)
-      (acts_chosen (eqb number LW_SYSCALL) _ _ acts_syscall (acts_plain number _)))))
+      (acts_chosen (eqb number LW_SYSCALL) _ _ acts_syscall (acts_plain (plain_call number) _)))))
 
   acts_shared : (t : ℕ) (i : Instr) (op : Op) → ActsApart home x.job e (shared_outcome guest_calls t e x i op)
   unfolding shared_outcome

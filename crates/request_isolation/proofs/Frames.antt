@@ -62,9 +62,11 @@ use Rattle.lwc_overlay.specs.RestrictCall as restricting
 use Rattle.lwc_switch.specs.Switch as switching
 use Rattle.lwc_syscall.specs.Plain as calls
 use Rattle.lwc_base.specs.Refusals.{first_refusal}
-use Rattle.lwc_syscall.specs.Plain.{Outcome, answering, moved, placed, plain, read_on, refused_or, world_after}
+use Rattle.lwc_syscall.specs.Plain.{Outcome, answering, moved, placed, plain, read_on, refused_or, world_after, plain_call}
 use Rattle.lwc_syscall.specs.Syscall as syscalls
 use Rattle.lwc_syscall.specs.declared.calls.CallContexts.{CallContexts}
+use Rattle.lwc_syscall.specs.declared.plain_call.PlainCall.{PlainCall}
+use Rattle.lwc_syscall.specs.declared.plain_call.PlainCall.TheVariants as plain_calls
 use Rattle.res_spec.specs.declared.items.SpecCall.TheVariants as spec_call
 use Rattle.job_view.proofs.Counting.{is_in_list}
 use Rattle.lwc_base.proofs.Holders.{in_clone, keeps-add_context, keeps-change_context, keeps-on_pages, keeps-put_at, keeps-share, keeps-with_overlay, lets-everywhere, value_at-keeps}
@@ -193,23 +195,19 @@ module _ (pages : ℕ) (ts : List Tag) where
       either true x y first second = first
       either false x y first second = second
 
-      otherwise : (b : Bool) (x y : Outcome) → b ≡ false → KeepsTags y.world → KeepsTags (cond b x y).world
-      otherwise true x y never second = cc
-      otherwise false x y never second = second
-
-      pub plain-tags : (call : ℕ) (args : List ℕ) → eqb call 4 ≡ false → KeepsTags (plain w io targets job call args).world
+      pub plain-tags : (call : Option PlainCall) (args : List ℕ) → call ≢ Some plain_calls.Read → KeepsTags (plain w io targets job call args).world
       unfolding plain
-      plain-tags call args no_read =
-          either (eqb call 1) _ _ (ends _ _ (placed-tags (File (slice_index args 0) 0)))
-          (either (eqb call 2) _ _ (ends _ _ (tags-slot targets.slots (slice_index args 0) Empty))
-          (either (eqb call 3) _ _ (ends _ _ (placed-tags _))
-          (otherwise (eqb call 4) _ _ no_read
-          (either (eqb call 5) _ _ (writing-tags (slice_index args 0) (slice_index args 1) (slice_index args 2))
-          (either (eqb call 6) _ _ (ends _ _ (tags-map targets.memory (slice_index args 0) (slice_index args 1) true))
-          (either (eqb call 7) _ _ (ends _ _ (tags-map targets.memory (slice_index args 0) (slice_index args 1) false))
-          (either (eqb call 8) _ _ keeps
-          (either (eqb call 9) _ _ (ends _ _ (tags-uid targets.cred (slice_index args 0)))
-          (either (eqb call 10) _ _ keeps keeps)))))))))
+      plain-tags None args no_read = keeps
+      plain-tags (Some plain_calls.Open) args no_read = ends _ _ (placed-tags (File (slice_index args 0) 0))
+      plain-tags (Some plain_calls.Close) args no_read = ends _ _ (tags-slot targets.slots (slice_index args 0) Empty)
+      plain-tags (Some plain_calls.Dup) args no_read = ends _ _ (placed-tags _)
+      plain-tags (Some plain_calls.Read) args no_read = absurd (no_read refl)
+      plain-tags (Some plain_calls.Write) args no_read = writing-tags (slice_index args 0) (slice_index args 1) (slice_index args 2)
+      plain-tags (Some plain_calls.Map) args no_read = ends _ _ (tags-map targets.memory (slice_index args 0) (slice_index args 1) true)
+      plain-tags (Some plain_calls.Unmap) args no_read = ends _ _ (tags-map targets.memory (slice_index args 0) (slice_index args 1) false)
+      plain-tags (Some plain_calls.GetUid) args no_read = keeps
+      plain-tags (Some plain_calls.SetUid) args no_read = ends _ _ (tags-uid targets.cred (slice_index args 0))
+      plain-tags (Some plain_calls.Exit) args no_read = keeps
 
   -- the context of a request
   pub begin-tags : (w : World) (home : Name) (r : ℕ) → KeepsTags w → InContext rules (r + 1) (begun_context w home r) → KeepsTags (begin w home r)
@@ -266,7 +264,7 @@ module _ (pages : ℕ) (ts : List Tag) where
     unfolding overlaying.overlay
     overlay-tags = overlaid-tags _
 
-    pub syscall-tags : eqb (syscalls.inner_call regs) 4 ≡ false → KeepsTags (syscalls.lw_syscall w io c job regs).world
+    pub syscall-tags : syscalls.inner_call regs ≢ Some plain_calls.Read → KeepsTags (syscalls.lw_syscall w io c job regs).world
     unfolding syscalls.lw_syscall
     syscall-tags no_read = ends w keeps io job (syscalls.targets_of w c regs) _ _
         (plain-tags w keeps io job (syscalls.targets_of w c regs) (syscalls.inner_call regs) (syscalls.inner_args regs) no_read)
@@ -282,13 +280,6 @@ module _ (t : ℕ) (e : Environment) (x : Thread) (live : is_live e.world x.cont
   keeps : KeepsTags pages ts e.world
   keeps = has_its_tags e.world
 
-  no_read : (number : ℕ) → (number ≡ 4 → ⊥) → eqb number 4 ≡ false
-  no_read number never = by (eqb number 4) refl
-    where
-      by : (b : Bool) → eqb number 4 ≡ b → eqb number 4 ≡ false
-      by true is = absurd (never (eqb-true number 4 is))
-      by false is = is
-
   called-tags : (number : ℕ) → (Reads number x.regs → ⊥) → KeepsTags pages ts (guest_calls number t e x).environment.world
   unfolding guest_calls
   called-tags number never =
@@ -303,8 +294,8 @@ module _ (t : ℕ) (e : Environment) (x : Thread) (live : is_live e.world x.cont
       either false f g first second = second
 
       by_syscall : (b : Bool) → eqb number LW_SYSCALL ≡ b → KeepsTags pages ts (cond b (syscall_outcome e x) (plain_outcome number e x)).environment.world
-      by_syscall true is = syscall-tags pages ts x.context x.job t e.world e.channels keeps live named_live x.regs (no_read (syscalls.inner_call x.regs) (λ reads. never (inr (eqb-true number LW_SYSCALL is, reads))))
-      by_syscall false is = plain-tags pages ts e.world keeps e.channels x.job (three_times x.context) number (args_of x.regs) (no_read number (λ reads. never (inl reads)))
+      by_syscall true is = syscall-tags pages ts x.context x.job t e.world e.channels keeps live named_live x.regs (λ reads. never (inr (eqb-true number LW_SYSCALL is, reads)))
+      by_syscall false is = plain-tags pages ts e.world keeps e.channels x.job (three_times x.context) (plain_call number) (args_of x.regs) (λ reads. never (inl reads))
 
   shared-tags : (i : Instr) (op : Op) → (Stores x.regs i op → ⊥) → KeepsTags pages ts (shared_outcome guest_calls t e x i op).environment.world
   unfolding shared_outcome
@@ -408,6 +399,6 @@ module _ (w : World) (io : Channels) (job : ℕ) (targets : CallContexts) (args 
   ended-frames None = inr same-frames
   ended-frames (Some refusal) = inl refl
 
-  pub read-frames : (used (plain w io targets job 4 args).world ≡ used w) ⊎ (used (plain w io targets job 4 args).world ≡ used stored)
+  pub read-frames : (used (plain w io targets job (Some plain_calls.Read) args).world ≡ used w) ⊎ (used (plain w io targets job (Some plain_calls.Read) args).world ≡ used stored)
   unfolding plain calls.reading
   read-frames = ended-frames _

@@ -54,10 +54,12 @@ use Rattle.lwc_base.specs.declared.page.PageValue.{PageValue}
 use Rattle.lwc_base.specs.declared.page.PageValue.TheVariants.{Zero, Data}
 use Rattle.lwc_base.specs.Summaries.{is_empty}
 use Rattle.lwc_syscall.specs.Plain as calls
-use Rattle.lwc_syscall.specs.Plain.{plain, read_refusals, reading, refused_or, store_at}
+use Rattle.lwc_syscall.specs.Plain.{plain, read_refusals, reading, refused_or, store_at, plain_call}
 use Rattle.lwc_syscall.specs.Syscall.{inner_args, inner_call, link, lw_syscall, mask_in, refusals, targets_of}
 use Rattle.lwc_syscall.specs.declared.answer.CallAnswer.TheVariants.{Refused}
 use Rattle.lwc_syscall.specs.declared.calls.CallContexts.{CallContexts}
+use Rattle.lwc_syscall.specs.declared.plain_call.PlainCall.{PlainCall}
+use Rattle.lwc_syscall.specs.declared.plain_call.PlainCall.TheVariants as plain_calls
 use Rattle.request_isolation.specs.Needs.{IsFull, StoreIsFull, WantsFrames}
 use Rattle.request_isolation.proofs.Counting.{no_fewer}
 use Rattle.request_isolation.proofs.Tagged.{AtContext, AtGroup, Holder, held_in, holder_of}
@@ -375,21 +377,24 @@ module _ (home : Home) (e : Environment) (y : Thread) (t : ℕ) (jobs : KeepsJob
       let taken = taken_more e.world sound y.context y.job piece is.1 some short in
       omega (arith, taken, ap used world)
 
-  full_plain : (targets : CallContexts) (number : ℕ) (args : List ℕ) → number ≡ 4 → (plain e.world e.channels targets y.job number args).answer ≡ Refused NoFrame →
+  full_plain : (targets : CallContexts) (call : Option PlainCall) (args : List ℕ) → call ≡ Some plain_calls.Read → (plain e.world e.channels targets y.job call args).answer ≡ Refused NoFrame →
       (piece : Piece) × (length piece.bytes ≤ 4096) × (e.world.size.frames < used e.world + parting_count e.world targets.memory piece)
-      × (IsSound e.world → used e.world + parting_count e.world targets.memory piece ≤ used (plain (more e.world) e.channels targets y.job number args).world)
+      × (IsSound e.world → used e.world + parting_count e.world targets.memory piece ≤ used (plain (more e.world) e.channels targets y.job call args).world)
   unfolding plain
-  full_plain targets number args four is =
+  full_plain targets call args reads is =
       let arg = slice_index args in
-      let reads : (plain e.world e.channels targets y.job 4 args).answer ≡ Refused NoFrame = ap (λ (k : ℕ). (plain e.world e.channels targets y.job k args).answer) (sym four) ∙ is in
-      let read = full_read e.world e.channels targets y.job (arg 0) (arg 1) (arg 2) reads in
+      let refused : (plain e.world e.channels targets y.job (Some plain_calls.Read) args).answer ≡ Refused NoFrame = ap (λ (k : Option PlainCall). (plain e.world e.channels targets y.job k args).answer) (sym reads) ∙ is in
+      let read = full_read e.world e.channels targets y.job (arg 0) (arg 1) (arg 2) refused in
       let parts = full_parts e.world targets.memory y.job (record { at = arg 1; bytes = read.bytes }) read.full in (
         record { at = arg 1; bytes = read.bytes },
         read.short,
         parts.few,
-        λ sound. subst (λ (k : ℕ). used e.world + parting_count e.world targets.memory (record { at = arg 1; bytes = read.bytes }) ≤ used (plain (more e.world) e.channels targets y.job k args).world) (sym four)
+        λ sound. subst (λ (k : Option PlainCall). used e.world + parting_count e.world targets.memory (record { at = arg 1; bytes = read.bytes }) ≤ used (plain (more e.world) e.channels targets y.job k args).world) (sym reads)
             (read_more e.world e.channels targets y.job (arg 0) (arg 1) (arg 2) sound read),
       )
+
+  number_of_read : (number : ℕ) → plain_call number ≡ Some plain_calls.Read → number ≡ 4
+  number_of_read number is = grind (arith, nat_tests)
 
   -- the context that a slot's descriptor is of is of the job
   link_own : (job : ℕ) (value : Descriptor) (c : Name) → IsSlotOf job value → c.job ≡ job → (unwrap_or (link_of value) (c, empty_cap)).0.job ≡ job
@@ -440,7 +445,7 @@ module _ (home : Home) (e : Environment) (y : Thread) (t : ℕ) (jobs : KeepsJob
       ap (λ (o : Option Refusal). (refused_or (more e.world) e.channels (plain (more e.world) e.channels targets y.job (inner_call y.regs) (inner_args y.regs)) o).world) passed.0 in
       (read.0, read.1, read.2, λ sound. let most = read.3 sound in omega (arith, most, ap used world))
 
-  full_call : (number : ℕ) (b : Bool) → eqb number LW_SYSCALL ≡ b → (cond b (lw_syscall e.world e.channels y.context y.job y.regs) (plain e.world e.channels (three_times y.context) y.job number (args_of y.regs))).answer ≡ Refused NoFrame →
+  full_call : (number : ℕ) (b : Bool) → eqb number LW_SYSCALL ≡ b → (cond b (lw_syscall e.world e.channels y.context y.job y.regs) (plain e.world e.channels (three_times y.context) y.job (plain_call number) (args_of y.regs))).answer ≡ Refused NoFrame →
       (c : Name) × (piece : Piece) × (c.job ≡ y.context.job) × (length piece.bytes ≤ 4096) × (e.world.size.frames < used e.world + parting_count e.world c piece)
       × (IsSound e.world → used e.world + parting_count e.world c piece ≤ used (guest_calls number t (beside (more e.world) e.channels) y).environment.world)
   unfolding guest_calls
@@ -455,8 +460,10 @@ module _ (home : Home) (e : Environment) (y : Thread) (t : ℕ) (jobs : KeepsJob
         λ sound. subst (λ (k : ℕ). used e.world + parting_count e.world (targets_of e.world y.context y.regs).memory found.0 ≤ used (guest_calls k t (beside (more e.world) e.channels) y).environment.world) (sym same) (found.3 sound),
       )
   full_call number false is full =
-      let four = (plain-reason e.world e.channels (three_times y.context) y.job number (args_of y.regs) full).0 in
-      let found = full_plain (three_times y.context) 4 (args_of y.regs) refl (ap (λ (k : ℕ). (plain e.world e.channels (three_times y.context) y.job k (args_of y.regs)).answer) (sym four) ∙ full) in (
+      let reads = (plain-reason e.world e.channels (three_times y.context) y.job (plain_call number) (args_of y.regs) full).0 in
+      let four = number_of_read number reads in
+      let found =
+      full_plain (three_times y.context) (Some plain_calls.Read) (args_of y.regs) refl (ap (λ (k : Option PlainCall). (plain e.world e.channels (three_times y.context) y.job k (args_of y.regs)).answer) (sym reads) ∙ full) in (
         y.context,
         found.0,
         refl,

@@ -25,10 +25,11 @@ use Rattle.lwc_base.specs.declared.fault.ThreadStatus.TheVariants.{Running}
 use Rattle.lwc_base.specs.declared.page.TheConstants.{PAGE_BYTES}
 use Rattle.lwc_base.specs.declared.regs.Regs.{Regs}
 use Rattle.lwc_base.specs.declared.refusal.Refusal.TheVariants.{NoFrame}
-use Rattle.lwc_syscall.specs.Plain.{Outcome, moved, plain, store_at}
+use Rattle.lwc_syscall.specs.Plain.{Outcome, moved, plain, store_at, plain_call}
 use Rattle.lwc_syscall.specs.Syscall.{inner_call, lw_syscall}
 use Rattle.lwc_syscall.specs.declared.answer.CallAnswer.TheVariants.{Refused}
 use Rattle.lwc_syscall.specs.declared.calls.CallContexts.{CallContexts}
+use Rattle.lwc_syscall.specs.declared.plain_call.PlainCall.TheVariants as plain_calls
 use Rattle.request_isolation.specs.Alone.{ample, start_alone, steps_alone}
 
 -- the world directly after what a step does, before anything is dropped
@@ -83,7 +84,7 @@ StoreIsFull e x piece =
 abbrev pub storing_call : ℕ → Environment → Thread → Outcome
 storing_call number e x =
     if number == LW_SYSCALL then lw_syscall e.world e.channels x.context x.job x.regs
-    else plain e.world e.channels (three_times x.context) x.job number (args_of x.regs)
+    else plain e.world e.channels (three_times x.context) x.job (plain_call number) (args_of x.regs)
 
 -- a call is refused since its store finds too few frames
 abbrev pub CallIsFull : ℕ → Environment → Thread → Type 0
@@ -114,7 +115,8 @@ pub record IsShort (m : Machine) (t : ℕ) : Type 0 where
 
 -- a call reads, in the thread's context or in chosen ones
 abbrev pub Reads : ℕ → Regs → Type 0
-Reads number regs = (number ≡ 4) ⊎ ((number ≡ LW_SYSCALL) × (inner_call regs ≡ 4))
+Reads number regs =
+    (plain_call number ≡ Some plain_calls.Read) ⊎ ((number ≡ LW_SYSCALL) × (inner_call regs ≡ Some plain_calls.Read))
 
 -- a shared instruction stores: it is a store, or a call that reads
 abbrev pub Stores : Regs → Instr → Op → Type 0

@@ -15,6 +15,7 @@ ghost use Rattle.lwc_base.specs.declared.name.Name.{Name};
 ghost use Rattle.request_isolation.specs.Alone.{alone, alone_in, ample, start_alone};
 ghost use Rattle.lwc_syscall.specs.Plain.{plain, world_after};
 ghost use Rattle.lwc_syscall.specs.declared.calls.CallContexts.{CallContexts};
+ghost use Rattle.lwc_syscall.specs.declared.plain_call.PlainCall.TheVariants as plain_calls;
 ghost use Rattle.request_isolation.specs.Needs.{HasFrames, IsShort, IsStoring, acted_world, store_of_read};
 ghost use Rattle.request_isolation.specs.Replies.{HasReply};
 ghost use Rattle.snapshot_host.specs.declared.finishing.Finished.{Finished};
@@ -89,6 +90,6 @@ pub fn stores_alone_take_frames()
         (IsStoring (run (start inputs) steps) t → ⊥) →
         used (acted_world (run (start inputs) steps) t) ≤ frames_of (run (start inputs) steps) }
     ensures read { (w : World) (io : Channels) (job : ℕ) (targets : CallContexts) (args : List ℕ) →
-        (used (plain w io targets job 4 args).world ≡ used w)
-        ⊎ (used (plain w io targets job 4 args).world ≡ used (world_after w (store_of_read w io targets job args))) }
+        (used (plain w io targets job (Some plain_calls.Read) args).world ≡ used w)
+        ⊎ (used (plain w io targets job (Some plain_calls.Read) args).world ≡ used (world_after w (store_of_read w io targets job args))) }
 {}

@@ -45,6 +45,7 @@ use Rattle.lwc_syscall.specs.Changes.{IsPlainChange, IsWell, Mapped, Nothing, Re
 use Rattle.lwc_syscall.specs.Plain.{plain, refused_or}
 use Rattle.lwc_syscall.specs.Syscall as syscalls
 use Rattle.lwc_syscall.specs.declared.calls.CallContexts.{CallContexts}
+use Rattle.lwc_syscall.specs.declared.plain_call.PlainCall.{PlainCall}
 use Rattle.res_spec.specs.declared.items.SpecCall.TheVariants as spec_call
 use Rattle.trap_calls.proofs.Slots.{apart_slots, own-put, own_after, same-clone, same-map, same-overlay, same-put, same-put_uid, same-save, same-store, same_itself, same_then}
 use Rattle.trap_calls.specs.Guards.{AreGuarded, HasOwnSlots, LeavesToMonitors, SameSlots}
@@ -71,7 +72,7 @@ pub record FreeCallsLeave (traps : Traps) (w : World) (io : Channels) (c : Name)
   pub switch : (regs : Regs) → names_anothers traps w c regs ≡ false → LeavesToMonitors traps c w (switching.switch w c t regs).1
   pub overlay : (regs : Regs) → forbids_overlay traps w c regs ≡ false → LeavesToMonitors traps c w (overlaying.overlay w c job regs).1
   pub syscall : (regs : Regs) → names_anothers traps w c regs ≡ false → LeavesToMonitors traps c w (syscalls.lw_syscall w io c job regs).world
-  pub plain : (call : ℕ) (args : List ℕ) → LeavesToMonitors traps c w (plain w io (record { memory = c; slots = c; cred = c }) job call args).world
+  pub plain : (call : Option PlainCall) (args : List ℕ) → LeavesToMonitors traps c w (plain w io (record { memory = c; slots = c; cred = c }) job call args).world
 
 module _ (traps : Traps) (w : World) (guarded : AreGuarded traps w) where
   -- where no slot of a trapped context changes
@@ -213,8 +214,8 @@ module _ (traps : Traps) (w : World) (guarded : AreGuarded traps w) where
         (λ here. let before = before_none regs is in none_shared regs d m found (named_is regs d before.0 here) before.1 forbids))
 
     -- a plain call over slots of another context than the trapped one
-    plain_same : (targets : CallContexts) (call : ℕ) (args : List ℕ) (d m : Name) → fm.get traps d ≡ Some m → targets.slots ≢ d → SameSlots w (plain w io targets job call args).world d
-    plain_same targets call args d m found apart n within = (plain_only w io targets job call args).cells d (Slot n) (λ _. apart_slots w targets.slots d apart (guarded.own d m found) n within)
+    plain_same : (targets : CallContexts) (call : Option PlainCall) (args : List ℕ) (d m : Name) → fm.get traps d ≡ Some m → targets.slots ≢ d → SameSlots w (plain w io targets job call args).world d
+    plain_same targets call args d m found apart n within = (plain_only w io targets job args call).cells d (Slot n) (λ _. apart_slots w targets.slots d apart (guarded.own d m found) n within)
 
     done_is : (m : Name) (piece : Piece) (v : World) → store w m job piece ≡ Done v → after_store w m job piece ≡ v
     unfolding store
@@ -257,7 +258,7 @@ module _ (traps : Traps) (w : World) (guarded : AreGuarded traps w) where
         (none-append (slot_refusals w c (slice_index regs.r 1))
         ((nat_lt 7 (syscalls.mask_in regs), BadMode)
         ∷ (not (has_kinds w.size.pages (syscalls.link w c regs).1 (syscalls.mask_in regs)), NotCovered)
-        ∷ (nat_lt (syscalls.inner_call regs) 1 || nat_lt 9 (syscalls.inner_call regs), BadCall) ∷ []) none).0
+        ∷ (nat_lt (syscalls.inner_number regs) 1 || nat_lt 9 (syscalls.inner_number regs), BadCall) ∷ []) none).0
 
     linked : (regs : Regs) (d m : Name) → fm.get traps d ≡ Some m → (targets regs).slots ≡ d → (link w c regs).0 ≡ d
     unfolding link

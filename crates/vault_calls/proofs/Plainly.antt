@@ -34,6 +34,8 @@ use Rattle.lwc_syscall.specs.Plain as calls
 use Rattle.lwc_syscall.specs.Plain.{Outcome, answering, ended, is_absent, is_full, is_read_only, left, moved, placed, plain, read_on, refused_or, store_at, world_after, written}
 use Rattle.lwc_syscall.specs.Syscall as syscalls
 use Rattle.lwc_syscall.specs.declared.calls.CallContexts.{CallContexts}
+use Rattle.lwc_syscall.specs.declared.plain_call.PlainCall.{PlainCall}
+use Rattle.lwc_syscall.specs.declared.plain_call.PlainCall.TheVariants as plain_calls
 use Rattle.vault_calls.proofs.Calls.{link-shut}
 use Rattle.access_cap.proofs.Keys.{within_most}
 use Rattle.lwc_base.proofs.Needs.{any_key-some}
@@ -164,19 +166,19 @@ module _ (v : Name) (w : World) (io : Channels) (job : ℕ) (targets : CallConte
   telling-blank : answering (uid_at (blank v w) targets.cred) (blank v w) io ≡ blank_outcome v (answering (uid_at w targets.cred) w io)
   telling-blank = ap (λ n. answering n (blank v w) io) uid-blank
 
-  pub plain-blank : (call : ℕ) (args : List ℕ) → plain (blank v w) io targets job call args ≡ blank_outcome v (plain w io targets job call args)
+  pub plain-blank : (call : Option PlainCall) (args : List ℕ) → plain (blank v w) io targets job call args ≡ blank_outcome v (plain w io targets job call args)
   unfolding plain
-  plain-blank call args =
-      either-blank v (eqb call 1) _ _ _ _ (opening-blank (slice_index args 0))
-      (either-blank v (eqb call 2) _ _ _ _ (closing-blank (slice_index args 0))
-      (either-blank v (eqb call 3) _ _ _ _ (copying-blank (slice_index args 0))
-      (either-blank v (eqb call 4) _ _ _ _ (reading-blank (slice_index args 0) (slice_index args 1) (slice_index args 2))
-      (either-blank v (eqb call 5) _ _ _ _ (writing-blank (slice_index args 0) (slice_index args 1) (slice_index args 2))
-      (either-blank v (eqb call 6) _ _ _ _ (mapping-blank (slice_index args 0) (slice_index args 1) true)
-      (either-blank v (eqb call 7) _ _ _ _ (mapping-blank (slice_index args 0) (slice_index args 1) false)
-      (either-blank v (eqb call 8) _ _ _ _ telling-blank
-      (either-blank v (eqb call 9) _ _ _ _ (becoming-blank (slice_index args 0))
-      (either-blank v (eqb call 10) _ _ _ _ refl refl)))))))))
+  plain-blank None args = refl
+  plain-blank (Some plain_calls.Open) args = opening-blank (slice_index args 0)
+  plain-blank (Some plain_calls.Close) args = closing-blank (slice_index args 0)
+  plain-blank (Some plain_calls.Dup) args = copying-blank (slice_index args 0)
+  plain-blank (Some plain_calls.Read) args = reading-blank (slice_index args 0) (slice_index args 1) (slice_index args 2)
+  plain-blank (Some plain_calls.Write) args = writing-blank (slice_index args 0) (slice_index args 1) (slice_index args 2)
+  plain-blank (Some plain_calls.Map) args = mapping-blank (slice_index args 0) (slice_index args 1) true
+  plain-blank (Some plain_calls.Unmap) args = mapping-blank (slice_index args 0) (slice_index args 1) false
+  plain-blank (Some plain_calls.GetUid) args = telling-blank
+  plain-blank (Some plain_calls.SetUid) args = becoming-blank (slice_index args 0)
+  plain-blank (Some plain_calls.Exit) args = refl
 
 module _ (v c : Name) (job : ℕ) (w : World) (io : Channels) (outside : IsOutside v c job w) (regs : Regs) where
   links : syscalls.link (blank v w) c regs ≡ syscalls.link w c regs
@@ -195,7 +197,7 @@ module _ (v c : Name) (job : ℕ) (w : World) (io : Channels) (outside : IsOutsi
       slot_refusals-blank v w c (slice_index regs.r 1) i
       ++ ((nat_lt 7 (syscalls.mask_in regs), BadMode)
       ∷ (not (has_kinds w.size.pages (links i).1 (syscalls.mask_in regs)), NotCovered)
-      ∷ (nat_lt (syscalls.inner_call regs) 1 || nat_lt 9 (syscalls.inner_call regs), BadCall) ∷ [])
+      ∷ (nat_lt (syscalls.inner_number regs) 1 || nat_lt 9 (syscalls.inner_number regs), BadCall) ∷ [])
 
   missing : (cap : Cap) → LacksKeys cap → (k : Key) → IsKey w.size.pages k → is_chosen (syscalls.mask_in regs) (kind_of k) ≡ true → has_kinds w.size.pages cap (syscalls.mask_in regs) ≡ false
   unfolding has_kinds
@@ -214,7 +216,7 @@ module _ (v c : Name) (job : ℕ) (w : World) (io : Channels) (outside : IsOutsi
   has_kinds-then none =
       let rows = (none-append (slot_refusals w c (slice_index regs.r 1)) ((nat_lt 7 (syscalls.mask_in regs), BadMode)
       ∷ (not (has_kinds w.size.pages (syscalls.link w c regs).1 (syscalls.mask_in regs)), NotCovered)
-      ∷ (nat_lt (syscalls.inner_call regs) 1 || nat_lt 9 (syscalls.inner_call regs), BadCall) ∷ []) none).1 in
+      ∷ (nat_lt (syscalls.inner_number regs) 1 || nat_lt 9 (syscalls.inner_number regs), BadCall) ∷ []) none).1 in
       by (nat_lt 7 (syscalls.mask_in regs)) (has_kinds w.size.pages (syscalls.link w c regs).1 (syscalls.mask_in regs)) _ rows
     where
       by : (a b : Bool) (rest : Option Refusal) → cond a (Some BadMode) (cond (not b) (Some NotCovered) rest) ≡ None → b ≡ true

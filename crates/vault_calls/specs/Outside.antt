@@ -1,5 +1,5 @@
 -- Contexts that cannot open a context, and what calls from there do where that is blank.
-use Rattle.std.specs.Prelude.{◌≡◌, ◌≢◌, ◌≤◌, ℕ, List, false}
+use Rattle.std.specs.Prelude.{◌≡◌, ◌≢◌, ◌≤◌, ℕ, List, false, Option}
 use Rattle.guest_call.specs.Guest.{descriptor_for}
 use Rattle.lwc_base.specs.Capabilities.{has_key}
 use Rattle.lwc_base.specs.Channels.{Channels}
@@ -18,6 +18,7 @@ use Rattle.lwc_switch.specs.Switch.{switch}
 use Rattle.lwc_syscall.specs.Plain.{Outcome, plain}
 use Rattle.lwc_syscall.specs.Syscall.{lw_syscall}
 use Rattle.lwc_syscall.specs.declared.calls.CallContexts.{CallContexts}
+use Rattle.lwc_syscall.specs.declared.plain_call.PlainCall.{PlainCall}
 use Rattle.vault_view.specs.Blank.{blank}
 
 -- a capability has no key
@@ -55,7 +56,7 @@ pub record CallsAlike (v c : Name) (own t : ℕ) (w : World) (io : Channels) : T
   pub restrict : (regs : Regs) → restrict (blank v w) c regs ≡ blank_end v (restrict w c regs)
   pub overlay : (regs : Regs) → overlay (blank v w) c own regs ≡ blank_end v (overlay w c own regs)
   pub switch : (regs : Regs) → switch (blank v w) c t regs ≡ blank_end v (switch w c t regs)
-  pub plain : (targets : CallContexts) (call : ℕ) (args : List ℕ) → AreOutside v targets →
+  pub plain : (targets : CallContexts) (call : Option PlainCall) (args : List ℕ) → AreOutside v targets →
       plain (blank v w) io targets own call args ≡ blank_outcome v (plain w io targets own call args)
   pub syscall : (regs : Regs) →
       lw_syscall (blank v w) io c own regs ≡ blank_outcome v (lw_syscall w io c own regs)
