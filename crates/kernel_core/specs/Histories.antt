@@ -1,10 +1,12 @@
 -- Lists of steps as histories of a machine.
-use Rattle.std.specs.Prelude.{◌≡◌, ◌==◌, ℕ, List, [], ◌∷◌, ◌++◌, Option, true, count_by}
+use Rattle.std.specs.Prelude.{◌≡◌, ◌==◌, if◌then◌else◌, ℕ, List, [], ◌∷◌, ◌++◌, Option, None, Some, true, count_by}
 use Rattle.kernel_core.specs.Kernel.{turn}
 use Rattle.kernel_core.specs.Machine.{Machine, is_ended}
 use Rattle.kernel_core.specs.Runs.{kept, run}
 use Rattle.kernel_core.specs.Start.{Inputs}
+use Rattle.kernel_core.specs.Step.{finishes, step}
 use Rattle.kernel_core.specs.declared.thread.Turn.{Turn}
+use Rattle.snapshot_host.specs.declared.finishing.Finished.{Finished}
 
 -- each step is made by a thread that had not ended
 abbrev pub IsLegal : Machine → List ℕ → Type 0
@@ -28,3 +30,13 @@ pub record GoesOn (t : ℕ) (before after : List ℕ) : Type 0 where
 -- what a history of a start leaves of a thread
 abbrev pub turn_after : Inputs → List ℕ → ℕ → Option Turn
 turn_after inputs steps t = turn (record { inputs = inputs; steps = steps; room = 0 }) t
+
+-- what a step finishes, as a list of one reply or of none
+abbrev pub replies_of : Option Finished → List Finished
+replies_of None = []
+replies_of (Some x) = x ∷ []
+
+-- what those of the steps finish that a thread makes, in order
+unfoldable pub finishes_by : Machine → List ℕ → ℕ → List Finished
+finishes_by m [] t = []
+finishes_by m (s ∷ ss) t = (if s == t then replies_of (finishes m t) else []) ++ finishes_by (step m s) ss t

@@ -1,23 +1,12 @@
--- The replies that the steps of each thread finish, and those that a stream shows.
-use Rattle.std.specs.Prelude.{◌≡◌, ℕ, ◌<◌, ◌≤◌, ◌==◌, if◌then◌else◌, Bool, false, true, List, [], ◌∷◌, ◌++◌, length, Option, None, Some, slice_get}
+-- The replies that the passes of a process have finished, and those that a stream shows.
+use Rattle.std.specs.Prelude.{◌≡◌, ℕ, ◌<◌, ◌≤◌, Bool, false, true, List, length, Some, slice_get}
 use Rattle.std.specs.List.{flat_map}
-use Rattle.kernel_core.specs.Machine.{Machine}
+use Rattle.kernel_core.specs.Histories.{finishes_by}
 use Rattle.kernel_core.specs.Start.{Inputs, start}
-use Rattle.kernel_core.specs.Step.{finishes, step}
 use Rattle.lwc_io.specs.Outside.{CountsOneFault, IsPartTaken, SinkView, appended}
 use Rattle.lwc_text.specs.Lines.{reply_line}
 use Rattle.process_core.specs.Running.{Carried}
 use Rattle.snapshot_host.specs.declared.finishing.Finished.{Finished}
-
--- what a step finishes, as a list of one reply or of none
-abbrev pub replies_of : Option Finished → List Finished
-replies_of None = []
-replies_of (Some x) = x ∷ []
-
--- what those of the steps finish that a thread makes, in order
-unfoldable pub finishes_by : Machine → List ℕ → ℕ → List Finished
-finishes_by m [] t = []
-finishes_by m (s ∷ ss) t = (if s == t then replies_of (finishes m t) else []) ++ finishes_by (step m s) ss t
 
 -- what the steps of a pass's thread have finished in the history that the pass has seen
 abbrev pub finished_by : Inputs → Carried → List Finished

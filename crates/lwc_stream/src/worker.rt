@@ -2,7 +2,7 @@
 ghost use Rattle.std.specs.Prelude.{◌≡◌, ◌++◌, [], MatchOption};
 ghost use Rattle.lwc_stream.specs.Crews.{HasServed, IsFresh};
 ghost use Rattle.lwc_stream.specs.Queues.{end_of};
-ghost use Rattle.lwc_stream.specs.Replies.{replies_of};
+ghost use Rattle.kernel_core.specs.Histories.{replies_of};
 
 use crate::ends::Puts;
 use crate::news::News;

@@ -1,9 +1,10 @@
 use Rattle.std.proofs.Common.{rules, ◌≡◌, ◌∙◌, ◌++◌, List, false, refl, sym, ap, arith}
 use Rattle.kernel_core.specs.Machine.{has_ended}
-use Rattle.lwc_stream.proofs.Turns.{none_yet, one_turn_more}
+use Rattle.kernel_core.proofs.FinishedBy.{none_yet}
+use Rattle.lwc_stream.proofs.Turns.{one_turn_more}
 use Rattle.process_core.proofs.Offers.{longer}
 use Rattle.lwc_stream.specs.Queues.{End}
-use Rattle.lwc_stream.specs.Replies.{replies_of}
+use Rattle.kernel_core.specs.Histories.{replies_of}
 use Rattle.snapshot_host.specs.declared.finishing.Finished.{Finished}
 use Rattle.lwc_stream.proofs.worker.serve.Goals as goal
 
