@@ -188,6 +188,13 @@ module _ (inputs : Inputs) (workers : ℕ) (can : CanOpen inputs) (serve : input
       (ap (λ (job : Job). serve_at job inputs.settings.budget (length inputs.requests)) serve) refl refl
       (ap (threads_at inputs.image inputs.settings.budget) serve) starts_as
 
+  pub stands_start : Stands inputs.image inputs.settings.budget workers (length inputs.requests) (λ m s. Unit {0}) (start inputs)
+  stands_start = record { serve = first_serve; holds = holds_start; fact = tt }
+
+  pub none_recorded : (r : ℕ) → reply_of (start inputs) r ≡ None
+  unfolding reply_of first_serve
+  none_recorded r = ap (λ (serve : Option Serve). in_serve serve r) holds_start.is ∙ none_at (length inputs.requests) r
+
   module _ (frames r : ℕ) (low : r < length inputs.requests) where
     abbrev bytes : List ℕ
     bytes = bytes_in inputs.requests r
@@ -270,8 +277,7 @@ module _ (inputs : Inputs) (workers : ℕ) (can : CanOpen inputs) (serve : input
   -- each job has what is its own
   pub kept_apart : (steps : List ℕ) → KeepsJobs (home_for inputs.image) (run (start inputs) steps).environment.world
   kept_apart steps =
-      (stands_run inputs.image workers inputs.settings.budget (length inputs.requests) (start inputs) steps
-      (record { serve = first_serve; holds = holds_start; fact = tt })).holds.jobs
+      (stands_run inputs.image workers inputs.settings.budget (length inputs.requests) (start inputs) steps stands_start).holds.jobs
 
   -- nothing of a finished request lives
   pub gone : (r : ℕ) (steps : List ℕ) (told : Finished) (c : Name) → reply_of (run (start inputs) steps) r ≡ Some told → is_live (run (start inputs) steps).environment.world c ≡ true → c.job ≢ r + 1

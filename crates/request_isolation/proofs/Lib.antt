@@ -4,6 +4,7 @@ pub mod Bounds
 pub mod Counting
 pub mod Enough
 pub mod Extra
+pub mod Finishing
 pub mod Frames
 pub mod Full
 pub mod Holds

@@ -64,7 +64,7 @@ how_made m s t x _ _ _ (Ends idle none) =
     ap (thread_outcome guest_calls t m.environment (Some s) m.text x) idle ∙ ap (λ b. Some (cond b (begin_next t s m.environment) (only (Some s) (unchanged m.environment (with_status x (Done 0)))))) none
 
 -- the step is that
-how_step : (m : Machine) (s : Serve) (t : ℕ) (x : Thread) (acted : ℕ) (after : AfterStep) (now : Serve) → m.serve ≡ Some s → slice_get m.threads t ≡ Some x → How m s t x acted after now →
+pub how_step : (m : Machine) (s : Serve) (t : ℕ) (x : Thread) (acted : ℕ) (after : AfterStep) (now : Serve) → m.serve ≡ Some s → slice_get m.threads t ≡ Some x → How m s t x acted after now →
     step m t ≡ after_outcome m t (Some after)
 unfolding step_by
 how_step m s t x acted after now serve found how =
@@ -105,7 +105,7 @@ module _ (m : Machine) (s : Serve) (t : ℕ) (serve : m.serve ≡ Some s) where
   made_found (Some x) is = made_by x is x.status refl
 
   -- a step changes nothing or is made
-  made_or_not : (step m t ≡ m) ⊎ Made m s t
+  pub made_or_not : (step m t ≡ m) ⊎ Made m s t
   made_or_not = made_found (slice_get m.threads t) refl
 
 module _ (image : Image) (budget : ℕ) where
@@ -173,7 +173,7 @@ module _ (image : Image) (budget : ℕ) where
     other_than_told r reply m s t x found is _ _ _ (Begins idle some) = λ same. let low = is.begun in omega (arith, same, low)
     other_than_told r reply m s t x found is _ _ _ (Ends idle none) = λ same. omega (arith, same)
 
-    told_step : (r : ℕ) (reply : Option Finished) (m : Machine) (t : ℕ) → Stands workers n (IsTold r reply) m → Stands workers n (IsTold r reply) (step m t)
+    pub told_step : (r : ℕ) (reply : Option Finished) (m : Machine) (t : ℕ) → Stands workers n (IsTold r reply) m → Stands workers n (IsTold r reply) (step m t)
     told_step r reply m t stands =
         stands_step (IsTold r reply) (IsTold r reply) m t stands (λ fact. fact)
         (λ made. told_others r reply m stands.serve stands.holds t made (other_than_told r reply m stands.serve t made.thread made.found stands.fact made.acted made.after made.now made.how) stands.fact)
@@ -203,6 +203,19 @@ module _ (image : Image) (budget : ℕ) where
           told = subst (λ (q : ℕ). get_or (slice_set s.replies q (Some f)) r None ≡ Some f) (sym request_is)
               (get_or-set_same s.replies r (Some f) None (omega (arith, begun, job, begun_few holds, reply_count_is holds)));
         }
+
+    -- and it is so after the step
+    pub stands_told : has_ended (acted_by m t x).thread.status ≡ true → Stands workers n (IsTold r (Some (finished_by (acted_by m t x).thread (acted_by m t x).environment.channels))) (step m t)
+    stands_told ended =
+        let o = acted_by m t x in
+        let f = finished_by o.thread o.environment.channels in
+        let how : How m s t x x.job (finish t s o) (with_reply s f) = Finishes running ended in
+        subst (Stands workers n (IsTold r (Some f))) (sym (how_step m s t x x.job (finish t s o) (with_reply s f) holds.is found how))
+        (record {
+          serve = with_reply s f;
+          holds = holds_after image workers budget n m s holds t x found x.job (finish t s o) (with_reply s f) (leaves_by workers n m s holds t x found x.job (finish t s o) (with_reply s f) how);
+          fact = finished_told;
+        })
 
   pub bytes_seen : (r : ℕ) (io other : Channels) → channel_view r io ≡ channel_view r other → bytes_in io.replies r ≡ bytes_in other.replies r
   unfolding channel_view
@@ -461,14 +474,7 @@ module _ (image : Image) (budget : ℕ) where
               let f = finished_by o.thread o.environment.channels in
               let g = finished_by p.thread p.environment.channels in
               let ended_a : has_ended p.thread.status ≡ true = ap (λ (y : Thread). has_ended y.status) (sym alike.thread) ∙ ended in
-              let how_a : How (alone_at k) sa 0 x x.job (finish 0 sa p) (with_reply sa g) = Finishes running ended_a in
-              let stands : Stands 1 (r + 1) (IsTold r (Some g)) (alone_at (suc k)) =
-              subst (Stands 1 (r + 1) (IsTold r (Some g))) (sym (how_step (alone_at k) sa 0 x x.job (finish 0 sa p) (with_reply sa g) served.alone.holds.is found_a how_a))
-              (record {
-                serve = with_reply sa g;
-                holds = holds_after image 1 budget (r + 1) (alone_at k) sa served.alone.holds 0 x found_a x.job (finish 0 sa p) (with_reply sa g) (leaves_by 1 (r + 1) (alone_at k) sa served.alone.holds 0 x found_a x.job (finish 0 sa p) (with_reply sa g) how_a);
-                fact = finished_told 1 (r + 1) r (alone_at k) sa served.alone.holds 0 x found_a running job;
-              }) in
+              let stands : Stands 1 (r + 1) (IsTold r (Some g)) (alone_at (suc k)) = stands_told 1 (r + 1) r (alone_at k) sa served.alone.holds 0 x found_a running job ended_a in
               let left = served.left in
               let some = served.some in
               let last = told_from (Some g) (budget - k) (budget + 1) (suc k) (omega (arith, left, some)) stands in

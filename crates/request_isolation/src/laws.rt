@@ -1,11 +1,11 @@
 //! Laws of serves: functions with empty bodies, each with a contract that is the law.
 
-ghost use Rattle.std.specs.Prelude.{◌≡◌, ◌≢◌, ◌⊎◌, ◌+◌, ◌<◌, ◌≤◌, ℕ, List, Some, length, replicate, true};
-ghost use Rattle.kernel_core.specs.Histories.{IsComplete};
+ghost use Rattle.std.specs.Prelude.{◌≡◌, ◌≢◌, ◌⊎◌, ◌+◌, ◌<◌, ◌≤◌, ℕ, Contains, List, Some, length, replicate, true};
+ghost use Rattle.kernel_core.specs.Histories.{IsComplete, finishes_by};
 ghost use Rattle.kernel_core.specs.Kernel.{CanOpen};
 ghost use Rattle.kernel_core.specs.Machine.{reply_of};
 ghost use Rattle.kernel_core.specs.Runs.{frames_of, run};
-ghost use Rattle.kernel_core.specs.Start.{Inputs, start};
+ghost use Rattle.kernel_core.specs.Start.{Inputs, start, thread_count};
 ghost use Rattle.kernel_core.specs.declared.settings.Job.TheVariants as jobs;
 ghost use Rattle.job_view.specs.ByJob.{Home, KeepsJobs};
 ghost use Rattle.lwc_base.specs.Channels.{Channels, bytes_in};
@@ -39,6 +39,20 @@ pub fn a_recorded_reply_is_what_was_written()
     ensures bytes { (inputs : Inputs) (steps : List ℕ) (r : ℕ) (told : Finished) → CanOpen inputs →
         reply_of (run (start inputs) steps) r ≡ Some told →
         bytes_in (run (start inputs) steps).environment.channels.replies r ≡ told.bytes }
+{}
+
+/// What a step of a serve finishes is a reply to one of its requests, and stays recorded as that step left
+/// it. What is recorded of a request was finished by a step of one of the threads.
+pub fn what_is_finished_is_recorded()
+    ensures request { (inputs : Inputs) (steps : List ℕ) (workers t : ℕ) (told : Finished) → CanOpen inputs →
+        inputs.settings.job ≡ jobs.Serve workers → Contains (finishes_by (start inputs) steps t) told →
+        told.request < length inputs.requests }
+    ensures recorded { (inputs : Inputs) (steps : List ℕ) (workers t : ℕ) (told : Finished) → CanOpen inputs →
+        inputs.settings.job ≡ jobs.Serve workers → Contains (finishes_by (start inputs) steps t) told →
+        reply_of (run (start inputs) steps) told.request ≡ Some told }
+    ensures finished { (inputs : Inputs) (steps : List ℕ) (workers r : ℕ) (told : Finished) → CanOpen inputs →
+        inputs.settings.job ≡ jobs.Serve workers → reply_of (run (start inputs) steps) r ≡ Some told →
+        (t : ℕ) × (t < thread_count inputs) × Contains (finishes_by (start inputs) steps t) told }
 {}
 
 /// What a serve's contexts and groups have is of their own request, and beside it the pages of a home;
