@@ -1,5 +1,6 @@
 mod Lists
 mod QueueSteps
+pub mod Recorded
 mod Sent
 mod Serving
 mod Shown

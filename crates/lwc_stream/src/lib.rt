@@ -8,6 +8,7 @@
 mod crew;
 mod desk;
 mod ends;
+pub mod laws;
 mod news;
 mod queue;
 mod streaming;

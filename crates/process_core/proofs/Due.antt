@@ -14,7 +14,7 @@ use Rattle.turnstile.specs.Past.{Knows}
 use Rattle.kernel_core.proofs.Others.{ended_by_turn, turn_stays}
 
 -- the steps that came after what was seen are those of others
-none_later : (past seen : List ℕ) (t : ℕ) (k : Knows past t seen) → steps_by t (k.0.0) ≡ 0
+pub none_later : (past seen : List ℕ) (t : ℕ) (k : Knows past t seen) → steps_by t (k.0.0) ≡ 0
 none_later past seen t k =
     let parts = sum_by-append (λ s. cond (s == t) 1 0) seen k.0.0 in
     let same : steps_by t (seen ++ k.0.0) ≡ steps_by t past = ap (steps_by t) k.0.1 in
