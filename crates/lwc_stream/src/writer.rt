@@ -5,7 +5,7 @@ ghost use Rattle.lwc_stream.specs.Replies.{IsWritten, line_of};
 
 use lwc_base::OutOfMemory;
 use lwc_io::{Sink, write_whole};
-use lwc_text::{REPLY_LINE_BYTES, reply_line};
+use lwc_text::{MOST_REPLY_LINE_BYTES, reply_line};
 use snapshot_host::Finished;
 use std::alloc::Global;
 use std::marker::Model;
@@ -19,13 +19,13 @@ pub(crate) struct LineWriter {
 
 impl Model for LineWriter {
     ghost use Rattle.std.specs.Prelude.{◌≤◌, Bool, vec_capacity};
-    ghost use Rattle.lwc_text.specs.declared.lines.TheConstants.{REPLY_LINE_BYTES};
+    ghost use Rattle.lwc_text.specs.declared.lines.TheConstants.{MOST_REPLY_LINE_BYTES};
 
     ghost Value = { Bool };
 
     ghost view = { λ w. w.failed };
 
-    ghost invariant = { λ w. REPLY_LINE_BYTES ≤ vec_capacity w.line };
+    ghost invariant = { λ w. MOST_REPLY_LINE_BYTES ≤ vec_capacity w.line };
 }
 
 impl LineWriter {
@@ -33,7 +33,7 @@ impl LineWriter {
     pub(crate) fn open(alloc: Global) -> Result<LineWriter, OutOfMemory>
         ensures { IfOk result (λ w. w ≡ false) }
     {
-        let line = Vec::with_capacity(alloc, REPLY_LINE_BYTES)?;
+        let line = Vec::with_capacity(alloc, MOST_REPLY_LINE_BYTES)?;
         let failed = false;
         Ok(LineWriter { line, failed })
     }

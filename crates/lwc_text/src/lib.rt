@@ -19,8 +19,8 @@ pub use laws::{
     request_files_are_read_as_spelled, schedules_are_read_as_named, vault_files_are_read_as_spelled,
 };
 pub use lines::{
-    REPLY_LINE_BYTES, bytes_text, context_line, groups_line, name_text, reply_line, tail_lines,
-    thread_lines, trap_line, used_line,
+    MOST_REPLY_LINE_BYTES, bytes_text, context_line, groups_line, name_text, reply_line,
+    tail_lines, thread_lines, trap_line, used_line,
 };
 pub use numbers::number_of;
 pub use replaying::{make_steps, report_of_schedule};

@@ -1,7 +1,7 @@
 //! The lines of a report. Each public function appends its lines to a text; if memory runs out, the text is
 //! as before.
 
-ghost use Rattle.std.specs.Prelude.{◌≡◌, ◌+◌, ◌≤◌, ◌++◌, IfOk, IsOk, OnOk, OnErr, length, vec_capacity};
+ghost use Rattle.std.specs.Prelude.{◌≡◌, ◌+◌, ◌*◌, ◌≤◌, ◌++◌, IfOk, IsOk, OnOk, OnErr, length, vec_capacity};
 ghost use Rattle.std.specs.Prelude.{string_bytes, codes, decimal};
 ghost use Rattle.lwc_base.specs.declared.limits.TheConstants.{MOST_REPLY_BYTES};
 ghost use Rattle.std.specs.List.{flat_map};
@@ -13,7 +13,7 @@ ghost use Rattle.lwc_text.specs.Lines.{thread_line, thread_lines, trap_line, use
 use crate::digits::digits_of;
 use itoa::Buffer;
 use kernel_core::ThreadView;
-use lwc_base::{Name, OutOfMemory, Summary, ThreadStatus};
+use lwc_base::{MOST_REPLY_BYTES, Name, OutOfMemory, Summary, ThreadStatus};
 use snapshot_host::Finished;
 use std::alloc::Global;
 
@@ -67,20 +67,20 @@ pub fn used_line(out: &mut Vec<u8>, used: u32) -> Result<(), OutOfMemory>
     append(out, line.as_str())
 }
 
-/// Room for the line of any reply, in bytes.
-pub const REPLY_LINE_BYTES: usize = 8300;
+/// Room for the line of any reply, in bytes: two digits for each byte, and the rest of the line.
+pub const MOST_REPLY_LINE_BYTES: usize = 2 * MOST_REPLY_BYTES + 95;
 
 /// Appends the line of a request's reply (`reply_line`). The only error is out of memory. Where the text has
-/// room for `REPLY_LINE_BYTES` more bytes, it takes no memory.
+/// room for `MOST_REPLY_LINE_BYTES` more bytes, it takes no memory.
 #[tactic(auto, unfolding(crate::specs::Lines::reply_line))]
 pub fn reply_line(out: &mut Vec<u8>, r: u16, finished: Option<&Finished>) -> Result<(), OutOfMemory>
     ensures ok { OnOk result (out.new.items
         ≡ out.old.items ++ reply_line r (option_map (λ x. x.now) finished.entry)) }
     ensures err { OnErr result (out.new.items ≡ out.old.items) }
-    ensures room { length out.old.items + REPLY_LINE_BYTES ≤ vec_capacity out.old → IsOk result }
+    ensures room { length out.old.items + MOST_REPLY_LINE_BYTES ≤ vec_capacity out.old → IsOk result }
     ensures capacity { vec_capacity out.old ≤ vec_capacity out.new }
 {
-    out.reserve(REPLY_LINE_BYTES)?;
+    out.reserve(MOST_REPLY_LINE_BYTES)?;
     append_reserved(out, b"reply ");
     append_number(out, u64::from(r));
     append_reserved(out, b" ");
@@ -169,12 +169,12 @@ fn status_text(alloc: Global, status: ThreadStatus) -> Result<String, OutOfMemor
     }
 }
 
-/// Appends what a report says of a reply, at most 8239 bytes.
+/// Appends what a report says of a reply: two digits for each byte, and at most 47 bytes besides.
 #[tactic(auto, unfolding(crate::specs::Lines::reply_text))]
 fn append_reply(out: &mut Vec<u8>, finished: Option<&Finished>)
-    requires room { length out.old.items + 8239 ≤ vec_capacity out.old }
+    requires room { length out.old.items + 2 * MOST_REPLY_BYTES + 47 ≤ vec_capacity out.old }
     ensures text { out.new.items ≡ out.old.items ++ reply_text (option_map (λ x. x.now) finished.entry) }
-    ensures short { length out.new.items ≤ length out.old.items + 8239 }
+    ensures short { length out.new.items ≤ length out.old.items + 2 * MOST_REPLY_BYTES + 47 }
     ensures capacity { vec_capacity out.old ≤ vec_capacity out.new }
 {
     match finished {
@@ -209,20 +209,20 @@ fn append_status(out: &mut Vec<u8>, status: ThreadStatus)
     }
 }
 
-/// Appends the bytes of a reply as lower-case hexadecimal, or a dash: at most 8192 bytes.
+/// Appends the bytes of a reply as lower-case hexadecimal, or a dash.
 #[tactic(auto, unfolding(crate::specs::Lines::bytes_text))]
 fn append_bytes(out: &mut Vec<u8>, bytes: &[u8])
     requires few { length bytes.now ≤ MOST_REPLY_BYTES }
-    requires room { length out.old.items + 8192 ≤ vec_capacity out.old }
+    requires room { length out.old.items + 2 * MOST_REPLY_BYTES ≤ vec_capacity out.old }
     ensures text { out.new.items ≡ out.old.items ++ bytes_text bytes.now }
-    ensures short { length out.new.items ≤ length out.old.items + 8192 }
+    ensures short { length out.new.items ≤ length out.old.items + 2 * MOST_REPLY_BYTES }
     ensures capacity { vec_capacity out.old ≤ vec_capacity out.new }
 {
     if bytes.is_empty() {
         append_reserved(out, b"-");
         return;
     }
-    let mut digits = [0u8; 8192];
+    let mut digits = [0u8; 2 * MOST_REPLY_BYTES];
     let digits = &mut digits[..2 * bytes.len()];
     match hex::encode_to_slice(bytes, digits) {
         Ok(()) => append_reserved(out, digits),
