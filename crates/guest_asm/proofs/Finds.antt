@@ -1,41 +1,48 @@
--- Finding an operation among those with the same first byte.
-use Rattle.std.proofs.Common.{◌≡◌, ℕ, Bool, true, false, List, [], ◌∷◌, None, refl, sym, ◌∙◌, arith, find, filter}
-use Rattle.std.specs.Prelude.{◌==◌, slice_index}
+-- Words that are no mnemonics, and names that are no directives.
+use Rattle.std.proofs.Common.{◌≡◌, ℕ, Bool, true, false, not, List, [], ◌∷◌, None, length, refl, sym, ap, ◌∙◌, arith, find}
+use Rattle.std.specs.Prelude.{◌||◌, ◌==◌, slice_index}
+use Rattle.std.specs.Cmp.Lexicographic.{same_text}
+use Rattle.std.specs.List.{list_all}
 use Rattle.std.specs.Str.{bytes_eq}
 use Rattle.std.proofs.lemmas.Bool.Decides.{nat_tests}
-use Rattle.std.proofs.lemmas.Bool.{and_parts, eqb-true}
+use Rattle.std.proofs.lemmas.Bool.{and_parts, false≢true}
+use Rattle.guest_isa.specs.declared.op.Op.{Op}
 use Rattle.guest_isa.specs.Opcodes.{ops}
-use Rattle.guest_asm.specs.Statements.{mnemonic, op_named}
+use Rattle.guest_asm.specs.Statements.{Once, instruction_by, mnemonic, named, op_named}
 
-both_by : {X : Type 0} (p q : X → Bool) (x : X) (xs : List X) (s t : Bool) → p x ≡ s → q x ≡ t → (p x ≡ true → q x ≡ true) → find p (filter q xs) ≡ find p xs → find p (filter q (x ∷ xs)) ≡ find p (x ∷ xs)
-both_by p q x xs true true a b h later = rw (b, a) refl
-both_by p q x xs false true a b h later = rw (b, a) later
-both_by p q x xs false false a b h later = rw (b, a) later
-both_by p q x xs true false a b h later = absurd (apart (sym b ∙ h a))
-  where
-    apart : false ≡ true → ⊥
-    apart e = absurd cc
+-- a name that passes a test which a word does not pass
+apart_by : (word : List ℕ) (q : List ℕ → Bool) → q word ≡ false → (name : List ℕ) (t : Bool) → bytes_eq name word ≡ t → q name ≡ true → t ≡ false
+apart_by word q fails name false is passes = refl
+apart_by word q fails name true is passes = absurd (false≢true (sym fails ∙ ap q (sym (same_text name word (sym is))) ∙ passes))
 
--- what is found among those that pass a weaker test
-found_among : {X : Type 0} (p q : X → Bool) → ((x : X) → p x ≡ true → q x ≡ true) → (xs : List X) → find p (filter q xs) ≡ find p xs
-found_among p q h [] = refl
-found_among p q h (x ∷ xs) = both_by p q x xs (p x) (q x) refl refl (h x) (found_among p q h xs)
+none_among : (word : List ℕ) (q : List ℕ → Bool) → q word ≡ false → (among : List Op) → list_all (λ op. q (mnemonic op)) among ≡ true → find (λ op. bytes_eq (mnemonic op) word) among ≡ None
+none_among word q fails [] all = refl
+none_among word q fails (op ∷ more) all =
+    let parts = and_parts (q (mnemonic op)) (list_all (λ o. q (mnemonic o)) more) all in
+    rw (apart_by word q fails (mnemonic op) (bytes_eq (mnemonic op) word) refl parts.0) (none_among word q fails more parts.1)
+
+no_op : (word : List ℕ) (q : List ℕ → Bool) → q word ≡ false → list_all (λ op. q (mnemonic op)) ops ≡ true → op_named word ≡ None
+unfolding op_named
+no_op word q fails all = none_among word q fails ops all
 
 same_number : (n : ℕ) → (n == n) ≡ true
 same_number n = grind (arith, nat_tests)
 
-same_first : (byte : ℕ) (word name : List ℕ) → slice_index word 0 ≡ byte → bytes_eq name word ≡ true → (slice_index name 0 == byte) ≡ true
-same_first byte [] [] first e = rw (← first) refl
-same_first byte (y ∷ ys) [] first e = absurd cc
-same_first byte [] (x ∷ xs) first e = absurd cc
-same_first byte (y ∷ ys) (x ∷ xs) first e =
-    let same : x ≡ byte = eqb-true x y (and_parts (x == y) (bytes_eq xs ys) e).0 ∙ first in
-    rw same (same_number byte)
+-- each mnemonic has two, three or four letters
+pub no_op_of_length : (word : List ℕ) → (2 == length word) ≡ false → (3 == length word) ≡ false → (4 == length word) ≡ false → op_named word ≡ None
+no_op_of_length word two three four = no_op word (λ name. not (length name == length word)) (rw (same_number (length word)) refl) (rw (two, three, four) refl)
 
-pub op_among : (byte : ℕ) (word : List ℕ) → slice_index word 0 ≡ byte → find (λ op. bytes_eq (mnemonic op) word) (filter (λ op. slice_index (mnemonic op) 0 == byte) ops) ≡ op_named word
-unfolding op_named
-op_among byte word first = found_among (λ op. bytes_eq (mnemonic op) word) (λ op. slice_index (mnemonic op) 0 == byte) (λ op e. same_first byte word (mnemonic op) first e) ops
+-- those of four begin with four of the letters
+pub no_op_of_four : (a b c d : ℕ) → (65 == a) ≡ false → (68 == a) ≡ false → (82 == a) ≡ false → (72 == a) ≡ false → op_named (a ∷ b ∷ c ∷ d ∷ []) ≡ None
+no_op_of_four a b c d e0 e1 e2 e3 =
+    no_op (a ∷ b ∷ c ∷ d ∷ []) (λ name. not (length name == 4) || not (slice_index name 0 == a)) (rw (same_number a) refl) (rw (e0, e1, e2, e3) refl)
 
-pub no_op : op_named [] ≡ None
-unfolding op_named
-no_op = refl
+-- and none with a dot
+pub no_dotted_op : (word : List ℕ) → slice_index word 0 ≡ 46 → op_named word ≡ None
+no_dotted_op word dot = no_op word (λ name. not (slice_index name 0 == 46)) (rw dot refl) refl
+
+-- each directive does
+pub no_directive : (once : Once) (name : List ℕ) (operands : List (List ℕ)) → (slice_index name 0 == 46) ≡ false → named once name operands ≡ instruction_by (op_named name) operands
+unfolding named
+no_directive once [] operands plain = refl
+no_directive once (b ∷ bs) operands plain = rw plain refl

@@ -1,5 +1,7 @@
 pub mod Finds
 pub mod Lexis
+pub mod Plain
+pub mod Texts
 pub mod Digits
 pub mod Fields
 pub mod Steps

@@ -1,9 +1,8 @@
 -- What the values that borrow from a source stand for.
-use Rattle.std.specs.Prelude.{◌≡◌, ℕ, List, [], ◌∷◌, map, Option, Some, None, Result, Ok, Err}
+use Rattle.std.specs.Prelude.{◌≡◌, ◌==◌, ◌||◌, ℕ, Bool, List, [], ◌∷◌, map, Option, Some, None, Result, Ok, Err}
 use Rattle.std.specs.Option.{option_map}
-use Rattle.std.specs.BTreeMap as tree
-use Rattle.std.specs.Cmp.Lexicographic.{slice_cmp}
-use Rattle.std.specs.Ordering.{nat_cmp}
+use Rattle.std.specs.HashMap as hash
+use Rattle.std.specs.Str.{bytes_eq}
 use Rattle.guest_isa.specs.declared.instr.Instr.{Instr}
 use Rattle.guest_asm.specs.declared.error.SourceRule.{SourceRule}
 use Rattle.guest_asm.specs.declared.error.SourceRule.TheVariants.{BadLine}
@@ -14,10 +13,19 @@ use Rattle.guest_asm.specs.declared.statement.Statement.TheVariants as statement
 use Rattle.guest_asm.specs.declared.statement.Line.{Line}
 use Rattle.guest_asm.specs.declared.source.Use.{Use}
 use Rattle.guest_asm.specs.declared.source.Source.{Source}
+use Rattle.guest_asm.specs.Lexis.{is_plain}
 use Rattle.guest_asm.specs.Statements as said
 use Rattle.guest_asm.specs.Sources as source
 use Rattle.guest_asm.specs.Drafts as draft
 use denote.Bor.{Bor}
+
+-- whether a byte may come outside a comment, or is a line feed
+abbrev pub is_clean : ℕ → Bool
+is_clean b = is_plain b || b == 0x0a
+
+-- whether a byte ends the text of a line: a line feed, or the `;` of a comment
+abbrev pub ends_text : ℕ → Bool
+ends_text b = b == 0x0a || b == 0x3b
 
 -- a borrowed text, as its bytes
 abbrev pub bytes_in : Bor (List ℕ) → List ℕ
@@ -52,8 +60,8 @@ abbrev pub use_in : Use → source.Use
 use_in u = record { at = u.at; name = u.name.now }
 
 -- what a map of labels has at a name
-abbrev pub label_at : tree.BTreeMap (Bor (List ℕ)) ℕ → List ℕ → Option ℕ
-label_at labels name = tree.get_by (λ k. slice_cmp nat_cmp name k.now) labels
+abbrev pub label_at : {S : Type 0} → hash.HashMap (Bor (List ℕ)) ℕ S → List ℕ → Option ℕ
+label_at labels name = hash.get_by (λ k. bytes_eq name k.now) labels
 
 -- what lines have said
 abbrev pub source_in : Source → source.Source

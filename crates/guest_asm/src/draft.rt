@@ -19,7 +19,7 @@ use guest_image::Form;
 use guest_isa::Instr;
 use lwc_base::{MOST_IMAGE_BYTES, OutOfMemory, PAGE_BYTES};
 use std::alloc::Global;
-use std::collections::BTreeMap;
+use std::collections::HashMap;
 
 /// Tests that each label that is used is defined.
 #[tactic(auto, unfolding(crate::specs::Drafts::resolved))]
@@ -91,7 +91,7 @@ fn files_length(files: &[FileDraft]) -> u128
 }
 
 /// The number that an immediate stands for; 0 for a label that is not defined.
-fn value_of<'a>(labels: &BTreeMap<&'a [u8], u32>, imm: &Immediate<'a>) -> u32
+fn value_of<'a>(labels: &HashMap<&'a [u8], u32>, imm: &Immediate<'a>) -> u32
     ensures { result ≡ spec.value_of (label_at labels.now) (immediate_in imm.now) }
 {
     match imm {
@@ -139,8 +139,9 @@ fn put_instruction(out: &mut Vec<u8>, instr: &Instr, value: u32) -> Result<(), O
     ensures { OnOk result (out.new.items
         ≡ out.old.items ++ instructions.spelling (record instr.now { imm = value })) }
 {
-    out.extend_from_slice(&[instr.op.number(), instr.rd, instr.ra, instr.rb])?;
-    put_number(out, value)
+    let [a, b, c, d] = value.to_le_bytes();
+    out.extend_from_slice(&[instr.op.number(), instr.rd, instr.ra, instr.rb, a, b, c, d])?;
+    Ok(())
 }
 
 /// Appends the pages, each a number and the bytes of a whole page.

@@ -1,8 +1,6 @@
 //! The mnemonics of instructions, and their operands.
 
-ghost use Rattle.std.specs.Prelude.{◌≡◌, ◌==◌, filter, find, slice_index};
-ghost use Rattle.std.specs.Str.{bytes_eq};
-ghost use Rattle.guest_isa.specs.Opcodes.{ops};
+ghost use Rattle.std.specs.Prelude.{◌≡◌, ◌∷◌, []};
 ghost use Rattle.guest_asm.specs.Statements as spec;
 
 use crate::operand::Field;
@@ -13,35 +11,67 @@ pub(crate) fn op_named(word: &[u8]) -> Option<Op>
     ensures { result ≡ spec.op_named word.now }
 {
     match word {
-        [] => None,
-        [first, ..] => op_among(ops_with_first(*first), word),
+        [a, b] => op_of_two(*a, *b),
+        [a, b, c] => op_of_three(*a, *b, *c),
+        [a, b, c, d] => op_of_four(*a, *b, *c, *d),
+        _ => None,
     }
 }
 
-/// The operation with a mnemonic, if it is one of these.
-fn op_among(ops: &[Op], word: &[u8]) -> Option<Op>
-    ensures { result ≡ find (λ op. bytes_eq (spec.mnemonic op) word.now) ops.now }
+/// The operation with a mnemonic of two letters.
+#[tactic(auto, unfolding(crate::specs::Statements::op_named))]
+fn op_of_two(a: u8, b: u8) -> Option<Op>
+    ensures { result ≡ spec.op_named (a ∷ b ∷ []) }
 {
-    ops.iter().copied().find(|op| mnemonic(*op) == word)
+    match (a, b) {
+        (b'L', b'I') => Some(Op::Li),
+        (b'O', b'R') => Some(Op::Or),
+        (b'E', b'Q') => Some(Op::Eq),
+        (b'J', b'Z') => Some(Op::Jz),
+        (b'J', b'R') => Some(Op::Jr),
+        _ => None,
+    }
 }
 
-/// The operations whose mnemonics begin with a byte.
-fn ops_with_first(byte: u8) -> &'static [Op]
-    ensures { result.now ≡ filter (λ op. slice_index (spec.mnemonic op) 0 == byte) ops }
+/// The operation with a mnemonic of three letters.
+#[tactic(auto, unfolding(crate::specs::Statements::op_named))]
+fn op_of_three(a: u8, b: u8, c: u8) -> Option<Op>
+    ensures { result ≡ spec.op_named (a ∷ b ∷ c ∷ []) }
 {
-    match byte {
-        b'A' => &[Op::Add, Op::And, Op::Addi],
-        b'D' => &[Op::Divu],
-        b'E' => &[Op::Eq],
-        b'H' => &[Op::Halt],
-        b'J' => &[Op::Jmp, Op::Jz, Op::Jnz, Op::Jal, Op::Jr],
-        b'L' => &[Op::Li, Op::Lih, Op::Ltu, Op::Ldb, Op::Ldw],
-        b'M' => &[Op::Mov, Op::Mul],
-        b'O' => &[Op::Or],
-        b'R' => &[Op::Remu],
-        b'S' => &[Op::Sub, Op::Shl, Op::Shr, Op::Stb, Op::Stw, Op::Sys],
-        b'X' => &[Op::Xor],
-        _ => &[],
+    match (a, b, c) {
+        (b'L', b'I', b'H') => Some(Op::Lih),
+        (b'L', b'T', b'U') => Some(Op::Ltu),
+        (b'L', b'D', b'B') => Some(Op::Ldb),
+        (b'L', b'D', b'W') => Some(Op::Ldw),
+        (b'S', b'T', b'B') => Some(Op::Stb),
+        (b'S', b'T', b'W') => Some(Op::Stw),
+        (b'S', b'Y', b'S') => Some(Op::Sys),
+        (b'S', b'U', b'B') => Some(Op::Sub),
+        (b'S', b'H', b'L') => Some(Op::Shl),
+        (b'S', b'H', b'R') => Some(Op::Shr),
+        (b'J', b'M', b'P') => Some(Op::Jmp),
+        (b'J', b'N', b'Z') => Some(Op::Jnz),
+        (b'J', b'A', b'L') => Some(Op::Jal),
+        (b'M', b'O', b'V') => Some(Op::Mov),
+        (b'M', b'U', b'L') => Some(Op::Mul),
+        (b'A', b'D', b'D') => Some(Op::Add),
+        (b'A', b'N', b'D') => Some(Op::And),
+        (b'X', b'O', b'R') => Some(Op::Xor),
+        _ => None,
+    }
+}
+
+/// The operation with a mnemonic of four letters.
+#[tactic(auto, unfolding(crate::specs::Statements::op_named))]
+fn op_of_four(a: u8, b: u8, c: u8, d: u8) -> Option<Op>
+    ensures { result ≡ spec.op_named (a ∷ b ∷ c ∷ d ∷ []) }
+{
+    match (a, b, c, d) {
+        (b'A', b'D', b'D', b'I') => Some(Op::Addi),
+        (b'D', b'I', b'V', b'U') => Some(Op::Divu),
+        (b'R', b'E', b'M', b'U') => Some(Op::Remu),
+        (b'H', b'A', b'L', b'T') => Some(Op::Halt),
+        _ => None,
     }
 }
 

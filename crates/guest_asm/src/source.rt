@@ -1,10 +1,11 @@
 //! A source, line after line.
 
-ghost use Rattle.std.specs.Prelude.{◌≡◌, ◌<◌, ◌≤◌, ◌^◌, ◌+◌, length, OnOk, IfErr, IfOk, Ok};
+ghost use Rattle.std.specs.Prelude.{◌≡◌, ◌<◌, ◌≤◌, ◌^◌, ◌+◌, length, OnOk, IfErr, IfOk, Ok, true};
+ghost use Rattle.std.specs.List.{list_all};
 ghost use Rattle.std.specs.Option.{option_map};
 ghost use Rattle.byte_reading.specs.Outcomes.{Answers};
 ghost use Rattle.byte_reading.specs.declared.error.ReadError.TheVariants.{OutOfMemory};
-ghost use Rattle.guest_asm.specs.Lexis.{lines};
+ghost use Rattle.guest_asm.specs.Lexis.{is_plain, lines, text_of};
 ghost use Rattle.guest_asm.specs.Statements.{bytes_of};
 ghost use Rattle.guest_asm.specs.Sources as spec;
 ghost use Rattle.guest_asm.specs.Views.{bytes_in, immediate_in, source_in, statement_in};
@@ -13,14 +14,14 @@ use crate::error::{SourceError, SourceRule};
 use crate::operand::Immediate;
 use crate::parts::{FileDraft, PageDraft, SlotDraft};
 use crate::statement::{Statement, read_line};
-use crate::words::next_line;
+use crate::words::{FirstLine, all_clean, next_line};
 use byte_reading::ReadError;
 use guest_image::Form;
 use guest_isa::Instr;
 use hex::FromHexError;
 use lwc_base::Sequence;
 use std::alloc::Global;
-use std::collections::BTreeMap;
+use std::collections::HashMap;
 
 /// The use of a label, and the offset of its line.
 #[derive(Clone, Copy, Debug)]
@@ -32,7 +33,7 @@ pub(crate) struct Use<'a> {
 /// What lines have said.
 #[derive(Drop)]
 pub(crate) struct Source<'a> {
-    pub(crate) labels: BTreeMap<&'a [u8], u32>,
+    pub(crate) labels: HashMap<&'a [u8], u32>,
     pub(crate) uses: Vec<Use<'a>>,
     pub(crate) uid: Option<u32>,
     pub(crate) form: Option<Form>,
@@ -49,12 +50,13 @@ impl<'a> Source<'a> {
         requires { length bytes.now < 2 ^ 31 }
         ensures { Answers source_in result (spec.with_lines 0 (lines bytes.now) spec.nothing) }
     {
+        let clean = all_clean(bytes);
         let mut source = Source::new(alloc);
         let mut rest = bytes;
         while !rest.is_empty() {
-            let (line, after) = next_line(rest);
-            source.add_line(alloc, line, (bytes.len() - rest.len()) as u64)?;
-            rest = after;
+            let line = next_line(rest);
+            source.add_line(alloc, clean, line, (bytes.len() - rest.len()) as u64)?;
+            rest = line.after;
         }
         Ok(source)
     }
@@ -64,7 +66,7 @@ impl<'a> Source<'a> {
         ensures { source_in result ≡ spec.nothing }
     {
         Source {
-            labels: BTreeMap::new(alloc),
+            labels: HashMap::new(alloc),
             uses: Vec::new(alloc),
             uid: None,
             form: None,
@@ -76,15 +78,23 @@ impl<'a> Source<'a> {
         }
     }
 
-    /// Adds the line at an offset.
+    /// Adds the line at an offset; `clean` says that no byte in front of its comment needs a look.
     #[tactic(auto, unfolding(crate::specs::Sources::with_line))]
-    fn add_line(&mut self, alloc: Global, line: &'a [u8], at: u64) -> Result<(), SourceError>
-        requires { length self.old.text.items + 1 < 2 ^ 32 }
+    fn add_line(
+        &mut self,
+        alloc: Global,
+        clean: bool,
+        line: FirstLine<'a>,
+        at: u64,
+    ) -> Result<(), SourceError>
+        requires few { length self.old.text.items + 1 < 2 ^ 32 }
+        requires text { line.text.now ≡ text_of line.line.now }
+        requires clean { clean ≡ true → list_all is_plain (text_of line.line.now) ≡ true }
         ensures added { Answers (λ _. source_in self.new) result
-            (spec.at_offset at (spec.with_line at line.now (source_in self.old)) Ok) }
+            (spec.at_offset at (spec.with_line at line.entry.line.now (source_in self.old)) Ok) }
         ensures count { OnOk result (length self.new.text.items ≤ length self.old.text.items + 1) }
     {
-        let line = match read_line(self.uid.is_some(), self.form.is_some(), line) {
+        let line = match read_line(self.uid.is_some(), self.form.is_some(), clean, line) {
             Ok(line) => line,
             Err(rule) => return Err(ReadError::Refused { rule, at }),
         };

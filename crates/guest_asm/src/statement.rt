@@ -1,8 +1,9 @@
 //! What a line says.
 
-ghost use Rattle.std.specs.Prelude.{◌≡◌};
+ghost use Rattle.std.specs.Prelude.{◌≡◌, ◌==◌, ◌+◌, length, slice_index, IfOk, true};
+ghost use Rattle.std.specs.List.{list_all};
 ghost use Rattle.std.specs.Option.{option_map};
-ghost use Rattle.guest_asm.specs.Lexis.{words};
+ghost use Rattle.guest_asm.specs.Lexis.{is_plain, text_of, words};
 ghost use Rattle.guest_asm.specs.Statements as spec;
 ghost use Rattle.guest_asm.specs.Views.{Gives, coded_in, immediate_in, line_in, statement_in};
 
@@ -13,7 +14,7 @@ use crate::operand::{
     read_register, three_words, two_words,
 };
 use crate::parts::SlotDraft;
-use crate::words::{all_plain, labelled, next_word, text_of};
+use crate::words::{FirstLine, all_plain, labelled, next_word};
 use guest_image::Form;
 use guest_isa::{Instr, Op};
 use lwc_base::PAGE_BYTES;
@@ -37,13 +38,22 @@ pub(crate) struct Line<'a> {
     pub(crate) statement: Option<Statement<'a>>,
 }
 
-/// Reads a line; `has_uid` and `has_form` say whether earlier lines have `.uid` and `.form`.
+/// Reads a line; `has_uid` and `has_form` say whether earlier lines have `.uid` and `.form`, and `clean` that no
+/// byte in front of the line's comment needs a look.
 #[tactic(auto, unfolding(crate::specs::Statements::line_of))]
-pub(crate) fn read_line(has_uid: bool, has_form: bool, line: &[u8]) -> Result<Line<'_>, SourceRule>
-    ensures { Gives line_in result (spec.line_of (record { uid = has_uid; form = has_form }) line.now) }
+pub(crate) fn read_line<'a>(
+    has_uid: bool,
+    has_form: bool,
+    clean: bool,
+    line: FirstLine<'a>,
+) -> Result<Line<'a>, SourceRule>
+    requires text { line.text.now ≡ text_of line.line.now }
+    requires plain { clean ≡ true → list_all is_plain (text_of line.line.now) ≡ true }
+    ensures { Gives line_in result
+        (spec.line_of (record { uid = has_uid; form = has_form }) line.entry.line.now) }
 {
-    let text = text_of(line);
-    if !all_plain(text) {
+    let text = line.text;
+    if !clean && !all_plain(text) {
         return Err(SourceRule::BadLine);
     }
     let (label, rest) = labelled(text);
@@ -68,13 +78,49 @@ fn read_statement(
 }
 
 /// Reads the directive or instruction with a name.
-#[tactic(auto, unfolding(crate::specs::Statements::named))]
 fn read_named<'a>(
     has_uid: bool,
     has_form: bool,
     name: &[u8],
     text: &'a [u8],
 ) -> Result<Statement<'a>, SourceRule>
+    ensures { Gives statement_in result
+        (spec.named (record { uid = has_uid; form = has_form }) name.now (words text.now)) }
+{
+    if is_dotted(name) {
+        read_directive(has_uid, has_form, name, text)
+    } else {
+        read_operation(name, text)
+    }
+}
+
+/// Whether a name begins with a dot, as all directives do.
+fn is_dotted(name: &[u8]) -> bool
+    ensures { result ≡ (slice_index name.now 0 == 46) }
+{
+    matches!(name, [b'.', ..])
+}
+
+/// Reads the instruction with a mnemonic.
+fn read_operation<'a>(name: &[u8], text: &'a [u8]) -> Result<Statement<'a>, SourceRule>
+    ensures { Gives statement_in result
+        (spec.instruction_by (spec.op_named name.now) (words text.now)) }
+{
+    match op_named(name) {
+        Some(op) => read_instruction(op, text),
+        None => Err(SourceRule::BadLine),
+    }
+}
+
+/// Reads the directive with a name that begins with a dot.
+#[tactic(auto, using(crate::proofs::Finds::no_dotted_op), unfolding(crate::specs::Statements::named))]
+fn read_directive<'a>(
+    has_uid: bool,
+    has_form: bool,
+    name: &[u8],
+    text: &'a [u8],
+) -> Result<Statement<'a>, SourceRule>
+    requires { slice_index name.now 0 ≡ 46 }
     ensures { Gives statement_in result
         (spec.named (record { uid = has_uid; form = has_form }) name.now (words text.now)) }
 {
@@ -102,10 +148,7 @@ fn read_named<'a>(
     if name == b".slot".as_slice() {
         return read_slot(text);
     }
-    match op_named(name) {
-        Some(op) => read_instruction(op, text),
-        None => Err(SourceRule::BadLine),
-    }
+    Err(SourceRule::BadLine)
 }
 
 /// Reads `.uid N`.
@@ -179,20 +222,33 @@ fn read_instruction(op: Op, text: &[u8]) -> Result<Statement<'_>, SourceRule>
     ensures { Gives statement_in result (spec.instruction_of op (words text.now)) }
 {
     let fields = fields_of(op);
-    if !has_words(text, fields.len()) {
-        return Err(SourceRule::BadLine);
+    match read_fields(op, fields, text) {
+        Ok((instr, imm, rest)) => {
+            if next_word(rest).is_some() {
+                return Err(SourceRule::BadLine);
+            }
+            Ok(Statement::Instruction(instr, imm))
+        }
+        // A wrong number of operands comes before an operand that is bad.
+        Err(rule) => {
+            if has_words(text, fields.len()) {
+                Err(rule)
+            } else {
+                Err(SourceRule::BadLine)
+            }
+        }
     }
-    let (instr, imm) = read_fields(op, fields, text)?;
-    Ok(Statement::Instruction(instr, imm))
 }
 
-/// Reads words as the operands of fields.
+/// Reads the first words as the operands of fields. Answers what follows them, too.
 fn read_fields<'a>(
     op: Op,
     fields: &[Field],
     text: &'a [u8],
-) -> Result<(Instr, Immediate<'a>), SourceRule>
-    ensures { Gives coded_in result (spec.with_fields fields.now (words text.now) (spec.blank op)) }
+) -> Result<(Instr, Immediate<'a>, &'a [u8]), SourceRule>
+    ensures read { Gives (λ x. coded_in (x.0, x.1)) result
+        (spec.with_fields fields.now (words text.now) (spec.blank op)) }
+    ensures count { IfOk result (λ x. length fields.now + length (words x.2.now) ≡ length (words text.now)) }
 {
     let mut instr = Instr {
         op,
@@ -210,7 +266,7 @@ fn read_fields<'a>(
         (instr, imm) = read_field(*field, word, instr, imm)?;
         rest = after;
     }
-    Ok((instr, imm))
+    Ok((instr, imm, rest))
 }
 
 /// Reads a word as the operand of a field.

@@ -1,17 +1,65 @@
 //! Lines and words.
 
-ghost use Rattle.std.specs.Prelude.{◌≡◌, ◌++◌, ◌∷◌, [], ◌<◌, ◌≤◌, ◌==◌, length, IfSome, IfNone};
+ghost use Rattle.std.specs.Prelude.{◌≡◌, ◌++◌, ◌∷◌, [], ◌<◌, ◌≤◌, ◌==◌, length, IfSome, IfNone, true};
 ghost use Rattle.std.specs.List.{list_all, position_or_len, prefix_len};
 ghost use Rattle.std.specs.Option.{option_map};
+ghost use Rattle.std.specs.Str.Lines.{strip_carriage_return};
 ghost use Rattle.guest_asm.specs.Lexis as spec;
-ghost use Rattle.guest_asm.specs.Views.{bytes_in};
+ghost use Rattle.guest_asm.specs.Views.{bytes_in, ends_text, is_clean};
+
+use memchr::memchr2;
+
+/// The first line of a source.
+#[derive(Clone, Copy)]
+pub(crate) struct FirstLine<'a> {
+    /// The line, with its line feed.
+    pub(crate) line: &'a [u8],
+    /// The line up to its comment.
+    pub(crate) text: &'a [u8],
+    /// What follows the line.
+    pub(crate) after: &'a [u8],
+}
+
+/// The first line. Most lines have no comment, so the line feed and the `;` of a comment are looked for at once.
+pub(crate) fn next_line(bytes: &[u8]) -> FirstLine<'_>
+    requires { 0 < length bytes.now }
+    ensures first { spec.lines bytes.now ≡ result.line.now ∷ spec.lines result.after.now }
+    ensures whole { bytes.now ≡ result.line.now ++ result.after.now }
+    ensures some { 0 < length result.line.now }
+    ensures text { result.text.now ≡ spec.text_of result.line.now }
+    ensures plain { list_all is_clean bytes.now ≡ true
+        → list_all spec.is_plain (spec.text_of result.line.now) ≡ true }
+{
+    let end = text_end(bytes);
+    if end < bytes.len() && bytes[end] == b'\n' {
+        let (line, after) = bytes.split_at(end + 1);
+        let text = without_return(&bytes[..end]);
+        return FirstLine { line, text, after };
+    }
+    let (line, after) = cut_line(bytes);
+    FirstLine {
+        line,
+        text: text_of(line),
+        after,
+    }
+}
+
+/// The first place of a line feed or a `;`, or the length.
+fn text_end(bytes: &[u8]) -> usize
+    ensures place { result ≡ position_or_len ends_text bytes.now }
+    ensures within { result ≤ length bytes.now }
+{
+    memchr2(b'\n', b';', bytes).unwrap_or(bytes.len())
+}
 
 /// The first line, with its line feed, and what follows it.
-pub(crate) fn next_line(bytes: &[u8]) -> (&[u8], &[u8])
+fn cut_line(bytes: &[u8]) -> (&[u8], &[u8])
     requires { 0 < length bytes.now }
     ensures first { spec.lines bytes.now ≡ result.0.now ∷ spec.lines result.1.now }
     ensures whole { bytes.now ≡ result.0.now ++ result.1.now }
     ensures some { 0 < length result.0.now }
+    ensures plain { list_all is_clean bytes.now ≡ true
+        → list_all spec.is_plain (spec.text_of result.0.now) ≡ true }
 {
     let place = place_of(bytes, b'\n');
     if place < bytes.len() {
@@ -21,8 +69,20 @@ pub(crate) fn next_line(bytes: &[u8]) -> (&[u8], &[u8])
     }
 }
 
+/// Whether every byte of a source may come outside a comment, or is a line feed. It looks at all of them, so
+/// that many are tested at once.
+pub(crate) fn all_clean(bytes: &[u8]) -> bool
+    ensures { result ≡ list_all is_clean bytes.now }
+{
+    let mut clean = true;
+    'bytes: for byte in bytes {
+        clean = clean & (is_plain(*byte) | (*byte == b'\n'));
+    }
+    clean
+}
+
 /// A line up to its comment.
-pub(crate) fn text_of(line: &[u8]) -> &[u8]
+fn text_of(line: &[u8]) -> &[u8]
     ensures { result.now ≡ spec.text_of line.now }
 {
     let line = without_end(line);
@@ -81,11 +141,18 @@ fn without_end(line: &[u8]) -> &[u8]
     if count == 0 || line[count - 1] != b'\n' {
         return line;
     }
-    let front = &line[..count - 1];
-    if count > 1 && front[count - 2] == b'\r' {
-        &front[..count - 2]
+    without_return(&line[..count - 1])
+}
+
+/// Bytes without the carriage return that ends them.
+fn without_return(bytes: &[u8]) -> &[u8]
+    ensures { result.now ≡ strip_carriage_return bytes.now }
+{
+    let count = bytes.len();
+    if count > 0 && bytes[count - 1] == b'\r' {
+        &bytes[..count - 1]
     } else {
-        front
+        bytes
     }
 }
 
@@ -138,7 +205,7 @@ fn is_separator(byte: u8) -> bool
 fn is_plain(byte: u8) -> bool
     ensures { result ≡ spec.is_plain byte }
 {
-    (0x20 <= byte && byte <= 0x7e) || byte == b'\t'
+    ((0x20 <= byte) & (byte <= 0x7e)) | (byte == b'\t')
 }
 
 /// Whether a name may begin with this byte.

@@ -1,17 +1,12 @@
-use Rattle.std.proofs.Common.{◌≡◌, [], sym, ap, ◌∙◌, refl, arith, find}
-use Rattle.std.specs.Prelude.{slice_index}
-use Rattle.std.specs.Str.{bytes_eq}
-use Rattle.std.proofs.lemmas.Grind.{common_steps}
-use Rattle.guest_asm.specs.Statements.{mnemonic}
-use Rattle.guest_asm.proofs.Finds.{op_among, no_op}
+use Rattle.std.proofs.Common.{arith, sym}
+use Rattle.std.proofs.lemmas.Bool.Decides.{nat_tests}
+use Rattle.guest_asm.proofs.Finds.{no_op_of_length}
 use Rattle.guest_asm.proofs.mnemonics.op_named.Goals as goal
 
-pub returns-in-empty : goal.returns-in-empty
-returns-in-empty c =
-    let none : c.args.word.now ≡ [] = grind (arith, common_steps) in
-    rw none (sym no_op)
+pub returns-in_default : goal.returns-in_default
+returns-in_default c =
+    sym (no_op_of_length c.args.word.now (grind (arith, nat_tests, c.in_default.len_below)) (grind (arith, nat_tests, c.in_default.len_below)) (grind (arith, nat_tests, c.in_default.len_below)))
 
-pub returns-in-len1-up : goal.returns-in-len1-up
-returns-in-len1-up c =
-    let word = c.args.word.now in
-    c.op_among.ensures ∙ ap (find (λ op. bytes_eq (mnemonic op) word)) c.ops_with_first.ensures ∙ op_among (slice_index word 0) word refl
+pub returns-in_default-2 : goal.returns-in_default-2
+returns-in_default-2 c =
+    sym (no_op_of_length c.args.word.now (grind (arith, nat_tests, c.in_default.len_at_least)) (grind (arith, nat_tests, c.in_default.len_at_least)) (grind (arith, nat_tests, c.in_default.len_at_least)))

@@ -1,4 +1,4 @@
-use Rattle.std.proofs.Common.{arith, ◌≡◌, drop, []}
+use Rattle.std.proofs.Common.{arith, ap, ◌≡◌, drop, length, []}
 use Rattle.std.proofs.lemmas.Result.{err_from_is_err_and}
 use Rattle.std.proofs.lemmas.Grind.{common_steps}
 use Rattle.guest_asm.specs.declared.operand.Field.TheVariants.{Rd}
@@ -7,19 +7,22 @@ use Rattle.guest_asm.specs.Views.{coded_in}
 use Rattle.guest_asm.proofs.Fields.{no_word, wrong_word, next_field, all_put}
 use Rattle.guest_asm.proofs.statement.read_fields.Goals as goal
 
-pub returns-in_default : goal.returns-in_default
-returns-in_default c = no_word c.args.fields.now c.loop-field.field-index (words c.loop-field.rest.now) _ _ c.loop-field-test.true c.loop-field.invariant Rd c.in_default.ensures.none
+pub returns-in_default-clause-read : goal.returns-in_default-clause-read
+returns-in_default-clause-read c = no_word c.args.fields.now c.loop-field.field-index (words c.loop-field.rest.now) _ _ c.loop-field-test.true c.loop-field.invariant.read Rd c.in_default.ensures.none
 
-pub returns-in_err-instr : goal.returns-in_err-instr
-returns-in_err-instr c =
+pub returns-in_err-instr-clause-read : goal.returns-in_err-instr-clause-read
+returns-in_err-instr-clause-read c =
     let p = err_from_is_err_and c.from_residual.result c.from_residual.ensures.1 in
-    rw (p.1, p.2) (wrong_word c.args.fields.now c.loop-field.field-index (words c.loop-field.rest.now) _ _ c.loop-field-test.true c.loop-field.invariant Rd c.in-Some.word.now (words c.in-Some.after.now) c.in_err-instr.field-0.0 c.in-Some.ensures.some c.in_err-instr.ensures)
+    rw (p.1, p.2) (wrong_word c.args.fields.now c.loop-field.field-index (words c.loop-field.rest.now) _ _ c.loop-field-test.true c.loop-field.invariant.read Rd c.in-Some.word.now (words c.in-Some.after.now) c.in_err-instr.field-0.0 c.in-Some.ensures.some c.in_err-instr.ensures)
 
 pub loop-field-preserved : goal.loop-field-preserved
-loop-field-preserved c =
-    next_field c.args.fields.now c.loop-field.field-index (words c.loop-field.rest.now) _ _ c.loop-field-test.true c.loop-field.invariant Rd c.in-Some.word.now (words c.in-Some.after.now) (coded_in (c.in_ok-instr.field-0-0, c.in_ok-instr.field-0-1)) c.in-Some.ensures.some c.in_ok-instr.ensures
+loop-field-preserved c = record {
+  read =
+      next_field c.args.fields.now c.loop-field.field-index (words c.loop-field.rest.now) _ _ c.loop-field-test.true c.loop-field.invariant.read Rd c.in-Some.word.now (words c.in-Some.after.now) (coded_in (c.in_ok-instr.field-0-0, c.in_ok-instr.field-0-1)) c.in-Some.ensures.some c.in_ok-instr.ensures;
+  count = omega (arith, c.loop-field.invariant.count, ap length c.in-Some.ensures.some);
+}
 
-pub returns : goal.returns
-returns c =
+pub returns-clause-read : goal.returns-clause-read
+returns-clause-read c =
     let past : drop c.loop-field.field-index c.args.fields.now ≡ [] = grind (arith, common_steps) in
-    all_put c.args.fields.now c.loop-field.field-index (words c.loop-field.rest.now) _ _ past c.loop-field.invariant
+    all_put c.args.fields.now c.loop-field.field-index (words c.loop-field.rest.now) _ _ past c.loop-field.invariant.read
