@@ -124,8 +124,8 @@ module _ (w v : World) (c d : Name) (items : List Item) (made : IsOverlay w v c 
   overlay-keeps_apart a b k live_a live_b stays apart = record {
     differ = apart.differ;
     no_group = λ g one two.
-        let in_a = named_still a k g (elim stays [ | inl unshared ↦ inl unshared | inr others ↦ inr others.0 ]) one in
-        let in_b = named_still b k g (elim stays [ | inl unshared ↦ inl unshared | inr others ↦ inr others.1 ]) two in
+        let in_a = named_still a k g (elim stays [ inl unshared ↦ inl unshared | inr others ↦ inr others.0 ]) one in
+        let in_b = named_still b k g (elim stays [ inl unshared ↦ inl unshared | inr others ↦ inr others.1 ]) two in
         let old_a = named-not-next w a made.job k g made.fresh in
         let old_b = named-not-next w b made.job k g made.fresh in
         let was_a = named-before w d made.job items a k g in_a in
@@ -138,6 +138,6 @@ module _ (w v : World) (c d : Name) (items : List Item) (made : IsOverlay w v c 
   overlay-keeps_common a b k stays both = record {
     group = both.group;
     live = takes.names.groups both.group ∙ shares.still_live both.group (named-not-next w a made.job k both.group made.fresh both.first) ∙ both.live;
-    first = stays_between a k (elim stays [ | inl none ↦ inl none | inr others ↦ inr others.0 ]) ∙ named-after w d made.job items a k both.group both.first;
-    second = stays_between b k (elim stays [ | inl none ↦ inl none | inr others ↦ inr others.1 ]) ∙ named-after w d made.job items b k both.group both.second;
+    first = stays_between a k (elim stays [ inl none ↦ inl none | inr others ↦ inr others.0 ]) ∙ named-after w d made.job items a k both.group both.first;
+    second = stays_between b k (elim stays [ inl none ↦ inl none | inr others ↦ inr others.1 ]) ∙ named-after w d made.job items b k both.group both.second;
   }
